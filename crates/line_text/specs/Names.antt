@@ -1,0 +1,6 @@
+-- A name as its bytes.
+use Rattle.std.specs.Prelude.{ℕ, List, take}
+use Rattle.line_text.specs.declared.name.Name.{Name}
+
+abbrev pub name_text : Name → List ℕ
+name_text n = take n.len n.bytes

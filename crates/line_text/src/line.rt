@@ -1,0 +1,83 @@
+//! A line that is being written, of at most 160 bytes.
+
+ghost use Rattle.std.specs.Prelude.{◌≡◌, ◌+◌, ◌≤◌, ◌++◌, ◌∷◌, [], length, replicate, decimal};
+ghost use Rattle.std.specs.Fmt.{signed_decimal};
+ghost use Rattle.arrayvec.specs.ArrayVec.{array_vec_len};
+ghost use Rattle.line_text.specs.Parts.{right_in, left_in};
+
+use arrayvec::ArrayVec;
+use itoa::Buffer;
+
+pub type Line = ArrayVec<u8, 160>;
+
+/// Appends the text.
+pub fn put(line: &mut Line, text: &[u8])
+    requires { array_vec_len line.old + length text.now ≤ 160 }
+    ensures items { line.new.items ≡ line.old.items ++ text.now }
+    ensures len { array_vec_len line.new ≡ array_vec_len line.old + length text.now }
+{
+    let _ = line.try_extend_from_slice(text);
+}
+
+fn put_spaces(line: &mut Line, count: usize)
+    requires { array_vec_len line.old + count ≤ 160 }
+    ensures items { line.new.items ≡ line.old.items ++ replicate count 32 }
+    ensures len { array_vec_len line.new ≡ array_vec_len line.old + count }
+{
+    for _ in 0..count {
+        line.push(b' ');
+    }
+}
+
+/// Appends the text, right in a column.
+pub fn put_right(line: &mut Line, width: usize, text: &[u8])
+    requires room { array_vec_len line.old + width ≤ 160 }
+    requires fits { length text.now ≤ width }
+    ensures items { line.new.items ≡ line.old.items ++ right_in width text.now }
+    ensures len { array_vec_len line.new ≡ array_vec_len line.old + width }
+{
+    put_spaces(line, width - text.len());
+    put(line, text);
+}
+
+/// Appends the text, left in a column.
+pub fn put_left(line: &mut Line, width: usize, text: &[u8])
+    requires room { array_vec_len line.old + width ≤ 160 }
+    requires fits { length text.now ≤ width }
+    ensures items { line.new.items ≡ line.old.items ++ left_in width text.now }
+    ensures len { array_vec_len line.new ≡ array_vec_len line.old + width }
+{
+    put(line, text);
+    put_spaces(line, width - text.len());
+}
+
+/// Appends a space and the number.
+pub fn put_word(line: &mut Line, number: u64)
+    requires { array_vec_len line.old + 21 ≤ 160 }
+    ensures items { line.new.items ≡ line.old.items ++ 32 ∷ decimal number }
+    ensures len { array_vec_len line.new ≤ array_vec_len line.old + 21 }
+{
+    let mut buffer = Buffer::new();
+    put(line, b" ");
+    put(line, buffer.format(number).as_bytes());
+}
+
+/// Appends the number.
+pub fn put_natural(line: &mut Line, number: u64)
+    requires { array_vec_len line.old + 20 ≤ 160 }
+    ensures items { line.new.items ≡ line.old.items ++ decimal number }
+    ensures len { array_vec_len line.new ≤ array_vec_len line.old + 20 }
+{
+    let mut buffer = Buffer::new();
+    put(line, buffer.format(number).as_bytes());
+}
+
+/// Appends the number.
+pub fn put_integer(line: &mut Line, number: i64)
+    requires { array_vec_len line.old + 20 ≤ 160 }
+    ensures items { line.new.items ≡ line.old.items ++ signed_decimal number }
+    ensures len { array_vec_len line.new ≤ array_vec_len line.old + 20 }
+{
+    let mut buffer = Buffer::new();
+    put(line, buffer.format(number).as_bytes());
+}

@@ -1,0 +1,129 @@
+//! Reading the parts of a line.
+
+ghost use Rattle.std.specs.Prelude.{◌≡◌, ℕ, ◌^◌, ◌==◌, ◌<◌, ◌≤◌, [], ◌∷◌, length, option_map, IfSome};
+ghost use Rattle.std.specs.List.{position_or_len};
+ghost use Rattle.line_text.specs.Parts.{natural_of, integer_of, cut_at, after, word_at, three_at, without_spaces, without_end_spaces};
+
+use itoa::Buffer;
+
+/// The number below the limit whose one decimal form the text is.
+pub fn natural(limit: u64, text: &[u8]) -> Option<u64>
+    ensures exact { result ≡ natural_of limit text.now }
+    ensures below { IfSome result (λ n. n < limit) }
+{
+    let Ok(words) = std::str::from_utf8(text) else {
+        return None;
+    };
+    let Ok(number) = words.parse::<u64>() else {
+        return None;
+    };
+    let mut buffer = Buffer::new();
+    if number >= limit {
+        return None;
+    }
+    if buffer.format(number).as_bytes() == text {
+        Some(number)
+    } else {
+        None
+    }
+}
+
+/// The signed number whose one decimal form the text is.
+pub fn integer(text: &[u8]) -> Option<i64>
+    ensures { result ≡ integer_of text.now }
+{
+    let Ok(words) = std::str::from_utf8(text) else {
+        return None;
+    };
+    let Ok(number) = words.parse::<i64>() else {
+        return None;
+    };
+    let mut buffer = Buffer::new();
+    if buffer.format(number).as_bytes() == text {
+        Some(number)
+    } else {
+        None
+    }
+}
+
+/// The index of the first such byte, or the length where there is none.
+fn first_place(byte: u8, text: &[u8]) -> usize
+    ensures place { result ≡ position_or_len (λ b. b == byte) text.now }
+    ensures within { result ≤ length text.now }
+{
+    for (i, b) in text.iter().enumerate() {
+        if *b == byte {
+            return i;
+        }
+    }
+    text.len()
+}
+
+/// What stands before and after the first such byte.
+#[tactic(auto, unfolding(crate::specs::Parts::cut_at))]
+pub fn cut(byte: u8, text: &[u8]) -> Option<(&[u8], &[u8])>
+    ensures { option_map (λ x. (x.0.now, x.1.now)) result ≡ cut_at byte text.now }
+{
+    let at = first_place(byte, text);
+    if at < text.len() {
+        Some((&text[..at], &text[at + 1..]))
+    } else {
+        None
+    }
+}
+
+/// What stands after this front.
+#[tactic(auto, unfolding(crate::specs::Parts::after))]
+pub fn strip<'a>(front: &[u8], text: &'a [u8]) -> Option<&'a [u8]>
+    ensures { option_map (λ x. x.now) result ≡ after front.now text.now }
+{
+    text.strip_prefix(front)
+}
+
+/// A space and a number below the limit, and what stands after it.
+#[tactic(auto, unfolding(crate::specs::Parts::word_at))]
+pub fn word(limit: u64, text: &[u8]) -> Option<(u64, &[u8])>
+    ensures exact { option_map (λ x. (x.0, x.1.now)) result ≡ word_at limit text.now }
+    ensures below { IfSome result (λ x. x.0 < limit) }
+{
+    let rest = strip(b" ", text)?;
+    let at = first_place(b' ', rest);
+    let (front, rest) = rest.split_at(at);
+    let number = natural(limit, front)?;
+    Some((number, rest))
+}
+
+/// Three words.
+#[tactic(auto, unfolding(crate::specs::Parts::three_at))]
+pub fn three_words(limit: u64, text: &[u8]) -> Option<(u64, u64, u64, &[u8])>
+    ensures exact { option_map (λ x. (x.0 ∷ x.1 ∷ x.2 ∷ [], x.3.now)) result ≡ three_at limit text.now }
+    ensures below { IfSome result (λ x. (x.0 < limit) × (x.1 < limit) × (x.2 < limit)) }
+{
+    let (x, rest) = word(limit, text)?;
+    let (y, rest) = word(limit, rest)?;
+    let (z, rest) = word(limit, rest)?;
+    Some((x, y, z, rest))
+}
+
+/// The text without the spaces at its front.
+pub fn trim_front(text: &[u8]) -> &[u8]
+    ensures trimmed { result.now ≡ without_spaces text.now }
+    ensures shorter { length result.now ≤ length text.now }
+{
+    let mut rest = text;
+    while let [b' ', after @ ..] = rest {
+        rest = after;
+    }
+    rest
+}
+
+/// The text without the spaces at its end.
+pub fn trim_end(text: &[u8]) -> &[u8]
+    ensures { result.now ≡ without_end_spaces text.now }
+{
+    let mut rest = text;
+    while let [before @ .., b' '] = rest {
+        rest = before;
+    }
+    rest
+}
