@@ -2,7 +2,7 @@
 use Rattle.std.specs.Prelude.{List, ℕ, ℤ, ◌++◌, codes}
 use Rattle.std.specs.Fmt.{signed_decimal}
 use Rattle.std.specs.List.{flat_map}
-use Rattle.state.specs.StateText.{word}
+use Rattle.line_text.specs.Parts.{word}
 
 -- what stands between the title and the atoms
 abbrev pub middle : ℤ → ℕ → List ℕ → List ℕ

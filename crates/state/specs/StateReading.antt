@@ -1,8 +1,8 @@
 -- Reading a state from the top, to the state or to the first fault that is met.
-use Rattle.std.specs.Prelude.{◌≡◌, ℕ, zero, suc, ◌+◌, ◌-◌, ◌^◌, ◌&&◌, List, [], ◌∷◌, length, take, drop, codes, Option, Some, None, Result, Ok, Err, nat_lt, ◌==◌, slice_index, bytes_eq, if◌then◌else◌, ℤ}
+use Rattle.std.specs.Prelude.{◌≡◌, ◌↔◌, ℕ, zero, suc, ◌+◌, ◌-◌, ◌^◌, ◌&&◌, List, [], ◌∷◌, length, take, drop, codes, Option, Some, None, Result, Ok, Err, nat_lt, ◌==◌, slice_index, bytes_eq, if◌then◌else◌, Bool, ℤ, pos, negsuc, int_le}
 use Rattle.std.specs.List.{list_all}
 use Rattle.line_text.specs.Parts.{◌>>=◌ as ◌|>◌, cut_at, after, natural_of, integer_of, three_at, name_of, without_spaces, without_end_spaces}
-use Rattle.state.specs.StateText.{AtomView, StateView, atom_line, is_residue_number}
+use Rattle.state.specs.StateText.{AtomView, StateView, head_line, atom_line, IsState, state_text}
 use Rattle.state.specs.declared.faults.StateFault.{StateFault}
 use Rattle.state.specs.declared.faults.StateFault.TheVariants.{BadLine, Truncated, Trailing, Memory}
 
@@ -23,7 +23,7 @@ Gives view (Err fault) answer = Fails fault answer
 -- ---- what each line says, without its LF
 
 abbrev pub head_of : List ℕ → Option (Unit {0})
-head_of line = if bytes_eq line (codes "pairmd state 1") then Some tt else None
+head_of line = if bytes_eq line head_line then Some tt else None
 
 unfoldable pub title_of : List ℕ → Option (List ℕ)
 title_of line = after (codes "title ") line |> λ t. if slice_index t (length t - 1) == 13 then None else Some t
@@ -39,6 +39,10 @@ sides_of line =
     after (codes "box") line |> λ rest.
     three_at 16000001 rest |> λ w.
     if length w.1 == 0 && list_all (λ x. nat_lt 0 x) w.0 then Some w.0 else None
+
+-- from -9999 to 99999
+abbrev pub is_residue_number : ℤ → Bool
+is_residue_number z = int_le (negsuc 9998) z && int_le z (pos 99999)
 
 -- Read by columns and words; only the line that this atom has is taken.
 unfoldable pub atom_of : List ℕ → Option AtomView
@@ -115,3 +119,9 @@ unfoldable pub state_of : List ℕ → Result StateView StateFault
 state_of bytes = do
   head ← field_at 1 head_of bytes
   from_title head.1
+
+-- ---- what reading is
+
+-- Exactly the texts of states are read, each as its state. So a state has one text, and what is written reads as the same state.
+abbrev pub OneText : Type 0
+OneText = (bytes : List ℕ) (s : StateView) → (state_of bytes ≡ Ok s) ↔ (IsState s × (bytes ≡ state_text s))

@@ -1,11 +1,11 @@
 -- What a state is, without where it lies in memory, and the one text of each state.
-use Rattle.std.specs.Prelude.{ℕ, ◌-◌, ◌<◌, ◌≤◌, ◌^◌, Bool, not, ◌&&◌, List, [], ◌∷◌, ◌++◌, length, codes, decimal, ℤ, pos, negsuc, int_le, slice_index, ◌==◌, IsTrue}
+use Rattle.std.specs.Prelude.{ℕ, ◌-◌, ◌<◌, ◌≤◌, ◌^◌, Bool, not, ◌&&◌, List, ◌++◌, length, codes, decimal, ℤ, pos, negsuc, ◌≤ℤ◌, slice_index, ◌==◌, IsTrue}
 use Rattle.std.specs.Fmt.{signed_decimal}
 use Rattle.std.specs.List.{flat_map, AllByRecursion}
-use Rattle.line_text.specs.Parts.{right_in, left_in, is_name, lacks}
+use Rattle.line_text.specs.Parts.{word, ended, AreThree, right_in, left_in, is_name, lacks}
 use lib.Signed.{mag}
 
--- an atom: its two places are three numbers each, x, y and z
+-- an atom; its two places are three numbers each, x, y and z
 pub record AtomView : Type 0 where
   pub residue_number : ℤ
   pub residue : List ℕ
@@ -13,22 +13,29 @@ pub record AtomView : Type 0 where
   pub previous : List ℕ
   pub current : List ℕ
 
--- a state: its sides are three numbers, x, y and z
+-- a state; its sides are three numbers, x, y and z
 pub record StateView : Type 0 where
   pub title : List ℕ
   pub step : ℤ
   pub sides : List ℕ
   pub atoms : List AtomView
 
--- ---- the text
+-- ---- the lines of a state, without their LF
 
--- a space and a number
-abbrev pub word : ℕ → List ℕ
-word n = 32 ∷ decimal n
+abbrev pub head_line : List ℕ
+head_line = codes "pairmd state 1"
 
--- a line, and its LF
-abbrev pub ended : List ℕ → List ℕ
-ended line = line ++ 10 ∷ []
+abbrev pub title_line : List ℕ → List ℕ
+title_line title = codes "title " ++ title
+
+abbrev pub step_line : ℤ → List ℕ
+step_line step = codes "step " ++ signed_decimal step
+
+abbrev pub count_line : ℕ → List ℕ
+count_line count = codes "atoms" ++ word count
+
+abbrev pub box_line : List ℕ → List ℕ
+box_line sides = codes "box" ++ flat_map word sides
 
 -- residue number, residue name and atom name in the columns of an atom's line (GROMACS manual, GRO file format), then the two places
 abbrev pub atom_line : AtomView → List ℕ
@@ -39,25 +46,18 @@ atom_line a =
 abbrev pub atom_lines : List AtomView → List ℕ
 atom_lines atoms = flat_map (λ a. ended (atom_line a)) atoms
 
+-- ---- the text
+
 unfoldable pub state_text : StateView → List ℕ
 state_text s =
-    ended (codes "pairmd state 1")
-    ++ ended (codes "title " ++ s.title)
-    ++ ended (codes "step " ++ signed_decimal s.step)
-    ++ ended (codes "atoms " ++ decimal (length s.atoms))
-    ++ ended (codes "box" ++ flat_map word s.sides)
+    ended head_line
+    ++ ended (title_line s.title)
+    ++ ended (step_line s.step)
+    ++ ended (count_line (length s.atoms))
+    ++ ended (box_line s.sides)
     ++ atom_lines s.atoms
 
 -- ---- what has a text
-
--- three numbers, each of which is so
-abbrev pub AreThree : (ℕ → Type 0) → List ℕ → Type 0
-AreThree P (x ∷ y ∷ z ∷ []) = P x × P y × P z
-AreThree P _ = ⊥
-
--- a residue number fills its column at most
-abbrev pub is_residue_number : ℤ → Bool
-is_residue_number z = int_le (negsuc 9998) z && int_le z (pos 99999)
 
 -- on a ring of 2^32 places
 abbrev pub IsPlace : ℕ → Type 0
@@ -72,7 +72,8 @@ abbrev pub is_title : List ℕ → Bool
 is_title t = lacks 10 t && not (slice_index t (length t - 1) == 13)
 
 pub record IsAtom (a : AtomView) : Type 0 where
-  pub residue_number : IsTrue (is_residue_number a.residue_number)
+  pub low : negsuc 9998 ≤ℤ a.residue_number
+  pub high : a.residue_number ≤ℤ pos 99999
   pub residue : IsTrue (is_name a.residue)
   pub name : IsTrue (is_name a.name)
   pub previous : AreThree IsPlace a.previous

@@ -1,9 +1,10 @@
 //! The lines of a state.
 
-ghost use Rattle.std.specs.Prelude.{◌≡◌, ◌≤◌, ◌+◌, ◌++◌, option_map, IfSome, bytes_eq};
+ghost use Rattle.std.specs.Prelude.{◌≡◌, ◌≤◌, ◌+◌, ◌++◌, option_map, IfSome, IsTrue, bytes_eq};
 ghost use Rattle.std.specs.List.{flat_map};
 ghost use Rattle.arrayvec.specs.ArrayVec.{array_vec_len};
-ghost use Rattle.state.specs.StateText.{atom_line, word};
+ghost use Rattle.line_text.specs.Parts.{AreThree, lacks, word};
+ghost use Rattle.state.specs.StateText.{IsAtom, IsPlace, IsSide, atom_line, is_title};
 ghost use Rattle.state.specs.StateViews.{atom_view, sides_view};
 ghost use Rattle.state.specs.StateReading.{title_of, step_of, count_of, sides_of, atom_of};
 
@@ -17,7 +18,9 @@ use ring_box::{RingBox, Side};
 
 #[tactic(auto, unfolding(crate::specs::StateReading::title_of))]
 pub fn title(line: &[u8]) -> Option<&[u8]>
-    ensures { option_map (λ t. t.now) result ≡ title_of line.now }
+    requires { IsTrue (lacks 10 line.now) }
+    ensures exact { option_map (λ t. t.now) result ≡ title_of line.now }
+    ensures title { IfSome result (λ t. IsTrue (is_title t.now)) }
 {
     let title = strip(b"title ", line)?;
     if title.last() == Some(&b'\r') {
@@ -105,6 +108,7 @@ fn is_spelled(atom: &Atom, line: &[u8]) -> bool
 /// Appends an atom's line, without its LF.
 pub fn put_atom(line: &mut Line, atom: &Atom)
     requires { array_vec_len line.old + 141 ≤ 160 }
+    ensures atom { IsAtom (atom_view atom.now) }
     ensures items { line.new.items ≡ line.old.items ++ atom_line (atom_view atom.now) }
     ensures len { array_vec_len line.new ≤ array_vec_len line.old + 141 }
 {
@@ -119,6 +123,7 @@ pub fn put_atom(line: &mut Line, atom: &Atom)
 /// Appends a place, with a space before each of its three numbers.
 fn put_place(line: &mut Line, place: &[u32; 3])
     requires { array_vec_len line.old + 63 ≤ 160 }
+    ensures place { AreThree IsPlace place.now }
     ensures items { line.new.items ≡ line.old.items ++ flat_map word place.now }
     ensures len { array_vec_len line.new ≤ array_vec_len line.old + 63 }
 {
@@ -130,6 +135,7 @@ fn put_place(line: &mut Line, place: &[u32; 3])
 /// Appends the sides of a box, with a space before each.
 pub fn put_sides(line: &mut Line, ring: RingBox)
     requires { array_vec_len line.old + 63 ≤ 160 }
+    ensures sides { AreThree IsSide (sides_view ring) }
     ensures items { line.new.items ≡ line.old.items ++ flat_map word (sides_view ring) }
     ensures len { array_vec_len line.new ≤ array_vec_len line.old + 63 }
 {

@@ -1,6 +1,7 @@
 //! Reading a state.
 
-ghost use Rattle.std.specs.Prelude.{◌≡◌, ◌≤◌, ◌<◌, map};
+ghost use Rattle.std.specs.Prelude.{◌≡◌, ◌≤◌, length, map, IfOk, IsTrue};
+ghost use Rattle.line_text.specs.Parts.{lacks};
 ghost use Rattle.state.specs.StateViews.{atom_view, state_view};
 ghost use Rattle.state.specs.StateReading.{Gives, line_at, atom_at, atoms_at, head_of, state_of};
 
@@ -14,7 +15,7 @@ impl<A: Allocator + Copy> State<A> {
     ghost use Rattle.std.specs.Prelude.{◌≡◌, Ok, IfOk};
     ghost use Rattle.state.specs.StateText.{StateView, IsState, state_text};
     ghost use Rattle.state.specs.StateViews.{state_view};
-    ghost use Rattle.state.specs.StateReading.{Gives, state_of};
+    ghost use Rattle.state.specs.StateReading.{Gives, OneText, state_of};
 
     /// The state whose one text the bytes are.
     ///
@@ -26,6 +27,7 @@ impl<A: Allocator + Copy> State<A> {
         ensures only { (s : StateView) → IsState s → bytes.now ≡ state_text s → Gives state_view result (Ok s) }
         // The state, or the first fault.
         ensures exact { Gives state_view result (state_of bytes.now) }
+        ensures one_text { OneText }
     {
         state(alloc, bytes)
     }
@@ -59,7 +61,8 @@ fn state<A: Allocator + Copy>(alloc: A, bytes: &[u8]) -> Result<State<A>, StateF
 }
 
 fn line(bytes: &[u8]) -> Result<(&[u8], &[u8]), StateFault>
-    ensures { Gives (λ x. (x.0.now, x.1.now)) result (line_at bytes.now) }
+    ensures exact { Gives (λ x. (x.0.now, x.1.now)) result (line_at bytes.now) }
+    ensures whole { IfOk result (λ x. IsTrue (lacks 10 x.0.now)) }
 {
     cut(b'\n', bytes).ok_or(StateFault::Truncated)
 }
@@ -86,7 +89,8 @@ fn atoms<A: Allocator + Copy>(
     bytes: &[u8],
 ) -> Result<(Vec<Atom, A>, &[u8]), StateFault>
     requires { count ≤ 65536 }
-    ensures { Gives (λ x. (map atom_view x.0.items, x.1.now)) result (atoms_at 6 count bytes.now) }
+    ensures exact { Gives (λ x. (map atom_view x.0.items, x.1.now)) result (atoms_at 6 count bytes.now) }
+    ensures len { IfOk result (λ x. length x.0.items ≡ count) }
 {
     let mut atoms = Vec::new(alloc);
     let mut rest = bytes;

@@ -1,8 +1,6 @@
 //! States and their atoms.
 
 ghost use Rattle.std.specs.Prelude.{pos, negsuc, ◌≤ℤ◌, ◌≤◌, length, IsTrue};
-ghost use Rattle.line_text.specs.Parts.{is_name};
-ghost use Rattle.line_text.specs.Names.{name_text};
 ghost use Rattle.state.specs.StateText.{is_title};
 
 use line_text::Name;
@@ -23,8 +21,6 @@ pub struct Atom {
     pub current: [u32; 3],
     pub ghost low: { negsuc 9998 ≤ℤ residue_number },
     pub ghost high: { residue_number ≤ℤ pos 99999 },
-    pub ghost residue_is_name: { IsTrue (is_name (name_text residue)) },
-    pub ghost name_is_name: { IsTrue (is_name (name_text name)) },
 }
 
 /// A state of a run: two frames that follow one another (Levesque and Verlet 1993), from which the next and the one before follow. Every state has one text.

@@ -2,7 +2,10 @@
 
 ghost use Rattle.std.specs.Prelude.{◌≡◌, ◌-◌, ◌^◌, ◌<◌, length, map, IfOk, OnErr};
 ghost use Rattle.gro.specs.Out.{appended, AppendsBeginning};
-ghost use Rattle.state.specs.StateText.{ended, atom_line, atom_lines};
+ghost use Rattle.std.specs.List.{AllByRecursion};
+ghost use lib.Signed.{mag};
+ghost use Rattle.line_text.specs.Parts.{AreThree, ended};
+ghost use Rattle.state.specs.StateText.{IsAtom, IsSide, atom_line, atom_lines};
 ghost use Rattle.state.specs.StateViews.{atom_view, sides_view};
 ghost use Rattle.state.specs.Middle.{middle};
 
@@ -28,8 +31,8 @@ impl<A: Allocator> State<A> {
         ensures count { IfOk result (λ _. O.failed out.new ≡ O.failed out.old) }
         ensures fault_taken { OnErr result (AppendsBeginning (O.taken out.old) (O.taken out.new) (state_text (state_view self.now))) }
         ensures fault_count { OnErr result (O.failed out.old < O.failed out.new) }
-        // What is written reads as this state again.
-        ensures again { IsState (state_view self.now) × (state_of (state_text (state_view self.now)) ≡ Ok (state_view self.now)) }
+        // What was written reads as this state again.
+        ensures again { IfOk result (λ _. IsState (state_view self.now) × (state_of (state_text (state_view self.now)) ≡ Ok (state_view self.now))) }
     {
         write_all(out, b"pairmd state 1\ntitle ")?;
         write_all(out, &self.title)?;
@@ -45,6 +48,7 @@ fn write_atoms<O: Out>(atoms: &[Atom], out: &mut O) -> Result<(), OutFault>
     ensures count { IfOk result (λ _. O.failed out.new ≡ O.failed out.old) }
     ensures fault_taken { OnErr result (AppendsBeginning (O.taken out.old) (O.taken out.new) (atom_lines (map atom_view atoms.now))) }
     ensures fault_count { OnErr result (O.failed out.old < O.failed out.new) }
+    ensures atoms { IfOk result (λ _. AllByRecursion IsAtom (map atom_view atoms.now)) }
 {
     for atom in atoms {
         let line = whole_line(atom);
@@ -55,7 +59,9 @@ fn write_atoms<O: Out>(atoms: &[Atom], out: &mut O) -> Result<(), OutFault>
 
 /// What stands between the title and the atoms.
 fn middle_line<A: Allocator>(state: &State<A>) -> Line
-    ensures { result.items ≡ middle state.now.step (length state.now.atoms.items) (sides_view state.now.ring) }
+    ensures items { result.items ≡ middle state.now.step (length state.now.atoms.items) (sides_view state.now.ring) }
+    ensures step { mag state.now.step < 2 ^ 63 }
+    ensures sides { AreThree IsSide (sides_view state.now.ring) }
 {
     let mut line = Line::new();
     put(&mut line, b"\nstep ");
@@ -70,7 +76,8 @@ fn middle_line<A: Allocator>(state: &State<A>) -> Line
 
 /// An atom's line with its LF.
 fn whole_line(atom: &Atom) -> Line
-    ensures { result.items ≡ ended (atom_line (atom_view atom.now)) }
+    ensures items { result.items ≡ ended (atom_line (atom_view atom.now)) }
+    ensures atom { IsAtom (atom_view atom.now) }
 {
     let mut line = Line::new();
     put_atom(&mut line, atom);
