@@ -5,4 +5,6 @@ pub mod AtomListLaws
 pub mod AtomLoop
 pub mod StateFound
 pub mod StateReadsAgain
+pub mod CallLaws
 pub mod Pieces
+pub mod AtomPieces

@@ -1,5 +1,5 @@
 -- What is read as a state is the text of that state.
-use Rattle.std.proofs.Common.{◌≡◌, ℕ, Bool, true, false, cond, eqb, List, [], ◌++◌, length, Result, Ok, Err, IfOk, refl, sym, ap, subst, ◌∙◌, append_assoc, arith}
+use Rattle.std.proofs.Common.{◌≡◌, ℕ, Bool, true, false, cond, eqb, List, [], ◌++◌, length, Result, Ok, Err, refl, sym, ap, subst, ◌∙◌, append_assoc, arith}
 use Rattle.std.proofs.lemmas.Bool.{eqb-true}
 use Rattle.std.proofs.lemmas.List.{append-nil, nil_from_length}
 use lib.Signed.{mag}
@@ -7,9 +7,7 @@ use Rattle.line_text.specs.Parts.{ended, AreThree}
 use Rattle.state.specs.declared.faults.StateFault.{StateFault}
 use Rattle.state.specs.declared.faults.StateFault.TheVariants.{Trailing}
 use Rattle.state.specs.StateText.{StateView, head_line, title_line, step_line, count_line, box_line, atom_lines, state_text, IsState}
-use Rattle.state.specs.StateReading.{head_of, title_of, step_of, count_of, sides_of, field_at, atoms_at, from_atoms, from_sides, from_count, from_step, from_title, state_of, Gives}
-use Rattle.state.specs.declared.states.State.{State}
-use Rattle.state.specs.StateViews.{state_view}
+use Rattle.state.specs.StateReading.{head_of, title_of, step_of, count_of, sides_of, field_at, atoms_at, from_atoms, from_sides, from_count, from_step, from_title, state_of}
 use Rattle.state.proofs.LineLaws.{bind_ok, field_found, head_found, title_found, step_found, count_found, sides_found}
 use Rattle.state.proofs.AtomListLaws.{atoms_found}
 
@@ -49,8 +47,3 @@ state_found bytes s e =
     bytes h.0.1 t.0.1 p.0.1 c.0.1 b.0.1 fh.0 ft.0 fp.0 counted fb.0 last in
     let fits : IsState it = record { title = ft.1; step = fp.1; sides = fb.1; count = omega (arith, fc.1, fa.2); atoms = fa.1 } in
     subst (λ (x : StateView). IsState x × (bytes ≡ state_text x)) g.1 (fits, whole)
-
--- at what a call returned
-pub is_found : {A : Type 0} (bytes : List ℕ) (r : Result (State A) StateFault) → Gives state_view r (state_of bytes) → IfOk r (λ x. IsState (state_view x) × (bytes ≡ state_text (state_view x)))
-is_found bytes (Ok x) h = state_found bytes (state_view x) h
-is_found bytes (Err e) h = tt

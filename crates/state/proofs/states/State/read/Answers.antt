@@ -1,7 +1,7 @@
 use Rattle.std.proofs.Common.{ap, subst, ◌∙◌}
 use Rattle.state.specs.StateViews.{state_view}
 use Rattle.state.specs.StateReading.{Gives, state_of}
-use Rattle.state.proofs.StateFound.{is_found}
+use Rattle.state.proofs.CallLaws.{is_found}
 use Rattle.state.proofs.StateReadsAgain.{state_reads_again, one_text}
 use Rattle.state.proofs.states.State.read.Goals as goal
 
