@@ -10,3 +10,5 @@ mod writing;
 pub use faults::StateFault;
 pub use states::{Atom, State};
 
+#[cfg(test)]
+mod tests;

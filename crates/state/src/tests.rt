@@ -1,0 +1,281 @@
+ghost use Rattle.std.specs.Prelude.{◌≡◌, Some};
+
+use super::*;
+use gro::{Collected, Out, OutFault};
+use linked_list_allocator::LocalHeap;
+use std::alloc::{AllocError, Allocator, Global};
+use std::test::*;
+
+/// Two argon atoms at rest, 0.5 nm apart.
+const EXAMPLE: &str = "pairmd state 1
+title two atoms
+step 0
+atoms 2
+box 200000 200000 200000
+    1AR      AR 1073741824 0 0 1073741824 0 0
+    1AR      AR 2147483648 0 0 2147483648 0 0
+";
+
+/// The example with the line of this number, from 1, in place of its own.
+fn with_line<A: Allocator>(alloc: A, number: usize, line: &[u8]) -> Result<Vec<u8, A>, AllocError> {
+    let mut text = Vec::new(alloc);
+    for (i, kept) in EXAMPLE.lines().enumerate() {
+        if i + 1 == number {
+            text.extend_from_slice(line)?;
+        } else {
+            text.extend_from_slice(kept.as_bytes())?;
+        }
+        text.push(b'\n')?;
+    }
+    Ok(text)
+}
+
+/// What the state of this text writes, or why there is none.
+fn written_again(alloc: Global, text: &[u8]) -> Result<Vec<u8>, StateFault> {
+    let state = State::read(alloc, text)?;
+    let mut out = Collected::new(alloc);
+    match state.write(&mut out) {
+        Ok(()) => Ok(out.into_bytes()),
+        Err(OutFault) => Err(StateFault::Memory),
+    }
+}
+
+fn fault(alloc: Global, text: &[u8]) -> Option<StateFault> {
+    State::read(alloc, text).err()
+}
+
+#[test]
+fn reads_and_writes_the_example(rt: HostRuntime) -> Result<(), Fail> {
+    let state = State::read(rt.alloc(), EXAMPLE.as_bytes())?;
+    assert_eq!(rt; state.title.as_slice(), b"two atoms".as_slice());
+    assert_eq!(rt; state.step, 0);
+    assert_eq!(rt; state.ring.sides(), [200_000, 200_000, 200_000]);
+    assert_eq!(rt; state.atoms.len(), 2);
+    let atom = state.atoms.last().ok_or("an atom")?;
+    assert_eq!(rt; atom.residue_number, 1);
+    assert_eq!(rt; atom.residue.as_bytes(), b"AR".as_slice());
+    assert_eq!(rt; atom.name.as_bytes(), b"AR".as_slice());
+    assert_eq!(rt; atom.previous, [2_147_483_648, 0, 0]);
+    assert_eq!(rt; atom.current, [2_147_483_648, 0, 0]);
+    assert_eq!(rt;
+        written_again(rt.alloc(), EXAMPLE.as_bytes())?.as_slice(),
+        EXAMPLE.as_bytes()
+    );
+    Ok(())
+}
+
+#[test]
+fn keeps_every_form(rt: HostRuntime) -> Result<(), Fail> {
+    for (number, line) in [
+        (2, "title "),
+        (2, "title  a\rtitle, \u{e9} "),
+        (3, "step -9223372036854775808"),
+        (3, "step 9223372036854775807"),
+        (5, "box 1 2 16000000"),
+        (6, "-9999AR     x y 0 1 2 3 4 4294967295"),
+        (6, "99999A  BCD  EF 4294967295 0 0 0 0 0"),
+        (6, "    0           0 0 0 0 0 0"),
+    ] {
+        let text = with_line(rt.alloc(), number, line.as_bytes())?;
+        assert_eq!(rt; written_again(rt.alloc(), &text)?, text, "at {line:?}");
+    }
+    let no_atoms = b"pairmd state 1\ntitle \nstep -7\natoms 0\nbox 1 2 3\n".as_slice();
+    assert_eq!(rt; written_again(rt.alloc(), no_atoms)?.as_slice(), no_atoms);
+    Ok(())
+}
+
+/// The example with names of this byte and a letter on its sixth line.
+fn with_names_of(alloc: Global, byte: u8) -> Result<Vec<u8>, AllocError> {
+    let mut line = Vec::new(alloc);
+    for kept in b"   42?x      ?x 0 0 0 0 0 0" {
+        line.push(if *kept == b'?' { byte } else { *kept })?;
+    }
+    with_line(alloc, 6, &line)
+}
+
+#[test]
+fn reads_names_of_printable_bytes(rt: HostRuntime) -> Result<(), Fail> {
+    for byte in 33..127 {
+        let text = with_names_of(rt.alloc(), byte)?;
+        assert_eq!(rt; written_again(rt.alloc(), &text)?, text, "at {byte}");
+    }
+    for byte in [0, 9, 10, 13, 31, 32, 127, 128, 255] {
+        let text = with_names_of(rt.alloc(), byte)?;
+        assert_eq!(rt;
+            fault(rt.alloc(), &text),
+            Some(StateFault::BadLine { line: 6 }),
+            "at {byte}"
+        );
+    }
+    Ok(())
+}
+
+#[test]
+fn refuses_other_lines(rt: HostRuntime) -> Result<(), Fail> {
+    for (number, line) in [
+        (1, "pairmd state 2"),
+        (1, "pairmd state 1\r"),
+        (2, "title"),
+        (2, "titletwo atoms"),
+        (2, "title two atoms\r"),
+        (3, "step 007"),
+        (3, "step -0"),
+        (3, "step +1"),
+        (3, "step  0"),
+        (3, "step 0 "),
+        (3, "step"),
+        (3, "step 9223372036854775808"),
+        (4, "atoms 02"),
+        (4, "atoms -2"),
+        (4, "atoms 65537"),
+        (5, "box 200000 200000 16000001"),
+        (5, "box 200000 0 200000"),
+        (5, "box 200000  200000 200000"),
+        (5, "box 200000 200000"),
+        (5, "box 200000 200000 200000 200000"),
+        (6, "    1AR      AR 4294967296 0 0 1 0 0"),
+        (6, "    1AR      AR 1073741824 0 0 1 0"),
+        (6, "    1AR      AR 1073741824 0 0 1 0 0 "),
+        (6, "    1AR      AR 1073741824 0 0 1 0 00"),
+        (6, "    1AR      AR\t1073741824 0 0 1 0 0"),
+        (6, "    1   AR   AR 1073741824 0 0 1 0 0"),
+        (6, "    1AR   AR    1073741824 0 0 1 0 0"),
+        (6, "1    AR      AR 1073741824 0 0 1 0 0"),
+        (6, "00001AR      AR 1073741824 0 0 1 0 0"),
+        (6, "-0001AR      AR 1073741824 0 0 1 0 0"),
+        (7, ""),
+    ] {
+        let text = with_line(rt.alloc(), number, line.as_bytes())?;
+        let line_number = number as u64;
+        assert_eq!(rt;
+            fault(rt.alloc(), &text),
+            Some(StateFault::BadLine { line: line_number }),
+            "at {line:?}"
+        );
+    }
+    Ok(())
+}
+
+#[test]
+fn finds_the_first_fault(rt: HostRuntime) {
+    for end in 0..EXAMPLE.len() {
+        let beginning = &EXAMPLE.as_bytes()[..end];
+        assert_eq!(rt;
+            fault(rt.alloc(), beginning),
+            Some(StateFault::Truncated),
+            "at {end}"
+        );
+    }
+    for (text, first) in [
+        ("pairmd state 2", StateFault::Truncated),
+        ("pairmd state 1\ntitle \nstep 007", StateFault::Truncated),
+        (
+            "pairmd state 1\ntitle \nstep 007\n",
+            StateFault::BadLine { line: 3 },
+        ),
+        (
+            "pairmd state 1\ntitle \nstep 007\natoms 07\n",
+            StateFault::BadLine { line: 3 },
+        ),
+        (
+            "pairmd state 1\ntitle \nstep 7\natoms 1\nbox 1 2 3\n",
+            StateFault::Truncated,
+        ),
+        (
+            "pairmd state 1\ntitle \nstep 7\natoms 0\nbox 1 2 3\n\n",
+            StateFault::Trailing,
+        ),
+        (
+            "pairmd state 1\ntitle \nstep 7\natoms 0\nbox 1 2 3\n ",
+            StateFault::Trailing,
+        ),
+    ] {
+        assert_eq!(rt;
+            fault(rt.alloc(), text.as_bytes()),
+            Some(first),
+            "at {text:?}"
+        );
+    }
+}
+
+#[test]
+fn prints_faults(rt: HostRuntime) -> Result<(), Fail> {
+    for (fault, text) in [
+        (StateFault::BadLine { line: 65_541 }, "S1 BadLine 65541"),
+        (StateFault::Truncated, "S2 Truncated"),
+        (StateFault::Trailing, "S3 Trailing"),
+        (StateFault::Memory, "Memory"),
+    ] {
+        assert_eq!(rt; format!(in rt.alloc(); "{fault}")?.as_str(), text);
+    }
+    Ok(())
+}
+
+#[test]
+fn answers_refused_memory(rt: HostRuntime) -> Result<(), Fail> {
+    let heap = LocalHeap::new(rt.alloc(), 64)?;
+    assert_eq!(rt;
+        State::read(&heap, EXAMPLE.as_bytes()).err(),
+        Some(StateFault::Memory)
+    );
+    let heap = LocalHeap::new(rt.alloc(), 4096)?;
+    assert!(rt; State::read(&heap, EXAMPLE.as_bytes()).is_ok());
+    Ok(())
+}
+
+/// Takes one byte at a time, and fails at each write once it has taken as many as it may.
+#[derive(Drop)]
+struct OneByOne<A: Allocator> {
+    bytes: Vec<u8, A>,
+    left: usize,
+    failures: u64,
+}
+
+impl<A: Allocator> OneByOne<A> {
+    fn new(alloc: A, left: usize) -> Self
+        ensures { result.failures ≡ 0 }
+    {
+        OneByOne {
+            bytes: Vec::new(alloc),
+            left,
+            failures: 0,
+        }
+    }
+}
+
+impl<A: Allocator> Out for OneByOne<A> {
+    ghost taken = { λ s. Some s.bytes.items };
+
+    ghost failed = { λ s. s.failures };
+
+    fn write(&mut self, bytes: &[u8]) -> Result<usize, OutFault> {
+        let Some(first) = bytes.first() else {
+            return Ok(0);
+        };
+        if self.left > 0 && self.bytes.push(*first).is_ok() {
+            self.left -= 1;
+            return Ok(1);
+        }
+        self.failures += 1;
+        Err(OutFault)
+    }
+
+    fn failures(&self) -> u64 {
+        self.failures
+    }
+}
+
+#[test]
+fn writes_a_beginning_where_the_output_fails(rt: HostRuntime) -> Result<(), Fail> {
+    let state = State::read(rt.alloc(), EXAMPLE.as_bytes())?;
+    for left in 0..EXAMPLE.len() {
+        let mut out = OneByOne::new(rt.alloc(), left);
+        assert_eq!(rt; state.write(&mut out), Err(OutFault), "at {left}");
+        assert_eq!(rt; out.bytes.as_slice(), &EXAMPLE.as_bytes()[..left]);
+        assert_eq!(rt; out.failures(), 1);
+    }
+    let mut out = OneByOne::new(rt.alloc(), EXAMPLE.len());
+    assert_eq!(rt; state.write(&mut out), Ok(()));
+    assert_eq!(rt; out.bytes.as_slice(), EXAMPLE.as_bytes());
+    Ok(())
+}
