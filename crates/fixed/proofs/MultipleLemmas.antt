@@ -24,8 +24,8 @@ multiple_le (negsuc k) (negsuc m) d h = omega (arith, ints, mul-le (suc k) d (su
 floor_greatest : (n : ℤ) (d : ℕ) (q k : ℤ) → IsFloor n (pos d) q → (k *ℤ pos d) ≤ℤ n → (k *ℤ pos d) ≤ℤ (q *ℤ pos d)
 floor_greatest n d q k h low =
     by_lt_z q k
-      (λ above. let u = h.next_above in let m = next_multiple q k d above in absurd (omega (arith, ints)))
-      (λ below. multiple_le q k d below)
+    (λ above. let u = h.next_above in let m = next_multiple q k d above in absurd (omega (arith, ints)))
+    (λ below. multiple_le q k d below)
 
 pub whole_is : (bits : ℕ) (a q : ℤ) → q ≡ whole_of bits a → IsGreatestMultiple (one bits) a q
 whole_is bits a q e =
