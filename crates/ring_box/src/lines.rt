@@ -1,12 +1,11 @@
 ghost use Rattle.std.specs.Prelude.{◌≡◌, ◌≤◌, ◌<◌, ◌+◌, ◌*◌, ◌^◌, List, [], ◌∷◌, pos, ◌*ℤ◌, unsigned_abs};
 ghost use Rattle.std.specs.List.{All};
-ghost use Rattle.fixed.specs.Arithmetic.{floor_of};
 ghost use Rattle.fixed.specs.Roots.{root};
 ghost use Rattle.ring_box.specs.Distances.{square};
 ghost use Rattle.ring_box.specs.Forces.{component_of};
 
 use crate::separations::Separation;
-use fixed::isqrt;
+use fixed::{floor_div, isqrt};
 
 /// The line through two atoms that are apart: its parts along the axes, and its length rounded down, which no part passes.
 #[derive(Clone, Copy)]
@@ -49,13 +48,6 @@ fn product(g: i128, a: i64) -> i128
     g * i128::from(a)
 }
 
-fn quotient(n: i128, d: u64) -> i128
-    requires { 0 < d }
-    ensures { result ≡ floor_of n (pos d) }
-{
-    n.div_euclid(i128::from(d))
-}
-
 fn component(g: i128, a: i64, d: u64) -> i128
     requires size { unsigned_abs g ≤ 2 ^ 63 }
     requires positive { 0 < d }
@@ -63,7 +55,7 @@ fn component(g: i128, a: i64, d: u64) -> i128
     ensures value { result ≡ component_of g a d }
     ensures bound { unsigned_abs result ≤ unsigned_abs g }
 {
-    quotient(product(g, a), d)
+    floor_div(product(g, a), i128::from(d))
 }
 
 impl Line {

@@ -1,6 +1,6 @@
 use Rattle.std.proofs.Common.{rules, ◌∙◌, ◌≡◌, to_z, of_z}
 use Rattle.std.specs.Int.{w128}
-use Rattle.ring_box.proofs.ForceLemmas.{force_along_is}
+use Rattle.ring_box.proofs.ForceLemmas.{force_along_is, force_is_along}
 use Rattle.ring_box.proofs.boxes.RingBox.force_along.Goals as goal
 
 pub returns-clause-value : goal.returns-clause-value
@@ -16,3 +16,6 @@ pub returns-clause-bound : goal.returns-clause-bound
 returns-clause-bound c =
     let e : to_z w128 (of_z w128 c.args.minus_slope) ≡ c.args.minus_slope = search rules in
     rw e at c.force.ensures.bound
+
+pub returns-clause-along : goal.returns-clause-along
+returns-clause-along c = force_is_along c.args.self.now c.args.minus_slope c.args.x c.args.y c.force.result (returns-clause-value c)
