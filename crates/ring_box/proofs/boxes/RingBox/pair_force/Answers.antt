@@ -16,7 +16,7 @@ returns-clause-value g c =
     pair_force_is c.args.frac c.args.self.now m c.args.core c.args.cutoff c.args.x c.args.y c.small_force.result n
     ((rw (e, d) at c.small_force.ensures.value)
     ∙ force_along_is c.args.self.now (m r) c.args.x c.args.y c.line-line.result.x c.line-line.result.y c.line-line.result.z c.square-s.result c.line-line.result.length
-      (l.x ∙ p.x) (l.y ∙ p.y) (l.z ∙ p.z) (search rules) (search rules) l.length)
+    (l.x ∙ p.x) (l.y ∙ p.y) (l.z ∙ p.z) (search rules) (search rules) l.length)
 
 pub returns-clause-bound : goal.returns-clause-bound
 returns-clause-bound g c =
