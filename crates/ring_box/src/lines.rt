@@ -1,8 +1,7 @@
 ghost use Rattle.std.specs.Prelude.{◌≡◌, ◌≤◌, ◌<◌, ◌+◌, ◌*◌, ◌^◌, List, [], ◌∷◌, pos, ◌*ℤ◌, unsigned_abs};
-ghost use Rattle.std.specs.List.{All};
 ghost use Rattle.fixed.specs.Roots.{root};
 ghost use Rattle.ring_box.specs.Distances.{square};
-ghost use Rattle.ring_box.specs.Forces.{component_of};
+ghost use Rattle.ring_box.specs.Forces.{IsWithin, component_of};
 
 use crate::separations::Separation;
 use fixed::{floor_div, isqrt};
@@ -69,7 +68,7 @@ impl Line {
     pub(crate) fn force(self, g: i128) -> [i128; 3]
         requires { unsigned_abs g ≤ 2 ^ 63 }
         ensures value { result ≡ component_of g self.x self.length ∷ component_of g self.y self.length ∷ component_of g self.z self.length ∷ [] }
-        ensures bound { All (λ v. unsigned_abs v ≤ unsigned_abs g) result }
+        ensures bound { IsWithin g result }
     {
         [
             component(g, self.x, self.length),
@@ -82,7 +81,7 @@ impl Line {
     pub(crate) fn small_force(self, g: i64) -> [i64; 3]
         requires { unsigned_abs g < 2 ^ 63 }
         ensures value { result ≡ component_of g self.x self.length ∷ component_of g self.y self.length ∷ component_of g self.z self.length ∷ [] }
-        ensures bound { All (λ v. unsigned_abs v ≤ unsigned_abs g) result }
+        ensures bound { IsWithin g result }
     {
         [
             small_component(g, self.x, self.length),

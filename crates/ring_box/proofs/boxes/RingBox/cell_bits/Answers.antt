@@ -1,4 +1,4 @@
-use Rattle.std.proofs.Common.{rules, List, [], ◌∷◌}
+use Rattle.std.proofs.Common.{rules, [], ◌∷◌}
 use Rattle.ring_box.specs.Cells.{AreCellBits}
 use Rattle.ring_box.proofs.CellLemmas.{near_are_neighbours}
 use Rattle.ring_box.proofs.boxes.RingBox.cell_bits.Goals as goal
