@@ -1,3 +1,4 @@
 pub mod PartLaws
 pub mod LineLaws
+pub mod NameLaws
 pub mod Digits
