@@ -1,4 +1,5 @@
 pub mod PartLaws
 pub mod LineLaws
 pub mod NameLaws
+pub mod ColumnLaws
 pub mod Digits

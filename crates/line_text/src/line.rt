@@ -19,13 +19,14 @@ pub fn put(line: &mut Line, text: &[u8])
     let _ = line.try_extend_from_slice(text);
 }
 
-fn put_spaces(line: &mut Line, count: usize)
+/// Appends the byte, so many times.
+pub(crate) fn put_copies(line: &mut Line, count: usize, byte: u8)
     requires { array_vec_len line.old + count ≤ 160 }
-    ensures items { line.new.items ≡ line.old.items ++ replicate count 32 }
+    ensures items { line.new.items ≡ line.old.items ++ replicate count byte }
     ensures len { array_vec_len line.new ≡ array_vec_len line.old + count }
 {
     for _ in 0..count {
-        line.push(b' ');
+        line.push(byte);
     }
 }
 
@@ -36,7 +37,7 @@ pub fn put_right(line: &mut Line, width: usize, text: &[u8])
     ensures items { line.new.items ≡ line.old.items ++ right_in width text.now }
     ensures len { array_vec_len line.new ≡ array_vec_len line.old + width }
 {
-    put_spaces(line, width - text.len());
+    put_copies(line, width - text.len(), b' ');
     put(line, text);
 }
 
@@ -48,7 +49,7 @@ pub fn put_left(line: &mut Line, width: usize, text: &[u8])
     ensures len { array_vec_len line.new ≡ array_vec_len line.old + width }
 {
     put(line, text);
-    put_spaces(line, width - text.len());
+    put_copies(line, width - text.len(), b' ');
 }
 
 /// Appends a space and the number.
