@@ -2,6 +2,8 @@
 use Rattle.std.proofs.Common.{◌≡◌, ℕ, ◌-◌, ◌<◌, ◌≤◌, Bool, true, false, ◌&&◌, eqb, leb, not, List, [], ◌∷◌, length, get_or, Some, IsTrue, refl, ap, subst, ◌∙◌, arith, inl, inr}
 use Rattle.std.proofs.lemmas.Bool.{and_parts, or_cases, eqb-true, leb-true, ne_eqb, eq-eqb, not-true}
 use Rattle.std.proofs.lemmas.List.{nil_from_length}
+use Rattle.std.specs.Str.{IsAscii}
+use Rattle.std.proofs.lemmas.Str.Ascii.{IsAscii-nil, IsAscii-cons}
 use Rattle.line_text.specs.Parts.{lacks, is_name, name_of, has_clean_ends, is_printable, without_spaces, without_end_spaces, right_in, left_in}
 use Rattle.line_text.proofs.PartLaws.{some_of}
 use Rattle.line_text.proofs.LineLaws.{right_again, left_again}
@@ -49,6 +51,20 @@ pub name_lacks : (c : ℕ) (t : List ℕ) → c < 32 → IsTrue (is_name t) → 
 name_lacks c t low h =
     let p = and_parts (leb (length t) 5 && is_printable t) (has_clean_ends t) h in
     printable_lacks c t low (and_parts (leb (length t) 5) (is_printable t) p.0).1
+
+-- bytes of 32 to 126 are ASCII, so a name is text
+printable_ascii : (t : List ℕ) → is_printable t ≡ true → IsAscii t
+printable_ascii [] h = IsAscii-nil
+printable_ascii (x ∷ t) h =
+    let p = and_parts (leb 32 x && leb x 126) (is_printable t) h in
+    let q = and_parts (leb 32 x) (leb x 126) p.0 in
+    let most : x ≤ 126 = leb-true x 126 q.1 in
+    IsAscii-cons x t (omega arith) (printable_ascii t p.1)
+
+pub name_ascii : (t : List ℕ) → IsTrue (is_name t) → IsAscii t
+name_ascii t h =
+    let p = and_parts (leb (length t) 5 && is_printable t) (has_clean_ends t) h in
+    printable_ascii t (and_parts (leb (length t) 5) (is_printable t) p.0).1
 
 -- ---- a name in a column
 

@@ -5,10 +5,9 @@ ghost use Rattle.arrayvec.specs.ArrayVec.{array_vec_len};
 ghost use Rattle.line_text.specs.Parts.{right_in};
 ghost use Rattle.line_text.specs.Columns.{digits_of, decimals_of, decimal_column_of, column_of, zeros_in, decimals_text, position_text};
 
-use itoa::Buffer;
-
 use crate::line::{Line, put, put_copies, put_natural, put_right};
 use crate::text::trim_front;
+use itoa::Buffer;
 
 /// The number that these digits write, leading zeros allowed; no digits write 0.
 ///
