@@ -13,7 +13,7 @@ use Rattle.std.proofs.Math.Seq.{drop-append-add}
 use lib.Signed.{mag}
 use Rattle.line_text.specs.Parts.{lacks, right_in, without_spaces}
 use Rattle.line_text.specs.Columns.{digits_of, decimals_of, decimal_column_of, zeros_in, with_decimals, decimals_text}
-use Rattle.line_text.proofs.Digits.{own}
+use Rattle.line_text.proofs.DigitLaws.{own}
 use Rattle.line_text.proofs.LineLaws.{lacks_append, decimal_lacks, right_again}
 
 -- ---- digits

@@ -2,4 +2,4 @@ pub mod PartLaws
 pub mod LineLaws
 pub mod NameLaws
 pub mod ColumnLaws
-pub mod Digits
+pub mod DigitLaws

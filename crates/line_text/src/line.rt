@@ -1,4 +1,4 @@
-//! A line that is being written, of at most 160 bytes.
+//! Writing a line, part by part.
 
 ghost use Rattle.std.specs.Prelude.{◌≡◌, ◌+◌, ◌≤◌, ◌++◌, ◌∷◌, [], length, replicate, decimal};
 ghost use Rattle.std.specs.Fmt.{signed_decimal};
@@ -8,9 +8,10 @@ ghost use Rattle.line_text.specs.Parts.{right_in, left_in};
 use arrayvec::ArrayVec;
 use itoa::Buffer;
 
+/// A line that is being written, on the stack: at most 160 bytes, so that writing takes no memory.
 pub type Line = ArrayVec<u8, 160>;
 
-/// Appends the text.
+/// Appends the text. There is room for it.
 pub fn put(line: &mut Line, text: &[u8])
     requires { array_vec_len line.old + length text.now ≤ 160 }
     ensures items { line.new.items ≡ line.old.items ++ text.now }
@@ -30,7 +31,8 @@ pub(crate) fn put_copies(line: &mut Line, count: usize, byte: u8)
     }
 }
 
-/// Appends the text, right in a column.
+/// Appends the text, right in a column of `width` bytes: with spaces in front. The text is no longer
+/// than the column.
 pub fn put_right(line: &mut Line, width: usize, text: &[u8])
     requires room { array_vec_len line.old + width ≤ 160 }
     requires fits { length text.now ≤ width }
@@ -41,7 +43,8 @@ pub fn put_right(line: &mut Line, width: usize, text: &[u8])
     put(line, text);
 }
 
-/// Appends the text, left in a column.
+/// Appends the text, left in a column of `width` bytes: with spaces behind. The text is no longer
+/// than the column.
 pub fn put_left(line: &mut Line, width: usize, text: &[u8])
     requires room { array_vec_len line.old + width ≤ 160 }
     requires fits { length text.now ≤ width }
@@ -52,7 +55,7 @@ pub fn put_left(line: &mut Line, width: usize, text: &[u8])
     put_copies(line, width - text.len(), b' ');
 }
 
-/// Appends a space and the number.
+/// Appends a space and the number in decimal, at most 21 bytes.
 pub fn put_word(line: &mut Line, number: u64)
     requires { array_vec_len line.old + 21 ≤ 160 }
     ensures items { line.new.items ≡ line.old.items ++ 32 ∷ decimal number }
@@ -63,7 +66,7 @@ pub fn put_word(line: &mut Line, number: u64)
     put(line, buffer.format(number).as_bytes());
 }
 
-/// Appends the number.
+/// Appends the number in decimal, without leading zeros: at most 20 bytes.
 pub fn put_natural(line: &mut Line, number: u64)
     requires { array_vec_len line.old + 20 ≤ 160 }
     ensures items { line.new.items ≡ line.old.items ++ decimal number }
@@ -73,7 +76,8 @@ pub fn put_natural(line: &mut Line, number: u64)
     put(line, buffer.format(number).as_bytes());
 }
 
-/// Appends the number.
+/// Appends the number in decimal, without leading zeros, and with a `-` where it is below 0: at most
+/// 20 bytes.
 pub fn put_integer(line: &mut Line, number: i64)
     requires { array_vec_len line.old + 20 ≤ 160 }
     ensures items { line.new.items ≡ line.old.items ++ signed_decimal number }
