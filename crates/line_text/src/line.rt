@@ -31,6 +31,17 @@ pub(crate) fn put_copies(line: &mut Line, count: usize, byte: u8)
     }
 }
 
+/// Appends the text, with so many spaces before and after it.
+fn put_between(line: &mut Line, before: usize, text: &[u8], after: usize)
+    requires { array_vec_len line.old + before + length text.now + after ≤ 160 }
+    ensures items { line.new.items ≡ line.old.items ++ (replicate before 32 ++ text.now ++ replicate after 32) }
+    ensures len { array_vec_len line.new ≡ array_vec_len line.old + before + length text.now + after }
+{
+    put_copies(line, before, b' ');
+    put(line, text);
+    put_copies(line, after, b' ');
+}
+
 /// Appends the text, right in a column of `width` bytes: with spaces in front. The text is no longer
 /// than the column.
 pub fn put_right(line: &mut Line, width: usize, text: &[u8])
@@ -39,8 +50,7 @@ pub fn put_right(line: &mut Line, width: usize, text: &[u8])
     ensures items { line.new.items ≡ line.old.items ++ right_in width text.now }
     ensures len { array_vec_len line.new ≡ array_vec_len line.old + width }
 {
-    put_copies(line, width - text.len(), b' ');
-    put(line, text);
+    put_between(line, width - text.len(), text, 0);
 }
 
 /// Appends the text, left in a column of `width` bytes: with spaces behind. The text is no longer
@@ -51,8 +61,7 @@ pub fn put_left(line: &mut Line, width: usize, text: &[u8])
     ensures items { line.new.items ≡ line.old.items ++ left_in width text.now }
     ensures len { array_vec_len line.new ≡ array_vec_len line.old + width }
 {
-    put(line, text);
-    put_copies(line, width - text.len(), b' ');
+    put_between(line, 0, text, width - text.len());
 }
 
 /// Appends a space and the number in decimal, at most 21 bytes.
@@ -61,9 +70,8 @@ pub fn put_word(line: &mut Line, number: u64)
     ensures items { line.new.items ≡ line.old.items ++ 32 ∷ decimal number }
     ensures len { array_vec_len line.new ≤ array_vec_len line.old + 21 }
 {
-    let mut buffer = Buffer::new();
     put(line, b" ");
-    put(line, buffer.format(number).as_bytes());
+    put_natural(line, number);
 }
 
 /// Appends the number in decimal, without leading zeros: at most 20 bytes.
@@ -78,11 +86,11 @@ pub fn put_natural(line: &mut Line, number: u64)
 
 /// Appends the number in decimal, without leading zeros, and with a `-` where it is below 0: at most
 /// 20 bytes.
-pub fn put_integer(line: &mut Line, number: i64)
+pub fn put_integer(line: &mut Line, value: i64)
     requires { array_vec_len line.old + 20 ≤ 160 }
-    ensures items { line.new.items ≡ line.old.items ++ signed_decimal number }
+    ensures items { line.new.items ≡ line.old.items ++ signed_decimal value }
     ensures len { array_vec_len line.new ≤ array_vec_len line.old + 20 }
 {
     let mut buffer = Buffer::new();
-    put(line, buffer.format(number).as_bytes());
+    put(line, buffer.format(value).as_bytes());
 }

@@ -42,12 +42,12 @@ pub fn integer(text: &[u8]) -> Option<i64>
     let Ok(words) = std::str::from_utf8(text) else {
         return None;
     };
-    let Ok(number) = words.parse::<i64>() else {
+    let Ok(value) = words.parse::<i64>() else {
         return None;
     };
     let mut buffer = Buffer::new();
-    if buffer.format(number).as_bytes() == text {
-        Some(number)
+    if buffer.format(value).as_bytes() == text {
+        Some(value)
     } else {
         None
     }
