@@ -1,4 +1,6 @@
-//! Parts of lines of text, which all formats share: decimals with one spelling, columns, cutting at a byte, trimming, names, and lines that are being written. What is written is read again: for each pair of a writer and a reader, proofs/ has the law over texts alone.
+//! Parts of lines of text, which all formats share: decimals with one spelling, columns, cutting at a
+//! byte, trimming, names, and lines that are being written. What is written is read again: `proofs/`
+//! has that law for each writer and its reader, over texts alone.
 #![tactic(auto)]
 
 mod columns;
