@@ -10,7 +10,9 @@ mod name;
 mod tests;
 mod text;
 
-pub use columns::{column, decimal_column, digits, put_decimals, put_thousandths};
+pub use columns::{
+    column, decimal_column, digits, put_decimals, put_decimals_right, put_thousandths,
+};
 pub use line::{Line, put, put_integer, put_left, put_natural, put_right, put_word};
 pub use name::Name;
 pub use text::{cut, integer, natural, strip, three_words, trim_end, trim_front, word};
