@@ -5,7 +5,7 @@ ghost use Rattle.arrayvec.specs.ArrayVec.{array_vec_len};
 ghost use Rattle.line_text.specs.Parts.{right_in};
 ghost use Rattle.line_text.specs.Columns.{digits_of, decimals_of, decimal_column_of, column_of, zeros_in, decimals_text, position_text};
 
-use crate::line::{Line, put, put_copies, put_natural, put_right};
+use crate::line::{Line, put, put_copies, put_natural};
 use crate::text::trim_front;
 use itoa::Buffer;
 
@@ -120,6 +120,21 @@ pub fn put_decimals(line: &mut Line, places: usize, number: i64)
     put_natural(line, magnitude / unit);
     put(line, b".");
     put_digits(line, places, magnitude % unit);
+}
+
+/// Appends what [`put_decimals`] does, right in a column of `width` bytes, as C's `%8.3f` prints it: a
+/// longer number is not cut, and moves what follows it.
+pub fn put_decimals_right(line: &mut Line, width: usize, places: usize, number: i64)
+    requires room { array_vec_len line.old + width + 32 ≤ 160 }
+    requires some { 0 < places }
+    requires few { places ≤ 5 }
+    ensures items { line.new.items ≡ line.old.items ++ right_in width (decimals_text places number) }
+    ensures len { array_vec_len line.new ≤ array_vec_len line.old + width + 32 }
+{
+    let mut text = Line::new();
+    put_decimals(&mut text, places, number);
+    put_copies(line, width.saturating_sub(text.len()), b' ');
+    put(line, text.as_slice());
 }
 
 /// Appends a number, given in thousandths, with three decimals.

@@ -109,6 +109,15 @@ fn writes_decimals(rt: HostRuntime) {
 }
 
 #[test]
+fn writes_decimals_right(rt: HostRuntime) {
+    let mut line = Line::new();
+    put_decimals_right(&mut line, 8, 3, -1250);
+    put_decimals_right(&mut line, 10, 5, 1_862_060);
+    put_decimals_right(&mut line, 8, 3, 12_345_678);
+    assert_eq!(rt; line.as_slice(), b"  -1.250  18.6206012345.678".as_slice());
+}
+
+#[test]
 fn reads_decimals(rt: HostRuntime) {
     assert_eq!(rt; digits(b"0042"), Some(42));
     assert_eq!(rt; digits(b"4 2"), None);
