@@ -11,7 +11,7 @@ use Rattle.std.proofs.lemmas.List.{take_all, length-take-le}
 use Rattle.std.proofs.Math.Nat.{pow-le-pow_right}
 use Rattle.line_text.specs.Columns.{digits_of}
 
-own : IsNumeralModel (λ ds. all_ascii_digits ds ≡ true) (digits_value 10)
+pub own : IsNumeralModel (λ ds. all_ascii_digits ds ≡ true) (digits_value 10)
 own = numerals_by_value (λ ds. all_ascii_digits ds ≡ true) tells_all_ascii_digits
 
 pub below : (text : List ℕ) (i n k : ℕ) → i ≤ length text → i ≤ k → n ≡ digits_value 10 (take i text) → AllDigits 10 (take i text) → n < 10 ^ k
