@@ -1,3 +1,5 @@
 pub mod PartLaws
 pub mod LineLaws
-pub mod Digits
+pub mod NameLaws
+pub mod ColumnLaws
+pub mod DigitLaws

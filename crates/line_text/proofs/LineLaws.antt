@@ -1,20 +1,20 @@
 -- Cutting a text into lines, words and columns.
-use Rattle.std.proofs.Common.{◌≡◌, ℕ, zero, suc, ◌+◌, ◌-◌, ◌^◌, ◌<◌, ◌==◌, true, eqb, ltb, not, List, [], ◌∷◌, ◌++◌, length, take, drop, get_or, replicate, reverse, Option, Some, None, decimal, bytes_eq, refl, sym, ap, subst, ◌∙◌, arith, inl, inr, lit<}
+use Rattle.std.proofs.Common.{◌≡◌, ℕ, zero, suc, ◌+◌, ◌-◌, ◌^◌, ◌<◌, ◌≤◌, ◌==◌, Bool, true, false, cond, eqb, ltb, not, List, [], ◌∷◌, ◌++◌, length, take, drop, get_or, replicate, reverse, Option, Some, None, decimal, bytes_eq, refl, sym, ap, subst, ◌∙◌, append_assoc, arith, inl, inr, lit<}
 use Rattle.std.specs.Prelude.{ℤ, pos, negsuc}
 use Rattle.std.specs.Fmt.{signed_decimal}
-use Rattle.std.specs.List.{position_or_len, prefix_len, before_first, after_first}
+use Rattle.std.specs.List.{position_or_len, prefix_len, before_first, after_first, flat_map}
 use Rattle.std.specs.Str.Parse.{AllDigits}
 use Rattle.std.specs.Int.{IsInRange}
-use Rattle.std.proofs.lemmas.Bool.{cases_Bool, and_parts, and_from, ltb-true, lt-ltb, eqb-true, ne_eqb, eq-eqb}
+use Rattle.std.proofs.lemmas.Bool.{cases_Bool, and_parts, and_from, ltb-true, ltb-false, lt-ltb, eqb-true, ne_eqb, eq-eqb, not-true}
 use Rattle.std.proofs.lemmas.Str.Parse.{digit_from_value}
 use Rattle.std.proofs.lemmas.Fmt.{decimal_is_IsNumeral}
 use Rattle.std.proofs.lemmas.Option.{some_pair_parts}
 use Rattle.std.proofs.lemmas.List.Sums.{split_at_first, passes_at_first}
-use Rattle.std.proofs.lemmas.List.{take_at, drop_at, take-append-drop, append-nil, length-append, reverse-append, reverse-reverse, get_or-reverse}
+use Rattle.std.proofs.lemmas.List.{take_at, drop_at, take_all, take-append-drop, append-nil, length-append, length-replicate, reverse-append, reverse-reverse, get_or-reverse}
 use Rattle.std.proofs.Math.Seq.{drop-append-add}
 use lib.Signed.{mag}
-use Rattle.line_text.specs.Parts.{◌>>=◌, natural_of, lacks, cut_at, after, word_at, without_spaces, without_end_spaces, right_in, left_in}
-use Rattle.line_text.proofs.PartLaws.{some_of, same_bytes, bytes_same, natural_found, natural_again}
+use Rattle.line_text.specs.Parts.{◌>>=◌, natural_of, integer_of, lacks, cut_at, ended, after, word, AreThree, word_at, three_at, without_spaces, without_end_spaces, right_in, left_in}
+use Rattle.line_text.proofs.PartLaws.{some_of, same_bytes, bytes_same, natural_found, natural_again, integer_again}
 
 -- the value of a step that did not fail
 pub bind_some : {A B : Type 0} (o : Option A) (f : A → Option B) (y : B) → (o >>= f) ≡ Some y → (x : A) × (o ≡ Some x) × (f x ≡ Some y)
@@ -30,6 +30,23 @@ pub lacks_append : (c : ℕ) (a b : List ℕ) → lacks c a ≡ true → lacks c
 lacks_append c [] b p q = q
 lacks_append c (x ∷ a) b p q =
     let s = and_parts (not (eqb x c)) (lacks c a) p in and_from (not (eqb x c)) (lacks c (a ++ b)) s.0 (lacks_append c a b s.1 q)
+
+pub lacks_front : (c : ℕ) (a b : List ℕ) → lacks c (a ++ b) ≡ true → lacks c a ≡ true
+lacks_front c [] b e = refl
+lacks_front c (x ∷ a) b e =
+    let s = and_parts (not (eqb x c)) (lacks c (a ++ b)) e in and_from (not (eqb x c)) (lacks c a) s.0 (lacks_front c a b s.1)
+
+pub lacks_rest : (c : ℕ) (a b : List ℕ) → lacks c (a ++ b) ≡ true → lacks c b ≡ true
+lacks_rest c [] b e = e
+lacks_rest c (x ∷ a) b e = lacks_rest c a b (and_parts (not (eqb x c)) (lacks c (a ++ b)) e).1
+
+-- a text that lacks c does not begin with it
+pub lacks_first : (c : ℕ) (t : List ℕ) → 0 < c → lacks c t ≡ true → get_or t 0 0 ≡ c → ⊥
+lacks_first c [] some l e = omega arith
+lacks_first c (x ∷ xs) some l e =
+    let no : eqb x c ≡ false = not-true (eqb x c) (and_parts (not (eqb x c)) (lacks c xs) l).0 in
+    let yes : eqb x c ≡ true = eq-eqb x c e in
+    absurd cc
 
 pub first_place_is : (c : ℕ) (a b : List ℕ) → lacks c a ≡ true → position_or_len (λ x. x == c) (a ++ c ∷ b) ≡ length a
 first_place_is c [] b p = rw (eq-eqb c c refl) refl
@@ -87,6 +104,44 @@ cut_again c a b l =
     let lt : ltb (length a) (length (a ++ c ∷ b)) ≡ true = lt-ltb _ _ (omega (arith, length-append a (c ∷ b))) in
     rw (at, lt, take_at a (c ∷ b) (length a) refl, drop-append-add a (c ∷ b) 1) refl
 
+-- what cut_at answers, by whether the byte was found
+abbrev halves_if : ℕ → List ℕ → Bool → Option (List ℕ × List ℕ)
+halves_if c text found = cond found (Some (before_first (λ x. x == c) text, after_first (λ x. x == c) text)) None
+
+pub cut_none : (c : ℕ) (text : List ℕ) → cut_at c text ≡ None → lacks c text ≡ true
+unfolding cut_at
+cut_none c text e = at (ltb (position_or_len (λ x. x == c) text) (length text)) refl e
+  where
+    at : (b : Bool) → ltb (position_or_len (λ x. x == c) text) (length text) ≡ b → halves_if c text b ≡ None → lacks c text ≡ true
+    at true t d = absurd cc
+    at false t d = subst (λ (u : List ℕ). lacks c u ≡ true) (take_all (position_or_len (λ x. x == c) text) text (ltb-false _ _ t)) (before_lacks c text)
+
+lacks_not_first : (c : ℕ) (b : List ℕ) → lacks c (c ∷ b) ≡ true → ⊥
+lacks_not_first c b h =
+    let no : eqb c c ≡ false = not-true (eqb c c) (and_parts (not (eqb c c)) (lacks c b) h).0 in
+    let yes : eqb c c ≡ true = eq-eqb c c refl in
+    absurd cc
+
+-- a text that lacks the byte is not cut
+pub uncut : (c : ℕ) (text : List ℕ) → lacks c text ≡ true → cut_at c text ≡ None
+uncut c text l = at (cut_at c text) refl
+  where
+    at : (o : Option (List ℕ × List ℕ)) → cut_at c text ≡ o → cut_at c text ≡ None
+    at None e = e
+    at (Some p) e =
+        let whole : text ≡ p.0 ++ c ∷ p.1 = (cut_found c text p.0 p.1 e).0 in
+        absurd (lacks_not_first c p.1 (lacks_rest c p.0 (c ∷ p.1) (subst (λ (t : List ℕ). lacks c t ≡ true) whole l)))
+
+-- what stands after the byte is shorter than the text
+pub cut_shorter : (c : ℕ) (text a b : List ℕ) → cut_at c text ≡ Some (a, b) → length b + 1 ≤ length text
+cut_shorter c text a b e = omega (arith, ap length (cut_found c text a b e).0, length-append a (c ∷ b))
+
+pub ended_then : (line rest : List ℕ) → ended line ++ rest ≡ line ++ 10 ∷ rest
+ended_then line rest = append_assoc line (10 ∷ []) rest
+
+pub line_cut : (line rest : List ℕ) → lacks 10 line ≡ true → cut_at 10 (ended line ++ rest) ≡ Some (line, rest)
+line_cut line rest l = ap (cut_at 10) (ended_then line rest) ∙ cut_again 10 line rest l
+
 -- ---- a front
 
 pub after_found : (front text rest : List ℕ) → after front text ≡ Some rest → text ≡ front ++ rest
@@ -128,7 +183,78 @@ word_again limit n rest lt fits ends =
     let at = ends_at (decimal n) rest (decimal_lacks 32 n (lit< tt) fits) ends in
     rw (after_again (32 ∷ []) (decimal n ++ rest)) (rw (at, take_at (decimal n) rest (length (decimal n)) refl, drop_at (decimal n) rest (length (decimal n)) refl, natural_again limit n lt fits) refl)
 
+-- ---- three words
+
+pub three_in_turn : (x y z : ℕ) (rest : List ℕ) → flat_map word (x ∷ y ∷ z ∷ []) ++ rest ≡ word x ++ (word y ++ (word z ++ rest))
+three_in_turn x y z rest =
+    append_assoc (word x) (word y ++ (word z ++ [])) rest
+    ∙ ap (λ (t : List ℕ). word x ++ t) (append_assoc (word y) (word z ++ []) rest ∙ ap (λ (t : List ℕ). word y ++ t) (append_assoc (word z) [] rest))
+
+-- words one after another are three words
+three_joined : (limit x y z : ℕ) (text r s rest : List ℕ) (p : List ℕ × List ℕ) → text ≡ word x ++ r → r ≡ word y ++ s → s ≡ word z ++ rest
+    → x < limit → y < limit → z < limit → (x ∷ y ∷ z ∷ [], rest) ≡ p → (text ≡ flat_map word p.0 ++ p.1) × AreThree (λ n. n < limit) p.0
+three_joined limit x y z text r s rest p e f g lx ly lz same =
+    let whole : text ≡ flat_map word (x ∷ y ∷ z ∷ []) ++ rest = e ∙ ap (λ (t : List ℕ). word x ++ t) (f ∙ ap (λ (t : List ℕ). word y ++ t) g) ∙ sym (three_in_turn x y z rest) in
+    subst (λ (q : List ℕ × List ℕ). (text ≡ flat_map word q.0 ++ q.1) × AreThree (λ n. n < limit) q.0) same (whole, (lx, ly, lz))
+
+three_is : (limit x y z : ℕ) (text r s rest : List ℕ) → word_at limit text ≡ Some (x, r) → word_at limit r ≡ Some (y, s) → word_at limit s ≡ Some (z, rest)
+    → three_at limit text ≡ Some (x ∷ y ∷ z ∷ [], rest)
+unfolding three_at
+three_is limit x y z text r s rest a b c = rw (a, b, c) refl
+
+pub three_found : (limit : ℕ) (text : List ℕ) (p : List ℕ × List ℕ) → three_at limit text ≡ Some p → (text ≡ flat_map word p.0 ++ p.1) × AreThree (λ x. x < limit) p.0
+unfolding three_at
+three_found limit text p e =
+    let a = bind_some (word_at limit text) (λ x. word_at limit x.1 >>= λ y. word_at limit y.1 >>= λ z. Some (x.0 ∷ y.0 ∷ z.0 ∷ [], z.1)) p e in
+    let b = bind_some (word_at limit a.0.1) (λ y. word_at limit y.1 >>= λ z. Some (a.0.0 ∷ y.0 ∷ z.0 ∷ [], z.1)) p a.2 in
+    let c = bind_some (word_at limit b.0.1) (λ z. Some (a.0.0 ∷ b.0.0 ∷ z.0 ∷ [], z.1)) p b.2 in
+    let f = word_found limit text a.0.0 a.0.1 a.1 in
+    let g = word_found limit a.0.1 b.0.0 b.0.1 b.1 in
+    let h = word_found limit b.0.1 c.0.0 c.0.1 c.1 in
+    three_joined limit a.0.0 b.0.0 c.0.0 text a.0.1 b.0.1 c.0.1 p f.0 g.0 h.0 f.1 g.1 h.1 (cc)
+
+pub three_again : (limit : ℕ) (ns rest : List ℕ) → limit ≤ 2 ^ 64 → AreThree (λ x. x < limit) ns → EndsWord rest → three_at limit (flat_map word ns ++ rest) ≡ Some (ns, rest)
+unfolding three_at
+three_again limit [] rest small h ends = absurd h
+three_again limit (x ∷ []) rest small h ends = absurd h
+three_again limit (x ∷ y ∷ []) rest small h ends = absurd h
+three_again limit (x ∷ y ∷ z ∷ w ∷ more) rest small h ends = absurd h
+three_again limit (x ∷ y ∷ z ∷ []) rest small h ends =
+    let c : word_at limit (word z ++ rest) ≡ Some (z, rest) = word_again limit z rest h.2 (omega arith) ends in
+    let b : word_at limit (word y ++ (word z ++ rest)) ≡ Some (y, word z ++ rest) = word_again limit y (word z ++ rest) h.1 (omega arith) refl in
+    let a : word_at limit (word x ++ (word y ++ (word z ++ rest))) ≡ Some (x, word y ++ (word z ++ rest)) = word_again limit x (word y ++ (word z ++ rest)) h.0 (omega arith) refl in
+    ap (three_at limit) (three_in_turn x y z rest) ∙ three_is limit x y z (word x ++ (word y ++ (word z ++ rest))) (word y ++ (word z ++ rest)) (word z ++ rest) rest a b c
+
+pub words_lack : (c limit : ℕ) (ns : List ℕ) → c < 32 → limit ≤ 2 ^ 64 → AreThree (λ x. x < limit) ns → lacks c (flat_map word ns) ≡ true
+words_lack c limit [] low small h = absurd h
+words_lack c limit (x ∷ []) low small h = absurd h
+words_lack c limit (x ∷ y ∷ []) low small h = absurd h
+words_lack c limit (x ∷ y ∷ z ∷ w ∷ more) low small h = absurd h
+words_lack c limit (x ∷ y ∷ z ∷ []) low small h =
+    lacks_append c (word x) (word y ++ (word z ++ [])) (word_lacks x (omega (arith, h.0)))
+    (lacks_append c (word y) (word z ++ []) (word_lacks y (omega (arith, h.1)))
+    (lacks_append c (word z) [] (word_lacks z (omega (arith, h.2))) refl))
+  where
+    word_lacks : (n : ℕ) → n < 2 ^ 64 → lacks c (word n) ≡ true
+    word_lacks n fits = rw (ne_eqb 32 c (λ e. omega arith), decimal_lacks c n (omega arith) fits) refl
+
 -- ---- columns
+
+pub spaces_lack : (c k : ℕ) → c < 32 → lacks c (replicate k 32) ≡ true
+spaces_lack c zero low = refl
+spaces_lack c (suc k) low = rw (ne_eqb 32 c (λ e. omega arith), spaces_lack c k low) refl
+
+pub right_lacks : (c width : ℕ) (text : List ℕ) → c < 32 → lacks c text ≡ true → lacks c (right_in width text) ≡ true
+right_lacks c width text low l = lacks_append c (replicate (width - length text) 32) text (spaces_lack c (width - length text) low) l
+
+pub left_lacks : (c width : ℕ) (text : List ℕ) → c < 32 → lacks c text ≡ true → lacks c (left_in width text) ≡ true
+left_lacks c width text low l = lacks_append c text (replicate (width - length text) 32) l (spaces_lack c (width - length text) low)
+
+pub length-right_in : (width : ℕ) (text : List ℕ) → length text ≤ width → length (right_in width text) ≡ width
+length-right_in width text h = omega (arith, length-append (replicate (width - length text) 32) text, length-replicate {A = ℕ} (width - length text) 32)
+
+pub length-left_in : (width : ℕ) (text : List ℕ) → length text ≤ width → length (left_in width text) ≡ width
+length-left_in width text h = omega (arith, length-append text (replicate (width - length text) 32), length-replicate {A = ℕ} (width - length text) 32)
 
 without_pad : (k : ℕ) (text : List ℕ) → without_spaces (replicate k 32 ++ text) ≡ without_spaces text
 without_pad zero text = refl
@@ -163,3 +289,13 @@ left_again width text h =
     let e : reverse (left_in width text) ≡ replicate (width - length text) 32 ++ reverse text = rw (reverse-append, reverse_pad (width - length text)) refl in
     ap (λ (t : List ℕ). reverse (without_spaces t)) e
     ∙ ap reverse (without_pad (width - length text) (reverse text) ∙ no_spaces (reverse text) (first_of_reverse text h)) ∙ reverse-reverse text
+
+-- ---- numbers in a column
+
+pub right_natural_again : (limit width n : ℕ) → n < limit → n < 2 ^ 64 → natural_of limit (without_spaces (right_in width (decimal n))) ≡ Some n
+right_natural_again limit width n lt fits =
+    ap (natural_of limit) (right_again width (decimal n) (lacks_first 32 (decimal n) (lit< tt) (decimal_lacks 32 n (lit< tt) fits))) ∙ natural_again limit n lt fits
+
+pub right_integer_again : (width : ℕ) (z : ℤ) → mag z < 2 ^ 63 → integer_of (without_spaces (right_in width (signed_decimal z))) ≡ Some z
+right_integer_again width z fits =
+    ap integer_of (right_again width (signed_decimal z) (lacks_first 32 (signed_decimal z) (lit< tt) (signed_lacks 32 z (lit< tt) fits))) ∙ integer_again z fits

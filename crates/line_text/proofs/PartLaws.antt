@@ -17,6 +17,15 @@ pub some_of : {A : Type 0} (b : Bool) (x y : A) → cond b (Some x) None ≡ Som
 some_of true x y e = (refl, cc)
 some_of false x y e = absurd cc
 
+-- a test that stops a value
+pub none_of : {A : Type 0} (b : Bool) (x y : A) → cond b None (Some x) ≡ Some y → (b ≡ false) × (x ≡ y)
+none_of true x y e = absurd cc
+none_of false x y e = (refl, cc)
+
+pub none_or : {A : Type 0} (b : Bool) (o : Option A) (y : A) → cond b None o ≡ Some y → (b ≡ false) × (o ≡ Some y)
+none_or true o y e = absurd cc
+none_or false o y e = (refl, e)
+
 pub same_bytes : (xs ys : List ℕ) → bytes_eq xs ys ≡ true → xs ≡ ys
 same_bytes xs ys e = (bytes_eq-Decides xs ys).0 e
 

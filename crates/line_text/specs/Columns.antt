@@ -1,31 +1,50 @@
--- Numbers in columns: whole thousandths, with three decimals.
-use Rattle.std.specs.Prelude.{ℕ, suc, ◌+◌, ◌-◌, ◌*◌, ◌/◌, ◌%◌, List, [], ◌∷◌, ◌++◌, length, take, drop, Option, Some, None, ℤ, pos, negsuc, neg_ℤ, nat_lt, ◌==◌, slice_index, decimal, if◌then◌else◌, option_map}
+-- Numbers with a fixed number of decimals, as C's %8.3f prints them, in whole units of the last decimal (GROMACS manual, gro file format).
+use Rattle.std.specs.Prelude.{ℕ, suc, ◌+◌, ◌-◌, ◌*◌, ◌/◌, ◌%◌, ◌^◌, List, ◌∷◌, ◌++◌, length, take, drop, replicate, Option, Some, None, ℤ, pos, negsuc, neg_ℤ, nat_lt, ◌==◌, slice_index, decimal, if◌then◌else◌, option_map}
 use Rattle.std.specs.Str.{all_ascii_digits}
 use Rattle.std.specs.Str.Parse.{digits_value}
 use Rattle.line_text.specs.Parts.{◌>>=◌, without_spaces}
 
--- the number that these digits write
+-- the number that these digits write; no digits write 0
 unfoldable pub digits_of : List ℕ → Option ℕ
 digits_of text = if all_ascii_digits text then Some (digits_value 10 text) else None
 
--- digits, a point and three digits, in thousandths
-unfoldable pub thousandths_of : List ℕ → Option ℕ
-thousandths_of text = if nat_lt (length text) 5 then None else (
-    if slice_index text (length text - 4) == 46 then (
-    digits_of (take (length text - 4) text) >>= λ whole.
-    digits_of (drop (length text - 3) text) >>= λ part.
-    Some (whole * 1000 + part)) else None)
+-- one or more digits, a point and so many digits
+unfoldable pub decimals_of : ℕ → List ℕ → Option ℕ
+decimals_of places text = if nat_lt (length text) (places + 2) then None else (
+    if slice_index text (length text - (places + 1)) == 46 then (
+    digits_of (take (length text - (places + 1)) text) >>= λ whole.
+    digits_of (drop (length text - places) text) >>= λ part.
+    Some (whole * 10 ^ places + part)) else None)
 
--- spaces, and a number that may have a minus
-unfoldable pub column_of : List ℕ → Option ℤ
-column_of column = if slice_index (without_spaces column) 0 == 45
-    then option_map (λ n. neg_ℤ (pos n)) (thousandths_of (drop 1 (without_spaces column)))
-    else option_map pos (thousandths_of (without_spaces column))
+-- spaces, and such a number that may have a minus
+unfoldable pub decimal_column_of : ℕ → List ℕ → Option ℤ
+decimal_column_of places column = if slice_index (without_spaces column) 0 == 45
+    then option_map (λ n. neg_ℤ (pos n)) (decimals_of places (drop 1 (without_spaces column)))
+    else option_map pos (decimals_of places (without_spaces column))
 
--- what is written
+-- with three decimals
+abbrev pub thousandths_of : List ℕ → Option ℕ
+thousandths_of text = decimals_of 3 text
+
+abbrev pub column_of : List ℕ → Option ℤ
+column_of column = decimal_column_of 3 column
+
+-- ---- what is written
+
+-- right in a column, with zeros before it
+abbrev pub zeros_in : ℕ → List ℕ → List ℕ
+zeros_in width text = replicate (width - length text) 48 ++ text
+
+abbrev pub with_decimals : ℕ → ℕ → List ℕ
+with_decimals places n = decimal (n / 10 ^ places) ++ 46 ∷ zeros_in places (decimal (n % 10 ^ places))
+
+abbrev pub decimals_text : ℕ → ℤ → List ℕ
+decimals_text places (pos n) = with_decimals places n
+decimals_text places (negsuc n) = 45 ∷ with_decimals places (suc n)
+
+-- with three decimals
 abbrev pub thousandths : ℕ → List ℕ
-thousandths n = decimal (n / 1000) ++ 46 ∷ (48 + n / 100 % 10) ∷ (48 + n / 10 % 10) ∷ (48 + n % 10) ∷ []
+thousandths n = with_decimals 3 n
 
 abbrev pub position_text : ℤ → List ℕ
-position_text (pos n) = thousandths n
-position_text (negsuc n) = 45 ∷ thousandths (suc n)
+position_text z = decimals_text 3 z

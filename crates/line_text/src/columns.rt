@@ -1,15 +1,19 @@
-//! Numbers in columns: whole thousandths, with three decimals.
+//! Numbers with a fixed number of decimals, held as whole numbers of the last decimal's unit.
 
-ghost use Rattle.std.specs.Prelude.{◌≡◌, ℕ, ◌+◌, ◌*◌, ◌^◌, ◌<◌, ◌≤◌, ◌++◌, length, option_map, IfSome, pos, negsuc, ◌≤ℤ◌};
+ghost use Rattle.std.specs.Prelude.{◌≡◌, ℕ, ◌+◌, ◌^◌, ◌<◌, ◌≤◌, ◌++◌, length, IfSome, decimal};
 ghost use Rattle.arrayvec.specs.ArrayVec.{array_vec_len};
-ghost use Rattle.line_text.specs.Columns.{digits_of, thousandths_of, column_of, thousandths, position_text};
+ghost use Rattle.line_text.specs.Parts.{right_in};
+ghost use Rattle.line_text.specs.Columns.{digits_of, decimals_of, decimal_column_of, column_of, zeros_in, decimals_text, position_text};
 
-use crate::line::{Line, put, put_natural};
+use crate::line::{Line, put, put_copies, put_natural};
 use crate::text::trim_front;
+use itoa::Buffer;
 
-/// The number that these digits write.
+/// The number that these digits write, leading zeros allowed; no digits write 0.
+///
+/// `None` where a byte is no digit. The text has at most 12 bytes.
 #[tactic(auto, unfolding(crate::specs::Columns::digits_of))]
-fn digits(text: &[u8]) -> Option<u64>
+pub fn digits(text: &[u8]) -> Option<u64>
     requires { length text.now ≤ 12 }
     ensures exact { result ≡ digits_of text.now }
     ensures below { IfSome result (λ n. n < 10 ^ 12) }
@@ -24,57 +28,120 @@ fn digits(text: &[u8]) -> Option<u64>
     Some(number)
 }
 
-/// Digits, a point and three digits, in thousandths.
-#[tactic(auto, unfolding(crate::specs::Columns::thousandths_of))]
-fn thousandths(text: &[u8]) -> Option<u64>
-    requires { length text.now ≤ 12 }
-    ensures exact { result ≡ thousandths_of text.now }
-    ensures below { IfSome result (λ n. n < 10 ^ 16) }
+/// Ten to this power.
+fn power_of_ten(places: usize) -> u64
+    requires { places ≤ 5 }
+    ensures exact { result ≡ 10 ^ places }
+    ensures some { 0 < result }
+    ensures small { result ≤ 100000 }
 {
-    let len = text.len();
-    if len < 5 || text[len - 4] != b'.' {
-        return None;
+    match places {
+        0 => 1,
+        1 => 10,
+        2 => 100,
+        3 => 1000,
+        4 => 10_000,
+        _ => 100_000,
     }
-    let whole = digits(text.split_at(len - 4).0)?;
-    let part = digits(text.split_at(len - 3).1)?;
-    Some(whole * 1000 + part)
 }
 
-/// The number in a column.
-#[tactic(auto, unfolding(crate::specs::Columns::column_of))]
+/// One or more digits, a point and `places` digits, in units of the last digit.
+#[tactic(auto, unfolding(crate::specs::Columns::decimals_of))]
+fn decimals(places: usize, text: &[u8]) -> Option<u64>
+    requires few { places ≤ 5 }
+    requires short { length text.now ≤ 12 }
+    ensures exact { result ≡ decimals_of places text.now }
+    ensures below { IfSome result (λ n. n < 10 ^ 18) }
+{
+    let len = text.len();
+    if len < places + 2 || text[len - (places + 1)] != b'.' {
+        return None;
+    }
+    let whole = digits(text.split_at(len - (places + 1)).0)?;
+    let part = digits(text.split_at(len - places).1)?;
+    Some(whole * power_of_ten(places) + part)
+}
+
+/// The number in a column: spaces, an optional `-`, one or more digits, a point and `places` digits,
+/// in units of the last digit. So `  -1.250` is -1250 with three places.
+///
+/// `None` for any other text. The column has at most 12 bytes, and there are at most five places.
+#[tactic(auto, unfolding(crate::specs::Columns::decimal_column_of))]
+pub fn decimal_column(places: usize, column: &[u8]) -> Option<i64>
+    requires few { places ≤ 5 }
+    requires short { length column.now ≤ 12 }
+    ensures { result ≡ decimal_column_of places column.now }
+{
+    let text = trim_front(column);
+    if text.is_empty() || text[0] != b'-' {
+        Some(decimals(places, text)? as i64)
+    } else {
+        let (_, rest) = text.split_at(1);
+        Some(-(decimals(places, rest)? as i64))
+    }
+}
+
+/// The number in a column with three decimals, as [`decimal_column`] reads it.
 pub fn column(column: &[u8]) -> Option<i64>
     requires { length column.now ≤ 12 }
     ensures { result ≡ column_of column.now }
 {
-    let text = trim_front(column);
-    if text.is_empty() || text[0] != b'-' {
-        Some(thousandths(text)? as i64)
-    } else {
-        let (_, rest) = text.split_at(1);
-        Some(-(thousandths(rest)? as i64))
-    }
+    decimal_column(3, column)
 }
 
-/// Appends a number with three decimals.
-pub fn put_thousandths(line: &mut Line, number: i64)
+/// Appends the digits of a number below a power of ten, with zeros in front.
+fn put_digits(line: &mut Line, width: usize, number: u64)
+    requires room { array_vec_len line.old + width ≤ 160 }
+    requires some { 0 < width }
+    requires fits { number < 10 ^ width }
+    ensures items { line.new.items ≡ line.old.items ++ zeros_in width (decimal number) }
+    ensures len { array_vec_len line.new ≡ array_vec_len line.old + width }
+{
+    let mut buffer = Buffer::new();
+    let digits = buffer.format(number).as_bytes();
+    put_copies(line, width - digits.len(), b'0');
+    put(line, digits);
+}
+
+/// Appends a number, given in units of its last decimal, with `places` decimals (1 to 5):
+/// -1250 with three places is `-1.250`.
+pub fn put_decimals(line: &mut Line, places: usize, number: i64)
     requires room { array_vec_len line.old + 32 ≤ 160 }
-    requires low { negsuc 999999 ≤ℤ number }
-    requires high { number ≤ℤ pos 9999999 }
-    ensures items { line.new.items ≡ line.old.items ++ position_text number }
+    requires some { 0 < places }
+    requires few { places ≤ 5 }
+    ensures items { line.new.items ≡ line.old.items ++ decimals_text places number }
     ensures len { array_vec_len line.new ≤ array_vec_len line.old + 32 }
 {
     let magnitude = number.unsigned_abs();
+    let unit = power_of_ten(places);
     if number < 0 {
         put(line, b"-");
     }
-    put_natural(line, magnitude / 1000);
-    put(
-        line,
-        &[
-            b'.',
-            b'0' + (magnitude / 100 % 10) as u8,
-            b'0' + (magnitude / 10 % 10) as u8,
-            b'0' + (magnitude % 10) as u8,
-        ],
-    );
+    put_natural(line, magnitude / unit);
+    put(line, b".");
+    put_digits(line, places, magnitude % unit);
+}
+
+/// Appends what [`put_decimals`] does, right in a column of `width` bytes, as C's `%8.3f` prints it: a
+/// longer number is not cut, and moves what follows it.
+pub fn put_decimals_right(line: &mut Line, width: usize, places: usize, number: i64)
+    requires room { array_vec_len line.old + width + 32 ≤ 160 }
+    requires some { 0 < places }
+    requires few { places ≤ 5 }
+    ensures items { line.new.items ≡ line.old.items ++ right_in width (decimals_text places number) }
+    ensures len { array_vec_len line.new ≤ array_vec_len line.old + width + 32 }
+{
+    let mut text = Line::new();
+    put_decimals(&mut text, places, number);
+    put_copies(line, width.saturating_sub(text.len()), b' ');
+    put(line, text.as_slice());
+}
+
+/// Appends a number, given in thousandths, with three decimals.
+pub fn put_thousandths(line: &mut Line, number: i64)
+    requires room { array_vec_len line.old + 32 ≤ 160 }
+    ensures items { line.new.items ≡ line.old.items ++ position_text number }
+    ensures len { array_vec_len line.new ≤ array_vec_len line.old + 32 }
+{
+    put_decimals(line, 3, number);
 }

@@ -1,4 +1,4 @@
-//! A line that is being written, of at most 160 bytes.
+//! Writing a line, part by part.
 
 ghost use Rattle.std.specs.Prelude.{◌≡◌, ◌+◌, ◌≤◌, ◌++◌, ◌∷◌, [], length, replicate, decimal};
 ghost use Rattle.std.specs.Fmt.{signed_decimal};
@@ -8,9 +8,10 @@ ghost use Rattle.line_text.specs.Parts.{right_in, left_in};
 use arrayvec::ArrayVec;
 use itoa::Buffer;
 
+/// A line that is being written, on the stack: at most 160 bytes, so that writing takes no memory.
 pub type Line = ArrayVec<u8, 160>;
 
-/// Appends the text.
+/// Appends the text. There is room for it.
 pub fn put(line: &mut Line, text: &[u8])
     requires { array_vec_len line.old + length text.now ≤ 160 }
     ensures items { line.new.items ≡ line.old.items ++ text.now }
@@ -19,50 +20,61 @@ pub fn put(line: &mut Line, text: &[u8])
     let _ = line.try_extend_from_slice(text);
 }
 
-fn put_spaces(line: &mut Line, count: usize)
+/// Appends the byte, so many times.
+pub(crate) fn put_copies(line: &mut Line, count: usize, byte: u8)
     requires { array_vec_len line.old + count ≤ 160 }
-    ensures items { line.new.items ≡ line.old.items ++ replicate count 32 }
+    ensures items { line.new.items ≡ line.old.items ++ replicate count byte }
     ensures len { array_vec_len line.new ≡ array_vec_len line.old + count }
 {
     for _ in 0..count {
-        line.push(b' ');
+        line.push(byte);
     }
 }
 
-/// Appends the text, right in a column.
+/// Appends the text, with so many spaces before and after it.
+fn put_between(line: &mut Line, before: usize, text: &[u8], after: usize)
+    requires { array_vec_len line.old + before + length text.now + after ≤ 160 }
+    ensures items { line.new.items ≡ line.old.items ++ (replicate before 32 ++ text.now ++ replicate after 32) }
+    ensures len { array_vec_len line.new ≡ array_vec_len line.old + before + length text.now + after }
+{
+    put_copies(line, before, b' ');
+    put(line, text);
+    put_copies(line, after, b' ');
+}
+
+/// Appends the text, right in a column of `width` bytes: with spaces in front. The text is no longer
+/// than the column.
 pub fn put_right(line: &mut Line, width: usize, text: &[u8])
     requires room { array_vec_len line.old + width ≤ 160 }
     requires fits { length text.now ≤ width }
     ensures items { line.new.items ≡ line.old.items ++ right_in width text.now }
     ensures len { array_vec_len line.new ≡ array_vec_len line.old + width }
 {
-    put_spaces(line, width - text.len());
-    put(line, text);
+    put_between(line, width - text.len(), text, 0);
 }
 
-/// Appends the text, left in a column.
+/// Appends the text, left in a column of `width` bytes: with spaces behind. The text is no longer
+/// than the column.
 pub fn put_left(line: &mut Line, width: usize, text: &[u8])
     requires room { array_vec_len line.old + width ≤ 160 }
     requires fits { length text.now ≤ width }
     ensures items { line.new.items ≡ line.old.items ++ left_in width text.now }
     ensures len { array_vec_len line.new ≡ array_vec_len line.old + width }
 {
-    put(line, text);
-    put_spaces(line, width - text.len());
+    put_between(line, 0, text, width - text.len());
 }
 
-/// Appends a space and the number.
+/// Appends a space and the number in decimal, at most 21 bytes.
 pub fn put_word(line: &mut Line, number: u64)
     requires { array_vec_len line.old + 21 ≤ 160 }
     ensures items { line.new.items ≡ line.old.items ++ 32 ∷ decimal number }
     ensures len { array_vec_len line.new ≤ array_vec_len line.old + 21 }
 {
-    let mut buffer = Buffer::new();
     put(line, b" ");
-    put(line, buffer.format(number).as_bytes());
+    put_natural(line, number);
 }
 
-/// Appends the number.
+/// Appends the number in decimal, without leading zeros: at most 20 bytes.
 pub fn put_natural(line: &mut Line, number: u64)
     requires { array_vec_len line.old + 20 ≤ 160 }
     ensures items { line.new.items ≡ line.old.items ++ decimal number }
@@ -72,12 +84,13 @@ pub fn put_natural(line: &mut Line, number: u64)
     put(line, buffer.format(number).as_bytes());
 }
 
-/// Appends the number.
-pub fn put_integer(line: &mut Line, number: i64)
+/// Appends the number in decimal, without leading zeros, and with a `-` where it is below 0: at most
+/// 20 bytes.
+pub fn put_integer(line: &mut Line, value: i64)
     requires { array_vec_len line.old + 20 ≤ 160 }
-    ensures items { line.new.items ≡ line.old.items ++ signed_decimal number }
+    ensures items { line.new.items ≡ line.old.items ++ signed_decimal value }
     ensures len { array_vec_len line.new ≤ array_vec_len line.old + 20 }
 {
     let mut buffer = Buffer::new();
-    put(line, buffer.format(number).as_bytes());
+    put(line, buffer.format(value).as_bytes());
 }

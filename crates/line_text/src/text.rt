@@ -1,4 +1,4 @@
-//! Reading the parts of a line.
+//! Reading a line, part by part.
 
 ghost use Rattle.std.specs.Prelude.{◌≡◌, ℕ, ◌^◌, ◌==◌, ◌<◌, ◌≤◌, [], ◌∷◌, length, option_map, IfSome};
 ghost use Rattle.std.specs.List.{position_or_len};
@@ -6,7 +6,10 @@ ghost use Rattle.line_text.specs.Parts.{natural_of, integer_of, cut_at, after, w
 
 use itoa::Buffer;
 
-/// The number below the limit whose one decimal form the text is.
+/// The number below the limit whose one decimal form the text is: digits without leading zeros.
+///
+/// `None` for any other text, as the empty one, `007`, `+1` and ` 1`, and for a number of `limit` or
+/// more.
 pub fn natural(limit: u64, text: &[u8]) -> Option<u64>
     ensures exact { result ≡ natural_of limit text.now }
     ensures below { IfSome result (λ n. n < limit) }
@@ -28,19 +31,23 @@ pub fn natural(limit: u64, text: &[u8]) -> Option<u64>
     }
 }
 
-/// The signed number whose one decimal form the text is.
+/// The signed number of 64 bits whose one decimal form the text is: digits without leading zeros, and
+/// a `-` before a number below 0 alone.
+///
+/// `None` for any other text, as the empty one, `007`, `-0` and `+1`, and for a number outside
+/// -2^63 to 2^63 - 1.
 pub fn integer(text: &[u8]) -> Option<i64>
     ensures { result ≡ integer_of text.now }
 {
     let Ok(words) = std::str::from_utf8(text) else {
         return None;
     };
-    let Ok(number) = words.parse::<i64>() else {
+    let Ok(value) = words.parse::<i64>() else {
         return None;
     };
     let mut buffer = Buffer::new();
-    if buffer.format(number).as_bytes() == text {
-        Some(number)
+    if buffer.format(value).as_bytes() == text {
+        Some(value)
     } else {
         None
     }
@@ -59,7 +66,7 @@ fn first_place(byte: u8, text: &[u8]) -> usize
     text.len()
 }
 
-/// What stands before and after the first such byte.
+/// What stands before and after the first such byte; `None` where the text has none.
 #[tactic(auto, unfolding(crate::specs::Parts::cut_at))]
 pub fn cut(byte: u8, text: &[u8]) -> Option<(&[u8], &[u8])>
     ensures { option_map (λ x. (x.0.now, x.1.now)) result ≡ cut_at byte text.now }
@@ -72,7 +79,7 @@ pub fn cut(byte: u8, text: &[u8]) -> Option<(&[u8], &[u8])>
     }
 }
 
-/// What stands after this front.
+/// What stands after this front; `None` where the text does not begin with it.
 #[tactic(auto, unfolding(crate::specs::Parts::after))]
 pub fn strip<'a>(front: &[u8], text: &'a [u8]) -> Option<&'a [u8]>
     ensures { option_map (λ x. x.now) result ≡ after front.now text.now }
@@ -80,7 +87,8 @@ pub fn strip<'a>(front: &[u8], text: &'a [u8]) -> Option<&'a [u8]>
     text.strip_prefix(front)
 }
 
-/// A space and a number below the limit, and what stands after it.
+/// A space and a number below the limit, which reaches to the next space or to the end; and what
+/// stands from there on. `None` where the text begins otherwise.
 #[tactic(auto, unfolding(crate::specs::Parts::word_at))]
 pub fn word(limit: u64, text: &[u8]) -> Option<(u64, &[u8])>
     ensures exact { option_map (λ x. (x.0, x.1.now)) result ≡ word_at limit text.now }
@@ -93,7 +101,7 @@ pub fn word(limit: u64, text: &[u8]) -> Option<(u64, &[u8])>
     Some((number, rest))
 }
 
-/// Three words.
+/// Three numbers as [`word`] reads them, and what stands after them; `None` where one is missing.
 #[tactic(auto, unfolding(crate::specs::Parts::three_at))]
 pub fn three_words(limit: u64, text: &[u8]) -> Option<(u64, u64, u64, &[u8])>
     ensures exact { option_map (λ x. (x.0 ∷ x.1 ∷ x.2 ∷ [], x.3.now)) result ≡ three_at limit text.now }

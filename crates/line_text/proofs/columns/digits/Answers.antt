@@ -1,6 +1,6 @@
 use Rattle.std.proofs.Common.{◌∙◌, sym, arith}
 use Rattle.std.proofs.lemmas.Int.Digits.{digits_more}
-use Rattle.line_text.proofs.Digits.{below, all_read, none_read, one_more}
+use Rattle.line_text.proofs.DigitLaws.{below, all_read, none_read, one_more}
 use Rattle.line_text.proofs.columns.digits.Goals as goal
 
 pub returns-then-not-is_ascii_digit-clause-exact : goal.returns-then-not-is_ascii_digit-clause-exact

@@ -1,0 +1,13 @@
+use Rattle.std.proofs.Common.{rules}
+use Rattle.fixed.specs.Fractions.{bits_of}
+use Rattle.fixed.proofs.PowerLemmas.{signed_power_is}
+use Rattle.fixed.proofs.powers.checked_pow.Goals as goal
+
+pub returns-in_err-power-clause-squaring : goal.returns-in_err-power-clause-squaring
+returns-in_err-power-clause-squaring c = signed_power_is (bits_of c.args.frac) c.args.a c.args.n _ c.requires.nonzero (search rules)
+
+pub returns-then-n-gt0-clause-squaring : goal.returns-then-n-gt0-clause-squaring
+returns-then-n-gt0-clause-squaring c = signed_power_is (bits_of c.args.frac) c.args.a c.args.n _ c.requires.nonzero (search rules)
+
+pub returns-else-n-gt0-clause-squaring : goal.returns-else-n-gt0-clause-squaring
+returns-else-n-gt0-clause-squaring c = signed_power_is (bits_of c.args.frac) c.args.a c.args.n _ c.requires.nonzero (search rules)

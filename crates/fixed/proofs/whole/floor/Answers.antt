@@ -1,0 +1,7 @@
+use Rattle.std.proofs.Common.{rules}
+use Rattle.fixed.specs.Fractions.{bits_of}
+use Rattle.fixed.proofs.MultipleLemmas.{whole_is}
+use Rattle.fixed.proofs.whole.floor.Goals as goal
+
+pub returns-clause-greatest : goal.returns-clause-greatest
+returns-clause-greatest c = whole_is (bits_of c.args.frac) c.args.a _ (search rules)

@@ -1,0 +1,119 @@
+-- Numbers with decimals: what is written in a column is read again.
+use Rattle.std.proofs.Common.{◌≡◌, ℕ, zero, suc, ◌+◌, ◌-◌, ◌*◌, ◌/◌, ◌%◌, ◌^◌, ◌<◌, ◌≤◌, true, List, ◌∷◌, ◌++◌, length, get_or, replicate, Some, ℤ, pos, negsuc, decimal, refl, sym, ap, subst, ◌∙◌, arith, lit<}
+use Rattle.std.specs.Int.{IsInRange}
+use Rattle.std.specs.Str.{all_ascii_digits}
+use Rattle.std.specs.Str.Parse.{digits_value}
+use Rattle.std.proofs.lemmas.Bool.{ne_eqb, le-ltb}
+use Rattle.std.proofs.lemmas.Fmt.{digits_decimal, digits_value-decimal, decimal_is_IsNumeral, decimal_nonempty, length-decimal-le}
+use Rattle.std.proofs.lemmas.Str.Parse.{digit_at}
+use Rattle.std.proofs.lemmas.List.{take_at, get_or_at, get_or_append_left, length-append, length-replicate}
+use Rattle.std.proofs.lemmas.Nat.{div-add-mod', mod_below}
+use Rattle.std.proofs.Math.Nat.{one-le-pow, div-le_self}
+use Rattle.std.proofs.Math.Seq.{drop-append-add}
+use lib.Signed.{mag}
+use Rattle.line_text.specs.Parts.{lacks, right_in, without_spaces}
+use Rattle.line_text.specs.Columns.{digits_of, decimals_of, decimal_column_of, zeros_in, with_decimals, decimals_text}
+use Rattle.line_text.proofs.DigitLaws.{own}
+use Rattle.line_text.proofs.LineLaws.{lacks_append, lacks_first, decimal_lacks, right_again}
+
+-- ---- digits
+
+zeros_are_digits : (k : ℕ) (text : List ℕ) → all_ascii_digits (replicate k 48 ++ text) ≡ all_ascii_digits text
+zeros_are_digits zero text = refl
+zeros_are_digits (suc k) text = zeros_are_digits k text
+
+zeros_add_none : (k : ℕ) (text : List ℕ) → digits_value 10 (replicate k 48 ++ text) ≡ digits_value 10 text
+zeros_add_none zero text = refl
+zeros_add_none (suc k) text = zeros_add_none k text
+
+-- leading zeros are allowed
+pub digits_again : (width n : ℕ) → n < 2 ^ 64 → digits_of (zeros_in width (decimal n)) ≡ Some n
+unfolding digits_of
+digits_again width n fits =
+    rw (zeros_are_digits (width - length (decimal n)) (decimal n) ∙ digits_decimal own n fits)
+    (ap (λ (m : ℕ). Some m) (zeros_add_none (width - length (decimal n)) (decimal n) ∙ digits_value-decimal own n fits))
+
+pub decimal_digits_again : (n : ℕ) → n < 2 ^ 64 → digits_of (decimal n) ≡ Some n
+unfolding digits_of
+decimal_digits_again n fits = rw (digits_decimal own n fits) (ap (λ (m : ℕ). Some m) (digits_value-decimal own n fits))
+
+pub length-zeros_in : (width : ℕ) (text : List ℕ) → length text ≤ width → length (zeros_in width text) ≡ width
+length-zeros_in width text h = omega (arith, length-append (replicate (width - length text) 48) text, length-replicate {A = ℕ} (width - length text) 48)
+
+-- ---- the two sides of the point
+
+mod_small : (n m : ℕ) → n % m ≤ n
+mod_small n m = omega (arith, div-add-mod' n m)
+
+parts_read : (places : ℕ) (front back : List ℕ) (whole part : ℕ) → 0 < length front → length back ≡ places → digits_of front ≡ Some whole → digits_of back ≡ Some part
+    → decimals_of places (front ++ 46 ∷ back) ≡ Some (whole * 10 ^ places + part)
+unfolding decimals_of
+parts_read places front back whole part some len f b =
+    let total : length (front ++ 46 ∷ back) ≡ length front + suc (length back) = length-append front (46 ∷ back) in
+    let long : places + 2 ≤ length (front ++ 46 ∷ back) = omega (arith, total) in
+    let point : length (front ++ 46 ∷ back) - (places + 1) ≡ length front = omega (arith, total) in
+    let rest : length (front ++ 46 ∷ back) - places ≡ length front + 1 = omega (arith, total) in
+    rw (le-ltb (length (front ++ 46 ∷ back)) (places + 2) long, point, rest, get_or_at front 46 back 0 (length front) refl, take_at front (46 ∷ back) (length front) refl, drop-append-add front (46 ∷ back) 1, f, b) refl
+
+pub decimals_again : (places n : ℕ) → 0 < places → n < 2 ^ 64 → decimals_of places (with_decimals places n) ≡ Some n
+decimals_again places n some fits =
+    let unit : 0 < 10 ^ places = one-le-pow places 10 (omega arith) in
+    let whole : n / 10 ^ places < 2 ^ 64 = omega (arith, div-le_self n (10 ^ places)) in
+    let part : n % 10 ^ places < 2 ^ 64 = omega (arith, mod_small n (10 ^ places)) in
+    let short : length (decimal (n % 10 ^ places)) ≤ places = length-decimal-le places (n % 10 ^ places) some (mod_below n (10 ^ places) unit) part in
+    parts_read places (decimal (n / 10 ^ places)) (zeros_in places (decimal (n % 10 ^ places))) (n / 10 ^ places) (n % 10 ^ places)
+    (decimal_nonempty (n / 10 ^ places) whole) (length-zeros_in places (decimal (n % 10 ^ places)) short) (decimal_digits_again (n / 10 ^ places) whole) (digits_again places (n % 10 ^ places) part)
+    ∙ ap (λ (m : ℕ). Some m) (div-add-mod' n (10 ^ places))
+
+-- the first byte is a digit
+first_is_digit : (places n : ℕ) → n < 2 ^ 64 → IsInRange 48 57 (get_or (with_decimals places n) 0 0)
+first_is_digit places n fits =
+    let whole : n / 10 ^ places < 2 ^ 64 = omega (arith, div-le_self n (10 ^ places)) in
+    let is = decimal_is_IsNumeral (n / 10 ^ places) whole in
+    let first : get_or (with_decimals places n) 0 0 ≡ get_or (decimal (n / 10 ^ places)) 0 0 =
+    get_or_append_left (decimal (n / 10 ^ places)) (46 ∷ zeros_in places (decimal (n % 10 ^ places))) 0 0 (decimal_nonempty (n / 10 ^ places) whole) in
+    subst (λ (b : ℕ). IsInRange 48 57 b) (sym first) (digit_at (decimal (n / 10 ^ places)) 0 is.0.1 is.0.0)
+
+-- the length, from the number of digits before the point
+pub length-with_decimals-le : (places ahead n : ℕ) → 0 < places → 0 < ahead → n < 2 ^ 64 → n / 10 ^ places < 10 ^ ahead → length (with_decimals places n) ≤ ahead + 1 + places
+length-with_decimals-le places ahead n some front fits below =
+    let unit : 0 < 10 ^ places = one-le-pow places 10 (omega arith) in
+    let whole : n / 10 ^ places < 2 ^ 64 = omega (arith, div-le_self n (10 ^ places)) in
+    let part : n % 10 ^ places < 2 ^ 64 = omega (arith, mod_small n (10 ^ places)) in
+    let short : length (decimal (n % 10 ^ places)) ≤ places = length-decimal-le places (n % 10 ^ places) some (mod_below n (10 ^ places) unit) part in
+    omega (arith, length-append (decimal (n / 10 ^ places)) (46 ∷ zeros_in places (decimal (n % 10 ^ places))), length-zeros_in places (decimal (n % 10 ^ places)) short, length-decimal-le ahead (n / 10 ^ places) front below whole)
+
+-- ---- bytes that it lacks
+
+zeros_lack : (c k : ℕ) → c < 48 → lacks c (replicate k 48) ≡ true
+zeros_lack c zero low = refl
+zeros_lack c (suc k) low = rw (ne_eqb 48 c (λ e. omega arith), zeros_lack c k low) refl
+
+with_decimals_lacks : (c places n : ℕ) → c < 45 → n < 2 ^ 64 → lacks c (with_decimals places n) ≡ true
+with_decimals_lacks c places n low fits =
+    let whole : n / 10 ^ places < 2 ^ 64 = omega (arith, div-le_self n (10 ^ places)) in
+    let part : n % 10 ^ places < 2 ^ 64 = omega (arith, mod_small n (10 ^ places)) in
+    let zeros : List ℕ = replicate (places - length (decimal (n % 10 ^ places))) 48 in
+    let back : lacks c (zeros ++ decimal (n % 10 ^ places)) ≡ true =
+    lacks_append c zeros (decimal (n % 10 ^ places)) (zeros_lack c (places - length (decimal (n % 10 ^ places))) (omega arith)) (decimal_lacks c (n % 10 ^ places) (omega arith) part) in
+    lacks_append c (decimal (n / 10 ^ places)) (46 ∷ zeros ++ decimal (n % 10 ^ places)) (decimal_lacks c (n / 10 ^ places) (omega arith) whole) (rw (ne_eqb 46 c (λ e. omega arith), back) refl)
+
+pub decimals_text_lacks : (c places : ℕ) (z : ℤ) → c < 45 → mag z < 2 ^ 63 → lacks c (decimals_text places z) ≡ true
+decimals_text_lacks c places (pos n) low fits = with_decimals_lacks c places n low (omega arith)
+decimals_text_lacks c places (negsuc n) low fits = rw (ne_eqb 45 c (λ e. omega arith), with_decimals_lacks c places (suc n) low (omega arith)) refl
+
+-- ---- in a column
+
+pub decimal_column_again : (places width : ℕ) (z : ℤ) → 0 < places → mag z < 2 ^ 63 → decimal_column_of places (right_in width (decimals_text places z)) ≡ Some z
+unfolding decimal_column_of
+decimal_column_again places width (pos n) some fits =
+    let first = first_is_digit places n (omega arith) in
+    let bare : without_spaces (right_in width (with_decimals places n)) ≡ with_decimals places n = right_again width (with_decimals places n) (λ e. omega (arith, first)) in
+    rw (bare, ne_eqb (get_or (with_decimals places n) 0 0) 45 (λ e. omega (arith, first)), decimals_again places n some (omega arith)) refl
+decimal_column_again places width (negsuc n) some fits =
+    let bare : without_spaces (right_in width (45 ∷ with_decimals places (suc n))) ≡ 45 ∷ with_decimals places (suc n) = right_again width (45 ∷ with_decimals places (suc n)) (λ e. omega (arith, e)) in
+    rw (bare, decimals_again places (suc n) some (omega arith)) refl
+
+pub right_digits_again : (width n : ℕ) → n < 2 ^ 64 → digits_of (without_spaces (right_in width (decimal n))) ≡ Some n
+right_digits_again width n fits =
+    ap digits_of (right_again width (decimal n) (lacks_first 32 (decimal n) (lit< tt) (decimal_lacks 32 n (lit< tt) fits))) ∙ decimal_digits_again n fits

@@ -1,0 +1,21 @@
+use Rattle.std.proofs.Common.{rules, ◌∙◌, ◌≡◌, to_z, of_z}
+use Rattle.std.specs.Int.{w128}
+use Rattle.ring_box.proofs.ForceLemmas.{force_along_is, force_is_along}
+use Rattle.ring_box.proofs.boxes.RingBox.force_along.Goals as goal
+
+pub returns-clause-value : goal.returns-clause-value
+returns-clause-value c =
+    let p = c.separation-separation.ensures in
+    let l = c.line.ensures in
+    let e : to_z w128 (of_z w128 c.args.minus_slope) ≡ c.args.minus_slope = search rules in
+    (rw e at c.force.ensures.value)
+    ∙ force_along_is c.args.self.now c.args.minus_slope c.args.x c.args.y c.line.result.x c.line.result.y c.line.result.z c.square-s.result c.line.result.length
+    (l.x ∙ p.x) (l.y ∙ p.y) (l.z ∙ p.z) (search rules) (search rules) l.length
+
+pub returns-clause-bound : goal.returns-clause-bound
+returns-clause-bound c =
+    let e : to_z w128 (of_z w128 c.args.minus_slope) ≡ c.args.minus_slope = search rules in
+    rw e at c.force.ensures.bound
+
+pub returns-clause-along : goal.returns-clause-along
+returns-clause-along c = force_is_along c.args.self.now c.args.minus_slope c.args.x c.args.y c.force.result (returns-clause-value c)
