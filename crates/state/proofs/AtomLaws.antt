@@ -89,9 +89,11 @@ pub atom_again : (a : AtomView) → IsAtom a → atom_of (atom_line a) ≡ Some 
 atom_again a h =
     let small = number_small a.residue_number h.low h.high in
     let q = parts_read (right_in 5 (signed_decimal a.residue_number)) (left_in 5 a.residue) (right_in 5 a.name) (flat_map word a.previous) (flat_map word a.current)
-    (length-right_in 5 (signed_decimal a.residue_number) (number_short a.residue_number h.low h.high)) (length-left_in 5 a.residue (is_clean a.residue h.residue).short) (length-right_in 5 a.name (is_clean a.name h.name).short) in
+    (length-right_in 5 (signed_decimal a.residue_number) (number_short a.residue_number h.low h.high))
+    (length-left_in 5 a.residue (is_clean a.residue h.residue).short) (length-right_in 5 a.name (is_clean a.name h.name).short) in
     atom_is (atom_line a) a.residue_number a.residue a.name a.previous a.current (flat_map word a.current) [] q.4
-    (ap (λ (t : List ℕ). integer_of (without_spaces t)) q.0 ∙ ap integer_of (right_again 5 (signed_decimal a.residue_number) (lacks_first 32 (signed_decimal a.residue_number) (lit< tt) (signed_lacks 32 a.residue_number (lit< tt) small))) ∙ integer_again a.residue_number small)
+    (ap (λ (t : List ℕ). integer_of (without_spaces t)) q.0
+    ∙ ap integer_of (right_again 5 (signed_decimal a.residue_number) (lacks_first 32 (signed_decimal a.residue_number) (lit< tt) (signed_lacks 32 a.residue_number (lit< tt) small))) ∙ integer_again a.residue_number small)
     (ap (λ (t : List ℕ). name_of (without_end_spaces t)) q.1 ∙ left_name_again 5 a.residue h.residue)
     (ap (λ (t : List ℕ). name_of (without_spaces t)) q.2 ∙ right_name_again 5 a.name h.name)
     (ap (three_at (2 ^ 32)) q.3 ∙ three_again (2 ^ 32) a.previous (flat_map word a.current) (omega arith) h.previous (starts_words a.current h.current))

@@ -14,8 +14,10 @@ regroup : (front : List AtomView) (a : AtomView) (read : Result (List AtomView �
 regroup front a (Ok x) = ap (λ (xs : List AtomView). Ok (xs, x.1)) (simp append_assoc)
 regroup front a (Err f) = refl
 
-pub goes_on : (front : List AtomView) (count i : ℕ) (bytes : List ℕ) (a : AtomView) (after : List ℕ) (total : Result (List AtomView × List ℕ) StateFault) → i < count → atom_at (6 + i) bytes ≡ Ok (a, after)
-    → with_front front (atoms_at (6 + i) (count - i) bytes) ≡ total → with_front (front ++ a ∷ []) (atoms_at (6 + (i + 1)) (count - (i + 1)) after) ≡ total
+pub goes_on : (front : List AtomView) (count i : ℕ) (bytes : List ℕ) (a : AtomView) (after : List ℕ) (total : Result (List AtomView × List ℕ) StateFault)
+    → i < count → atom_at (6 + i) bytes ≡ Ok (a, after)
+    → with_front front (atoms_at (6 + i) (count - i) bytes) ≡ total
+    → with_front (front ++ a ∷ []) (atoms_at (6 + (i + 1)) (count - (i + 1)) after) ≡ total
 unfolding atoms_at
 goes_on front count i bytes a after total lt h so_far =
     let k : count - i ≡ suc (count - (i + 1)) = omega arith in
@@ -23,7 +25,8 @@ goes_on front count i bytes a after total lt h so_far =
     let one : with_front front (atoms_at (6 + i) (count - i) bytes) ≡ with_front (front ++ a ∷ []) (atoms_at (6 + (i + 1)) (count - (i + 1)) after) = rw (k, h, n) (regroup front a (atoms_at (6 + (i + 1)) (count - (i + 1)) after)) in
     sym one ∙ so_far
 
-stops : (fault : StateFault) (front : List AtomView) (count i : ℕ) (bytes : List ℕ) (total : Result (List AtomView × List ℕ) StateFault) → i < count → atom_at (6 + i) bytes ≡ Err fault
+stops : (fault : StateFault) (front : List AtomView) (count i : ℕ) (bytes : List ℕ) (total : Result (List AtomView × List ℕ) StateFault)
+    → i < count → atom_at (6 + i) bytes ≡ Err fault
     → with_front front (atoms_at (6 + i) (count - i) bytes) ≡ total → total ≡ Err fault
 unfolding atoms_at
 stops fault front count i bytes total lt h so_far =
@@ -31,14 +34,16 @@ stops fault front count i bytes total lt h so_far =
     let one : with_front front (atoms_at (6 + i) (count - i) bytes) ≡ Err fault = rw (k, h) refl in
     sym so_far ∙ one
 
-pub ends : (fault : StateFault) (front : List AtomView) (count i : ℕ) (bytes : List ℕ) (total : Result (List AtomView × List ℕ) StateFault) → i < count → Fails fault (atom_at (6 + i) bytes)
+pub ends : (fault : StateFault) (front : List AtomView) (count i : ℕ) (bytes : List ℕ) (total : Result (List AtomView × List ℕ) StateFault)
+    → i < count → Fails fault (atom_at (6 + i) bytes)
     → with_front front (atoms_at (6 + i) (count - i) bytes) ≡ total → Fails fault total
 ends Memory front count i bytes total lt h so_far = tt
 ends (BadLine n) front count i bytes total lt h so_far = stops (BadLine n) front count i bytes total lt h so_far
 ends Truncated front count i bytes total lt h so_far = stops Truncated front count i bytes total lt h so_far
 ends Trailing front count i bytes total lt h so_far = stops Trailing front count i bytes total lt h so_far
 
-pub is_done : (front : List AtomView) (count i : ℕ) (bytes : List ℕ) (total : Result (List AtomView × List ℕ) StateFault) → count ≤ i → with_front front (atoms_at (6 + i) (count - i) bytes) ≡ total → total ≡ Ok (front, bytes)
+pub is_done : (front : List AtomView) (count i : ℕ) (bytes : List ℕ) (total : Result (List AtomView × List ℕ) StateFault)
+    → count ≤ i → with_front front (atoms_at (6 + i) (count - i) bytes) ≡ total → total ≡ Ok (front, bytes)
 unfolding atoms_at
 is_done front count i bytes total le so_far =
     let k : count - i ≡ 0 = omega arith in

@@ -145,7 +145,8 @@ sides_found line ns l e =
     let p = and_parts (eqb (length b.0.1) 0) (list_all (λ x. ltb 0 x) b.0.0) s.0 in
     let t = three_found 16000001 a.0 b.0 b.1 in
     let nothing : b.0.1 ≡ [] = nil_from_length b.0.1 (eqb-true (length b.0.1) 0 p.0) in
-    let whole : line ≡ box_line b.0.0 = after_found (codes "box") line a.0 a.1 ∙ ap (λ (u : List ℕ). codes "box" ++ u) (t.0 ∙ ap (λ (u : List ℕ). flat_map word b.0.0 ++ u) nothing ∙ append-nil (flat_map word b.0.0)) in
+    let whole : line ≡ box_line b.0.0 =
+    after_found (codes "box") line a.0 a.1 ∙ ap (λ (u : List ℕ). codes "box" ++ u) (t.0 ∙ ap (λ (u : List ℕ). flat_map word b.0.0 ++ u) nothing ∙ append-nil (flat_map word b.0.0)) in
     subst (λ (u : List ℕ). (line ≡ box_line u) × AreThree IsSide u) s.1 (whole, are_sides b.0.0 t.1 p.1)
 
 pub sides_again : (ns : List ℕ) → AreThree IsSide ns → sides_of (box_line ns) ≡ Some ns

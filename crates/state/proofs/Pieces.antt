@@ -8,7 +8,8 @@ use Rattle.state.specs.Middle.{middle}
 
 pub in_pieces : (s : StateView) → state_text s ≡ codes "pairmd state 1\ntitle " ++ s.title ++ middle s.step (length s.atoms) s.sides ++ atom_lines s.atoms
 unfolding state_text
-in_pieces s = plain (10 ∷ []) (codes "pairmd state 1") (codes "title ") s.title (codes "step ") (signed_decimal s.step) (codes "atoms") (word (length s.atoms)) (codes "box") (flat_map word s.sides) (atom_lines s.atoms)
+in_pieces s =
+    plain (10 ∷ []) (codes "pairmd state 1") (codes "title ") s.title (codes "step ") (signed_decimal s.step) (codes "atoms") (word (length s.atoms)) (codes "box") (flat_map word s.sides) (atom_lines s.atoms)
   where
     plain : (lf h k t s n m c b w a : List ℕ) → (h ++ lf) ++ ((k ++ t) ++ lf) ++ ((s ++ n) ++ lf) ++ ((m ++ c) ++ lf) ++ ((b ++ w) ++ lf) ++ a
         ≡ (h ++ (lf ++ k)) ++ t ++ ((lf ++ s) ++ n ++ (lf ++ m) ++ c ++ (lf ++ b) ++ w ++ lf) ++ a

@@ -22,11 +22,13 @@ state_reads_again s h =
     let r2 : List ℕ = ended (step_line s.step) ++ r3 in
     let r1 : List ℕ = ended (title_line s.title) ++ r2 in
     let e1 : field_at 1 head_of (ended head_line ++ r1) ≡ Ok (tt, r1) = field_again 1 head_of head_line tt r1 refl refl in
-    let e2 : field_at 2 title_of (ended (title_line s.title) ++ r2) ≡ Ok (s.title, r2) = field_again 2 title_of (title_line s.title) s.title r2 (title_lacks s.title h.title) (title_again s.title h.title) in
+    let e2 : field_at 2 title_of (ended (title_line s.title) ++ r2) ≡ Ok (s.title, r2) =
+    field_again 2 title_of (title_line s.title) s.title r2 (title_lacks s.title h.title) (title_again s.title h.title) in
     let e3 : field_at 3 step_of (ended (step_line s.step) ++ r3) ≡ Ok (s.step, r3) = field_again 3 step_of (step_line s.step) s.step r3 (step_lacks s.step h.step) (step_again s.step h.step) in
     let e4 : field_at 4 count_of (ended (count_line (length s.atoms)) ++ r4) ≡ Ok (length s.atoms, r4) =
     field_again 4 count_of (count_line (length s.atoms)) (length s.atoms) r4 (count_lacks (length s.atoms) h.count) (count_again (length s.atoms) h.count) in
-    let e5 : field_at 5 sides_of (ended (box_line s.sides) ++ r5) ≡ Ok (s.sides, r5) = field_again 5 sides_of (box_line s.sides) s.sides r5 (sides_lack s.sides h.sides) (sides_again s.sides h.sides) in
+    let e5 : field_at 5 sides_of (ended (box_line s.sides) ++ r5) ≡ Ok (s.sides, r5) =
+    field_again 5 sides_of (box_line s.sides) s.sides r5 (sides_lack s.sides h.sides) (sides_again s.sides h.sides) in
     let e6 : atoms_at 6 (length s.atoms) r5 ≡ Ok (s.atoms, []) = ap (atoms_at 6 (length s.atoms)) (sym (append-nil r5)) ∙ atoms_again 6 s.atoms [] h.atoms in
     ap state_of (in_turn (ended head_line) (ended (title_line s.title)) (ended (step_line s.step)) (ended (count_line (length s.atoms))) (ended (box_line s.sides)) r5)
     ∙ ap (λ (r : Result (Unit {0} × List ℕ) StateFault). r >>= λ x. from_title x.1) e1

@@ -16,6 +16,7 @@ use line_text::{
 };
 use ring_box::{RingBox, Side};
 
+/// The title, any bytes but LF that don't end in CR.
 #[tactic(auto, unfolding(crate::specs::StateReading::title_of))]
 pub fn title(line: &[u8]) -> Option<&[u8]>
     requires { IsTrue (lacks 10 line.now) }
@@ -29,6 +30,7 @@ pub fn title(line: &[u8]) -> Option<&[u8]>
     Some(title)
 }
 
+/// The number of the current frame.
 #[tactic(auto, unfolding(crate::specs::StateReading::step_of))]
 pub fn step(line: &[u8]) -> Option<i64>
     ensures { result ≡ step_of line.now }
@@ -45,6 +47,7 @@ pub fn count(line: &[u8]) -> Option<u64>
     natural(65_537, strip(b"atoms ", line)?)
 }
 
+/// The box, of sides from 1 to 16,000,000.
 #[tactic(auto, unfolding(crate::specs::StateReading::sides_of))]
 pub fn sides(line: &[u8]) -> Option<RingBox>
     ensures { option_map sides_view result ≡ sides_of line.now }
@@ -62,6 +65,7 @@ pub fn sides(line: &[u8]) -> Option<RingBox>
     }
 }
 
+/// The atom. What the line says is spelled again and compared, so only one line says it.
 #[tactic(auto, unfolding(crate::specs::StateReading::atom_of))]
 pub fn atom(line: &[u8]) -> Option<Atom>
     ensures { option_map atom_view result ≡ atom_of line.now }

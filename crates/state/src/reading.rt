@@ -19,7 +19,10 @@ impl<A: Allocator + Copy> State<A> {
 
     /// The state whose one text the bytes are.
     ///
-    /// Lines are judged from the top, and the first fault is the answer: `Truncated` where the bytes end before the LF of a needed line, `BadLine` where a line differs from its form or is out of range, and at last `Trailing` for anything after the last atom's line. `Memory` comes only where a growth was refused.
+    /// Lines are judged from the top, and the first fault is the answer: `Truncated` where the
+    /// bytes end before the LF of a needed line, else `BadLine` where the line differs from its
+    /// form or is out of range; after the last atom's line `Trailing`, where anything is left.
+    /// `Memory` comes only where a growth was refused.
     pub fn read(alloc: A, bytes: &[u8]) -> Result<State<A>, StateFault>
         // What is read has these bytes as its text.
         ensures found { IfOk result (λ x. IsState (state_view x) × (bytes.now ≡ state_text (state_view x))) }
@@ -27,6 +30,7 @@ impl<A: Allocator + Copy> State<A> {
         ensures only { (s : StateView) → IsState s → bytes.now ≡ state_text s → Gives state_view result (Ok s) }
         // The state, or the first fault.
         ensures exact { Gives state_view result (state_of bytes.now) }
+        // The definition reads exactly the texts of states.
         ensures one_text { OneText }
     {
         state(alloc, bytes)
@@ -60,6 +64,7 @@ fn state<A: Allocator + Copy>(alloc: A, bytes: &[u8]) -> Result<State<A>, StateF
     })
 }
 
+/// A needed line, and what stands after its LF.
 fn line(bytes: &[u8]) -> Result<(&[u8], &[u8]), StateFault>
     ensures exact { Gives (λ x. (x.0.now, x.1.now)) result (line_at bytes.now) }
     ensures whole { IfOk result (λ x. IsTrue (lacks 10 x.0.now)) }
@@ -83,6 +88,7 @@ fn first_line(line: &[u8]) -> Option<()>
     }
 }
 
+/// So many atoms, the first on line 6, and what stands after them.
 fn atoms<A: Allocator + Copy>(
     alloc: A,
     count: u64,
@@ -102,6 +108,7 @@ fn atoms<A: Allocator + Copy>(
     Ok((atoms, rest))
 }
 
+/// The atom on the line with this number, and what stands after it.
 #[tactic(auto, unfolding(crate::specs::StateReading::atom_at))]
 fn atom(number: u64, bytes: &[u8]) -> Result<(Atom, &[u8]), StateFault>
     ensures { Gives (λ x. (atom_view x.0, x.1.now)) result (atom_at number bytes.now) }

@@ -14,6 +14,7 @@ pub struct Atom {
     pub residue_number: i32,
     /// The name of its residue.
     pub residue: Name,
+    /// Its own name, which is also that of its type.
     pub name: Name,
     /// Its place in the previous frame: x, y and z in parts of 2^-32 of the box's sides.
     pub previous: [u32; 3],
@@ -23,7 +24,8 @@ pub struct Atom {
     pub ghost high: { residue_number ≤ℤ pos 99999 },
 }
 
-/// A state of a run: two frames that follow one another (Levesque and Verlet 1993), from which the next and the one before follow. Every state has one text.
+/// A state of a run: two frames that follow one another, from which the next frame follows, and as
+/// exactly the one before them (Levesque and Verlet 1993). Every state has one text.
 #[derive(Drop)]
 pub struct State<A: Allocator> {
     /// Any bytes but LF, not ending in CR.

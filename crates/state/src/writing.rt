@@ -42,6 +42,7 @@ impl<A: Allocator> State<A> {
     }
 }
 
+/// Writes the lines of these atoms.
 fn write_atoms<O: Out>(atoms: &[Atom], out: &mut O) -> Result<(), OutFault>
     requires { O.failed out.old < 2 ^ 64 - 1 }
     ensures taken { IfOk result (λ _. O.taken out.new ≡ appended (O.taken out.old) (atom_lines (map atom_view atoms.now))) }

@@ -15,7 +15,8 @@ returns-in_err-write_all-clause-fault_taken g c =
     let inside : i < length xs = omega (arith, length-map c.args.atoms.now atom_view, c.loop-atom-test.true) in
     let here : x ≡ get_or xs i x = item_is atom_view c.args.atoms.now i c.atom-item.result c.loop-atom-test.true c.atom-item.is in
     let line : c.as_slice.result.now ≡ ended (atom_line x) = c.as_slice.ensures.value ∙ c.whole_line-line.ensures.items in
-    OnErr_of c.from_residual.result (beginning_at_piece (λ a. ended (atom_line a)) xs i x _ (g.O.Out.taken c.loop-atom.out) _ inside here c.loop-atom.invariant.taken (rw line at c.in_err-write_all.ensures.fault_taken))
+    OnErr_of c.from_residual.result
+    (beginning_at_piece (λ a. ended (atom_line a)) xs i x _ (g.O.Out.taken c.loop-atom.out) _ inside here c.loop-atom.invariant.taken (rw line at c.in_err-write_all.ensures.fault_taken))
 
 pub loop-atom-preserved : goal.loop-atom-preserved
 loop-atom-preserved g c =

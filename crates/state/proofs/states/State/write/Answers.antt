@@ -34,7 +34,8 @@ pub returns-in_err-write_all-3-clause-fault_taken : goal.returns-in_err-write_al
 returns-in_err-write_all-3-clause-fault_taken g c =
     let s = state_view c.args.self.now in
     let front = appended_after _ _ _ head s.title c.in_ok-write_all.ensures.taken (rw c.deref.ensures.value at c.in_ok-write_all-2.ensures.taken) in
-    let line : c.as_slice.result.now ≡ fields s = c.as_slice.ensures.value ∙ c.middle_line-line.ensures.items ∙ ap (λ n. middle s.step n s.sides) (sym (length-map c.args.self.now.atoms.items atom_view)) in
+    let line : c.as_slice.result.now ≡ fields s = 
+    c.as_slice.ensures.value ∙ c.middle_line-line.ensures.items ∙ ap (λ n. middle s.step n s.sides) (sym (length-map c.args.self.now.atoms.items atom_view)) in
     OnErr_of c.from_residual-in_err-write_all-3.result (rw (in_pieces s)
     (beginning_between _ _ _ (head ++ s.title) (fields s) (atom_lines s.atoms) front (rw line at c.in_err-write_all-3.ensures.fault_taken)))
 
@@ -42,17 +43,21 @@ pub returns-clause-taken : goal.returns-clause-taken
 returns-clause-taken g c =
     let s = state_view c.args.self.now in
     let front = appended_after _ _ _ head s.title c.in_ok-write_all.ensures.taken (rw c.deref.ensures.value at c.in_ok-write_all-2.ensures.taken) in
-    let line : c.as_slice.result.now ≡ fields s = c.as_slice.ensures.value ∙ c.middle_line-line.ensures.items ∙ ap (λ n. middle s.step n s.sides) (sym (length-map c.args.self.now.atoms.items atom_view)) in
+    let line : c.as_slice.result.now ≡ fields s = 
+    c.as_slice.ensures.value ∙ c.middle_line-line.ensures.items ∙ ap (λ n. middle s.step n s.sides) (sym (length-map c.args.self.now.atoms.items atom_view)) in
     let more = appended_after _ _ _ (head ++ s.title) (fields s) front (rw line at c.in_ok-write_all-3.ensures.taken) in
-    on_ok_weaker c.write_atoms.result (λ e. rw (in_pieces s) (appended_after _ _ _ (head ++ s.title ++ fields s) (atom_lines s.atoms) more (rw c.as_slice-2.ensures.value at e))) c.write_atoms.ensures.taken
+    on_ok_weaker c.write_atoms.result
+    (λ e. rw (in_pieces s) (appended_after _ _ _ (head ++ s.title ++ fields s) (atom_lines s.atoms) more (rw c.as_slice-2.ensures.value at e))) c.write_atoms.ensures.taken
 
 pub returns-clause-fault_taken : goal.returns-clause-fault_taken
 returns-clause-fault_taken g c =
     let s = state_view c.args.self.now in
     let front = appended_after _ _ _ head s.title c.in_ok-write_all.ensures.taken (rw c.deref.ensures.value at c.in_ok-write_all-2.ensures.taken) in
-    let line : c.as_slice.result.now ≡ fields s = c.as_slice.ensures.value ∙ c.middle_line-line.ensures.items ∙ ap (λ n. middle s.step n s.sides) (sym (length-map c.args.self.now.atoms.items atom_view)) in
+    let line : c.as_slice.result.now ≡ fields s = 
+    c.as_slice.ensures.value ∙ c.middle_line-line.ensures.items ∙ ap (λ n. middle s.step n s.sides) (sym (length-map c.args.self.now.atoms.items atom_view)) in
     let more = appended_after _ _ _ (head ++ s.title) (fields s) front (rw line at c.in_ok-write_all-3.ensures.taken) in
-    on_err_weaker c.write_atoms.result (λ e. rw (in_pieces s) (beginning_after _ _ _ (head ++ s.title ++ fields s) (atom_lines s.atoms) more (rw c.as_slice-2.ensures.value at e))) c.write_atoms.ensures.fault_taken
+    on_err_weaker c.write_atoms.result
+    (λ e. rw (in_pieces s) (beginning_after _ _ _ (head ++ s.title ++ fields s) (atom_lines s.atoms) more (rw c.as_slice-2.ensures.value at e))) c.write_atoms.ensures.fault_taken
 
 pub returns-clause-again : goal.returns-clause-again
 returns-clause-again g c =
