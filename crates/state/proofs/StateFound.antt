@@ -1,9 +1,8 @@
 -- What is read as a state is the text of that state.
-use Rattle.std.proofs.Common.{◌≡◌, ℕ, Bool, true, false, cond, eqb, List, [], ◌++◌, length, Result, Ok, Err, refl, sym, ap, subst, ◌∙◌, append_assoc, arith}
+use Rattle.std.proofs.Common.{◌≡◌, ℕ, Bool, true, false, cond, eqb, List, [], ◌++◌, length, Ok, Err, refl, sym, ap, subst, ◌∙◌, append_assoc, arith}
 use Rattle.std.proofs.lemmas.Bool.{eqb-true}
 use Rattle.std.proofs.lemmas.List.{append-nil, nil_from_length}
-use lib.Signed.{mag}
-use Rattle.line_text.specs.Parts.{ended, AreThree}
+use Rattle.line_text.specs.Parts.{ended}
 use Rattle.state.specs.declared.faults.StateFault.{StateFault}
 use Rattle.state.specs.declared.faults.StateFault.TheVariants.{Trailing}
 use Rattle.state.specs.StateText.{StateView, head_line, title_line, step_line, count_line, box_line, atom_lines, state_text, IsState}

@@ -1,5 +1,5 @@
 -- What a state is, without where it lies in memory, and the one text of each state.
-use Rattle.std.specs.Prelude.{ℕ, ◌-◌, ◌<◌, ◌≤◌, ◌^◌, Bool, not, ◌&&◌, List, ◌++◌, length, codes, decimal, ℤ, pos, negsuc, ◌≤ℤ◌, slice_index, ◌==◌, IsTrue}
+use Rattle.std.specs.Prelude.{ℕ, ◌-◌, ◌<◌, ◌≤◌, ◌^◌, Bool, not, ◌&&◌, List, ◌++◌, length, codes, ℤ, pos, negsuc, ◌≤ℤ◌, slice_index, ◌==◌, IsTrue}
 use Rattle.std.specs.Fmt.{signed_decimal}
 use Rattle.std.specs.List.{flat_map, AllByRecursion}
 use Rattle.line_text.specs.Parts.{word, ended, AreThree, right_in, left_in, is_name, lacks}

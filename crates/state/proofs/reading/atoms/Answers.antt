@@ -18,7 +18,7 @@ loop-i-preserved g c =
     let e : map atom_view c.push.new.self.items ≡ map atom_view c.loop-i.atoms.items ++ atom_view a ∷ [] = rw c.in_ok-push.ensures.items (map_push _ c.loop-i.atoms.items a) in
     record {
       read = rw e
-      (goes_on (map atom_view c.loop-i.atoms.items) c.args.count c.loop-i.i c.loop-i.rest.now (atom_view a) c.in_ok-atom.after.now (atoms_at 6 c.args.count c.args.bytes.now) c.loop-i-test.true c.in_ok-atom.ensures c.loop-i.invariant.read);
+          (goes_on (map atom_view c.loop-i.atoms.items) c.args.count c.loop-i.i c.loop-i.rest.now (atom_view a) c.in_ok-atom.after.now (atoms_at 6 c.args.count c.args.bytes.now) c.loop-i-test.true c.in_ok-atom.ensures c.loop-i.invariant.read);
       len = omega (arith, ap length c.in_ok-push.ensures.items, length-append c.loop-i.atoms.items (a ∷ []), c.loop-i.invariant.len);
     }
 

@@ -34,7 +34,7 @@ pub returns-in_err-write_all-3-clause-fault_taken : goal.returns-in_err-write_al
 returns-in_err-write_all-3-clause-fault_taken g c =
     let s = state_view c.args.self.now in
     let front = appended_after _ _ _ head s.title c.in_ok-write_all.ensures.taken (rw c.deref.ensures.value at c.in_ok-write_all-2.ensures.taken) in
-    let line : c.as_slice.result.now ≡ fields s = 
+    let line : c.as_slice.result.now ≡ fields s =
     c.as_slice.ensures.value ∙ c.middle_line-line.ensures.items ∙ ap (λ n. middle s.step n s.sides) (sym (length-map c.args.self.now.atoms.items atom_view)) in
     OnErr_of c.from_residual-in_err-write_all-3.result (rw (in_pieces s)
     (beginning_between _ _ _ (head ++ s.title) (fields s) (atom_lines s.atoms) front (rw line at c.in_err-write_all-3.ensures.fault_taken)))
@@ -43,7 +43,7 @@ pub returns-clause-taken : goal.returns-clause-taken
 returns-clause-taken g c =
     let s = state_view c.args.self.now in
     let front = appended_after _ _ _ head s.title c.in_ok-write_all.ensures.taken (rw c.deref.ensures.value at c.in_ok-write_all-2.ensures.taken) in
-    let line : c.as_slice.result.now ≡ fields s = 
+    let line : c.as_slice.result.now ≡ fields s =
     c.as_slice.ensures.value ∙ c.middle_line-line.ensures.items ∙ ap (λ n. middle s.step n s.sides) (sym (length-map c.args.self.now.atoms.items atom_view)) in
     let more = appended_after _ _ _ (head ++ s.title) (fields s) front (rw line at c.in_ok-write_all-3.ensures.taken) in
     on_ok_weaker c.write_atoms.result
@@ -53,7 +53,7 @@ pub returns-clause-fault_taken : goal.returns-clause-fault_taken
 returns-clause-fault_taken g c =
     let s = state_view c.args.self.now in
     let front = appended_after _ _ _ head s.title c.in_ok-write_all.ensures.taken (rw c.deref.ensures.value at c.in_ok-write_all-2.ensures.taken) in
-    let line : c.as_slice.result.now ≡ fields s = 
+    let line : c.as_slice.result.now ≡ fields s =
     c.as_slice.ensures.value ∙ c.middle_line-line.ensures.items ∙ ap (λ n. middle s.step n s.sides) (sym (length-map c.args.self.now.atoms.items atom_view)) in
     let more = appended_after _ _ _ (head ++ s.title) (fields s) front (rw line at c.in_ok-write_all-3.ensures.taken) in
     on_err_weaker c.write_atoms.result
