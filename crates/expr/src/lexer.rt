@@ -1,10 +1,10 @@
 // From bytes to tokens.
 ghost use Rattle.std.specs.Prelude.{◌≡◌, ◌≤◌, length};
 ghost use Rattle.fixed.specs.Fractions.{bits_of};
-ghost use Rattle.expr.specs.Faults.{Gives};
+ghost use Rattle.expr.specs.Faults.{Gives, Says};
 ghost use Rattle.expr.specs.Tokens.{placed_items};
 ghost use Rattle.expr.specs.Bytes.{is_space, begins_number, is_name_start, is_word, prefix};
-ghost use Rattle.expr.specs.Lexing.{symbol_of, ShowsKind, token_at, ShowsToken, tokens_of};
+ghost use Rattle.expr.specs.Lexing.{symbol_of, ShowsKind, token_at, ShowsToken, refusal_at, tokens_of};
 
 use crate::faults::ExprFault;
 use crate::numerals::number;
@@ -94,6 +94,17 @@ fn token_at<'a>(frac: Frac, text: &'a [u8]) -> Result<(Kind<'a>, &'a [u8]), Wron
     }
 }
 
+// What is wrong, as the fault at a place.
+fn wrong_at<A: Allocator>(wrong: Wrong, at: usize) -> ExprFault<A>
+    ensures { Says result (refusal_at at wrong) }
+{
+    match wrong {
+        Wrong::Byte => ExprFault::BadCharacter { at },
+        Wrong::Number(NumFault::BadNumber) => ExprFault::BadNumber { at },
+        Wrong::Number(NumFault::NumberRange) => ExprFault::NumberRange { at },
+    }
+}
+
 /// The tokens of a text.
 pub fn tokens<'a, A: Allocator + Copy>(
     alloc: A,
@@ -114,11 +125,7 @@ pub fn tokens<'a, A: Allocator + Copy>(
                     tokens.push(Token { kind, at })?;
                     rest = beyond;
                 }
-                Err(Wrong::Byte) => return Err(ExprFault::BadCharacter { at }),
-                Err(Wrong::Number(NumFault::BadNumber)) => return Err(ExprFault::BadNumber { at }),
-                Err(Wrong::Number(NumFault::NumberRange)) => {
-                    return Err(ExprFault::NumberRange { at });
-                }
+                Err(wrong) => return Err(wrong_at(wrong, at)),
             }
         }
     }
