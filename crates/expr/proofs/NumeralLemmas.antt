@@ -166,8 +166,7 @@ unsigned_again letter (d ∷ ds) rest h e =
     let after : after_sign (d ∷ (ds ++ rest)) ≡ d ∷ (ds ++ rest) = rw (s.0, s.1) refl in
     let writes : writes_exponent (d ∷ (ds ++ rest)) ≡ true = ap begins_digit after ∙ digit in
     let both = and_both (is_letter letter) (writes_exponent (d ∷ (ds ++ rest))) h.0 writes in
-    let from : exponent_from letter (d ∷ (ds ++ rest)) ≡ unsigned letter (digits_of (d ∷ (ds ++ rest))) = rw (s.0, s.1) refl in
-    (
+    let from : exponent_from letter (d ∷ (ds ++ rest)) ≡ unsigned letter (digits_of (d ∷ (ds ++ rest))) = rw (s.0, s.1) refl in (
       ap (λ (c : Bool). if c then exponent_from letter (d ∷ (ds ++ rest)) else no_exponent) both ∙ from ∙ ap (unsigned letter) (digits_again (d ∷ ds) rest h.1 e),
       ap (λ (c : Bool). if c then after_digits (after_sign (d ∷ (ds ++ rest))) else letter ∷ d ∷ (ds ++ rest)) both ∙ ap after_digits after ∙ rest_again (d ∷ ds) rest h.1 e,
     )
@@ -223,11 +222,10 @@ numeral_again n rest f l =
     let split = numeral_split n rest in
     let digits : digits_of (numeral_text n ++ rest) ≡ n.whole = ap digits_of split ∙ digits_again n.whole (fraction_text n.fraction ++ behind) f.whole stops in
     let after : after_digits (numeral_text n ++ rest) ≡ fraction_text n.fraction ++ behind = ap after_digits split ∙ rest_again n.whole (fraction_text n.fraction ++ behind) f.whole stops in
-    let after' : after_fraction (after_digits (numeral_text n ++ rest)) ≡ behind = ap after_fraction after ∙ fraction.1 in
-    (
+    let after' : after_fraction (after_digits (numeral_text n ++ rest)) ≡ behind = ap after_fraction after ∙ fraction.1 in (
       ap (λ (z : List ℕ). made z (fraction_of (after_digits (numeral_text n ++ rest))) (exponent_of (after_fraction (after_digits (numeral_text n ++ rest))))) digits
-      ∙ ap (λ (z : Fraction). made n.whole z (exponent_of (after_fraction (after_digits (numeral_text n ++ rest))))) (ap fraction_of after ∙ fraction.0)
-      ∙ ap (made n.whole n.fraction) (ap exponent_of after' ∙ exponent.0),
+          ∙ ap (λ (z : Fraction). made n.whole z (exponent_of (after_fraction (after_digits (numeral_text n ++ rest))))) (ap fraction_of after ∙ fraction.0)
+          ∙ ap (made n.whole n.fraction) (ap exponent_of after' ∙ exponent.0),
       ap after_exponent after' ∙ exponent.1,
       ap begins_point after ∙ fraction_has n.fraction behind no_point',
     )
@@ -439,6 +437,7 @@ with_ok rest (Ok y) z after e = let h = same (y, rest) (z, after) e in (ap (λ (
   where
     ok : ℤ → Result ℤ NumFault
     ok x = Ok x
+
     same : (x y : ℤ × List ℕ) → ◌≡◌ {A = Result (ℤ × List ℕ) NumFault} (Ok x) (Ok y) → x ≡ y
     same x y e = cc
 with_ok rest (Err f) z after e = absurd cc

@@ -1,5 +1,5 @@
 -- What is wrong with a text, and how a call that may want memory answers it.
-use Rattle.std.specs.Prelude.{◌≡◌, ℕ, List, Result, Ok, Err}
+use Rattle.std.specs.Prelude.{◌≡◌, ℕ, List, Option, Some, None, Result, Ok, Err}
 use Rattle.expr.specs.declared.faults.ExprFault.{ExprFault}
 use Rattle.expr.specs.declared.faults.ExprFault.TheVariants as fault
 
@@ -17,6 +17,17 @@ infixl 10 ◌>>=◌
 abbrev pub ◌>>=◌ : {A B : Type 0} → Result A Refusal → (A → Result B Refusal) → Result B Refusal
 (Ok x) >>= f = f x
 (Err r) >>= f = Err r
+
+-- what a fault says of the text: nothing, where memory ran out
+abbrev pub refusal_of : {A : Type 0} → ExprFault A → Option Refusal
+refusal_of (fault.BadCharacter at) = Some (BadCharacter at)
+refusal_of (fault.BadNumber at) = Some (BadNumber at)
+refusal_of (fault.UnexpectedToken at) = Some (UnexpectedToken at)
+refusal_of (fault.UnknownName name) = Some (UnknownName name.bytes.items)
+refusal_of (fault.NumberRange at) = Some (NumberRange at)
+refusal_of fault.TooLarge = Some TooLarge
+refusal_of (fault.LeftOutFunction name) = Some (LeftOutFunction name.bytes.items)
+refusal_of fault.Memory = None
 
 -- the fault says this refusal, unless memory ran out
 abbrev pub Says : {A : Type 0} → ExprFault A → Refusal → Type 0

@@ -11,6 +11,6 @@ pub mod Names
 pub mod Syntax
 pub mod Uses
 pub mod Grammar
-pub mod Depth
+pub mod Halting
 pub mod Parsing
 pub mod Energy

@@ -35,7 +35,11 @@ fn copied<A: Allocator + Copy>(alloc: A, name: &[u8]) -> Result<Name<A>, ExprFau
 pub fn variable_of(name: &[u8]) -> Option<u32>
     ensures { result ≡ variable_of name.now }
 {
-    if name == b"r".as_slice() { Some(0) } else { None }
+    if name == b"r".as_slice() {
+        Some(0)
+    } else {
+        None
+    }
 }
 
 // Whether the language has a function with this name, now or later.

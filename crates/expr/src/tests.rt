@@ -1,5 +1,4 @@
 use crate::{Expr, ExprFault, Name, Operator, Program, parse};
-
 use fixed::Frac;
 use std::alloc::Global;
 use std::test::Fail;

@@ -28,8 +28,8 @@ returns c =
     let rest = c.after_exponent-rest.ensures ∙ ap after_exponent (c.after_fraction.ensures ∙ ap after_fraction c.after_digits-behind.ensures) in
     let same : c.raw.result ≡ c.in_ok-value.value = search rules in
     let read : number_at (bits_of c.args.frac) c.args.text.now ≡ read_number c.raw.result c.after_exponent-rest.result.now =
-        well_read (bits_of c.args.frac) c.args.text.now c.after_exponent-rest.result.now _ _ rest
-        (ap (λ q. spoils q c.after_exponent-rest.result.now) (sym (c.begins_point.ensures ∙ ap begins_point c.after_digits-behind.ensures)) ∙ sym c.spoils.ensures ∙ c.if-spoils.false)
-        refl c.in_ok-value.ensures
-        ∙ ap (λ z. read_number z c.after_exponent-rest.result.now) (sym same) in
+    well_read (bits_of c.args.frac) c.args.text.now c.after_exponent-rest.result.now _ _ rest
+    (ap (λ q. spoils q c.after_exponent-rest.result.now) (sym (c.begins_point.ensures ∙ ap begins_point c.after_digits-behind.ensures)) ∙ sym c.spoils.ensures ∙ c.if-spoils.false)
+    refl c.in_ok-value.ensures
+    ∙ ap (λ z. read_number z c.after_exponent-rest.result.now) (sym same) in
     search (rules, read)
