@@ -1,6 +1,7 @@
 -- Reading tokens one after the other.
 use Rattle.std.proofs.Common.{◌≡◌, ◌⊎◌, inl, inr, ℕ, zero, suc, ℤ, ◌+◌, ◌-◌, ◌<◌, ◌≤◌, Bool, true, false, cond, List, [], ◌∷◌, ◌++◌, length, get_or, take, drop, Option, Some, None, Result, Ok, Err, refl, sym, ap, subst, ◌∙◌, append_assoc, length-append, length-drop, arith}
 use Rattle.std.proofs.lemmas.List.{append-nil, take_all}
+use Rattle.std.specs.List.{prefix_len}
 use Rattle.std.specs.Prelude.{◌||◌, if◌then◌else◌}
 use Rattle.fixed.specs.declared.faults.NumFault.{NumFault}
 use Rattle.fixed.specs.Numerals.{numeral_text}
@@ -8,24 +9,24 @@ use Rattle.expr.specs.declared.lexer.Wrong.{Wrong}
 use Rattle.expr.specs.declared.lexer.Wrong.TheVariants as wrong
 use Rattle.expr.specs.Tokens.{Lexeme, Placed}
 use Rattle.expr.specs.Tokens as t
-use Rattle.expr.specs.Bytes.{is_space, begins_number, is_name_start, is_word, prefix}
+use Rattle.expr.specs.Bytes.{is_space, begins_number, is_name_start, is_word}
 use Rattle.expr.specs.Faults.{Refusal}
 use Rattle.expr.specs.Numerals.{number_at}
 use Rattle.expr.specs.Lexing.{symbol_of, TokenRead, number_token, symbol_token, token_at, Tokens, with_front, refusal_at, go_on, tokens_from, tokens_of}
 use Rattle.expr.proofs.NumeralLemmas.{number_ok, numeral_some}
 
-pub prefix_more : (test : ℕ → Bool) (b : ℕ) (rest : List ℕ) → test b ≡ true → prefix test (b ∷ rest) ≡ suc (prefix test rest)
-prefix_more test b rest h = let e : prefix test (b ∷ rest) ≡ 1 + prefix test rest = rw h refl in omega arith
+pub prefix_more : (test : ℕ → Bool) (b : ℕ) (rest : List ℕ) → test b ≡ true → prefix_len test (b ∷ rest) ≡ suc (prefix_len test rest)
+prefix_more test b rest h = let e : prefix_len test (b ∷ rest) ≡ 1 + prefix_len test rest = rw h refl in omega arith
 
-pub prefix_stops : (test : ℕ → Bool) (b : ℕ) (rest : List ℕ) → test b ≡ false → prefix test (b ∷ rest) ≡ 0
+pub prefix_stops : (test : ℕ → Bool) (b : ℕ) (rest : List ℕ) → test b ≡ false → prefix_len test (b ∷ rest) ≡ 0
 prefix_stops test b rest h = rw h refl
 
 pub token_ok : (x y : Lexeme × List ℕ) → ◌≡◌ {A = TokenRead} (Ok x) (Ok y) → x ≡ y
 token_ok x y e = cc
 
 -- bytes after a prefix that is not empty
-shorter : (test : ℕ → Bool) (b : ℕ) (rest : List ℕ) → test b ≡ true → length (drop (prefix test (b ∷ rest)) (b ∷ rest)) < length (b ∷ rest)
-shorter test b rest h = let p = prefix_more test b rest h in omega (arith, length-drop (prefix test (b ∷ rest)) (b ∷ rest))
+shorter : (test : ℕ → Bool) (b : ℕ) (rest : List ℕ) → test b ≡ true → length (drop (prefix_len test (b ∷ rest)) (b ∷ rest)) < length (b ∷ rest)
+shorter test b rest h = let p = prefix_more test b rest h in omega (arith, length-drop (prefix_len test (b ∷ rest)) (b ∷ rest))
 
 pub word_start : (b : ℕ) → is_name_start b ≡ true → is_word b ≡ true
 word_start b h = rw h refl

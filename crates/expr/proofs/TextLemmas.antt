@@ -3,7 +3,7 @@ use Rattle.std.proofs.Common.{◌≡◌, ◌⊎◌, inl, inr, ℕ, zero, suc, �
 use Rattle.std.proofs.lemmas.Bool.{eqb-true}
 use Rattle.std.proofs.lemmas.Bool.Decides.{nat_tests}
 use Rattle.std.proofs.lemmas.List.{append-nil, take-append-drop, take_at, drop_at}
-use Rattle.std.specs.List.{AllPass}
+use Rattle.std.specs.List.{AllPass, prefix_len}
 use Rattle.std.specs.Char.{is_ascii_digit}
 use Rattle.fixed.specs.declared.faults.NumFault.{NumFault}
 use Rattle.fixed.specs.declared.faults.NumFault.TheVariants as number
@@ -12,7 +12,7 @@ use Rattle.expr.specs.declared.lexer.Wrong.{Wrong}
 use Rattle.expr.specs.declared.lexer.Wrong.TheVariants as wrong
 use Rattle.expr.specs.Tokens.{Lexeme, Placed}
 use Rattle.expr.specs.Tokens as t
-use Rattle.expr.specs.Bytes.{is_space, begins_number, is_name_start, is_word, prefix}
+use Rattle.expr.specs.Bytes.{is_space, begins_number, is_name_start, is_word}
 use Rattle.expr.specs.Faults.{Refusal}
 use Rattle.expr.specs.Numerals.{Ends, number_at, with_rest}
 use Rattle.expr.specs.Lexing.{symbol_of, TokenRead, number_token, symbol_token, token_at, Tokens, with_front, refusal_at, go_on, tokens_from, tokens_of}
@@ -23,27 +23,27 @@ use Rattle.expr.proofs.Lexing.{prefix_more, prefix_stops, word_start, token_ok, 
 
 -- ---- the longest front that passes
 
-span_step : (test : ℕ → Bool) (b : ℕ) (rest : List ℕ) (c : Bool) → test b ≡ c → Every test (take (prefix test rest) rest) → Every test (take (prefix test (b ∷ rest)) (b ∷ rest))
+span_step : (test : ℕ → Bool) (b : ℕ) (rest : List ℕ) (c : Bool) → test b ≡ c → Every test (take (prefix_len test rest) rest) → Every test (take (prefix_len test (b ∷ rest)) (b ∷ rest))
 span_step test b rest true h e = rw (prefix_more test b rest h) (h, e)
 span_step test b rest false h e = rw (prefix_stops test b rest h) tt
 
-pub span_every : (test : ℕ → Bool) (bs : List ℕ) → Every test (take (prefix test bs) bs)
+pub span_every : (test : ℕ → Bool) (bs : List ℕ) → Every test (take (prefix_len test bs) bs)
 span_every test [] = tt
 span_every test (b ∷ rest) = span_step test b rest (test b) refl (span_every test rest)
 
-stop_step : (test : ℕ → Bool) (b : ℕ) (rest : List ℕ) (c : Bool) → test b ≡ c → Stops test (drop (prefix test rest) rest) → Stops test (drop (prefix test (b ∷ rest)) (b ∷ rest))
+stop_step : (test : ℕ → Bool) (b : ℕ) (rest : List ℕ) (c : Bool) → test b ≡ c → Stops test (drop (prefix_len test rest) rest) → Stops test (drop (prefix_len test (b ∷ rest)) (b ∷ rest))
 stop_step test b rest true h e = rw (prefix_more test b rest h) e
 stop_step test b rest false h e = rw (prefix_stops test b rest h) h
 
-pub span_stops : (test : ℕ → Bool) (bs : List ℕ) → Stops test (drop (prefix test bs) bs)
+pub span_stops : (test : ℕ → Bool) (bs : List ℕ) → Stops test (drop (prefix_len test bs) bs)
 span_stops test [] = tt
 span_stops test (b ∷ rest) = stop_step test b rest (test b) refl (span_stops test rest)
 
-none_passes : (test : ℕ → Bool) (rest : List ℕ) → Stops test rest → prefix test rest ≡ 0
+none_passes : (test : ℕ → Bool) (rest : List ℕ) → Stops test rest → prefix_len test rest ≡ 0
 none_passes test [] s = refl
 none_passes test (b ∷ rest) s = prefix_stops test b rest s
 
-pub span_is : (test : ℕ → Bool) (a rest : List ℕ) → Every test a → Stops test rest → prefix test (a ++ rest) ≡ length a
+pub span_is : (test : ℕ → Bool) (a rest : List ℕ) → Every test a → Stops test rest → prefix_len test (a ++ rest) ≡ length a
 span_is test [] rest e s = none_passes test rest s
 span_is test (b ∷ a) rest e s = prefix_more test b (a ++ rest) e.0 ∙ ap suc (span_is test a rest e.1 s)
 
@@ -88,15 +88,15 @@ number_front bits ts k after (Ok (z, rest)) h e =
     let n = number_ok bits ts z rest h in
     moved bits ts (t.Number z) rest k after e (record { front = numeral_text n.numeral; parts = sym n.parts; spelled = g.number n.is_numeral n.ends n.value })
 
-name_front : (bits b : ℕ) (rest : List ℕ) (k : Lexeme) (after : List ℕ) → is_name_start b ≡ true → ◌≡◌ {A = TokenRead} (Ok (t.Name (take (prefix is_word (b ∷ rest)) (b ∷ rest)), drop (prefix is_word (b ∷ rest)) (b ∷ rest))) (Ok (k, after)) → Front bits (b ∷ rest) k after
+name_front : (bits b : ℕ) (rest : List ℕ) (k : Lexeme) (after : List ℕ) → is_name_start b ≡ true → ◌≡◌ {A = TokenRead} (Ok (t.Name (take (prefix_len is_word (b ∷ rest)) (b ∷ rest)), drop (prefix_len is_word (b ∷ rest)) (b ∷ rest))) (Ok (k, after)) → Front bits (b ∷ rest) k after
 name_front bits b rest k after d e =
-    let n = prefix is_word rest in
+    let n = prefix_len is_word rest in
     let e' = subst (λ (m : ℕ). ◌≡◌ {A = TokenRead} (Ok (t.Name (take m (b ∷ rest)), drop m (b ∷ rest))) (Ok (k, after))) (prefix_more is_word b rest (word_start b d)) e in
     moved bits (b ∷ rest) (t.Name (b ∷ take n rest)) (drop n rest) k after e'
     (record { front = b ∷ take n rest; parts = ap (λ (z : List ℕ). b ∷ z) (sym (take-append-drop n rest)); spelled = g.name d (span_every is_word rest) (span_stops is_word rest) })
 
 name_case : (bits b : ℕ) (rest : List ℕ) (k : Lexeme) (after : List ℕ) (c : Bool) → is_name_start b ≡ c
-    → cond c (Ok (t.Name (take (prefix is_word (b ∷ rest)) (b ∷ rest)), drop (prefix is_word (b ∷ rest)) (b ∷ rest))) (symbol_token rest (symbol_of b)) ≡ Ok (k, after) → Front bits (b ∷ rest) k after
+    → cond c (Ok (t.Name (take (prefix_len is_word (b ∷ rest)) (b ∷ rest)), drop (prefix_len is_word (b ∷ rest)) (b ∷ rest))) (symbol_token rest (symbol_of b)) ≡ Ok (k, after) → Front bits (b ∷ rest) k after
 name_case bits b rest k after true d e = name_front bits b rest k after d e
 name_case bits b rest k after false d e = symbol_front bits b rest k after (symbol_of b) refl e
 
@@ -132,7 +132,7 @@ token_number : (bits b : ℕ) (rest : List ℕ) → begins_number b ≡ true →
 unfolding token_at
 token_number bits b rest h =
     ap (λ c. cond c (number_token (number_at bits (b ∷ rest)))
-    (cond (is_name_start b) (Ok (t.Name (take (prefix is_word (b ∷ rest)) (b ∷ rest)), drop (prefix is_word (b ∷ rest)) (b ∷ rest))) (symbol_token rest (symbol_of b)))) h
+    (cond (is_name_start b) (Ok (t.Name (take (prefix_len is_word (b ∷ rest)) (b ∷ rest)), drop (prefix_len is_word (b ∷ rest)) (b ∷ rest))) (symbol_token rest (symbol_of b)))) h
 
 numeral_token : (bits : ℕ) (n : Numeral) (z : ℤ) (rest : List ℕ) → IsNumeral n → Ends n rest → value_of bits n ≡ Ok z → token_at bits (numeral_text n ++ rest) ≡ Ok (t.Number z, rest)
 numeral_token bits n z rest h ends v =
@@ -146,10 +146,10 @@ start_no_number b h = grind (arith, nat_tests)
 name_again : (bits b : ℕ) (bs rest : List ℕ) → is_name_start b ≡ true → Every is_word bs → Stops is_word rest → token_at bits (b ∷ (bs ++ rest)) ≡ Ok (t.Name (b ∷ bs), rest)
 unfolding token_at
 name_again bits b bs rest d ev st =
-    let n : prefix is_word (b ∷ (bs ++ rest)) ≡ length (b ∷ bs) = span_is is_word (b ∷ bs) rest (word_start b d, ev) st in
+    let n : prefix_len is_word (b ∷ (bs ++ rest)) ≡ length (b ∷ bs) = span_is is_word (b ∷ bs) rest (word_start b d, ev) st in
     ap (λ c. cond c (number_token (number_at bits (b ∷ (bs ++ rest))))
-    (cond (is_name_start b) (Ok (t.Name (take (prefix is_word (b ∷ (bs ++ rest))) (b ∷ (bs ++ rest))), drop (prefix is_word (b ∷ (bs ++ rest))) (b ∷ (bs ++ rest)))) (symbol_token (bs ++ rest) (symbol_of b)))) (start_no_number b d)
-    ∙ ap (λ c. cond c (name_read (prefix is_word (b ∷ (bs ++ rest)))) (symbol_token (bs ++ rest) (symbol_of b))) d
+    (cond (is_name_start b) (Ok (t.Name (take (prefix_len is_word (b ∷ (bs ++ rest))) (b ∷ (bs ++ rest))), drop (prefix_len is_word (b ∷ (bs ++ rest))) (b ∷ (bs ++ rest)))) (symbol_token (bs ++ rest) (symbol_of b)))) (start_no_number b d)
+    ∙ ap (λ c. cond c (name_read (prefix_len is_word (b ∷ (bs ++ rest)))) (symbol_token (bs ++ rest) (symbol_of b))) d
     ∙ ap name_read n
     ∙ ap (λ (z : List ℕ). made (take (length (b ∷ bs)) (b ∷ (bs ++ rest))) z) (drop_at (b ∷ bs) rest (length (b ∷ bs)) refl)
     ∙ ap (λ (z : List ℕ). made z rest) (take_at (b ∷ bs) rest (length (b ∷ bs)) refl)

@@ -1,5 +1,6 @@
 -- A text that isn't read as tokens is stuck at its first byte or numeral that is none.
 use Rattle.std.proofs.Common.{◌≡◌, ℕ, zero, suc, ℤ, ◌+◌, ◌-◌, ◌≤◌, Bool, true, false, cond, List, [], ◌∷◌, ◌++◌, length, take, drop, Option, Some, None, Result, Ok, Err, refl, sym, ap, subst, ◌∙◌, arith}
+use Rattle.std.specs.List.{prefix_len}
 use Rattle.fixed.specs.declared.faults.NumFault.{NumFault}
 use Rattle.fixed.specs.declared.faults.NumFault.TheVariants as number
 use Rattle.fixed.specs.Numerals.{Numeral, IsNumeral, numeral_text}
@@ -7,7 +8,7 @@ use Rattle.expr.specs.declared.lexer.Wrong.{Wrong}
 use Rattle.expr.specs.declared.lexer.Wrong.TheVariants as wrong
 use Rattle.expr.specs.Tokens.{Lexeme, Placed}
 use Rattle.expr.specs.Tokens as t
-use Rattle.expr.specs.Bytes.{is_space, begins_number, is_name_start, is_word, prefix}
+use Rattle.expr.specs.Bytes.{is_space, begins_number, is_name_start, is_word}
 use Rattle.expr.specs.Faults.{Refusal, BadCharacter, BadNumber, NumberRange, UnexpectedToken, UnknownName, TooLarge, LeftOutFunction}
 use Rattle.expr.specs.Numerals.{number_at, after_numeral}
 use Rattle.expr.specs.Lexing.{symbol_of, TokenRead, number_token, symbol_token, token_at, Tokens, with_front, refusal_at, go_on, tokens_from, tokens_of}
@@ -152,7 +153,7 @@ token_err_by bits b rest w x false n e = name_err b x rest w (is_name_start b) n
 
 token_err : (bits b : ℕ) (rest : List ℕ) (w : Wrong) → token_at bits (b ∷ rest) ≡ Err w → TokenErr bits b (b ∷ rest) w (begins_number b)
 unfolding token_at
-token_err bits b rest w e = token_err_by bits b rest w (t.Name (take (prefix is_word (b ∷ rest)) (b ∷ rest)), drop (prefix is_word (b ∷ rest)) (b ∷ rest)) (begins_number b) refl e
+token_err bits b rest w e = token_err_by bits b rest w (t.Name (take (prefix_len is_word (b ∷ rest)) (b ∷ rest)), drop (prefix_len is_word (b ∷ rest)) (b ∷ rest)) (begins_number b) refl e
 
 byte_none : (bits b : ℕ) (rest : List ℕ) (c : Bool) → TokenErr bits b (b ∷ rest) wrong.Byte c → is_space b ≡ false → BeginsNone b
 byte_none bits b rest true e s = absurd e.1

@@ -1,6 +1,5 @@
 -- Kinds of bytes.
-use Rattle.std.specs.Prelude.{ℕ, Bool, ◌||◌, ◌==◌, List}
-use Rattle.std.specs.List.{prefix_len}
+use Rattle.std.specs.Prelude.{ℕ, Bool, ◌||◌, ◌==◌}
 use Rattle.std.specs.Char.{is_ascii_digit, is_ascii_alphabetic}
 
 -- space, tab, CR, LF
@@ -17,7 +16,3 @@ is_name_start b = b == 95 || is_ascii_alphabetic b
 
 abbrev pub is_word : ℕ → Bool
 is_word b = is_name_start b || is_ascii_digit b
-
--- how many bytes from the front on pass
-abbrev pub prefix : (ℕ → Bool) → List ℕ → ℕ
-prefix test bytes = prefix_len test bytes

@@ -1,12 +1,13 @@
 -- Reading bytes from left to right as tokens, as far as the first fault.
 use Rattle.std.specs.Prelude.{◌≡◌, ℕ, zero, suc, ℤ, ◌-◌, ◌==◌, if◌then◌else◌, List, [], ◌∷◌, ◌++◌, length, take, drop, Option, Some, None, Result, Ok, Err}
+use Rattle.std.specs.List.{prefix_len}
 use Rattle.std.specs.Borrow.{Bor}
 use Rattle.fixed.specs.declared.faults.NumFault.{NumFault}
 use Rattle.fixed.specs.declared.faults.NumFault.TheVariants as number
 use Rattle.expr.specs.declared.lexer.Wrong.{Wrong}
 use Rattle.expr.specs.declared.lexer.Wrong.TheVariants as wrong
 use Rattle.expr.specs.declared.tokens.Kind.{Kind}
-use Rattle.expr.specs.Bytes.{is_space, begins_number, is_name_start, is_word, prefix}
+use Rattle.expr.specs.Bytes.{is_space, begins_number, is_name_start, is_word}
 use Rattle.expr.specs.Faults.{Refusal, BadCharacter, BadNumber, NumberRange}
 use Rattle.expr.specs.Numerals.{number_at}
 use Rattle.expr.specs.Tokens.{Lexeme, Placed, lexeme}
@@ -38,7 +39,7 @@ unfoldable pub token_at : ℕ → List ℕ → TokenRead
 token_at bits [] = Err wrong.Byte
 token_at bits (b ∷ rest) =
     if begins_number b then number_token (number_at bits (b ∷ rest))
-    else (if is_name_start b then Ok (t.Name (take (prefix is_word (b ∷ rest)) (b ∷ rest)), drop (prefix is_word (b ∷ rest)) (b ∷ rest))
+    else (if is_name_start b then Ok (t.Name (take (prefix_len is_word (b ∷ rest)) (b ∷ rest)), drop (prefix_len is_word (b ∷ rest)) (b ∷ rest))
     else symbol_token rest (symbol_of b))
 
 abbrev pub ShowsToken : Result (Kind × Bor (List ℕ)) Wrong → TokenRead → Type 0

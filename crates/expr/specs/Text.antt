@@ -47,6 +47,10 @@ pub record BeginsNone (b : ℕ) : Type 0 where
   pub no_number : begins_number b ≡ false
   pub no_token : (bits : ℕ) (a rest : List ℕ) (k : Lexeme) → IsToken bits (b ∷ a) rest k → ⊥
 
+abbrev pub BeginsBadly : List ℕ → Type 0
+BeginsBadly [] = ⊥
+BeginsBadly (b ∷ rest) = BeginsNone b
+
 -- the text begins with a numeral whose rounded value doesn't fit
 pub record BeginsTooGreat (bits : ℕ) (text : List ℕ) : Type 0 where
   pub numeral : Numeral
@@ -70,7 +74,3 @@ pub record IsWrongAt (bits : ℕ) (Wrong : List ℕ → Type 0) (text : List ℕ
   pub rest : List ℕ
   pub front : IsFront bits 0 text tokens at rest
   pub wrong : Wrong rest
-
-abbrev pub BeginsBadly : List ℕ → Type 0
-BeginsBadly [] = ⊥
-BeginsBadly (b ∷ rest) = BeginsNone b

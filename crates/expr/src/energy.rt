@@ -12,10 +12,25 @@ use crate::uses::resolve;
 use fixed::Frac;
 use std::alloc::Allocator;
 
-/// How many tokens a text may have.
+// How many tokens a text may have.
 const MAX_TOKENS: usize = 4096;
 
-/// Reads an energy text as a program.
+/// Reads an energy text as a program, with numbers of the given fraction bits (operators as in the OpenMM User Guide,
+/// custom force expressions).
+///
+/// A text has numerals, the distance `r`, `+`, `-`, `*`, `/`, a minus in front, and parentheses; space, tab, CR and LF
+/// separate tokens. `+` and `-`, and `*` and `/`, group to the left, and a minus in front binds tighter than both. A
+/// numeral is read without its sign. Offsets count bytes from 0.
+///
+/// The first of these is the answer:
+/// - from left to right through the bytes, `BadCharacter` for a byte that begins no token, `BadNumber` for a numeral that
+///   is malformed, has more than 18 digits before its exponent part or an exponent past 99, and `NumberRange` for one
+///   whose rounded value is 2^63 or more as a raw number; then `TooLarge` for more than 4,096 tokens;
+/// - from left to right through the tokens, `UnexpectedToken` for a token that the grammar doesn't take (at the end of
+///   the text, the text's length), `TooLarge` for an operand inside more than 64 parentheses and minus signs,
+///   `LeftOutFunction` for a function's name before a parenthesis, and `UnknownName` for any other name there;
+/// - from left to right, `UnknownName` for a name other than `r`;
+/// - `Memory`, wherever a growth is refused.
 pub fn parse<A: Allocator + Copy>(
     alloc: A,
     frac: Frac,

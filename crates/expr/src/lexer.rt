@@ -1,9 +1,10 @@
 // From bytes to tokens.
 ghost use Rattle.std.specs.Prelude.{◌≡◌, ◌≤◌, length};
+ghost use Rattle.std.specs.List.{prefix_len};
 ghost use Rattle.fixed.specs.Fractions.{bits_of};
 ghost use Rattle.expr.specs.Faults.{Gives, Says};
 ghost use Rattle.expr.specs.Tokens.{placed_items};
-ghost use Rattle.expr.specs.Bytes.{is_space, begins_number, is_name_start, is_word, prefix};
+ghost use Rattle.expr.specs.Bytes.{is_space, begins_number, is_name_start, is_word};
 ghost use Rattle.expr.specs.Lexing.{symbol_of, ShowsKind, token_at, ShowsToken, refusal_at, tokens_of};
 
 use crate::faults::ExprFault;
@@ -66,7 +67,7 @@ fn symbol_of<'a>(byte: u8) -> Option<Kind<'a>>
 
 // How many bytes of a name a text begins with.
 fn word_len(text: &[u8]) -> usize
-    ensures value { result ≡ prefix is_word text.now }
+    ensures value { result ≡ prefix_len is_word text.now }
     ensures bound { result ≤ length text.now }
 {
     text.iter().take_while(|byte| is_word(**byte)).count()

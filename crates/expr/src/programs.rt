@@ -4,9 +4,13 @@ use std::alloc::Allocator;
 /// An operation on two parts.
 #[derive(Clone, Copy, Debug, PartialEq, Eq)]
 pub enum Operator {
+    /// The sum of both.
     Add,
+    /// The first less the second.
     Subtract,
+    /// The product of both.
     Multiply,
+    /// The first divided by the second.
     Divide,
 }
 

@@ -1,5 +1,6 @@
-use crate::{Expr, ExprFault, Name, Operator, Program, parse};
-use fixed::Frac;
+use crate::{Expr, ExprFault, Operator, Program, parse};
+use fixed::{Frac, Fx};
+use linked_list_allocator::LocalHeap;
 use std::alloc::Global;
 use std::test::Fail;
 
@@ -12,22 +13,13 @@ fn answer(alloc: Global, text: &[u8]) -> Result<String, Fail> {
 
 #[test]
 fn texts_are_answered(rt: HostRuntime) -> Result<(), Fail> {
-    let rows: [(&[u8], &str); 24] = [
+    let rows: [(&[u8], &str); 34] = [
+        (b"2-3-4", "Ok"),
+        (b"-2147483647*.5/(r - 5.e-1)\r\n\t", "Ok"),
         (b"1 + $", "E01 BadCharacter 4"),
-        (b"sqrt(r)", "E11 LeftOutFunction sqrt"),
-        (b"1 + (atan2(r))", "E11 LeftOutFunction atan2"),
-        (b"foo(r)", "E04 UnknownName foo"),
-        (b"r(2)", "E04 UnknownName r"),
-        (b"2*b + c", "E04 UnknownName b"),
-        (b"b + sqrt(r)", "E11 LeftOutFunction sqrt"),
-        (b"b + )", "E03 UnexpectedToken 4"),
-        (b"r^2", "E03 UnexpectedToken 1"),
-        (b"r;", "E03 UnexpectedToken 1"),
-        (b"1 + ", "E03 UnexpectedToken 4"),
-        (b"(r", "E03 UnexpectedToken 2"),
-        (b"", "E03 UnexpectedToken 0"),
-        (b"1e5.5", "E03 UnexpectedToken 3"),
-        (b"1e5e3", "E03 UnexpectedToken 3"),
+        (b"1 + \xff", "E01 BadCharacter 4"),
+        (b"3e9 $", "E07 NumberRange 0"),
+        (b"r r .", "E02 BadNumber 4"),
         (b"1e5.", "E02 BadNumber 3"),
         (b"1.0e5.5", "E02 BadNumber 0"),
         (b"1.2.3", "E02 BadNumber 0"),
@@ -35,8 +27,27 @@ fn texts_are_answered(rt: HostRuntime) -> Result<(), Fail> {
         (b"1e5e", "E02 BadNumber 0"),
         (b"1e100", "E02 BadNumber 0"),
         (b"1234567890123456789", "E02 BadNumber 0"),
+        (b"1e5.5", "E03 UnexpectedToken 3"),
+        (b"1e5e3", "E03 UnexpectedToken 3"),
+        (b"", "E03 UnexpectedToken 0"),
+        (b"1 + ", "E03 UnexpectedToken 4"),
+        (b"(r", "E03 UnexpectedToken 2"),
+        (b"r)", "E03 UnexpectedToken 1"),
+        (b"r^2", "E03 UnexpectedToken 1"),
+        (b"r;", "E03 UnexpectedToken 1"),
+        (b"r, r", "E03 UnexpectedToken 1"),
+        (b"r = 1", "E03 UnexpectedToken 2"),
+        (b"+r", "E03 UnexpectedToken 0"),
+        (b"b + )", "E03 UnexpectedToken 4"),
+        (b"2*b + c", "E04 UnknownName b"),
+        (b"sqrt", "E04 UnknownName sqrt"),
+        (b"foo(r)", "E04 UnknownName foo"),
+        (b"r(2)", "E04 UnknownName r"),
+        (b"2147483648", "E07 NumberRange 0"),
         (b"-2147483648", "E07 NumberRange 1"),
-        (b"-2147483647*.5/(r - 5.e-1)", "Ok"),
+        (b"sqrt(r)", "E11 LeftOutFunction sqrt"),
+        (b"1 + (atan2(r))", "E11 LeftOutFunction atan2"),
+        (b"b + sqrt(r)", "E11 LeftOutFunction sqrt"),
     ];
     for (text, line) in rows {
         assert_eq!(rt; answer(rt.alloc(), text)?.as_str(), line);
@@ -65,6 +76,7 @@ fn sum(alloc: Global, terms: usize) -> Result<String, Fail> {
     answer(alloc, &text)
 }
 
+// A sum of 2,048 terms is a tree of as many levels, which is also dropped here.
 #[test]
 fn limits_are_kept(rt: HostRuntime) -> Result<(), Fail> {
     let alloc = rt.alloc();
@@ -81,12 +93,47 @@ fn limits_are_kept(rt: HostRuntime) -> Result<(), Fail> {
 #[test]
 fn operators_group(rt: HostRuntime) -> Result<(), Fail> {
     let Ok(Program { body }) = parse(rt.alloc(), Frac::F32, b"2-3-r") else {
-        return Err(Fail::new("a text is refused"));
+        return Err(Fail::new("a difference is refused"));
     };
     let Expr::Binary(Operator::Subtract, left, right) = body else {
-        return Err(Fail::new("not a difference"));
+        return Err(Fail::new("no difference"));
     };
     assert!(rt; matches!(*left, Expr::Binary(Operator::Subtract, _, _)));
     assert!(rt; matches!(*right, Expr::Input(0)));
+
+    let Ok(Program { body }) = parse(rt.alloc(), Frac::F24, b"-2*3") else {
+        return Err(Fail::new("a product is refused"));
+    };
+    let Expr::Binary(Operator::Multiply, left, right) = body else {
+        return Err(Fail::new("no product"));
+    };
+    assert!(rt; matches!(*left, Expr::Negated(_)));
+    let Expr::Number(value) = *right else {
+        return Err(Fail::new("no number"));
+    };
+    assert_eq!(rt; value, Fx::from_raw(3 << 24));
+    Ok(())
+}
+
+// Where memory is short, that is the answer, and nothing is left behind.
+#[test]
+fn memory_runs_out(rt: HostRuntime) -> Result<(), Fail> {
+    for size in 1..64 {
+        let heap = LocalHeap::new(rt.alloc(), 64 * size)?;
+        for text in [
+            b"-(r+2)*3".as_slice(),
+            b"name".as_slice(),
+            b"name(1)".as_slice(),
+        ] {
+            match parse(&heap, Frac::F32, text) {
+                Ok(_) => assert!(rt; size > 1),
+                Err(ExprFault::UnknownName { name }) => assert_eq!(rt; name.bytes.len(), 4),
+                Err(fault) => assert!(rt; size < 63 && matches!(fault, ExprFault::Memory)),
+            }
+            assert_eq!(rt; heap.used(), 0);
+        }
+    }
+    let fault: ExprFault<Global> = ExprFault::Memory;
+    assert_eq!(rt; format!(in rt.alloc(); "{fault}")?.as_str(), "Memory");
     Ok(())
 }
