@@ -1,13 +1,13 @@
 -- Operands with signs between them: how many turns are allowed doesn't matter, where there are enough.
-use Rattle.std.proofs.Common.{◌≡◌, ℕ, zero, suc, ◌+◌, ◌<◌, ◌≤◌, List, [], ◌∷◌, ◌++◌, length, Option, Some, None, Result, Ok, Err, refl, sym, ap, subst, ◌∙◌, arith}
+use Rattle.std.proofs.Common.{◌≡◌, ℕ, zero, suc, ◌<◌, ◌≤◌, List, [], ◌∷◌, length, Option, Some, None, Result, Ok, Err, refl, sym, ap, arith}
 use Rattle.expr.specs.declared.programs.Operator.{Operator}
 use Rattle.expr.specs.declared.programs.Operator.TheVariants as op
-use Rattle.expr.specs.Faults.{Refusal, UnexpectedToken, ◌>>=◌}
+use Rattle.expr.specs.Faults.{Refusal, ◌>>=◌}
 use Rattle.expr.specs.Tokens.{Lexeme, Placed}
 use Rattle.expr.specs.Tokens as t
 use Rattle.expr.specs.Syntax.{Syntax}
 use Rattle.expr.specs.Syntax as tree
-use Rattle.expr.specs.Parsing.{Reading, Sign, Beginning, Numeral, Word, Group, start, on_sign, offset, sum_sign, product_sign, minus_sign, open_sign, close, chain, chained, closed, name_by, atom_by, unary_by, misplaced, unary_at, term_at, expr_at}
+use Rattle.expr.specs.Parsing.{Reading, Sign, Beginning, Numeral, Word, Group, start, on_sign, sum_sign, product_sign, minus_sign, open_sign, close, chain, chained, closed, name_by, atom_by, unary_by, unary_at, term_at}
 
 abbrev done : {A : Type 0} → A → Result A Refusal
 done x = Ok x

@@ -1,13 +1,13 @@
 -- What is in the grammar is read, unless it nests deeper than allowed.
-use Rattle.std.proofs.Common.{◌≡◌, ◌⊎◌, inl, inr, ℕ, zero, suc, ◌<◌, Bool, true, List, [], ◌∷◌, ◌++◌, length, Option, Some, None, Result, Ok, Err, refl, sym, ap, subst, ◌∙◌, append_assoc, arith}
+use Rattle.std.proofs.Common.{◌≡◌, ◌⊎◌, inl, inr, ℕ, zero, suc, ◌<◌, true, List, [], ◌∷◌, ◌++◌, length, Some, None, Ok, Err, refl, sym, ap, subst, ◌∙◌, append_assoc, arith}
 use Rattle.expr.specs.declared.programs.Operator.{Operator}
 use Rattle.expr.specs.declared.programs.Operator.TheVariants as op
-use Rattle.expr.specs.Faults.{Refusal, TooLarge, ◌>>=◌}
+use Rattle.expr.specs.Faults.{TooLarge, ◌>>=◌}
 use Rattle.expr.specs.Tokens.{Lexeme, Placed}
 use Rattle.expr.specs.Tokens as t
 use Rattle.expr.specs.Syntax.{Syntax}
 use Rattle.expr.specs.Syntax as tree
-use Rattle.expr.specs.Parsing.{Reading, Sign, Beginning, Numeral, Word, Group, start, misplaced, begins_operand, sum_sign, product_sign, minus_sign, open_sign, close, closed, chain, chained, unary_at, term_at, expr_at, closed_at, atom_at}
+use Rattle.expr.specs.Parsing.{Reading, Sign, Numeral, begins_operand, sum_sign, product_sign, minus_sign, open_sign, close, closed, chain, chained, unary_at, term_at, expr_at, closed_at, atom_at}
 use Rattle.expr.specs.Grammar.{IsExpr, IsTerm, IsUnary, IsAtom}
 use Rattle.expr.specs.Grammar as g
 use Rattle.expr.proofs.Chain.{IsSign, Takes, turn, turn_fails, turn_ends, sum_signs, product_signs, unary_takes, term_takes}

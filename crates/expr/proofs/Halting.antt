@@ -14,7 +14,7 @@ use Rattle.expr.specs.Grammar.{IsExpr, IsTerm, IsUnary}
 use Rattle.expr.specs.Grammar as g
 use Rattle.expr.specs.Halting.{Halts, HaltsExpr, HaltsTerm, HaltsUnary}
 use Rattle.expr.specs.Halting as h
-use Rattle.expr.proofs.Sound.{Rule, Sound, Joins, Spells, Begins, unary_sound, term_sound, sums, products, minus_is, open_is, start_is, some_is}
+use Rattle.expr.proofs.Sound.{Rule, Sound, Joins, Begins, unary_sound, term_sound, sums, products, minus_is, open_is, start_is, some_is}
 
 abbrev Rest : Type 1
 Rest = List Placed → Type 0

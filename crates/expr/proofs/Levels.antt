@@ -1,5 +1,5 @@
 -- What each level reads, as the code takes it apart.
-use Rattle.std.proofs.Common.{◌≡◌, ℕ, zero, suc, ◌-◌, ◌<◌, ◌≤◌, List, [], ◌∷◌, length, Option, Some, None, Result, Ok, Err, refl, sym, ap, ◌∙◌, arith}
+use Rattle.std.proofs.Common.{◌≡◌, ℕ, zero, suc, ◌-◌, ◌<◌, List, length, Option, Some, None, Result, Ok, Err, refl, ap, ◌∙◌, arith}
 use Rattle.expr.specs.declared.faults.ExprFault.{ExprFault}
 use Rattle.expr.specs.declared.faults.ExprFault.TheVariants as fault
 use Rattle.expr.specs.declared.programs.Operator.{Operator}
@@ -8,7 +8,7 @@ use Rattle.expr.specs.Names.{call_refusal}
 use Rattle.expr.specs.Tokens.{Placed}
 use Rattle.expr.specs.Syntax.{Syntax}
 use Rattle.expr.specs.Syntax as tree
-use Rattle.expr.specs.Parsing.{Reading, Beginning, Numeral, Word, Group, start, misplaced, sum_sign, product_sign, minus_sign, open_sign, close, chain, chained, atom_by, unary_by, name_by, closed, unary_at, term_at, expr_at, closed_at, atom_at}
+use Rattle.expr.specs.Parsing.{Reading, Beginning, Word, Group, start, misplaced, sum_sign, product_sign, minus_sign, open_sign, chain, chained, atom_by, unary_by, name_by, unary_at, term_at, expr_at, closed_at, atom_at}
 use Rattle.expr.proofs.Chain.{turn, turn_fails, turn_ends, sum_signs, product_signs, unary_takes, term_takes}
 
 pub fails_then : {C A B : Type 0} (e : ExprFault C) (r : Result A Refusal) (f : A → Result B Refusal) → Fails e r → Fails e (r >>= f)

@@ -2,7 +2,7 @@
 use Rattle.std.proofs.Common.{◌≡◌, ℕ, suc, ◌+◌, ◌-◌, ◌<◌, ◌≤◌, ℤ, Bool, true, false, not, cond, ◌&&◌, ◌||◌, ◌==◌, nat_lt, nat_le, if◌then◌else◌, List, [], ◌∷◌, ◌++◌, length, take, drop, Result, Ok, Err, arith, refl, sym, ap, subst, ◌∙◌, ◌⊎◌, inl, inr, append_assoc, length-append}
 use Rattle.std.proofs.lemmas.Bool.{and_parts, eqb-true}
 use Rattle.std.proofs.lemmas.Bool.Decides.{nat_tests}
-use Rattle.std.proofs.lemmas.List.{append-nil, take-append-drop, get_or-take}
+use Rattle.std.proofs.lemmas.List.{take-append-drop, get_or-take}
 use Rattle.std.proofs.lemmas.List.Elements.{All-nil}
 use Rattle.std.proofs.lemmas.List.Folds.{prefix_len-append, length-prefix_len}
 use Rattle.std.proofs.lemmas.List.Sums.{prefix_len_is, prefix_len_passes}
@@ -14,7 +14,7 @@ use Rattle.fixed.specs.declared.faults.NumFault.{NumFault}
 use Rattle.fixed.specs.declared.faults.NumFault.TheVariants.{BadNumber, NumberRange}
 use Rattle.fixed.specs.Numerals.{Fraction, no_point, point, Exponent, no_exponent, unsigned, plus, minus, Numeral, fraction_digits, fraction_text, exponent_text, numeral_text, IsExponent, IsNumeral, IsReading, mantissa_of, power_of_ten, nearest_fixed, value_of}
 use Rattle.fixed.specs.Arithmetic.{in_range}
-use Rattle.expr.specs.Numerals.{is_letter, is_sign, begins_digit, begins_point, after_sign, writes_exponent, has_point, has_exponent, lengthens, spoils, Ends, digits_of, after_digits, fraction_of, after_fraction, exponent_from, exponent_of, after_exponent, numeral_of, after_numeral, is_small, digit_count, is_allowed, reading_of, with_rest, number_at}
+use Rattle.expr.specs.Numerals.{is_letter, begins_digit, begins_point, after_sign, writes_exponent, has_point, has_exponent, lengthens, spoils, Ends, digits_of, after_digits, fraction_of, after_fraction, exponent_from, exponent_of, after_exponent, numeral_of, after_numeral, is_small, digit_count, is_allowed, reading_of, with_rest, number_at}
 
 -- ---- what has a numeral's form, whatever its length and exponent
 

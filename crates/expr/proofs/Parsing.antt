@@ -1,5 +1,5 @@
 -- A text is read as a tree where the grammar says so, and nowhere else; and each refusal has its cause.
-use Rattle.std.proofs.Common.{◌≡◌, ◌⊎◌, inl, inr, ℕ, suc, ◌<◌, ◌≤◌, Bool, true, false, cond, ltb, List, [], ◌∷◌, ◌++◌, length, Option, Some, None, Result, Ok, Err, refl, sym, ap, subst, ◌∙◌, arith}
+use Rattle.std.proofs.Common.{◌≡◌, ◌⊎◌, inl, inr, ℕ, suc, ◌<◌, Bool, true, false, ltb, List, [], ◌∷◌, ◌++◌, length, Option, Some, None, Result, Ok, Err, refl, sym, ap, subst, ◌∙◌, arith}
 use Rattle.std.specs.Prelude.{IfOk, IfErr, IfSome}
 use Rattle.std.proofs.lemmas.Bool.{ltb-true, ltb-false, le-ltb}
 use Rattle.std.proofs.lemmas.List.{append-nil}
@@ -17,16 +17,14 @@ use Rattle.expr.specs.Uses.{used, resolved}
 use Rattle.expr.specs.Names.{variable_of}
 use Rattle.expr.specs.Lexing.{Tokens, tokens_of}
 use Rattle.expr.specs.Grammar.{IsExpr}
-use Rattle.expr.specs.Halting.{HaltsExpr}
 use Rattle.expr.specs.Parsing.{Reading, ended, expr_at, whole_at}
-use Rattle.expr.specs.Text.{IsText}
-use Rattle.expr.specs.Energy.{IsEnergy, IsRead, IsUndefined, IsCause, limited, program_of}
+use Rattle.expr.specs.Energy.{IsEnergy, IsRead, IsCause, limited, program_of}
 use Rattle.expr.proofs.Chain.{bind_ok}
 use Rattle.expr.proofs.Sound.{expr_sound}
 use Rattle.expr.proofs.Complete.{Answers, expr_complete}
-use Rattle.expr.proofs.Halting.{IsOther, IsHalting, split, err_is, whole_halts, expr_halting}
+use Rattle.expr.proofs.Halting.{split, err_is, whole_halts, expr_halting}
 use Rattle.expr.proofs.TextLemmas.{text_sound, text_complete}
-use Rattle.expr.proofs.Wrong.{Lexical, text_wrong}
+use Rattle.expr.proofs.Wrong.{text_wrong}
 
 -- ---- all of the tokens
 

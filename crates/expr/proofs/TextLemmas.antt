@@ -1,25 +1,21 @@
 -- What is read as tokens is spelled so, and what is spelled so is read.
-use Rattle.std.proofs.Common.{◌≡◌, ◌⊎◌, inl, inr, ℕ, zero, suc, ℤ, ◌+◌, ◌-◌, ◌<◌, ◌≤◌, Bool, true, false, cond, eqb, List, [], ◌∷◌, ◌++◌, length, take, drop, Option, Some, None, Result, Ok, Err, refl, sym, ap, subst, ◌∙◌, append_assoc, length-append, arith}
+use Rattle.std.proofs.Common.{◌≡◌, ℕ, zero, suc, ℤ, ◌+◌, ◌-◌, ◌<◌, ◌≤◌, Bool, true, false, cond, eqb, List, [], ◌∷◌, ◌++◌, length, take, drop, Option, Some, None, Result, Ok, Err, refl, sym, ap, subst, ◌∙◌, append_assoc, length-append, arith}
 use Rattle.std.proofs.lemmas.Bool.{eqb-true}
 use Rattle.std.proofs.lemmas.Bool.Decides.{nat_tests}
-use Rattle.std.proofs.lemmas.List.{append-nil, take-append-drop, take_at, drop_at}
+use Rattle.std.proofs.lemmas.List.{take-append-drop, take_at, drop_at}
 use Rattle.std.specs.List.{AllPass, prefix_len}
 use Rattle.std.specs.Char.{is_ascii_digit}
 use Rattle.fixed.specs.declared.faults.NumFault.{NumFault}
-use Rattle.fixed.specs.declared.faults.NumFault.TheVariants as number
 use Rattle.fixed.specs.Numerals.{Fraction, no_point, point, Numeral, IsNumeral, fraction_digits, fraction_text, exponent_text, numeral_text, value_of}
-use Rattle.expr.specs.declared.lexer.Wrong.{Wrong}
-use Rattle.expr.specs.declared.lexer.Wrong.TheVariants as wrong
 use Rattle.expr.specs.Tokens.{Lexeme, Placed}
 use Rattle.expr.specs.Tokens as t
 use Rattle.expr.specs.Bytes.{is_space, begins_number, is_name_start, is_word}
-use Rattle.expr.specs.Faults.{Refusal}
 use Rattle.expr.specs.Numerals.{Ends, number_at, with_rest}
-use Rattle.expr.specs.Lexing.{symbol_of, TokenRead, number_token, symbol_token, token_at, Tokens, with_front, refusal_at, go_on, tokens_from, tokens_of}
+use Rattle.expr.specs.Lexing.{symbol_of, TokenRead, number_token, symbol_token, token_at, Tokens, with_front, go_on, tokens_from, tokens_of}
 use Rattle.expr.specs.Text.{Every, Stops, IsToken, IsFront, IsText}
 use Rattle.expr.specs.Text as g
 use Rattle.expr.proofs.NumeralLemmas.{number_ok, number_again}
-use Rattle.expr.proofs.Lexing.{prefix_more, prefix_stops, word_start, token_ok, token_less, skip_turn, take_turn, same_fuel}
+use Rattle.expr.proofs.Lexing.{prefix_more, prefix_stops, word_start, token_ok, token_less, skip_turn, take_turn}
 
 -- ---- the longest front that passes
 

@@ -1,9 +1,8 @@
 -- A text that isn't read as tokens is stuck at its first byte or numeral that is none.
-use Rattle.std.proofs.Common.{◌≡◌, ℕ, zero, suc, ℤ, ◌+◌, ◌-◌, ◌≤◌, Bool, true, false, cond, List, [], ◌∷◌, ◌++◌, length, take, drop, Option, Some, None, Result, Ok, Err, refl, sym, ap, subst, ◌∙◌, arith}
+use Rattle.std.proofs.Common.{◌≡◌, ℕ, zero, suc, ℤ, ◌+◌, ◌-◌, Bool, true, false, cond, List, [], ◌∷◌, ◌++◌, length, take, drop, Option, Some, None, Result, Ok, Err, refl, sym, ap, subst, ◌∙◌, arith}
 use Rattle.std.specs.List.{prefix_len}
 use Rattle.fixed.specs.declared.faults.NumFault.{NumFault}
 use Rattle.fixed.specs.declared.faults.NumFault.TheVariants as number
-use Rattle.fixed.specs.Numerals.{Numeral, IsNumeral, numeral_text}
 use Rattle.expr.specs.declared.lexer.Wrong.{Wrong}
 use Rattle.expr.specs.declared.lexer.Wrong.TheVariants as wrong
 use Rattle.expr.specs.Tokens.{Lexeme, Placed}

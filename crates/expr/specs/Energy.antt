@@ -1,5 +1,5 @@
 -- Texts of energies.
-use Rattle.std.specs.Prelude.{◌≡◌, ℕ, suc, ◌<◌, ◌≤◌, nat_lt, ◌⊎◌, Bool, true, false, List, length, Option, Some, None, Result, Ok, Err}
+use Rattle.std.specs.Prelude.{◌≡◌, ℕ, suc, ◌<◌, ◌≤◌, nat_lt, ◌⊎◌, Bool, true, false, List, length, Result, Ok, Err}
 use Rattle.expr.specs.declared.faults.ExprFault.{ExprFault}
 use Rattle.expr.specs.declared.faults.ExprFault.TheVariants as fault
 use Rattle.expr.specs.declared.programs.Program.{Program}

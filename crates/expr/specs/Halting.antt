@@ -1,6 +1,6 @@
 -- Tokens at which reading halts before it is told that a token is out of place: read from the left they go on as the
 -- grammar says, as far as a token that could begin an operand and has no level left, or a name before a parenthesis.
-use Rattle.std.specs.Prelude.{◌≡◌, ℕ, zero, suc, Bool, true, false, ◌||◌, List, ◌∷◌, ◌++◌}
+use Rattle.std.specs.Prelude.{◌≡◌, ℕ, zero, suc, true, false, ◌||◌, List, ◌∷◌, ◌++◌}
 use Rattle.expr.specs.Faults.{Refusal, TooLarge, UnknownName, LeftOutFunction}
 use Rattle.expr.specs.Names.{is_function, is_left_out}
 use Rattle.expr.specs.Tokens.{Lexeme, Placed}

@@ -1,6 +1,6 @@
 -- Slopes of energy expressions along the distance: the table of derivatives, as a partial function of values.
 -- It builds no tree. A tree free of the distance has slope 0 whether or not it has a value.
-use Rattle.std.specs.Prelude.{ℕ, ℤ, pos, Bool, true, false, ◌==◌, ◌&&◌, if◌then◌else◌, List, Option, Some, None}
+use Rattle.std.specs.Prelude.{ℕ, ℤ, pos, Bool, true, false, ◌==◌, ◌&&◌, if◌then◌else◌, List, Option, Some}
 use Rattle.fixed.specs.Arithmetic.{one}
 use Rattle.expr.specs.declared.programs.Operator.{Operator}
 use Rattle.expr.specs.declared.programs.Operator.TheVariants as op

@@ -1,9 +1,9 @@
-use Rattle.std.proofs.Common.{◌<◌, length, sym, ap, ◌∙◌, arith}
+use Rattle.std.proofs.Common.{length, sym, ap, ◌∙◌, arith}
 use Rattle.std.proofs.lemmas.List.{map_push}
 use Rattle.fixed.specs.Fractions.{bits_of}
 use Rattle.expr.specs.Tokens.{placed}
 use Rattle.expr.specs.Lexing.{with_front, tokens_from}
-use Rattle.expr.proofs.Lexing.{tail, tail_less, skip_list, take_list, fail_list, done_list, all_spaces_off, regroup, token_less}
+use Rattle.expr.proofs.Lexing.{tail_less, skip_list, take_list, fail_list, done_list, all_spaces_off, regroup, token_less}
 use Rattle.expr.proofs.Levels.{fails_says}
 use Rattle.expr.proofs.lexer.tokens.Goals as goal
 

@@ -1,8 +1,7 @@
-use Rattle.std.proofs.Common.{◌≡◌, Ok, Err, List, ℕ, ℤ, Result, rules, refl, sym, ap, ◌∙◌, true, false}
+use Rattle.std.proofs.Common.{◌≡◌, rules, refl, sym, ap, ◌∙◌}
 use Rattle.std.proofs.lemmas.Result.{err_from_is_err_and}
-use Rattle.fixed.specs.declared.faults.NumFault.{NumFault}
 use Rattle.fixed.specs.Fractions.{bits_of}
-use Rattle.expr.specs.Numerals.{begins_point, after_digits, after_fraction, after_exponent, spoils, number_at}
+use Rattle.expr.specs.Numerals.{begins_point, after_fraction, after_exponent, spoils, number_at}
 use Rattle.expr.proofs.NumeralLemmas.{spoiled, rest_shorter, well_read, read_number}
 use Rattle.expr.proofs.numerals.number.Goals as goal
 
