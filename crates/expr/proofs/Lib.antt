@@ -1,0 +1,10 @@
+pub mod NumeralLemmas
+pub mod Chain
+pub mod Levels
+pub mod Sound
+pub mod Complete
+pub mod Lexing
+pub mod Halting
+pub mod TextLemmas
+pub mod Wrong
+pub mod Parsing

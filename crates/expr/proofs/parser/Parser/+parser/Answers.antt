@@ -1,0 +1,104 @@
+use Rattle.std.proofs.Common.{◌≡◌, rules, length, ◌∙◌, sym, ap, arith}
+use Rattle.std.proofs.lemmas.List.{length-map}
+use Rattle.std.proofs.lemmas.Result.{err_from_is_err_and}
+use Rattle.expr.specs.Tokens.{placed}
+use Rattle.expr.specs.Syntax.{syntax_of}
+use Rattle.expr.specs.Syntax as tree
+use Rattle.expr.specs.Parsing.{beginning, sum_sign, product_sign, chain, term_at, unary_at}
+use Rattle.expr.proofs.Levels.{fails_says, unary_none_left, atom_group, atom_name, atom_call, minus_fails, minus_reads, gives_same, atom_start, unary_none, term_starts, expr_starts, term_fails, expr_fails, term_turn, expr_turn, term_turn_fails, expr_turn_fails, term_ends, expr_ends, term_less, expr_less, started, reading}
+use Rattle.expr.proofs.parser.Parser.+parser.Goals as goal
+
+pub expr-returns-in_err-left : goal.expr-returns-in_err-left
+expr-returns-in_err-left g t c =
+    let p = err_from_is_err_and c.from_residual.result c.from_residual.ensures.1 in
+    rw (p.1, p.2) (expr_fails c.args.self.now.end c.args.levels (placed c.args.tokens.now) _ c.in_err-left.ensures)
+
+pub expr-loop-operator-init : goal.expr-loop-operator-init
+expr-loop-operator-init g t c = expr_starts c.args.self.now.end c.args.levels (placed c.args.tokens.now) _ _ c.in_ok-left.ensures
+
+pub expr-returns-in_err-right : goal.expr-returns-in_err-right
+expr-returns-in_err-right g t c =
+    let p = err_from_is_err_and c.from_residual-in_err-right.result c.from_residual-in_err-right.ensures.1 in
+    rw (p.1, p.2, c.loop-operator.invariant) (expr_turn_fails c.args.self.now.end c.args.levels _ (placed c.loop-operator.rest.now) _ _ _ c.in-Some.ensures c.in_err-right.ensures)
+
+pub expr-loop-operator-smaller : goal.expr-loop-operator-smaller
+expr-loop-operator-smaller g t c =
+    let h = expr_less c.args.self.now.end c.args.levels (placed c.loop-operator.rest.now) _ _ _ _ c.in-Some.ensures c.in_ok-right.ensures in
+    omega (arith, simp length-map at h)
+
+pub expr-loop-operator-preserved : goal.expr-loop-operator-preserved
+expr-loop-operator-preserved g t c =
+    c.loop-operator.invariant
+    ∙ expr_turn c.args.self.now.end c.args.levels _ (placed c.loop-operator.rest.now) _ _ _ _ c.in-Some.ensures c.in_ok-right.ensures
+    ∙ ap (λ left. chain sum_sign (term_at c.args.self.now.end c.args.levels) (length (placed c.in_ok-right.beyond.now)) left (placed c.in_ok-right.beyond.now)) (sym c.in_ok-left-2.ensures)
+
+pub expr-returns : goal.expr-returns
+expr-returns g t c = c.loop-operator.invariant ∙ expr_ends c.args.self.now.end c.args.levels _ (placed c.loop-operator.rest.now) c.in_default.ensures
+
+pub term-returns-in_err-left : goal.term-returns-in_err-left
+term-returns-in_err-left g t c =
+    let p = err_from_is_err_and c.from_residual.result c.from_residual.ensures.1 in
+    rw (p.1, p.2) (term_fails c.args.self.now.end c.args.levels (placed c.args.tokens.now) _ c.in_err-left.ensures)
+
+pub term-loop-operator-init : goal.term-loop-operator-init
+term-loop-operator-init g t c = term_starts c.args.self.now.end c.args.levels (placed c.args.tokens.now) _ _ c.in_ok-left.ensures
+
+pub term-returns-in_err-right : goal.term-returns-in_err-right
+term-returns-in_err-right g t c =
+    let p = err_from_is_err_and c.from_residual-in_err-right.result c.from_residual-in_err-right.ensures.1 in
+    rw (p.1, p.2, c.loop-operator.invariant) (term_turn_fails c.args.self.now.end c.args.levels _ (placed c.loop-operator.rest.now) _ _ _ c.in-Some.ensures c.in_err-right.ensures)
+
+pub term-loop-operator-smaller : goal.term-loop-operator-smaller
+term-loop-operator-smaller g t c =
+    let h = term_less c.args.self.now.end c.args.levels (placed c.loop-operator.rest.now) _ _ _ _ c.in-Some.ensures c.in_ok-right.ensures in
+    omega (arith, simp length-map at h)
+
+pub term-loop-operator-preserved : goal.term-loop-operator-preserved
+term-loop-operator-preserved g t c =
+    c.loop-operator.invariant
+    ∙ term_turn c.args.self.now.end c.args.levels _ (placed c.loop-operator.rest.now) _ _ _ _ c.in-Some.ensures c.in_ok-right.ensures
+    ∙ ap (λ left. chain product_sign (unary_at c.args.self.now.end c.args.levels) (length (placed c.in_ok-right.beyond.now)) left (placed c.in_ok-right.beyond.now)) (sym c.in_ok-left-2.ensures)
+
+pub term-returns : goal.term-returns
+term-returns g t c = c.loop-operator.invariant ∙ term_ends c.args.self.now.end c.args.levels _ (placed c.loop-operator.rest.now) c.in_default.ensures
+
+pub unary-returns-then-levels-eq0 : goal.unary-returns-then-levels-eq0
+unary-returns-then-levels-eq0 g t c = fails_says _ _ _ (unary_none_left c.args.self.now.end c.args.levels (placed c.args.tokens.now) c.if-levels-eq0.true) c.misplaced.ensures
+
+pub unary-returns-in_err-inner-in-Some : goal.unary-returns-in_err-inner-in-Some
+unary-returns-in_err-inner-in-Some g t c =
+    let p = err_from_is_err_and c.from_residual.result c.from_residual.ensures.1 in
+    rw (p.1, p.2) (minus_fails c.args.self.now.end c.args.levels (placed c.args.tokens.now) _ _ (omega arith) c.in-Some.ensures c.in_err-inner-in-Some.ensures)
+
+pub unary-returns-in_ok-new-in-Some : goal.unary-returns-in_ok-new-in-Some
+unary-returns-in_ok-new-in-Some g t c =
+    minus_reads c.args.self.now.end c.args.levels (placed c.args.tokens.now) _ _ _ (omega arith) c.in-Some.ensures c.in_ok-inner-in-Some.ensures
+    ∙ ap (λ e. reading (tree.Negated (syntax_of e)) (placed c.in_ok-inner-in-Some.rest.now)) (sym c.in_ok-new-in-Some.ensures.ok)
+
+pub unary-returns-in-None : goal.unary-returns-in-None
+unary-returns-in-None g t c = gives_same _ c.atom.result _ _ (unary_none c.args.self.now.end c.args.levels (placed c.args.tokens.now) (omega arith) c.in-None.ensures) c.atom.ensures
+
+pub atom-returns-in-None : goal.atom-returns-in-None
+atom-returns-in-None g t c = rw (c.offset.ensures) (atom_start c.args.self.now.end c.args.levels (placed c.args.tokens.now) _ c.in-None.ensures)
+
+pub atom-returns-in-Some-Number-default : goal.atom-returns-in-Some-Number-default
+atom-returns-in-Some-Number-default g t c =
+    let a = c.in-Some-Number-default in
+    let h : c.from_raw.result ≡ a.raw = search rules in
+    atom_start c.args.self.now.end c.args.levels (placed c.args.tokens.now) _ (started _ beginning _ _ _ a.ensures a.field-0-0-is)
+    ∙ ap (λ z. reading (tree.Number z) (placed a.rest.now)) (sym h)
+
+pub atom-returns-in-None-open_sign : goal.atom-returns-in-None-open_sign
+atom-returns-in-None-open_sign g t c =
+    let a = c.in-Some-Name-default in
+    atom_name c.args.self.now.end c.args.levels (placed c.args.tokens.now) _ _ (started _ beginning _ _ _ a.ensures a.field-0-0-is) c.in-None-open_sign.ensures
+
+pub atom-returns-in-Some : goal.atom-returns-in-Some
+atom-returns-in-Some g t c =
+    let a = c.in-Some-Name-default in
+    fails_says _ _ _ (atom_call c.args.self.now.end c.args.levels (placed c.args.tokens.now) _ _ _ (started _ beginning _ _ _ a.ensures a.field-0-0-is) c.in-Some.ensures) c.call_refusal.ensures
+
+pub atom-returns-in-Some-Open-default : goal.atom-returns-in-Some-Open-default
+atom-returns-in-Some-Open-default g t c =
+    let a = c.in-Some-Open-default in
+    gives_same _ c.closed.result _ _ (atom_group c.args.self.now.end c.args.levels (placed c.args.tokens.now) _ (started _ beginning _ _ _ a.ensures a.field-0-0-is)) c.closed.ensures

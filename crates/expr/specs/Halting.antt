@@ -1,0 +1,32 @@
+-- Tokens at which reading halts before it is told that a token is out of place: read from the left they go on as the
+-- grammar says, as far as a token that could begin an operand and has no level left, or a name before a parenthesis.
+use Rattle.std.specs.Prelude.{◌≡◌, ℕ, zero, suc, true, false, ◌||◌, List, ◌∷◌, ◌++◌}
+use Rattle.expr.specs.Faults.{Refusal, TooLarge, UnknownName, LeftOutFunction}
+use Rattle.expr.specs.Names.{is_function, is_left_out}
+use Rattle.expr.specs.Tokens.{Lexeme, Placed}
+use Rattle.expr.specs.Tokens as t
+use Rattle.expr.specs.Syntax.{Syntax}
+use Rattle.expr.specs.Grammar.{IsExpr, IsTerm}
+use Rattle.expr.specs.Parsing.{begins_operand}
+
+-- reading halts right at these tokens, with so many levels left
+pub data Halts : Refusal → ℕ → List Placed → Type 0 where
+  too_deep : {k : Lexeme} {rest : List Placed} (at : ℕ) → begins_operand k ≡ true → Halts TooLarge zero ((k, at) ∷ rest)
+  unknown : {n : ℕ} {w : List ℕ} {rest : List Placed} (at to : ℕ) → (is_function w || is_left_out w) ≡ false → Halts (UnknownName w) (suc n) ((t.Name w, at) ∷ (t.Open, to) ∷ rest)
+  left_out : {n : ℕ} {w : List ℕ} {rest : List Placed} (at to : ℕ) → (is_function w || is_left_out w) ≡ true → Halts (LeftOutFunction w) (suc n) ((t.Name w, at) ∷ (t.Open, to) ∷ rest)
+
+mutual
+  pub data HaltsExpr : Refusal → ℕ → List Placed → Type 0 where
+    term : {f : Refusal} {n : ℕ} {ts : List Placed} → HaltsTerm f n ts → HaltsExpr f n ts
+    sum : {f : Refusal} {n : ℕ} {a b : List Placed} {x : Syntax} (at : ℕ) → IsExpr n a x → HaltsTerm f n b → HaltsExpr f n (a ++ ((t.Plus, at) ∷ b))
+    difference : {f : Refusal} {n : ℕ} {a b : List Placed} {x : Syntax} (at : ℕ) → IsExpr n a x → HaltsTerm f n b → HaltsExpr f n (a ++ ((t.Minus, at) ∷ b))
+
+  pub data HaltsTerm : Refusal → ℕ → List Placed → Type 0 where
+    unary : {f : Refusal} {n : ℕ} {ts : List Placed} → HaltsUnary f n ts → HaltsTerm f n ts
+    product : {f : Refusal} {n : ℕ} {a b : List Placed} {x : Syntax} (at : ℕ) → IsTerm n a x → HaltsUnary f n b → HaltsTerm f n (a ++ ((t.Star, at) ∷ b))
+    quotient : {f : Refusal} {n : ℕ} {a b : List Placed} {x : Syntax} (at : ℕ) → IsTerm n a x → HaltsUnary f n b → HaltsTerm f n (a ++ ((t.Slash, at) ∷ b))
+
+  pub data HaltsUnary : Refusal → ℕ → List Placed → Type 0 where
+    here : {f : Refusal} {n : ℕ} {ts : List Placed} → Halts f n ts → HaltsUnary f n ts
+    negative : {f : Refusal} {n : ℕ} {b : List Placed} (at : ℕ) → HaltsUnary f n b → HaltsUnary f (suc n) ((t.Minus, at) ∷ b)
+    group : {f : Refusal} {n : ℕ} {b : List Placed} (at : ℕ) → HaltsExpr f n b → HaltsUnary f (suc n) ((t.Open, at) ∷ b)

@@ -1,0 +1,16 @@
+pub mod Tree
+pub mod Value
+pub mod Slope
+pub mod Faults
+pub mod Tokens
+pub mod Bytes
+pub mod Numerals
+pub mod Text
+pub mod Lexing
+pub mod Names
+pub mod Syntax
+pub mod Uses
+pub mod Grammar
+pub mod Halting
+pub mod Parsing
+pub mod Energy

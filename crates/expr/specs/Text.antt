@@ -1,0 +1,76 @@
+-- Which bytes spell which tokens (operators and names as in the OpenMM User Guide, custom force expressions).
+use Rattle.std.specs.Prelude.{◌≡◌, ℕ, ℤ, ◌+◌, Bool, true, false, List, [], ◌∷◌, ◌++◌, length, Ok, Err}
+use Rattle.fixed.specs.declared.faults.NumFault.TheVariants.{NumberRange}
+use Rattle.fixed.specs.Numerals.{Numeral, IsNumeral, numeral_text, value_of}
+use Rattle.expr.specs.Tokens.{Lexeme, Placed}
+use Rattle.expr.specs.Tokens as t
+use Rattle.expr.specs.Bytes.{is_space, begins_number, is_name_start, is_word}
+use Rattle.expr.specs.Numerals.{Ends}
+
+abbrev pub Every : (ℕ → Bool) → List ℕ → Type 0
+Every test [] = Unit {0}
+Every test (b ∷ bs) = (test b ≡ true) × Every test bs
+
+-- the bytes don't begin with one that passes
+abbrev pub Stops : (ℕ → Bool) → List ℕ → Type 0
+Stops test [] = Unit {0}
+Stops test (b ∷ bs) = test b ≡ false
+
+-- The bytes are the token, where the rest follows them: a numeral and a name are as long as they can be.
+pub data IsToken : ℕ → List ℕ → List ℕ → Lexeme → Type 0 where
+  plus : {bits : ℕ} {rest : List ℕ} → IsToken bits (43 ∷ []) rest t.Plus
+  minus : {bits : ℕ} {rest : List ℕ} → IsToken bits (45 ∷ []) rest t.Minus
+  star : {bits : ℕ} {rest : List ℕ} → IsToken bits (42 ∷ []) rest t.Star
+  slash : {bits : ℕ} {rest : List ℕ} → IsToken bits (47 ∷ []) rest t.Slash
+  caret : {bits : ℕ} {rest : List ℕ} → IsToken bits (94 ∷ []) rest t.Caret
+  open_parenthesis : {bits : ℕ} {rest : List ℕ} → IsToken bits (40 ∷ []) rest t.Open
+  close_parenthesis : {bits : ℕ} {rest : List ℕ} → IsToken bits (41 ∷ []) rest t.Close
+  comma : {bits : ℕ} {rest : List ℕ} → IsToken bits (44 ∷ []) rest t.Comma
+  semicolon : {bits : ℕ} {rest : List ℕ} → IsToken bits (59 ∷ []) rest t.Semicolon
+  equals : {bits : ℕ} {rest : List ℕ} → IsToken bits (61 ∷ []) rest t.Equals
+  number : {bits : ℕ} {rest : List ℕ} {n : Numeral} {z : ℤ} → IsNumeral n → Ends n rest → value_of bits n ≡ Ok z → IsToken bits (numeral_text n) rest (t.Number z)
+  name : {bits : ℕ} {rest : List ℕ} {b : ℕ} {bs : List ℕ} → is_name_start b ≡ true → Every is_word bs → Stops is_word rest → IsToken bits (b ∷ bs) rest (t.Name (b ∷ bs))
+
+-- From this place on the text begins with these tokens, each with its place, and goes on from that place with the rest.
+pub data IsFront : ℕ → ℕ → List ℕ → List Placed → ℕ → List ℕ → Type 0 where
+  done : {bits at : ℕ} {rest : List ℕ} → IsFront bits at rest [] at rest
+  space : {bits at b end : ℕ} {text rest : List ℕ} {ts : List Placed} → is_space b ≡ true → IsFront bits (at + 1) text ts end rest → IsFront bits at (b ∷ text) ts end rest
+  token : {bits at end : ℕ} {a text rest : List ℕ} {k : Lexeme} {ts : List Placed} → IsToken bits a text k → IsFront bits (at + length a) text ts end rest → IsFront bits at (a ++ text) ((k, at) ∷ ts) end rest
+
+-- the text is these tokens
+abbrev pub IsText : ℕ → List ℕ → List Placed → Type 0
+IsText bits text ts = IsFront bits 0 text ts (length text) []
+
+-- no token begins with the byte, and it is no space
+pub record BeginsNone (b : ℕ) : Type 0 where
+  pub no_space : is_space b ≡ false
+  pub no_number : begins_number b ≡ false
+  pub no_token : (bits : ℕ) (a rest : List ℕ) (k : Lexeme) → IsToken bits (b ∷ a) rest k → ⊥
+
+abbrev pub BeginsBadly : List ℕ → Type 0
+BeginsBadly [] = ⊥
+BeginsBadly (b ∷ rest) = BeginsNone b
+
+-- the text begins with a numeral whose rounded value doesn't fit
+pub record BeginsTooGreat (bits : ℕ) (text : List ℕ) : Type 0 where
+  pub numeral : Numeral
+  pub rest : List ℕ
+  pub parts : text ≡ numeral_text numeral ++ rest
+  pub is_numeral : IsNumeral numeral
+  pub ends : Ends numeral rest
+  pub too_great : value_of bits numeral ≡ Err NumberRange
+
+-- the text begins with a digit or a point, and with no numeral
+pub record BeginsMalformed (text : List ℕ) : Type 0 where
+  pub byte : ℕ
+  pub rest : List ℕ
+  pub parts : text ≡ byte ∷ rest
+  pub begins : begins_number byte ≡ true
+  pub no_numeral : (n : Numeral) (after : List ℕ) → IsNumeral n → Ends n after → text ≡ numeral_text n ++ after → ⊥
+
+-- behind its first tokens, at this place, the text begins so
+pub record IsWrongAt (bits : ℕ) (Wrong : List ℕ → Type 0) (text : List ℕ) (at : ℕ) : Type 0 where
+  pub tokens : List Placed
+  pub rest : List ℕ
+  pub front : IsFront bits 0 text tokens at rest
+  pub wrong : Wrong rest

@@ -1,0 +1,45 @@
+-- Tokens, and where they stand.
+use Rattle.std.specs.Prelude.{ℕ, ℤ, List, map}
+use Rattle.std.specs.declared.vec.Vec.{Vec}
+use Rattle.expr.specs.declared.tokens.Kind.{Kind}
+use Rattle.expr.specs.declared.tokens.Kind.TheVariants as k
+use Rattle.expr.specs.declared.tokens.Token.{Token}
+
+-- A number stands as its raw value, a name as its bytes.
+pub data Lexeme : Type 0 where
+  Number : ℤ → Lexeme
+  Name : List ℕ → Lexeme
+  Plus : Lexeme
+  Minus : Lexeme
+  Star : Lexeme
+  Slash : Lexeme
+  Caret : Lexeme
+  Open : Lexeme
+  Close : Lexeme
+  Comma : Lexeme
+  Semicolon : Lexeme
+  Equals : Lexeme
+
+-- a token, and the offset of its first byte
+abbrev pub Placed : Type 0
+Placed = Lexeme × ℕ
+
+abbrev pub lexeme : Kind → Lexeme
+lexeme (k.Number z) = Number z
+lexeme (k.Name bytes) = Name bytes.now
+lexeme k.Plus = Plus
+lexeme k.Minus = Minus
+lexeme k.Star = Star
+lexeme k.Slash = Slash
+lexeme k.Caret = Caret
+lexeme k.Open = Open
+lexeme k.Close = Close
+lexeme k.Comma = Comma
+lexeme k.Semicolon = Semicolon
+lexeme k.Equals = Equals
+
+abbrev pub placed : List Token → List Placed
+placed tokens = map (λ token. (lexeme token.kind, token.at)) tokens
+
+abbrev pub placed_items : {A : Type 0} → Vec Token A → List Placed
+placed_items v = placed v.items

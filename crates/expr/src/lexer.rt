@@ -1,0 +1,134 @@
+// From bytes to tokens.
+ghost use Rattle.std.specs.Prelude.{◌≡◌, ◌≤◌, length};
+ghost use Rattle.std.specs.List.{prefix_len};
+ghost use Rattle.fixed.specs.Fractions.{bits_of};
+ghost use Rattle.expr.specs.Faults.{Gives, Says};
+ghost use Rattle.expr.specs.Tokens.{placed_items};
+ghost use Rattle.expr.specs.Bytes.{is_space, begins_number, is_name_start, is_word};
+ghost use Rattle.expr.specs.Lexing.{symbol_of, ShowsKind, token_at, ShowsToken, refusal_at, tokens_of};
+
+use crate::faults::ExprFault;
+use crate::numerals::number;
+use crate::tokens::{Kind, Token};
+use fixed::{Frac, NumFault};
+use std::alloc::Allocator;
+
+/// What is wrong at the front of a text.
+#[derive(Clone, Copy, Debug, PartialEq, Eq)]
+pub enum Wrong {
+    /// The byte begins no token.
+    Byte,
+    /// The numeral is malformed, or its value doesn't fit.
+    Number(NumFault),
+}
+
+fn is_space(byte: u8) -> bool
+    ensures { result ≡ is_space byte }
+{
+    byte == b' ' || byte == b'\t' || byte == b'\r' || byte == b'\n'
+}
+
+fn begins_number(byte: u8) -> bool
+    ensures { result ≡ begins_number byte }
+{
+    byte.is_ascii_digit() || byte == b'.'
+}
+
+fn is_name_start(byte: u8) -> bool
+    ensures { result ≡ is_name_start byte }
+{
+    byte == b'_' || byte.is_ascii_alphabetic()
+}
+
+fn is_word(byte: u8) -> bool
+    ensures { result ≡ is_word byte }
+{
+    is_name_start(byte) || byte.is_ascii_digit()
+}
+
+#[tactic(auto, unfolding(crate::specs::Lexing::symbol_of))]
+fn symbol_of<'a>(byte: u8) -> Option<Kind<'a>>
+    ensures { ShowsKind result (symbol_of byte) }
+{
+    match byte {
+        b'+' => Some(Kind::Plus),
+        b'-' => Some(Kind::Minus),
+        b'*' => Some(Kind::Star),
+        b'/' => Some(Kind::Slash),
+        b'^' => Some(Kind::Caret),
+        b'(' => Some(Kind::Open),
+        b')' => Some(Kind::Close),
+        b',' => Some(Kind::Comma),
+        b';' => Some(Kind::Semicolon),
+        b'=' => Some(Kind::Equals),
+        _ => None,
+    }
+}
+
+// How many bytes of a name a text begins with.
+fn word_len(text: &[u8]) -> usize
+    ensures value { result ≡ prefix_len is_word text.now }
+    ensures bound { result ≤ length text.now }
+{
+    text.iter().take_while(|byte| is_word(**byte)).count()
+}
+
+// The token at the front, and the bytes after it.
+#[tactic(auto, unfolding(crate::specs::Lexing::token_at))]
+fn token_at<'a>(frac: Frac, text: &'a [u8]) -> Result<(Kind<'a>, &'a [u8]), Wrong>
+    ensures { ShowsToken result (token_at (bits_of frac) text.now) }
+{
+    match text {
+        [] => Err(Wrong::Byte),
+        [first, rest @ ..] => {
+            if begins_number(*first) {
+                let (value, after) = number(frac, text).map_err(Wrong::Number)?;
+                Ok((Kind::Number(value), after))
+            } else if is_name_start(*first) {
+                let (name, after) = text.split_at(word_len(text));
+                Ok((Kind::Name(name), after))
+            } else {
+                let kind = symbol_of(*first).ok_or(Wrong::Byte)?;
+                Ok((kind, rest))
+            }
+        }
+    }
+}
+
+// What is wrong, as the fault at a place.
+fn wrong_at<A: Allocator>(wrong: Wrong, at: usize) -> ExprFault<A>
+    ensures { Says result (refusal_at at wrong) }
+{
+    match wrong {
+        Wrong::Byte => ExprFault::BadCharacter { at },
+        Wrong::Number(NumFault::BadNumber) => ExprFault::BadNumber { at },
+        Wrong::Number(NumFault::NumberRange) => ExprFault::NumberRange { at },
+    }
+}
+
+/// The tokens of a text.
+pub fn tokens<'a, A: Allocator + Copy>(
+    alloc: A,
+    frac: Frac,
+    text: &'a [u8],
+) -> Result<Vec<Token<'a>, A>, ExprFault<A>>
+    ensures { Gives placed_items result (tokens_of (bits_of frac) text.now) }
+{
+    let mut tokens = Vec::new(alloc);
+    let mut rest = text;
+    while let [first, after @ ..] = rest {
+        if is_space(*first) {
+            rest = after;
+        } else {
+            let at = text.len() - rest.len();
+            match token_at(frac, rest) {
+                Ok((kind, beyond)) => {
+                    tokens.push(Token { kind, at })?;
+                    rest = beyond;
+                }
+                Err(wrong) => return Err(wrong_at(wrong, at)),
+            }
+        }
+    }
+    Ok(tokens)
+}

@@ -1,0 +1,24 @@
+/// What a token is.
+#[derive(Clone, Copy, Debug, PartialEq, Eq)]
+pub enum Kind<'a> {
+    /// A numeral's raw value.
+    Number(i64),
+    Name(&'a [u8]),
+    Plus,
+    Minus,
+    Star,
+    Slash,
+    Caret,
+    Open,
+    Close,
+    Comma,
+    Semicolon,
+    Equals,
+}
+
+/// A token, and where its first byte stands in the text.
+#[derive(Clone, Copy, Debug, PartialEq, Eq)]
+pub struct Token<'a> {
+    pub kind: Kind<'a>,
+    pub at: usize,
+}
