@@ -1,0 +1,3 @@
+pub mod SumLemmas
+pub mod RunLemmas
+pub mod ExactLemmas
