@@ -123,6 +123,12 @@ module _ (tiles : List (List Addition)) where
   pub stand_past : (t : ℕ) → length tiles ≤ t → stand_at tiles t ≡ ended
   stand_past t le = grind (arith, nat_tests)
 
+  pub outcome_below : (t : ℕ) → t < length tiles → outcome_at tiles t ≡ Drew t
+  outcome_below t lt = grind (arith, nat_tests)
+
+  pub outcome_past : (t : ℕ) → length tiles ≤ t → outcome_at tiles t ≡ Ended
+  outcome_past t le = grind (arith, nat_tests)
+
   left_is : (t : ℕ) → left_of (stand_at tiles t) ≡ tile_at tiles t
   left_is t = ⊎_elim (λ lt. ap left_of (stand_below t lt)) (λ le. ap left_of (stand_past t le) ∙ sym (get_or_past tiles t [] le)) (cases_lt t (length tiles))
 
@@ -277,12 +283,11 @@ module _ (tiles : List (List Addition)) where
   drawers_at_claim t lt s w (Some (doing [])) = drawer_at-push s.drawn w t ∙ ap (λ ws. drawer_at s.drawn t ++ ws) (⊎_elim below' past (cases_lt (length s.drawn) (length tiles)))
     where
       below' : length s.drawn < length tiles → picked (length s.drawn) t w ≡ drawer_of t w (Ok (outcome_at tiles (length s.drawn)))
-      below' h = let e : outcome_at tiles (length s.drawn) ≡ Drew (length s.drawn) = grind (arith, nat_tests) in sym (ap (λ (x : Outcome). drawer_of t w (Ok x)) e)
+      below' h = sym (ap (λ (x : Outcome). drawer_of t w (Ok x)) (outcome_below (length s.drawn) h))
 
       past : length tiles ≤ length s.drawn → picked (length s.drawn) t w ≡ drawer_of t w (Ok (outcome_at tiles (length s.drawn)))
       past h =
-          let e : outcome_at tiles (length s.drawn) ≡ Ended = grind (arith, nat_tests) in
-          picked_else (length s.drawn) t w (λ same. omega arith) ∙ sym (ap (λ (x : Outcome). drawer_of t w (Ok x)) e)
+          picked_else (length s.drawn) t w (λ same. omega arith) ∙ sym (ap (λ (x : Outcome). drawer_of t w (Ok x)) (outcome_past (length s.drawn) h))
 
   drawers_at_deposit : (t : ℕ) (s : State) (w : ℕ) (o : Option Stand) → drawer_of t w (on_deposit tiles s w o).1 ≡ []
   drawers_at_deposit t s w None = refl

@@ -1,5 +1,6 @@
 -- What a round keeps of its workers, and what that says of the machine's state.
 use Rattle.std.specs.Prelude.{◌≡◌, ℕ, ◌+◌, ◌*◌, ◌<◌, ◌≤◌, List, [], ◌++◌, length, map, drop, slice_get, sum_by, Option, Some, ℤ}
+use Rattle.std.specs.Int.{w64, cast_signed, cast_unsigned}
 use Rattle.tile_round.specs.Tiles.{additions_of, tile_of, pairs_at, IsPairOf}
 use Rattle.tile_round.specs.Interleaving.{Stand}
 use Rattle.tile_round.specs.Interleaving.Stand.{doing, ended}
@@ -34,9 +35,10 @@ module _ (atoms : ℕ) (plan : List (List (Option PairAdd))) where
   IsPlace (Adding task) = IsTask task
   IsPlace _ = Unit {0}
 
-  -- what a round keeps: its workers' places are within the plan, there are sums for all atoms, and there is room for every ticket that can be drawn
+  -- what a round keeps: its workers' places are within the plan, there are sums for all atoms, each a number of 64 bits, and there is room for every ticket that can be drawn
   pub record IsSound (drawn : List ℕ) (room : ℕ) (places : List Place) (sums : List ℤ) : Type 0 where
     pub within : (w : ℕ) (p : Place) → slice_get places w ≡ Some p → IsPlace p
     pub wide : 3 * atoms ≤ length sums
+    pub signed : map (cast_signed w64) (map (cast_unsigned w64) sums) ≡ sums
     pub few : length drawn ≤ length plan + sum_by stops (stands_of plan places)
     pub enough : length plan + length places ≤ room

@@ -54,6 +54,13 @@ impl Task {
     }
 }
 
+// The place of a worker, where there is one of this number.
+pub(crate) fn place_of(places: &[Place], worker: u32) -> Option<Place>
+    ensures { result ≡ slice_get places.now worker }
+{
+    places.get(worker as usize).copied()
+}
+
 // The place at the first pair that acts, from this one of the tile on.
 pub(crate) fn place_from<W: Work>(work: &W, tile: u64, first: u64) -> Place
     requires tile { tile < length (W.plan work.now) }

@@ -5,7 +5,7 @@ ghost use Rattle.tile_round.specs.Interleaving.{on_claim, on_deposit, opening, s
 
 use crate::events::{Event, Outcome};
 use crate::faults::{Memory, RoundFault};
-use crate::places::{Place, place_from};
+use crate::places::{Place, place_from, place_of};
 use crate::work::Work;
 use std::alloc::Allocator;
 use std::marker::Model;
@@ -90,15 +90,16 @@ impl<'w, W: Work, A: Allocator + Copy> Round<'w, W, A> {
         ensures tiles { self.new.tiles ≡ self.old.tiles }
         ensures event { (self.new.state, result) ≡ on_claim self.old.tiles self.old.state worker (slice_get self.old.state.stands worker) }
     {
-        match self.places.get(worker as usize) {
+        match place_of(&self.places, worker) {
             None => Err(RoundFault::NoSuchWorker),
             Some(Place::Stopped) => Err(RoundFault::Stopped),
             Some(Place::Adding(_)) => Err(RoundFault::Busy),
             Some(Place::Resting) => {
+                let work = self.work;
                 let ticket = self.drawn.len() as u64;
                 self.drawn.push_reserved(worker);
-                if ticket < self.work.tiles() {
-                    self.places[worker as usize] = place_from(self.work, ticket, 0);
+                if ticket < work.tiles() {
+                    self.places[worker as usize] = place_from(work, ticket, 0);
                     Ok(Outcome::Drew(ticket))
                 } else {
                     self.places[worker as usize] = Place::Stopped;
@@ -112,15 +113,16 @@ impl<'w, W: Work, A: Allocator + Copy> Round<'w, W, A> {
         ensures tiles { self.new.tiles ≡ self.old.tiles }
         ensures event { (self.new.state, result) ≡ on_deposit self.old.tiles self.old.state worker (slice_get self.old.state.stands worker) }
     {
-        match self.places.get(worker as usize).copied() {
+        match place_of(&self.places, worker) {
             None => Err(RoundFault::NoSuchWorker),
             Some(Place::Stopped) => Err(RoundFault::Stopped),
             Some(Place::Resting) => Err(RoundFault::Idle),
             Some(Place::Adding(task)) => {
+                let work = self.work;
                 let (entry, amount) = task.addition();
                 let sum = self.sums[entry].cast_unsigned().wrapping_add(amount);
                 self.sums[entry] = sum.cast_signed();
-                self.places[worker as usize] = task.after(self.work);
+                self.places[worker as usize] = task.after(work);
                 Ok(Outcome::Added(1 + entry as u64))
             }
         }

@@ -1,0 +1,85 @@
+use Rattle.std.proofs.Common.{◌≡◌, ◌<◌, ◌≤◌, ◌∙◌, Option, Some, None, length, slice_get, sym, ap, arith, rules}
+use Rattle.std.specs.Vec.{vec_capacity}
+use Rattle.tile_round.specs.declared.events.Outcome.TheVariants.{Drew, Ended}
+use Rattle.tile_round.specs.declared.places.Place.{Place}
+use Rattle.tile_round.specs.declared.places.Place.TheVariants.{Resting, Adding, Stopped}
+use Rattle.tile_round.specs.Tiles.{tiles_of}
+use Rattle.tile_round.specs.Interleaving.{Progress, stand_at, outcome_at, on_claim}
+use Rattle.tile_round.specs.Interleaving.Stand.{doing, ended}
+use Rattle.tile_round.specs.Places.{stands_of}
+use Rattle.tile_round.proofs.PlaceLemmas.{standing, stands_adding, has_room, drew_tile, drew_none, outcome_tile, outcome_none, claim_sound, claims_so}
+use Rattle.tile_round.proofs.round.Round.claim.Goals as goal
+
+pub push_reserved-requires : goal.push_reserved-requires
+push_reserved-requires g c =
+    let r = c.self.inside in
+    let at : slice_get r.places.items c.args.worker ≡ Some Resting = ap (λ ps. slice_get ps c.args.worker) (sym c.deref.ensures.value) ∙ (sym c.place_of.ensures ∙ (c.in-Some-Resting.is ∙ ap Some c.in-Some-Resting.field-0-is)) in
+    let room = has_room (g.W.Work.plan r.work.now) (g.W.Work.atoms r.work.now) r.drawn.items (vec_capacity r.drawn) r.places.items r.sums.items c.args.worker c.self.invariant at in
+    search rules
+
+pub invariant_of-self : goal.invariant_of-self
+invariant_of-self g c =
+    let r = c.self.inside in
+    let plan = g.W.Work.plan r.work.now in
+    let at : slice_get r.places.items c.args.worker ≡ Some Resting = ap (λ ps. slice_get ps c.args.worker) (sym c.deref.ensures.value) ∙ (sym c.place_of.ensures ∙ (c.in-Some-Resting.is ∙ ap Some c.in-Some-Resting.field-0-is)) in
+    let ticket : c.len-ticket.result ≡ length r.drawn.items = search rules in
+    let lt : c.len-ticket.result < length plan = omega (arith, c.if-ticket-tiles.true, c.tiles.ensures) in
+    claim_sound plan (g.W.Work.atoms r.work.now) r.drawn.items c.push_reserved.new.self.items (vec_capacity r.drawn) (vec_capacity c.push_reserved.new.self) r.places.items r.sums.items c.args.worker c.place_from.result
+    c.self.invariant at c.place_from.ensures.place c.push_reserved.ensures.items c.push_reserved.ensures.capacity
+    (drew_tile plan c.len-ticket.result c.place_from.result lt c.place_from.ensures.stand ∙ ap (stand_at (tiles_of plan)) ticket)
+
+pub invariant_of-self-else-ticket-tiles : goal.invariant_of-self-else-ticket-tiles
+invariant_of-self-else-ticket-tiles g c =
+    let r = c.self.inside in
+    let plan = g.W.Work.plan r.work.now in
+    let at : slice_get r.places.items c.args.worker ≡ Some Resting = ap (λ ps. slice_get ps c.args.worker) (sym c.deref.ensures.value) ∙ (sym c.place_of.ensures ∙ (c.in-Some-Resting.is ∙ ap Some c.in-Some-Resting.field-0-is)) in
+    let ticket : c.len-ticket.result ≡ length r.drawn.items = search rules in
+    let le : length plan ≤ c.len-ticket.result = omega (arith, c.if-ticket-tiles.false, c.tiles.ensures) in
+    claim_sound plan (g.W.Work.atoms r.work.now) r.drawn.items c.push_reserved.new.self.items (vec_capacity r.drawn) (vec_capacity c.push_reserved.new.self) r.places.items r.sums.items c.args.worker Stopped
+    c.self.invariant at tt c.push_reserved.ensures.items c.push_reserved.ensures.capacity
+    (drew_none plan c.len-ticket.result le ∙ ap (stand_at (tiles_of plan)) ticket)
+
+pub returns-in-None-clause-event : goal.returns-in-None-clause-event
+returns-in-None-clause-event g c =
+    let r = c.self.inside in
+    let now = c.args.self.now in
+    let at : slice_get r.places.items c.args.worker ≡ None = ap (λ ps. slice_get ps c.args.worker) (sym c.deref.ensures.value) ∙ (sym c.place_of.ensures ∙ c.in-None.is) in
+    sym (ap (on_claim now.tiles now.state c.args.worker) (ap (λ (v : Progress). slice_get v.state.stands c.args.worker) (sym c.self.view_is) ∙ standing (g.W.Work.plan r.work.now) r.places.items c.args.worker None at))
+
+pub returns-in-Some-Stopped-clause-event : goal.returns-in-Some-Stopped-clause-event
+returns-in-Some-Stopped-clause-event g c =
+    let r = c.self.inside in
+    let now = c.args.self.now in
+    let at : slice_get r.places.items c.args.worker ≡ Some Stopped = ap (λ ps. slice_get ps c.args.worker) (sym c.deref.ensures.value) ∙ (sym c.place_of.ensures ∙ (c.in-Some-Stopped.is ∙ ap Some c.in-Some-Stopped.field-0-is)) in
+    sym (ap (on_claim now.tiles now.state c.args.worker) (ap (λ (v : Progress). slice_get v.state.stands c.args.worker) (sym c.self.view_is) ∙ standing (g.W.Work.plan r.work.now) r.places.items c.args.worker (Some Stopped) at))
+
+pub returns-in-Some-Adding-clause-event : goal.returns-in-Some-Adding-clause-event
+returns-in-Some-Adding-clause-event g c =
+    let r = c.self.inside in
+    let now = c.args.self.now in
+    let task = c.in-Some-Adding.field-0-0 in
+    let at : slice_get r.places.items c.args.worker ≡ Some (Adding task) = ap (λ ps. slice_get ps c.args.worker) (sym c.deref.ensures.value) ∙ (sym c.place_of.ensures ∙ (c.in-Some-Adding.is ∙ ap Some c.in-Some-Adding.field-0-is)) in
+    let stands = stands_adding (g.W.Work.plan r.work.now) (g.W.Work.atoms r.work.now) r.drawn.items (vec_capacity r.drawn) r.places.items r.sums.items c.args.worker task c.self.invariant at in
+    sym (ap (on_claim now.tiles now.state c.args.worker) (ap (λ (v : Progress). slice_get v.state.stands c.args.worker) (sym c.self.view_is) ∙ stands.1))
+
+pub returns-then-ticket-tiles-clause-event : goal.returns-then-ticket-tiles-clause-event
+returns-then-ticket-tiles-clause-event g c =
+    let r = c.self.inside in
+    let plan = g.W.Work.plan r.work.now in
+    let at : slice_get r.places.items c.args.worker ≡ Some Resting = ap (λ ps. slice_get ps c.args.worker) (sym c.deref.ensures.value) ∙ (sym c.place_of.ensures ∙ (c.in-Some-Resting.is ∙ ap Some c.in-Some-Resting.field-0-is)) in
+    let ticket : c.len-ticket.result ≡ length r.drawn.items = search rules in
+    let lt : c.len-ticket.result < length plan = omega (arith, c.if-ticket-tiles.true, c.tiles.ensures) in
+    claims_so plan r.drawn.items c.push_reserved.new.self.items r.places.items r.sums.items c.args.worker c.place_from.result (Drew c.len-ticket.result)
+    c.push_reserved.ensures.items at (drew_tile plan c.len-ticket.result c.place_from.result lt c.place_from.ensures.stand ∙ ap (stand_at (tiles_of plan)) ticket) (outcome_tile plan c.len-ticket.result lt ∙ ap (outcome_at (tiles_of plan)) ticket)
+    ∙ ap (λ (v : Progress). on_claim v.tiles v.state c.args.worker (slice_get v.state.stands c.args.worker)) c.self.view_is
+
+pub returns-else-ticket-tiles-clause-event : goal.returns-else-ticket-tiles-clause-event
+returns-else-ticket-tiles-clause-event g c =
+    let r = c.self.inside in
+    let plan = g.W.Work.plan r.work.now in
+    let at : slice_get r.places.items c.args.worker ≡ Some Resting = ap (λ ps. slice_get ps c.args.worker) (sym c.deref.ensures.value) ∙ (sym c.place_of.ensures ∙ (c.in-Some-Resting.is ∙ ap Some c.in-Some-Resting.field-0-is)) in
+    let ticket : c.len-ticket.result ≡ length r.drawn.items = search rules in
+    let le : length plan ≤ c.len-ticket.result = omega (arith, c.if-ticket-tiles.false, c.tiles.ensures) in
+    claims_so plan r.drawn.items c.push_reserved.new.self.items r.places.items r.sums.items c.args.worker Stopped Ended
+    c.push_reserved.ensures.items at (drew_none plan c.len-ticket.result le ∙ ap (stand_at (tiles_of plan)) ticket) (outcome_none plan c.len-ticket.result le ∙ ap (outcome_at (tiles_of plan)) ticket)
+    ∙ ap (λ (v : Progress). on_claim v.tiles v.state c.args.worker (slice_get v.state.stands c.args.worker)) c.self.view_is
