@@ -15,7 +15,7 @@ use Rattle.tile_round.specs.declared.events.Outcome.TheVariants.{Drew, Ended, Ad
 use Rattle.tile_round.specs.declared.places.Task.{Task}
 use Rattle.tile_round.specs.declared.places.Place.{Place}
 use Rattle.tile_round.specs.declared.places.Place.TheVariants.{Resting, Adding, Stopped}
-use Rattle.tile_round.specs.Tiles.{Addition, additions_of, tile_of, tiles_of, tile_at, pairs_at}
+use Rattle.tile_round.specs.Tiles.{Addition, additions_of, tile_of, tiles_of, tile_at, pairs_at, IsPairOf}
 use Rattle.tile_round.specs.Interleaving.{State, Stand, stand_at, outcome_at, claimed, deposited, on_claim, on_deposit}
 use Rattle.tile_round.specs.Interleaving.Stand.{doing, ended}
 use Rattle.tile_round.specs.Places.{stand_of, stands_of, stops, IsTask, IsPlace, IsSound}
@@ -80,12 +80,45 @@ module _ (sums : List ℤ) (k amount : ℕ) (old : ℤ) (lt : k < length sums) (
         (of_z-to_z w64 ((cast_unsigned w64 old + amount) % 2 ^ 64) (mod_below (cast_unsigned w64 old + amount) (2 ^ 64) (omega arith))
         ∙ ap (λ n. (n + amount) % 2 ^ 64) (read_map (cast_unsigned w64) sums k old 0 lt read))
 
-pub sum_signed : (sums : List ℤ) (k n : ℕ) → n < 2 ^ 64 → map (cast_signed w64) (map (cast_unsigned w64) sums) ≡ sums → map (cast_signed w64) (map (cast_unsigned w64) (set sums k (cast_signed w64 n))) ≡ set sums k (cast_signed w64 n)
+sum_signed : (sums : List ℤ) (k n : ℕ) → n < 2 ^ 64 → map (cast_signed w64) (map (cast_unsigned w64) sums) ≡ sums → map (cast_signed w64) (map (cast_unsigned w64) (set sums k (cast_signed w64 n))) ≡ set sums k (cast_signed w64 n)
 sum_signed sums k n lt signed =
     ap (map (cast_signed w64)) (map_set (cast_unsigned w64) sums k (cast_signed w64 n))
     ∙ (map_set (cast_signed w64) (map (cast_unsigned w64) sums) k (cast_unsigned w64 (cast_signed w64 n))
     ∙ (ap (λ xs. set xs k (cast_signed w64 (cast_unsigned w64 (cast_signed w64 n)))) signed
     ∙ ap (λ m. set sums k (cast_signed w64 m)) (of_z-to_z w64 n lt)))
+
+-- a sum as the code stores it
+module _ (sums : List ℤ) (k amount bits : ℕ) (old result : ℤ) (lt : k < length sums) (read : old ≡ get_or sums k old) (signed : map (cast_signed w64) (map (cast_unsigned w64) sums) ≡ sums)
+    (bits_is : bits ≡ cast_unsigned w64 (cast_signed w64 (cast_unsigned w64 old))) (result_is : result ≡ cast_signed w64 ((bits + amount) % 2 ^ 64)) where
+  old_signed : cast_signed w64 (cast_unsigned w64 old) ≡ old
+  old_signed =
+      read_map (cast_signed w64) (map (cast_unsigned w64) sums) k (cast_unsigned w64 old) old (omega (arith, length-map sums (cast_unsigned w64))) (read_map (cast_unsigned w64) sums k old (cast_unsigned w64 old) lt read)
+      ∙ (ap (λ xs. get_or xs k old) signed ∙ sym read)
+
+  stored : cast_signed w64 (cast_unsigned w64 result) ≡ cast_signed w64 ((cast_unsigned w64 old + amount) % 2 ^ 64)
+  stored =
+      ap (λ z. cast_signed w64 (cast_unsigned w64 z)) result_is
+      ∙ (ap (cast_signed w64) (of_z-to_z w64 ((bits + amount) % 2 ^ 64) (mod_below (bits + amount) (2 ^ 64) (omega arith)))
+      ∙ ap (λ n. cast_signed w64 ((n + amount) % 2 ^ 64)) (bits_is ∙ ap (cast_unsigned w64) old_signed))
+
+  pub stored_added : map (cast_unsigned w64) (set sums k (cast_signed w64 (cast_unsigned w64 result))) ≡ set (map (cast_unsigned w64) sums) k ((slice_index (map (cast_unsigned w64) sums) k + amount) % 2 ^ 64)
+  stored_added = ap (λ z. map (cast_unsigned w64) (set sums k z)) stored ∙ sum_added sums k amount old lt read
+
+  pub stored_signed : map (cast_signed w64) (map (cast_unsigned w64) (set sums k (cast_signed w64 (cast_unsigned w64 result)))) ≡ set sums k (cast_signed w64 (cast_unsigned w64 result))
+  stored_signed =
+      let n = (cast_unsigned w64 old + amount) % 2 ^ 64 in
+      ap (λ z. map (cast_signed w64) (map (cast_unsigned w64) (set sums k z))) stored
+      ∙ (sum_signed sums k n (mod_below (cast_unsigned w64 old + amount) (2 ^ 64) (omega arith)) signed ∙ ap (set sums k) (sym stored))
+
+-- an addition of a pair goes to an entry of one of its atoms
+pub entry_inside : (atoms : ℕ) (p : PairAdd) (part : ℕ) (a : Addition) → IsPairOf atoms p → slice_get (additions_of (Some p)) part ≡ Some a → a.0 < 3 * atoms
+entry_inside atoms p zero a pair at = let e : 3 * p.low ≡ a.0 = cc at in omega (arith, pair.ordered, pair.inside)
+entry_inside atoms p (suc zero) a pair at = let e : 3 * p.low + 1 ≡ a.0 = cc at in omega (arith, pair.ordered, pair.inside)
+entry_inside atoms p (suc (suc zero)) a pair at = let e : 3 * p.low + 2 ≡ a.0 = cc at in omega (arith, pair.ordered, pair.inside)
+entry_inside atoms p (suc (suc (suc zero))) a pair at = let e : 3 * p.high ≡ a.0 = cc at in omega (arith, pair.inside)
+entry_inside atoms p (suc (suc (suc (suc zero)))) a pair at = let e : 3 * p.high + 1 ≡ a.0 = cc at in omega (arith, pair.inside)
+entry_inside atoms p (suc (suc (suc (suc (suc zero))))) a pair at = let e : 3 * p.high + 2 ≡ a.0 = cc at in omega (arith, pair.inside)
+entry_inside atoms p (suc (suc (suc (suc (suc (suc part)))))) a pair at = absurd (cc at)
 
 module _ (plan : List (List (Option PairAdd))) where
   -- the machine's state

@@ -1,45 +1,96 @@
-use Rattle.std.proofs.Common.{rules, ◌≡◌, ◌+◌, ◌*◌, ◌^◌, ◌<◌, ◌≤◌, length, map, slice_get, IfOk, ℕ, ◌-◌, ◌/◌, ◌%◌, Bool, true, false, nat_eq, nat_lt, List, [], ◌∷◌, ◌++◌, slice_index_or, slice_set, bit_and, bit_or, Fits, w8, w32, Bor, MutBor, ℤ, pos, ◌+ℤ◌, ◌-ℤ◌, ◌*ℤ◌, ◌≤ℤ◌, ◌<ℤ◌, FitsSigned, to_z, of_z}
-use Rattle.std.specs.Int.{w64, cast_signed}
-use Rattle.tile_round.specs.Tiles.{tiles_of}
-use Rattle.tile_round.specs.Interleaving.{on_claim, on_deposit, opening, step, word}
+use Rattle.std.proofs.Common.{◌≡◌, ◌<◌, ◌*◌, ◌∙◌, Option, Some, None, length, slice_get, sym, ap, arith, rules}
+use Rattle.std.proofs.lemmas.Option.{slice_get_within}
+use Rattle.std.proofs.Math.ListN.{length-set}
+use Rattle.std.specs.Vec.{vec_capacity}
+use Rattle.std.specs.Int.{w64, cast_signed, cast_unsigned}
+use Rattle.tile_round.specs.declared.places.Place.{Place}
+use Rattle.tile_round.specs.declared.places.Place.TheVariants.{Resting, Adding, Stopped}
+use Rattle.tile_round.specs.Interleaving.{Progress, on_deposit}
+use Rattle.tile_round.proofs.PlaceLemmas.{standing, entry_inside, stored_added, stored_signed, deposit_sound, deposits_so}
 use Rattle.tile_round.proofs.round.Round.deposit.Goals as goal
 
--- src/round.rt:122:39
 pub addition-entry-requires : goal.addition-entry-requires
-addition-entry-requires g c = ?
+addition-entry-requires g c =
+    let r = c.self.inside in
+    let at : slice_get r.places.items c.args.worker ≡ Some (Adding c.in-Some-Adding.task) = ap (λ ps. slice_get ps c.args.worker) (sym c.deref.ensures.value) ∙ (sym c.place_of.ensures ∙ (c.in-Some-Adding.is ∙ ap Some c.in-Some-Adding.field-0-is)) in
+    (c.self.invariant.within c.args.worker (Adding c.in-Some-Adding.task) at).part
 
--- src/round.rt:123:27
 pub index-requires : goal.index-requires
-index-requires g c = ?
+index-requires g c =
+    let r = c.self.inside in
+    let at : slice_get r.places.items c.args.worker ≡ Some (Adding c.in-Some-Adding.task) = ap (λ ps. slice_get ps c.args.worker) (sym c.deref.ensures.value) ∙ (sym c.place_of.ensures ∙ (c.in-Some-Adding.is ∙ ap Some c.in-Some-Adding.field-0-is)) in
+    let sound = c.self.invariant.within c.args.worker (Adding c.in-Some-Adding.task) at in
+    let atoms = g.W.Work.atoms r.work.now in
+    let entry : c.addition-entry.result.0 < 3 * atoms = entry_inside atoms c.in-Some-Adding.task.add c.in-Some-Adding.task.part c.addition-entry.result sound.pair c.addition-entry.ensures in
+    omega (arith, c.self.invariant.wide, r.sums.ok.0)
 
--- src/round.rt:124:17
 pub index_mut-requires : goal.index_mut-requires
-index_mut-requires g c = ?
+index_mut-requires g c =
+    let r = c.self.inside in
+    let at : slice_get r.places.items c.args.worker ≡ Some (Adding c.in-Some-Adding.task) = ap (λ ps. slice_get ps c.args.worker) (sym c.deref.ensures.value) ∙ (sym c.place_of.ensures ∙ (c.in-Some-Adding.is ∙ ap Some c.in-Some-Adding.field-0-is)) in
+    let sound = c.self.invariant.within c.args.worker (Adding c.in-Some-Adding.task) at in
+    let atoms = g.W.Work.atoms r.work.now in
+    let entry : c.addition-entry.result.0 < 3 * atoms = entry_inside atoms c.in-Some-Adding.task.add c.in-Some-Adding.task.part c.addition-entry.result sound.pair c.addition-entry.ensures in
+    omega (arith, c.self.invariant.wide, r.sums.ok.0)
 
--- src/round.rt:125:48
 pub after-requires : goal.after-requires
-after-requires g c = ?
+after-requires g c =
+    let r = c.self.inside in
+    let at : slice_get r.places.items c.args.worker ≡ Some (Adding c.in-Some-Adding.task) = ap (λ ps. slice_get ps c.args.worker) (sym c.deref.ensures.value) ∙ (sym c.place_of.ensures ∙ (c.in-Some-Adding.is ∙ ap Some c.in-Some-Adding.field-0-is)) in
+    c.self.invariant.within c.args.worker (Adding c.in-Some-Adding.task) at
 
--- src/round.rt:125:17
 pub index_mut-requires-in-Some-Adding : goal.index_mut-requires-in-Some-Adding
-index_mut-requires-in-Some-Adding g c = ?
+index_mut-requires-in-Some-Adding g c =
+    let r = c.self.inside in
+    let at : slice_get r.places.items c.args.worker ≡ Some (Adding c.in-Some-Adding.task) = ap (λ ps. slice_get ps c.args.worker) (sym c.deref.ensures.value) ∙ (sym c.place_of.ensures ∙ (c.in-Some-Adding.is ∙ ap Some c.in-Some-Adding.field-0-is)) in
+    omega (arith, slice_get_within r.places.items c.args.worker (Adding c.in-Some-Adding.task) at, r.places.ok.0)
 
--- src/round.rt:126:17
 pub invariant_of-self : goal.invariant_of-self
-invariant_of-self g c = ?
+invariant_of-self g c =
+    let r = c.self.inside in
+    let task = c.in-Some-Adding.task in
+    let a = c.addition-entry.result in
+    let at : slice_get r.places.items c.args.worker ≡ Some (Adding task) = ap (λ ps. slice_get ps c.args.worker) (sym c.deref.ensures.value) ∙ (sym c.place_of.ensures ∙ (c.in-Some-Adding.is ∙ ap Some c.in-Some-Adding.field-0-is)) in
+    let sound = c.self.invariant.within c.args.worker (Adding task) at in
+    let atoms = g.W.Work.atoms r.work.now in
+    let entry : a.0 < 3 * atoms = entry_inside atoms task.add task.part a sound.pair c.addition-entry.ensures in
+    let lt : a.0 < length r.sums.items = omega (arith, c.self.invariant.wide) in
+    deposit_sound (g.W.Work.plan r.work.now) atoms r.drawn.items (vec_capacity r.drawn) r.places.items r.sums.items _ c.args.worker task c.after.result a
+    c.self.invariant at c.after.ensures.place c.addition-entry.ensures c.after.ensures.stand (length-set r.sums.items a.0 (cast_signed w64 (cast_unsigned w64 c.cast_signed.result)))
+    (stored_signed r.sums.items a.0 a.1 c.cast_unsigned.result c.index.result.now c.cast_signed.result lt c.index.ensures c.self.invariant.signed c.cast_unsigned.ensures c.cast_signed.ensures)
 
--- src/round.rt:112:5
 pub returns-in-None-clause-event : goal.returns-in-None-clause-event
-returns-in-None-clause-event g c = ?
+returns-in-None-clause-event g c =
+    let r = c.self.inside in
+    let now = c.args.self.now in
+    let at : slice_get r.places.items c.args.worker ≡ None = ap (λ ps. slice_get ps c.args.worker) (sym c.deref.ensures.value) ∙ (sym c.place_of.ensures ∙ c.in-None.is) in
+    sym (ap (on_deposit now.tiles now.state c.args.worker) (ap (λ (v : Progress). slice_get v.state.stands c.args.worker) (sym c.self.view_is) ∙ standing (g.W.Work.plan r.work.now) r.places.items c.args.worker None at))
 
--- src/round.rt:112:5
 pub returns-in-Some-Stopped-clause-event : goal.returns-in-Some-Stopped-clause-event
-returns-in-Some-Stopped-clause-event g c = ?
+returns-in-Some-Stopped-clause-event g c =
+    let r = c.self.inside in
+    let now = c.args.self.now in
+    let at : slice_get r.places.items c.args.worker ≡ Some Stopped = ap (λ ps. slice_get ps c.args.worker) (sym c.deref.ensures.value) ∙ (sym c.place_of.ensures ∙ (c.in-Some-Stopped.is ∙ ap Some c.in-Some-Stopped.field-0-is)) in
+    sym (ap (on_deposit now.tiles now.state c.args.worker) (ap (λ (v : Progress). slice_get v.state.stands c.args.worker) (sym c.self.view_is) ∙ standing (g.W.Work.plan r.work.now) r.places.items c.args.worker (Some Stopped) at))
 
--- src/round.rt:112:5
 pub returns-in-Some-Resting-clause-event : goal.returns-in-Some-Resting-clause-event
-returns-in-Some-Resting-clause-event g c = ?
+returns-in-Some-Resting-clause-event g c =
+    let r = c.self.inside in
+    let now = c.args.self.now in
+    let at : slice_get r.places.items c.args.worker ≡ Some Resting = ap (λ ps. slice_get ps c.args.worker) (sym c.deref.ensures.value) ∙ (sym c.place_of.ensures ∙ (c.in-Some-Resting.is ∙ ap Some c.in-Some-Resting.field-0-is)) in
+    sym (ap (on_deposit now.tiles now.state c.args.worker) (ap (λ (v : Progress). slice_get v.state.stands c.args.worker) (sym c.self.view_is) ∙ standing (g.W.Work.plan r.work.now) r.places.items c.args.worker (Some Resting) at))
 
--- src/round.rt:112:5
 pub returns-in-Some-Adding-clause-event : goal.returns-in-Some-Adding-clause-event
-returns-in-Some-Adding-clause-event g c = ?
+returns-in-Some-Adding-clause-event g c =
+    let r = c.self.inside in
+    let task = c.in-Some-Adding.task in
+    let a = c.addition-entry.result in
+    let at : slice_get r.places.items c.args.worker ≡ Some (Adding task) = ap (λ ps. slice_get ps c.args.worker) (sym c.deref.ensures.value) ∙ (sym c.place_of.ensures ∙ (c.in-Some-Adding.is ∙ ap Some c.in-Some-Adding.field-0-is)) in
+    let sound = c.self.invariant.within c.args.worker (Adding task) at in
+    let atoms = g.W.Work.atoms r.work.now in
+    let entry : a.0 < 3 * atoms = entry_inside atoms task.add task.part a sound.pair c.addition-entry.ensures in
+    let lt : a.0 < length r.sums.items = omega (arith, c.self.invariant.wide) in
+    deposits_so (g.W.Work.plan r.work.now) r.drawn.items r.places.items r.sums.items _ c.args.worker task c.after.result a
+    at c.addition-entry.ensures c.after.ensures.stand
+    (stored_added r.sums.items a.0 a.1 c.cast_unsigned.result c.index.result.now c.cast_signed.result lt c.index.ensures c.self.invariant.signed c.cast_unsigned.ensures c.cast_signed.ensures)
+    ∙ ap (λ (v : Progress). on_deposit v.tiles v.state c.args.worker (slice_get v.state.stands c.args.worker)) c.self.view_is
