@@ -9,17 +9,17 @@ use Rattle.std.specs.Option.{option_map}
 use Rattle.std.proofs.lemmas.List.Sums.{sum_by-cons}
 use Rattle.std.proofs.lemmas.Int.{of_z-to_z}
 use Rattle.std.proofs.lemmas.Nat.{mod_below}
-use Rattle.std.proofs.Math.ListN.{length-set}
+use Rattle.std.proofs.Math.ListN.{length-set, length-replicate}
 use Rattle.tile_round.specs.declared.events.Outcome.{Outcome}
 use Rattle.tile_round.specs.declared.events.Outcome.TheVariants.{Drew, Ended, Added}
 use Rattle.tile_round.specs.declared.places.Task.{Task}
 use Rattle.tile_round.specs.declared.places.Place.{Place}
 use Rattle.tile_round.specs.declared.places.Place.TheVariants.{Resting, Adding, Stopped}
 use Rattle.tile_round.specs.Tiles.{Addition, additions_of, tile_of, tiles_of, tile_at, pairs_at, IsPairOf}
-use Rattle.tile_round.specs.Interleaving.{State, Stand, stand_at, outcome_at, claimed, deposited, on_claim, on_deposit}
+use Rattle.tile_round.specs.Interleaving.{State, Stand, opening, stand_at, outcome_at, claimed, deposited, on_claim, on_deposit}
 use Rattle.tile_round.specs.Interleaving.Stand.{doing, ended}
 use Rattle.tile_round.specs.Places.{stand_of, stands_of, stops, IsTask, IsPlace, IsSound}
-use Rattle.tile_round.proofs.RunLemmas.{at_set, stand_below, stand_past, outcome_below, outcome_past, stops_most, claim_few, deposit_stops}
+use Rattle.tile_round.proofs.RunLemmas.{at_set, replicated, stand_below, stand_past, outcome_below, outcome_past, stops_most, claim_few, deposit_stops}
 
 pub drop_at : {A : Type 0} (xs : List A) (i : ℕ) (x : A) → slice_get xs i ≡ Some x → drop i xs ≡ x ∷ drop (i + 1) xs
 drop_at xs i x e = go xs i x e ∙ ap (λ n. x ∷ drop n xs) (sym (add-one i))
@@ -224,3 +224,24 @@ module _ (plan : List (List (Option PairAdd))) where
     stands_adding drawn room places sums w task sound at =
         let a = next_addition task.add task.part (sound.within w (Adding task) at).part in
         (a.0, stands_before places w task a.0 at a.1)
+
+  -- the opening of a round
+  module _ (atoms workers entries room : ℕ) (drawn : List ℕ) (places : List Place) (sums : List ℤ) (drawn_is : drawn ≡ []) (places_are : places ≡ replicate workers Resting) (sums_are : sums ≡ replicate entries (pos 0)) where
+    pub opens_so : state_of drawn places sums ≡ opening workers entries
+    opens_so =
+        let stands : stands_of plan places ≡ replicate workers (doing []) = ap (stands_of plan) places_are ∙ map-replicate (stand_of plan) workers Resting in
+        let zeros : map (cast_unsigned w64) sums ≡ replicate entries 0 = ap (map (cast_unsigned w64)) sums_are ∙ map-replicate (cast_unsigned w64) entries (pos 0) in
+        λ i. record { drawn = drawn_is i; stands = stands i; sums = zeros i }
+
+    pub opening_sound : 3 * atoms ≤ entries → length plan + workers ≤ room → IsSound atoms plan drawn room places sums
+    opening_sound wide enough = record {
+      within = λ w p e.
+          let rests : Resting ≡ p = replicated workers w Resting p (ap (λ ps. slice_get ps w) (sym places_are) ∙ e) in
+          subst (IsPlace atoms plan) rests tt;
+      wide = let size = ap length sums_are in omega (arith, length-replicate entries (pos 0));
+      signed =
+          ap (map (cast_signed w64)) (ap (map (cast_unsigned w64)) sums_are ∙ map-replicate (cast_unsigned w64) entries (pos 0))
+          ∙ (map-replicate (cast_signed w64) entries 0 ∙ sym sums_are);
+      few = let none = ap length drawn_is in omega arith;
+      enough = let size = ap length places_are in omega (arith, length-replicate workers Resting);
+    }
