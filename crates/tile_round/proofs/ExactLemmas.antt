@@ -47,24 +47,52 @@ residue_of_negative z fits =
 three_here : (atom axis : ℕ) (f : ℕ → ℕ) → axis < 3 → on_entry (3 * atom + axis) (three_on atom (f 0) (f 1) (f 2)) ≡ f axis
 three_here atom zero f lt =
     let k = 3 * atom + 0 in
-    omega (arith, sum_by-cons (amount_on k) (3 * atom, f 0) ((3 * atom + 1, f 1) ∷ (3 * atom + 2, f 2) ∷ []), sum_by-cons (amount_on k) (3 * atom + 1, f 1) ((3 * atom + 2, f 2) ∷ []), sum_by-cons (amount_on k) (3 * atom + 2, f 2) [],
-    amount_here k (3 * atom, f 0) (omega arith), amount_else k (3 * atom + 1, f 1) (λ e. omega arith), amount_else k (3 * atom + 2, f 2) (λ e. omega arith))
+    omega (
+      arith,
+      sum_by-cons (amount_on k) (3 * atom, f 0) ((3 * atom + 1, f 1) ∷ (3 * atom + 2, f 2) ∷ []),
+      sum_by-cons (amount_on k) (3 * atom + 1, f 1) ((3 * atom + 2, f 2) ∷ []),
+      sum_by-cons (amount_on k) (3 * atom + 2, f 2) [],
+      amount_here k (3 * atom, f 0) (omega arith),
+      amount_else k (3 * atom + 1, f 1) (λ e. omega arith),
+      amount_else k (3 * atom + 2, f 2) (λ e. omega arith),
+    )
 three_here atom (suc zero) f lt =
     let k = 3 * atom + 1 in
-    omega (arith, sum_by-cons (amount_on k) (3 * atom, f 0) ((3 * atom + 1, f 1) ∷ (3 * atom + 2, f 2) ∷ []), sum_by-cons (amount_on k) (3 * atom + 1, f 1) ((3 * atom + 2, f 2) ∷ []), sum_by-cons (amount_on k) (3 * atom + 2, f 2) [],
-    amount_else k (3 * atom, f 0) (λ e. omega arith), amount_here k (3 * atom + 1, f 1) (omega arith), amount_else k (3 * atom + 2, f 2) (λ e. omega arith))
+    omega (
+      arith,
+      sum_by-cons (amount_on k) (3 * atom, f 0) ((3 * atom + 1, f 1) ∷ (3 * atom + 2, f 2) ∷ []),
+      sum_by-cons (amount_on k) (3 * atom + 1, f 1) ((3 * atom + 2, f 2) ∷ []),
+      sum_by-cons (amount_on k) (3 * atom + 2, f 2) [],
+      amount_else k (3 * atom, f 0) (λ e. omega arith),
+      amount_here k (3 * atom + 1, f 1) (omega arith),
+      amount_else k (3 * atom + 2, f 2) (λ e. omega arith),
+    )
 three_here atom (suc (suc zero)) f lt =
     let k = 3 * atom + 2 in
-    omega (arith, sum_by-cons (amount_on k) (3 * atom, f 0) ((3 * atom + 1, f 1) ∷ (3 * atom + 2, f 2) ∷ []), sum_by-cons (amount_on k) (3 * atom + 1, f 1) ((3 * atom + 2, f 2) ∷ []), sum_by-cons (amount_on k) (3 * atom + 2, f 2) [],
-    amount_else k (3 * atom, f 0) (λ e. omega arith), amount_else k (3 * atom + 1, f 1) (λ e. omega arith), amount_here k (3 * atom + 2, f 2) (omega arith))
+    omega (
+      arith,
+      sum_by-cons (amount_on k) (3 * atom, f 0) ((3 * atom + 1, f 1) ∷ (3 * atom + 2, f 2) ∷ []),
+      sum_by-cons (amount_on k) (3 * atom + 1, f 1) ((3 * atom + 2, f 2) ∷ []),
+      sum_by-cons (amount_on k) (3 * atom + 2, f 2) [],
+      amount_else k (3 * atom, f 0) (λ e. omega arith),
+      amount_else k (3 * atom + 1, f 1) (λ e. omega arith),
+      amount_here k (3 * atom + 2, f 2) (omega arith),
+    )
 three_here atom (suc (suc (suc axis))) f lt = absurd (omega arith)
 
 three_else : (b atom axis : ℕ) (f : ℕ → ℕ) → axis < 3 → b ≢ atom → on_entry (3 * atom + axis) (three_on b (f 0) (f 1) (f 2)) ≡ 0
 three_else b atom axis f lt ne =
     let k = 3 * atom + axis in
     let apart : (i : ℕ) → i < 3 → k ≢ 3 * b + i = λ i h e. ne (omega arith) in
-    omega (arith, sum_by-cons (amount_on k) (3 * b, f 0) ((3 * b + 1, f 1) ∷ (3 * b + 2, f 2) ∷ []), sum_by-cons (amount_on k) (3 * b + 1, f 1) ((3 * b + 2, f 2) ∷ []), sum_by-cons (amount_on k) (3 * b + 2, f 2) [],
-    amount_else k (3 * b, f 0) (λ e. apart 0 (omega arith) (omega arith)), amount_else k (3 * b + 1, f 1) (apart 1 (omega arith)), amount_else k (3 * b + 2, f 2) (apart 2 (omega arith)))
+    omega (
+      arith,
+      sum_by-cons (amount_on k) (3 * b, f 0) ((3 * b + 1, f 1) ∷ (3 * b + 2, f 2) ∷ []),
+      sum_by-cons (amount_on k) (3 * b + 1, f 1) ((3 * b + 2, f 2) ∷ []),
+      sum_by-cons (amount_on k) (3 * b + 2, f 2) [],
+      amount_else k (3 * b, f 0) (λ e. apart 0 (omega arith) (omega arith)),
+      amount_else k (3 * b + 1, f 1) (apart 1 (omega arith)),
+      amount_else k (3 * b + 2, f 2) (apart 2 (omega arith)),
+    )
 
 if_same : (b atom : ℕ) (z : ℤ) → b ≡ atom → (if b == atom then z else pos 0) ≡ z
 if_same b atom z e = grind (arith, nat_tests)
@@ -95,8 +123,8 @@ module _ (atom axis : ℕ) (lt : axis < 3) where
       let both : on_entry k (lows ++ highs) ≡ on_entry k lows + on_entry k highs = sum_by-append (amount_on k) lows highs in
       ap (λ m. cast_signed w64 (m % 2 ^ 64)) both
       ∙ residue_of_sum (on_entry k lows) (on_entry k highs) (if p.low == atom then z else pos 0) (if p.high == atom then neg_ℤ z else pos 0)
-        (side p.low atom axis (along p.force) z lt (residue_of_word z (words axis lt)))
-        (side p.high atom axis (against p.force) (neg_ℤ z) lt (residue_of_negative z (words axis lt)))
+      (side p.low atom axis (along p.force) z lt (residue_of_word z (words axis lt)))
+      (side p.high atom axis (against p.force) (neg_ℤ z) lt (residue_of_negative z (words axis lt)))
 
   more : (p : Option PairAdd) (ps : List (Option PairAdd)) → IsResidue (on_entry (3 * atom + axis) (additions_of p)) (force_on atom axis p) → IsResidue (on_entry (3 * atom + axis) (tile_of ps)) (tile_force atom axis ps)
       → IsResidue (on_entry (3 * atom + axis) (tile_of (p ∷ ps))) (tile_force atom axis (p ∷ ps))

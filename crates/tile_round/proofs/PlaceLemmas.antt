@@ -77,8 +77,8 @@ module _ (sums : List ℤ) (k amount : ℕ) (old : ℤ) (lt : k < length sums) (
   sum_added =
       map_set (cast_unsigned w64) sums k (cast_signed w64 ((cast_unsigned w64 old + amount) % 2 ^ 64))
       ∙ ap (set (map (cast_unsigned w64) sums) k)
-        (of_z-to_z w64 ((cast_unsigned w64 old + amount) % 2 ^ 64) (mod_below (cast_unsigned w64 old + amount) (2 ^ 64) (omega arith))
-        ∙ ap (λ n. (n + amount) % 2 ^ 64) (read_map (cast_unsigned w64) sums k old 0 lt read))
+      (of_z-to_z w64 ((cast_unsigned w64 old + amount) % 2 ^ 64) (mod_below (cast_unsigned w64 old + amount) (2 ^ 64) (omega arith))
+      ∙ ap (λ n. (n + amount) % 2 ^ 64) (read_map (cast_unsigned w64) sums k old 0 lt read))
 
 sum_signed : (sums : List ℤ) (k n : ℕ) → n < 2 ^ 64 → map (cast_signed w64) (map (cast_unsigned w64) sums) ≡ sums → map (cast_signed w64) (map (cast_unsigned w64) (set sums k (cast_signed w64 n))) ≡ set sums k (cast_signed w64 n)
 sum_signed sums k n lt signed =

@@ -31,12 +31,12 @@ impl<'w, W: Work, A: Allocator + Copy> Model for Round<'w, W, A> {
     ghost Value = { Progress };
 
     ghost view = { λ r. record {
-        tiles = tiles_of (W.plan r.work.now);
-        state = record {
-            drawn = r.drawn.items;
-            stands = stands_of (W.plan r.work.now) r.places.items;
-            sums = map (cast_unsigned w64) r.sums.items;
-        };
+      tiles = tiles_of (W.plan r.work.now);
+      state = record {
+        drawn = r.drawn.items;
+        stands = stands_of (W.plan r.work.now) r.places.items;
+        sums = map (cast_unsigned w64) r.sums.items;
+      };
     } };
 
     ghost invariant = { λ r. IsSound (W.atoms r.work.now) (W.plan r.work.now) r.drawn.items (vec_capacity r.drawn) r.places.items r.sums.items };
