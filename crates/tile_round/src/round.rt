@@ -1,4 +1,4 @@
-ghost use Rattle.std.specs.Prelude.{◌≡◌, ◌+◌, ◌*◌, ◌^◌, ◌<◌, ◌≤◌, length, map, slice_get, IfOk};
+ghost use Rattle.std.specs.Prelude.{◌≡◌, ◌+◌, ◌*◌, ◌^◌, ◌<◌, ◌≤◌, length, map, slice_get, IfOk, OnErr};
 ghost use Rattle.std.specs.Int.{w64, cast_signed};
 ghost use Rattle.tile_round.specs.Tiles.{tiles_of};
 ghost use Rattle.tile_round.specs.Interleaving.{on_claim, on_deposit, opening, step, word};
@@ -65,6 +65,7 @@ impl<'w, W: Work, A: Allocator + Copy> Round<'w, W, A> {
     pub fn step(&mut self, event: Event) -> Result<Outcome, RoundFault>
         ensures tiles { self.new.tiles ≡ self.old.tiles }
         ensures event { (self.new.state, result) ≡ step self.old.tiles self.old.state event }
+        ensures refused { OnErr result (self.new ≡ self.old) }
     {
         match event {
             Event::Claim(worker) => self.claim(worker),

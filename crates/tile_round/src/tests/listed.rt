@@ -1,4 +1,4 @@
-ghost use Rattle.std.specs.Prelude.{◌≡◌, ◌&&◌, map, Option, Some, None, IfSome, nat_lt, if◌then◌else◌};
+ghost use Rattle.std.specs.Prelude.{◌≡◌, ◌&&◌, map, Option, Some, None, IfOk, IfSome, nat_lt, if◌then◌else◌};
 ghost use Rattle.std.specs.Option.{option_and_then};
 ghost use Rattle.tile_round.specs.Tiles.{IsPairOf};
 
@@ -55,7 +55,9 @@ pub(super) fn one_a_tile(
     alloc: Global,
     atoms: u32,
     pairs: &[Option<PairAdd>],
-) -> Result<Listed, AllocError> {
+) -> Result<Listed, AllocError>
+    ensures { IfOk result (λ w. w.atoms ≡ atoms) }
+{
     let mut tiles = Vec::new(alloc);
     for pair in pairs {
         tiles.push(vec![in alloc; *pair]?)?;

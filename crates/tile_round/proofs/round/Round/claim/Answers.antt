@@ -13,7 +13,7 @@ use Rattle.tile_round.proofs.round.Round.claim.Goals as goal
 pub push_reserved-requires : goal.push_reserved-requires
 push_reserved-requires g c =
     let r = c.self.inside in
-    let at : slice_get r.places.items c.args.worker ≡ Some Resting = ap (λ ps. slice_get ps c.args.worker) (sym c.deref.ensures.value) ∙ (sym c.place_of.ensures ∙ (c.in-Some-Resting.is ∙ ap Some c.in-Some-Resting.field-0-is)) in
+    let at : slice_get r.places.items c.args.worker ≡ Some Resting = search rules in
     let room = has_room (g.W.Work.plan r.work.now) (g.W.Work.atoms r.work.now) r.drawn.items (vec_capacity r.drawn) r.places.items r.sums.items c.args.worker c.self.invariant at in
     search rules
 
@@ -21,7 +21,7 @@ pub invariant_of-self : goal.invariant_of-self
 invariant_of-self g c =
     let r = c.self.inside in
     let plan = g.W.Work.plan r.work.now in
-    let at : slice_get r.places.items c.args.worker ≡ Some Resting = ap (λ ps. slice_get ps c.args.worker) (sym c.deref.ensures.value) ∙ (sym c.place_of.ensures ∙ (c.in-Some-Resting.is ∙ ap Some c.in-Some-Resting.field-0-is)) in
+    let at : slice_get r.places.items c.args.worker ≡ Some Resting = search rules in
     let ticket : c.len-ticket.result ≡ length r.drawn.items = search rules in
     let lt : c.len-ticket.result < length plan = omega (arith, c.if-ticket-tiles.true, c.tiles.ensures) in
     claim_sound plan (g.W.Work.atoms r.work.now) r.drawn.items c.push_reserved.new.self.items (vec_capacity r.drawn) (vec_capacity c.push_reserved.new.self) r.places.items r.sums.items c.args.worker c.place_from.result
@@ -32,7 +32,7 @@ pub invariant_of-self-else-ticket-tiles : goal.invariant_of-self-else-ticket-til
 invariant_of-self-else-ticket-tiles g c =
     let r = c.self.inside in
     let plan = g.W.Work.plan r.work.now in
-    let at : slice_get r.places.items c.args.worker ≡ Some Resting = ap (λ ps. slice_get ps c.args.worker) (sym c.deref.ensures.value) ∙ (sym c.place_of.ensures ∙ (c.in-Some-Resting.is ∙ ap Some c.in-Some-Resting.field-0-is)) in
+    let at : slice_get r.places.items c.args.worker ≡ Some Resting = search rules in
     let ticket : c.len-ticket.result ≡ length r.drawn.items = search rules in
     let le : length plan ≤ c.len-ticket.result = omega (arith, c.if-ticket-tiles.false, c.tiles.ensures) in
     claim_sound plan (g.W.Work.atoms r.work.now) r.drawn.items c.push_reserved.new.self.items (vec_capacity r.drawn) (vec_capacity c.push_reserved.new.self) r.places.items r.sums.items c.args.worker Stopped
@@ -43,14 +43,14 @@ pub returns-in-None-clause-event : goal.returns-in-None-clause-event
 returns-in-None-clause-event g c =
     let r = c.self.inside in
     let now = c.args.self.now in
-    let at : slice_get r.places.items c.args.worker ≡ None = ap (λ ps. slice_get ps c.args.worker) (sym c.deref.ensures.value) ∙ (sym c.place_of.ensures ∙ c.in-None.is) in
+    let at : slice_get r.places.items c.args.worker ≡ None = search rules in
     sym (ap (on_claim now.tiles now.state c.args.worker) (ap (λ (v : Progress). slice_get v.state.stands c.args.worker) (sym c.self.view_is) ∙ standing (g.W.Work.plan r.work.now) r.places.items c.args.worker None at))
 
 pub returns-in-Some-Stopped-clause-event : goal.returns-in-Some-Stopped-clause-event
 returns-in-Some-Stopped-clause-event g c =
     let r = c.self.inside in
     let now = c.args.self.now in
-    let at : slice_get r.places.items c.args.worker ≡ Some Stopped = ap (λ ps. slice_get ps c.args.worker) (sym c.deref.ensures.value) ∙ (sym c.place_of.ensures ∙ (c.in-Some-Stopped.is ∙ ap Some c.in-Some-Stopped.field-0-is)) in
+    let at : slice_get r.places.items c.args.worker ≡ Some Stopped = search rules in
     sym (ap (on_claim now.tiles now.state c.args.worker) (ap (λ (v : Progress). slice_get v.state.stands c.args.worker) (sym c.self.view_is) ∙ standing (g.W.Work.plan r.work.now) r.places.items c.args.worker (Some Stopped) at))
 
 pub returns-in-Some-Adding-clause-event : goal.returns-in-Some-Adding-clause-event
@@ -58,7 +58,7 @@ returns-in-Some-Adding-clause-event g c =
     let r = c.self.inside in
     let now = c.args.self.now in
     let task = c.in-Some-Adding.field-0-0 in
-    let at : slice_get r.places.items c.args.worker ≡ Some (Adding task) = ap (λ ps. slice_get ps c.args.worker) (sym c.deref.ensures.value) ∙ (sym c.place_of.ensures ∙ (c.in-Some-Adding.is ∙ ap Some c.in-Some-Adding.field-0-is)) in
+    let at : slice_get r.places.items c.args.worker ≡ Some (Adding task) = search rules in
     let stands = stands_adding (g.W.Work.plan r.work.now) (g.W.Work.atoms r.work.now) r.drawn.items (vec_capacity r.drawn) r.places.items r.sums.items c.args.worker task c.self.invariant at in
     sym (ap (on_claim now.tiles now.state c.args.worker) (ap (λ (v : Progress). slice_get v.state.stands c.args.worker) (sym c.self.view_is) ∙ stands.1))
 
@@ -66,7 +66,7 @@ pub returns-then-ticket-tiles-clause-event : goal.returns-then-ticket-tiles-clau
 returns-then-ticket-tiles-clause-event g c =
     let r = c.self.inside in
     let plan = g.W.Work.plan r.work.now in
-    let at : slice_get r.places.items c.args.worker ≡ Some Resting = ap (λ ps. slice_get ps c.args.worker) (sym c.deref.ensures.value) ∙ (sym c.place_of.ensures ∙ (c.in-Some-Resting.is ∙ ap Some c.in-Some-Resting.field-0-is)) in
+    let at : slice_get r.places.items c.args.worker ≡ Some Resting = search rules in
     let ticket : c.len-ticket.result ≡ length r.drawn.items = search rules in
     let lt : c.len-ticket.result < length plan = omega (arith, c.if-ticket-tiles.true, c.tiles.ensures) in
     claims_so plan r.drawn.items c.push_reserved.new.self.items r.places.items r.sums.items c.args.worker c.place_from.result (Drew c.len-ticket.result)
@@ -77,7 +77,7 @@ pub returns-else-ticket-tiles-clause-event : goal.returns-else-ticket-tiles-clau
 returns-else-ticket-tiles-clause-event g c =
     let r = c.self.inside in
     let plan = g.W.Work.plan r.work.now in
-    let at : slice_get r.places.items c.args.worker ≡ Some Resting = ap (λ ps. slice_get ps c.args.worker) (sym c.deref.ensures.value) ∙ (sym c.place_of.ensures ∙ (c.in-Some-Resting.is ∙ ap Some c.in-Some-Resting.field-0-is)) in
+    let at : slice_get r.places.items c.args.worker ≡ Some Resting = search rules in
     let ticket : c.len-ticket.result ≡ length r.drawn.items = search rules in
     let le : length plan ≤ c.len-ticket.result = omega (arith, c.if-ticket-tiles.false, c.tiles.ensures) in
     claims_so plan r.drawn.items c.push_reserved.new.self.items r.places.items r.sums.items c.args.worker Stopped Ended

@@ -12,13 +12,13 @@ use Rattle.tile_round.proofs.round.Round.deposit.Goals as goal
 pub addition-entry-requires : goal.addition-entry-requires
 addition-entry-requires g c =
     let r = c.self.inside in
-    let at : slice_get r.places.items c.args.worker ≡ Some (Adding c.in-Some-Adding.task) = ap (λ ps. slice_get ps c.args.worker) (sym c.deref.ensures.value) ∙ (sym c.place_of.ensures ∙ (c.in-Some-Adding.is ∙ ap Some c.in-Some-Adding.field-0-is)) in
+    let at : slice_get r.places.items c.args.worker ≡ Some (Adding c.in-Some-Adding.task) = search rules in
     (c.self.invariant.within c.args.worker (Adding c.in-Some-Adding.task) at).part
 
 pub index-requires : goal.index-requires
 index-requires g c =
     let r = c.self.inside in
-    let at : slice_get r.places.items c.args.worker ≡ Some (Adding c.in-Some-Adding.task) = ap (λ ps. slice_get ps c.args.worker) (sym c.deref.ensures.value) ∙ (sym c.place_of.ensures ∙ (c.in-Some-Adding.is ∙ ap Some c.in-Some-Adding.field-0-is)) in
+    let at : slice_get r.places.items c.args.worker ≡ Some (Adding c.in-Some-Adding.task) = search rules in
     let sound = c.self.invariant.within c.args.worker (Adding c.in-Some-Adding.task) at in
     let atoms = g.W.Work.atoms r.work.now in
     let entry : c.addition-entry.result.0 < 3 * atoms = entry_inside atoms c.in-Some-Adding.task.add c.in-Some-Adding.task.part c.addition-entry.result sound.pair c.addition-entry.ensures in
@@ -27,7 +27,7 @@ index-requires g c =
 pub index_mut-requires : goal.index_mut-requires
 index_mut-requires g c =
     let r = c.self.inside in
-    let at : slice_get r.places.items c.args.worker ≡ Some (Adding c.in-Some-Adding.task) = ap (λ ps. slice_get ps c.args.worker) (sym c.deref.ensures.value) ∙ (sym c.place_of.ensures ∙ (c.in-Some-Adding.is ∙ ap Some c.in-Some-Adding.field-0-is)) in
+    let at : slice_get r.places.items c.args.worker ≡ Some (Adding c.in-Some-Adding.task) = search rules in
     let sound = c.self.invariant.within c.args.worker (Adding c.in-Some-Adding.task) at in
     let atoms = g.W.Work.atoms r.work.now in
     let entry : c.addition-entry.result.0 < 3 * atoms = entry_inside atoms c.in-Some-Adding.task.add c.in-Some-Adding.task.part c.addition-entry.result sound.pair c.addition-entry.ensures in
@@ -36,13 +36,13 @@ index_mut-requires g c =
 pub after-requires : goal.after-requires
 after-requires g c =
     let r = c.self.inside in
-    let at : slice_get r.places.items c.args.worker ≡ Some (Adding c.in-Some-Adding.task) = ap (λ ps. slice_get ps c.args.worker) (sym c.deref.ensures.value) ∙ (sym c.place_of.ensures ∙ (c.in-Some-Adding.is ∙ ap Some c.in-Some-Adding.field-0-is)) in
+    let at : slice_get r.places.items c.args.worker ≡ Some (Adding c.in-Some-Adding.task) = search rules in
     c.self.invariant.within c.args.worker (Adding c.in-Some-Adding.task) at
 
 pub index_mut-requires-in-Some-Adding : goal.index_mut-requires-in-Some-Adding
 index_mut-requires-in-Some-Adding g c =
     let r = c.self.inside in
-    let at : slice_get r.places.items c.args.worker ≡ Some (Adding c.in-Some-Adding.task) = ap (λ ps. slice_get ps c.args.worker) (sym c.deref.ensures.value) ∙ (sym c.place_of.ensures ∙ (c.in-Some-Adding.is ∙ ap Some c.in-Some-Adding.field-0-is)) in
+    let at : slice_get r.places.items c.args.worker ≡ Some (Adding c.in-Some-Adding.task) = search rules in
     omega (arith, slice_get_within r.places.items c.args.worker (Adding c.in-Some-Adding.task) at, r.places.ok.0)
 
 pub invariant_of-self : goal.invariant_of-self
@@ -50,7 +50,7 @@ invariant_of-self g c =
     let r = c.self.inside in
     let task = c.in-Some-Adding.task in
     let a = c.addition-entry.result in
-    let at : slice_get r.places.items c.args.worker ≡ Some (Adding task) = ap (λ ps. slice_get ps c.args.worker) (sym c.deref.ensures.value) ∙ (sym c.place_of.ensures ∙ (c.in-Some-Adding.is ∙ ap Some c.in-Some-Adding.field-0-is)) in
+    let at : slice_get r.places.items c.args.worker ≡ Some (Adding task) = search rules in
     let sound = c.self.invariant.within c.args.worker (Adding task) at in
     let atoms = g.W.Work.atoms r.work.now in
     let entry : a.0 < 3 * atoms = entry_inside atoms task.add task.part a sound.pair c.addition-entry.ensures in
@@ -63,21 +63,21 @@ pub returns-in-None-clause-event : goal.returns-in-None-clause-event
 returns-in-None-clause-event g c =
     let r = c.self.inside in
     let now = c.args.self.now in
-    let at : slice_get r.places.items c.args.worker ≡ None = ap (λ ps. slice_get ps c.args.worker) (sym c.deref.ensures.value) ∙ (sym c.place_of.ensures ∙ c.in-None.is) in
+    let at : slice_get r.places.items c.args.worker ≡ None = search rules in
     sym (ap (on_deposit now.tiles now.state c.args.worker) (ap (λ (v : Progress). slice_get v.state.stands c.args.worker) (sym c.self.view_is) ∙ standing (g.W.Work.plan r.work.now) r.places.items c.args.worker None at))
 
 pub returns-in-Some-Stopped-clause-event : goal.returns-in-Some-Stopped-clause-event
 returns-in-Some-Stopped-clause-event g c =
     let r = c.self.inside in
     let now = c.args.self.now in
-    let at : slice_get r.places.items c.args.worker ≡ Some Stopped = ap (λ ps. slice_get ps c.args.worker) (sym c.deref.ensures.value) ∙ (sym c.place_of.ensures ∙ (c.in-Some-Stopped.is ∙ ap Some c.in-Some-Stopped.field-0-is)) in
+    let at : slice_get r.places.items c.args.worker ≡ Some Stopped = search rules in
     sym (ap (on_deposit now.tiles now.state c.args.worker) (ap (λ (v : Progress). slice_get v.state.stands c.args.worker) (sym c.self.view_is) ∙ standing (g.W.Work.plan r.work.now) r.places.items c.args.worker (Some Stopped) at))
 
 pub returns-in-Some-Resting-clause-event : goal.returns-in-Some-Resting-clause-event
 returns-in-Some-Resting-clause-event g c =
     let r = c.self.inside in
     let now = c.args.self.now in
-    let at : slice_get r.places.items c.args.worker ≡ Some Resting = ap (λ ps. slice_get ps c.args.worker) (sym c.deref.ensures.value) ∙ (sym c.place_of.ensures ∙ (c.in-Some-Resting.is ∙ ap Some c.in-Some-Resting.field-0-is)) in
+    let at : slice_get r.places.items c.args.worker ≡ Some Resting = search rules in
     sym (ap (on_deposit now.tiles now.state c.args.worker) (ap (λ (v : Progress). slice_get v.state.stands c.args.worker) (sym c.self.view_is) ∙ standing (g.W.Work.plan r.work.now) r.places.items c.args.worker (Some Resting) at))
 
 pub returns-in-Some-Adding-clause-event : goal.returns-in-Some-Adding-clause-event
@@ -85,7 +85,7 @@ returns-in-Some-Adding-clause-event g c =
     let r = c.self.inside in
     let task = c.in-Some-Adding.task in
     let a = c.addition-entry.result in
-    let at : slice_get r.places.items c.args.worker ≡ Some (Adding task) = ap (λ ps. slice_get ps c.args.worker) (sym c.deref.ensures.value) ∙ (sym c.place_of.ensures ∙ (c.in-Some-Adding.is ∙ ap Some c.in-Some-Adding.field-0-is)) in
+    let at : slice_get r.places.items c.args.worker ≡ Some (Adding task) = search rules in
     let sound = c.self.invariant.within c.args.worker (Adding task) at in
     let atoms = g.W.Work.atoms r.work.now in
     let entry : a.0 < 3 * atoms = entry_inside atoms task.add task.part a sound.pair c.addition-entry.ensures in
