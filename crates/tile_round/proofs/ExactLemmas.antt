@@ -1,9 +1,8 @@
 -- Sums modulo 2^64 against exact ones.
-use Rattle.std.proofs.Common.{◌≡◌, ℕ, zero, suc, ◌+◌, ◌*◌, ◌%◌, ◌^◌, ◌<◌, ◌≢◌, List, [], ◌∷◌, ◌++◌, Option, Some, None, ℤ, pos, neg_ℤ, ◌+ℤ◌, sum_by, refl, sym, ap, subst, ◌∙◌, ⊎_elim, arith, rules}
+use Rattle.std.proofs.Common.{◌≡◌, ℕ, zero, suc, ◌+◌, ◌*◌, ◌%◌, ◌^◌, ◌<◌, ◌≢◌, List, [], ◌∷◌, ◌++◌, Option, Some, None, ℤ, pos, neg_ℤ, ◌+ℤ◌, sym, ap, subst, ◌∙◌, ⊎_elim, arith, rules}
 use Rattle.std.specs.Prelude.{if◌then◌else◌, ◌==◌, FitsSigned}
-use Rattle.std.specs.List.{flat_map}
 use Rattle.std.specs.Int.{w64, cast_signed, cast_unsigned, int_wrap, int_wrapping_neg}
-use Rattle.std.proofs.lemmas.Int.{ints, of_z-to_z, to_z-of_z, int_wrap_fits, wrapping_add-bits, int_wrap-add_left, int_wrap-add_right, wrapping_neg_is, SFits-int_wrap}
+use Rattle.std.proofs.lemmas.Int.{to_z-of_z, int_wrap_fits, wrapping_add-bits, int_wrap-add_left, int_wrap-add_right, wrapping_neg_is, SFits-int_wrap}
 use Rattle.std.proofs.lemmas.List.Sums.{sum_by-cons, sum_by-append}
 use Rattle.std.proofs.lemmas.Nat.{mod_below}
 use Rattle.std.proofs.lemmas.Bool.{cases_eq}
@@ -12,7 +11,7 @@ use Rattle.std.proofs.lemmas.List.Concat.{flat_map-cons}
 use Rattle.std.proofs.Math.Facts.{Fits-of_z}
 use Rattle.std.proofs.Math.Nat.{mod-add-mod, add-mod-mod, mod-eq_of_lt}
 use Rattle.tile_round.specs.declared.work.PairAdd.{PairAdd}
-use Rattle.tile_round.specs.Tiles.{Addition, amount_on, on_entry, total, three_on, component, along, against, additions_of, tile_of, tiles_of}
+use Rattle.tile_round.specs.Tiles.{amount_on, on_entry, total, three_on, component, along, against, additions_of, tile_of, tiles_of}
 use Rattle.tile_round.proofs.RunLemmas.{amount_here, amount_else}
 use Rattle.tile_round.specs.ExactSums.{force_on, tile_force, exact_force, HasWords, TileHasWords, PlanHasWords}
 

@@ -1,6 +1,6 @@
 -- What a round keeps of its workers is the machine's state.
-use Rattle.std.proofs.Common.{◌≡◌, ℕ, zero, suc, ◌+◌, ◌*◌, ◌%◌, ◌^◌, ◌<◌, ◌≤◌, ◌≢◌, ◌⊎◌, List, [], ◌∷◌, ◌++◌, map, drop, length, get_or, set, replicate, Option, Some, None, Result, Ok, Err, slice_get, slice_index, sum_by, ℤ, pos, refl, sym, ap, subst, ◌∙◌, ⊎_elim, append_assoc, arith, rules, add-one}
-use Rattle.std.proofs.lemmas.Option.{slice_get_within, slice_get-map}
+use Rattle.std.proofs.Common.{◌≡◌, ℕ, zero, suc, ◌+◌, ◌*◌, ◌%◌, ◌^◌, ◌<◌, ◌≤◌, List, [], ◌∷◌, ◌++◌, map, drop, length, get_or, set, replicate, Option, Some, None, Ok, slice_get, slice_index, sum_by, ℤ, pos, refl, sym, ap, subst, ◌∙◌, ⊎_elim, arith, add-one}
+use Rattle.std.proofs.lemmas.Option.{slice_get-map}
 use Rattle.std.proofs.lemmas.List.{length-map}
 use Rattle.std.proofs.lemmas.List.Concat.{flat_map-cons}
 use Rattle.std.specs.Int.{w64, cast_signed, cast_unsigned}
@@ -16,9 +16,9 @@ use Rattle.tile_round.specs.declared.places.Task.{Task}
 use Rattle.tile_round.specs.declared.places.Place.{Place}
 use Rattle.tile_round.specs.declared.places.Place.TheVariants.{Resting, Adding, Stopped}
 use Rattle.tile_round.specs.Tiles.{Addition, additions_of, tile_of, tiles_of, tile_at, pairs_at, IsPairOf}
-use Rattle.tile_round.specs.Interleaving.{State, Stand, opening, stand_at, outcome_at, claimed, deposited, on_claim, on_deposit}
+use Rattle.tile_round.specs.Interleaving.{State, Stand, opening, stand_at, outcome_at, on_claim, on_deposit}
 use Rattle.tile_round.specs.Interleaving.Stand.{doing, ended}
-use Rattle.tile_round.specs.Places.{stand_of, stands_of, stops, IsTask, IsPlace, IsSound}
+use Rattle.tile_round.specs.Places.{task_at, stand_of, stands_of, stops, IsPlace, IsSound}
 use Rattle.tile_round.proofs.RunLemmas.{at_set, replicated, stand_below, stand_past, outcome_below, outcome_past, stops_most, claim_few, deposit_stops}
 
 pub drop_at : {A : Type 0} (xs : List A) (i : ℕ) (x : A) → slice_get xs i ≡ Some x → drop i xs ≡ x ∷ drop (i + 1) xs
@@ -119,6 +119,18 @@ entry_inside atoms p (suc (suc (suc zero))) a pair at = let e : 3 * p.high ≡ a
 entry_inside atoms p (suc (suc (suc (suc zero)))) a pair at = let e : 3 * p.high + 1 ≡ a.0 = cc at in omega (arith, pair.inside)
 entry_inside atoms p (suc (suc (suc (suc (suc zero))))) a pair at = let e : 3 * p.high + 2 ≡ a.0 = cc at in omega (arith, pair.inside)
 entry_inside atoms p (suc (suc (suc (suc (suc (suc part)))))) a pair at = absurd (cc at)
+
+pub rests_at : (o : Option Place) → task_at o ≡ Ok None → o ≡ Some Resting
+rests_at None is = absurd (cc is)
+rests_at (Some Stopped) is = absurd (cc is)
+rests_at (Some Resting) is = refl
+rests_at (Some (Adding task)) is = absurd (cc is)
+
+pub adds_at : (o : Option Place) (task : Task) → task_at o ≡ Ok (Some task) → o ≡ Some (Adding task)
+adds_at None task is = absurd (cc is)
+adds_at (Some Stopped) task is = absurd (cc is)
+adds_at (Some Resting) task is = absurd (cc is)
+adds_at (Some (Adding other)) task is = ap (λ (t : Task). Some (Adding t)) (let same : other ≡ task = cc is in same)
 
 module _ (plan : List (List (Option PairAdd))) where
   -- the machine's state

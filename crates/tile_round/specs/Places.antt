@@ -1,10 +1,12 @@
 -- What a round keeps of its workers, and what that says of the machine's state.
-use Rattle.std.specs.Prelude.{◌≡◌, ℕ, ◌+◌, ◌*◌, ◌<◌, ◌≤◌, List, [], ◌++◌, length, map, drop, slice_get, sum_by, Option, Some, ℤ}
+use Rattle.std.specs.Prelude.{◌≡◌, ℕ, ◌+◌, ◌*◌, ◌<◌, ◌≤◌, List, [], ◌++◌, length, map, drop, slice_get, sum_by, Option, Some, None, Result, Ok, Err, ℤ}
 use Rattle.std.specs.Int.{w64, cast_signed, cast_unsigned}
 use Rattle.tile_round.specs.Tiles.{additions_of, tile_of, pairs_at, IsPairOf}
 use Rattle.tile_round.specs.Interleaving.{Stand}
 use Rattle.tile_round.specs.Interleaving.Stand.{doing, ended}
 use Rattle.tile_round.specs.declared.work.PairAdd.{PairAdd}
+use Rattle.tile_round.specs.declared.faults.RoundFault.{RoundFault}
+use Rattle.tile_round.specs.declared.faults.RoundFault.TheVariants.{NoSuchWorker, Stopped as HasStopped}
 use Rattle.tile_round.specs.declared.places.Task.{Task}
 use Rattle.tile_round.specs.declared.places.Place.{Place}
 use Rattle.tile_round.specs.declared.places.Place.TheVariants.{Resting, Adding, Stopped}
@@ -17,6 +19,13 @@ module _ (plan : List (List (Option PairAdd))) where
 
   abbrev pub stands_of : List Place → List Stand
   stands_of places = map stand_of places
+
+-- what a worker at this place has left, or why each of its events is refused
+abbrev pub task_at : Option Place → Result (Option Task) RoundFault
+task_at None = Err NoSuchWorker
+task_at (Some Stopped) = Err HasStopped
+task_at (Some Resting) = Ok None
+task_at (Some (Adding task)) = Ok (Some task)
 
 -- 1 for a worker that has stopped
 abbrev pub stops : Stand → ℕ

@@ -1,8 +1,9 @@
 ghost use Rattle.std.specs.Prelude.{◌≡◌, ◌+◌, ◌<◌, ◌≤◌, ◌++◌, length, drop, slice_get, Some};
 ghost use Rattle.tile_round.specs.Tiles.{additions_of, tile_of, pairs_at};
 ghost use Rattle.tile_round.specs.Interleaving.Stand.{doing};
-ghost use Rattle.tile_round.specs.Places.{stand_of, IsTask, IsPlace};
+ghost use Rattle.tile_round.specs.Places.{stand_of, task_at, IsTask, IsPlace};
 
+use crate::faults::RoundFault;
 use crate::work::{PairAdd, Work};
 
 /// Where a worker stands.
@@ -54,11 +55,17 @@ impl Task {
     }
 }
 
-// The place of a worker, where there is one of this number.
-pub(crate) fn place_of(places: &[Place], worker: u32) -> Option<Place>
-    ensures { result ≡ slice_get places.now worker }
+// What a worker has left to add, and nothing where it is at rest. It is refused where there is no
+// worker of this number, and else where the worker has stopped.
+pub(crate) fn task_of(places: &[Place], worker: u32) -> Result<Option<Task>, RoundFault>
+    ensures { result ≡ task_at (slice_get places.now worker) }
 {
-    places.get(worker as usize).copied()
+    match places.get(worker as usize) {
+        None => Err(RoundFault::NoSuchWorker),
+        Some(Place::Stopped) => Err(RoundFault::Stopped),
+        Some(Place::Resting) => Ok(None),
+        Some(Place::Adding(task)) => Ok(Some(*task)),
+    }
 }
 
 // The place at the first pair that acts, from this one of the tile on.

@@ -5,7 +5,7 @@ ghost use Rattle.tile_round.specs.Interleaving.{on_claim, on_deposit, opening, s
 
 use crate::events::{Event, Outcome};
 use crate::faults::{Memory, RoundFault};
-use crate::places::{Place, place_from, place_of};
+use crate::places::{Place, place_from, task_of};
 use crate::work::Work;
 use std::alloc::Allocator;
 use std::marker::Model;
@@ -91,11 +91,9 @@ impl<'w, W: Work, A: Allocator + Copy> Round<'w, W, A> {
         ensures tiles { self.new.tiles ≡ self.old.tiles }
         ensures event { (self.new.state, result) ≡ on_claim self.old.tiles self.old.state worker (slice_get self.old.state.stands worker) }
     {
-        match place_of(&self.places, worker) {
-            None => Err(RoundFault::NoSuchWorker),
-            Some(Place::Stopped) => Err(RoundFault::Stopped),
-            Some(Place::Adding(_)) => Err(RoundFault::Busy),
-            Some(Place::Resting) => {
+        match task_of(&self.places, worker)? {
+            Some(_) => Err(RoundFault::Busy),
+            None => {
                 let work = self.work;
                 let ticket = self.drawn.len() as u64;
                 self.drawn.push_reserved(worker);
@@ -114,11 +112,9 @@ impl<'w, W: Work, A: Allocator + Copy> Round<'w, W, A> {
         ensures tiles { self.new.tiles ≡ self.old.tiles }
         ensures event { (self.new.state, result) ≡ on_deposit self.old.tiles self.old.state worker (slice_get self.old.state.stands worker) }
     {
-        match place_of(&self.places, worker) {
-            None => Err(RoundFault::NoSuchWorker),
-            Some(Place::Stopped) => Err(RoundFault::Stopped),
-            Some(Place::Resting) => Err(RoundFault::Idle),
-            Some(Place::Adding(task)) => {
+        match task_of(&self.places, worker)? {
+            None => Err(RoundFault::Idle),
+            Some(task) => {
                 let work = self.work;
                 let (entry, amount) = task.addition();
                 let sum = self.sums[entry].cast_unsigned().wrapping_add(amount);

@@ -1,4 +1,4 @@
-use Rattle.std.proofs.Common.{◌≡◌, ◌∙◌, ◌+◌, ◌*◌, ◌≤◌, ℤ, pos, length, ap, replicate, arith, rules}
+use Rattle.std.proofs.Common.{◌≡◌, ◌*◌, pos, ap, replicate, arith, rules}
 use Rattle.std.specs.Vec.{vec_capacity}
 use Rattle.tile_round.specs.Tiles.{tiles_of}
 use Rattle.tile_round.specs.Interleaving.{State, Progress}
