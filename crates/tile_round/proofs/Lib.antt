@@ -1,0 +1,4 @@
+pub mod SumLemmas
+pub mod RunLemmas
+pub mod ExactLemmas
+pub mod PlaceLemmas

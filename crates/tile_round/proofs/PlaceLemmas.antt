@@ -1,0 +1,259 @@
+-- What a round keeps of its workers is the machine's state.
+use Rattle.std.proofs.Common.{◌≡◌, ℕ, zero, suc, ◌+◌, ◌*◌, ◌%◌, ◌^◌, ◌<◌, ◌≤◌, List, [], ◌∷◌, ◌++◌, map, drop, length, get_or, set, replicate, Option, Some, None, Ok, slice_get, slice_index, sum_by, ℤ, pos, refl, sym, ap, subst, ◌∙◌, ⊎_elim, arith, add-one}
+use Rattle.std.proofs.lemmas.Option.{slice_get-map}
+use Rattle.std.proofs.lemmas.List.{length-map}
+use Rattle.std.proofs.lemmas.List.Concat.{flat_map-cons}
+use Rattle.std.specs.Int.{w64, cast_signed, cast_unsigned}
+use Rattle.tile_round.specs.declared.work.PairAdd.{PairAdd}
+use Rattle.std.specs.Option.{option_map}
+use Rattle.std.proofs.lemmas.List.Sums.{sum_by-cons}
+use Rattle.std.proofs.lemmas.Int.{of_z-to_z}
+use Rattle.std.proofs.lemmas.Nat.{mod_below}
+use Rattle.std.proofs.Math.ListN.{length-set, length-replicate}
+use Rattle.tile_round.specs.declared.events.Outcome.{Outcome}
+use Rattle.tile_round.specs.declared.events.Outcome.TheVariants.{Drew, Ended, Added}
+use Rattle.tile_round.specs.declared.places.Task.{Task}
+use Rattle.tile_round.specs.declared.places.Place.{Place}
+use Rattle.tile_round.specs.declared.places.Place.TheVariants.{Resting, Adding, Stopped}
+use Rattle.tile_round.specs.Tiles.{Addition, additions_of, tile_of, tiles_of, tile_at, pairs_at, IsPairOf}
+use Rattle.tile_round.specs.Interleaving.{State, Stand, opening, stand_at, outcome_at, on_claim, on_deposit}
+use Rattle.tile_round.specs.Interleaving.Stand.{doing, ended}
+use Rattle.tile_round.specs.Places.{task_at, stand_of, stands_of, stops, IsPlace, IsSound}
+use Rattle.tile_round.proofs.RunLemmas.{at_set, replicated, stand_below, stand_past, outcome_below, outcome_past, stops_most, claim_few, deposit_stops}
+
+pub drop_at : {A : Type 0} (xs : List A) (i : ℕ) (x : A) → slice_get xs i ≡ Some x → drop i xs ≡ x ∷ drop (i + 1) xs
+drop_at xs i x e = go xs i x e ∙ ap (λ n. x ∷ drop n xs) (sym (add-one i))
+  where
+    go : {A : Type 0} (xs : List A) (i : ℕ) (x : A) → slice_get xs i ≡ Some x → drop i xs ≡ x ∷ drop (suc i) xs
+    go [] i x e = absurd (cc e)
+    go (y ∷ ys) zero x e = ap (λ z. z ∷ ys) (let s : y ≡ x = cc in s)
+    go (y ∷ ys) (suc i) x e = go ys i x e
+
+pub map_set : {A B : Type 0} (f : A → B) (xs : List A) (i : ℕ) (x : A) → map f (set xs i x) ≡ set (map f xs) i (f x)
+map_set f [] i x = refl
+map_set f (y ∷ ys) zero x = refl
+map_set f (y ∷ ys) (suc i) x = ap (λ zs. f y ∷ zs) (map_set f ys i x)
+
+pub map-replicate : {A B : Type 0} (f : A → B) (n : ℕ) (x : A) → map f (replicate n x) ≡ replicate n (f x)
+map-replicate f zero x = refl
+map-replicate f (suc n) x = ap (λ ys. f x ∷ ys) (map-replicate f n x)
+
+-- a pair and what comes after it
+pub tile_of-drop : (pairs : List (Option PairAdd)) (k : ℕ) (o : Option PairAdd) → slice_get pairs k ≡ Some o → tile_of (drop k pairs) ≡ additions_of o ++ tile_of (drop (k + 1) pairs)
+tile_of-drop pairs k o e = ap tile_of (drop_at pairs k o e) ∙ flat_map-cons additions_of o (drop (k + 1) pairs)
+
+tile_at-tiles_of : (plan : List (List (Option PairAdd))) (t : ℕ) → tile_at (tiles_of plan) t ≡ tile_of (pairs_at plan t)
+tile_at-tiles_of [] t = refl
+tile_at-tiles_of (ps ∷ plan) zero = refl
+tile_at-tiles_of (ps ∷ plan) (suc t) = tile_at-tiles_of plan t
+
+stops_fewer : (stands : List Stand) (w : ℕ) (xs : List Addition) → slice_get stands w ≡ Some (doing xs) → sum_by stops stands < length stands
+stops_fewer [] w xs at = absurd (cc at)
+stops_fewer (s ∷ ss) zero xs at =
+    let e : s ≡ doing xs = cc at in
+    let none : stops s ≡ 0 = ap stops e in
+    omega (arith, sum_by-cons stops s ss, stops_most ss)
+stops_fewer (s ∷ ss) (suc w) xs at =
+    let one : stops s ≤ 1 = elim s as (λ x. stops x ≤ 1) [ doing ys ↦ omega arith | ended ↦ omega arith ] in
+    omega (arith, sum_by-cons stops s ss, stops_fewer ss w xs at)
+
+next_addition : (p : PairAdd) (part : ℕ) → part < 6 → (a : Addition) × (slice_get (additions_of (Some p)) part ≡ Some a)
+next_addition p zero lt = (_, refl)
+next_addition p (suc zero) lt = (_, refl)
+next_addition p (suc (suc zero)) lt = (_, refl)
+next_addition p (suc (suc (suc zero))) lt = (_, refl)
+next_addition p (suc (suc (suc (suc zero)))) lt = (_, refl)
+next_addition p (suc (suc (suc (suc (suc zero))))) lt = (_, refl)
+next_addition p (suc (suc (suc (suc (suc (suc part)))))) lt = absurd (omega arith)
+
+read_map : {A B : Type 0} (f : A → B) (xs : List A) (k : ℕ) (x : A) (d : B) → k < length xs → x ≡ get_or xs k x → f x ≡ get_or (map f xs) k d
+read_map f [] k x d lt e = absurd (omega arith)
+read_map f (y ∷ ys) zero x d lt e = ap f e
+read_map f (y ∷ ys) (suc k) x d lt e = read_map f ys k x d (omega arith) e
+
+-- a sum that has grown by an amount, and stays a number of 64 bits
+module _ (sums : List ℤ) (k amount : ℕ) (old : ℤ) (lt : k < length sums) (read : old ≡ get_or sums k old) where
+  pub sum_added : map (cast_unsigned w64) (set sums k (cast_signed w64 ((cast_unsigned w64 old + amount) % 2 ^ 64))) ≡ set (map (cast_unsigned w64) sums) k ((slice_index (map (cast_unsigned w64) sums) k + amount) % 2 ^ 64)
+  sum_added =
+      map_set (cast_unsigned w64) sums k (cast_signed w64 ((cast_unsigned w64 old + amount) % 2 ^ 64))
+      ∙ ap (set (map (cast_unsigned w64) sums) k)
+      (of_z-to_z w64 ((cast_unsigned w64 old + amount) % 2 ^ 64) (mod_below (cast_unsigned w64 old + amount) (2 ^ 64) (omega arith))
+      ∙ ap (λ n. (n + amount) % 2 ^ 64) (read_map (cast_unsigned w64) sums k old 0 lt read))
+
+sum_signed : (sums : List ℤ) (k n : ℕ) → n < 2 ^ 64 → map (cast_signed w64) (map (cast_unsigned w64) sums) ≡ sums → map (cast_signed w64) (map (cast_unsigned w64) (set sums k (cast_signed w64 n))) ≡ set sums k (cast_signed w64 n)
+sum_signed sums k n lt signed =
+    ap (map (cast_signed w64)) (map_set (cast_unsigned w64) sums k (cast_signed w64 n))
+    ∙ (map_set (cast_signed w64) (map (cast_unsigned w64) sums) k (cast_unsigned w64 (cast_signed w64 n))
+    ∙ (ap (λ xs. set xs k (cast_signed w64 (cast_unsigned w64 (cast_signed w64 n)))) signed
+    ∙ ap (λ m. set sums k (cast_signed w64 m)) (of_z-to_z w64 n lt)))
+
+-- a sum as the code stores it
+module _ (sums : List ℤ) (k amount bits : ℕ) (old result : ℤ) (lt : k < length sums) (read : old ≡ get_or sums k old) (signed : map (cast_signed w64) (map (cast_unsigned w64) sums) ≡ sums)
+    (bits_is : bits ≡ cast_unsigned w64 (cast_signed w64 (cast_unsigned w64 old))) (result_is : result ≡ cast_signed w64 ((bits + amount) % 2 ^ 64)) where
+  old_signed : cast_signed w64 (cast_unsigned w64 old) ≡ old
+  old_signed =
+      read_map (cast_signed w64) (map (cast_unsigned w64) sums) k (cast_unsigned w64 old) old (omega (arith, length-map sums (cast_unsigned w64))) (read_map (cast_unsigned w64) sums k old (cast_unsigned w64 old) lt read)
+      ∙ (ap (λ xs. get_or xs k old) signed ∙ sym read)
+
+  stored : cast_signed w64 (cast_unsigned w64 result) ≡ cast_signed w64 ((cast_unsigned w64 old + amount) % 2 ^ 64)
+  stored =
+      ap (λ z. cast_signed w64 (cast_unsigned w64 z)) result_is
+      ∙ (ap (cast_signed w64) (of_z-to_z w64 ((bits + amount) % 2 ^ 64) (mod_below (bits + amount) (2 ^ 64) (omega arith)))
+      ∙ ap (λ n. cast_signed w64 ((n + amount) % 2 ^ 64)) (bits_is ∙ ap (cast_unsigned w64) old_signed))
+
+  pub stored_added : map (cast_unsigned w64) (set sums k (cast_signed w64 (cast_unsigned w64 result))) ≡ set (map (cast_unsigned w64) sums) k ((slice_index (map (cast_unsigned w64) sums) k + amount) % 2 ^ 64)
+  stored_added = ap (λ z. map (cast_unsigned w64) (set sums k z)) stored ∙ sum_added sums k amount old lt read
+
+  pub stored_signed : map (cast_signed w64) (map (cast_unsigned w64) (set sums k (cast_signed w64 (cast_unsigned w64 result)))) ≡ set sums k (cast_signed w64 (cast_unsigned w64 result))
+  stored_signed =
+      let n = (cast_unsigned w64 old + amount) % 2 ^ 64 in
+      ap (λ z. map (cast_signed w64) (map (cast_unsigned w64) (set sums k z))) stored
+      ∙ (sum_signed sums k n (mod_below (cast_unsigned w64 old + amount) (2 ^ 64) (omega arith)) signed ∙ ap (set sums k) (sym stored))
+
+-- an addition of a pair goes to an entry of one of its atoms
+pub entry_inside : (atoms : ℕ) (p : PairAdd) (part : ℕ) (a : Addition) → IsPairOf atoms p → slice_get (additions_of (Some p)) part ≡ Some a → a.0 < 3 * atoms
+entry_inside atoms p zero a pair at = let e : 3 * p.low ≡ a.0 = cc at in omega (arith, pair.ordered, pair.inside)
+entry_inside atoms p (suc zero) a pair at = let e : 3 * p.low + 1 ≡ a.0 = cc at in omega (arith, pair.ordered, pair.inside)
+entry_inside atoms p (suc (suc zero)) a pair at = let e : 3 * p.low + 2 ≡ a.0 = cc at in omega (arith, pair.ordered, pair.inside)
+entry_inside atoms p (suc (suc (suc zero))) a pair at = let e : 3 * p.high ≡ a.0 = cc at in omega (arith, pair.inside)
+entry_inside atoms p (suc (suc (suc (suc zero)))) a pair at = let e : 3 * p.high + 1 ≡ a.0 = cc at in omega (arith, pair.inside)
+entry_inside atoms p (suc (suc (suc (suc (suc zero))))) a pair at = let e : 3 * p.high + 2 ≡ a.0 = cc at in omega (arith, pair.inside)
+entry_inside atoms p (suc (suc (suc (suc (suc (suc part)))))) a pair at = absurd (cc at)
+
+pub rests_at : (o : Option Place) → task_at o ≡ Ok None → o ≡ Some Resting
+rests_at None is = absurd (cc is)
+rests_at (Some Stopped) is = absurd (cc is)
+rests_at (Some Resting) is = refl
+rests_at (Some (Adding task)) is = absurd (cc is)
+
+pub adds_at : (o : Option Place) (task : Task) → task_at o ≡ Ok (Some task) → o ≡ Some (Adding task)
+adds_at None task is = absurd (cc is)
+adds_at (Some Stopped) task is = absurd (cc is)
+adds_at (Some Resting) task is = absurd (cc is)
+adds_at (Some (Adding other)) task is = ap (λ (t : Task). Some (Adding t)) (let same : other ≡ task = cc is in same)
+
+module _ (plan : List (List (Option PairAdd))) where
+  -- the machine's state
+  abbrev pub state_of : List ℕ → List Place → List ℤ → State
+  state_of drawn places sums = record { drawn = drawn; stands = stands_of plan places; sums = map (cast_unsigned w64) sums }
+
+  pub standing : (places : List Place) (w : ℕ) (o : Option Place) → slice_get places w ≡ o → slice_get (stands_of plan places) w ≡ option_map (stand_of plan) o
+  standing places w o e = slice_get-map (stand_of plan) places w ∙ ap (option_map (stand_of plan)) e
+
+  -- the place of a worker that has drawn a ticket
+  pub drew_tile : (t : ℕ) (p : Place) → t < length plan → stand_of plan p ≡ doing (tile_of (drop 0 (pairs_at plan t))) → stand_of plan p ≡ stand_at (tiles_of plan) t
+  drew_tile t p lt e =
+      e ∙ (ap doing (sym (tile_at-tiles_of plan t)) ∙ sym (stand_below (tiles_of plan) t (omega (arith, length-map plan tile_of))))
+
+  pub drew_none : (t : ℕ) → length plan ≤ t → stand_of plan Stopped ≡ stand_at (tiles_of plan) t
+  drew_none t le = sym (stand_past (tiles_of plan) t (omega (arith, length-map plan tile_of)))
+
+  pub outcome_tile : (t : ℕ) → t < length plan → Drew t ≡ outcome_at (tiles_of plan) t
+  outcome_tile t lt = let below : t < length (tiles_of plan) = omega (arith, length-map plan tile_of) in sym (outcome_below (tiles_of plan) t below)
+
+  pub outcome_none : (t : ℕ) → length plan ≤ t → Ended ≡ outcome_at (tiles_of plan) t
+  outcome_none t le = let past : length (tiles_of plan) ≤ t = omega (arith, length-map plan tile_of) in sym (outcome_past (tiles_of plan) t past)
+
+  -- a claim of a worker at rest
+  pub claims_so : (drawn drawn' : List ℕ) (places : List Place) (sums : List ℤ) (w : ℕ) (p : Place) (outcome : Outcome)
+      → drawn' ≡ drawn ++ w ∷ [] → slice_get places w ≡ Some Resting → stand_of plan p ≡ stand_at (tiles_of plan) (length drawn) → outcome ≡ outcome_at (tiles_of plan) (length drawn)
+      → (state_of drawn' (set places w p) sums, Ok outcome) ≡ on_claim (tiles_of plan) (state_of drawn places sums) w (slice_get (stands_of plan places) w)
+  claims_so drawn drawn' places sums w p outcome longer at stand is =
+      let stands : stands_of plan (set places w p) ≡ set (stands_of plan places) w (stand_at (tiles_of plan) (length drawn)) = map_set (stand_of plan) places w p ∙ ap (set (stands_of plan places) w) stand in
+      (λ i. (record { drawn = longer i; stands = stands i; sums = map (cast_unsigned w64) sums }, Ok (is i)))
+      ∙ sym (ap (on_claim (tiles_of plan) (state_of drawn places sums) w) (standing places w (Some Resting) at))
+
+  abbrev pub rest_of : Task → List Addition
+  rest_of task = drop (task.part + 1) (additions_of (Some task.add)) ++ tile_of (drop task.next (pairs_at plan task.tile))
+
+  -- a worker with a task stands before its next addition
+  pub stands_before : (places : List Place) (w : ℕ) (task : Task) (a : Addition) → slice_get places w ≡ Some (Adding task) → slice_get (additions_of (Some task.add)) task.part ≡ Some a
+      → slice_get (stands_of plan places) w ≡ Some (doing (a ∷ rest_of task))
+  stands_before places w task a at next =
+      standing places w (Some (Adding task)) at
+      ∙ ap (λ (xs : List Addition). Some (doing (xs ++ tile_of (drop task.next (pairs_at plan task.tile))))) (drop_at (additions_of (Some task.add)) task.part a next)
+
+  -- a deposit of a worker with a task
+  pub deposits_so : (drawn : List ℕ) (places : List Place) (sums sums' : List ℤ) (w : ℕ) (task : Task) (p : Place) (a : Addition)
+      → slice_get places w ≡ Some (Adding task) → slice_get (additions_of (Some task.add)) task.part ≡ Some a → stand_of plan p ≡ doing (rest_of task)
+      → map (cast_unsigned w64) sums' ≡ set (map (cast_unsigned w64) sums) a.0 ((slice_index (map (cast_unsigned w64) sums) a.0 + a.1) % 2 ^ 64)
+      → (state_of drawn (set places w p) sums', Ok (Added (1 + a.0))) ≡ on_deposit (tiles_of plan) (state_of drawn places sums) w (slice_get (stands_of plan places) w)
+  deposits_so drawn places sums sums' w task p a at next stand added =
+      let stands : stands_of plan (set places w p) ≡ set (stands_of plan places) w (doing (rest_of task)) = map_set (stand_of plan) places w p ∙ ap (set (stands_of plan places) w) stand in
+      (λ i. (record { drawn = drawn; stands = stands i; sums = added i }, Ok (Added (1 + a.0))))
+      ∙ sym (ap (on_deposit (tiles_of plan) (state_of drawn places sums) w) (stands_before places w task a at next))
+
+  module _ (atoms : ℕ) where
+    within_set : (places : List Place) (w : ℕ) (p : Place) → IsPlace atoms plan p → ((v : ℕ) (q : Place) → slice_get places v ≡ Some q → IsPlace atoms plan q)
+        → (v : ℕ) (q : Place) → slice_get (set places w p) v ≡ Some q → IsPlace atoms plan q
+    within_set places w p is within v q e = ⊎_elim (λ t. subst (IsPlace atoms plan) t.1 is) (λ t. within v q t.1) (at_set places w v p q e)
+
+    -- there is room for the ticket of a worker at rest
+    pub has_room : (drawn : List ℕ) (room : ℕ) (places : List Place) (sums : List ℤ) (w : ℕ) → IsSound atoms plan drawn room places sums → slice_get places w ≡ Some Resting → length drawn < room
+    has_room drawn room places sums w sound at =
+        let few = sound.few in
+        let enough = sound.enough in
+        let fewer = stops_fewer (stands_of plan places) w [] (standing places w (Some Resting) at) in
+        let same = length-map places (stand_of plan) in
+        omega arith
+
+    pub claim_sound : (drawn drawn' : List ℕ) (room room' : ℕ) (places : List Place) (sums : List ℤ) (w : ℕ) (p : Place) → IsSound atoms plan drawn room places sums → slice_get places w ≡ Some Resting → IsPlace atoms plan p
+        → drawn' ≡ drawn ++ w ∷ [] → room' ≡ room → stand_of plan p ≡ stand_at (tiles_of plan) (length drawn) → IsSound atoms plan drawn' room' (set places w p) sums
+    claim_sound drawn drawn' room room' places sums w p sound at is longer same stand = record {
+      within = within_set places w p is sound.within;
+      wide = sound.wide;
+      signed = sound.signed;
+      few =
+          let s = state_of drawn places sums in
+          let before : length drawn ≤ length (tiles_of plan) + sum_by stops (stands_of plan places) = let few = sound.few in omega (arith, length-map plan tile_of) in
+          let after : length (drawn ++ w ∷ []) ≤ length (tiles_of plan) + sum_by stops (set (stands_of plan places) w (stand_at (tiles_of plan) (length drawn))) = claim_few (tiles_of plan) s w (standing places w (Some Resting) at) before in
+          let stands : stands_of plan (set places w p) ≡ set (stands_of plan places) w (stand_at (tiles_of plan) (length drawn)) = map_set (stand_of plan) places w p ∙ ap (set (stands_of plan places) w) stand in
+          let left = ap length longer in
+          let right = ap (sum_by stops) stands in
+          omega (arith, length-map plan tile_of);
+      enough = let enough = sound.enough in omega (arith, length-set places w p);
+    }
+
+    pub deposit_sound : (drawn : List ℕ) (room : ℕ) (places : List Place) (sums sums' : List ℤ) (w : ℕ) (task : Task) (p : Place) (a : Addition) → IsSound atoms plan drawn room places sums → slice_get places w ≡ Some (Adding task) → IsPlace atoms plan p
+        → slice_get (additions_of (Some task.add)) task.part ≡ Some a → stand_of plan p ≡ doing (rest_of task)
+        → length sums' ≡ length sums → map (cast_signed w64) (map (cast_unsigned w64) sums') ≡ sums' → IsSound atoms plan drawn room (set places w p) sums'
+    deposit_sound drawn room places sums sums' w task p a sound at is next stand same signed = record {
+      within = within_set places w p is sound.within;
+      wide = let wide = sound.wide in omega arith;
+      signed = signed;
+      few =
+          let stands : stands_of plan (set places w p) ≡ set (stands_of plan places) w (doing (rest_of task)) = map_set (stand_of plan) places w p ∙ ap (set (stands_of plan places) w) stand in
+          let right = ap (sum_by stops) stands in
+          let kept = deposit_stops (tiles_of plan) (state_of drawn places sums) w a (rest_of task) (stands_before places w task a at next) in
+          let few = sound.few in
+          omega arith;
+      enough = let enough = sound.enough in omega (arith, length-set places w p);
+    }
+
+    -- a worker with a task has an addition left
+    pub stands_adding : (drawn : List ℕ) (room : ℕ) (places : List Place) (sums : List ℤ) (w : ℕ) (task : Task) → IsSound atoms plan drawn room places sums → slice_get places w ≡ Some (Adding task)
+        → (a : Addition) × (slice_get (stands_of plan places) w ≡ Some (doing (a ∷ rest_of task)))
+    stands_adding drawn room places sums w task sound at =
+        let a = next_addition task.add task.part (sound.within w (Adding task) at).part in
+        (a.0, stands_before places w task a.0 at a.1)
+
+  -- the opening of a round
+  module _ (atoms workers entries room : ℕ) (drawn : List ℕ) (places : List Place) (sums : List ℤ) (drawn_is : drawn ≡ []) (places_are : places ≡ replicate workers Resting) (sums_are : sums ≡ replicate entries (pos 0)) where
+    pub opens_so : state_of drawn places sums ≡ opening workers entries
+    opens_so =
+        let stands : stands_of plan places ≡ replicate workers (doing []) = ap (stands_of plan) places_are ∙ map-replicate (stand_of plan) workers Resting in
+        let zeros : map (cast_unsigned w64) sums ≡ replicate entries 0 = ap (map (cast_unsigned w64)) sums_are ∙ map-replicate (cast_unsigned w64) entries (pos 0) in
+        λ i. record { drawn = drawn_is i; stands = stands i; sums = zeros i }
+
+    pub opening_sound : 3 * atoms ≤ entries → length plan + workers ≤ room → IsSound atoms plan drawn room places sums
+    opening_sound wide enough = record {
+      within = λ w p e.
+          let rests : Resting ≡ p = replicated workers w Resting p (ap (λ ps. slice_get ps w) (sym places_are) ∙ e) in
+          subst (IsPlace atoms plan) rests tt;
+      wide = let size = ap length sums_are in omega (arith, length-replicate entries (pos 0));
+      signed =
+          ap (map (cast_signed w64)) (ap (map (cast_unsigned w64)) sums_are ∙ map-replicate (cast_unsigned w64) entries (pos 0))
+          ∙ (map-replicate (cast_signed w64) entries 0 ∙ sym sums_are);
+      few = let none = ap length drawn_is in omega arith;
+      enough = let size = ap length places_are in omega (arith, length-replicate workers Resting);
+    }

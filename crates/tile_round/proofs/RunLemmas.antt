@@ -1,0 +1,352 @@
+-- Each event keeps what the laws say.
+use Rattle.std.proofs.Common.{◌≡◌, ℕ, zero, suc, ◌+◌, ◌%◌, ◌^◌, ◌<◌, ◌≤◌, ◌≢◌, ◌⊎◌, List, [], ◌∷◌, ◌++◌, length, get_or, set, replicate, Option, Some, None, Ok, slice_get, slice_index, sum_by, Contains, refl, sym, ap, subst, ◌∙◌, inl, inr, ⊎_elim, append-nil, append_assoc, zero-add, arith, rules}
+use Rattle.std.specs.Prelude.{if◌then◌else◌, ◌==◌}
+use Rattle.std.proofs.lemmas.Option.{slice_get-get_or}
+use Rattle.std.proofs.lemmas.List.{get_or-set_same, get_or-set_other, get_or_past}
+use Rattle.std.proofs.lemmas.List.Sums.{sum_by-cons, sum_by_push}
+use Rattle.std.proofs.lemmas.List.Elements.{Contains-append_left, Contains-append_right}
+use Rattle.std.proofs.lemmas.Bool.{cases_lt, cases_eq}
+use Rattle.std.proofs.lemmas.Bool.Decides.{nat_tests}
+use Rattle.std.proofs.Math.Nat.{mod-add-mod}
+use Rattle.std.proofs.Math.ListN.{length-set, length-append, length-replicate}
+use Rattle.tile_round.specs.Tiles.{Addition, amount_on, on_entry, total, tile_at}
+use Rattle.tile_round.specs.Interleaving.{State, Stand, opening, stand_at, outcome_at, claimed, deposited, on_claim, on_deposit, step, run}
+use Rattle.tile_round.specs.Interleaving.Stand.{doing, ended}
+use Rattle.tile_round.specs.Laws.{accepted, drawer_of, next_of, claims_in, drawers_in, deposits_in, claims, drawers, deposits, HasStopped, IsOver, IsWhole}
+use Rattle.tile_round.specs.Places.{stops}
+use Rattle.tile_round.specs.declared.events.Event.{Event}
+use Rattle.tile_round.specs.declared.events.Event.TheVariants.{Claim, Deposit}
+use Rattle.tile_round.specs.declared.events.Outcome.{Outcome}
+use Rattle.tile_round.specs.declared.events.Outcome.TheVariants.{Drew, Ended}
+use Rattle.tile_round.proofs.SumLemmas.{below, sum_at_set, sum_none, below_tiles}
+
+-- what a worker has left
+abbrev pub left_of : Stand → List Addition
+left_of (doing xs) = xs
+left_of ended = []
+
+-- after a write at i, what stands at j
+pub at_set : {A : Type 0} (xs : List A) (i j : ℕ) (x y : A) → slice_get (set xs i x) j ≡ Some y → ((j ≡ i) × (x ≡ y)) ⊎ ((j ≢ i) × (slice_get xs j ≡ Some y))
+at_set [] i j x y e = absurd (cc e)
+at_set (z ∷ zs) zero zero x y e = inl (refl, cc)
+at_set (z ∷ zs) zero (suc j) x y e = inr ((λ h. omega arith), e)
+at_set (z ∷ zs) (suc i) zero x y e = inr ((λ h. omega arith), e)
+at_set (z ∷ zs) (suc i) (suc j) x y e = ⊎_elim (λ t. inl (ap suc t.0, t.1)) (λ t. let n = t.0 in inr ((λ h. n (omega arith)), t.1)) (at_set zs i j x y e)
+
+pub replicated : {A : Type 0} (n i : ℕ) (x y : A) → slice_get (replicate n x) i ≡ Some y → x ≡ y
+replicated zero i x y e = absurd (cc e)
+replicated (suc n) zero x y e = cc
+replicated (suc n) (suc i) x y e = replicated n i x y e
+
+get_or-replicate_zero : (n i : ℕ) → slice_index (replicate n zero) i ≡ zero
+get_or-replicate_zero zero i = refl
+get_or-replicate_zero (suc n) zero = refl
+get_or-replicate_zero (suc n) (suc i) = get_or-replicate_zero n i
+
+pub amount_here : (k : ℕ) (a : Addition) → k ≡ a.0 → amount_on k a ≡ a.1
+amount_here k a e = grind (arith, nat_tests)
+
+pub amount_else : (k : ℕ) (a : Addition) → k ≢ a.0 → amount_on k a ≡ 0
+amount_else k a ne = grind (arith, nat_tests)
+
+-- a deposit on a word, modulo 2^64
+pub sum_after : (sums : List ℕ) (done : List Addition) (a : Addition) (k : ℕ) → k < length sums
+    → slice_index sums k ≡ on_entry k done % 2 ^ 64
+    → slice_index (set sums a.0 ((slice_index sums a.0 + a.1) % 2 ^ 64)) k ≡ on_entry k (done ++ a ∷ []) % 2 ^ 64
+sum_after sums done a k lt is = ⊎_elim here else' (cases_eq k a.0)
+  where
+    more : on_entry k (done ++ a ∷ []) ≡ on_entry k done + amount_on k a
+    more = sum_by_push (amount_on k) done a
+
+    here : k ≡ a.0 → slice_index (set sums a.0 ((slice_index sums a.0 + a.1) % 2 ^ 64)) k ≡ on_entry k (done ++ a ∷ []) % 2 ^ 64
+    here e =
+        let at : slice_index (set sums k ((slice_index sums k + a.1) % 2 ^ 64)) k ≡ (slice_index sums k + a.1) % 2 ^ 64 = get_or-set_same sums k ((slice_index sums k + a.1) % 2 ^ 64) 0 lt in
+        let P : ℕ → Type 0 = λ j. slice_index (set sums j ((slice_index sums j + a.1) % 2 ^ 64)) k ≡ (slice_index sums k + a.1) % 2 ^ 64 in
+        subst P e at
+        ∙ (ap (λ x. (x + a.1) % 2 ^ 64) is ∙ (mod-add-mod (on_entry k done) (2 ^ 64) a.1 ∙ ap (λ x. x % 2 ^ 64) (ap (λ x. on_entry k done + x) (sym (amount_here k a e)) ∙ sym more)))
+
+    else' : k ≢ a.0 → slice_index (set sums a.0 ((slice_index sums a.0 + a.1) % 2 ^ 64)) k ≡ on_entry k (done ++ a ∷ []) % 2 ^ 64
+    else' ne =
+        get_or-set_other sums a.0 k ((slice_index sums a.0 + a.1) % 2 ^ 64) 0 ne
+        ∙ (is ∙ ap (λ x. x % 2 ^ 64) (let z = amount_else k a ne in omega (arith, more)))
+
+-- the drawer of a ticket, as a list of one
+abbrev pub one_of : Option ℕ → List ℕ
+one_of None = []
+one_of (Some w) = w ∷ []
+
+abbrev pub drawer_at : List ℕ → ℕ → List ℕ
+drawer_at drawn t = one_of (slice_get drawn t)
+
+abbrev pub picked : ℕ → ℕ → ℕ → List ℕ
+picked n t w = if n == t then w ∷ [] else []
+
+picked_same : (n t w : ℕ) → n ≡ t → picked n t w ≡ w ∷ []
+picked_same n t w e = grind (arith, nat_tests)
+
+picked_else : (n t w : ℕ) → n ≢ t → picked n t w ≡ []
+picked_else n t w ne = grind (arith, nat_tests)
+
+drawer_at-push : (drawn : List ℕ) (w t : ℕ) → drawer_at (drawn ++ w ∷ []) t ≡ drawer_at drawn t ++ picked (length drawn) t w
+drawer_at-push [] w zero = sym (picked_same 0 0 w refl)
+drawer_at-push [] w (suc t) = sym (picked_else 0 (suc t) w (λ e. omega arith))
+drawer_at-push (x ∷ xs) w zero = ap (λ ws. x ∷ ws) (sym (picked_else (length (x ∷ xs)) 0 w (λ e. omega arith)))
+drawer_at-push (x ∷ xs) w (suc t) = drawer_at-push xs w t ∙ ap (λ ws. drawer_at xs t ++ ws) (⊎_elim same else' (cases_eq (length xs) t))
+  where
+    same : length xs ≡ t → picked (length xs) t w ≡ picked (suc (length xs)) (suc t) w
+    same e = picked_same (length xs) t w e ∙ sym (picked_same (suc (length xs)) (suc t) w (ap suc e))
+
+    else' : length xs ≢ t → picked (length xs) t w ≡ picked (suc (length xs)) (suc t) w
+    else' ne = picked_else (length xs) t w ne ∙ sym (picked_else (suc (length xs)) (suc t) w (λ e. ne (omega arith)))
+
+pub stops_most : (stands : List Stand) → sum_by stops stands ≤ length stands
+stops_most [] = omega arith
+stops_most (s ∷ ss) =
+    let rest = stops_most ss in
+    let cons = sum_by-cons stops s ss in
+    let one : stops s ≤ 1 = elim s as (λ x. stops x ≤ 1) [ doing xs ↦ omega arith | ended ↦ omega arith ] in
+    omega arith
+
+module _ (tiles : List (List Addition)) where
+  pub record Holds (s : State) (done : List Addition) : Type 0 where
+    pub sums : (k : ℕ) → k < length s.sums → slice_index s.sums k ≡ on_entry k done % 2 ^ 64
+    pub drawn_sums : (k : ℕ) → on_entry k done + sum_by (λ h. on_entry k (left_of h)) s.stands ≡ below (λ t. on_entry k (tile_at tiles t)) (length s.drawn)
+    pub stopped : (w : ℕ) → HasStopped s w → length tiles < length s.drawn
+    pub busy : (w : ℕ) (a : Addition) (rest : List Addition) → slice_get s.stands w ≡ Some (doing (a ∷ rest)) → Contains s.drawn w
+    pub few : length s.drawn ≤ length tiles + sum_by stops s.stands
+
+  -- where a worker stands once it has drawn a ticket
+  pub stand_below : (t : ℕ) → t < length tiles → stand_at tiles t ≡ doing (tile_at tiles t)
+  stand_below t lt = grind (arith, nat_tests)
+
+  pub stand_past : (t : ℕ) → length tiles ≤ t → stand_at tiles t ≡ ended
+  stand_past t le = grind (arith, nat_tests)
+
+  pub outcome_below : (t : ℕ) → t < length tiles → outcome_at tiles t ≡ Drew t
+  outcome_below t lt = grind (arith, nat_tests)
+
+  pub outcome_past : (t : ℕ) → length tiles ≤ t → outcome_at tiles t ≡ Ended
+  outcome_past t le = grind (arith, nat_tests)
+
+  left_is : (t : ℕ) → left_of (stand_at tiles t) ≡ tile_at tiles t
+  left_is t = ⊎_elim (λ lt. ap left_of (stand_below t lt)) (λ le. ap left_of (stand_past t le) ∙ sym (get_or_past tiles t [] le)) (cases_lt t (length tiles))
+
+  ends_past : (t : ℕ) → stand_at tiles t ≡ ended → length tiles ≤ t
+  ends_past t e = ⊎_elim (λ lt. let b = stand_below t lt in absurd (cc)) (λ le. le) (cases_lt t (length tiles))
+
+  stops_at : (t : ℕ) → t < length tiles ⊎ (stops (stand_at tiles t) ≡ 1)
+  stops_at t = ⊎_elim inl (λ le. inr (ap stops (stand_past t le))) (cases_lt t (length tiles))
+
+  -- there is a ticket for each tile, and one for each worker that has stopped
+  pub claim_few : (s : State) (w : ℕ) → slice_get s.stands w ≡ Some (doing []) → length s.drawn ≤ length tiles + sum_by stops s.stands
+      → length (claimed tiles s w).drawn ≤ length tiles + sum_by stops (claimed tiles s w).stands
+  claim_few s w at few =
+      let moved : sum_by stops (claimed tiles s w).stands + 0 ≡ sum_by stops s.stands + stops (stand_at tiles (length s.drawn)) = sum_at_set stops s.stands w (doing []) (stand_at tiles (length s.drawn)) at in
+      let longer = length-append s.drawn (w ∷ []) in
+      ⊎_elim (λ lt. omega arith) (λ one. omega arith) (stops_at (length s.drawn))
+
+  pub deposit_stops : (s : State) (w : ℕ) (a : Addition) (rest : List Addition) → slice_get s.stands w ≡ Some (doing (a ∷ rest)) → sum_by stops (deposited tiles s w a rest).stands ≡ sum_by stops s.stands
+  deposit_stops s w a rest at = let moved : sum_by stops (set s.stands w (doing rest)) + 0 ≡ sum_by stops s.stands + 0 = sum_at_set stops s.stands w (doing (a ∷ rest)) (doing rest) at in omega arith
+
+  claim_keeps : (s : State) (done : List Addition) (w : ℕ) → Holds s done → slice_get s.stands w ≡ Some (doing []) → Holds (claimed tiles s w) done
+  claim_keeps s done w h at = record {
+    sums = h.sums;
+    drawn_sums = λ k.
+        let f : Stand → ℕ = λ x. on_entry k (left_of x) in
+        let moved : sum_by f (set s.stands w (stand_at tiles (length s.drawn))) + 0 ≡ sum_by f s.stands + f (stand_at tiles (length s.drawn)) = sum_at_set f s.stands w (doing []) (stand_at tiles (length s.drawn)) at in
+        let left : f (stand_at tiles (length s.drawn)) ≡ on_entry k (tile_at tiles (length s.drawn)) = ap (on_entry k) (left_is (length s.drawn)) in
+        let was = h.drawn_sums k in
+        let longer : length (s.drawn ++ w ∷ []) ≡ suc (length s.drawn) = omega (arith, length-append s.drawn (w ∷ [])) in
+        let goal : on_entry k done + sum_by f (set s.stands w (stand_at tiles (length s.drawn))) ≡ below (λ t. on_entry k (tile_at tiles t)) (suc (length s.drawn)) = omega arith in
+        goal ∙ ap (below (λ t. on_entry k (tile_at tiles t))) (sym longer);
+    stopped = λ v e. let longer = length-append s.drawn (w ∷ []) in
+        ⊎_elim (λ t. let p = ends_past (length s.drawn) (cc t.1) in omega arith) (λ t. let p = h.stopped v t.1 in omega arith) (at_set s.stands w v (stand_at tiles (length s.drawn)) ended e);
+    busy = λ v a rest e. ⊎_elim (λ t. subst (λ u. Contains (s.drawn ++ w ∷ []) u) (sym t.0) (Contains-append_right s.drawn (w ∷ []) w (search rules)))
+        (λ t. Contains-append_left s.drawn (w ∷ []) v (h.busy v a rest t.1)) (at_set s.stands w v (stand_at tiles (length s.drawn)) (doing (a ∷ rest)) e);
+    few = claim_few s w at h.few;
+  }
+
+  deposit_keeps : (s : State) (done : List Addition) (w : ℕ) (a : Addition) (rest : List Addition) → Holds s done → slice_get s.stands w ≡ Some (doing (a ∷ rest)) → Holds (deposited tiles s w a rest) (done ++ a ∷ [])
+  deposit_keeps s done w a rest h at = record {
+    sums = λ k lt. let lt' : k < length s.sums = omega (arith, length-set s.sums a.0 ((slice_index s.sums a.0 + a.1) % 2 ^ 64)) in sum_after s.sums done a k lt' (h.sums k lt');
+    drawn_sums = λ k.
+        let f : Stand → ℕ = λ x. on_entry k (left_of x) in
+        let moved : sum_by f (set s.stands w (doing rest)) + on_entry k (a ∷ rest) ≡ sum_by f s.stands + on_entry k rest = sum_at_set f s.stands w (doing (a ∷ rest)) (doing rest) at in
+        let cons : on_entry k (a ∷ rest) ≡ amount_on k a + on_entry k rest = sum_by-cons (amount_on k) a rest in
+        let more : on_entry k (done ++ a ∷ []) ≡ on_entry k done + amount_on k a = sum_by_push (amount_on k) done a in
+        let was = h.drawn_sums k in
+        omega arith;
+    stopped = λ v e. ⊎_elim (λ t. absurd (cc t.1)) (λ t. h.stopped v t.1) (at_set s.stands w v (doing rest) ended e);
+    busy = λ v b bs e. ⊎_elim (λ t. subst (λ u. Contains s.drawn u) (sym t.0) (h.busy w a rest at)) (λ t. h.busy v b bs t.1) (at_set s.stands w v (doing rest) (doing (b ∷ bs)) e);
+    few = let same = deposit_stops s w a rest at in let few = h.few in omega arith;
+  }
+
+  claim_keeps_at : (s : State) (done : List Addition) (w : ℕ) (o : Option Stand) → slice_get s.stands w ≡ o → Holds s done → Holds (on_claim tiles s w o).0 (done ++ [])
+  claim_keeps_at s done w None at h = rw append-nil h
+  claim_keeps_at s done w (Some ended) at h = rw append-nil h
+  claim_keeps_at s done w (Some (doing [])) at h = rw append-nil (claim_keeps s done w h at)
+  claim_keeps_at s done w (Some (doing (a ∷ rest))) at h = rw append-nil h
+
+  deposit_keeps_at : (s : State) (done : List Addition) (w : ℕ) (o : Option Stand) → slice_get s.stands w ≡ o → Holds s done → Holds (on_deposit tiles s w o).0 (done ++ next_of o)
+  deposit_keeps_at s done w None at h = rw append-nil h
+  deposit_keeps_at s done w (Some ended) at h = rw append-nil h
+  deposit_keeps_at s done w (Some (doing [])) at h = rw append-nil h
+  deposit_keeps_at s done w (Some (doing (a ∷ rest))) at h = deposit_keeps s done w a rest h at
+
+  step_keeps : (s : State) (done : List Addition) (e : Event) → Holds s done → Holds (step tiles s e).0 (done ++ deposits_in s e)
+  step_keeps s done (Claim w) h = claim_keeps_at s done w (slice_get s.stands w) refl h
+  step_keeps s done (Deposit w) h = deposit_keeps_at s done w (slice_get s.stands w) refl h
+
+  pub run_keeps : (s : State) (done : List Addition) (es : List Event) → Holds s done → Holds (run tiles s es) (done ++ deposits tiles s es)
+  run_keeps s done [] h = rw append-nil h
+  run_keeps s done (e ∷ es) h =
+      let k : Holds (run tiles s (e ∷ es)) ((done ++ deposits_in s e) ++ deposits tiles (step tiles s e).0 es) = run_keeps (step tiles s e).0 (done ++ deposits_in s e) es (step_keeps s done e h) in
+      rw (← append_assoc) k
+
+  pub opens : (workers entries : ℕ) → Holds (opening workers entries) []
+  opens workers entries = record {
+    sums = λ k lt. get_or-replicate_zero entries k;
+    drawn_sums = λ k. zero-add (sum_by (λ h. on_entry k (left_of h)) (replicate workers (doing []))) ∙ sum_none (λ x. on_entry k (left_of x)) (replicate workers (doing [])) (λ i x at. ap (λ y. on_entry k (left_of y)) (sym (replicated workers i (doing []) x at)));
+    stopped = λ w e. let p = replicated workers w (doing []) ended e in absurd (cc p);
+    busy = λ w a rest e. let p = replicated workers w (doing []) (doing (a ∷ rest)) e in absurd (cc p);
+    few = omega arith;
+  }
+
+  -- how many sums there are
+  sums_at_claim : (s : State) (w : ℕ) (o : Option Stand) → length (on_claim tiles s w o).0.sums ≡ length s.sums
+  sums_at_claim s w None = refl
+  sums_at_claim s w (Some ended) = refl
+  sums_at_claim s w (Some (doing [])) = refl
+  sums_at_claim s w (Some (doing (a ∷ rest))) = refl
+
+  sums_at_deposit : (s : State) (w : ℕ) (o : Option Stand) → length (on_deposit tiles s w o).0.sums ≡ length s.sums
+  sums_at_deposit s w None = refl
+  sums_at_deposit s w (Some ended) = refl
+  sums_at_deposit s w (Some (doing [])) = refl
+  sums_at_deposit s w (Some (doing (a ∷ rest))) = length-set s.sums a.0 ((slice_index s.sums a.0 + a.1) % 2 ^ 64)
+
+  sums_at : (s : State) (e : Event) → length (step tiles s e).0.sums ≡ length s.sums
+  sums_at s (Claim w) = sums_at_claim s w (slice_get s.stands w)
+  sums_at s (Deposit w) = sums_at_deposit s w (slice_get s.stands w)
+
+  pub sums_length : (s : State) (es : List Event) → length (run tiles s es).sums ≡ length s.sums
+  sums_length s [] = refl
+  sums_length s (e ∷ es) = sums_length (step tiles s e).0 es ∙ sums_at s e
+
+  claims_at_claim : (s : State) (w : ℕ) (o : Option Stand) → length (on_claim tiles s w o).0.drawn ≡ length s.drawn + accepted (on_claim tiles s w o).1
+  claims_at_claim s w None = omega arith
+  claims_at_claim s w (Some ended) = omega arith
+  claims_at_claim s w (Some (doing [])) = length-append s.drawn (w ∷ [])
+  claims_at_claim s w (Some (doing (a ∷ rest))) = omega arith
+
+  drawn_at_deposit : (s : State) (w : ℕ) (o : Option Stand) → (on_deposit tiles s w o).0.drawn ≡ s.drawn
+  drawn_at_deposit s w None = refl
+  drawn_at_deposit s w (Some ended) = refl
+  drawn_at_deposit s w (Some (doing [])) = refl
+  drawn_at_deposit s w (Some (doing (a ∷ rest))) = refl
+
+  drawn_at : (s : State) (e : Event) → length (step tiles s e).0.drawn ≡ length s.drawn + claims_in tiles s e
+  drawn_at s (Claim w) = claims_at_claim s w (slice_get s.stands w)
+  drawn_at s (Deposit w) = let e = ap length (drawn_at_deposit s w (slice_get s.stands w)) in omega arith
+
+  pub drawn_after : (s : State) (es : List Event) → length (run tiles s es).drawn ≡ length s.drawn + claims tiles s es
+  drawn_after s [] = omega arith
+  drawn_after s (e ∷ es) = let a = drawn_after (step tiles s e).0 es in let b = drawn_at s e in omega arith
+
+  -- how many workers there are
+  stands_at_claim : (s : State) (w : ℕ) (o : Option Stand) → length (on_claim tiles s w o).0.stands ≡ length s.stands
+  stands_at_claim s w None = refl
+  stands_at_claim s w (Some ended) = refl
+  stands_at_claim s w (Some (doing [])) = length-set s.stands w (stand_at tiles (length s.drawn))
+  stands_at_claim s w (Some (doing (a ∷ rest))) = refl
+
+  stands_at_deposit : (s : State) (w : ℕ) (o : Option Stand) → length (on_deposit tiles s w o).0.stands ≡ length s.stands
+  stands_at_deposit s w None = refl
+  stands_at_deposit s w (Some ended) = refl
+  stands_at_deposit s w (Some (doing [])) = refl
+  stands_at_deposit s w (Some (doing (a ∷ rest))) = length-set s.stands w (doing rest)
+
+  stands_at : (s : State) (e : Event) → length (step tiles s e).0.stands ≡ length s.stands
+  stands_at s (Claim w) = stands_at_claim s w (slice_get s.stands w)
+  stands_at s (Deposit w) = stands_at_deposit s w (slice_get s.stands w)
+
+  pub stands_after : (s : State) (es : List Event) → length (run tiles s es).stands ≡ length s.stands
+  stands_after s [] = refl
+  stands_after s (e ∷ es) = stands_after (step tiles s e).0 es ∙ stands_at s e
+
+  -- an answer tells who drew a tile
+  drawers_at_claim : (t : ℕ) → t < length tiles → (s : State) (w : ℕ) (o : Option Stand) → drawer_at (on_claim tiles s w o).0.drawn t ≡ drawer_at s.drawn t ++ drawer_of t w (on_claim tiles s w o).1
+  drawers_at_claim t lt s w None = sym (append-nil (drawer_at s.drawn t))
+  drawers_at_claim t lt s w (Some ended) = sym (append-nil (drawer_at s.drawn t))
+  drawers_at_claim t lt s w (Some (doing (a ∷ rest))) = sym (append-nil (drawer_at s.drawn t))
+  drawers_at_claim t lt s w (Some (doing [])) = drawer_at-push s.drawn w t ∙ ap (λ ws. drawer_at s.drawn t ++ ws) (⊎_elim below' past (cases_lt (length s.drawn) (length tiles)))
+    where
+      below' : length s.drawn < length tiles → picked (length s.drawn) t w ≡ drawer_of t w (Ok (outcome_at tiles (length s.drawn)))
+      below' h = sym (ap (λ (x : Outcome). drawer_of t w (Ok x)) (outcome_below (length s.drawn) h))
+
+      past : length tiles ≤ length s.drawn → picked (length s.drawn) t w ≡ drawer_of t w (Ok (outcome_at tiles (length s.drawn)))
+      past h =
+          picked_else (length s.drawn) t w (λ same. omega arith) ∙ sym (ap (λ (x : Outcome). drawer_of t w (Ok x)) (outcome_past (length s.drawn) h))
+
+  drawers_at_deposit : (t : ℕ) (s : State) (w : ℕ) (o : Option Stand) → drawer_of t w (on_deposit tiles s w o).1 ≡ []
+  drawers_at_deposit t s w None = refl
+  drawers_at_deposit t s w (Some ended) = refl
+  drawers_at_deposit t s w (Some (doing [])) = refl
+  drawers_at_deposit t s w (Some (doing (a ∷ rest))) = refl
+
+  drawers_at : (t : ℕ) → t < length tiles → (s : State) (e : Event) → drawer_at (step tiles s e).0.drawn t ≡ drawer_at s.drawn t ++ drawers_in tiles t s e
+  drawers_at t lt s (Claim w) = drawers_at_claim t lt s w (slice_get s.stands w)
+  drawers_at t lt s (Deposit w) =
+      ap (λ ws. drawer_at ws t) (drawn_at_deposit s w (slice_get s.stands w))
+      ∙ (sym (append-nil (drawer_at s.drawn t)) ∙ ap (λ ws. drawer_at s.drawn t ++ ws) (sym (drawers_at_deposit t s w (slice_get s.stands w))))
+
+  pub drawers_after : (t : ℕ) → t < length tiles → (s : State) (es : List Event) → drawer_at (run tiles s es).drawn t ≡ drawer_at s.drawn t ++ drawers tiles t s es
+  drawers_after t lt s [] = sym (append-nil (drawer_at s.drawn t))
+  drawers_after t lt s (e ∷ es) =
+      drawers_after t lt (step tiles s e).0 es
+      ∙ (ap (λ ws. ws ++ drawers tiles t (step tiles s e).0 es) (drawers_at t lt s e)
+      ∙ append_assoc (drawer_at s.drawn t) (drawers_in tiles t s e) (drawers tiles t (step tiles s e).0 es))
+
+  nothing_left : (s : State) (done : List Addition) → Holds s done → IsOver s → (i : ℕ) (x : Stand) → slice_get s.stands i ≡ Some x → left_of x ≡ []
+  nothing_left s done h over i ended at = refl
+  nothing_left s done h over i (doing []) at = refl
+  nothing_left s done h over i (doing (a ∷ rest)) at = let p = over.1 i (h.busy i a rest at) in absurd (cc)
+
+  pub past_tiles : (s : State) (done : List Addition) → Holds s done → IsOver s → length tiles < length s.drawn
+  past_tiles s done h over = h.stopped over.0.0 over.0.1
+
+  pub totals : (s : State) (done : List Addition) → Holds s done → IsOver s → (k : ℕ) → k < length s.sums → slice_index s.sums k ≡ total tiles k % 2 ^ 64
+  totals s done h over k lt =
+      let none : sum_by (λ x. on_entry k (left_of x)) s.stands ≡ 0 = sum_none (λ x. on_entry k (left_of x)) s.stands (λ i x at. ap (on_entry k) (nothing_left s done h over i x at)) in
+      let past = past_tiles s done h over in
+      let drew = h.drawn_sums k in
+      let tiled : below (λ t. on_entry k (tile_at tiles t)) (length s.drawn) ≡ total tiles k = below_tiles (on_entry k) tiles (length s.drawn) refl (omega arith) in
+      let same : on_entry k done ≡ total tiles k = omega arith in
+      h.sums k lt ∙ ap (λ x. x % 2 ^ 64) same
+
+  -- after any list of events
+  module _ (workers entries : ℕ) (es : List Event) where
+    pub held : Holds (run tiles (opening workers entries) es) ([] ++ deposits tiles (opening workers entries) es)
+    held = run_keeps (opening workers entries) [] es (opens workers entries)
+
+    pub few_after : length (run tiles (opening workers entries) es).drawn ≤ length tiles + workers
+    few_after =
+        let s = run tiles (opening workers entries) es in
+        let few = held.few in
+        let most = stops_most s.stands in
+        let same = stands_after (opening workers entries) es in
+        let all = length-replicate workers (doing []) in
+        omega arith
+
+    pub summed : (k : ℕ) → k < length (opening workers entries).sums → slice_index (run tiles (opening workers entries) es).sums k ≡ on_entry k (deposits tiles (opening workers entries) es) % 2 ^ 64
+    summed k lt = held.sums k (subst (λ n. k < n) (sym (sums_length (opening workers entries) es)) lt)
+
+    pub whole : IsOver (run tiles (opening workers entries) es) → IsWhole tiles (opening workers entries) es
+    whole over = record {
+      drawn = λ t lt.
+          let s = run tiles (opening workers entries) es in
+          let past = past_tiles s _ held over in
+          let at = slice_get-get_or s.drawn t 0 (omega arith) in
+          (get_or s.drawn t 0, sym (drawers_after t lt (opening workers entries) es) ∙ ap one_of at);
+      totals = λ k lt. totals _ _ held over k (subst (λ n. k < n) (sym (sums_length (opening workers entries) es)) lt);
+    }

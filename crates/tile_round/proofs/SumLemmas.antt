@@ -1,0 +1,37 @@
+-- Sums over lists, and over the numbers below a bound.
+use Rattle.std.proofs.Common.{◌≡◌, ℕ, zero, suc, ◌+◌, ◌≤◌, List, [], ◌∷◌, length, get_or, set, Some, slice_get, sum_by, refl, sym, ap, ◌∙◌, arith}
+use Rattle.std.proofs.lemmas.Option.{slice_get_within, get_or_from_slice_get}
+use Rattle.std.proofs.lemmas.List.Sums.{sum_by-set, sum_by-cons}
+
+-- the sum of f over the numbers below n
+abbrev pub below : (ℕ → ℕ) → ℕ → ℕ
+below f zero = 0
+below f (suc n) = below f n + f n
+
+pub below_first : (g : ℕ → ℕ) (n : ℕ) → below g (suc n) ≡ g 0 + below (λ t. g (suc t)) n
+below_first g zero = omega arith
+below_first g (suc n) = let e : below g (suc n) ≡ g 0 + below (λ t. g (suc t)) n = below_first g n in omega arith
+
+module _ {A : Type 0} where
+  pub sum_at_set : (f : A → ℕ) (xs : List A) (i : ℕ) (x y : A) → slice_get xs i ≡ Some x → sum_by f (set xs i y) + f x ≡ sum_by f xs + f y
+  sum_at_set f xs i x y at =
+      let s = sum_by-set f xs i y x (slice_get_within xs i x at) in
+      let e : get_or xs i x ≡ x = get_or_from_slice_get xs i x x at in
+      rw e at s
+
+  pub sum_none : (f : A → ℕ) (xs : List A) → ((i : ℕ) (x : A) → slice_get xs i ≡ Some x → f x ≡ 0) → sum_by f xs ≡ 0
+  sum_none f [] h = refl
+  sum_none f (x ∷ xs) h =
+      let rest : sum_by f xs ≡ 0 = sum_none f xs (λ i y at. h (suc i) y at) in
+      let here : f x ≡ 0 = h 0 x refl in
+      omega (arith, sum_by-cons f x xs)
+
+  -- the sum over the tickets is the sum over the tiles that they draw
+  pub below_tiles : (f : List A → ℕ) (tiles : List (List A)) (n : ℕ) → f [] ≡ 0 → length tiles ≤ n → below (λ t. f (get_or tiles t [])) n ≡ sum_by f tiles
+  below_tiles f [] zero none le = refl
+  below_tiles f [] (suc n) none le = let rest : below (λ t. f (get_or [] t [])) n ≡ 0 = below_tiles f [] n none (omega arith) in omega arith
+  below_tiles f (x ∷ xs) zero none le = absurd (omega arith)
+  below_tiles f (x ∷ xs) (suc n) none le =
+      let rest : below (λ t. f (get_or xs t [])) n ≡ sum_by f xs = below_tiles f xs n none (omega arith) in
+      let first : below (λ t. f (get_or (x ∷ xs) t [])) (suc n) ≡ f x + below (λ t. f (get_or xs t [])) n = below_first (λ t. f (get_or (x ∷ xs) t [])) n in
+      first ∙ (ap (λ m. f x + m) rest ∙ sym (sum_by-cons f x xs))

@@ -1,0 +1,5 @@
+pub mod Tiles
+pub mod Interleaving
+pub mod Laws
+pub mod ExactSums
+pub mod Places

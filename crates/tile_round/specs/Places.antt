@@ -1,0 +1,53 @@
+-- What a round keeps of its workers, and what that says of the machine's state.
+use Rattle.std.specs.Prelude.{◌≡◌, ℕ, ◌+◌, ◌*◌, ◌<◌, ◌≤◌, List, [], ◌++◌, length, map, drop, slice_get, sum_by, Option, Some, None, Result, Ok, Err, ℤ}
+use Rattle.std.specs.Int.{w64, cast_signed, cast_unsigned}
+use Rattle.tile_round.specs.Tiles.{additions_of, tile_of, pairs_at, IsPairOf}
+use Rattle.tile_round.specs.Interleaving.{Stand}
+use Rattle.tile_round.specs.Interleaving.Stand.{doing, ended}
+use Rattle.tile_round.specs.declared.work.PairAdd.{PairAdd}
+use Rattle.tile_round.specs.declared.faults.RoundFault.{RoundFault}
+use Rattle.tile_round.specs.declared.faults.RoundFault.TheVariants.{NoSuchWorker, Stopped as HasStopped}
+use Rattle.tile_round.specs.declared.places.Task.{Task}
+use Rattle.tile_round.specs.declared.places.Place.{Place}
+use Rattle.tile_round.specs.declared.places.Place.TheVariants.{Resting, Adding, Stopped}
+
+module _ (plan : List (List (Option PairAdd))) where
+  abbrev pub stand_of : Place → Stand
+  stand_of Resting = doing []
+  stand_of (Adding task) = doing (drop task.part (additions_of (Some task.add)) ++ tile_of (drop task.next (pairs_at plan task.tile)))
+  stand_of Stopped = ended
+
+  abbrev pub stands_of : List Place → List Stand
+  stands_of places = map stand_of places
+
+-- what a worker at this place has left, or why each of its events is refused
+abbrev pub task_at : Option Place → Result (Option Task) RoundFault
+task_at None = Err NoSuchWorker
+task_at (Some Stopped) = Err HasStopped
+task_at (Some Resting) = Ok None
+task_at (Some (Adding task)) = Ok (Some task)
+
+-- 1 for a worker that has stopped
+abbrev pub stops : Stand → ℕ
+stops (doing _) = 0
+stops ended = 1
+
+module _ (atoms : ℕ) (plan : List (List (Option PairAdd))) where
+  -- a task within the plan, with an addition left of the pair at hand
+  pub record IsTask (task : Task) : Type 0 where
+    pub pair : IsPairOf atoms task.add
+    pub part : task.part < 6
+    pub tile : task.tile < length plan
+    pub next : task.next ≤ length (pairs_at plan task.tile)
+
+  abbrev pub IsPlace : Place → Type 0
+  IsPlace (Adding task) = IsTask task
+  IsPlace _ = Unit {0}
+
+  -- what a round keeps: its workers' places are within the plan, there are sums for all atoms, each a number of 64 bits, and there is room for every ticket that can be drawn
+  pub record IsSound (drawn : List ℕ) (room : ℕ) (places : List Place) (sums : List ℤ) : Type 0 where
+    pub within : (w : ℕ) (p : Place) → slice_get places w ≡ Some p → IsPlace p
+    pub wide : 3 * atoms ≤ length sums
+    pub signed : map (cast_signed w64) (map (cast_unsigned w64) sums) ≡ sums
+    pub few : length drawn ≤ length plan + sum_by stops (stands_of plan places)
+    pub enough : length plan + length places ≤ room

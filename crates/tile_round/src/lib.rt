@@ -1,0 +1,17 @@
+//! Rounds in which workers draw tiles of pairs and add what these say into shared words, as a machine of single events: a claim draws a ticket, a deposit adds one component of a force. Whatever the order of the events, once all workers have stopped each word is the sum over all tiles.
+#![tactic(auto)]
+
+mod events;
+mod faults;
+mod laws;
+mod places;
+mod round;
+#[cfg(test)]
+mod tests;
+mod work;
+
+pub use events::{Event, Outcome};
+pub use faults::{Memory, RoundFault};
+pub use laws::every_order;
+pub use round::Round;
+pub use work::{PairAdd, Work};

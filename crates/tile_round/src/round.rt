@@ -1,0 +1,127 @@
+ghost use Rattle.std.specs.Prelude.{◌≡◌, ◌+◌, ◌*◌, ◌^◌, ◌<◌, ◌≤◌, length, map, slice_get, IfOk, OnErr};
+ghost use Rattle.std.specs.Int.{w64, cast_signed};
+ghost use Rattle.tile_round.specs.Tiles.{tiles_of};
+ghost use Rattle.tile_round.specs.Interleaving.{on_claim, on_deposit, opening, step, word};
+
+use crate::events::{Event, Outcome};
+use crate::faults::{Memory, RoundFault};
+use crate::places::{Place, place_from, task_of};
+use crate::work::Work;
+use std::alloc::Allocator;
+use std::marker::Model;
+
+/// A round of workers over a work. It is seen as the work's tiles, each a list of additions, and how far it has come.
+#[derive(Drop)]
+pub struct Round<'w, W: Work, A: Allocator + Copy> {
+    work: &'w W,
+    // who drew each ticket
+    drawn: Vec<u32, A>,
+    // where each worker stands
+    places: Vec<Place, A>,
+    sums: Vec<i64, A>,
+}
+
+impl<'w, W: Work, A: Allocator + Copy> Model for Round<'w, W, A> {
+    ghost use Rattle.std.specs.Prelude.{map, vec_capacity};
+    ghost use Rattle.std.specs.Int.{w64, cast_unsigned};
+    ghost use Rattle.tile_round.specs.Tiles.{tiles_of};
+    ghost use Rattle.tile_round.specs.Interleaving.{Progress};
+    ghost use Rattle.tile_round.specs.Places.{stands_of, IsSound};
+
+    ghost Value = { Progress };
+
+    ghost view = { λ r. record {
+      tiles = tiles_of (W.plan r.work.now);
+      state = record {
+        drawn = r.drawn.items;
+        stands = stands_of (W.plan r.work.now) r.places.items;
+        sums = map (cast_unsigned w64) r.sums.items;
+      };
+    } };
+
+    ghost invariant = { λ r. IsSound (W.atoms r.work.now) (W.plan r.work.now) r.drawn.items (vec_capacity r.drawn) r.places.items r.sums.items };
+}
+
+impl<'w, W: Work, A: Allocator + Copy> Round<'w, W, A> {
+    /// The opening of a round of this many workers over the work, each word zero. It makes room for all that the round will keep; `Memory` where that is refused. The caller's conditions: the work has no more than this many atoms, and tiles and workers together are fewer than 2^64.
+    pub fn new(alloc: A, work: &'w W, atoms: u32, workers: u32) -> Result<Self, Memory>
+        requires atoms { W.atoms work.now ≤ atoms }
+        requires tiles { length (W.plan work.now) + workers < 2 ^ 64 }
+        ensures opens { IfOk result (λ r. r ≡ record { tiles = tiles_of (W.plan work.now); state = opening workers (3 * atoms) }) }
+    {
+        let tickets = work.tiles() as usize + workers as usize;
+        let drawn = Vec::with_capacity(alloc, tickets)?;
+        let places = vec![in alloc; Place::Resting; workers as usize]?;
+        let sums = vec![in alloc; 0i64; 3 * atoms as usize]?;
+        Ok(Round {
+            work,
+            drawn,
+            places,
+            sums,
+        })
+    }
+
+    /// One event. It takes no memory. It is refused, and changes nothing, as `NoSuchWorker` where no worker has the number; else as `Stopped` where the worker has stopped; else a claim as `Busy` where the worker's tile has additions left, and a deposit as `Idle` where there are none.
+    pub fn step(&mut self, event: Event) -> Result<Outcome, RoundFault>
+        ensures tiles { self.new.tiles ≡ self.old.tiles }
+        ensures event { (self.new.state, result) ≡ step self.old.tiles self.old.state event }
+        ensures refused { OnErr result (self.new ≡ self.old) }
+    {
+        match event {
+            Event::Claim(worker) => self.claim(worker),
+            Event::Deposit(worker) => self.deposit(worker),
+        }
+    }
+
+    /// How many tickets were drawn, which is word 0.
+    pub fn tickets(&self) -> u64
+        ensures { result ≡ word self.now.state 0 }
+    {
+        self.drawn.len() as u64
+    }
+
+    /// The words after the first, read as signed numbers: entry `3a + axis` is word `1 + 3a + axis`.
+    pub fn sums(&self) -> &[i64]
+        ensures { result.now ≡ map (cast_signed w64) self.now.state.sums }
+    {
+        self.sums.as_slice()
+    }
+
+    fn claim(&mut self, worker: u32) -> Result<Outcome, RoundFault>
+        ensures tiles { self.new.tiles ≡ self.old.tiles }
+        ensures event { (self.new.state, result) ≡ on_claim self.old.tiles self.old.state worker (slice_get self.old.state.stands worker) }
+    {
+        match task_of(&self.places, worker)? {
+            Some(_) => Err(RoundFault::Busy),
+            None => {
+                let work = self.work;
+                let ticket = self.drawn.len() as u64;
+                self.drawn.push_reserved(worker);
+                if ticket < work.tiles() {
+                    self.places[worker as usize] = place_from(work, ticket, 0);
+                    Ok(Outcome::Drew(ticket))
+                } else {
+                    self.places[worker as usize] = Place::Stopped;
+                    Ok(Outcome::Ended)
+                }
+            }
+        }
+    }
+
+    fn deposit(&mut self, worker: u32) -> Result<Outcome, RoundFault>
+        ensures tiles { self.new.tiles ≡ self.old.tiles }
+        ensures event { (self.new.state, result) ≡ on_deposit self.old.tiles self.old.state worker (slice_get self.old.state.stands worker) }
+    {
+        match task_of(&self.places, worker)? {
+            None => Err(RoundFault::Idle),
+            Some(task) => {
+                let work = self.work;
+                let (entry, amount) = task.addition();
+                let sum = self.sums[entry].cast_unsigned().wrapping_add(amount);
+                self.sums[entry] = sum.cast_signed();
+                self.places[worker as usize] = task.after(work);
+                Ok(Outcome::Added(1 + entry as u64))
+            }
+        }
+    }
+}

@@ -1,0 +1,70 @@
+ghost use Rattle.std.specs.Prelude.{◌≡◌, ◌+◌, ◌<◌, ℕ, List, length, slice_get, Option, Some, IfSome};
+ghost use Rattle.tile_round.specs.declared.work.PairAdd.{PairAdd};
+ghost use Rattle.tile_round.specs.Tiles.{additions_of, along, against, pairs_at, IsPairOf};
+
+/// What a pair of atoms that acts adds: the force to the atom `low`, and its negative to the atom `high`, each with the axes x, y and z.
+#[derive(Clone, Copy, PartialEq, Eq, Debug)]
+pub struct PairAdd {
+    pub low: u32,
+    pub high: u32,
+    pub force: [i64; 3],
+}
+
+impl PairAdd {
+    /// How many additions a pair that acts makes.
+    pub const PARTS: usize = 6;
+
+    /// An addition of the pair, by its number below 6: the entry of the sums that it goes to, and the amount modulo 2^64. The first three are the force on `low`, the last three its negative on `high`; the entry of component `axis` of atom `a` is `3a + axis`.
+    pub fn addition(&self, part: usize) -> (usize, u64)
+        requires { part < 6 }
+        ensures { slice_get (additions_of (Some self.now)) part ≡ Some result }
+    {
+        if part < 3 {
+            (3 * self.low as usize + part, self.along(part))
+        } else {
+            let axis = part - 3;
+            (3 * self.high as usize + axis, self.against(axis))
+        }
+    }
+
+    // A component of the force, modulo 2^64.
+    fn along(&self, axis: usize) -> u64
+        requires { axis < 3 }
+        ensures { result ≡ along self.now.force axis }
+    {
+        self.force[axis].cast_unsigned()
+    }
+
+    // Its negative, modulo 2^64.
+    fn against(&self, axis: usize) -> u64
+        requires { axis < 3 }
+        ensures { result ≡ against self.now.force axis }
+    {
+        self.force[axis].wrapping_neg().cast_unsigned()
+    }
+}
+
+/// Work that is cut into tiles, each a list of pairs of atoms. What it answers is told by what it holds, which a loan by `&self` does not change.
+pub trait Work {
+    /// The tiles, each with its pairs in order. A pair that does not act is `None`.
+    ghost plan: { Self → List (List (Option PairAdd)) };
+
+    /// How many atoms there are.
+    ghost atoms: { Self → ℕ };
+
+    /// How many tiles there are.
+    fn tiles(&self) -> u64
+        ensures { result ≡ length (plan self.now) };
+
+    /// How many pairs a tile has. The caller's condition: there is such a tile.
+    fn pairs(&self, tile: u64) -> u64
+        requires { tile < length (plan self.now) }
+        ensures { result ≡ length (pairs_at (plan self.now) tile) };
+
+    /// A pair of a tile, by its number in the tile: what it adds, or `None` where it does not act. Of a pair that acts `low` is less than `high`, and both are atoms. The caller's condition: there is such a tile, and such a pair in it.
+    fn pair(&self, tile: u64, k: u64) -> Option<PairAdd>
+        requires tile { tile < length (plan self.now) }
+        requires pair { k < length (pairs_at (plan self.now) tile) }
+        ensures planned { slice_get (pairs_at (plan self.now) tile) k ≡ Some result }
+        ensures atoms { IfSome result (IsPairOf (atoms self.now)) };
+}
