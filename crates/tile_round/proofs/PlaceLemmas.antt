@@ -18,7 +18,7 @@ use Rattle.tile_round.specs.declared.places.Place.TheVariants.{Resting, Adding, 
 use Rattle.tile_round.specs.Tiles.{Addition, additions_of, tile_of, tiles_of, tile_at, pairs_at, IsPairOf}
 use Rattle.tile_round.specs.Interleaving.{State, Stand, opening, stand_at, outcome_at, on_claim, on_deposit}
 use Rattle.tile_round.specs.Interleaving.Stand.{doing, ended}
-use Rattle.tile_round.specs.Places.{task_at, stand_of, stands_of, stops, IsPlace, IsSound}
+use Rattle.tile_round.specs.Places.{task_at, later, stand_of, stands_of, stops, IsPlace, IsSound}
 use Rattle.tile_round.proofs.RunLemmas.{at_set, replicated, stand_below, stand_past, outcome_below, outcome_past, stops_most, claim_few, deposit_stops}
 
 pub drop_at : {A : Type 0} (xs : List A) (i : ℕ) (x : A) → slice_get xs i ≡ Some x → drop i xs ≡ x ∷ drop (i + 1) xs
@@ -164,14 +164,14 @@ module _ (plan : List (List (Option PairAdd))) where
       ∙ sym (ap (on_claim (tiles_of plan) (state_of drawn places sums) w) (standing places w (Some Resting) at))
 
   abbrev pub rest_of : Task → List Addition
-  rest_of task = drop (task.part + 1) (additions_of (Some task.add)) ++ tile_of (drop task.next (pairs_at plan task.tile))
+  rest_of task = drop (task.part + 1) (additions_of (Some task.add)) ++ later plan task
 
   -- a worker with a task stands before its next addition
   pub stands_before : (places : List Place) (w : ℕ) (task : Task) (a : Addition) → slice_get places w ≡ Some (Adding task) → slice_get (additions_of (Some task.add)) task.part ≡ Some a
       → slice_get (stands_of plan places) w ≡ Some (doing (a ∷ rest_of task))
   stands_before places w task a at next =
       standing places w (Some (Adding task)) at
-      ∙ ap (λ (xs : List Addition). Some (doing (xs ++ tile_of (drop task.next (pairs_at plan task.tile))))) (drop_at (additions_of (Some task.add)) task.part a next)
+      ∙ ap (λ (xs : List Addition). Some (doing (xs ++ later plan task))) (drop_at (additions_of (Some task.add)) task.part a next)
 
   -- a deposit of a worker with a task
   pub deposits_so : (drawn : List ℕ) (places : List Place) (sums sums' : List ℤ) (w : ℕ) (task : Task) (p : Place) (a : Addition)
