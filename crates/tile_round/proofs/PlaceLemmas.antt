@@ -12,6 +12,7 @@ use Rattle.std.proofs.lemmas.Nat.{mod_below}
 use Rattle.std.proofs.Math.ListN.{length-set, length-replicate}
 use Rattle.tile_round.specs.declared.events.Outcome.{Outcome}
 use Rattle.tile_round.specs.declared.events.Outcome.TheVariants.{Drew, Ended, Added}
+use Rattle.tile_round.specs.declared.faults.RoundFault.TheVariants.{Busy, Idle}
 use Rattle.tile_round.specs.declared.places.Task.{Task}
 use Rattle.tile_round.specs.declared.places.Place.{Place}
 use Rattle.tile_round.specs.declared.places.Place.TheVariants.{Resting, Adding, Stopped}
