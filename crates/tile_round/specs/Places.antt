@@ -6,7 +6,7 @@ use Rattle.tile_round.specs.Interleaving.{Stand}
 use Rattle.tile_round.specs.Interleaving.Stand.{doing, ended}
 use Rattle.tile_round.specs.declared.work.PairAdd.{PairAdd}
 use Rattle.tile_round.specs.declared.faults.RoundFault.{RoundFault}
-use Rattle.tile_round.specs.declared.faults.RoundFault.TheVariants.{NoSuchWorker, Stopped as HasStopped}
+use Rattle.tile_round.specs.declared.faults.RoundFault.TheVariants.{NoSuchWorker, Stopped as StoppedFault}
 use Rattle.tile_round.specs.declared.places.Task.{Task}
 use Rattle.tile_round.specs.declared.places.Place.{Place}
 use Rattle.tile_round.specs.declared.places.Place.TheVariants.{Resting, Adding, Stopped}
@@ -27,7 +27,7 @@ module _ (plan : List (List (Option PairAdd))) where
 -- what a worker at this place has left, or why each of its events is refused
 abbrev pub task_at : Option Place → Result (Option Task) RoundFault
 task_at None = Err NoSuchWorker
-task_at (Some Stopped) = Err HasStopped
+task_at (Some Stopped) = Err StoppedFault
 task_at (Some Resting) = Ok None
 task_at (Some (Adding task)) = Ok (Some task)
 
