@@ -1,5 +1,5 @@
 -- What a round keeps of its workers is the machine's state.
-use Rattle.std.proofs.Common.{◌≡◌, ℕ, zero, suc, ◌+◌, ◌*◌, ◌%◌, ◌^◌, ◌<◌, ◌≤◌, List, [], ◌∷◌, ◌++◌, map, drop, length, get_or, set, replicate, Option, Some, None, Ok, slice_get, slice_index, sum_by, ℤ, pos, refl, sym, ap, subst, ◌∙◌, ⊎_elim, arith, add-one}
+use Rattle.std.proofs.Common.{◌≡◌, ℕ, zero, suc, ◌+◌, ◌*◌, ◌%◌, ◌^◌, ◌<◌, ◌≤◌, List, [], ◌∷◌, ◌++◌, map, drop, length, get_or, set, replicate, Option, Some, None, Ok, Err, slice_get, slice_index, sum_by, ℤ, pos, refl, sym, ap, subst, ◌∙◌, ⊎_elim, arith, add-one}
 use Rattle.std.proofs.lemmas.Option.{slice_get-map}
 use Rattle.std.proofs.lemmas.List.{length-map}
 use Rattle.std.proofs.lemmas.List.Concat.{flat_map-cons}
@@ -12,13 +12,14 @@ use Rattle.std.proofs.lemmas.Nat.{mod_below}
 use Rattle.std.proofs.Math.ListN.{length-set, length-replicate}
 use Rattle.tile_round.specs.declared.events.Outcome.{Outcome}
 use Rattle.tile_round.specs.declared.events.Outcome.TheVariants.{Drew, Ended, Added}
+use Rattle.tile_round.specs.declared.faults.RoundFault.TheVariants.{Busy, Idle}
 use Rattle.tile_round.specs.declared.places.Task.{Task}
 use Rattle.tile_round.specs.declared.places.Place.{Place}
 use Rattle.tile_round.specs.declared.places.Place.TheVariants.{Resting, Adding, Stopped}
 use Rattle.tile_round.specs.Tiles.{Addition, additions_of, tile_of, tiles_of, tile_at, pairs_at, IsPairOf}
-use Rattle.tile_round.specs.Interleaving.{State, Stand, opening, stand_at, outcome_at, on_claim, on_deposit}
+use Rattle.tile_round.specs.Interleaving.{State, Stand, Progress, opening, stand_at, outcome_at, on_claim, on_deposit}
 use Rattle.tile_round.specs.Interleaving.Stand.{doing, ended}
-use Rattle.tile_round.specs.Places.{task_at, stand_of, stands_of, stops, IsPlace, IsSound}
+use Rattle.tile_round.specs.Places.{task_at, later, stand_of, stands_of, stops, IsPlace, IsSound}
 use Rattle.tile_round.proofs.RunLemmas.{at_set, replicated, stand_below, stand_past, outcome_below, outcome_past, stops_most, claim_few, deposit_stops}
 
 pub drop_at : {A : Type 0} (xs : List A) (i : ℕ) (x : A) → slice_get xs i ≡ Some x → drop i xs ≡ x ∷ drop (i + 1) xs
@@ -41,6 +42,13 @@ map-replicate f (suc n) x = ap (λ ys. f x ∷ ys) (map-replicate f n x)
 -- a pair and what comes after it
 pub tile_of-drop : (pairs : List (Option PairAdd)) (k : ℕ) (o : Option PairAdd) → slice_get pairs k ≡ Some o → tile_of (drop k pairs) ≡ additions_of o ++ tile_of (drop (k + 1) pairs)
 tile_of-drop pairs k o e = ap tile_of (drop_at pairs k o e) ∙ flat_map-cons additions_of o (drop (k + 1) pairs)
+
+-- the same, where the pairs before did not act
+pub passed : (pairs : List (Option PairAdd)) (first k : ℕ) (o : Option PairAdd) → slice_get pairs k ≡ Some o → tile_of (drop k pairs) ≡ tile_of (drop first pairs) → additions_of o ++ tile_of (drop (k + 1) pairs) ≡ tile_of (drop first pairs)
+passed pairs first k o e before = sym (tile_of-drop pairs k o e) ∙ before
+
+pub stands_at_pair : (pairs : List (Option PairAdd)) (first k : ℕ) (p : PairAdd) → slice_get pairs k ≡ Some (Some p) → tile_of (drop k pairs) ≡ tile_of (drop first pairs) → doing (additions_of (Some p) ++ tile_of (drop (k + 1) pairs)) ≡ doing (tile_of (drop first pairs))
+stands_at_pair pairs first k p e before = ap doing (passed pairs first k (Some p) e before)
 
 tile_at-tiles_of : (plan : List (List (Option PairAdd))) (t : ℕ) → tile_at (tiles_of plan) t ≡ tile_of (pairs_at plan t)
 tile_at-tiles_of [] t = refl
@@ -140,6 +148,23 @@ module _ (plan : List (List (Option PairAdd))) where
   pub standing : (places : List Place) (w : ℕ) (o : Option Place) → slice_get places w ≡ o → slice_get (stands_of plan places) w ≡ option_map (stand_of plan) o
   standing places w o e = slice_get-map (stand_of plan) places w ∙ ap (option_map (stand_of plan)) e
 
+  -- what a round is seen as
+  abbrev pub progress_of : List ℕ → List Place → List ℤ → Progress
+  progress_of drawn places sums = record { tiles = tiles_of plan; state = state_of drawn places sums }
+
+  -- refusals of a worker that has additions left, and of one that has none
+  pub claim_busy : (now : Progress) (drawn : List ℕ) (places : List Place) (sums : List ℤ) (w : ℕ) (a : Addition) (rest : List Addition) → progress_of drawn places sums ≡ now
+      → slice_get (stands_of plan places) w ≡ Some (doing (a ∷ rest)) → (now.state, Err Busy) ≡ on_claim now.tiles now.state w (slice_get now.state.stands w)
+  claim_busy now drawn places sums w a rest seen at =
+      let stands : slice_get now.state.stands w ≡ Some (doing (a ∷ rest)) = ap (λ (v : Progress). slice_get v.state.stands w) (sym seen) ∙ at in
+      sym (ap (on_claim now.tiles now.state w) stands)
+
+  pub deposit_idle : (now : Progress) (drawn : List ℕ) (places : List Place) (sums : List ℤ) (w : ℕ) → progress_of drawn places sums ≡ now
+      → slice_get places w ≡ Some Resting → (now.state, Err Idle) ≡ on_deposit now.tiles now.state w (slice_get now.state.stands w)
+  deposit_idle now drawn places sums w seen at =
+      let stands : slice_get now.state.stands w ≡ Some (doing []) = ap (λ (v : Progress). slice_get v.state.stands w) (sym seen) ∙ standing places w (Some Resting) at in
+      sym (ap (on_deposit now.tiles now.state w) stands)
+
   -- the place of a worker that has drawn a ticket
   pub drew_tile : (t : ℕ) (p : Place) → t < length plan → stand_of plan p ≡ doing (tile_of (drop 0 (pairs_at plan t))) → stand_of plan p ≡ stand_at (tiles_of plan) t
   drew_tile t p lt e =
@@ -164,14 +189,14 @@ module _ (plan : List (List (Option PairAdd))) where
       ∙ sym (ap (on_claim (tiles_of plan) (state_of drawn places sums) w) (standing places w (Some Resting) at))
 
   abbrev pub rest_of : Task → List Addition
-  rest_of task = drop (task.part + 1) (additions_of (Some task.add)) ++ tile_of (drop task.next (pairs_at plan task.tile))
+  rest_of task = drop (task.part + 1) (additions_of (Some task.add)) ++ later plan task
 
   -- a worker with a task stands before its next addition
   pub stands_before : (places : List Place) (w : ℕ) (task : Task) (a : Addition) → slice_get places w ≡ Some (Adding task) → slice_get (additions_of (Some task.add)) task.part ≡ Some a
       → slice_get (stands_of plan places) w ≡ Some (doing (a ∷ rest_of task))
   stands_before places w task a at next =
       standing places w (Some (Adding task)) at
-      ∙ ap (λ (xs : List Addition). Some (doing (xs ++ tile_of (drop task.next (pairs_at plan task.tile))))) (drop_at (additions_of (Some task.add)) task.part a next)
+      ∙ ap (λ (xs : List Addition). Some (doing (xs ++ later plan task))) (drop_at (additions_of (Some task.add)) task.part a next)
 
   -- a deposit of a worker with a task
   pub deposits_so : (drawn : List ℕ) (places : List Place) (sums sums' : List ℤ) (w : ℕ) (task : Task) (p : Place) (a : Addition)

@@ -1,14 +1,16 @@
 -- The exact sum of the forces of all pairs on a component of an atom, over whole numbers of any size.
-use Rattle.std.specs.Prelude.{◌≡◌, ℕ, suc, ◌+◌, ◌*◌, ◌<◌, ◌==◌, if◌then◌else◌, List, [], ◌∷◌, Option, Some, None, ℤ, pos, neg_ℤ, ◌+ℤ◌, FitsSigned}
+use Rattle.std.specs.Prelude.{◌≡◌, ℕ, suc, ◌+◌, ◌*◌, ◌%◌, ◌^◌, ◌<◌, ◌==◌, if◌then◌else◌, List, [], ◌∷◌, Option, Some, None, ℤ, pos, neg_ℤ, ◌+ℤ◌, FitsSigned}
 use Rattle.std.specs.Int.{w64, cast_signed}
 use Rattle.tile_round.specs.declared.work.PairAdd.{PairAdd}
-use Rattle.tile_round.specs.Tiles.{component}
+use Rattle.tile_round.specs.Tiles.{component, total, tiles_of}
 use Rattle.tile_round.specs.Interleaving.{State, word}
 
 -- the force of a pair that acts on its lower atom, and the negative on its higher one
 abbrev pub force_on : ℕ → ℕ → Option PairAdd → ℤ
 force_on atom axis None = pos 0
-force_on atom axis (Some p) = (if p.low == atom then component p.force axis else pos 0) +ℤ (if p.high == atom then neg_ℤ (component p.force axis) else pos 0)
+force_on atom axis (Some p) =
+    (if p.low == atom then component p.force axis else pos 0)
+    +ℤ (if p.high == atom then neg_ℤ (component p.force axis) else pos 0)
 
 abbrev pub tile_force : ℕ → ℕ → List (Option PairAdd) → ℤ
 tile_force atom axis [] = pos 0
@@ -18,7 +20,7 @@ abbrev pub exact_force : ℕ → ℕ → List (List (Option PairAdd)) → ℤ
 exact_force atom axis [] = pos 0
 exact_force atom axis (t ∷ ts) = tile_force atom axis t +ℤ exact_force atom axis ts
 
--- each component is a number of 64 bits
+-- each component of the pairs' forces is a number of 64 bits
 abbrev pub HasWords : PairAdd → Type 0
 HasWords p = (axis : ℕ) → axis < 3 → FitsSigned w64 (component p.force axis)
 
@@ -31,7 +33,17 @@ abbrev pub PlanHasWords : List (List (Option PairAdd)) → Type 0
 PlanHasWords [] = Unit {0}
 PlanHasWords (t ∷ ts) = TileHasWords t × PlanHasWords ts
 
--- the word of a component, read as a signed number, is its exact sum, where that fits
-abbrev pub IsExact : List (List (Option PairAdd)) → ℕ → State → Type 0
-IsExact plan atoms s = (atom axis : ℕ) → atom < atoms → axis < 3 → FitsSigned w64 (exact_force atom axis plan)
-    → cast_signed w64 (word s (suc (3 * atom + axis))) ≡ exact_force atom axis plan
+-- a number of 64 bits, read as a signed one, is the exact force on a component, where that fits
+abbrev pub ComesOut : List (List (Option PairAdd)) → ℕ → ℕ → ℕ → Type 0
+ComesOut plan atom axis bits = FitsSigned w64 (exact_force atom axis plan)
+    → cast_signed w64 bits ≡ exact_force atom axis plan
+
+-- the total of each component comes out
+abbrev pub TotalsComeOut : List (List (Option PairAdd)) → Type 0
+TotalsComeOut plan = (atom axis : ℕ) → axis < 3
+    → ComesOut plan atom axis (total (tiles_of plan) (3 * atom + axis) % 2 ^ 64)
+
+-- the word of each component of these atoms comes out
+abbrev pub WordsComeOut : List (List (Option PairAdd)) → ℕ → State → Type 0
+WordsComeOut plan atoms s = (atom axis : ℕ) → atom < atoms → axis < 3
+    → ComesOut plan atom axis (word s (suc (3 * atom + axis)))

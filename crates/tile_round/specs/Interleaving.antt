@@ -30,7 +30,11 @@ pub record Progress : Type 0 where
   pub state : State
 
 abbrev pub opening : ℕ → ℕ → State
-opening workers entries = record { drawn = []; stands = replicate workers (doing []); sums = replicate entries 0 }
+opening workers entries = record {
+  drawn = [];
+  stands = replicate workers (doing []);
+  sums = replicate entries 0;
+}
 
 module _ (tiles : List (List Addition)) where
   -- where a worker stands once it has drawn the ticket
@@ -42,11 +46,19 @@ module _ (tiles : List (List Addition)) where
 
   -- the worker draws the next ticket
   abbrev pub claimed : State → ℕ → State
-  claimed s w = record { drawn = s.drawn ++ w ∷ []; stands = slice_set s.stands w (stand_at (length s.drawn)); sums = s.sums }
+  claimed s w = record {
+    drawn = s.drawn ++ w ∷ [];
+    stands = slice_set s.stands w (stand_at (length s.drawn));
+    sums = s.sums;
+  }
 
   -- the worker makes its next addition, and has the rest left
   abbrev pub deposited : State → ℕ → Addition → List Addition → State
-  deposited s w a rest = record { drawn = s.drawn; stands = slice_set s.stands w (doing rest); sums = slice_set s.sums a.0 ((slice_index s.sums a.0 + a.1) % 2 ^ 64) }
+  deposited s w a rest = record {
+    drawn = s.drawn;
+    stands = slice_set s.stands w (doing rest);
+    sums = slice_set s.sums a.0 ((slice_index s.sums a.0 + a.1) % 2 ^ 64);
+  }
 
   -- by how the worker stands
   abbrev pub on_claim : State → ℕ → Option Stand → State × Result Outcome RoundFault

@@ -54,7 +54,8 @@ module _ (tiles : List (List Addition)) where
 
   -- each word after the first is the sum of the additions made
   abbrev pub SumsDeposits : State → List Event → Type 0
-  SumsDeposits s es = (k : ℕ) → k < length s.sums → word (run tiles s es) (suc k) ≡ on_entry k (deposits s es) % 2 ^ 64
+  SumsDeposits s es = (k : ℕ) → k < length s.sums
+      → word (run tiles s es) (suc k) ≡ on_entry k (deposits s es) % 2 ^ 64
 
   -- each tile was drawn by one worker, once, and each word after the first is the total
   pub record IsWhole (s : State) (es : List Event) : Type 0 where

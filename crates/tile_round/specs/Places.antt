@@ -1,20 +1,24 @@
 -- What a round keeps of its workers, and what that says of the machine's state.
 use Rattle.std.specs.Prelude.{◌≡◌, ℕ, ◌+◌, ◌*◌, ◌<◌, ◌≤◌, List, [], ◌++◌, length, map, drop, slice_get, sum_by, Option, Some, None, Result, Ok, Err, ℤ}
 use Rattle.std.specs.Int.{w64, cast_signed, cast_unsigned}
-use Rattle.tile_round.specs.Tiles.{additions_of, tile_of, pairs_at, IsPairOf}
+use Rattle.tile_round.specs.Tiles.{Addition, additions_of, tile_of, pairs_at, IsPairOf}
 use Rattle.tile_round.specs.Interleaving.{Stand}
 use Rattle.tile_round.specs.Interleaving.Stand.{doing, ended}
 use Rattle.tile_round.specs.declared.work.PairAdd.{PairAdd}
 use Rattle.tile_round.specs.declared.faults.RoundFault.{RoundFault}
-use Rattle.tile_round.specs.declared.faults.RoundFault.TheVariants.{NoSuchWorker, Stopped as HasStopped}
+use Rattle.tile_round.specs.declared.faults.RoundFault.TheVariants.{NoSuchWorker, Stopped as StoppedFault}
 use Rattle.tile_round.specs.declared.places.Task.{Task}
 use Rattle.tile_round.specs.declared.places.Place.{Place}
 use Rattle.tile_round.specs.declared.places.Place.TheVariants.{Resting, Adding, Stopped}
 
 module _ (plan : List (List (Option PairAdd))) where
+  -- the additions of the pairs after the one at hand
+  abbrev pub later : Task → List Addition
+  later task = tile_of (drop task.next (pairs_at plan task.tile))
+
   abbrev pub stand_of : Place → Stand
   stand_of Resting = doing []
-  stand_of (Adding task) = doing (drop task.part (additions_of (Some task.add)) ++ tile_of (drop task.next (pairs_at plan task.tile)))
+  stand_of (Adding task) = doing (drop task.part (additions_of (Some task.add)) ++ later task)
   stand_of Stopped = ended
 
   abbrev pub stands_of : List Place → List Stand
@@ -23,7 +27,7 @@ module _ (plan : List (List (Option PairAdd))) where
 -- what a worker at this place has left, or why each of its events is refused
 abbrev pub task_at : Option Place → Result (Option Task) RoundFault
 task_at None = Err NoSuchWorker
-task_at (Some Stopped) = Err HasStopped
+task_at (Some Stopped) = Err StoppedFault
 task_at (Some Resting) = Ok None
 task_at (Some (Adding task)) = Ok (Some task)
 
@@ -44,10 +48,13 @@ module _ (atoms : ℕ) (plan : List (List (Option PairAdd))) where
   IsPlace (Adding task) = IsTask task
   IsPlace _ = Unit {0}
 
-  -- what a round keeps: its workers' places are within the plan, there are sums for all atoms, each a number of 64 bits, and there is room for every ticket that can be drawn
+  -- what a round keeps of what it holds
   pub record IsSound (drawn : List ℕ) (room : ℕ) (places : List Place) (sums : List ℤ) : Type 0 where
+    -- the workers' places are within the plan
     pub within : (w : ℕ) (p : Place) → slice_get places w ≡ Some p → IsPlace p
+    -- there are sums for all atoms, each a number of 64 bits
     pub wide : 3 * atoms ≤ length sums
     pub signed : map (cast_signed w64) (map (cast_unsigned w64) sums) ≡ sums
+    -- there is room for every ticket that can be drawn
     pub few : length drawn ≤ length plan + sum_by stops (stands_of plan places)
     pub enough : length plan + length places ≤ room

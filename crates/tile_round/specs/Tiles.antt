@@ -41,7 +41,9 @@ against force axis = cast_unsigned w64 (int_wrapping_neg w64 (component force ax
 -- a pair that acts makes six additions
 abbrev pub additions_of : Option PairAdd → List Addition
 additions_of None = []
-additions_of (Some p) = three_on p.low (along p.force 0) (along p.force 1) (along p.force 2) ++ three_on p.high (against p.force 0) (against p.force 1) (against p.force 2)
+additions_of (Some p) =
+    three_on p.low (along p.force 0) (along p.force 1) (along p.force 2)
+    ++ three_on p.high (against p.force 0) (against p.force 1) (against p.force 2)
 
 abbrev pub tile_of : List (Option PairAdd) → List Addition
 tile_of pairs = flat_map additions_of pairs

@@ -16,6 +16,7 @@ pub enum Outcome {
     Drew(u64),
     /// The claim drew a ticket past the tiles, and the worker has stopped.
     Ended,
-    /// The deposit was added to this word: the one of component `axis` of atom `a` is `1 + 3a + axis`.
+    /// The deposit was added to this word. The word of component `axis` of atom `a` is
+    /// `1 + 3a + axis`.
     Added(u64),
 }

@@ -5,18 +5,36 @@ ghost use Rattle.tile_round.specs.declared.work.PairAdd.{PairAdd};
 ghost use Rattle.tile_round.specs.Tiles.{Addition, tiles_of};
 ghost use Rattle.tile_round.specs.Interleaving.{opening, run, word};
 ghost use Rattle.tile_round.specs.Laws.{claims, SumsDeposits, IsOver, IsWhole};
-ghost use Rattle.tile_round.specs.ExactSums.{IsExact, PlanHasWords};
+ghost use Rattle.tile_round.specs.ExactSums.{PlanHasWords, TotalsComeOut, WordsComeOut};
 
-/// What holds of the state that any list of events leads to from the opening one, whatever the tiles and the number of workers. Word 0 is the number of accepted claims, which is at most tiles plus workers. Each other word is the sum of the deposits made, modulo 2^64. Once a worker has stopped, and so has each that ever claimed, each tile was drawn by one worker, once, and each other word is the sum of all amounts on it over all tiles, modulo 2^64. And where the tiles are pairs of forces and the exact sum of a component fits 64 bits, its word is that sum, whatever wrapped on the way.
+/// What holds of the state that any list of events leads to from the opening one, whatever the
+/// tiles and the number of workers.
+///
+/// - Word 0 is the number of accepted claims, and at most tiles plus workers.
+/// - Each other word is the sum of the deposits made, modulo 2^64.
+/// - Once some worker has stopped, and so has each that ever claimed, each tile was drawn by one
+///   worker, once, and each other word is the sum of all amounts on it over all tiles, modulo 2^64.
+/// - Where the tiles are pairs of forces and the exact sum of a component fits 64 bits, its word
+///   then is that sum, whatever wrapped on the way.
 pub fn every_order()
     ensures tickets { (tiles : List (List Addition)) (workers entries : ℕ) (events : List Event)
-        → word (run tiles (opening workers entries) events) 0 ≡ claims tiles (opening workers entries) events }
+        → word (run tiles (opening workers entries) events) 0
+        ≡ claims tiles (opening workers entries) events }
     ensures few { (tiles : List (List Addition)) (workers entries : ℕ) (events : List Event)
         → word (run tiles (opening workers entries) events) 0 ≤ length tiles + workers }
     ensures deposits { (tiles : List (List Addition)) (workers entries : ℕ) (events : List Event)
         → SumsDeposits tiles (opening workers entries) events }
     ensures whole { (tiles : List (List Addition)) (workers entries : ℕ) (events : List Event)
-        → IsOver (run tiles (opening workers entries) events) → IsWhole tiles (opening workers entries) events }
+        → IsOver (run tiles (opening workers entries) events)
+        → IsWhole tiles (opening workers entries) events }
     ensures exact { (plan : List (List (Option PairAdd))) (workers atoms : ℕ) (events : List Event)
-        → PlanHasWords plan → IsOver (run (tiles_of plan) (opening workers (3 * atoms)) events) → IsExact plan atoms (run (tiles_of plan) (opening workers (3 * atoms)) events) }
+        → PlanHasWords plan
+        → IsOver (run (tiles_of plan) (opening workers (3 * atoms)) events)
+        → WordsComeOut plan atoms (run (tiles_of plan) (opening workers (3 * atoms)) events) }
+{}
+
+/// The sum of all amounts on a component over all tiles, modulo 2^64 and read as a signed number,
+/// is the exact sum of the forces, where that fits.
+pub fn exact_totals()
+    ensures { (plan : List (List (Option PairAdd))) → PlanHasWords plan → TotalsComeOut plan }
 {}

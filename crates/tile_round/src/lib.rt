@@ -1,4 +1,7 @@
-//! Rounds in which workers draw tiles of pairs and add what these say into shared words, as a machine of single events: a claim draws a ticket, a deposit adds one component of a force. Whatever the order of the events, once all workers have stopped each word is the sum over all tiles.
+//! Rounds in which workers draw tiles of pairs of atoms and add their forces into shared words, as
+//! a machine of single events: a claim draws a ticket, a deposit adds one component of a force.
+//! Whatever the order of the events, once all workers have stopped each word is the sum over all
+//! tiles.
 #![tactic(auto)]
 
 mod events;
@@ -12,6 +15,6 @@ mod work;
 
 pub use events::{Event, Outcome};
 pub use faults::{Memory, RoundFault};
-pub use laws::every_order;
+pub use laws::{every_order, exact_totals};
 pub use round::Round;
 pub use work::{PairAdd, Work};

@@ -1,7 +1,7 @@
 ghost use Rattle.std.specs.Prelude.{◌≡◌, ◌+◌, ◌<◌, ◌≤◌, ◌++◌, length, drop, slice_get, Some};
 ghost use Rattle.tile_round.specs.Tiles.{additions_of, tile_of, pairs_at};
 ghost use Rattle.tile_round.specs.Interleaving.Stand.{doing};
-ghost use Rattle.tile_round.specs.Places.{stand_of, task_at, IsTask, IsPlace};
+ghost use Rattle.tile_round.specs.Places.{later, stand_of, task_at, IsTask, IsPlace};
 
 use crate::faults::RoundFault;
 use crate::work::{PairAdd, Work};
@@ -17,7 +17,8 @@ pub(crate) enum Place {
     Stopped,
 }
 
-/// What a worker has left of its tile: additions `part` and on of the pair at hand, and then the pairs `next` and on.
+/// What a worker has left of its tile: the additions of the pair at hand from `part` on, and then
+/// the pairs from `next` on.
 #[derive(Clone, Copy, PartialEq, Eq, Debug)]
 pub(crate) struct Task {
     pub(crate) tile: u64,
@@ -38,7 +39,8 @@ impl Task {
     // Where the worker stands after it.
     pub(crate) fn after<W: Work>(self, work: &W) -> Place
         requires { IsTask (W.atoms work.now) (W.plan work.now) self }
-        ensures stand { stand_of (W.plan work.now) result ≡ doing (drop (self.part + 1) (additions_of (Some self.add)) ++ tile_of (drop self.next (pairs_at (W.plan work.now) self.tile))) }
+        ensures stand { stand_of (W.plan work.now) result
+            ≡ doing (drop (self.part + 1) (additions_of (Some self.add)) ++ later (W.plan work.now) self) }
         ensures place { IsPlace (W.atoms work.now) (W.plan work.now) result }
     {
         let part = self.part + 1;
@@ -72,7 +74,8 @@ pub(crate) fn task_of(places: &[Place], worker: u32) -> Result<Option<Task>, Rou
 pub(crate) fn place_from<W: Work>(work: &W, tile: u64, first: u64) -> Place
     requires tile { tile < length (W.plan work.now) }
     requires first { first ≤ length (pairs_at (W.plan work.now) tile) }
-    ensures stand { stand_of (W.plan work.now) result ≡ doing (tile_of (drop first (pairs_at (W.plan work.now) tile))) }
+    ensures stand { stand_of (W.plan work.now) result
+        ≡ doing (tile_of (drop first (pairs_at (W.plan work.now) tile))) }
     ensures place { IsPlace (W.atoms work.now) (W.plan work.now) result }
 {
     for k in first..work.pairs(tile) {

@@ -10,7 +10,8 @@ use crate::work::Work;
 use std::alloc::Allocator;
 use std::marker::Model;
 
-/// A round of workers over a work. It is seen as the work's tiles, each a list of additions, and how far it has come.
+/// A round of workers over a work. It is seen as the work's tiles, each a list of additions, and
+/// how far it has come: who drew each ticket, where each worker stands, and the sums.
 #[derive(Drop)]
 pub struct Round<'w, W: Work, A: Allocator + Copy> {
     work: &'w W,
@@ -39,15 +40,22 @@ impl<'w, W: Work, A: Allocator + Copy> Model for Round<'w, W, A> {
       };
     } };
 
-    ghost invariant = { λ r. IsSound (W.atoms r.work.now) (W.plan r.work.now) r.drawn.items (vec_capacity r.drawn) r.places.items r.sums.items };
+    ghost invariant = { λ r. IsSound (W.atoms r.work.now) (W.plan r.work.now)
+        r.drawn.items (vec_capacity r.drawn) r.places.items r.sums.items };
 }
 
 impl<'w, W: Work, A: Allocator + Copy> Round<'w, W, A> {
-    /// The opening of a round of this many workers over the work, each word zero. It makes room for all that the round will keep; `Memory` where that is refused. The caller's conditions: the work has no more than this many atoms, and tiles and workers together are fewer than 2^64.
+    /// The opening of a round of this many workers over the work, each word zero. It makes room
+    /// for all that the round will keep, and answers `Memory` where that is refused. The caller's
+    /// conditions: the work has no more than this many atoms, and tiles and workers together are
+    /// fewer than 2^64.
     pub fn new(alloc: A, work: &'w W, atoms: u32, workers: u32) -> Result<Self, Memory>
         requires atoms { W.atoms work.now ≤ atoms }
         requires tiles { length (W.plan work.now) + workers < 2 ^ 64 }
-        ensures opens { IfOk result (λ r. r ≡ record { tiles = tiles_of (W.plan work.now); state = opening workers (3 * atoms) }) }
+        ensures opens { IfOk result (λ r. r ≡ record {
+          tiles = tiles_of (W.plan work.now);
+          state = opening workers (3 * atoms);
+        }) }
     {
         let tickets = work.tiles() as usize + workers as usize;
         let drawn = Vec::with_capacity(alloc, tickets)?;
@@ -61,7 +69,10 @@ impl<'w, W: Work, A: Allocator + Copy> Round<'w, W, A> {
         })
     }
 
-    /// One event. It takes no memory. It is refused, and changes nothing, as `NoSuchWorker` where no worker has the number; else as `Stopped` where the worker has stopped; else a claim as `Busy` where the worker's tile has additions left, and a deposit as `Idle` where there are none.
+    /// One event. It takes no memory. It is refused, and changes nothing, as `NoSuchWorker` where
+    /// no worker has the number; else as `Stopped` where the worker has stopped; else a claim as
+    /// `Busy` where the worker's tile has additions left, and a deposit as `Idle` where there are
+    /// none.
     pub fn step(&mut self, event: Event) -> Result<Outcome, RoundFault>
         ensures tiles { self.new.tiles ≡ self.old.tiles }
         ensures event { (self.new.state, result) ≡ step self.old.tiles self.old.state event }
@@ -80,7 +91,8 @@ impl<'w, W: Work, A: Allocator + Copy> Round<'w, W, A> {
         self.drawn.len() as u64
     }
 
-    /// The words after the first, read as signed numbers: entry `3a + axis` is word `1 + 3a + axis`.
+    /// The words after the first, read as signed numbers: entry `3a + axis` is word
+    /// `1 + 3a + axis`.
     pub fn sums(&self) -> &[i64]
         ensures { result.now ≡ map (cast_signed w64) self.now.state.sums }
     {
@@ -89,7 +101,8 @@ impl<'w, W: Work, A: Allocator + Copy> Round<'w, W, A> {
 
     fn claim(&mut self, worker: u32) -> Result<Outcome, RoundFault>
         ensures tiles { self.new.tiles ≡ self.old.tiles }
-        ensures event { (self.new.state, result) ≡ on_claim self.old.tiles self.old.state worker (slice_get self.old.state.stands worker) }
+        ensures event { (self.new.state, result)
+            ≡ on_claim self.old.tiles self.old.state worker (slice_get self.old.state.stands worker) }
     {
         match task_of(&self.places, worker)? {
             Some(_) => Err(RoundFault::Busy),
@@ -110,7 +123,8 @@ impl<'w, W: Work, A: Allocator + Copy> Round<'w, W, A> {
 
     fn deposit(&mut self, worker: u32) -> Result<Outcome, RoundFault>
         ensures tiles { self.new.tiles ≡ self.old.tiles }
-        ensures event { (self.new.state, result) ≡ on_deposit self.old.tiles self.old.state worker (slice_get self.old.state.stands worker) }
+        ensures event { (self.new.state, result)
+            ≡ on_deposit self.old.tiles self.old.state worker (slice_get self.old.state.stands worker) }
     {
         match task_of(&self.places, worker)? {
             None => Err(RoundFault::Idle),

@@ -2,7 +2,8 @@ ghost use Rattle.std.specs.Prelude.{◌≡◌, ◌+◌, ◌<◌, ℕ, List, leng
 ghost use Rattle.tile_round.specs.declared.work.PairAdd.{PairAdd};
 ghost use Rattle.tile_round.specs.Tiles.{additions_of, along, against, pairs_at, IsPairOf};
 
-/// What a pair of atoms that acts adds: the force to the atom `low`, and its negative to the atom `high`, each with the axes x, y and z.
+/// What a pair of atoms that acts adds: the force to the atom `low`, and its negative to the atom
+/// `high`, each along the axes x, y and z.
 #[derive(Clone, Copy, PartialEq, Eq, Debug)]
 pub struct PairAdd {
     pub low: u32,
@@ -14,7 +15,9 @@ impl PairAdd {
     /// How many additions a pair that acts makes.
     pub const PARTS: usize = 6;
 
-    /// An addition of the pair, by its number below 6: the entry of the sums that it goes to, and the amount modulo 2^64. The first three are the force on `low`, the last three its negative on `high`; the entry of component `axis` of atom `a` is `3a + axis`.
+    /// An addition of the pair, by its number below 6: the entry of the sums that it goes to, and
+    /// the amount modulo 2^64. The first three are the force on `low`, the last three its negative
+    /// on `high`. The entry of component `axis` of atom `a` is `3a + axis`.
     pub fn addition(&self, part: usize) -> (usize, u64)
         requires { part < 6 }
         ensures { slice_get (additions_of (Some self.now)) part ≡ Some result }
@@ -44,7 +47,8 @@ impl PairAdd {
     }
 }
 
-/// Work that is cut into tiles, each a list of pairs of atoms. What it answers is told by what it holds, which a loan by `&self` does not change.
+/// Work that is cut into tiles, each a list of pairs of atoms. What it answers is told by what it
+/// holds, which a loan by `&self` does not change.
 pub trait Work {
     /// The tiles, each with its pairs in order. A pair that does not act is `None`.
     ghost plan: { Self → List (List (Option PairAdd)) };
@@ -61,7 +65,9 @@ pub trait Work {
         requires { tile < length (plan self.now) }
         ensures { result ≡ length (pairs_at (plan self.now) tile) };
 
-    /// A pair of a tile, by its number in the tile: what it adds, or `None` where it does not act. Of a pair that acts `low` is less than `high`, and both are atoms. The caller's condition: there is such a tile, and such a pair in it.
+    /// A pair of a tile, by its number in the tile: what it adds, or `None` where it does not act.
+    /// Of a pair that acts `low` is less than `high`, and both are below the number of atoms. The
+    /// caller's condition: there is such a tile, and such a pair in it.
     fn pair(&self, tile: u64, k: u64) -> Option<PairAdd>
         requires tile { tile < length (plan self.now) }
         requires pair { k < length (pairs_at (plan self.now) tile) }

@@ -1,11 +1,11 @@
-use Rattle.std.proofs.Common.{◌≡◌, ◌<◌, ◌≤◌, ◌∙◌, Some, length, slice_get, sym, ap, arith, rules}
+use Rattle.std.proofs.Common.{◌≡◌, ◌<◌, ◌≤◌, ◌∙◌, Some, length, slice_get, ap, arith, rules}
 use Rattle.std.proofs.lemmas.Option.{slice_get_within}
 use Rattle.std.specs.Vec.{vec_capacity}
 use Rattle.tile_round.specs.declared.events.Outcome.TheVariants.{Drew, Ended}
 use Rattle.tile_round.specs.declared.places.Place.TheVariants.{Resting, Adding, Stopped}
 use Rattle.tile_round.specs.Tiles.{tiles_of}
 use Rattle.tile_round.specs.Interleaving.{Progress, stand_at, outcome_at, on_claim}
-use Rattle.tile_round.proofs.PlaceLemmas.{rests_at, adds_at, stands_adding, has_room, drew_tile, drew_none, outcome_tile, outcome_none, claim_sound, claims_so}
+use Rattle.tile_round.proofs.PlaceLemmas.{rests_at, adds_at, stands_adding, claim_busy, rest_of, has_room, drew_tile, drew_none, outcome_tile, outcome_none, claim_sound, claims_so}
 use Rattle.tile_round.proofs.round.Round.claim.Goals as goal
 
 pub push_reserved-requires : goal.push_reserved-requires
@@ -56,11 +56,10 @@ pub returns-in-Some-clause-event : goal.returns-in-Some-clause-event
 returns-in-Some-clause-event g c =
     let r = c.self.inside in
     let plan = g.W.Work.plan r.work.now in
-    let now = c.args.self.now in
     let task = c.in-Some.field-0 in
     let at : slice_get r.places.items c.args.worker ≡ Some (Adding task) = adds_at (slice_get r.places.items c.args.worker) task (search rules) in
     let stands = stands_adding plan (g.W.Work.atoms r.work.now) r.drawn.items (vec_capacity r.drawn) r.places.items r.sums.items c.args.worker task c.self.invariant at in
-    sym (ap (on_claim now.tiles now.state c.args.worker) (ap (λ (v : Progress). slice_get v.state.stands c.args.worker) (sym c.self.view_is) ∙ stands.1))
+    claim_busy plan c.args.self.now r.drawn.items r.places.items r.sums.items c.args.worker stands.0 (rest_of plan task) c.self.view_is stands.1
 
 pub returns-then-ticket-tiles-clause-event : goal.returns-then-ticket-tiles-clause-event
 returns-then-ticket-tiles-clause-event g c =

@@ -1,11 +1,11 @@
-use Rattle.std.proofs.Common.{◌≡◌, ◌<◌, ◌*◌, ◌∙◌, Some, length, slice_get, sym, ap, arith, rules}
+use Rattle.std.proofs.Common.{◌≡◌, ◌<◌, ◌*◌, ◌∙◌, Some, length, slice_get, ap, arith, rules}
 use Rattle.std.proofs.lemmas.Option.{slice_get_within}
 use Rattle.std.proofs.Math.ListN.{length-set}
 use Rattle.std.specs.Vec.{vec_capacity}
 use Rattle.std.specs.Int.{w64, cast_signed, cast_unsigned}
 use Rattle.tile_round.specs.declared.places.Place.TheVariants.{Resting, Adding}
 use Rattle.tile_round.specs.Interleaving.{Progress, on_deposit}
-use Rattle.tile_round.proofs.PlaceLemmas.{standing, rests_at, adds_at, entry_inside, stored_added, stored_signed, deposit_sound, deposits_so}
+use Rattle.tile_round.proofs.PlaceLemmas.{deposit_idle, rests_at, adds_at, entry_inside, stored_added, stored_signed, deposit_sound, deposits_so}
 use Rattle.tile_round.proofs.round.Round.deposit.Goals as goal
 
 pub addition-entry-requires : goal.addition-entry-requires
@@ -68,9 +68,8 @@ invariant_of-self g c =
 pub returns-in-None-clause-event : goal.returns-in-None-clause-event
 returns-in-None-clause-event g c =
     let r = c.self.inside in
-    let now = c.args.self.now in
     let at : slice_get r.places.items c.args.worker ≡ Some Resting = rests_at (slice_get r.places.items c.args.worker) (search rules) in
-    sym (ap (on_deposit now.tiles now.state c.args.worker) (ap (λ (v : Progress). slice_get v.state.stands c.args.worker) (sym c.self.view_is) ∙ standing (g.W.Work.plan r.work.now) r.places.items c.args.worker (Some Resting) at))
+    deposit_idle (g.W.Work.plan r.work.now) c.args.self.now r.drawn.items r.places.items r.sums.items c.args.worker c.self.view_is at
 
 pub returns-in-Some-clause-event : goal.returns-in-Some-clause-event
 returns-in-Some-clause-event g c =
