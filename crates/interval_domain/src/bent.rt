@@ -1,0 +1,68 @@
+// Squares, absolute values and the test for 0: they go one way below 0 and the other way above.
+ghost use Rattle.std.specs.Prelude.{pos, ◌≤ℤ◌, IfOk, IfErr, Ok};
+ghost use Rattle.fixed.specs.Fractions.{bits_of};
+ghost use Rattle.fixed.specs.Arithmetic.{absolute_of, delta_of, square_of};
+ghost use Rattle.interval_domain.specs.Ends.{IsBentSpan};
+ghost use Rattle.interval_domain.specs.Spans.{IsLeastSpan, IsOutcome, MayFault};
+
+use fixed::{Fault, Frac, Fx, checked_abs, checked_sq};
+
+use crate::span::Span;
+
+// The span of an operation that has its least value 0 at 0, from its values at the ends of `a`.
+fn from_zero(a: Span, at_lo: Fx, at_hi: Fx) -> Span
+    requires lo { pos 0 ≤ℤ at_lo }
+    requires hi { pos 0 ≤ℤ at_hi }
+    ensures { IsBentSpan a at_lo at_hi result.lo result.hi }
+{
+    let lo = if a.contains(Fx::from_raw(0)) {
+        Fx::from_raw(0)
+    } else {
+        fixed::min(at_lo, at_hi)
+    };
+    Span {
+        lo,
+        hi: fixed::max(at_lo, at_hi),
+    }
+}
+
+/// The span of `x x`, each square rounded down.
+///
+/// `Overflow` where some rounded square is no number.
+pub fn sq(frac: Frac, a: Span) -> Result<Span, Fault>
+    ensures span { IfOk result (IsLeastSpan (IsOutcome (square_of (bits_of frac)) a)) }
+    ensures fault { IfErr result (MayFault (IsOutcome (square_of (bits_of frac)) a)) }
+{
+    Ok(from_zero(
+        a,
+        checked_sq(frac, a.lo)?,
+        checked_sq(frac, a.hi)?,
+    ))
+}
+
+/// The span of `x` without its sign.
+///
+/// `Overflow` where the least number is a member.
+pub fn abs(a: Span) -> Result<Span, Fault>
+    ensures span { IfOk result (IsLeastSpan (IsOutcome absolute_of a)) }
+    ensures fault { IfErr result (MayFault (IsOutcome absolute_of a)) }
+{
+    Ok(from_zero(a, checked_abs(a.lo)?, checked_abs(a.hi)?))
+}
+
+/// The span of one where `x` is 0 and of 0 elsewhere: 0 alone where 0 is no member, one alone where it is the only member, else both.
+pub fn delta(frac: Frac, a: Span) -> Span
+    ensures { IsLeastSpan (IsOutcome (λ x. Ok (delta_of (bits_of frac) x)) a) result }
+{
+    let at_lo = fixed::delta(frac, a.lo);
+    let at_hi = fixed::delta(frac, a.hi);
+    let hi = if a.contains(Fx::from_raw(0)) {
+        Fx::from_raw(frac.one())
+    } else {
+        Fx::from_raw(0)
+    };
+    Span {
+        lo: fixed::min(at_lo, at_hi),
+        hi,
+    }
+}
