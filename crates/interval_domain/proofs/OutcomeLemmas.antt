@@ -75,6 +75,14 @@ number_narrows = record { same = number_same; between = number_between }
 pub exact_narrows : IsNarrowing (λ z. Ok z)
 exact_narrows = record { same = λ z w e. cc; between = λ lo z hi el eh a b. refl }
 
+faults_if : (z : ℤ) (fault : Fault) (fits : Bool) → (if fits then Ok z else Err Overflow) ≡ Err fault → fault ≡ Overflow
+faults_if z fault true e = absurd (cc)
+faults_if z fault false e = cc
+
+-- the only fault of narrowing is an overflow
+pub number_faults : (z : ℤ) (fault : Fault) → number_or_overflow z ≡ Err fault → fault ≡ Overflow
+number_faults z fault e = faults_if z fault (in_range z) e
+
 -- ---- least spans
 
 -- each outcome is an exact value from lo to hi, narrowed
