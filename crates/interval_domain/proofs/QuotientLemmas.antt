@@ -1,10 +1,11 @@
 -- Rounded quotients rise or fall in the dividend, and in a divisor on one side of 0.
-use Rattle.std.proofs.Common.{◌≡◌, ◌≢◌, ℕ, zero, suc, ◌/◌, ◌^◌, ◌<◌, ◌≤◌, refl, ap, ⊎_elim, inl, inr, arith, Result, Ok, Err, ℤ, pos, negsuc, neg_ℤ, ◌*ℤ◌, ◌≤ℤ◌, ◌<ℤ◌}
-use Rattle.std.specs.Prelude.{◌⊎◌}
+use Rattle.std.proofs.Common.{◌≡◌, ◌≢◌, ◌∙◌, sym, Bool, true, false, if◌then◌else◌, ℕ, zero, suc, ◌/◌, ◌^◌, ◌<◌, ◌≤◌, refl, ap, ⊎_elim, inl, inr, arith, Result, Ok, Err, ℤ, pos, negsuc, neg_ℤ, ◌*ℤ◌, ◌≤ℤ◌, ◌<ℤ◌}
+use Rattle.std.specs.Prelude.{◌⊎◌, ◌↔◌}
+use Rattle.std.proofs.lemmas.Bool.Decides.{nat_tests}
 use Rattle.std.proofs.lemmas.Int.{ints, by_lt_z}
-use Rattle.fixed.specs.Arithmetic.{floor_of, floor_over, number_or_overflow, one, quotient_of}
+use Rattle.fixed.specs.Arithmetic.{floor_of, floor_over, is_zero, number_or_overflow, one, quotient_of}
 use Rattle.fixed.specs.declared.faults.Fault.{Fault}
-use Rattle.fixed.specs.declared.faults.Fault.TheVariants.{ZeroDivisor}
+use Rattle.fixed.specs.declared.faults.Fault.TheVariants.{Overflow, ZeroDivisor}
 use Rattle.interval_domain.specs.declared.span.Span.{Span}
 use Rattle.interval_domain.specs.Ends.{IsExtremes}
 use Rattle.interval_domain.specs.Spans.{IsLeastSpan, IsMember, IsOutcomeOfTwo}
@@ -98,17 +99,20 @@ quotient_moves bits a b none =
         (one_sided b none);
     }
 
+nonzero_test : (bits : ℕ) (x y : ℤ) (test : Bool) → test ≡ false → (if test then Err ZeroDivisor else number_or_overflow (rounded_quotient bits x y)) ≡ number_or_overflow (rounded_quotient bits x y)
+nonzero_test bits x y test e = rw e refl
+
 quotient_exact : (bits : ℕ) (x y : ℤ) → y ≢ pos 0 → quotient_of bits x y ≡ number_or_overflow (rounded_quotient bits x y)
 quotient_exact bits x (pos zero) n = absurd (n refl)
-quotient_exact bits x (pos (suc d)) n = refl
+quotient_exact bits x (pos (suc d)) n = nonzero_test bits x (pos (suc d)) (is_zero (pos (suc d))) (grind (arith, nat_tests))
 quotient_exact bits x (negsuc d) n = refl
 
 pub least_quotient : (bits : ℕ) (a b : Span) (p q r s : ℤ) (span : Span) → (IsMember (pos 0) b → ⊥) → quotient_of bits a.lo b.lo ≡ Ok p → quotient_of bits a.lo b.hi ≡ Ok q → quotient_of bits a.hi b.lo ≡ Ok r → quotient_of bits a.hi b.hi ≡ Ok s → IsExtremes p q r s span.lo span.hi → IsLeastSpan (IsOutcomeOfTwo (quotient_of bits) a b) span
 least_quotient bits a b p q r s span none fp fq fr fs x =
     least_of_corners (quotient_of bits) number_or_overflow (rounded_quotient bits) a b p q r s span number_narrows (λ x y hx hy. quotient_exact bits x y (nonzero b y none hy)) (quotient_moves bits a b none) fp fq fr fs x
 
--- a quotient of members has no zero divisor but 0
-pub zero_divisor : (bits : ℕ) (x y : ℤ) → quotient_of bits x y ≡ Err ZeroDivisor → y ≡ pos 0
-zero_divisor bits x (pos zero) e = refl
-zero_divisor bits x (pos (suc d)) e = (let o = number_faults (rounded_quotient bits x (pos (suc d))) ZeroDivisor e in absurd (cc))
-zero_divisor bits x (negsuc d) e = (let o = number_faults (rounded_quotient bits x (negsuc d)) ZeroDivisor e in absurd (cc))
+-- where 0 is no divisor, no quotient has a zero divisor
+pub no_zero_divisor : (bits : ℕ) (a b : Span) (x y : ℤ) (fault : Fault) (result : Result Span Fault) → (IsMember (pos 0) b → ⊥) → IsMember y b → quotient_of bits x y ≡ Err fault → result ≡ Err fault → (result ≡ Err ZeroDivisor) ↔ IsMember (pos 0) b
+no_zero_divisor bits a b x y fault result none h e r =
+    let o : fault ≡ Overflow = number_faults (rounded_quotient bits x y) fault (sym (quotient_exact bits x y (nonzero b y none h)) ∙ e) in
+    (λ (z : result ≡ Err ZeroDivisor). absurd (cc), λ m. absurd (none m))
