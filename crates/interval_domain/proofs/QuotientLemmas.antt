@@ -72,10 +72,10 @@ over_moves bits (pos (suc k)) u v n = inl (record { rises = λ x z l h r. above_
 over_moves bits (negsuc k) u v n = inr (record { falls = λ x z l h r. below_falls k _ _ (times_rises (2 ^ bits) x z h) })
 
 -- the divisors lie on one side of 0
-abbrev IsOneSided : Span → Type 0
+abbrev pub IsOneSided : Span → Type 0
 IsOneSided b = (pos 1 ≤ℤ b.lo) ⊎ (b.hi ≤ℤ negsuc 0)
 
-one_sided : (b : Span) → (IsMember (pos 0) b → ⊥) → IsOneSided b
+pub one_sided : (b : Span) → (IsMember (pos 0) b → ⊥) → IsOneSided b
 one_sided b none =
     by_lt_z (pos 0) b.lo
     (λ (above : pos 0 <ℤ b.lo). inl (omega (arith, ints)))

@@ -9,7 +9,7 @@ pub record IsExtremes (p q r s lo hi : ℤ) : Type 0 where
   pub low : lo ≡ int_min (int_min p q) (int_min r s)
   pub high : hi ≡ int_max (int_max p q) (int_max r s)
 
--- the ends where a function of the members of a falls up to 0 and rises from there: from p and q, its values at the ends of a, and 0, its value at 0
-pub record IsBentSpan (a : Span) (p q lo hi : ℤ) : Type 0 where
+-- the ends of what a function gives on the members of a, where it is 0 at 0 and no less elsewhere, from its values p and q at the ends of a
+pub record IsSpanFromZero (a : Span) (p q lo hi : ℤ) : Type 0 where
   pub low : (IsMember (pos 0) a × (lo ≡ pos 0)) ⊎ ((IsMember (pos 0) a → ⊥) × (lo ≡ int_min p q))
   pub high : hi ≡ int_max p q

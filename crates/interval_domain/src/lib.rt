@@ -1,7 +1,7 @@
 //! Spans of fixed-point numbers, and what the operations come to on them: for each operation the least span of all its results on members of its arguments, or a fault that some members really have.
 #![tactic(auto)]
 
-mod bent;
+mod magnitudes;
 mod corners;
 mod joins;
 mod linear;
@@ -10,7 +10,7 @@ mod roots;
 mod span;
 mod steps;
 
-pub use bent::{abs, delta, sq};
+pub use magnitudes::{abs, delta, sq};
 pub use corners::{div, mul};
 pub use joins::{halves, hull};
 pub use linear::{add, neg, sub};

@@ -1,22 +1,23 @@
-// Squares, absolute values and the test for 0: they go one way below 0 and the other way above.
+// Squares, absolute values and the test for 0: they go one way up to 0 and the other way from there.
 ghost use Rattle.std.specs.Prelude.{pos, ◌≤ℤ◌, IfOk, IfErr, Ok};
 ghost use Rattle.fixed.specs.Fractions.{bits_of};
 ghost use Rattle.fixed.specs.Arithmetic.{absolute_of, delta_of, square_of};
-ghost use Rattle.interval_domain.specs.Ends.{IsBentSpan};
+ghost use Rattle.interval_domain.specs.Ends.{IsSpanFromZero};
 ghost use Rattle.interval_domain.specs.Spans.{IsLeastSpan, IsOutcome, MayFault};
 
 use fixed::{Fault, Frac, Fx, checked_abs, checked_sq};
 
 use crate::span::Span;
 
-// The span of an operation that has its least value 0 at 0, from its values at the ends of `a`.
+// The span of an operation that is 0 at 0 and no less elsewhere, from its values at the ends of `a`.
 fn from_zero(a: Span, at_lo: Fx, at_hi: Fx) -> Span
     requires lo { pos 0 ≤ℤ at_lo }
     requires hi { pos 0 ≤ℤ at_hi }
-    ensures { IsBentSpan a at_lo at_hi result.lo result.hi }
+    ensures { IsSpanFromZero a at_lo at_hi result.lo result.hi }
 {
-    let lo = if a.contains(Fx::from_raw(0)) {
-        Fx::from_raw(0)
+    let zero = Fx::from_raw(0);
+    let lo = if a.contains(zero) {
+        zero
     } else {
         fixed::min(at_lo, at_hi)
     };
@@ -50,19 +51,17 @@ pub fn abs(a: Span) -> Result<Span, Fault>
     Ok(from_zero(a, checked_abs(a.lo)?, checked_abs(a.hi)?))
 }
 
-/// The span of one where `x` is 0 and of 0 elsewhere: 0 alone where 0 is no member, one alone where it is the only member, else both.
+/// The span of one where `x` is 0, and of 0 elsewhere.
 pub fn delta(frac: Frac, a: Span) -> Span
     ensures { IsLeastSpan (IsOutcome (λ x. Ok (delta_of (bits_of frac) x)) a) result }
 {
-    let at_lo = fixed::delta(frac, a.lo);
-    let at_hi = fixed::delta(frac, a.hi);
-    let hi = if a.contains(Fx::from_raw(0)) {
-        Fx::from_raw(frac.one())
+    let zero = Fx::from_raw(0);
+    let one = Fx::from_raw(frac.one());
+    if !a.contains(zero) {
+        Span::single(zero)
+    } else if a.lo == a.hi {
+        Span::single(one)
     } else {
-        Fx::from_raw(0)
-    };
-    Span {
-        lo: fixed::min(at_lo, at_hi),
-        hi,
+        Span { lo: zero, hi: one }
     }
 }
