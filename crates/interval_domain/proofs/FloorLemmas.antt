@@ -24,9 +24,9 @@ div_falls a m n p h =
     let q : 0 < n = omega arith in
     ⊎_elim
     (λ (lt : a / m < a / n).
-      let k : m * suc (a / m) ≤ m * (a / n) = mul-le-mul_left m lt in
-      let l : m * (a / n) ≤ n * (a / n) = mul-le-mul_right (a / n) h in
-      absurd (omega (arith, k, l)))
+    let k : m * suc (a / m) ≤ m * (a / n) = mul-le-mul_left m lt in
+    let l : m * (a / n) ≤ n * (a / n) = mul-le-mul_right (a / n) h in
+    absurd (omega (arith, k, l)))
     (λ le. le)
     (cases_lt (a / m) (a / n))
 

@@ -51,19 +51,19 @@ least_valley f narrow e a s p q n is v fz fl fh ends =
     let top : IsOutcome f a (Ok s.hi) = subst Reached (sym ends.high) (max_keeps Reached p q (at_lo f a (Ok p) fl) (at_hi f a (Ok q) fh)) in
     ⊎_elim
     (λ (zero_in : IsMember (pos 0) a × (s.lo ≡ pos 0)).
-      let bottom : IsOutcome f a (Ok (pos 0)) = record { argument = pos 0; member = zero_in.0; outcome = fz } in
-      least_of_one f narrow e a s n
-      (λ x h. (is x, omega (arith, ints, zero_in.1, valley_from_zero e x v), valley_above e a x s.hi v ul uh h))
-      (subst Reached (sym zero_in.1) bottom)
-      top)
+    let bottom : IsOutcome f a (Ok (pos 0)) = record { argument = pos 0; member = zero_in.0; outcome = fz } in
+    least_of_one f narrow e a s n
+    (λ x h. (is x, omega (arith, ints, zero_in.1, valley_from_zero e x v), valley_above e a x s.hi v ul uh h))
+    (subst Reached (sym zero_in.1) bottom)
+    top)
     (λ (zero_out : (IsMember (pos 0) a → ⊥) × (s.lo ≡ int_min p q)).
-      let low = zero_out.1 in
-      let ll : s.lo ≤ℤ e a.lo = omega (arith, ints, clamps) in
-      let lh : s.lo ≤ℤ e a.hi = omega (arith, ints, clamps) in
-      least_of_one f narrow e a s n
-      (λ x h. (is x, valley_from_ends e a x s.lo v zero_out.0 ll lh h, valley_above e a x s.hi v ul uh h))
-      (subst Reached (sym zero_out.1) (min_keeps Reached p q (at_lo f a (Ok p) fl) (at_hi f a (Ok q) fh)))
-      top)
+    let low = zero_out.1 in
+    let ll : s.lo ≤ℤ e a.lo = omega (arith, ints, clamps) in
+    let lh : s.lo ≤ℤ e a.hi = omega (arith, ints, clamps) in
+    least_of_one f narrow e a s n
+    (λ x h. (is x, valley_from_ends e a x s.lo v zero_out.0 ll lh h, valley_above e a x s.hi v ul uh h))
+    (subst Reached (sym zero_out.1) (min_keeps Reached p q (at_lo f a (Ok p) fl) (at_hi f a (Ok q) fh)))
+    top)
     ends.low
 
 -- ---- squares
@@ -148,7 +148,7 @@ delta_off bits a s none el eh =
 pub delta_alone : (bits : ℕ) (a s : Span) → IsMember (pos 0) a → a.lo ≡ a.hi → s.lo ≡ one bits → s.hi ≡ one bits → IsLeastSpan (IsOutcome (λ x. Ok (delta_of bits x)) a) s
 delta_alone bits a s zero_in same el eh =
     let on : (x : ℤ) → IsMember x a → delta_of bits x ≡ one bits =
-      λ x h. let e : x ≡ pos 0 = omega (arith, ints, h.at_least, h.at_most, zero_in.at_least, zero_in.at_most) in rw e refl in
+    λ x h. let e : x ≡ pos 0 = omega (arith, ints, h.at_least, h.at_most, zero_in.at_least, zero_in.at_most) in rw e refl in
     least_of_one (λ x. Ok (delta_of bits x)) (λ z. Ok z) (delta_of bits) a s exact_narrows
     (λ x h. let o = on x h in (refl, omega (arith, ints), omega (arith, ints)))
     (at_lo (λ x. Ok (delta_of bits x)) a _ (ap Ok (on a.lo (lo_member a) ∙ sym el)))
@@ -160,9 +160,9 @@ delta_both bits a s zero_in other el eh =
     least_of_one (λ x. Ok (delta_of bits x)) (λ z. Ok z) (delta_of bits) a s exact_narrows
     (λ x h. let d = delta_if bits (is_zero x) in (refl, omega (arith, ints, d.0), omega (arith, ints, d.1)))
     (by_lt_z a.lo (pos 0)
-      (λ (below : a.lo <ℤ pos 0).
-        at_lo (λ x. Ok (delta_of bits x)) a _ (ap Ok (delta_elsewhere bits a.lo (λ (e : a.lo ≡ pos 0). absurd (omega (arith, ints))) ∙ sym el)))
-      (λ (above : pos 0 ≤ℤ a.lo).
-        let zero_lo : a.lo ≡ pos 0 = omega (arith, ints, zero_in.at_least) in
-        at_hi (λ x. Ok (delta_of bits x)) a _ (ap Ok (delta_elsewhere bits a.hi (λ (e : a.hi ≡ pos 0). other (zero_lo ∙ sym e)) ∙ sym el))))
+    (λ (below : a.lo <ℤ pos 0).
+    at_lo (λ x. Ok (delta_of bits x)) a _ (ap Ok (delta_elsewhere bits a.lo (λ (e : a.lo ≡ pos 0). absurd (omega (arith, ints))) ∙ sym el)))
+    (λ (above : pos 0 ≤ℤ a.lo).
+    let zero_lo : a.lo ≡ pos 0 = omega (arith, ints, zero_in.at_least) in
+    at_hi (λ x. Ok (delta_of bits x)) a _ (ap Ok (delta_elsewhere bits a.hi (λ (e : a.hi ≡ pos 0). other (zero_lo ∙ sym e)) ∙ sym el))))
     (record { argument = pos 0; member = zero_in; outcome = ap Ok (sym eh) })

@@ -57,11 +57,12 @@ corners_suffice e a b lo hi m p q r s x y hx hy =
 extremes_bound : (p q r s lo hi : ℤ) → IsExtremes p q r s lo hi → LiesBetween lo p hi × LiesBetween lo q hi × LiesBetween lo r hi × LiesBetween lo s hi
 extremes_bound p q r s lo hi x =
     let l = x.low in
-    let h = x.high in
-    (record { least = omega (arith, ints, clamps); greatest = omega (arith, ints, clamps) },
+    let h = x.high in (
       record { least = omega (arith, ints, clamps); greatest = omega (arith, ints, clamps) },
       record { least = omega (arith, ints, clamps); greatest = omega (arith, ints, clamps) },
-      record { least = omega (arith, ints, clamps); greatest = omega (arith, ints, clamps) })
+      record { least = omega (arith, ints, clamps); greatest = omega (arith, ints, clamps) },
+      record { least = omega (arith, ints, clamps); greatest = omega (arith, ints, clamps) },
+    )
 
 -- the extremes of the four corners are the ends of the least span
 pub least_of_corners : (f : ℤ → ℤ → Result ℤ Fault) (narrow : ℤ → Result ℤ Fault) (e : ℤ → ℤ → ℤ) (a b : Span) (p q r s : ℤ) (span : Span) → IsNarrowing narrow → ((x y : ℤ) → IsMember x a → IsMember y b → f x y ≡ narrow (e x y)) → MovesInEach e a b → f a.lo b.lo ≡ Ok p → f a.lo b.hi ≡ Ok q → f a.hi b.lo ≡ Ok r → f a.hi b.hi ≡ Ok s → IsExtremes p q r s span.lo span.hi → IsLeastSpan (IsOutcomeOfTwo f a b) span
@@ -83,7 +84,7 @@ least_of_corners f narrow e a b p q r s span n is m fp fq fr fs x =
     let os = at_hi_hi f a b (Ok s) fs in
     least_of_two f narrow e a b span n
     (λ x y hx hy.
-      let w = corners_suffice e a b span.lo span.hi m (subst Between ep bounds.0) (subst Between eq bounds.1) (subst Between er bounds.2) (subst Between es bounds.3) x y hx hy in
-      (is x y hx hy, w.least, w.greatest))
+    let w = corners_suffice e a b span.lo span.hi m (subst Between ep bounds.0) (subst Between eq bounds.1) (subst Between er bounds.2) (subst Between es bounds.3) x y hx hy in
+    (is x y hx hy, w.least, w.greatest))
     (subst Reached (sym x.low) (min_keeps Reached (int_min p q) (int_min r s) (min_keeps Reached p q op oq) (min_keeps Reached r s or os)))
     (subst Reached (sym x.high) (max_keeps Reached (int_max p q) (int_max r s) (max_keeps Reached p q op oq) (max_keeps Reached r s or os)))

@@ -109,14 +109,14 @@ least_span Outcome narrow s n w ol oh =
 pub least_of_one : (f : ℤ → Result ℤ Fault) (narrow : ℤ → Result ℤ Fault) (e : ℤ → ℤ) (a s : Span) → IsNarrowing narrow → ((x : ℤ) → IsMember x a → (f x ≡ narrow (e x)) × (s.lo ≤ℤ e x) × (e x ≤ℤ s.hi)) → IsOutcome f a (Ok s.lo) → IsOutcome f a (Ok s.hi) → IsLeastSpan (IsOutcome f a) s
 least_of_one f narrow e a s n w ol oh =
     let within : LiesWithin (IsOutcome f a) narrow s.lo s.hi =
-      record { exact = λ r o. let h = w o.argument o.member in (e o.argument, sym o.outcome ∙ h.0, h.1, h.2) } in
+    record { exact = λ r o. let h = w o.argument o.member in (e o.argument, sym o.outcome ∙ h.0, h.1, h.2) } in
     least_span (IsOutcome f a) narrow s n within ol oh
 
 -- and on two
 pub least_of_two : (f : ℤ → ℤ → Result ℤ Fault) (narrow : ℤ → Result ℤ Fault) (e : ℤ → ℤ → ℤ) (a b s : Span) → IsNarrowing narrow → ((x y : ℤ) → IsMember x a → IsMember y b → (f x y ≡ narrow (e x y)) × (s.lo ≤ℤ e x y) × (e x y ≤ℤ s.hi)) → IsOutcomeOfTwo f a b (Ok s.lo) → IsOutcomeOfTwo f a b (Ok s.hi) → IsLeastSpan (IsOutcomeOfTwo f a b) s
 least_of_two f narrow e a b s n w ol oh =
     let within : LiesWithin (IsOutcomeOfTwo f a b) narrow s.lo s.hi =
-      record { exact = λ r o. let h = w o.first o.second o.first_member o.second_member in (e o.first o.second, sym o.outcome ∙ h.0, h.1, h.2) } in
+    record { exact = λ r o. let h = w o.first o.second o.first_member o.second_member in (e o.first o.second, sym o.outcome ∙ h.0, h.1, h.2) } in
     least_span (IsOutcomeOfTwo f a b) narrow s n within ol oh
 
 -- ---- the least and the greatest of two numbers

@@ -80,9 +80,9 @@ one_sided b none =
     by_lt_z (pos 0) b.lo
     (λ (above : pos 0 <ℤ b.lo). inl (omega (arith, ints)))
     (λ (low : b.lo ≤ℤ pos 0).
-      by_lt_z b.hi (pos 0)
-      (λ (below : b.hi <ℤ pos 0). inr (omega (arith, ints)))
-      (λ (high : pos 0 ≤ℤ b.hi). absurd (none (record { at_least = low; at_most = high }))))
+    by_lt_z b.hi (pos 0)
+    (λ (below : b.hi <ℤ pos 0). inr (omega (arith, ints)))
+    (λ (high : pos 0 ≤ℤ b.hi). absurd (none (record { at_least = low; at_most = high }))))
 
 nonzero : (b : Span) (y : ℤ) → (IsMember (pos 0) b → ⊥) → IsMember y b → y ≢ pos 0
 nonzero b y none h = λ (e : y ≡ pos 0). none (rw (← e) h)
@@ -92,11 +92,11 @@ quotient_moves bits a b none =
     record {
       first = λ y h. over_moves bits y a.lo a.hi (nonzero b y none h);
       second =
-        λ x h.
-        ⊎_elim
-        (λ (p : pos 1 ≤ℤ b.lo). above_moves (x *ℤ one bits) b.lo b.hi p)
-        (λ (p : b.hi ≤ℤ negsuc 0). below_moves (x *ℤ one bits) b.lo b.hi p)
-        (one_sided b none);
+          λ x h.
+          ⊎_elim
+          (λ (p : pos 1 ≤ℤ b.lo). above_moves (x *ℤ one bits) b.lo b.hi p)
+          (λ (p : b.hi ≤ℤ negsuc 0). below_moves (x *ℤ one bits) b.lo b.hi p)
+          (one_sided b none);
     }
 
 nonzero_test : (bits : ℕ) (x y : ℤ) (test : Bool) → test ≡ false → (if test then Err ZeroDivisor else number_or_overflow (rounded_quotient bits x y)) ≡ number_or_overflow (rounded_quotient bits x y)

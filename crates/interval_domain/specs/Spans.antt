@@ -1,4 +1,4 @@
--- Spans: their members, and what an operation comes to on them.
+-- Spans: their members, and what an operation comes to on them. R. E. Moore, Interval Analysis (1966): the range of an operation over intervals.
 use Rattle.std.specs.Prelude.{◌≡◌, ℤ, pos, ◌+ℤ◌, ◌-ℤ◌, ◌≤ℤ◌, ◌⊎◌, ◌↔◌, Result, Ok, Err}
 use Rattle.fixed.specs.Arithmetic.{floor_over}
 use Rattle.fixed.specs.declared.faults.Fault.{Fault}
@@ -43,8 +43,13 @@ pub record IsHull (a b s : Span) : Type 0 where
   pub second : IsWithin b s
   pub least : (t : Span) → IsWithin a t → IsWithin b t → IsWithin s t
 
--- the members of s are those of two spans, the one below the other, with the cut at the middle, rounded down
+-- lower goes from the least member of s to the middle, rounded down, and upper from the next number to the greatest
 pub record AreHalves (s lower upper : Span) : Type 0 where
-  pub members : (x : ℤ) → IsMember x s ↔ (IsMember x lower ⊎ IsMember x upper)
+  pub from : lower.lo ≡ s.lo
   pub middle : lower.hi ≡ (s.lo +ℤ floor_over (s.hi -ℤ s.lo) 2)
   pub next : upper.lo ≡ (lower.hi +ℤ pos 1)
+  pub to : upper.hi ≡ s.hi
+
+-- the members of s are those of lower and those of upper
+pub record ArePartsOf (s lower upper : Span) : Type 0 where
+  pub members : (x : ℤ) → IsMember x s ↔ (IsMember x lower ⊎ IsMember x upper)

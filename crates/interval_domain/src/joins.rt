@@ -1,11 +1,10 @@
 // Spans put together and cut.
 ghost use Rattle.std.specs.Prelude.{◌≡◌, pos, ◌≤ℤ◌, ◌<ℤ◌, ◌+ℤ◌, ◌-ℤ◌};
 ghost use Rattle.fixed.specs.Arithmetic.{floor_over};
-ghost use Rattle.interval_domain.specs.Spans.{AreHalves, IsHull};
-
-use fixed::{Fx, floor_div};
+ghost use Rattle.interval_domain.specs.Spans.{AreHalves, ArePartsOf, IsHull};
 
 use crate::span::Span;
+use fixed::{Fx, floor_div};
 
 /// The least span that holds both `a` and `b`.
 pub fn hull(a: Span, b: Span) -> Span
@@ -42,7 +41,8 @@ fn middle(lo: Fx, hi: Fx) -> i64
 /// The caller sees that the span has two members at least.
 pub fn halves(span: Span) -> (Span, Span)
     requires { span.lo <ℤ span.hi }
-    ensures { AreHalves span result.0 result.1 }
+    ensures cut { AreHalves span result.0 result.1 }
+    ensures members { ArePartsOf span result.0 result.1 }
 {
     let last = middle(span.lo, span.hi);
     let lower = Span {

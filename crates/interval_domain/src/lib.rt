@@ -1,20 +1,22 @@
 //! Spans of fixed-point numbers, and what the operations come to on them: for each operation the least span of all its results on members of its arguments, or a fault that some members really have.
 #![tactic(auto)]
 
-mod magnitudes;
-mod corners;
 mod joins;
 mod linear;
+mod magnitudes;
 mod order;
+mod products;
 mod roots;
 mod span;
 mod steps;
+#[cfg(test)]
+mod tests;
 
-pub use magnitudes::{abs, delta, sq};
-pub use corners::{div, mul};
 pub use joins::{halves, hull};
 pub use linear::{add, neg, sub};
+pub use magnitudes::{abs, delta, sq};
 pub use order::{max, min};
+pub use products::{div, mul};
 pub use roots::sqrt;
 pub use span::Span;
 pub use steps::{ceil, floor, step};

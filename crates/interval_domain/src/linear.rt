@@ -3,9 +3,8 @@ ghost use Rattle.std.specs.Prelude.{IfOk, IfErr};
 ghost use Rattle.fixed.specs.Arithmetic.{difference_of, negative_of, sum_of};
 ghost use Rattle.interval_domain.specs.Spans.{IsLeastSpan, IsOutcome, IsOutcomeOfTwo, MayFault};
 
-use fixed::{Fault, checked_add, checked_neg, checked_sub};
-
 use crate::span::Span;
+use fixed::{Fault, checked_add, checked_neg, checked_sub};
 
 /// The span of `x + y`.
 ///

@@ -5,9 +5,8 @@ ghost use Rattle.fixed.specs.Arithmetic.{absolute_of, delta_of, square_of};
 ghost use Rattle.interval_domain.specs.Ends.{IsSpanFromZero};
 ghost use Rattle.interval_domain.specs.Spans.{IsLeastSpan, IsOutcome, MayFault};
 
-use fixed::{Fault, Frac, Fx, checked_abs, checked_sq};
-
 use crate::span::Span;
+use fixed::{Fault, Frac, Fx, checked_abs, checked_sq};
 
 // The span of an operation that is 0 at 0 and no less elsewhere, from its values at the ends of `a`.
 fn from_zero(a: Span, at_lo: Fx, at_hi: Fx) -> Span
@@ -34,11 +33,7 @@ pub fn sq(frac: Frac, a: Span) -> Result<Span, Fault>
     ensures span { IfOk result (IsLeastSpan (IsOutcome (square_of (bits_of frac)) a)) }
     ensures fault { IfErr result (MayFault (IsOutcome (square_of (bits_of frac)) a)) }
 {
-    Ok(from_zero(
-        a,
-        checked_sq(frac, a.lo)?,
-        checked_sq(frac, a.hi)?,
-    ))
+    Ok(from_zero(a, checked_sq(frac, a.lo)?, checked_sq(frac, a.hi)?))
 }
 
 /// The span of `x` without its sign.

@@ -4,9 +4,8 @@ ghost use Rattle.fixed.specs.Fractions.{bits_of};
 ghost use Rattle.fixed.specs.Arithmetic.{square_root_of};
 ghost use Rattle.interval_domain.specs.Spans.{IsLeastSpan, IsOutcome, MayFault};
 
-use fixed::{Fault, Frac, checked_sqrt};
-
 use crate::span::Span;
+use fixed::{Fault, Frac, checked_sqrt};
 
 /// The span of the square root of `x`, each root rounded down.
 ///

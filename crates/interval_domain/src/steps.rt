@@ -4,9 +4,8 @@ ghost use Rattle.fixed.specs.Fractions.{bits_of};
 ghost use Rattle.fixed.specs.Arithmetic.{ceiling_of, step_of, whole_of};
 ghost use Rattle.interval_domain.specs.Spans.{IsLeastSpan, IsOutcome, MayFault};
 
-use fixed::{Fault, Frac, checked_ceil};
-
 use crate::span::Span;
+use fixed::{Fault, Frac, checked_ceil};
 
 /// The span of 0 where `x` is below 0, and of one elsewhere.
 pub fn step(frac: Frac, a: Span) -> Span

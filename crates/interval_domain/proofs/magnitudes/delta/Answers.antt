@@ -7,6 +7,7 @@ use Rattle.interval_domain.proofs.magnitudes.delta.Goals.{then-not-contains, els
 pub returns : goal.returns
 returns c =
     elim c.if-not-contains.branch [
-      then-not-contains w ↦ delta_off (bits_of c.args.frac) c.args.a _ (search rules) (search rules) (search rules)
+      | then-not-contains w ↦ delta_off (bits_of c.args.frac) c.args.a _ (search rules) (search rules) (search rules)
       | else-not-contains+then-eq w ↦ delta_alone (bits_of c.args.frac) c.args.a _ (search rules) (search rules) (search rules) (search rules)
-      | else-not-contains+else-eq w ↦ delta_both (bits_of c.args.frac) c.args.a _ (search rules) (search rules) (search rules) (search rules) ]
+      | else-not-contains+else-eq w ↦ delta_both (bits_of c.args.frac) c.args.a _ (search rules) (search rules) (search rules) (search rules)
+    ]

@@ -5,9 +5,8 @@ ghost use Rattle.fixed.specs.Arithmetic.{product_of, quotient_of};
 ghost use Rattle.interval_domain.specs.Ends.{IsExtremes};
 ghost use Rattle.interval_domain.specs.Spans.{IsLeastSpan, IsMember, IsOutcomeOfTwo, MayFault};
 
-use fixed::{Fault, Frac, Fx, checked_div, checked_mul};
-
 use crate::span::Span;
+use fixed::{Fault, Frac, Fx, checked_div, checked_mul};
 
 // The least span that holds four numbers.
 fn around(p: Fx, q: Fx, r: Fx, s: Fx) -> Span

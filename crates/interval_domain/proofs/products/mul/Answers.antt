@@ -2,7 +2,7 @@ use Rattle.std.proofs.Common.{rules, sym}
 use Rattle.fixed.specs.Fractions.{bits_of}
 use Rattle.interval_domain.proofs.OutcomeLemmas.{at_hi_hi, at_hi_lo, at_lo_hi}
 use Rattle.interval_domain.proofs.ProductLemmas.{least_product}
-use Rattle.interval_domain.proofs.corners.mul.Goals as goal
+use Rattle.interval_domain.proofs.products.mul.Goals as goal
 
 pub returns-in_err-checked_mul-2-clause-fault : goal.returns-in_err-checked_mul-2-clause-fault
 returns-in_err-checked_mul-2-clause-fault c = search (rules, at_lo_hi)

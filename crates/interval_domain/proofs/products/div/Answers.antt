@@ -3,7 +3,7 @@ use Rattle.std.proofs.lemmas.Result.{err_from_is_err_and}
 use Rattle.fixed.specs.Fractions.{bits_of}
 use Rattle.interval_domain.proofs.OutcomeLemmas.{at_hi_hi, at_hi_lo, at_lo_hi, hi_member}
 use Rattle.interval_domain.proofs.QuotientLemmas.{least_quotient, no_zero_divisor}
-use Rattle.interval_domain.proofs.corners.div.Goals as goal
+use Rattle.interval_domain.proofs.products.div.Goals as goal
 
 pub returns-in_err-checked_div-2-clause-fault : goal.returns-in_err-checked_div-2-clause-fault
 returns-in_err-checked_div-2-clause-fault c = search (rules, at_lo_hi)
