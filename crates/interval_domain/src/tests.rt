@@ -176,20 +176,32 @@ fn worked_spans_of_two(rt: HostRuntime) -> Result<(), Fail> {
 }
 
 #[test]
-fn faults_of_members(rt: HostRuntime) -> Result<(), Fail> {
-    let least = Span::single(fx(i64::MIN));
-    let across = between((-1, 1)).ok_or("no span")?;
-    let mixed = between((-1, 5)).ok_or("no span")?;
-    let top = between((0, 9_223_372_032_559_808_513)).ok_or("no span")?;
-    assert_eq!(rt; div(Frac::F32, least, across), Err(Fault::ZeroDivisor));
-    assert_eq!(rt;
-        div(Frac::F32, least, Span::single(fx(1))),
-        Err(Fault::Overflow)
-    );
-    assert_eq!(rt; sqrt(Frac::F32, mixed), Err(Fault::NegativeRoot));
-    assert_eq!(rt; neg(least), Err(Fault::Overflow));
-    assert_eq!(rt; abs(least), Err(Fault::Overflow));
-    assert_eq!(rt; ceil(Frac::F32, top), Err(Fault::Overflow));
+fn worked_faults(rt: HostRuntime) -> Result<(), Fail> {
+    let least = (i64::MIN, i64::MIN);
+    let on_one = [
+        (OnOne::Sqrt, (-1, 5), Fault::NegativeRoot),
+        (OnOne::Neg, least, Fault::Overflow),
+        (OnOne::Abs, least, Fault::Overflow),
+        (OnOne::Ceil, (0, 9_223_372_032_559_808_513), Fault::Overflow),
+    ];
+    for (operation, a, fault) in on_one {
+        let a = between(a).ok_or("no span")?;
+        assert_eq!(rt;
+            operation.span(Frac::F32, a).err(),
+            Some(fault),
+            "{operation:?} of {a:?}"
+        );
+    }
+    let least = between(least).ok_or("no span")?;
+    let divisors = [((-1, 1), Fault::ZeroDivisor), ((1, 1), Fault::Overflow)];
+    for (b, fault) in divisors {
+        let b = between(b).ok_or("no span")?;
+        assert_eq!(rt;
+            div(Frac::F32, least, b).err(),
+            Some(fault),
+            "{least:?} over {b:?}"
+        );
+    }
     Ok(())
 }
 
@@ -215,6 +227,13 @@ fn spans_are_joined_and_cut(rt: HostRuntime) -> Result<(), Fail> {
     Ok(())
 }
 
+fn with(span: Option<Span>, x: Fx) -> Span {
+    match span {
+        Some(span) => hull(span, Span::single(x)),
+        None => Span::single(x),
+    }
+}
+
 // What the outcomes of an operation on members come to, so far.
 #[derive(Clone, Copy)]
 struct Outcomes {
@@ -231,23 +250,13 @@ impl Outcomes {
     }
 
     fn and(self, outcome: Result<Fx, Fault>) -> Outcomes {
+        let mut next = self;
         match outcome {
-            Ok(x) => Outcomes {
-                span: Some(match self.span {
-                    Some(span) => hull(span, Span::single(x)),
-                    None => Span::single(x),
-                }),
-                ..self
-            },
-            Err(Fault::Overflow) => Outcomes {
-                fault: self.fault.or(Some(Fault::Overflow)),
-                ..self
-            },
-            Err(fault) => Outcomes {
-                fault: Some(fault),
-                ..self
-            },
+            Ok(x) => next.span = Some(with(self.span, x)),
+            Err(Fault::Overflow) => next.fault = self.fault.or(Some(Fault::Overflow)),
+            Err(fault) => next.fault = Some(fault),
         }
+        next
     }
 
     // The fault that came last, but an overflow only where there is no other.
