@@ -1,10 +1,10 @@
 -- Floors, and multiples of one, rise.
-use Rattle.std.proofs.Common.{◌≡◌, ℕ, zero, suc, ◌+◌, ◌*◌, ◌/◌, ◌^◌, ◌<◌, ◌≤◌, refl, ⊎_elim, arith, Result, Ok, ℤ, pos, negsuc, neg_ℤ, ◌*ℤ◌, ◌≤ℤ◌}
+use Rattle.std.proofs.Common.{◌≡◌, ℕ, suc, ◌*◌, ◌/◌, ◌^◌, ◌<◌, ◌≤◌, refl, ⊎_elim, arith, Ok, ℤ, pos, negsuc, neg_ℤ, ◌*ℤ◌, ◌≤ℤ◌}
 use Rattle.std.proofs.lemmas.Int.{ints}
 use Rattle.std.proofs.lemmas.Bool.{cases_lt}
 use Rattle.std.proofs.Math.Nat.{mul-le-mul_left, mul-le-mul_right}
 use lib.IntN.{*ℤ_comm, *ℤ-negsuc, pos-*ℤ-pos, pos-*ℤ-negsuc}
-use Rattle.fixed.specs.Arithmetic.{ceiling_of, floor_over, number_or_overflow, one, whole_of}
+use Rattle.fixed.specs.Arithmetic.{ceiling_of, floor_over, number_or_overflow, whole_of}
 use Rattle.fixed.proofs.FloorLemmas.{two_pos}
 use Rattle.interval_domain.specs.declared.span.Span.{Span}
 use Rattle.interval_domain.specs.Spans.{IsLeastSpan, IsOutcome}

@@ -1,7 +1,6 @@
 -- What falls up to 0 and rises from there has its extremes at the ends and at 0.
-use Rattle.std.proofs.Common.{◌≡◌, ◌≢◌, ℕ, zero, suc, ◌*◌, ◌/◌, ◌^◌, ◌≤◌, refl, sym, ◌∙◌, ap, subst, ⊎_elim, arith, Bool, true, false, if◌then◌else◌, Result, Ok, ℤ, pos, negsuc, ◌*ℤ◌, ◌≤ℤ◌, ◌<ℤ◌, unsigned_abs}
-use Rattle.std.specs.Prelude.{◌⊎◌}
-use Rattle.std.specs.Int.{int_max, int_min}
+use Rattle.std.proofs.Common.{◌≡◌, ◌≢◌, ℕ, zero, suc, ◌/◌, ◌^◌, ◌≤◌, refl, sym, ◌∙◌, ap, subst, ⊎_elim, arith, Bool, true, false, if◌then◌else◌, Result, Ok, ℤ, pos, negsuc, ◌*ℤ◌, ◌≤ℤ◌, ◌<ℤ◌, unsigned_abs}
+use Rattle.std.specs.Int.{int_min}
 use Rattle.std.proofs.lemmas.Int.{ints, clamps, by_lt_z}
 use Rattle.std.proofs.lemmas.Nat.{mul-le}
 use Rattle.std.proofs.lemmas.Bool.Decides.{nat_tests}
@@ -13,7 +12,7 @@ use Rattle.interval_domain.specs.Ends.{IsSpanFromZero}
 use Rattle.interval_domain.specs.Spans.{IsLeastSpan, IsMember, IsOutcome}
 use Rattle.interval_domain.proofs.OutcomeLemmas.{IsNarrowing, at_hi, at_lo, exact_narrows, hi_member, least_of_one, lo_member, max_keeps, min_keeps, number_narrows}
 use Rattle.interval_domain.proofs.FloorLemmas.{floor_rises}
-use Rattle.interval_domain.proofs.QuotientLemmas.{IsOneSided, one_sided}
+use Rattle.interval_domain.proofs.QuotientLemmas.{one_sided}
 
 -- e falls up to 0 and rises from there
 pub record IsValley (e : ℤ → ℤ) : Type 0 where

@@ -1,12 +1,11 @@
 -- Spans put together and cut, by their members.
-use Rattle.std.proofs.Common.{◌≡◌, lit<, ⊎_elim, inl, inr, arith, ℤ, pos, ◌+ℤ◌, ◌-ℤ◌, ◌≤ℤ◌, ◌<ℤ◌}
-use Rattle.std.specs.Prelude.{◌⊎◌, ◌↔◌}
+use Rattle.std.proofs.Common.{◌≡◌, lit<, ⊎_elim, inl, inr, arith, ℤ, pos, ◌-ℤ◌, ◌≤ℤ◌, ◌<ℤ◌}
 use Rattle.std.specs.Int.{int_max, int_min}
 use Rattle.std.proofs.lemmas.Int.{ints, clamps, by_lt_z}
 use Rattle.fixed.specs.Arithmetic.{floor_over}
 use Rattle.fixed.proofs.FloorLemmas.{floor_over_is}
 use Rattle.interval_domain.specs.declared.span.Span.{Span}
-use Rattle.interval_domain.specs.Spans.{AreHalves, ArePartsOf, IsHull, IsMember, IsWithin}
+use Rattle.interval_domain.specs.Spans.{AreHalves, ArePartsOf, IsHull, IsMember}
 use Rattle.interval_domain.proofs.OutcomeLemmas.{hi_member, lo_member}
 
 pub hull_is : (a b s : Span) → s.lo ≡ int_min a.lo b.lo → s.hi ≡ int_max a.hi b.hi → IsHull a b s

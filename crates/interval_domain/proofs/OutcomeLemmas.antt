@@ -1,8 +1,8 @@
 -- From exact values between two ends to a least span.
-use Rattle.std.proofs.Common.{◌≡◌, ℕ, ◌^◌, refl, sym, ap, ◌∙◌, subst, arith, Bool, true, false, cond, if◌then◌else◌, Result, Ok, Err, ℤ, pos, negsuc, ◌≤ℤ◌, nat_lt}
+use Rattle.std.proofs.Common.{◌≡◌, refl, sym, ◌∙◌, subst, arith, Bool, true, false, cond, if◌then◌else◌, Result, Ok, Err, ℤ, pos, negsuc, ◌≤ℤ◌}
 use Rattle.std.specs.Prelude.{int_lt}
 use Rattle.std.specs.Int.{int_max, int_min}
-use Rattle.std.proofs.lemmas.Int.{ints, clamps, by_lt_z}
+use Rattle.std.proofs.lemmas.Int.{ints}
 use Rattle.std.proofs.lemmas.Bool.Decides.{nat_tests}
 use Rattle.fixed.specs.Arithmetic.{in_range, number_or_overflow}
 use Rattle.fixed.specs.declared.faults.Fault.{Fault}

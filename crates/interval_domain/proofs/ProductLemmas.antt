@@ -1,5 +1,5 @@
 -- Rounded products rise or fall in each factor, by the sign of the other.
-use Rattle.std.proofs.Common.{◌≡◌, ℕ, ◌^◌, refl, ap, inl, inr, Result, Ok, ℤ, pos, negsuc, ◌*ℤ◌}
+use Rattle.std.proofs.Common.{◌≡◌, ℕ, ◌^◌, refl, ap, inl, inr, Ok, ℤ, pos, negsuc, ◌*ℤ◌}
 use Rattle.std.specs.Prelude.{◌⊎◌}
 use lib.IntN.{*ℤ_comm}
 use Rattle.fixed.specs.Arithmetic.{floor_over, number_or_overflow, product_of}

@@ -1,5 +1,5 @@
 -- Rounded quotients rise or fall in the dividend, and in a divisor on one side of 0.
-use Rattle.std.proofs.Common.{◌≡◌, ◌≢◌, ◌∙◌, sym, Bool, true, false, if◌then◌else◌, ℕ, zero, suc, ◌/◌, ◌^◌, ◌<◌, ◌≤◌, refl, ap, ⊎_elim, inl, inr, arith, Result, Ok, Err, ℤ, pos, negsuc, neg_ℤ, ◌*ℤ◌, ◌≤ℤ◌, ◌<ℤ◌}
+use Rattle.std.proofs.Common.{◌≡◌, ◌≢◌, ◌∙◌, sym, Bool, false, if◌then◌else◌, ℕ, zero, suc, ◌^◌, ◌≤◌, refl, ⊎_elim, inl, inr, arith, Result, Ok, Err, ℤ, pos, negsuc, neg_ℤ, ◌*ℤ◌, ◌≤ℤ◌, ◌<ℤ◌}
 use Rattle.std.specs.Prelude.{◌⊎◌, ◌↔◌}
 use Rattle.std.proofs.lemmas.Bool.Decides.{nat_tests}
 use Rattle.std.proofs.lemmas.Int.{ints, by_lt_z}
@@ -9,7 +9,7 @@ use Rattle.fixed.specs.declared.faults.Fault.TheVariants.{Overflow, ZeroDivisor}
 use Rattle.interval_domain.specs.declared.span.Span.{Span}
 use Rattle.interval_domain.specs.Ends.{IsExtremes}
 use Rattle.interval_domain.specs.Spans.{IsLeastSpan, IsMember, IsOutcomeOfTwo}
-use Rattle.interval_domain.proofs.OutcomeLemmas.{hi_member, lo_member, number_narrows, number_faults}
+use Rattle.interval_domain.proofs.OutcomeLemmas.{number_narrows, number_faults}
 use Rattle.interval_domain.proofs.MonotoneLemmas.{Falls, MovesInEach, Rises, least_of_corners}
 use Rattle.interval_domain.proofs.FloorLemmas.{div_falls, floor_rises, times_rises}
 

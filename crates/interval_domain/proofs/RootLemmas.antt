@@ -1,12 +1,12 @@
 -- Rounded square roots rise.
-use Rattle.std.proofs.Common.{◌≡◌, ℕ, ◌*◌, ◌^◌, ◌≤◌, refl, arith, Result, Ok, ℤ, pos, negsuc, ◌≤ℤ◌, unsigned_abs}
+use Rattle.std.proofs.Common.{◌≡◌, ℕ, ◌*◌, ◌^◌, ◌≤◌, refl, arith, Ok, ℤ, pos, negsuc, ◌≤ℤ◌, unsigned_abs}
 use Rattle.std.proofs.lemmas.Int.{ints}
 use Rattle.std.proofs.lemmas.Nat.{mul-le}
 use Rattle.fixed.specs.Arithmetic.{number_or_overflow, square_root_of}
 use Rattle.fixed.specs.Roots.{root}
 use Rattle.fixed.proofs.RootLemmas.{root_is}
 use Rattle.interval_domain.specs.declared.span.Span.{Span}
-use Rattle.interval_domain.specs.Spans.{IsLeastSpan, IsMember, IsOutcome}
+use Rattle.interval_domain.specs.Spans.{IsLeastSpan, IsOutcome}
 use Rattle.interval_domain.proofs.OutcomeLemmas.{number_narrows}
 use Rattle.interval_domain.proofs.MonotoneLemmas.{Rises, least_rising}
 

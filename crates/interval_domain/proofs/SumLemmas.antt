@@ -1,5 +1,5 @@
 -- Sums, differences and negatives, and the lesser and the greater: their extremes are at two pairs of ends.
-use Rattle.std.proofs.Common.{◌≡◌, refl, arith, Result, Ok, ℤ, neg_ℤ, ◌+ℤ◌, ◌-ℤ◌, ◌≤ℤ◌}
+use Rattle.std.proofs.Common.{◌≡◌, refl, arith, Ok, ℤ, neg_ℤ, ◌+ℤ◌, ◌-ℤ◌, ◌≤ℤ◌}
 use Rattle.std.specs.Int.{int_max, int_min}
 use Rattle.std.proofs.lemmas.Int.{ints, clamps}
 use Rattle.fixed.specs.Arithmetic.{difference_of, negative_of, number_or_overflow, sum_of}

@@ -1,5 +1,5 @@
 -- Which numbers are the ends of a span.
-use Rattle.std.specs.Prelude.{◌≡◌, ℤ, pos, ◌≤ℤ◌, ◌⊎◌}
+use Rattle.std.specs.Prelude.{◌≡◌, ℤ, pos, ◌⊎◌}
 use Rattle.std.specs.Int.{int_max, int_min}
 use Rattle.interval_domain.specs.declared.span.Span.{Span}
 use Rattle.interval_domain.specs.Spans.{IsMember}

@@ -1,4 +1,4 @@
-use Rattle.std.proofs.Common.{arith, rules, ◌≡◌}
+use Rattle.std.proofs.Common.{rules}
 use Rattle.interval_domain.proofs.MemberLemmas.{half_of}
 use Rattle.interval_domain.proofs.joins.half_way.Goals as goal
 

@@ -1,4 +1,4 @@
-use Rattle.std.proofs.Common.{arith, rules}
+use Rattle.std.proofs.Common.{rules}
 use Rattle.fixed.specs.Fractions.{bits_of}
 use Rattle.interval_domain.proofs.MagnitudeLemmas.{delta_alone, delta_both, delta_off}
 use Rattle.interval_domain.proofs.magnitudes.delta.Goals as goal
