@@ -10,9 +10,8 @@ use Rattle.fixed.proofs.FloorLemmas.{two_pos}
 use Rattle.interval_domain.specs.declared.span.Span.{Span}
 use Rattle.interval_domain.specs.Ends.{IsSpanFromZero}
 use Rattle.interval_domain.specs.Spans.{IsLeastSpan, IsMember, IsOutcome}
-use Rattle.interval_domain.proofs.OutcomeLemmas.{IsNarrowing, at_hi, at_lo, exact_narrows, hi_member, least_of_one, lo_member, max_keeps, min_keeps, number_narrows}
+use Rattle.interval_domain.proofs.OutcomeLemmas.{one_sided, IsNarrowing, at_hi, at_lo, exact_narrows, hi_member, least_of_one, lo_member, max_keeps, min_keeps, number_narrows}
 use Rattle.interval_domain.proofs.FloorLemmas.{floor_rises}
-use Rattle.interval_domain.proofs.QuotientLemmas.{one_sided}
 
 -- e falls up to 0 and rises from there
 pub record IsValley (e : ℤ → ℤ) : Type 0 where

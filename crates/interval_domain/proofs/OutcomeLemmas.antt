@@ -1,8 +1,8 @@
 -- From exact values between two ends to a least span.
-use Rattle.std.proofs.Common.{◌≡◌, refl, sym, ◌∙◌, subst, arith, Bool, true, false, cond, if◌then◌else◌, Result, Ok, Err, ℤ, pos, negsuc, ◌≤ℤ◌}
-use Rattle.std.specs.Prelude.{int_lt}
+use Rattle.std.proofs.Common.{◌≡◌, refl, sym, inl, inr, ◌∙◌, subst, arith, Bool, true, false, cond, if◌then◌else◌, Result, Ok, Err, ℤ, pos, negsuc, ◌≤ℤ◌, ◌<ℤ◌}
+use Rattle.std.specs.Prelude.{◌⊎◌, int_lt}
 use Rattle.std.specs.Int.{int_max, int_min}
-use Rattle.std.proofs.lemmas.Int.{ints}
+use Rattle.std.proofs.lemmas.Int.{by_lt_z, ints}
 use Rattle.std.proofs.lemmas.Bool.Decides.{nat_tests}
 use Rattle.fixed.specs.Arithmetic.{in_range, number_or_overflow}
 use Rattle.fixed.specs.declared.faults.Fault.{Fault}
@@ -17,6 +17,19 @@ lo_member a = let o = a.ordered in record { at_least = omega (arith, ints); at_m
 
 pub hi_member : (a : Span) → IsMember a.hi a
 hi_member a = let o = a.ordered in record { at_least = o; at_most = omega (arith, ints) }
+
+-- the members lie on one side of 0
+abbrev pub IsOneSided : Span → Type 0
+IsOneSided b = (pos 1 ≤ℤ b.lo) ⊎ (b.hi ≤ℤ negsuc 0)
+
+pub one_sided : (b : Span) → (IsMember (pos 0) b → ⊥) → IsOneSided b
+one_sided b none =
+    by_lt_z (pos 0) b.lo
+    (λ (above : pos 0 <ℤ b.lo). inl (omega (arith, ints)))
+    (λ (low : b.lo ≤ℤ pos 0).
+    by_lt_z b.hi (pos 0)
+    (λ (below : b.hi <ℤ pos 0). inr (omega (arith, ints)))
+    (λ (high : pos 0 ≤ℤ b.hi). absurd (none (record { at_least = low; at_most = high }))))
 
 -- ---- outcomes at the ends
 
@@ -49,8 +62,9 @@ same_if : (z w : ℤ) (fits : Bool) → (if fits then Ok z else Err Overflow) �
 same_if z w true e = cc
 same_if z w false e = absurd (cc)
 
-number_same : (z w : ℤ) → number_or_overflow z ≡ Ok w → z ≡ w
-number_same z w e = same_if z w (in_range z) e
+-- a whole number that narrows to a number is that number
+pub number_is : (z w : ℤ) → number_or_overflow z ≡ Ok w → z ≡ w
+number_is z w e = same_if z w (in_range z) e
 
 fits_if : (z w : ℤ) (fits : Bool) → (if fits then Ok z else Err Overflow) ≡ Ok w → fits ≡ true
 fits_if z w true e = refl
@@ -70,7 +84,7 @@ number_between lo z hi el eh a b =
     rw fits refl
 
 pub number_narrows : IsNarrowing number_or_overflow
-number_narrows = record { same = number_same; between = number_between }
+number_narrows = record { same = number_is; between = number_between }
 
 pub exact_narrows : IsNarrowing (λ z. Ok z)
 exact_narrows = record { same = λ z w e. cc; between = λ lo z hi el eh a b. refl }

@@ -1,15 +1,15 @@
 -- Rounded quotients rise or fall in the dividend, and in a divisor on one side of 0.
-use Rattle.std.proofs.Common.{◌≡◌, ◌≢◌, ◌∙◌, sym, Bool, false, if◌then◌else◌, ℕ, zero, suc, ◌^◌, ◌≤◌, refl, ⊎_elim, inl, inr, arith, Result, Ok, Err, ℤ, pos, negsuc, neg_ℤ, ◌*ℤ◌, ◌≤ℤ◌, ◌<ℤ◌}
+use Rattle.std.proofs.Common.{◌≡◌, ◌≢◌, ◌∙◌, sym, Bool, false, if◌then◌else◌, ℕ, zero, suc, ◌^◌, ◌≤◌, refl, ⊎_elim, inl, inr, arith, Result, Ok, Err, ℤ, pos, negsuc, neg_ℤ, ◌*ℤ◌, ◌≤ℤ◌}
 use Rattle.std.specs.Prelude.{◌⊎◌, ◌↔◌}
 use Rattle.std.proofs.lemmas.Bool.Decides.{nat_tests}
-use Rattle.std.proofs.lemmas.Int.{ints, by_lt_z}
+use Rattle.std.proofs.lemmas.Int.{ints}
 use Rattle.fixed.specs.Arithmetic.{floor_of, floor_over, is_zero, number_or_overflow, one, quotient_of}
 use Rattle.fixed.specs.declared.faults.Fault.{Fault}
 use Rattle.fixed.specs.declared.faults.Fault.TheVariants.{Overflow, ZeroDivisor}
 use Rattle.interval_domain.specs.declared.span.Span.{Span}
 use Rattle.interval_domain.specs.Ends.{IsExtremes}
 use Rattle.interval_domain.specs.Spans.{IsLeastSpan, IsMember, IsOutcomeOfTwo}
-use Rattle.interval_domain.proofs.OutcomeLemmas.{number_narrows, number_faults}
+use Rattle.interval_domain.proofs.OutcomeLemmas.{one_sided, number_narrows, number_faults}
 use Rattle.interval_domain.proofs.MonotoneLemmas.{Falls, MovesInEach, Rises, least_of_corners}
 use Rattle.interval_domain.proofs.FloorLemmas.{div_falls, floor_rises, times_rises}
 
@@ -70,19 +70,6 @@ over_moves : (bits : ℕ) (y u v : ℤ) → y ≢ pos 0 → Rises u v (λ x. rou
 over_moves bits (pos zero) u v n = absurd (n refl)
 over_moves bits (pos (suc k)) u v n = inl (record { rises = λ x z l h r. above_rises k _ _ (times_rises (2 ^ bits) x z h) })
 over_moves bits (negsuc k) u v n = inr (record { falls = λ x z l h r. below_falls k _ _ (times_rises (2 ^ bits) x z h) })
-
--- the divisors lie on one side of 0
-abbrev pub IsOneSided : Span → Type 0
-IsOneSided b = (pos 1 ≤ℤ b.lo) ⊎ (b.hi ≤ℤ negsuc 0)
-
-pub one_sided : (b : Span) → (IsMember (pos 0) b → ⊥) → IsOneSided b
-one_sided b none =
-    by_lt_z (pos 0) b.lo
-    (λ (above : pos 0 <ℤ b.lo). inl (omega (arith, ints)))
-    (λ (low : b.lo ≤ℤ pos 0).
-    by_lt_z b.hi (pos 0)
-    (λ (below : b.hi <ℤ pos 0). inr (omega (arith, ints)))
-    (λ (high : pos 0 ≤ℤ b.hi). absurd (none (record { at_least = low; at_most = high }))))
 
 nonzero : (b : Span) (y : ℤ) → (IsMember (pos 0) b → ⊥) → IsMember y b → y ≢ pos 0
 nonzero b y none h = λ (e : y ≡ pos 0). none (rw (← e) h)

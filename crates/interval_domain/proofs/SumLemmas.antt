@@ -5,10 +5,7 @@ use Rattle.std.proofs.lemmas.Int.{ints, clamps}
 use Rattle.fixed.specs.Arithmetic.{difference_of, negative_of, number_or_overflow, sum_of}
 use Rattle.interval_domain.specs.declared.span.Span.{Span}
 use Rattle.interval_domain.specs.Spans.{IsLeastSpan, IsOutcome, IsOutcomeOfTwo}
-use Rattle.interval_domain.proofs.OutcomeLemmas.{at_hi, at_hi_hi, at_hi_lo, at_lo, at_lo_hi, at_lo_lo, exact_narrows, least_of_one, least_of_two, number_narrows}
-
-pub number_is : (z w : ℤ) → number_or_overflow z ≡ Ok w → z ≡ w
-number_is z w e = number_narrows.same z w e
+use Rattle.interval_domain.proofs.OutcomeLemmas.{number_is, at_hi, at_hi_hi, at_hi_lo, at_lo, at_lo_hi, at_lo_lo, exact_narrows, least_of_one, least_of_two, number_narrows}
 
 pub sums_ordered : (a b : Span) (lo hi : ℤ) → sum_of a.lo b.lo ≡ Ok lo → sum_of a.hi b.hi ≡ Ok hi → lo ≤ℤ hi
 sums_ordered a b lo hi el eh =

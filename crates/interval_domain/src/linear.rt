@@ -6,7 +6,7 @@ ghost use Rattle.interval_domain.specs.Spans.{IsLeastSpan, IsOutcome, IsOutcomeO
 use crate::span::Span;
 use fixed::{Fault, checked_add, checked_neg, checked_sub};
 
-/// The span of `x + y`.
+/// The least span of the sums `x + y`, for members `x` of `a` and `y` of `b`.
 ///
 /// `Overflow` where some sum is no number.
 pub fn add(a: Span, b: Span) -> Result<Span, Fault>
@@ -19,7 +19,7 @@ pub fn add(a: Span, b: Span) -> Result<Span, Fault>
     })
 }
 
-/// The span of `x - y`.
+/// The least span of the differences `x - y`, for members `x` of `a` and `y` of `b`.
 ///
 /// `Overflow` where some difference is no number.
 pub fn sub(a: Span, b: Span) -> Result<Span, Fault>
@@ -32,7 +32,7 @@ pub fn sub(a: Span, b: Span) -> Result<Span, Fault>
     })
 }
 
-/// The span of `-x`.
+/// The least span of the negatives of members of `a`.
 ///
 /// `Overflow` where the least number is a member.
 pub fn neg(a: Span) -> Result<Span, Fault>

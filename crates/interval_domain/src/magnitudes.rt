@@ -26,7 +26,7 @@ fn from_zero(a: Span, at_lo: Fx, at_hi: Fx) -> Span
     }
 }
 
-/// The span of `x x`, each square rounded down.
+/// The least span of the squares of members of `a`, each rounded down.
 ///
 /// `Overflow` where some rounded square is no number.
 pub fn sq(frac: Frac, a: Span) -> Result<Span, Fault>
@@ -36,7 +36,7 @@ pub fn sq(frac: Frac, a: Span) -> Result<Span, Fault>
     Ok(from_zero(a, checked_sq(frac, a.lo)?, checked_sq(frac, a.hi)?))
 }
 
-/// The span of `x` without its sign.
+/// The least span of the members of `a` without their signs.
 ///
 /// `Overflow` where the least number is a member.
 pub fn abs(a: Span) -> Result<Span, Fault>
@@ -46,7 +46,7 @@ pub fn abs(a: Span) -> Result<Span, Fault>
     Ok(from_zero(a, checked_abs(a.lo)?, checked_abs(a.hi)?))
 }
 
-/// The span of one where `x` is 0, and of 0 elsewhere.
+/// The least span of what the members of `a` give: one at 0, and 0 elsewhere. So it is 0 alone where 0 is no member, one alone where 0 is the only member, else from 0 to one.
 pub fn delta(frac: Frac, a: Span) -> Span
     ensures { IsLeastSpan (IsOutcome (λ x. Ok (delta_of (bits_of frac) x)) a) result }
 {

@@ -5,7 +5,7 @@ ghost use Rattle.interval_domain.specs.Spans.{IsLeastSpan, IsOutcomeOfTwo};
 
 use crate::span::Span;
 
-/// The span of the lesser of `x` and `y`.
+/// The least span of the lesser of `x` and `y`, for members `x` of `a` and `y` of `b`.
 pub fn min(a: Span, b: Span) -> Span
     ensures { IsLeastSpan (IsOutcomeOfTwo (λ x y. Ok (int_min x y)) a b) result }
 {
@@ -15,7 +15,7 @@ pub fn min(a: Span, b: Span) -> Span
     }
 }
 
-/// The span of the greater of `x` and `y`.
+/// The least span of the greater of `x` and `y`, for members `x` of `a` and `y` of `b`.
 pub fn max(a: Span, b: Span) -> Span
     ensures { IsLeastSpan (IsOutcomeOfTwo (λ x y. Ok (int_max x y)) a b) result }
 {

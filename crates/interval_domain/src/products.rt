@@ -18,7 +18,7 @@ fn around(p: Fx, q: Fx, r: Fx, s: Fx) -> Span
     }
 }
 
-/// The span of `x y`, each product rounded down.
+/// The least span of the products `x y`, each rounded down, for members `x` of `a` and `y` of `b`.
 ///
 /// `Overflow` where some rounded product is no number.
 pub fn mul(frac: Frac, a: Span, b: Span) -> Result<Span, Fault>
@@ -33,7 +33,7 @@ pub fn mul(frac: Frac, a: Span, b: Span) -> Result<Span, Fault>
     ))
 }
 
-/// The span of `x / y`, each quotient rounded down.
+/// The least span of the quotients `x / y`, each rounded down, for members `x` of `a` and `y` of `b`.
 ///
 /// `ZeroDivisor` where 0 is a member of `b`, whatever else; else `Overflow` where some rounded quotient is no number.
 pub fn div(frac: Frac, a: Span, b: Span) -> Result<Span, Fault>

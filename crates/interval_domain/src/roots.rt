@@ -7,7 +7,7 @@ ghost use Rattle.interval_domain.specs.Spans.{IsLeastSpan, IsOutcome, MayFault};
 use crate::span::Span;
 use fixed::{Fault, Frac, checked_sqrt};
 
-/// The span of the square root of `x`, each root rounded down.
+/// The least span of the square roots of members of `a`, each rounded down.
 ///
 /// `NegativeRoot` where the least member is below 0. A root never overflows.
 pub fn sqrt(frac: Frac, a: Span) -> Result<Span, Fault>

@@ -7,7 +7,7 @@ ghost use Rattle.interval_domain.specs.Spans.{IsLeastSpan, IsOutcome, MayFault};
 use crate::span::Span;
 use fixed::{Fault, Frac, checked_ceil};
 
-/// The span of 0 where `x` is below 0, and of one elsewhere.
+/// The least span of what the members of `a` give: 0 below 0, and one from 0 on.
 pub fn step(frac: Frac, a: Span) -> Span
     ensures { IsLeastSpan (IsOutcome (λ x. Ok (step_of (bits_of frac) x)) a) result }
 {
@@ -17,7 +17,7 @@ pub fn step(frac: Frac, a: Span) -> Span
     }
 }
 
-/// The span of the greatest multiple of one that is at most `x`.
+/// The least span of the members of `a`, each rounded down to a multiple of one.
 pub fn floor(frac: Frac, a: Span) -> Span
     ensures { IsLeastSpan (IsOutcome (λ x. Ok (whole_of (bits_of frac) x)) a) result }
 {
@@ -27,7 +27,7 @@ pub fn floor(frac: Frac, a: Span) -> Span
     }
 }
 
-/// The span of the least multiple of one that is at least `x`.
+/// The least span of the members of `a`, each rounded up to a multiple of one.
 ///
 /// `Overflow` where a member is above the greatest multiple of one.
 pub fn ceil(frac: Frac, a: Span) -> Result<Span, Fault>
