@@ -213,20 +213,19 @@ fn spans_are_joined_and_cut(rt: HostRuntime) -> Result<(), Fail> {
     assert_eq!(rt; Some(whole), between((-3, 4)));
     assert_eq!(rt; between((4, -3)), None);
     assert!(rt; whole.contains(fx(4)) && !whole.contains(fx(5)));
-    if whole.lo.raw() < whole.hi.raw() {
-        let (lower, upper) = halves(whole);
-        assert_eq!(rt; lower, low);
-        assert_eq!(rt; upper, high);
-    }
+    assert!(rt; whole.lo.raw() < whole.hi.raw());
+    let (lower, upper) = halves(whole);
+    assert_eq!(rt; lower, low);
+    assert_eq!(rt; upper, high);
     let all = between((i64::MIN, i64::MAX)).ok_or("no span")?;
-    if all.lo.raw() < all.hi.raw() {
-        let (lower, upper) = halves(all);
-        assert_eq!(rt; Some(lower), between((i64::MIN, -1)));
-        assert_eq!(rt; Some(upper), between((0, i64::MAX)));
-    }
+    assert!(rt; all.lo.raw() < all.hi.raw());
+    let (lower, upper) = halves(all);
+    assert_eq!(rt; Some(lower), between((i64::MIN, -1)));
+    assert_eq!(rt; Some(upper), between((0, i64::MAX)));
     Ok(())
 }
 
+// The hull of a span, if there is one, and a number.
 fn with(span: Option<Span>, x: Fx) -> Span {
     match span {
         Some(span) => hull(span, Span::single(x)),
@@ -234,7 +233,7 @@ fn with(span: Option<Span>, x: Fx) -> Span {
     }
 }
 
-// What the outcomes of an operation on members come to, so far.
+// What the outcomes of an operation on members come to, so far: the hull of its values, and a fault, an overflow only where there is no other.
 #[derive(Clone, Copy)]
 struct Outcomes {
     span: Option<Span>,
@@ -259,7 +258,6 @@ impl Outcomes {
         next
     }
 
-    // The fault that came last, but an overflow only where there is no other.
     fn answer(self) -> Option<Result<Span, Fault>> {
         match self.fault {
             Some(fault) => Some(Err(fault)),
