@@ -1,0 +1,9 @@
+pub mod OutcomeLemmas
+pub mod SumLemmas
+pub mod MonotoneLemmas
+pub mod FloorLemmas
+pub mod ProductLemmas
+pub mod QuotientLemmas
+pub mod RootLemmas
+pub mod MagnitudeLemmas
+pub mod MemberLemmas

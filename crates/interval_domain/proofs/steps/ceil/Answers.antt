@@ -1,0 +1,7 @@
+use Rattle.std.proofs.Common.{sym}
+use Rattle.fixed.specs.Fractions.{bits_of}
+use Rattle.interval_domain.proofs.FloorLemmas.{least_ceiling}
+use Rattle.interval_domain.proofs.steps.ceil.Goals as goal
+
+pub returns-clause-span : goal.returns-clause-span
+returns-clause-span c = least_ceiling (bits_of c.args.frac) c.args.a _ (sym c.in_ok-checked_ceil.ensures.value) (sym c.in_ok-checked_ceil-2.ensures.value)

@@ -1,0 +1,15 @@
+-- Which numbers are the ends of a span.
+use Rattle.std.specs.Prelude.{◌≡◌, ℤ, pos, ◌⊎◌}
+use Rattle.std.specs.Int.{int_max, int_min}
+use Rattle.interval_domain.specs.declared.span.Span.{Span}
+use Rattle.interval_domain.specs.Spans.{IsMember}
+
+-- lo and hi are the least and the greatest of four numbers
+pub record IsExtremes (p q r s lo hi : ℤ) : Type 0 where
+  pub low : lo ≡ int_min (int_min p q) (int_min r s)
+  pub high : hi ≡ int_max (int_max p q) (int_max r s)
+
+-- the ends of what a function gives on the members of a, where it is 0 at 0 and no less elsewhere, from its values p and q at the ends of a
+pub record IsSpanFromZero (a : Span) (p q lo hi : ℤ) : Type 0 where
+  pub low : (IsMember (pos 0) a × (lo ≡ pos 0)) ⊎ ((IsMember (pos 0) a → ⊥) × (lo ≡ int_min p q))
+  pub high : hi ≡ int_max p q

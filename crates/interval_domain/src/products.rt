@@ -1,0 +1,53 @@
+// Products and quotients: each rises or falls in each argument alone, so its extremes are among the four pairs of ends.
+ghost use Rattle.std.specs.Prelude.{◌≡◌, ◌↔◌, pos, IfOk, IfErr, Err};
+ghost use Rattle.fixed.specs.Fractions.{bits_of};
+ghost use Rattle.fixed.specs.Arithmetic.{product_of, quotient_of};
+ghost use Rattle.interval_domain.specs.Ends.{IsExtremes};
+ghost use Rattle.interval_domain.specs.Spans.{IsLeastSpan, IsMember, IsOutcomeOfTwo, MayFault};
+
+use crate::span::Span;
+use fixed::{Fault, Frac, Fx, checked_div, checked_mul};
+
+// The least span that holds four numbers.
+fn around(p: Fx, q: Fx, r: Fx, s: Fx) -> Span
+    ensures { IsExtremes p q r s result.lo result.hi }
+{
+    Span {
+        lo: fixed::min(fixed::min(p, q), fixed::min(r, s)),
+        hi: fixed::max(fixed::max(p, q), fixed::max(r, s)),
+    }
+}
+
+/// The least span of the products `x y`, each rounded down, for members `x` of `a` and `y` of `b`.
+///
+/// `Overflow` where some rounded product is no number.
+pub fn mul(frac: Frac, a: Span, b: Span) -> Result<Span, Fault>
+    ensures span { IfOk result (IsLeastSpan (IsOutcomeOfTwo (product_of (bits_of frac)) a b)) }
+    ensures fault { IfErr result (MayFault (IsOutcomeOfTwo (product_of (bits_of frac)) a b)) }
+{
+    Ok(around(
+        checked_mul(frac, a.lo, b.lo)?,
+        checked_mul(frac, a.lo, b.hi)?,
+        checked_mul(frac, a.hi, b.lo)?,
+        checked_mul(frac, a.hi, b.hi)?,
+    ))
+}
+
+/// The least span of the quotients `x / y`, each rounded down, for members `x` of `a` and `y` of `b`.
+///
+/// `ZeroDivisor` where 0 is a member of `b`, whatever else; else `Overflow` where some rounded quotient is no number.
+pub fn div(frac: Frac, a: Span, b: Span) -> Result<Span, Fault>
+    ensures span { IfOk result (IsLeastSpan (IsOutcomeOfTwo (quotient_of (bits_of frac)) a b)) }
+    ensures fault { IfErr result (MayFault (IsOutcomeOfTwo (quotient_of (bits_of frac)) a b)) }
+    ensures zero { (result ≡ Err Fault.ZeroDivisor) ↔ IsMember (pos 0) b }
+{
+    if b.contains(Fx::from_raw(0)) {
+        return Err(Fault::ZeroDivisor);
+    }
+    Ok(around(
+        checked_div(frac, a.lo, b.lo)?,
+        checked_div(frac, a.lo, b.hi)?,
+        checked_div(frac, a.hi, b.lo)?,
+        checked_div(frac, a.hi, b.hi)?,
+    ))
+}
