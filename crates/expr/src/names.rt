@@ -9,6 +9,7 @@ use std::fmt::{self, Display, Formatter, Write};
 /// A name of an energy text, as its own copy of the text's bytes: letters, digits and `_`.
 #[derive(Debug, Drop)]
 pub struct Name<A: Allocator> {
+    /// The bytes of the name, one at least.
     pub bytes: Vec<u8, A>,
 }
 
