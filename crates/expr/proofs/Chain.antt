@@ -8,17 +8,10 @@ use Rattle.expr.specs.Tokens as t
 use Rattle.expr.specs.Syntax.{Syntax}
 use Rattle.expr.specs.Syntax as tree
 use Rattle.expr.specs.Parsing.{Reading, Sign, Beginning, Numeral, Word, Group, start, on_sign, sum_sign, product_sign, minus_sign, open_sign, close, chain, chained, closed, name_by, atom_by, unary_by, unary_at, term_at}
+use Rattle.expr.proofs.Results.{bind_ok}
 
 abbrev done : {A : Type 0} → A → Result A Refusal
 done x = Ok x
-
--- the value of a step that did not fail
-pub bind_ok : {A B : Type 0} (r : Result A Refusal) (f : A → Result B Refusal) (y : B) → (r >>= f) ≡ Ok y → (x : A) × (r ≡ Ok x) × (f x ≡ Ok y)
-bind_ok (Ok x) f y e = (x, refl, e)
-bind_ok (Err d) f y e = absurd cc
-
-pub ok_is : {A : Type 0} (x y : A) → done x ≡ done y → x ≡ y
-ok_is x y e = cc
 
 -- a sign is the first token
 pub record IsSign (sign : List Placed → Sign) : Type 0 where

@@ -1,5 +1,5 @@
 -- Reading halts with a fault that is no token out of place only where the tokens say so.
-use Rattle.std.proofs.Common.{◌≡◌, ◌⊎◌, inl, inr, ℕ, zero, suc, Bool, true, false, ◌||◌, List, [], ◌∷◌, ◌++◌, length, Option, Some, None, Result, Ok, Err, refl, sym, ap, subst, ◌∙◌, append_assoc}
+use Rattle.std.proofs.Common.{◌≡◌, inl, inr, ℕ, zero, suc, Bool, true, false, ◌||◌, List, [], ◌∷◌, ◌++◌, length, Option, Some, None, Result, Ok, Err, refl, sym, ap, subst, ◌∙◌, append_assoc}
 use Rattle.std.specs.Prelude.{if◌then◌else◌}
 use Rattle.expr.specs.declared.programs.Operator.{Operator}
 use Rattle.expr.specs.declared.programs.Operator.TheVariants as op
@@ -14,7 +14,8 @@ use Rattle.expr.specs.Grammar.{IsExpr, IsTerm, IsUnary}
 use Rattle.expr.specs.Grammar as g
 use Rattle.expr.specs.Halting.{Halts, HaltsExpr, HaltsTerm, HaltsUnary}
 use Rattle.expr.specs.Halting as h
-use Rattle.expr.proofs.Sound.{Rule, Sound, Joins, Begins, unary_sound, term_sound, sums, products, minus_is, open_is, start_is, some_is}
+use Rattle.expr.proofs.Sound.{Rule, Sound, Joins, Begins, unary_sound, term_sound, sums, products, minus_is, open_is, start_is}
+use Rattle.expr.proofs.Results.{some_is, err_is, err_as, Split, split}
 
 abbrev Rest : Type 1
 Rest = List Placed → Type 0
@@ -29,20 +30,6 @@ IsOther f = (at : ℕ) → f ≡ UnexpectedToken at → ⊥
 -- reading fails so only there
 pub record Stops (f : Refusal) (D : Rest) (operand : List Placed → Reading) : Type 0 where
   pub halts : (ts : List Placed) → operand ts ≡ Err f → D ts
-
--- which step it was
-abbrev pub Split : {A B : Type 0} → Refusal → Result A Refusal → (A → Result B Refusal) → Type 0
-Split {A} f r next = (r ≡ Err f) ⊎ ((x : A) × (r ≡ Ok x) × (next x ≡ Err f))
-
-pub split : {A B : Type 0} (f : Refusal) (r : Result A Refusal) (next : A → Result B Refusal) → (r >>= next) ≡ Err f → Split f r next
-split f (Ok x) next e = inr (x, refl, e)
-split {A} f (Err w) next e = let k : w ≡ f = cc in inl (ap failed k)
-  where
-    failed : Refusal → Result A Refusal
-    failed z = Err z
-
-pub err_is : {A : Type 0} (f k : Refusal) → ◌≡◌ {A = Result A Refusal} (Err f) (Err k) → f ≡ k
-err_is f k e = cc
 
 module _ (w : Refusal) (P Q : Rule) (D DQ : Rest) (sign : List Placed → Sign) (operand : List Placed → Reading) (joins : Joins P Q sign) (sound : Sound Q operand) (stops : Stops w DQ operand)
     (later : (ts : List Placed) (o : Operator) (rest : List Placed) → sign ts ≡ Some (o, rest) → (a : List Placed) (x : Syntax) → P a x → DQ rest → D (a ++ ts)) where
@@ -99,10 +86,7 @@ close_err end ((k, at) ∷ ts) f o e = o at (sym (err_is (UnexpectedToken at) f 
 
 close_then : (f : Refusal) (r : Result (List Placed) Refusal) (x : Syntax) → (r ≡ Err f → ⊥) → (r >>= λ z. reading x z) ≡ Err f → ⊥
 close_then f (Ok z) x never e = absurd cc
-close_then f (Err w) x never e = let k : w ≡ f = cc in never (ap failed k)
-  where
-    failed : Refusal → Result (List Placed) Refusal
-    failed z = Err z
+close_then f (Err w) x never e = never (err_as w f e)
 
 closed_halts : (end : ℕ) (inner : List Placed → Reading) (D : Rest) (f : Refusal) → IsOther f → ((ts : List Placed) → inner ts ≡ Err f → D ts) → (ts : List Placed) → closed end inner ts ≡ Err f → D ts
 unfolding closed

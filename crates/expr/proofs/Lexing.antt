@@ -11,15 +11,13 @@ use Rattle.expr.specs.Bytes.{is_space, begins_number, is_name_start, is_word}
 use Rattle.expr.specs.Numerals.{number_at}
 use Rattle.expr.specs.Lexing.{symbol_of, TokenRead, number_token, symbol_token, token_at, Tokens, with_front, refusal_at, go_on, tokens_from, tokens_of}
 use Rattle.expr.proofs.NumeralLemmas.{number_ok, numeral_some}
+use Rattle.expr.proofs.Results.{ok_is}
 
 pub prefix_more : (test : ℕ → Bool) (b : ℕ) (rest : List ℕ) → test b ≡ true → prefix_len test (b ∷ rest) ≡ suc (prefix_len test rest)
 prefix_more test b rest h = let e : prefix_len test (b ∷ rest) ≡ 1 + prefix_len test rest = rw h refl in omega arith
 
 pub prefix_stops : (test : ℕ → Bool) (b : ℕ) (rest : List ℕ) → test b ≡ false → prefix_len test (b ∷ rest) ≡ 0
 prefix_stops test b rest h = rw h refl
-
-pub token_ok : (x y : Lexeme × List ℕ) → ◌≡◌ {A = TokenRead} (Ok x) (Ok y) → x ≡ y
-token_ok x y e = cc
 
 -- bytes after a prefix that is not empty
 shorter : (test : ℕ → Bool) (b : ℕ) (rest : List ℕ) → test b ≡ true → length (drop (prefix_len test (b ∷ rest)) (b ∷ rest)) < length (b ∷ rest)
@@ -35,17 +33,17 @@ number_less bits text (Ok (z, after)) x h e =
     let p = ap length n.parts in
     let q = length-append (numeral_text n.numeral) after in
     let m = numeral_some n.numeral n.is_numeral in
-    let k = token_ok (t.Number z, after) x e in
+    let k = ok_is (t.Number z, after) x e in
     let l = ap (λ (y : Lexeme × List ℕ). length y.1) k in
     omega arith
 
 symbol_less : (after : List ℕ) (o : Option Lexeme) (x : Lexeme × List ℕ) (n : ℕ) → length after < n → symbol_token after o ≡ Ok x → length x.1 < n
 symbol_less after None x n h e = absurd cc
-symbol_less after (Some k) x n h e = let k = token_ok (k, after) x e in let z = ap (λ (y : Lexeme × List ℕ). length y.1) k in omega arith
+symbol_less after (Some k) x n h e = let k = ok_is (k, after) x e in let z = ap (λ (y : Lexeme × List ℕ). length y.1) k in omega arith
 
 name_less : (c : Bool) (name after rest : List ℕ) (o : Option Lexeme) (x : Lexeme × List ℕ) (n : ℕ) → (c ≡ true → length after < n) → length rest < n
     → cond c (Ok (t.Name name, after)) (symbol_token rest o) ≡ Ok x → length x.1 < n
-name_less true name after rest o x n h g e = let k = token_ok (t.Name name, after) x e in let z = ap (λ (y : Lexeme × List ℕ). length y.1) k in let l = h refl in omega arith
+name_less true name after rest o x n h g e = let k = ok_is (t.Name name, after) x e in let z = ap (λ (y : Lexeme × List ℕ). length y.1) k in let l = h refl in omega arith
 name_less false name after rest o x n h g e = symbol_less rest o x n g e
 
 number_or : (c : Bool) (bits : ℕ) (text : List ℕ) (other : TokenRead) (x : Lexeme × List ℕ) → (other ≡ Ok x → length x.1 < length text)

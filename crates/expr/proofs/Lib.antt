@@ -1,3 +1,4 @@
+pub mod Results
 pub mod NumeralLemmas
 pub mod Chain
 pub mod Levels

@@ -15,6 +15,7 @@ use Rattle.fixed.specs.declared.faults.NumFault.TheVariants.{BadNumber, NumberRa
 use Rattle.fixed.specs.Numerals.{Fraction, no_point, point, Exponent, no_exponent, unsigned, plus, minus, Numeral, fraction_digits, fraction_text, exponent_text, numeral_text, IsExponent, IsNumeral, IsReading, mantissa_of, power_of_ten, nearest_fixed, value_of}
 use Rattle.fixed.specs.Arithmetic.{in_range}
 use Rattle.expr.specs.Numerals.{is_letter, begins_digit, begins_point, after_sign, writes_exponent, has_point, has_exponent, lengthens, spoils, Ends, digits_of, after_digits, fraction_of, after_fraction, exponent_from, exponent_of, after_exponent, numeral_of, after_numeral, is_small, digit_count, is_allowed, reading_of, with_rest, number_at}
+use Rattle.expr.proofs.Results.{ok_is, err_as}
 
 -- ---- what has a numeral's form, whatever its length and exponent
 
@@ -433,21 +434,15 @@ front_numeral bits text r s e k =
     }
 
 with_ok : (rest : List ℕ) (r : Result ℤ NumFault) (z : ℤ) (after : List ℕ) → with_rest rest r ≡ Ok (z, after) → (r ≡ Ok z) × (rest ≡ after)
-with_ok rest (Ok y) z after e = let h = same (y, rest) (z, after) e in (ap (λ (x : ℤ × List ℕ). ok x.0) h, ap (λ (x : ℤ × List ℕ). x.1) h)
+with_ok rest (Ok y) z after e = let h = ok_is (y, rest) (z, after) e in (ap (λ (x : ℤ × List ℕ). ok x.0) h, ap (λ (x : ℤ × List ℕ). x.1) h)
   where
     ok : ℤ → Result ℤ NumFault
     ok x = Ok x
-
-    same : (x y : ℤ × List ℕ) → ◌≡◌ {A = Result (ℤ × List ℕ) NumFault} (Ok x) (Ok y) → x ≡ y
-    same x y e = cc
 with_ok rest (Err f) z after e = absurd cc
 
 with_err : (rest : List ℕ) (r : Result ℤ NumFault) (f : NumFault) → with_rest rest r ≡ Err f → r ≡ Err f
 with_err rest (Ok y) f e = absurd cc
-with_err rest (Err g) f e = let h : g ≡ f = cc in ap failed h
-  where
-    failed : NumFault → Result ℤ NumFault
-    failed z = Err z
+with_err rest (Err g) f e = err_as g f e
 
 pub number_ok : (bits : ℕ) (text : List ℕ) (z : ℤ) (after : List ℕ) → number_at bits text ≡ Ok (z, after) → FrontNumeral bits text after (Ok z)
 number_ok bits text z after e = by_spoils (spoils (begins_point (after_digits text)) (after_numeral text)) refl

@@ -19,20 +19,17 @@ use Rattle.expr.specs.Lexing.{Tokens, tokens_of}
 use Rattle.expr.specs.Grammar.{IsExpr}
 use Rattle.expr.specs.Parsing.{Reading, ended, expr_at, whole_at}
 use Rattle.expr.specs.Energy.{IsEnergy, IsRead, IsCause, limited, program_of}
-use Rattle.expr.proofs.Chain.{bind_ok}
 use Rattle.expr.proofs.Sound.{expr_sound}
 use Rattle.expr.proofs.Complete.{Answers, expr_complete}
-use Rattle.expr.proofs.Halting.{split, err_is, whole_halts, expr_halting}
+use Rattle.expr.proofs.Halting.{whole_halts, expr_halting}
 use Rattle.expr.proofs.TextLemmas.{text_sound, text_complete}
 use Rattle.expr.proofs.Wrong.{text_wrong}
+use Rattle.expr.proofs.Results.{ok_is, err_is, err_as, bind_ok, split}
 
 -- ---- all of the tokens
 
 ended_is : (x : Syntax) (rest : List Placed) (e : Syntax) → ended x rest ≡ Ok e → (rest ≡ []) × (x ≡ e)
-ended_is x [] e h = (refl, same x e h)
-  where
-    same : (a b : Syntax) → ◌≡◌ {A = Result Syntax Refusal} (Ok a) (Ok b) → a ≡ b
-    same a b k = cc
+ended_is x [] e h = (refl, ok_is x e h)
 ended_is x ((k, at) ∷ rest) e h = absurd cc
 
 whole_sound : (end : ℕ) (ts : List Placed) (e : Syntax) → whole_at end ts ≡ Ok e → IsExpr 65 ts e
@@ -72,10 +69,7 @@ program_is bits text = refl
 
 limited_ok : (c : Bool) (ts few : List Placed) → limited c ts ≡ Ok few → (c ≡ false) × (ts ≡ few)
 limited_ok true ts few e = absurd cc
-limited_ok false ts few e = (refl, same ts few e)
-  where
-    same : (a b : List Placed) → ◌≡◌ {A = Tokens} (Ok a) (Ok b) → a ≡ b
-    same a b k = cc
+limited_ok false ts few e = (refl, ok_is ts few e)
 
 limited_err : (c : Bool) (ts : List Placed) (f : Refusal) → limited c ts ≡ Err f → (c ≡ true) × (TooLarge ≡ f)
 limited_err true ts f e = (refl, err_is TooLarge f e)
@@ -116,10 +110,7 @@ complete bits text n e p =
     by_whole start (inr h) = inr (h.0, start ∙ ap of_syntax h.1)
 
 read_as : {A : Type 0} (n : ℕ) (e : Tree) (r : Result (Program A) (ExprFault A)) (whole : Result Tree Refusal) → (whole ≡ Ok e) ⊎ ((64 < n) × (whole ≡ Err TooLarge)) → Gives program_tree r whole → IsRead n e r
-read_as n e (Ok x) whole (inl h) g = let k : Ok (program_tree x) ≡ Ok e = sym g ∙ h in same (program_tree x) e k
-  where
-    same : (a b : Tree) → ◌≡◌ {A = Result Tree Refusal} (Ok a) (Ok b) → a ≡ b
-    same a b k = cc
+read_as n e (Ok x) whole (inl h) g = ok_is (program_tree x) e (sym g ∙ h)
 read_as n e (Ok x) whole (inr h) g = absurd cc
 read_as n e (Err fault.Memory) whole w g = tt
 read_as n e (Err fault.TooLarge) whole (inl h) g = absurd cc
@@ -180,21 +171,12 @@ used_err w (Some i) f e = absurd cc
 
 negated_err : (a : Result Tree Refusal) (f : Refusal) → (a ≡ Err f → IsName f) → (a >>= λ x. Ok (t.Negated x)) ≡ Err f → IsName f
 negated_err (Ok x) f ih h = absurd cc
-negated_err (Err k) f ih h = ih (ap failed (err_is k f h))
-  where
-    failed : Refusal → Result Tree Refusal
-    failed z = Err z
+negated_err (Err k) f ih h = ih (err_as k f h)
 
 binary_err : (o : Operator) (a b : Result Tree Refusal) (f : Refusal) → (a ≡ Err f → IsName f) → (b ≡ Err f → IsName f) → (a >>= λ x. b >>= λ y. Ok (t.Binary o x y)) ≡ Err f → IsName f
 binary_err o (Ok x) (Ok y) f ih jh h = absurd cc
-binary_err o (Ok x) (Err k) f ih jh h = jh (ap failed (err_is k f h))
-  where
-    failed : Refusal → Result Tree Refusal
-    failed z = Err z
-binary_err o (Err k) b f ih jh h = ih (ap failed (err_is k f h))
-  where
-    failed : Refusal → Result Tree Refusal
-    failed z = Err z
+binary_err o (Ok x) (Err k) f ih jh h = jh (err_as k f h)
+binary_err o (Err k) b f ih jh h = ih (err_as k f h)
 
 resolved_err : (e : Syntax) (f : Refusal) → resolved e ≡ Err f → IsName f
 unfolding resolved

@@ -1,9 +1,9 @@
 -- What is read is in the grammar.
-use Rattle.std.proofs.Common.{◌≡◌, ℕ, zero, suc, ℤ, List, [], ◌∷◌, ◌++◌, length, Option, Some, None, Result, Ok, refl, sym, ap, subst, ◌∙◌, append_assoc}
+use Rattle.std.proofs.Common.{◌≡◌, ℕ, zero, suc, ℤ, List, [], ◌∷◌, ◌++◌, length, Option, Some, None, Ok, refl, sym, ap, subst, ◌∙◌, append_assoc}
 use Rattle.std.proofs.lemmas.List.{append-nil}
 use Rattle.expr.specs.declared.programs.Operator.{Operator}
 use Rattle.expr.specs.declared.programs.Operator.TheVariants as op
-use Rattle.expr.specs.Faults.{Refusal, ◌>>=◌}
+use Rattle.expr.specs.Faults.{◌>>=◌}
 use Rattle.expr.specs.Tokens.{Lexeme, Placed}
 use Rattle.expr.specs.Tokens as t
 use Rattle.expr.specs.Syntax.{Syntax}
@@ -11,7 +11,7 @@ use Rattle.expr.specs.Syntax as tree
 use Rattle.expr.specs.Parsing.{Reading, Sign, Beginning, Numeral, Word, Group, start, on_sign, sum_sign, product_sign, minus_sign, open_sign, close, closed, name_by, chain, chained, atom_by, unary_by, unary_at, term_at, expr_at}
 use Rattle.expr.specs.Grammar.{IsExpr, IsTerm, IsUnary, IsAtom}
 use Rattle.expr.specs.Grammar as g
-use Rattle.expr.proofs.Chain.{bind_ok}
+use Rattle.expr.proofs.Results.{some_is, ok_is, bind_ok}
 
 abbrev pub Rule : Type 1
 Rule = List Placed → Syntax → Type 0
@@ -34,12 +34,6 @@ pub record Joined (P Q : Rule) (ts : List Placed) (o : Operator) (rest : List Pl
 
 pub record Joins (P Q : Rule) (sign : List Placed → Sign) : Type 0 where
   pub joined : (ts : List Placed) (o : Operator) (rest : List Placed) → sign ts ≡ Some (o, rest) → Joined P Q ts o rest
-
-pub some_is : {A : Type 0} (x y : A) → Some x ≡ Some y → x ≡ y
-some_is x y e = cc
-
-ok_is : {A : Type 0} (x y : A) → ◌≡◌ {A = Result A Refusal} (Ok x) (Ok y) → x ≡ y
-ok_is x y e = cc
 
 module _ (P Q : Rule) (token : Placed) (o : Operator) (join : (a b : List Placed) (x y : Syntax) → P a x → Q b y → P (a ++ (token ∷ b)) (tree.Binary o x y)) where
   joined_by : (ts : List Placed) (o' : Operator) (rest : List Placed) → (s : Option (Operator × List Placed)) → s ≡ Some (o, ts) → s ≡ Some (o', rest) → Joined P Q (token ∷ ts) o' rest

@@ -15,7 +15,8 @@ use Rattle.expr.specs.Lexing.{symbol_of, TokenRead, number_token, symbol_token, 
 use Rattle.expr.specs.Text.{Every, Stops, IsToken, IsFront, IsText}
 use Rattle.expr.specs.Text as g
 use Rattle.expr.proofs.NumeralLemmas.{number_ok, number_again}
-use Rattle.expr.proofs.Lexing.{prefix_more, prefix_stops, word_start, token_ok, token_less, skip_turn, take_turn}
+use Rattle.expr.proofs.Lexing.{prefix_more, prefix_stops, word_start, token_less, skip_turn, take_turn}
+use Rattle.expr.proofs.Results.{some_is, ok_is}
 
 -- ---- the longest front that passes
 
@@ -49,14 +50,11 @@ span_is test (b ∷ a) rest e s = prefix_more test b (a ++ rest) e.0 ∙ ap suc 
 pub record Front (bits : ℕ) (ts : List ℕ) (k : Lexeme) (after : List ℕ) : Type 0 where
   pub front : List ℕ
   pub parts : ts ≡ front ++ after
-  pub spelled : IsToken bits front after k
-
-some_is : (x y : Lexeme) → ◌≡◌ {A = Option Lexeme} (Some x) (Some y) → x ≡ y
-some_is x y e = cc
+  pub spelled : IsToken bits after front k
 
 module _ (bits : ℕ) (rest : List ℕ) where
   abbrev Alone : ℕ → Lexeme → Type 0
-  Alone b k = IsToken bits (b ∷ []) rest k
+  Alone b k = IsToken bits rest (b ∷ []) k
 
   choose_by : (b m : ℕ) (x k : Lexeme) (other : Option Lexeme) (c : Bool) → eqb b m ≡ c → Alone m x → (other ≡ Some k → Alone b k) → cond c (Some x) other ≡ Some k → Alone b k
   choose_by b m x k other true h p q e = subst (λ (z : Lexeme). Alone b z) (some_is x k e) (subst (λ (n : ℕ). Alone n x) (sym (eqb-true b m h)) p)
@@ -72,7 +70,7 @@ module _ (bits : ℕ) (rest : List ℕ) where
       (choose b 40 t.Open k _ g.open_parenthesis (choose b 41 t.Close k _ g.close_parenthesis (choose b 44 t.Comma k _ g.comma (choose b 59 t.Semicolon k _ g.semicolon (choose b 61 t.Equals k None g.equals (λ h. absurd cc)))))))))) e
 
 moved : (bits : ℕ) (ts : List ℕ) (k : Lexeme) (a : List ℕ) (k' : Lexeme) (a' : List ℕ) → ◌≡◌ {A = TokenRead} (Ok (k, a)) (Ok (k', a')) → Front bits ts k a → Front bits ts k' a'
-moved bits ts k a k' a' e f = let h = token_ok (k, a) (k', a') e in subst (λ (x : Lexeme × List ℕ). Front bits ts x.0 x.1) h f
+moved bits ts k a k' a' e f = let h = ok_is (k, a) (k', a') e in subst (λ (x : Lexeme × List ℕ). Front bits ts x.0 x.1) h f
 
 symbol_front : (bits b : ℕ) (rest : List ℕ) (k : Lexeme) (after : List ℕ) (o : Option Lexeme) → symbol_of b ≡ o → symbol_token rest o ≡ Ok (k, after) → Front bits (b ∷ rest) k after
 symbol_front bits b rest k after None h e = absurd cc
@@ -156,7 +154,7 @@ name_again bits b bs rest d ev st =
     name_read : ℕ → TokenRead
     name_read m = made (take m (b ∷ (bs ++ rest))) (drop m (b ∷ (bs ++ rest)))
 
-pub token_complete : {bits : ℕ} {a rest : List ℕ} {k : Lexeme} → IsToken bits a rest k → token_at bits (a ++ rest) ≡ Ok (k, rest)
+pub token_complete : {bits : ℕ} {a rest : List ℕ} {k : Lexeme} → IsToken bits rest a k → token_at bits (a ++ rest) ≡ Ok (k, rest)
 unfolding token_at symbol_of
 token_complete g.plus = refl
 token_complete g.minus = refl
@@ -168,8 +166,8 @@ token_complete g.close_parenthesis = refl
 token_complete g.comma = refl
 token_complete g.semicolon = refl
 token_complete g.equals = refl
-token_complete (g.number {bits} {rest} {n} {z} h ends v) = numeral_token bits n z rest h ends v
-token_complete (g.name {bits} {rest} {b} {bs} d ev st) = name_again bits b bs rest d ev st
+token_complete {bits} {a} {rest} (g.number {n} {z} h ends v) = numeral_token bits n z rest h ends v
+token_complete {bits} {a} {rest} (g.name {b} {bs} d ev st) = name_again bits b bs rest d ev st
 
 -- no token begins with a space
 abbrev Begins : List ℕ → Type 0
@@ -181,19 +179,19 @@ number_no_space b h = grind (arith, nat_tests)
 start_no_space : (b : ℕ) → is_name_start b ≡ true → is_space b ≡ false
 start_no_space b h = grind (arith, nat_tests)
 
-begins : {bits : ℕ} {a rest : List ℕ} {k : Lexeme} → IsToken bits a rest k → Begins (a ++ rest)
-begins (g.plus {bits} {rest}) = (43, rest, refl, refl)
-begins (g.minus {bits} {rest}) = (45, rest, refl, refl)
-begins (g.star {bits} {rest}) = (42, rest, refl, refl)
-begins (g.slash {bits} {rest}) = (47, rest, refl, refl)
-begins (g.caret {bits} {rest}) = (94, rest, refl, refl)
-begins (g.open_parenthesis {bits} {rest}) = (40, rest, refl, refl)
-begins (g.close_parenthesis {bits} {rest}) = (41, rest, refl, refl)
-begins (g.comma {bits} {rest}) = (44, rest, refl, refl)
-begins (g.semicolon {bits} {rest}) = (59, rest, refl, refl)
-begins (g.equals {bits} {rest}) = (61, rest, refl, refl)
-begins (g.number {bits} {rest} {n} {z} h ends v) = let b = numeral_begins n rest h in (b.byte, b.rest, b.parts, number_no_space b.byte b.begins)
-begins (g.name {bits} {rest} {b} {bs} d ev st) = (b, bs ++ rest, refl, start_no_space b d)
+begins : {bits : ℕ} {a rest : List ℕ} {k : Lexeme} → IsToken bits rest a k → Begins (a ++ rest)
+begins {bits} {a} {rest} g.plus = (43, rest, refl, refl)
+begins {bits} {a} {rest} g.minus = (45, rest, refl, refl)
+begins {bits} {a} {rest} g.star = (42, rest, refl, refl)
+begins {bits} {a} {rest} g.slash = (47, rest, refl, refl)
+begins {bits} {a} {rest} g.caret = (94, rest, refl, refl)
+begins {bits} {a} {rest} g.open_parenthesis = (40, rest, refl, refl)
+begins {bits} {a} {rest} g.close_parenthesis = (41, rest, refl, refl)
+begins {bits} {a} {rest} g.comma = (44, rest, refl, refl)
+begins {bits} {a} {rest} g.semicolon = (59, rest, refl, refl)
+begins {bits} {a} {rest} g.equals = (61, rest, refl, refl)
+begins {bits} {a} {rest} (g.number {n} {z} h ends v) = let b = numeral_begins n rest h in (b.byte, b.rest, b.parts, number_no_space b.byte b.begins)
+begins {bits} {a} {rest} (g.name {b} {bs} d ev st) = (b, bs ++ rest, refl, start_no_space b d)
 
 -- ---- the whole text
 
@@ -207,10 +205,7 @@ tokens_ok : List Placed → Tokens
 tokens_ok z = Ok z
 
 front_ok : (x : Placed) (r : Tokens) (ps : List Placed) → with_front (x ∷ []) r ≡ Ok ps → (qs : List Placed) × (r ≡ Ok qs) × (x ∷ qs ≡ ps)
-front_ok x (Ok qs) ps e = (qs, refl, ok_same (x ∷ qs) ps e)
-  where
-    ok_same : (a b : List Placed) → ◌≡◌ {A = Tokens} (Ok a) (Ok b) → a ≡ b
-    ok_same a b h = cc
+front_ok x (Ok qs) ps e = (qs, refl, ok_is (x ∷ qs) ps e)
 front_ok x (Err f) ps e = absurd cc
 
 read_token : (n bits total : ℕ) → Reads n bits total → (at : ℕ) (ts : List ℕ) (ps : List Placed) (r : TokenRead) → token_at bits ts ≡ r → length ts ≤ suc n → at + length ts ≡ total
@@ -266,9 +261,9 @@ nothing_again bits total [] e = refl
 nothing_again bits total (b ∷ rest) e = absurd cc
 
 text_again : {bits at end : ℕ} {ts rest : List ℕ} {ps : List Placed} → IsFront bits at ts ps end rest → rest ≡ [] → (total : ℕ) → at + length ts ≡ total → tokens_from (length ts) bits total ts ≡ Ok ps
-text_again (g.done {bits} {at} {rest}) e total h = nothing_again bits total rest e
-text_again (g.space {bits} {at} {b} {end} {text} {rest} {ts} s p) e total h = skip_turn bits total b text s ∙ text_again p e total (omega arith)
-text_again (g.token {bits} {at} {end} {a} {text} {rest} {k} {ts} p q) e total h =
+text_again {bits} (g.done {at} {rest}) e total h = nothing_again bits total rest e
+text_again {bits} (g.space {at} {b} {end} {text} {rest} {ts} s p) e total h = skip_turn bits total b text s ∙ text_again p e total (omega arith)
+text_again {bits} (g.token {at} {end} {a} {text} {rest} {k} {ts} p q) e total h =
     let b = begins p in
     let l = length-append a text in
     again_token bits at total k text ts (a ++ text) b.0 b.1 b.2 b.3 (token_complete p) h (text_again q e total (omega arith))

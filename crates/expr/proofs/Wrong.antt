@@ -15,6 +15,7 @@ use Rattle.expr.specs.Text.{IsToken, IsFront, BeginsNone, BeginsBadly, BeginsMal
 use Rattle.expr.specs.Text as g
 use Rattle.expr.proofs.NumeralLemmas.{number_bad, number_too_great}
 use Rattle.expr.proofs.TextLemmas.{numeral_begins, token_sound, after_front}
+use Rattle.expr.proofs.Results.{err_is}
 
 -- behind these tokens, at this place, no token is read
 record Stuck (bits at : ℕ) (ts : List ℕ) (f : Refusal) : Type 0 where
@@ -34,9 +35,6 @@ StuckAll n bits total = (at : ℕ) (ts : List ℕ) (f : Refusal) → at + length
 front_err : (x : Placed) (r : Tokens) (f : Refusal) → with_front (x ∷ []) r ≡ Err f → r ≡ Err f
 front_err x (Ok ts) f e = absurd cc
 front_err x (Err w) f e = e
-
-err_is : (f k : Refusal) → ◌≡◌ {A = Tokens} (Err f) (Err k) → f ≡ k
-err_is f k e = cc
 
 stuck_token : (n bits total : ℕ) → StuckAll n bits total → (at b : ℕ) (rest : List ℕ) (f : Refusal) (r : TokenRead) → is_space b ≡ false → token_at bits (b ∷ rest) ≡ r → at + length (b ∷ rest) ≡ total
     → go_on (total - length (b ∷ rest)) r (tokens_from n bits total) ≡ Err f → Stuck bits at (b ∷ rest) f
@@ -96,7 +94,7 @@ record NoStart (b : ℕ) : Type 0 where
 head_is : (m b : ℕ) (a a' : List ℕ) → m ∷ a ≡ b ∷ a' → m ≡ b
 head_is m b a a' e = cc
 
-begins_none : {bits : ℕ} {ts rest : List ℕ} {k : Lexeme} → IsToken bits ts rest k → (b : ℕ) (a : List ℕ) → ts ≡ b ∷ a → NoStart b → ⊥
+begins_none : {bits : ℕ} {ts rest : List ℕ} {k : Lexeme} → IsToken bits rest ts k → (b : ℕ) (a : List ℕ) → ts ≡ b ∷ a → NoStart b → ⊥
 unfolding symbol_of
 begins_none g.plus b a e n = let h : symbol_of 43 ≡ None = ap symbol_of (head_is 43 b [] a e) ∙ n.symbol in absurd cc
 begins_none g.minus b a e n = let h : symbol_of 45 ≡ None = ap symbol_of (head_is 45 b [] a e) ∙ n.symbol in absurd cc
@@ -124,13 +122,13 @@ abbrev OtherErr : ℕ → Wrong → Type 0
 OtherErr b wrong.Byte = NoStart b
 OtherErr b (wrong.Number f) = ⊥
 
+number_fault : (f k : NumFault) → ◌≡◌ {A = TokenRead} (Err (wrong.Number f)) (Err (wrong.Number k)) → ◌≡◌ {A = Result (ℤ × List ℕ) NumFault} (Err f) (Err k)
+number_fault f k e = let same : f ≡ k = cc in let failed : NumFault → Result (ℤ × List ℕ) NumFault = λ z. Err z in ap failed same
+
 number_err : (bits : ℕ) (ts : List ℕ) (w : Wrong) (r : Result (ℤ × List ℕ) NumFault) → number_at bits ts ≡ r → number_token r ≡ Err w → NumberErr bits ts w
 number_err bits ts w (Ok x) h e = absurd cc
 number_err bits ts wrong.Byte (Err f) h e = absurd cc
-number_err bits ts (wrong.Number k) (Err f) h e = let s : f ≡ k = cc in h ∙ ap failed s
-  where
-    failed : NumFault → Result (ℤ × List ℕ) NumFault
-    failed z = Err z
+number_err bits ts (wrong.Number k) (Err f) h e = h ∙ number_fault f k e
 
 symbol_err : (b : ℕ) (rest : List ℕ) (w : Wrong) (o : Option Lexeme) → begins_number b ≡ false → is_name_start b ≡ false → symbol_of b ≡ o → symbol_token rest o ≡ Err w → OtherErr b w
 symbol_err b rest wrong.Byte None n l s e = record { number = n; letter = l; symbol = s }

@@ -16,26 +16,27 @@ abbrev pub Stops : (ℕ → Bool) → List ℕ → Type 0
 Stops test [] = Unit {0}
 Stops test (b ∷ bs) = test b ≡ false
 
--- The bytes are the token, where the rest follows them: a numeral and a name are as long as they can be.
-pub data IsToken : ℕ → List ℕ → List ℕ → Lexeme → Type 0 where
-  plus : {bits : ℕ} {rest : List ℕ} → IsToken bits (43 ∷ []) rest t.Plus
-  minus : {bits : ℕ} {rest : List ℕ} → IsToken bits (45 ∷ []) rest t.Minus
-  star : {bits : ℕ} {rest : List ℕ} → IsToken bits (42 ∷ []) rest t.Star
-  slash : {bits : ℕ} {rest : List ℕ} → IsToken bits (47 ∷ []) rest t.Slash
-  caret : {bits : ℕ} {rest : List ℕ} → IsToken bits (94 ∷ []) rest t.Caret
-  open_parenthesis : {bits : ℕ} {rest : List ℕ} → IsToken bits (40 ∷ []) rest t.Open
-  close_parenthesis : {bits : ℕ} {rest : List ℕ} → IsToken bits (41 ∷ []) rest t.Close
-  comma : {bits : ℕ} {rest : List ℕ} → IsToken bits (44 ∷ []) rest t.Comma
-  semicolon : {bits : ℕ} {rest : List ℕ} → IsToken bits (59 ∷ []) rest t.Semicolon
-  equals : {bits : ℕ} {rest : List ℕ} → IsToken bits (61 ∷ []) rest t.Equals
-  number : {bits : ℕ} {rest : List ℕ} {n : Numeral} {z : ℤ} → IsNumeral n → Ends n rest → value_of bits n ≡ Ok z → IsToken bits (numeral_text n) rest (t.Number z)
-  name : {bits : ℕ} {rest : List ℕ} {b : ℕ} {bs : List ℕ} → is_name_start b ≡ true → Every is_word bs → Stops is_word rest → IsToken bits (b ∷ bs) rest (t.Name (b ∷ bs))
+-- The bytes are the token, where the rest follows them: a numeral and a name are as long as they can be. Numbers have
+-- so many bits behind the point.
+pub data IsToken (bits : ℕ) (rest : List ℕ) : List ℕ → Lexeme → Type 0 where
+  plus : IsToken bits rest (43 ∷ []) t.Plus
+  minus : IsToken bits rest (45 ∷ []) t.Minus
+  star : IsToken bits rest (42 ∷ []) t.Star
+  slash : IsToken bits rest (47 ∷ []) t.Slash
+  caret : IsToken bits rest (94 ∷ []) t.Caret
+  open_parenthesis : IsToken bits rest (40 ∷ []) t.Open
+  close_parenthesis : IsToken bits rest (41 ∷ []) t.Close
+  comma : IsToken bits rest (44 ∷ []) t.Comma
+  semicolon : IsToken bits rest (59 ∷ []) t.Semicolon
+  equals : IsToken bits rest (61 ∷ []) t.Equals
+  number : {n : Numeral} {z : ℤ} → IsNumeral n → Ends n rest → value_of bits n ≡ Ok z → IsToken bits rest (numeral_text n) (t.Number z)
+  name : {b : ℕ} {bs : List ℕ} → is_name_start b ≡ true → Every is_word bs → Stops is_word rest → IsToken bits rest (b ∷ bs) (t.Name (b ∷ bs))
 
 -- From this place on the text begins with these tokens, each with its place, and goes on from that place with the rest.
-pub data IsFront : ℕ → ℕ → List ℕ → List Placed → ℕ → List ℕ → Type 0 where
-  done : {bits at : ℕ} {rest : List ℕ} → IsFront bits at rest [] at rest
-  space : {bits at b end : ℕ} {text rest : List ℕ} {ts : List Placed} → is_space b ≡ true → IsFront bits (at + 1) text ts end rest → IsFront bits at (b ∷ text) ts end rest
-  token : {bits at end : ℕ} {a text rest : List ℕ} {k : Lexeme} {ts : List Placed} → IsToken bits a text k → IsFront bits (at + length a) text ts end rest → IsFront bits at (a ++ text) ((k, at) ∷ ts) end rest
+pub data IsFront (bits : ℕ) : ℕ → List ℕ → List Placed → ℕ → List ℕ → Type 0 where
+  done : {at : ℕ} {rest : List ℕ} → IsFront bits at rest [] at rest
+  space : {at b end : ℕ} {text rest : List ℕ} {ts : List Placed} → is_space b ≡ true → IsFront bits (at + 1) text ts end rest → IsFront bits at (b ∷ text) ts end rest
+  token : {at end : ℕ} {a text rest : List ℕ} {k : Lexeme} {ts : List Placed} → IsToken bits text a k → IsFront bits (at + length a) text ts end rest → IsFront bits at (a ++ text) ((k, at) ∷ ts) end rest
 
 -- the text is these tokens
 abbrev pub IsText : ℕ → List ℕ → List Placed → Type 0
@@ -45,7 +46,7 @@ IsText bits text ts = IsFront bits 0 text ts (length text) []
 pub record BeginsNone (b : ℕ) : Type 0 where
   pub no_space : is_space b ≡ false
   pub no_number : begins_number b ≡ false
-  pub no_token : (bits : ℕ) (a rest : List ℕ) (k : Lexeme) → IsToken bits (b ∷ a) rest k → ⊥
+  pub no_token : (bits : ℕ) (a rest : List ℕ) (k : Lexeme) → IsToken bits rest (b ∷ a) k → ⊥
 
 abbrev pub BeginsBadly : List ℕ → Type 0
 BeginsBadly [] = ⊥

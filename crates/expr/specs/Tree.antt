@@ -1,5 +1,5 @@
 -- Trees of energy expressions, without where they lie in memory.
-use Rattle.std.specs.Prelude.{ℕ, ℤ, Bool, true, false, ◌==◌, ◌&&◌, if◌then◌else◌}
+use Rattle.std.specs.Prelude.{ℕ, ℤ, Bool, true, false, ◌==◌, ◌&&◌, nat_lt, if◌then◌else◌}
 use Rattle.expr.specs.declared.programs.Operator.{Operator}
 use Rattle.expr.specs.declared.programs.Expr.{Expr}
 use Rattle.expr.specs.declared.programs.Expr.TheVariants as e
@@ -20,6 +20,13 @@ tree_of (e.Binary' o p a q b) = Binary o (tree_of a) (tree_of b)
 
 abbrev pub program_tree : {A : Type 0} → Program A → Tree
 program_tree p = tree_of p.body
+
+-- each variable of the tree is one of the first n inputs
+abbrev pub inputs_below : ℕ → Tree → Bool
+inputs_below n (Number z) = true
+inputs_below n (Input i) = nat_lt i n
+inputs_below n (Negated a) = inputs_below n a
+inputs_below n (Binary o a b) = inputs_below n a && inputs_below n b
 
 -- the distance, input 0, doesn't occur in the tree
 abbrev pub is_free_of_distance : Tree → Bool

@@ -1,6 +1,6 @@
-ghost use Rattle.std.specs.Prelude.{◌≡◌, ℕ, IfOk, IfErr, IfSome};
+ghost use Rattle.std.specs.Prelude.{◌≡◌, ℕ, IfOk, IfErr, IfSome, IsTrue};
 ghost use Rattle.fixed.specs.Fractions.{bits_of};
-ghost use Rattle.expr.specs.Tree.{Tree, program_tree};
+ghost use Rattle.expr.specs.Tree.{Tree, inputs_below, program_tree};
 ghost use Rattle.expr.specs.Faults.{Gives, refusal_of};
 ghost use Rattle.expr.specs.Energy.{IsCause, IsEnergy, IsRead, program_of};
 
@@ -42,6 +42,8 @@ pub fn parse<A: Allocator + Copy>(
     ensures only { (n : ℕ) (e : Tree) → IsEnergy (bits_of frac) text.now n e → IsRead n e result }
     // Each refusal has its cause in the text.
     ensures cause { IfErr result (λ fault. IfSome (refusal_of fault) (IsCause (bits_of frac) text.now)) }
+    // The distance is its one variable.
+    ensures inputs { IfOk result (λ p. IsTrue (inputs_below 1 (program_tree p))) }
     // Which answer it is.
     ensures exact { Gives program_tree result (program_of (bits_of frac) text.now) }
 {
@@ -51,7 +53,8 @@ pub fn parse<A: Allocator + Copy>(
 // The same, by the function on lists.
 #[tactic(auto, unfolding(crate::specs::Energy::program_of))]
 fn read<A: Allocator + Copy>(alloc: A, frac: Frac, text: &[u8]) -> Result<Program<A>, ExprFault<A>>
-    ensures { Gives program_tree result (program_of (bits_of frac) text.now) }
+    ensures value { Gives program_tree result (program_of (bits_of frac) text.now) }
+    ensures inputs { IfOk result (λ p. IsTrue (inputs_below 1 (program_tree p))) }
 {
     let tokens = tokens(alloc, frac, text)?;
     if tokens.len() > MAX_TOKENS {

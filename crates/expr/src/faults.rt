@@ -11,22 +11,23 @@ pub enum ExprFault<A: Allocator> {
     /// A byte begins no token.
     #[error("E01 BadCharacter {at}")]
     BadCharacter { at: usize },
-    /// A numeral is malformed.
+    /// A numeral is malformed: it has no digit, more than 18 digits before its exponent part, an exponent past 99, a
+    /// second point right behind it, or an `e` or `E` without digits.
     #[error("E02 BadNumber {at}")]
     BadNumber { at: usize },
     /// No rule of the grammar takes the token, or the text ends too early.
     #[error("E03 UnexpectedToken {at}")]
     UnexpectedToken { at: usize },
-    /// The name stands for nothing.
+    /// The name stands for nothing, or stands before a parenthesis and is no function's.
     #[error("E04 UnknownName {name}")]
     UnknownName { name: Name<A> },
-    /// The rounded value of a numeral doesn't fit a number.
+    /// The rounded value of a numeral, without its sign, is 2^63 or more as a raw number.
     #[error("E07 NumberRange {at}")]
     NumberRange { at: usize },
-    /// The text has too many tokens, or nests too deep.
+    /// The text has more than 4,096 tokens, or an operand inside more than 64 parentheses and minus signs.
     #[error("E10 TooLarge")]
     TooLarge,
-    /// The language has no such function.
+    /// The function before a parenthesis is left out of the language, or isn't there yet.
     #[error("E11 LeftOutFunction {name}")]
     LeftOutFunction { name: Name<A> },
     /// No memory is left.

@@ -1,4 +1,4 @@
-ghost use Rattle.std.specs.Prelude.{◌≡◌};
+ghost use Rattle.std.specs.Prelude.{◌≡◌, IfSome};
 ghost use Rattle.expr.specs.Faults.{Says, IsOrMemory, UnknownName};
 ghost use Rattle.expr.specs.Names.{is_function, is_left_out, call_refusal, variable_of};
 
@@ -9,6 +9,7 @@ use std::fmt::{self, Display, Formatter, Write};
 /// A name of an energy text, as its own copy of the text's bytes: letters, digits and `_`.
 #[derive(Debug, Drop)]
 pub struct Name<A: Allocator> {
+    /// The bytes of the name, one at least.
     pub bytes: Vec<u8, A>,
 }
 
@@ -33,7 +34,8 @@ fn copied<A: Allocator + Copy>(alloc: A, name: &[u8]) -> Result<Name<A>, ExprFau
 // The number of the variable with this name.
 #[tactic(auto, unfolding(crate::specs::Names::variable_of))]
 pub fn variable_of(name: &[u8]) -> Option<u32>
-    ensures { result ≡ variable_of name.now }
+    ensures value { result ≡ variable_of name.now }
+    ensures distance { IfSome result (λ input. input ≡ 0) }
 {
     if name == b"r".as_slice() {
         Some(0)

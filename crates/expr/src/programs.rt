@@ -14,12 +14,12 @@ pub enum Operator {
     Divide,
 }
 
-/// An energy expression.
+/// An energy expression: a tree whose values are fixed-point numbers with the fraction bits that its text was read with.
 #[derive(Drop)]
 pub enum Expr<A: Allocator> {
-    /// A number.
+    /// A number. That of a numeral is 0 or more.
     Number(Fx),
-    /// The variable with this input number; 0 is the distance.
+    /// The variable with this input number. Input 0 is the distance, in nm, and the only one so far.
     Input(u32),
     /// The negative of a part.
     Negated(Box<Expr<A>, A>),
@@ -27,9 +27,9 @@ pub enum Expr<A: Allocator> {
     Binary(Operator, Box<Expr<A>, A>, Box<Expr<A>, A>),
 }
 
-/// What an energy text says.
+/// What an energy text says. It owns its trees, in the memory of the allocator that `parse` was given.
 #[derive(Drop)]
 pub struct Program<A: Allocator> {
-    /// The expression whose value is the energy.
+    /// The expression whose value is the energy, in kJ/mol.
     pub body: Expr<A>,
 }

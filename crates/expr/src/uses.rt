@@ -1,6 +1,7 @@
+ghost use Rattle.std.specs.Prelude.{IfOk, IsTrue};
 ghost use Rattle.expr.specs.Faults.{Gives};
 ghost use Rattle.expr.specs.Syntax.{syntax_of};
-ghost use Rattle.expr.specs.Tree.{tree_of};
+ghost use Rattle.expr.specs.Tree.{inputs_below, tree_of};
 ghost use Rattle.expr.specs.Uses.{resolved};
 
 use crate::faults::ExprFault;
@@ -12,7 +13,8 @@ use std::alloc::Allocator;
 /// The tree in which each name is what it stands for.
 #[tactic(auto, unfolding(crate::specs::Uses::resolved))]
 pub fn resolve<A: Allocator + Copy>(alloc: A, syntax: &Syntax<A>) -> Result<Expr<A>, ExprFault<A>>
-    ensures { Gives tree_of result (resolved (syntax_of syntax.now)) }
+    ensures value { Gives tree_of result (resolved (syntax_of syntax.now)) }
+    ensures inputs { IfOk result (λ e. IsTrue (inputs_below 1 (tree_of e))) }
 {
     match syntax {
         Syntax::Number(value) => Ok(Expr::Number(*value)),
