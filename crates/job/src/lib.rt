@@ -3,7 +3,9 @@
 
 mod faults;
 mod jobs;
+mod numbers;
 mod reading;
+mod words;
 
 pub use faults::{JobFault, Key};
 pub use jobs::{AtomType, Global, Job};
