@@ -37,6 +37,9 @@ only [] = Err BadNumber
 only (w ∷ []) = Ok w
 only (w ∷ v ∷ ws) = Err BadNumber
 
+abbrev pub alone : {X : Type 0} → (List ℕ → Reading X) → List (List ℕ) → Reading X
+alone read ws = only ws >>= read
+
 -- a numeral, to the nearest number of 32 fraction bits
 abbrev pub or_malformed : Option (Reading ℤ) → Reading ℤ
 or_malformed None = Err BadNumber

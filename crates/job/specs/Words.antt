@@ -46,3 +46,10 @@ after_word text = drop (position_or_len is_blank (without_blanks text)) (without
 abbrev pub more_words : Option (List ℕ × List ℕ) → List (List ℕ)
 more_words None = []
 more_words (Some next) = next.0 ∷ words next.1
+
+-- two words and no more
+abbrev pub two : List (List ℕ) → Option (List ℕ × List ℕ)
+two [] = None
+two (w ∷ []) = None
+two (w ∷ x ∷ []) = Some (w, x)
+two (w ∷ x ∷ y ∷ ws) = None

@@ -2,7 +2,7 @@
 
 ghost use Rattle.std.specs.Prelude.{◌≡◌, ◌+◌, ◌<◌, ◌≤◌, ◌∷◌, length, option_map, IfSome};
 ghost use Rattle.std.specs.List.{position_or_len};
-ghost use Rattle.job.specs.Words.{without_return, lines_of, more_lines, is_blank, words, without_blanks, after_word, more_words};
+ghost use Rattle.job.specs.Words.{without_return, lines_of, more_lines, is_blank, words, without_blanks, after_word, more_words, two};
 ghost use Rattle.job.specs.Numbers.{only, mapped};
 
 use fixed::NumFault;
@@ -75,4 +75,16 @@ pub fn only_word(text: &[u8]) -> Result<&[u8], NumFault>
         Some((word, rest)) if next_word(rest).is_none() => Ok(word),
         _ => Err(NumFault::BadNumber),
     }
+}
+
+/// The two words.
+pub fn two_words(text: &[u8]) -> Option<(&[u8], &[u8])>
+    ensures { option_map (λ x. (x.0.now, x.1.now)) result ≡ two (words text.now) }
+{
+    let (first, rest) = next_word(text)?;
+    let (second, rest) = next_word(rest)?;
+    if next_word(rest).is_some() {
+        return None;
+    }
+    Some((first, second))
 }
