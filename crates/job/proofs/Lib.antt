@@ -1,2 +1,4 @@
 pub mod WordLemmas
 pub mod NumberLemmas
+pub mod FormLemmas
+pub mod DraftLemmas

@@ -14,10 +14,10 @@ abbrev pub is_graphic : ℕ → Bool
 is_graphic b = nat_le 33 b && nat_le b 126
 
 -- a letter, then letters and digits
-abbrev pub is_identifier : List ℕ → Bool
+unfoldable pub is_identifier : List ℕ → Bool
 is_identifier [] = false
 is_identifier (b ∷ bs) = is_letter b && list_all is_name_byte bs
 
 -- one to five bytes of 33 to 126
-abbrev pub is_type_name : List ℕ → Bool
+unfoldable pub is_type_name : List ℕ → Bool
 is_type_name text = (nat_le 1 (length text) && nat_le (length text) 5) && list_all is_graphic text

@@ -1,5 +1,5 @@
 -- The code's values as plain ones.
-use Rattle.std.specs.Prelude.{◌≡◌, ℕ, map, Option, Some, None, Result, Ok, Err, IfSome, string_bytes}
+use Rattle.std.specs.Prelude.{◌≡◌, ℕ, ℤ, List, map, Option, Some, None, Result, Ok, Err, IfSome, string_bytes}
 use Rattle.std.specs.Option.{option_map}
 use Rattle.line_text.specs.Names.{name_text}
 use Rattle.job.specs.declared.faults.JobFault.{JobFault}
@@ -10,6 +10,7 @@ use Rattle.job.specs.declared.jobs.Job.{Job}
 use Rattle.job.specs.declared.limits.Limits.{Limits}
 use Rattle.job.specs.declared.drafts.Draft.{Draft}
 use Rattle.job.specs.declared.drafts.TypeLine.{TypeLine}
+use Rattle.job.specs.declared.drafts.TypeNumbers.{TypeNumbers}
 use Rattle.job.specs.Values.{GlobalValue, TypeValue, JobValue, Counts}
 use Rattle.job.specs.Faults as plain
 
@@ -36,6 +37,9 @@ counts_of l = record { parameters = l.parameters; globals = l.globals; types = l
 
 abbrev pub type_line : {A : Type 0} → TypeLine A → plain.TypeLine
 type_line t = record { line = t.line; value = type_value t.value }
+
+abbrev pub type_numbers_of : {A : Type 0} → TypeNumbers A → ℕ × List ℤ
+type_numbers_of t = (t.mass, t.values.items)
 
 abbrev pub said_of : {A : Type 0} → Draft A → plain.Said
 said_of d = record {

@@ -9,6 +9,15 @@ use crate::jobs::{AtomType, Global};
 use fixed::Fx;
 use std::alloc::Allocator;
 
+/// What a type's line says behind its name: the mass in 10^-5 u, and the values.
+#[derive(Drop)]
+pub struct TypeNumbers<A: Allocator> {
+    pub mass: u32,
+    pub values: Vec<Fx, A>,
+    pub ghost some_mass: { 1 ≤ mass },
+    pub ghost most_mass: { mass ≤ 100000000 },
+}
+
 /// A type of atoms, and the number of its line.
 #[derive(Drop)]
 pub struct TypeLine<A: Allocator> {

@@ -26,6 +26,7 @@ fn are_graphic(bytes: &[u8]) -> bool
 }
 
 /// Whether the word is a letter or `_`, then letters, digits and `_`.
+#[tactic(auto, unfolding(crate::specs::Forms::is_identifier))]
 pub fn is_identifier(word: &[u8]) -> bool
     ensures { result ≡ is_identifier word.now }
 {
@@ -36,6 +37,7 @@ pub fn is_identifier(word: &[u8]) -> bool
 }
 
 /// Whether the word is one to five bytes of 33 to 126.
+#[tactic(auto, unfolding(crate::specs::Forms::is_type_name))]
 pub fn is_type_name(word: &[u8]) -> bool
     ensures { result ≡ is_type_name word.now }
 {
