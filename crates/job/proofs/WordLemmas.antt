@@ -5,7 +5,7 @@ use Rattle.std.proofs.lemmas.Bool.{ltb-false, ltb-true, cases_lt}
 use Rattle.std.proofs.lemmas.List.{take_all, drop_more}
 use Rattle.std.proofs.lemmas.List.Sums.{fails_before_first, passes_at_first}
 use Rattle.std.proofs.lemmas.List.Splits.{slice_split_first, slice_split_none}
-use Rattle.std.proofs.Common.{drop_of_length-le, length-drop}
+use Rattle.std.proofs.Common.{drop_of_length-le, length-drop, length-take}
 use Rattle.line_text.specs.Parts.{cut_at}
 use Rattle.job.specs.Words.{without_return, ended, lines_of, more_lines, is_blank, is_empty, words, without_blanks, after_word, more_words}
 
@@ -122,10 +122,11 @@ words_some text (b ∷ bs) e l =
     let word = starts_word text bs b (sym e) in
     (words_blanks text ∙ ap words (sym e) ∙ words_split b bs word, ap (λ (t : List ℕ). drop (position_or_len is_blank t) t) e, omega (arith, length-drop (position_or_len is_blank (b ∷ bs)) (b ∷ bs), some_bytes b bs word))
 
-pub cut_shorter : (text a b : List ℕ) → cut_at 10 text ≡ Some (a, b) → length b < length text
+pub cut_shorter : (text a b : List ℕ) → cut_at 10 text ≡ Some (a, b) → length a + length b < length text
 unfolding cut_at
 cut_shorter text a b e =
     let p : ℕ → Bool = λ x. x == 10 in
     let s = some_of (ltb (position_or_len p text) (length text)) (before_first p text, after_first p text) (a, b) e in
+    let front : length (before_first p text) ≡ length a = ap (λ (x : List ℕ × List ℕ). length x.0) s.1 in
     let same : length (after_first p text) ≡ length b = ap (λ (x : List ℕ × List ℕ). length x.1) s.1 in
-    omega (arith, same, ltb-true _ _ s.0, length-drop (position_or_len p text + 1) text)
+    omega (arith, front, same, ltb-true _ _ s.0, length-drop (position_or_len p text + 1) text, length-take (position_or_len p text) text)

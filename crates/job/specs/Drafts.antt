@@ -107,3 +107,7 @@ line_into most n s line = if slice_index line 0 == 35 then Ok s else words_into 
 unfoldable pub lines_into : Counts → ℕ → Said → List (List ℕ) → Result Said Refusal
 lines_into most n s [] = Ok s
 lines_into most n s (line ∷ lines) = line_into most n s line >>= λ t. lines_into most (n + 1) t lines
+
+-- what no lines say
+abbrev pub nothing : Said
+nothing = record { energy = None; core = None; cutoff = None; time_step = None; slices = None; parameters = []; globals = []; types = [] }

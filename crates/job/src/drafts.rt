@@ -49,8 +49,13 @@ pub struct Draft<A: Allocator> {
 }
 
 impl<A: Allocator + Copy> Draft<A> {
+    ghost use Rattle.job.specs.Drafts.{nothing};
+    ghost use Rattle.job.specs.Views.{said_of};
+
     /// What no lines say.
-    pub fn new(alloc: A) -> Draft<A> {
+    pub fn new(alloc: A) -> Draft<A>
+        ensures { said_of result ≡ nothing }
+    {
         Draft {
             energy: None,
             core: None,

@@ -299,7 +299,7 @@ fn add_type<A: Allocator + Copy>(
     if knows_type(draft.types.as_slice(), word) {
         return Err(repeated_type(alloc, word));
     }
-    let Some(TypeNumbers { mass, values }) = numbers else {
+    let Some(numbers) = numbers else {
         return Err(JobFault::Range { key: Key::Types });
     };
     if draft.types.as_slice().len() >= limits.types {
@@ -308,7 +308,11 @@ fn add_type<A: Allocator + Copy>(
     let name = type_name(word);
     draft.types.push(TypeLine {
         line: number,
-        value: AtomType { name, mass, values },
+        value: AtomType {
+            name,
+            mass: numbers.mass,
+            values: numbers.values,
+        },
     })?;
     Ok(draft)
 }
@@ -344,4 +348,48 @@ fn take_type<A: Allocator + Copy>(
     }
     let numbers = well_formed(number, type_numbers(alloc, mass, rest)?)?;
     add_type(alloc, draft, limits, number, name, numbers)
+}
+
+#[tactic(auto, unfolding(crate::specs::Drafts::key_into))]
+fn take_key<A: Allocator + Copy>(
+    alloc: A,
+    draft: Draft<A>,
+    limits: &Limits,
+    number: u64,
+    key: Option<Key>,
+    text: &[u8],
+) -> Result<Draft<A>, JobFault<A>>
+    ensures { Gives said_of result (key_into (counts_of limits.now) number (said_of draft) key text.now) }
+{
+    match key {
+        None => Err(JobFault::BadLine { line: number }),
+        Some(Key::Energy) => take_energy(alloc, draft, number, text),
+        Some(Key::Core) => take_core(draft, number, text),
+        Some(Key::Cutoff) => take_cutoff(draft, number, text),
+        Some(Key::TimeStep) => take_time_step(draft, number, text),
+        Some(Key::Slices) => take_slices(draft, number, text),
+        Some(Key::Parameter) => take_parameter(alloc, draft, limits, number, text),
+        Some(Key::Global) => take_global(alloc, draft, limits, number, text),
+        Some(Key::Types) => take_type(alloc, draft, limits, number, text),
+    }
+}
+
+/// What the lines so far and this one have said, or this line's fault.
+#[tactic(auto, unfolding(crate::specs::Drafts::line_into))]
+pub fn take_line<A: Allocator + Copy>(
+    alloc: A,
+    draft: Draft<A>,
+    limits: &Limits,
+    number: u64,
+    line: &[u8],
+) -> Result<Draft<A>, JobFault<A>>
+    ensures { Gives said_of result (line_into (counts_of limits.now) number (said_of draft) line.now) }
+{
+    if let [b'#', ..] = line {
+        return Ok(draft);
+    }
+    match next_word(line) {
+        None => Ok(draft),
+        Some((word, text)) => take_key(alloc, draft, limits, number, key_of(word), text),
+    }
 }

@@ -9,7 +9,8 @@ use fixed::NumFault;
 use line_text::cut;
 
 fn without_return(line: &[u8]) -> &[u8]
-    ensures { result.now ≡ without_return line.now }
+    ensures value { result.now ≡ without_return line.now }
+    ensures shorter { length result.now ≤ length line.now }
 {
     match line {
         [before @ .., b'\r'] => before,
@@ -20,7 +21,7 @@ fn without_return(line: &[u8]) -> &[u8]
 /// The first line, without its end, and what stands behind its line feed, where it has one.
 pub fn next_line(text: &[u8]) -> (&[u8], Option<&[u8]>)
     ensures lines { lines_of text.now ≡ result.0.now ∷ more_lines (option_map (λ x. x.now) result.1) }
-    ensures shorter { IfSome result.1 (λ x. length x.now < length text.now) }
+    ensures shorter { IfSome result.1 (λ x. length result.0.now + length x.now < length text.now) }
 {
     match cut(b'\n', text) {
         Some((line, rest)) => (without_return(line), Some(rest)),

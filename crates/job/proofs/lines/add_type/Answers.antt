@@ -36,4 +36,4 @@ returns g c =
     (known_through (type_line {A = g.row.A.Denot}) (λ (t : TypeLine). t.value.name) c.args.draft.types.items _ _ _ _ c.as_slice.ensures.value c.knows_type.ensures c.if-knows_type.false)
     (omega (arith, length-map c.args.draft.types.items (type_line {A = g.row.A.Denot}), ap length c.as_slice-2.ensures.value, c.if-as_slice-limits.false))
     (pushed (type_line {A = g.row.A.Denot}) c.args.draft.types.items _ _ _ c.in_ok-push.ensures.items
-    (ap (λ (n : List ℕ). record { line = c.args.number; value = record { name = n; mass = c.in-Some.mass; values = c.in-Some.values.items } }) c.type_name-name.ensures))
+    (ap (λ (n : List ℕ). record { line = c.args.number; value = record { name = n; mass = c.in-Some.numbers.mass; values = c.in-Some.numbers.values.items } }) c.type_name-name.ensures))
