@@ -6,3 +6,4 @@ pub mod LineLemmas
 pub mod CountLemmas
 pub mod ViewLemmas
 pub mod FaultLemmas
+pub mod TextLemmas

@@ -26,7 +26,7 @@ pub reading_is : (text : List ℕ) (r : Reading ℤ) → IsReading 32 text r →
 unfolding numeral_of
 reading_is text r h = joined (λ d. fixed_of 32 d.mantissa d.power) (decimal_of text) r
     (λ d e. let s = sound text d e in
-        h.value s.0 s.1 s.2 ∙ ap (λ o. or_malformed (option_map (λ x. fixed_of 32 x.mantissa x.power) o)) (sym (complete s.0 s.1) ∙ ap decimal_of s.2 ∙ e))
+    h.value s.0 s.1 s.2 ∙ ap (λ o. or_malformed (option_map (λ x. fixed_of 32 x.mantissa x.power) o)) (sym (complete s.0 s.1) ∙ ap decimal_of s.2 ∙ e))
     (λ e. h.bad (λ n is t. let c = sym (complete n is) ∙ ap decimal_of t ∙ e in cc))
 
 ok_least : (b : Bool) (n : ℕ) → IfOk {E = NumFault} (cond b (Ok (pos n)) (Err NumberRange)) (λ v. pos 0 ≤ℤ v)

@@ -1,5 +1,5 @@
 -- Reading line by line: each line adds to what was said so far, or is the first fault.
-use Rattle.std.specs.Prelude.{ℕ, ℤ, Bool, List, [], ◌∷◌, ◌++◌, ◌+◌, length, map, Option, Some, None, Result, Ok, Err, ◌==◌, nat_lt, slice_index, if◌then◌else◌}
+use Rattle.std.specs.Prelude.{ℕ, ℤ, Bool, List, [], ◌∷◌, ◌++◌, ◌+◌, length, map, Option, Some, None, Result, Ok, Err, ◌==◌, nat_lt, slice_index, bytes_eq, if◌then◌else◌}
 use Rattle.fixed.specs.declared.faults.NumFault.TheVariants.{BadNumber, NumberRange}
 use Rattle.job.specs.declared.faults.Key.{Key}
 use Rattle.job.specs.declared.faults.Key.TheVariants as keys
@@ -7,9 +7,9 @@ use Rattle.job.specs.Forms.{is_identifier, is_type_name}
 use Rattle.job.specs.Words.{words, without_blanks, after_word}
 use Rattle.job.specs.Numbers.{Reading, both, only, alone, numeral_of, signed_of, values_of, cutoff_of, whole_of, mass_of}
 use Rattle.job.specs.Statements.{well_formed, key_of}
-use Rattle.job.specs.Values.{GlobalValue, TypeValue, Counts}
+use Rattle.job.specs.Values.{GlobalValue, TypeValue, JobValue, Counts}
 use Rattle.job.specs.Faults.{Refusal, bad_line, repeated, repeated_name, out_of_range, repeated_type, TypeLine, Said, knows}
-use Rattle.job.specs.JobText.{◌>>=◌}
+use Rattle.job.specs.JobText.{◌>>=◌, header, job_from}
 
 -- the number of a key that one line may have
 abbrev pub number_of : {X : Type 0} → ℕ → Key → Option X → Reading X → Result X Refusal
@@ -111,3 +111,7 @@ lines_into most n s (line ∷ lines) = line_into most n s line >>= λ t. lines_i
 -- what no lines say
 abbrev pub nothing : Said
 nothing = record { energy = None; core = None; cutoff = None; time_step = None; slices = None; parameters = []; globals = []; types = [] }
+
+abbrev pub lines_job : Counts → List (List ℕ) → Result JobValue Refusal
+lines_job most [] = Err (bad_line 1)
+lines_job most (line ∷ lines) = if bytes_eq line header then (lines_into most 2 nothing lines >>= job_from) else Err (bad_line 1)

@@ -21,21 +21,25 @@ header = codes "pairmd job 1"
 abbrev pub IsFaultless : Counts → List (List ℕ) → Type 0
 IsFaultless most lines = (above below : List (List ℕ)) (line : List ℕ) → lines ≡ above ++ line ∷ below → line_fault most above line ≡ None
 
--- the text is the job's: no line below the first has a fault, each value is what the line of its key says, and each type has a value for each parameter
+-- the lines have said this job: each value is what the line of its key says, and each type has a value for each parameter
+pub record Tells (s : Said) (job : JobValue) : Type 0 where
+  pub energy : s.energy ≡ Some job.energy
+  pub core : s.core ≡ Some job.core
+  pub cutoff : s.cutoff ≡ Some job.cutoff
+  pub below_cutoff : job.core <ℤ job.cutoff
+  pub time_step : s.time_step ≡ Some job.time_step
+  pub slices : unwrap_or s.slices 64 ≡ job.slices
+  pub parameters : s.parameters ≡ job.parameters
+  pub globals : s.globals ≡ job.globals
+  pub types : map (λ t. t.value) s.types ≡ job.types
+  pub whole : All (λ t. length t.values ≡ length job.parameters) job.types
+
+-- the text is the job's: behind the first line no line has a fault, and together they say the job
 pub record IsJobText (most : Counts) (text : List ℕ) (job : JobValue) : Type 0 where
   pub lines : List (List ℕ)
   pub first_line : lines_of text ≡ header ∷ lines
   pub faultless : IsFaultless most lines
-  pub energy : (summary lines).energy ≡ Some job.energy
-  pub core : (summary lines).core ≡ Some job.core
-  pub cutoff : (summary lines).cutoff ≡ Some job.cutoff
-  pub below_cutoff : job.core <ℤ job.cutoff
-  pub time_step : (summary lines).time_step ≡ Some job.time_step
-  pub slices : unwrap_or (summary lines).slices 64 ≡ job.slices
-  pub parameters : (summary lines).parameters ≡ job.parameters
-  pub globals : (summary lines).globals ≡ job.globals
-  pub types : map (λ t. t.value) (summary lines).types ≡ job.types
-  pub whole : All (λ t. length t.values ≡ length job.parameters) job.types
+  pub tells : Tells (summary lines) job
 
 -- ---- the first fault of a text, or its job
 
@@ -82,3 +86,7 @@ lines_reading most (line ∷ lines) = if bytes_eq line header then unless (first
 -- the job whose text this is, or the first fault
 unfoldable pub reading_of : Counts → List ℕ → Result JobValue Refusal
 reading_of most text = lines_reading most (lines_of text)
+
+-- the counts of this stage
+abbrev pub stage : Counts
+stage = record { parameters = 0; globals = 0; types = 1 }

@@ -1,5 +1,5 @@
 -- The code's values as plain ones.
-use Rattle.std.specs.Prelude.{◌≡◌, ℕ, ℤ, List, map, Option, Some, None, Result, Ok, Err, IfSome, string_bytes}
+use Rattle.std.specs.Prelude.{◌≡◌, ℕ, ℤ, List, map, Option, Some, None, Result, Ok, Err, IfSome, IsNone, string_bytes}
 use Rattle.std.specs.Option.{option_map}
 use Rattle.line_text.specs.Names.{name_text}
 use Rattle.job.specs.declared.faults.JobFault.{JobFault}
@@ -67,3 +67,8 @@ refusal_of faults.Memory = None
 abbrev pub Gives : {X Y A : Type 0} → (X → Y) → Result X (JobFault A) → Result Y plain.Refusal → Type 0
 Gives view (Ok x) reading = reading ≡ Ok (view x)
 Gives view (Err e) reading = IfSome (refusal_of e) (λ fault. reading ≡ Err fault)
+
+-- the answer is this job, unless memory was wanted
+abbrev pub AnswersJob : {A : Type 0} → Result (Job A) (JobFault A) → JobValue → Type 0
+AnswersJob (Ok j) job = job_value j ≡ job
+AnswersJob (Err e) job = IsNone (refusal_of e)

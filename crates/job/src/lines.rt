@@ -192,7 +192,9 @@ fn add_parameter<A: Allocator + Copy>(
         return Err(repeated_name(alloc, name));
     }
     if draft.parameters.as_slice().len() >= limits.parameters {
-        return Err(JobFault::Range { key: Key::Parameter });
+        return Err(JobFault::Range {
+            key: Key::Parameter,
+        });
     }
     let name = Vec::from_slice(alloc, name)?;
     draft.parameters.push(name)?;

@@ -123,7 +123,10 @@ pub fn mass(word: &[u8]) -> Result<u32, NumFault>
 }
 
 /// The text's words, each a numeral with or without a minus; a malformed one comes before one that is out of range.
-pub fn values<A: Allocator>(alloc: A, text: &[u8]) -> Result<Result<Vec<Fx, A>, NumFault>, AllocError>
+pub fn values<A: Allocator>(
+    alloc: A,
+    text: &[u8],
+) -> Result<Result<Vec<Fx, A>, NumFault>, AllocError>
     ensures { HasRead (λ v. v.items) result (values_of (words text.now)) }
 {
     let mut values = Vec::new(alloc);

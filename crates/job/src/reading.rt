@@ -1,11 +1,12 @@
 //! Reading a job's text.
 
-ghost use Rattle.std.specs.Prelude.{◌≡◌, ◌+◌, ◌<◌, ◌≤◌, ◌<ℤ◌, ◌^◌, ℕ, length, map, option_map, IfOk, IfSome};
+ghost use Rattle.std.specs.Prelude.{◌≡◌, ◌+◌, ◌<◌, ◌≤◌, ◌<ℤ◌, ◌^◌, ℕ, length, map, option_map, position, bytes_eq, IfOk, IfSome};
+ghost use Rattle.line_text.specs.Names.{name_text};
 ghost use Rattle.std.specs.List.{All};
 ghost use Rattle.std.specs.Option.{unwrap_or};
-ghost use Rattle.job.specs.Words.{more_lines};
-ghost use Rattle.job.specs.Drafts.{nothing, lines_into};
-ghost use Rattle.job.specs.JobText.{needed, ordered, whole_types, job_from, reading_of};
+ghost use Rattle.job.specs.Words.{lines_of, more_lines};
+ghost use Rattle.job.specs.Drafts.{nothing, lines_into, lines_job};
+ghost use Rattle.job.specs.JobText.{header, needed, ordered, whole_types, job_from};
 ghost use Rattle.job.specs.Views.{said_of, counts_of, type_line, type_value, job_value, Gives};
 
 use crate::drafts::{Draft, TypeLine};
@@ -16,6 +17,13 @@ use crate::lines::take_line;
 use crate::words::next_line;
 use fixed::Fx;
 use std::alloc::{AllocError, Allocator};
+
+/// How many parameters, globals and types a job may have for now; at last 8, 16 and 64.
+const STAGE: Limits = Limits {
+    parameters: 0,
+    globals: 0,
+    types: 1,
+};
 
 /// The number of slices of a job that names none.
 const SLICES: u32 = 64;
@@ -140,14 +148,62 @@ fn finish<A: Allocator + Copy>(alloc: A, draft: Draft<A>) -> Result<Job<A>, JobF
     })
 }
 
-impl<A: Allocator + Copy> Job<A> {
-    /// Reads a job's text.
-    pub fn read(_alloc: A, _bytes: &[u8]) -> Result<Job<A>, JobFault<A>> {
-        Err(JobFault::Missing { key: Key::Energy })
-    }
+fn place_of<A: Allocator>(types: &[AtomType<A>], name: &[u8]) -> Option<usize>
+    ensures place { result ≡ position (λ t. bytes_eq (name_text t.name) name.now) types.now }
+    ensures within { IfSome result (λ i. i < length types.now) }
+{
+    types.iter().position(|t| t.name.as_bytes() == name)
+}
 
-    /// The index of the type of this name, None where there is none.
-    pub fn type_of(&self, _name: &[u8]) -> Option<u32> {
-        None
+fn is_header(line: &[u8]) -> bool
+    ensures { result ≡ bytes_eq line.now header }
+{
+    line == b"pairmd job 1".as_slice()
+}
+
+fn read_within<A: Allocator + Copy>(
+    alloc: A,
+    limits: &Limits,
+    bytes: &[u8],
+) -> Result<Job<A>, JobFault<A>>
+    ensures { Gives job_value result (lines_job (counts_of limits.now) (lines_of bytes.now)) }
+{
+    let (first, rest) = next_line(bytes);
+    if !is_header(first) {
+        return Err(JobFault::BadLine { line: 1 });
+    }
+    let draft = take_lines(alloc, limits, rest)?;
+    finish(alloc, draft)
+}
+
+impl<A: Allocator + Copy> Job<A> {
+    ghost use Rattle.job.specs.JobText.{IsJobText, reading_of, stage};
+    ghost use Rattle.job.specs.Values.{JobValue};
+    ghost use Rattle.job.specs.Views.{job_value, Gives, AnswersJob};
+
+    /// Reads a job's text.
+    ///
+    /// The first line is `pairmd job 1`. Below it, lines that are blank or begin with `#` are skipped, and the others begin with a key, in any order: `energy TEXT`, `core X`, `cutoff X` and `dt N` once, `slices N` at most once, and `parameter NAME`, `global NAME X` and `type NAME MASS X..`, of which a job may have none, none and one for now. Words are separated by spaces or tabs, and lines end with a line feed, before which one carriage return may stand.
+    ///
+    /// The first fault is the answer. Lines are judged from the top, and on each `BadLine` where it is malformed, `Repeated` or `RepeatedName` where a line above has its key or its name, `RepeatedType` where a type above has its name, and `Range` where a number is out of its range or the line is one too many. Then come `Missing` for `energy`, `core`, `cutoff` and `dt` in this order, `Range` where the cutoff isn't more than the core, and `BadLine` for the first type with another number of values than there are parameters. `Memory` comes only where a growth was refused.
+    pub fn read(alloc: A, bytes: &[u8]) -> Result<Job<A>, JobFault<A>>
+        ensures exact { Gives job_value result (reading_of stage bytes.now) }
+        ensures job { IfOk result (λ job. IsJobText stage bytes.now (job_value job)) }
+        ensures only { (job : JobValue) → IsJobText stage bytes.now job → AnswersJob result job }
+    {
+        read_within(alloc, &STAGE, bytes)
+    }
+}
+
+impl<A: Allocator> Job<A> {
+    /// The index of the type of this name, or None where no type has it.
+    pub fn type_of(&self, name: &[u8]) -> Option<u32>
+        ensures place { result ≡ position (λ t. bytes_eq (name_text t.name) name.now) self.now.types.items }
+        ensures within { IfSome result (λ i. i < length self.now.types.items) }
+    {
+        match place_of(self.types.as_slice(), name) {
+            Some(place) => Some(place as u32),
+            None => None,
+        }
     }
 }
