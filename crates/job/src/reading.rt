@@ -207,3 +207,6 @@ impl<A: Allocator> Job<A> {
         }
     }
 }
+
+#[cfg(test)]
+mod tests;
