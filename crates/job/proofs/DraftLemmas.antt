@@ -1,8 +1,8 @@
 -- What the next line of a key that many lines may have adds.
-use Rattle.std.proofs.Common.{◌≡◌, ℕ, ◌<◌, ◌≤◌, ◌+◌, ℤ, Bool, true, false, List, [], ◌∷◌, ◌++◌, length, map, Option, Some, None, Result, Ok, Err, IfSome, nat_lt, refl, sym, ap, ◌∙◌, arith, lt-ltb, le-ltb}
-use Rattle.std.proofs.lemmas.List.{map-append, length-map}
+use Rattle.std.proofs.Common.{◌≡◌, ℕ, ◌<◌, ◌≤◌, ℤ, true, false, List, [], ◌∷◌, ◌++◌, length, map, Option, Some, None, Result, Ok, Err, IfSome, refl, sym, ap, ◌∙◌, lt-ltb, le-ltb}
+use Rattle.std.proofs.lemmas.List.{map-append}
 use Rattle.job.specs.declared.faults.Key.TheVariants as keys
-use Rattle.job.specs.Values.{GlobalValue, TypeValue, Counts}
+use Rattle.job.specs.Values.{GlobalValue, Counts}
 use Rattle.job.specs.Faults.{Refusal, repeated_name, repeated_type, out_of_range, TypeLine, Said, knows}
 use Rattle.job.specs.Drafts.{parameter_new, global_new, type_new}
 

@@ -1,8 +1,8 @@
 -- What the forms of names allow.
-use Rattle.std.proofs.Common.{◌≡◌, ℕ, zero, suc, nat_le, ◌<◌, ◌≤◌, Bool, true, false, ◌&&◌, ◌||◌, List, Some, None, not, get_or, ◌==◌, ◌-◌, [], ◌∷◌, length, map, IsAscii, bytes_eq, refl, ap, sym, ◌∙◌, arith}
+use Rattle.std.proofs.Common.{◌≡◌, ℕ, zero, suc, nat_le, ◌<◌, ◌≤◌, Bool, true, ◌&&◌, ◌||◌, List, Some, None, not, get_or, ◌==◌, ◌-◌, [], ◌∷◌, length, map, IsAscii, bytes_eq, refl, ap, sym, ◌∙◌, arith}
 use Rattle.std.proofs.lemmas.Bool.{and_parts, and_from, or_right, cond-true, leb-true, le-leb, ne_eqb}
 use Rattle.std.proofs.lemmas.List.Sums.{AllPass-from_list_all, list_all-from_AllPass}
-use Rattle.std.specs.List.{All, list_all, list_any}
+use Rattle.std.specs.List.{list_all, list_any}
 use Rattle.line_text.specs.Parts.{name_of, is_name, is_printable, has_clean_ends}
 use Rattle.job.specs.Forms.{is_letter, is_name_byte, is_graphic, is_identifier, is_type_name}
 use Rattle.job.specs.Faults.{knows}

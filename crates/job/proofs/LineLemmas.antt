@@ -1,5 +1,5 @@
 -- Lines, one after another.
-use Rattle.std.proofs.Common.{◌≡◌, ℕ, ◌+◌, List, [], ◌∷◌, length, Option, Some, None, Result, Ok, Err, IfSome, ◌<◌, ◌≤◌, option_map, arith, refl, sym, ap, ◌∙◌}
+use Rattle.std.proofs.Common.{◌≡◌, ℕ, ◌+◌, List, [], ◌∷◌, length, Option, Some, None, Result, Ok, Err, IfSome, ◌<◌, ◌≤◌, option_map, arith, sym, ap, ◌∙◌}
 use Rattle.job.specs.Faults.{Refusal, Said}
 use Rattle.job.specs.JobText.{◌>>=◌}
 use Rattle.job.specs.Values.{Counts}

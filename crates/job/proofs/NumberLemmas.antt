@@ -1,5 +1,5 @@
 -- What numerals, whole numbers and masses are read as.
-use Rattle.std.proofs.Common.{◌≡◌, ℕ, ◌+◌, ◌-◌, ◌*◌, ◌^◌, ◌<◌, ◌≤◌, ◌≤ℤ◌, ℤ, pos, negsuc, Bool, true, false, cond, min, List, [], ◌∷◌, ◌++◌, length, drop, get_or, Option, Some, None, Result, Ok, Err, IfOk, option_map, refl, sym, ap, subst, ◌∙◌, arith, append-nil, append_assoc, inl, inr, add-one, drop-cons}
+use Rattle.std.proofs.Common.{◌≡◌, ℕ, ◌+◌, ◌-◌, ◌*◌, ◌^◌, ◌<◌, ◌≤◌, ◌≤ℤ◌, ℤ, pos, negsuc, Bool, true, false, cond, min, List, [], ◌∷◌, ◌++◌, length, drop, get_or, Option, Some, None, Ok, Err, IfOk, option_map, refl, sym, ap, ◌∙◌, arith, append-nil, append_assoc, inl, inr, add-one, drop-cons}
 use Rattle.std.specs.List.{AllPass, list_all}
 use Rattle.std.specs.Char.{is_ascii_digit, digit_value}
 use Rattle.std.specs.Str.Parse.{digits_value, digits_value_after}
@@ -11,7 +11,7 @@ use Rattle.std.proofs.lemmas.List.Sums.{AllPass-from_list_all}
 use Rattle.std.proofs.Math.Nat.{pow-suc, pow-le-pow_right}
 use Rattle.fixed.specs.declared.faults.NumFault.{NumFault}
 use Rattle.fixed.specs.declared.faults.NumFault.TheVariants.{BadNumber, NumberRange}
-use Rattle.fixed.specs.Numerals.{IsReading, fixed_of, mantissa_of, power_of_ten, numeral_text}
+use Rattle.fixed.specs.Numerals.{IsReading, fixed_of}
 use Rattle.fixed.specs.NumeralParts.{decimal_of}
 use Rattle.fixed.proofs.NumeralLemmas.{sound, complete}
 use Rattle.job.specs.Numbers.{Reading, ◌>>=◌, both, or_malformed, numeral_of, signed_of, values_of, within, mass_from, is_whole}

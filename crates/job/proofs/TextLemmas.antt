@@ -1,14 +1,13 @@
 -- What is read from a text is its job, and a text of a job is read as that job.
-use Rattle.std.proofs.Common.{◌≡◌, ℕ, ℤ, ◌+◌, ◌<ℤ◌, int_lt, Bool, true, false, T, List, [], ◌∷◌, ◌++◌, length, map, Option, Some, None, Result, Ok, Err, IfOk, IfSome, IsNone, All, bytes_eq, refl, sym, ap, subst, ◌∙◌, arith, append_assoc, append-nil, eqb, eq-eqb, eqb-true, if◌then◌else◌}
+use Rattle.std.proofs.Common.{◌≡◌, ℕ, ℤ, int_lt, Bool, true, false, T, List, [], ◌∷◌, ◌++◌, length, map, Option, Some, None, Result, Ok, Err, IfOk, IfSome, IsNone, All, bytes_eq, refl, sym, ap, subst, ◌∙◌, append_assoc, append-nil, eqb, eq-eqb, eqb-true, if◌then◌else◌}
 use Rattle.std.specs.Option.{unwrap_or}
-use Rattle.std.proofs.lemmas.Bool.{cases_Bool}
 use Rattle.std.proofs.lemmas.List.Elements.{All-nil, All-cons, All-head, All-tail}
 use Rattle.std.proofs.lemmas.Slice.Eq.{bytes_eq-Decides}
 use Rattle.job.specs.declared.faults.Key.{Key}
 use Rattle.job.specs.declared.faults.Key.TheVariants as keys
 use Rattle.job.specs.Words.{lines_of}
 use Rattle.job.specs.Faults.{Refusal, bad_line, out_of_range, TypeLine, Said, summary, line_fault, or_else, first_fault}
-use Rattle.job.specs.JobText.{◌>>=◌, header, IsFaultless, IsJobText, Tells, needed, ordered, whole_types, job_from, unless, lines_reading, reading_of}
+use Rattle.job.specs.JobText.{◌>>=◌, header, IsJobText, Tells, needed, ordered, whole_types, job_from, unless, lines_reading, reading_of}
 use Rattle.job.specs.Values.{TypeValue, JobValue, Counts}
 use Rattle.job.specs.declared.jobs.Job.{Job}
 use Rattle.job.specs.declared.faults.JobFault.{JobFault}

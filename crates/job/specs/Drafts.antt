@@ -1,5 +1,5 @@
 -- Reading line by line: each line adds to what was said so far, or is the first fault.
-use Rattle.std.specs.Prelude.{ℕ, ℤ, Bool, List, [], ◌∷◌, ◌++◌, ◌+◌, length, map, Option, Some, None, Result, Ok, Err, ◌==◌, nat_lt, slice_index, bytes_eq, if◌then◌else◌}
+use Rattle.std.specs.Prelude.{ℕ, ℤ, List, [], ◌∷◌, ◌++◌, ◌+◌, length, map, Option, Some, None, Result, Ok, Err, ◌==◌, nat_lt, slice_index, bytes_eq, if◌then◌else◌}
 use Rattle.fixed.specs.declared.faults.NumFault.TheVariants.{BadNumber, NumberRange}
 use Rattle.job.specs.declared.faults.Key.{Key}
 use Rattle.job.specs.declared.faults.Key.TheVariants as keys
@@ -7,8 +7,8 @@ use Rattle.job.specs.Forms.{is_identifier, is_type_name}
 use Rattle.job.specs.Words.{words, without_blanks, after_word}
 use Rattle.job.specs.Numbers.{Reading, both, only, alone, numeral_of, signed_of, values_of, cutoff_of, whole_of, mass_of}
 use Rattle.job.specs.Statements.{well_formed, key_of}
-use Rattle.job.specs.Values.{GlobalValue, TypeValue, JobValue, Counts}
-use Rattle.job.specs.Faults.{Refusal, bad_line, repeated, repeated_name, out_of_range, repeated_type, TypeLine, Said, knows}
+use Rattle.job.specs.Values.{JobValue, Counts}
+use Rattle.job.specs.Faults.{Refusal, bad_line, repeated, repeated_name, out_of_range, repeated_type, Said, knows}
 use Rattle.job.specs.JobText.{◌>>=◌, header, job_from}
 
 -- the number of a key that one line may have

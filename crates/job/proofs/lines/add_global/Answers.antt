@@ -1,8 +1,5 @@
-use Rattle.std.proofs.Common.{◌≡◌, ◌≤◌, ◌<◌, ap, arith, sym, ◌∙◌, List, [], ◌∷◌, ℕ, length, map, length-append}
-use Rattle.std.proofs.Common.{false}
+use Rattle.std.proofs.Common.{ap, arith, ◌∙◌, List, ℕ, length}
 use Rattle.std.proofs.lemmas.List.{length-map}
-use Rattle.job.specs.Faults.{knows}
-use Rattle.job.specs.declared.jobs.Global.{Global}
 use Rattle.job.specs.Values.{GlobalValue}
 use Rattle.job.specs.Drafts.{global_new}
 use Rattle.job.specs.Views.{said_of, counts_of, refusal_of, global_value}

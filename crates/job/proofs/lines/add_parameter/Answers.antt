@@ -1,4 +1,4 @@
-use Rattle.std.proofs.Common.{◌≡◌, ◌≤◌, ◌<◌, ap, arith, subst, sym, IsTrue, Vec, List, ℕ, map, length, length-append, [], ◌∷◌}
+use Rattle.std.proofs.Common.{◌<◌, ap, arith, subst, sym, IsTrue, Vec, List, ℕ, length, length-append, [], ◌∷◌}
 use Rattle.std.proofs.lemmas.List.{length-map}
 use Rattle.std.proofs.lemmas.List.Elements.{All-same, All-push}
 use Rattle.job.specs.Forms.{is_identifier}

@@ -1,4 +1,4 @@
-use Rattle.std.proofs.Common.{◌≡◌, ◌≤◌, ◌<◌, ap, arith, sym, ◌∙◌, List, [], ◌∷◌, ℕ, ℤ, Option, Some, length, map, option_map, length-append}
+use Rattle.std.proofs.Common.{ap, arith, ◌∙◌, List, ℕ, length, option_map}
 use Rattle.std.proofs.lemmas.List.{length-map}
 use Rattle.job.specs.Faults.{TypeLine}
 use Rattle.job.specs.Drafts.{type_new}

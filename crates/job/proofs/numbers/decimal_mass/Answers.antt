@@ -1,4 +1,4 @@
-use Rattle.std.proofs.Common.{◌≡◌, ◌+◌, ◌*◌, sym, ◌∙◌, arith}
+use Rattle.std.proofs.Common.{◌≡◌, ◌+◌, ◌*◌, sym, ◌∙◌}
 use Rattle.job.specs.Numbers.{within, mass_from}
 use Rattle.job.proofs.NumberLemmas.{mass_is, within_in, within_low, within_out}
 use Rattle.job.proofs.numbers.decimal_mass.Goals as goal

@@ -1,4 +1,4 @@
-use Rattle.std.proofs.Common.{◌≡◌, length, ap, sym, ◌∙◌, arith, ℕ, ◌≤◌, ◌<◌}
+use Rattle.std.proofs.Common.{◌≡◌, length, ap, sym, ◌∙◌, arith}
 use Rattle.std.proofs.lemmas.List.Elements.{AllWithin-more, AllWithin-upto, at_read}
 use Rattle.job.specs.declared.drafts.TypeLine.{TypeLine}
 use Rattle.job.specs.Views.{type_line}

@@ -1,7 +1,7 @@
-use Rattle.std.proofs.Common.{◌≡◌, ◌+◌, ◌<◌, ◌≤◌, ◌^◌, ℕ, List, Option, Bor, Some, option_map, length, sym, ap, subst, ◌∙◌, arith, lit<}
+use Rattle.std.proofs.Common.{◌≡◌, ◌+◌, ◌<◌, ◌^◌, ℕ, List, Option, Bor, option_map, length, sym, ap, ◌∙◌, arith, lit<}
 use Rattle.std.proofs.lemmas.Result.{err_from_is_err_and}
 use Rattle.job.specs.Words.{more_lines}
-use Rattle.job.specs.Drafts.{nothing, lines_into}
+use Rattle.job.specs.Drafts.{lines_into}
 use Rattle.job.specs.Views.{said_of, counts_of, refusal_of}
 use Rattle.job.proofs.LineLemmas.{size, size_left, size_within, lines_step, lines_fault, lines_end}
 use Rattle.job.proofs.reading.take_lines.Goals as goal

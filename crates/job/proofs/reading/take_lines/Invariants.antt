@@ -1,4 +1,4 @@
-use Rattle.std.proofs.Common.{◌≡◌, ◌+◌, ◌≤◌, length, option_map}
+use Rattle.std.proofs.Common.{◌≡◌, ◌+◌, ◌≤◌, option_map}
 use Rattle.job.specs.Words.{more_lines}
 use Rattle.job.specs.Drafts.{nothing, lines_into}
 use Rattle.job.specs.Views.{said_of, counts_of}

@@ -1,4 +1,4 @@
-use Rattle.std.proofs.Common.{arith, ◌≡◌, sym, ap, ◌∙◌, ◌∷◌}
+use Rattle.std.proofs.Common.{arith, sym, ap, ◌∙◌, ◌∷◌}
 use Rattle.job.specs.Words.{lines_of}
 use Rattle.job.proofs.WordLemmas.{lines_cut, lines_whole, cut_shorter}
 use Rattle.job.proofs.words.next_line.Goals as goal

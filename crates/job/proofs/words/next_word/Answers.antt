@@ -1,4 +1,4 @@
-use Rattle.std.proofs.Common.{◌≡◌, length, arith, sym, ◌∙◌, eqb-true}
+use Rattle.std.proofs.Common.{arith, sym, ◌∙◌, eqb-true}
 use Rattle.std.proofs.lemmas.Bool.{eqb-false}
 use Rattle.job.proofs.WordLemmas.{words_none, words_some}
 use Rattle.job.proofs.words.next_word.Goals as goal
