@@ -24,7 +24,7 @@ abbrev or_first : {X : Type 0} → Option X → Option X → Option X
 or_first o None = o
 or_first o (Some x) = kept_first o x
 
-abbrev and_one : {X : Type 0} → List X → Option X → List X
+abbrev pub and_one : {X : Type 0} → List X → Option X → List X
 and_one xs None = xs
 and_one xs (Some x) = xs ++ x ∷ []
 
@@ -49,7 +49,7 @@ cons_one {Y = Y} h xs (Some x) = at (h x)
     at None = append-nil xs
     at (Some y) = refl
 
-said_more : {Y : Type 0} (h : Statement → Option Y) (lines : List (List ℕ)) (line : List ℕ)
+pub said_more : {Y : Type 0} (h : Statement → Option Y) (lines : List (List ℕ)) (line : List ℕ)
     → filter_map h (filter_map entry_of (lines ++ line ∷ [])) ≡ and_one (filter_map h (filter_map entry_of lines)) (option_and_then h (entry_of line))
 said_more h lines line =
     ap (filter_map h) (filter_map-append entry_of lines (line ∷ []))

@@ -7,3 +7,4 @@ pub mod CountLemmas
 pub mod ViewLemmas
 pub mod FaultLemmas
 pub mod TextLemmas
+pub mod OnceLemmas

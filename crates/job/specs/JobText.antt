@@ -1,10 +1,11 @@
 -- Which text is which job's, and the first fault of a text that is no job's.
-use Rattle.std.specs.Prelude.{◌≡◌, ℕ, ℤ, List, [], ◌∷◌, ◌++◌, length, map, Option, Some, None, Result, Ok, Err, ◌==◌, ◌<ℤ◌, int_lt, codes, bytes_eq, All, if◌then◌else◌}
+use Rattle.std.specs.Prelude.{◌≡◌, ℕ, ℤ, List, [], ◌∷◌, ◌++◌, length, map, filter_map, ◌≤◌, Option, Some, None, Result, Ok, Err, ◌==◌, ◌<ℤ◌, int_lt, codes, bytes_eq, All, if◌then◌else◌}
 use Rattle.std.specs.Option.{unwrap_or}
 use Rattle.job.specs.declared.faults.Key.{Key}
 use Rattle.job.specs.declared.faults.Key.TheVariants as keys
 use Rattle.job.specs.Words.{lines_of}
-use Rattle.job.specs.Faults.{Refusal, bad_line, missing, out_of_range, TypeLine, Said, summary, line_fault, first_fault}
+use Rattle.job.specs.Statements.{Statement, entry_of}
+use Rattle.job.specs.Faults.{Refusal, bad_line, missing, out_of_range, TypeLine, Said, energy_in, core_in, cutoff_in, time_step_in, slices_in, summary, line_fault, first_fault}
 use Rattle.job.specs.Values.{TypeValue, JobValue, Counts}
 
 infixl 10 ◌>>=◌
@@ -40,6 +41,24 @@ pub record IsJobText (most : Counts) (text : List ℕ) (job : JobValue) : Type 0
   pub first_line : lines_of text ≡ header ∷ lines
   pub faultless : IsFaultless most lines
   pub tells : Tells (summary lines) job
+
+-- ---- each key once
+
+-- how many lines say this
+abbrev pub times_said : {X : Type 0} → (Statement → Option X) → List (List ℕ) → ℕ
+times_said part lines = length (filter_map part (filter_map entry_of lines))
+
+abbrev pub below_first : List (List ℕ) → List (List ℕ)
+below_first [] = []
+below_first (line ∷ lines) = lines
+
+-- the lines below the first have each key that a job needs once, and `slices` at most once
+pub record HasKeysOnce (lines : List (List ℕ)) : Type 0 where
+  pub energy : times_said energy_in lines ≡ 1
+  pub core : times_said core_in lines ≡ 1
+  pub cutoff : times_said cutoff_in lines ≡ 1
+  pub time_step : times_said time_step_in lines ≡ 1
+  pub slices : times_said slices_in lines ≤ 1
 
 -- ---- the first fault of a text, or its job
 

@@ -1,4 +1,5 @@
 use Rattle.job.specs.JobText.{stage}
+use Rattle.job.proofs.OnceLemmas.{given_once}
 use Rattle.job.proofs.TextLemmas.{given, given_job, given_only}
 use Rattle.job.proofs.jobs.Job.read.Goals as goal
 
@@ -10,3 +11,7 @@ returns-clause-job g c = given_job stage c.args.bytes.now c.read_within.result (
 
 pub returns-clause-only : goal.returns-clause-only
 returns-clause-only g c = given_only stage c.args.bytes.now c.read_within.result (given stage c.args.bytes.now c.read_within.result c.read_within.ensures)
+
+pub returns-clause-once : goal.returns-clause-once
+returns-clause-once g c =
+    given_once stage c.args.bytes.now c.read_within.result (given_job stage c.args.bytes.now c.read_within.result (given stage c.args.bytes.now c.read_within.result c.read_within.ensures))
