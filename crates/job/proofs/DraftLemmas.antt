@@ -1,0 +1,60 @@
+-- What the next line of a key that many lines may have adds.
+use Rattle.std.proofs.Common.{◌≡◌, ℕ, ◌<◌, ◌≤◌, ℤ, true, false, List, [], ◌∷◌, ◌++◌, length, map, Option, Some, None, Result, Ok, Err, IfSome, refl, sym, ap, ◌∙◌, lt-ltb, le-ltb}
+use Rattle.std.proofs.lemmas.List.{map-append}
+use Rattle.job.specs.declared.faults.Key.TheVariants as keys
+use Rattle.job.specs.Values.{GlobalValue, Counts}
+use Rattle.job.specs.Faults.{Refusal, repeated_name, repeated_type, out_of_range, TypeLine, Said, knows}
+use Rattle.job.specs.Drafts.{parameter_new, global_new, type_new}
+
+-- a refusal of this fault
+pub refused : {X : Type 0} (o : Option Refusal) (fault : Refusal) (r : Result X Refusal) → IfSome o (λ f. f ≡ fault) → r ≡ Err fault → IfSome o (λ f. r ≡ Err f)
+refused None fault r h e = tt
+refused (Some f) fault r h e = e ∙ ap (λ (x : Refusal). Err x) (sym h)
+
+pub pushed : {X Y : Type 0} (view : X → Y) (xs ys : List X) (x : X) (y : Y) → ys ≡ xs ++ x ∷ [] → view x ≡ y → map view ys ≡ map view xs ++ y ∷ []
+pushed view xs ys x y e v = ap (map view) e ∙ map-append view xs (x ∷ []) ∙ ap (λ z. map view xs ++ z ∷ []) v
+
+pub parameter_known : (most : Counts) (s : Said) (name : List ℕ) → knows s.parameters name ≡ true → parameter_new most s name ≡ Err (repeated_name name)
+parameter_known most s name k = rw k refl
+
+pub parameter_full : (most : Counts) (s : Said) (name : List ℕ) → knows s.parameters name ≡ false → most.parameters ≤ length s.parameters → parameter_new most s name ≡ Err (out_of_range keys.Parameter)
+parameter_full most s name k le = rw (k, le-ltb (length s.parameters) most.parameters le) refl
+
+pub parameter_added : (most : Counts) (s : Said) (name : List ℕ) (ps : List (List ℕ)) → knows s.parameters name ≡ false → length s.parameters < most.parameters → ps ≡ s.parameters ++ name ∷ []
+    → parameter_new most s name ≡ Ok (record s { parameters = ps })
+parameter_added most s name ps k lt e = rw (k, lt-ltb (length s.parameters) most.parameters lt, e) refl
+
+pub global_known : (most : Counts) (s : Said) (name : List ℕ) (v : Option ℤ) → knows (map (λ g. g.name) s.globals) name ≡ true → global_new most s name v ≡ Err (repeated_name name)
+unfolding global_new
+global_known most s name v k = rw k refl
+
+pub global_out : (most : Counts) (s : Said) (name : List ℕ) → knows (map (λ g. g.name) s.globals) name ≡ false → global_new most s name None ≡ Err (out_of_range keys.Global)
+unfolding global_new
+global_out most s name k = rw k refl
+
+pub global_full : (most : Counts) (s : Said) (name : List ℕ) (v : ℤ) → knows (map (λ g. g.name) s.globals) name ≡ false → most.globals ≤ length s.globals → global_new most s name (Some v) ≡ Err (out_of_range keys.Global)
+unfolding global_new
+global_full most s name v k le = rw (k, le-ltb (length s.globals) most.globals le) refl
+
+pub global_added : (most : Counts) (s : Said) (name : List ℕ) (v : ℤ) (gs : List GlobalValue) → knows (map (λ g. g.name) s.globals) name ≡ false → length s.globals < most.globals
+    → gs ≡ s.globals ++ record { name = name; value = v } ∷ [] → global_new most s name (Some v) ≡ Ok (record s { globals = gs })
+unfolding global_new
+global_added most s name v gs k lt e = rw (k, lt-ltb (length s.globals) most.globals lt, e) refl
+
+pub type_known : (most : Counts) (n : ℕ) (s : Said) (name : List ℕ) (v : Option (ℕ × List ℤ)) → knows (map (λ t. t.value.name) s.types) name ≡ true → type_new most n s name v ≡ Err (repeated_type name)
+unfolding type_new
+type_known most n s name v k = rw k refl
+
+pub type_out : (most : Counts) (n : ℕ) (s : Said) (name : List ℕ) → knows (map (λ t. t.value.name) s.types) name ≡ false → type_new most n s name None ≡ Err (out_of_range keys.Types)
+unfolding type_new
+type_out most n s name k = rw k refl
+
+pub type_full : (most : Counts) (n : ℕ) (s : Said) (name : List ℕ) (v : ℕ × List ℤ) → knows (map (λ t. t.value.name) s.types) name ≡ false → most.types ≤ length s.types
+    → type_new most n s name (Some v) ≡ Err (out_of_range keys.Types)
+unfolding type_new
+type_full most n s name v k le = rw (k, le-ltb (length s.types) most.types le) refl
+
+pub type_added : (most : Counts) (n : ℕ) (s : Said) (name : List ℕ) (v : ℕ × List ℤ) (ts : List TypeLine) → knows (map (λ t. t.value.name) s.types) name ≡ false → length s.types < most.types
+    → ts ≡ s.types ++ record { line = n; value = record { name = name; mass = v.0; values = v.1 } } ∷ [] → type_new most n s name (Some v) ≡ Ok (record s { types = ts })
+unfolding type_new
+type_added most n s name v ts k lt e = rw (k, lt-ltb (length s.types) most.types lt, e) refl

@@ -1,0 +1,218 @@
+-- Reading line by line finds the first fault, or what all lines say.
+use Rattle.std.proofs.Common.{◌≡◌, ℕ, ℤ, ◌+◌, Bool, true, false, List, [], ◌∷◌, ◌++◌, length, Option, Some, None, Result, Ok, Err, filter_map, option_and_then, nat_lt, slice_index, ◌==◌, refl, sym, ap, subst, ◌∙◌, arith, append_assoc, append-nil, length-append, zero-add, option_map, map, if◌then◌else◌}
+use Rattle.std.specs.List.{cons_option}
+use Rattle.std.proofs.lemmas.List.Elements.{filter_map-append}
+use Rattle.fixed.specs.declared.faults.NumFault.TheVariants.{BadNumber, NumberRange}
+use Rattle.job.specs.declared.faults.Key.{Key}
+use Rattle.job.specs.declared.faults.Key.TheVariants as keys
+use Rattle.job.specs.Forms.{is_identifier, is_type_name}
+use Rattle.job.specs.Words.{words, without_blanks, after_word}
+use Rattle.job.specs.Numbers.{Reading, both, only, alone, numeral_of, signed_of, values_of, cutoff_of, whole_of, mass_of}
+use Rattle.job.specs.Values.{Counts}
+use Rattle.job.specs.Statements.{Statement, skipped, core_is, cutoff_is, time_step_is, slices_is, parameter_is, global_is, type_is, well_formed, energy_statement, parameter_statement, global_statement, type_statement, key_of, key_statement, words_statement, entry_of}
+use Rattle.job.specs.Faults.{Refusal, bad_line, repeated_name, out_of_range, repeated_type, Said, energy_in, core_in, cutoff_in, time_step_in, slices_in, parameter_in, global_in, type_in, first, type_lines, summary, once, knows, listed, entry_fault, line_fault, or_else, first_fault}
+use Rattle.job.specs.JobText.{◌>>=◌}
+use Rattle.job.specs.Drafts.{number_of, energy_new, energy_into, core_into, cutoff_into, time_step_into, slices_into, parameter_new, parameter_into, global_new, global_by, global_into, type_new, type_by, type_into, key_into, words_into, line_into, lines_into}
+
+-- ---- one more line
+
+abbrev kept_first : {X : Type 0} → Option X → X → Option X
+kept_first None x = Some x
+kept_first (Some y) x = Some y
+
+abbrev or_first : {X : Type 0} → Option X → Option X → Option X
+or_first o None = o
+or_first o (Some x) = kept_first o x
+
+abbrev pub and_one : {X : Type 0} → List X → Option X → List X
+and_one xs None = xs
+and_one xs (Some x) = xs ++ x ∷ []
+
+-- what lines have said, and one more
+abbrev joined : ℕ → Said → Option Statement → Said
+joined n s e = record {
+  energy = or_first s.energy (option_and_then energy_in e);
+  core = or_first s.core (option_and_then core_in e);
+  cutoff = or_first s.cutoff (option_and_then cutoff_in e);
+  time_step = or_first s.time_step (option_and_then time_step_in e);
+  slices = or_first s.slices (option_and_then slices_in e);
+  parameters = and_one s.parameters (option_and_then parameter_in e);
+  globals = and_one s.globals (option_and_then global_in e);
+  types = and_one s.types (type_in n e);
+}
+
+cons_one : {X Y : Type 0} (h : X → Option Y) (xs : List Y) (e : Option X) → xs ++ filter_map h (cons_option e []) ≡ and_one xs (option_and_then h e)
+cons_one h xs None = append-nil xs
+cons_one {Y = Y} h xs (Some x) = at (h x)
+  where
+    at : (o : Option Y) → xs ++ cons_option o [] ≡ and_one xs o
+    at None = append-nil xs
+    at (Some y) = refl
+
+pub said_more : {Y : Type 0} (h : Statement → Option Y) (lines : List (List ℕ)) (line : List ℕ)
+    → filter_map h (filter_map entry_of (lines ++ line ∷ [])) ≡ and_one (filter_map h (filter_map entry_of lines)) (option_and_then h (entry_of line))
+said_more h lines line =
+    ap (filter_map h) (filter_map-append entry_of lines (line ∷ []))
+    ∙ filter_map-append h (filter_map entry_of lines) (cons_option (entry_of line) [])
+    ∙ cons_one h (filter_map h (filter_map entry_of lines)) (entry_of line)
+
+first_more : {X : Type 0} (xs : List X) (o : Option X) → first (and_one xs o) ≡ or_first (first xs) o
+first_more xs None = refl
+first_more [] (Some x) = refl
+first_more (y ∷ ys) (Some x) = refl
+
+first_said : {Y : Type 0} (h : Statement → Option Y) (lines : List (List ℕ)) (line : List ℕ)
+    → first (filter_map h (filter_map entry_of (lines ++ line ∷ []))) ≡ or_first (first (filter_map h (filter_map entry_of lines))) (option_and_then h (entry_of line))
+first_said h lines line = ap first (said_more h lines line) ∙ first_more (filter_map h (filter_map entry_of lines)) (option_and_then h (entry_of line))
+
+one_only : {X : Type 0} (o : Option X) → cons_option o [] ≡ and_one [] o
+one_only None = refl
+one_only (Some x) = refl
+
+cons_and : {X : Type 0} (o p : Option X) (xs : List X) → cons_option o (and_one xs p) ≡ and_one (cons_option o xs) p
+cons_and None None xs = refl
+cons_and None (Some y) xs = refl
+cons_and (Some x) None xs = refl
+cons_and (Some x) (Some y) xs = refl
+
+types_more : (n m : ℕ) (lines : List (List ℕ)) (line : List ℕ) → m ≡ length lines + n → type_lines n (lines ++ line ∷ []) ≡ and_one (type_lines n lines) (type_in m (entry_of line))
+types_more n m [] line e =
+    subst (λ k. cons_option (type_in n (entry_of line)) [] ≡ and_one [] (type_in k (entry_of line))) (sym (e ∙ zero-add n)) (one_only (type_in n (entry_of line)))
+types_more n m (l ∷ lines) line e =
+    ap (cons_option (type_in n (entry_of l))) (types_more (n + 1) m lines line (omega arith)) ∙ cons_and (type_in n (entry_of l)) (type_in m (entry_of line)) (type_lines (n + 1) lines)
+
+summary_more : (lines : List (List ℕ)) (line : List ℕ) → summary (lines ++ line ∷ []) ≡ joined (length lines + 2) (summary lines) (entry_of line)
+unfolding summary
+summary_more lines line = rw (first_said energy_in lines line, first_said core_in lines line, first_said cutoff_in lines line, first_said time_step_in lines line, first_said slices_in lines line, said_more parameter_in lines line, said_more global_in lines line, types_more 2 (length lines + 2) lines line refl) refl
+
+-- ---- the outcome of a line
+
+abbrev pub outcome : Option Refusal → Said → Result Said Refusal
+outcome None s = Ok s
+outcome (Some fault) s = Err fault
+
+single_out : {X : Type 0} (n : ℕ) (key : Key) (old : Option X) (set : X → Said) (t : Said) → (number_of n key old (Err NumberRange) >>= λ v. Ok (set v)) ≡ outcome (once key old None) t
+single_out n key None set t = refl
+single_out n key (Some x) set t = refl
+
+single_in : {X : Type 0} (n : ℕ) (key : Key) (old : Option X) (v : X) (set : Option X → Said) → (number_of n key old (Ok v) >>= λ w. Ok (set (Some w))) ≡ outcome (once key old (Some v)) (set (kept_first old v))
+single_in n key None v set = refl
+single_in n key (Some x) v set = refl
+
+listed_is : (known fits : Bool) (repetition : Refusal) (key : Key) (t : Said)
+    → (if known then Err repetition else if fits then Ok t else Err (out_of_range key)) ≡ outcome (listed known repetition fits key) t
+listed_is true fits repetition key t = refl
+listed_is false true repetition key t = refl
+listed_is false false repetition key t = refl
+
+listed_out : (known : Bool) (repetition : Refusal) (key : Key) (t : Said) → (if known then Err repetition else Err (out_of_range key)) ≡ outcome (listed known repetition false key) t
+listed_out true repetition key t = refl
+listed_out false repetition key t = refl
+
+-- what a line adds, or its fault, by what it says
+abbrev result_of : Counts → ℕ → Said → Option Statement → Result Said Refusal
+result_of most n s e = outcome (entry_fault most n s e) (joined n s e)
+
+energy_case : (most : Counts) (n : ℕ) (s : Said) (text : List ℕ) → energy_into n s text ≡ result_of most n s (energy_statement text)
+energy_case most n s [] = refl
+energy_case most n s (b ∷ bs) = at s.energy
+  where
+    at : (old : Option (List ℕ)) → energy_new s old (b ∷ bs) ≡ outcome (once keys.Energy old (Some (b ∷ bs))) (record s { energy = kept_first old (b ∷ bs) })
+    at None = refl
+    at (Some x) = refl
+
+core_case : (most : Counts) (n : ℕ) (s : Said) (r : Reading ℤ) → core_into n s r ≡ result_of most n s (option_map core_is (well_formed r))
+core_case most n s (Err BadNumber) = refl
+core_case most n s (Err NumberRange) = single_out n keys.Core s.core (λ v. record s { core = Some v }) _
+core_case most n s (Ok v) = single_in n keys.Core s.core v (λ o. record s { core = o })
+
+cutoff_case : (most : Counts) (n : ℕ) (s : Said) (r : Reading ℤ) → cutoff_into n s r ≡ result_of most n s (option_map cutoff_is (well_formed r))
+cutoff_case most n s (Err BadNumber) = refl
+cutoff_case most n s (Err NumberRange) = single_out n keys.Cutoff s.cutoff (λ v. record s { cutoff = Some v }) _
+cutoff_case most n s (Ok v) = single_in n keys.Cutoff s.cutoff v (λ o. record s { cutoff = o })
+
+time_step_case : (most : Counts) (n : ℕ) (s : Said) (r : Reading ℕ) → time_step_into n s r ≡ result_of most n s (option_map time_step_is (well_formed r))
+time_step_case most n s (Err BadNumber) = refl
+time_step_case most n s (Err NumberRange) = single_out n keys.TimeStep s.time_step (λ v. record s { time_step = Some v }) _
+time_step_case most n s (Ok v) = single_in n keys.TimeStep s.time_step v (λ o. record s { time_step = o })
+
+slices_case : (most : Counts) (n : ℕ) (s : Said) (r : Reading ℕ) → slices_into n s r ≡ result_of most n s (option_map slices_is (well_formed r))
+slices_case most n s (Err BadNumber) = refl
+slices_case most n s (Err NumberRange) = single_out n keys.Slices s.slices (λ v. record s { slices = Some v }) _
+slices_case most n s (Ok v) = single_in n keys.Slices s.slices v (λ o. record s { slices = o })
+
+parameter_case : (most : Counts) (n : ℕ) (s : Said) (ws : List (List ℕ)) → parameter_into most n s (only ws) ≡ result_of most n s (parameter_statement ws)
+parameter_case most n s [] = refl
+parameter_case most n s (name ∷ w ∷ ws) = refl
+parameter_case most n s (name ∷ []) = at (is_identifier name)
+  where
+    at : (b : Bool) → (if b then parameter_new most s name else Err (bad_line n)) ≡ result_of most n s (if b then Some (parameter_is name) else None)
+    at false = refl
+    at true = listed_is (knows s.parameters name) (nat_lt (length s.parameters) most.parameters) (repeated_name name) keys.Parameter _
+
+global_case : (most : Counts) (n : ℕ) (s : Said) (ws : List (List ℕ)) → global_into most n s ws ≡ result_of most n s (global_statement ws)
+unfolding global_new
+global_case most n s [] = refl
+global_case most n s (name ∷ []) = refl
+global_case most n s (name ∷ x ∷ w ∷ ws) = refl
+global_case most n s (name ∷ x ∷ []) = at (is_identifier name) (well_formed (signed_of x))
+  where
+    at : (b : Bool) (o : Option (Option ℤ)) → (if b then global_by most n s name o else Err (bad_line n)) ≡ result_of most n s (if b then option_map (global_is name) o else None)
+    at false o = refl
+    at true None = refl
+    at true (Some None) = listed_out (knows (map (λ g. g.name) s.globals) name) (repeated_name name) keys.Global _
+    at true (Some (Some v)) = listed_is (knows (map (λ g. g.name) s.globals) name) (nat_lt (length s.globals) most.globals) (repeated_name name) keys.Global _
+
+type_case : (most : Counts) (n : ℕ) (s : Said) (ws : List (List ℕ)) → type_into most n s ws ≡ result_of most n s (type_statement ws)
+unfolding type_new
+type_case most n s [] = refl
+type_case most n s (name ∷ []) = refl
+type_case most n s (name ∷ mass ∷ values) = at (is_type_name name) (well_formed (both (mass_of mass) (values_of values)))
+  where
+    at : (b : Bool) (o : Option (Option (ℕ × List ℤ))) → (if b then type_by most n s name o else Err (bad_line n)) ≡ result_of most n s (if b then option_map (type_is name) o else None)
+    at false o = refl
+    at true None = refl
+    at true (Some None) = listed_out (knows (map (λ t. t.value.name) s.types) name) (repeated_type name) keys.Types _
+    at true (Some (Some v)) = listed_is (knows (map (λ t. t.value.name) s.types) name) (nat_lt (length s.types) most.types) (repeated_type name) keys.Types _
+
+key_case : (most : Counts) (n : ℕ) (s : Said) (key : Option Key) (text : List ℕ) → key_into most n s key text ≡ result_of most n s (key_statement key text)
+unfolding key_into
+key_case most n s None text = refl
+key_case most n s (Some keys.Energy) text = energy_case most n s (without_blanks text)
+key_case most n s (Some keys.Core) text = core_case most n s (alone numeral_of (words text))
+key_case most n s (Some keys.Cutoff) text = cutoff_case most n s (alone cutoff_of (words text))
+key_case most n s (Some keys.TimeStep) text = time_step_case most n s (alone (whole_of 1 1000) (words text))
+key_case most n s (Some keys.Slices) text = slices_case most n s (alone (whole_of 1 65536) (words text))
+key_case most n s (Some keys.Parameter) text = parameter_case most n s (words text)
+key_case most n s (Some keys.Global) text = global_case most n s (words text)
+key_case most n s (Some keys.Types) text = type_case most n s (words text)
+
+words_case : (most : Counts) (n : ℕ) (s : Said) (ws : List (List ℕ)) (text : List ℕ) → words_into most n s ws text ≡ result_of most n s (words_statement ws text)
+words_case most n s [] text = refl
+words_case most n s (word ∷ ws) text = key_case most n s (key_of word) text
+
+line_is : (most : Counts) (n : ℕ) (s : Said) (line : List ℕ) → line_into most n s line ≡ result_of most n s (entry_of line)
+unfolding line_into entry_of
+line_is most n s line = at (slice_index line 0 == 35)
+  where
+    at : (b : Bool) → (if b then Ok s else words_into most n s (words line) (after_word line)) ≡ result_of most n s (if b then Some skipped else words_statement (words line) (after_word line))
+    at true = refl
+    at false = words_case most n s (words line) (after_word line)
+
+-- ---- all lines
+
+line_below : (most : Counts) (above : List (List ℕ)) (line : List ℕ) → line_into most (length above + 2) (summary above) line ≡ outcome (line_fault most above line) (summary (above ++ line ∷ []))
+unfolding line_fault
+line_below most above line = line_is most (length above + 2) (summary above) line ∙ ap (outcome (entry_fault most (length above + 2) (summary above) (entry_of line))) (sym (summary_more above line))
+
+pub lines_below : (most : Counts) (above lines : List (List ℕ)) (n : ℕ) → n ≡ length above + 2 → lines_into most n (summary above) lines ≡ outcome (first_fault most above lines) (summary (above ++ lines))
+unfolding lines_into first_fault
+lines_below most above [] n e = ap (λ (ls : List (List ℕ)). Ok (summary ls)) (sym (append-nil above))
+lines_below most above (line ∷ lines) n e =
+    ap (λ k. line_into most k (summary above) line >>= λ t. lines_into most (n + 1) t lines) e ∙ ap (λ r. r >>= λ t. lines_into most (n + 1) t lines) (line_below most above line)
+    ∙ at (line_fault most above line) (lines_below most (above ++ line ∷ []) lines (n + 1) (omega (arith, length-append above (line ∷ []))))
+  where
+    at : (fault : Option Refusal) → lines_into most (n + 1) (summary (above ++ line ∷ [])) lines ≡ outcome (first_fault most (above ++ line ∷ []) lines) (summary ((above ++ line ∷ []) ++ lines))
+        → (outcome fault (summary (above ++ line ∷ [])) >>= λ t. lines_into most (n + 1) t lines) ≡ outcome (or_else fault (first_fault most (above ++ line ∷ []) lines)) (summary (above ++ line ∷ lines))
+    at (Some f) h = refl
+    at None h = h ∙ ap (λ (ls : List (List ℕ)). outcome (first_fault most (above ++ line ∷ []) lines) (summary ls)) (append_assoc above (line ∷ []) lines)

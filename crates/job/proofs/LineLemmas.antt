@@ -1,0 +1,34 @@
+-- Lines, one after another.
+use Rattle.std.proofs.Common.{◌≡◌, ℕ, ◌+◌, List, [], ◌∷◌, length, Option, Some, None, Result, Ok, Err, IfSome, ◌<◌, ◌≤◌, option_map, arith, sym, ap, ◌∙◌}
+use Rattle.job.specs.Faults.{Refusal, Said}
+use Rattle.job.specs.JobText.{◌>>=◌}
+use Rattle.job.specs.Values.{Counts}
+use Rattle.job.specs.Drafts.{line_into, lines_into}
+
+-- how much of a text is left
+abbrev pub size : Option (List ℕ) → ℕ
+size None = 0
+size (Some text) = 1 + length text
+
+pub lines_step : (most : Counts) (n : ℕ) (s t : Said) (line : List ℕ) (lines all : List (List ℕ)) (total : Result Said Refusal) → all ≡ line ∷ lines → line_into most n s line ≡ Ok t
+    → lines_into most n s all ≡ total → lines_into most (n + 1) t lines ≡ total
+unfolding lines_into
+lines_step most n s t line lines all total a e h = sym (ap (lines_into most n s) a ∙ ap (λ r. r >>= λ u. lines_into most (n + 1) u lines) e) ∙ h
+
+pub lines_fault : (most : Counts) (n : ℕ) (s : Said) (line : List ℕ) (lines all : List (List ℕ)) (total : Result Said Refusal) (fault : Option Refusal) → all ≡ line ∷ lines
+    → IfSome fault (λ f. line_into most n s line ≡ Err f) → lines_into most n s all ≡ total → IfSome fault (λ f. total ≡ Err f)
+unfolding lines_into
+lines_fault most n s line lines all total None a e h = tt
+lines_fault most n s line lines all total (Some f) a e h = sym h ∙ ap (lines_into most n s) a ∙ ap (λ r. r >>= λ u. lines_into most (n + 1) u lines) e
+
+pub lines_end : (most : Counts) (n : ℕ) (s : Said) (total : Result Said Refusal) → lines_into most n s [] ≡ total → total ≡ Ok s
+unfolding lines_into
+lines_end most n s total h = sym h
+
+pub size_left : {X : Type 0} (now : X → List ℕ) (rest : Option X) (line text : List ℕ) → IfSome rest (λ x. length line + length (now x) < length text) → size (option_map now rest) ≤ length text
+size_left now None line text h = omega arith
+size_left now (Some x) line text h = omega (arith, h)
+
+pub size_within : {X : Type 0} (now : X → List ℕ) (text : Option X) (most : ℕ) → IfSome text (λ x. length (now x) + 3 < most) → 3 < most → size (option_map now text) + 2 < most
+size_within now None most h lt = omega arith
+size_within now (Some x) most h lt = omega (arith, h)

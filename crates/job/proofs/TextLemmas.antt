@@ -1,0 +1,211 @@
+-- What is read from a text is its job, and a text of a job is read as that job.
+use Rattle.std.proofs.Common.{◌≡◌, ℕ, ℤ, int_lt, Bool, true, false, T, List, [], ◌∷◌, ◌++◌, length, map, Option, Some, None, Result, Ok, Err, IfOk, IfSome, IsNone, All, bytes_eq, refl, sym, ap, subst, ◌∙◌, append_assoc, append-nil, eqb, eq-eqb, eqb-true, if◌then◌else◌}
+use Rattle.std.specs.Option.{unwrap_or}
+use Rattle.std.proofs.lemmas.List.Elements.{All-nil, All-cons, All-head, All-tail}
+use Rattle.std.proofs.lemmas.Slice.Eq.{bytes_eq-Decides}
+use Rattle.job.specs.declared.faults.Key.{Key}
+use Rattle.job.specs.declared.faults.Key.TheVariants as keys
+use Rattle.job.specs.Words.{lines_of}
+use Rattle.job.specs.Faults.{Refusal, bad_line, out_of_range, TypeLine, Said, summary, line_fault, or_else, first_fault}
+use Rattle.job.specs.JobText.{◌>>=◌, header, IsJobText, Tells, needed, ordered, whole_types, job_from, unless, lines_reading, reading_of}
+use Rattle.job.specs.Values.{TypeValue, JobValue, Counts}
+use Rattle.job.specs.declared.jobs.Job.{Job}
+use Rattle.job.specs.declared.faults.JobFault.{JobFault}
+use Rattle.job.specs.Views.{job_value, refusal_of, Gives, AnswersJob}
+use Rattle.job.specs.Drafts.{nothing, lines_into, lines_job}
+use Rattle.job.proofs.FaultLemmas.{outcome, lines_below}
+
+-- ---- the reader, line by line
+
+job_after : (most : Counts) (lines : List (List ℕ)) → (lines_into most 2 nothing lines >>= job_from) ≡ unless (first_fault most [] lines) (job_from (summary lines))
+unfolding summary
+job_after most lines = ap (λ r. r >>= job_from) (lines_below most [] lines 2 refl) ∙ at (first_fault most [] lines)
+  where
+    at : (fault : Option Refusal) → (outcome fault (summary lines) >>= job_from) ≡ unless fault (job_from (summary lines))
+    at None = refl
+    at (Some f) = refl
+
+pub lines_job_is : (most : Counts) (lines : List (List ℕ)) → lines_job most lines ≡ lines_reading most lines
+lines_job_is most [] = refl
+lines_job_is most (line ∷ lines) = ap (λ r. if bytes_eq line header then r else Err (bad_line 1)) (job_after most lines)
+
+-- ---- lines without faults
+
+or_none : (a b : Option Refusal) → or_else a b ≡ None → (a ≡ None) × (b ≡ None)
+or_none None b e = (refl, e)
+or_none (Some f) b e = absurd cc
+
+faultless_from : (most : Counts) (above lines : List (List ℕ)) → first_fault most above lines ≡ None
+    → (front below : List (List ℕ)) (line : List ℕ) → lines ≡ front ++ line ∷ below → line_fault most (above ++ front) line ≡ None
+unfolding first_fault
+faultless_from most above [] h [] below line e = absurd cc
+faultless_from most above [] h (x ∷ front) below line e = absurd cc
+faultless_from most above (l ∷ ls) h [] below line e =
+    let same : l ≡ line = cc in
+    let p = or_none (line_fault most above l) (first_fault most (above ++ l ∷ []) ls) h in
+    ap (λ (z : List (List ℕ)). line_fault most z line) (append-nil above) ∙ ap (line_fault most above) (sym same) ∙ p.0
+faultless_from most above (l ∷ ls) h (x ∷ front) below line e =
+    let same : l ≡ x = cc in
+    let rest : ls ≡ front ++ line ∷ below = cc in
+    let p = or_none (line_fault most above l) (first_fault most (above ++ l ∷ []) ls) h in
+    ap (λ (z : List ℕ). line_fault most (above ++ z ∷ front) line) (sym same) ∙ ap (λ (z : List (List ℕ)). line_fault most z line) (sym (append_assoc above (l ∷ []) front))
+    ∙ faultless_from most (above ++ l ∷ []) ls p.1 front below line rest
+
+faultless_again : (most : Counts) (above lines : List (List ℕ)) → ((front below : List (List ℕ)) (line : List ℕ) → lines ≡ front ++ line ∷ below → line_fault most (above ++ front) line ≡ None)
+    → first_fault most above lines ≡ None
+unfolding first_fault
+faultless_again most above [] h = refl
+faultless_again most above (l ∷ ls) h =
+    let first : line_fault most above l ≡ None = ap (λ (z : List (List ℕ)). line_fault most z l) (sym (append-nil above)) ∙ h [] ls l refl in
+    let rest : first_fault most (above ++ l ∷ []) ls ≡ None = faultless_again most (above ++ l ∷ []) ls
+    (λ front below line e. ap (λ (z : List (List ℕ)). line_fault most z line) (append_assoc above (l ∷ []) front) ∙ h (l ∷ front) below line (ap (λ zs. l ∷ zs) e)) in
+    rw (first, rest) refl
+
+-- ---- the whole
+
+bind_ok : {X Y : Type 0} (r : Result X Refusal) (f : X → Result Y Refusal) (y : Y) → (r >>= f) ≡ Ok y → (x : X) × (r ≡ Ok x) × (f x ≡ Ok y)
+bind_ok (Ok x) f y e = (x, refl, e)
+bind_ok (Err d) f y e = absurd cc
+
+needed_ok : {X : Type 0} (key : Key) (o : Option X) (x : X) → needed key o ≡ Ok x → o ≡ Some x
+needed_ok key None x e = absurd cc
+needed_ok key (Some y) x e = cc
+
+below_is : (b : Bool) → b ≡ true → T b
+below_is true e = tt
+below_is false e = absurd cc
+
+is_below : (b : Bool) → T b → b ≡ true
+is_below true t = refl
+is_below false t = absurd t
+
+ordered_ok : (core cutoff z : ℤ) → ordered core cutoff ≡ Ok z → (cutoff ≡ z) × (int_lt core cutoff ≡ true)
+ordered_ok core cutoff z e = at (int_lt core cutoff) e
+  where
+    at : (b : Bool) → (if b then Ok cutoff else Err (out_of_range keys.Cutoff)) ≡ Ok z → (cutoff ≡ z) × (b ≡ true)
+    at true h = (cc, refl)
+    at false h = absurd cc
+
+whole_ok : (k : ℕ) (ts : List TypeLine) (us : List TypeValue) → whole_types k ts ≡ Ok us → (map (λ t. t.value) ts ≡ us) × All (λ u. length u.values ≡ k) us
+unfolding whole_types
+whole_ok k [] us e =
+    let none : [] ≡ us = cc in (none, subst (λ (z : List TypeValue). All (λ u. length u.values ≡ k) z) none (All-nil (λ u. length u.values ≡ k)))
+whole_ok k (t ∷ ts) us e = at (eqb (length t.value.values) k) (eqb-true (length t.value.values) k) (λ vs h. whole_ok k ts vs h) e
+  where
+    at : (b : Bool) → (b ≡ true → length t.value.values ≡ k) → ((vs : List TypeValue) → whole_types k ts ≡ Ok vs → (map (λ t. t.value) ts ≡ vs) × All (λ u. length u.values ≡ k) vs)
+        → (if b then (whole_types k ts >>= λ vs. Ok (t.value ∷ vs)) else Err (bad_line t.line)) ≡ Ok us → (t.value ∷ map (λ t. t.value) ts ≡ us) × All (λ u. length u.values ≡ k) us
+    at false count rest h = absurd cc
+    at true count rest h =
+        let p = bind_ok (whole_types k ts) (λ vs. Ok (t.value ∷ vs)) us h in
+        let q = rest p.0 p.1 in
+        let whole : t.value ∷ p.0 ≡ us = let last = p.2 in cc in
+        (ap (λ (vs : List TypeValue). t.value ∷ vs) q.0 ∙ whole, subst (λ (z : List TypeValue). All (λ u. length u.values ≡ k) z) whole (All-cons (λ u. length u.values ≡ k) t.value p.0 (count refl) q.1))
+
+whole_again : (k : ℕ) (ts : List TypeLine) → All (λ t. length t.values ≡ k) (map (λ t. t.value) ts) → whole_types k ts ≡ Ok (map (λ t. t.value) ts)
+unfolding whole_types
+whole_again k [] h = refl
+whole_again k (t ∷ ts) h =
+    rw (eq-eqb (length t.value.values) k (All-head (λ u. length u.values ≡ k) t.value (map (λ t. t.value) ts) h), whole_again k ts (All-tail (λ u. length u.values ≡ k) t.value (map (λ t. t.value) ts) h)) refl
+
+abbrev made : Said → List ℕ → ℤ → ℤ → ℕ → List TypeValue → JobValue
+made s energy core cutoff time_step types = record {
+  energy = energy;
+  core = core;
+  cutoff = cutoff;
+  time_step = time_step;
+  slices = unwrap_or s.slices 64;
+  parameters = s.parameters;
+  globals = s.globals;
+  types = types;
+}
+
+tells_made : (s : Said) (energy : List ℕ) (core longest : ℤ) (time_step : ℕ) (job : JobValue) → s.energy ≡ Some energy → s.core ≡ Some core → s.cutoff ≡ Some longest → s.time_step ≡ Some time_step
+    → (ordered core longest >>= λ cutoff. whole_types (length s.parameters) s.types >>= λ types. Ok (made s energy core cutoff time_step types)) ≡ Ok job → Tells s job
+tells_made s energy core longest time_step job e1 e2 e3 e4 h =
+    let o = bind_ok (ordered core longest) (λ cutoff. whole_types (length s.parameters) s.types >>= λ types. Ok (made s energy core cutoff time_step types)) job h in
+    let w = bind_ok (whole_types (length s.parameters) s.types) (λ types. Ok (made s energy core o.0 time_step types)) job o.2 in
+    let below = ordered_ok core longest o.0 o.1 in
+    let types = whole_ok (length s.parameters) s.types w.0 w.1 in
+    let same : made s energy core o.0 time_step w.0 ≡ job = let last = w.2 in cc in
+    subst (λ (j : JobValue). Tells s j) same (record {
+      energy = e1;
+      core = e2;
+      cutoff = e3 ∙ ap (λ (z : ℤ). Some z) below.0;
+      below_cutoff = record { lt = below_is (int_lt core o.0) (ap (int_lt core) (sym below.0) ∙ below.1) };
+      time_step = e4;
+      slices = refl;
+      parameters = refl;
+      globals = refl;
+      types = types.0;
+      whole = types.1;
+    })
+
+tells : (s : Said) (job : JobValue) → job_from s ≡ Ok job → Tells s job
+unfolding job_from
+tells s job e =
+    let a = bind_ok (needed keys.Energy s.energy) _ job e in
+    let b = bind_ok (needed keys.Core s.core) _ job a.2 in
+    let c = bind_ok (needed keys.Cutoff s.cutoff) _ job b.2 in
+    let d = bind_ok (needed keys.TimeStep s.time_step) _ job c.2 in
+    tells_made s a.0 b.0 c.0 d.0 job (needed_ok keys.Energy s.energy a.0 a.1) (needed_ok keys.Core s.core b.0 b.1) (needed_ok keys.Cutoff s.cutoff c.0 c.1) (needed_ok keys.TimeStep s.time_step d.0 d.1) d.2
+
+tells_again : (s : Said) (job : JobValue) → Tells s job → job_from s ≡ Ok job
+unfolding job_from
+tells_again s job m =
+    let whole : All (λ t. length t.values ≡ length s.parameters) (map (λ t. t.value) s.types) =
+    subst (λ (us : List TypeValue). All (λ t. length t.values ≡ length s.parameters) us) (sym m.types) (subst (λ (ps : List (List ℕ)). All (λ t. length t.values ≡ length ps) job.types) (sym m.parameters) m.whole) in
+    rw (m.energy, m.core, m.cutoff, m.time_step, is_below (int_lt job.core job.cutoff) m.below_cutoff.lt, whole_again (length s.parameters) s.types whole, m.slices, m.parameters, m.globals, m.types) refl
+
+same_header : (line : List ℕ) (most : Counts) (lines : List (List ℕ)) (job : JobValue) → lines_reading most (line ∷ lines) ≡ Ok job → (line ≡ header) × (first_fault most [] lines ≡ None) × (job_from (summary lines) ≡ Ok job)
+same_header line most lines job e = at (bytes_eq line header) (bytes_eq-Decides line header).0 (first_fault most [] lines) e
+  where
+    at : (b : Bool) → (b ≡ true → line ≡ header) → (fault : Option Refusal) → (if b then unless fault (job_from (summary lines)) else Err (bad_line 1)) ≡ Ok job → (line ≡ header) × (fault ≡ None) × (job_from (summary lines) ≡ Ok job)
+    at false is fault h = absurd cc
+    at true is (Some f) h = absurd cc
+    at true is None h = (is refl, refl, h)
+
+lines_ok : (most : Counts) (text : List ℕ) (job : JobValue) (all : List (List ℕ)) → lines_of text ≡ all → lines_reading most all ≡ Ok job → IsJobText most text job
+lines_ok most text job [] e h = absurd cc
+lines_ok most text job (line ∷ lines) e h =
+    let p = same_header line most lines job h in
+    record {
+      lines = lines;
+      first_line = e ∙ ap (λ l. l ∷ lines) p.0;
+      faultless = faultless_from most [] lines p.1;
+      tells = tells (summary lines) job p.2;
+    }
+
+pub reading_ok : (most : Counts) (text : List ℕ) (job : JobValue) → reading_of most text ≡ Ok job → IsJobText most text job
+unfolding reading_of
+reading_ok most text job e = lines_ok most text job (lines_of text) refl e
+
+pub reading_again : (most : Counts) (text : List ℕ) (job : JobValue) → IsJobText most text job → reading_of most text ≡ Ok job
+unfolding reading_of
+reading_again most text job r =
+    ap (lines_reading most) r.first_line ∙ ap (λ fault. unless fault (job_from (summary r.lines))) (faultless_again most [] r.lines r.faultless) ∙ tells_again (summary r.lines) job r.tells
+
+-- what a call gave, as the reading of its text
+pub lines_job_from : (most : Counts) (all lines : List (List ℕ)) (line : List ℕ) (s : Said) → all ≡ line ∷ lines → bytes_eq line header ≡ true → lines_into most 2 nothing lines ≡ Ok s → lines_job most all ≡ job_from s
+lines_job_from most all lines line s e h l = rw (e, h, l) refl
+
+pub lines_job_fault : (most : Counts) (all lines : List (List ℕ)) (line : List ℕ) (o : Option Refusal) → all ≡ line ∷ lines → bytes_eq line header ≡ true → IfSome o (λ f. lines_into most 2 nothing lines ≡ Err f)
+    → IfSome o (λ f. lines_job most all ≡ Err f)
+lines_job_fault most all lines line None e h l = tt
+lines_job_fault most all lines line (Some f) e h l = rw (e, h, l) refl
+
+pub given : {A : Type 0} (most : Counts) (text : List ℕ) (result : Result (Job A) (JobFault A)) → Gives job_value result (lines_job most (lines_of text)) → Gives job_value result (reading_of most text)
+unfolding reading_of
+given {A = A} most text result h = subst (λ (r : Result JobValue Refusal). Gives (job_value {A = A}) result r) (lines_job_is most (lines_of text)) h
+
+pub given_job : {A : Type 0} (most : Counts) (text : List ℕ) (result : Result (Job A) (JobFault A)) → Gives job_value result (reading_of most text) → IfOk result (λ job. IsJobText most text (job_value job))
+given_job most text (Ok job) h = reading_ok most text (job_value job) h
+given_job most text (Err e) h = tt
+
+pub given_only : {A : Type 0} (most : Counts) (text : List ℕ) (result : Result (Job A) (JobFault A)) → Gives job_value result (reading_of most text)
+    → (job : JobValue) → IsJobText most text job → AnswersJob result job
+given_only most text (Ok j) h job r = let a = reading_again most text job r in cc
+given_only {A = A} most text (Err e) h job r = at (refusal_of e) (reading_again most text job r) h
+  where
+    at : (o : Option Refusal) → reading_of most text ≡ Ok job → IfSome o (λ fault. reading_of most text ≡ Err fault) → IsNone o
+    at None a g = refl
+    at (Some f) a g = absurd cc

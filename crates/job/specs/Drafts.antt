@@ -1,0 +1,117 @@
+-- Reading line by line: each line adds to what was said so far, or is the first fault.
+use Rattle.std.specs.Prelude.{ℕ, ℤ, List, [], ◌∷◌, ◌++◌, ◌+◌, length, map, Option, Some, None, Result, Ok, Err, ◌==◌, nat_lt, slice_index, bytes_eq, if◌then◌else◌}
+use Rattle.fixed.specs.declared.faults.NumFault.TheVariants.{BadNumber, NumberRange}
+use Rattle.job.specs.declared.faults.Key.{Key}
+use Rattle.job.specs.declared.faults.Key.TheVariants as keys
+use Rattle.job.specs.Forms.{is_identifier, is_type_name}
+use Rattle.job.specs.Words.{words, without_blanks, after_word}
+use Rattle.job.specs.Numbers.{Reading, both, only, alone, numeral_of, signed_of, values_of, cutoff_of, whole_of, mass_of}
+use Rattle.job.specs.Statements.{well_formed, key_of}
+use Rattle.job.specs.Values.{JobValue, Counts}
+use Rattle.job.specs.Faults.{Refusal, bad_line, repeated, repeated_name, out_of_range, repeated_type, Said, knows}
+use Rattle.job.specs.JobText.{◌>>=◌, header, job_from}
+
+-- the number of a key that one line may have
+abbrev pub number_of : {X : Type 0} → ℕ → Key → Option X → Reading X → Result X Refusal
+number_of n key old (Err BadNumber) = Err (bad_line n)
+number_of n key (Some x) (Err NumberRange) = Err (repeated key)
+number_of n key None (Err NumberRange) = Err (out_of_range key)
+number_of n key (Some x) (Ok v) = Err (repeated key)
+number_of n key None (Ok v) = Ok v
+
+abbrev pub energy_new : Said → Option (List ℕ) → List ℕ → Result Said Refusal
+energy_new s (Some old) text = Err (repeated keys.Energy)
+energy_new s None text = Ok (record s { energy = Some text })
+
+abbrev pub energy_into : ℕ → Said → List ℕ → Result Said Refusal
+energy_into n s [] = Err (bad_line n)
+energy_into n s (b ∷ bs) = energy_new s s.energy (b ∷ bs)
+
+abbrev pub core_into : ℕ → Said → Reading ℤ → Result Said Refusal
+core_into n s r = number_of n keys.Core s.core r >>= λ v. Ok (record s { core = Some v })
+
+abbrev pub cutoff_into : ℕ → Said → Reading ℤ → Result Said Refusal
+cutoff_into n s r = number_of n keys.Cutoff s.cutoff r >>= λ v. Ok (record s { cutoff = Some v })
+
+abbrev pub time_step_into : ℕ → Said → Reading ℕ → Result Said Refusal
+time_step_into n s r = number_of n keys.TimeStep s.time_step r >>= λ v. Ok (record s { time_step = Some v })
+
+abbrev pub slices_into : ℕ → Said → Reading ℕ → Result Said Refusal
+slices_into n s r = number_of n keys.Slices s.slices r >>= λ v. Ok (record s { slices = Some v })
+
+abbrev pub parameter_new : Counts → Said → List ℕ → Result Said Refusal
+parameter_new most s name =
+    if knows s.parameters name then Err (repeated_name name)
+    else if nat_lt (length s.parameters) most.parameters then Ok (record s { parameters = s.parameters ++ name ∷ [] })
+    else Err (out_of_range keys.Parameter)
+
+abbrev pub parameter_into : Counts → ℕ → Said → Reading (List ℕ) → Result Said Refusal
+parameter_into most n s (Err e) = Err (bad_line n)
+parameter_into most n s (Ok name) = if is_identifier name then parameter_new most s name else Err (bad_line n)
+
+abbrev pub global_add : Counts → Said → List ℕ → Option ℤ → Result Said Refusal
+global_add most s name None = Err (out_of_range keys.Global)
+global_add most s name (Some v) =
+    if nat_lt (length s.globals) most.globals then Ok (record s { globals = s.globals ++ record { name = name; value = v } ∷ [] })
+    else Err (out_of_range keys.Global)
+
+unfoldable pub global_new : Counts → Said → List ℕ → Option ℤ → Result Said Refusal
+global_new most s name v = if knows (map (λ g. g.name) s.globals) name then Err (repeated_name name) else global_add most s name v
+
+abbrev pub global_by : Counts → ℕ → Said → List ℕ → Option (Option ℤ) → Result Said Refusal
+global_by most n s name None = Err (bad_line n)
+global_by most n s name (Some v) = global_new most s name v
+
+abbrev pub global_into : Counts → ℕ → Said → List (List ℕ) → Result Said Refusal
+global_into most n s [] = Err (bad_line n)
+global_into most n s (name ∷ []) = Err (bad_line n)
+global_into most n s (name ∷ x ∷ []) = if is_identifier name then global_by most n s name (well_formed (signed_of x)) else Err (bad_line n)
+global_into most n s (name ∷ x ∷ w ∷ ws) = Err (bad_line n)
+
+abbrev pub type_add : Counts → ℕ → Said → List ℕ → Option (ℕ × List ℤ) → Result Said Refusal
+type_add most n s name None = Err (out_of_range keys.Types)
+type_add most n s name (Some v) =
+    if nat_lt (length s.types) most.types then Ok (record s { types = s.types ++ record { line = n; value = record { name = name; mass = v.0; values = v.1 } } ∷ [] })
+    else Err (out_of_range keys.Types)
+
+unfoldable pub type_new : Counts → ℕ → Said → List ℕ → Option (ℕ × List ℤ) → Result Said Refusal
+type_new most n s name v = if knows (map (λ t. t.value.name) s.types) name then Err (repeated_type name) else type_add most n s name v
+
+abbrev pub type_by : Counts → ℕ → Said → List ℕ → Option (Option (ℕ × List ℤ)) → Result Said Refusal
+type_by most n s name None = Err (bad_line n)
+type_by most n s name (Some v) = type_new most n s name v
+
+abbrev pub type_into : Counts → ℕ → Said → List (List ℕ) → Result Said Refusal
+type_into most n s [] = Err (bad_line n)
+type_into most n s (name ∷ []) = Err (bad_line n)
+type_into most n s (name ∷ mass ∷ values) = if is_type_name name then type_by most n s name (well_formed (both (mass_of mass) (values_of values))) else Err (bad_line n)
+
+unfoldable pub key_into : Counts → ℕ → Said → Option Key → List ℕ → Result Said Refusal
+key_into most n s None text = Err (bad_line n)
+key_into most n s (Some keys.Energy) text = energy_into n s (without_blanks text)
+key_into most n s (Some keys.Core) text = core_into n s (alone numeral_of (words text))
+key_into most n s (Some keys.Cutoff) text = cutoff_into n s (alone cutoff_of (words text))
+key_into most n s (Some keys.TimeStep) text = time_step_into n s (alone (whole_of 1 1000) (words text))
+key_into most n s (Some keys.Slices) text = slices_into n s (alone (whole_of 1 65536) (words text))
+key_into most n s (Some keys.Parameter) text = parameter_into most n s (only (words text))
+key_into most n s (Some keys.Global) text = global_into most n s (words text)
+key_into most n s (Some keys.Types) text = type_into most n s (words text)
+
+abbrev pub words_into : Counts → ℕ → Said → List (List ℕ) → List ℕ → Result Said Refusal
+words_into most n s [] text = Ok s
+words_into most n s (word ∷ ws) text = key_into most n s (key_of word) text
+
+unfoldable pub line_into : Counts → ℕ → Said → List ℕ → Result Said Refusal
+line_into most n s line = if slice_index line 0 == 35 then Ok s else words_into most n s (words line) (after_word line)
+
+unfoldable pub lines_into : Counts → ℕ → Said → List (List ℕ) → Result Said Refusal
+lines_into most n s [] = Ok s
+lines_into most n s (line ∷ lines) = line_into most n s line >>= λ t. lines_into most (n + 1) t lines
+
+-- what no lines say
+abbrev pub nothing : Said
+nothing = record { energy = None; core = None; cutoff = None; time_step = None; slices = None; parameters = []; globals = []; types = [] }
+
+abbrev pub lines_job : Counts → List (List ℕ) → Result JobValue Refusal
+lines_job most [] = Err (bad_line 1)
+lines_job most (line ∷ lines) = if bytes_eq line header then (lines_into most 2 nothing lines >>= job_from) else Err (bad_line 1)

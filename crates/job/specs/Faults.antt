@@ -1,0 +1,133 @@
+-- Why a text is no job: the fault of a line, given the lines above it, and the first of all.
+use Rattle.std.specs.Prelude.{ℕ, ℤ, Bool, ◌&&◌, List, [], ◌∷◌, ◌++◌, ◌+◌, length, map, Option, Some, None, is_some, filter_map, nat_lt, bytes_eq, if◌then◌else◌}
+use Rattle.std.specs.List.{list_any, cons_option}
+use Rattle.job.specs.declared.faults.Key.{Key}
+use Rattle.job.specs.declared.faults.Key.TheVariants as keys
+use Rattle.job.specs.Statements.{Statement, skipped, energy_is, core_is, cutoff_is, time_step_is, slices_is, parameter_is, global_is, type_is, entry_of}
+use Rattle.job.specs.Values.{GlobalValue, TypeValue, Counts}
+
+pub data Refusal : Type 0 where
+  bad_line : ℕ → Refusal
+  missing : Key → Refusal
+  repeated : Key → Refusal
+  repeated_name : List ℕ → Refusal
+  out_of_range : Key → Refusal
+  repeated_type : List ℕ → Refusal
+
+-- ---- what lines have said
+
+-- a type, with the number of its line
+pub record TypeLine : Type 0 where
+  pub line : ℕ
+  pub value : TypeValue
+
+pub record Said : Type 0 where
+  pub energy : Option (List ℕ)
+  pub core : Option ℤ
+  pub cutoff : Option ℤ
+  pub time_step : Option ℕ
+  pub slices : Option ℕ
+  pub parameters : List (List ℕ)
+  pub globals : List GlobalValue
+  pub types : List TypeLine
+
+abbrev pub energy_in : Statement → Option (List ℕ)
+energy_in (energy_is text) = Some text
+energy_in _ = None
+
+abbrev pub core_in : Statement → Option ℤ
+core_in (core_is v) = v
+core_in _ = None
+
+abbrev pub cutoff_in : Statement → Option ℤ
+cutoff_in (cutoff_is v) = v
+cutoff_in _ = None
+
+abbrev pub time_step_in : Statement → Option ℕ
+time_step_in (time_step_is v) = v
+time_step_in _ = None
+
+abbrev pub slices_in : Statement → Option ℕ
+slices_in (slices_is v) = v
+slices_in _ = None
+
+abbrev pub parameter_in : Statement → Option (List ℕ)
+parameter_in (parameter_is name) = Some name
+parameter_in _ = None
+
+abbrev pub global_in : Statement → Option GlobalValue
+global_in (global_is name (Some v)) = Some (record { name = name; value = v })
+global_in _ = None
+
+abbrev pub type_in : ℕ → Option Statement → Option TypeLine
+type_in n (Some (type_is name (Some v))) = Some (record { line = n; value = record { name = name; mass = v.0; values = v.1 } })
+type_in n _ = None
+
+abbrev pub first : {X : Type 0} → List X → Option X
+first [] = None
+first (x ∷ xs) = Some x
+
+-- the types of these lines, the first of which has the number n
+abbrev pub type_lines : ℕ → List (List ℕ) → List TypeLine
+type_lines n [] = []
+type_lines n (line ∷ lines) = cons_option (type_in n (entry_of line)) (type_lines (n + 1) lines)
+
+abbrev pub summary_of : List Statement → List TypeLine → Said
+summary_of statements types = record {
+  energy = first (filter_map energy_in statements);
+  core = first (filter_map core_in statements);
+  cutoff = first (filter_map cutoff_in statements);
+  time_step = first (filter_map time_step_in statements);
+  slices = first (filter_map slices_in statements);
+  parameters = filter_map parameter_in statements;
+  globals = filter_map global_in statements;
+  types = types;
+}
+
+-- what lines say that stand below the first line of a text
+unfoldable pub summary : List (List ℕ) → Said
+summary lines = summary_of (filter_map entry_of lines) (type_lines 2 lines)
+
+-- ---- the fault of a line
+
+-- of a key that one line may have: that it is repeated, or else that its number is out of range
+abbrev pub once : {X : Type 0} → Key → Option X → Option X → Option Refusal
+once key (Some old) v = Some (repeated key)
+once key None None = Some (out_of_range key)
+once key None (Some v) = None
+
+abbrev pub knows : List (List ℕ) → List ℕ → Bool
+knows names name = list_any (λ n. bytes_eq n name) names
+
+-- of a key that many lines may have: that the name is repeated, or else that the number or the count is out of range
+abbrev pub listed : Bool → Refusal → Bool → Key → Option Refusal
+listed known repetition fits key = if known then Some repetition else if fits then None else Some (out_of_range key)
+
+abbrev pub statement_fault : Counts → Said → Statement → Option Refusal
+statement_fault most s skipped = None
+statement_fault most s (energy_is text) = once keys.Energy s.energy (Some text)
+statement_fault most s (core_is v) = once keys.Core s.core v
+statement_fault most s (cutoff_is v) = once keys.Cutoff s.cutoff v
+statement_fault most s (time_step_is v) = once keys.TimeStep s.time_step v
+statement_fault most s (slices_is v) = once keys.Slices s.slices v
+statement_fault most s (parameter_is name) = listed (knows s.parameters name) (repeated_name name) (nat_lt (length s.parameters) most.parameters) keys.Parameter
+statement_fault most s (global_is name v) = listed (knows (map (λ g. g.name) s.globals) name) (repeated_name name) (is_some v && nat_lt (length s.globals) most.globals) keys.Global
+statement_fault most s (type_is name v) = listed (knows (map (λ t. t.value.name) s.types) name) (repeated_type name) (is_some v && nat_lt (length s.types) most.types) keys.Types
+
+-- with the line's number: that it is malformed, or else the fault of what it says
+abbrev pub entry_fault : Counts → ℕ → Said → Option Statement → Option Refusal
+entry_fault most n s None = Some (bad_line n)
+entry_fault most n s (Some statement) = statement_fault most s statement
+
+-- the line below the first line and these
+unfoldable pub line_fault : Counts → List (List ℕ) → List ℕ → Option Refusal
+line_fault most above line = entry_fault most (length above + 2) (summary above) (entry_of line)
+
+abbrev pub or_else : Option Refusal → Option Refusal → Option Refusal
+or_else (Some fault) later = Some fault
+or_else None later = later
+
+-- the first fault of these lines, from the top
+unfoldable pub first_fault : Counts → List (List ℕ) → List (List ℕ) → Option Refusal
+first_fault most above [] = None
+first_fault most above (line ∷ lines) = or_else (line_fault most above line) (first_fault most (above ++ line ∷ []) lines)

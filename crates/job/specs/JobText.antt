@@ -1,0 +1,111 @@
+-- Which text is which job's, and the first fault of a text that is no job's.
+use Rattle.std.specs.Prelude.{◌≡◌, ℕ, ℤ, List, [], ◌∷◌, ◌++◌, length, map, filter_map, ◌≤◌, Option, Some, None, Result, Ok, Err, ◌==◌, ◌<ℤ◌, int_lt, codes, bytes_eq, All, if◌then◌else◌}
+use Rattle.std.specs.Option.{unwrap_or}
+use Rattle.job.specs.declared.faults.Key.{Key}
+use Rattle.job.specs.declared.faults.Key.TheVariants as keys
+use Rattle.job.specs.Words.{lines_of}
+use Rattle.job.specs.Statements.{Statement, entry_of}
+use Rattle.job.specs.Faults.{Refusal, bad_line, missing, out_of_range, TypeLine, Said, energy_in, core_in, cutoff_in, time_step_in, slices_in, summary, line_fault, first_fault}
+use Rattle.job.specs.Values.{TypeValue, JobValue, Counts}
+
+infixl 10 ◌>>=◌
+abbrev pub ◌>>=◌ : {X Y : Type 0} → Result X Refusal → (X → Result Y Refusal) → Result Y Refusal
+(Ok x) >>= f = f x
+(Err e) >>= f = Err e
+
+abbrev pub header : List ℕ
+header = codes "pairmd job 1"
+
+-- ---- the relation
+
+-- each line below these is without a fault
+abbrev pub IsFaultless : Counts → List (List ℕ) → Type 0
+IsFaultless most lines = (above below : List (List ℕ)) (line : List ℕ) → lines ≡ above ++ line ∷ below → line_fault most above line ≡ None
+
+-- the lines have said this job: each value is what the line of its key says, and each type has a value for each parameter
+pub record Tells (s : Said) (job : JobValue) : Type 0 where
+  pub energy : s.energy ≡ Some job.energy
+  pub core : s.core ≡ Some job.core
+  pub cutoff : s.cutoff ≡ Some job.cutoff
+  pub below_cutoff : job.core <ℤ job.cutoff
+  pub time_step : s.time_step ≡ Some job.time_step
+  pub slices : unwrap_or s.slices 64 ≡ job.slices
+  pub parameters : s.parameters ≡ job.parameters
+  pub globals : s.globals ≡ job.globals
+  pub types : map (λ t. t.value) s.types ≡ job.types
+  pub whole : All (λ t. length t.values ≡ length job.parameters) job.types
+
+-- the text is the job's: behind the first line no line has a fault, and together they say the job
+pub record IsJobText (most : Counts) (text : List ℕ) (job : JobValue) : Type 0 where
+  pub lines : List (List ℕ)
+  pub first_line : lines_of text ≡ header ∷ lines
+  pub faultless : IsFaultless most lines
+  pub tells : Tells (summary lines) job
+
+-- ---- each key once
+
+-- how many lines say this
+abbrev pub times_said : {X : Type 0} → (Statement → Option X) → List (List ℕ) → ℕ
+times_said part lines = length (filter_map part (filter_map entry_of lines))
+
+abbrev pub below_first : List (List ℕ) → List (List ℕ)
+below_first [] = []
+below_first (line ∷ lines) = lines
+
+-- the lines below the first have each key that a job needs once, and `slices` at most once
+pub record HasKeysOnce (lines : List (List ℕ)) : Type 0 where
+  pub energy : times_said energy_in lines ≡ 1
+  pub core : times_said core_in lines ≡ 1
+  pub cutoff : times_said cutoff_in lines ≡ 1
+  pub time_step : times_said time_step_in lines ≡ 1
+  pub slices : times_said slices_in lines ≤ 1
+
+-- ---- the first fault of a text, or its job
+
+abbrev pub needed : {X : Type 0} → Key → Option X → Result X Refusal
+needed key None = Err (missing key)
+needed key (Some x) = Ok x
+
+abbrev pub ordered : ℤ → ℤ → Result ℤ Refusal
+ordered core cutoff = if int_lt core cutoff then Ok cutoff else Err (out_of_range keys.Cutoff)
+
+-- the types, or the first line of a type with another number of values
+unfoldable pub whole_types : ℕ → List TypeLine → Result (List TypeValue) Refusal
+whole_types k [] = Ok []
+whole_types k (t ∷ ts) = if length t.value.values == k then (whole_types k ts >>= λ us. Ok (t.value ∷ us)) else Err (bad_line t.line)
+
+-- what the lines as a whole lack, in this order, or their job
+unfoldable pub job_from : Said → Result JobValue Refusal
+job_from s = do
+  energy ← needed keys.Energy s.energy
+  core ← needed keys.Core s.core
+  longest ← needed keys.Cutoff s.cutoff
+  time_step ← needed keys.TimeStep s.time_step
+  cutoff ← ordered core longest
+  types ← whole_types (length s.parameters) s.types
+  Ok (record {
+    energy = energy;
+    core = core;
+    cutoff = cutoff;
+    time_step = time_step;
+    slices = unwrap_or s.slices 64;
+    parameters = s.parameters;
+    globals = s.globals;
+    types = types;
+  })
+
+abbrev pub unless : Option Refusal → Result JobValue Refusal → Result JobValue Refusal
+unless (Some fault) job = Err fault
+unless None job = job
+
+abbrev pub lines_reading : Counts → List (List ℕ) → Result JobValue Refusal
+lines_reading most [] = Err (bad_line 1)
+lines_reading most (line ∷ lines) = if bytes_eq line header then unless (first_fault most [] lines) (job_from (summary lines)) else Err (bad_line 1)
+
+-- the job whose text this is, or the first fault
+unfoldable pub reading_of : Counts → List ℕ → Result JobValue Refusal
+reading_of most text = lines_reading most (lines_of text)
+
+-- the counts of this stage
+abbrev pub stage : Counts
+stage = record { parameters = 0; globals = 0; types = 1 }

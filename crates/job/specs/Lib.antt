@@ -1,0 +1,9 @@
+pub mod Forms
+pub mod Words
+pub mod Numbers
+pub mod Values
+pub mod Statements
+pub mod Faults
+pub mod JobText
+pub mod Drafts
+pub mod Views

@@ -1,0 +1,95 @@
+-- The numbers of a job: each reading is a number, BadNumber where the word is malformed, or NumberRange where the number is out of its range.
+use Rattle.std.specs.Prelude.{◌≡◌, ℕ, ℤ, pos, neg_ℤ, Bool, ◌&&◌, ◌==◌, nat_le, nat_lt, int_le, ◌+◌, ◌-◌, ◌*◌, ◌^◌, List, [], ◌∷◌, length, Option, Some, None, Result, Ok, Err, if◌then◌else◌}
+use Rattle.std.specs.Option.{option_map}
+use Rattle.std.specs.List.{list_all}
+use Rattle.std.specs.Char.{is_ascii_digit}
+use Rattle.std.specs.Str.Parse.{digits_value}
+use Rattle.fixed.specs.Numerals.{fixed_of}
+use Rattle.fixed.specs.NumeralParts.{decimal_of}
+use Rattle.fixed.specs.declared.faults.NumFault.{NumFault}
+use Rattle.fixed.specs.declared.faults.NumFault.TheVariants.{BadNumber, NumberRange}
+use Rattle.line_text.specs.Parts.{cut_at}
+
+abbrev pub Reading : Type 0 → Type 0
+Reading X = Result X NumFault
+
+infixl 10 ◌>>=◌
+abbrev pub ◌>>=◌ : {X Y : Type 0} → Reading X → (X → Reading Y) → Reading Y
+(Ok x) >>= f = f x
+(Err e) >>= f = Err e
+
+abbrev pub mapped : {X Y : Type 0} → (X → Y) → Reading X → Reading Y
+mapped f (Ok x) = Ok (f x)
+mapped f (Err e) = Err e
+
+-- both numbers; one that is malformed comes before one that is out of range
+abbrev pub both : {X Y : Type 0} → Reading X → Reading Y → Reading (X × Y)
+both (Err BadNumber) y = Err BadNumber
+both (Err NumberRange) (Err BadNumber) = Err BadNumber
+both (Err NumberRange) (Err NumberRange) = Err NumberRange
+both (Err NumberRange) (Ok y) = Err NumberRange
+both (Ok x) (Err e) = Err e
+both (Ok x) (Ok y) = Ok (x, y)
+
+-- the one word
+abbrev pub only : List (List ℕ) → Reading (List ℕ)
+only [] = Err BadNumber
+only (w ∷ []) = Ok w
+only (w ∷ v ∷ ws) = Err BadNumber
+
+abbrev pub alone : {X : Type 0} → (List ℕ → Reading X) → List (List ℕ) → Reading X
+alone read ws = only ws >>= read
+
+-- a numeral, to the nearest number of 32 fraction bits
+abbrev pub or_malformed : Option (Reading ℤ) → Reading ℤ
+or_malformed None = Err BadNumber
+or_malformed (Some r) = r
+
+unfoldable pub numeral_of : List ℕ → Reading ℤ
+numeral_of word = or_malformed (option_map (λ d. fixed_of 32 d.mantissa d.power) (decimal_of word))
+
+-- a numeral with or without a minus
+unfoldable pub signed_of : List ℕ → Reading ℤ
+signed_of [] = numeral_of []
+signed_of (b ∷ bs) = if b == 45 then mapped neg_ℤ (numeral_of bs) else numeral_of (b ∷ bs)
+
+-- signed numerals
+unfoldable pub values_of : List (List ℕ) → Reading (List ℤ)
+values_of [] = Ok []
+values_of (w ∷ ws) = both (signed_of w) (values_of ws) >>= λ x. Ok (x.0 ∷ x.1)
+
+-- a cutoff: more than 0, and at most 80 nm
+abbrev pub cutoff_range : ℤ → Reading ℤ
+cutoff_range z = if int_le (pos 1) z && int_le z (pos 343597383680) then Ok z else Err NumberRange
+
+unfoldable pub cutoff_of : List ℕ → Reading ℤ
+cutoff_of word = numeral_of word >>= cutoff_range
+
+-- one digit at least
+abbrev pub is_whole : List ℕ → Bool
+is_whole word = nat_lt 0 (length word) && list_all is_ascii_digit word
+
+abbrev pub within : ℕ → ℕ → ℕ → Reading ℕ
+within least most n = if nat_le least n && nat_le n most then Ok n else Err NumberRange
+
+-- a whole number
+unfoldable pub whole_of : ℕ → ℕ → List ℕ → Reading ℕ
+whole_of least most word = if is_whole word then within least most (digits_value 10 word) else Err BadNumber
+
+-- a mass in u, 0.00001 to 1000, in units of 10^-5 u: digits, and behind a point one to five more
+abbrev pub mass_from : List ℕ → List ℕ → Reading ℕ
+mass_from whole part =
+    if is_whole whole && (list_all is_ascii_digit part && nat_le (length part) 5)
+    then within 1 100000000 (digits_value 10 whole * 100000 + digits_value 10 part * 10 ^ (5 - length part)) else Err BadNumber
+
+abbrev pub mass_parts : List ℕ → Option (List ℕ × List ℕ) → Reading ℕ
+mass_parts word None = mass_from word []
+mass_parts word (Some parts) = if length parts.1 == 0 then Err BadNumber else mass_from parts.0 parts.1
+
+unfoldable pub mass_of : List ℕ → Reading ℕ
+mass_of word = mass_parts word (cut_at 46 word)
+
+-- what a call read that may have wanted memory
+abbrev pub HasRead : {X Y E : Type 0} → (X → Y) → Result (Reading X) E → Reading Y → Type 0
+HasRead view (Ok r) reading = mapped view r ≡ reading
+HasRead view (Err e) reading = Unit {0}

@@ -1,0 +1,74 @@
+-- The code's values as plain ones.
+use Rattle.std.specs.Prelude.{◌≡◌, ℕ, ℤ, List, map, Option, Some, None, Result, Ok, Err, IfSome, IsNone, string_bytes}
+use Rattle.std.specs.Option.{option_map}
+use Rattle.line_text.specs.Names.{name_text}
+use Rattle.job.specs.declared.faults.JobFault.{JobFault}
+use Rattle.job.specs.declared.faults.JobFault.TheVariants as faults
+use Rattle.job.specs.declared.jobs.Global.{Global}
+use Rattle.job.specs.declared.jobs.AtomType.{AtomType}
+use Rattle.job.specs.declared.jobs.Job.{Job}
+use Rattle.job.specs.declared.limits.Limits.{Limits}
+use Rattle.job.specs.declared.drafts.Draft.{Draft}
+use Rattle.job.specs.declared.drafts.TypeLine.{TypeLine}
+use Rattle.job.specs.declared.drafts.TypeNumbers.{TypeNumbers}
+use Rattle.job.specs.Values.{GlobalValue, TypeValue, JobValue, Counts}
+use Rattle.job.specs.Faults as plain
+
+abbrev pub global_value : {A : Type 0} → Global A → GlobalValue
+global_value g = record { name = g.name.items; value = g.value }
+
+abbrev pub type_value : {A : Type 0} → AtomType A → TypeValue
+type_value t = record { name = name_text t.name; mass = t.mass; values = t.values.items }
+
+abbrev pub job_value : {A : Type 0} → Job A → JobValue
+job_value j = record {
+  energy = j.energy.items;
+  core = j.core;
+  cutoff = j.cutoff;
+  time_step = j.time_step;
+  slices = j.slices;
+  parameters = map (λ p. p.items) j.parameters.items;
+  globals = map global_value j.globals.items;
+  types = map type_value j.types.items;
+}
+
+abbrev pub counts_of : Limits → Counts
+counts_of l = record { parameters = l.parameters; globals = l.globals; types = l.types }
+
+abbrev pub type_line : {A : Type 0} → TypeLine A → plain.TypeLine
+type_line t = record { line = t.line; value = type_value t.value }
+
+abbrev pub type_numbers_of : {A : Type 0} → TypeNumbers A → ℕ × List ℤ
+type_numbers_of t = (t.mass, t.values.items)
+
+abbrev pub said_of : {A : Type 0} → Draft A → plain.Said
+said_of d = record {
+  energy = option_map (λ v. v.items) d.energy;
+  core = d.core;
+  cutoff = d.cutoff;
+  time_step = d.time_step;
+  slices = d.slices;
+  parameters = map (λ p. p.items) d.parameters.items;
+  globals = map global_value d.globals.items;
+  types = map type_line d.types.items;
+}
+
+-- want of memory is no refusal of the text
+abbrev pub refusal_of : {A : Type 0} → JobFault A → Option plain.Refusal
+refusal_of (faults.BadLine n) = Some (plain.bad_line n)
+refusal_of (faults.Missing key) = Some (plain.missing key)
+refusal_of (faults.Repeated key) = Some (plain.repeated key)
+refusal_of (faults.RepeatedName name) = Some (plain.repeated_name (string_bytes name))
+refusal_of (faults.Range key) = Some (plain.out_of_range key)
+refusal_of (faults.RepeatedType name) = Some (plain.repeated_type (string_bytes name))
+refusal_of faults.Memory = None
+
+-- the result is this reading, unless memory was wanted
+abbrev pub Gives : {X Y A : Type 0} → (X → Y) → Result X (JobFault A) → Result Y plain.Refusal → Type 0
+Gives view (Ok x) reading = reading ≡ Ok (view x)
+Gives view (Err e) reading = IfSome (refusal_of e) (λ fault. reading ≡ Err fault)
+
+-- the answer is this job, unless memory was wanted
+abbrev pub AnswersJob : {A : Type 0} → Result (Job A) (JobFault A) → JobValue → Type 0
+AnswersJob (Ok j) job = job_value j ≡ job
+AnswersJob (Err e) job = IsNone (refusal_of e)

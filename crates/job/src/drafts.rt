@@ -1,0 +1,70 @@
+//! What the lines so far have said.
+
+ghost use Rattle.std.specs.Prelude.{◌≡◌, ◌≤◌, ◌≤ℤ◌, pos, length, IfSome, IsTrue};
+ghost use Rattle.std.specs.List.{All};
+ghost use Rattle.std.proofs.Props.{props};
+ghost use Rattle.job.specs.Forms.{is_identifier};
+
+use crate::jobs::{AtomType, Global};
+use fixed::Fx;
+use std::alloc::Allocator;
+
+/// What a type's line says behind its name: the mass in 10^-5 u, and the values.
+#[derive(Drop)]
+pub struct TypeNumbers<A: Allocator> {
+    pub mass: u32,
+    pub values: Vec<Fx, A>,
+    pub ghost some_mass: { 1 ≤ mass },
+    pub ghost most_mass: { mass ≤ 100000000 },
+}
+
+/// A type of atoms, and the number of its line.
+#[derive(Drop)]
+pub struct TypeLine<A: Allocator> {
+    pub line: u64,
+    pub value: AtomType<A>,
+}
+
+/// What the lines so far have said.
+#[derive(Drop)]
+pub struct Draft<A: Allocator> {
+    pub energy: Option<Vec<u8, A>>,
+    pub core: Option<Fx>,
+    pub cutoff: Option<Fx>,
+    pub time_step: Option<u32>,
+    pub slices: Option<u32>,
+    pub parameters: Vec<Vec<u8, A>, A>,
+    pub globals: Vec<Global<A>, A>,
+    pub types: Vec<TypeLine<A>, A>,
+    ghost least_core: { IfSome core (λ v. pos 0 ≤ℤ v) } by { Prim.hlevel props },
+    ghost most_cutoff: { IfSome cutoff (λ v. v ≤ℤ pos 343597383680) } by { Prim.hlevel props },
+    ghost some_time_step: { IfSome time_step (λ n. 1 ≤ n) } by { Prim.hlevel props },
+    ghost most_time_step: { IfSome time_step (λ n. n ≤ 1000) } by { Prim.hlevel props },
+    ghost some_slices: { IfSome slices (λ n. 1 ≤ n) } by { Prim.hlevel props },
+    ghost most_slices: { IfSome slices (λ n. n ≤ 65536) } by { Prim.hlevel props },
+    ghost named: { All (λ p. IsTrue (is_identifier p.items)) parameters.items },
+    ghost few_parameters: { length parameters.items ≤ 8 },
+    ghost few_globals: { length globals.items ≤ 16 },
+    ghost few_types: { length types.items ≤ 64 },
+}
+
+impl<A: Allocator + Copy> Draft<A> {
+    ghost use Rattle.job.specs.Drafts.{nothing};
+    ghost use Rattle.job.specs.Views.{said_of};
+
+    /// What no lines say.
+    pub fn new(alloc: A) -> Draft<A>
+        ensures { said_of result ≡ nothing }
+    {
+        Draft {
+            energy: None,
+            core: None,
+            cutoff: None,
+            time_step: None,
+            slices: None,
+            parameters: Vec::new(alloc),
+            globals: Vec::new(alloc),
+            types: Vec::new(alloc),
+        }
+    }
+}

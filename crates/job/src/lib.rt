@@ -1,0 +1,15 @@
+//! Reads a job: the lines of text that name a run's energy, core, cutoff, time step and types of atoms.
+#![tactic(auto)]
+
+mod drafts;
+mod faults;
+mod forms;
+mod jobs;
+mod limits;
+mod lines;
+mod numbers;
+mod reading;
+mod words;
+
+pub use faults::{JobFault, Key};
+pub use jobs::{AtomType, Global, Job};

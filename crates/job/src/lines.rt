@@ -1,0 +1,397 @@
+//! What one line adds to what the lines above it have said.
+
+ghost use Rattle.std.specs.Prelude.{◌≡◌, ◌≤◌, ◌≤ℤ◌, pos, map, true, length, option_map, IfOk, IfSome, IsTrue, IsAscii, string_bytes, bytes_eq, ok_or};
+ghost use Rattle.std.specs.List.{list_any};
+ghost use Rattle.line_text.specs.Names.{name_text};
+ghost use Rattle.job.specs.Forms.{is_identifier, is_type_name};
+ghost use Rattle.job.specs.Words.{words, without_blanks};
+ghost use Rattle.job.specs.Numbers.{alone, only, both, numeral_of, cutoff_of, whole_of, mass_of, values_of, mapped, HasRead};
+ghost use Rattle.job.specs.Statements.{well_formed};
+ghost use Rattle.job.specs.Faults.{bad_line, repeated_name, repeated_type, knows};
+ghost use Rattle.job.specs.Drafts.{number_of, energy_into, core_into, cutoff_into, time_step_into, slices_into, parameter_new, parameter_into, global_add, global_new, global_by, global_into, type_add, type_new, type_into, key_into, words_into, line_into};
+ghost use Rattle.job.specs.Views.{said_of, counts_of, global_value, type_line, refusal_of, type_numbers_of, Gives};
+
+use crate::drafts::{Draft, TypeLine, TypeNumbers};
+use crate::faults::{JobFault, Key};
+use crate::forms::{is_identifier, is_type_name, key_of};
+use crate::jobs::{AtomType, Global};
+use crate::limits::Limits;
+use crate::numbers::{cutoff, mass, numeral, signed_numeral, values, whole};
+use crate::words::{next_word, only_word, skip_blanks, two_words};
+use fixed::{Fx, NumFault};
+use line_text::Name;
+use std::alloc::{AllocError, Allocator};
+
+fn core_in(text: &[u8]) -> Result<Fx, NumFault>
+    ensures value { result ≡ alone numeral_of (words text.now) }
+    ensures least { IfOk result (λ v. pos 0 ≤ℤ v) }
+{
+    numeral(only_word(text)?)
+}
+
+fn cutoff_in(text: &[u8]) -> Result<Fx, NumFault>
+    ensures value { result ≡ alone cutoff_of (words text.now) }
+    ensures most { IfOk result (λ v. v ≤ℤ pos 343597383680) }
+{
+    cutoff(only_word(text)?)
+}
+
+fn whole_in(most: u32, text: &[u8]) -> Result<u32, NumFault>
+    requires { most ≤ 65536 }
+    ensures value { result ≡ alone (whole_of 1 most) (words text.now) }
+    ensures range { IfOk result (λ n. (1 ≤ n) × (n ≤ most)) }
+{
+    whole(1, most, only_word(text)?)
+}
+
+// The number of a key that one line may have.
+fn number_of<T: Copy, A: Allocator>(
+    number: u64,
+    key: Key,
+    old: Option<T>,
+    reading: Result<T, NumFault>,
+) -> Result<T, JobFault<A>>
+    ensures value { Gives (λ x. x) result (number_of number key old reading) }
+    ensures reading { IfOk result (λ x. reading ≡ Ok x) }
+{
+    match (reading, old) {
+        (Err(NumFault::BadNumber), _) => Err(JobFault::BadLine { line: number }),
+        (_, Some(_)) => Err(JobFault::Repeated { key }),
+        (Err(NumFault::NumberRange), None) => Err(JobFault::Range { key }),
+        (Ok(value), None) => Ok(value),
+    }
+}
+
+fn take_energy<A: Allocator>(
+    alloc: A,
+    mut draft: Draft<A>,
+    number: u64,
+    text: &[u8],
+) -> Result<Draft<A>, JobFault<A>>
+    ensures { Gives said_of result (energy_into number (said_of draft) (without_blanks text.now)) }
+{
+    let text = skip_blanks(text);
+    if text.is_empty() {
+        return Err(JobFault::BadLine { line: number });
+    }
+    if draft.energy.is_some() {
+        return Err(JobFault::Repeated { key: Key::Energy });
+    }
+    draft.energy = Some(Vec::from_slice(alloc, text)?);
+    Ok(draft)
+}
+
+fn take_core<A: Allocator>(
+    mut draft: Draft<A>,
+    number: u64,
+    text: &[u8],
+) -> Result<Draft<A>, JobFault<A>>
+    ensures { Gives said_of result (core_into number (said_of draft) (alone numeral_of (words text.now))) }
+{
+    let value = number_of(number, Key::Core, draft.core, core_in(text))?;
+    draft.core = Some(value);
+    Ok(draft)
+}
+
+fn take_cutoff<A: Allocator>(
+    mut draft: Draft<A>,
+    number: u64,
+    text: &[u8],
+) -> Result<Draft<A>, JobFault<A>>
+    ensures { Gives said_of result (cutoff_into number (said_of draft) (alone cutoff_of (words text.now))) }
+{
+    let value = number_of(number, Key::Cutoff, draft.cutoff, cutoff_in(text))?;
+    draft.cutoff = Some(value);
+    Ok(draft)
+}
+
+fn take_time_step<A: Allocator>(
+    mut draft: Draft<A>,
+    number: u64,
+    text: &[u8],
+) -> Result<Draft<A>, JobFault<A>>
+    ensures { Gives said_of result (time_step_into number (said_of draft) (alone (whole_of 1 1000) (words text.now))) }
+{
+    let value = number_of(number, Key::TimeStep, draft.time_step, whole_in(1000, text))?;
+    draft.time_step = Some(value);
+    Ok(draft)
+}
+
+fn take_slices<A: Allocator>(
+    mut draft: Draft<A>,
+    number: u64,
+    text: &[u8],
+) -> Result<Draft<A>, JobFault<A>>
+    ensures { Gives said_of result (slices_into number (said_of draft) (alone (whole_of 1 65536) (words text.now))) }
+{
+    let value = number_of(number, Key::Slices, draft.slices, whole_in(65536, text))?;
+    draft.slices = Some(value);
+    Ok(draft)
+}
+
+fn text_of<A: Allocator>(alloc: A, name: &[u8]) -> Result<String<A>, AllocError>
+    requires { IsAscii name.now }
+    ensures { IfOk result (λ s. string_bytes s ≡ name.now) }
+{
+    match std::str::from_utf8(name) {
+        Ok(text) => String::from_str(alloc, text),
+        Err(_) => unreachable!(),
+    }
+}
+
+#[tactic(auto, using(crate::proofs::FormLemmas::ascii_identifier))]
+fn repeated_name<A: Allocator>(alloc: A, name: &[u8]) -> JobFault<A>
+    requires { is_identifier name.now ≡ true }
+    ensures { IfSome (refusal_of result) (λ f. f ≡ repeated_name name.now) }
+{
+    match text_of(alloc, name) {
+        Ok(name) => JobFault::RepeatedName { name },
+        Err(_) => JobFault::Memory,
+    }
+}
+
+#[tactic(auto, using(crate::proofs::FormLemmas::ascii_type_name))]
+fn repeated_type<A: Allocator>(alloc: A, name: &[u8]) -> JobFault<A>
+    requires { is_type_name name.now ≡ true }
+    ensures { IfSome (refusal_of result) (λ f. f ≡ repeated_type name.now) }
+{
+    match text_of(alloc, name) {
+        Ok(name) => JobFault::RepeatedType { name },
+        Err(_) => JobFault::Memory,
+    }
+}
+
+fn knows_parameter<A: Allocator>(parameters: &[Vec<u8, A>], name: &[u8]) -> bool
+    ensures { result ≡ list_any (λ p. bytes_eq p.items name.now) parameters.now }
+{
+    parameters.iter().any(|p| p.as_slice() == name)
+}
+
+fn knows_global<A: Allocator>(globals: &[Global<A>], name: &[u8]) -> bool
+    ensures { result ≡ list_any (λ g. bytes_eq g.name.items name.now) globals.now }
+{
+    globals.iter().any(|g| g.name.as_slice() == name)
+}
+
+fn knows_type<A: Allocator>(types: &[TypeLine<A>], name: &[u8]) -> bool
+    ensures { result ≡ list_any (λ t. bytes_eq (name_text t.value.name) name.now) types.now }
+{
+    types.iter().any(|t| t.value.name.as_bytes() == name)
+}
+
+fn add_parameter<A: Allocator + Copy>(
+    alloc: A,
+    mut draft: Draft<A>,
+    limits: &Limits,
+    name: &[u8],
+) -> Result<Draft<A>, JobFault<A>>
+    requires { is_identifier name.now ≡ true }
+    ensures { Gives said_of result (parameter_new (counts_of limits.now) (said_of draft) name.now) }
+{
+    if knows_parameter(draft.parameters.as_slice(), name) {
+        return Err(repeated_name(alloc, name));
+    }
+    if draft.parameters.as_slice().len() >= limits.parameters {
+        return Err(JobFault::Range {
+            key: Key::Parameter,
+        });
+    }
+    let name = Vec::from_slice(alloc, name)?;
+    draft.parameters.push(name)?;
+    Ok(draft)
+}
+
+fn take_parameter<A: Allocator + Copy>(
+    alloc: A,
+    draft: Draft<A>,
+    limits: &Limits,
+    number: u64,
+    text: &[u8],
+) -> Result<Draft<A>, JobFault<A>>
+    ensures { Gives said_of result (parameter_into (counts_of limits.now) number (said_of draft) (only (words text.now))) }
+{
+    match only_word(text) {
+        Ok(name) if is_identifier(name) => add_parameter(alloc, draft, limits, name),
+        _ => Err(JobFault::BadLine { line: number }),
+    }
+}
+
+fn add_global<A: Allocator + Copy>(
+    alloc: A,
+    mut draft: Draft<A>,
+    limits: &Limits,
+    name: &[u8],
+    value: Option<Fx>,
+) -> Result<Draft<A>, JobFault<A>>
+    requires { is_identifier name.now ≡ true }
+    ensures { Gives said_of result (global_new (counts_of limits.now) (said_of draft) name.now value) }
+{
+    if knows_global(draft.globals.as_slice(), name) {
+        return Err(repeated_name(alloc, name));
+    }
+    let Some(value) = value else {
+        return Err(JobFault::Range { key: Key::Global });
+    };
+    if draft.globals.as_slice().len() >= limits.globals {
+        return Err(JobFault::Range { key: Key::Global });
+    }
+    let name = Vec::from_slice(alloc, name)?;
+    draft.globals.push(Global { name, value })?;
+    Ok(draft)
+}
+
+// A number that is out of its range is None.
+fn well_formed<T, A: Allocator>(
+    number: u64,
+    reading: Result<T, NumFault>,
+) -> Result<Option<T>, JobFault<A>>
+    ensures { Gives (λ x. x) result (ok_or (well_formed reading) (bad_line number)) }
+{
+    match reading {
+        Ok(value) => Ok(Some(value)),
+        Err(NumFault::NumberRange) => Ok(None),
+        Err(NumFault::BadNumber) => Err(JobFault::BadLine { line: number }),
+    }
+}
+
+fn take_global<A: Allocator + Copy>(
+    alloc: A,
+    draft: Draft<A>,
+    limits: &Limits,
+    number: u64,
+    text: &[u8],
+) -> Result<Draft<A>, JobFault<A>>
+    ensures { Gives said_of result (global_into (counts_of limits.now) number (said_of draft) (words text.now)) }
+{
+    match two_words(text) {
+        Some((name, value)) if is_identifier(name) => {
+            let value = well_formed(number, signed_numeral(value))?;
+            add_global(alloc, draft, limits, name, value)
+        }
+        _ => Err(JobFault::BadLine { line: number }),
+    }
+}
+
+fn type_numbers<A: Allocator>(
+    alloc: A,
+    mass_word: &[u8],
+    text: &[u8],
+) -> Result<Result<TypeNumbers<A>, NumFault>, AllocError>
+    ensures { HasRead type_numbers_of result (both (mass_of mass_word.now) (values_of (words text.now))) }
+{
+    Ok(match (mass(mass_word), values(alloc, text)?) {
+        (Err(NumFault::BadNumber), _) => Err(NumFault::BadNumber),
+        (_, Err(NumFault::BadNumber)) => Err(NumFault::BadNumber),
+        (Ok(mass), Ok(values)) => Ok(TypeNumbers { mass, values }),
+        _ => Err(NumFault::NumberRange),
+    })
+}
+
+fn add_type<A: Allocator + Copy>(
+    alloc: A,
+    mut draft: Draft<A>,
+    limits: &Limits,
+    number: u64,
+    word: &[u8],
+    numbers: Option<TypeNumbers<A>>,
+) -> Result<Draft<A>, JobFault<A>>
+    requires { is_type_name word.now ≡ true }
+    ensures { Gives said_of result (type_new (counts_of limits.now) number (said_of draft) word.now (option_map type_numbers_of numbers)) }
+{
+    if knows_type(draft.types.as_slice(), word) {
+        return Err(repeated_type(alloc, word));
+    }
+    let Some(numbers) = numbers else {
+        return Err(JobFault::Range { key: Key::Types });
+    };
+    if draft.types.as_slice().len() >= limits.types {
+        return Err(JobFault::Range { key: Key::Types });
+    }
+    let name = type_name(word);
+    draft.types.push(TypeLine {
+        line: number,
+        value: AtomType {
+            name,
+            mass: numbers.mass,
+            values: numbers.values,
+        },
+    })?;
+    Ok(draft)
+}
+
+#[tactic(auto, using(crate::proofs::FormLemmas::type_name_is))]
+fn type_name(word: &[u8]) -> Name
+    requires { is_type_name word.now ≡ true }
+    ensures { name_text result ≡ word.now }
+{
+    match Name::new(word) {
+        Some(name) => name,
+        None => unreachable!(),
+    }
+}
+
+fn take_type<A: Allocator + Copy>(
+    alloc: A,
+    draft: Draft<A>,
+    limits: &Limits,
+    number: u64,
+    text: &[u8],
+) -> Result<Draft<A>, JobFault<A>>
+    ensures { Gives said_of result (type_into (counts_of limits.now) number (said_of draft) (words text.now)) }
+{
+    let Some((name, rest)) = next_word(text) else {
+        return Err(JobFault::BadLine { line: number });
+    };
+    let Some((mass, rest)) = next_word(rest) else {
+        return Err(JobFault::BadLine { line: number });
+    };
+    if !is_type_name(name) {
+        return Err(JobFault::BadLine { line: number });
+    }
+    let numbers = well_formed(number, type_numbers(alloc, mass, rest)?)?;
+    add_type(alloc, draft, limits, number, name, numbers)
+}
+
+#[tactic(auto, unfolding(crate::specs::Drafts::key_into))]
+fn take_key<A: Allocator + Copy>(
+    alloc: A,
+    draft: Draft<A>,
+    limits: &Limits,
+    number: u64,
+    key: Option<Key>,
+    text: &[u8],
+) -> Result<Draft<A>, JobFault<A>>
+    ensures { Gives said_of result (key_into (counts_of limits.now) number (said_of draft) key text.now) }
+{
+    match key {
+        None => Err(JobFault::BadLine { line: number }),
+        Some(Key::Energy) => take_energy(alloc, draft, number, text),
+        Some(Key::Core) => take_core(draft, number, text),
+        Some(Key::Cutoff) => take_cutoff(draft, number, text),
+        Some(Key::TimeStep) => take_time_step(draft, number, text),
+        Some(Key::Slices) => take_slices(draft, number, text),
+        Some(Key::Parameter) => take_parameter(alloc, draft, limits, number, text),
+        Some(Key::Global) => take_global(alloc, draft, limits, number, text),
+        Some(Key::Types) => take_type(alloc, draft, limits, number, text),
+    }
+}
+
+/// What the lines so far and this one have said, or this line's fault.
+#[tactic(auto, unfolding(crate::specs::Drafts::line_into))]
+pub fn take_line<A: Allocator + Copy>(
+    alloc: A,
+    draft: Draft<A>,
+    limits: &Limits,
+    number: u64,
+    line: &[u8],
+) -> Result<Draft<A>, JobFault<A>>
+    ensures { Gives said_of result (line_into (counts_of limits.now) number (said_of draft) line.now) }
+{
+    if let [b'#', ..] = line {
+        return Ok(draft);
+    }
+    match next_word(line) {
+        None => Ok(draft),
+        Some((word, text)) => take_key(alloc, draft, limits, number, key_of(word), text),
+    }
+}

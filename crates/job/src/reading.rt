@@ -1,0 +1,213 @@
+//! Reading a job's text.
+
+ghost use Rattle.std.specs.Prelude.{◌≡◌, ◌+◌, ◌<◌, ◌≤◌, ◌<ℤ◌, ◌^◌, ℕ, length, map, option_map, position, bytes_eq, IfOk, IfSome};
+ghost use Rattle.line_text.specs.Names.{name_text};
+ghost use Rattle.std.specs.List.{All};
+ghost use Rattle.std.specs.Option.{unwrap_or};
+ghost use Rattle.job.specs.Words.{lines_of, more_lines};
+ghost use Rattle.job.specs.Drafts.{nothing, lines_into, lines_job};
+ghost use Rattle.job.specs.JobText.{header, needed, ordered, whole_types, job_from};
+ghost use Rattle.job.specs.Views.{said_of, counts_of, type_line, type_value, job_value, Gives};
+
+use crate::drafts::{Draft, TypeLine};
+use crate::faults::{JobFault, Key};
+use crate::jobs::{AtomType, Job};
+use crate::limits::Limits;
+use crate::lines::take_line;
+use crate::words::next_line;
+use fixed::Fx;
+use std::alloc::{AllocError, Allocator};
+
+/// How many parameters, globals and types a job may have for now; at last 8, 16 and 64.
+const STAGE: Limits = Limits {
+    parameters: 0,
+    globals: 0,
+    types: 1,
+};
+
+/// The number of slices of a job that names none.
+const SLICES: u32 = 64;
+
+fn take_lines<A: Allocator + Copy>(
+    alloc: A,
+    limits: &Limits,
+    text: Option<&[u8]>,
+) -> Result<Draft<A>, JobFault<A>>
+    requires { IfSome text (λ t. length t.now + 3 < 2 ^ 64) }
+    ensures { Gives said_of result (lines_into (counts_of limits.now) 2 nothing (more_lines (option_map (λ x. x.now) text.entry))) }
+{
+    let mut draft = Draft::new(alloc);
+    let mut number = 2;
+    let mut rest = text;
+    while let Some(lines) = rest {
+        let (line, after) = next_line(lines);
+        draft = take_line(alloc, draft, limits, number, line)?;
+        number += 1;
+        rest = after;
+    }
+    Ok(draft)
+}
+
+fn needed<T, A: Allocator>(key: Key, value: Option<T>) -> Result<T, JobFault<A>>
+    ensures value { Gives (λ x. x) result (needed key value) }
+    ensures found { IfOk result (λ x. value ≡ Some x) }
+{
+    value.ok_or(JobFault::Missing { key })
+}
+
+// The first type with another number of values than this is a fault.
+fn check_counts<A: Allocator>(count: usize, types: &[TypeLine<A>]) -> Result<(), JobFault<A>>
+    ensures value { Gives (λ _. map (λ t. t.value) (map type_line types.now)) result (whole_types count (map type_line types.now)) }
+    ensures whole { IfOk result (λ _. All (λ t. length t.value.values.items ≡ count) types.now) }
+{
+    for line in types {
+        if line.value.values.as_slice().len() != count {
+            return Err(JobFault::BadLine { line: line.line });
+        }
+    }
+    Ok(())
+}
+
+fn without_lines<A: Allocator>(
+    alloc: A,
+    lines: Vec<TypeLine<A>, A>,
+) -> Result<Vec<AtomType<A>, A>, AllocError>
+    ensures { IfOk result (λ v. v.items ≡ map (λ l. l.value) lines.items) }
+{
+    lines.into_iter().map(|line| line.value).collect(alloc)
+}
+
+// The types of these lines, each with this many values.
+fn atom_types<A: Allocator>(
+    alloc: A,
+    count: usize,
+    lines: Vec<TypeLine<A>, A>,
+) -> Result<Vec<AtomType<A>, A>, JobFault<A>>
+    ensures value { Gives (λ v. map type_value v.items) result (whole_types count (map type_line lines.items)) }
+    ensures whole { IfOk result (λ v. All (λ t. length t.values.items ≡ count) v.items) }
+    ensures few { IfOk result (λ v. length v.items ≡ length lines.items) }
+{
+    check_counts(count, lines.as_slice())?;
+    Ok(without_lines(alloc, lines)?)
+}
+
+// The cutoff, which is more than the core.
+fn ordered<A: Allocator>(core: Fx, cutoff: Fx) -> Result<Fx, JobFault<A>>
+    ensures value { Gives (λ x. x) result (ordered core cutoff) }
+    ensures above { IfOk result (λ x. (x ≡ cutoff) × (core <ℤ x)) }
+{
+    if core.raw() < cutoff.raw() {
+        Ok(cutoff)
+    } else {
+        Err(JobFault::Range { key: Key::Cutoff })
+    }
+}
+
+fn slices_or_default(slices: Option<u32>) -> u32
+    requires some { IfSome slices (λ n. 1 ≤ n) }
+    requires most { IfSome slices (λ n. n ≤ 65536) }
+    ensures value { result ≡ unwrap_or slices 64 }
+    ensures range { (1 ≤ result) × (result ≤ 65536) }
+{
+    match slices {
+        Some(slices) => slices,
+        None => SLICES,
+    }
+}
+
+// The job that the lines have said.
+#[tactic(auto, unfolding(crate::specs::JobText::job_from))]
+fn finish<A: Allocator + Copy>(alloc: A, draft: Draft<A>) -> Result<Job<A>, JobFault<A>>
+    ensures { Gives job_value result (job_from (said_of draft)) }
+{
+    let Draft {
+        energy,
+        core,
+        cutoff,
+        time_step,
+        slices,
+        parameters,
+        globals,
+        types,
+    } = draft;
+    let energy = needed(Key::Energy, energy)?;
+    let core = needed(Key::Core, core)?;
+    let longest = needed(Key::Cutoff, cutoff)?;
+    let time_step = needed(Key::TimeStep, time_step)?;
+    let cutoff = ordered(core, longest)?;
+    let types = atom_types(alloc, parameters.as_slice().len(), types)?;
+    Ok(Job {
+        energy,
+        core,
+        cutoff,
+        time_step,
+        slices: slices_or_default(slices),
+        parameters,
+        globals,
+        types,
+    })
+}
+
+fn place_of<A: Allocator>(types: &[AtomType<A>], name: &[u8]) -> Option<usize>
+    ensures place { result ≡ position (λ t. bytes_eq (name_text t.name) name.now) types.now }
+    ensures within { IfSome result (λ i. i < length types.now) }
+{
+    types.iter().position(|t| t.name.as_bytes() == name)
+}
+
+fn is_header(line: &[u8]) -> bool
+    ensures { result ≡ bytes_eq line.now header }
+{
+    line == b"pairmd job 1".as_slice()
+}
+
+fn read_within<A: Allocator + Copy>(
+    alloc: A,
+    limits: &Limits,
+    bytes: &[u8],
+) -> Result<Job<A>, JobFault<A>>
+    ensures { Gives job_value result (lines_job (counts_of limits.now) (lines_of bytes.now)) }
+{
+    let (first, rest) = next_line(bytes);
+    if !is_header(first) {
+        return Err(JobFault::BadLine { line: 1 });
+    }
+    let draft = take_lines(alloc, limits, rest)?;
+    finish(alloc, draft)
+}
+
+impl<A: Allocator + Copy> Job<A> {
+    ghost use Rattle.job.specs.JobText.{IsJobText, HasKeysOnce, below_first, reading_of, stage};
+    ghost use Rattle.job.specs.Values.{JobValue};
+    ghost use Rattle.job.specs.Views.{job_value, Gives, AnswersJob};
+
+    /// Reads a job's text.
+    ///
+    /// The first line is `pairmd job 1`. Below it, lines that are blank or begin with `#` are skipped, and the others begin with a key, in any order: `energy TEXT`, `core X`, `cutoff X` and `dt N` once, `slices N` at most once, and `parameter NAME`, `global NAME X` and `type NAME MASS X..`, of which a job may have none, none and one for now. Words are separated by spaces or tabs, and lines end with a line feed, before which one carriage return may stand.
+    ///
+    /// The first fault is the answer. Lines are judged from the top, and on each `BadLine` where it is malformed, `Repeated` or `RepeatedName` where a line above has its key or its name, `RepeatedType` where a type above has its name, and `Range` where a number is out of its range or the line is one too many. Then come `Missing` for `energy`, `core`, `cutoff` and `dt` in this order, `Range` where the cutoff isn't more than the core, and `BadLine` for the first type with another number of values than there are parameters. `Memory` comes only where a growth was refused.
+    pub fn read(alloc: A, bytes: &[u8]) -> Result<Job<A>, JobFault<A>>
+        ensures exact { Gives job_value result (reading_of stage bytes.now) }
+        ensures job { IfOk result (λ job. IsJobText stage bytes.now (job_value job)) }
+        ensures once { IfOk result (λ _. HasKeysOnce (below_first (lines_of bytes.now))) }
+        ensures only { (job : JobValue) → IsJobText stage bytes.now job → AnswersJob result job }
+    {
+        read_within(alloc, &STAGE, bytes)
+    }
+}
+
+impl<A: Allocator> Job<A> {
+    /// The index of the type of this name, or None where no type has it.
+    pub fn type_of(&self, name: &[u8]) -> Option<u32>
+        ensures place { result ≡ position (λ t. bytes_eq (name_text t.name) name.now) self.now.types.items }
+        ensures within { IfSome result (λ i. i < length self.now.types.items) }
+    {
+        match place_of(self.types.as_slice(), name) {
+            Some(place) => Some(place as u32),
+            None => None,
+        }
+    }
+}
+
+#[cfg(test)]
+mod tests;
