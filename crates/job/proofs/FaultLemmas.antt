@@ -16,11 +16,11 @@ use Rattle.job.specs.Drafts.{number_of, energy_new, energy_into, core_into, cuto
 
 -- ---- one more line
 
-abbrev kept_first : {X : Type 0} → Option X → X → Option X
+abbrev pub kept_first : {X : Type 0} → Option X → X → Option X
 kept_first None x = Some x
 kept_first (Some y) x = Some y
 
-abbrev or_first : {X : Type 0} → Option X → Option X → Option X
+abbrev pub or_first : {X : Type 0} → Option X → Option X → Option X
 or_first o None = o
 or_first o (Some x) = kept_first o x
 
@@ -29,7 +29,7 @@ and_one xs None = xs
 and_one xs (Some x) = xs ++ x ∷ []
 
 -- what lines have said, and one more
-abbrev joined : ℕ → Said → Option Statement → Said
+abbrev pub joined : ℕ → Said → Option Statement → Said
 joined n s e = record {
   energy = or_first s.energy (option_and_then energy_in e);
   core = or_first s.core (option_and_then core_in e);
@@ -81,7 +81,7 @@ types_more n m [] line e =
 types_more n m (l ∷ lines) line e =
     ap (cons_option (type_in n (entry_of l))) (types_more (n + 1) m lines line (omega arith)) ∙ cons_and (type_in n (entry_of l)) (type_in m (entry_of line)) (type_lines (n + 1) lines)
 
-summary_more : (lines : List (List ℕ)) (line : List ℕ) → summary (lines ++ line ∷ []) ≡ joined (length lines + 2) (summary lines) (entry_of line)
+pub summary_more : (lines : List (List ℕ)) (line : List ℕ) → summary (lines ++ line ∷ []) ≡ joined (length lines + 2) (summary lines) (entry_of line)
 unfolding summary
 summary_more lines line = rw (first_said energy_in lines line, first_said core_in lines line, first_said cutoff_in lines line, first_said time_step_in lines line, first_said slices_in lines line, said_more parameter_in lines line, said_more global_in lines line, types_more 2 (length lines + 2) lines line refl) refl
 

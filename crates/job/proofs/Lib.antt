@@ -8,3 +8,4 @@ pub mod ViewLemmas
 pub mod FaultLemmas
 pub mod TextLemmas
 pub mod OnceLemmas
+pub mod ApartLemmas

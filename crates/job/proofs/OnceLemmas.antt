@@ -1,5 +1,5 @@
 -- Lines without a fault have each key that one line may have at most once.
-use Rattle.std.proofs.Common.{◌≡◌, ℕ, ℤ, ◌+◌, ◌≤◌, List, [], ◌∷◌, ◌++◌, length, Option, Some, None, Result, Ok, Err, IfOk, filter_map, option_and_then, refl, sym, ap, subst, ◌∙◌, arith, append_assoc, append-nil}
+use Rattle.std.proofs.Common.{◌≡◌, ℕ, ◌+◌, ◌≤◌, List, [], ◌∷◌, ◌++◌, length, Option, Some, None, Result, Ok, Err, IfOk, filter_map, option_and_then, refl, sym, ap, subst, ◌∙◌, arith, append_assoc, append-nil}
 use Rattle.job.specs.declared.faults.Key.{Key}
 use Rattle.job.specs.declared.faults.Key.TheVariants as keys
 use Rattle.job.specs.declared.jobs.Job.{Job}
@@ -7,9 +7,9 @@ use Rattle.job.specs.declared.faults.JobFault.{JobFault}
 use Rattle.job.specs.Words.{lines_of}
 use Rattle.job.specs.Views.{job_value}
 use Rattle.job.specs.Values.{Counts, JobValue}
-use Rattle.job.specs.Statements.{Statement, skipped, energy_is, core_is, cutoff_is, time_step_is, slices_is, parameter_is, global_is, type_is, entry_of}
-use Rattle.job.specs.Faults.{Refusal, Said, first, once, entry_fault, statement_fault, line_fault, summary, energy_in, core_in, cutoff_in, time_step_in, slices_in}
-use Rattle.job.specs.JobText.{IsFaultless, IsJobText, times_said, below_first, HasKeysOnce, Tells}
+use Rattle.job.specs.Statements.{Statement, energy_is, core_is, cutoff_is, time_step_is, slices_is, entry_of}
+use Rattle.job.specs.Faults.{first, once, entry_fault, line_fault, summary, energy_in, core_in, cutoff_in, time_step_in, slices_in}
+use Rattle.job.specs.JobText.{IsFaultless, IsJobText, below_first, HasKeysOnce, Tells}
 use Rattle.job.proofs.FaultLemmas.{and_one, said_more}
 
 abbrev said : {X : Type 0} → (Statement → Option X) → List (List ℕ) → List X

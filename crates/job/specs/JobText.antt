@@ -1,5 +1,5 @@
 -- Which text is which job's, and the first fault of a text that is no job's.
-use Rattle.std.specs.Prelude.{◌≡◌, ℕ, ℤ, List, [], ◌∷◌, ◌++◌, length, map, filter_map, ◌≤◌, Option, Some, None, Result, Ok, Err, ◌==◌, ◌<ℤ◌, int_lt, codes, bytes_eq, All, if◌then◌else◌}
+use Rattle.std.specs.Prelude.{◌≡◌, ℕ, ℤ, List, [], ◌∷◌, ◌++◌, length, map, filter_map, ◌≤◌, AllPairs, Option, Some, None, Result, Ok, Err, ◌==◌, ◌<ℤ◌, int_lt, codes, bytes_eq, All, if◌then◌else◌}
 use Rattle.std.specs.Option.{unwrap_or}
 use Rattle.job.specs.declared.faults.Key.{Key}
 use Rattle.job.specs.declared.faults.Key.TheVariants as keys
@@ -59,6 +59,16 @@ pub record HasKeysOnce (lines : List (List ℕ)) : Type 0 where
   pub cutoff : times_said cutoff_in lines ≡ 1
   pub time_step : times_said time_step_in lines ≡ 1
   pub slices : times_said slices_in lines ≤ 1
+
+-- no two names are equal
+abbrev pub AreApart : List (List ℕ) → Type 0
+AreApart names = AllPairs (λ a b. a ≡ b → ⊥) names
+
+-- no two parameters, globals or types of the job have one name
+pub record HasNamesOnce (job : JobValue) : Type 0 where
+  pub parameters : AreApart job.parameters
+  pub globals : AreApart (map (λ g. g.name) job.globals)
+  pub types : AreApart (map (λ t. t.name) job.types)
 
 -- ---- the first fault of a text, or its job
 

@@ -177,7 +177,7 @@ fn read_within<A: Allocator + Copy>(
 }
 
 impl<A: Allocator + Copy> Job<A> {
-    ghost use Rattle.job.specs.JobText.{IsJobText, HasKeysOnce, below_first, reading_of, stage};
+    ghost use Rattle.job.specs.JobText.{IsJobText, HasKeysOnce, HasNamesOnce, below_first, reading_of, stage};
     ghost use Rattle.job.specs.Values.{JobValue};
     ghost use Rattle.job.specs.Views.{job_value, Gives, AnswersJob};
 
@@ -190,6 +190,7 @@ impl<A: Allocator + Copy> Job<A> {
         ensures exact { Gives job_value result (reading_of stage bytes.now) }
         ensures job { IfOk result (λ job. IsJobText stage bytes.now (job_value job)) }
         ensures once { IfOk result (λ _. HasKeysOnce (below_first (lines_of bytes.now))) }
+        ensures apart { IfOk result (λ job. HasNamesOnce (job_value job)) }
         ensures only { (job : JobValue) → IsJobText stage bytes.now job → AnswersJob result job }
     {
         read_within(alloc, &STAGE, bytes)

@@ -1,4 +1,5 @@
 use Rattle.job.specs.JobText.{stage}
+use Rattle.job.proofs.ApartLemmas.{given_apart}
 use Rattle.job.proofs.OnceLemmas.{given_once}
 use Rattle.job.proofs.TextLemmas.{given, given_job, given_only}
 use Rattle.job.proofs.jobs.Job.read.Goals as goal
@@ -15,3 +16,7 @@ returns-clause-only g c = given_only stage c.args.bytes.now c.read_within.result
 pub returns-clause-once : goal.returns-clause-once
 returns-clause-once g c =
     given_once stage c.args.bytes.now c.read_within.result (given_job stage c.args.bytes.now c.read_within.result (given stage c.args.bytes.now c.read_within.result c.read_within.ensures))
+
+pub returns-clause-apart : goal.returns-clause-apart
+returns-clause-apart g c =
+    given_apart stage c.args.bytes.now c.read_within.result (given_job stage c.args.bytes.now c.read_within.result (given stage c.args.bytes.now c.read_within.result c.read_within.ensures))

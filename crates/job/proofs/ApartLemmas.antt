@@ -1,0 +1,122 @@
+-- Lines without a fault have no name twice.
+use Rattle.std.proofs.Common.{◌≡◌, ℕ, zero, suc, ◌+◌, ◌<◌, Bool, true, false, List, [], ◌∷◌, ◌++◌, length, get_or, map, Option, Some, None, Result, Ok, Err, IfOk, bytes_eq, refl, sym, ap, subst, ◌∙◌, arith, append_assoc, append-nil, option_map}
+use Rattle.std.proofs.lemmas.Bool.{or_parts}
+use Rattle.std.proofs.lemmas.List.{map-append}
+use Rattle.std.proofs.lemmas.List.Quantifiers.{all_pairs_push}
+use Rattle.std.proofs.lemmas.Slice.Eq.{bytes_eq-Decides}
+use Rattle.job.specs.declared.faults.Key.{Key}
+use Rattle.job.specs.declared.jobs.Job.{Job}
+use Rattle.job.specs.declared.faults.JobFault.{JobFault}
+use Rattle.job.specs.Values.{Counts, JobValue, GlobalValue, TypeValue}
+use Rattle.job.specs.Statements.{Statement, parameter_is, global_is, type_is, entry_of}
+use Rattle.job.specs.Faults.{Refusal, Said, TypeLine, knows, listed, entry_fault, line_fault, summary}
+use Rattle.job.specs.JobText.{IsFaultless, IsJobText, Tells, AreApart, HasNamesOnce}
+use Rattle.job.specs.Views.{job_value}
+use Rattle.job.proofs.FaultLemmas.{and_one, joined, summary_more}
+
+differs : (a b : List ℕ) → bytes_eq a b ≡ false → a ≡ b → ⊥
+differs a b e h = let t = (bytes_eq-Decides a b).1 h in absurd cc
+
+all_differ : (names : List (List ℕ)) (name : List ℕ) → knows names name ≡ false → (k : ℕ) (d : List ℕ) → k < length names → get_or names k d ≡ name → ⊥
+all_differ [] name e k d lt = absurd (omega arith)
+all_differ (n ∷ ns) name e zero d lt = differs n name (or_parts (bytes_eq n name) (knows ns name) e).0
+all_differ (n ∷ ns) name e (suc k) d lt = all_differ ns name (or_parts (bytes_eq n name) (knows ns name) e).1 k d (omega arith)
+
+apart_none : AreApart []
+apart_none i j d lt below = absurd (omega arith)
+
+apart_one : (names : List (List ℕ)) (o : Option (List ℕ)) → ((name : List ℕ) → o ≡ Some name → knows names name ≡ false) → AreApart names → AreApart (and_one names o)
+apart_one names None h a = a
+apart_one names (Some name) h a = all_pairs_push (λ a b. a ≡ b → ⊥) names name a (all_differ names name (h name refl))
+
+listed_none : (known fits : Bool) (repetition : Refusal) (key : Key) → listed known repetition fits key ≡ None → known ≡ false
+listed_none true fits repetition key e = absurd cc
+listed_none false fits repetition key e = refl
+
+-- names that lines give, one at a time, each of which is new
+pub record GivesNames (most : Counts) (names : Said → List (List ℕ)) (name_in : Option Statement → Option (List ℕ)) : Type 0 where
+  pub more : (n : ℕ) (s : Said) (o : Option Statement) → names (joined n s o) ≡ and_one (names s) (name_in o)
+  pub fresh : (n : ℕ) (s : Said) (o : Option Statement) (name : List ℕ) → entry_fault most n s o ≡ None → name_in o ≡ Some name → knows (names s) name ≡ false
+
+apart_below : (most : Counts) (names : Said → List (List ℕ)) (name_in : Option Statement → Option (List ℕ)) → GivesNames most names name_in → (above lines : List (List ℕ))
+    → ((front below : List (List ℕ)) (line : List ℕ) → lines ≡ front ++ line ∷ below → line_fault most (above ++ front) line ≡ None) → AreApart (names (summary above)) → AreApart (names (summary (above ++ lines)))
+unfolding line_fault
+apart_below most names name_in g above [] h a = subst (λ (z : List (List ℕ)). AreApart (names (summary z))) (sym (append-nil above)) a
+apart_below most names name_in g above (line ∷ lines) h a =
+    let good : line_fault most above line ≡ None = ap (λ (z : List (List ℕ)). line_fault most z line) (sym (append-nil above)) ∙ h [] lines line refl in
+    let one : AreApart (and_one (names (summary above)) (name_in (entry_of line))) = apart_one (names (summary above)) (name_in (entry_of line)) (λ name e. g.fresh (length above + 2) (summary above) (entry_of line) name good e) a in
+    let more : AreApart (names (summary (above ++ line ∷ []))) = subst AreApart (sym (ap names (summary_more above line) ∙ g.more (length above + 2) (summary above) (entry_of line))) one in
+    subst (λ (z : List (List ℕ)). AreApart (names (summary z))) (append_assoc above (line ∷ []) lines)
+    (apart_below most names name_in g (above ++ line ∷ []) lines (λ front below l e. ap (λ (z : List (List ℕ)). line_fault most z l) (append_assoc above (line ∷ []) front) ∙ h (line ∷ front) below l (ap (λ zs. line ∷ zs) e)) more)
+
+map_one : {X Y : Type 0} (f : X → Y) (xs : List X) (o : Option X) → map f (and_one xs o) ≡ and_one (map f xs) (option_map f o)
+map_one f xs None = refl
+map_one f xs (Some x) = map-append f xs (x ∷ [])
+
+parameter_name : Option Statement → Option (List ℕ)
+parameter_name (Some (parameter_is name)) = Some name
+parameter_name _ = None
+
+parameter_names : (most : Counts) → GivesNames most (λ s. s.parameters) parameter_name
+unfolding parameter_name
+parameter_names most = record { more = more; fresh = fresh }
+  where
+    more : (n : ℕ) (s : Said) (o : Option Statement) → (joined n s o).parameters ≡ and_one s.parameters (parameter_name o)
+    more n s (Some (parameter_is name)) = refl
+    more n s _ = refl
+
+    fresh : (n : ℕ) (s : Said) (o : Option Statement) (name : List ℕ) → entry_fault most n s o ≡ None → parameter_name o ≡ Some name → knows s.parameters name ≡ false
+    fresh n s (Some (parameter_is p)) name f e =
+        let same : p ≡ name = cc in subst (λ z. knows s.parameters z ≡ false) same (listed_none _ _ _ _ f)
+    fresh n s _ name f e = absurd cc
+
+global_name : Option Statement → Option (List ℕ)
+global_name (Some (global_is name (Some v))) = Some name
+global_name _ = None
+
+global_names : (most : Counts) → GivesNames most (λ s. map (λ g. g.name) s.globals) global_name
+unfolding global_name
+global_names most = record { more = more; fresh = fresh }
+  where
+    more : (n : ℕ) (s : Said) (o : Option Statement) → map (λ g. g.name) (joined n s o).globals ≡ and_one (map (λ g. g.name) s.globals) (global_name o)
+    more n s (Some (global_is name (Some v))) = map-append (λ g. g.name) s.globals (record { name = name; value = v } ∷ [])
+    more n s _ = refl
+
+    fresh : (n : ℕ) (s : Said) (o : Option Statement) (name : List ℕ) → entry_fault most n s o ≡ None → global_name o ≡ Some name → knows (map (λ g. g.name) s.globals) name ≡ false
+    fresh n s (Some (global_is p (Some v))) name f e =
+        let same : p ≡ name = cc in subst (λ z. knows (map (λ g. g.name) s.globals) z ≡ false) same (listed_none _ _ _ _ f)
+    fresh n s _ name f e = absurd cc
+
+type_name : Option Statement → Option (List ℕ)
+type_name (Some (type_is name (Some v))) = Some name
+type_name _ = None
+
+type_names : (most : Counts) → GivesNames most (λ s. map (λ t. t.value.name) s.types) type_name
+unfolding type_name
+type_names most = record { more = more; fresh = fresh }
+  where
+    more : (n : ℕ) (s : Said) (o : Option Statement) → map (λ t. t.value.name) (joined n s o).types ≡ and_one (map (λ t. t.value.name) s.types) (type_name o)
+    more n s (Some (type_is name (Some v))) = map-append (λ t. t.value.name) s.types (record { line = n; value = record { name = name; mass = v.0; values = v.1 } } ∷ [])
+    more n s _ = refl
+
+    fresh : (n : ℕ) (s : Said) (o : Option Statement) (name : List ℕ) → entry_fault most n s o ≡ None → type_name o ≡ Some name → knows (map (λ t. t.value.name) s.types) name ≡ false
+    fresh n s (Some (type_is p (Some v))) name f e =
+        let same : p ≡ name = cc in subst (λ z. knows (map (λ t. t.value.name) s.types) z ≡ false) same (listed_none _ _ _ _ f)
+    fresh n s _ name f e = absurd cc
+
+line_names : (ts : List TypeLine) → map (λ t. t.name) (map (λ t. t.value) ts) ≡ map (λ t. t.value.name) ts
+line_names [] = refl
+line_names (t ∷ ts) = ap (λ ns. t.value.name ∷ ns) (line_names ts)
+
+names_once : (most : Counts) (lines : List (List ℕ)) (job : JobValue) → IsFaultless most lines → Tells (summary lines) job → HasNamesOnce job
+unfolding summary
+names_once most lines job h t =
+    record {
+      parameters = subst AreApart t.parameters (apart_below most (λ s. s.parameters) parameter_name (parameter_names most) [] lines h apart_none);
+      globals = subst (λ (gs : List GlobalValue). AreApart (map (λ g. g.name) gs)) t.globals (apart_below most (λ s. map (λ g. g.name) s.globals) global_name (global_names most) [] lines h apart_none);
+      types = subst (λ (ts : List TypeValue). AreApart (map (λ u. u.name) ts)) t.types (subst AreApart (sym (line_names (summary lines).types)) (apart_below most (λ s. map (λ u. u.value.name) s.types) type_name (type_names most) [] lines h apart_none));
+    }
+
+pub given_apart : {A : Type 0} (most : Counts) (text : List ℕ) (result : Result (Job A) (JobFault A)) → IfOk result (λ job. IsJobText most text (job_value job)) → IfOk result (λ job. HasNamesOnce (job_value job))
+given_apart most text (Err e) h = tt
+given_apart most text (Ok job) h = names_once most h.lines (job_value job) h.faultless h.tells
