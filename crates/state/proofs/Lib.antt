@@ -1,0 +1,10 @@
+pub mod ResidueNumbers
+pub mod LineLaws
+pub mod AtomLaws
+pub mod AtomListLaws
+pub mod AtomLoop
+pub mod StateFound
+pub mod StateReadsAgain
+pub mod CallLaws
+pub mod Pieces
+pub mod AtomPieces

@@ -1,0 +1,159 @@
+-- The lines of a state: what is read is spelled so, and what is spelled so is read.
+use Rattle.std.proofs.Common.{◌≡◌, ℕ, ◌-◌, ◌^◌, ◌<◌, ◌≤◌, Bool, true, false, ◌&&◌, cond, eqb, ltb, not, List, [], ◌∷◌, ◌++◌, length, get_or, Option, Some, None, Result, Ok, Err, ℤ, codes, decimal, bytes_eq, IsTrue, refl, sym, ap, subst, ◌∙◌, arith, lit<}
+use Rattle.std.specs.Fmt.{signed_decimal}
+use Rattle.std.specs.List.{flat_map, list_all}
+use Rattle.std.proofs.lemmas.Bool.{and_parts, and_from, not-true, eqb-true, ltb-true, lt-ltb}
+use Rattle.std.proofs.lemmas.List.{append-nil, nil_from_length}
+use lib.Signed.{mag}
+use Rattle.line_text.specs.Parts.{◌>>=◌ as ◌|>◌, word, ended, AreThree, lacks, cut_at, after, natural_of, integer_of, three_at}
+use Rattle.line_text.proofs.PartLaws.{some_of, none_of, same_bytes, natural_found, natural_again, integer_found, integer_again}
+use Rattle.line_text.proofs.LineLaws.{bind_some, lacks_append, lacks_rest, decimal_lacks, signed_lacks, cut_found, line_cut, ended_then, after_found, after_again, three_found, three_again, words_lack}
+use Rattle.state.specs.declared.faults.StateFault.{StateFault}
+use Rattle.state.specs.StateText.{head_line, title_line, step_line, count_line, box_line, IsSide, is_title}
+use Rattle.state.specs.StateReading.{◌>>=◌, head_of, title_of, step_of, count_of, sides_of, line_at, needed, said, field_at}
+
+-- the value of a step that did not fail
+pub bind_ok : {A B : Type 0} (r : Result A StateFault) (f : A → Result B StateFault) (y : B) → (r >>= f) ≡ Ok y → (x : A) × (r ≡ Ok x) × (f x ≡ Ok y)
+bind_ok (Ok x) f y e = (x, refl, e)
+bind_ok (Err d) f y e = absurd cc
+
+-- ---- any line
+
+pub line_found : (bytes : List ℕ) (p : List ℕ × List ℕ) → line_at bytes ≡ Ok p → (bytes ≡ ended p.0 ++ p.1) × (lacks 10 p.0 ≡ true)
+line_found bytes p e = at (cut_at 10 bytes) refl e
+  where
+    at : (o : Option (List ℕ × List ℕ)) → cut_at 10 bytes ≡ o → needed o ≡ Ok p → (bytes ≡ ended p.0 ++ p.1) × (lacks 10 p.0 ≡ true)
+    at None c d = absurd cc
+    at (Some q) c d =
+        let same : q ≡ p = cc in
+        let f = cut_found 10 bytes p.0 p.1 (c ∙ ap (λ (x : List ℕ × List ℕ). Some x) same) in
+        (f.0 ∙ sym (ended_then p.0 p.1), f.1)
+
+line_again : (line rest : List ℕ) → lacks 10 line ≡ true → line_at (ended line ++ rest) ≡ Ok (line, rest)
+line_again line rest l = ap needed (line_cut line rest l)
+
+said_found : {X : Type 0} (n : ℕ) (o : Option X) (x : X) → said n o ≡ Ok x → o ≡ Some x
+said_found n None x e = absurd cc
+said_found n (Some y) x e = cc
+
+-- what a reader of lines takes is spelled so, and is so
+abbrev pub Spells : {X : Type 0} → (List ℕ → Option X) → (X → List ℕ) → (X → Type 0) → Type 0
+Spells {X = X} read spell P = (line : List ℕ) (x : X) → lacks 10 line ≡ true → read line ≡ Some x → (line ≡ spell x) × P x
+
+pub field_found : {X : Type 0} (n : ℕ) (read : List ℕ → Option X) (spell : X → List ℕ) (P : X → Type 0) → Spells read spell P
+    → (bytes : List ℕ) (p : X × List ℕ) → field_at n read bytes ≡ Ok p → (bytes ≡ ended (spell p.0) ++ p.1) × P p.0
+field_found {X = X} n read spell P spells bytes p e =
+    let a = bind_ok (line_at bytes) (λ l. said n (read l.0) >>= λ x. Ok (x, l.1)) p e in
+    let b = bind_ok (said n (read a.0.0)) (λ x. Ok (x, a.0.1)) p a.2 in
+    let g = line_found bytes a.0 a.1 in
+    let s = spells a.0.0 b.0 g.1 (said_found n (read a.0.0) b.0 b.1) in
+    let same : (b.0, a.0.1) ≡ p = cc in
+    subst (λ (q : X × List ℕ). (bytes ≡ ended (spell q.0) ++ q.1) × P q.0) same (g.0 ∙ ap (λ (l : List ℕ). ended l ++ a.0.1) s.0, s.1)
+
+pub field_again : {X : Type 0} (n : ℕ) (read : List ℕ → Option X) (line : List ℕ) (x : X) (rest : List ℕ) → lacks 10 line ≡ true → read line ≡ Some x
+    → field_at n read (ended line ++ rest) ≡ Ok (x, rest)
+field_again n read line x rest l e = rw (line_again line rest l, e) refl
+
+-- ---- the first line
+
+pub head_found : Spells head_of (λ _. head_line) (λ _. Unit {0})
+head_found line u l e = at (bytes_eq line head_line) refl e
+  where
+    at : (b : Bool) → bytes_eq line head_line ≡ b → cond b (Some tt) None ≡ Some u → (line ≡ head_line) × Unit {0}
+    at true c d = (same_bytes line head_line c, tt)
+    at false c d = absurd cc
+
+-- ---- the title
+
+pub title_found : Spells title_of title_line (λ t. IsTrue (is_title t))
+unfolding title_of
+title_found line t l e =
+    let a = bind_some (after (codes "title ") line) (λ u. cond (eqb (get_or u (length u - 1) 0) 13) None (Some u)) t e in
+    let s = none_of (eqb (get_or a.0 (length a.0 - 1) 0) 13) a.0 t a.2 in
+    let whole : line ≡ codes "title " ++ t = after_found (codes "title ") line a.0 a.1 ∙ ap (λ (u : List ℕ). codes "title " ++ u) s.1 in
+    let no_return : eqb (get_or t (length t - 1) 0) 13 ≡ false = subst (λ (u : List ℕ). eqb (get_or u (length u - 1) 0) 13 ≡ false) s.1 s.0 in
+    (whole, and_from (lacks 10 t) (not (eqb (get_or t (length t - 1) 0) 13)) (lacks_rest 10 (codes "title ") t (rw whole at l)) (ap not no_return))
+
+pub title_again : (t : List ℕ) → IsTrue (is_title t) → title_of (title_line t) ≡ Some t
+unfolding title_of
+title_again t h =
+    let p = and_parts (lacks 10 t) (not (eqb (get_or t (length t - 1) 0) 13)) h in
+    rw (after_again (codes "title ") t, not-true (eqb (get_or t (length t - 1) 0) 13) p.1) refl
+
+pub title_lacks : (t : List ℕ) → IsTrue (is_title t) → lacks 10 (title_line t) ≡ true
+title_lacks t h = (and_parts (lacks 10 t) (not (eqb (get_or t (length t - 1) 0) 13)) h).0
+
+-- ---- the step
+
+pub step_found : Spells step_of step_line (λ z. mag z < 2 ^ 63)
+unfolding step_of
+step_found line z l e =
+    let a = bind_some (after (codes "step ") line) integer_of z e in
+    let f = integer_found a.0 z a.2 in
+    (after_found (codes "step ") line a.0 a.1 ∙ ap (λ (u : List ℕ). codes "step " ++ u) f.0, f.1)
+
+pub step_again : (z : ℤ) → mag z < 2 ^ 63 → step_of (step_line z) ≡ Some z
+unfolding step_of
+step_again z h = rw (after_again (codes "step ") (signed_decimal z)) (integer_again z h)
+
+pub step_lacks : (z : ℤ) → mag z < 2 ^ 63 → lacks 10 (step_line z) ≡ true
+step_lacks z h = lacks_append 10 (codes "step ") (signed_decimal z) refl (signed_lacks 10 z (lit< tt) h)
+
+-- ---- the number of atoms
+
+pub count_found : Spells count_of count_line (λ n. n ≤ 65536)
+unfolding count_of
+count_found line n l e =
+    let a = bind_some (after (codes "atoms ") line) (natural_of 65537) n e in
+    let f = natural_found 65537 a.0 n a.2 in
+    (after_found (codes "atoms ") line a.0 a.1 ∙ ap (λ (u : List ℕ). codes "atoms " ++ u) f.0, omega (arith, f.1))
+
+pub count_again : (n : ℕ) → n ≤ 65536 → count_of (count_line n) ≡ Some n
+unfolding count_of
+count_again n h = rw (after_again (codes "atoms ") (decimal n)) (natural_again 65537 n (omega arith) (omega arith))
+
+pub count_lacks : (n : ℕ) → n ≤ 65536 → lacks 10 (count_line n) ≡ true
+count_lacks n h = lacks_append 10 (codes "atoms ") (decimal n) refl (decimal_lacks 10 n (lit< tt) (omega arith))
+
+-- ---- the sides
+
+are_sides : (ns : List ℕ) → AreThree (λ x. x < 16000001) ns → list_all (λ x. ltb 0 x) ns ≡ true → AreThree IsSide ns
+are_sides [] h e = absurd h
+are_sides (x ∷ []) h e = absurd h
+are_sides (x ∷ y ∷ []) h e = absurd h
+are_sides (x ∷ y ∷ z ∷ w ∷ more) h e = absurd h
+are_sides (x ∷ y ∷ z ∷ []) h e =
+    let p = and_parts (ltb 0 x) (ltb 0 y && (ltb 0 z && true)) e in
+    let q = and_parts (ltb 0 y) (ltb 0 z && true) p.1 in
+    let r = and_parts (ltb 0 z) true q.1 in
+    ((ltb-true 0 x p.0, omega (arith, h.0)), (ltb-true 0 y q.0, omega (arith, h.1)), (ltb-true 0 z r.0, omega (arith, h.2)))
+
+sides_small : (ns : List ℕ) → AreThree IsSide ns → (list_all (λ x. ltb 0 x) ns ≡ true) × AreThree (λ x. x < 16000001) ns
+sides_small [] h = absurd h
+sides_small (x ∷ []) h = absurd h
+sides_small (x ∷ y ∷ []) h = absurd h
+sides_small (x ∷ y ∷ z ∷ w ∷ more) h = absurd h
+sides_small (x ∷ y ∷ z ∷ []) h =
+    (rw (lt-ltb 0 x h.0.0, lt-ltb 0 y h.1.0, lt-ltb 0 z h.2.0) refl, (omega (arith, h.0), omega (arith, h.1), omega (arith, h.2)))
+
+pub sides_found : Spells sides_of box_line (AreThree IsSide)
+unfolding sides_of
+sides_found line ns l e =
+    let a = bind_some (after (codes "box") line) (λ rest. three_at 16000001 rest |> λ w. cond (eqb (length w.1) 0 && list_all (λ x. ltb 0 x) w.0) (Some w.0) None) ns e in
+    let b = bind_some (three_at 16000001 a.0) (λ w. cond (eqb (length w.1) 0 && list_all (λ x. ltb 0 x) w.0) (Some w.0) None) ns a.2 in
+    let s = some_of (eqb (length b.0.1) 0 && list_all (λ x. ltb 0 x) b.0.0) b.0.0 ns b.2 in
+    let p = and_parts (eqb (length b.0.1) 0) (list_all (λ x. ltb 0 x) b.0.0) s.0 in
+    let t = three_found 16000001 a.0 b.0 b.1 in
+    let nothing : b.0.1 ≡ [] = nil_from_length b.0.1 (eqb-true (length b.0.1) 0 p.0) in
+    let whole : line ≡ box_line b.0.0 = after_found (codes "box") line a.0 a.1 ∙ ap (λ (u : List ℕ). codes "box" ++ u) (t.0 ∙ ap (λ (u : List ℕ). flat_map word b.0.0 ++ u) nothing ∙ append-nil (flat_map word b.0.0)) in
+    subst (λ (u : List ℕ). (line ≡ box_line u) × AreThree IsSide u) s.1 (whole, are_sides b.0.0 t.1 p.1)
+
+pub sides_again : (ns : List ℕ) → AreThree IsSide ns → sides_of (box_line ns) ≡ Some ns
+unfolding sides_of
+sides_again ns h =
+    let p = sides_small ns h in
+    let t : three_at 16000001 (flat_map word ns) ≡ Some (ns, []) = ap (three_at 16000001) (sym (append-nil (flat_map word ns))) ∙ three_again 16000001 ns [] (omega arith) p.1 tt in
+    rw (after_again (codes "box") (flat_map word ns)) (rw (t, p.0) refl)
+
+pub sides_lack : (ns : List ℕ) → AreThree IsSide ns → lacks 10 (box_line ns) ≡ true
+sides_lack ns h = lacks_append 10 (codes "box") (flat_map word ns) refl (words_lack 10 16000001 ns (omega arith) (omega arith) (sides_small ns h).1)

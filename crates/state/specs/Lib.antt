@@ -1,0 +1,4 @@
+pub mod StateText
+pub mod StateViews
+pub mod StateReading
+pub mod Middle

@@ -1,0 +1,127 @@
+-- Reading a state from the top, to the state or to the first fault that is met.
+use Rattle.std.specs.Prelude.{◌≡◌, ◌↔◌, ℕ, zero, suc, ◌+◌, ◌-◌, ◌^◌, ◌&&◌, List, [], ◌∷◌, length, take, drop, codes, Option, Some, None, Result, Ok, Err, nat_lt, ◌==◌, slice_index, bytes_eq, if◌then◌else◌, Bool, ℤ, pos, negsuc, int_le}
+use Rattle.std.specs.List.{list_all}
+use Rattle.line_text.specs.Parts.{◌>>=◌ as ◌|>◌, cut_at, after, natural_of, integer_of, three_at, name_of, without_spaces, without_end_spaces}
+use Rattle.state.specs.StateText.{AtomView, StateView, head_line, atom_line, IsState, state_text}
+use Rattle.state.specs.declared.faults.StateFault.{StateFault}
+use Rattle.state.specs.declared.faults.StateFault.TheVariants.{BadLine, Truncated, Trailing, Memory}
+
+infixl 10 ◌>>=◌
+abbrev pub ◌>>=◌ : {A B : Type 0} → Result A StateFault → (A → Result B StateFault) → Result B StateFault
+(Ok x) >>= f = f x
+(Err e) >>= f = Err e
+
+-- What a call returned, seen by view, is what the definition answers. Want of memory says nothing.
+abbrev pub Fails : {Y : Type 0} → StateFault → Result Y StateFault → Type 0
+Fails Memory answer = Unit {0}
+Fails fault answer = answer ≡ Err fault
+
+abbrev pub Gives : {X Y : Type 0} → (X → Y) → Result X StateFault → Result Y StateFault → Type 0
+Gives view (Ok x) answer = answer ≡ Ok (view x)
+Gives view (Err fault) answer = Fails fault answer
+
+-- ---- what each line says, without its LF
+
+abbrev pub head_of : List ℕ → Option (Unit {0})
+head_of line = if bytes_eq line head_line then Some tt else None
+
+unfoldable pub title_of : List ℕ → Option (List ℕ)
+title_of line = after (codes "title ") line |> λ t. if slice_index t (length t - 1) == 13 then None else Some t
+
+unfoldable pub step_of : List ℕ → Option ℤ
+step_of line = after (codes "step ") line |> integer_of
+
+unfoldable pub count_of : List ℕ → Option ℕ
+count_of line = after (codes "atoms ") line |> natural_of 65537
+
+unfoldable pub sides_of : List ℕ → Option (List ℕ)
+sides_of line =
+    after (codes "box") line |> λ rest.
+    three_at 16000001 rest |> λ w.
+    if length w.1 == 0 && list_all (λ x. nat_lt 0 x) w.0 then Some w.0 else None
+
+-- from -9999 to 99999
+abbrev pub is_residue_number : ℤ → Bool
+is_residue_number z = int_le (negsuc 9998) z && int_le z (pos 99999)
+
+-- Read by columns and words; only the line that this atom has is taken.
+unfoldable pub atom_of : List ℕ → Option AtomView
+atom_of line =
+    if nat_lt (length line) 15 then None else (
+    integer_of (without_spaces (take 5 line)) |> λ number.
+    name_of (without_end_spaces (take 5 (drop 5 line))) |> λ residue.
+    name_of (without_spaces (take 5 (drop 5 (drop 5 line)))) |> λ name.
+    three_at (2 ^ 32) (drop 5 (drop 5 (drop 5 line))) |> λ previous.
+    three_at (2 ^ 32) previous.1 |> λ current.
+    if is_residue_number number && bytes_eq line (atom_line (record { residue_number = number; residue = residue; name = name; previous = previous.0; current = current.0 }))
+    then Some (record { residue_number = number; residue = residue; name = name; previous = previous.0; current = current.0 }) else None)
+
+-- ---- the lines from the top
+
+-- a line that is needed, and what stands after its LF
+abbrev pub needed : Option (List ℕ × List ℕ) → Result (List ℕ × List ℕ) StateFault
+needed None = Err Truncated
+needed (Some p) = Ok p
+
+abbrev pub line_at : List ℕ → Result (List ℕ × List ℕ) StateFault
+line_at bytes = needed (cut_at 10 bytes)
+
+-- what the line with this number says
+abbrev pub said : {X : Type 0} → ℕ → Option X → Result X StateFault
+said n None = Err (BadLine n)
+said n (Some x) = Ok x
+
+-- what the needed line with this number says, and what stands after it
+abbrev pub field_at : {X : Type 0} → ℕ → (List ℕ → Option X) → List ℕ → Result (X × List ℕ) StateFault
+field_at n read bytes = do
+  line ← line_at bytes
+  x ← said n (read line.0)
+  Ok (x, line.1)
+
+unfoldable pub atom_at : ℕ → List ℕ → Result (AtomView × List ℕ) StateFault
+atom_at n bytes = field_at n atom_of bytes
+
+-- so many atoms, the first on line n
+unfoldable pub atoms_at : ℕ → ℕ → List ℕ → Result (List AtomView × List ℕ) StateFault
+atoms_at n zero bytes = Ok ([], bytes)
+atoms_at n (suc k) bytes = do
+  first ← atom_at n bytes
+  others ← atoms_at (n + 1) k first.1
+  Ok (first.0 ∷ others.0, others.1)
+
+-- the atoms, and then nothing
+abbrev pub from_atoms : List ℕ → ℤ → ℕ → List ℕ → List ℕ → Result StateView StateFault
+from_atoms title step count sides bytes = do
+  atoms ← atoms_at 6 count bytes
+  if length atoms.1 == 0 then Ok (record { title = title; step = step; sides = sides; atoms = atoms.0 }) else Err Trailing
+
+abbrev pub from_sides : List ℕ → ℤ → ℕ → List ℕ → Result StateView StateFault
+from_sides title step count bytes = do
+  sides ← field_at 5 sides_of bytes
+  from_atoms title step count sides.0 sides.1
+
+abbrev pub from_count : List ℕ → ℤ → List ℕ → Result StateView StateFault
+from_count title step bytes = do
+  count ← field_at 4 count_of bytes
+  from_sides title step count.0 count.1
+
+abbrev pub from_step : List ℕ → List ℕ → Result StateView StateFault
+from_step title bytes = do
+  step ← field_at 3 step_of bytes
+  from_count title step.0 step.1
+
+abbrev pub from_title : List ℕ → Result StateView StateFault
+from_title bytes = do
+  title ← field_at 2 title_of bytes
+  from_step title.0 title.1
+
+unfoldable pub state_of : List ℕ → Result StateView StateFault
+state_of bytes = do
+  head ← field_at 1 head_of bytes
+  from_title head.1
+
+-- ---- what reading is
+
+-- Exactly the texts of states are read, each as its state. So a state has one text, and what is written reads as the same state.
+abbrev pub OneText : Type 0
+OneText = (bytes : List ℕ) (s : StateView) → (state_of bytes ≡ Ok s) ↔ (IsState s × (bytes ≡ state_text s))

@@ -1,0 +1,87 @@
+-- What a state is, without where it lies in memory, and the one text of each state.
+use Rattle.std.specs.Prelude.{ℕ, ◌-◌, ◌<◌, ◌≤◌, ◌^◌, Bool, not, ◌&&◌, List, ◌++◌, length, codes, decimal, ℤ, pos, negsuc, ◌≤ℤ◌, slice_index, ◌==◌, IsTrue}
+use Rattle.std.specs.Fmt.{signed_decimal}
+use Rattle.std.specs.List.{flat_map, AllByRecursion}
+use Rattle.line_text.specs.Parts.{word, ended, AreThree, right_in, left_in, is_name, lacks}
+use lib.Signed.{mag}
+
+-- an atom; its two places are three numbers each, x, y and z
+pub record AtomView : Type 0 where
+  pub residue_number : ℤ
+  pub residue : List ℕ
+  pub name : List ℕ
+  pub previous : List ℕ
+  pub current : List ℕ
+
+-- a state; its sides are three numbers, x, y and z
+pub record StateView : Type 0 where
+  pub title : List ℕ
+  pub step : ℤ
+  pub sides : List ℕ
+  pub atoms : List AtomView
+
+-- ---- the lines of a state, without their LF
+
+abbrev pub head_line : List ℕ
+head_line = codes "pairmd state 1"
+
+abbrev pub title_line : List ℕ → List ℕ
+title_line title = codes "title " ++ title
+
+abbrev pub step_line : ℤ → List ℕ
+step_line step = codes "step " ++ signed_decimal step
+
+abbrev pub count_line : ℕ → List ℕ
+count_line count = codes "atoms" ++ word count
+
+abbrev pub box_line : List ℕ → List ℕ
+box_line sides = codes "box" ++ flat_map word sides
+
+-- residue number, residue name and atom name in the columns of an atom's line (GROMACS manual, GRO file format), then the two places
+abbrev pub atom_line : AtomView → List ℕ
+atom_line a =
+    right_in 5 (signed_decimal a.residue_number) ++ left_in 5 a.residue ++ right_in 5 a.name
+    ++ flat_map word a.previous ++ flat_map word a.current
+
+abbrev pub atom_lines : List AtomView → List ℕ
+atom_lines atoms = flat_map (λ a. ended (atom_line a)) atoms
+
+-- ---- the text
+
+unfoldable pub state_text : StateView → List ℕ
+state_text s =
+    ended head_line
+    ++ ended (title_line s.title)
+    ++ ended (step_line s.step)
+    ++ ended (count_line (length s.atoms))
+    ++ ended (box_line s.sides)
+    ++ atom_lines s.atoms
+
+-- ---- what has a text
+
+-- on a ring of 2^32 places
+abbrev pub IsPlace : ℕ → Type 0
+IsPlace x = x < 2 ^ 32
+
+-- in 10^-5 nm
+abbrev pub IsSide : ℕ → Type 0
+IsSide x = (0 < x) × (x ≤ 16000000)
+
+-- without LF, and not ending in CR
+abbrev pub is_title : List ℕ → Bool
+is_title t = lacks 10 t && not (slice_index t (length t - 1) == 13)
+
+pub record IsAtom (a : AtomView) : Type 0 where
+  pub low : negsuc 9998 ≤ℤ a.residue_number
+  pub high : a.residue_number ≤ℤ pos 99999
+  pub residue : IsTrue (is_name a.residue)
+  pub name : IsTrue (is_name a.name)
+  pub previous : AreThree IsPlace a.previous
+  pub current : AreThree IsPlace a.current
+
+pub record IsState (s : StateView) : Type 0 where
+  pub title : IsTrue (is_title s.title)
+  pub step : mag s.step < 2 ^ 63
+  pub sides : AreThree IsSide s.sides
+  pub count : length s.atoms ≤ 65536
+  pub atoms : AllByRecursion IsAtom s.atoms

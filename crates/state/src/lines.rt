@@ -1,0 +1,145 @@
+//! The lines of a state.
+
+ghost use Rattle.std.specs.Prelude.{◌≡◌, ◌≤◌, ◌+◌, ◌++◌, option_map, IfSome, IsTrue, bytes_eq};
+ghost use Rattle.std.specs.List.{flat_map};
+ghost use Rattle.arrayvec.specs.ArrayVec.{array_vec_len};
+ghost use Rattle.line_text.specs.Parts.{AreThree, lacks, word};
+ghost use Rattle.state.specs.StateText.{IsAtom, IsPlace, IsSide, atom_line, is_title};
+ghost use Rattle.state.specs.StateViews.{atom_view, sides_view};
+ghost use Rattle.state.specs.StateReading.{title_of, step_of, count_of, sides_of, atom_of};
+
+use crate::states::Atom;
+use itoa::Buffer;
+use line_text::{
+    Line, Name, integer, natural, put_left, put_right, put_word, strip, three_words, trim_end,
+    trim_front,
+};
+use ring_box::{RingBox, Side};
+
+#[tactic(auto, unfolding(crate::specs::StateReading::title_of))]
+pub fn title(line: &[u8]) -> Option<&[u8]>
+    requires { IsTrue (lacks 10 line.now) }
+    ensures exact { option_map (λ t. t.now) result ≡ title_of line.now }
+    ensures title { IfSome result (λ t. IsTrue (is_title t.now)) }
+{
+    let title = strip(b"title ", line)?;
+    if title.last() == Some(&b'\r') {
+        return None;
+    }
+    Some(title)
+}
+
+#[tactic(auto, unfolding(crate::specs::StateReading::step_of))]
+pub fn step(line: &[u8]) -> Option<i64>
+    ensures { result ≡ step_of line.now }
+{
+    integer(strip(b"step ", line)?)
+}
+
+/// The number of atoms, at most 65,536.
+#[tactic(auto, unfolding(crate::specs::StateReading::count_of))]
+pub fn count(line: &[u8]) -> Option<u64>
+    ensures exact { result ≡ count_of line.now }
+    ensures below { IfSome result (λ n. n ≤ 65536) }
+{
+    natural(65_537, strip(b"atoms ", line)?)
+}
+
+#[tactic(auto, unfolding(crate::specs::StateReading::sides_of))]
+pub fn sides(line: &[u8]) -> Option<RingBox>
+    ensures { option_map sides_view result ≡ sides_of line.now }
+{
+    let rest = strip(b"box", line)?;
+    let (x, y, z, rest) = three_words(16_000_001, rest)?;
+    if rest.is_empty() && x > 0 && y > 0 && z > 0 {
+        Some(RingBox {
+            x: Side::new(x as u32),
+            y: Side::new(y as u32),
+            z: Side::new(z as u32),
+        })
+    } else {
+        None
+    }
+}
+
+#[tactic(auto, unfolding(crate::specs::StateReading::atom_of))]
+pub fn atom(line: &[u8]) -> Option<Atom>
+    ensures { option_map atom_view result ≡ atom_of line.now }
+{
+    if line.len() < 15 {
+        return None;
+    }
+    let (number, rest) = line.split_at(5);
+    let (residue, rest) = rest.split_at(5);
+    let (name, rest) = rest.split_at(5);
+    let number = integer(trim_front(number))?;
+    let residue = Name::new(trim_end(residue))?;
+    let name = Name::new(trim_front(name))?;
+    let (x, y, z, rest) = three_words(1 << 32, rest)?;
+    let previous = [x as u32, y as u32, z as u32];
+    let (x, y, z, _) = three_words(1 << 32, rest)?;
+    let current = [x as u32, y as u32, z as u32];
+    if number < -9999 || number > 99999 {
+        return None;
+    }
+    let atom = Atom {
+        residue_number: number as i32,
+        residue,
+        name,
+        previous,
+        current,
+    };
+    if is_spelled(&atom, line) {
+        Some(atom)
+    } else {
+        None
+    }
+}
+
+/// Whether the line is this atom's, without its LF.
+fn is_spelled(atom: &Atom, line: &[u8]) -> bool
+    ensures { result ≡ bytes_eq line.now (atom_line (atom_view atom.now)) }
+{
+    let mut spelled = Line::new();
+    put_atom(&mut spelled, atom);
+    line == spelled.as_slice()
+}
+
+/// Appends an atom's line, without its LF.
+pub fn put_atom(line: &mut Line, atom: &Atom)
+    requires { array_vec_len line.old + 141 ≤ 160 }
+    ensures atom { IsAtom (atom_view atom.now) }
+    ensures items { line.new.items ≡ line.old.items ++ atom_line (atom_view atom.now) }
+    ensures len { array_vec_len line.new ≤ array_vec_len line.old + 141 }
+{
+    let mut buffer = Buffer::new();
+    put_right(line, 5, buffer.format(atom.residue_number).as_bytes());
+    put_left(line, 5, atom.residue.as_bytes());
+    put_right(line, 5, atom.name.as_bytes());
+    put_place(line, &atom.previous);
+    put_place(line, &atom.current);
+}
+
+/// Appends a place, with a space before each of its three numbers.
+fn put_place(line: &mut Line, place: &[u32; 3])
+    requires { array_vec_len line.old + 63 ≤ 160 }
+    ensures place { AreThree IsPlace place.now }
+    ensures items { line.new.items ≡ line.old.items ++ flat_map word place.now }
+    ensures len { array_vec_len line.new ≤ array_vec_len line.old + 63 }
+{
+    put_word(line, place[0] as u64);
+    put_word(line, place[1] as u64);
+    put_word(line, place[2] as u64);
+}
+
+/// Appends the sides of a box, with a space before each.
+pub fn put_sides(line: &mut Line, ring: RingBox)
+    requires { array_vec_len line.old + 63 ≤ 160 }
+    ensures sides { AreThree IsSide (sides_view ring) }
+    ensures items { line.new.items ≡ line.old.items ++ flat_map word (sides_view ring) }
+    ensures len { array_vec_len line.new ≤ array_vec_len line.old + 63 }
+{
+    put_word(line, ring.x.get() as u64);
+    put_word(line, ring.y.get() as u64);
+    put_word(line, ring.z.get() as u64);
+}

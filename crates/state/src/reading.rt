@@ -1,0 +1,112 @@
+//! Reading a state.
+
+ghost use Rattle.std.specs.Prelude.{◌≡◌, ◌≤◌, length, map, IfOk, IsTrue};
+ghost use Rattle.line_text.specs.Parts.{lacks};
+ghost use Rattle.state.specs.StateViews.{atom_view, state_view};
+ghost use Rattle.state.specs.StateReading.{Gives, line_at, atom_at, atoms_at, head_of, state_of};
+
+use crate::faults::StateFault;
+use crate::lines;
+use crate::states::{Atom, State};
+use line_text::cut;
+use std::alloc::Allocator;
+
+impl<A: Allocator + Copy> State<A> {
+    ghost use Rattle.std.specs.Prelude.{◌≡◌, Ok, IfOk};
+    ghost use Rattle.state.specs.StateText.{StateView, IsState, state_text};
+    ghost use Rattle.state.specs.StateViews.{state_view};
+    ghost use Rattle.state.specs.StateReading.{Gives, OneText, state_of};
+
+    /// The state whose one text the bytes are.
+    ///
+    /// Lines are judged from the top, and the first fault is the answer: `Truncated` where the bytes end before the LF of a needed line, `BadLine` where a line differs from its form or is out of range, and at last `Trailing` for anything after the last atom's line. `Memory` comes only where a growth was refused.
+    pub fn read(alloc: A, bytes: &[u8]) -> Result<State<A>, StateFault>
+        // What is read has these bytes as its text.
+        ensures found { IfOk result (λ x. IsState (state_view x) × (bytes.now ≡ state_text (state_view x))) }
+        // The text of a state is read as that state, unless memory runs out.
+        ensures only { (s : StateView) → IsState s → bytes.now ≡ state_text s → Gives state_view result (Ok s) }
+        // The state, or the first fault.
+        ensures exact { Gives state_view result (state_of bytes.now) }
+        ensures one_text { OneText }
+    {
+        state(alloc, bytes)
+    }
+}
+
+#[tactic(auto, unfolding(crate::specs::StateReading::state_of))]
+fn state<A: Allocator + Copy>(alloc: A, bytes: &[u8]) -> Result<State<A>, StateFault>
+    ensures { Gives state_view result (state_of bytes.now) }
+{
+    let (text, rest) = line(bytes)?;
+    first_line(text).ok_or(bad(1))?;
+    let (text, rest) = line(rest)?;
+    let title = lines::title(text).ok_or(bad(2))?;
+    let (text, rest) = line(rest)?;
+    let step = lines::step(text).ok_or(bad(3))?;
+    let (text, rest) = line(rest)?;
+    let count = lines::count(text).ok_or(bad(4))?;
+    let (text, rest) = line(rest)?;
+    let ring = lines::sides(text).ok_or(bad(5))?;
+    let (atoms, rest) = atoms(alloc, count, rest)?;
+    if !rest.is_empty() {
+        return Err(StateFault::Trailing);
+    }
+    let title = Vec::from_slice(alloc, title)?;
+    Ok(State {
+        title,
+        step,
+        ring,
+        atoms,
+    })
+}
+
+fn line(bytes: &[u8]) -> Result<(&[u8], &[u8]), StateFault>
+    ensures exact { Gives (λ x. (x.0.now, x.1.now)) result (line_at bytes.now) }
+    ensures whole { IfOk result (λ x. IsTrue (lacks 10 x.0.now)) }
+{
+    cut(b'\n', bytes).ok_or(StateFault::Truncated)
+}
+
+fn bad(line: u64) -> StateFault
+    ensures { result ≡ StateFault.BadLine line }
+{
+    StateFault::BadLine { line }
+}
+
+fn first_line(line: &[u8]) -> Option<()>
+    ensures { result ≡ head_of line.now }
+{
+    if line == b"pairmd state 1".as_slice() {
+        Some(())
+    } else {
+        None
+    }
+}
+
+fn atoms<A: Allocator + Copy>(
+    alloc: A,
+    count: u64,
+    bytes: &[u8],
+) -> Result<(Vec<Atom, A>, &[u8]), StateFault>
+    requires { count ≤ 65536 }
+    ensures exact { Gives (λ x. (map atom_view x.0.items, x.1.now)) result (atoms_at 6 count bytes.now) }
+    ensures len { IfOk result (λ x. length x.0.items ≡ count) }
+{
+    let mut atoms = Vec::new(alloc);
+    let mut rest = bytes;
+    for i in 0..count {
+        let (atom, after) = atom(6 + i, rest)?;
+        atoms.push(atom)?;
+        rest = after;
+    }
+    Ok((atoms, rest))
+}
+
+#[tactic(auto, unfolding(crate::specs::StateReading::atom_at))]
+fn atom(number: u64, bytes: &[u8]) -> Result<(Atom, &[u8]), StateFault>
+    ensures { Gives (λ x. (atom_view x.0, x.1.now)) result (atom_at number bytes.now) }
+{
+    let (text, rest) = line(bytes)?;
+    let atom = lines::atom(text).ok_or(bad(number))?;
+    Ok((atom, rest))
+}

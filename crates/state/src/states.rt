@@ -1,0 +1,39 @@
+//! States and their atoms.
+
+ghost use Rattle.std.specs.Prelude.{pos, negsuc, ◌≤ℤ◌, ◌≤◌, length, IsTrue};
+ghost use Rattle.state.specs.StateText.{is_title};
+
+use line_text::Name;
+use ring_box::RingBox;
+use std::alloc::Allocator;
+
+/// An atom of a state, with its places in two frames that follow one another.
+#[derive(Clone, Copy, Debug)]
+pub struct Atom {
+    /// The number of its residue, -9999 to 99999.
+    pub residue_number: i32,
+    /// The name of its residue.
+    pub residue: Name,
+    pub name: Name,
+    /// Its place in the previous frame: x, y and z in parts of 2^-32 of the box's sides.
+    pub previous: [u32; 3],
+    /// Its place in the current frame, in the same parts.
+    pub current: [u32; 3],
+    pub ghost low: { negsuc 9998 ≤ℤ residue_number },
+    pub ghost high: { residue_number ≤ℤ pos 99999 },
+}
+
+/// A state of a run: two frames that follow one another (Levesque and Verlet 1993), from which the next and the one before follow. Every state has one text.
+#[derive(Drop)]
+pub struct State<A: Allocator> {
+    /// Any bytes but LF, not ending in CR.
+    pub title: Vec<u8, A>,
+    /// The number of the current frame.
+    pub step: i64,
+    /// The periodic box.
+    pub ring: RingBox,
+    /// At most 65,536 atoms.
+    pub atoms: Vec<Atom, A>,
+    pub ghost title_fits: { IsTrue (is_title title.items) },
+    pub ghost count_fits: { length atoms.items ≤ 65536 },
+}

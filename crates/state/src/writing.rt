@@ -1,0 +1,86 @@
+//! Writing a state.
+
+ghost use Rattle.std.specs.Prelude.{◌≡◌, ◌-◌, ◌^◌, ◌<◌, length, map, IfOk, OnErr};
+ghost use Rattle.gro.specs.Out.{appended, AppendsBeginning};
+ghost use Rattle.std.specs.List.{AllByRecursion};
+ghost use lib.Signed.{mag};
+ghost use Rattle.line_text.specs.Parts.{AreThree, ended};
+ghost use Rattle.state.specs.StateText.{IsAtom, IsSide, atom_line, atom_lines};
+ghost use Rattle.state.specs.StateViews.{atom_view, sides_view};
+ghost use Rattle.state.specs.Middle.{middle};
+
+use crate::lines::{put_atom, put_sides};
+use crate::states::{Atom, State};
+use gro::{Out, OutFault, write_all};
+use line_text::{Line, put, put_integer, put_word};
+use std::alloc::Allocator;
+
+impl<A: Allocator> State<A> {
+    ghost use Rattle.std.specs.Prelude.{◌≡◌, ◌-◌, ◌^◌, ◌<◌, Ok, IfOk, OnErr};
+    ghost use Rattle.gro.specs.Out.{appended, AppendsBeginning};
+    ghost use Rattle.state.specs.StateText.{IsState, state_text};
+    ghost use Rattle.state.specs.StateViews.{state_view};
+    ghost use Rattle.state.specs.StateReading.{state_of};
+
+    /// Writes the state's one text. It takes no memory.
+    ///
+    /// `OutFault` comes only from a write that failed, and then a beginning of the text was written.
+    pub fn write<O: Out>(&self, out: &mut O) -> Result<(), OutFault>
+        requires { O.failed out.old < 2 ^ 64 - 1 }
+        ensures taken { IfOk result (λ _. O.taken out.new ≡ appended (O.taken out.old) (state_text (state_view self.now))) }
+        ensures count { IfOk result (λ _. O.failed out.new ≡ O.failed out.old) }
+        ensures fault_taken { OnErr result (AppendsBeginning (O.taken out.old) (O.taken out.new) (state_text (state_view self.now))) }
+        ensures fault_count { OnErr result (O.failed out.old < O.failed out.new) }
+        // What was written reads as this state again.
+        ensures again { IfOk result (λ _. IsState (state_view self.now) × (state_of (state_text (state_view self.now)) ≡ Ok (state_view self.now))) }
+    {
+        write_all(out, b"pairmd state 1\ntitle ")?;
+        write_all(out, &self.title)?;
+        let line = middle_line(self);
+        write_all(out, line.as_slice())?;
+        write_atoms(self.atoms.as_slice(), out)
+    }
+}
+
+fn write_atoms<O: Out>(atoms: &[Atom], out: &mut O) -> Result<(), OutFault>
+    requires { O.failed out.old < 2 ^ 64 - 1 }
+    ensures taken { IfOk result (λ _. O.taken out.new ≡ appended (O.taken out.old) (atom_lines (map atom_view atoms.now))) }
+    ensures count { IfOk result (λ _. O.failed out.new ≡ O.failed out.old) }
+    ensures fault_taken { OnErr result (AppendsBeginning (O.taken out.old) (O.taken out.new) (atom_lines (map atom_view atoms.now))) }
+    ensures fault_count { OnErr result (O.failed out.old < O.failed out.new) }
+    ensures atoms { IfOk result (λ _. AllByRecursion IsAtom (map atom_view atoms.now)) }
+{
+    for atom in atoms {
+        let line = whole_line(atom);
+        write_all(out, line.as_slice())?;
+    }
+    Ok(())
+}
+
+/// What stands between the title and the atoms.
+fn middle_line<A: Allocator>(state: &State<A>) -> Line
+    ensures items { result.items ≡ middle state.now.step (length state.now.atoms.items) (sides_view state.now.ring) }
+    ensures step { mag state.now.step < 2 ^ 63 }
+    ensures sides { AreThree IsSide (sides_view state.now.ring) }
+{
+    let mut line = Line::new();
+    put(&mut line, b"\nstep ");
+    put_integer(&mut line, state.step);
+    put(&mut line, b"\natoms");
+    put_word(&mut line, state.atoms.as_slice().len() as u64);
+    put(&mut line, b"\nbox");
+    put_sides(&mut line, state.ring);
+    put(&mut line, b"\n");
+    line
+}
+
+/// An atom's line with its LF.
+fn whole_line(atom: &Atom) -> Line
+    ensures items { result.items ≡ ended (atom_line (atom_view atom.now)) }
+    ensures atom { IsAtom (atom_view atom.now) }
+{
+    let mut line = Line::new();
+    put_atom(&mut line, atom);
+    put(&mut line, b"\n");
+    line
+}
