@@ -1,0 +1,80 @@
+//! Why a text is no job.
+
+ghost use Rattle.std.specs.Prelude.{◌≡◌};
+ghost use Rattle.job.specs.declared.faults.JobFault.TheVariants.{Memory};
+
+use std::alloc::{AllocError, AllocFailed, Allocator};
+use std::fmt;
+use thiserror::Error;
+
+/// The word that begins a job's line.
+#[derive(Clone, Copy, PartialEq, Eq, Debug)]
+pub enum Key {
+    Energy,
+    Core,
+    Cutoff,
+    TimeStep,
+    Slices,
+    Parameter,
+    Global,
+    Types,
+}
+
+impl fmt::Display for Key {
+    fn fmt<W: fmt::Write>(&self, f: &mut fmt::Formatter<W>) -> fmt::Result {
+        f.write_str(match self {
+            Key::Energy => "energy",
+            Key::Core => "core",
+            Key::Cutoff => "cutoff",
+            Key::TimeStep => "dt",
+            Key::Slices => "slices",
+            Key::Parameter => "parameter",
+            Key::Global => "global",
+            Key::Types => "type",
+        })
+    }
+}
+
+/// Why a text is no job: the first fault.
+///
+/// The lines count from the top, and on each line a malformed line comes before a repeated key or name, and that before a range. What the whole text lacks comes after all lines.
+#[derive(Debug, Drop, Error)]
+pub enum JobFault<A: Allocator> {
+    /// This line, counted from 1, is malformed, or is the first `type` line with another number of values than the job has parameters.
+    #[error("J1 BadLine {line}")]
+    BadLine { line: u64 },
+    /// No line has this key.
+    #[error("J2 Missing {key}")]
+    Missing { key: Key },
+    /// A second line has this key.
+    #[error("J3 Repeated {key}")]
+    Repeated { key: Key },
+    /// A second `parameter` line, or a second `global` line, has this name.
+    #[error("J3 Repeated {name}")]
+    RepeatedName { name: String<A> },
+    /// A number of a line with this key is out of its range, or one more such line stands than a job may have.
+    #[error("J4 Range {key}")]
+    Range { key: Key },
+    /// A second `type` line has this name.
+    #[error("J5 RepeatedType {name}")]
+    RepeatedType { name: String<A> },
+    /// A growth was refused.
+    #[error("Memory")]
+    Memory,
+}
+
+impl<A: Allocator> From<AllocError> for JobFault<A> {
+    ghost from_gives = { λ _ e. e ≡ Memory };
+
+    fn from(_e: AllocError) -> JobFault<A> {
+        JobFault::Memory
+    }
+}
+
+impl<T: Drop, A: Allocator> From<AllocFailed<T>> for JobFault<A> {
+    ghost from_gives = { λ _ e. e ≡ Memory };
+
+    fn from(_e: AllocFailed<T>) -> JobFault<A> {
+        JobFault::Memory
+    }
+}
