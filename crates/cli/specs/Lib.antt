@@ -1,0 +1,4 @@
+pub mod CommandLine
+pub mod Statuses
+pub mod Reads
+pub mod Reports
