@@ -6,13 +6,13 @@ use Rattle.std.specs.declared.num.ParseIntError.{ParseIntError}
 use Rattle.clap.specs.Words.{App, HasKind, HasMatchesOf, IsAmong, Kinds, ReadsOne, Row, Text, fault_of, is_simple, is_simple_and_free, kind_of, one_of, one_text, rows_of, subcommand_of, subcommand_rows_of}
 use Rattle.clap.specs.declared.error.Error.{Error}
 use Rattle.clap.specs.declared.error.kind.ErrorKind.{ErrorKind}
-use Rattle.clap.specs.declared.error.kind.ErrorKind.TheVariants.{OutOfMemory, MissingRequiredArgument}
+use Rattle.clap.specs.declared.error.kind.ErrorKind.TheVariants.{DisplayHelp, OutOfMemory, MissingRequiredArgument}
 use Rattle.clap.specs.Kinds.{or_else}
 use Rattle.clap.specs.declared.parser.matches.ArgMatches.{ArgMatches}
 use Rattle.clap.specs.declared.parser.matches.Found.{Found}
 use Rattle.clap.proofs.WalkLemmas.{one_text-rows}
 use Rattle.clap.proofs.OnLiterals.{clap_on_literals}
-use Rattle.cli.specs.CommandLine.{IsCommand, IsRunOf, IsSteps, WritesNumber, faults_of, program}
+use Rattle.cli.specs.CommandLine.{AsksForHelp, IsCommand, IsMisuse, IsRunOf, IsSteps, WritesNumber, faults_of, program}
 use Rattle.cli.specs.declared.commands.Command.{Command}
 use Rattle.cli.specs.declared.commands.Command.TheVariants as command
 use Rattle.cli.specs.declared.commands.Run.{Run}
@@ -63,6 +63,18 @@ program_meets a words m is has = (has (ap is_simple is ∙ program_is_simple)).1
 pub runless_names_none : (words : List Text) (said : Option (Text × List Row)) → said ≡ subcommand_of program words
     → ((r : Run) → IsRunOf said r → ⊥) → (c : Command) → IsCommand words c → ⊥
 runless_names_none words said is none (command.Run run) names = none run (subst (λ o. IsRunOf o run) (sym is) names.1)
+
+-- what a fault of the words says that is neither want of memory nor a wish for help
+pub is_misuse : (words : List Text) (e : Error) → (kind_of e ≢ OutOfMemory) → (kind_of e ≢ DisplayHelp) → HasKind (faults_of words) e
+    → (kind_of e ≡ OutOfMemory) ⊎ ((c : Command) → IsCommand words c → ⊥) → IsMisuse words
+is_misuse words e memory help (inl h) none = absurd (memory h)
+is_misuse words e memory help (inr among) (inl h) = absurd (memory h)
+is_misuse words e memory help (inr among) (inr none) = ((kind_of e, among, help), none)
+
+-- a wish for help among the faults of the words
+pub asks_for_help : (words : List Text) (e : Error) → kind_of e ≡ DisplayHelp → HasKind (faults_of words) e → AsksForHelp words
+asks_for_help words e help (inl h) = let bad : DisplayHelp ≡ OutOfMemory = sym help ∙ h in cc
+asks_for_help words e help (inr among) = subst (λ k. IsAmong k (faults_of words)) help among
 
 -- how a text is read as an unsigned number of 64 bits
 abbrev pub NumberGives : List ℕ → Result ℕ ParseIntError → Type 0

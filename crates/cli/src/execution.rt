@@ -1,11 +1,11 @@
 //! Doing what the words ask for.
 
-ghost use Rattle.std.specs.Prelude.{◌≡◌, ◌≢◌, ◌⊎◌, ◌≤◌, ◌<◌, ◌==◌, ◌-◌, ◌^◌, if◌then◌else◌, ℕ, List, IfOk, OnOk, IfErr, map, codes, string_bytes};
+ghost use Rattle.std.specs.Prelude.{◌≡◌, ◌≢◌, ◌⊎◌, ◌≤◌, ◌<◌, ◌-◌, ◌^◌, ℕ, List, IfOk, OnOk, IfErr, map, string_bytes};
 ghost use Rattle.clap.specs.Words.{kind_of};
 ghost use Rattle.clap.specs.declared.error.kind.ErrorKind.TheVariants.{OutOfMemory, DisplayHelp};
 ghost use Rattle.cli.specs.CommandLine.{AsksForHelp, IsCommand, IsMisuse};
 ghost use Rattle.cli.specs.Reads.{AsksFor, also_asked, asked_by};
-ghost use Rattle.cli.specs.Reports.{Prints, line, printed};
+ghost use Rattle.cli.specs.Reports.{Prints, said};
 ghost use Rattle.cli.specs.Statuses.{code_of, status_of};
 ghost use Rattle.cli.specs.declared.commands.Command.{Command};
 ghost use Rattle.cli.specs.declared.faults.Status.{Status};
@@ -36,21 +36,40 @@ pub fn execute<A: Allocator + Copy, S: AsStr, F: Files, O: Out, E: Out>(
     requires err { E.failed err.old < 2 ^ 64 - 1 }
     ensures most { result ≤ 5 }
     ensures quiet { result ≡ 0 → (E.taken err.new ≡ E.taken err.old) × (E.failed err.new ≡ E.failed err.old) }
-    ensures said { result ≢ 0 → (text : List ℕ) × Prints (E.taken err.old, E.failed err.old)
-        (E.taken err.new, E.failed err.new) (if result == 2 then text else line text) }
+    ensures said { result ≢ 0 → (s : Status) × (text : List ℕ) × (result ≡ code_of s)
+        × Prints (E.taken err.old, E.failed err.old) (E.taken err.new, E.failed err.new) (said s text) }
     ensures misuse { result ≡ 2 → IsMisuse (map S.text words.now) × (O.taken out.new ≡ O.taken out.old) }
     ensures done { result ≡ 0 → AsksForHelp (map S.text words.now) ⊎ ((c : Command) × IsCommand (map S.text words.now) c
         × (F.asked files.new ≡ asked_by (F.asked files.old) c)) }
     ensures reads { (F.asked files.new ≡ F.asked files.old)
         ⊎ ((c : Command) × IsCommand (map S.text words.now) c × AsksFor c (F.asked files.old) (F.asked files.new)) }
 {
-    let done = match parse(words_alloc, words) {
-        Ok(command) => perform(alloc, command, files, out),
-        Err(error) => answer(alloc, error, out),
-    };
-    match done {
+    match respond(words_alloc, alloc, words, files, out) {
         Ok(()) => Status::Done.code(),
         Err(fault) => report(alloc, &fault, err),
+    }
+}
+
+/// Does what the words ask for.
+fn respond<'a, A: Allocator + Copy, S: AsStr, F: Files, O: Out>(
+    words_alloc: Global,
+    alloc: A,
+    words: &'a [S],
+    files: &mut F,
+    out: &mut O,
+) -> Result<(), CommandFault<'a, A>>
+    requires { O.failed out.old < 2 ^ 64 - 1 }
+    ensures misuse { IfErr result (λ f. status_of f ≡ Status.CommandLine → IsMisuse (map S.text words.entry.now)
+        × (O.taken out.new ≡ O.taken out.old)) }
+    ensures fault { IfErr result (λ f. status_of f ≢ Status.Done) }
+    ensures done { OnOk result (AsksForHelp (map S.text words.entry.now) ⊎ ((c : Command) × IsCommand (map S.text words.entry.now) c
+        × (F.asked files.new ≡ asked_by (F.asked files.old) c))) }
+    ensures reads { (F.asked files.new ≡ F.asked files.old)
+        ⊎ ((c : Command) × IsCommand (map S.text words.entry.now) c × AsksFor c (F.asked files.old) (F.asked files.new)) }
+{
+    match parse(words_alloc, words) {
+        Ok(command) => perform(alloc, command, files, out),
+        Err(error) => answer(alloc, error, out),
     }
 }
 
@@ -142,8 +161,8 @@ pub fn report<A: Allocator + Copy, E: Out>(
     err: &mut E,
 ) -> u8
     requires { E.failed err.old < 2 ^ 64 - 1 }
-    ensures { ((result ≡ code_of (status_of fault.now)) × ((text : List ℕ) × Prints (E.taken err.old, E.failed err.old) (E.taken err.new, E.failed err.new) (printed fault.now text)))
-        ⊎ ((result ≡ 4) × Prints (E.taken err.old, E.failed err.old) (E.taken err.new, E.failed err.new) (line (codes "Memory"))) }
+    ensures { (s : Status) × (text : List ℕ) × ((s ≡ status_of fault.now) ⊎ (s ≡ Status.Memory)) × (result ≡ code_of s)
+        × Prints (E.taken err.old, E.failed err.old) (E.taken err.new, E.failed err.new) (said s text) }
 {
     match text_of(alloc, fault) {
         Ok(text) => {
@@ -161,11 +180,11 @@ fn text_of<A: Allocator + Copy>(
     alloc: A,
     fault: &CommandFault<'_, A>,
 ) -> Result<String<A>, AllocError>
-    ensures { IfOk result (λ s. (text : List ℕ) × (string_bytes s ≡ printed fault.now text)) }
+    ensures { IfOk result (λ s. (text : List ℕ) × (string_bytes s ≡ said (status_of fault.now) text)) }
 {
     let text = fault.to_string(alloc)?;
-    match fault {
-        CommandFault::CommandLine(_) => Ok(text),
+    match fault.status() {
+        Status::CommandLine => Ok(text),
         _ => format!(in alloc; "pairmd: {text}\n"),
     }
 }
