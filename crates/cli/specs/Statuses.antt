@@ -43,6 +43,7 @@ run_status _ = status.RefusedData
 
 abbrev pub status_of : {A : Type 0} → CommandFault A → Status
 status_of (fault.CommandLine e) = status.CommandLine
+status_of fault.NotText = status.CommandLine
 status_of (fault.CannotRead path) = status.File
 status_of (fault.Run f) = run_status f
 status_of (fault.Out f) = status.File

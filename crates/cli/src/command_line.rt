@@ -68,7 +68,11 @@ fn steps_of(matches: &ArgMatches<'_>) -> Option<u64>
         (λ n. (n ≤ MAX_STEPS) × IsSteps (rows_of (found_of matches.now)) n) }
 {
     let steps = matches.get_one("steps")?;
-    if steps <= MAX_STEPS { Some(steps) } else { None }
+    if steps <= MAX_STEPS {
+        Some(steps)
+    } else {
+        None
+    }
 }
 
 fn direction_of(name: &str) -> Option<Direction>

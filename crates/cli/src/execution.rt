@@ -4,7 +4,9 @@ ghost use Rattle.std.specs.Prelude.{◌≡◌, ◌≢◌, ◌⊎◌, ◌≤◌, 
 ghost use Rattle.clap.specs.Words.{kind_of};
 ghost use Rattle.clap.specs.declared.error.kind.ErrorKind.TheVariants.{OutOfMemory, DisplayHelp};
 ghost use Rattle.cli.specs.CommandLine.{AsksForHelp, IsCommand, IsMisuse};
-ghost use Rattle.cli.specs.Reads.{AsksFor, also_asked, asked_by};
+ghost use Rattle.cli.specs.Reads.{AsksFor, asked_by, unread};
+ghost use Rattle.cli.specs.Asked.{also_asked};
+ghost use Rattle.cli.specs.declared.files.ReadFault.{ReadFault};
 ghost use Rattle.cli.specs.Reports.{Prints, said};
 ghost use Rattle.cli.specs.Statuses.{code_of, status_of};
 ghost use Rattle.cli.specs.declared.commands.Command.{Command};
@@ -121,12 +123,21 @@ fn read<'a, A: Allocator + Copy, F: Files>(
     files: &mut F,
 ) -> Result<Vec<u8, A>, CommandFault<'a, A>>
     ensures asked { F.asked files.new ≡ also_asked (F.asked files.old) path.entry.now }
-    ensures fault { IfErr result (λ e. (e ≡ CommandFault.CannotRead path.entry) ⊎ (e ≡ CommandFault.Memory)) }
+    ensures fault { IfErr result (λ e. (fault : ReadFault) × (e ≡ unread fault path.entry)) }
 {
     match files.read(alloc, path) {
         Ok(bytes) => Ok(bytes),
-        Err(ReadFault::CannotRead) => Err(CommandFault::CannotRead { path }),
-        Err(ReadFault::Memory) => Err(CommandFault::Memory),
+        Err(fault) => Err(unread(fault, path)),
+    }
+}
+
+/// The fault of a command whose file at this path gave no bytes.
+fn unread<'a, A: Allocator>(fault: ReadFault, path: &'a str) -> CommandFault<'a, A>
+    ensures { result ≡ unread fault path.entry }
+{
+    match fault {
+        ReadFault::CannotRead => CommandFault::CannotRead { path },
+        ReadFault::Memory => CommandFault::Memory,
     }
 }
 
@@ -155,11 +166,7 @@ fn answer<'a, A: Allocator + Copy, O: Out>(
 /// Prints what a fault says, and answers its status.
 ///
 /// Where memory for the text is refused, the fault is want of memory. An output that fails is left with a beginning of the text.
-pub fn report<A: Allocator + Copy, E: Out>(
-    alloc: A,
-    fault: &CommandFault<'_, A>,
-    err: &mut E,
-) -> u8
+pub fn report<A: Allocator + Copy, E: Out>(alloc: A, fault: &CommandFault<'_, A>, err: &mut E) -> u8
     requires { E.failed err.old < 2 ^ 64 - 1 }
     ensures { (s : Status) × (text : List ℕ) × ((s ≡ status_of fault.now) ⊎ (s ≡ Status.Memory)) × (result ≡ code_of s)
         × Prints (E.taken err.old, E.failed err.old) (E.taken err.new, E.failed err.new) (said s text) }

@@ -9,7 +9,7 @@ use gro::OutFault;
 use integrator::RunFault;
 use job::JobFault;
 use state::StateFault;
-use std::alloc::{AllocError, Allocator};
+use std::alloc::{AllocError, AllocFailed, Allocator};
 use thiserror::Error;
 
 /// How the program ended.
@@ -54,6 +54,9 @@ pub enum CommandFault<'a, A: Allocator> {
     /// The words name no command. It prints the command line parser's own text.
     #[error("{0}")]
     CommandLine(Error),
+    /// A word of the process is no text.
+    #[error("error: a word of the command line is not UTF-8 text\n")]
+    NotText,
     /// A file can't be read to its end. The path is that of the words.
     #[error("O1 CannotRead {path}")]
     CannotRead { path: &'a str },
@@ -72,6 +75,14 @@ impl<'a, A: Allocator> From<AllocError> for CommandFault<'a, A> {
     ghost from_gives = { λ _ e. e ≡ Memory };
 
     fn from(_e: AllocError) -> CommandFault<'a, A> {
+        CommandFault::Memory
+    }
+}
+
+impl<'a, T: Drop, A: Allocator> From<AllocFailed<T>> for CommandFault<'a, A> {
+    ghost from_gives = { λ _ e. e ≡ Memory };
+
+    fn from(_e: AllocFailed<T>) -> CommandFault<'a, A> {
         CommandFault::Memory
     }
 }
@@ -100,7 +111,7 @@ impl<'a, A: Allocator> CommandFault<'a, A> {
         ensures { result ≡ status_of self.now }
     {
         match self {
-            CommandFault::CommandLine(_) => Status::CommandLine,
+            CommandFault::CommandLine(_) | CommandFault::NotText => Status::CommandLine,
             CommandFault::CannotRead { .. } | CommandFault::Out(_) => Status::File,
             CommandFault::Run(fault) => status_of_run(fault),
             CommandFault::Memory => Status::Memory,

@@ -7,14 +7,14 @@ mod commands;
 mod execution;
 mod faults;
 mod files;
-mod streams;
+mod host;
 
 pub use command_line::parse;
 pub use commands::{Command, MAX_STEPS, Run};
 pub use execution::{execute, report};
 pub use faults::{CommandFault, Status};
-pub use files::{Files, HostFiles, ReadFault};
-pub use streams::Stream;
+pub use files::{Files, ReadFault};
+pub use host::{HostFiles, Stream, words};
 
 #[cfg(test)]
 mod tests;

@@ -13,4 +13,4 @@ pub returns-in-Err-clause-misuse : goal.returns-in-Err-clause-misuse
 returns-in-Err-clause-misuse g c =
     let words = map g.S.AsStr.text c.args.words.now in
     IfErr-weaker c.answer.result _ _ (λ f h is. let m = h is in
-        (is_misuse words c.in-Err.error m.0 m.1 c.in-Err.ensures.kind c.in-Err.ensures.none, m.2)) c.answer.ensures.misuse
+    (is_misuse words c.in-Err.error m.0 m.1 c.in-Err.ensures.kind c.in-Err.ensures.none, m.2)) c.answer.ensures.misuse
