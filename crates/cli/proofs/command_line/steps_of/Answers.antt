@@ -1,4 +1,4 @@
-use Rattle.std.proofs.Common.{◌≡◌, ◌≤◌, ◌<◌, ℕ, MatchOption, Option, codes, subst, arith, rules, lit<}
+use Rattle.std.proofs.Common.{◌≤◌, ℕ, MatchOption, subst, arith, lit<}
 use Rattle.clap.specs.Words.{found_of, rows_of}
 use Rattle.cli.specs.CommandLine.{IsSteps}
 use Rattle.cli.specs.declared.commands.TheConstants.{MAX_STEPS}
