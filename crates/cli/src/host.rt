@@ -1,6 +1,7 @@
 //! The system's own files, streams and words.
 
-ghost use Rattle.std.specs.Prelude.{◌≡◌, None};
+ghost use Rattle.std.specs.Prelude.{◌≡◌, IfOk, IfSome, None, OnOk};
+ghost use Rattle.std.specs.Io.KnownBytes.{IsAtEnd};
 ghost use Rattle.std.specs.IoError.{error_kind};
 ghost use Rattle.cli.specs.Host.{read_fault_of, words_fault_of};
 
@@ -20,7 +21,9 @@ pub struct HostFiles<'a, R: fs::Files> {
 
 impl<'a, R: fs::Files> HostFiles<'a, R> {
     /// The files that the runtime reaches.
-    pub fn new(system: &'a R) -> Self {
+    pub fn new(system: &'a R) -> Self
+        ensures { result.system ≡ system.entry }
+    {
         HostFiles { system }
     }
 }
@@ -29,11 +32,25 @@ impl<'a, R: fs::Files> Files for HostFiles<'a, R> {
     ghost asked = { λ _. None };
 
     fn read<A: Allocator + Copy>(&mut self, alloc: A, path: &str) -> Result<Vec<u8, A>, ReadFault> {
-        let mut bytes = Vec::new(alloc);
-        match fs::open(self.system, path).and_then(|mut file| file.read_to_end(&mut bytes)) {
-            Ok(_) => Ok(bytes),
+        match fs::open(self.system, path) {
+            Ok(mut file) => read_all(alloc, &mut file),
             Err(error) => Err(read_fault(&error)),
         }
+    }
+}
+
+/// All bytes that the reader has left.
+pub(crate) fn read_all<A: Allocator, R: Read>(
+    alloc: A,
+    reader: &mut R,
+) -> Result<Vec<u8, A>, ReadFault>
+    ensures all { IfOk result (λ v. IfSome (R.remaining reader.old) (λ bytes. v.items ≡ bytes)) }
+    ensures end { OnOk result (IsAtEnd (R.remaining reader.new)) }
+{
+    let mut bytes = Vec::new(alloc);
+    match reader.read_to_end(&mut bytes) {
+        Ok(_) => Ok(bytes),
+        Err(error) => Err(read_fault(&error)),
     }
 }
 

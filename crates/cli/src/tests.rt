@@ -1,5 +1,6 @@
 ghost use Rattle.std.specs.Prelude.{◌≡◌, None, Some};
 
+use super::host::read_all;
 use super::*;
 use expr::ExprFault;
 use fixed::Fault;
@@ -9,6 +10,8 @@ use job::{JobFault, Key};
 use linked_list_allocator::LocalHeap;
 use state::StateFault;
 use std::alloc::{AllocError, Allocator, Global};
+use std::io;
+use std::io::Read;
 use std::process::Abort;
 use std::test::*;
 
@@ -367,5 +370,40 @@ fn reports_without_memory(rt: HostRuntime) -> Result<(), AllocError> {
     let mut err = Collected::new(rt.alloc());
     assert_eq!(rt; report(&heap, &fault, &mut err), 4);
     assert_eq!(rt; err.bytes(), b"pairmd: Memory\n".as_slice());
+    Ok(())
+}
+
+/// A reader that gives one byte and then fails.
+#[derive(Drop)]
+struct Broken {
+    given: bool,
+}
+
+impl Read for Broken {
+    fn read(&mut self, buf: &mut [u8]) -> io::Result<usize> {
+        if self.given || buf.is_empty() {
+            return Err(io::Error::from(io::ErrorKind::TimedOut));
+        }
+        self.given = true;
+        buf[0] = b'p';
+        Ok(1)
+    }
+}
+
+#[test]
+fn reads_to_the_end_or_not_at_all(rt: HostRuntime) -> Result<(), AllocError> {
+    let text: &[u8] = b"pairmd job 1\n";
+    let mut reader = text;
+    let bytes = read_all(rt.alloc(), &mut reader).ok();
+    assert!(rt; bytes.is_some_and(|bytes| bytes.as_slice() == text));
+    let mut broken = Broken { given: false };
+    assert_eq!(rt;
+        read_all(rt.alloc(), &mut broken).err(),
+        Some(ReadFault::CannotRead)
+    );
+    let heap = LocalHeap::new(rt.alloc(), 64)?;
+    let long = [b'p'; 100];
+    let mut reader: &[u8] = long.as_slice();
+    assert_eq!(rt; read_all(&heap, &mut reader).err(), Some(ReadFault::Memory));
     Ok(())
 }
