@@ -1,0 +1,16 @@
+use Rattle.std.proofs.Common.{inr, map}
+use Rattle.std.proofs.lemmas.Result.{IfErr-weaker, IfOk-weaker}
+use Rattle.cli.proofs.CommandLineLaws.{is_misuse}
+use Rattle.cli.proofs.execution.respond.Goals as goal
+
+pub returns-in-Ok-clause-done : goal.returns-in-Ok-clause-done
+returns-in-Ok-clause-done g c = IfOk-weaker c.perform.result _ _ (λ u h. inr (c.in-Ok.command, c.in-Ok.ensures.command, h)) c.perform.ensures.done
+
+pub returns-in-Ok-clause-reads : goal.returns-in-Ok-clause-reads
+returns-in-Ok-clause-reads g c = inr (c.in-Ok.command, c.in-Ok.ensures.command, c.perform.ensures.reads)
+
+pub returns-in-Err-clause-misuse : goal.returns-in-Err-clause-misuse
+returns-in-Err-clause-misuse g c =
+    let words = map g.S.AsStr.text c.args.words.now in
+    IfErr-weaker c.answer.result _ _ (λ f h is. let m = h is in
+    (is_misuse words c.in-Err.error m.0 m.1 c.in-Err.ensures.kind c.in-Err.ensures.none, m.2)) c.answer.ensures.misuse

@@ -1,0 +1,6 @@
+pub mod Asked
+pub mod CommandLine
+pub mod Host
+pub mod Reads
+pub mod Reports
+pub mod Statuses

@@ -1,0 +1,23 @@
+-- What commands read, and what they say of a file that gave no bytes.
+use Rattle.std.specs.Prelude.{◌≡◌, ◌⊎◌, ℕ, List, Option}
+use Rattle.std.specs.Borrow.{Bor}
+use Rattle.cli.specs.Asked.{also_asked}
+use Rattle.cli.specs.declared.commands.Command.{Command}
+use Rattle.cli.specs.declared.commands.Command.TheVariants as command
+use Rattle.cli.specs.declared.faults.CommandFault.{CommandFault}
+use Rattle.cli.specs.declared.faults.CommandFault.TheVariants as fault
+use Rattle.cli.specs.declared.files.ReadFault.{ReadFault}
+use Rattle.cli.specs.declared.files.ReadFault.TheVariants as read
+
+-- the paths asked for after a command has read all its files, in their order
+abbrev pub asked_by : Option (List (List ℕ)) → Command → Option (List (List ℕ))
+asked_by paths (command.Run run) = also_asked (also_asked paths run.job.now) run.state.now
+
+-- a command has asked for its files in their order, or for the first of them
+abbrev pub AsksFor : Command → Option (List (List ℕ)) → Option (List (List ℕ)) → Type 0
+AsksFor (command.Run run) before after = (after ≡ also_asked before run.job.now) ⊎ (after ≡ asked_by before (command.Run run))
+
+-- the fault of a command whose file at this path gave no bytes
+abbrev pub unread : {A : Type 0} → ReadFault → Bor (List ℕ) → CommandFault A
+unread read.CannotRead path = fault.CannotRead path
+unread read.Memory path = fault.Memory

@@ -1,0 +1,29 @@
+//! What the program can be asked for.
+
+ghost use Rattle.std.specs.Prelude.{◌≤◌};
+
+use integrator::Direction;
+
+/// The most steps that one command takes.
+pub const MAX_STEPS: u64 = 1_000_000_000_000;
+
+/// What the words ask for.
+#[derive(Clone, Copy, Debug)]
+pub enum Command<'a> {
+    /// `run` and `back`: the state after so many steps.
+    Run(Run<'a>),
+}
+
+/// A run of a state, forwards or back.
+#[derive(Clone, Copy, Debug)]
+pub struct Run<'a> {
+    /// Which way the run goes.
+    pub direction: Direction,
+    /// The path of the job.
+    pub job: &'a str,
+    /// The path of the state.
+    pub state: &'a str,
+    /// How many steps.
+    pub steps: u64,
+    ghost within: { steps ≤ 1000000000000 },
+}

@@ -1,0 +1,197 @@
+//! Doing what the words ask for.
+
+ghost use Rattle.std.specs.Prelude.{◌≡◌, ◌≢◌, ◌⊎◌, ◌≤◌, ◌<◌, ◌-◌, ◌^◌, ℕ, List, IfOk, OnOk, IfErr, map, string_bytes};
+ghost use Rattle.clap.specs.Words.{kind_of};
+ghost use Rattle.clap.specs.declared.error.kind.ErrorKind.TheVariants.{OutOfMemory, DisplayHelp};
+ghost use Rattle.cli.specs.CommandLine.{AsksForHelp, IsCommand, IsMisuse};
+ghost use Rattle.cli.specs.Reads.{AsksFor, asked_by, unread};
+ghost use Rattle.cli.specs.Asked.{also_asked};
+ghost use Rattle.cli.specs.declared.files.ReadFault.{ReadFault};
+ghost use Rattle.cli.specs.Reports.{Prints, said};
+ghost use Rattle.cli.specs.Statuses.{code_of, status_of};
+ghost use Rattle.cli.specs.declared.commands.Command.{Command};
+ghost use Rattle.cli.specs.declared.faults.Status.{Status};
+
+use crate::command_line::parse;
+use crate::commands::{Command, Run};
+use crate::faults::{CommandFault, Status};
+use crate::files::{Files, ReadFault};
+use clap::Error;
+use clap::error::ErrorKind;
+use gro::{Out, write_all};
+use integrator::run_bytes_checked;
+use std::alloc::{AllocError, Allocator, Global};
+use std::convert::AsStr;
+
+/// Does what the words ask for, and answers the status to end with, from 0 to 5.
+///
+/// The words begin after the program's own name. What a command prints, and help, goes to `out`; the line of a refusal goes to `err`, and so does the parser's text on words that name no command. The command line's parser takes its memory of `words_alloc`, all else of `alloc`.
+pub fn execute<A: Allocator + Copy, S: AsStr, F: Files, O: Out, E: Out>(
+    words_alloc: Global,
+    alloc: A,
+    words: &[S],
+    files: &mut F,
+    out: &mut O,
+    err: &mut E,
+) -> u8
+    requires out { O.failed out.old < 2 ^ 64 - 1 }
+    requires err { E.failed err.old < 2 ^ 64 - 1 }
+    ensures most { result ≤ 5 }
+    ensures quiet { result ≡ 0 → (E.taken err.new ≡ E.taken err.old) × (E.failed err.new ≡ E.failed err.old) }
+    ensures said { result ≢ 0 → (s : Status) × (text : List ℕ) × (result ≡ code_of s)
+        × Prints (E.taken err.old, E.failed err.old) (E.taken err.new, E.failed err.new) (said s text) }
+    ensures misuse { result ≡ 2 → IsMisuse (map S.text words.now) × (O.taken out.new ≡ O.taken out.old) }
+    ensures done { result ≡ 0 → AsksForHelp (map S.text words.now) ⊎ ((c : Command) × IsCommand (map S.text words.now) c
+        × (F.asked files.new ≡ asked_by (F.asked files.old) c)) }
+    ensures reads { (F.asked files.new ≡ F.asked files.old)
+        ⊎ ((c : Command) × IsCommand (map S.text words.now) c × AsksFor c (F.asked files.old) (F.asked files.new)) }
+{
+    match respond(words_alloc, alloc, words, files, out) {
+        Ok(()) => Status::Done.code(),
+        Err(fault) => report(alloc, &fault, err),
+    }
+}
+
+/// Does what the words ask for.
+fn respond<'a, A: Allocator + Copy, S: AsStr, F: Files, O: Out>(
+    words_alloc: Global,
+    alloc: A,
+    words: &'a [S],
+    files: &mut F,
+    out: &mut O,
+) -> Result<(), CommandFault<'a, A>>
+    requires { O.failed out.old < 2 ^ 64 - 1 }
+    ensures misuse { IfErr result (λ f. status_of f ≡ Status.CommandLine → IsMisuse (map S.text words.entry.now)
+        × (O.taken out.new ≡ O.taken out.old)) }
+    ensures fault { IfErr result (λ f. status_of f ≢ Status.Done) }
+    ensures done { OnOk result (AsksForHelp (map S.text words.entry.now) ⊎ ((c : Command) × IsCommand (map S.text words.entry.now) c
+        × (F.asked files.new ≡ asked_by (F.asked files.old) c))) }
+    ensures reads { (F.asked files.new ≡ F.asked files.old)
+        ⊎ ((c : Command) × IsCommand (map S.text words.entry.now) c × AsksFor c (F.asked files.old) (F.asked files.new)) }
+{
+    match parse(words_alloc, words) {
+        Ok(command) => perform(alloc, command, files, out),
+        Err(error) => answer(alloc, error, out),
+    }
+}
+
+/// Does what a command says.
+fn perform<'a, A: Allocator + Copy, F: Files, O: Out>(
+    alloc: A,
+    command: Command<'a>,
+    files: &mut F,
+    out: &mut O,
+) -> Result<(), CommandFault<'a, A>>
+    requires { O.failed out.old < 2 ^ 64 - 1 }
+    ensures done { OnOk result (F.asked files.new ≡ asked_by (F.asked files.old) command.entry) }
+    ensures reads { AsksFor command.entry (F.asked files.old) (F.asked files.new) }
+    ensures fault { IfErr result (λ f. status_of f ≢ Status.CommandLine) }
+{
+    match command {
+        Command::Run(run) => perform_run(alloc, run, files, out),
+    }
+}
+
+/// Reads the job and then the state, and runs it.
+fn perform_run<'a, A: Allocator + Copy, F: Files, O: Out>(
+    alloc: A,
+    run: Run<'a>,
+    files: &mut F,
+    out: &mut O,
+) -> Result<(), CommandFault<'a, A>>
+    requires { O.failed out.old < 2 ^ 64 - 1 }
+    ensures done { OnOk result (F.asked files.new ≡ asked_by (F.asked files.old) (Command.Run run.entry)) }
+    ensures reads { AsksFor (Command.Run run.entry) (F.asked files.old) (F.asked files.new) }
+    ensures fault { IfErr result (λ f. status_of f ≢ Status.CommandLine) }
+{
+    let job = read(alloc, run.job, files)?;
+    let state = read(alloc, run.state, files)?;
+    run_bytes_checked(
+        alloc,
+        job.as_slice(),
+        state.as_slice(),
+        run.steps,
+        run.direction,
+        out,
+    )?;
+    Ok(())
+}
+
+fn read<'a, A: Allocator + Copy, F: Files>(
+    alloc: A,
+    path: &'a str,
+    files: &mut F,
+) -> Result<Vec<u8, A>, CommandFault<'a, A>>
+    ensures asked { F.asked files.new ≡ also_asked (F.asked files.old) path.entry.now }
+    ensures fault { IfErr result (λ e. (fault : ReadFault) × (e ≡ unread fault path.entry)) }
+{
+    match files.read(alloc, path) {
+        Ok(bytes) => Ok(bytes),
+        Err(fault) => Err(unread(fault, path)),
+    }
+}
+
+/// The fault of a command whose file at this path gave no bytes.
+fn unread<'a, A: Allocator>(fault: ReadFault, path: &'a str) -> CommandFault<'a, A>
+    ensures { result ≡ unread fault path.entry }
+{
+    match fault {
+        ReadFault::CannotRead => CommandFault::CannotRead { path },
+        ReadFault::Memory => CommandFault::Memory,
+    }
+}
+
+/// Prints help where the words ask for it; any other answer of the parser is a fault.
+fn answer<'a, A: Allocator + Copy, O: Out>(
+    alloc: A,
+    error: Error,
+    out: &mut O,
+) -> Result<(), CommandFault<'a, A>>
+    requires { O.failed out.old < 2 ^ 64 - 1 }
+    ensures help { OnOk result (kind_of error ≡ DisplayHelp) }
+    ensures misuse { IfErr result (λ f. status_of f ≡ Status.CommandLine → (kind_of error ≢ OutOfMemory)
+        × (kind_of error ≢ DisplayHelp) × (O.taken out.new ≡ O.taken out.old)) }
+{
+    match error.kind() {
+        ErrorKind::OutOfMemory => Err(CommandFault::Memory),
+        ErrorKind::DisplayHelp => {
+            let text = error.to_string(alloc)?;
+            write_all(out, text.as_bytes())?;
+            Ok(())
+        }
+        _ => Err(CommandFault::CommandLine(error)),
+    }
+}
+
+/// Prints what a fault says, and answers its status.
+///
+/// Where memory for the text is refused, the fault is want of memory. An output that fails is left with a beginning of the text.
+pub fn report<A: Allocator + Copy, E: Out>(alloc: A, fault: &CommandFault<'_, A>, err: &mut E) -> u8
+    requires { E.failed err.old < 2 ^ 64 - 1 }
+    ensures { (s : Status) × (text : List ℕ) × ((s ≡ status_of fault.now) ⊎ (s ≡ Status.Memory)) × (result ≡ code_of s)
+        × Prints (E.taken err.old, E.failed err.old) (E.taken err.new, E.failed err.new) (said s text) }
+{
+    match text_of(alloc, fault) {
+        Ok(text) => {
+            let _ = write_all(err, text.as_bytes());
+            fault.status().code()
+        }
+        Err(_) => {
+            let _ = write_all(err, b"pairmd: Memory\n");
+            Status::Memory.code()
+        }
+    }
+}
+
+fn text_of<A: Allocator + Copy>(
+    alloc: A,
+    fault: &CommandFault<'_, A>,
+) -> Result<String<A>, AllocError>
+    ensures { IfOk result (λ s. (text : List ℕ) × (string_bytes s ≡ said (status_of fault.now) text)) }
+{
+    let text = fault.to_string(alloc)?;
+    match fault.status() {
+        Status::CommandLine => Ok(text),
+        _ => format!(in alloc; "pairmd: {text}\n"),
+    }
+}

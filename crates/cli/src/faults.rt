@@ -1,0 +1,148 @@
+//! Why a command was not done, and the statuses of the program.
+
+ghost use Rattle.std.specs.Prelude.{◌≡◌, ◌≤◌};
+ghost use Rattle.cli.specs.declared.faults.CommandFault.TheVariants.{Memory, Out, Run};
+
+use clap::Error;
+use expr::ExprFault;
+use gro::OutFault;
+use integrator::RunFault;
+use job::JobFault;
+use state::StateFault;
+use std::alloc::{AllocError, AllocFailed, Allocator};
+use thiserror::Error;
+
+/// How the program ended.
+#[derive(Clone, Copy, Debug, PartialEq, Eq)]
+pub enum Status {
+    /// The command was done, or help was printed.
+    Done,
+    /// A job, a state, or the run of one was refused.
+    RefusedData,
+    /// The words name no command.
+    CommandLine,
+    /// An energy's text or its kernel was refused.
+    RefusedKernel,
+    /// A growth was refused.
+    Memory,
+    /// A file or the output failed.
+    File,
+}
+
+impl Status {
+    ghost use Rattle.cli.specs.Statuses.{code_of};
+
+    /// The number that the process ends with, from 0 to 5.
+    pub fn code(self) -> u8
+        ensures code { result ≡ code_of self }
+        ensures most { result ≤ 5 }
+    {
+        match self {
+            Status::Done => 0,
+            Status::RefusedData => 1,
+            Status::CommandLine => 2,
+            Status::RefusedKernel => 3,
+            Status::Memory => 4,
+            Status::File => 5,
+        }
+    }
+}
+
+/// Why a command was not done.
+#[derive(Debug, Drop, Error)]
+pub enum CommandFault<'a, A: Allocator> {
+    /// The words name no command. It prints the command line parser's own text.
+    #[error("{0}")]
+    CommandLine(Error),
+    /// A word of the process is no text.
+    #[error("error: a word of the command line is not UTF-8 text\n")]
+    NotText,
+    /// A file can't be read to its end. The path is that of the words.
+    #[error("O1 CannotRead {path}")]
+    CannotRead { path: &'a str },
+    /// The run is refused.
+    #[error("{0}")]
+    Run(RunFault<A>),
+    /// The output failed.
+    #[error("{0}")]
+    Out(OutFault),
+    /// A growth was refused.
+    #[error("Memory")]
+    Memory,
+}
+
+impl<'a, A: Allocator> From<AllocError> for CommandFault<'a, A> {
+    ghost from_gives = { λ _ e. e ≡ Memory };
+
+    fn from(_e: AllocError) -> CommandFault<'a, A> {
+        CommandFault::Memory
+    }
+}
+
+impl<'a, T: Drop, A: Allocator> From<AllocFailed<T>> for CommandFault<'a, A> {
+    ghost from_gives = { λ _ e. e ≡ Memory };
+
+    fn from(_e: AllocFailed<T>) -> CommandFault<'a, A> {
+        CommandFault::Memory
+    }
+}
+
+impl<'a, A: Allocator> From<OutFault> for CommandFault<'a, A> {
+    ghost from_gives = { λ fault e. e ≡ Out fault };
+
+    fn from(fault: OutFault) -> CommandFault<'a, A> {
+        CommandFault::Out(fault)
+    }
+}
+
+impl<'a, A: Allocator> From<RunFault<A>> for CommandFault<'a, A> {
+    ghost from_gives = { λ fault e. e ≡ Run fault };
+
+    fn from(fault: RunFault<A>) -> CommandFault<'a, A> {
+        CommandFault::Run(fault)
+    }
+}
+
+impl<'a, A: Allocator> CommandFault<'a, A> {
+    ghost use Rattle.cli.specs.Statuses.{status_of};
+
+    /// The status that the program ends with.
+    pub fn status(&self) -> Status
+        ensures { result ≡ status_of self.now }
+    {
+        match self {
+            CommandFault::CommandLine(_) | CommandFault::NotText => Status::CommandLine,
+            CommandFault::CannotRead { .. } | CommandFault::Out(_) => Status::File,
+            CommandFault::Run(fault) => status_of_run(fault),
+            CommandFault::Memory => Status::Memory,
+        }
+    }
+}
+
+ghost use Rattle.cli.specs.Statuses.{run_status};
+
+/// The status that a refused run ends with. Want of memory inside a refused text is want of memory.
+fn status_of_run<A: Allocator>(fault: &RunFault<A>) -> Status
+    ensures { result ≡ run_status fault.now }
+{
+    match fault {
+        RunFault::Job(fault) => match fault {
+            JobFault::Memory => Status::Memory,
+            _ => Status::RefusedData,
+        },
+        RunFault::State(fault) => match fault {
+            StateFault::Memory => Status::Memory,
+            _ => Status::RefusedData,
+        },
+        RunFault::Energy(fault) => match fault {
+            ExprFault::Memory => Status::Memory,
+            _ => Status::RefusedKernel,
+        },
+        RunFault::UnknownType { .. }
+        | RunFault::CutoffTooLong
+        | RunFault::StepRange
+        | RunFault::KernelFault { .. } => Status::RefusedData,
+        RunFault::Out(_) => Status::File,
+        RunFault::Memory => Status::Memory,
+    }
+}

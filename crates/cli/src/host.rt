@@ -1,0 +1,123 @@
+//! The system's own files, streams and words.
+
+ghost use Rattle.std.specs.Prelude.{◌≡◌, IfOk, IfSome, None, OnOk};
+ghost use Rattle.std.specs.Io.KnownBytes.{IsAtEnd};
+ghost use Rattle.std.specs.IoError.{error_kind};
+ghost use Rattle.cli.specs.Host.{read_fault_of, words_fault_of};
+
+use crate::faults::CommandFault;
+use crate::files::{Files, ReadFault};
+use gro::{Out, OutFault};
+use std::alloc::{Allocator, Global};
+use std::io::{Read, Write};
+use std::rt::Env;
+use std::{env, fs, io};
+
+/// The files of the system.
+#[derive(Clone, Copy)]
+pub struct HostFiles<'a, R: fs::Files> {
+    system: &'a R,
+}
+
+impl<'a, R: fs::Files> HostFiles<'a, R> {
+    /// The files that the runtime reaches.
+    pub fn new(system: &'a R) -> Self
+        ensures { result.system ≡ system.entry }
+    {
+        HostFiles { system }
+    }
+}
+
+impl<'a, R: fs::Files> Files for HostFiles<'a, R> {
+    ghost asked = { λ _. None };
+
+    fn read<A: Allocator + Copy>(&mut self, alloc: A, path: &str) -> Result<Vec<u8, A>, ReadFault> {
+        match fs::open(self.system, path) {
+            Ok(mut file) => read_all(alloc, &mut file),
+            Err(error) => Err(read_fault(&error)),
+        }
+    }
+}
+
+/// All bytes that the reader has left.
+pub(crate) fn read_all<A: Allocator, R: Read>(
+    alloc: A,
+    reader: &mut R,
+) -> Result<Vec<u8, A>, ReadFault>
+    ensures all { IfOk result (λ v. IfSome (R.remaining reader.old) (λ bytes. v.items ≡ bytes)) }
+    ensures end { OnOk result (IsAtEnd (R.remaining reader.new)) }
+{
+    let mut bytes = Vec::new(alloc);
+    match reader.read_to_end(&mut bytes) {
+        Ok(_) => Ok(bytes),
+        Err(error) => Err(read_fault(&error)),
+    }
+}
+
+/// A file whose bytes find no memory is want of memory; any other failure is a file that can't be read.
+fn read_fault(error: &io::Error) -> ReadFault
+    ensures { result ≡ read_fault_of (error_kind error.now) }
+{
+    match error.kind() {
+        io::ErrorKind::OutOfMemory => ReadFault::Memory,
+        _ => ReadFault::CannotRead,
+    }
+}
+
+/// An output over a writer of the system, as standard output is. It tells no bytes.
+#[derive(Drop)]
+pub struct Stream<W: Write> {
+    writer: W,
+    failures: u64,
+}
+
+impl<W: Write> Stream<W> {
+    /// An output over this writer, with no failed write.
+    pub fn new(writer: W) -> Self
+        ensures { result.failures ≡ 0 }
+    {
+        Stream {
+            writer,
+            failures: 0,
+        }
+    }
+}
+
+impl<W: Write> Out for Stream<W> {
+    ghost taken = { λ _. None };
+
+    ghost failed = { λ s. s.failures };
+
+    /// A writer that takes nothing of some bytes has failed.
+    fn write(&mut self, bytes: &[u8]) -> Result<usize, OutFault> {
+        match self.writer.write(bytes) {
+            Ok(taken) if taken > 0 || bytes.is_empty() => Ok(taken),
+            _ => {
+                self.failures += 1;
+                Err(OutFault)
+            }
+        }
+    }
+
+    fn failures(&self) -> u64 {
+        self.failures
+    }
+}
+
+/// The words of the process after the program's own name.
+pub fn words<R: Env + AllocGlobal>(rt: &R) -> Result<Vec<String>, CommandFault<'static, Global>> {
+    let mut words = Vec::new(rt.alloc());
+    for word in env::args(rt).map_err(|error| words_fault(&error))?.skip(1) {
+        words.push(word)?;
+    }
+    Ok(words)
+}
+
+fn words_fault(error: &io::Error) -> CommandFault<'static, Global>
+    ensures { result ≡ words_fault_of (error_kind error.now) }
+{
+    match error.kind() {
+        io::ErrorKind::OutOfMemory => CommandFault::Memory,
+        _ => CommandFault::NotText,
+    }
+}

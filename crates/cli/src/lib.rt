@@ -1,0 +1,20 @@
+//! The program `pairmd` over any files and outputs: its command line, its commands, the lines it
+//! prints when it refuses, and the status it ends with.
+#![tactic(auto)]
+
+mod command_line;
+mod commands;
+mod execution;
+mod faults;
+mod files;
+mod host;
+
+pub use command_line::parse;
+pub use commands::{Command, MAX_STEPS, Run};
+pub use execution::{execute, report};
+pub use faults::{CommandFault, Status};
+pub use files::{Files, ReadFault};
+pub use host::{HostFiles, Stream, words};
+
+#[cfg(test)]
+mod tests;

@@ -1,0 +1,47 @@
+//! Why a run is refused.
+
+use expr::ExprFault;
+use fixed::Fault;
+use gro::OutFault;
+use job::JobFault;
+use state::StateFault;
+use std::alloc::Allocator;
+use thiserror::Error;
+
+/// Why a run is refused. Nothing was written then, but for `Out`: there a beginning of the new state was.
+#[derive(Debug, Drop, Error)]
+pub enum RunFault<A: Allocator> {
+    /// The job's text is refused.
+    #[error("{0}")]
+    Job(JobFault<A>),
+    /// The state's text is refused.
+    #[error("{0}")]
+    State(StateFault),
+    /// The energy's text is refused.
+    #[error("{0}")]
+    Energy(ExprFault<A>),
+    /// The job has no type with the name of this atom, the lowest such, counted from 1.
+    #[error("A1 UnknownType {atom}")]
+    UnknownType { atom: u64 },
+    /// Some side of the box is shorter than two cutoffs.
+    #[error("A2 CutoffTooLong")]
+    CutoffTooLong,
+    /// The step counter would leave an i64.
+    #[error("A4 StepRange")]
+    StepRange,
+    /// The slope has no value for the pair of atoms `low` and `high`, counted from 1, in the frame whose counter is `step`: it is the first such pair, by the lower atom and then by the higher. `pc` is the place in the kernel's code.
+    #[error("A5 KernelFault {step} {low} {high} {pc} {fault}")]
+    KernelFault {
+        step: i64,
+        low: u64,
+        high: u64,
+        pc: u32,
+        fault: Fault,
+    },
+    /// A growth was refused.
+    #[error("Memory")]
+    Memory,
+    /// The output failed.
+    #[error("{0}")]
+    Out(OutFault),
+}
