@@ -1,0 +1,10 @@
+pub mod StepLemmas
+pub mod SumLemmas
+pub mod EvaluationLemmas
+pub mod PairLemmas
+pub mod ForceLaws
+pub mod BoundLaws
+pub mod NumberLaws
+pub mod TurnLaws
+pub mod StateLaws
+pub mod StartLaws

@@ -1,0 +1,12 @@
+pub mod Displacement
+pub mod Forces
+pub mod Adding
+pub mod Frames
+pub mod Evaluation
+pub mod Systems
+pub mod SlopeBounds
+pub mod States
+pub mod Starts
+pub mod StartViews
+pub mod Runs
+pub mod Halts

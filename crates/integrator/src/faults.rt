@@ -1,11 +1,14 @@
 //! Why a run is refused.
 
+ghost use Rattle.std.specs.Prelude.{◌≡◌};
+ghost use Rattle.integrator.specs.declared.faults.RunFault.TheVariants.{Energy, Job, Memory, Out, State};
+
 use expr::ExprFault;
 use fixed::Fault;
 use gro::OutFault;
 use job::JobFault;
 use state::StateFault;
-use std::alloc::Allocator;
+use std::alloc::{AllocError, AllocFailed, Allocator};
 use thiserror::Error;
 
 /// Why a run is refused. Nothing was written then, but for `Out`: there a beginning of the new state was.
@@ -44,4 +47,52 @@ pub enum RunFault<A: Allocator> {
     /// The output failed.
     #[error("{0}")]
     Out(OutFault),
+}
+
+impl<A: Allocator> From<JobFault<A>> for RunFault<A> {
+    ghost from_gives = { λ f e. e ≡ Job f };
+
+    fn from(fault: JobFault<A>) -> RunFault<A> {
+        RunFault::Job(fault)
+    }
+}
+
+impl<A: Allocator> From<StateFault> for RunFault<A> {
+    ghost from_gives = { λ f e. e ≡ State f };
+
+    fn from(fault: StateFault) -> RunFault<A> {
+        RunFault::State(fault)
+    }
+}
+
+impl<A: Allocator> From<ExprFault<A>> for RunFault<A> {
+    ghost from_gives = { λ f e. e ≡ Energy f };
+
+    fn from(fault: ExprFault<A>) -> RunFault<A> {
+        RunFault::Energy(fault)
+    }
+}
+
+impl<A: Allocator> From<OutFault> for RunFault<A> {
+    ghost from_gives = { λ f e. e ≡ Out f };
+
+    fn from(fault: OutFault) -> RunFault<A> {
+        RunFault::Out(fault)
+    }
+}
+
+impl<A: Allocator> From<AllocError> for RunFault<A> {
+    ghost from_gives = { λ _ e. e ≡ Memory };
+
+    fn from(_e: AllocError) -> RunFault<A> {
+        RunFault::Memory
+    }
+}
+
+impl<T: Drop, A: Allocator> From<AllocFailed<T>> for RunFault<A> {
+    ghost from_gives = { λ _ e. e ≡ Memory };
+
+    fn from(_e: AllocFailed<T>) -> RunFault<A> {
+        RunFault::Memory
+    }
 }

@@ -1,23 +1,236 @@
-//! Runs from bytes to bytes.
+//! Runs of states, and from bytes to bytes.
 
-ghost use Rattle.std.specs.Prelude.{◌≤◌, ◌<◌, ◌-◌, ◌^◌};
+ghost use Rattle.std.specs.Prelude.{◌≡◌, ◌<◌, ◌+◌, ◌-◌, ◌^◌, ◌+ℤ◌, ◌-ℤ◌, pos, length, map, true, false, Some, IfOk, OnOk, IfErr};
+ghost use Rattle.state.specs.StateViews.{atom_view, state_view};
+ghost use Rattle.fixed.specs.Arithmetic.{in_range};
+ghost use Rattle.integrator.specs.Runs.{is_out, IsAfter, IsRefusal, IsStop, Ran, Wrote, WroteBeginning};
+ghost use Rattle.integrator.specs.StartViews.{start_view};
+ghost use Rattle.integrator.specs.declared.faults.RunFault.TheVariants.{KernelFault};
+ghost use Rattle.integrator.specs.Halts.{IsHalt};
+ghost use Rattle.integrator.specs.States.{counter_at, current_frame, forced_counter, moved_state, previous_frame};
+ghost use Rattle.integrator.specs.Frames.{frames, turns, StopsAt};
+ghost use Rattle.integrator.specs.Systems.{dynamics_of};
 
 use crate::direction::Direction;
 use crate::faults::RunFault;
+use crate::prepared::Prepared;
+use crate::slopes::TestedSlope;
+use crate::starts::start;
+use crate::states::{current_frame, place, previous_frame};
+use crate::systems::{Stop, System};
 use gro::Out;
-use std::alloc::Allocator;
+use state::{Atom, State};
+use std::alloc::{AllocError, Allocator};
 
-/// Runs a state so many steps in a direction, and writes the new state.
-pub fn run_bytes_checked<A: Allocator + Copy, O: Out>(
-    _alloc: A,
-    _job: &[u8],
-    _state: &[u8],
-    _steps: u64,
-    _direction: Direction,
-    _out: &mut O,
-) -> Result<(), RunFault<A>>
-    requires steps { _steps ≤ 1000000000000 }
-    requires count { O.failed _out.old < 2 ^ 64 - 1 }
+/// So many steps of two frames in a direction.
+fn turn_frames<K: TestedSlope + Drop, A: Allocator>(
+    system: &System<K, A>,
+    direction: Direction,
+    steps: u64,
+    previous: &mut Vec<[u32; 3], A>,
+    current: &mut Vec<[u32; 3], A>,
+    sums: &mut [[i128; 3]],
+) -> Result<(), Stop>
+    requires previous { length previous.old.items ≡ length system.now.masses.items }
+    requires current { length current.old.items ≡ length system.now.masses.items }
+    requires sums { length sums.old ≡ length system.now.masses.items }
+    ensures value {
+        OnOk result (turns direction (dynamics_of K.slope K.fault system.now) steps (frames previous.old.items current.old.items) ≡ Some (frames previous.new.items current.new.items))
+    }
+    ensures previous { length previous.new.items ≡ length previous.old.items }
+    ensures current { length current.new.items ≡ length current.old.items }
+    ensures fault {
+        IfErr result (λ s. StopsAt direction (dynamics_of K.slope K.fault system.now) steps (frames previous.old.items current.old.items) s.done (s.pair.low, s.pair.high) s.pair.fault)
+    }
 {
-    Err(RunFault::Memory)
+    match direction {
+        Direction::Forward => system.turns(steps, previous, current, sums),
+        Direction::Back => system.turns(steps, current, previous, sums),
+    }
+}
+
+/// The two frames of a run.
+#[derive(Drop)]
+struct Turned<A: Allocator> {
+    previous: Vec<[u32; 3], A>,
+    current: Vec<[u32; 3], A>,
+}
+
+/// Why a run did not reach its end.
+enum Halt {
+    Memory,
+    Stop(Stop),
+}
+
+impl From<AllocError> for Halt {
+    ghost use Rattle.integrator.specs.declared.runs.Halt.TheVariants.{Memory};
+
+    ghost from_gives = { λ _ e. e ≡ Memory };
+
+    fn from(_e: AllocError) -> Halt {
+        Halt::Memory
+    }
+}
+
+/// The frames of these atoms after so many steps in a direction.
+fn frames_after<K: TestedSlope + Drop, A: Allocator + Copy>(
+    alloc: A,
+    system: &System<K, A>,
+    direction: Direction,
+    steps: u64,
+    atoms: &[Atom],
+) -> Result<Turned<A>, Halt>
+    requires { length atoms.now ≡ length system.now.masses.items }
+    ensures value {
+        IfOk result (λ t. turns direction (dynamics_of K.slope K.fault system.now) steps (frames (previous_frame (map atom_view atoms.now)) (current_frame (map atom_view atoms.now))) ≡ Some (frames t.previous.items t.current.items))
+    }
+    ensures previous { IfOk result (λ t. length t.previous.items ≡ length atoms.now) }
+    ensures current { IfOk result (λ t. length t.current.items ≡ length atoms.now) }
+    ensures halt {
+        IfErr result (IsHalt (dynamics_of K.slope K.fault system.now) direction steps (frames (previous_frame (map atom_view atoms.now)) (current_frame (map atom_view atoms.now))))
+    }
+{
+    let mut previous = previous_frame(alloc, atoms)?;
+    let mut current = current_frame(alloc, atoms)?;
+    let mut sums = vec![in alloc; [0; 3]; atoms.len()]?;
+    match turn_frames(system, direction, steps, &mut previous, &mut current, &mut sums) {
+        Ok(()) => Ok(Turned { previous, current }),
+        Err(stop) => Err(Halt::Stop(stop)),
+    }
+}
+
+fn ahead(step: i64, done: u64) -> i128
+    ensures { result ≡ step +ℤ pos done }
+{
+    i128::from(step) + i128::from(done)
+}
+
+fn behind(step: i64, done: u64) -> i128
+    ensures { result ≡ step -ℤ pos done -ℤ pos 1 }
+{
+    i128::from(step) - i128::from(done) - 1
+}
+
+fn narrow(counter: i128) -> i64
+    requires { in_range counter ≡ true }
+    ensures { result ≡ counter }
+{
+    counter as i64
+}
+
+/// The counter of the frame whose forces are wanted after so many whole steps.
+fn forced_counter(direction: Direction, step: i64, steps: u64, done: u64) -> i64
+    requires fits { in_range (counter_at direction step steps) ≡ true }
+    requires early { done < steps }
+    ensures { result ≡ forced_counter direction step done }
+{
+    match direction {
+        Direction::Forward => narrow(ahead(step, done)),
+        Direction::Back => narrow(behind(step, done)),
+    }
+}
+
+/// The state at these frames, with this counter.
+fn moved<A: Allocator>(mut state: State<A>, turned: &Turned<A>, counter: i64) -> State<A>
+    requires previous { length turned.now.previous.items ≡ length state.atoms.items }
+    requires current { length turned.now.current.items ≡ length state.atoms.items }
+    ensures {
+        state_view result ≡ moved_state (state_view state) (frames turned.now.previous.items turned.now.current.items) counter
+    }
+{
+    place(&mut state.atoms, &turned.previous, &turned.current);
+    state.step = counter;
+    state
+}
+
+/// The fault of a run that stopped, its atoms counted from 1.
+fn kernel_fault<A: Allocator>(
+    direction: Direction,
+    state: &State<A>,
+    steps: u64,
+    stop: Stop,
+) -> RunFault<A>
+    requires fits { in_range (counter_at direction state.now.step steps) ≡ true }
+    requires early { stop.done < steps }
+    ensures {
+        result ≡ KernelFault (forced_counter direction state.now.step stop.done) (stop.pair.low + 1) (stop.pair.high + 1) 0 stop.pair.fault
+    }
+{
+    RunFault::KernelFault {
+        step: forced_counter(direction, state.step, steps, stop.done),
+        low: stop.pair.low as u64 + 1,
+        high: stop.pair.high as u64 + 1,
+        pc: 0,
+        fault: stop.pair.fault,
+    }
+}
+
+/// Runs so many steps in a direction.
+fn run<A: Allocator + Copy>(
+    alloc: A,
+    direction: Direction,
+    steps: u64,
+    prepared: Prepared<A>,
+) -> Result<State<A>, RunFault<A>>
+    requires { in_range (counter_at direction prepared.state.step steps) ≡ true }
+    ensures value { IfOk result (λ s. Ran direction steps (start_view prepared) (state_view s)) }
+    ensures stop { IfErr result (IsStop direction steps (start_view prepared)) }
+{
+    let Prepared {
+        state,
+        system,
+        counter,
+    } = prepared;
+    match frames_after(alloc, &system, direction, steps, &state.atoms) {
+        Ok(turned) => Ok(moved(state, &turned, counter)),
+        Err(Halt::Memory) => Err(RunFault::Memory),
+        Err(Halt::Stop(stop)) => Err(kernel_fault(direction, &state, steps, stop)),
+    }
+}
+
+/// The state that these texts lead to.
+fn state_after<A: Allocator + Copy>(
+    alloc: A,
+    job: &[u8],
+    state: &[u8],
+    steps: u64,
+    direction: Direction,
+) -> Result<State<A>, RunFault<A>>
+    ensures value { IfOk result (λ s. IsAfter job.now state.now direction steps (state_view s)) }
+    ensures refused { IfErr result (IsRefusal job.now state.now direction steps) }
+    ensures unwritten { IfErr result (λ f. is_out f ≡ false) }
+{
+    let prepared = start(alloc, direction, steps, job, state)?;
+    run(alloc, direction, steps, prepared)
+}
+
+/// Runs a state so many steps in a direction, on one thread with every operation tested, and writes the new state.
+///
+/// `job` and `state` are the bytes of a job and a state file, `steps` at most 1,000,000,000,000. The step is Levesque and Verlet's (J. Stat. Phys. 72, 519, 1993), the forces are the energy's slope as written, summed exactly over all pairs. The same number of steps the other way over the written bytes gives the starting bytes again.
+///
+/// The refusals come in this order: those of the job, of the state, of the energy; `UnknownType` for the lowest atom whose name no type has; `CutoffTooLong` where some side is shorter than two cutoffs; `StepRange` where the counter would leave an i64; `KernelFault` for the first pair without a slope in the first frame that has one; `Memory` wherever a growth is refused. Nothing is written then. `Out` comes only where a write failed, after a beginning of the new state's text.
+pub fn run_bytes_checked<A: Allocator + Copy, O: Out>(
+    alloc: A,
+    job: &[u8],
+    state: &[u8],
+    steps: u64,
+    direction: Direction,
+    out: &mut O,
+) -> Result<(), RunFault<A>>
+    requires count { O.failed out.old < 2 ^ 64 - 1 }
+    // The text of the state after the steps is written.
+    ensures ran { OnOk result (Wrote job.now state.now direction steps (O.taken out.old) (O.taken out.new)) }
+    ensures kept { OnOk result (O.failed out.new ≡ O.failed out.old) }
+    // Why there is none.
+    ensures refused { IfErr result (IsRefusal job.now state.now direction steps) }
+    // A refusal writes nothing, but where the output failed.
+    ensures unwritten { IfErr result (λ f. is_out f ≡ false → O.taken out.new ≡ O.taken out.old) }
+    ensures beginning {
+        IfErr result (λ f. is_out f ≡ true → WroteBeginning job.now state.now direction steps (O.taken out.old) (O.taken out.new))
+    }
+    ensures failed { IfErr result (λ f. is_out f ≡ true → O.failed out.old < O.failed out.new) }
+{
+    let after = state_after(alloc, job, state, steps, direction)?;
+    after.write(out)?;
+    Ok(())
 }

@@ -1,0 +1,69 @@
+-- Types of atoms, one after another.
+use Rattle.std.proofs.Common.{◌≡◌, ℕ, zero, suc, ◌+◌, ◌<◌, ◌≤◌, Bool, true, false, cond, List, [], ◌∷◌, ◌++◌, length, get_or, take, drop, Option, Some, None, Result, Ok, Err, ℤ, arith, refl, ap, sym, ◌∙◌, add-one, append_assoc}
+use Rattle.std.proofs.lemmas.List.{append-nil}
+use Rattle.std.specs.Prelude.{bytes_eq, map, nat_lt, not}
+use Rattle.std.proofs.Math.Seq.{drop-cons}
+use Rattle.line_text.specs.Names.{name_text}
+use Rattle.job.specs.Views.{type_value}
+use Rattle.job.specs.declared.jobs.AtomType.{AtomType}
+use Rattle.std.specs.List.{position, position_or_len}
+use Rattle.std.proofs.lemmas.List.{length-map}
+use Rattle.job.specs.Values.{JobValue, TypeValue}
+use Rattle.state.specs.StateText.{AtomView, StateView}
+use Rattle.integrator.specs.Starts.{Refusal, Start, atom_types, dynamics_from, has_room, known, ring_of, start_with, type_with, unknown_type, ◌>>=◌}
+use Rattle.integrator.specs.States.{counter_after}
+use Rattle.integrator.specs.declared.direction.Direction.{Direction}
+use Rattle.expr.specs.Tree.{Tree}
+
+position_or_len-map : {X Y : Type 0} → (p : Y → Bool) (f : X → Y) (xs : List X) → position_or_len p (map f xs) ≡ position_or_len (λ x. p (f x)) xs
+position_or_len-map p f [] = refl
+position_or_len-map p f (x ∷ xs) = ap (λ n. cond (not (p (f x))) (1 + n) 0) (position_or_len-map p f xs)
+
+pub position-map : {X Y : Type 0} → (p : Y → Bool) (f : X → Y) (xs : List X) → position p (map f xs) ≡ position (λ x. p (f x)) xs
+position-map p f xs = rw (position_or_len-map p f xs, length-map xs f) refl
+
+-- types that were found, before those of the rest
+pub with_front : List ℕ → Result (List ℕ) Refusal → Result (List ℕ) Refusal
+with_front front r = r >>= λ ts. Ok (front ++ ts)
+
+pub front_none : (r : Result (List ℕ) Refusal) → with_front [] r ≡ r
+unfolding with_front
+front_none (Ok ts) = refl
+front_none (Err f) = refl
+
+pub front_all : (front : List ℕ) (types : List TypeValue) (k : ℕ) → with_front front (atom_types types k []) ≡ Ok front
+unfolding with_front atom_types
+front_all front types k = ap Ok (append-nil front)
+
+more_at : (front : List ℕ) (t : ℕ) (r : Result (List ℕ) Refusal) → with_front front (r >>= λ ts. Ok (t ∷ ts)) ≡ with_front (front ++ t ∷ []) r
+unfolding with_front
+more_at front t (Ok ts) = ap Ok (sym (append_assoc front (t ∷ []) ts))
+more_at front t (Err f) = refl
+
+pub front_more : (front : List ℕ) (types : List TypeValue) (k : ℕ) (a : AtomView) (atoms : List AtomView) (t : ℕ) → type_with types a.name ≡ Some t
+    → with_front front (atom_types types k (a ∷ atoms)) ≡ with_front (front ++ t ∷ []) (atom_types types (suc k) atoms)
+unfolding atom_types
+front_more front types k a atoms t e = rw e (more_at front t (atom_types types (suc k) atoms))
+
+pub front_stops : (front : List ℕ) (types : List TypeValue) (k : ℕ) (a : AtomView) (atoms : List AtomView) → type_with types a.name ≡ None
+    → with_front front (atom_types types k (a ∷ atoms)) ≡ Err (unknown_type k)
+unfolding atom_types with_front
+front_stops front types k a atoms e = rw e refl
+
+-- the views of what is left of a list
+pub map-drop : {X Y : Type 0} → (f : X → Y) (xs : List X) (k : ℕ) (x : X) → k < length xs → x ≡ get_or xs k x → map f (drop k xs) ≡ f x ∷ map f (drop (k + 1) xs)
+map-drop f xs k x h e =
+    ap (map f) (drop-cons xs k x h ∙ ap (λ y. y ∷ drop (suc k) xs) (sym e)) ∙ rw add-one refl
+
+-- the type that was found by its name
+pub found_type : {A : Type 0} → (types : List (AtomType A)) (name bytes : List ℕ) (r : Option ℕ) → bytes ≡ name
+    → r ≡ position (λ t. bytes_eq (name_text t.name) bytes) types → type_with (map type_value types) name ≡ r
+found_type types name bytes r e h =
+    position-map (λ t. bytes_eq t.name name) type_value types ∙ ap (λ n. position (λ t. bytes_eq (name_text t.name) n) types) (sym e) ∙ sym h
+
+-- a start whose parts are known
+pub started : (direction : Direction) (steps : ℕ) (j : JobValue) (s : StateView) (energy : Tree) (types : List ℕ) (counter : ℤ)
+    → atom_types j.types 1 s.atoms ≡ Ok types → has_room j.cutoff (ring_of s.sides) ≡ true → counter_after direction s.step steps ≡ Some counter
+    → start_with direction steps j s energy ≡ Ok (record { state = s; dynamics = dynamics_from j s energy types; counter = counter })
+unfolding start_with
+started direction steps j s energy types counter t h k = rw (t, h, k) refl

@@ -1,0 +1,16 @@
+use Rattle.std.proofs.Common.{refl}
+use Rattle.std.proofs.lemmas.Result.{err_from_is_err_and}
+use Rattle.state.specs.StateText.{state_text}
+use Rattle.state.specs.StateViews.{state_view}
+use Rattle.integrator.proofs.runs.run_bytes_checked.Goals as goal
+
+pub returns-in_err-write-clause-beginning : goal.returns-in_err-write-clause-beginning
+returns-in_err-write-clause-beginning g c =
+    let p = err_from_is_err_and c.from_residual-in_err-write.result c.from_residual-in_err-write.ensures.1 in
+    let after = c.in_ok-after.ensures.value in
+    rw p.1
+    (λ is_out. record {
+      text = state_text (state_view c.in_ok-after.after);
+      run = record { start = after.start; starts = after.starts; after = state_view c.in_ok-after.after; ran = after.ran; written = refl };
+      beginning = c.in_err-write.ensures.fault_taken;
+    })

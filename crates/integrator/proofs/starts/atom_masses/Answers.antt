@@ -1,0 +1,23 @@
+use Rattle.std.proofs.Common.{◌≡◌, ◌+◌, ◌<◌, ◌≤◌, ◌++◌, ◌∷◌, [], get_or, take, length, arith, ap, sym, ◌∙◌}
+use Rattle.std.specs.Prelude.{map}
+use Rattle.std.proofs.lemmas.List.{map_push, take_more}
+use Rattle.std.proofs.lemmas.List.Elements.{All-push, All-same}
+use Rattle.job.specs.Views.{type_value}
+use Rattle.integrator.specs.Starts.{mass_of}
+use Rattle.integrator.proofs.starts.atom_masses.Goals as goal
+
+pub loop-number-preserved : goal.loop-number-preserved
+loop-number-preserved g c =
+    let f = mass_of (map type_value c.args.kinds.now) in
+    let i = c.loop-number.number-index in
+    let types = c.args.types.now in
+    let items = c.in_ok-push.ensures.items in
+    record {
+      value =
+        items
+        ∙ ap (λ m. c.loop-number.masses.items ++ m ∷ []) c.mass_of.ensures.value
+        ∙ ap (λ ms. ms ++ f (get_or types i 0) ∷ []) c.loop-number.invariant.value
+        ∙ sym (ap (map f) (take_more types i 0 (omega arith)) ∙ map_push f (take i types) (get_or types i 0));
+      some = All-same (λ m. 0 < m) _ _ items (All-push (λ m. 0 < m) c.loop-number.masses.items c.mass_of.result c.loop-number.invariant.some c.mass_of.ensures.some);
+      most = All-same (λ m. m ≤ 100000000) _ _ items (All-push (λ m. m ≤ 100000000) c.loop-number.masses.items c.mass_of.result c.loop-number.invariant.most c.mass_of.ensures.most);
+    }

@@ -1,0 +1,6 @@
+use Rattle.std.proofs.Common.{◌≡◌, take}
+use Rattle.std.specs.Prelude.{map}
+use Rattle.integrator.proofs.states.current_frame.Given as goal
+
+abbrev pub invariant-loop-atom : goal.invariant-loop-atom
+invariant-loop-atom g l = l.frame.items ≡ map (λ a. a.current) (take l.atom-index l.atoms)

@@ -1,0 +1,10 @@
+-- Why a run did not reach its end.
+use Rattle.std.specs.Prelude.{ℕ}
+use Rattle.integrator.specs.Frames.{Dynamics, Frames, StopsAt}
+use Rattle.integrator.specs.declared.direction.Direction.{Direction}
+use Rattle.integrator.specs.declared.runs.Halt.{Halt}
+use Rattle.integrator.specs.declared.runs.Halt.TheVariants as halt
+
+abbrev pub IsHalt : Dynamics → Direction → ℕ → Frames → Halt → Type 0
+IsHalt dynamics direction steps f halt.Memory = Unit {0}
+IsHalt dynamics direction steps f (halt.Stop s) = StopsAt direction dynamics steps f s.done (s.pair.low, s.pair.high) s.pair.fault

@@ -1,0 +1,118 @@
+-- What a run starts from: a job's text, a state's text, a number of steps and a direction give the state and what moves its atoms, or the first refusal.
+use Rattle.std.specs.Prelude.{ℕ, suc, ℤ, pos, ◌+◌, ◌*◌, ◌^◌, ◌≤◌, nat_le, ◌&&◌, Bool, true, false, List, [], ◌∷◌, ◌++◌, length, map, Option, Some, None, Result, Ok, Err, slice_index, slice_index_or, unsigned_abs, bytes_eq, if◌then◌else◌}
+use Rattle.std.specs.List.{position}
+use Rattle.fixed.specs.declared.frac.Frac.TheVariants.{F32}
+use Rattle.fixed.specs.declared.faults.Fault.{Fault}
+use Rattle.expr.specs.Tree.{Tree}
+use Rattle.expr.specs.Slope.{slope_of}
+use Rattle.expr.specs.Faults as energy
+use Rattle.expr.specs.Energy.{program_of}
+use Rattle.job.specs.Faults as job
+use Rattle.job.specs.JobText.{reading_of, stage}
+use Rattle.job.specs.Values.{JobValue, TypeValue}
+use Rattle.ring_box.specs.declared.boxes.RingBox.{RingBox}
+use Rattle.state.specs.StateReading.{state_of}
+use Rattle.state.specs.StateText.{AtomView, StateView}
+use Rattle.state.specs.declared.faults.StateFault.{StateFault}
+use Rattle.integrator.specs.Evaluation.{evaluated_slope, fault_of}
+use Rattle.integrator.specs.Frames.{Dynamics}
+use Rattle.integrator.specs.States.{counter_after}
+use Rattle.integrator.specs.declared.direction.Direction.{Direction}
+
+-- why there is no start; an atom counts from 1
+pub data Refusal : Type 0 where
+  job_refused : job.Refusal → Refusal
+  state_refused : StateFault → Refusal
+  energy_refused : energy.Refusal → Refusal
+  unknown_type : ℕ → Refusal
+  cutoff_too_long : Refusal
+  step_range : Refusal
+
+infixl 10 ◌>>=◌
+abbrev pub ◌>>=◌ : {X Y : Type 0} → Result X Refusal → (X → Result Y Refusal) → Result Y Refusal
+(Ok x) >>= f = f x
+(Err r) >>= f = Err r
+
+-- an answer of a part, its refusals as those of a start
+abbrev pub or_refused : {X R : Type 0} → (R → Refusal) → Result X R → Result X Refusal
+or_refused refused (Ok x) = Ok x
+or_refused refused (Err r) = Err (refused r)
+
+-- ---- types of atoms
+
+-- the number of the type with this name
+abbrev pub type_with : List TypeValue → List ℕ → Option ℕ
+type_with types name = position (λ t. bytes_eq t.name name) types
+
+abbrev pub known : ℕ → Option ℕ → Result ℕ Refusal
+known atom (Some t) = Ok t
+known atom None = Err (unknown_type atom)
+
+-- the number of each atom's type, or the lowest atom whose name no type has; `atom` is the number of the first
+unfoldable pub atom_types : List TypeValue → ℕ → List AtomView → Result (List ℕ) Refusal
+atom_types types atom [] = Ok []
+atom_types types atom (a ∷ atoms) =
+    known atom (type_with types a.name) >>= λ t. atom_types types (suc atom) atoms >>= λ ts. Ok (t ∷ ts)
+
+abbrev pub no_type : TypeValue
+no_type = record { name = []; mass = 0; values = [] }
+
+-- the mass of a type
+abbrev pub mass_of : List TypeValue → ℕ → ℕ
+mass_of types t = (slice_index_or types t no_type).mass
+
+-- ---- the range of the forces
+
+-- a side holds two cutoffs, the cutoff in 2^-32 nm and the side in 10^-5 nm
+abbrev pub holds_two : ℤ → ℕ → Bool
+holds_two cutoff side = nat_le (200000 * unsigned_abs cutoff) (side * 2 ^ 32)
+
+abbrev pub has_room : ℤ → RingBox → Bool
+has_room cutoff ring = holds_two cutoff ring.x && (holds_two cutoff ring.y && holds_two cutoff ring.z)
+
+abbrev pub require : Bool → Refusal → Result (Unit {0}) Refusal
+require true refusal = Ok tt
+require false refusal = Err refusal
+
+-- ---- all together
+
+abbrev pub ring_of : List ℕ → RingBox
+ring_of sides = record { x = slice_index sides 0; y = slice_index sides 1; z = slice_index sides 2 }
+
+-- what moves the atoms of these types, with this energy
+abbrev pub dynamics_from : JobValue → StateView → Tree → List ℕ → Dynamics
+dynamics_from j s energy types = record {
+    frac = F32;
+    ring = ring_of s.sides;
+    core = j.core;
+    cutoff = j.cutoff;
+    time_step = j.time_step;
+    masses = map (mass_of j.types) types;
+    slope = λ p r. slope_of 32 (r ∷ []) energy;
+    fault = λ p r. fault_of (evaluated_slope 32 (r ∷ []) energy)
+  }
+
+abbrev pub in_counter : Option ℤ → Result ℤ Refusal
+in_counter (Some z) = Ok z
+in_counter None = Err step_range
+
+-- the state that was read, what moves its atoms, and the counter at the end
+pub record Start : Type 0 where
+  pub state : StateView
+  pub dynamics : Dynamics
+  pub counter : ℤ
+
+-- after the texts: the types of the atoms, the range of the forces, the counter
+unfoldable pub start_with : Direction → ℕ → JobValue → StateView → Tree → Result Start Refusal
+start_with direction steps j s energy = do
+  types ← atom_types j.types 1 s.atoms
+  room ← require (has_room j.cutoff (ring_of s.sides)) cutoff_too_long
+  counter ← in_counter (counter_after direction s.step steps)
+  Ok (record { state = s; dynamics = dynamics_from j s energy types; counter = counter })
+
+unfoldable pub start_of : List ℕ → List ℕ → Direction → ℕ → Result Start Refusal
+start_of job state direction steps = do
+  j ← or_refused job_refused (reading_of stage job)
+  s ← or_refused state_refused (state_of state)
+  energy ← or_refused energy_refused (program_of 32 j.energy)
+  start_with direction steps j s energy

@@ -1,0 +1,46 @@
+-- A state's two frames, and the state after some steps.
+use Rattle.std.specs.Prelude.{ℕ, ℤ, pos, ◌+ℤ◌, ◌-ℤ◌, List, [], ◌∷◌, length, map, Option, Some, None, slice_index_or, if◌then◌else◌}
+use Rattle.fixed.specs.Arithmetic.{in_range}
+use Rattle.state.specs.StateText.{AtomView, StateView}
+use Rattle.integrator.specs.Forces.{numbers_from}
+use Rattle.integrator.specs.Frames.{Frames, frames, places_of}
+use Rattle.integrator.specs.declared.direction.Direction.{Direction}
+use Rattle.integrator.specs.declared.direction.Direction.TheVariants.{Forward, Back}
+
+abbrev pub previous_frame : List AtomView → List (List ℕ)
+previous_frame atoms = map (λ a. a.previous) atoms
+
+abbrev pub current_frame : List AtomView → List (List ℕ)
+current_frame atoms = map (λ a. a.current) atoms
+
+abbrev pub frames_of : StateView → Frames
+frames_of s = frames (previous_frame s.atoms) (current_frame s.atoms)
+
+-- the counter after n steps
+abbrev pub counter_at : Direction → ℤ → ℕ → ℤ
+counter_at Forward step n = step +ℤ pos n
+counter_at Back step n = step -ℤ pos n
+
+-- that counter, where it fits 64 bits
+abbrev pub counter_after : Direction → ℤ → ℕ → Option ℤ
+counter_after direction step n = if in_range (counter_at direction step n) then Some (counter_at direction step n) else None
+
+-- the counter of the frame whose forces the step after these wants: a state's counter is that of its current frame
+abbrev pub forced_counter : Direction → ℤ → ℕ → ℤ
+forced_counter Forward step done = step +ℤ pos done
+forced_counter Back step done = step -ℤ pos done -ℤ pos 1
+
+-- an atom at other places
+abbrev pub placed : AtomView → List ℕ → List ℕ → AtomView
+placed a previous current = record a { previous = previous; current = current }
+
+abbrev pub nobody : AtomView
+nobody = record { residue_number = pos 0; residue = []; name = []; previous = []; current = [] }
+
+-- the atoms at the places of these frames
+abbrev pub placed_atoms : List AtomView → Frames → List AtomView
+placed_atoms atoms f = map (λ a. placed (slice_index_or atoms a nobody) (places_of f.previous a) (places_of f.current a)) (numbers_from 0 (length atoms))
+
+-- the state with these frames and this counter
+abbrev pub moved_state : StateView → Frames → ℤ → StateView
+moved_state s f step = record s { step = step; atoms = placed_atoms s.atoms f }

@@ -1,0 +1,97 @@
+//! The displacement of one coordinate, and the step of a place round the ring.
+
+ghost use Rattle.std.specs.Prelude.{◌≡◌, ◌≤◌, ◌<◌, ◌*◌, ◌^◌, pos, ◌+ℤ◌, ◌-ℤ◌, ◌*ℤ◌, ◌<ℤ◌, unsigned_abs};
+ghost use Rattle.fixed.specs.Rounding.{nearest_of};
+ghost use Rattle.integrator.specs.Displacement.{displacement_of, factor_above, factor_below, next_place_of};
+
+use fixed::{Frac, round_div};
+use ring_box::{Side, place_at};
+
+fn time_factor(time_step: u32) -> u64
+    requires { time_step ≤ 1000 }
+    ensures value { result ≡ time_step * time_step * 10000 }
+    ensures bound { result ≤ 10 ^ 10 }
+{
+    let time_step = u64::from(time_step);
+    time_step * time_step * 10_000
+}
+
+fn factor(frac: Frac, time_step: u32) -> u64
+    requires { time_step ≤ 1000 }
+    ensures value { result ≡ time_step * time_step * 10000 * factor_above frac }
+    ensures bound { result ≤ 256 * 10 ^ 10 }
+{
+    match frac {
+        Frac::F24 => time_factor(time_step) * 256,
+        Frac::F32 | Frac::F40 => time_factor(time_step),
+    }
+}
+
+fn impulse(force: i128, factor: u64) -> i128
+    requires force { unsigned_abs force ≤ 2 ^ 80 }
+    requires factor { factor ≤ 256 * 10 ^ 10 }
+    ensures value { result ≡ force *ℤ pos factor }
+    ensures bound { unsigned_abs result < 2 ^ 122 }
+{
+    force * i128::from(factor)
+}
+
+fn inertia(frac: Frac, mass: u32, side: Side) -> i128
+    requires positive { 0 < mass }
+    requires bound { mass ≤ 100000000 }
+    ensures value { result ≡ pos (mass * side * factor_below frac) }
+    ensures positive { pos 0 <ℤ result }
+    ensures bound { unsigned_abs result < 2 ^ 60 }
+{
+    let product = u64::from(mass) * u64::from(side.get());
+    i128::from(match frac {
+        Frac::F24 | Frac::F32 => product,
+        Frac::F40 => product * 256,
+    })
+}
+
+#[tactic(auto, using(fixed::proofs::NearestLemmas::nearest_small))]
+fn nearest(a: i128, b: i128) -> i128
+    requires a { unsigned_abs a < 2 ^ 122 }
+    requires b { unsigned_abs b < 2 ^ 60 }
+    requires positive { pos 0 <ℤ b }
+    ensures value { result ≡ nearest_of a b }
+    ensures bound { unsigned_abs result < 2 ^ 123 }
+{
+    round_div(a, b)
+}
+
+/// By how many places a force moves an atom in one step: `force` in 2^-`bits` kJ/mol/nm, `time_step` in fs (at most 1,000), `mass` in 10^-5 u (1 to 100,000,000).
+pub(crate) fn displacement(
+    frac: Frac,
+    force: i128,
+    time_step: u32,
+    mass: u32,
+    side: Side,
+) -> i128
+    requires force { unsigned_abs force ≤ 2 ^ 80 }
+    requires time_step { time_step ≤ 1000 }
+    requires positive { 0 < mass }
+    requires mass { mass ≤ 100000000 }
+    ensures value { result ≡ displacement_of frac force time_step mass side }
+    ensures bound { unsigned_abs result < 2 ^ 123 }
+{
+    nearest(impulse(force, factor(frac, time_step)), inertia(frac, mass, side))
+}
+
+fn onward(before: u32, middle: u32, displacement: i128) -> i128
+    requires { unsigned_abs displacement < 2 ^ 123 }
+    ensures { result ≡ pos (2 * middle) -ℤ pos before +ℤ displacement }
+{
+    2 * i128::from(middle) - i128::from(before) + displacement
+}
+
+/// The place that follows `before` and `middle`, where `displacement` is that of `middle`. The place before `middle` and `before` is found by the same rule, so the rule leads back.
+#[tactic(auto, using(crate::proofs::StepLemmas::there_and_back))]
+pub(crate) fn next_place(before: u32, middle: u32, displacement: i128) -> u32
+    requires { unsigned_abs displacement < 2 ^ 123 }
+    ensures value { result ≡ next_place_of before middle displacement }
+    ensures back { next_place_of result middle displacement ≡ before }
+{
+    place_at(onward(before, middle, displacement))
+}

@@ -1,0 +1,154 @@
+//! The force on each atom of a frame, summed exactly over all pairs.
+
+ghost use Rattle.std.specs.Prelude.{◌≡◌, ◌≤◌, ◌^◌, neg_ℤ, unsigned_abs, IfOk, IfErr, Some, None};
+ghost use Rattle.ring_box.specs.Forces.{force_along_of};
+ghost use Rattle.integrator.specs.Adding.{IsWithin};
+ghost use Rattle.integrator.specs.Frames.{force_at};
+
+use crate::slopes::TestedSlope;
+use crate::sums::{add_pair, clear};
+use crate::systems::{PairFault, System};
+use fixed::{Fault, Fx};
+use ring_box::RingBox;
+use std::alloc::Allocator;
+
+fn opposite(slope: Fx) -> i128
+    ensures value { result ≡ neg_ℤ slope }
+    ensures bound { unsigned_abs result ≤ 2 ^ 63 }
+{
+    -i128::from(slope.raw())
+}
+
+fn force_along(ring: &RingBox, minus_slope: i128, x: [u32; 3], y: [u32; 3]) -> [i128; 3]
+    requires { unsigned_abs minus_slope ≤ 2 ^ 63 }
+    ensures value { result ≡ force_along_of ring.now minus_slope x y }
+    ensures within { IsWithin (2 ^ 63) result }
+{
+    ring.force_along(minus_slope, x, y)
+}
+
+fn force_at<K: TestedSlope>(
+    ring: &RingBox,
+    kernel: &K,
+    a: u32,
+    b: u32,
+    r: Fx,
+    x: [u32; 3],
+    y: [u32; 3],
+) -> Result<[i128; 3], Fault>
+    ensures value { IfOk result (λ v. force_at ring.now (K.slope kernel.now a b) (Some r) x y ≡ Some v) }
+    ensures within { IfOk result (IsWithin (2 ^ 63)) }
+    ensures none { IfErr result (λ _. force_at ring.now (K.slope kernel.now a b) (Some r) x y ≡ None) }
+    ensures fault { IfErr result (λ f. K.fault kernel.now a b r ≡ Some f) }
+{
+    if ring.square(x, y) == 0 {
+        return Ok([0, 0, 0]);
+    }
+    let slope = kernel.slope(a, b, r)?;
+    Ok(force_along(ring, opposite(slope), x, y))
+}
+
+impl<K: TestedSlope + Drop, A: Allocator> System<K, A> {
+    ghost use Rattle.std.specs.Prelude.{◌≡◌, ℕ, ◌+◌, ◌-◌, ◌*◌, ◌<◌, ◌^◌, length, replicate, Some, None, Ok, Err, IfOk, OnOk, IfErr};
+    ghost use Rattle.std.specs.List.{All};
+    ghost use Rattle.std.specs.Option.{option_and_then};
+    ghost use Rattle.integrator.specs.Adding.{IsWithin, with_pairs};
+    ghost use Rattle.integrator.specs.Forces.{first_without_force, none, pairs_of, pairs_with};
+    ghost use Rattle.integrator.specs.Frames.{force_at, frame_forces, pair_fault, pair_force};
+    ghost use Rattle.ring_box.specs.Forces.{acting_distance_of};
+    ghost use Rattle.integrator.specs.Systems.{dynamics_of};
+
+    /// The force on the first of two atoms of the types `a` and `b` at the places `x` and `y`, or why it has none.
+    fn force_between(&self, a: u32, b: u32, x: [u32; 3], y: [u32; 3]) -> Result<[i128; 3], Fault>
+        ensures value {
+            IfOk result (λ v. force_at self.now.ring (K.slope self.now.kernel a b) (acting_distance_of self.now.frac self.now.ring self.now.core self.now.cutoff x y) x y ≡ Some v)
+        }
+        ensures within { IfOk result (IsWithin (2 ^ 63)) }
+        ensures none {
+            IfErr result (λ _. force_at self.now.ring (K.slope self.now.kernel a b) (acting_distance_of self.now.frac self.now.ring self.now.core self.now.cutoff x y) x y ≡ None)
+        }
+        ensures fault {
+            IfErr result (λ f. option_and_then (K.fault self.now.kernel a b) (acting_distance_of self.now.frac self.now.ring self.now.core self.now.cutoff x y) ≡ Some f)
+        }
+    {
+        match self.ring.acting_distance(self.frac, self.core, self.cutoff, x, y) {
+            None => Ok([0, 0, 0]),
+            Some(r) => force_at(&self.ring, &self.kernel, a, b, r, x, y),
+        }
+    }
+
+    /// The force on the lower atom of a pair, or why it has none.
+    fn pair_force(&self, frame: &[[u32; 3]], low: usize, high: usize) -> Result<[i128; 3], Fault>
+        requires low { low < length frame.now }
+        requires high { high < length frame.now }
+        requires atoms { length frame.now ≡ length self.now.types.items }
+        ensures value { IfOk result (λ v. pair_force (dynamics_of K.slope K.fault self.now) frame.now (low, high) ≡ Some v) }
+        ensures within { IfOk result (IsWithin (2 ^ 63)) }
+        ensures none { IfErr result (λ _. pair_force (dynamics_of K.slope K.fault self.now) frame.now (low, high) ≡ None) }
+        ensures fault { IfErr result (λ f. pair_fault (dynamics_of K.slope K.fault self.now) frame.now (low, high) ≡ Some f) }
+    {
+        self.force_between(self.types[low], self.types[high], frame[low], frame[high])
+    }
+
+    /// Adds the forces of the pairs of the atom `low` with the atoms above it to the sums, by the higher atom.
+    fn add_row(
+        &self,
+        frame: &[[u32; 3]],
+        low: usize,
+        sums: &mut [[i128; 3]],
+    ) -> Result<(), PairFault>
+        requires low { low < length frame.now }
+        requires atoms { length frame.now ≡ length self.now.types.items }
+        requires sums { length sums.old ≡ length frame.now }
+        requires room { All (IsWithin (2 ^ 98)) sums.old }
+        ensures value {
+            OnOk result (with_pairs (pair_force (dynamics_of K.slope K.fault self.now) frame.now) sums.old (pairs_with low (low + 1) (length frame.now - (low + 1))) ≡ Ok sums.new)
+        }
+        ensures within { (b : ℕ) → All (IsWithin b) sums.old → All (IsWithin (b + 2 ^ 64 * length frame.now)) sums.new }
+        ensures fault {
+            IfErr result (λ e. with_pairs (pair_force (dynamics_of K.slope K.fault self.now) frame.now) sums.old (pairs_with low (low + 1) (length frame.now - (low + 1))) ≡ Err (e.low, e.high))
+        }
+        ensures why { IfErr result (λ e. pair_fault (dynamics_of K.slope K.fault self.now) frame.now (e.low, e.high) ≡ Some e.fault) }
+    {
+        for high in low + 1..frame.len() {
+            match self.pair_force(frame, low, high) {
+                Ok(force) => add_pair(sums, low, high, force),
+                Err(fault) => return Err(PairFault { low, high, fault }),
+            }
+        }
+        Ok(())
+    }
+
+    /// Adds the forces of all pairs to the sums, by the lower atom and then by the higher.
+    fn add_rows(&self, frame: &[[u32; 3]], sums: &mut [[i128; 3]]) -> Result<(), PairFault>
+        requires atoms { length frame.now ≡ length self.now.types.items }
+        requires zero { sums.old ≡ replicate (length frame.now) none }
+        ensures value {
+            OnOk result (with_pairs (pair_force (dynamics_of K.slope K.fault self.now) frame.now) sums.old (pairs_of (length frame.now)) ≡ Ok sums.new)
+        }
+        ensures fault {
+            IfErr result (λ e. with_pairs (pair_force (dynamics_of K.slope K.fault self.now) frame.now) sums.old (pairs_of (length frame.now)) ≡ Err (e.low, e.high))
+        }
+        ensures why { IfErr result (λ e. pair_fault (dynamics_of K.slope K.fault self.now) frame.now (e.low, e.high) ≡ Some e.fault) }
+    {
+        for low in 0..frame.len() {
+            self.add_row(frame, low, sums)?;
+        }
+        Ok(())
+    }
+
+    /// The force on each atom of the frame, in `sums`, or the first pair that has none, by the lower atom and then by the higher.
+    pub(crate) fn forces(&self, frame: &[[u32; 3]], sums: &mut [[i128; 3]]) -> Result<(), PairFault>
+        requires atoms { length frame.now ≡ length self.now.types.items }
+        requires sums { length sums.old ≡ length frame.now }
+        ensures value { OnOk result (frame_forces (dynamics_of K.slope K.fault self.now) frame.now ≡ Some sums.new) }
+        ensures within { OnOk result (All (IsWithin (2 ^ 80)) sums.new) }
+        ensures fault {
+            IfErr result (λ e. first_without_force (pair_force (dynamics_of K.slope K.fault self.now) frame.now) (length frame.now) ≡ Some (e.low, e.high))
+        }
+        ensures why { IfErr result (λ e. pair_fault (dynamics_of K.slope K.fault self.now) frame.now (e.low, e.high) ≡ Some e.fault) }
+    {
+        clear(sums);
+        self.add_rows(frame, sums)
+    }
+}

@@ -1,0 +1,73 @@
+//! A state's frames, and the state after some steps.
+
+ghost use Rattle.std.specs.Prelude.{◌≡◌, length, map, true, IfOk, IfSome};
+ghost use Rattle.fixed.specs.Arithmetic.{in_range};
+ghost use Rattle.state.specs.StateViews.{atom_view};
+ghost use Rattle.integrator.specs.Frames.{frames};
+ghost use Rattle.integrator.specs.States.{counter_after, counter_at, placed, placed_atoms};
+
+use crate::direction::Direction;
+use state::{Atom, State};
+use std::alloc::{AllocError, Allocator};
+
+/// A state's counter after so many steps, where it fits.
+pub(crate) fn counter_after<A: Allocator>(
+    direction: Direction,
+    state: &State<A>,
+    steps: u64,
+) -> Option<i64>
+    ensures value { result ≡ counter_after direction state.now.step steps }
+    ensures fits { IfSome result (λ _. in_range (counter_at direction state.now.step steps) ≡ true) }
+{
+    let step = state.step;
+    let after = match direction {
+        Direction::Forward => i128::from(step) + i128::from(steps),
+        Direction::Back => i128::from(step) - i128::from(steps),
+    };
+    i64::try_from(after).ok()
+}
+
+pub(crate) fn previous_frame<A: Allocator>(
+    alloc: A,
+    atoms: &[Atom],
+) -> Result<Vec<[u32; 3], A>, AllocError>
+    ensures { IfOk result (λ v. v.items ≡ map (λ a. a.previous) atoms.now) }
+{
+    let mut frame = Vec::new(alloc);
+    for atom in atoms {
+        frame.push(atom.previous)?;
+    }
+    Ok(frame)
+}
+
+pub(crate) fn current_frame<A: Allocator>(
+    alloc: A,
+    atoms: &[Atom],
+) -> Result<Vec<[u32; 3], A>, AllocError>
+    ensures { IfOk result (λ v. v.items ≡ map (λ a. a.current) atoms.now) }
+{
+    let mut frame = Vec::new(alloc);
+    for atom in atoms {
+        frame.push(atom.current)?;
+    }
+    Ok(frame)
+}
+
+fn placed(mut atom: Atom, previous: [u32; 3], current: [u32; 3]) -> Atom
+    ensures { atom_view result ≡ placed (atom_view atom) previous current }
+{
+    atom.previous = previous;
+    atom.current = current;
+    atom
+}
+
+/// Puts the atoms at the places of these frames.
+pub(crate) fn place(atoms: &mut [Atom], previous: &[[u32; 3]], current: &[[u32; 3]])
+    requires previous { length previous.now ≡ length atoms.old }
+    requires current { length current.now ≡ length atoms.old }
+    ensures { map atom_view atoms.new ≡ placed_atoms (map atom_view atoms.old) (frames previous.now current.now) }
+{
+    for k in 0..atoms.len() {
+        atoms[k] = placed(atoms[k], previous[k], current[k]);
+    }
+}
