@@ -1,16 +1,15 @@
 -- The force on an atom of n atoms is at most n times the greatest force of a pair.
-use Rattle.std.proofs.Common.{◌≡◌, ◌≢◌, ℕ, zero, suc, ◌+◌, ◌-◌, ◌*◌, ◌^◌, ◌<◌, ◌≤◌, List, [], ◌∷◌, ◌++◌, ℤ, pos, ◌+ℤ◌, Option, Some, None, arith, refl, sym, get_or, inl, inr, true, false, Bool}
+use Rattle.std.proofs.Common.{◌≡◌, ◌≢◌, ℕ, zero, suc, ◌+◌, ◌*◌, ◌<◌, ◌≤◌, List, ℤ, Option, Some, None, arith, refl, get_or, inl, inr, true, false, Bool}
 use Rattle.std.specs.Prelude.{neg_ℤ, unsigned_abs, unwrap_or, option_map, is_some, map, ◌==◌, if◌then◌else◌}
 use Rattle.std.proofs.lemmas.Int.{ints}
 use Rattle.std.proofs.lemmas.Bool.{cases_eq}
-use Rattle.std.proofs.lemmas.Bool.Decides.{nat_tests}
 use Rattle.std.specs.List.{All, list_all}
 use Rattle.std.proofs.lemmas.List.Elements.{All-map}
 use Rattle.ring_box.specs.declared.boxes.RingBox.{RingBox}
 use Rattle.ring_box.specs.Distances.{square_of}
 use Rattle.ring_box.specs.Forces.{force_along_of}
 use Rattle.ring_box.proofs.ForceLemmas.{force_along_within}
-use Rattle.integrator.specs.Forces.{none, component, plus, negative, share_of, sum_of_shares, pairs_with, pairs_from, pairs_of, force_or_none, forces_of, numbers_from}
+use Rattle.integrator.specs.Forces.{none, plus, negative, share_of, sum_of_shares, pairs_with, pairs_from, pairs_of, force_or_none, forces_of, numbers_from}
 use Rattle.integrator.specs.Adding.{IsWithin}
 use Rattle.integrator.specs.Frames.{force_at}
 use Rattle.integrator.proofs.SumLemmas.{within-weaker, within-from_all}
@@ -55,9 +54,9 @@ row_other b g w i j zero a m = none_within b
 row_other b g w i j (suc n) a m =
     elim (cases_eq j a) [
       | inl e ↦ within-weaker (b + 0) b (omega arith) _
-        (plus_within b 0 (share_of (i, j) (g (i, j)) a) (sum_of_shares g (pairs_with i (suc j) n) a) (share_within b (i, j) (g (i, j)) a (w (i, j))) (row_past g i (suc j) n a m (omega arith)))
+          (plus_within b 0 (share_of (i, j) (g (i, j)) a) (sum_of_shares g (pairs_with i (suc j) n) a) (share_within b (i, j) (g (i, j)) a (w (i, j))) (row_past g i (suc j) n a m (omega arith)))
       | inr k ↦ rw (no_share i j a (g (i, j)) m k)
-        (within-weaker (0 + b) b (omega arith) _ (plus_within 0 b none (sum_of_shares g (pairs_with i (suc j) n) a) (none_within 0) (row_other b g w i (suc j) n a m)))
+          (within-weaker (0 + b) b (omega arith) _ (plus_within 0 b none (sum_of_shares g (pairs_with i (suc j) n) a) (none_within 0) (row_other b g w i (suc j) n a m)))
     ]
 
 rows_past : (g : ℕ × ℕ → List ℤ) (i m a : ℕ) → a < i → IsWithin 0 (sum_of_shares g (pairs_from i m) a)

@@ -1,10 +1,10 @@
 -- What is evaluated is the value and the slope of the tree.
-use Rattle.std.proofs.Common.{◌≡◌, ℕ, ℤ, pos, Bool, true, false, ◌<◌, List, length, Option, Some, None, Result, Ok, Err, IsTrue, refl, ap, ◌∙◌, sym, arith}
-use Rattle.std.specs.Prelude.{IfOk, IfErr, slice_get, slice_index_or, ◌&&◌, nat_lt}
+use Rattle.std.proofs.Common.{◌≡◌, ℕ, ℤ, pos, Bool, true, false, List, length, Option, Some, None, Result, Ok, Err, IsTrue, refl, ap, ◌∙◌, sym}
+use Rattle.std.specs.Prelude.{IfOk, IfErr, ◌&&◌}
 use Rattle.std.proofs.lemmas.Bool.{and_parts, ltb-true}
 use Rattle.std.proofs.lemmas.Option.{slice_get-get_or}
 use Rattle.fixed.specs.declared.faults.Fault.{Fault}
-use Rattle.fixed.specs.Arithmetic.{sum_of, difference_of, negative_of, product_of, square_of, quotient_of, one}
+use Rattle.fixed.specs.Arithmetic.{sum_of, difference_of, negative_of, product_of, square_of, quotient_of}
 use Rattle.expr.specs.declared.programs.Operator.{Operator}
 use Rattle.expr.specs.declared.programs.Operator.TheVariants as op
 use Rattle.expr.specs.Tree.{Tree, Number, Input, Negated, Binary, inputs_below, is_free_of_distance}
@@ -59,9 +59,9 @@ quotient_slope_alike bits true false u w du dw =
 quotient_slope_alike bits false false u w du dw =
     two_alike (quotient_of bits) (e.on_two difference_of (e.on_two (product_of bits) du w) (e.on_two (product_of bits) u dw)) (e.on_one (square_of bits) w)
     ∙ ap (λ x. v.on_two (quotient_of bits) x (v.number_of (e.on_one (square_of bits) w)))
-        (two_alike difference_of (e.on_two (product_of bits) du w) (e.on_two (product_of bits) u dw)
-        ∙ ap (λ x. v.on_two difference_of x (v.number_of (e.on_two (product_of bits) u dw))) (two_alike (product_of bits) du w)
-        ∙ ap (v.on_two difference_of (v.product bits (v.number_of du) (v.number_of w))) (two_alike (product_of bits) u dw))
+    (two_alike difference_of (e.on_two (product_of bits) du w) (e.on_two (product_of bits) u dw)
+    ∙ ap (λ x. v.on_two difference_of x (v.number_of (e.on_two (product_of bits) u dw))) (two_alike (product_of bits) du w)
+    ∙ ap (v.on_two difference_of (v.product bits (v.number_of du) (v.number_of w))) (two_alike (product_of bits) u dw))
     ∙ ap (v.on_two (quotient_of bits) (v.difference (v.product bits (v.number_of du) (v.number_of w)) (v.product bits (v.number_of u) (v.number_of dw)))) (one_alike (square_of bits) w)
 
 operation_slope_alike : (bits : ℕ) (o : Operator) (p q : Bool) (u w du dw : Result ℤ Fault)

@@ -1,6 +1,6 @@
 -- Forces added up pair by pair are the exact sums over all pairs.
-use Rattle.std.proofs.Common.{◌≡◌, ◌≢◌, ℕ, zero, suc, ◌+◌, ◌-◌, ◌*◌, ◌<◌, ◌≤◌, Bool, true, false, List, [], ◌∷◌, ◌++◌, length, replicate, get_or, set, ℤ, pos, ◌+ℤ◌, Option, Some, None, Result, Ok, Err, arith, refl, ap, sym, ◌∙◌, zero-add, inl, inr}
-use Rattle.std.specs.Prelude.{neg_ℤ, is_some, is_none, unwrap_or, map, ◌==◌}
+use Rattle.std.proofs.Common.{◌≡◌, ◌≢◌, ℕ, zero, suc, ◌+◌, ◌<◌, ◌≤◌, true, false, List, [], ◌∷◌, ◌++◌, length, replicate, get_or, ℤ, pos, ◌+ℤ◌, Option, Some, None, Result, Ok, Err, arith, refl, ap, sym, ◌∙◌, zero-add, inl, inr}
+use Rattle.std.specs.Prelude.{is_some, is_none, unwrap_or, map, ◌==◌}
 use Rattle.std.specs.List.{find, list_all}
 use Rattle.std.proofs.lemmas.Int.{ints}
 use Rattle.std.proofs.lemmas.Bool.{cases_eq}
@@ -206,14 +206,14 @@ forces_found force n out e =
     let g = sum_of_shares (force_or_none force) (pairs_of n) in
     let size : length zeros ≡ n = length-replicate n none in
     let same : length (map g (numbers_from 0 n)) ≡ length out =
-        length-numbers g 0 n ∙ sym (length-with_pairs force zeros out (pairs_of n) e ∙ size) in
+    length-numbers g 0 n ∙ sym (length-with_pairs force zeros out (pairs_of n) e ∙ size) in
     let all : list_all (λ p. is_some (force p)) (pairs_of n) ≡ true = all_forced force zeros out (pairs_of n) e in
     let each : map g (numbers_from 0 n) ≡ out = ext_get_or none (map g (numbers_from 0 n)) out same (λ a h.
-        let l : a < n = omega (arith, length-numbers g 0 n) in
-        let zero_at : get_or zeros a none ≡ none = get_or-replicate n a none none l in
-        let pairs : ArePairsOf (length zeros) (pairs_of n) = rw size (frame_pairs n 0 n (omega arith)) in
-        at_number g none 0 n a l ∙ ap g (zero-add a)
-        ∙ sym (entries force zeros out (pairs_of n) a pairs (rw zero_at none-three) e ∙ ap (λ w. plus w (g a)) zero_at ∙ none-plus (g a) (shares-three (force_or_none force) (pairs_of n) a))) in
+    let l : a < n = omega (arith, length-numbers g 0 n) in
+    let zero_at : get_or zeros a none ≡ none = get_or-replicate n a none none l in
+    let pairs : ArePairsOf (length zeros) (pairs_of n) = rw size (frame_pairs n 0 n (omega arith)) in
+    at_number g none 0 n a l ∙ ap g (zero-add a)
+    ∙ sym (entries force zeros out (pairs_of n) a pairs (rw zero_at none-three) e ∙ ap (λ w. plus w (g a)) zero_at ∙ none-plus (g a) (shares-three (force_or_none force) (pairs_of n) a))) in
     rw all (ap Some each)
 
 -- the pair at which the sums stop is the first without a force

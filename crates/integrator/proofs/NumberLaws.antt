@@ -1,5 +1,5 @@
 -- A list made from the numbers in order.
-use Rattle.std.proofs.Common.{◌≡◌, ℕ, zero, suc, ◌+◌, ◌<◌, List, [], ◌∷◌, length, get_or, arith, refl, ap, ◌∙◌}
+use Rattle.std.proofs.Common.{◌≡◌, ℕ, zero, suc, ◌+◌, ◌<◌, length, get_or, arith, refl, ap, ◌∙◌}
 use Rattle.std.specs.Prelude.{map}
 use Rattle.integrator.specs.Forces.{numbers_from}
 

@@ -1,7 +1,7 @@
 -- Types of atoms, one after another.
-use Rattle.std.proofs.Common.{◌≡◌, ℕ, zero, suc, ◌+◌, ◌<◌, ◌≤◌, Bool, true, false, cond, List, [], ◌∷◌, ◌++◌, length, get_or, take, drop, Option, Some, None, Result, Ok, Err, ℤ, arith, refl, ap, sym, ◌∙◌, add-one, append_assoc}
+use Rattle.std.proofs.Common.{◌≡◌, ℕ, suc, ◌+◌, ◌<◌, Bool, true, cond, List, [], ◌∷◌, ◌++◌, length, get_or, drop, Option, Some, None, Result, Ok, Err, ℤ, refl, ap, sym, ◌∙◌, add-one, append_assoc}
 use Rattle.std.proofs.lemmas.List.{append-nil}
-use Rattle.std.specs.Prelude.{bytes_eq, map, nat_lt, not}
+use Rattle.std.specs.Prelude.{bytes_eq, map, not}
 use Rattle.std.proofs.Math.Seq.{drop-cons}
 use Rattle.line_text.specs.Names.{name_text}
 use Rattle.job.specs.Views.{type_value}
@@ -10,7 +10,7 @@ use Rattle.std.specs.List.{position, position_or_len}
 use Rattle.std.proofs.lemmas.List.{length-map}
 use Rattle.job.specs.Values.{JobValue, TypeValue}
 use Rattle.state.specs.StateText.{AtomView, StateView}
-use Rattle.integrator.specs.Starts.{Refusal, Start, atom_types, dynamics_from, has_room, known, ring_of, start_with, type_with, unknown_type, ◌>>=◌}
+use Rattle.integrator.specs.Starts.{Refusal, atom_types, dynamics_from, has_room, ring_of, start_with, type_with, unknown_type, ◌>>=◌}
 use Rattle.integrator.specs.States.{counter_after}
 use Rattle.integrator.specs.declared.direction.Direction.{Direction}
 use Rattle.expr.specs.Tree.{Tree}

@@ -1,12 +1,11 @@
 -- Frames of a state's atoms, and atoms at other places.
 use Rattle.std.proofs.Common.{◌≡◌, ◌≢◌, ℕ, ◌+◌, ◌<◌, ◌≤◌, List, [], ◌∷◌, length, get_or, set, arith, refl, ap, sym, ◌∙◌, zero-add, inl, inr}
 use Rattle.std.specs.Prelude.{map}
-use Rattle.std.proofs.lemmas.List.{ext_get_or, length-map, map-set, get_or-set_same, get_or-set_other}
+use Rattle.std.proofs.lemmas.List.{ext_get_or, get_or-set_same, get_or-set_other}
 use Rattle.std.proofs.lemmas.Bool.{cases_eq}
 use Rattle.state.specs.StateText.{AtomView}
 use Rattle.state.specs.StateViews.{atom_view}
 use Rattle.state.specs.declared.states.Atom.{Atom}
-use Rattle.integrator.specs.Forces.{numbers_from}
 use Rattle.integrator.specs.Frames.{Frames, places_of}
 use Rattle.integrator.specs.States.{current_frame, nobody, placed, placed_atoms, previous_frame}
 use Rattle.integrator.proofs.NumberLaws.{length-numbers, at_number}
@@ -26,8 +25,8 @@ pub all_placed : (before after : List AtomView) (f : Frames) → length after �
 all_placed before after f same each =
     let g = λ (a : ℕ). placed (get_or before a nobody) (places_of f.previous a) (places_of f.current a) in
     ext_get_or nobody after (placed_atoms before f) (same ∙ sym (length-numbers g 0 (length before))) (λ k h.
-        let l : k < length before = omega arith in
-        each k l ∙ sym (at_number g nobody 0 (length before) k l ∙ ap g (zero-add k)))
+    let l : k < length before = omega arith in
+    each k l ∙ sym (at_number g nobody 0 (length before) k l ∙ ap g (zero-add k)))
 
 -- one atom more is placed, and the others are kept
 pub placed_more : (atoms before : List AtomView) (f : Frames) (i : ℕ) (y : AtomView) → i < length atoms

@@ -1,5 +1,5 @@
 -- Bounds of sums, and the pairs of a frame in order.
-use Rattle.std.proofs.Common.{◌≡◌, ℕ, zero, suc, ◌+◌, ◌-◌, ◌<◌, ◌≤◌, List, [], ◌∷◌, ◌++◌, length, ℤ, pos, arith, refl, ap}
+use Rattle.std.proofs.Common.{ℕ, ◌<◌, ◌≤◌, List, length, ℤ, pos, arith}
 use Rattle.std.specs.Prelude.{unsigned_abs}
 use Rattle.std.specs.List.{All}
 use Rattle.std.proofs.lemmas.List.Elements.{All-weaker}
@@ -13,7 +13,7 @@ all_within-weaker b c sums h = All-weaker (IsWithin b) (IsWithin c) (within-weak
 
 pub within-from_all : (b m : ℕ) (v : List ℤ) → 2 < length v → m ≤ b → All (λ w. unsigned_abs w ≤ m) v → IsWithin b v
 within-from_all b m v three h bound = record {
-    x = omega (arith, bound 0 (pos 0) (omega arith));
-    y = omega (arith, bound 1 (pos 0) (omega arith));
-    z = omega (arith, bound 2 (pos 0) (omega arith));
-  }
+  x = omega (arith, bound 0 (pos 0) (omega arith));
+  y = omega (arith, bound 1 (pos 0) (omega arith));
+  z = omega (arith, bound 2 (pos 0) (omega arith));
+}

@@ -2,15 +2,14 @@
 use Rattle.std.proofs.Common.{◌≡◌, ℕ, zero, suc, ◌+◌, ◌<◌, ◌^◌, List, [], ◌∷◌, length, Option, Some, None, ℤ, pos, negsuc, get_or, arith, refl, ap, sym, ◌∙◌, add-one, zero-add}
 use Rattle.std.specs.Prelude.{option_map, slice_index}
 use Rattle.std.specs.Option.{option_and_then}
-use Rattle.integrator.specs.Frames.{AreFrames, ArePlaces, Dynamics, Frames, frame_forces, frames, moved_frame, next_frame, next_places, places_of, step, back, turn, turns, exchanged, opposite, StopsAt}
+use Rattle.integrator.specs.Frames.{AreFrames, ArePlaces, Dynamics, Frames, frame_forces, frames, moved_frame, next_frame, next_places, places_of, step, turn, turns, exchanged, opposite, StopsAt}
 use Rattle.fixed.specs.declared.faults.Fault.{Fault}
-use Rattle.integrator.specs.Displacement.{displacement_of, next_place_of}
+use Rattle.integrator.specs.Displacement.{displacement_of}
 use Rattle.integrator.specs.Forces.{component, none, numbers_from}
 use Rattle.integrator.proofs.NumberLaws.{length-numbers, at_number}
 use Rattle.integrator.proofs.StepLemmas.{there_and_back}
 use Rattle.ring_box.specs.Places.{place_at}
 use Rattle.std.specs.List.{All}
-use Rattle.std.proofs.lemmas.Int.{ints}
 use Rattle.std.proofs.lemmas.List.{ext_get_or}
 use Rattle.std.proofs.lemmas.List.Elements.{All-map}
 use Rattle.integrator.specs.declared.direction.Direction.{Direction}
@@ -77,10 +76,10 @@ moved_back d p c forces same h =
     let there = λ (a : ℕ). next_places d (slice_index d.masses a) (places_of p a) (places_of c a) (get_or forces a none) in
     let here = λ (a : ℕ). next_places d (slice_index d.masses a) (places_of q a) (places_of c a) (get_or forces a none) in
     ext_get_or [] (moved_frame d q c forces) p (length-numbers here 0 n ∙ sym same) (λ a l.
-        let k : a < n = omega (arith, length-numbers here 0 n) in
-        at_number here [] 0 n a k ∙ ap here (zero-add a)
-        ∙ ap (λ x. next_places d (slice_index d.masses a) x (places_of c a) (get_or forces a none)) (at_number there [] 0 n a k ∙ ap there (zero-add a))
-        ∙ places_back d (slice_index d.masses a) (places_of p a) (places_of c a) (get_or forces a none) (h a [] (omega arith)))
+    let k : a < n = omega (arith, length-numbers here 0 n) in
+    at_number here [] 0 n a k ∙ ap here (zero-add a)
+    ∙ ap (λ x. next_places d (slice_index d.masses a) x (places_of c a) (get_or forces a none)) (at_number there [] 0 n a k ∙ ap there (zero-add a))
+    ∙ places_back d (slice_index d.masses a) (places_of p a) (places_of c a) (get_or forces a none) (h a [] (omega arith)))
 
 some_alike : {X : Type 0} (x y : X) → Some x ≡ Some y → x ≡ y
 some_alike x y e = cc
@@ -124,9 +123,9 @@ stepped_at d p c g (Some q) h e k =
     let same : frames c q ≡ g = some_alike (frames c q) g k in
     let f = followed d p c q h.alike h.previous e in
     let turned : Turned Forward d (frames p c) (frames c q) = record {
-        back = ap (option_map (λ n. frames n c)) f.back;
-        frames' = record { alike = sym f.alike; previous = h.current; current = f.on_ring };
-      } in
+      back = ap (option_map (λ n. frames n c)) f.back;
+      frames' = record { alike = sym f.alike; previous = h.current; current = f.on_ring };
+    } in
     rw (← same) turned
 
 backed_at : (d : Dynamics) (p c : List (List ℕ)) (g : Frames) (o : Option (List (List ℕ))) → AreFrames (frames p c) → next_frame d c p ≡ o
@@ -136,9 +135,9 @@ backed_at d p c g (Some q) h e k =
     let same : frames q p ≡ g = some_alike (frames q p) g k in
     let f = followed d c p q (sym h.alike) h.current e in
     let turned : Turned Back d (frames p c) (frames q p) = record {
-        back = ap (option_map (frames p)) f.back;
-        frames' = record { alike = f.alike; previous = f.on_ring; current = h.previous };
-      } in
+      back = ap (option_map (frames p)) f.back;
+      frames' = record { alike = f.alike; previous = f.on_ring; current = h.previous };
+    } in
     rw (← same) turned
 
 pub turned : (w : Direction) (d : Dynamics) (f g : Frames) → AreFrames f → turn w d f ≡ Some g → Turned w d f g

@@ -1,5 +1,5 @@
 -- The value and the slope of an energy expression as they are evaluated: with the fault of the first operation that has no value, from the left. Without the fault they are the value and the slope of the tree.
-use Rattle.std.specs.Prelude.{ℕ, ℤ, pos, Bool, true, false, ◌==◌, ◌&&◌, nat_lt, if◌then◌else◌, List, Option, Some, None, Result, Ok, Err, slice_index_or}
+use Rattle.std.specs.Prelude.{ℕ, ℤ, pos, Bool, true, false, ◌==◌, ◌&&◌, if◌then◌else◌, List, Option, Some, None, Result, Ok, Err, slice_index_or}
 use Rattle.fixed.specs.declared.faults.Fault.{Fault}
 use Rattle.fixed.specs.Arithmetic.{sum_of, difference_of, negative_of, product_of, square_of, quotient_of, one}
 use Rattle.expr.specs.declared.programs.Operator.{Operator}

@@ -1,5 +1,5 @@
 -- The exact force on each atom of a frame: the sum over all pairs of atoms, in whole numbers of any size.
-use Rattle.std.specs.Prelude.{ℕ, zero, suc, ℤ, pos, neg_ℤ, ◌+ℤ◌, ◌==◌, Bool, List, [], ◌∷◌, ◌++◌, map, Option, Some, None, is_some, is_none, unwrap_or, slice_index_or, if◌then◌else◌}
+use Rattle.std.specs.Prelude.{ℕ, zero, suc, ℤ, pos, neg_ℤ, ◌+ℤ◌, ◌==◌, List, [], ◌∷◌, ◌++◌, map, Option, Some, None, is_some, is_none, unwrap_or, slice_index_or, if◌then◌else◌}
 use Rattle.std.specs.List.{find, list_all}
 
 -- a force is a list of three components

@@ -1,6 +1,6 @@
 -- Frames, and the Levesque-Verlet step that leads from one to the next and back (Levesque and Verlet 1993, J. Stat. Phys. 72, 519).
 -- A frame is a list of atoms, each by its three places. A step forward moves the frames p, c to c, n with n = 2 c - p + d(c) round the ring; as d depends on the middle frame alone, a step back moves them to 2 p - c + d(p), p.
-use Rattle.std.specs.Prelude.{ℕ, zero, suc, ℤ, pos, neg_ℤ, ◌==◌, ◌≡◌, ◌<◌, ◌^◌, List, [], ◌∷◌, length, map, Option, Some, None, slice_index, slice_index_or, if◌then◌else◌}
+use Rattle.std.specs.Prelude.{ℕ, zero, suc, ℤ, neg_ℤ, ◌==◌, ◌≡◌, ◌<◌, ◌^◌, List, [], ◌∷◌, length, map, Option, Some, None, slice_index, slice_index_or, if◌then◌else◌}
 use Rattle.std.specs.Option.{option_map, option_and_then}
 use Rattle.std.specs.List.{All}
 use Rattle.fixed.specs.declared.faults.Fault.{Fault}

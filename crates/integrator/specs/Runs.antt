@@ -1,5 +1,5 @@
 -- A run from bytes to bytes: the texts of a job and a state, a number of steps and a direction give the text of the state after them.
-use Rattle.std.specs.Prelude.{◌≡◌, ℕ, ℤ, ◌+◌, List, Option, Some, None, Result, Ok, Err, Bool, true, false}
+use Rattle.std.specs.Prelude.{◌≡◌, ℕ, ℤ, ◌+◌, List, Option, Some, Ok, Bool, true, false}
 use Rattle.fixed.specs.declared.faults.Fault.{Fault}
 use Rattle.state.specs.StateText.{StateView, state_text}
 use Rattle.integrator.specs.Frames.{Frames, StopsAt, turns}

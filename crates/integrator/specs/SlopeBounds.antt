@@ -1,14 +1,13 @@
 -- A slope is a number of 64 bits, as each operation gives one or none.
-use Rattle.std.proofs.Common.{◌≡◌, ℕ, zero, suc, ◌^◌, ◌<◌, ◌≤◌, ◌*◌, ℤ, pos, negsuc, Bool, true, false, List, Option, Some, None, Result, Ok, Err, arith, refl, ap}
-use Rattle.std.specs.Prelude.{unsigned_abs, neg_ℤ, ◌+ℤ◌, ◌-ℤ◌, ◌*ℤ◌, ◌&&◌, ◌==◌, if◌then◌else◌, nat_lt}
+use Rattle.std.proofs.Common.{◌≡◌, ℕ, ◌^◌, ◌<◌, ◌≤◌, ℤ, pos, negsuc, Bool, true, false, List, Option, Some, None, Result, Ok, Err, arith, refl}
+use Rattle.std.specs.Prelude.{unsigned_abs, neg_ℤ, ◌+ℤ◌, ◌-ℤ◌, ◌*ℤ◌, ◌&&◌, ◌==◌, if◌then◌else◌}
 use Rattle.std.proofs.lemmas.Bool.{ltb-true}
-use Rattle.std.proofs.lemmas.Int.{ints}
 use Rattle.fixed.specs.declared.faults.Fault.{Fault}
 use Rattle.fixed.specs.declared.faults.Fault.TheVariants.{Overflow, ZeroDivisor}
 use Rattle.fixed.specs.declared.frac.Frac.{Frac}
 use Rattle.fixed.specs.declared.frac.Frac.TheVariants.{F24, F32, F40}
 use Rattle.fixed.specs.Fractions.{bits_of}
-use Rattle.fixed.specs.Arithmetic.{number_or_overflow, in_range, sum_of, difference_of, negative_of, product_of, square_of, quotient_of, one, is_zero, floor_of, floor_over}
+use Rattle.fixed.specs.Arithmetic.{number_or_overflow, in_range, sum_of, difference_of, negative_of, product_of, quotient_of, one, is_zero, floor_of, floor_over}
 use Rattle.expr.specs.declared.programs.Operator.{Operator}
 use Rattle.expr.specs.declared.programs.Operator.TheVariants as op
 use Rattle.expr.specs.Tree.{Tree, Number, Input, Negated, Binary, is_free_of_distance}

@@ -1,6 +1,5 @@
 -- What a call that may want memory answers, as what a run starts from.
-use Rattle.std.specs.Prelude.{◌≡◌, ℕ, ℤ, List, [], ◌∷◌, Option, Some, None, Result, Ok, Err, IfSome}
-use Rattle.std.specs.Option.{option_map}
+use Rattle.std.specs.Prelude.{◌≡◌, ℕ, ℤ, [], ◌∷◌, Option, Some, None, Result, Ok, Err, IfSome}
 use Rattle.fixed.specs.Fractions.{bits_of}
 use Rattle.fixed.specs.declared.faults.Fault.{Fault}
 use Rattle.expr.specs.Slope.{slope_of}

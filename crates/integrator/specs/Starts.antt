@@ -1,8 +1,7 @@
 -- What a run starts from: a job's text, a state's text, a number of steps and a direction give the state and what moves its atoms, or the first refusal.
-use Rattle.std.specs.Prelude.{ℕ, suc, ℤ, pos, ◌+◌, ◌*◌, ◌^◌, ◌≤◌, nat_le, ◌&&◌, Bool, true, false, List, [], ◌∷◌, ◌++◌, length, map, Option, Some, None, Result, Ok, Err, slice_index, slice_index_or, unsigned_abs, bytes_eq, if◌then◌else◌}
+use Rattle.std.specs.Prelude.{ℕ, suc, ℤ, ◌*◌, ◌^◌, nat_le, ◌&&◌, Bool, true, false, List, [], ◌∷◌, map, Option, Some, None, Result, Ok, Err, slice_index, slice_index_or, unsigned_abs, bytes_eq}
 use Rattle.std.specs.List.{position}
 use Rattle.fixed.specs.declared.frac.Frac.TheVariants.{F32}
-use Rattle.fixed.specs.declared.faults.Fault.{Fault}
 use Rattle.expr.specs.Tree.{Tree}
 use Rattle.expr.specs.Slope.{slope_of}
 use Rattle.expr.specs.Faults as energy
@@ -82,15 +81,15 @@ ring_of sides = record { x = slice_index sides 0; y = slice_index sides 1; z = s
 -- what moves the atoms of these types, with this energy
 abbrev pub dynamics_from : JobValue → StateView → Tree → List ℕ → Dynamics
 dynamics_from j s energy types = record {
-    frac = F32;
-    ring = ring_of s.sides;
-    core = j.core;
-    cutoff = j.cutoff;
-    time_step = j.time_step;
-    masses = map (mass_of j.types) types;
-    slope = λ p r. slope_of 32 (r ∷ []) energy;
-    fault = λ p r. fault_of (evaluated_slope 32 (r ∷ []) energy)
-  }
+  frac = F32;
+  ring = ring_of s.sides;
+  core = j.core;
+  cutoff = j.cutoff;
+  time_step = j.time_step;
+  masses = map (mass_of j.types) types;
+  slope = λ p r. slope_of 32 (r ∷ []) energy;
+  fault = λ p r. fault_of (evaluated_slope 32 (r ∷ []) energy);
+}
 
 abbrev pub in_counter : Option ℤ → Result ℤ Refusal
 in_counter (Some z) = Ok z

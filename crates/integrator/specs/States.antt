@@ -1,5 +1,5 @@
 -- A state's two frames, and the state after some steps.
-use Rattle.std.specs.Prelude.{ℕ, ℤ, pos, ◌+ℤ◌, ◌-ℤ◌, List, [], ◌∷◌, length, map, Option, Some, None, slice_index_or, if◌then◌else◌}
+use Rattle.std.specs.Prelude.{ℕ, ℤ, pos, ◌+ℤ◌, ◌-ℤ◌, List, [], length, map, Option, Some, None, slice_index_or, if◌then◌else◌}
 use Rattle.fixed.specs.Arithmetic.{in_range}
 use Rattle.state.specs.StateText.{AtomView, StateView}
 use Rattle.integrator.specs.Forces.{numbers_from}

@@ -7,12 +7,12 @@ use Rattle.integrator.specs.declared.systems.System.{System}
 -- `slope` is what the kernel gives for two types of atoms, and `fault` why it gives nothing
 abbrev pub dynamics_of : {K A : Type 0} → (K → ℕ → ℕ → ℤ → Option ℤ) → (K → ℕ → ℕ → ℤ → Option Fault) → System K A → Dynamics
 dynamics_of slope fault s = record {
-    frac = s.frac;
-    ring = s.ring;
-    core = s.core;
-    cutoff = s.cutoff;
-    time_step = s.time_step;
-    masses = s.masses.items;
-    slope = λ p r. slope s.kernel (slice_index s.types.items p.0) (slice_index s.types.items p.1) r;
-    fault = λ p r. fault s.kernel (slice_index s.types.items p.0) (slice_index s.types.items p.1) r
-  }
+  frac = s.frac;
+  ring = s.ring;
+  core = s.core;
+  cutoff = s.cutoff;
+  time_step = s.time_step;
+  masses = s.masses.items;
+  slope = λ p r. slope s.kernel (slice_index s.types.items p.0) (slice_index s.types.items p.1) r;
+  fault = λ p r. fault s.kernel (slice_index s.types.items p.0) (slice_index s.types.items p.1) r;
+}

@@ -62,13 +62,7 @@ fn nearest(a: i128, b: i128) -> i128
 }
 
 /// By how many places a force moves an atom in one step: `force` in 2^-`bits` kJ/mol/nm, `time_step` in fs (at most 1,000), `mass` in 10^-5 u (1 to 100,000,000).
-pub(crate) fn displacement(
-    frac: Frac,
-    force: i128,
-    time_step: u32,
-    mass: u32,
-    side: Side,
-) -> i128
+pub(crate) fn displacement(frac: Frac, force: i128, time_step: u32, mass: u32, side: Side) -> i128
     requires force { unsigned_abs force ≤ 2 ^ 80 }
     requires time_step { time_step ≤ 1000 }
     requires positive { 0 < mass }
@@ -76,7 +70,10 @@ pub(crate) fn displacement(
     ensures value { result ≡ displacement_of frac force time_step mass side }
     ensures bound { unsigned_abs result < 2 ^ 123 }
 {
-    nearest(impulse(force, factor(frac, time_step)), inertia(frac, mass, side))
+    nearest(
+        impulse(force, factor(frac, time_step)),
+        inertia(frac, mass, side),
+    )
 }
 
 fn onward(before: u32, middle: u32, displacement: i128) -> i128

@@ -77,7 +77,12 @@ fn quotient_slope(frac: Frac, u: Part, v: Part) -> Outcome
         operate(frac, Operator::Divide, above, square(frac, v.value))
     } else {
         let first = product(frac, u.slope, v.value);
-        let above = operate(frac, Operator::Subtract, first, product(frac, u.value, v.slope));
+        let above = operate(
+            frac,
+            Operator::Subtract,
+            first,
+            product(frac, u.value, v.slope),
+        );
         operate(frac, Operator::Divide, above, square(frac, v.value))
     }
 }
@@ -95,11 +100,7 @@ fn operation_slope(frac: Frac, operator: Operator, u: Part, v: Part) -> Outcome
 fn zero_or(is_free: bool, slope: Outcome) -> Outcome
     ensures { result ≡ zero_or is_free slope }
 {
-    if is_free {
-        Ok(Fx::from_raw(0))
-    } else {
-        slope
-    }
+    if is_free { Ok(Fx::from_raw(0)) } else { slope }
 }
 
 /// The expression at these inputs. One free of the distance has slope zero, whether or not it has a value.

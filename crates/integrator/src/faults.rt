@@ -25,7 +25,9 @@ pub enum RunFault<A: Allocator> {
     Energy(ExprFault<A>),
     /// The job has no type with the name of this atom, the lowest such, counted from 1.
     #[error("A1 UnknownType {atom}")]
-    UnknownType { atom: u64 },
+    UnknownType {
+        atom: u64,
+    },
     /// Some side of the box is shorter than two cutoffs.
     #[error("A2 CutoffTooLong")]
     CutoffTooLong,

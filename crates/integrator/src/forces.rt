@@ -60,18 +60,15 @@ impl<K: TestedSlope + Drop, A: Allocator> System<K, A> {
 
     /// The force on the first of two atoms of the types `a` and `b` at the places `x` and `y`, or why it has none.
     fn force_between(&self, a: u32, b: u32, x: [u32; 3], y: [u32; 3]) -> Result<[i128; 3], Fault>
-        ensures value {
-            IfOk result (λ v. force_at self.now.ring (K.slope self.now.kernel a b) (acting_distance_of self.now.frac self.now.ring self.now.core self.now.cutoff x y) x y ≡ Some v)
-        }
+        ensures value { IfOk result (λ v. force_at self.now.ring (K.slope self.now.kernel a b) (acting_distance_of self.now.frac self.now.ring self.now.core self.now.cutoff x y) x y ≡ Some v) }
         ensures within { IfOk result (IsWithin (2 ^ 63)) }
-        ensures none {
-            IfErr result (λ _. force_at self.now.ring (K.slope self.now.kernel a b) (acting_distance_of self.now.frac self.now.ring self.now.core self.now.cutoff x y) x y ≡ None)
-        }
-        ensures fault {
-            IfErr result (λ f. option_and_then (K.fault self.now.kernel a b) (acting_distance_of self.now.frac self.now.ring self.now.core self.now.cutoff x y) ≡ Some f)
-        }
+        ensures none { IfErr result (λ _. force_at self.now.ring (K.slope self.now.kernel a b) (acting_distance_of self.now.frac self.now.ring self.now.core self.now.cutoff x y) x y ≡ None) }
+        ensures fault { IfErr result (λ f. option_and_then (K.fault self.now.kernel a b) (acting_distance_of self.now.frac self.now.ring self.now.core self.now.cutoff x y) ≡ Some f) }
     {
-        match self.ring.acting_distance(self.frac, self.core, self.cutoff, x, y) {
+        match self
+            .ring
+            .acting_distance(self.frac, self.core, self.cutoff, x, y)
+        {
             None => Ok([0, 0, 0]),
             Some(r) => force_at(&self.ring, &self.kernel, a, b, r, x, y),
         }
@@ -101,13 +98,9 @@ impl<K: TestedSlope + Drop, A: Allocator> System<K, A> {
         requires atoms { length frame.now ≡ length self.now.types.items }
         requires sums { length sums.old ≡ length frame.now }
         requires room { All (IsWithin (2 ^ 98)) sums.old }
-        ensures value {
-            OnOk result (with_pairs (pair_force (dynamics_of K.slope K.fault self.now) frame.now) sums.old (pairs_with low (low + 1) (length frame.now - (low + 1))) ≡ Ok sums.new)
-        }
+        ensures value { OnOk result (with_pairs (pair_force (dynamics_of K.slope K.fault self.now) frame.now) sums.old (pairs_with low (low + 1) (length frame.now - (low + 1))) ≡ Ok sums.new) }
         ensures within { (b : ℕ) → All (IsWithin b) sums.old → All (IsWithin (b + 2 ^ 64 * length frame.now)) sums.new }
-        ensures fault {
-            IfErr result (λ e. with_pairs (pair_force (dynamics_of K.slope K.fault self.now) frame.now) sums.old (pairs_with low (low + 1) (length frame.now - (low + 1))) ≡ Err (e.low, e.high))
-        }
+        ensures fault { IfErr result (λ e. with_pairs (pair_force (dynamics_of K.slope K.fault self.now) frame.now) sums.old (pairs_with low (low + 1) (length frame.now - (low + 1))) ≡ Err (e.low, e.high)) }
         ensures why { IfErr result (λ e. pair_fault (dynamics_of K.slope K.fault self.now) frame.now (e.low, e.high) ≡ Some e.fault) }
     {
         for high in low + 1..frame.len() {
@@ -123,12 +116,8 @@ impl<K: TestedSlope + Drop, A: Allocator> System<K, A> {
     fn add_rows(&self, frame: &[[u32; 3]], sums: &mut [[i128; 3]]) -> Result<(), PairFault>
         requires atoms { length frame.now ≡ length self.now.types.items }
         requires zero { sums.old ≡ replicate (length frame.now) none }
-        ensures value {
-            OnOk result (with_pairs (pair_force (dynamics_of K.slope K.fault self.now) frame.now) sums.old (pairs_of (length frame.now)) ≡ Ok sums.new)
-        }
-        ensures fault {
-            IfErr result (λ e. with_pairs (pair_force (dynamics_of K.slope K.fault self.now) frame.now) sums.old (pairs_of (length frame.now)) ≡ Err (e.low, e.high))
-        }
+        ensures value { OnOk result (with_pairs (pair_force (dynamics_of K.slope K.fault self.now) frame.now) sums.old (pairs_of (length frame.now)) ≡ Ok sums.new) }
+        ensures fault { IfErr result (λ e. with_pairs (pair_force (dynamics_of K.slope K.fault self.now) frame.now) sums.old (pairs_of (length frame.now)) ≡ Err (e.low, e.high)) }
         ensures why { IfErr result (λ e. pair_fault (dynamics_of K.slope K.fault self.now) frame.now (e.low, e.high) ≡ Some e.fault) }
     {
         for low in 0..frame.len() {
@@ -143,9 +132,7 @@ impl<K: TestedSlope + Drop, A: Allocator> System<K, A> {
         requires sums { length sums.old ≡ length frame.now }
         ensures value { OnOk result (frame_forces (dynamics_of K.slope K.fault self.now) frame.now ≡ Some sums.new) }
         ensures within { OnOk result (All (IsWithin (2 ^ 80)) sums.new) }
-        ensures fault {
-            IfErr result (λ e. first_without_force (pair_force (dynamics_of K.slope K.fault self.now) frame.now) (length frame.now) ≡ Some (e.low, e.high))
-        }
+        ensures fault { IfErr result (λ e. first_without_force (pair_force (dynamics_of K.slope K.fault self.now) frame.now) (length frame.now) ≡ Some (e.low, e.high)) }
         ensures why { IfErr result (λ e. pair_fault (dynamics_of K.slope K.fault self.now) frame.now (e.low, e.high) ≡ Some e.fault) }
     {
         clear(sums);

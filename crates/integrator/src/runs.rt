@@ -34,14 +34,10 @@ fn turn_frames<K: TestedSlope + Drop, A: Allocator>(
     requires previous { length previous.old.items ≡ length system.now.masses.items }
     requires current { length current.old.items ≡ length system.now.masses.items }
     requires sums { length sums.old ≡ length system.now.masses.items }
-    ensures value {
-        OnOk result (turns direction (dynamics_of K.slope K.fault system.now) steps (frames previous.old.items current.old.items) ≡ Some (frames previous.new.items current.new.items))
-    }
+    ensures value { OnOk result (turns direction (dynamics_of K.slope K.fault system.now) steps (frames previous.old.items current.old.items) ≡ Some (frames previous.new.items current.new.items)) }
     ensures previous { length previous.new.items ≡ length previous.old.items }
     ensures current { length current.new.items ≡ length current.old.items }
-    ensures fault {
-        IfErr result (λ s. StopsAt direction (dynamics_of K.slope K.fault system.now) steps (frames previous.old.items current.old.items) s.done (s.pair.low, s.pair.high) s.pair.fault)
-    }
+    ensures fault { IfErr result (λ s. StopsAt direction (dynamics_of K.slope K.fault system.now) steps (frames previous.old.items current.old.items) s.done (s.pair.low, s.pair.high) s.pair.fault) }
 {
     match direction {
         Direction::Forward => system.turns(steps, previous, current, sums),
@@ -81,19 +77,22 @@ fn frames_after<K: TestedSlope + Drop, A: Allocator + Copy>(
     atoms: &[Atom],
 ) -> Result<Turned<A>, Halt>
     requires { length atoms.now ≡ length system.now.masses.items }
-    ensures value {
-        IfOk result (λ t. turns direction (dynamics_of K.slope K.fault system.now) steps (frames (previous_frame (map atom_view atoms.now)) (current_frame (map atom_view atoms.now))) ≡ Some (frames t.previous.items t.current.items))
-    }
+    ensures value { IfOk result (λ t. turns direction (dynamics_of K.slope K.fault system.now) steps (frames (previous_frame (map atom_view atoms.now)) (current_frame (map atom_view atoms.now))) ≡ Some (frames t.previous.items t.current.items)) }
     ensures previous { IfOk result (λ t. length t.previous.items ≡ length atoms.now) }
     ensures current { IfOk result (λ t. length t.current.items ≡ length atoms.now) }
-    ensures halt {
-        IfErr result (IsHalt (dynamics_of K.slope K.fault system.now) direction steps (frames (previous_frame (map atom_view atoms.now)) (current_frame (map atom_view atoms.now))))
-    }
+    ensures halt { IfErr result (IsHalt (dynamics_of K.slope K.fault system.now) direction steps (frames (previous_frame (map atom_view atoms.now)) (current_frame (map atom_view atoms.now)))) }
 {
     let mut previous = previous_frame(alloc, atoms)?;
     let mut current = current_frame(alloc, atoms)?;
     let mut sums = vec![in alloc; [0; 3]; atoms.len()]?;
-    match turn_frames(system, direction, steps, &mut previous, &mut current, &mut sums) {
+    match turn_frames(
+        system,
+        direction,
+        steps,
+        &mut previous,
+        &mut current,
+        &mut sums,
+    ) {
         Ok(()) => Ok(Turned { previous, current }),
         Err(stop) => Err(Halt::Stop(stop)),
     }
@@ -134,9 +133,7 @@ fn forced_counter(direction: Direction, step: i64, steps: u64, done: u64) -> i64
 fn moved<A: Allocator>(mut state: State<A>, turned: &Turned<A>, counter: i64) -> State<A>
     requires previous { length turned.now.previous.items ≡ length state.atoms.items }
     requires current { length turned.now.current.items ≡ length state.atoms.items }
-    ensures {
-        state_view result ≡ moved_state (state_view state) (frames turned.now.previous.items turned.now.current.items) counter
-    }
+    ensures { state_view result ≡ moved_state (state_view state) (frames turned.now.previous.items turned.now.current.items) counter }
 {
     place(&mut state.atoms, &turned.previous, &turned.current);
     state.step = counter;
@@ -152,9 +149,7 @@ fn kernel_fault<A: Allocator>(
 ) -> RunFault<A>
     requires fits { in_range (counter_at direction state.now.step steps) ≡ true }
     requires early { stop.done < steps }
-    ensures {
-        result ≡ KernelFault (forced_counter direction state.now.step stop.done) (stop.pair.low + 1) (stop.pair.high + 1) 0 stop.pair.fault
-    }
+    ensures { result ≡ KernelFault (forced_counter direction state.now.step stop.done) (stop.pair.low + 1) (stop.pair.high + 1) 0 stop.pair.fault }
 {
     RunFault::KernelFault {
         step: forced_counter(direction, state.step, steps, stop.done),
@@ -225,9 +220,7 @@ pub fn run_bytes_checked<A: Allocator + Copy, O: Out>(
     ensures refused { IfErr result (IsRefusal job.now state.now direction steps) }
     // A refusal writes nothing, but where the output failed.
     ensures unwritten { IfErr result (λ f. is_out f ≡ false → O.taken out.new ≡ O.taken out.old) }
-    ensures beginning {
-        IfErr result (λ f. is_out f ≡ true → WroteBeginning job.now state.now direction steps (O.taken out.old) (O.taken out.new))
-    }
+    ensures beginning { IfErr result (λ f. is_out f ≡ true → WroteBeginning job.now state.now direction steps (O.taken out.old) (O.taken out.new)) }
     ensures failed { IfErr result (λ f. is_out f ≡ true → O.failed out.old < O.failed out.new) }
 {
     let after = state_after(alloc, job, state, steps, direction)?;

@@ -21,9 +21,7 @@ impl<K: TestedSlope + Drop, A: Allocator> System<K, A> {
         requires some_mass { 0 < mass }
         requires most_mass { mass ≤ 100000000 }
         requires force { unsigned_abs force ≤ 2 ^ 80 }
-        ensures {
-            result ≡ next_place_of before middle (displacement_of self.now.frac force self.now.time_step mass side)
-        }
+        ensures { result ≡ next_place_of before middle (displacement_of self.now.frac force self.now.time_step mass side) }
     {
         let displacement = displacement(self.frac, force, self.time_step, mass, side);
         next_place(before, middle, displacement)
@@ -58,7 +56,12 @@ impl<K: TestedSlope + Drop, A: Allocator> System<K, A> {
         ensures { before.new ≡ moved_frame (dynamics_of K.slope K.fault self.now) before.old middle.now forces.now }
     {
         for atom in 0..middle.len() {
-            let places = self.next_places(self.masses[atom], before[atom], middle[atom], forces[atom]);
+            let places = self.next_places(
+                self.masses[atom],
+                before[atom],
+                middle[atom],
+                forces[atom],
+            );
             before[atom] = places;
         }
     }
@@ -73,15 +76,9 @@ impl<K: TestedSlope + Drop, A: Allocator> System<K, A> {
         requires before { length before.old ≡ length middle.now }
         requires middle { length middle.now ≡ length self.now.masses.items }
         requires sums { length sums.old ≡ length middle.now }
-        ensures value {
-            OnOk result (next_frame (dynamics_of K.slope K.fault self.now) before.old middle.now ≡ Some before.new)
-        }
-        ensures fault {
-            IfErr result (λ e. first_without_force (pair_force (dynamics_of K.slope K.fault self.now) middle.now) (length middle.now) ≡ Some (e.low, e.high))
-        }
-        ensures why {
-            IfErr result (λ e. pair_fault (dynamics_of K.slope K.fault self.now) middle.now (e.low, e.high) ≡ Some e.fault)
-        }
+        ensures value { OnOk result (next_frame (dynamics_of K.slope K.fault self.now) before.old middle.now ≡ Some before.new) }
+        ensures fault { IfErr result (λ e. first_without_force (pair_force (dynamics_of K.slope K.fault self.now) middle.now) (length middle.now) ≡ Some (e.low, e.high)) }
+        ensures why { IfErr result (λ e. pair_fault (dynamics_of K.slope K.fault self.now) middle.now (e.low, e.high) ≡ Some e.fault) }
     {
         self.forces(middle, sums)?;
         self.advance(before, middle, sums);
@@ -98,17 +95,11 @@ impl<K: TestedSlope + Drop, A: Allocator> System<K, A> {
         requires before { length before.old.items ≡ length self.now.masses.items }
         requires middle { length middle.old.items ≡ length self.now.masses.items }
         requires sums { length sums.old ≡ length self.now.masses.items }
-        ensures value {
-            OnOk result (step (dynamics_of K.slope K.fault self.now) (frames before.old.items middle.old.items) ≡ Some (frames before.new.items middle.new.items))
-        }
+        ensures value { OnOk result (step (dynamics_of K.slope K.fault self.now) (frames before.old.items middle.old.items) ≡ Some (frames before.new.items middle.new.items)) }
         ensures before { length before.new.items ≡ length before.old.items }
         ensures middle { length middle.new.items ≡ length middle.old.items }
-        ensures fault {
-            IfErr result (λ e. first_without_force (pair_force (dynamics_of K.slope K.fault self.now) middle.old.items) (length middle.old.items) ≡ Some (e.low, e.high))
-        }
-        ensures why {
-            IfErr result (λ e. pair_fault (dynamics_of K.slope K.fault self.now) middle.old.items (e.low, e.high) ≡ Some e.fault)
-        }
+        ensures fault { IfErr result (λ e. first_without_force (pair_force (dynamics_of K.slope K.fault self.now) middle.old.items) (length middle.old.items) ≡ Some (e.low, e.high)) }
+        ensures why { IfErr result (λ e. pair_fault (dynamics_of K.slope K.fault self.now) middle.old.items (e.low, e.high) ≡ Some e.fault) }
     {
         self.follow(before, middle, sums)?;
         mem::swap(before, middle);
@@ -126,14 +117,10 @@ impl<K: TestedSlope + Drop, A: Allocator> System<K, A> {
         requires before { length before.old.items ≡ length self.now.masses.items }
         requires middle { length middle.old.items ≡ length self.now.masses.items }
         requires sums { length sums.old ≡ length self.now.masses.items }
-        ensures value {
-            OnOk result (turns Forward (dynamics_of K.slope K.fault self.now) steps (frames before.old.items middle.old.items) ≡ Some (frames before.new.items middle.new.items))
-        }
+        ensures value { OnOk result (turns Forward (dynamics_of K.slope K.fault self.now) steps (frames before.old.items middle.old.items) ≡ Some (frames before.new.items middle.new.items)) }
         ensures before { length before.new.items ≡ length before.old.items }
         ensures middle { length middle.new.items ≡ length middle.old.items }
-        ensures fault {
-            IfErr result (λ s. StopsAt Forward (dynamics_of K.slope K.fault self.now) steps (frames before.old.items middle.old.items) s.done (s.pair.low, s.pair.high) s.pair.fault)
-        }
+        ensures fault { IfErr result (λ s. StopsAt Forward (dynamics_of K.slope K.fault self.now) steps (frames before.old.items middle.old.items) s.done (s.pair.low, s.pair.high) s.pair.fault) }
     {
         for done in 0..steps {
             match self.turn(before, middle, sums) {

@@ -1,4 +1,4 @@
-use Rattle.std.proofs.Common.{◌≡◌, ◌+◌, ◌<◌, ◌≤◌, ◌++◌, ◌∷◌, [], get_or, take, length, arith, ap, sym, ◌∙◌}
+use Rattle.std.proofs.Common.{◌<◌, ◌≤◌, ◌++◌, ◌∷◌, [], get_or, take, arith, ap, sym, ◌∙◌}
 use Rattle.std.specs.Prelude.{map}
 use Rattle.std.proofs.lemmas.List.{map_push, take_more}
 use Rattle.std.proofs.lemmas.List.Elements.{All-push, All-same}
@@ -14,10 +14,10 @@ loop-number-preserved g c =
     let items = c.in_ok-push.ensures.items in
     record {
       value =
-        items
-        ∙ ap (λ m. c.loop-number.masses.items ++ m ∷ []) c.mass_of.ensures.value
-        ∙ ap (λ ms. ms ++ f (get_or types i 0) ∷ []) c.loop-number.invariant.value
-        ∙ sym (ap (map f) (take_more types i 0 (omega arith)) ∙ map_push f (take i types) (get_or types i 0));
+          items
+          ∙ ap (λ m. c.loop-number.masses.items ++ m ∷ []) c.mass_of.ensures.value
+          ∙ ap (λ ms. ms ++ f (get_or types i 0) ∷ []) c.loop-number.invariant.value
+          ∙ sym (ap (map f) (take_more types i 0 (omega arith)) ∙ map_push f (take i types) (get_or types i 0));
       some = All-same (λ m. 0 < m) _ _ items (All-push (λ m. 0 < m) c.loop-number.masses.items c.mass_of.result c.loop-number.invariant.some c.mass_of.ensures.some);
       most = All-same (λ m. m ≤ 100000000) _ _ items (All-push (λ m. m ≤ 100000000) c.loop-number.masses.items c.mass_of.result c.loop-number.invariant.most c.mass_of.ensures.most);
     }

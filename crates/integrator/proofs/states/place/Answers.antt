@@ -1,4 +1,4 @@
-use Rattle.std.proofs.Common.{◌≡◌, ℕ, ◌<◌, length, get_or, [], arith, ap, sym, ◌∙◌}
+use Rattle.std.proofs.Common.{◌≡◌, get_or, [], arith, ap, sym, ◌∙◌}
 use Rattle.std.specs.Prelude.{map}
 use Rattle.std.proofs.lemmas.List.{length-map, map-set, get_or-map}
 use Rattle.state.specs.StateViews.{atom_view}
@@ -15,13 +15,13 @@ loop-k-preserved c =
     let f = frames c.args.previous.now c.args.current.now in
     let old = c.index-atoms-k.result in
     let here : atom_view old ≡ get_or before i nobody =
-        ap atom_view c.index-atoms-k.is ∙ sym (get_or-map atom_view c.loop-k.atoms i old nobody (omega arith)) ∙ c.loop-k.invariant.kept i (omega arith) in
+    ap atom_view c.index-atoms-k.is ∙ sym (get_or-map atom_view c.loop-k.atoms i old nobody (omega arith)) ∙ c.loop-k.invariant.kept i (omega arith) in
     let new = c.placed.ensures ∙ ap (λ a. placed a (get_or c.args.previous.now i []) (get_or c.args.current.now i [])) here in
     record {
       placed' = λ k h. rw (map-set atom_view c.loop-k.atoms i c.placed.result)
-        (placed_more atoms before f i (atom_view c.placed.result) (omega (arith, length-map c.loop-k.atoms atom_view)) new c.loop-k.invariant.placed' k h);
+          (placed_more atoms before f i (atom_view c.placed.result) (omega (arith, length-map c.loop-k.atoms atom_view)) new c.loop-k.invariant.placed' k h);
       kept = λ k h. rw (map-set atom_view c.loop-k.atoms i c.placed.result)
-        (kept_more atoms before i (atom_view c.placed.result) c.loop-k.invariant.kept k h);
+          (kept_more atoms before i (atom_view c.placed.result) c.loop-k.invariant.kept k h);
     }
 
 pub returns : goal.returns

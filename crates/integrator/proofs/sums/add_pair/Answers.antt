@@ -1,4 +1,4 @@
-use Rattle.std.proofs.Common.{◌+◌, ◌^◌, ◌≤◌, arith}
+use Rattle.std.proofs.Common.{◌+◌, ◌^◌, arith}
 use Rattle.integrator.proofs.SumLemmas.{all_within-weaker}
 use Rattle.integrator.proofs.sums.add_pair.Goals as goal
 

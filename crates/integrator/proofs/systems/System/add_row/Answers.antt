@@ -1,4 +1,4 @@
-use Rattle.std.proofs.Common.{◌≡◌, ◌≤◌, ◌^◌, ◌+◌, ◌-◌, ◌*◌, length, arith, ap, sym, ◌∙◌}
+use Rattle.std.proofs.Common.{◌≤◌, ◌^◌, ◌+◌, ◌-◌, ◌*◌, length, arith, ap, sym, ◌∙◌}
 use Rattle.integrator.specs.Adding.{with_pairs}
 use Rattle.integrator.specs.Frames.{pair_force}
 use Rattle.integrator.specs.Forces.{pairs_with}
@@ -28,12 +28,12 @@ loop-high-preserved g c =
     let high = c.loop-high.high in
     record {
       left =
-        ap (λ s. with_pairs force s (pairs_with c.args.low (high + 1) (length c.args.frame.now - (high + 1)))) c.add_pair.ensures.value
-        ∙ sym (row_goes_on force c.loop-high.sums c.args.low high (length c.args.frame.now) c.in-Ok.force (omega arith) c.in-Ok.ensures.value)
-        ∙ c.loop-high.invariant.left;
+          ap (λ s. with_pairs force s (pairs_with c.args.low (high + 1) (length c.args.frame.now - (high + 1)))) c.add_pair.ensures.value
+          ∙ sym (row_goes_on force c.loop-high.sums c.args.low high (length c.args.frame.now) c.in-Ok.force (omega arith) c.in-Ok.ensures.value)
+          ∙ c.loop-high.invariant.left;
       within = λ b h.
-        all_within-weaker (b + 2 ^ 64 * (high - (c.args.low + 1)) + 2 ^ 64) (b + 2 ^ 64 * (high + 1 - (c.args.low + 1))) _ (omega arith)
-        (c.add_pair.ensures.within (b + 2 ^ 64 * (high - (c.args.low + 1))) (c.loop-high.invariant.within b h));
+          all_within-weaker (b + 2 ^ 64 * (high - (c.args.low + 1)) + 2 ^ 64) (b + 2 ^ 64 * (high + 1 - (c.args.low + 1))) _ (omega arith)
+          (c.add_pair.ensures.within (b + 2 ^ 64 * (high - (c.args.low + 1))) (c.loop-high.invariant.within b h));
     }
 
 pub returns-clause-value : goal.returns-clause-value

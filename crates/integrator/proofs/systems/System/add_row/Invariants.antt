@@ -1,4 +1,4 @@
-use Rattle.std.proofs.Common.{◌≡◌, ◌≤◌, ◌^◌, ℕ, ◌+◌, ◌-◌, ◌*◌, length}
+use Rattle.std.proofs.Common.{◌≡◌, ◌^◌, ℕ, ◌+◌, ◌-◌, ◌*◌, length}
 use Rattle.std.specs.List.{All}
 use Rattle.integrator.specs.Adding.{IsWithin, with_pairs}
 use Rattle.integrator.specs.Frames.{pair_force}

@@ -1,4 +1,4 @@
-use Rattle.std.proofs.Common.{◌≡◌, ◌≤◌, ◌^◌, ◌+◌, ◌*◌, length, arith, ap, sym, ◌∙◌}
+use Rattle.std.proofs.Common.{◌^◌, ◌+◌, ◌*◌, length, arith, sym, ◌∙◌}
 use Rattle.std.proofs.lemmas.Result.{err_from_is_err_and}
 use Rattle.integrator.specs.Frames.{pair_force}
 use Rattle.integrator.specs.Systems.{dynamics_of}

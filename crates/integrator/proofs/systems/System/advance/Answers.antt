@@ -1,10 +1,10 @@
 use Rattle.std.proofs.Common.{◌≡◌, ℕ, ◌<◌, length, [], arith, ap, sym, ◌∙◌, zero-add}
 use Rattle.std.specs.Prelude.{slice_index}
 use Rattle.std.proofs.lemmas.List.{ext_get_or}
-use Rattle.integrator.specs.Forces.{none, numbers_from}
+use Rattle.integrator.specs.Forces.{none}
 use Rattle.integrator.specs.Frames.{moved_frame, next_places}
 use Rattle.integrator.specs.Systems.{dynamics_of}
-use Rattle.std.proofs.Common.{get_or, List}
+use Rattle.std.proofs.Common.{get_or}
 use Rattle.integrator.proofs.NumberLaws.{length-numbers, at_number}
 use Rattle.integrator.proofs.systems.System.advance.Goals as goal
 
@@ -16,5 +16,5 @@ returns g c =
     let same : length c.loop-atom.before ≡ n = omega arith in
     ext_get_or [] c.loop-atom.before (moved_frame dynamics c.args.before.now c.args.middle.now c.args.forces.now) (same ∙ sym (length-numbers f 0 n))
     (λ a h.
-        let l : a < n = omega arith in
-        c.loop-atom.invariant.moved a (omega arith) ∙ sym (at_number f [] 0 n a l ∙ ap f (zero-add a)))
+    let l : a < n = omega arith in
+    c.loop-atom.invariant.moved a (omega arith) ∙ sym (at_number f [] 0 n a l ∙ ap f (zero-add a)))

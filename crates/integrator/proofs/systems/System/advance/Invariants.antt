@@ -1,4 +1,4 @@
-use Rattle.std.proofs.Common.{◌≡◌, ℕ, ◌<◌, ◌≤◌, length, get_or, []}
+use Rattle.std.proofs.Common.{◌≡◌, ℕ, ◌<◌, ◌≤◌, get_or, []}
 use Rattle.std.specs.Prelude.{slice_index}
 use Rattle.integrator.specs.Forces.{none}
 use Rattle.integrator.specs.Frames.{next_places}

@@ -1,4 +1,4 @@
-use Rattle.std.proofs.Common.{rules, arith, ◌≡◌, length, List, ℕ}
+use Rattle.std.proofs.Common.{rules}
 use Rattle.std.proofs.lemmas.List.{with_items_is}
 use Rattle.std.proofs.lemmas.Result.{err_from_is_err_and}
 use Rattle.integrator.specs.Systems.{dynamics_of}
@@ -18,4 +18,4 @@ returns-clause-value g c =
     let written = with_items_is c.args.before.now c.follow.new.before (search rules) in
     rw (c.swap.ensures.x_after, c.swap.ensures.y_after, written)
     (step_from (dynamics_of g.K.TestedSlope.slope g.K.TestedSlope.fault c.args.self.now) c.args.before.now.items c.args.middle.now.items c.follow.new.before
-        (rw (← before, ← middle) c.in_ok-follow.ensures.value))
+    (rw (← before, ← middle) c.in_ok-follow.ensures.value))

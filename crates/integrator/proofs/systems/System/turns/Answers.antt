@@ -1,4 +1,4 @@
-use Rattle.std.proofs.Common.{◌≡◌, Some, arith, ap, refl, ◌∙◌}
+use Rattle.std.proofs.Common.{arith, ap, refl, ◌∙◌}
 use Rattle.std.specs.Option.{option_and_then}
 use Rattle.integrator.specs.Frames.{frames, turn, turns}
 use Rattle.integrator.specs.Systems.{dynamics_of}
@@ -15,9 +15,9 @@ loop-done-preserved g c =
     let d = dynamics_of g.K.TestedSlope.slope g.K.TestedSlope.fault c.args.self.now in
     record {
       steps =
-        turns-more Forward d c.loop-done.done (frames c.args.before.now.items c.args.middle.now.items)
-        ∙ ap (option_and_then (turn Forward d)) c.loop-done.invariant.steps
-        ∙ c.in-Ok.ensures.value;
+          turns-more Forward d c.loop-done.done (frames c.args.before.now.items c.args.middle.now.items)
+          ∙ ap (option_and_then (turn Forward d)) c.loop-done.invariant.steps
+          ∙ c.in-Ok.ensures.value;
       before = omega arith;
       middle = omega arith;
     }

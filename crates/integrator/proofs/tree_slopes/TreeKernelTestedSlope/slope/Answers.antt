@@ -1,4 +1,4 @@
-use Rattle.std.proofs.Common.{◌≡◌, List, [], ◌∷◌, ap, ◌∙◌}
+use Rattle.std.proofs.Common.{[], ◌∷◌, ap, ◌∙◌}
 use Rattle.fixed.specs.Fractions.{bits_of}
 use Rattle.expr.specs.Slope.{slope_of}
 use Rattle.expr.specs.Tree.{program_tree}
