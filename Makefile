@@ -10,7 +10,7 @@ JOBS ?=
 .PHONY: run test pairmd
 
 run: pairmd
-	cd crates/pairmd/data && ../../../pairmd $$(cat ../args)
+	@cd crates/pairmd/data && ../../../pairmd $$(cat ../args)
 
 test:
 	rt ci
