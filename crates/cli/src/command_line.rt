@@ -131,6 +131,6 @@ fn steps<'a>(alloc: Global) -> Arg<'a>
         .long("steps")
         .value_name("n")
         .required(true)
-        .value_parser(value_parser!(u64).range(0..=1_000_000_000_000))
+        .value_parser(value_parser!(u64).range(0..=MAX_STEPS as i64))
         .help("How many steps, from 0 to 1000000000000")
 }
