@@ -8,3 +8,5 @@ pub mod NumberLaws
 pub mod TurnLaws
 pub mod StateLaws
 pub mod StartLaws
+pub mod ReturnLaws
+pub mod RunLaws

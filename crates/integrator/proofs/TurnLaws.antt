@@ -112,6 +112,7 @@ followed d p c q same h e =
 pub record Turned (w : Direction) (d : Dynamics) (f g : Frames) : Type 0 where
   pub back : turn (opposite w) d g ≡ Some f
   pub frames' : AreFrames g
+  pub atoms : length g.previous ≡ length f.previous
 
 frames_alike : (p c q e : List (List ℕ)) → frames p c ≡ frames q e → (p ≡ q) × (c ≡ e)
 frames_alike p c q e h = (ap (λ (f : Frames). f.previous) h, ap (λ (f : Frames). f.current) h)
@@ -125,6 +126,7 @@ stepped_at d p c g (Some q) h e k =
     let turned : Turned Forward d (frames p c) (frames c q) = record {
       back = ap (option_map (λ n. frames n c)) f.back;
       frames' = record { alike = sym f.alike; previous = h.current; current = f.on_ring };
+      atoms = sym h.alike;
     } in
     rw (← same) turned
 
@@ -137,6 +139,7 @@ backed_at d p c g (Some q) h e k =
     let turned : Turned Back d (frames p c) (frames q p) = record {
       back = ap (option_map (frames p)) f.back;
       frames' = record { alike = f.alike; previous = f.on_ring; current = h.previous };
+      atoms = f.alike;
     } in
     rw (← same) turned
 
@@ -148,6 +151,7 @@ turned Back d f g h e = backed_at d f.previous f.current g (next_frame d f.curre
 pub record Returned (w : Direction) (d : Dynamics) (n : ℕ) (f g : Frames) : Type 0 where
   pub back : turns (opposite w) d n g ≡ Some f
   pub frames' : AreFrames g
+  pub atoms : length g.previous ≡ length f.previous
 
 return_step : (w : Direction) (d : Dynamics) (n : ℕ) (f g : Frames) (o : Option Frames) → AreFrames f → turn w d f ≡ o → option_and_then (turns w d n) o ≡ Some g
     → ((e : Frames) → AreFrames e → turns w d n e ≡ Some g → Returned w d n e g)
@@ -159,13 +163,14 @@ return_step w d n f g (Some m) h e k again =
     record {
       back = more (opposite w) d n g ∙ ap (option_and_then (turn (opposite w) d)) r.back ∙ t.back;
       frames' = r.frames';
+      atoms = r.atoms ∙ t.atoms;
     }
 
 pub returned : (w : Direction) (d : Dynamics) (n : ℕ) (f g : Frames) → AreFrames f → turns w d n f ≡ Some g → Returned w d n f g
 unfolding turns
 returned w d zero f g h e =
     let same : f ≡ g = some_alike f g e in
-    record { back = ap Some (sym same); frames' = rw (← same) h }
+    record { back = ap Some (sym same); frames' = rw (← same) h; atoms = ap (λ (f : Frames). length f.previous) (sym same) }
 returned w d (suc n) f g h e = return_step w d n f g (turn w d f) h refl e (λ m k l. returned w d n m g k l)
 
 -- ---- back is forward with the frames exchanged

@@ -1,11 +1,13 @@
 -- A run from bytes to bytes: the texts of a job and a state, a number of steps and a direction give the text of the state after them.
-use Rattle.std.specs.Prelude.{◌≡◌, ℕ, ℤ, ◌+◌, List, Option, Some, Ok, Bool, true, false}
+use Rattle.std.specs.Prelude.{◌≡◌, ℕ, ℤ, ◌+◌, List, Option, Some, None, Ok, Bool, true, false}
 use Rattle.fixed.specs.declared.faults.Fault.{Fault}
 use Rattle.state.specs.StateText.{StateView, state_text}
 use Rattle.integrator.specs.Frames.{Frames, StopsAt, turns}
 use Rattle.integrator.specs.States.{forced_counter, frames_of, moved_state}
 use Rattle.integrator.specs.Starts.{Start, start_of}
-use Rattle.integrator.specs.StartViews.{Refuses}
+use Rattle.integrator.specs.StartViews.{Refuses, state_refusal}
+use Rattle.expr.specs.Faults as energies
+use Rattle.job.specs.Views as jobs
 use Rattle.gro.specs.Out.{appended, AppendsBeginning}
 use Rattle.integrator.specs.declared.direction.Direction.{Direction}
 use Rattle.integrator.specs.declared.faults.RunFault.{RunFault}
@@ -89,3 +91,17 @@ pub record WroteBeginning (job state : List ℕ) (direction : Direction) (steps 
   pub text : List ℕ
   pub run : IsRun job state direction steps text
   pub beginning : AppendsBeginning before after text
+
+-- ---- what is left where there is a run
+
+-- want of memory, or a failed output
+abbrev pub Lacks : {A : Type 0} → RunFault A → Type 0
+Lacks (fault.Job f) = jobs.refusal_of f ≡ None
+Lacks (fault.State f) = state_refusal f ≡ None
+Lacks (fault.Energy f) = energies.refusal_of f ≡ None
+Lacks (fault.UnknownType n) = ⊥
+Lacks fault.CutoffTooLong = ⊥
+Lacks fault.StepRange = ⊥
+Lacks (fault.KernelFault step low high pc why) = ⊥
+Lacks fault.Memory = Unit {0}
+Lacks (fault.Out f) = Unit {0}

@@ -1,14 +1,15 @@
 //! Runs of states, and from bytes to bytes.
 
-ghost use Rattle.std.specs.Prelude.{◌≡◌, ◌<◌, ◌+◌, ◌-◌, ◌^◌, ◌+ℤ◌, ◌-ℤ◌, pos, length, map, true, false, Some, IfOk, OnOk, IfErr};
+ghost use Rattle.std.specs.Prelude.{◌≡◌, ◌<◌, ◌+◌, ◌-◌, ◌^◌, ◌+ℤ◌, ◌-ℤ◌, pos, length, map, true, false, Some, IfOk, OnOk, IfErr, ℕ, List, MatchResult};
+ghost use Rattle.gro.specs.Out.{appended};
 ghost use Rattle.state.specs.StateViews.{atom_view, state_view};
 ghost use Rattle.fixed.specs.Arithmetic.{in_range};
-ghost use Rattle.integrator.specs.Runs.{is_out, IsAfter, IsRefusal, IsStop, Ran, Wrote, WroteBeginning};
+ghost use Rattle.integrator.specs.Runs.{is_out, IsAfter, IsRefusal, IsRun, IsStop, Lacks, Ran, Wrote, WroteBeginning};
 ghost use Rattle.integrator.specs.StartViews.{start_view};
 ghost use Rattle.integrator.specs.declared.faults.RunFault.TheVariants.{KernelFault};
 ghost use Rattle.integrator.specs.Halts.{IsHalt};
 ghost use Rattle.integrator.specs.States.{counter_at, current_frame, forced_counter, moved_state, previous_frame};
-ghost use Rattle.integrator.specs.Frames.{frames, turns, StopsAt};
+ghost use Rattle.integrator.specs.Frames.{frames, opposite, turns, StopsAt};
 ghost use Rattle.integrator.specs.Systems.{dynamics_of};
 
 use crate::direction::Direction;
@@ -222,6 +223,10 @@ pub fn run_bytes_checked<A: Allocator + Copy, O: Out>(
     ensures unwritten { IfErr result (λ f. is_out f ≡ false → O.taken out.new ≡ O.taken out.old) }
     ensures beginning { IfErr result (λ f. is_out f ≡ true → WroteBeginning job.now state.now direction steps (O.taken out.old) (O.taken out.new)) }
     ensures failed { IfErr result (λ f. is_out f ≡ true → O.failed out.old < O.failed out.new) }
+    // Where the texts have a run it is written, unless memory or the output fails.
+    ensures only { (text : List ℕ) → IsRun job.now state.now direction steps text → MatchResult result (λ _. O.taken out.new ≡ appended (O.taken out.old) text) Lacks }
+    // So many steps the other way over the written text give the starting text.
+    ensures returns { (text : List ℕ) → IsRun job.now state.now direction steps text → IsRun job.now text (opposite direction) steps state.now }
 {
     let after = state_after(alloc, job, state, steps, direction)?;
     after.write(out)?;

@@ -2,6 +2,8 @@ use Rattle.std.proofs.Common.{refl}
 use Rattle.std.proofs.lemmas.Result.{err_from_is_err_and}
 use Rattle.state.specs.StateText.{state_text}
 use Rattle.state.specs.StateViews.{state_view}
+use Rattle.integrator.proofs.ReturnLaws.{run_back}
+use Rattle.integrator.proofs.RunLaws.{only_lacks}
 use Rattle.integrator.proofs.runs.run_bytes_checked.Goals as goal
 
 pub returns-in_err-write-clause-beginning : goal.returns-in_err-write-clause-beginning
@@ -14,3 +16,19 @@ returns-in_err-write-clause-beginning g c =
       run = record { start = after.start; starts = after.starts; after = state_view c.in_ok-after.after; ran = after.ran; written = refl };
       beginning = c.in_err-write.ensures.fault_taken;
     })
+
+pub returns-in_err-after-clause-only : goal.returns-in_err-after-clause-only
+returns-in_err-after-clause-only g c =
+    let p = err_from_is_err_and c.from_residual.result c.from_residual.ensures.1 in
+    λ text run. rw (p.1, p.2)
+    (only_lacks c.args.job.now c.args.state.now c.args.direction c.args.steps text c.in_err-after.field-0.0 run c.in_err-after.ensures.refused)
+
+-- the law of return, at each exit
+pub returns-in_err-after-clause-returns : goal.returns-in_err-after-clause-returns
+returns-in_err-after-clause-returns g c = run_back c.args.job.now c.args.state.now c.args.direction c.args.steps
+
+pub returns-in_err-write-clause-returns : goal.returns-in_err-write-clause-returns
+returns-in_err-write-clause-returns g c = run_back c.args.job.now c.args.state.now c.args.direction c.args.steps
+
+pub returns-clause-returns : goal.returns-clause-returns
+returns-clause-returns g c = run_back c.args.job.now c.args.state.now c.args.direction c.args.steps

@@ -1,0 +1,284 @@
+-- A run leads back: so many steps the other way over the text that was written give the text of the start.
+use Rattle.std.proofs.Common.{◌≡◌, ℕ, suc, ◌<◌, ◌^◌, Bool, true, false, List, [], ◌∷◌, length, get_or, ℤ, pos, negsuc, Option, Some, None, Result, Ok, Err, arith, refl, ap, sym, ◌∙◌, zero-add}
+use Rattle.std.specs.Prelude.{map, if◌then◌else◌}
+use Rattle.std.specs.List.{All, AllByRecursion}
+use Rattle.std.proofs.lemmas.Int.{ints}
+use Rattle.std.proofs.lemmas.List.{ext_get_or, length-map, get_or-map}
+use Rattle.std.proofs.lemmas.List.Elements.{All-from_recursion, recursion_from_All, All-cons, All-nil, All-from_get_or}
+use Rattle.fixed.specs.Arithmetic.{in_range}
+use Rattle.expr.specs.Tree.{Tree}
+use Rattle.expr.specs.Energy.{program_of}
+use Rattle.job.specs.JobText.{reading_of, stage}
+use Rattle.job.specs.Values.{JobValue, TypeValue}
+use Rattle.line_text.specs.Parts.{AreThree}
+use lib.Signed.{mag}
+use Rattle.std.proofs.lemmas.Bool.{ltb-true, lt-ltb}
+use Rattle.state.specs.StateReading.{state_of}
+use Rattle.state.specs.StateText.{AtomView, StateView, IsAtom, IsPlace, IsState, state_text}
+use Rattle.integrator.specs.Frames.{AreFrames, ArePlaces, Frames, frames, opposite, places_of, turns}
+use Rattle.integrator.specs.States.{counter_after, counter_at, current_frame, frames_of, moved_state, nobody, placed, placed_atoms, previous_frame}
+use Rattle.integrator.specs.Starts.{Refusal, Start, atom_types, cutoff_too_long, dynamics_from, energy_refused, has_room, in_counter, job_refused, known, or_refused, require, ring_of, state_refused, step_range, type_with, start_of, start_with, ◌>>=◌}
+use Rattle.integrator.specs.Runs.{IsRun}
+use Rattle.state.proofs.StateReadsAgain.{one_text}
+use Rattle.integrator.proofs.StartLaws.{started}
+use Rattle.integrator.proofs.NumberLaws.{length-numbers, at_number}
+use Rattle.integrator.proofs.TurnLaws.{returned}
+use Rattle.integrator.specs.declared.direction.Direction.{Direction}
+use Rattle.integrator.specs.declared.direction.Direction.TheVariants.{Forward, Back}
+
+some_same : (x y : ℤ) → Some x ≡ Some y → x ≡ y
+some_same x y e = cc
+
+none_is_some : (x : ℤ) → ◌≡◌ {A = Option ℤ} None (Some x) → ⊥
+none_is_some x e = cc
+
+err_is_ok : {Y : Type 0} → (r : Refusal) (y : Y) → ◌≡◌ {A = Result Y Refusal} (Err r) (Ok y) → ⊥
+err_is_ok r y e = cc
+
+ok_same : (x y : Start) → ◌≡◌ {A = Result Start Refusal} (Ok y) (Ok x) → x ≡ y
+ok_same x y e = cc
+
+-- ---- atoms at other places
+
+place_at : (atoms : List AtomView) (f : Frames) → ℕ → AtomView
+place_at atoms f a = placed (get_or atoms a nobody) (places_of f.previous a) (places_of f.current a)
+
+length-placed : (atoms : List AtomView) (f : Frames) → length (placed_atoms atoms f) ≡ length atoms
+length-placed atoms f = length-numbers (λ a. placed (get_or atoms a nobody) (places_of f.previous a) (places_of f.current a)) 0 (length atoms)
+
+get_or-placed : (atoms : List AtomView) (f : Frames) (k : ℕ) → k < length atoms
+    → get_or (placed_atoms atoms f) k nobody ≡ placed (get_or atoms k nobody) (places_of f.previous k) (places_of f.current k)
+get_or-placed atoms f k h =
+    let g = λ (a : ℕ). placed (get_or atoms a nobody) (places_of f.previous a) (places_of f.current a) in
+    at_number g nobody 0 (length atoms) k h ∙ ap g (zero-add k)
+
+-- their frames are these
+previous-placed : (atoms : List AtomView) (f : Frames) → length f.previous ≡ length atoms → previous_frame (placed_atoms atoms f) ≡ f.previous
+previous-placed atoms f same =
+    ext_get_or [] (previous_frame (placed_atoms atoms f)) f.previous (length-map (placed_atoms atoms f) (λ a. a.previous) ∙ length-placed atoms f ∙ sym same) (λ k h.
+    let l : k < length atoms = omega (arith, length-map (placed_atoms atoms f) (λ (a : AtomView). a.previous), length-placed atoms f) in
+    get_or-map (λ (a : AtomView). a.previous) (placed_atoms atoms f) k nobody [] (omega (arith, length-placed atoms f)) ∙ ap (λ (a : AtomView). a.previous) (get_or-placed atoms f k l))
+
+current-placed : (atoms : List AtomView) (f : Frames) → length f.current ≡ length atoms → current_frame (placed_atoms atoms f) ≡ f.current
+current-placed atoms f same =
+    ext_get_or [] (current_frame (placed_atoms atoms f)) f.current (length-map (placed_atoms atoms f) (λ a. a.current) ∙ length-placed atoms f ∙ sym same) (λ k h.
+    let l : k < length atoms = omega (arith, length-map (placed_atoms atoms f) (λ (a : AtomView). a.current), length-placed atoms f) in
+    get_or-map (λ (a : AtomView). a.current) (placed_atoms atoms f) k nobody [] (omega (arith, length-placed atoms f)) ∙ ap (λ (a : AtomView). a.current) (get_or-placed atoms f k l))
+
+-- at their own places again they are themselves
+placed-again : (atoms : List AtomView) (f : Frames) → placed_atoms (placed_atoms atoms f) (frames (previous_frame atoms) (current_frame atoms)) ≡ atoms
+placed-again atoms f =
+    let moved = placed_atoms atoms f in
+    let home = frames (previous_frame atoms) (current_frame atoms) in
+    ext_get_or nobody (placed_atoms moved home) atoms (length-placed moved home ∙ length-placed atoms f) (λ k h.
+    let l : k < length atoms = omega (arith, length-placed moved home, length-placed atoms f) in
+    get_or-placed moved home k (omega (arith, length-placed atoms f))
+    ∙ ap (λ a. placed a (places_of home.previous k) (places_of home.current k)) (get_or-placed atoms f k l)
+    ∙ ap (λ p. placed (get_or atoms k nobody) p (places_of home.current k)) (get_or-map (λ (a : AtomView). a.previous) atoms k nobody [] l)
+    ∙ ap (λ p. placed (get_or atoms k nobody) (get_or atoms k nobody).previous p) (get_or-map (λ (a : AtomView). a.current) atoms k nobody [] l))
+
+-- ---- types go by names
+
+named_types : List TypeValue → ℕ → List (List ℕ) → Result (List ℕ) Refusal
+named_types types k [] = Ok []
+named_types types k (name ∷ names) = known k (type_with types name) >>= λ t. named_types types (suc k) names >>= λ ts. Ok (t ∷ ts)
+
+by_names : (types : List TypeValue) (k : ℕ) (atoms : List AtomView) → atom_types types k atoms ≡ named_types types k (map (λ a. a.name) atoms)
+unfolding atom_types named_types
+by_names types k [] = refl
+by_names types k (a ∷ atoms) = ap (λ r. known k (type_with types a.name) >>= λ t. r >>= λ ts. Ok (t ∷ ts)) (by_names types (suc k) atoms)
+
+names-placed : (atoms : List AtomView) (f : Frames) → map (λ a. a.name) (placed_atoms atoms f) ≡ map (λ a. a.name) atoms
+names-placed atoms f =
+    let name = λ (a : AtomView). a.name in
+    ext_get_or [] (map name (placed_atoms atoms f)) (map name atoms) (length-map (placed_atoms atoms f) name ∙ length-placed atoms f ∙ sym (length-map atoms name)) (λ k h.
+    let l : k < length atoms = omega (arith, length-map (placed_atoms atoms f) name, length-placed atoms f) in
+    get_or-map name (placed_atoms atoms f) k nobody [] (omega (arith, length-placed atoms f)) ∙ ap name (get_or-placed atoms f k l)
+    ∙ sym (get_or-map name atoms k nobody [] l))
+
+types-placed : (types : List TypeValue) (k : ℕ) (atoms : List AtomView) (f : Frames) → atom_types types k (placed_atoms atoms f) ≡ atom_types types k atoms
+types-placed types k atoms f =
+    by_names types k (placed_atoms atoms f) ∙ ap (named_types types k) (names-placed atoms f) ∙ sym (by_names types k atoms)
+
+-- ---- a state's frames are frames, and at frames it is a state
+
+places_are : (p : List ℕ) → AreThree IsPlace p → ArePlaces p
+places_are [] h = h
+places_are (x ∷ []) h = h
+places_are (x ∷ y ∷ []) h = h
+places_are (x ∷ y ∷ z ∷ []) h = h
+places_are (x ∷ y ∷ z ∷ w ∷ _) h = h
+
+three_are : (p : List ℕ) → ArePlaces p → AreThree IsPlace p
+three_are [] h = h
+three_are (x ∷ []) h = h
+three_are (x ∷ y ∷ []) h = h
+three_are (x ∷ y ∷ z ∷ []) h = h
+three_are (x ∷ y ∷ z ∷ w ∷ _) h = h
+
+previous_places : (atoms : List AtomView) → AllByRecursion IsAtom atoms → All ArePlaces (previous_frame atoms)
+previous_places [] h = All-nil ArePlaces
+previous_places (a ∷ atoms) h = All-cons ArePlaces a.previous (previous_frame atoms) (places_are a.previous h.0.previous) (previous_places atoms h.1)
+
+current_places : (atoms : List AtomView) → AllByRecursion IsAtom atoms → All ArePlaces (current_frame atoms)
+current_places [] h = All-nil ArePlaces
+current_places (a ∷ atoms) h = All-cons ArePlaces a.current (current_frame atoms) (places_are a.current h.0.current) (current_places atoms h.1)
+
+pub frames_are : (s : StateView) → IsState s → AreFrames (frames_of s)
+frames_are s h = record {
+  alike = length-map s.atoms (λ a. a.previous) ∙ sym (length-map s.atoms (λ a. a.current));
+  previous = previous_places s.atoms h.atoms;
+  current = current_places s.atoms h.atoms;
+}
+
+placed_are : (atoms : List AtomView) (f : Frames) → AllByRecursion IsAtom atoms → AreFrames f → length f.previous ≡ length atoms → AllByRecursion IsAtom (placed_atoms atoms f)
+placed_are atoms f h frames' same =
+    let each = All-from_recursion IsAtom atoms h in
+    recursion_from_All IsAtom (placed_atoms atoms f) (All-from_get_or IsAtom (placed_atoms atoms f) nobody (λ k l.
+    let m : k < length atoms = omega (arith, length-placed atoms f) in
+    let atom = each k nobody m in
+    rw (get_or-placed atoms f k m)
+    (record {
+      low = atom.low;
+      high = atom.high;
+      residue = atom.residue;
+      name = atom.name;
+      previous = three_are (places_of f.previous k) (frames'.previous k [] (omega arith));
+      current = three_are (places_of f.current k) (frames'.current k [] (omega (arith, frames'.alike)));
+    })))
+
+fits_is : (z : ℤ) → in_range z ≡ true → mag z < 2 ^ 63
+fits_is (pos n) h = ltb-true n (2 ^ 63) h
+fits_is (negsuc n) h = ltb-true n (2 ^ 63) h
+
+in_range_is : (z : ℤ) → mag z < 2 ^ 63 → in_range z ≡ true
+in_range_is (pos n) h = lt-ltb n (2 ^ 63) h
+in_range_is (negsuc n) h = lt-ltb n (2 ^ 63) h
+
+pub moved_is : (s : StateView) (f : Frames) (k : ℤ) → IsState s → AreFrames f → length f.previous ≡ length s.atoms → in_range k ≡ true → IsState (moved_state s f k)
+moved_is s f k h frames' same fits = record {
+  title = h.title;
+  step = fits_is k fits;
+  sides = h.sides;
+  count = rw (length-placed s.atoms f) h.count;
+  atoms = placed_are s.atoms f h.atoms frames' same;
+}
+
+-- ---- the counter
+
+counter_back : (w : Direction) (step k : ℤ) (n : ℕ) → k ≡ counter_at w step n → counter_at (opposite w) k n ≡ step
+counter_back Forward step k n e = rw e (omega (arith, ints))
+counter_back Back step k n e = rw e (omega (arith, ints))
+
+some_counter : (fits : Bool) (z k : ℤ) → in_range z ≡ fits → ◌≡◌ {A = Option ℤ} (if fits then Some z else None) (Some k) → (k ≡ z) × (in_range k ≡ true)
+some_counter true z k h e = let same : z ≡ k = some_same z k e in (sym same, rw (← same) h)
+some_counter false z k h e = absurd (none_is_some k e)
+
+counter_reached : (w : Direction) (step k : ℤ) (n : ℕ) → counter_after w step n ≡ Some k → (k ≡ counter_at w step n) × (in_range k ≡ true)
+counter_reached w step k n e = some_counter (in_range (counter_at w step n)) (counter_at w step n) k refl e
+
+counter_returns : (w : Direction) (step k : ℤ) (n : ℕ) → in_range step ≡ true → counter_after w step n ≡ Some k → counter_after (opposite w) k n ≡ Some step
+counter_returns w step k n fits e =
+    let back : counter_at (opposite w) k n ≡ step = counter_back w step k n (counter_reached w step k n e).0 in
+    rw (back, fits) refl
+
+-- ---- the start
+
+-- what a start was made of
+pub record Parts (job state : List ℕ) (w : Direction) (n : ℕ) (start : Start) : Type 0 where
+  pub j : JobValue
+  pub s : StateView
+  pub energy : Tree
+  pub types : List ℕ
+  pub counter : ℤ
+  pub job_read : reading_of stage job ≡ Ok j
+  pub state_read : state_of state ≡ Ok s
+  pub energy_read : program_of 32 j.energy ≡ Ok energy
+  pub typed : atom_types j.types 1 s.atoms ≡ Ok types
+  pub room : has_room j.cutoff (ring_of s.sides) ≡ true
+  pub counted : counter_after w s.step n ≡ Some counter
+  pub start_is : start ≡ record { state = s; dynamics = dynamics_from j s energy types; counter = counter }
+
+bind_ok : {X Y : Type 0} → (r : Result X Refusal) (f : X → Result Y Refusal) (y : Y) → (r >>= f) ≡ Ok y → (x : X) × (r ≡ Ok x) × (f x ≡ Ok y)
+bind_ok (Ok x) f y e = (x, refl, e)
+bind_ok {X} {Y} (Err r) f y e = absurd (err_is_ok r y e)
+
+refused_ok : {X R : Type 0} → (refused : R → Refusal) (r : Result X R) (x : X) → or_refused refused r ≡ Ok x → r ≡ Ok x
+refused_ok refused (Ok y) x e = cc
+refused_ok {X} {R} refused (Err r) x e = absurd (err_is_ok (refused r) x e)
+
+required : (b : Bool) (refusal : Refusal) (u : Unit {0}) → require b refusal ≡ Ok u → b ≡ true
+required true refusal u e = refl
+required false refusal u e = absurd (err_is_ok refusal u e)
+
+counted_ok : (o : Option ℤ) (k : ℤ) → in_counter o ≡ Ok k → o ≡ Some k
+counted_ok (Some z) k e = cc
+counted_ok None k e = absurd (err_is_ok step_range k e)
+
+parts_of : (job state : List ℕ) (w : Direction) (n : ℕ) (start : Start) → start_of job state w n ≡ Ok start → Parts job state w n start
+unfolding start_of start_with
+parts_of job state w n start e =
+    let a = bind_ok _ _ start e in
+    let b = bind_ok _ _ start a.2 in
+    let c = bind_ok _ _ start b.2 in
+    let d = bind_ok _ _ start c.2 in
+    let r = bind_ok _ _ start d.2 in
+    let k = bind_ok _ _ start r.2 in
+    record {
+      j = a.0;
+      s = b.0;
+      energy = c.0;
+      types = d.0;
+      counter = k.0;
+      job_read = refused_ok job_refused (reading_of stage job) a.0 a.1;
+      state_read = refused_ok state_refused (state_of state) b.0 b.1;
+      energy_read = refused_ok energy_refused (program_of 32 a.0.energy) c.0 c.1;
+      typed = d.1;
+      room = required (has_room a.0.cutoff (ring_of b.0.sides)) cutoff_too_long r.0 r.1;
+      counted = counted_ok (counter_after w b.0.step n) k.0 k.1;
+      start_is = ok_same start _ k.2;
+    }
+
+start_from : (job state : List ℕ) (w : Direction) (n : ℕ) (j : JobValue) (s : StateView) (energy : Tree)
+    → reading_of stage job ≡ Ok j → state_of state ≡ Ok s → program_of 32 j.energy ≡ Ok energy → start_of job state w n ≡ start_with w n j s energy
+unfolding start_of
+start_from job state w n j s energy p q r = rw (p, q, r) refl
+
+-- ---- the way back
+
+frames-placed : (s : StateView) (f : Frames) (k : ℤ) → length f.previous ≡ length s.atoms → length f.current ≡ length s.atoms → frames_of (moved_state s f k) ≡ f
+frames-placed s f k p c =
+    ap (λ q. frames q (current_frame (placed_atoms s.atoms f))) (previous-placed s.atoms f p)
+    ∙ ap (frames f.previous) (current-placed s.atoms f c)
+
+pub run_back : (job state : List ℕ) (w : Direction) (n : ℕ) (text : List ℕ) → IsRun job state w n text → IsRun job text (opposite w) n state
+run_back job state w n text r =
+    let p = parts_of job state w n r.start r.starts in
+    let s = p.s in
+    let d = dynamics_from p.j s p.energy p.types in
+    let f = r.ran.frames' in
+    let read = (one_text state s).0 p.state_read in
+    let turned = rw p.start_is at r.ran.turned in
+    let back = returned w d n (frames_of s) f (frames_are s read.0) turned in
+    let previous : length f.previous ≡ length s.atoms = back.atoms ∙ length-map s.atoms (λ a. a.previous) in
+    let current : length f.current ≡ length s.atoms = sym back.frames'.alike ∙ previous in
+    let reached = counter_reached w s.step p.counter n p.counted in
+    let after = moved_state s f p.counter in
+    let is_after : r.after ≡ after = rw p.start_is at r.ran.moved in
+    let again : state_of text ≡ Ok after =
+    (one_text text after).1 (moved_is s f p.counter read.0 back.frames' previous reached.1, r.written ∙ ap state_text is_after) in
+    let start : Start = record { state = after; dynamics = dynamics_from p.j after p.energy p.types; counter = s.step } in
+    record {
+      start = start;
+      starts =
+          start_from job text (opposite w) n p.j after p.energy p.job_read again p.energy_read
+          ∙ started (opposite w) n p.j after p.energy p.types s.step (types-placed p.j.types 1 s.atoms f ∙ p.typed) p.room
+          (counter_returns w s.step p.counter n (in_range_is s.step read.0.step) p.counted);
+      after = s;
+      ran = record {
+        frames' = frames_of s;
+        turned = ap (turns (opposite w) d n) (frames-placed s f p.counter previous current) ∙ back.back;
+        moved = ap (λ atoms. record s { atoms = atoms }) (sym (placed-again s.atoms f));
+      };
+      written = read.1;
+    }
