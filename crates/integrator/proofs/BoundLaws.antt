@@ -9,6 +9,7 @@ use Rattle.ring_box.specs.declared.boxes.RingBox.{RingBox}
 use Rattle.ring_box.specs.Distances.{square_of}
 use Rattle.ring_box.specs.Forces.{force_along_of}
 use Rattle.ring_box.proofs.ForceLemmas.{force_along_within}
+use Rattle.integrator.proofs.Constructors.{none_is_no_some, some_same}
 use Rattle.integrator.specs.Forces.{none, plus, negative, share_of, sum_of_shares, pairs_with, pairs_from, pairs_of, force_or_none, forces_of, numbers_from}
 use Rattle.integrator.specs.Adding.{IsWithin}
 use Rattle.integrator.specs.Frames.{force_at}
@@ -94,26 +95,20 @@ along_within b ring g x y h =
     let w = force_along_within ring (neg_ℤ g) x y in
     within-from_all b (unsigned_abs (neg_ℤ g)) (force_along_of ring (neg_ℤ g) x y) (omega (arith, w.0)) (omega (arith, ints)) w.1
 
-some_alike : (u v : List ℤ) → Some u ≡ Some v → u ≡ v
-some_alike u v e = cc
-
-none_is_no_some : (v : List ℤ) → ◌≡◌ {A = Option (List ℤ)} None (Some v) → ⊥
-none_is_no_some v e = cc
-
 mapped_within : (b : ℕ) (ring : RingBox) (o : Option ℤ) (x y : List ℕ) (v : List ℤ) → ((g : ℤ) → o ≡ Some g → unsigned_abs g ≤ b)
     → option_map (λ g. force_along_of ring (neg_ℤ g) x y) o ≡ Some v → IsWithin b v
 mapped_within b ring None x y v h e = absurd (none_is_no_some v e)
-mapped_within b ring (Some g) x y v h e = rw (← some_alike (force_along_of ring (neg_ℤ g) x y) v e) (along_within b ring g x y (h g refl))
+mapped_within b ring (Some g) x y v h e = rw (← some_same (force_along_of ring (neg_ℤ g) x y) v e) (along_within b ring g x y (h g refl))
 
 apart_within : (b : ℕ) (ring : RingBox) (together : Bool) (o : Option ℤ) (x y : List ℕ) (v : List ℤ) → ((g : ℤ) → o ≡ Some g → unsigned_abs g ≤ b)
     → (if together then Some none else option_map (λ g. force_along_of ring (neg_ℤ g) x y) o) ≡ Some v → IsWithin b v
-apart_within b ring true o x y v h e = rw (← some_alike none v e) (none_within b)
+apart_within b ring true o x y v h e = rw (← some_same none v e) (none_within b)
 apart_within b ring false o x y v h e = mapped_within b ring o x y v h e
 
 -- a pair's force is at most the greatest slope
 pub force_at_within : (b : ℕ) (ring : RingBox) (slope : ℤ → Option ℤ) (r : Option ℤ) (x y : List ℕ) (v : List ℤ) → ((r g : ℤ) → slope r ≡ Some g → unsigned_abs g ≤ b)
     → force_at ring slope r x y ≡ Some v → IsWithin b v
-force_at_within b ring slope None x y v h e = rw (← some_alike none v e) (none_within b)
+force_at_within b ring slope None x y v h e = rw (← some_same none v e) (none_within b)
 force_at_within b ring slope (Some r) x y v h e = apart_within b ring (square_of ring x y == 0) (slope r) x y v (h r) e
 
 -- ---- the forces of a frame

@@ -6,6 +6,7 @@ use Rattle.std.proofs.lemmas.Int.{ints}
 use Rattle.std.proofs.lemmas.Bool.{cases_eq}
 use Rattle.std.proofs.lemmas.Bool.Decides.{nat_tests}
 use Rattle.std.proofs.lemmas.List.{get_or-set_same, get_or-set_other, ext_get_or, length-set, length-replicate, get_or-replicate}
+use Rattle.integrator.proofs.Constructors.{err_is_no_ok, err_same, none_is_no_some, ok_same}
 use Rattle.integrator.specs.Forces.{none, component, plus, negative, share_of, sum_of_shares, numbers_from, pairs_with, pairs_from, pairs_of, force_or_none, forces_of, first_without_force}
 use Rattle.integrator.proofs.NumberLaws.{length-numbers, at_number}
 use Rattle.integrator.specs.Adding.{on_force, with_force, with_pair, with_pairs}
@@ -145,15 +146,6 @@ entry_after sums i j v a h k t =
 
 -- ---- all pairs
 
-err_is_no_ok : (q : ℕ × ℕ) (sums : List (List ℤ)) → ◌≡◌ {A = Result (List (List ℤ)) (ℕ × ℕ)} (Err q) (Ok sums) → ⊥
-err_is_no_ok q sums e = cc
-
-ok_alike : (a b : List (List ℤ)) → ◌≡◌ {A = Result (List (List ℤ)) (ℕ × ℕ)} (Ok a) (Ok b) → a ≡ b
-ok_alike a b e = cc
-
-err_alike : (p q : ℕ × ℕ) → ◌≡◌ {A = Result (List (List ℤ)) (ℕ × ℕ)} (Err p) (Err q) → p ≡ q
-err_alike p q e = cc
-
 -- what is known of the pairs p ∷ ps once the sums are known
 pub record Added (force : ℕ × ℕ → Option (List ℤ)) (sums out : List (List ℤ)) (p : ℕ × ℕ) (ps : List (ℕ × ℕ)) : Type 0 where
   pub v : List ℤ
@@ -171,7 +163,7 @@ added force sums out p ps e = added_at force sums out p ps (force p) refl e
 
 pub length-with_pairs : (force : ℕ × ℕ → Option (List ℤ)) (sums out : List (List ℤ)) (ps : List (ℕ × ℕ)) → with_pairs force sums ps ≡ Ok out → length out ≡ length sums
 unfolding with_pairs
-length-with_pairs force sums out [] e = ap length (sym (ok_alike sums out e))
+length-with_pairs force sums out [] e = ap length (sym (ok_same sums out e))
 length-with_pairs force sums out (p ∷ ps) e =
     let a = added force sums out p ps e in
     length-with_pairs force (with_pair sums p a.v) out ps a.rest ∙ length-with_pair sums p a.v
@@ -186,7 +178,7 @@ all_forced force sums out (p ∷ ps) e =
 entries : (force : ℕ × ℕ → Option (List ℤ)) (sums out : List (List ℤ)) (ps : List (ℕ × ℕ)) (a : ℕ) → ArePairsOf (length sums) ps → IsThree (get_or sums a none)
     → with_pairs force sums ps ≡ Ok out → get_or out a none ≡ plus (get_or sums a none) (sum_of_shares (force_or_none force) ps a)
 unfolding with_pairs ArePairsOf sum_of_shares
-entries force sums out [] a h t e = ap (λ s. get_or s a none) (sym (ok_alike sums out e)) ∙ sym (plus-none (get_or sums a none) t)
+entries force sums out [] a h t e = ap (λ s. get_or s a none) (sym (ok_same sums out e)) ∙ sym (plus-none (get_or sums a none) t)
 entries force sums out (p ∷ ps) a h t e =
     let d = added force sums out p ps e in
     let next = with_pair sums p d.v in
@@ -221,7 +213,7 @@ stops_at : (force : ℕ × ℕ → Option (List ℤ)) (sums : List (List ℤ)) (
     → on_force p o (λ v. with_pairs force (with_pair sums p v) ps) ≡ Err q
     → ((v : List ℤ) → with_pairs force (with_pair sums p v) ps ≡ Err q → find (λ p. is_none (force p)) ps ≡ Some q)
     → find (λ p. is_none (force p)) (p ∷ ps) ≡ Some q
-stops_at force sums p q ps None h e rest = rw h (ap Some (err_alike p q e))
+stops_at force sums p q ps None h e rest = rw h (ap Some (err_same p q e))
 stops_at force sums p q ps (Some v) h e rest = rw h (rest v e)
 
 first_found : (force : ℕ × ℕ → Option (List ℤ)) (sums : List (List ℤ)) (q : ℕ × ℕ) (ps : List (ℕ × ℕ)) → with_pairs force sums ps ≡ Err q → find (λ p. is_none (force p)) ps ≡ Some q
@@ -231,9 +223,6 @@ first_found force sums q (p ∷ ps) e = stops_at force sums p q ps (force p) ref
 
 pub fault_found : (force : ℕ × ℕ → Option (List ℤ)) (n : ℕ) (sums : List (List ℤ)) (q : ℕ × ℕ) → with_pairs force sums (pairs_of n) ≡ Err q → first_without_force force n ≡ Some q
 fault_found force n sums q e = first_found force sums q (pairs_of n) e
-
-none_is_no_some : (q : ℕ × ℕ) → ◌≡◌ {A = Option (ℕ × ℕ)} None (Some q) → ⊥
-none_is_no_some q e = cc
 
 not_all_at : (force : ℕ × ℕ → Option (List ℤ)) (q p : ℕ × ℕ) (ps : List (ℕ × ℕ)) (o : Option (List ℤ)) → force p ≡ o
     → find (λ p. is_none (force p)) (p ∷ ps) ≡ Some q

@@ -1,3 +1,4 @@
+pub mod Constructors
 pub mod StepLemmas
 pub mod SumLemmas
 pub mod EvaluationLemmas

@@ -1,13 +1,8 @@
 -- The pairs of a frame in order, and forces added up over them.
 use Rattle.std.proofs.Common.{◌≡◌, ℕ, zero, suc, ◌+◌, ◌-◌, ◌<◌, ◌≤◌, List, [], ◌∷◌, ◌++◌, ℤ, Option, Some, None, Result, Ok, Err, arith, refl, ap, sym, add-one}
+use Rattle.integrator.proofs.Constructors.{err_is_no_ok, ok_same}
 use Rattle.integrator.specs.Forces.{pairs_with, pairs_from}
 use Rattle.integrator.specs.Adding.{on_force, with_pair, with_pairs}
-
-err_is_no_ok : (q : ℕ × ℕ) (sums : List (List ℤ)) → ◌≡◌ {A = Result (List (List ℤ)) (ℕ × ℕ)} (Err q) (Ok sums) → ⊥
-err_is_no_ok q sums e = cc
-
-ok_alike : (a b : List (List ℤ)) → ◌≡◌ {A = Result (List (List ℤ)) (ℕ × ℕ)} (Ok a) (Ok b) → a ≡ b
-ok_alike a b e = cc
 
 -- one pair more in a row
 pub row_goes_on : (force : ℕ × ℕ → Option (List ℤ)) (sums : List (List ℤ)) (i j n : ℕ) (v : List ℤ) → j < n → force (i, j) ≡ Some v
@@ -44,7 +39,7 @@ after_one force sums middle p ps qs (Some v) h rest = rest v h
 pub pairs_after : (force : ℕ × ℕ → Option (List ℤ)) (sums middle : List (List ℤ)) (ps qs : List (ℕ × ℕ)) → with_pairs force sums ps ≡ Ok middle
     → with_pairs force sums (ps ++ qs) ≡ with_pairs force middle qs
 unfolding with_pairs
-pairs_after force sums middle [] qs e = ap (λ s. with_pairs force s qs) (ok_alike sums middle e)
+pairs_after force sums middle [] qs e = ap (λ s. with_pairs force s qs) (ok_same sums middle e)
 pairs_after force sums middle (p ∷ ps) qs e =
     after_one force sums middle p ps qs (force p) e (λ v h. pairs_after force (with_pair sums p v) middle ps qs h)
 

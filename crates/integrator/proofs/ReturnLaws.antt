@@ -15,6 +15,7 @@ use lib.Signed.{mag}
 use Rattle.std.proofs.lemmas.Bool.{ltb-true, lt-ltb}
 use Rattle.state.specs.StateReading.{state_of}
 use Rattle.state.specs.StateText.{AtomView, StateView, IsAtom, IsPlace, IsState, state_text}
+use Rattle.integrator.proofs.Constructors.{err_is_no_ok, none_is_no_some, some_same}
 use Rattle.integrator.specs.Frames.{AreFrames, ArePlaces, Frames, frames, opposite, places_of, turns}
 use Rattle.integrator.specs.States.{counter_after, counter_at, current_frame, frames_of, moved_state, nobody, placed, placed_atoms, previous_frame}
 use Rattle.integrator.specs.Starts.{Refusal, Start, atom_types, cutoff_too_long, dynamics_from, energy_refused, has_room, in_counter, job_refused, known, or_refused, require, ring_of, state_refused, step_range, type_with, start_of, start_with, ◌>>=◌}
@@ -25,15 +26,6 @@ use Rattle.integrator.proofs.NumberLaws.{length-numbers, at_number}
 use Rattle.integrator.proofs.TurnLaws.{returned}
 use Rattle.integrator.specs.declared.direction.Direction.{Direction}
 use Rattle.integrator.specs.declared.direction.Direction.TheVariants.{Forward, Back}
-
-some_same : (x y : ℤ) → Some x ≡ Some y → x ≡ y
-some_same x y e = cc
-
-none_is_some : (x : ℤ) → ◌≡◌ {A = Option ℤ} None (Some x) → ⊥
-none_is_some x e = cc
-
-err_is_ok : {Y : Type 0} → (r : Refusal) (y : Y) → ◌≡◌ {A = Result Y Refusal} (Err r) (Ok y) → ⊥
-err_is_ok r y e = cc
 
 ok_same : (x y : Start) → ◌≡◌ {A = Result Start Refusal} (Ok y) (Ok x) → x ≡ y
 ok_same x y e = cc
@@ -172,7 +164,7 @@ counter_back Back step k n e = rw e (omega (arith, ints))
 
 some_counter : (fits : Bool) (z k : ℤ) → in_range z ≡ fits → ◌≡◌ {A = Option ℤ} (if fits then Some z else None) (Some k) → (k ≡ z) × (in_range k ≡ true)
 some_counter true z k h e = let same : z ≡ k = some_same z k e in (sym same, rw (← same) h)
-some_counter false z k h e = absurd (none_is_some k e)
+some_counter false z k h e = absurd (none_is_no_some k e)
 
 counter_reached : (w : Direction) (step k : ℤ) (n : ℕ) → counter_after w step n ≡ Some k → (k ≡ counter_at w step n) × (in_range k ≡ true)
 counter_reached w step k n e = some_counter (in_range (counter_at w step n)) (counter_at w step n) k refl e
@@ -201,19 +193,19 @@ pub record Parts (job state : List ℕ) (w : Direction) (n : ℕ) (start : Start
 
 bind_ok : {X Y : Type 0} → (r : Result X Refusal) (f : X → Result Y Refusal) (y : Y) → (r >>= f) ≡ Ok y → (x : X) × (r ≡ Ok x) × (f x ≡ Ok y)
 bind_ok (Ok x) f y e = (x, refl, e)
-bind_ok {X} {Y} (Err r) f y e = absurd (err_is_ok r y e)
+bind_ok {X} {Y} (Err r) f y e = absurd (err_is_no_ok r y e)
 
 refused_ok : {X R : Type 0} → (refused : R → Refusal) (r : Result X R) (x : X) → or_refused refused r ≡ Ok x → r ≡ Ok x
 refused_ok refused (Ok y) x e = cc
-refused_ok {X} {R} refused (Err r) x e = absurd (err_is_ok (refused r) x e)
+refused_ok {X} {R} refused (Err r) x e = absurd (err_is_no_ok (refused r) x e)
 
 required : (b : Bool) (refusal : Refusal) (u : Unit {0}) → require b refusal ≡ Ok u → b ≡ true
 required true refusal u e = refl
-required false refusal u e = absurd (err_is_ok refusal u e)
+required false refusal u e = absurd (err_is_no_ok refusal u e)
 
 counted_ok : (o : Option ℤ) (k : ℤ) → in_counter o ≡ Ok k → o ≡ Some k
 counted_ok (Some z) k e = cc
-counted_ok None k e = absurd (err_is_ok step_range k e)
+counted_ok None k e = absurd (err_is_no_ok step_range k e)
 
 parts_of : (job state : List ℕ) (w : Direction) (n : ℕ) (start : Start) → start_of job state w n ≡ Ok start → Parts job state w n start
 unfolding start_of start_with

@@ -6,6 +6,7 @@ use Rattle.fixed.specs.declared.faults.Fault.{Fault}
 use Rattle.expr.specs.Faults as energies
 use Rattle.job.specs.Views as jobs
 use Rattle.state.specs.StateText.{StateView, state_text}
+use Rattle.integrator.proofs.Constructors.{err_is_no_ok, none_is_no_some, ok_same, some_same}
 use Rattle.integrator.specs.Forces.{first_without_force}
 use Rattle.integrator.specs.Frames.{Dynamics, Frames, StopsAt, frames, middle, moved_frame, next_frame, pair_force, turn, turns}
 use Rattle.integrator.specs.States.{frames_of, moved_state}
@@ -19,23 +20,11 @@ use Rattle.integrator.specs.declared.faults.RunFault.TheVariants as fault
 use Rattle.integrator.proofs.ForceLaws.{no_forces}
 use Rattle.integrator.proofs.TurnLaws.{turns-more}
 
-ok_same : (x y : Start) → ◌≡◌ {A = Result Start Refusal} (Ok x) (Ok y) → x ≡ y
-ok_same x y e = cc
-
-frames_same : (f g : Frames) → Some f ≡ Some g → f ≡ g
-frames_same f g e = cc
-
-none_is_some : (f : Frames) → ◌≡◌ {A = Option Frames} None (Some f) → ⊥
-none_is_some f e = cc
-
-err_is_ok : (r : Refusal) (s : Start) → ◌≡◌ {A = Result Start Refusal} (Err r) (Ok s) → ⊥
-err_is_ok r s e = cc
-
 -- ---- one run
 
 ran_same : (w : Direction) (n : ℕ) (s : Start) (a b : StateView) → Ran w n s a → Ran w n s b → a ≡ b
 ran_same w n s a b p q =
-    p.moved ∙ ap (λ f. moved_state s.state f s.counter) (frames_same p.frames' q.frames' (sym p.turned ∙ q.turned)) ∙ sym q.moved
+    p.moved ∙ ap (λ f. moved_state s.state f s.counter) (some_same p.frames' q.frames' (sym p.turned ∙ q.turned)) ∙ sym q.moved
 
 start_moves : (w : Direction) (n : ℕ) (s t : Start) (a : StateView) → s ≡ t → Ran w n s a → Ran w n t a
 start_moves w n s t a e r = rw (← e) r
@@ -70,21 +59,21 @@ never_ends w d n f done pair why h =
 
 stopped_or_ran : (w : Direction) (n : ℕ) (s : Start) (step : ℤ) (low high : ℕ) (why : Fault) (a : StateView) → Stopped w n s step low high why → Ran w n s a → ⊥
 stopped_or_ran w n s step low high why a p q =
-    none_is_some q.frames' (sym (never_ends w s.dynamics n (frames_of s.state) p.done p.pair why p.stops) ∙ q.turned)
+    none_is_no_some q.frames' (sym (never_ends w s.dynamics n (frames_of s.state) p.done p.pair why p.stops) ∙ q.turned)
 
 -- ---- no refusal where there is a run
 
 lacks_at : {R : Type 0} → (o : Option R) (made : R → Refusal) (start : Result Start Refusal) (s : Start) → start ≡ Ok s → IfSome o (λ r. start ≡ Err (made r)) → o ≡ None
 lacks_at None made start s e h = refl
-lacks_at (Some r) made start s e h = absurd (err_is_ok (made r) s (sym h ∙ e))
+lacks_at (Some r) made start s e h = absurd (err_is_no_ok (made r) s (sym h ∙ e))
 
 pub only_lacks : {A : Type 0} → (job state : List ℕ) (w : Direction) (n : ℕ) (text : List ℕ) (f : RunFault A) → IsRun job state w n text → IsRefusal job state w n f → Lacks f
 only_lacks job state w n text (fault.Job f) r h = lacks_at (jobs.refusal_of f) job_refused (start_of job state w n) r.start r.starts h
 only_lacks job state w n text (fault.State f) r h = lacks_at (state_refusal f) (λ x. x) (start_of job state w n) r.start r.starts h
 only_lacks job state w n text (fault.Energy f) r h = lacks_at (energies.refusal_of f) energy_refused (start_of job state w n) r.start r.starts h
-only_lacks job state w n text (fault.UnknownType k) r h = err_is_ok (unknown_type k) r.start (sym h ∙ r.starts)
-only_lacks job state w n text fault.CutoffTooLong r h = err_is_ok cutoff_too_long r.start (sym h ∙ r.starts)
-only_lacks job state w n text fault.StepRange r h = err_is_ok step_range r.start (sym h ∙ r.starts)
+only_lacks job state w n text (fault.UnknownType k) r h = err_is_no_ok (unknown_type k) r.start (sym h ∙ r.starts)
+only_lacks job state w n text fault.CutoffTooLong r h = err_is_no_ok cutoff_too_long r.start (sym h ∙ r.starts)
+only_lacks job state w n text fault.StepRange r h = err_is_no_ok step_range r.start (sym h ∙ r.starts)
 only_lacks job state w n text (fault.KernelFault step low high pc why) r h =
     let same : r.start ≡ h.start = ok_same r.start h.start (sym r.starts ∙ h.starts) in
     stopped_or_ran w n h.start step low high why r.after h.stopped (start_moves w n r.start h.start r.after same r.ran)

@@ -2,6 +2,7 @@
 use Rattle.std.proofs.Common.{◌≡◌, ℕ, zero, suc, ◌+◌, ◌<◌, ◌^◌, List, [], ◌∷◌, length, Option, Some, None, ℤ, pos, negsuc, get_or, arith, refl, ap, sym, ◌∙◌, add-one, zero-add}
 use Rattle.std.specs.Prelude.{option_map, slice_index}
 use Rattle.std.specs.Option.{option_and_then}
+use Rattle.integrator.proofs.Constructors.{none_is_no_some, some_same}
 use Rattle.integrator.specs.Frames.{AreFrames, ArePlaces, Dynamics, Frames, frame_forces, frames, moved_frame, next_frame, next_places, places_of, step, turn, turns, exchanged, opposite, StopsAt}
 use Rattle.fixed.specs.declared.faults.Fault.{Fault}
 use Rattle.integrator.specs.Displacement.{displacement_of}
@@ -81,12 +82,6 @@ moved_back d p c forces same h =
     ∙ ap (λ x. next_places d (slice_index d.masses a) x (places_of c a) (get_or forces a none)) (at_number there [] 0 n a k ∙ ap there (zero-add a))
     ∙ places_back d (slice_index d.masses a) (places_of p a) (places_of c a) (get_or forces a none) (h a [] (omega arith)))
 
-some_alike : {X : Type 0} (x y : X) → Some x ≡ Some y → x ≡ y
-some_alike x y e = cc
-
-none_is_no_some : {X : Type 0} (x : X) → ◌≡◌ {A = Option X} None (Some x) → ⊥
-none_is_no_some x e = cc
-
 -- what a step makes
 pub record Followed (d : Dynamics) (p c q : List (List ℕ)) : Type 0 where
   pub back : next_frame d q c ≡ Some p
@@ -98,7 +93,7 @@ followed_at : (d : Dynamics) (p c q : List (List ℕ)) (o : Option (List (List �
     → (option_map (moved_frame d q c) o ≡ Some p) × (length q ≡ length c) × All ArePlaces q
 followed_at d p c q None same h e = absurd (none_is_no_some q e)
 followed_at d p c q (Some forces) same h e =
-    let made : moved_frame d p c forces ≡ q = some_alike (moved_frame d p c forces) q e in
+    let made : moved_frame d p c forces ≡ q = some_same (moved_frame d p c forces) q e in
     rw (← made) (ap Some (moved_back d p c forces same h), length-moved_frame d p c forces, moved_on_ring d p c forces)
 
 followed : (d : Dynamics) (p c q : List (List ℕ)) → length p ≡ length c → All ArePlaces p → next_frame d p c ≡ Some q → Followed d p c q
@@ -121,7 +116,7 @@ stepped_at : (d : Dynamics) (p c : List (List ℕ)) (g : Frames) (o : Option (Li
     → option_map (frames c) o ≡ Some g → Turned Forward d (frames p c) g
 stepped_at d p c g None h e k = absurd (none_is_no_some g k)
 stepped_at d p c g (Some q) h e k =
-    let same : frames c q ≡ g = some_alike (frames c q) g k in
+    let same : frames c q ≡ g = some_same (frames c q) g k in
     let f = followed d p c q h.alike h.previous e in
     let turned : Turned Forward d (frames p c) (frames c q) = record {
       back = ap (option_map (λ n. frames n c)) f.back;
@@ -134,7 +129,7 @@ backed_at : (d : Dynamics) (p c : List (List ℕ)) (g : Frames) (o : Option (Lis
     → option_map (λ n. frames n p) o ≡ Some g → Turned Back d (frames p c) g
 backed_at d p c g None h e k = absurd (none_is_no_some g k)
 backed_at d p c g (Some q) h e k =
-    let same : frames q p ≡ g = some_alike (frames q p) g k in
+    let same : frames q p ≡ g = some_same (frames q p) g k in
     let f = followed d c p q (sym h.alike) h.current e in
     let turned : Turned Back d (frames p c) (frames q p) = record {
       back = ap (option_map (frames p)) f.back;
@@ -169,7 +164,7 @@ return_step w d n f g (Some m) h e k again =
 pub returned : (w : Direction) (d : Dynamics) (n : ℕ) (f g : Frames) → AreFrames f → turns w d n f ≡ Some g → Returned w d n f g
 unfolding turns
 returned w d zero f g h e =
-    let same : f ≡ g = some_alike f g e in
+    let same : f ≡ g = some_same f g e in
     record { back = ap Some (sym same); frames' = rw (← same) h; atoms = ap (λ (f : Frames). length f.previous) (sym same) }
 returned w d (suc n) f g h e = return_step w d n f g (turn w d f) h refl e (λ m k l. returned w d n m g k l)
 
