@@ -1,6 +1,6 @@
 //! Runs of states, and from bytes to bytes.
 
-ghost use Rattle.std.specs.Prelude.{◌≡◌, ◌<◌, ◌+◌, ◌-◌, ◌^◌, ◌+ℤ◌, ◌-ℤ◌, pos, length, map, true, false, Some, IfOk, OnOk, IfErr, ℕ, List, MatchResult};
+ghost use Rattle.std.specs.Prelude.{◌≡◌, ◌<◌, ◌+◌, ◌-◌, ◌^◌, ◌+ℤ◌, ◌-ℤ◌, pos, length, map, true, false, Some, IfOk, OnOk, IfErr, ℕ, List, MatchResult, ◌⊎◌, OnErr};
 ghost use Rattle.gro.specs.Out.{appended};
 ghost use Rattle.state.specs.StateViews.{atom_view, state_view};
 ghost use Rattle.fixed.specs.Arithmetic.{in_range};
@@ -223,6 +223,9 @@ pub fn run_bytes_checked<A: Allocator + Copy, O: Out>(
     ensures unwritten { IfErr result (λ f. is_out f ≡ false → O.taken out.new ≡ O.taken out.old) }
     ensures beginning { IfErr result (λ f. is_out f ≡ true → WroteBeginning job.now state.now direction steps (O.taken out.old) (O.taken out.new)) }
     ensures failed { IfErr result (λ f. is_out f ≡ true → O.failed out.old < O.failed out.new) }
+    ensures quiet {
+        OnErr result ((O.taken out.new ≡ O.taken out.old) ⊎ (O.failed out.old < O.failed out.new))
+    }
     // Where the texts have a run it is written, unless memory or the output fails.
     ensures only { (text : List ℕ) → IsRun job.now state.now direction steps text → MatchResult result (λ _. O.taken out.new ≡ appended (O.taken out.old) text) Lacks }
     // So many steps the other way over the written text give the starting text.
