@@ -23,7 +23,7 @@ enum Content {
     TooLarge,
 }
 
-/// Files by a table of names, which notes how many reads came before the first of each.
+/// Files by a table of names, which notes the place in the table of each file that was read.
 #[derive(Drop)]
 struct Table<'a> {
     files: &'a [(&'static str, Content)],
@@ -111,7 +111,7 @@ Options:
   -h, --help       Print help
 ";
 
-/// The status, and what came out on both outputs, of words over two readable files.
+/// The status, and what came out on both outputs, of words over these files.
 fn outcome<T: Abort + AllocGlobal>(
     rt: &T,
     words: &[&str],
