@@ -1,6 +1,6 @@
 //! Doing what the words ask for.
 
-ghost use Rattle.std.specs.Prelude.{◌≡◌, ◌≢◌, ◌⊎◌, ◌≤◌, ◌<◌, ◌-◌, ◌^◌, ℕ, List, IfOk, OnOk, IfErr, map, string_bytes};
+ghost use Rattle.std.specs.Prelude.{◌≡◌, ◌≢◌, ◌⊎◌, ◌≤◌, ◌<◌, ◌-◌, ◌^◌, ℕ, List, IfOk, OnOk, OnErr, IfErr, map, string_bytes};
 ghost use Rattle.clap.specs.Words.{kind_of};
 ghost use Rattle.clap.specs.declared.error.kind.ErrorKind.TheVariants.{OutOfMemory, DisplayHelp};
 ghost use Rattle.cli.specs.CommandLine.{AsksForHelp, IsCommand, IsMisuse};
@@ -40,6 +40,7 @@ pub fn execute<A: Allocator + Copy, S: AsStr, F: Files, O: Out, E: Out>(
     ensures quiet { result ≡ 0 → (E.taken err.new ≡ E.taken err.old) × (E.failed err.new ≡ E.failed err.old) }
     ensures said { result ≢ 0 → (s : Status) × (text : List ℕ) × (result ≡ code_of s)
         × Prints (E.taken err.old, E.failed err.old) (E.taken err.new, E.failed err.new) (said s text) }
+    ensures kept { result ≢ 0 → (O.taken out.new ≡ O.taken out.old) ⊎ (O.failed out.old < O.failed out.new) }
     ensures misuse { result ≡ 2 → IsMisuse (map S.text words.now) × (O.taken out.new ≡ O.taken out.old) }
     ensures done { result ≡ 0 → AsksForHelp (map S.text words.now) ⊎ ((c : Command) × IsCommand (map S.text words.now) c
         × (F.asked files.new ≡ asked_by (F.asked files.old) c)) }
@@ -63,6 +64,7 @@ fn respond<'a, A: Allocator + Copy, S: AsStr, F: Files, O: Out>(
     requires { O.failed out.old < 2 ^ 64 - 1 }
     ensures misuse { IfErr result (λ f. status_of f ≡ Status.CommandLine → IsMisuse (map S.text words.entry.now)
         × (O.taken out.new ≡ O.taken out.old)) }
+    ensures kept { OnErr result ((O.taken out.new ≡ O.taken out.old) ⊎ (O.failed out.old < O.failed out.new)) }
     ensures fault { IfErr result (λ f. status_of f ≢ Status.Done) }
     ensures done { OnOk result (AsksForHelp (map S.text words.entry.now) ⊎ ((c : Command) × IsCommand (map S.text words.entry.now) c
         × (F.asked files.new ≡ asked_by (F.asked files.old) c))) }
@@ -85,6 +87,7 @@ fn perform<'a, A: Allocator + Copy, F: Files, O: Out>(
     requires { O.failed out.old < 2 ^ 64 - 1 }
     ensures done { OnOk result (F.asked files.new ≡ asked_by (F.asked files.old) command.entry) }
     ensures reads { AsksFor command.entry (F.asked files.old) (F.asked files.new) }
+    ensures kept { OnErr result ((O.taken out.new ≡ O.taken out.old) ⊎ (O.failed out.old < O.failed out.new)) }
     ensures fault { IfErr result (λ f. status_of f ≢ Status.CommandLine) }
 {
     match command {
@@ -102,6 +105,7 @@ fn perform_run<'a, A: Allocator + Copy, F: Files, O: Out>(
     requires { O.failed out.old < 2 ^ 64 - 1 }
     ensures done { OnOk result (F.asked files.new ≡ asked_by (F.asked files.old) (Command.Run run.entry)) }
     ensures reads { AsksFor (Command.Run run.entry) (F.asked files.old) (F.asked files.new) }
+    ensures kept { OnErr result ((O.taken out.new ≡ O.taken out.old) ⊎ (O.failed out.old < O.failed out.new)) }
     ensures fault { IfErr result (λ f. status_of f ≢ Status.CommandLine) }
 {
     let job = read(alloc, run.job, files)?;
@@ -148,6 +152,7 @@ fn answer<'a, A: Allocator + Copy, O: Out>(
     out: &mut O,
 ) -> Result<(), CommandFault<'a, A>>
     requires { O.failed out.old < 2 ^ 64 - 1 }
+    ensures kept { OnErr result ((O.taken out.new ≡ O.taken out.old) ⊎ (O.failed out.old < O.failed out.new)) }
     ensures help { OnOk result (kind_of error ≡ DisplayHelp) }
     ensures misuse { IfErr result (λ f. status_of f ≡ Status.CommandLine → (kind_of error ≢ OutOfMemory)
         × (kind_of error ≢ DisplayHelp) × (O.taken out.new ≡ O.taken out.old)) }
