@@ -120,7 +120,7 @@ fn refused_memory_is_told_or_not_noticed(rt: HostRuntime) -> Result<(), Fail> {
     for size in 1..=128 {
         let text = run_within(rt.alloc(), 64 * size)?;
         if text.as_slice() == b"Memory".as_slice() {
-            refused += 1;
+            refused = size;
         } else {
             assert_eq!(rt;
                 text.as_slice(),
