@@ -1,7 +1,7 @@
 //! The line and the status of each refusal.
 
 use crate::fixtures::{
-    JOB, STATE, Table, answer_to, assert_refuses, job_with_energy, moved, with_line,
+    JOB, STATE, Table, answer_to, assert_prints, assert_refuses, job_with_energy, moved, with_line,
 };
 use cli::execute;
 use gro::Collected;
@@ -123,73 +123,91 @@ box 200000 200000 200000
     1AR      AR 1073741824 0 0 1073741824 0 0
 ";
 
+/// What a state with this line, in place of the one with this number, is refused for.
+const STATES: [(&str, &str, usize, &str, &str); 12] = [
+    (
+        "no last line",
+        WITHOUT_LAST_LINE,
+        1,
+        "pairmd state 1",
+        "S2 Truncated",
+    ),
+    ("an atom too few", STATE, 4, "atoms 3", "S2 Truncated"),
+    (
+        "an empty line more",
+        STATE,
+        7,
+        "    1AR      AR 0 0 0 0 0 0\n",
+        "S3 Trailing",
+    ),
+    ("an atom too many", STATE, 4, "atoms 1", "S3 Trailing"),
+    (
+        "another version",
+        STATE,
+        1,
+        "pairmd state 2",
+        "S1 BadLine 1",
+    ),
+    ("a leading zero", STATE, 3, "step 01", "S1 BadLine 3"),
+    (
+        "a side too long",
+        STATE,
+        5,
+        "box 1 1 16000001",
+        "S1 BadLine 5",
+    ),
+    (
+        "a place too many",
+        STATE,
+        6,
+        "    1AR      AR 0 0 0 0 0 0 0",
+        "S1 BadLine 6",
+    ),
+    (
+        "an unknown name",
+        STATE,
+        7,
+        "    1AR       X 0 0 0 0 0 0",
+        "A1 UnknownType 2",
+    ),
+    (
+        "a box of 1.7 nm",
+        STATE,
+        5,
+        "box 170000 170000 170000",
+        "A2 CutoffTooLong",
+    ),
+    (
+        "one side of 1.7 nm",
+        STATE,
+        5,
+        "box 200000 200000 170000",
+        "A2 CutoffTooLong",
+    ),
+    (
+        "a side just short of two cutoffs",
+        STATE,
+        5,
+        "box 200000 179999 200000",
+        "A2 CutoffTooLong",
+    ),
+];
+
 #[test]
 fn refused_states(rt: HostRuntime) -> Result<(), Fail> {
-    for (shows, text, number, state_line, line) in [
-        (
-            "no last line",
-            WITHOUT_LAST_LINE,
-            1,
-            "pairmd state 1",
-            "S2 Truncated",
-        ),
-        ("an atom too few", STATE, 4, "atoms 3", "S2 Truncated"),
-        (
-            "an empty line more",
-            STATE,
-            7,
-            "    1AR      AR 0 0 0 0 0 0\n",
-            "S3 Trailing",
-        ),
-        ("an atom too many", STATE, 4, "atoms 1", "S3 Trailing"),
-        (
-            "another version",
-            STATE,
-            1,
-            "pairmd state 2",
-            "S1 BadLine 1",
-        ),
-        ("a leading zero", STATE, 3, "step 01", "S1 BadLine 3"),
-        (
-            "a side too long",
-            STATE,
-            5,
-            "box 1 1 16000001",
-            "S1 BadLine 5",
-        ),
-        (
-            "a place too many",
-            STATE,
-            6,
-            "    1AR      AR 0 0 0 0 0 0 0",
-            "S1 BadLine 6",
-        ),
-        (
-            "an unknown name",
-            STATE,
-            7,
-            "    1AR       X 0 0 0 0 0 0",
-            "A1 UnknownType 2",
-        ),
-        (
-            "a box of 1.7 nm",
-            STATE,
-            5,
-            "box 170000 170000 170000",
-            "A2 CutoffTooLong",
-        ),
-        (
-            "one side of 1.7 nm",
-            STATE,
-            5,
-            "box 200000 200000 170000",
-            "A2 CutoffTooLong",
-        ),
-    ] {
+    for (shows, text, number, state_line, line) in STATES {
         let state = with_line(rt.alloc(), text, number, state_line)?;
         let refused = moved(rt.alloc(), "run", "1", JOB.as_bytes(), &state);
         assert_refuses(&rt, &refused, 1, line, shows);
     }
+    Ok(())
+}
+
+#[test]
+fn a_box_of_two_cutoffs(rt: HostRuntime) -> Result<(), Fail> {
+    let state = with_line(rt.alloc(), STATE, 5, "box 180000 180000 180000")?;
+    let unmoved = moved(rt.alloc(), "run", "0", JOB.as_bytes(), &state);
+    assert_prints(&rt, &unmoved, &state, "sides of two cutoffs");
     Ok(())
 }
 

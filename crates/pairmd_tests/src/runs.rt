@@ -6,35 +6,54 @@ use crate::fixtures::{
 use std::alloc::{AllocError, Global};
 use std::test::*;
 
+// By then the atoms have parted beyond the cutoff, and met again across the edge of the box.
 #[test]
-fn a_thousand_steps_there_and_back(rt: HostRuntime) {
+fn a_thousand_steps_there_and_back(rt: HostRuntime) -> Result<(), Fail> {
     let job = JOB.as_bytes();
-    let there = moved(rt.alloc(), "run", "1000", job, STATE.as_bytes());
-    assert_eq!(rt; there.status, 0);
+    let start = state_of(
+        rt.alloc(),
+        0,
+        200000,
+        &[[[1073741824, 0, 0]; 2], [[2147483648, 0, 0]; 2]],
+    )?;
+    let low = [[614356521, 0, 0], [610307235, 0, 0]];
+    let high = [[2606868951, 0, 0], [2610918237, 0, 0]];
+    let end = state_of(rt.alloc(), 1000, 200000, &[low, high])?;
+    let there = moved(rt.alloc(), "run", "1000", job, &start);
+    assert_prints(&rt, &there, &end, "a thousand steps");
     let again = moved(rt.alloc(), "back", "1000", job, &there.out);
-    assert_prints(&rt, &again, STATE.as_bytes(), "a thousand steps back");
+    assert_prints(&rt, &again, &start, "a thousand steps back");
+    Ok(())
 }
 
-/// Forty-eight atoms in three layers of four rows of four, 0.5 nm apart in a row and 0.6 nm from layer to layer, in a box of 2 nm.
-fn lattice(alloc: Global) -> Result<Vec<u8>, AllocError> {
+/// Forty-eight atoms in three layers of four rows of four, 0.5 nm apart in a row, in a box of 2 nm, with the previous and the current places of the layers.
+fn lattice(alloc: Global, step: i64, layers: &[[u32; 2]]) -> Result<Vec<u8>, AllocError> {
     let quarters = [0, 1073741824, 2147483648, 3221225472];
     let mut atoms = Vec::new(alloc);
-    for z in [0, 1288490189, 2576980378] {
+    for [previous, current] in layers {
         for y in quarters {
             for x in quarters {
-                atoms.push([[x, y, z]; 2])?;
+                atoms.push([[x, y, *previous], [x, y, *current]])?;
             }
         }
     }
-    state_of(alloc, 0, 200000, &atoms)
+    state_of(alloc, step, 200000, &atoms)
 }
 
+// The outer layers are 0.6 nm from the middle one, and 0.8 nm from each other across the edge of the box.
 #[test]
 fn a_lattice_there_and_back(rt: HostRuntime) -> Result<(), Fail> {
     let job = JOB.as_bytes();
-    let start = lattice(rt.alloc())?;
+    let still = [[0; 2], [1288490189; 2], [2576980378; 2]];
+    let pushed = [
+        [4294806168, 4294645055],
+        [1288490189; 2],
+        [2577141506, 2577302619],
+    ];
+    let start = lattice(rt.alloc(), 0, &still)?;
+    let end = lattice(rt.alloc(), 3, &pushed)?;
     let there = moved(rt.alloc(), "run", "3", job, &start);
-    assert_eq!(rt; there.status, 0);
+    assert_prints(&rt, &there, &end, "three steps");
     let again = moved(rt.alloc(), "back", "3", job, &there.out);
     assert_prints(&rt, &again, &start, "three steps back");
     Ok(())
