@@ -28,6 +28,16 @@ box 200000 200000 200000
     1AR      AR 2147483648 0 0 2147483648 0 0
 ";
 
+/// The two atoms after two steps.
+pub(crate) const AFTER_TWO: &str = "pairmd state 1
+title two atoms
+step 2
+atoms 2
+box 200000 200000 200000
+    1AR      AR 1073707464 0 0 1073638749 0 0
+    1AR      AR 2147518008 0 0 2147586723 0 0
+";
+
 /// The text with this line in place of the one with this number, counted from 1.
 pub(crate) fn with_line(
     alloc: Global,

@@ -2,22 +2,13 @@
 
 ghost use Rattle.std.specs.Prelude.{◌≡◌, Some};
 
-use crate::fixtures::{JOB, STATE, Table};
+use crate::fixtures::{AFTER_TWO, JOB, STATE, Table, answer_to, assert_refuses, job_with_energy};
 use cli::execute;
 use gro::{Collected, Out, OutFault};
 use integrator::{Direction, run_bytes_checked};
 use linked_list_allocator::LocalHeap;
 use std::alloc::{AllocError, Allocator, Global};
 use std::test::*;
-
-const AFTER: &str = "pairmd state 1
-title two atoms
-step 2
-atoms 2
-box 200000 200000 200000
-    1AR      AR 1073707464 0 0 1073638749 0 0
-    1AR      AR 2147518008 0 0 2147586723 0 0
-";
 
 /// Takes one byte at a time, and fails at each write once it has taken as many as it may.
 #[derive(Drop)]
@@ -74,21 +65,24 @@ fn run_onto(alloc: Global, left: usize) -> (u8, Vec<u8>, Vec<u8>) {
 
 #[test]
 fn an_output_that_fails_is_left_with_a_beginning(rt: HostRuntime) {
-    for left in 0..AFTER.len() {
+    for left in 0..AFTER_TWO.len() {
         let (status, out, err) = run_onto(rt.alloc(), left);
         assert_eq!(rt; status, 5, "after {left} bytes");
         assert_eq!(rt; out.len(), left);
-        assert!(rt; AFTER.as_bytes().starts_with(&out), "after {left} bytes");
+        assert!(rt;
+            AFTER_TWO.as_bytes().starts_with(&out),
+            "after {left} bytes"
+        );
         assert_eq!(rt; err.as_slice(), b"pairmd: O2 CannotWrite\n".as_slice());
     }
 }
 
 #[test]
 fn an_output_that_takes_all_gets_all(rt: HostRuntime) {
-    for left in [AFTER.len(), usize::MAX] {
+    for left in [AFTER_TWO.len(), usize::MAX] {
         let (status, out, err) = run_onto(rt.alloc(), left);
         assert_eq!(rt; status, 0);
-        assert_eq!(rt; out.as_slice(), AFTER.as_bytes());
+        assert_eq!(rt; out.as_slice(), AFTER_TWO.as_bytes());
         assert!(rt; err.is_empty());
     }
 }
@@ -124,11 +118,30 @@ fn refused_memory_is_told_or_not_noticed(rt: HostRuntime) -> Result<(), Fail> {
         } else {
             assert_eq!(rt;
                 text.as_slice(),
-                AFTER.as_bytes(),
+                AFTER_TWO.as_bytes(),
                 "a heap of 64 * {size} bytes"
             );
         }
     }
     assert!(rt; 0 < refused && refused < 128);
+    Ok(())
+}
+
+#[test]
+fn refused_memory_in_place_of_another_refusal(rt: HostRuntime) -> Result<(), Fail> {
+    let job = job_with_energy(rt.alloc(), "2*epsilon")?;
+    let words = ["run", "job", "state", "--steps", "2"];
+    let mut refused = 0;
+    for size in 1..=64 {
+        let heap = LocalHeap::new(rt.alloc(), 64 * size)?;
+        let answer = answer_to(rt.alloc(), &heap, &words, &job, STATE.as_bytes());
+        if answer.status == 4 {
+            assert_refuses(&rt, &answer, 4, "Memory", "too little memory");
+            refused = size;
+        } else {
+            assert_refuses(&rt, &answer, 3, "E04 UnknownName epsilon", "enough memory");
+        }
+    }
+    assert!(rt; 0 < refused && refused < 64);
     Ok(())
 }

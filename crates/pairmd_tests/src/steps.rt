@@ -1,6 +1,8 @@
 //! Single steps of two atoms, computed by hand.
 
-use crate::fixtures::{JOB, STATE, assert_prints, job_with_energy, moved, state_of, with_line};
+use crate::fixtures::{
+    AFTER_TWO, JOB, STATE, assert_prints, job_with_energy, moved, state_of, with_line,
+};
 use std::test::*;
 
 /// A step of two atoms at rest in a box of 2 nm.
@@ -81,15 +83,6 @@ atoms 2
 box 200000 200000 200000
     1AR      AR 1073741824 0 0 1073707464 0 0
     1AR      AR 2147483648 0 0 2147518008 0 0
-";
-
-const AFTER_TWO: &str = "pairmd state 1
-title two atoms
-step 2
-atoms 2
-box 200000 200000 200000
-    1AR      AR 1073707464 0 0 1073638749 0 0
-    1AR      AR 2147518008 0 0 2147586723 0 0
 ";
 
 #[test]
