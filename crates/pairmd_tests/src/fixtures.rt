@@ -1,0 +1,169 @@
+//! Jobs, states and files by hand, and what the program answers to them.
+
+ghost use Rattle.std.specs.Prelude.{None};
+
+use cli::{Files, ReadFault, execute};
+use gro::Collected;
+use std::alloc::{AllocError, Allocator, Global};
+use std::process::Abort;
+use std::test::*;
+
+/// Atoms that repel each other by 1/r.
+pub(crate) const JOB: &str = "pairmd job 1
+energy 1/r
+core 0.2
+cutoff 0.9
+dt 2
+slices 64
+type AR 1
+";
+
+/// Two atoms at rest, 0.5 nm apart in a box of 2 nm.
+pub(crate) const STATE: &str = "pairmd state 1
+title two atoms
+step 0
+atoms 2
+box 200000 200000 200000
+    1AR      AR 1073741824 0 0 1073741824 0 0
+    1AR      AR 2147483648 0 0 2147483648 0 0
+";
+
+/// The two atoms after two steps.
+pub(crate) const AFTER_TWO: &str = "pairmd state 1
+title two atoms
+step 2
+atoms 2
+box 200000 200000 200000
+    1AR      AR 1073707464 0 0 1073638749 0 0
+    1AR      AR 2147518008 0 0 2147586723 0 0
+";
+
+/// The text with this line in place of the one with this number, counted from 1.
+pub(crate) fn with_line(
+    alloc: Global,
+    text: &str,
+    number: usize,
+    line: &str,
+) -> Result<Vec<u8>, AllocError> {
+    let mut changed = Vec::new(alloc);
+    for (i, kept) in text.lines().enumerate() {
+        let chosen = if i + 1 == number { line } else { kept };
+        changed.extend_from_slice(chosen.as_bytes())?;
+        changed.push(b'\n')?;
+    }
+    Ok(changed)
+}
+
+/// The job with this energy.
+pub(crate) fn job_with_energy(alloc: Global, energy: &str) -> Result<Vec<u8>, AllocError> {
+    let line = format!(in alloc; "energy {energy}")?;
+    with_line(alloc, JOB, 2, &line)
+}
+
+/// A state with argon atoms, each at its previous and its current places, in a box of three equal sides in 10^-5 nm.
+pub(crate) fn state_of(
+    alloc: Global,
+    step: i64,
+    side: u32,
+    atoms: &[[[u32; 3]; 2]],
+) -> Result<Vec<u8>, AllocError> {
+    let count = atoms.len();
+    let head = format!(in alloc;
+        "pairmd state 1\ntitle by hand\nstep {step}\natoms {count}\nbox {side} {side} {side}\n"
+    )?;
+    let mut text = Vec::new(alloc);
+    text.extend_from_slice(head.as_bytes())?;
+    for [[u, v, w], [x, y, z]] in atoms {
+        let line = format!(in alloc; "    1AR      AR {u} {v} {w} {x} {y} {z}\n")?;
+        text.extend_from_slice(line.as_bytes())?;
+    }
+    Ok(text)
+}
+
+/// Files by a table of their names and bytes.
+#[derive(Drop)]
+pub(crate) struct Table<'a> {
+    pub(crate) files: &'a [(&'a str, &'a [u8])],
+}
+
+impl<'a> Files for Table<'a> {
+    ghost asked = { λ _. None };
+
+    fn read<A: Allocator + Copy>(&mut self, alloc: A, path: &str) -> Result<Vec<u8, A>, ReadFault> {
+        for (name, content) in self.files {
+            if *name == path {
+                let mut bytes = Vec::new(alloc);
+                return match bytes.extend_from_slice(content) {
+                    Ok(()) => Ok(bytes),
+                    Err(_) => Err(ReadFault::Memory),
+                };
+            }
+        }
+        Err(ReadFault::CannotRead)
+    }
+}
+
+/// The status of the program, and what it printed on both outputs.
+#[derive(Drop)]
+pub(crate) struct Answer {
+    pub(crate) status: u8,
+    pub(crate) out: Vec<u8>,
+    pub(crate) err: Vec<u8>,
+}
+
+/// The program's answer to these words, over files with these bytes, where all but the words takes its memory of `short`.
+pub(crate) fn answer_to<A: Allocator + Copy>(
+    alloc: Global,
+    short: A,
+    words: &[&str],
+    job: &[u8],
+    state: &[u8],
+) -> Answer {
+    let files = [("job", job), ("state", state)];
+    let mut table = Table { files: &files };
+    let mut out = Collected::new(alloc);
+    let mut err = Collected::new(alloc);
+    let status = execute(alloc, short, words, &mut table, &mut out, &mut err);
+    Answer {
+        status,
+        out: out.into_bytes(),
+        err: err.into_bytes(),
+    }
+}
+
+/// The program's answer to `run` or `back` by so many steps.
+pub(crate) fn moved(alloc: Global, command: &str, steps: &str, job: &[u8], state: &[u8]) -> Answer {
+    answer_to(
+        alloc,
+        alloc,
+        &[command, "job", "state", "--steps", steps],
+        job,
+        state,
+    )
+}
+
+/// Ends the test unless the answer is this text.
+pub(crate) fn assert_prints<T: Abort>(rt: &T, answer: &Answer, text: &[u8], shows: &str) {
+    assert_eq!(rt; answer.status, 0, "{shows}");
+    assert_eq!(rt; answer.out.as_slice(), text, "{shows}");
+    assert!(rt; answer.err.is_empty(), "{shows}");
+}
+
+/// Ends the test unless the answer is a refusal with this status and line.
+pub(crate) fn assert_refuses<T: Abort>(
+    rt: &T,
+    answer: &Answer,
+    status: u8,
+    line: &str,
+    shows: &str,
+) {
+    assert_eq!(rt; answer.status, status, "{shows}");
+    assert!(rt; answer.out.is_empty(), "{shows}");
+    let printed = str::from_utf8(&answer.err).ok();
+    let named = printed.and_then(|text| text.strip_prefix("pairmd: "));
+    assert_eq!(rt;
+        named.and_then(|text| text.strip_suffix("\n")),
+        Some(line),
+        "{shows}"
+    );
+}
