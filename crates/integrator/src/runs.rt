@@ -223,9 +223,7 @@ pub fn run_bytes_checked<A: Allocator + Copy, O: Out>(
     ensures unwritten { IfErr result (λ f. is_out f ≡ false → O.taken out.new ≡ O.taken out.old) }
     ensures beginning { IfErr result (λ f. is_out f ≡ true → WroteBeginning job.now state.now direction steps (O.taken out.old) (O.taken out.new)) }
     ensures failed { IfErr result (λ f. is_out f ≡ true → O.failed out.old < O.failed out.new) }
-    ensures quiet {
-        OnErr result ((O.taken out.new ≡ O.taken out.old) ⊎ (O.failed out.old < O.failed out.new))
-    }
+    ensures quiet { OnErr result ((O.taken out.new ≡ O.taken out.old) ⊎ (O.failed out.old < O.failed out.new)) }
     // Where the texts have a run it is written, unless memory or the output fails.
     ensures only { (text : List ℕ) → IsRun job.now state.now direction steps text → MatchResult result (λ _. O.taken out.new ≡ appended (O.taken out.old) text) Lacks }
     // So many steps the other way over the written text give the starting text.
