@@ -2,10 +2,11 @@
 #
 # A program is built only once every crate that it stands on is proved. What was proved is kept in crates/*/out, so the
 # first build proves everything and later ones only what has changed. On a first build `rt all check` proves crates side
-# by side, as many as cores and memory allow; JOBS=n sets their number.
+# by side: one for each core and each 4 GB of memory that is free, or JOBS=n of them.
 
 PROGRAM := crates/pairmd/out/pairmd
-JOBS ?=
+JOBS ?= $(shell free=$$(awk '/^MemAvailable/ { print int($$2 / 4194304) }' /proc/meminfo); cores=$$(nproc); \
+	echo $$((free < 1 ? 1 : free < cores ? free : cores)))
 
 .PHONY: run test pairmd
 
@@ -16,6 +17,6 @@ test:
 	rt ci
 
 pairmd:
-	test -e $(PROGRAM) || rt all check $(if $(JOBS),--jobs $(JOBS))
+	test -e $(PROGRAM) || rt all check --jobs $(JOBS)
 	cd crates/pairmd && rt run -- --help > /dev/null
 	cp $(PROGRAM) pairmd
