@@ -1,7 +1,7 @@
 ghost use Rattle.std.specs.Prelude.{◌≡◌, [], Some};
 ghost use Rattle.gro.specs.Out.{Collection};
 
-use crate::out::{Out, OutFault};
+use crate::output::{Out, OutFault};
 use std::alloc::Allocator;
 use std::marker::Model;
 

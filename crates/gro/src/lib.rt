@@ -2,10 +2,10 @@
 #![tactic(auto)]
 
 mod collected;
-mod out;
+mod output;
 
 pub use collected::Collected;
-pub use out::{Out, OutFault, write_all};
+pub use output::{Out, OutFault, write_all};
 
 #[cfg(test)]
 mod tests;
