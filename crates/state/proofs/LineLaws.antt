@@ -5,11 +5,11 @@ use Rattle.std.specs.List.{flat_map, list_all}
 use Rattle.std.proofs.lemmas.Bool.{and_parts, and_from, not-true, eqb-true, ltb-true, lt-ltb}
 use Rattle.std.proofs.lemmas.List.{append-nil, nil_from_length}
 use lib.Signed.{mag}
-use Rattle.line_text.specs.Parts.{◌>>=◌ as ◌|>◌, word, ended, AreThree, lacks, cut_at, after, natural_of, integer_of, three_at}
+use Rattle.line_text.specs.Parts.{◌>>=◌ as ◌|>◌, word, ended, AreThree, lacks, is_title, cut_at, after, natural_of, integer_of, three_at}
 use Rattle.line_text.proofs.PartLaws.{some_of, none_of, same_bytes, natural_found, natural_again, integer_found, integer_again}
 use Rattle.line_text.proofs.LineLaws.{bind_some, lacks_append, lacks_rest, decimal_lacks, signed_lacks, cut_found, line_cut, ended_then, after_found, after_again, three_found, three_again, words_lack}
 use Rattle.state.specs.declared.faults.StateFault.{StateFault}
-use Rattle.state.specs.StateText.{head_line, title_line, step_line, count_line, box_line, IsSide, is_title}
+use Rattle.state.specs.StateText.{head_line, title_line, step_line, count_line, box_line, IsSide}
 use Rattle.state.specs.StateReading.{◌>>=◌, head_of, title_of, step_of, count_of, sides_of, line_at, needed, said, field_at}
 
 -- the value of a step that did not fail

@@ -1,8 +1,8 @@
 -- What a state is, without where it lies in memory, and the one text of each state.
-use Rattle.std.specs.Prelude.{ℕ, ◌-◌, ◌<◌, ◌≤◌, ◌^◌, Bool, not, ◌&&◌, List, ◌++◌, length, codes, ℤ, pos, negsuc, ◌≤ℤ◌, slice_index, ◌==◌, IsTrue}
+use Rattle.std.specs.Prelude.{ℕ, ◌<◌, ◌≤◌, ◌^◌, List, ◌++◌, length, codes, ℤ, pos, negsuc, ◌≤ℤ◌, IsTrue}
 use Rattle.std.specs.Fmt.{signed_decimal}
 use Rattle.std.specs.List.{flat_map, AllByRecursion}
-use Rattle.line_text.specs.Parts.{word, ended, AreThree, right_in, left_in, is_name, lacks}
+use Rattle.line_text.specs.Parts.{word, ended, AreThree, right_in, left_in, is_name, is_title}
 use lib.Signed.{mag}
 
 -- an atom; its two places are three numbers each, x, y and z
@@ -66,10 +66,6 @@ IsPlace x = x < 2 ^ 32
 -- in 10^-5 nm
 abbrev pub IsSide : ℕ → Type 0
 IsSide x = (0 < x) × (x ≤ 16000000)
-
--- without LF, and not ending in CR
-abbrev pub is_title : List ℕ → Bool
-is_title t = lacks 10 t && not (slice_index t (length t - 1) == 13)
 
 pub record IsAtom (a : AtomView) : Type 0 where
   pub low : negsuc 9998 ≤ℤ a.residue_number

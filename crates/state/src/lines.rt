@@ -3,8 +3,8 @@
 ghost use Rattle.std.specs.Prelude.{◌≡◌, ◌≤◌, ◌+◌, ◌++◌, option_map, IfSome, IsTrue, bytes_eq};
 ghost use Rattle.std.specs.List.{flat_map};
 ghost use Rattle.arrayvec.specs.ArrayVec.{array_vec_len};
-ghost use Rattle.line_text.specs.Parts.{AreThree, lacks, word};
-ghost use Rattle.state.specs.StateText.{IsAtom, IsPlace, IsSide, atom_line, is_title};
+ghost use Rattle.line_text.specs.Parts.{AreThree, is_title, lacks, word};
+ghost use Rattle.state.specs.StateText.{IsAtom, IsPlace, IsSide, atom_line};
 ghost use Rattle.state.specs.StateViews.{atom_view, sides_view};
 ghost use Rattle.state.specs.StateReading.{title_of, step_of, count_of, sides_of, atom_of};
 

@@ -1,7 +1,7 @@
 //! States and their atoms.
 
 ghost use Rattle.std.specs.Prelude.{pos, negsuc, ◌≤ℤ◌, ◌≤◌, length, IsTrue};
-ghost use Rattle.state.specs.StateText.{is_title};
+ghost use Rattle.line_text.specs.Parts.{is_title};
 
 use line_text::Name;
 use ring_box::RingBox;
