@@ -12,10 +12,8 @@ use Rattle.clap.specs.declared.parser.matches.ArgMatches.{ArgMatches}
 use Rattle.clap.specs.declared.parser.matches.Found.{Found}
 use Rattle.clap.proofs.WalkLemmas.{one_text-rows}
 use Rattle.clap.proofs.OnLiterals.{clap_on_literals}
-use Rattle.cli.specs.CommandLine.{AsksForHelp, IsCommand, IsMisuse, IsRunOf, IsSteps, WritesNumber, faults_of, program}
+use Rattle.cli.specs.CommandLine.{AsksForHelp, IsCommand, IsMisuse, IsNamedOf, SaysNumber, WritesNumber, faults_of, program}
 use Rattle.cli.specs.declared.commands.Command.{Command}
-use Rattle.cli.specs.declared.commands.Command.TheVariants as command
-use Rattle.cli.specs.declared.commands.Run.{Run}
 
 pub program_is_simple : is_simple program ≡ true
 unfolding clap_on_literals
@@ -30,7 +28,7 @@ none_among [] k e among = among
 none_among (x ∷ xs) k e among = cc
 
 faultless : (words : List Text) (c : Command) → IsCommand words c → fault_of program words ≡ []
-faultless words (command.Run run) is = is.0
+faultless words c is = is.0
 
 -- words with a fault name no command
 pub faulty_names_none : (words : List Text) (e : Error) → HasKind (fault_of program words) e
@@ -59,10 +57,10 @@ pub program_meets : (a : App) (words : List Text) (m : ArgMatches) → a ≡ pro
     → subcommand_rows_of m ≡ subcommand_of program words
 program_meets a words m is has = (has (ap is_simple is ∙ program_is_simple)).1 ∙ ap (λ b. subcommand_of b words) is
 
--- where the matches say no run, the words name no command
-pub runless_names_none : (words : List Text) (said : Option (Text × List Row)) → said ≡ subcommand_of program words
-    → ((r : Run) → IsRunOf said r → ⊥) → (c : Command) → IsCommand words c → ⊥
-runless_names_none words said is none (command.Run run) names = none run (subst (λ o. IsRunOf o run) (sym is) names.1)
+-- where the matches say no command, the words name none
+pub silent_names_none : (words : List Text) (said : Option (Text × List Row)) → said ≡ subcommand_of program words
+    → ((c : Command) → IsNamedOf said c → ⊥) → (c : Command) → IsCommand words c → ⊥
+silent_names_none words said is none c names = none c (subst (λ o. IsNamedOf o c) (sym is) names.1)
 
 -- what a fault of the words says that is neither want of memory nor a wish for help
 pub is_misuse : (words : List Text) (e : Error) → (kind_of e ≢ OutOfMemory) → (kind_of e ≢ DisplayHelp) → HasKind (faults_of words) e
@@ -80,34 +78,34 @@ asks_for_help words e help (inr among) = subst (λ k. IsAmong k (faults_of words
 abbrev pub NumberGives : List ℕ → Result ℕ ParseIntError → Type 0
 NumberGives t r = ParsesUnsigned 64 10 t r × ExplainsUnsignedError 10 t r × HasUnsignedDigitsIfOk t r
 
--- what a read of a number gives, by the text that was read, at most this much
-number_read : (most : ℕ) (o : Option Text) (r : Option ℕ) → most < 2 ^ 64
+-- what a read of a number gives, by the text that was read
+number_read : (o : Option Text) (r : Option ℕ)
     → (o ≡ None → r ≡ None) → ((t : Text) → o ≡ Some t → ReadsOne NumberGives t r)
-    → MatchOption r ((n : ℕ) → n ≤ most → ((t : Text) × (o ≡ Some t) × WritesNumber t n) → ⊥)
+    → MatchOption r ((n : ℕ) → n < 2 ^ 64 → ((t : Text) × (o ≡ Some t) × WritesNumber t n) → ⊥)
     (λ n. (t : Text) × (o ≡ Some t) × WritesNumber t n)
-number_read most None None fits none some = λ n within w. let bad : None ≡ Some w.0 = w.1 in cc
-number_read most None (Some n) fits none some = let bad : Some n ≡ None = none refl in cc
-number_read most (Some t) None fits none some = λ n within w.
+number_read None None none some = λ n fits w. let bad : None ≡ Some w.0 = w.1 in cc
+number_read None (Some n) none some = let bad : Some n ≡ None = none refl in cc
+number_read (Some t) None none some = λ n fits w.
     let read = some t refl in
     let same : t ≡ w.0 = cc in
     let numeral = subst (λ u. IsNumeral 10 (without_leading_plus u)) (sym same) w.2.0 in
     let value : digits_value 10 (without_leading_plus t) ≡ n = ap (λ u. digits_value 10 (without_leading_plus u)) same ∙ w.2.1 in
-    read.1.0 (numeral, omega (arith, value, within, fits))
-number_read most (Some t) (Some n) fits none some =
+    read.1.0 (numeral, omega (arith, value, fits))
+number_read (Some t) (Some n) none some =
     let read = some t refl in
     (t, refl, (read.0.0.0, sym read.0.1))
 
--- what `get_one` gives of `--steps`, at most this much
-pub steps_read : (most : ℕ) (f : Found) (r : Option ℕ) → most < 2 ^ 64 → (one_text f (codes "steps") ≡ None → r ≡ None)
-    → ((t : Text) → one_text f (codes "steps") ≡ Some t → ReadsOne NumberGives t r)
-    → MatchOption r ((n : ℕ) → n ≤ most → IsSteps (rows_of f) n → ⊥) (IsSteps (rows_of f))
-steps_read most f r fits none some =
-    let text = one_text-rows f (codes "steps") in
-    number_read most (one_of (codes "steps") (rows_of f)) r fits (λ e. none (text ∙ e)) (λ t e. some t (text ∙ e))
+-- what `get_one` gives of a number's argument
+pub said_read : (name : Text) (f : Found) (r : Option ℕ) → (one_text f name ≡ None → r ≡ None)
+    → ((t : Text) → one_text f name ≡ Some t → ReadsOne NumberGives t r)
+    → MatchOption r ((n : ℕ) → n < 2 ^ 64 → SaysNumber name (rows_of f) n → ⊥) (SaysNumber name (rows_of f))
+said_read name f r none some =
+    let text = one_text-rows f name in
+    number_read (one_of name (rows_of f)) r (λ e. none (text ∙ e)) (λ t e. some t (text ∙ e))
 
--- the words say one number of steps
-pub steps_unique : (rows : List Row) (n m : ℕ) → IsSteps rows n → IsSteps rows m → n ≡ m
-steps_unique rows n m a b =
+-- an argument says one number
+pub said_once : (name : Text) (rows : List Row) (n m : ℕ) → SaysNumber name rows n → SaysNumber name rows m → n ≡ m
+said_once name rows n m a b =
     let same : Some a.0 ≡ Some b.0 = sym a.1 ∙ b.1 in
     let same_text : a.0 ≡ b.0 = cc in
     sym a.2.1 ∙ ap (λ t. digits_value 10 (without_leading_plus t)) same_text ∙ b.2.1

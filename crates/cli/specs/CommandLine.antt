@@ -10,12 +10,23 @@ use Rattle.integrator.specs.declared.direction.Direction.{Direction}
 use Rattle.integrator.specs.declared.direction.Direction.TheVariants.{Forward, Back}
 use Rattle.cli.specs.declared.commands.Command.{Command}
 use Rattle.cli.specs.declared.commands.Command.TheVariants as command
+use Rattle.cli.specs.declared.commands.Frame.{Frame}
 use Rattle.cli.specs.declared.commands.Run.{Run}
+use Rattle.cli.specs.declared.commands.Start.{Start}
 
 -- ---- what the program takes
 
 abbrev pub path_rule : Text → Rule
 path_rule name = record (new_rule name) { required = true }
+
+-- `--frame k`, from 1; 1 where it isn't given
+abbrev pub frame_rule : Rule
+frame_rule = record (new_rule (codes "frame")) {
+  long = Some (codes "frame");
+  value_names = 1;
+  defaults = codes "1" ∷ [];
+  parser = Some (Unsigned 1 18446744073709551615);
+}
 
 -- `--steps n`, from 0 to 1,000,000,000,000
 abbrev pub steps_rule : Rule
@@ -26,9 +37,17 @@ steps_rule = record (new_rule (codes "steps")) {
   parser = Some (Unsigned 0 1000000000000);
 }
 
+-- the command that takes a job, a GRO file and the number of a frame
+abbrev pub starting : Shape
+starting = (with_rule (with_rule (with_rule (new_app (codes "start")) (path_rule (codes "JOB"))) (path_rule (codes "GRO"))) frame_rule).top
+
 -- a command that takes a job, a state and a number of steps
 abbrev pub stepping : Text → Shape
 stepping name = (with_rule (with_rule (with_rule (new_app name) (path_rule (codes "JOB"))) (path_rule (codes "STATE"))) steps_rule).top
+
+-- the command that takes a state alone
+abbrev pub framing : Shape
+framing = (with_rule (new_app (codes "frame")) (path_rule (codes "STATE"))).top
 
 -- a program that takes no words but those of its commands, and wants one
 abbrev pub bare : App
@@ -36,7 +55,7 @@ bare = let a = new_app (codes "pairmd") in
     record a { top = record a.top { no_binary_name = true; subcommand_required = true } }
 
 abbrev pub program : App
-program = with_subcommand (with_subcommand bare (stepping (codes "run"))) (stepping (codes "back"))
+program = with_subcommand (with_subcommand (with_subcommand (with_subcommand bare starting) (stepping (codes "run"))) (stepping (codes "back"))) framing
 
 -- ---- what the words ask for
 
@@ -48,9 +67,21 @@ command_name Back = codes "back"
 abbrev pub WritesNumber : Text → ℕ → Type 0
 WritesNumber text n = IsNumeral 10 (without_leading_plus text) × (digits_value 10 (without_leading_plus text) ≡ n)
 
--- the argument `--steps` says this number
+-- the argument with this name says this number
+abbrev pub SaysNumber : Text → List Row → ℕ → Type 0
+SaysNumber name rows n = (text : Text) × (one_of name rows ≡ Some text) × WritesNumber text n
+
 abbrev pub IsSteps : List Row → ℕ → Type 0
-IsSteps rows n = (text : Text) × (one_of (codes "steps") rows ≡ Some text) × WritesNumber text n
+IsSteps rows n = SaysNumber (codes "steps") rows n
+
+abbrev pub IsFrameNumber : List Row → ℕ → Type 0
+IsFrameNumber rows n = SaysNumber (codes "frame") rows n
+
+-- the values of the arguments of `start` say this start
+pub record IsStart (rows : List Row) (start : Start) : Type 0 where
+  pub job : first_of (codes "JOB") rows ≡ Some start.job.now
+  pub gro : first_of (codes "GRO") rows ≡ Some start.gro.now
+  pub frame : IsFrameNumber rows start.frame
 
 -- a command's name and the values of its arguments say this run
 pub record IsRun (name : Text) (rows : List Row) (run : Run) : Type 0 where
@@ -59,13 +90,23 @@ pub record IsRun (name : Text) (rows : List Row) (run : Run) : Type 0 where
   pub state : first_of (codes "STATE") rows ≡ Some run.state.now
   pub steps : IsSteps rows run.steps
 
-abbrev pub IsRunOf : Option (Text × List Row) → Run → Type 0
-IsRunOf None run = ⊥
-IsRunOf (Some command) run = IsRun command.0 command.1 run
+-- the values of the arguments of `frame` say this frame
+pub record IsFrame (rows : List Row) (frame : Frame) : Type 0 where
+  pub state : first_of (codes "STATE") rows ≡ Some frame.state.now
+
+-- a command's name and the values of its arguments say this command
+abbrev pub IsNamed : Text → List Row → Command → Type 0
+IsNamed name rows (command.Start start) = (name ≡ codes "start") × IsStart rows start
+IsNamed name rows (command.Run run) = IsRun name rows run
+IsNamed name rows (command.Frame frame) = (name ≡ codes "frame") × IsFrame rows frame
+
+abbrev pub IsNamedOf : Option (Text × List Row) → Command → Type 0
+IsNamedOf None c = ⊥
+IsNamedOf (Some said) c = IsNamed said.0 said.1 c
 
 -- the words are without fault, and say this command
 abbrev pub IsCommand : List Text → Command → Type 0
-IsCommand words (command.Run run) = (fault_of program words ≡ []) × IsRunOf (subcommand_of program words) run
+IsCommand words c = (fault_of program words ≡ []) × IsNamedOf (subcommand_of program words) c
 
 -- the kinds of fault of words that say no command: those of the first step of the parse that fails
 abbrev pub faults_of : List Text → Kinds

@@ -1,5 +1,6 @@
 pub mod Asked
 pub mod CommandLine
+pub mod Conversions
 pub mod Host
 pub mod Reads
 pub mod Reports

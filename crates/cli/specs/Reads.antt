@@ -11,11 +11,15 @@ use Rattle.cli.specs.declared.files.ReadFault.TheVariants as read
 
 -- the paths asked for after a command has read all its files, in their order
 abbrev pub asked_by : Option (List (List ℕ)) → Command → Option (List (List ℕ))
+asked_by paths (command.Start start) = also_asked (also_asked paths start.job.now) start.gro.now
 asked_by paths (command.Run run) = also_asked (also_asked paths run.job.now) run.state.now
+asked_by paths (command.Frame frame) = also_asked paths frame.state.now
 
 -- a command has asked for its files in their order, or for the first of them
 abbrev pub AsksFor : Command → Option (List (List ℕ)) → Option (List (List ℕ)) → Type 0
+AsksFor (command.Start start) before after = (after ≡ also_asked before start.job.now) ⊎ (after ≡ asked_by before (command.Start start))
 AsksFor (command.Run run) before after = (after ≡ also_asked before run.job.now) ⊎ (after ≡ asked_by before (command.Run run))
+AsksFor (command.Frame frame) before after = after ≡ asked_by before (command.Frame frame)
 
 -- the fault of a command whose file at this path gave no bytes
 abbrev pub unread : {A : Type 0} → ReadFault → Bor (List ℕ) → CommandFault A

@@ -4,6 +4,10 @@ use Rattle.expr.specs.declared.faults.ExprFault.{ExprFault}
 use Rattle.expr.specs.declared.faults.ExprFault.TheVariants as energy
 use Rattle.job.specs.declared.faults.JobFault.{JobFault}
 use Rattle.job.specs.declared.faults.JobFault.TheVariants as job
+use Rattle.gro.specs.declared.faults.GroFault.{GroFault}
+use Rattle.gro.specs.declared.faults.GroFault.TheVariants as gro
+use Rattle.state.specs.declared.faults.StartFault.{StartFault}
+use Rattle.state.specs.declared.faults.StartFault.TheVariants as start
 use Rattle.state.specs.declared.faults.StateFault.{StateFault}
 use Rattle.state.specs.declared.faults.StateFault.TheVariants as state
 use Rattle.integrator.specs.declared.faults.RunFault.{RunFault}
@@ -33,6 +37,14 @@ abbrev pub state_status : StateFault → Status
 state_status state.Memory = status.Memory
 state_status _ = status.RefusedData
 
+abbrev pub gro_status : GroFault → Status
+gro_status gro.Memory = status.Memory
+gro_status _ = status.RefusedData
+
+abbrev pub start_status : StartFault → Status
+start_status start.Memory = status.Memory
+start_status _ = status.RefusedData
+
 abbrev pub run_status : {A : Type 0} → RunFault A → Status
 run_status (run.Job f) = job_status f
 run_status (run.State f) = state_status f
@@ -45,6 +57,10 @@ abbrev pub status_of : {A : Type 0} → CommandFault A → Status
 status_of (fault.CommandLine e) = status.CommandLine
 status_of fault.NotText = status.CommandLine
 status_of (fault.CannotRead path) = status.File
+status_of (fault.Job f) = job_status f
+status_of (fault.Gro f) = gro_status f
+status_of (fault.Start f) = start_status f
+status_of (fault.State f) = state_status f
 status_of (fault.Run f) = run_status f
 status_of (fault.Out f) = status.File
 status_of fault.Memory = status.Memory

@@ -1,12 +1,14 @@
 //! The command line.
 
-ghost use Rattle.std.specs.Prelude.{◌≡◌, ◌≤◌, ◌⊎◌, ℕ, IfOk, IfErr, MatchOption, option_map, map, false};
+ghost use Rattle.std.specs.Prelude.{◌≡◌, ◌≤◌, ◌<◌, ◌^◌, ◌⊎◌, ℕ, IfOk, IfErr, MatchOption, option_map, map, false};
 ghost use Rattle.clap.specs.Words.{HasKind, app_of, first_of, found_of, kind_of, rows_of, rule_of, shape_of, subcommand_rows_of};
 ghost use Rattle.clap.specs.declared.builder.command.Command.TheViews.{out-Command};
 ghost use Rattle.clap.specs.declared.error.kind.ErrorKind.TheVariants.{OutOfMemory};
-ghost use Rattle.cli.specs.CommandLine.{IsCommand, IsRun, IsRunOf, IsSteps, command_name, faults_of, program, steps_rule, stepping};
+ghost use Rattle.cli.specs.CommandLine.{IsCommand, IsFrame, IsFrameNumber, IsNamed, IsNamedOf, IsRun, IsStart, IsSteps, command_name, faults_of, frame_rule, framing, path_rule, program, starting, steps_rule, stepping};
+ghost use Rattle.cli.specs.declared.commands.Start.{Start};
+ghost use Rattle.cli.specs.declared.commands.Frame.{Frame};
 
-use crate::commands::{Command, MAX_STEPS, Run};
+use crate::commands::{Command, Frame, MAX_STEPS, Run, Start};
 use clap::error::ErrorKind;
 use clap::{Arg, ArgMatches, Error, value_parser};
 use integrator::Direction;
@@ -24,20 +26,43 @@ pub fn parse<'a, S: AsStr>(alloc: Global, words: &'a [S]) -> Result<Command<'a>,
 {
     let mut program = program(alloc)?;
     let matches = program.try_get_matches_from_mut(words)?;
-    match run_of(&matches) {
-        Some(run) => Ok(Command::Run(run)),
-        // The parser has met the arguments that it requires, and a number of steps in range.
+    match command_of(&matches) {
+        Some(command) => Ok(command),
+        // The parser has met the arguments that it requires, and numbers in their ranges.
         None => Err(program.error(ErrorKind::MissingRequiredArgument, "incomplete command")?),
     }
 }
 
-/// The run that the matches say, if they say one.
-fn run_of<'a>(matches: &ArgMatches<'a>) -> Option<Run<'a>>
-    ensures { MatchOption result ((r : Run) → IsRunOf (subcommand_rows_of matches.now) r → ⊥)
-        (IsRunOf (subcommand_rows_of matches.now)) }
+/// The command that the matches say, if they say one.
+fn command_of<'a>(matches: &ArgMatches<'a>) -> Option<Command<'a>>
+    ensures { MatchOption result ((c : Command) → IsNamedOf (subcommand_rows_of matches.now) c → ⊥)
+        (IsNamedOf (subcommand_rows_of matches.now)) }
 {
     let (name, matches) = matches.subcommand()?;
-    run_by(name, matches)
+    command_by(name, matches)
+}
+
+/// The command with this name and these matches.
+fn command_by<'a>(name: &str, matches: &ArgMatches<'a>) -> Option<Command<'a>>
+    ensures { MatchOption result ((c : Command) → IsNamed name.now (rows_of (found_of matches.now)) c → ⊥)
+        (IsNamed name.now (rows_of (found_of matches.now))) }
+{
+    match name {
+        "start" => Some(Command::Start(start_of(matches)?)),
+        "frame" => Some(Command::Frame(frame_of(matches)?)),
+        _ => Some(Command::Run(run_by(name, matches)?)),
+    }
+}
+
+/// The start that these matches say.
+fn start_of<'a>(matches: &ArgMatches<'a>) -> Option<Start<'a>>
+    ensures { MatchOption result ((s : Start) → IsStart (rows_of (found_of matches.now)) s → ⊥)
+        (IsStart (rows_of (found_of matches.now))) }
+{
+    let job = path_of(matches, "JOB")?;
+    let gro = path_of(matches, "GRO")?;
+    let frame = frame_number_of(matches)?;
+    Some(Start { job, gro, frame })
 }
 
 /// The run of the command with this name and these matches.
@@ -57,10 +82,27 @@ fn run_by<'a>(name: &str, matches: &ArgMatches<'a>) -> Option<Run<'a>>
     })
 }
 
+/// The frame to print that these matches say.
+fn frame_of<'a>(matches: &ArgMatches<'a>) -> Option<Frame<'a>>
+    ensures { MatchOption result ((f : Frame) → IsFrame (rows_of (found_of matches.now)) f → ⊥)
+        (IsFrame (rows_of (found_of matches.now))) }
+{
+    let state = path_of(matches, "STATE")?;
+    Some(Frame { state })
+}
+
 fn path_of<'a>(matches: &ArgMatches<'a>, name: &str) -> Option<&'a str>
     ensures { option_map (λ s. s.now) result ≡ first_of name.now (rows_of (found_of matches.now)) }
 {
     matches.get_str(name)
+}
+
+fn frame_number_of(matches: &ArgMatches<'_>) -> Option<u64>
+    ensures value { MatchOption result ((n : ℕ) → 1 ≤ n → n < 2 ^ 64 → IsFrameNumber (rows_of (found_of matches.now)) n → ⊥)
+        (λ n. (1 ≤ n) × IsFrameNumber (rows_of (found_of matches.now)) n) }
+{
+    let frame = matches.get_one("frame")?;
+    if frame >= 1 { Some(frame) } else { None }
 }
 
 fn steps_of(matches: &ArgMatches<'_>) -> Option<u64>
@@ -89,15 +131,34 @@ fn direction_of(name: &str) -> Option<Direction>
 fn program<'a>(alloc: Global) -> Result<clap::Command<'a>, AllocError>
     ensures { IfOk result (λ c. app_of c ≡ program) }
 {
+    let start = starting(alloc)?;
     let run = stepping(alloc, "run", "Prints the state after so many steps")?;
     let back = stepping(alloc, "back", "Prints the state so many steps back")?;
+    let frame = framing(alloc)?;
     clap::Command::new(alloc, "pairmd")
         .about("Reversible molecular dynamics on whole numbers")
         .bin_name("pairmd")?
         .no_binary_name(true)
         .subcommand_required(true)
+        .subcommand(start)?
         .subcommand(run)?
-        .subcommand(back)
+        .subcommand(back)?
+        .subcommand(frame)
+}
+
+/// The command that takes a job, a GRO file and the number of a frame.
+fn starting<'a>(alloc: Global) -> Result<clap::Command<'a>, AllocError>
+    ensures shape { IfOk result (λ c. shape_of c ≡ starting) }
+    ensures local { IfOk result (λ c. (out-Command c).has_globals ≡ false) }
+{
+    let job = path(alloc, "JOB", "The file of the job");
+    let gro = path(alloc, "GRO", "The GRO file");
+    let frame = frame_number(alloc);
+    clap::Command::new(alloc, "start")
+        .about("Prints the state that begins at a frame of a GRO file")
+        .arg(job)?
+        .arg(gro)?
+        .arg(frame)
 }
 
 /// A command that takes a job, a state and a number of steps.
@@ -109,18 +170,44 @@ fn stepping<'a>(
     ensures shape { IfOk result (λ c. shape_of c ≡ stepping name.entry.now) }
     ensures local { IfOk result (λ c. (out-Command c).has_globals ≡ false) }
 {
-    let job = Arg::new(alloc, "JOB")
-        .required(true)
-        .help("The file of the job");
-    let state = Arg::new(alloc, "STATE")
-        .required(true)
-        .help("The file of the state");
+    let job = path(alloc, "JOB", "The file of the job");
+    let state = path(alloc, "STATE", "The file of the state");
     let steps = steps(alloc);
     clap::Command::new(alloc, name)
         .about(about)
         .arg(job)?
         .arg(state)?
         .arg(steps)
+}
+
+/// The command that takes a state alone.
+fn framing<'a>(alloc: Global) -> Result<clap::Command<'a>, AllocError>
+    ensures shape { IfOk result (λ c. shape_of c ≡ framing) }
+    ensures local { IfOk result (λ c. (out-Command c).has_globals ≡ false) }
+{
+    let state = path(alloc, "STATE", "The file of the state");
+    clap::Command::new(alloc, "frame")
+        .about("Prints the current frame of a state as a GRO file")
+        .arg(state)
+}
+
+fn path<'a>(alloc: Global, name: &'a str, help: &'a str) -> Arg<'a>
+    ensures rule { rule_of result ≡ path_rule name.entry.now }
+    ensures local { result.global ≡ false }
+{
+    Arg::new(alloc, name).required(true).help(help)
+}
+
+fn frame_number<'a>(alloc: Global) -> Arg<'a>
+    ensures rule { rule_of result ≡ frame_rule }
+    ensures local { result.global ≡ false }
+{
+    Arg::new(alloc, "frame")
+        .long("frame")
+        .value_name("k")
+        .default_value("1")
+        .value_parser(value_parser!(u64).range(1..))
+        .help("Which frame of the GRO file, from 1")
 }
 
 fn steps<'a>(alloc: Global) -> Arg<'a>

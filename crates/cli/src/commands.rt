@@ -1,6 +1,6 @@
 //! What the program can be asked for.
 
-ghost use Rattle.std.specs.Prelude.{◌≤◌};
+ghost use Rattle.std.specs.Prelude.{◌≤◌, ◌<◌, ◌^◌};
 
 use integrator::Direction;
 
@@ -10,8 +10,25 @@ pub const MAX_STEPS: u64 = 1_000_000_000_000;
 /// What the words ask for.
 #[derive(Clone, Copy, Debug)]
 pub enum Command<'a> {
+    /// `start`: the state that begins at a frame of a GRO file.
+    Start(Start<'a>),
     /// `run` and `back`: the state after so many steps.
     Run(Run<'a>),
+    /// `frame`: the current frame of a state as a GRO file.
+    Frame(Frame<'a>),
+}
+
+/// A state to start.
+#[derive(Clone, Copy, Debug)]
+pub struct Start<'a> {
+    /// The path of the job.
+    pub job: &'a str,
+    /// The path of the GRO file.
+    pub gro: &'a str,
+    /// Which of its frames, from 1.
+    pub frame: u64,
+    ghost counted: { 1 ≤ frame },
+    ghost fits: { frame < 2 ^ 64 },
 }
 
 /// A run of a state, forwards or back.
@@ -26,4 +43,11 @@ pub struct Run<'a> {
     /// How many steps.
     pub steps: u64,
     ghost within: { steps ≤ 1000000000000 },
+}
+
+/// A frame to print.
+#[derive(Clone, Copy, Debug)]
+pub struct Frame<'a> {
+    /// The path of the state.
+    pub state: &'a str,
 }

@@ -13,7 +13,8 @@ ghost use Rattle.cli.specs.declared.commands.Command.{Command};
 ghost use Rattle.cli.specs.declared.faults.Status.{Status};
 
 use crate::command_line::parse;
-use crate::commands::{Command, Run};
+use crate::commands::{Command, Frame, Run, Start};
+use crate::conversions::{frame_bytes, start_bytes};
 use crate::faults::{CommandFault, Status};
 use crate::files::{Files, ReadFault};
 use clap::Error;
@@ -91,8 +92,45 @@ fn perform<'a, A: Allocator + Copy, F: Files, O: Out>(
     ensures fault { IfErr result (λ f. status_of f ≢ Status.CommandLine) }
 {
     match command {
+        Command::Start(start) => perform_start(alloc, start, files, out),
         Command::Run(run) => perform_run(alloc, run, files, out),
+        Command::Frame(frame) => perform_frame(alloc, frame, files, out),
     }
+}
+
+/// Reads the job and then the GRO file, and starts the state.
+fn perform_start<'a, A: Allocator + Copy, F: Files, O: Out>(
+    alloc: A,
+    start: Start<'a>,
+    files: &mut F,
+    out: &mut O,
+) -> Result<(), CommandFault<'a, A>>
+    requires { O.failed out.old < 2 ^ 64 - 1 }
+    ensures done { OnOk result (F.asked files.new ≡ asked_by (F.asked files.old) (Command.Start start.entry)) }
+    ensures reads { AsksFor (Command.Start start.entry) (F.asked files.old) (F.asked files.new) }
+    ensures kept { OnErr result ((O.taken out.new ≡ O.taken out.old) ⊎ (O.failed out.old < O.failed out.new)) }
+    ensures fault { IfErr result (λ f. status_of f ≢ Status.CommandLine) }
+{
+    let job = read(alloc, start.job, files)?;
+    let gro = read(alloc, start.gro, files)?;
+    start_bytes(alloc, job.as_slice(), gro.as_slice(), start.frame, out)
+}
+
+/// Reads the state, and prints its frame.
+fn perform_frame<'a, A: Allocator + Copy, F: Files, O: Out>(
+    alloc: A,
+    frame: Frame<'a>,
+    files: &mut F,
+    out: &mut O,
+) -> Result<(), CommandFault<'a, A>>
+    requires { O.failed out.old < 2 ^ 64 - 1 }
+    ensures done { OnOk result (F.asked files.new ≡ asked_by (F.asked files.old) (Command.Frame frame.entry)) }
+    ensures reads { AsksFor (Command.Frame frame.entry) (F.asked files.old) (F.asked files.new) }
+    ensures kept { OnErr result ((O.taken out.new ≡ O.taken out.old) ⊎ (O.failed out.old < O.failed out.new)) }
+    ensures fault { IfErr result (λ f. status_of f ≢ Status.CommandLine) }
+{
+    let state = read(alloc, frame.state, files)?;
+    frame_bytes(alloc, state.as_slice(), out)
 }
 
 /// Reads the job and then the state, and runs it.

@@ -1,14 +1,14 @@
 //! Why a command was not done, and the statuses of the program.
 
 ghost use Rattle.std.specs.Prelude.{◌≡◌, ◌≤◌};
-ghost use Rattle.cli.specs.declared.faults.CommandFault.TheVariants.{Memory, Out, Run};
+ghost use Rattle.cli.specs.declared.faults.CommandFault.TheVariants.{Gro, Job, Memory, Out, Run, Start, State};
 
 use clap::Error;
 use expr::ExprFault;
-use gro::OutFault;
+use gro::{GroFault, OutFault};
 use integrator::RunFault;
 use job::JobFault;
-use state::StateFault;
+use state::{StartFault, StateFault};
 use std::alloc::{AllocError, AllocFailed, Allocator};
 use thiserror::Error;
 
@@ -60,6 +60,18 @@ pub enum CommandFault<'a, A: Allocator> {
     /// A file can't be read to its end. The path is that of the words.
     #[error("O1 CannotRead {path}")]
     CannotRead { path: &'a str },
+    /// The job of a start is refused.
+    #[error("{0}")]
+    Job(JobFault<A>),
+    /// The GRO file is refused, or has no such frame.
+    #[error("{0}")]
+    Gro(GroFault),
+    /// The frame's box is refused.
+    #[error("{0}")]
+    Start(StartFault),
+    /// The state of a frame is refused.
+    #[error("{0}")]
+    State(StateFault),
     /// The run is refused.
     #[error("{0}")]
     Run(RunFault<A>),
@@ -95,6 +107,38 @@ impl<'a, A: Allocator> From<OutFault> for CommandFault<'a, A> {
     }
 }
 
+impl<'a, A: Allocator> From<JobFault<A>> for CommandFault<'a, A> {
+    ghost from_gives = { λ fault e. e ≡ Job fault };
+
+    fn from(fault: JobFault<A>) -> CommandFault<'a, A> {
+        CommandFault::Job(fault)
+    }
+}
+
+impl<'a, A: Allocator> From<GroFault> for CommandFault<'a, A> {
+    ghost from_gives = { λ fault e. e ≡ Gro fault };
+
+    fn from(fault: GroFault) -> CommandFault<'a, A> {
+        CommandFault::Gro(fault)
+    }
+}
+
+impl<'a, A: Allocator> From<StartFault> for CommandFault<'a, A> {
+    ghost from_gives = { λ fault e. e ≡ Start fault };
+
+    fn from(fault: StartFault) -> CommandFault<'a, A> {
+        CommandFault::Start(fault)
+    }
+}
+
+impl<'a, A: Allocator> From<StateFault> for CommandFault<'a, A> {
+    ghost from_gives = { λ fault e. e ≡ State fault };
+
+    fn from(fault: StateFault) -> CommandFault<'a, A> {
+        CommandFault::State(fault)
+    }
+}
+
 impl<'a, A: Allocator> From<RunFault<A>> for CommandFault<'a, A> {
     ghost from_gives = { λ fault e. e ≡ Run fault };
 
@@ -113,31 +157,72 @@ impl<'a, A: Allocator> CommandFault<'a, A> {
         match self {
             CommandFault::CommandLine(_) | CommandFault::NotText => Status::CommandLine,
             CommandFault::CannotRead { .. } | CommandFault::Out(_) => Status::File,
+            CommandFault::Job(fault) => status_of_job(fault),
+            CommandFault::Gro(fault) => status_of_gro(fault),
+            CommandFault::Start(fault) => status_of_start(fault),
+            CommandFault::State(fault) => status_of_state(fault),
             CommandFault::Run(fault) => status_of_run(fault),
             CommandFault::Memory => Status::Memory,
         }
     }
 }
 
-ghost use Rattle.cli.specs.Statuses.{run_status};
+ghost use Rattle.cli.specs.Statuses.{energy_status, gro_status, job_status, run_status, start_status, state_status};
 
-/// The status that a refused run ends with. Want of memory inside a refused text is want of memory.
+/// The status that a refused job ends with. Want of memory inside a refused text is want of memory, here and below.
+fn status_of_job<A: Allocator>(fault: &JobFault<A>) -> Status
+    ensures { result ≡ job_status fault.now }
+{
+    match fault {
+        JobFault::Memory => Status::Memory,
+        _ => Status::RefusedData,
+    }
+}
+
+fn status_of_gro(fault: &GroFault) -> Status
+    ensures { result ≡ gro_status fault.now }
+{
+    match fault {
+        GroFault::Memory => Status::Memory,
+        _ => Status::RefusedData,
+    }
+}
+
+fn status_of_start(fault: &StartFault) -> Status
+    ensures { result ≡ start_status fault.now }
+{
+    match fault {
+        StartFault::Memory => Status::Memory,
+        StartFault::Box(_) => Status::RefusedData,
+    }
+}
+
+fn status_of_state(fault: &StateFault) -> Status
+    ensures { result ≡ state_status fault.now }
+{
+    match fault {
+        StateFault::Memory => Status::Memory,
+        _ => Status::RefusedData,
+    }
+}
+
+fn status_of_energy<A: Allocator>(fault: &ExprFault<A>) -> Status
+    ensures { result ≡ energy_status fault.now }
+{
+    match fault {
+        ExprFault::Memory => Status::Memory,
+        _ => Status::RefusedKernel,
+    }
+}
+
+/// The status that a refused run ends with.
 fn status_of_run<A: Allocator>(fault: &RunFault<A>) -> Status
     ensures { result ≡ run_status fault.now }
 {
     match fault {
-        RunFault::Job(fault) => match fault {
-            JobFault::Memory => Status::Memory,
-            _ => Status::RefusedData,
-        },
-        RunFault::State(fault) => match fault {
-            StateFault::Memory => Status::Memory,
-            _ => Status::RefusedData,
-        },
-        RunFault::Energy(fault) => match fault {
-            ExprFault::Memory => Status::Memory,
-            _ => Status::RefusedKernel,
-        },
+        RunFault::Job(fault) => status_of_job(fault),
+        RunFault::State(fault) => status_of_state(fault),
+        RunFault::Energy(fault) => status_of_energy(fault),
         RunFault::UnknownType { .. }
         | RunFault::CutoffTooLong
         | RunFault::StepRange

@@ -105,7 +105,11 @@ impl<W: Write> Out for Stream<W> {
 }
 
 /// The words of the process after the program's own name.
-pub fn words<R: Env + AllocGlobal>(rt: &R) -> Result<Vec<String>, CommandFault<'static, Global>> {
+///
+/// `NotText` where the system's words can't be had as UTF-8 text, `Memory` where a growth was refused. No other fault comes.
+pub fn words<R: Env + AllocGlobal>(rt: &R) -> Result<Vec<String>, CommandFault<'static, Global>>
+    ensures fault { IfErr result (λ f. (f ≡ Memory) ⊎ (f ≡ NotText)) }
+{
     let mut words = Vec::new(rt.alloc());
     for word in env::args(rt).map_err(|error| words_fault(&error))?.skip(1) {
         words.push(word)?;

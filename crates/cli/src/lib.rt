@@ -4,13 +4,14 @@
 
 mod command_line;
 mod commands;
+mod conversions;
 mod execution;
 mod faults;
 mod files;
 mod host;
 
 pub use command_line::parse;
-pub use commands::{Command, MAX_STEPS, Run};
+pub use commands::{Command, Frame, MAX_STEPS, Run, Start};
 pub use execution::{execute, report};
 pub use faults::{CommandFault, Status};
 pub use files::{Files, ReadFault};

@@ -90,9 +90,11 @@ const HELP: &str = "Reversible molecular dynamics on whole numbers
 Usage: pairmd <COMMAND>
 
 Commands:
-  run   Prints the state after so many steps
-  back  Prints the state so many steps back
-  help  Print this message or the help of the given subcommand(s)
+  start  Prints the state that begins at a frame of a GRO file
+  run    Prints the state after so many steps
+  back   Prints the state so many steps back
+  frame  Prints the current frame of a state as a GRO file
+  help   Print this message or the help of the given subcommand(s)
 
 Options:
   -h, --help  Print help
@@ -109,6 +111,30 @@ Arguments:
 Options:
       --steps <n>  How many steps, from 0 to 1000000000000
   -h, --help       Print help
+";
+
+const START_HELP: &str = "Prints the state that begins at a frame of a GRO file
+
+Usage: pairmd start [OPTIONS] <JOB> <GRO>
+
+Arguments:
+  <JOB>  The file of the job
+  <GRO>  The GRO file
+
+Options:
+      --frame <k>  Which frame of the GRO file, from 1 [default: 1]
+  -h, --help       Print help
+";
+
+const FRAME_HELP: &str = "Prints the current frame of a state as a GRO file
+
+Usage: pairmd frame <STATE>
+
+Arguments:
+  <STATE>  The file of the state
+
+Options:
+  -h, --help  Print help
 ";
 
 /// The status, and what came out on both outputs, of words over these files.
@@ -138,6 +164,8 @@ fn prints_help(rt: HostRuntime) {
         (["help"].as_slice(), HELP),
         (["run", "--help"].as_slice(), RUN_HELP),
         (["help", "run"].as_slice(), RUN_HELP),
+        (["help", "start"].as_slice(), START_HELP),
+        (["frame", "--help"].as_slice(), FRAME_HELP),
     ] {
         let (status, out, err) = outcome(&rt, words, &[]);
         assert_eq!(rt; status, 0);
@@ -146,7 +174,7 @@ fn prints_help(rt: HostRuntime) {
     }
 }
 
-const REFUSED_WORDS: [(&str, &str); 11] = [
+const REFUSED_WORDS: [(&str, &str); 16] = [
     (
         "",
         "error: 'pairmd' requires a subcommand but one was not provided",
@@ -185,6 +213,26 @@ const REFUSED_WORDS: [(&str, &str); 11] = [
         "error: invalid value '1000000000001' for '--steps <n>': 1000000000001 is not in 0..=1000000000000",
     ),
     (
+        "start job",
+        "error: the following required arguments were not provided:",
+    ),
+    (
+        "start job gro --frame 0",
+        "error: invalid value '0' for '--frame <k>': 0 is not in 1..",
+    ),
+    (
+        "start job gro --frame 18446744073709551616",
+        "error: invalid value '18446744073709551616' for '--frame <k>': number too large to fit in target type",
+    ),
+    (
+        "start job gro --steps 1",
+        "error: unexpected argument '--steps' found",
+    ),
+    (
+        "frame",
+        "error: the following required arguments were not provided:",
+    ),
+    (
         "run job state --steps 1 --steps 2",
         "error: the argument '--steps <n>' cannot be used multiple times",
     ),
@@ -208,13 +256,65 @@ fn reads_commands(rt: HostRuntime) -> Result<(), Fail> {
     for (name, direction) in [("run", Direction::Forward), ("back", Direction::Back)] {
         for (text, steps) in [("0", 0), ("1000000000000", MAX_STEPS)] {
             let words = [name, "--steps", text, "a job", "state"];
-            let Command::Run(run) = parse(rt.alloc(), &words)?;
+            let Command::Run(run) = parse(rt.alloc(), &words)? else {
+                panic!(rt; "another command");
+            };
             assert_eq!(rt; run.direction, direction);
             assert_eq!(rt; (run.job, run.state), ("a job", "state"));
             assert_eq!(rt; run.steps, steps);
         }
     }
     Ok(())
+}
+
+#[test]
+fn reads_start_and_frame(rt: HostRuntime) -> Result<(), Fail> {
+    for (words, frame) in [
+        (["start", "job", "a file"].as_slice(), 1),
+        (["start", "job", "--frame", "7", "a file"].as_slice(), 7),
+        (
+            ["start", "--frame=18446744073709551615", "job", "a file"].as_slice(),
+            u64::MAX,
+        ),
+    ] {
+        let Command::Start(start) = parse(rt.alloc(), words)? else {
+            panic!(rt; "another command");
+        };
+        assert_eq!(rt; (start.job, start.gro), ("job", "a file"));
+        assert_eq!(rt; start.frame, frame);
+    }
+    let Command::Frame(frame) = parse(rt.alloc(), &["frame", "a state"])? else {
+        panic!(rt; "another command");
+    };
+    assert_eq!(rt; frame.state, "a state");
+    Ok(())
+}
+
+const JOB: &[u8] = b"pairmd job 1\nenergy 1/r\ncore 0.2\ncutoff 0.9\ndt 2\ntype AR 1\n";
+
+const GRO: &[u8] = b"one atom\n    1\n    1AR      AR    1   0.500   0.000   0.000\n   2.00000   2.00000   2.00000\n";
+
+const STATE: &[u8] = b"pairmd state 1\ntitle one atom\nstep 0\natoms 1\nbox 200000 200000 200000\n    1AR      AR 1073741824 0 0 1073741824 0 0\n";
+
+#[test]
+fn starts_a_state_and_prints_its_frame(rt: HostRuntime) {
+    let files = [
+        ("job", Content::Bytes(JOB)),
+        ("gro", Content::Bytes(GRO)),
+        ("state", Content::Bytes(STATE)),
+    ];
+    let (status, out, err) = outcome(&rt, &["start", "job", "gro"], &files);
+    assert_eq!(rt; status, 0);
+    assert_eq!(rt; out.as_slice(), STATE);
+    assert!(rt; err.is_empty());
+    let (status, out, err) = outcome(&rt, &["frame", "state"], &files);
+    assert_eq!(rt; status, 0);
+    assert_eq!(rt; out.as_slice(), GRO);
+    assert!(rt; err.is_empty());
+    let (status, out, err) = outcome(&rt, &["start", "job", "gro", "--frame", "2"], &files);
+    assert_eq!(rt; status, 1);
+    assert!(rt; out.is_empty());
+    assert_eq!(rt; err.as_slice(), b"pairmd: G8 NoSuchFrame\n".as_slice());
 }
 
 #[test]

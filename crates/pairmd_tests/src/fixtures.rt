@@ -38,6 +38,14 @@ box 200000 200000 200000
     1AR      AR 2147518008 0 0 2147586723 0 0
 ";
 
+/// A GRO file of the two atoms.
+pub(crate) const GRO: &str = "two atoms
+    2
+    1AR      AR    1   0.500   0.000   0.000
+    1AR      AR    2   1.000   0.000   0.000
+   2.00000   2.00000   2.00000
+";
+
 /// The text with this line in place of the one with this number, counted from 1.
 pub(crate) fn with_line(
     alloc: Global,
@@ -119,8 +127,17 @@ pub(crate) fn answer_to<A: Allocator + Copy>(
     job: &[u8],
     state: &[u8],
 ) -> Answer {
-    let files = [("job", job), ("state", state)];
-    let mut table = Table { files: &files };
+    answer_over(alloc, short, words, &[("job", job), ("state", state)])
+}
+
+/// The program's answer to these words over these files, where all but the words takes its memory of `short`.
+pub(crate) fn answer_over<A: Allocator + Copy>(
+    alloc: Global,
+    short: A,
+    words: &[&str],
+    files: &[(&str, &[u8])],
+) -> Answer {
+    let mut table = Table { files };
     let mut out = Collected::new(alloc);
     let mut err = Collected::new(alloc);
     let status = execute(alloc, short, words, &mut table, &mut out, &mut err);
@@ -129,6 +146,17 @@ pub(crate) fn answer_to<A: Allocator + Copy>(
         out: out.into_bytes(),
         err: err.into_bytes(),
     }
+}
+
+/// The program's answer to `start` on this job and this GRO file.
+pub(crate) fn started(alloc: Global, job: &[u8], gro: &[u8]) -> Answer {
+    let files = [("job", job), ("gro", gro)];
+    answer_over(alloc, alloc, &["start", "job", "gro"], &files)
+}
+
+/// The program's answer to `frame` on this state.
+pub(crate) fn framed(alloc: Global, state: &[u8]) -> Answer {
+    answer_over(alloc, alloc, &["frame", "state"], &[("state", state)])
 }
 
 /// The program's answer to `run` or `back` by so many steps.

@@ -4,6 +4,8 @@
 #[cfg(test)]
 mod fixtures;
 #[cfg(test)]
+mod gro_files;
+#[cfg(test)]
 mod refusals;
 #[cfg(test)]
 mod runs;

@@ -1,8 +1,8 @@
 use Rattle.std.proofs.Common.{inr, map, subst}
 use Rattle.std.proofs.lemmas.Result.{err_from_is_err_and}
 use Rattle.clap.specs.Words.{app_of}
-use Rattle.cli.specs.CommandLine.{IsRunOf}
-use Rattle.cli.proofs.CommandLineLaws.{faulty_has_kind, faulty_names_none, program_fails, program_meets, program_passes, runless_names_none}
+use Rattle.cli.specs.CommandLine.{IsNamedOf}
+use Rattle.cli.proofs.CommandLineLaws.{faulty_has_kind, faulty_names_none, program_fails, program_meets, program_passes, silent_names_none}
 use Rattle.cli.proofs.command_line.parse.Goals as goal
 
 pub returns-in_err-matches-clause-none : goal.returns-in_err-matches-clause-none
@@ -24,10 +24,10 @@ returns-in-Some-clause-command g c =
     let words = map g.S.AsStr.text c.args.words.now in
     let passes = program_passes (app_of c.in_ok-program.program) words c.in_ok-program.ensures c.in_ok-matches.ensures.kinds in
     let meets = program_meets (app_of c.in_ok-program.program) words c.in_ok-matches.matches c.in_ok-program.ensures c.in_ok-matches.ensures.ok.2 in
-    (passes, subst (λ o. IsRunOf o c.in-Some.run') meets c.in-Some.ensures)
+    (passes, subst (λ o. IsNamedOf o c.in-Some.command) meets c.in-Some.ensures)
 
 pub returns-clause-none : goal.returns-clause-none
 returns-clause-none g c =
     let words = map g.S.AsStr.text c.args.words.now in
     let meets = program_meets (app_of c.in_ok-program.program) words c.in_ok-matches.matches c.in_ok-program.ensures c.in_ok-matches.ensures.ok.2 in
-    inr (runless_names_none words _ meets c.in-None.ensures)
+    inr (silent_names_none words _ meets c.in-None.ensures)

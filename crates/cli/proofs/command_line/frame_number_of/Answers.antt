@@ -1,0 +1,13 @@
+use Rattle.std.proofs.Common.{◌≤◌, ◌<◌, ◌^◌, ℕ, MatchOption, codes, subst, arith}
+use Rattle.clap.specs.Words.{found_of, rows_of}
+use Rattle.cli.specs.CommandLine.{SaysNumber}
+use Rattle.cli.proofs.CommandLineLaws.{said_read, said_once}
+use Rattle.cli.proofs.command_line.frame_number_of.Goals as goal
+
+pub returns-in_err-frame : goal.returns-in_err-frame
+returns-in_err-frame c =
+    let f = found_of c.args.matches.now in
+    let name = codes "frame" in
+    let read = said_read name f c.get_one.result c.get_one.ensures.none c.get_one.ensures.value in
+    let none = subst (λ r. MatchOption r ((n : ℕ) → n < 2 ^ 64 → SaysNumber name (rows_of f) n → ⊥) (SaysNumber name (rows_of f))) c.in_err-frame.was read in
+    rw c.from_residual.ensures (λ n first fits is. none n fits is)

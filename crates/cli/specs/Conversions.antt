@@ -1,0 +1,36 @@
+-- States made of GRO files, and GRO files made of states: from the bytes that are read to those that are printed.
+use Rattle.std.specs.Prelude.{◌≡◌, ℕ, ◌-◌, ◌<◌, ◌≤◌, List, length, Option, Ok, slice_index_or}
+use Rattle.gro.specs.Frames.{FrameView}
+use Rattle.gro.specs.GroReading.{frames_of}
+use Rattle.gro.specs.GroWriting.{frame_text}
+use Rattle.gro.specs.Out.{appended}
+use Rattle.job.specs.JobText.{reading_of, stage}
+use Rattle.job.specs.Values.{JobValue}
+use Rattle.state.specs.Starts.{start_of}
+use Rattle.state.specs.StateFrames.{frame_of}
+use Rattle.state.specs.StateReading.{state_of}
+use Rattle.state.specs.StateText.{StateView, state_text}
+
+-- the frame of this number, counted from 1
+pub record IsFrameOf (frames : List FrameView) (number : ℕ) (frame : FrameView) : Type 0 where
+  pub some : 0 < number
+  pub within : number ≤ length frames
+  pub there : frame ≡ slice_index_or frames (number - 1) frame
+
+-- the text of the state that begins at a frame of these texts was written
+pub record IsStartText (job gro : List ℕ) (number : ℕ) (before after : Option (List ℕ)) : Type 0 where
+  pub said : JobValue
+  pub frames : List FrameView
+  pub frame : FrameView
+  pub state : StateView
+  pub job_read : reading_of stage job ≡ Ok said
+  pub gro_read : frames_of gro ≡ Ok frames
+  pub picked : IsFrameOf frames number frame
+  pub started : start_of said.time_step frame ≡ Ok state
+  pub written : after ≡ appended before (state_text state)
+
+-- the text of the frame of this state was written
+pub record IsFrameText (state : List ℕ) (before after : Option (List ℕ)) : Type 0 where
+  pub said : StateView
+  pub state_read : state_of state ≡ Ok said
+  pub written : after ≡ appended before (frame_text (frame_of said))
