@@ -3,3 +3,5 @@ pub mod LineLaws
 pub mod NameLaws
 pub mod ColumnLaws
 pub mod DigitLaws
+pub mod WordLaws
+pub mod WrittenLaws

@@ -16,11 +16,13 @@ decimals_of places text = if nat_lt (length text) (places + 2) then None else (
     digits_of (drop (length text - places) text) >>= λ part.
     Some (whole * 10 ^ places + part)) else None)
 
+-- a number that may have a minus
+abbrev pub signed_by : (List ℕ → Option ℕ) → List ℕ → Option ℤ
+signed_by read text = if slice_index text 0 == 45 then option_map (λ n. neg_ℤ (pos n)) (read (drop 1 text)) else option_map pos (read text)
+
 -- spaces, and such a number that may have a minus
 unfoldable pub decimal_column_of : ℕ → List ℕ → Option ℤ
-decimal_column_of places column = if slice_index (without_spaces column) 0 == 45
-    then option_map (λ n. neg_ℤ (pos n)) (decimals_of places (drop 1 (without_spaces column)))
-    else option_map pos (decimals_of places (without_spaces column))
+decimal_column_of places column = signed_by (decimals_of places) (without_spaces column)
 
 -- with three decimals
 abbrev pub thousandths_of : List ℕ → Option ℕ
