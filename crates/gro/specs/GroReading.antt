@@ -1,8 +1,8 @@
 -- Reading a GRO file from the top, to its frames or to the first fault that is met.
-use Rattle.std.specs.Prelude.{◌≡◌, ◌↔◌, ℕ, zero, suc, ◌+◌, ◌-◌, ◌*◌, ◌^◌, Bool, true, false, not, ◌&&◌, ◌||◌, ◌==◌, ◌⊎◌, ◌<◌, ◌≤◌, nat_lt, nat_le, slice_index_or, List, [], ◌∷◌, length, take, drop, Option, Some, None, option_map, Result, Ok, Err, if◌then◌else◌, ℤ, pos, negsuc, int_le}
+use Rattle.std.specs.Prelude.{◌≡◌, ◌↔◌, ℕ, zero, suc, ◌+◌, ◌-◌, ◌*◌, ◌^◌, Bool, true, false, not, ◌&&◌, ◌||◌, ◌==◌, ◌⊎◌, ◌<◌, ◌≤◌, nat_lt, nat_le, slice_index_or, List, [], ◌∷◌, length, take, drop, Option, Some, None, option_map, Result, Ok, Err, if◌then◌else◌, ℤ, pos, negsuc}
 use Rattle.std.specs.List.{list_all, slice_range}
 use Rattle.line_text.specs.Parts.{◌>>=◌ as ◌|>◌, cut_at, name_of, trimmed, without_returns, is_printable}
-use Rattle.line_text.specs.Columns.{digits_of, signed_by, decimal_column_of}
+use Rattle.line_text.specs.Columns.{digits_of, signed_by, decimal_column_of, is_residue_number}
 use Rattle.line_text.specs.Words.{words}
 use Rattle.gro.specs.Frames.{AtomView, FrameView}
 use Rattle.gro.specs.GroText.{are_spaces, is_blank, IsGroText}
@@ -63,9 +63,6 @@ points_of text = if nat_lt (length text) 20 then None else (
     cut_at 46 (drop 20 text) |> λ first.
     cut_at 46 first.1 |> λ second.
     Some (length second.0 + 1))
-
-abbrev pub is_residue_number : ℤ → Bool
-is_residue_number z = int_le (negsuc 9998) z && int_le z (pos 99999)
 
 unfoldable pub residue_number_of : List ℕ → Option ℤ
 residue_number_of column = signed_by whole_of (trimmed column) |> λ z. if is_residue_number z then Some z else None

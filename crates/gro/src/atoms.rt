@@ -1,6 +1,6 @@
 //! The line of an atom.
 
-ghost use Rattle.std.specs.Prelude.{◌≡◌, ◌≤◌, ◌<◌, ◌^◌, length, option_map, IfSome};
+ghost use Rattle.std.specs.Prelude.{◌≡◌, ◌≤◌, ◌<◌, ◌^◌, length, option_map, pos, negsuc, ◌≤ℤ◌, IfSome};
 ghost use Rattle.gro.specs.Frames.{atom_view};
 ghost use Rattle.gro.specs.GroText.{are_spaces};
 ghost use Rattle.gro.specs.GroReading.{Gives, whole_of, points_of, residue_number_of, three_columns_of, velocity_of, fields_of, atom_in};
@@ -73,7 +73,9 @@ fn fields(text: &[u8]) -> Option<GroAtom>
 #[tactic(auto, unfolding(crate::specs::GroReading::residue_number_of))]
 fn residue_number(column: &[u8]) -> Option<i32>
     requires { length column.now ≤ 12 }
-    ensures { result ≡ residue_number_of column.now }
+    ensures exact { result ≡ residue_number_of column.now }
+    ensures low { IfSome result (λ z. negsuc 9998 ≤ℤ z) }
+    ensures high { IfSome result (λ z. z ≤ℤ pos 99999) }
 {
     let text = trim(column);
     let number = if text.is_empty() || text[0] != b'-' {

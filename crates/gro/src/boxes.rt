@@ -1,8 +1,9 @@
 //! The line of a box.
 
 ghost use Rattle.std.specs.Prelude.{◌≡◌, ◌≤◌, ◌<◌, ◌^◌, length, option_map, IfSome};
+ghost use Rattle.std.specs.List.{list_all};
 ghost use Rattle.line_text.specs.Words.{words};
-ghost use Rattle.gro.specs.GroReading.{Gives, few_digits_of, length_of, value_of, values_of, sides_in};
+ghost use Rattle.gro.specs.GroReading.{Gives, few_digits_of, length_of, value_of, values_of, is_zero, rectangular, sides_in};
 ghost use Rattle.gro.specs.InputLines.{line_view};
 
 use crate::faults::GroFault;
@@ -26,12 +27,26 @@ pub fn sides(number: u64, line: InputLine<'_>) -> Result<[i64; 3], GroFault>
         return Err(GroFault::BadBox { line: number });
     }
     let values = values(line.text).ok_or(GroFault::BadBox { line: number })?;
-    let (sides, others) = values.as_slice().split_at(3);
-    if others.iter().all(|v| *v == 0) {
+    rectangular(number, values.as_slice())
+}
+
+/// The first three values, where the others are zero.
+fn rectangular(number: u64, values: &[i64]) -> Result<[i64; 3], GroFault>
+    requires { 3 ≤ length values.now }
+    ensures { Gives (λ x. x) result (rectangular number (Some values.now)) }
+{
+    let (sides, others) = values.split_at(3);
+    if are_zero(others) {
         Ok([sides[0], sides[1], sides[2]])
     } else {
         Err(GroFault::Triclinic { line: number })
     }
+}
+
+fn are_zero(values: &[i64]) -> bool
+    ensures { result ≡ list_all is_zero values.now }
+{
+    values.iter().all(|v| *v == 0)
 }
 
 fn word_count(text: &[u8]) -> usize
@@ -49,7 +64,8 @@ fn word_count(text: &[u8]) -> usize
 /// The values of a line that has at most nine.
 fn values(text: &[u8]) -> Option<ArrayVec<i64, 9>>
     requires { length (words text.now) ≤ 9 }
-    ensures { option_map (λ v. v.items) result ≡ values_of (words text.now) }
+    ensures exact { option_map (λ v. v.items) result ≡ values_of (words text.now) }
+    ensures len { IfSome result (λ v. length v.items ≡ length (words text.now)) }
 {
     let mut values = ArrayVec::new();
     let mut rest = text;

@@ -1,6 +1,6 @@
 //! Reading the frames of a GRO file.
 
-ghost use Rattle.std.specs.Prelude.{◌≡◌, ◌≤◌, ◌<◌, ◌+◌, ◌^◌, ℕ, length, map, IfOk, IfSome};
+ghost use Rattle.std.specs.Prelude.{◌≡◌, ◌≤◌, ◌<◌, ◌+◌, ◌^◌, ℕ, List, length, map, IfOk, IfSome};
 ghost use Rattle.gro.specs.Frames.{atom_view, frame_view, FrameView};
 ghost use Rattle.gro.specs.GroText.{is_blank, IsGroText};
 ghost use Rattle.gro.specs.GroReading.{Gives, count_in, count_at, atom_at, atoms_at, sides_at, frame_at, frames_of, ReadsGroTexts, Picks};

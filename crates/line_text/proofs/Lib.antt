@@ -5,3 +5,4 @@ pub mod ColumnLaws
 pub mod DigitLaws
 pub mod WordLaws
 pub mod WrittenLaws
+pub mod ResidueNumbers
