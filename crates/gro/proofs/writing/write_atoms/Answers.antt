@@ -46,4 +46,4 @@ pub returns-clause-taken : goal.returns-clause-taken
 returns-clause-taken g c =
     let xs : List (ℕ × AtomView) = enumerate_from 1 (map atom_view c.args.atoms.now) in
     let all : take c.loop-atom.atom-index xs ≡ xs = take_all c.loop-atom.atom-index xs (omega (arith, length-enumerate_from 1 (map atom_view c.args.atoms.now), length-map c.args.atoms.now atom_view, c.loop-atom-test.false)) in
-    c.loop-atom.invariant.taken ∙ ap (λ (l : List (ℕ × AtomView)). appended (g.O.Out.taken c.args.out) (flat_map line_of l)) all
+    c.loop-atom.invariant.taken ∙ ap (λ (l : List (ℕ × AtomView)). appended (g.O.Out.taken c.args.out.now) (flat_map line_of l)) all
