@@ -338,19 +338,23 @@ fn oxygen_text(
     start_text(alloc, &frame(alloc, sides, at, velocity)?)
 }
 
+/// An argon atom at rest, so many picometres along x.
+fn argon(x: i64) -> Result<GroAtom, Fail> {
+    let name = Name::new(b"AR").ok_or("a name")?;
+    Ok(GroAtom {
+        number: 1,
+        residue: name,
+        name,
+        at: [x, 0, 0],
+        velocity: [0, 0, 0],
+    })
+}
+
 #[test]
 fn starts_two_atoms_at_rest(rt: HostRuntime) -> Result<(), Fail> {
-    let argon = Name::new(b"AR").ok_or("a name")?;
     let mut atoms = Vec::new(rt.alloc());
-    for x in [500, 1000] {
-        atoms.push(GroAtom {
-            number: 1,
-            residue: argon,
-            name: argon,
-            at: [x, 0, 0],
-            velocity: [0, 0, 0],
-        })?;
-    }
+    atoms.push(argon(500)?)?;
+    atoms.push(argon(1000)?)?;
     let frame = GroFrame {
         title: Vec::from_slice(rt.alloc(), b"two atoms")?,
         atoms,
@@ -487,22 +491,22 @@ fn starts_and_shows_in_little_memory(rt: HostRuntime) -> Result<(), Fail> {
         [500, 0, 0],
         [0, 0, 0],
     )?;
-    let mut refused = 0;
-    let mut shown = 0;
+    let mut refused = false;
+    let mut shown = false;
     for size in 1..64 {
         let heap = LocalHeap::new(rt.alloc(), 32 * size)?;
         match State::start(&heap, &job, &given) {
             Ok(state) => {
                 if state.frame().is_ok() {
-                    shown += 1;
+                    shown = true;
                 } else {
-                    refused += 1;
+                    refused = true;
                 }
             }
             Err(fault) => assert_eq!(rt; fault, StartFault::Memory),
         }
     }
-    assert!(rt; refused > 0);
-    assert!(rt; shown > 0);
+    assert!(rt; refused);
+    assert!(rt; shown);
     Ok(())
 }
