@@ -8,3 +8,4 @@ pub mod StateReadsAgain
 pub mod CallLaws
 pub mod Pieces
 pub mod AtomPieces
+pub mod StartLaws

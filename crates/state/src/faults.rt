@@ -1,8 +1,10 @@
-//! Why a text is no state.
+//! Why a text is no state, and why no state begins at a frame.
 
 ghost use Rattle.std.specs.Prelude.{◌≡◌};
 ghost use Rattle.state.specs.declared.faults.StateFault.TheVariants.{Memory};
+ghost use Rattle.state.specs.declared.faults.StartFault.TheVariants as start;
 
+use ring_box::BoxFault;
 use std::alloc::{AllocError, AllocFailed};
 use thiserror::Error;
 
@@ -36,5 +38,32 @@ impl<T: Drop> From<AllocFailed<T>> for StateFault {
 
     fn from(_e: AllocFailed<T>) -> StateFault {
         StateFault::Memory
+    }
+}
+
+/// Why no state begins at a frame, or want of memory.
+#[derive(Clone, Copy, Debug, PartialEq, Eq, Error)]
+pub enum StartFault {
+    /// The frame's sides are no box's.
+    #[error(transparent)]
+    Box(BoxFault),
+    /// Memory ran out.
+    #[error("Memory")]
+    Memory,
+}
+
+impl From<BoxFault> for StartFault {
+    ghost from_gives = { λ fault e. e ≡ start.Box fault };
+
+    fn from(fault: BoxFault) -> StartFault {
+        StartFault::Box(fault)
+    }
+}
+
+impl From<AllocError> for StartFault {
+    ghost from_gives = { λ _ e. e ≡ start.Memory };
+
+    fn from(_e: AllocError) -> StartFault {
+        StartFault::Memory
     }
 }

@@ -2,12 +2,15 @@
 #![tactic(auto)]
 
 mod faults;
+mod frames;
 mod lines;
 mod reading;
+mod starts;
 mod states;
+mod velocities;
 mod writing;
 
-pub use faults::StateFault;
+pub use faults::{StartFault, StateFault};
 pub use states::{Atom, State};
 
 #[cfg(test)]

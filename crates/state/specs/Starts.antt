@@ -1,0 +1,76 @@
+-- The state that begins at a frame of a GRO file: the frame's atoms at their places in the box, and where they were one time step before.
+use Rattle.std.specs.Prelude.{◌≡◌, ℕ, ℤ, pos, List, [], ◌∷◌, map, slice_index, slice_index_or, Result, Ok, Err}
+use Rattle.std.specs.List.{AllZip}
+use Rattle.gro.specs.Frames as gro
+use Rattle.ring_box.specs.Places.{IsPlaceOfPm, place_of_pm}
+use Rattle.ring_box.specs.Boxes.{box_of, sides_of}
+use Rattle.ring_box.specs.declared.boxes.RingBox.{RingBox}
+use Rattle.ring_box.specs.declared.faults.BoxFault.{BoxFault}
+use Rattle.state.specs.StateText.{AtomView, StateView}
+use Rattle.state.specs.StateViews.{sides_view}
+use Rattle.state.specs.Velocities.{IsPlaceBefore, place_before}
+use Rattle.state.specs.declared.faults.StartFault.{StartFault}
+use Rattle.state.specs.declared.faults.StartFault.TheVariants as fault
+
+-- the places of an atom, and those one time step before
+abbrev pub current_places : RingBox → List ℤ → List ℕ
+current_places ring at = place_of_pm (slice_index_or at 0 (pos 0)) ring.x ∷ place_of_pm (slice_index_or at 1 (pos 0)) ring.y ∷ place_of_pm (slice_index_or at 2 (pos 0)) ring.z ∷ []
+
+abbrev pub previous_places : ℕ → RingBox → List ℕ → List ℤ → List ℕ
+previous_places dt ring current velocity =
+    place_before (slice_index current 0) (slice_index_or velocity 0 (pos 0)) dt ring.x
+    ∷ place_before (slice_index current 1) (slice_index_or velocity 1 (pos 0)) dt ring.y
+    ∷ place_before (slice_index current 2) (slice_index_or velocity 2 (pos 0)) dt ring.z
+    ∷ []
+
+abbrev pub started_atom : ℕ → RingBox → gro.AtomView → AtomView
+started_atom dt ring a = record {
+  residue_number = a.number;
+  residue = a.residue;
+  name = a.name;
+  previous = previous_places dt ring (current_places ring a.at) a.velocity;
+  current = current_places ring a.at;
+}
+
+-- in a box
+abbrev pub start_in : ℕ → gro.FrameView → RingBox → StateView
+start_in dt f ring = record { title = f.title; step = pos 0; sides = sides_view ring; atoms = map (started_atom dt ring) f.atoms }
+
+abbrev pub on_box : Result RingBox BoxFault → (RingBox → StateView) → Result StateView BoxFault
+on_box (Ok ring) start = Ok (start ring)
+on_box (Err fault) start = Err fault
+
+-- the state that begins at a frame with a time step of dt fs, or why its sides are no box's
+abbrev pub start_of : ℕ → gro.FrameView → Result StateView BoxFault
+start_of dt f = on_box (box_of f.sides) (start_in dt f)
+
+-- What a call returned, seen by view, is what the definition answers. Want of memory says nothing.
+abbrev pub Gives : {X : Type 0} → (X → StateView) → Result X StartFault → Result StateView BoxFault → Type 0
+Gives view (Ok x) answer = answer ≡ Ok (view x)
+Gives view (Err (fault.Box why)) answer = answer ≡ Err why
+Gives view (Err fault.Memory) answer = Unit {0}
+
+-- ---- the same as a relation
+
+-- One coordinate of an atom that a frame has at p picometres with the velocity v: its place x is the nearest one, and its place y is where the velocity has it one time step before.
+pub record IsStartOnSide (dt L : ℕ) (p v : ℤ) (y x : ℕ) : Type 0 where
+  pub nearest : IsPlaceOfPm p L x
+  pub before : IsPlaceBefore x v dt L y
+
+-- the same of an atom, on each side of the box; its names stay
+pub record IsStartOfAtom (dt : ℕ) (sides : List ℕ) (g : gro.AtomView) (a : AtomView) : Type 0 where
+  pub number : a.residue_number ≡ g.number
+  pub residue : a.residue ≡ g.residue
+  pub name : a.name ≡ g.name
+  pub x : IsStartOnSide dt (slice_index sides 0) (slice_index_or g.at 0 (pos 0)) (slice_index_or g.velocity 0 (pos 0)) (slice_index a.previous 0) (slice_index a.current 0)
+  pub y : IsStartOnSide dt (slice_index sides 1) (slice_index_or g.at 1 (pos 0)) (slice_index_or g.velocity 1 (pos 0)) (slice_index a.previous 1) (slice_index a.current 1)
+  pub z : IsStartOnSide dt (slice_index sides 2) (slice_index_or g.at 2 (pos 0)) (slice_index_or g.velocity 2 (pos 0)) (slice_index a.previous 2) (slice_index a.current 2)
+
+-- the state s begins at the frame f
+pub record BeginsAt (dt : ℕ) (f : gro.FrameView) (s : StateView) : Type 0 where
+  pub title : s.title ≡ f.title
+  pub counter : s.step ≡ pos 0
+  pub x_side : pos (slice_index s.sides 0) ≡ slice_index_or f.sides 0 (pos 0)
+  pub y_side : pos (slice_index s.sides 1) ≡ slice_index_or f.sides 1 (pos 0)
+  pub z_side : pos (slice_index s.sides 2) ≡ slice_index_or f.sides 2 (pos 0)
+  pub atoms : AllZip (IsStartOfAtom dt s.sides) f.atoms s.atoms

@@ -1,0 +1,48 @@
+-- The frame of a state's current places, as a GRO file has it.
+use Rattle.std.specs.Prelude.{◌≡◌, ℕ, ℤ, pos, ◌≤ℤ◌, List, [], ◌∷◌, map, slice_index}
+use Rattle.std.specs.List.{AllByRecursion}
+use Rattle.gro.specs.Frames as gro
+use Rattle.ring_box.specs.Places.{pm_of_place}
+use Rattle.state.specs.StateText.{AtomView, StateView}
+
+-- the position of a place, and an atom's at its current place
+abbrev pub position_of : List ℕ → List ℕ → List ℤ
+position_of sides place =
+    pm_of_place (slice_index place 0) (slice_index sides 0)
+    ∷ pm_of_place (slice_index place 1) (slice_index sides 1)
+    ∷ pm_of_place (slice_index place 2) (slice_index sides 2)
+    ∷ []
+
+abbrev pub at_rest : List ℤ
+at_rest = pos 0 ∷ pos 0 ∷ pos 0 ∷ []
+
+abbrev pub framed_atom : List ℕ → AtomView → gro.AtomView
+framed_atom sides a = record { number = a.residue_number; residue = a.residue; name = a.name; at = position_of sides a.current; velocity = at_rest }
+
+-- that frame
+abbrev pub frame_of : StateView → gro.FrameView
+frame_of s = record { title = s.title; atoms = map (framed_atom s.sides) s.atoms; sides = map pos s.sides }
+
+-- ---- its numbers
+
+-- three numbers, each with this property
+abbrev pub AreThree : (ℤ → Type 0) → List ℤ → Type 0
+AreThree P (x ∷ y ∷ z ∷ []) = P x × P y × P z
+AreThree P _ = ⊥
+
+-- in picometres, no side being above 160 nm
+abbrev pub IsInBox : ℤ → Type 0
+IsInBox p = (pos 0 ≤ℤ p) × (p ≤ℤ pos 160000)
+
+-- in 10^-5 nm
+abbrev pub IsSide : ℤ → Type 0
+IsSide z = (pos 1 ≤ℤ z) × (z ≤ℤ pos 16000000)
+
+pub record IsAtomAtRest (a : gro.AtomView) : Type 0 where
+  pub at : AreThree IsInBox a.at
+  pub velocity : a.velocity ≡ at_rest
+
+-- atoms at rest, in a box
+pub record IsFrameAtRest (f : gro.FrameView) : Type 0 where
+  pub atoms : AllByRecursion IsAtomAtRest f.atoms
+  pub sides : AreThree IsSide f.sides

@@ -1,0 +1,112 @@
+//! The state that begins at a frame of a GRO file.
+
+ghost use Rattle.std.specs.Prelude.{◌≡◌, ◌≤◌, map, IfOk};
+ghost use Rattle.gro.specs.Frames as gro;
+ghost use Rattle.state.specs.Starts.{Gives, current_places, previous_places, start_of, started_atom};
+ghost use Rattle.state.specs.StateViews.{atom_view, state_view};
+
+use crate::faults::StartFault;
+use crate::states::{Atom, State};
+use crate::velocities::place_before;
+use gro::{GroAtom, GroFrame};
+use job::Job;
+use ring_box::{RingBox, place_of_pm};
+use std::alloc::{AllocError, Allocator};
+
+impl<A: Allocator + Copy> State<A> {
+    ghost use Rattle.gro.specs.Frames.{frame_view};
+    ghost use Rattle.state.specs.StateViews.{state_view};
+    ghost use Rattle.state.specs.Starts.{BeginsAt, Gives, start_of};
+
+    /// The state that begins at a frame: its counter is 0, and title, residue numbers, names and sides are the frame's. Each coordinate's current place is the one nearest to its position, and its previous place is as many places before that as its velocity leads in the job's time step.
+    ///
+    /// `Box` where the frame's sides are no box's: `NoBox` where all three are 0, else `SideRange` where some side is below 1 or above 16,000,000. `Memory` comes only where a growth was refused.
+    pub fn start<J: Allocator, F: Allocator>(
+        alloc: A,
+        job: &Job<J>,
+        frame: &GroFrame<F>,
+    ) -> Result<State<A>, StartFault>
+        // The state, or the fault of the sides.
+        ensures exact { Gives state_view result (start_of job.now.time_step (frame_view frame.now)) }
+        // Each place is nearest to where the frame, or the velocity one time step before it, has the atom.
+        ensures begins { IfOk result (λ s. BeginsAt job.now.time_step (frame_view frame.now) (state_view s)) }
+    {
+        started(alloc, job.time_step, frame)
+    }
+}
+
+fn started<A: Allocator + Copy, F: Allocator>(
+    alloc: A,
+    time_step: u32,
+    frame: &GroFrame<F>,
+) -> Result<State<A>, StartFault>
+    requires { time_step ≤ 1000 }
+    ensures { Gives state_view result (start_of time_step (gro.frame_view frame.now)) }
+{
+    let ring = RingBox::new(frame.sides)?;
+    let title = Vec::from_slice(alloc, &frame.title)?;
+    let atoms = started_atoms(alloc, time_step, &ring, &frame.atoms)?;
+    Ok(State {
+        title,
+        step: 0,
+        ring,
+        atoms,
+    })
+}
+
+fn started_atoms<A: Allocator>(
+    alloc: A,
+    time_step: u32,
+    ring: &RingBox,
+    atoms: &[GroAtom],
+) -> Result<Vec<Atom, A>, AllocError>
+    requires { time_step ≤ 1000 }
+    ensures { IfOk result (λ v. map atom_view v.items ≡ map (started_atom time_step ring.now) (map gro.atom_view atoms.now)) }
+{
+    let mut started = Vec::new(alloc);
+    for atom in atoms {
+        started.push(started_atom(time_step, ring, atom))?;
+    }
+    Ok(started)
+}
+
+fn started_atom(time_step: u32, ring: &RingBox, atom: &GroAtom) -> Atom
+    requires { time_step ≤ 1000 }
+    ensures { atom_view result ≡ started_atom time_step ring.now (gro.atom_view atom.now) }
+{
+    let current = current_places(ring, &atom.at);
+    let previous = previous_places(time_step, ring, &current, &atom.velocity);
+    Atom {
+        residue_number: atom.number,
+        residue: atom.residue,
+        name: atom.name,
+        previous,
+        current,
+    }
+}
+
+fn current_places(ring: &RingBox, at: &[i64; 3]) -> [u32; 3]
+    ensures { result ≡ current_places ring.now at.now }
+{
+    [
+        place_of_pm(at[0], ring.x),
+        place_of_pm(at[1], ring.y),
+        place_of_pm(at[2], ring.z),
+    ]
+}
+
+fn previous_places(
+    time_step: u32,
+    ring: &RingBox,
+    current: &[u32; 3],
+    velocity: &[i64; 3],
+) -> [u32; 3]
+    requires { time_step ≤ 1000 }
+    ensures { result ≡ previous_places time_step ring.now current.now velocity.now }
+{
+    [
+        place_before(current[0], velocity[0], time_step, ring.x),
+        place_before(current[1], velocity[1], time_step, ring.y),
+        place_before(current[2], velocity[2], time_step, ring.z),
+    ]
+}
