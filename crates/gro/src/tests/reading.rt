@@ -93,7 +93,6 @@ fn reads_several_frames(rt: HostRuntime) -> Result<(), Fail> {
     let mut text = Vec::new(rt.alloc());
     text.extend_from_slice(EXAMPLE.as_bytes())?;
     text.extend_from_slice(WATER.as_bytes())?;
-    text.extend_from_slice(b" \r\n\n  ")?;
     let frames = read_frames(rt.alloc(), &text)?;
     assert_eq!(rt; frames.len(), 2);
     assert_eq!(rt; pick(frames.as_slice(), 1)?.atoms.len(), 2);
@@ -115,8 +114,21 @@ fn reads_several_frames(rt: HostRuntime) -> Result<(), Fail> {
     text.extend_from_slice(b"\n1x\n")?;
     assert_eq!(rt;
         fault(rt.alloc(), &text),
-        Some(GroFault::BadCount { line: 12 })
+        Some(GroFault::BadCount { line: 11 })
     );
+    Ok(())
+}
+
+#[test]
+fn ends_at_blanks(rt: HostRuntime) -> Result<(), Fail> {
+    for blanks in ["\n", " \r\n\n  ", "\r\r", "   "] {
+        let text = format!(in rt.alloc(); "{WATER}{blanks}")?;
+        assert_eq!(rt;
+            only(rt.alloc(), text.as_bytes())?.atoms.len(),
+            1,
+            "at {blanks:?}"
+        );
+    }
     Ok(())
 }
 
@@ -158,7 +170,7 @@ fn reads_full_columns(rt: HostRuntime) -> Result<(), Fail> {
             [0, 100, 10_000],
         ),
         (
-            " 0007  X    y   *****   1.234  -5.678   9.012",
+            " 0007  X    y  *****   1.234  -5.678   9.012",
             7,
             "X",
             "y",
