@@ -6,4 +6,5 @@ pub mod CountLaws
 pub mod AtomLaws
 pub mod BoxLaws
 pub mod FrameLoops
+pub mod FrameLaws
 pub mod WrittenFrames

@@ -33,6 +33,12 @@ digits_again width n fits =
     rw (zeros_are_digits (width - length (decimal n)) (decimal n) ∙ digits_decimal own n fits)
     (ap (λ (m : ℕ). Some m) (zeros_add_none (width - length (decimal n)) (decimal n) ∙ digits_value-decimal own n fits))
 
+pub zeros_value : (width n : ℕ) → n < 2 ^ 64 → (all_ascii_digits (zeros_in width (decimal n)) ≡ true) × (digits_value 10 (zeros_in width (decimal n)) ≡ n)
+zeros_value width n fits = (
+  zeros_are_digits (width - length (decimal n)) (decimal n) ∙ digits_decimal own n fits,
+  zeros_add_none (width - length (decimal n)) (decimal n) ∙ digits_value-decimal own n fits,
+)
+
 pub decimal_digits_again : (n : ℕ) → n < 2 ^ 64 → digits_of (decimal n) ≡ Some n
 unfolding digits_of
 decimal_digits_again n fits = rw (digits_decimal own n fits) (ap (λ (m : ℕ). Some m) (digits_value-decimal own n fits))
