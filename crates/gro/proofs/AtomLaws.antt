@@ -2,7 +2,7 @@
 use Rattle.std.proofs.Common.{◌≡◌, ℕ, zero, suc, ◌+◌, ◌-◌, ◌<◌, ◌≤◌, Bool, true, false, ◌&&◌, cond, eqb, ltb, not, List, [], ◌∷◌, ◌++◌, length, take, drop, get_or, replicate, Option, Some, None, Result, Ok, Err, ℤ, pos, IsTrue, refl, sym, ap, subst, ◌∙◌, append_assoc, arith, lit<}
 use Rattle.std.specs.List.{list_all, slice_range}
 use Rattle.std.specs.Int.{IsInRange}
-use Rattle.std.proofs.lemmas.Bool.{and_parts, and_from, eqb-true, eqb-false, ltb-false, le-ltb, ne_eqb}
+use Rattle.std.proofs.lemmas.Bool.{and_parts, and_from, eqb-true, eqb-false, ltb-false, le-ltb, ne_eqb, false_from_ne_true}
 use Rattle.std.proofs.lemmas.List.{take-append-drop, length-append}
 use Rattle.std.proofs.lemmas.List.Folds.{list_all-append}
 use Rattle.std.proofs.Common.{length-take, length-drop}
@@ -10,7 +10,7 @@ use Rattle.line_text.specs.Parts.{◌>>=◌, lacks, cut_at, name_of, trimmed, is
 use Rattle.line_text.specs.Columns.{signed_by, decimal_column_of, is_residue_number}
 use Rattle.line_text.specs.Written.{WritesWhole, WritesSigned, plain, minus, WritesDecimal, WritesColumn, WritesName}
 use Rattle.line_text.proofs.PartLaws.{some_of, none_or}
-use Rattle.line_text.proofs.LineLaws.{bind_some, lacks_append, cut_again}
+use Rattle.line_text.proofs.LineLaws.{bind_some, copies_lack, lacks_append, cut_again}
 use Rattle.line_text.proofs.ResidueNumbers.{number_in_range, number_is}
 use Rattle.line_text.proofs.WrittenLaws.{padded_found, padded_read, name_written, name_read, digits_lack_byte, signed_written, signed_read, signed_first, column_written, column_read}
 use Rattle.gro.specs.declared.faults.GroFault.{GroFault}
@@ -75,10 +75,6 @@ three_read places text (x ∷ y ∷ z ∷ []) h =
     ∙ ap (λ (o : Option ℤ). o >>= λ c. Some (x ∷ y ∷ c ∷ [])) (column_read places (slice_range text 16 24) z h.2)
 
 -- ---- points
-
-copies_lack : (c b k : ℕ) → (b ≡ c → ⊥) → lacks c (replicate k b) ≡ true
-copies_lack c b zero h = refl
-copies_lack c b (suc k) h = rw (ne_eqb b c h, copies_lack c b k h) refl
 
 -- a column has one point, so many digits before its end
 pub record HasPoint (places : ℕ) (column : List ℕ) : Type 0 where
@@ -159,10 +155,6 @@ columns_not_blank places tail (x ∷ y ∷ z ∷ []) h e =
     let parts = and_parts (are_spaces (take 8 tail)) (are_spaces (drop 8 tail)) (sym (list_all-append (λ b. eqb b 32) (take 8 tail) (drop 8 tail)) ∙ ap are_spaces (take-append-drop 8 tail) ∙ e) in
     column_not_blank places (take 8 tail) x h.0 parts.0
 
-is_false : (b : Bool) → (b ≡ true → ⊥) → b ≡ false
-is_false true h = absurd (h refl)
-is_false false h = refl
-
 velocity_written : (tail : List ℕ) (v : List ℤ) → velocity_of tail ≡ Some v → IsVelocity tail v
 unfolding velocity_of
 velocity_written tail v e = at (are_spaces tail) refl (ltb (length tail) 24) refl (are_spaces (drop 24 tail)) refl e
@@ -178,7 +170,7 @@ velocity_read : (tail : List ℕ) (v : List ℤ) → IsVelocity tail v → veloc
 unfolding velocity_of
 velocity_read tail v (absent s e) = rw s (ap (λ (w : List ℤ). Some w) (sym e))
 velocity_read tail v (given long columns rest) =
-    rw (is_false (are_spaces tail) (columns_not_blank 4 tail v columns), le-ltb (length tail) 24 long, rest) (three_read 4 tail v columns)
+    rw (false_from_ne_true (are_spaces tail) (columns_not_blank 4 tail v columns), le-ltb (length tail) 24 long, rest) (three_read 4 tail v columns)
 
 -- ---- the line
 

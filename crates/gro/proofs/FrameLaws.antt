@@ -1,7 +1,7 @@
 -- Frames are read exactly where the text stands for them.
 use Rattle.std.proofs.Common.{◌≡◌, ℕ, zero, suc, ◌+◌, ◌-◌, ◌<◌, ◌≤◌, Bool, true, false, ◌&&◌, ◌||◌, cond, eqb, List, [], ◌∷◌, ◌++◌, length, get_or, replicate, ℤ, Result, Ok, Err, IfOk, refl, sym, ap, subst, ◌∙◌, arith, inl, inr}
 use Rattle.std.specs.List.{list_all}
-use Rattle.std.proofs.lemmas.Bool.{and_parts, ne_eqb}
+use Rattle.std.proofs.lemmas.Bool.{and_parts, ne_eqb, false_from_ne_true}
 use Rattle.std.proofs.lemmas.List.Folds.{list_all-append}
 use Rattle.gro.specs.declared.faults.GroFault.{GroFault}
 use Rattle.gro.specs.declared.frames.GroFrame.{GroFrame}
@@ -134,10 +134,6 @@ frames_not_blank bytes [] h e = h
 frames_not_blank bytes (f ∷ []) h e = frame_not_blank bytes f h.0 h.1 e
 frames_not_blank bytes (f ∷ g ∷ frames) h e = frame_not_blank bytes f h.0 h.1 e
 
-is_false : (b : Bool) → (b ≡ true → ⊥) → b ≡ false
-is_false true h = absurd (h refl)
-is_false false h = refl
-
 -- ---- all frames
 
 frames_written : (k n : ℕ) (bytes : List ℕ) (frames : List FrameView) → frames_at k n bytes ≡ Ok frames → IsGroText bytes frames
@@ -169,7 +165,7 @@ frames_read (suc k) n bytes (f ∷ []) lt h =
 frames_read (suc k) n bytes (f ∷ g ∷ frames) lt h =
     let less = frame_shorter n bytes (f, h.0) (frame_read n bytes f h.0 h.1) in
     first_read k n bytes f h.0 h.1
-    ∙ ap (λ (b : Bool). cond b (Ok (f ∷ [])) (frames_at k (n + length f.atoms + 3) h.0 >>= λ fs. Ok (f ∷ fs))) (is_false (is_blank h.0) (frames_not_blank h.0 (g ∷ frames) h.2))
+    ∙ ap (λ (b : Bool). cond b (Ok (f ∷ [])) (frames_at k (n + length f.atoms + 3) h.0 >>= λ fs. Ok (f ∷ fs))) (false_from_ne_true (is_blank h.0) (frames_not_blank h.0 (g ∷ frames) h.2))
     ∙ ap (λ (r : Result (List FrameView) GroFault). r >>= λ fs. Ok (f ∷ fs)) (frames_read k (n + length f.atoms + 3) h.0 (g ∷ frames) (omega arith) h.2)
 
 pub text_of_frames : (bytes : List ℕ) (frames : List FrameView) → frames_of bytes ≡ Ok frames → IsGroText bytes frames

@@ -3,15 +3,11 @@ use Rattle.std.proofs.Common.{◌≡◌, ℕ, zero, suc, ◌-◌, ◌<◌, ◌�
 use Rattle.std.proofs.lemmas.Bool.{and_parts, and_from, eqb-false, ne_eqb, eq-eqb, not-true, cond-false}
 use Rattle.std.proofs.lemmas.List.{length-append, append-nil}
 use Rattle.line_text.specs.Parts.{lacks, is_title, cut_at, without_returns}
-use Rattle.line_text.proofs.LineLaws.{lacks_append, lacks_front, cut_found, cut_none, cut_again, uncut, cut_shorter, end_found, end_again, end_dropped}
+use Rattle.line_text.proofs.LineLaws.{copies_lack, lacks_append, lacks_front, cut_found, cut_none, cut_again, uncut, cut_shorter, end_found, end_again, end_dropped}
 use Rattle.gro.specs.declared.faults.GroFault.{GroFault}
 use Rattle.gro.specs.declared.faults.GroFault.TheVariants.{Truncated}
 use Rattle.gro.specs.GroText.{IsLine}
 use Rattle.gro.specs.GroReading.{LineView, parted, line_at}
-
-pub returns_lack : (c k : ℕ) → c < 13 → lacks c (replicate k 13) ≡ true
-returns_lack c zero low = refl
-returns_lack c (suc k) low = rw (ne_eqb 13 c (λ e. omega arith), returns_lack c k low) refl
 
 -- without the returns at its end, a line is a title's
 pub returns_bare : (line : List ℕ) → lacks 10 line ≡ true → IsTrue (is_title (without_returns line))
@@ -62,7 +58,7 @@ line_read bytes text rest h =
     elim h.whole [
       | inl e ↦
           let line : List ℕ = text ++ replicate h.returns 13 in
-          let lack : lacks 10 line ≡ true = lacks_append 10 text (replicate h.returns 13) (title_lacks text h.bare) (returns_lack 10 h.returns (lit< tt)) in
+          let lack : lacks 10 line ≡ true = lacks_append 10 text (replicate h.returns 13) (title_lacks text h.bare) (copies_lack 10 13 h.returns (λ e. omega arith)) in
           let whole : bytes ≡ line ++ 10 ∷ rest = e ∙ sym (append_assoc text (replicate h.returns 13) (10 ∷ rest)) in (
             true,
             some_line bytes text (Some (line, rest)) (record { text = text; ended = true }) rest (omega (arith, ap length whole, length-append line (10 ∷ rest)))
@@ -70,7 +66,7 @@ line_read bytes text rest h =
                 (ap (λ (t : List ℕ). (record { text = t; ended = true }, rest)) (end_again 13 h.returns text (title_end text h.bare))),
           )
       | inr e ↦
-          let lack : lacks 10 bytes ≡ true = rw e.0 (lacks_append 10 text (replicate h.returns 13) (title_lacks text h.bare) (returns_lack 10 h.returns (lit< tt))) in (
+          let lack : lacks 10 bytes ≡ true = rw e.0 (lacks_append 10 text (replicate h.returns 13) (title_lacks text h.bare) (copies_lack 10 13 h.returns (λ e. omega arith))) in (
             false,
             some_line bytes text None (record { text = text; ended = false }) rest e.1 (uncut 10 bytes lack)
                 (ap (λ (t : List ℕ). (record { text = t; ended = false }, [])) (ap without_returns e.0 ∙ end_again 13 h.returns text (title_end text h.bare)) ∙ ap (λ (r : List ℕ). (record { text = text; ended = false }, r)) (sym e.2)),

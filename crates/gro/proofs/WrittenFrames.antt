@@ -21,7 +21,7 @@ use Rattle.line_text.proofs.LineLaws.{ended_then, length-right_in, length-left_i
 use Rattle.line_text.proofs.NameLaws.{is_clean, printable_lacks}
 use Rattle.line_text.proofs.ColumnLaws.{decimal_column_again, length-with_decimals-le, length-zeros_in, zeros_value, decimals_text_lacks}
 use Rattle.line_text.proofs.DigitLaws.{own}
-use Rattle.line_text.proofs.ResidueNumbers.{number_short}
+use Rattle.line_text.proofs.ResidueNumbers.{number_short, number_small}
 use Rattle.line_text.proofs.WrittenLaws.{digit_in, column_written}
 use Rattle.line_text.proofs.WordLaws.{no_words, words_right, right_ends}
 use Rattle.gro.specs.Frames.{AtomView, FrameView}
@@ -109,12 +109,8 @@ writes_signed : (z : ℤ) → mag z < 2 ^ 63 → WritesSigned WritesWhole (signe
 writes_signed (pos n) fits = plain n (writes_whole n (omega arith)) refl
 writes_signed (negsuc n) fits = minus (decimal (suc n)) (suc n) refl (writes_whole (suc n) (omega arith)) refl
 
-small : (z : ℤ) → negsuc 9998 ≤ℤ z → z ≤ℤ pos 99999 → mag z < 2 ^ 63
-small (pos n) low high = omega (arith, ints)
-small (negsuc n) low high = omega (arith, ints)
-
 writes_number : (z : ℤ) → negsuc 9998 ≤ℤ z → z ≤ℤ pos 99999 → IsResidueNumber (right_in 5 (signed_decimal z)) z
-writes_number z low high = record { text = signed_decimal z; padded = padded_right 5 (signed_decimal z); number = writes_signed z (small z low high); low = low; high = high }
+writes_number z low high = record { text = signed_decimal z; padded = padded_right 5 (signed_decimal z); number = writes_signed z (number_small z low high); low = low; high = high }
 
 fits_mag : (z : ℤ) → FitsPosition z → mag z < 2 ^ 63
 fits_mag (pos n) h = omega (arith, ints, h.1)
@@ -212,7 +208,7 @@ atom_stands index a (p ∷ q ∷ r ∷ []) same form fits rest =
     printable_append (number ++ residue ++ name ++ count) (column p ++ (column q ++ (column r ++ [])))
     (printable_append (number ++ residue ++ name) count
     (printable_append (number ++ residue) name
-    (printable_append number residue (printable_right 5 (signed_decimal a.number) (printable_signed a.number (small a.number form.low form.high))) (printable_left 5 a.residue (printable_name a.residue form.residue)))
+    (printable_append number residue (printable_right 5 (signed_decimal a.number) (printable_signed a.number (number_small a.number form.low form.high))) (printable_left 5 a.residue (printable_name a.residue form.residue)))
     (printable_right 5 a.name (printable_name a.name form.name)))
     (printable_right 5 (decimal (index % 100000)) (printable_decimal (index % 100000) (omega arith))))
     (printable_append (column p) (column q ++ (column r ++ [])) (pr p fits.0) (printable_append (column q) (column r ++ []) (pr q fits.1) (printable_append (column r) [] (pr r fits.2) refl))) in (

@@ -240,9 +240,12 @@ words_lack c limit (x ∷ y ∷ z ∷ []) low small h =
 
 -- ---- columns
 
+pub copies_lack : (c b k : ℕ) → (b ≡ c → ⊥) → lacks c (replicate k b) ≡ true
+copies_lack c b zero h = refl
+copies_lack c b (suc k) h = rw (ne_eqb b c h, copies_lack c b k h) refl
+
 pub spaces_lack : (c k : ℕ) → c < 32 → lacks c (replicate k 32) ≡ true
-spaces_lack c zero low = refl
-spaces_lack c (suc k) low = rw (ne_eqb 32 c (λ e. omega arith), spaces_lack c k low) refl
+spaces_lack c k low = copies_lack c 32 k (λ e. omega arith)
 
 pub right_lacks : (c width : ℕ) (text : List ℕ) → c < 32 → lacks c text ≡ true → lacks c (right_in width text) ≡ true
 right_lacks c width text low l = lacks_append c (replicate (width - length text) 32) text (spaces_lack c (width - length text) low) l
