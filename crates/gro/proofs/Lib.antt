@@ -1,1 +1,10 @@
 pub mod Appends
+pub mod Items
+pub mod Pieces
+pub mod LineLaws
+pub mod CountLaws
+pub mod AtomLaws
+pub mod BoxLaws
+pub mod FrameLoops
+pub mod FrameLaws
+pub mod WrittenFrames

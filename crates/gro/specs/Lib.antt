@@ -1,2 +1,6 @@
 pub mod Frames
+pub mod GroReading
+pub mod GroText
+pub mod GroWriting
+pub mod InputLines
 pub mod Out

@@ -14,7 +14,7 @@ use lib.Signed.{mag}
 use Rattle.line_text.specs.Parts.{lacks, right_in, without_spaces}
 use Rattle.line_text.specs.Columns.{digits_of, decimals_of, decimal_column_of, zeros_in, with_decimals, decimals_text}
 use Rattle.line_text.proofs.DigitLaws.{own}
-use Rattle.line_text.proofs.LineLaws.{lacks_append, lacks_first, decimal_lacks, right_again}
+use Rattle.line_text.proofs.LineLaws.{copies_lack, lacks_append, lacks_first, decimal_lacks, right_again}
 
 -- ---- digits
 
@@ -33,6 +33,12 @@ digits_again width n fits =
     rw (zeros_are_digits (width - length (decimal n)) (decimal n) ∙ digits_decimal own n fits)
     (ap (λ (m : ℕ). Some m) (zeros_add_none (width - length (decimal n)) (decimal n) ∙ digits_value-decimal own n fits))
 
+pub zeros_value : (width n : ℕ) → n < 2 ^ 64 → (all_ascii_digits (zeros_in width (decimal n)) ≡ true) × (digits_value 10 (zeros_in width (decimal n)) ≡ n)
+zeros_value width n fits = (
+  zeros_are_digits (width - length (decimal n)) (decimal n) ∙ digits_decimal own n fits,
+  zeros_add_none (width - length (decimal n)) (decimal n) ∙ digits_value-decimal own n fits,
+)
+
 pub decimal_digits_again : (n : ℕ) → n < 2 ^ 64 → digits_of (decimal n) ≡ Some n
 unfolding digits_of
 decimal_digits_again n fits = rw (digits_decimal own n fits) (ap (λ (m : ℕ). Some m) (digits_value-decimal own n fits))
@@ -45,7 +51,7 @@ length-zeros_in width text h = omega (arith, length-append (replicate (width - l
 mod_small : (n m : ℕ) → n % m ≤ n
 mod_small n m = omega (arith, div-add-mod' n m)
 
-parts_read : (places : ℕ) (front back : List ℕ) (whole part : ℕ) → 0 < length front → length back ≡ places → digits_of front ≡ Some whole → digits_of back ≡ Some part
+pub parts_read : (places : ℕ) (front back : List ℕ) (whole part : ℕ) → 0 < length front → length back ≡ places → digits_of front ≡ Some whole → digits_of back ≡ Some part
     → decimals_of places (front ++ 46 ∷ back) ≡ Some (whole * 10 ^ places + part)
 unfolding decimals_of
 parts_read places front back whole part some len f b =
@@ -85,17 +91,13 @@ length-with_decimals-le places ahead n some front fits below =
 
 -- ---- bytes that it lacks
 
-zeros_lack : (c k : ℕ) → c < 48 → lacks c (replicate k 48) ≡ true
-zeros_lack c zero low = refl
-zeros_lack c (suc k) low = rw (ne_eqb 48 c (λ e. omega arith), zeros_lack c k low) refl
-
 with_decimals_lacks : (c places n : ℕ) → c < 45 → n < 2 ^ 64 → lacks c (with_decimals places n) ≡ true
 with_decimals_lacks c places n low fits =
     let whole : n / 10 ^ places < 2 ^ 64 = omega (arith, div-le_self n (10 ^ places)) in
     let part : n % 10 ^ places < 2 ^ 64 = omega (arith, mod_small n (10 ^ places)) in
     let zeros : List ℕ = replicate (places - length (decimal (n % 10 ^ places))) 48 in
     let back : lacks c (zeros ++ decimal (n % 10 ^ places)) ≡ true =
-    lacks_append c zeros (decimal (n % 10 ^ places)) (zeros_lack c (places - length (decimal (n % 10 ^ places))) (omega arith)) (decimal_lacks c (n % 10 ^ places) (omega arith) part) in
+    lacks_append c zeros (decimal (n % 10 ^ places)) (copies_lack c 48 (places - length (decimal (n % 10 ^ places))) (λ e. omega arith)) (decimal_lacks c (n % 10 ^ places) (omega arith) part) in
     lacks_append c (decimal (n / 10 ^ places)) (46 ∷ zeros ++ decimal (n % 10 ^ places)) (decimal_lacks c (n / 10 ^ places) (omega arith) whole) (rw (ne_eqb 46 c (λ e. omega arith), back) refl)
 
 pub decimals_text_lacks : (c places : ℕ) (z : ℤ) → c < 45 → mag z < 2 ^ 63 → lacks c (decimals_text places z) ≡ true

@@ -13,7 +13,7 @@ use Rattle.std.proofs.lemmas.List.Sums.{split_at_first, passes_at_first}
 use Rattle.std.proofs.lemmas.List.{take_at, drop_at, take_all, take-append-drop, append-nil, length-append, length-replicate, reverse-append, reverse-reverse, get_or-reverse}
 use Rattle.std.proofs.Math.Seq.{drop-append-add}
 use lib.Signed.{mag}
-use Rattle.line_text.specs.Parts.{◌>>=◌, natural_of, integer_of, lacks, cut_at, ended, after, word, AreThree, word_at, three_at, without_spaces, without_end_spaces, right_in, left_in}
+use Rattle.line_text.specs.Parts.{◌>>=◌, natural_of, integer_of, lacks, cut_at, ended, after, word, AreThree, word_at, three_at, without_front, without_end, without_spaces, without_end_spaces, right_in, left_in}
 use Rattle.line_text.proofs.PartLaws.{some_of, same_bytes, bytes_same, natural_found, natural_again, integer_again}
 
 -- the value of a step that did not fail
@@ -240,9 +240,12 @@ words_lack c limit (x ∷ y ∷ z ∷ []) low small h =
 
 -- ---- columns
 
+pub copies_lack : (c b k : ℕ) → (b ≡ c → ⊥) → lacks c (replicate k b) ≡ true
+copies_lack c b zero h = refl
+copies_lack c b (suc k) h = rw (ne_eqb b c h, copies_lack c b k h) refl
+
 pub spaces_lack : (c k : ℕ) → c < 32 → lacks c (replicate k 32) ≡ true
-spaces_lack c zero low = refl
-spaces_lack c (suc k) low = rw (ne_eqb 32 c (λ e. omega arith), spaces_lack c k low) refl
+spaces_lack c k low = copies_lack c 32 k (λ e. omega arith)
 
 pub right_lacks : (c width : ℕ) (text : List ℕ) → c < 32 → lacks c text ≡ true → lacks c (right_in width text) ≡ true
 right_lacks c width text low l = lacks_append c (replicate (width - length text) 32) text (spaces_lack c (width - length text) low) l
@@ -256,39 +259,71 @@ length-right_in width text h = omega (arith, length-append (replicate (width - l
 pub length-left_in : (width : ℕ) (text : List ℕ) → length text ≤ width → length (left_in width text) ≡ width
 length-left_in width text h = omega (arith, length-append text (replicate (width - length text) 32), length-replicate {A = ℕ} (width - length text) 32)
 
-without_pad : (k : ℕ) (text : List ℕ) → without_spaces (replicate k 32 ++ text) ≡ without_spaces text
-without_pad zero text = refl
-without_pad (suc k) text = without_pad k text
+-- ---- bytes dropped at either end
 
-no_spaces : (text : List ℕ) → (get_or text 0 0 ≡ 32 → ⊥) → without_spaces text ≡ text
-no_spaces [] h = refl
-no_spaces (x ∷ xs) h = rw (ne_eqb x 32 h) refl
+abbrev copies : ℕ → ℕ → List ℕ
+copies k c = replicate k c
+
+none_in_front : (c : ℕ) (text : List ℕ) → (get_or text 0 0 ≡ c → ⊥) → without_front c text ≡ text
+none_in_front c [] h = refl
+none_in_front c (x ∷ xs) h = rw (ne_eqb x c h) refl
+
+pub front_again : (c k : ℕ) (text : List ℕ) → (get_or text 0 0 ≡ c → ⊥) → without_front c (replicate k c ++ text) ≡ text
+front_again c zero text h = none_in_front c text h
+front_again c (suc k) text h = rw (eq-eqb c c refl) (front_again c k text h)
+
+-- the text is what is left and the bytes that were dropped
+pub front_found : (c : ℕ) (text : List ℕ) → (k : ℕ) × (text ≡ replicate k c ++ without_front c text)
+front_found c [] = (0, refl)
+front_found c (x ∷ xs) =
+    elim (cases_Bool (eqb x c)) [
+      | inr e ↦ (0, rw e refl)
+      | inl e ↦ (suc (front_found c xs).0, rw e (ap (λ (b : ℕ). b ∷ xs) (eqb-true x c e) ∙ ap (λ (t : List ℕ). c ∷ t) (front_found c xs).1))
+    ]
+
+-- what is left does not begin with the byte
+pub front_dropped : (c : ℕ) (text : List ℕ) → 0 < c → get_or (without_front c text) 0 0 ≡ c → ⊥
+front_dropped c [] some e = omega arith
+front_dropped c (x ∷ xs) some e = at (eqb x c) refl (front_dropped c xs some) e
+  where
+    at : (b : Bool) → eqb x c ≡ b → (get_or (without_front c xs) 0 0 ≡ c → ⊥) → get_or (cond b (without_front c xs) (x ∷ xs)) 0 0 ≡ c → ⊥
+    at true t h d = h d
+    at false t h d = let yes : eqb x c ≡ true = eq-eqb x c d in absurd cc
+
+copies_push : (c k : ℕ) → copies k c ++ copies 1 c ≡ copies (suc k) c
+copies_push c zero = refl
+copies_push c (suc k) = ap (λ (t : List ℕ). c ∷ t) (copies_push c k)
+
+reverse_copies : (c k : ℕ) → reverse (copies k c) ≡ copies k c
+reverse_copies c zero = refl
+reverse_copies c (suc k) = reverse-append (copies 1 c) (copies k c) ∙ ap (λ (t : List ℕ). t ++ copies 1 c) (reverse_copies c k) ∙ copies_push c k
+
+first_of_reverse : (text : List ℕ) → get_or (reverse text) 0 0 ≡ get_or text (length text - 1) 0
+first_of_reverse [] = refl
+first_of_reverse (x ∷ xs) =
+    let at : length (x ∷ xs) - 1 - 0 ≡ length (x ∷ xs) - 1 = omega arith in
+    get_or-reverse (x ∷ xs) 0 0 (omega arith) ∙ ap (λ i. get_or (x ∷ xs) i 0) at
+
+pub end_again : (c k : ℕ) (text : List ℕ) → (get_or text (length text - 1) 0 ≡ c → ⊥) → without_end c (text ++ replicate k c) ≡ text
+end_again c k text h =
+    let e : reverse (text ++ replicate k c) ≡ replicate k c ++ reverse text = rw (reverse-append, reverse_copies c k) refl in
+    ap (λ (t : List ℕ). reverse (without_front c t)) e
+    ∙ ap reverse (front_again c k (reverse text) (λ e. h (sym (first_of_reverse text) ∙ e))) ∙ reverse-reverse text
+
+pub end_found : (c : ℕ) (text : List ℕ) → (k : ℕ) × (text ≡ without_end c text ++ replicate k c)
+end_found c text =
+    let f = front_found c (reverse text) in
+    (f.0, sym (reverse-reverse text) ∙ ap reverse f.1 ∙ reverse-append (copies f.0 c) (without_front c (reverse text)) ∙ ap (λ (t : List ℕ). without_end c text ++ t) (reverse_copies c f.0))
+
+pub end_dropped : (c : ℕ) (text : List ℕ) → 0 < c → get_or (without_end c text) (length (without_end c text) - 1) 0 ≡ c → ⊥
+end_dropped c text some e =
+    front_dropped c (reverse text) some (ap (λ (t : List ℕ). get_or t 0 0) (sym (reverse-reverse (without_front c (reverse text)))) ∙ first_of_reverse (without_end c text) ∙ e)
 
 pub right_again : (width : ℕ) (text : List ℕ) → (get_or text 0 0 ≡ 32 → ⊥) → without_spaces (right_in width text) ≡ text
-right_again width text h = without_pad (width - length text) text ∙ no_spaces text h
-
-abbrev spaces : ℕ → List ℕ
-spaces k = replicate k 32
-
-spaces_push : (k : ℕ) → spaces k ++ spaces 1 ≡ spaces (suc k)
-spaces_push zero = refl
-spaces_push (suc k) = ap (λ (t : List ℕ). 32 ∷ t) (spaces_push k)
-
-reverse_pad : (k : ℕ) → reverse (spaces k) ≡ spaces k
-reverse_pad zero = refl
-reverse_pad (suc k) = reverse-append (spaces 1) (spaces k) ∙ ap (λ (t : List ℕ). t ++ spaces 1) (reverse_pad k) ∙ spaces_push k
-
-first_of_reverse : (text : List ℕ) → (get_or text (length text - 1) 0 ≡ 32 → ⊥) → get_or (reverse text) 0 0 ≡ 32 → ⊥
-first_of_reverse [] h e = h e
-first_of_reverse (x ∷ xs) h e =
-    let at : length (x ∷ xs) - 1 - 0 ≡ length (x ∷ xs) - 1 = omega arith in
-    h (ap (λ i. get_or (x ∷ xs) i 0) (sym at) ∙ sym (get_or-reverse (x ∷ xs) 0 0 (omega arith)) ∙ e)
+right_again width text h = front_again 32 (width - length text) text h
 
 pub left_again : (width : ℕ) (text : List ℕ) → (get_or text (length text - 1) 0 ≡ 32 → ⊥) → without_end_spaces (left_in width text) ≡ text
-left_again width text h =
-    let e : reverse (left_in width text) ≡ replicate (width - length text) 32 ++ reverse text = rw (reverse-append, reverse_pad (width - length text)) refl in
-    ap (λ (t : List ℕ). reverse (without_spaces t)) e
-    ∙ ap reverse (without_pad (width - length text) (reverse text) ∙ no_spaces (reverse text) (first_of_reverse text h)) ∙ reverse-reverse text
+left_again width text h = end_again 32 (width - length text) text h
 
 -- ---- numbers in a column
 

@@ -1,5 +1,5 @@
 -- Numbers with a fixed number of decimals, as C's %8.3f prints them, in whole units of the last decimal (GROMACS manual, gro file format).
-use Rattle.std.specs.Prelude.{ℕ, suc, ◌+◌, ◌-◌, ◌*◌, ◌/◌, ◌%◌, ◌^◌, List, ◌∷◌, ◌++◌, length, take, drop, replicate, Option, Some, None, ℤ, pos, negsuc, neg_ℤ, nat_lt, ◌==◌, slice_index, decimal, if◌then◌else◌, option_map}
+use Rattle.std.specs.Prelude.{ℕ, suc, ◌+◌, ◌-◌, ◌*◌, ◌/◌, ◌%◌, ◌^◌, List, ◌∷◌, ◌++◌, length, take, drop, replicate, Option, Some, None, ℤ, pos, negsuc, neg_ℤ, int_le, Bool, ◌&&◌, nat_lt, ◌==◌, slice_index, decimal, if◌then◌else◌, option_map}
 use Rattle.std.specs.Str.{all_ascii_digits}
 use Rattle.std.specs.Str.Parse.{digits_value}
 use Rattle.line_text.specs.Parts.{◌>>=◌, without_spaces}
@@ -16,11 +16,17 @@ decimals_of places text = if nat_lt (length text) (places + 2) then None else (
     digits_of (drop (length text - places) text) >>= λ part.
     Some (whole * 10 ^ places + part)) else None)
 
+-- a number that may have a minus
+abbrev pub signed_by : (List ℕ → Option ℕ) → List ℕ → Option ℤ
+signed_by read text = if slice_index text 0 == 45 then option_map (λ n. neg_ℤ (pos n)) (read (drop 1 text)) else option_map pos (read text)
+
 -- spaces, and such a number that may have a minus
 unfoldable pub decimal_column_of : ℕ → List ℕ → Option ℤ
-decimal_column_of places column = if slice_index (without_spaces column) 0 == 45
-    then option_map (λ n. neg_ℤ (pos n)) (decimals_of places (drop 1 (without_spaces column)))
-    else option_map pos (decimals_of places (without_spaces column))
+decimal_column_of places column = signed_by (decimals_of places) (without_spaces column)
+
+-- what a column of five bytes holds: -9999 to 99999
+abbrev pub is_residue_number : ℤ → Bool
+is_residue_number z = int_le (negsuc 9998) z && int_le z (pos 99999)
 
 -- with three decimals
 abbrev pub thousandths_of : List ℕ → Option ℕ

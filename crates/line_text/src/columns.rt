@@ -1,6 +1,6 @@
 //! Numbers with a fixed number of decimals, held as whole numbers of the last decimal's unit.
 
-ghost use Rattle.std.specs.Prelude.{◌≡◌, ℕ, ◌+◌, ◌^◌, ◌<◌, ◌≤◌, ◌++◌, length, IfSome, decimal};
+ghost use Rattle.std.specs.Prelude.{◌≡◌, ℕ, ◌+◌, ◌^◌, ◌<◌, ◌≤◌, ◌++◌, length, min, option_map, IfSome, decimal};
 ghost use Rattle.arrayvec.specs.ArrayVec.{array_vec_len};
 ghost use Rattle.line_text.specs.Parts.{right_in};
 ghost use Rattle.line_text.specs.Columns.{digits_of, decimals_of, decimal_column_of, column_of, zeros_in, decimals_text, position_text};
@@ -28,8 +28,27 @@ pub fn digits(text: &[u8]) -> Option<u64>
     Some(number)
 }
 
+/// The number that these digits write, or the limit where it is more; leading zeros are allowed, and
+/// no digits write 0.
+///
+/// `None` where a byte is no digit.
+pub fn digits_up_to(limit: u64, text: &[u8]) -> Option<u64>
+    requires { limit ≤ 2 ^ 32 }
+    ensures exact { result ≡ option_map (λ n. min n limit) (digits_of text.now) }
+    ensures most { IfSome result (λ n. n ≤ limit) }
+{
+    let mut number: u64 = 0;
+    for byte in text {
+        if !byte.is_ascii_digit() {
+            return None;
+        }
+        number = (number * 10 + (*byte - b'0') as u64).min(limit);
+    }
+    Some(number)
+}
+
 /// Ten to this power.
-fn power_of_ten(places: usize) -> u64
+pub fn power_of_ten(places: usize) -> u64
     requires { places ≤ 5 }
     ensures exact { result ≡ 10 ^ places }
     ensures some { 0 < result }

@@ -9,10 +9,15 @@ mod name;
 #[cfg(test)]
 mod tests;
 mod text;
+mod words;
 
 pub use columns::{
-    column, decimal_column, digits, put_decimals, put_decimals_right, put_thousandths,
+    column, decimal_column, digits, digits_up_to, power_of_ten, put_decimals, put_decimals_right,
+    put_thousandths,
 };
 pub use line::{Line, put, put_integer, put_left, put_natural, put_right, put_word};
-pub use name::Name;
-pub use text::{cut, integer, natural, strip, three_words, trim_end, trim_front, word};
+pub use name::{Name, is_printable};
+pub use text::{
+    cut, integer, natural, strip, three_words, trim, trim_end, trim_front, trim_returns, word,
+};
+pub use words::next_word;

@@ -91,7 +91,8 @@ fn has_clean_ends(text: &[u8]) -> bool
     text.is_empty() || (text[0] != b' ' && text[text.len() - 1] != b' ')
 }
 
-fn is_printable(text: &[u8]) -> bool
+/// Whether all bytes are of 32 to 126.
+pub fn is_printable(text: &[u8]) -> bool
     ensures { result ≡ is_printable text.now }
 {
     text.iter().all(|b| 32 <= *b && *b <= 126)

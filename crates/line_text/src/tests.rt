@@ -132,3 +132,36 @@ fn reads_decimals(rt: HostRuntime) {
         assert_eq!(rt; column(text.as_bytes()), None, "at {text:?}");
     }
 }
+
+#[test]
+fn reads_words_between_blanks(rt: HostRuntime) {
+    assert_eq!(rt;
+        next_word(b" \t2.0\t 3"),
+        Some((b"2.0".as_slice(), b"\t 3".as_slice()))
+    );
+    assert_eq!(rt;
+        next_word(b"2.0"),
+        Some((b"2.0".as_slice(), b"".as_slice()))
+    );
+    assert_eq!(rt; next_word(b" \t"), None);
+}
+
+#[test]
+fn trims_both_ends_and_returns(rt: HostRuntime) {
+    assert_eq!(rt; trim(b"  a b  "), b"a b".as_slice());
+    assert_eq!(rt; trim(b"   "), b"".as_slice());
+    assert_eq!(rt; trim_returns(b"a\rb\r\r"), b"a\rb".as_slice());
+    assert_eq!(rt; trim_returns(b"\r"), b"".as_slice());
+}
+
+#[test]
+fn caps_digits(rt: HostRuntime) {
+    assert_eq!(rt; digits_up_to(65_537, b"0065536"), Some(65_536));
+    assert_eq!(rt;
+        digits_up_to(65_537, b"99999999999999999999999"),
+        Some(65_537)
+    );
+    assert_eq!(rt; digits_up_to(65_537, b"1x"), None);
+    assert!(rt; is_printable(b" ~") && !is_printable(b"\t"));
+    assert_eq!(rt; power_of_ten(5), 100_000);
+}

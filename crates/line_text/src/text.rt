@@ -2,7 +2,7 @@
 
 ghost use Rattle.std.specs.Prelude.{◌≡◌, ℕ, ◌^◌, ◌==◌, ◌<◌, ◌≤◌, [], ◌∷◌, length, option_map, IfSome};
 ghost use Rattle.std.specs.List.{position_or_len};
-ghost use Rattle.line_text.specs.Parts.{natural_of, integer_of, cut_at, after, word_at, three_at, without_spaces, without_end_spaces};
+ghost use Rattle.line_text.specs.Parts.{natural_of, integer_of, cut_at, after, word_at, three_at, without_spaces, without_end_spaces, trimmed, without_returns};
 
 use itoa::Buffer;
 
@@ -127,10 +127,30 @@ pub fn trim_front(text: &[u8]) -> &[u8]
 
 /// The text without the spaces at its end.
 pub fn trim_end(text: &[u8]) -> &[u8]
-    ensures { result.now ≡ without_end_spaces text.now }
+    ensures trimmed { result.now ≡ without_end_spaces text.now }
+    ensures shorter { length result.now ≤ length text.now }
 {
     let mut rest = text;
     while let [before @ .., b' '] = rest {
+        rest = before;
+    }
+    rest
+}
+
+/// The text without the spaces at both of its ends.
+pub fn trim(text: &[u8]) -> &[u8]
+    ensures trimmed { result.now ≡ trimmed text.now }
+    ensures shorter { length result.now ≤ length text.now }
+{
+    trim_end(trim_front(text))
+}
+
+/// The line without the carriage returns at its end.
+pub fn trim_returns(line: &[u8]) -> &[u8]
+    ensures { result.now ≡ without_returns line.now }
+{
+    let mut rest = line;
+    while let [before @ .., b'\r'] = rest {
         rest = before;
     }
     rest

@@ -1,0 +1,114 @@
+-- What a GRO file says (GROMACS manual, gro file format): which texts stand for which frames.
+use Rattle.std.specs.Prelude.{◌≡◌, ℕ, ◌+◌, ◌*◌, ◌^◌, ◌-◌, ◌<◌, ◌≤◌, ◌⊎◌, Bool, ◌||◌, ◌==◌, List, [], ◌∷◌, ◌++◌, length, drop, replicate, ℤ, pos, negsuc, ◌≤ℤ◌, IsTrue}
+use Rattle.std.specs.List.{list_all, slice_range}
+use Rattle.std.specs.Str.Parse.{digits_value}
+use Rattle.line_text.specs.Parts.{is_title, is_printable}
+use Rattle.line_text.specs.Words.{words}
+use Rattle.line_text.specs.Written.{IsPadded, IsDigits, WritesName, WritesWhole, WritesSigned, WritesColumn}
+use Rattle.gro.specs.Frames.{AtomView, FrameView}
+
+-- ---- lines
+
+-- A line with this text stands at the front, and this is left after it. Carriage returns at its end are no part of its text; the last line may lack its line feed.
+pub record IsLine (bytes text rest : List ℕ) : Type 0 where
+  pub returns : ℕ
+  pub bare : IsTrue (is_title text)
+  pub whole : (bytes ≡ text ++ (replicate returns 13 ++ 10 ∷ rest)) ⊎ ((bytes ≡ text ++ replicate returns 13) × (0 < length bytes) × (rest ≡ []))
+
+-- ---- the number of atoms
+
+pub record IsCount (text : List ℕ) (count : ℕ) : Type 0 where
+  pub digits : List ℕ
+  pub padded : IsPadded text digits
+  pub number : WritesWhole digits count
+  pub few : count ≤ 65536
+
+-- ---- an atom
+
+-- the number of a residue, which wraps at 100,000
+pub record IsResidueNumber (column : List ℕ) (z : ℤ) : Type 0 where
+  pub text : List ℕ
+  pub padded : IsPadded column text
+  pub number : WritesSigned WritesWhole text z
+  pub low : negsuc 9998 ≤ℤ z
+  pub high : z ≤ℤ pos 99999
+
+-- three columns of eight bytes, with so many decimals
+abbrev pub AreColumns : ℕ → List ℕ → List ℤ → Type 0
+AreColumns places text (x ∷ y ∷ z ∷ []) = WritesColumn places (slice_range text 0 8) x × WritesColumn places (slice_range text 8 16) y × WritesColumn places (slice_range text 16 24) z
+AreColumns places text _ = ⊥
+
+abbrev pub are_spaces : List ℕ → Bool
+are_spaces text = list_all (λ b. b == 32) text
+
+-- a velocity, zero where none is given, and then nothing but spaces
+pub data IsVelocity (tail : List ℕ) (v : List ℤ) : Type 0 where
+  absent : IsTrue (are_spaces tail) → v ≡ pos 0 ∷ pos 0 ∷ pos 0 ∷ [] → IsVelocity tail v
+  given : 24 ≤ length tail → AreColumns 4 tail v → IsTrue (are_spaces (drop 24 tail)) → IsVelocity tail v
+
+-- Columns from 0: residue number, residue name, atom name, an index that is ignored, the position and the velocity.
+pub record IsAtomLine (text : List ℕ) (a : AtomView) : Type 0 where
+  pub printable : IsTrue (is_printable text)
+  pub long : 44 ≤ length text
+  pub number : IsResidueNumber (slice_range text 0 5) a.number
+  pub residue : WritesName (slice_range text 5 10) a.residue
+  pub name : WritesName (slice_range text 10 15) a.name
+  pub at : AreColumns 3 (slice_range text 20 44) a.at
+  pub velocity : IsVelocity (drop 44 text) a.velocity
+
+-- ---- the box
+
+-- 1 to so many digits
+pub record WritesFew (most : ℕ) (text : List ℕ) (n : ℕ) : Type 0 where
+  pub number : WritesWhole text n
+  pub few : length text ≤ most
+
+-- a length in 10^-5 nm: 1 to 12 digits, and behind a point 1 to 5 more
+pub data WritesLength (text : List ℕ) (n : ℕ) : Type 0 where
+  whole : (nanometres : ℕ) → WritesFew 12 text nanometres → nanometres * 10 ^ 5 ≡ n → WritesLength text n
+  pointed : (front part : List ℕ) (nanometres rest : ℕ) → text ≡ front ++ 46 ∷ part → WritesFew 12 front nanometres → WritesFew 5 part rest
+      → nanometres * 10 ^ 5 + rest * 10 ^ (5 - length part) ≡ n → WritesLength text n
+
+-- each word writes its value
+abbrev pub AreValues : List (List ℕ) → List ℤ → Type 0
+AreValues [] [] = Unit {0}
+AreValues (w ∷ ws) (v ∷ vs) = WritesSigned WritesLength w v × AreValues ws vs
+AreValues _ _ = ⊥
+
+-- The sides of a rectangular box are the first three of 3 to 9 values; the others, which would tilt it, are zero.
+pub record IsBox (text : List ℕ) (sides : List ℤ) : Type 0 where
+  pub zeros : ℕ
+  pub few : zeros ≤ 6
+  pub three : length sides ≡ 3
+  pub values : AreValues (words text) (sides ++ replicate zeros (pos 0))
+
+-- ---- frames
+
+-- the lines of these atoms, and what is left after them
+abbrev pub AreAtoms : List ℕ → List AtomView → List ℕ → Type 0
+AreAtoms bytes [] rest = bytes ≡ rest
+AreAtoms bytes (a ∷ atoms) rest = (text : List ℕ) × (after : List ℕ) × IsLine bytes text after × IsAtomLine text a × AreAtoms after atoms rest
+
+-- title, number of atoms, atoms and box
+pub record IsFrame (bytes : List ℕ) (f : FrameView) (rest : List ℕ) : Type 0 where
+  pub count : List ℕ
+  pub box_text : List ℕ
+  pub after_title : List ℕ
+  pub after_count : List ℕ
+  pub after_atoms : List ℕ
+  pub title_line : IsLine bytes f.title after_title
+  pub count_line : IsLine after_title count after_count
+  pub counted : IsCount count (length f.atoms)
+  pub atoms : AreAtoms after_count f.atoms after_atoms
+  pub box_line : IsLine after_atoms box_text rest
+  pub sides : IsBox box_text f.sides
+
+-- spaces, carriage returns and line feeds
+abbrev pub is_blank : List ℕ → Bool
+is_blank bytes = list_all (λ b. b == 32 || b == 13 || b == 10) bytes
+
+-- One frame at least; behind the last one only blanks are left.
+abbrev pub IsGroText : List ℕ → List FrameView → Type 0
+IsGroText bytes [] = ⊥
+IsGroText bytes (f ∷ []) = (rest : List ℕ) × IsFrame bytes f rest × IsTrue (is_blank rest)
+IsGroText bytes (f ∷ g ∷ frames) = (rest : List ℕ) × IsFrame bytes f rest × IsGroText rest (g ∷ frames)

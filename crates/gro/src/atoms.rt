@@ -1,0 +1,139 @@
+//! The line of an atom.
+
+ghost use Rattle.std.specs.Prelude.{◌≡◌, ◌≤◌, ◌<◌, ◌^◌, length, option_map, pos, negsuc, ◌≤ℤ◌, IfSome};
+ghost use Rattle.gro.specs.Frames.{atom_view};
+ghost use Rattle.gro.specs.GroText.{are_spaces};
+ghost use Rattle.gro.specs.GroReading.{Gives, whole_of, points_of, residue_number_of, three_columns_of, velocity_of, fields_of, atom_in};
+ghost use Rattle.gro.specs.InputLines.{line_view};
+
+use crate::faults::GroFault;
+use crate::frames::GroAtom;
+use crate::lines::InputLine;
+use line_text::{Name, cut, decimal_column, digits, is_printable, trim};
+
+/// The bytes that the residue's number, the names, the atom's index and the position take.
+const COLUMNS: usize = 44;
+
+/// The atom on the line with this number.
+///
+/// An unfinished line is judged first, then its bytes, its points, and its fields.
+#[tactic(auto, unfolding(crate::specs::GroReading::atom_in))]
+pub fn atom(number: u64, line: InputLine<'_>) -> Result<GroAtom, GroFault>
+    ensures { Gives atom_view result (atom_in number (line_view line.entry)) }
+{
+    if !line.ended && line.text.len() < COLUMNS {
+        return Err(GroFault::Truncated);
+    }
+    if !is_printable(line.text) {
+        return Err(GroFault::BadColumns { line: number });
+    }
+    match point_distance(line.text) {
+        None => Err(GroFault::BadColumns { line: number }),
+        Some(8) => fields(line.text).ok_or(GroFault::BadColumns { line: number }),
+        Some(_) => Err(GroFault::Precision { line: number }),
+    }
+}
+
+/// How far apart the first two points are that stand at or after column 20: as far as a position is
+/// wide, so it tells the number of decimals.
+#[tactic(auto, unfolding(crate::specs::GroReading::points_of))]
+fn point_distance(text: &[u8]) -> Option<usize>
+    ensures { result ≡ points_of text.now }
+{
+    if text.len() < 20 {
+        return None;
+    }
+    let (_, after) = cut(b'.', text.split_at(20).1)?;
+    let (between, _) = cut(b'.', after)?;
+    Some(between.len() + 1)
+}
+
+#[tactic(auto, unfolding(crate::specs::GroReading::fields_of))]
+fn fields(text: &[u8]) -> Option<GroAtom>
+    ensures { option_map atom_view result ≡ fields_of text.now }
+{
+    if text.len() < COLUMNS {
+        return None;
+    }
+    let number = residue_number(&text[0..5])?;
+    let residue = Name::new(trim(&text[5..10]))?;
+    let name = Name::new(trim(&text[10..15]))?;
+    let at = three_columns(3, &text[20..44])?;
+    let velocity = velocity(text.split_at(COLUMNS).1)?;
+    Some(GroAtom {
+        number,
+        residue,
+        name,
+        at,
+        velocity,
+    })
+}
+
+/// Spaces, an optional `-`, digits and spaces, of -9999 to 99999.
+#[tactic(auto, unfolding(crate::specs::GroReading::residue_number_of))]
+fn residue_number(column: &[u8]) -> Option<i32>
+    requires { length column.now ≤ 12 }
+    ensures exact { result ≡ residue_number_of column.now }
+    ensures low { IfSome result (λ z. negsuc 9998 ≤ℤ z) }
+    ensures high { IfSome result (λ z. z ≤ℤ pos 99999) }
+{
+    let text = trim(column);
+    let number = if text.is_empty() || text[0] != b'-' {
+        whole(text)? as i64
+    } else {
+        -(whole(text.split_at(1).1)? as i64)
+    };
+    if number < -9999 || number > 99999 {
+        return None;
+    }
+    Some(number as i32)
+}
+
+/// One digit or more.
+fn whole(text: &[u8]) -> Option<u64>
+    requires { length text.now ≤ 12 }
+    ensures exact { result ≡ whole_of text.now }
+    ensures below { IfSome result (λ n. n < 10 ^ 12) }
+{
+    if text.is_empty() {
+        return None;
+    }
+    digits(text)
+}
+
+/// Three numbers with so many decimals, each in a column of eight bytes.
+#[tactic(auto, unfolding(crate::specs::GroReading::three_columns_of))]
+fn three_columns(places: usize, text: &[u8]) -> Option<[i64; 3]>
+    requires few { places ≤ 5 }
+    requires long { 24 ≤ length text.now }
+    ensures { result ≡ three_columns_of places text.now }
+{
+    let x = decimal_column(places, &text[0..8])?;
+    let y = decimal_column(places, &text[8..16])?;
+    let z = decimal_column(places, &text[16..24])?;
+    Some([x, y, z])
+}
+
+/// The velocity, zero where only spaces stand.
+#[tactic(auto, unfolding(crate::specs::GroReading::velocity_of))]
+fn velocity(tail: &[u8]) -> Option<[i64; 3]>
+    ensures { result ≡ velocity_of tail.now }
+{
+    if are_spaces(tail) {
+        return Some([0, 0, 0]);
+    }
+    if tail.len() < 24 {
+        return None;
+    }
+    if are_spaces(tail.split_at(24).1) {
+        three_columns(4, tail)
+    } else {
+        None
+    }
+}
+
+fn are_spaces(text: &[u8]) -> bool
+    ensures { result ≡ are_spaces text.now }
+{
+    text.iter().all(|b| *b == b' ')
+}

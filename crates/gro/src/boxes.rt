@@ -1,0 +1,119 @@
+//! The line of a box.
+
+ghost use Rattle.std.specs.Prelude.{◌≡◌, ◌≤◌, ◌<◌, ◌^◌, length, option_map, IfSome};
+ghost use Rattle.std.specs.List.{list_all};
+ghost use Rattle.line_text.specs.Words.{words};
+ghost use Rattle.gro.specs.GroReading.{Gives, few_digits_of, length_of, value_of, values_of, is_zero, rectangular, sides_in};
+ghost use Rattle.gro.specs.InputLines.{line_view};
+
+use crate::faults::GroFault;
+use crate::lines::InputLine;
+use arrayvec::ArrayVec;
+use line_text::{cut, digits, next_word, power_of_ten};
+
+/// The sides of the box on the line with this number, in 10^-5 nm.
+///
+/// An unfinished line of fewer than three values is judged first, then the form of the values, and then
+/// that those after the third are zero.
+#[tactic(auto, unfolding(crate::specs::GroReading::sides_in))]
+pub fn sides(number: u64, line: InputLine<'_>) -> Result<[i64; 3], GroFault>
+    ensures { Gives (λ x. x) result (sides_in number (line_view line.entry)) }
+{
+    let count = word_count(line.text);
+    if count < 3 && !line.ended {
+        return Err(GroFault::Truncated);
+    }
+    if count < 3 || count > 9 {
+        return Err(GroFault::BadBox { line: number });
+    }
+    let values = values(line.text).ok_or(GroFault::BadBox { line: number })?;
+    rectangular(number, values.as_slice())
+}
+
+/// The first three values, where the others are zero.
+fn rectangular(number: u64, values: &[i64]) -> Result<[i64; 3], GroFault>
+    requires { 3 ≤ length values.now }
+    ensures { Gives (λ x. x) result (rectangular number (Some values.now)) }
+{
+    let (sides, others) = values.split_at(3);
+    if are_zero(others) {
+        Ok([sides[0], sides[1], sides[2]])
+    } else {
+        Err(GroFault::Triclinic { line: number })
+    }
+}
+
+fn are_zero(values: &[i64]) -> bool
+    ensures { result ≡ list_all is_zero values.now }
+{
+    values.iter().all(|v| *v == 0)
+}
+
+fn word_count(text: &[u8]) -> usize
+    ensures { result ≡ length (words text.now) }
+{
+    let mut count = 0;
+    let mut rest = text;
+    while let Some((_, after)) = next_word(rest) {
+        count += 1;
+        rest = after;
+    }
+    count
+}
+
+/// The values of a line that has at most nine.
+fn values(text: &[u8]) -> Option<ArrayVec<i64, 9>>
+    requires { length (words text.now) ≤ 9 }
+    ensures exact { option_map (λ v. v.items) result ≡ values_of (words text.now) }
+    ensures len { IfSome result (λ v. length v.items ≡ length (words text.now)) }
+{
+    let mut values = ArrayVec::new();
+    let mut rest = text;
+    while let Some((word, after)) = next_word(rest) {
+        values.push(value(word)?);
+        rest = after;
+    }
+    Some(values)
+}
+
+/// A length with or without a minus, in 10^-5 nm.
+#[tactic(auto, unfolding(crate::specs::GroReading::value_of))]
+fn value(word: &[u8]) -> Option<i64>
+    ensures { result ≡ value_of word.now }
+{
+    if word.is_empty() || word[0] != b'-' {
+        Some(unsigned_length(word)? as i64)
+    } else {
+        Some(-(unsigned_length(word.split_at(1).1)? as i64))
+    }
+}
+
+/// 1 to 12 digits, and behind a point 1 to 5 more, in units of the fifth decimal.
+#[tactic(auto, unfolding(crate::specs::GroReading::length_of))]
+fn unsigned_length(text: &[u8]) -> Option<u64>
+    ensures exact { result ≡ length_of text.now }
+    ensures below { IfSome result (λ n. n < 10 ^ 18) }
+{
+    match cut(b'.', text) {
+        None => Some(few_digits(12, text)? * 100_000),
+        Some((whole, part)) => {
+            let whole = few_digits(12, whole)?;
+            let rest = few_digits(5, part)?;
+            Some(whole * 100_000 + rest * power_of_ten(5 - part.len()))
+        }
+    }
+}
+
+/// The number that 1 to so many digits write.
+#[tactic(auto, unfolding(crate::specs::GroReading::few_digits_of))]
+fn few_digits(most: usize, text: &[u8]) -> Option<u64>
+    requires { most ≤ 12 }
+    ensures exact { result ≡ few_digits_of most text.now }
+    ensures below { IfSome result (λ n. n < 10 ^ 12) }
+    ensures few { IfSome result (λ n. length text.now ≤ most) }
+{
+    if text.is_empty() || text.len() > most {
+        return None;
+    }
+    digits(text)
+}

@@ -1,0 +1,181 @@
+//! Reading the frames of a GRO file.
+
+ghost use Rattle.std.specs.Prelude.{◌≡◌, ◌≤◌, ◌<◌, ◌+◌, ◌^◌, ℕ, List, length, map, IfOk, IfSome};
+ghost use Rattle.gro.specs.Frames.{atom_view, frame_view, FrameView};
+ghost use Rattle.gro.specs.GroText.{is_blank, IsGroText};
+ghost use Rattle.gro.specs.GroReading.{Gives, count_in, count_at, atom_at, atoms_at, sides_at, frame_at, frames_of, ReadsGroTexts, Picks};
+
+use crate::faults::GroFault;
+use crate::frames::{GroAtom, GroFrame};
+use crate::lines::next_line;
+use crate::{atoms, boxes};
+use line_text::{digits_up_to, trim};
+use std::alloc::Allocator;
+
+/// The most atoms that a frame may have.
+const MOST_ATOMS: u64 = 65_536;
+
+/// The frames of a GRO file (GROMACS manual, gro file format), with three decimals in positions and
+/// four in velocities.
+///
+/// A frame is a title, the number of its atoms, their lines and its box. Frames follow one another
+/// until only spaces, CRs and LFs are left; there is one at least. Lines end in LF or CR LF.
+///
+/// Lines are judged from the top, and the first fault is the answer. `Truncated`: a needed line is not
+/// there, or the last line, without its LF, is an atom's of fewer than 44 bytes or a box's of fewer than
+/// three values. `BadCount`: the line is not spaces, digits and spaces. `TooManyAtoms`: it says more
+/// than 65,536. `Precision`: the first two points at or after column 20 of an atom's line are not 8
+/// columns apart. `BadColumns`: it has a byte outside 32 to 126, fewer than two points, or another form.
+/// `BadBox`: the line is not 3 to 9 values of 1 to 12 digits and at most 5 decimals. `Triclinic`: a
+/// value after the third is not zero. `Memory` comes only where a growth was refused.
+pub fn read_frames<A: Allocator + Copy>(
+    alloc: A,
+    bytes: &[u8],
+) -> Result<Vec<GroFrame<A>, A>, GroFault>
+    // The frames, or the first fault.
+    ensures exact { Gives (λ v. map frame_view v.items) result (frames_of bytes.now) }
+    // What is read, the text says.
+    ensures found { IfOk result (λ v. IsGroText bytes.now (map frame_view v.items)) }
+    // What the text says is read, unless memory runs out.
+    ensures only { (frames : List FrameView) → IsGroText bytes.now frames → Gives (λ v. map frame_view v.items) result (Ok frames) }
+    // The definition reads exactly the texts that stand for frames.
+    ensures texts { ReadsGroTexts }
+{
+    frames(alloc, bytes)
+}
+
+#[tactic(auto, unfolding(crate::specs::GroReading::frames_of))]
+fn frames<A: Allocator + Copy>(alloc: A, bytes: &[u8]) -> Result<Vec<GroFrame<A>, A>, GroFault>
+    ensures { Gives (λ v. map frame_view v.items) result (frames_of bytes.now) }
+{
+    let mut frames = Vec::new(alloc);
+    let mut number = 1;
+    let mut rest = bytes;
+    loop {
+        let (frame, after) = frame(alloc, number, rest)?;
+        number += frame.atoms.as_slice().len() as u64 + 3;
+        frames.push(frame)?;
+        if is_blank(after) {
+            return Ok(frames);
+        }
+        rest = after;
+    }
+}
+
+/// Whether only spaces, CRs and LFs are left.
+fn is_blank(bytes: &[u8]) -> bool
+    ensures { result ≡ is_blank bytes.now }
+{
+    bytes
+        .iter()
+        .all(|b| *b == b' ' || *b == b'\r' || *b == b'\n')
+}
+
+/// The frame whose title is on the line with this number, and what stands after it.
+#[tactic(auto, unfolding(crate::specs::GroReading::frame_at))]
+fn frame<A: Allocator + Copy>(
+    alloc: A,
+    number: u64,
+    bytes: &[u8],
+) -> Result<(GroFrame<A>, &[u8]), GroFault>
+    requires { number + length bytes.now < 2 ^ 64 }
+    ensures exact { Gives (λ x. (frame_view x.0, x.1.now)) result (frame_at number bytes.now) }
+    ensures shorter { IfOk result (λ x. length x.1.now + (length x.0.atoms.items + 3) ≤ length bytes.now) }
+{
+    let (title, rest) = next_line(bytes)?;
+    let (count, rest) = count(number + 1, rest)?;
+    let (atoms, rest) = atoms(alloc, number + 2, count, rest)?;
+    let (sides, rest) = sides(number + 2 + count, rest)?;
+    let title = Vec::from_slice(alloc, title.text)?;
+    Ok((
+        GroFrame {
+            title,
+            atoms,
+            sides,
+        },
+        rest,
+    ))
+}
+
+/// The number of atoms on the line with this number, and what stands after it.
+#[tactic(auto, unfolding(crate::specs::GroReading::count_at))]
+fn count(number: u64, bytes: &[u8]) -> Result<(u64, &[u8]), GroFault>
+    ensures exact { Gives (λ x. (x.0, x.1.now)) result (count_at number bytes.now) }
+    ensures few { IfOk result (λ x. x.0 ≤ 65536) }
+    ensures shorter { IfOk result (λ x. length x.1.now < length bytes.now) }
+{
+    let (line, rest) = next_line(bytes)?;
+    let count = line_count(number, line.text)?;
+    Ok((count, rest))
+}
+
+/// What a line with spaces, digits and spaces says.
+#[tactic(auto, unfolding(crate::specs::GroReading::count_in))]
+fn line_count(number: u64, text: &[u8]) -> Result<u64, GroFault>
+    ensures exact { Gives (λ n. n) result (count_in number text.now) }
+    ensures few { IfOk result (λ n. n ≤ 65536) }
+{
+    let digits = trim(text);
+    if digits.is_empty() {
+        return Err(GroFault::BadCount { line: number });
+    }
+    let count = digits_up_to(MOST_ATOMS + 1, digits).ok_or(GroFault::BadCount { line: number })?;
+    if count > MOST_ATOMS {
+        return Err(GroFault::TooManyAtoms { line: number });
+    }
+    Ok(count)
+}
+
+/// So many atoms, the first on the line with this number, and what stands after them.
+fn atoms<A: Allocator + Copy>(
+    alloc: A,
+    number: u64,
+    count: u64,
+    bytes: &[u8],
+) -> Result<(Vec<GroAtom, A>, &[u8]), GroFault>
+    requires { number + length bytes.now < 2 ^ 64 }
+    ensures exact { Gives (λ x. (map atom_view x.0.items, x.1.now)) result (atoms_at number count bytes.now) }
+    ensures len { IfOk result (λ x. length x.0.items ≡ count) }
+    ensures shorter { IfOk result (λ x. length x.1.now + count ≤ length bytes.now) }
+{
+    let mut atoms = Vec::new(alloc);
+    let mut rest = bytes;
+    for i in 0..count {
+        let (atom, after) = atom(number + i, rest)?;
+        atoms.push(atom)?;
+        rest = after;
+    }
+    Ok((atoms, rest))
+}
+
+/// The atom on the line with this number, and what stands after it.
+#[tactic(auto, unfolding(crate::specs::GroReading::atom_at))]
+fn atom(number: u64, bytes: &[u8]) -> Result<(GroAtom, &[u8]), GroFault>
+    ensures exact { Gives (λ x. (atom_view x.0, x.1.now)) result (atom_at number bytes.now) }
+    ensures shorter { IfOk result (λ x. length x.1.now < length bytes.now) }
+{
+    let (line, rest) = next_line(bytes)?;
+    let atom = atoms::atom(number, line)?;
+    Ok((atom, rest))
+}
+
+/// The sides of the box on the line with this number, and what stands after it.
+#[tactic(auto, unfolding(crate::specs::GroReading::sides_at))]
+fn sides(number: u64, bytes: &[u8]) -> Result<([i64; 3], &[u8]), GroFault>
+    ensures exact { Gives (λ x. (x.0, x.1.now)) result (sides_at number bytes.now) }
+    ensures shorter { IfOk result (λ x. length x.1.now < length bytes.now) }
+{
+    let (line, rest) = next_line(bytes)?;
+    let sides = boxes::sides(number, line)?;
+    Ok((sides, rest))
+}
+
+/// The frame of this number, counted from 1; `NoSuchFrame` where there is none. It takes no memory.
+pub fn pick<A: Allocator>(frames: &[GroFrame<A>], number: u64) -> Result<&GroFrame<A>, GroFault>
+    ensures { Picks frames.now number (λ x. x.now) result }
+{
+    if number == 0 || number > frames.len() as u64 {
+        return Err(GroFault::NoSuchFrame);
+    }
+    Ok(&frames[(number - 1) as usize])
+}

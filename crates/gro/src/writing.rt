@@ -1,0 +1,117 @@
+//! Writing a frame.
+
+ghost use Rattle.std.specs.Prelude.{◌≡◌, ◌+◌, ◌-◌, ◌^◌, ◌<◌, ◌≤◌, ◌++◌, ◌∷◌, [], length, map, IfOk, OnErr, pos, negsuc, ◌≤ℤ◌, IsTrue};
+ghost use Rattle.std.specs.List.{flat_map, AllByRecursion};
+ghost use Rattle.arrayvec.specs.ArrayVec.{array_vec_len};
+ghost use Rattle.line_text.specs.Parts.{ended, right_in};
+ghost use Rattle.line_text.specs.Columns.{decimals_text};
+ghost use Rattle.gro.specs.Out.{appended, AppendsBeginning};
+ghost use Rattle.gro.specs.Frames.{atom_view, frame_view};
+ghost use Rattle.gro.specs.GroReading.{frames_of};
+ghost use Rattle.gro.specs.GroWriting.{count_line, atom_line, atom_lines, box_line, frame_text, FitsColumns, HasForm};
+
+use crate::frames::{GroAtom, GroFrame};
+use crate::output::{Out, OutFault, write_all};
+use itoa::Buffer;
+use line_text::{Line, put, put_decimals_right, put_left, put_right};
+use std::alloc::Allocator;
+
+/// Writes the frame's text: its title, the number of its atoms, a line for each, and its box. Numbers
+/// are right in their columns, positions with three decimals and sides with five; velocities are left
+/// out. It takes no memory.
+///
+/// `OutFault` comes only from a write that failed, and then a beginning of the text was written.
+pub fn write<A: Allocator, O: Out>(frame: &GroFrame<A>, out: &mut O) -> Result<(), OutFault>
+    requires { O.failed out.old < 2 ^ 64 - 1 }
+    ensures taken { IfOk result (λ _. O.taken out.new ≡ appended (O.taken out.old) (frame_text (frame_view frame.now))) }
+    ensures count { IfOk result (λ _. O.failed out.new ≡ O.failed out.old) }
+    ensures fault_taken { OnErr result (AppendsBeginning (O.taken out.old) (O.taken out.new) (frame_text (frame_view frame.now))) }
+    ensures fault_count { OnErr result (O.failed out.old < O.failed out.new) }
+    // Where its numbers fit their columns, what was written reads as this one frame again.
+    ensures again { IfOk result (λ _. FitsColumns (frame_view frame.now) → frames_of (frame_text (frame_view frame.now)) ≡ Ok (frame_view frame.now ∷ [])) }
+{
+    write_all(out, &frame.title)?;
+    let line = count_between(frame);
+    write_all(out, line.as_slice())?;
+    write_atoms(frame.atoms.as_slice(), out)?;
+    let line = whole_box_line(&frame.sides);
+    write_all(out, line.as_slice())
+}
+
+/// Writes the lines of these atoms.
+fn write_atoms<O: Out>(atoms: &[GroAtom], out: &mut O) -> Result<(), OutFault>
+    requires room { O.failed out.old < 2 ^ 64 - 1 }
+    requires few { length atoms.now ≤ 65536 }
+    ensures taken { IfOk result (λ _. O.taken out.new ≡ appended (O.taken out.old) (atom_lines 1 (map atom_view atoms.now))) }
+    ensures count { IfOk result (λ _. O.failed out.new ≡ O.failed out.old) }
+    ensures fault_taken { OnErr result (AppendsBeginning (O.taken out.old) (O.taken out.new) (atom_lines 1 (map atom_view atoms.now))) }
+    ensures fault_count { OnErr result (O.failed out.old < O.failed out.new) }
+    ensures forms { IfOk result (λ _. AllByRecursion HasForm (map atom_view atoms.now)) }
+{
+    let mut index = 1;
+    for atom in atoms {
+        let line = whole_atom_line(index, atom);
+        write_all(out, line.as_slice())?;
+        index += 1;
+    }
+    Ok(())
+}
+
+/// The end of the title's line, and the line of the number of atoms.
+fn count_between<A: Allocator>(frame: &GroFrame<A>) -> Line
+    ensures { result.items ≡ 10 ∷ ended (count_line (length frame.now.atoms.items)) }
+{
+    let mut line = Line::new();
+    let mut buffer = Buffer::new();
+    put(&mut line, b"\n");
+    put_right(
+        &mut line,
+        5,
+        buffer
+            .format(frame.atoms.as_slice().len() as u64)
+            .as_bytes(),
+    );
+    put(&mut line, b"\n");
+    line
+}
+
+/// An atom's line with its LF.
+fn whole_atom_line(index: u64, atom: &GroAtom) -> Line
+    ensures items { result.items ≡ ended (atom_line index (atom_view atom.now)) }
+    ensures form { HasForm (atom_view atom.now) }
+{
+    let mut line = Line::new();
+    let mut buffer = Buffer::new();
+    put_right(&mut line, 5, buffer.format(atom.number).as_bytes());
+    put_left(&mut line, 5, atom.residue.as_bytes());
+    put_right(&mut line, 5, atom.name.as_bytes());
+    let mut buffer = Buffer::new();
+    put_right(&mut line, 5, buffer.format(index % 100_000).as_bytes());
+    put_three(&mut line, 8, 3, &atom.at);
+    put(&mut line, b"\n");
+    line
+}
+
+/// A box's line with its LF.
+fn whole_box_line(sides: &[i64; 3]) -> Line
+    ensures { result.items ≡ ended (box_line sides.now) }
+{
+    let mut line = Line::new();
+    put_three(&mut line, 10, 5, sides);
+    put(&mut line, b"\n");
+    line
+}
+
+/// Appends three numbers, each right in a column of so many bytes and with so many decimals.
+fn put_three(line: &mut Line, width: usize, places: usize, numbers: &[i64; 3])
+    requires narrow { width ≤ 10 }
+    requires room { array_vec_len line.old + 126 ≤ 160 }
+    requires some { 0 < places }
+    requires few { places ≤ 5 }
+    ensures items { line.new.items ≡ line.old.items ++ flat_map (λ z. right_in width (decimals_text places z)) numbers.now }
+    ensures len { array_vec_len line.new ≤ array_vec_len line.old + 126 }
+{
+    put_decimals_right(line, width, places, numbers[0]);
+    put_decimals_right(line, width, places, numbers[1]);
+    put_decimals_right(line, width, places, numbers[2]);
+}

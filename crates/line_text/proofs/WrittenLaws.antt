@@ -1,0 +1,173 @@
+-- A part of a line is read as what it writes, and only as that.
+use Rattle.std.proofs.Common.{◌≡◌, ℕ, zero, suc, ◌+◌, ◌-◌, ◌*◌, ◌^◌, ◌<◌, ◌≤◌, Bool, true, false, ◌&&◌, cond, eqb, leb, ltb, not, List, [], ◌∷◌, ◌++◌, length, take, drop, get_or, replicate, reverse, Option, Some, None, option_map, ℤ, pos, IsTrue, refl, sym, ap, subst, ◌∙◌, arith, inl, inr, lit<}
+use Rattle.std.specs.Prelude.{neg_ℤ}
+use Rattle.std.specs.Char.{is_ascii_digit}
+use Rattle.std.specs.Str.{all_ascii_digits}
+use Rattle.std.specs.Str.Parse.{digits_value, AllDigits}
+use Rattle.std.specs.Int.{IsInRange}
+use Rattle.std.proofs.lemmas.Bool.{cases_Bool, and_parts, and_from, eqb-true, ltb-false, ltb-true, le-ltb, ne_eqb, eq-eqb}
+use Rattle.std.proofs.lemmas.Str.Parse.{digit_at}
+use Rattle.std.proofs.lemmas.List.{length-append, take-append-drop, drop_more, get_or_append_left}
+use Rattle.std.proofs.Common.{length-take, length-drop}
+use Rattle.line_text.specs.Parts.{◌>>=◌, lacks, is_name, name_of, without_front, without_spaces, without_end_spaces, trimmed}
+use Rattle.line_text.specs.Columns.{digits_of, decimals_of, signed_by, decimal_column_of}
+use Rattle.line_text.specs.Written.{IsRight, IsPadded, WritesName, IsDigits, WritesWhole, WritesDecimal, WritesSigned, plain, minus, WritesColumn}
+use Rattle.line_text.proofs.PartLaws.{some_of, none_or}
+use Rattle.line_text.proofs.LineLaws.{bind_some, front_found, front_again, front_dropped, end_found, end_again, end_dropped, lacks_append, digits_lack}
+use Rattle.line_text.proofs.NameLaws.{name_found, name_again, is_clean}
+use Rattle.line_text.proofs.DigitLaws.{own}
+use Rattle.line_text.proofs.ColumnLaws.{parts_read}
+
+-- ---- padding
+
+pub right_found : (column : List ℕ) → IsRight column (without_spaces column)
+right_found column = let f = front_found 32 column in record { before = f.0; whole = f.1 }
+
+pub right_read : (column text : List ℕ) → IsRight column text → (get_or text 0 0 ≡ 32 → ⊥) → without_spaces column ≡ text
+right_read column text h first = ap without_spaces h.whole ∙ front_again 32 h.before text first
+
+pub padded_found : (column : List ℕ) → IsPadded column (trimmed column)
+padded_found column =
+    let f = front_found 32 column in
+    let b = end_found 32 (without_spaces column) in
+    record { before = f.0; behind = b.0; whole = f.1 ∙ ap (λ (t : List ℕ). replicate f.0 32 ++ t) b.1 }
+
+-- the first byte of a text, or the first of what stands behind an empty one
+first_padded : (text : List ℕ) (k : ℕ) → (get_or text 0 0 ≡ 32 → ⊥) → 0 < length text → get_or (text ++ replicate k 32) 0 0 ≡ 32 → ⊥
+first_padded [] k h some e = omega arith
+first_padded (x ∷ xs) k h some e = h e
+
+all_spaces : (k : ℕ) → without_spaces (replicate k 32) ≡ []
+all_spaces zero = refl
+all_spaces (suc k) = all_spaces k
+
+spaces_joined : (j k : ℕ) → without_spaces (replicate j 32 ++ replicate k 32) ≡ []
+spaces_joined zero k = all_spaces k
+spaces_joined (suc j) k = spaces_joined j k
+
+pub padded_read : (column text : List ℕ) → IsPadded column text → (get_or text 0 0 ≡ 32 → ⊥) → (get_or text (length text - 1) 0 ≡ 32 → ⊥) → trimmed column ≡ text
+padded_read column [] h first last = ap trimmed h.whole ∙ ap without_end_spaces (spaces_joined h.before h.behind)
+padded_read column (x ∷ xs) h first last =
+    ap trimmed h.whole ∙ ap without_end_spaces (front_again 32 h.before (x ∷ xs ++ replicate h.behind 32) first) ∙ end_again 32 h.behind (x ∷ xs) last
+
+pub name_read : (column name : List ℕ) → WritesName column name → name_of (trimmed column) ≡ Some name
+name_read column name h =
+    let c = is_clean name h.named in
+    ap name_of (padded_read column name h.padded c.front c.back) ∙ name_again name h.named
+
+pub name_written : (column name : List ℕ) → name_of (trimmed column) ≡ Some name → WritesName column name
+name_written column name e =
+    let f = name_found (trimmed column) name e in
+    record { padded = subst (λ (t : List ℕ). IsPadded column t) f.0 (padded_found column); named = f.1 }
+
+-- ---- digits
+
+pub digits_written : (text : List ℕ) (n : ℕ) → digits_of text ≡ Some n → IsTrue (all_ascii_digits text) × (digits_value 10 text ≡ n)
+unfolding digits_of
+digits_written text n e = some_of (all_ascii_digits text) (digits_value 10 text) n e
+
+pub digits_read : (text : List ℕ) (n : ℕ) → IsTrue (all_ascii_digits text) → digits_value 10 text ≡ n → digits_of text ≡ Some n
+unfolding digits_of
+digits_read text n h e = rw h (ap (λ (m : ℕ). Some m) e)
+
+pub digit_in : (text : List ℕ) (i : ℕ) → i < length text → IsTrue (all_ascii_digits text) → IsInRange 48 57 (get_or text i 0)
+digit_in text i lt h = digit_at text i (own.to text h) lt
+
+pub digits_lack_byte : (c : ℕ) (text : List ℕ) → c < 48 → IsTrue (all_ascii_digits text) → lacks c text ≡ true
+digits_lack_byte c text low h = digits_lack c text low (own.to text h)
+
+pub whole_first : (text : List ℕ) → IsDigits text → IsInRange 48 57 (get_or text 0 0)
+whole_first text h = digit_in text 0 h.some h.digits
+
+-- ---- decimals
+
+pub decimal_read : (places : ℕ) (text : List ℕ) (n : ℕ) → WritesDecimal places text n → decimals_of places text ≡ Some n
+decimal_read places text n h =
+    ap (decimals_of places) h.parts
+    ∙ parts_read places h.whole h.part (digits_value 10 h.whole) (digits_value 10 h.part) h.whole_form.some h.part_length (digits_read h.whole _ h.whole_form.digits refl) (digits_read h.part _ h.part_digits refl)
+    ∙ ap (λ (m : ℕ). Some m) h.value
+
+pub decimal_written : (places : ℕ) (text : List ℕ) (n : ℕ) → decimals_of places text ≡ Some n → WritesDecimal places text n
+unfolding decimals_of
+decimal_written places text n e =
+    let at : ℕ = length text - (places + 1) in
+    let long = none_or (ltb (length text) (places + 2)) _ n e in
+    let le : places + 2 ≤ length text = ltb-false (length text) (places + 2) long.0 in
+    let point = some_or (eqb (get_or text at 0) 46) _ n long.1 in
+    let w = bind_some (digits_of (take at text)) (λ whole. digits_of (drop (length text - places) text) >>= λ part. Some (whole * 10 ^ places + part)) n point.1 in
+    let p = bind_some (digits_of (drop (length text - places) text)) (λ part. Some (w.0 * 10 ^ places + part)) n w.2 in
+    let wd = digits_written (take at text) w.0 w.1 in
+    let pd = digits_written (drop (length text - places) text) p.0 p.1 in
+    let next : at + 1 ≡ length text - places = omega arith in
+    let inside : at < length text = omega arith in
+    let back : drop at text ≡ 46 ∷ drop (length text - places) text =
+    drop_more text at 0 inside ∙ ap (λ (b : ℕ). b ∷ drop (at + 1) text) (eqb-true (get_or text at 0) 46 point.0) ∙ ap (λ (k : ℕ). 46 ∷ drop k text) next in
+    record {
+      whole = take at text;
+      part = drop (length text - places) text;
+      parts = sym (take-append-drop at text) ∙ ap (λ (t : List ℕ). take at text ++ t) back;
+      whole_form = record { some = omega (arith, length-take at text); digits = wd.0 };
+      part_digits = pd.0;
+      part_length = omega (arith, length-drop (length text - places) text);
+      value = ap (λ (m : ℕ). m * 10 ^ places + digits_value 10 (drop (length text - places) text)) wd.1 ∙ ap (λ (m : ℕ). w.0 * 10 ^ places + m) pd.1 ∙ some_is p.2;
+    }
+  where
+    some_or : {A : Type 0} (b : Bool) (o : Option A) (y : A) → cond b o None ≡ Some y → (b ≡ true) × (o ≡ Some y)
+    some_or true o y e = (refl, e)
+    some_or false o y e = absurd cc
+
+    some_is : {A : Type 0} {x y : A} → ◌≡◌ {A = Option A} (Some x) (Some y) → x ≡ y
+    some_is e = cc
+
+pub decimal_first : (places : ℕ) (text : List ℕ) (n : ℕ) → WritesDecimal places text n → IsInRange 48 57 (get_or text 0 0)
+decimal_first places text n h =
+    subst (λ (b : ℕ). IsInRange 48 57 b) (sym (ap (λ (t : List ℕ). get_or t 0 0) h.parts ∙ get_or_append_left h.whole (46 ∷ h.part) 0 0 h.whole_form.some)) (whole_first h.whole h.whole_form)
+
+-- ---- with or without a minus
+
+pub signed_written : (P : List ℕ → ℕ → Type 0) (read : List ℕ → Option ℕ) → ((t : List ℕ) (n : ℕ) → read t ≡ Some n → P t n)
+    → (text : List ℕ) (z : ℤ) → signed_by read text ≡ Some z → WritesSigned P text z
+signed_written P read found [] z e = at (read []) refl e
+  where
+    at : (o : Option ℕ) → read [] ≡ o → option_map pos o ≡ Some z → WritesSigned P [] z
+    at None r d = absurd cc
+    at (Some n) r d = let same : z ≡ pos n = cc in plain n (found [] n r) same
+signed_written P read found (x ∷ xs) z e = at (eqb x 45) refl (read xs) refl (read (x ∷ xs)) refl e
+  where
+    at : (b : Bool) → eqb x 45 ≡ b → (o : Option ℕ) → read xs ≡ o → (p : Option ℕ) → read (x ∷ xs) ≡ p
+        → cond b (option_map (λ n. neg_ℤ (pos n)) o) (option_map pos p) ≡ Some z → WritesSigned P (x ∷ xs) z
+    at true t None r p s d = absurd cc
+    at true t (Some n) r p s d = let same : z ≡ neg_ℤ (pos n) = cc in minus xs n (ap (λ (b : ℕ). b ∷ xs) (eqb-true x 45 t)) (found xs n r) same
+    at false t o r None s d = absurd cc
+    at false t o r (Some n) s d = let same : z ≡ pos n = cc in plain n (found (x ∷ xs) n s) same
+
+pub signed_read : (P : List ℕ → ℕ → Type 0) (read : List ℕ → Option ℕ) → ((t : List ℕ) (n : ℕ) → P t n → read t ≡ Some n)
+    → ((t : List ℕ) (n : ℕ) → P t n → IsInRange 48 57 (get_or t 0 0)) → (text : List ℕ) (z : ℤ) → WritesSigned P text z → signed_by read text ≡ Some z
+signed_read P read again first text z (plain n p e) =
+    let digit = first text n p in
+    rw (ne_eqb (get_or text 0 0) 45 (λ s. omega (arith, digit)), again text n p) (ap (λ (y : ℤ). Some y) (sym e))
+signed_read P read again first text z (minus magnitude n whole p e) =
+    rw (whole, again magnitude n p) (ap (λ (y : ℤ). Some y) (sym e))
+
+pub signed_first : (P : List ℕ → ℕ → Type 0) → ((t : List ℕ) (n : ℕ) → P t n → IsInRange 48 57 (get_or t 0 0)) → (text : List ℕ) (z : ℤ) → WritesSigned P text z
+    → (get_or text 0 0 ≡ 32 → ⊥)
+signed_first P first text z (plain n p e) s = let digit = first text n p in omega (arith, digit)
+signed_first P first text z (minus magnitude n whole p e) s =
+    let byte : get_or text 0 0 ≡ 45 = ap (λ (t : List ℕ). get_or t 0 0) whole in omega (arith, byte)
+
+-- ---- columns
+
+pub column_written : (places : ℕ) (column : List ℕ) (z : ℤ) → decimal_column_of places column ≡ Some z → WritesColumn places column z
+unfolding decimal_column_of
+column_written places column z e = record {
+  text = without_spaces column;
+  padded = right_found column;
+  number = signed_written (WritesDecimal places) (decimals_of places) (decimal_written places) (without_spaces column) z e;
+}
+
+pub column_read : (places : ℕ) (column : List ℕ) (z : ℤ) → WritesColumn places column z → decimal_column_of places column ≡ Some z
+unfolding decimal_column_of
+column_read places column z h =
+    let first = signed_first (WritesDecimal places) (decimal_first places) h.text z h.number in
+    ap (signed_by (decimals_of places)) (right_read column h.text h.padded first)
+    ∙ signed_read (WritesDecimal places) (decimals_of places) (decimal_read places) (decimal_first places) h.text z h.number

@@ -1,0 +1,56 @@
+-- What parts of a line write, by their form.
+use Rattle.std.specs.Prelude.{◌≡◌, ℕ, ◌+◌, ◌*◌, ◌^◌, ◌<◌, List, ◌∷◌, ◌++◌, length, replicate, ℤ, pos, neg_ℤ, IsTrue}
+use Rattle.std.specs.Str.{all_ascii_digits}
+use Rattle.std.specs.Str.Parse.{digits_value}
+use Rattle.line_text.specs.Parts.{is_name}
+
+-- ---- padding
+
+-- the text with spaces before it
+pub record IsRight (column text : List ℕ) : Type 0 where
+  pub before : ℕ
+  pub whole : column ≡ replicate before 32 ++ text
+
+-- the text with spaces before and behind it
+pub record IsPadded (column text : List ℕ) : Type 0 where
+  pub before : ℕ
+  pub behind : ℕ
+  pub whole : column ≡ replicate before 32 ++ (text ++ replicate behind 32)
+
+-- a name with spaces around it
+pub record WritesName (column name : List ℕ) : Type 0 where
+  pub padded : IsPadded column name
+  pub named : IsTrue (is_name name)
+
+-- ---- numbers
+
+-- one digit at least
+pub record IsDigits (text : List ℕ) : Type 0 where
+  pub some : 0 < length text
+  pub digits : IsTrue (all_ascii_digits text)
+
+-- digits, leading zeros allowed
+pub record WritesWhole (text : List ℕ) (n : ℕ) : Type 0 where
+  pub form : IsDigits text
+  pub value : digits_value 10 text ≡ n
+
+-- digits, a point and so many digits write a number in units of the last digit
+pub record WritesDecimal (places : ℕ) (text : List ℕ) (n : ℕ) : Type 0 where
+  pub whole : List ℕ
+  pub part : List ℕ
+  pub parts : text ≡ whole ++ 46 ∷ part
+  pub whole_form : IsDigits whole
+  pub part_digits : IsTrue (all_ascii_digits part)
+  pub part_length : length part ≡ places
+  pub value : digits_value 10 whole * 10 ^ places + digits_value 10 part ≡ n
+
+-- a number that may have a minus
+pub data WritesSigned (P : List ℕ → ℕ → Type 0) (text : List ℕ) (z : ℤ) : Type 0 where
+  plain : (n : ℕ) → P text n → z ≡ pos n → WritesSigned P text z
+  minus : (magnitude : List ℕ) (n : ℕ) → text ≡ 45 ∷ magnitude → P magnitude n → z ≡ neg_ℤ (pos n) → WritesSigned P text z
+
+-- right in its column, as C's %8.3f prints it
+pub record WritesColumn (places : ℕ) (column : List ℕ) (z : ℤ) : Type 0 where
+  pub text : List ℕ
+  pub padded : IsRight column text
+  pub number : WritesSigned (WritesDecimal places) text z
