@@ -9,3 +9,4 @@ pub mod CallLaws
 pub mod Pieces
 pub mod AtomPieces
 pub mod StartLaws
+pub mod FrameLaws

@@ -1,5 +1,5 @@
 -- The state that begins at a frame: its box is the frame's, and its places are the nearest ones.
-use Rattle.std.proofs.Common.{◌≡◌, ℕ, ◌*◌, ◌^◌, ◌<◌, Bool, true, false, ◌&&◌, cond, ℤ, pos, negsuc, ◌*ℤ◌, List, [], ◌∷◌, map, Result, Ok, Err, IfOk, arith, ap, sym, subst, ◌∙◌, refl}
+use Rattle.std.proofs.Common.{◌≡◌, ℕ, ◌*◌, ◌^◌, ◌<◌, Bool, true, false, ◌&&◌, cond, ℤ, pos, negsuc, ◌*ℤ◌, List, [], ◌∷◌, map, Result, Ok, Err, IfOk, arith, ap, subst, refl}
 use Rattle.std.specs.Prelude.{slice_index_or, unsigned_abs}
 use Rattle.std.specs.List.{AllZip}
 use Rattle.std.proofs.lemmas.Bool.{and_parts}
@@ -20,7 +20,6 @@ use Rattle.state.specs.StateViews.{sides_view, state_view}
 use Rattle.state.specs.Velocities.{places_moved, place_before}
 use Rattle.state.specs.Starts.{BeginsAt, Gives, IsStartOfAtom, IsStartOnSide, on_box, start_in, start_of, started_atom}
 use Rattle.state.specs.declared.faults.StartFault.{StartFault}
-use Rattle.state.specs.declared.faults.StartFault.TheVariants as fault
 use Rattle.state.specs.declared.states.State.{State}
 
 -- ---- the box

@@ -3,7 +3,7 @@ use Rattle.std.specs.Prelude.{◌≡◌, ℕ, ℤ, pos, List, [], ◌∷◌, map
 use Rattle.std.specs.List.{AllZip}
 use Rattle.gro.specs.Frames as gro
 use Rattle.ring_box.specs.Places.{IsPlaceOfPm, place_of_pm}
-use Rattle.ring_box.specs.Boxes.{box_of, sides_of}
+use Rattle.ring_box.specs.Boxes.{box_of}
 use Rattle.ring_box.specs.declared.boxes.RingBox.{RingBox}
 use Rattle.ring_box.specs.declared.faults.BoxFault.{BoxFault}
 use Rattle.state.specs.StateText.{AtomView, StateView}

@@ -1,6 +1,7 @@
 -- The frame of a state's current places, as a GRO file has it.
 use Rattle.std.specs.Prelude.{◌≡◌, ℕ, ℤ, pos, ◌≤ℤ◌, List, [], ◌∷◌, map, slice_index}
 use Rattle.std.specs.List.{AllByRecursion}
+use Rattle.line_text.specs.Parts.{AreThree}
 use Rattle.gro.specs.Frames as gro
 use Rattle.ring_box.specs.Places.{pm_of_place}
 use Rattle.state.specs.StateText.{AtomView, StateView}
@@ -24,11 +25,6 @@ abbrev pub frame_of : StateView → gro.FrameView
 frame_of s = record { title = s.title; atoms = map (framed_atom s.sides) s.atoms; sides = map pos s.sides }
 
 -- ---- its numbers
-
--- three numbers, each with this property
-abbrev pub AreThree : (ℤ → Type 0) → List ℤ → Type 0
-AreThree P (x ∷ y ∷ z ∷ []) = P x × P y × P z
-AreThree P _ = ⊥
 
 -- in picometres, no side being above 160 nm
 abbrev pub IsInBox : ℤ → Type 0

@@ -3,7 +3,8 @@
 ghost use Rattle.std.specs.Prelude.{◌≡◌, map, pos, IfOk};
 ghost use Rattle.std.specs.List.{AllByRecursion};
 ghost use Rattle.gro.specs.Frames as gro;
-ghost use Rattle.state.specs.StateFrames.{AreThree, IsAtomAtRest, IsInBox, IsSide, framed_atom, position_of};
+ghost use Rattle.line_text.specs.Parts.{AreThree};
+ghost use Rattle.state.specs.StateFrames.{IsAtomAtRest, IsInBox, IsSide, framed_atom, position_of};
 ghost use Rattle.ring_box.specs.Places.{pm_of_place};
 ghost use Rattle.state.specs.StateViews.{atom_view, sides_view};
 
@@ -15,6 +16,7 @@ use std::alloc::{AllocError, Allocator};
 impl<A: Allocator + Copy> State<A> {
     ghost use Rattle.std.specs.Prelude.{◌≡◌, IfOk};
     ghost use Rattle.gro.specs.Frames.{frame_view};
+    ghost use Rattle.gro.specs.GroWriting.{FitsColumns};
     ghost use Rattle.state.specs.StateFrames.{IsFrameAtRest, frame_of};
     ghost use Rattle.state.specs.StateViews.{state_view};
 
@@ -23,8 +25,10 @@ impl<A: Allocator + Copy> State<A> {
     /// It is refused only where a growth was.
     pub fn frame(&self) -> Result<GroFrame<A>, AllocError>
         ensures value { IfOk result (λ f. frame_view f ≡ frame_of (state_view self.now)) }
-        // Its numbers are small: each is within the columns that a GRO file has for it.
+        // Atoms at rest in a box.
         ensures rest { IfOk result (λ f. IsFrameAtRest (frame_view f)) }
+        // So its text reads as the same frame again.
+        ensures columns { IfOk result (λ f. FitsColumns (frame_view f)) }
     {
         let alloc = *self.atoms.allocator();
         let title = Vec::from_slice(alloc, &self.title)?;
