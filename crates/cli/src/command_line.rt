@@ -98,7 +98,7 @@ fn path_of<'a>(matches: &ArgMatches<'a>, name: &str) -> Option<&'a str>
 }
 
 fn frame_number_of(matches: &ArgMatches<'_>) -> Option<u64>
-    ensures value { MatchOption result ((n : ℕ) → 1 ≤ n → n < 2 ^ 64 → IsFrameNumber (rows_of (found_of matches.now)) n → ⊥)
+    ensures { MatchOption result ((n : ℕ) → 1 ≤ n → n < 2 ^ 64 → IsFrameNumber (rows_of (found_of matches.now)) n → ⊥)
         (λ n. (1 ≤ n) × IsFrameNumber (rows_of (found_of matches.now)) n) }
 {
     let frame = matches.get_one("frame")?;

@@ -46,7 +46,7 @@ pub(crate) fn frame_bytes<'a, A: Allocator + Copy, O: Out>(
     ensures kept { OnErr result ((O.taken out.new ≡ O.taken out.old) ⊎ (O.failed out.old < O.failed out.new)) }
 {
     let state = State::read(alloc, state)?;
-    let frame = state.frame(alloc)?;
+    let frame = state.frame()?;
     gro::write(&frame, out)?;
     Ok(())
 }

@@ -7,7 +7,7 @@ ghost use Rattle.cli.specs.CommandLine.{AsksForHelp, IsCommand, IsMisuse};
 ghost use Rattle.cli.specs.Reads.{AsksFor, asked_by, unread};
 ghost use Rattle.cli.specs.Asked.{also_asked};
 ghost use Rattle.cli.specs.declared.files.ReadFault.{ReadFault};
-ghost use Rattle.cli.specs.Reports.{Prints, said};
+ghost use Rattle.cli.specs.Reports.{Prints, line, said};
 ghost use Rattle.cli.specs.Statuses.{code_of, status_of};
 ghost use Rattle.cli.specs.declared.commands.Command.{Command};
 ghost use Rattle.cli.specs.declared.faults.Status.{Status};
@@ -235,6 +235,13 @@ fn text_of<A: Allocator + Copy>(
     let text = fault.to_string(alloc)?;
     match fault.status() {
         Status::CommandLine => Ok(text),
-        _ => format!(in alloc; "pairmd: {text}\n"),
+        _ => line(alloc, &text),
     }
+}
+
+/// The line of a fault that says this.
+fn line<A: Allocator + Copy>(alloc: A, text: &String<A>) -> Result<String<A>, AllocError>
+    ensures { IfOk result (λ s. string_bytes s ≡ line (string_bytes text.now)) }
+{
+    format!(in alloc; "pairmd: {text}\n")
 }

@@ -1,9 +1,10 @@
 //! The system's own files, streams and words.
 
-ghost use Rattle.std.specs.Prelude.{◌≡◌, IfOk, IfSome, None, OnOk};
+ghost use Rattle.std.specs.Prelude.{◌≡◌, ◌⊎◌, IfErr, IfOk, IfSome, None, OnOk};
 ghost use Rattle.std.specs.Io.KnownBytes.{IsAtEnd};
 ghost use Rattle.std.specs.IoError.{error_kind};
 ghost use Rattle.cli.specs.Host.{read_fault_of, words_fault_of};
+ghost use Rattle.cli.specs.declared.faults.CommandFault.TheVariants.{Memory, NotText};
 
 use crate::faults::CommandFault;
 use crate::files::{Files, ReadFault};

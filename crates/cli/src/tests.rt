@@ -292,9 +292,11 @@ fn reads_start_and_frame(rt: HostRuntime) -> Result<(), Fail> {
 
 const JOB: &[u8] = b"pairmd job 1\nenergy 1/r\ncore 0.2\ncutoff 0.9\ndt 2\ntype AR 1\n";
 
-const GRO: &[u8] = b"one atom\n    1\n    1AR      AR    1   0.500   0.000   0.000\n   2.00000   2.00000   2.00000\n";
+const GRO: &[u8] =
+    b"one atom\n    1\n    1AR      AR    1   0.500   0.000   0.000\n   2.00000   2.00000   2.00000\n";
 
-const STATE: &[u8] = b"pairmd state 1\ntitle one atom\nstep 0\natoms 1\nbox 200000 200000 200000\n    1AR      AR 1073741824 0 0 1073741824 0 0\n";
+const STATE: &[u8] =
+    b"pairmd state 1\ntitle one atom\nstep 0\natoms 1\nbox 200000 200000 200000\n    1AR      AR 1073741824 0 0 1073741824 0 0\n";
 
 #[test]
 fn starts_a_state_and_prints_its_frame(rt: HostRuntime) {
