@@ -54,8 +54,11 @@ abbrev pub bare : App
 bare = let a = new_app (codes "pairmd") in
     record a { top = record a.top { no_binary_name = true; subcommand_required = true } }
 
+abbrev pub forward : App
+forward = with_subcommand (with_subcommand bare starting) (stepping (codes "run"))
+
 abbrev pub program : App
-program = with_subcommand (with_subcommand (with_subcommand (with_subcommand bare starting) (stepping (codes "run"))) (stepping (codes "back"))) framing
+program = with_subcommand (with_subcommand forward (stepping (codes "back"))) framing
 
 -- ---- what the words ask for
 

@@ -4,7 +4,7 @@ ghost use Rattle.std.specs.Prelude.{◌≡◌, ◌≤◌, ◌<◌, ◌^◌, ◌�
 ghost use Rattle.clap.specs.Words.{HasKind, app_of, first_of, found_of, kind_of, rows_of, rule_of, shape_of, subcommand_rows_of};
 ghost use Rattle.clap.specs.declared.builder.command.Command.TheViews.{out-Command};
 ghost use Rattle.clap.specs.declared.error.kind.ErrorKind.TheVariants.{OutOfMemory};
-ghost use Rattle.cli.specs.CommandLine.{IsCommand, IsFrame, IsFrameNumber, IsNamed, IsNamedOf, IsRun, IsStart, IsSteps, command_name, faults_of, frame_rule, framing, path_rule, program, starting, steps_rule, stepping};
+ghost use Rattle.cli.specs.CommandLine.{IsCommand, IsFrame, IsFrameNumber, IsNamed, IsNamedOf, IsRun, IsStart, IsSteps, command_name, faults_of, forward, frame_rule, framing, path_rule, program, starting, steps_rule, stepping};
 ghost use Rattle.cli.specs.declared.commands.Start.{Start};
 ghost use Rattle.cli.specs.declared.commands.Frame.{Frame};
 
@@ -131,19 +131,24 @@ fn direction_of(name: &str) -> Option<Direction>
 fn program<'a>(alloc: Global) -> Result<clap::Command<'a>, AllocError>
     ensures { IfOk result (λ c. app_of c ≡ program) }
 {
-    let start = starting(alloc)?;
-    let run = stepping(alloc, "run", "Prints the state after so many steps")?;
     let back = stepping(alloc, "back", "Prints the state so many steps back")?;
     let frame = framing(alloc)?;
+    forward(alloc)?.subcommand(back)?.subcommand(frame)
+}
+
+/// The program with its first two commands.
+fn forward<'a>(alloc: Global) -> Result<clap::Command<'a>, AllocError>
+    ensures { IfOk result (λ c. app_of c ≡ forward) }
+{
+    let start = starting(alloc)?;
+    let run = stepping(alloc, "run", "Prints the state after so many steps")?;
     clap::Command::new(alloc, "pairmd")
         .about("Reversible molecular dynamics on whole numbers")
         .bin_name("pairmd")?
         .no_binary_name(true)
         .subcommand_required(true)
         .subcommand(start)?
-        .subcommand(run)?
-        .subcommand(back)?
-        .subcommand(frame)
+        .subcommand(run)
 }
 
 /// The command that takes a job, a GRO file and the number of a frame.

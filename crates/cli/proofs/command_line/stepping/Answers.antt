@@ -7,7 +7,7 @@ use Rattle.cli.proofs.command_line.stepping.Goals as goal
 
 pub returns-clause-shape : goal.returns-clause-shape
 returns-clause-shape c =
-    let named : app_of c.about.result ≡ new_app c.args.name.now = ap app_of_fields c.about.ensures ∙ c.new-3.ensures.app in
+    let named : app_of c.about.result ≡ new_app c.args.name.now = ap app_of_fields c.about.ensures ∙ c.new.ensures.app in
     let with_job = c.in_ok-arg.ensures.shape (search rules) ∙ ap₂ with_rule named c.path-job.ensures.rule in
     let with_state = c.in_ok-arg-2.ensures.shape (search rules) ∙ ap₂ with_rule with_job c.path-state.ensures.rule in
     IfOk-weaker c.arg-3.result _ _ (λ m h. ap (λ (a : App). a.top) (h.shape (search rules) ∙ ap₂ with_rule with_state c.steps-steps.ensures.rule)) c.arg-3.ensures
