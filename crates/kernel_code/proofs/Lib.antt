@@ -1,0 +1,4 @@
+pub mod TargetLaws
+pub mod InstructionLaws
+pub mod LineLaws
+pub mod ListingLaws
