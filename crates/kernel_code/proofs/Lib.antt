@@ -1,4 +1,6 @@
 pub mod TargetLaws
+pub mod Runs
 pub mod InstructionLaws
 pub mod LineLaws
 pub mod ListingLaws
+pub mod FaultLaws

@@ -6,7 +6,7 @@ use Rattle.std.proofs.lemmas.List.{append-nil, nil_from_length}
 use Rattle.std.proofs.lemmas.List.Splits.{join_with_byte-slice_split, slice_split-cons_no, slice_split_first}
 use Rattle.line_text.specs.Parts.{◌>>=◌ as ◌|>◌, lacks, cut_at, ended}
 use Rattle.line_text.proofs.PartLaws.{some_of}
-use Rattle.line_text.proofs.LineLaws.{bind_some, pair_is, cut_none, cut_shorter, line_cut, ended_then}
+use Rattle.line_text.proofs.LineLaws.{bind_some, pair_is, cut_found, cut_none, cut_shorter, line_cut, ended_then}
 use Rattle.kernel_code.specs.declared.instructions.Instr.{Instr}
 use Rattle.kernel_code.specs.declared.faults.CodeFault.{CodeFault}
 use Rattle.kernel_code.specs.declared.faults.CodeFault.TheVariants.{BadLine, BadTarget, TooLong, Memory}
@@ -86,18 +86,35 @@ regroup : (front : List Instr) (i : Instr) (read : Result (List Instr) CodeFault
 regroup front i (Ok is) = ap (λ (l : List Instr). Ok l) (sym (append_assoc front (i ∷ []) is))
 regroup front i (Err f) = refl
 
-pub lines_go_on : (front : List Instr) (n : ℕ) (text rest : List ℕ) (i : Instr) (total : Result (List Instr) CodeFault) → line_at text ≡ Some (i, rest)
-    → with_front front (instructions_of n (parts_of text)) ≡ total → with_front (front ++ i ∷ []) (instructions_of (n + 1) (parts_of rest)) ≡ total
+-- a line that was read: its instruction's line, and what stands behind it
+line_parts : (text rest : List ℕ) (i : Instr) → line_at text ≡ Some (i, rest) → (line : List ℕ) × (cut_at 10 text ≡ Some (line, rest)) × (instruction_of line ≡ Some i)
 unfolding line_at
-lines_go_on front n text rest i total e so_far =
+line_parts text rest i e =
     let a = bind_some (cut_at 10 text) (λ x. instruction_of x.0 |> λ j. Some (j, x.1)) (i, rest) e in
     let b = bind_some (instruction_of a.0.0) (λ j. Some (j, a.0.1)) (i, rest) a.2 in
     let same = pair_is b.0 i a.0.1 rest b.2 in
-    let line : instruction_of a.0.0 ≡ Some i = b.1 ∙ ap (λ j. Some j) same.0 in
-    let left : cut_at 10 text ≡ Some (a.0.0, rest) = a.1 ∙ ap (λ (t : List ℕ). Some (a.0.0, t)) same.1 in
-    sym (regroup front i (instructions_of (n + 1) (parts_of rest)))
-    ∙ ap (λ (o : Option Instr). with_front front (said n o >>= λ j. instructions_of (n + 1) (parts_of rest) >>= λ is. Ok (j ∷ is))) (sym line)
-    ∙ ap (with_front front) (sym (instructions_line n text a.0.0 rest left)) ∙ so_far
+    (a.0.0, a.1 ∙ ap (λ (t : List ℕ). Some (a.0.0, t)) same.1, b.1 ∙ ap (λ j. Some j) same.0)
+
+pub line_found : (text rest : List ℕ) (i : Instr) → line_at text ≡ Some (i, rest) → HasOperands i × (text ≡ ended (instruction_line i) ++ rest) × (length rest + 1 ≤ length text)
+line_found text rest i e =
+    let p = line_parts text rest i e in
+    let f = instruction_found p.0 i p.2 in
+    (f.0, (cut_found 10 text p.0 rest p.1).0 ∙ ap (λ (l : List ℕ). l ++ 10 ∷ rest) f.1 ∙ sym (ended_then (instruction_line i) rest), cut_shorter 10 text p.0 rest p.1)
+
+pub line_again : (i : Instr) (rest : List ℕ) → HasOperands i → line_at (ended (instruction_line i) ++ rest) ≡ Some (i, rest)
+unfolding line_at
+line_again i rest h = rw (line_cut (instruction_line i) rest (instruction_lacks i h), instruction_again i h) refl
+
+pub instructions_first : (n : ℕ) (text rest : List ℕ) (i : Instr) → line_at text ≡ Some (i, rest)
+    → instructions_of n (parts_of text) ≡ (instructions_of (n + 1) (parts_of rest) >>= λ is. Ok (i ∷ is))
+instructions_first n text rest i e =
+    let p = line_parts text rest i e in
+    instructions_line n text p.0 rest p.1 ∙ ap (λ (o : Option Instr). said n o >>= λ j. instructions_of (n + 1) (parts_of rest) >>= λ is. Ok (j ∷ is)) p.2
+
+pub lines_go_on : (front : List Instr) (n : ℕ) (text rest : List ℕ) (i : Instr) (total : Result (List Instr) CodeFault) → line_at text ≡ Some (i, rest)
+    → with_front front (instructions_of n (parts_of text)) ≡ total → with_front (front ++ i ∷ []) (instructions_of (n + 1) (parts_of rest)) ≡ total
+lines_go_on front n text rest i total e so_far =
+    sym (regroup front i (instructions_of (n + 1) (parts_of rest))) ∙ ap (with_front front) (sym (instructions_first n text rest i e)) ∙ so_far
 
 -- the line of an instruction and what stands behind it
 abbrev and_rest : List ℕ → Option Instr → Option (Instr × List ℕ)
@@ -124,7 +141,7 @@ no_rest : (rest : List ℕ) (o : Option Instr) → and_rest rest o ≡ None → 
 no_rest rest None e = refl
 no_rest rest (Some i) e = absurd cc
 
-bad_first : (n x : ℕ) (xs : List ℕ) → line_at (x ∷ xs) ≡ None → instructions_of n (parts_of (x ∷ xs)) ≡ Err (BadLine n)
+pub bad_first : (n x : ℕ) (xs : List ℕ) → line_at (x ∷ xs) ≡ None → instructions_of n (parts_of (x ∷ xs)) ≡ Err (BadLine n)
 bad_first n x xs e = at (cut_at 10 (x ∷ xs)) refl (sym (line_at_is (x ∷ xs)) ∙ e)
   where
     at : (o : Option (List ℕ × List ℕ)) → cut_at 10 (x ∷ xs) ≡ o → line_if o ≡ None → instructions_of n (parts_of (x ∷ xs)) ≡ Err (BadLine n)
@@ -137,15 +154,6 @@ pub lines_stop : (front : List Instr) (n : ℕ) (text : List ℕ) (total : Resul
     → with_front front (instructions_of n (parts_of text)) ≡ total → total ≡ Err (BadLine n)
 lines_stop front n [] total some e so_far = absurd cc
 lines_stop front n (x ∷ xs) total some e so_far = sym so_far ∙ ap (with_front front) (bad_first n x xs e)
-
--- what stands behind a line is shorter
-pub line_shorter : (text rest : List ℕ) (i : Instr) → line_at text ≡ Some (i, rest) → length rest + 1 ≤ length text
-unfolding line_at
-line_shorter text rest i e =
-    let a = bind_some (cut_at 10 text) (λ x. instruction_of x.0 |> λ j. Some (j, x.1)) (i, rest) e in
-    let b = bind_some (instruction_of a.0.0) (λ j. Some (j, a.0.1)) (i, rest) a.2 in
-    let same = pair_is b.0 i a.0.1 rest b.2 in
-    omega (arith, cut_shorter 10 text a.0.0 a.0.1 a.1, ap length same.1)
 
 pub lines_end : (front : List Instr) (n : ℕ) (text : List ℕ) (total : Result (List Instr) CodeFault) → eqb (length text) 0 ≡ true
     → with_front front (instructions_of n (parts_of text)) ≡ total → total ≡ Ok front

@@ -14,14 +14,14 @@ use Rattle.kernel_code.specs.ListingReading.{◌>>=◌, Gives, said, parts_of, b
 use Rattle.kernel_code.proofs.TargetLaws.{code_from_found, code_from_again}
 use Rattle.kernel_code.proofs.LineLaws.{bind_ok, said_found, instructions_found, instructions_again}
 
-below_head_found : (text rest : List ℕ) → below_head text ≡ Some rest → text ≡ ended head_line ++ rest
+pub below_head_found : (text rest : List ℕ) → below_head text ≡ Some rest → text ≡ ended head_line ++ rest
 unfolding below_head
 below_head_found text rest e =
     let a = bind_some (cut_at 10 text) (λ x. cond (bytes_eq x.0 head_line) (Some x.1) None) rest e in
     let s = some_of (bytes_eq a.0.0 head_line) a.0.1 rest a.2 in
     (cut_found 10 text a.0.0 a.0.1 a.1).0 ∙ ap (λ (l : List ℕ). l ++ 10 ∷ a.0.1) (same_bytes a.0.0 head_line s.0) ∙ ap (λ (t : List ℕ). head_line ++ 10 ∷ t) s.1 ∙ sym (ended_then head_line rest)
 
-below_head_again : (rest : List ℕ) → below_head (ended head_line ++ rest) ≡ Some rest
+pub below_head_again : (rest : List ℕ) → below_head (ended head_line ++ rest) ≡ Some rest
 unfolding below_head
 below_head_again rest = rw (line_cut head_line rest refl) refl
 

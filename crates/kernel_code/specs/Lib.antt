@@ -3,4 +3,5 @@ pub mod Machine
 pub mod Paths
 pub mod Listing
 pub mod ListingReading
+pub mod ListingFaults
 pub mod Tables

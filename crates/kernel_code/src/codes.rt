@@ -1,7 +1,8 @@
 //! Lists of instructions whose jumps go forwards.
 
-ghost use Rattle.std.specs.Prelude.{◌≡◌, ◌≤◌, length, Ok, Err, IfOk};
-ghost use Rattle.kernel_code.specs.Code.{JumpsForward, IsCode, goes_forward, targets_checked, code_from};
+ghost use Rattle.std.specs.Prelude.{◌≡◌, ◌≤◌, length, IfOk, IfErr};
+ghost use Rattle.kernel_code.specs.Code.{IsCode, goes_forward, targets_checked, code_if, code_from};
+ghost use Rattle.kernel_code.specs.ListingFaults.{IsCodeFault};
 
 use crate::faults::CodeFault;
 use crate::instructions::Instr;
@@ -37,11 +38,10 @@ impl<A: Allocator> Code<A> {
     /// `TooLong` where there are more than 16,384; else `BadTarget` with the lowest place of a jump that doesn't go forwards, or goes past the end, plus 2: the number of its line in a listing.
     pub fn new(instructions: Vec<Instr, A>) -> Result<Code<A>, CodeFault>
         ensures exact { result ≡ code_from instructions.items }
+        ensures code { IfOk result (λ code. (code ≡ instructions.items) × IsCode code) }
+        ensures fault { IfErr result (IsCodeFault instructions.items) }
     {
-        if instructions.len() > MOST {
-            return Err(CodeFault::TooLong);
-        }
-        check_targets(instructions.as_slice())?;
+        check(instructions.as_slice())?;
         Ok(Code { instructions })
     }
 
@@ -52,6 +52,16 @@ impl<A: Allocator> Code<A> {
     {
         self.instructions.as_slice()
     }
+}
+
+/// `TooLong` or `BadTarget` where the instructions are no code.
+fn check(instructions: &[Instr]) -> Result<(), CodeFault>
+    ensures { code_if instructions.now result ≡ code_from instructions.now }
+{
+    if instructions.len() > MOST {
+        return Err(CodeFault::TooLong);
+    }
+    check_targets(instructions)
 }
 
 /// Whether an instruction at this place, of so many, goes on forwards and at most to the end.

@@ -1,9 +1,10 @@
 //! Reading and printing listings.
 
-ghost use Rattle.std.specs.Prelude.{◌≡◌, List, Ok, IfOk, option_map};
+ghost use Rattle.std.specs.Prelude.{◌≡◌, List, Ok, IfOk, IfErr, option_map};
 ghost use Rattle.line_text.specs.Parts.{ended};
 ghost use Rattle.kernel_code.specs.declared.instructions.Instr.{Instr};
 ghost use Rattle.kernel_code.specs.Listing.{IsListed, listing_of, instruction_line, HasOperands};
+ghost use Rattle.kernel_code.specs.ListingFaults.{IsListingFault};
 ghost use Rattle.kernel_code.specs.ListingReading.{Gives, OneLine, OneListing, parts_of, below_head, line_at, instructions_of, code_of};
 
 use crate::codes::Code;
@@ -21,6 +22,8 @@ pub fn read<A: Allocator + Copy>(alloc: A, bytes: &[u8]) -> Result<Code<A>, Code
     ensures found { IfOk result (λ code. IsListed code × (bytes.now ≡ listing_of code)) }
     // The listing of a code is read as that code, unless memory runs out.
     ensures only { (code : List Instr) → IsListed code → bytes.now ≡ listing_of code → Gives (λ x. x) result (Ok code) }
+    // A fault says what is wrong, and where.
+    ensures fault { IfErr result (IsListingFault bytes.now) }
     // The code, or the first fault.
     ensures exact { Gives (λ x. x) result (code_of bytes.now) }
     // The definition reads exactly the lines of instructions, and the listings of codes.

@@ -1,7 +1,7 @@
 use super::*;
 use crate::BinaryOperation::*;
 use crate::UnaryOperation::*;
-use fixed::{Fault, Fx};
+use fixed::{Fault, Frac, Fx};
 use linked_list_allocator::LocalHeap;
 use std::alloc::{AllocError, Global};
 use std::test::*;
@@ -244,7 +244,7 @@ fn finds_inputs_in_their_order(rt: HostRuntime) -> Result<(), Fail> {
     let first = vec![in rt.alloc(); Fx::from_raw(10), Fx::from_raw(11)]?;
     let second = vec![in rt.alloc(); Fx::from_raw(20), Fx::from_raw(21)]?;
     let rows = Vec::from_array(rt.alloc(), [first, second])?;
-    let table = TypeTable::new(2, rows, vec![in rt.alloc(); Fx::from_raw(5)]?);
+    let table = TypeTable::new(Frac::F32, 2, rows, vec![in rt.alloc(); Fx::from_raw(5)]?);
     assert_eq!(rt;
         (table.parameters(), table.types(), table.globals()),
         (2, 2, 1)
@@ -265,7 +265,7 @@ fn finds_inputs_in_their_order(rt: HostRuntime) -> Result<(), Fail> {
         table.input(0, 0, Fx::from_raw(99), InputNumber::new(6)),
         None
     );
-    let empty = TypeTable::new(0, Vec::new(rt.alloc()), Vec::new(rt.alloc()));
+    let empty = TypeTable::new(Frac::F32, 0, Vec::new(rt.alloc()), Vec::new(rt.alloc()));
     assert_eq!(rt; empty.types(), 0);
     Ok(())
 }
@@ -313,5 +313,103 @@ fn answers_refused_memory(rt: HostRuntime) -> Result<(), Fail> {
     assert_eq!(rt; print(&heap, &code)?.as_slice(), text.as_bytes());
     let heap = LocalHeap::new(rt.alloc(), 64)?;
     assert!(rt; print(&heap, &code).is_err());
+    Ok(())
+}
+
+/// The outcome of this listing on two types of no parameter, with a global, at the distance `r`.
+fn outcome(alloc: Global, lines: &str, r: i64) -> Result<Result<Fx, Trap>, CodeFault> {
+    let text = format!(in alloc; "pairmd code 1\n{lines}")?;
+    let code = read(alloc, text.as_bytes())?;
+    let rows = Vec::from_array(alloc, [Vec::new(alloc), Vec::new(alloc)])?;
+    let globals = vec![in alloc; Fx::from_raw(5)]?;
+    let table = TypeTable::new(Frac::F32, 0, rows, globals);
+    Ok(run_checked(&code, &table, 0, 1, Fx::from_raw(r)))
+}
+
+#[test]
+fn gives_values(rt: HostRuntime) -> Result<(), Fail> {
+    for (lines, r, value) in [
+        // the slope of 1/r
+        (
+            "push -4294967296\ninput 0\nsq\ndiv\n",
+            1 << 31,
+            -17_179_869_184,
+        ),
+        ("jump 2\nadd\npush 7\n", 0, 7),
+        ("input 0\njumpifzero 4\npush 1\njump 5\npush 2\n", 0, 2),
+        ("input 0\njumpifzero 4\npush 1\njump 5\npush 2\n", -1, 1),
+        ("input 0\ninput 1\nsub\n", 12, 7),
+        ("push 3\nkeep 255\nget 255\nget 255\nadd\n", 0, 6),
+        ("push 8589934592\nsqrt\n", 0, 6_074_000_999),
+        ("push -2147483648\nfloor\n", 0, -4_294_967_296),
+        ("push 858993459\nceil\n", 0, 4_294_967_296),
+        ("push 0\ndelta\n", 0, 4_294_967_296),
+        ("push -1\nstep\n", 0, 0),
+        ("push -3\nabs\nneg\npush 2\nmin\npush -9\nmax\n", 0, -3),
+        ("push 12884901888\npush 2147483648\nmul\n", 0, 6_442_450_944),
+    ] {
+        assert_eq!(rt;
+            outcome(rt.alloc(), lines, r)?,
+            Ok(Fx::from_raw(value)),
+            "at {lines:?}"
+        );
+    }
+    Ok(())
+}
+
+#[test]
+fn traps_at_their_place(rt: HostRuntime) -> Result<(), Fail> {
+    for (lines, pc, kind) in [
+        (
+            "input 0\npush 0\ndiv\n",
+            2,
+            TrapKind::Operation(Fault::ZeroDivisor),
+        ),
+        (
+            "push -1\nsqrt\n",
+            1,
+            TrapKind::Operation(Fault::NegativeRoot),
+        ),
+        (
+            "push 9223372036854775807\nsq\n",
+            1,
+            TrapKind::Operation(Fault::Overflow),
+        ),
+        ("push 0\nadd\n", 1, TrapKind::MissingOperand),
+        ("jumpifzero 1\n", 0, TrapKind::MissingOperand),
+        ("push 0\nget 3\n", 1, TrapKind::MissingLocal),
+        ("input 2\n", 0, TrapKind::MissingInput),
+        ("", 0, TrapKind::BadEnd),
+        ("push 0\npush 0\n", 2, TrapKind::BadEnd),
+    ] {
+        assert_eq!(rt;
+            outcome(rt.alloc(), lines, 1)?,
+            Err(Trap { pc, kind }),
+            "at {lines:?}"
+        );
+    }
+    Ok(())
+}
+
+#[test]
+fn finds_a_missing_local_or_input_before_a_full_stack(rt: HostRuntime) -> Result<(), Fail> {
+    for (last, kind) in [
+        ("push 0\n", TrapKind::StackFull),
+        ("input 0\n", TrapKind::StackFull),
+        ("input 2\n", TrapKind::MissingInput),
+        ("get 0\n", TrapKind::MissingLocal),
+    ] {
+        let mut lines = String::new(rt.alloc());
+        for _ in 0..64 {
+            lines.push_str("push 0\n")?;
+        }
+        lines.push_str(last)?;
+        let expected = Err(Trap { pc: 64, kind });
+        assert_eq!(rt;
+            outcome(rt.alloc(), lines.as_str(), 1)?,
+            expected,
+            "at {last:?}"
+        );
+    }
     Ok(())
 }

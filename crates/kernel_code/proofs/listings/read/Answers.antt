@@ -1,4 +1,5 @@
 use Rattle.kernel_code.proofs.InstructionLaws.{one_line}
+use Rattle.kernel_code.proofs.FaultLaws.{is_fault}
 use Rattle.kernel_code.proofs.ListingLaws.{is_found, is_read, one_listing}
 use Rattle.kernel_code.proofs.listings.read.Goals as goal
 
@@ -13,3 +14,6 @@ returns-clause-one_line g c = one_line
 
 pub returns-clause-one_listing : goal.returns-clause-one_listing
 returns-clause-one_listing g c = one_listing
+
+pub returns-clause-fault : goal.returns-clause-fault
+returns-clause-fault g c = is_fault c.args.bytes.now c.listing.result c.listing.ensures
