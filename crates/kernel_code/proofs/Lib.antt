@@ -4,3 +4,4 @@ pub mod InstructionLaws
 pub mod LineLaws
 pub mod ListingLaws
 pub mod FaultLaws
+pub mod PathLaws

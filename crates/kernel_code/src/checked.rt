@@ -1,10 +1,11 @@
 //! The machine that tests each instruction.
 
-ghost use Rattle.std.specs.Prelude.{◌≡◌, ◌+◌, ◌^◌, ◌-◌, ◌<◌, ◌≤◌, ◌∷◌, [], ℕ, List, ℤ, length, Option, Result};
+ghost use Rattle.std.specs.Prelude.{◌≡◌, ◌+◌, ◌^◌, ◌-◌, ◌<◌, ◌≤◌, ◌∷◌, [], ℕ, List, ℤ, length, Option, Result, IfErr};
 ghost use Rattle.fixed.specs.Fractions.{bits_of};
 ghost use Rattle.kernel_code.specs.declared.traps.Trap.{Trap};
 ghost use Rattle.kernel_code.specs.Code.{IsCode};
-ghost use Rattle.kernel_code.specs.Machine.{act, pushed, pushed_if, kept, on_two, on_one, branched, binary_of, unary_of, answer_of, IsTurn, Ends};
+ghost use Rattle.kernel_code.specs.Machine.{act, pushed, pushed_if, kept, on_two, on_one, branched, binary_of, unary_of, answer_of, IsOperation, IsTurn, Ends};
+ghost use Rattle.kernel_code.specs.Paths.{MissesNothing};
 ghost use Rattle.kernel_code.specs.Tables.{inputs_of};
 
 use crate::codes::Code;
@@ -226,6 +227,8 @@ pub fn run_checked<A: Allocator>(
     ensures ends { (n : ℕ) × Ends (bits_of table.now.frac) code.now (inputs_of table.now a b r) n result }
     // and in no other way.
     ensures only { (n : ℕ) (outcome : Result ℤ Trap) → Ends (bits_of table.now.frac) code.now (inputs_of table.now a b r) n outcome → outcome ≡ result }
+    // Where no path of the code misses anything, only an operation traps.
+    ensures operation { MissesNothing code.now (length (inputs_of table.now a b r)) → IfErr result (λ trap. IsOperation trap.kind) }
 {
     run(table.frac(), code.as_slice(), &table.inputs(a, b, r))
 }
