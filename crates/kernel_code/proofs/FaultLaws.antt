@@ -1,18 +1,16 @@
 -- What each fault says of the instructions or of the text.
-use Rattle.std.proofs.Common.{◌≡◌, ◌≢◌, ℕ, zero, suc, ◌+◌, ◌<◌, ◌≤◌, ◌⊎◌, inl, inr, Bool, true, false, cond, eqb, nat_lt, List, [], ◌∷◌, ◌++◌, length, Option, Some, None, Result, Ok, Err, IfErr, bytes_eq, refl, sym, ap, subst, ◌∙◌, append_assoc, arith, zero-add, if◌then◌else◌}
+use Rattle.std.proofs.Common.{◌≡◌, ℕ, zero, suc, ◌+◌, ◌<◌, ◌≤◌, inl, inr, Bool, true, false, nat_lt, List, [], ◌∷◌, ◌++◌, length, Option, Some, None, Result, Ok, Err, IfErr, refl, sym, ap, subst, ◌∙◌, append_assoc, arith, zero-add, if◌then◌else◌}
 use Rattle.std.specs.Prelude.{slice_get}
 use Rattle.std.specs.List.{AllByRecursion}
-use Rattle.std.proofs.lemmas.Bool.{ltb-true, ltb-false, eqb-false}
-use Rattle.line_text.specs.Parts.{◌>>=◌ as ◌|>◌, cut_at, ended, lacks}
-use Rattle.line_text.proofs.LineLaws.{line_cut}
+use Rattle.std.proofs.lemmas.Bool.{ltb-true, ltb-false}
+use Rattle.line_text.specs.Parts.{ended}
 use Rattle.kernel_code.specs.declared.instructions.Instr.{Instr}
 use Rattle.kernel_code.specs.declared.faults.CodeFault.{CodeFault}
 use Rattle.kernel_code.specs.declared.faults.CodeFault.TheVariants.{BadLine, BadTarget, TooLong, Memory}
 use Rattle.kernel_code.specs.Code.{goes_forward, targets_checked, code_if, code_from}
 use Rattle.kernel_code.specs.Listing.{head_line, instruction_line, instruction_lines, HasOperands, listing_of}
 use Rattle.kernel_code.specs.ListingReading.{◌>>=◌, Gives, said, below_head, line_at, parts_of, instructions_of, code_of}
-use Rattle.kernel_code.specs.ListingFaults.{IsLowestBadJump, IsBadTarget, IsCodeFault, BeginsWith, IsFirstBadLine, IsBadHead, AreNoCode, IsListingFault}
-use Rattle.kernel_code.proofs.InstructionLaws.{instruction_again, instruction_lacks}
+use Rattle.kernel_code.specs.ListingFaults.{IsCodeFault, BeginsWith, IsListingFault}
 use Rattle.kernel_code.proofs.LineLaws.{line_found, line_again, instructions_first, instructions_none, instructions_found, bad_first}
 use Rattle.kernel_code.proofs.ListingLaws.{below_head_found, below_head_again}
 

@@ -1,7 +1,6 @@
 -- The line of an instruction: what is read is spelled so, and what is spelled so is read.
-use Rattle.std.proofs.Common.{◌≡◌, ℕ, ◌^◌, ◌<◌, Bool, true, false, List, ◌∷◌, ◌++◌, Option, Some, None, option_map, ℤ, codes, decimal, bytes_eq, if◌then◌else◌, refl, sym, ap, subst, ◌∙◌, arith, lit<}
+use Rattle.std.proofs.Common.{◌≡◌, ℕ, ◌^◌, ◌<◌, Bool, true, false, List, ◌∷◌, ◌++◌, Option, Some, None, option_map, codes, decimal, bytes_eq, if◌then◌else◌, refl, sym, ap, subst, ◌∙◌, arith, lit<}
 use Rattle.std.specs.Fmt.{signed_decimal}
-use lib.Signed.{mag}
 use Rattle.line_text.specs.Parts.{lacks, cut_at, natural_of, integer_of}
 use Rattle.line_text.proofs.PartLaws.{same_bytes, natural_found, natural_again, integer_found, integer_again}
 use Rattle.line_text.proofs.LineLaws.{lacks_append, decimal_lacks, signed_lacks, cut_found, cut_again, uncut}

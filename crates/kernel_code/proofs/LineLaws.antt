@@ -1,6 +1,6 @@
 -- The lines of a listing, one after another.
-use Rattle.std.proofs.Common.{◌≡◌, ℕ, zero, suc, ◌+◌, ◌-◌, ◌<◌, ◌≤◌, ◌==◌, Bool, true, false, cond, eqb, ltb, not, List, [], ◌∷◌, ◌++◌, length, Option, Some, None, Result, Ok, Err, refl, sym, ap, subst, ◌∙◌, append_assoc, arith}
-use Rattle.std.specs.List.{slice_split, onto_first, join_with_byte, flat_map, AllByRecursion, before_first, after_first, position_or_len}
+use Rattle.std.proofs.Common.{◌≡◌, ℕ, suc, ◌+◌, ◌≤◌, ◌==◌, Bool, true, false, cond, eqb, ltb, not, List, [], ◌∷◌, ◌++◌, length, Option, Some, None, Result, Ok, Err, refl, sym, ap, subst, ◌∙◌, append_assoc, arith}
+use Rattle.std.specs.List.{onto_first, join_with_byte, AllByRecursion, before_first, after_first, position_or_len}
 use Rattle.std.proofs.lemmas.Bool.{and_parts, not-true, ltb-true, eqb-true, ne_eqb}
 use Rattle.std.proofs.lemmas.List.{append-nil, nil_from_length}
 use Rattle.std.proofs.lemmas.List.Splits.{join_with_byte-slice_split, slice_split-cons_no, slice_split_first}
@@ -9,7 +9,7 @@ use Rattle.line_text.proofs.PartLaws.{some_of}
 use Rattle.line_text.proofs.LineLaws.{bind_some, pair_is, cut_found, cut_none, cut_shorter, line_cut, ended_then}
 use Rattle.kernel_code.specs.declared.instructions.Instr.{Instr}
 use Rattle.kernel_code.specs.declared.faults.CodeFault.{CodeFault}
-use Rattle.kernel_code.specs.declared.faults.CodeFault.TheVariants.{BadLine, BadTarget, TooLong, Memory}
+use Rattle.kernel_code.specs.declared.faults.CodeFault.TheVariants.{BadLine}
 use Rattle.kernel_code.specs.Listing.{instruction_line, instruction_lines, HasOperands}
 use Rattle.kernel_code.specs.ListingReading.{◌>>=◌, said, line_at, parts_of, instruction_of, instructions_of}
 use Rattle.kernel_code.proofs.InstructionLaws.{instruction_found, instruction_again, instruction_lacks}

@@ -7,7 +7,7 @@ use Rattle.std.proofs.lemmas.Bool.{ltb-false, le-ltb}
 use Rattle.kernel_code.specs.declared.instructions.Instr.{Instr}
 use Rattle.kernel_code.specs.declared.faults.CodeFault.{CodeFault}
 use Rattle.kernel_code.specs.declared.faults.CodeFault.TheVariants.{BadTarget, TooLong}
-use Rattle.kernel_code.specs.Code.{goes_forward, JumpsForward, IsCode, targets_checked, code_if, code_from}
+use Rattle.kernel_code.specs.Code.{goes_forward, IsCode, targets_checked, code_if, code_from}
 
 -- ---- place by place, as a loop does
 

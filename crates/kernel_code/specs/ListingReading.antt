@@ -1,5 +1,5 @@
 -- Reading a listing from the top, to the code or to the first fault.
-use Rattle.std.specs.Prelude.{◌≡◌, ◌↔◌, ℕ, ◌+◌, ◌^◌, Bool, List, [], ◌∷◌, ◌++◌, length, codes, Option, Some, None, option_map, Result, Ok, Err, ◌==◌, bytes_eq, if◌then◌else◌}
+use Rattle.std.specs.Prelude.{◌≡◌, ◌↔◌, ℕ, ◌+◌, ◌^◌, List, [], ◌∷◌, length, codes, Option, Some, None, option_map, Result, Ok, Err, ◌==◌, bytes_eq, if◌then◌else◌}
 use Rattle.std.specs.List.{slice_split}
 use Rattle.line_text.specs.Parts.{◌>>=◌ as ◌|>◌, cut_at, natural_of, integer_of}
 use Rattle.kernel_code.specs.declared.faults.CodeFault.{CodeFault}

@@ -1,6 +1,6 @@
 //! The machine that tests each instruction.
 
-ghost use Rattle.std.specs.Prelude.{◌≡◌, ◌+◌, ◌^◌, ◌-◌, ◌<◌, ◌≤◌, ◌∷◌, [], ℕ, List, ℤ, length, Option, Result, IfErr};
+ghost use Rattle.std.specs.Prelude.{◌≡◌, ◌+◌, ◌^◌, ◌-◌, ◌<◌, ℕ, List, ℤ, length, Option, Result, IfErr};
 ghost use Rattle.fixed.specs.Fractions.{bits_of};
 ghost use Rattle.kernel_code.specs.declared.traps.Trap.{Trap};
 ghost use Rattle.kernel_code.specs.Code.{IsCode};

@@ -1,8 +1,8 @@
 //! Tables of types: where the inputs of code come from.
 
-ghost use Rattle.std.specs.Prelude.{◌≡◌, ◌<◌, ◌≤◌, ℕ, ℤ, length, map, slice_get};
+ghost use Rattle.std.specs.Prelude.{◌≡◌, ◌<◌, ◌≤◌, ℤ, length, map, slice_get};
 ghost use Rattle.std.specs.List.{All};
-ghost use Rattle.kernel_code.specs.Tables.{Table, IsTable, inputs_of, row_of};
+ghost use Rattle.kernel_code.specs.Tables.{Table, IsTable, inputs_of};
 
 use crate::inputs::InputNumber;
 use fixed::{Frac, Fx};

@@ -1,4 +1,4 @@
-use Rattle.std.proofs.Common.{arith, ◌≡◌, ◌<◌, Some, length, suc, refl, sym, subst}
+use Rattle.std.proofs.Common.{arith, ◌<◌, length, suc, refl, sym, subst}
 use Rattle.std.proofs.lemmas.Option.{slice_get_read}
 use Rattle.fixed.specs.Fractions.{bits_of}
 use Rattle.kernel_code.specs.Machine.{State, Ends}

@@ -1,4 +1,4 @@
-use Rattle.std.proofs.Common.{◌≡◌, ◌+◌, List, length, sym, ap, subst, ◌∙◌, arith}
+use Rattle.std.proofs.Common.{◌+◌, List, sym, ap, subst, ◌∙◌, arith}
 use Rattle.kernel_code.specs.declared.instructions.Instr.{Instr}
 use Rattle.kernel_code.specs.ListingReading.{Fails, parts_of, instructions_of}
 use Rattle.kernel_code.proofs.LineLaws.{with_front, lines_go_on, lines_stop, lines_end, line_found}

@@ -1,6 +1,5 @@
-use Rattle.std.proofs.Common.{◌≡◌, List, sym, ap, subst, ◌∙◌}
+use Rattle.std.proofs.Common.{sym, ap, subst, ◌∙◌}
 use Rattle.line_text.specs.Parts.{ended}
-use Rattle.kernel_code.specs.declared.instructions.Instr.{Instr}
 use Rattle.kernel_code.specs.Code.{IsCode}
 use Rattle.kernel_code.specs.Listing.{head_line, IsListed, listing_of}
 use Rattle.kernel_code.proofs.ListingLaws.{lines_more, operands_more, printed, is_listed, listing_again}
