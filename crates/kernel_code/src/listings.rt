@@ -36,7 +36,10 @@ pub fn read<A: Allocator + Copy>(alloc: A, bytes: &[u8]) -> Result<Code<A>, Code
 /// The listing of the code. It is read as this code again.
 ///
 /// `AllocError` comes only where a growth was refused.
-pub fn print<A: Allocator + Copy>(alloc: A, code: &Code<A>) -> Result<Vec<u8, A>, AllocError>
+pub fn print<A: Allocator + Copy, B: Allocator>(
+    alloc: A,
+    code: &Code<B>,
+) -> Result<Vec<u8, A>, AllocError>
     ensures text { IfOk result (λ text. text.items ≡ listing_of code.now) }
     ensures listed { IfOk result (λ _. IsListed code.now) }
     ensures again { IfOk result (λ _. code_of (listing_of code.now) ≡ Ok code.now) }

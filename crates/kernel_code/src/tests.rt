@@ -308,11 +308,11 @@ fn answers_refused_memory(rt: HostRuntime) -> Result<(), Fail> {
     let text = pushes(rt.alloc(), 20)?;
     let heap = LocalHeap::new(rt.alloc(), 64)?;
     assert_eq!(rt; read(&heap, text.as_bytes()).err(), Some(CodeFault::Memory));
-    let heap = LocalHeap::new(rt.alloc(), 4096)?;
-    let code = read(&heap, text.as_bytes())?;
-    assert_eq!(rt; print(&heap, &code)?.as_slice(), text.as_bytes());
+    let code = read(rt.alloc(), text.as_bytes())?;
     let heap = LocalHeap::new(rt.alloc(), 64)?;
     assert!(rt; print(&heap, &code).is_err());
+    let heap = LocalHeap::new(rt.alloc(), 4096)?;
+    assert_eq!(rt; print(&heap, &code)?.as_slice(), text.as_bytes());
     Ok(())
 }
 
