@@ -1,0 +1,199 @@
+-- The lines of a listing, one after another.
+use Rattle.std.proofs.Common.{◌≡◌, ℕ, suc, ◌+◌, ◌≤◌, ◌==◌, Bool, true, false, cond, eqb, ltb, not, List, [], ◌∷◌, ◌++◌, length, Option, Some, None, Result, Ok, Err, refl, sym, ap, subst, ◌∙◌, append_assoc, arith}
+use Rattle.std.specs.List.{onto_first, join_with_byte, AllByRecursion, before_first, after_first, position_or_len}
+use Rattle.std.proofs.lemmas.Bool.{and_parts, not-true, ltb-true, eqb-true, ne_eqb}
+use Rattle.std.proofs.lemmas.List.{append-nil, nil_from_length}
+use Rattle.std.proofs.lemmas.List.Splits.{join_with_byte-slice_split, slice_split-cons_no, slice_split_first}
+use Rattle.line_text.specs.Parts.{◌>>=◌ as ◌|>◌, lacks, cut_at, ended}
+use Rattle.line_text.proofs.PartLaws.{some_of}
+use Rattle.line_text.proofs.LineLaws.{bind_some, pair_is, cut_found, cut_none, cut_shorter, line_cut, ended_then}
+use Rattle.kernel_code.specs.declared.instructions.Instr.{Instr}
+use Rattle.kernel_code.specs.declared.faults.CodeFault.{CodeFault}
+use Rattle.kernel_code.specs.declared.faults.CodeFault.TheVariants.{BadLine}
+use Rattle.kernel_code.specs.Listing.{instruction_line, instruction_lines, HasOperands}
+use Rattle.kernel_code.specs.ListingReading.{◌>>=◌, said, line_at, parts_of, instruction_of, instructions_of}
+use Rattle.kernel_code.proofs.InstructionLaws.{instruction_found, instruction_again, instruction_lacks}
+
+-- the value of a step that did not fail
+pub bind_ok : {A B : Type 0} (r : Result A CodeFault) (f : A → Result B CodeFault) (y : B) → (r >>= f) ≡ Ok y → (x : A) × (r ≡ Ok x) × (f x ≡ Ok y)
+bind_ok (Ok x) f y e = (x, refl, e)
+bind_ok (Err d) f y e = absurd cc
+
+pub said_found : {X : Type 0} (n : ℕ) (o : Option X) (x : X) → said n o ≡ Ok x → o ≡ Some x
+said_found n None x e = absurd cc
+said_found n (Some y) x e = cc
+
+-- ---- parts
+
+parts_cut : (text a b : List ℕ) → cut_at 10 text ≡ Some (a, b) → parts_of text ≡ a ∷ parts_of b
+unfolding cut_at
+parts_cut text a b e =
+    let s = some_of (ltb (position_or_len (λ x. x == 10) text) (length text)) (before_first (λ x. x == 10) text, after_first (λ x. x == 10) text) (a, b) e in
+    let front : before_first (λ x. x == 10) text ≡ a = ap (λ (p : List ℕ × List ℕ). p.0) s.1 in
+    let rest : after_first (λ x. x == 10) text ≡ b = ap (λ (p : List ℕ × List ℕ). p.1) s.1 in
+    slice_split_first (λ x. x == 10) text 0 (ltb-true _ _ s.0) ∙ ap (λ (l : List ℕ). l ∷ parts_of (after_first (λ x. x == 10) text)) front ∙ ap (λ (t : List ℕ). a ∷ parts_of t) rest
+
+parts_uncut : (text : List ℕ) → lacks 10 text ≡ true → parts_of text ≡ text ∷ []
+parts_uncut [] l = refl
+parts_uncut (x ∷ xs) l =
+    let p = and_parts (not (eqb x 10)) (lacks 10 xs) l in
+    slice_split-cons_no (λ b. b == 10) x xs (not-true (eqb x 10) p.0) ∙ ap (onto_first x) (parts_uncut xs p.1)
+
+parts_some : (text : List ℕ) → (p : List ℕ) × (ps : List (List ℕ)) × (parts_of text ≡ p ∷ ps)
+parts_some [] = ([], [], refl)
+parts_some (x ∷ xs) = at (eqb x 10) (parts_some xs)
+  where
+    at : (b : Bool) → (p : List ℕ) × (ps : List (List ℕ)) × (parts_of xs ≡ p ∷ ps)
+        → (p : List ℕ) × (ps : List (List ℕ)) × (cond b ([] ∷ parts_of xs) (onto_first x (parts_of xs)) ≡ p ∷ ps)
+    at true h = ([], parts_of xs, refl)
+    at false h = (x ∷ h.0, h.1, ap (onto_first x) h.2)
+
+-- ---- one line
+
+-- what a line and the lines after it give
+abbrev with_first : ℕ → List ℕ → List (List ℕ) → Result (List Instr) CodeFault
+with_first n line parts = said n (instruction_of line) >>= λ i. instructions_of (n + 1) parts >>= λ is. Ok (i ∷ is)
+
+pub instructions_line : (n : ℕ) (text a b : List ℕ) → cut_at 10 text ≡ Some (a, b)
+    → instructions_of n (parts_of text) ≡ (said n (instruction_of a) >>= λ i. instructions_of (n + 1) (parts_of b) >>= λ is. Ok (i ∷ is))
+unfolding instructions_of
+instructions_line n text a b e =
+    let s = parts_some b in
+    ap (instructions_of n) (parts_cut text a b e) ∙ ap (λ (ps : List (List ℕ)). instructions_of n (a ∷ ps)) s.2 ∙ opened s.0 s.1 ∙ ap (with_first n a) (sym s.2)
+  where
+    opened : (p : List ℕ) (ps : List (List ℕ)) → instructions_of n (a ∷ p ∷ ps) ≡ with_first n a (p ∷ ps)
+    opened p ps = refl
+
+-- a text without a line feed is no line, unless it is empty
+pub instructions_cut_off : (n x : ℕ) (xs : List ℕ) → cut_at 10 (x ∷ xs) ≡ None → instructions_of n (parts_of (x ∷ xs)) ≡ Err (BadLine n)
+unfolding instructions_of
+instructions_cut_off n x xs e = ap (instructions_of n) (parts_uncut (x ∷ xs) (cut_none 10 (x ∷ xs) e)) ∙ opened
+  where
+    opened : instructions_of n ((x ∷ xs) ∷ []) ≡ Err (BadLine n)
+    opened = let some : eqb (suc (length xs)) 0 ≡ false = ne_eqb _ _ (λ h. omega arith) in rw some refl
+
+pub instructions_none : (n : ℕ) → instructions_of n (parts_of []) ≡ Ok []
+unfolding instructions_of
+instructions_none n = refl
+
+-- ---- line by line, as a loop does
+
+-- what was read before, and what is still read
+abbrev pub with_front : List Instr → Result (List Instr) CodeFault → Result (List Instr) CodeFault
+with_front front read = read >>= λ is. Ok (front ++ is)
+
+regroup : (front : List Instr) (i : Instr) (read : Result (List Instr) CodeFault) → with_front front (read >>= λ is. Ok (i ∷ is)) ≡ with_front (front ++ i ∷ []) read
+regroup front i (Ok is) = ap (λ (l : List Instr). Ok l) (sym (append_assoc front (i ∷ []) is))
+regroup front i (Err f) = refl
+
+-- a line that was read: its instruction's line, and what stands behind it
+line_parts : (text rest : List ℕ) (i : Instr) → line_at text ≡ Some (i, rest) → (line : List ℕ) × (cut_at 10 text ≡ Some (line, rest)) × (instruction_of line ≡ Some i)
+unfolding line_at
+line_parts text rest i e =
+    let a = bind_some (cut_at 10 text) (λ x. instruction_of x.0 |> λ j. Some (j, x.1)) (i, rest) e in
+    let b = bind_some (instruction_of a.0.0) (λ j. Some (j, a.0.1)) (i, rest) a.2 in
+    let same = pair_is b.0 i a.0.1 rest b.2 in
+    (a.0.0, a.1 ∙ ap (λ (t : List ℕ). Some (a.0.0, t)) same.1, b.1 ∙ ap (λ j. Some j) same.0)
+
+pub line_found : (text rest : List ℕ) (i : Instr) → line_at text ≡ Some (i, rest) → HasOperands i × (text ≡ ended (instruction_line i) ++ rest) × (length rest + 1 ≤ length text)
+line_found text rest i e =
+    let p = line_parts text rest i e in
+    let f = instruction_found p.0 i p.2 in
+    (f.0, (cut_found 10 text p.0 rest p.1).0 ∙ ap (λ (l : List ℕ). l ++ 10 ∷ rest) f.1 ∙ sym (ended_then (instruction_line i) rest), cut_shorter 10 text p.0 rest p.1)
+
+pub line_again : (i : Instr) (rest : List ℕ) → HasOperands i → line_at (ended (instruction_line i) ++ rest) ≡ Some (i, rest)
+unfolding line_at
+line_again i rest h = rw (line_cut (instruction_line i) rest (instruction_lacks i h), instruction_again i h) refl
+
+pub instructions_first : (n : ℕ) (text rest : List ℕ) (i : Instr) → line_at text ≡ Some (i, rest)
+    → instructions_of n (parts_of text) ≡ (instructions_of (n + 1) (parts_of rest) >>= λ is. Ok (i ∷ is))
+instructions_first n text rest i e =
+    let p = line_parts text rest i e in
+    instructions_line n text p.0 rest p.1 ∙ ap (λ (o : Option Instr). said n o >>= λ j. instructions_of (n + 1) (parts_of rest) >>= λ is. Ok (j ∷ is)) p.2
+
+pub lines_go_on : (front : List Instr) (n : ℕ) (text rest : List ℕ) (i : Instr) (total : Result (List Instr) CodeFault) → line_at text ≡ Some (i, rest)
+    → with_front front (instructions_of n (parts_of text)) ≡ total → with_front (front ++ i ∷ []) (instructions_of (n + 1) (parts_of rest)) ≡ total
+lines_go_on front n text rest i total e so_far =
+    sym (regroup front i (instructions_of (n + 1) (parts_of rest))) ∙ ap (with_front front) (sym (instructions_first n text rest i e)) ∙ so_far
+
+-- the line of an instruction and what stands behind it
+abbrev and_rest : List ℕ → Option Instr → Option (Instr × List ℕ)
+and_rest rest None = None
+and_rest rest (Some i) = Some (i, rest)
+
+abbrev line_if : Option (List ℕ × List ℕ) → Option (Instr × List ℕ)
+line_if None = None
+line_if (Some p) = and_rest p.1 (instruction_of p.0)
+
+line_at_is : (text : List ℕ) → line_at text ≡ line_if (cut_at 10 text)
+unfolding line_at
+line_at_is text = at (cut_at 10 text)
+  where
+    rest_at : (o : Option Instr) (rest : List ℕ) → ◌|>◌ {B = Instr × List ℕ} o (λ i. Some (i, rest)) ≡ and_rest rest o
+    rest_at None rest = refl
+    rest_at (Some i) rest = refl
+
+    at : (o : Option (List ℕ × List ℕ)) → ◌|>◌ {B = Instr × List ℕ} o (λ x. ◌|>◌ {B = Instr × List ℕ} (instruction_of x.0) (λ i. Some (i, x.1))) ≡ line_if o
+    at None = refl
+    at (Some p) = rest_at (instruction_of p.0) p.1
+
+no_rest : (rest : List ℕ) (o : Option Instr) → and_rest rest o ≡ None → o ≡ None
+no_rest rest None e = refl
+no_rest rest (Some i) e = absurd cc
+
+pub bad_first : (n x : ℕ) (xs : List ℕ) → line_at (x ∷ xs) ≡ None → instructions_of n (parts_of (x ∷ xs)) ≡ Err (BadLine n)
+bad_first n x xs e = at (cut_at 10 (x ∷ xs)) refl (sym (line_at_is (x ∷ xs)) ∙ e)
+  where
+    at : (o : Option (List ℕ × List ℕ)) → cut_at 10 (x ∷ xs) ≡ o → line_if o ≡ None → instructions_of n (parts_of (x ∷ xs)) ≡ Err (BadLine n)
+    at None c d = instructions_cut_off n x xs c
+    at (Some p) c d =
+        instructions_line n (x ∷ xs) p.0 p.1 c
+        ∙ ap (λ (o : Option Instr). said n o >>= λ j. instructions_of (n + 1) (parts_of p.1) >>= λ is. Ok (j ∷ is)) (no_rest p.1 (instruction_of p.0) d)
+
+pub lines_stop : (front : List Instr) (n : ℕ) (text : List ℕ) (total : Result (List Instr) CodeFault) → eqb (length text) 0 ≡ false → line_at text ≡ None
+    → with_front front (instructions_of n (parts_of text)) ≡ total → total ≡ Err (BadLine n)
+lines_stop front n [] total some e so_far = absurd cc
+lines_stop front n (x ∷ xs) total some e so_far = sym so_far ∙ ap (with_front front) (bad_first n x xs e)
+
+pub lines_end : (front : List Instr) (n : ℕ) (text : List ℕ) (total : Result (List Instr) CodeFault) → eqb (length text) 0 ≡ true
+    → with_front front (instructions_of n (parts_of text)) ≡ total → total ≡ Ok front
+lines_end front n text total none so_far =
+    sym so_far ∙ ap (λ (t : List ℕ). with_front front (instructions_of n (parts_of t))) (nil_from_length text (eqb-true (length text) 0 none)) ∙ ap (with_front front) (instructions_none n)
+    ∙ ap (λ (l : List Instr). Ok l) (append-nil front)
+
+-- ---- all lines
+
+unless_some : (b : Bool) (n : ℕ) (is : List Instr) → cond b (Ok []) (Err (BadLine n)) ≡ Ok is → (b ≡ true) × (is ≡ [])
+unless_some true n is e = (refl, cc)
+unless_some false n is e = absurd cc
+
+parts_found : (n : ℕ) (parts : List (List ℕ)) (is : List Instr) → instructions_of n parts ≡ Ok is → (join_with_byte 10 parts ≡ instruction_lines is) × AllByRecursion HasOperands is
+unfolding instructions_of
+parts_found n [] is e = absurd cc
+parts_found n (last ∷ []) is e =
+    let s = unless_some (eqb (length last) 0) n is e in
+    let none : last ≡ [] = nil_from_length last (eqb-true (length last) 0 s.0) in
+    subst (λ (l : List Instr). (last ≡ instruction_lines l) × AllByRecursion HasOperands l) (sym s.1) (none, tt)
+parts_found n (line ∷ next ∷ parts) is e =
+    let a = bind_ok (said n (instruction_of line)) (λ i. instructions_of (n + 1) (next ∷ parts) >>= λ js. Ok (i ∷ js)) is e in
+    let b = bind_ok (instructions_of (n + 1) (next ∷ parts)) (λ js. Ok (a.0 ∷ js)) is a.2 in
+    let f = instruction_found line a.0 (said_found n (instruction_of line) a.0 a.1) in
+    let t = parts_found (n + 1) (next ∷ parts) b.0 b.1 in
+    let same : a.0 ∷ b.0 ≡ is = let last = b.2 in cc in
+    subst (λ (l : List Instr). (join_with_byte 10 (line ∷ next ∷ parts) ≡ instruction_lines l) × AllByRecursion HasOperands l) same (
+      ap (λ (l : List ℕ). l ++ 10 ∷ join_with_byte 10 (next ∷ parts)) f.1 ∙ ap (λ (t : List ℕ). instruction_line a.0 ++ 10 ∷ t) t.0
+          ∙ sym (ended_then (instruction_line a.0) (instruction_lines b.0)),
+      (f.0, t.1),
+    )
+
+pub instructions_found : (n : ℕ) (text : List ℕ) (is : List Instr) → instructions_of n (parts_of text) ≡ Ok is → (text ≡ instruction_lines is) × AllByRecursion HasOperands is
+instructions_found n text is e =
+    let f = parts_found n (parts_of text) is e in
+    (sym (join_with_byte-slice_split 10 text) ∙ f.0, f.1)
+
+pub instructions_again : (n : ℕ) (is : List Instr) → AllByRecursion HasOperands is → instructions_of n (parts_of (instruction_lines is)) ≡ Ok is
+instructions_again n [] h = instructions_none n
+instructions_again n (i ∷ is) h =
+    instructions_line n (instruction_lines (i ∷ is)) (instruction_line i) (instruction_lines is) (line_cut (instruction_line i) (instruction_lines is) (instruction_lacks i h.0))
+    ∙ ap (λ (o : Option Instr). said n o >>= λ j. instructions_of (n + 1) (parts_of (instruction_lines is)) >>= λ js. Ok (j ∷ js)) (instruction_again i h.0)
+    ∙ ap (λ (r : Result (List Instr) CodeFault). r >>= λ js. Ok (i ∷ js)) (instructions_again (n + 1) is h.1)

@@ -1,0 +1,81 @@
+-- Listings: what is read is a code with this listing, and the listing of a code is read as that code.
+use Rattle.std.proofs.Common.{◌≡◌, ℕ, ◌+◌, ◌<◌, ◌≤◌, cond, List, [], ◌∷◌, ◌++◌, length, take, get_or, Some, None, Result, Ok, Err, IfOk, bytes_eq, refl, sym, ap, subst, ◌∙◌, append_assoc}
+use Rattle.std.specs.List.{AllByRecursion}
+use Rattle.std.proofs.lemmas.List.{append-nil, take_more, take_all}
+use Rattle.std.proofs.lemmas.Grind.{flat_map-append}
+use Rattle.line_text.specs.Parts.{cut_at, ended}
+use Rattle.line_text.proofs.PartLaws.{some_of, same_bytes}
+use Rattle.line_text.proofs.LineLaws.{bind_some, cut_found, line_cut, ended_then}
+use Rattle.kernel_code.specs.declared.instructions.Instr.{Instr}
+use Rattle.kernel_code.specs.declared.faults.CodeFault.{CodeFault}
+use Rattle.kernel_code.specs.Code.{IsCode, code_from}
+use Rattle.kernel_code.specs.Listing.{head_line, instruction_line, instruction_lines, HasOperands, IsListed, listing_of}
+use Rattle.kernel_code.specs.ListingReading.{◌>>=◌, Gives, said, parts_of, below_head, instructions_of, code_of, OneListing}
+use Rattle.kernel_code.proofs.TargetLaws.{code_from_found, code_from_again}
+use Rattle.kernel_code.proofs.LineLaws.{bind_ok, said_found, instructions_found, instructions_again}
+
+pub below_head_found : (text rest : List ℕ) → below_head text ≡ Some rest → text ≡ ended head_line ++ rest
+unfolding below_head
+below_head_found text rest e =
+    let a = bind_some (cut_at 10 text) (λ x. cond (bytes_eq x.0 head_line) (Some x.1) None) rest e in
+    let s = some_of (bytes_eq a.0.0 head_line) a.0.1 rest a.2 in
+    (cut_found 10 text a.0.0 a.0.1 a.1).0 ∙ ap (λ (l : List ℕ). l ++ 10 ∷ a.0.1) (same_bytes a.0.0 head_line s.0) ∙ ap (λ (t : List ℕ). head_line ++ 10 ∷ t) s.1 ∙ sym (ended_then head_line rest)
+
+pub below_head_again : (rest : List ℕ) → below_head (ended head_line ++ rest) ≡ Some rest
+unfolding below_head
+below_head_again rest = rw (line_cut head_line rest refl) refl
+
+pub listing_found : (text : List ℕ) (code : List Instr) → code_of text ≡ Ok code → IsListed code × (text ≡ listing_of code)
+unfolding code_of listing_of
+listing_found text code e =
+    let a = bind_ok (said 1 (below_head text)) (λ rest. instructions_of 2 (parts_of rest) >>= code_from) code e in
+    let b = bind_ok (instructions_of 2 (parts_of a.0)) code_from code a.2 in
+    let head = below_head_found text a.0 (said_found 1 (below_head text) a.0 a.1) in
+    let is = instructions_found 2 a.0 b.0 b.1 in
+    let c = code_from_found b.0 code b.2 in (
+      record { code' = c.1; operands = subst (AllByRecursion HasOperands) c.0 is.1 },
+      head ∙ ap (λ (t : List ℕ). ended head_line ++ t) (is.0 ∙ ap instruction_lines c.0),
+    )
+
+pub listing_again : (code : List Instr) → IsListed code → code_of (listing_of code) ≡ Ok code
+unfolding code_of listing_of
+listing_again code h =
+    rw (below_head_again (instruction_lines code))
+    (ap (λ (r : Result (List Instr) CodeFault). r >>= code_from) (instructions_again 2 code h.operands) ∙ code_from_again code h.code')
+
+pub one_listing : OneListing
+one_listing text code = (listing_found text code, λ h. ap code_of h.1 ∙ listing_again code h.0)
+
+-- ---- at what a call returned
+
+pub is_found : (text : List ℕ) (r : Result (List Instr) CodeFault) → Gives (λ x. x) r (code_of text) → IfOk r (λ code. IsListed code × (text ≡ listing_of code))
+is_found text (Ok code) h = listing_found text code h
+is_found text (Err e) h = tt
+
+pub is_read : (text : List ℕ) (r : Result (List Instr) CodeFault) → Gives (λ x. x) r (code_of text) → (code : List Instr) → IsListed code → text ≡ listing_of code → Gives (λ x. x) r (Ok code)
+is_read text r h code l e = subst (Gives (λ x. x) r) (ap code_of e ∙ listing_again code l) h
+
+-- ---- line by line, as a loop prints
+
+pub lines_more : (xs : List Instr) (k : ℕ) (x : Instr) (head text line more : List ℕ) → k < length xs → x ≡ get_or xs k x → text ≡ head ++ instruction_lines (take k xs) → line ≡ ended (instruction_line x)
+    → more ≡ text ++ line → more ≡ head ++ instruction_lines (take (k + 1) xs)
+lines_more xs k x head text line more within here so_far is e =
+    let one : instruction_lines (take (k + 1) xs) ≡ instruction_lines (take k xs) ++ ended (instruction_line x) =
+    ap instruction_lines (take_more xs k x within) ∙ flat_map-append (λ i. ended (instruction_line i)) (take k xs) (get_or xs k x ∷ [])
+    ∙ ap (λ (t : List ℕ). instruction_lines (take k xs) ++ t) (append-nil (ended (instruction_line (get_or xs k x))) ∙ ap (λ (i : Instr). ended (instruction_line i)) (sym here)) in
+    e ∙ ap (λ (t : List ℕ). t ++ line) so_far ∙ ap (λ (t : List ℕ). head ++ instruction_lines (take k xs) ++ t) is
+    ∙ append_assoc head (instruction_lines (take k xs)) (ended (instruction_line x)) ∙ ap (λ (t : List ℕ). head ++ t) (sym one)
+
+all_push : (xs : List Instr) (x : Instr) → AllByRecursion HasOperands xs → HasOperands x → AllByRecursion HasOperands (xs ++ x ∷ [])
+all_push [] x h p = (p, tt)
+all_push (y ∷ ys) x h p = (h.0, all_push ys x h.1 p)
+
+pub operands_more : (xs : List Instr) (k : ℕ) (x : Instr) → k < length xs → x ≡ get_or xs k x → AllByRecursion HasOperands (take k xs) → HasOperands x → AllByRecursion HasOperands (take (k + 1) xs)
+operands_more xs k x within here h p = rw (take_more xs k x within) (all_push (take k xs) (get_or xs k x) h (subst HasOperands here p))
+
+pub printed : (xs : List Instr) (k : ℕ) (text : List ℕ) → length xs ≤ k → text ≡ ended head_line ++ instruction_lines (take k xs) → text ≡ listing_of xs
+unfolding listing_of
+printed xs k text past e = e ∙ ap (λ (l : List Instr). ended head_line ++ instruction_lines l) (take_all k xs past)
+
+pub is_listed : (xs : List Instr) (k : ℕ) → length xs ≤ k → IsCode xs → AllByRecursion HasOperands (take k xs) → IsListed xs
+is_listed xs k past c h = record { code' = c; operands = subst (AllByRecursion HasOperands) (take_all k xs past) h }

@@ -1,0 +1,67 @@
+-- The one text of a code, its listing.
+use Rattle.std.specs.Prelude.{ℕ, ◌<◌, ◌^◌, List, ◌++◌, codes, decimal}
+use Rattle.std.specs.Fmt.{signed_decimal}
+use Rattle.std.specs.List.{flat_map, AllByRecursion}
+use lib.Signed.{mag}
+use Rattle.line_text.specs.Parts.{ended}
+use Rattle.kernel_code.specs.declared.instructions.BinaryOperation.{BinaryOperation}
+use Rattle.kernel_code.specs.declared.instructions.BinaryOperation.TheVariants.{Add, Subtract, Multiply, Divide, Minimum, Maximum}
+use Rattle.kernel_code.specs.declared.instructions.UnaryOperation.{UnaryOperation}
+use Rattle.kernel_code.specs.declared.instructions.UnaryOperation.TheVariants.{Negate, Square, SquareRoot, Absolute, Step, Delta, Floor, Ceiling}
+use Rattle.kernel_code.specs.declared.instructions.Instr.{Instr}
+use Rattle.kernel_code.specs.declared.instructions.Instr.TheVariants.{Push, Input, Keep, Get, Binary, Unary, JumpIfZero, Jump}
+use Rattle.kernel_code.specs.Code.{IsCode}
+
+abbrev pub head_line : List ℕ
+head_line = codes "pairmd code 1"
+
+abbrev pub binary_name : BinaryOperation → List ℕ
+binary_name Add = codes "add"
+binary_name Subtract = codes "sub"
+binary_name Multiply = codes "mul"
+binary_name Divide = codes "div"
+binary_name Minimum = codes "min"
+binary_name Maximum = codes "max"
+
+abbrev pub unary_name : UnaryOperation → List ℕ
+unary_name Negate = codes "neg"
+unary_name Square = codes "sq"
+unary_name SquareRoot = codes "sqrt"
+unary_name Absolute = codes "abs"
+unary_name Step = codes "step"
+unary_name Delta = codes "delta"
+unary_name Floor = codes "floor"
+unary_name Ceiling = codes "ceil"
+
+-- the line of an instruction, without its LF
+abbrev pub instruction_line : Instr → List ℕ
+instruction_line (Push v) = codes "push " ++ signed_decimal v
+instruction_line (Input i) = codes "input " ++ decimal i
+instruction_line (Keep k) = codes "keep " ++ decimal k
+instruction_line (Get k) = codes "get " ++ decimal k
+instruction_line (Binary op) = binary_name op
+instruction_line (Unary op) = unary_name op
+instruction_line (JumpIfZero to) = codes "jumpifzero " ++ decimal to
+instruction_line (Jump to) = codes "jump " ++ decimal to
+
+abbrev pub instruction_lines : List Instr → List ℕ
+instruction_lines code = flat_map (λ i. ended (instruction_line i)) code
+
+unfoldable pub listing_of : List Instr → List ℕ
+listing_of code = ended head_line ++ instruction_lines code
+
+-- each operand is in its range
+abbrev pub HasOperands : Instr → Type 0
+HasOperands (Push v) = mag v < 2 ^ 63
+HasOperands (Input i) = i < 33
+HasOperands (Keep k) = k < 256
+HasOperands (Get k) = k < 256
+HasOperands (Binary op) = Unit {0}
+HasOperands (Unary op) = Unit {0}
+HasOperands (JumpIfZero to) = to < 2 ^ 32
+HasOperands (Jump to) = to < 2 ^ 32
+
+-- what has a listing
+pub record IsListed (code : List Instr) : Type 0 where
+  pub code' : IsCode code
+  pub operands : AllByRecursion HasOperands code

@@ -1,0 +1,141 @@
+-- Reading a listing from the top, to the code or to the first fault.
+use Rattle.std.specs.Prelude.{◌≡◌, ◌↔◌, ℕ, ◌+◌, ◌^◌, List, [], ◌∷◌, length, codes, Option, Some, None, option_map, Result, Ok, Err, ◌==◌, bytes_eq, if◌then◌else◌}
+use Rattle.std.specs.List.{slice_split}
+use Rattle.line_text.specs.Parts.{◌>>=◌ as ◌|>◌, cut_at, natural_of, integer_of}
+use Rattle.kernel_code.specs.declared.faults.CodeFault.{CodeFault}
+use Rattle.kernel_code.specs.declared.faults.CodeFault.TheVariants.{BadLine, Memory}
+use Rattle.kernel_code.specs.declared.instructions.BinaryOperation.{BinaryOperation}
+use Rattle.kernel_code.specs.declared.instructions.BinaryOperation.TheVariants.{Add, Subtract, Multiply, Divide, Minimum, Maximum}
+use Rattle.kernel_code.specs.declared.instructions.UnaryOperation.{UnaryOperation}
+use Rattle.kernel_code.specs.declared.instructions.UnaryOperation.TheVariants.{Negate, Square, SquareRoot, Absolute, Step, Delta, Floor, Ceiling}
+use Rattle.kernel_code.specs.declared.instructions.Instr.{Instr}
+use Rattle.kernel_code.specs.declared.instructions.Instr.TheVariants.{Push, Input, Keep, Get, Binary, Unary, JumpIfZero, Jump}
+use Rattle.kernel_code.specs.Code.{code_from}
+use Rattle.kernel_code.specs.Listing.{head_line, instruction_line, HasOperands, IsListed, listing_of}
+
+infixl 10 ◌>>=◌
+abbrev pub ◌>>=◌ : {A B : Type 0} → Result A CodeFault → (A → Result B CodeFault) → Result B CodeFault
+(Ok x) >>= f = f x
+(Err e) >>= f = Err e
+
+-- What a call returned is what the definition answers, its value seen by view. Want of memory says nothing.
+abbrev pub Fails : {Y : Type 0} → CodeFault → Result Y CodeFault → Type 0
+Fails Memory answer = Unit {0}
+Fails fault answer = answer ≡ Err fault
+
+abbrev pub Gives : {X Y : Type 0} → (X → Y) → Result X CodeFault → Result Y CodeFault → Type 0
+Gives view (Ok x) answer = answer ≡ Ok (view x)
+Gives view (Err fault) answer = Fails fault answer
+
+-- ---- one line, without its LF
+
+unfoldable pub binary_of_name : List ℕ → Option BinaryOperation
+binary_of_name name =
+    if bytes_eq name (codes "add") then Some Add
+    else if bytes_eq name (codes "sub") then Some Subtract
+    else if bytes_eq name (codes "mul") then Some Multiply
+    else if bytes_eq name (codes "div") then Some Divide
+    else if bytes_eq name (codes "min") then Some Minimum
+    else if bytes_eq name (codes "max") then Some Maximum
+    else None
+
+unfoldable pub unary_of_name : List ℕ → Option UnaryOperation
+unary_of_name name =
+    if bytes_eq name (codes "neg") then Some Negate
+    else if bytes_eq name (codes "sq") then Some Square
+    else if bytes_eq name (codes "sqrt") then Some SquareRoot
+    else if bytes_eq name (codes "abs") then Some Absolute
+    else if bytes_eq name (codes "step") then Some Step
+    else if bytes_eq name (codes "delta") then Some Delta
+    else if bytes_eq name (codes "floor") then Some Floor
+    else if bytes_eq name (codes "ceil") then Some Ceiling
+    else None
+
+-- the instruction of a name alone
+abbrev pub operation_or : Option BinaryOperation → Option UnaryOperation → Option Instr
+operation_or (Some op) u = Some (Binary op)
+operation_or None (Some op) = Some (Unary op)
+operation_or None None = None
+
+abbrev pub operation_of : List ℕ → Option Instr
+operation_of name = operation_or (binary_of_name name) (unary_of_name name)
+
+-- the jump of a name and a target
+unfoldable pub jump_with : List ℕ → List ℕ → Option Instr
+jump_with name target =
+    if bytes_eq name (codes "jumpifzero") then option_map JumpIfZero (natural_of (2 ^ 32) target)
+    else if bytes_eq name (codes "jump") then option_map Jump (natural_of (2 ^ 32) target)
+    else None
+
+-- what moves a value onto the stack or off it
+unfoldable pub transfer_with : List ℕ → List ℕ → Option Instr
+transfer_with name operand =
+    if bytes_eq name (codes "push") then option_map Push (integer_of operand)
+    else if bytes_eq name (codes "input") then option_map Input (natural_of 33 operand)
+    else if bytes_eq name (codes "keep") then option_map Keep (natural_of 256 operand)
+    else if bytes_eq name (codes "get") then option_map Get (natural_of 256 operand)
+    else None
+
+-- the instruction of a name and an operand
+abbrev pub transfer_or : Option Instr → Option Instr → Option Instr
+transfer_or (Some i) jump = Some i
+transfer_or None jump = jump
+
+abbrev pub instruction_with : List ℕ → List ℕ → Option Instr
+instruction_with name operand = transfer_or (transfer_with name operand) (jump_with name operand)
+
+-- what stands before the first space is the name
+abbrev pub instruction_cut : List ℕ → Option (List ℕ × List ℕ) → Option Instr
+instruction_cut line None = operation_of line
+instruction_cut line (Some x) = instruction_with x.0 x.1
+
+unfoldable pub instruction_of : List ℕ → Option Instr
+instruction_of line = instruction_cut line (cut_at 32 line)
+
+-- ---- the lines from the top
+
+-- what the line with this number says
+abbrev pub said : {X : Type 0} → ℕ → Option X → Result X CodeFault
+said n None = Err (BadLine n)
+said n (Some x) = Ok x
+
+-- the instruction of a text's first line, and what stands behind that line
+unfoldable pub line_at : List ℕ → Option (Instr × List ℕ)
+line_at text =
+    cut_at 10 text |> λ x.
+    instruction_of x.0 |> λ i.
+    Some (i, x.1)
+
+-- the parts of a text between its LFs; behind the last LF stands one more, which is empty where that LF ends the text
+abbrev pub parts_of : List ℕ → List (List ℕ)
+parts_of text = slice_split (λ b. b == 10) text
+
+-- the instructions of these parts, the first of which is the line n
+unfoldable pub instructions_of : ℕ → List (List ℕ) → Result (List Instr) CodeFault
+instructions_of n [] = Err (BadLine n)
+instructions_of n (last ∷ []) = if length last == 0 then Ok [] else Err (BadLine n)
+instructions_of n (line ∷ next ∷ parts) =
+    said n (instruction_of line) >>= λ i.
+    instructions_of (n + 1) (next ∷ parts) >>= λ is.
+    Ok (i ∷ is)
+
+-- what stands behind the first line, if that begins a listing
+unfoldable pub below_head : List ℕ → Option (List ℕ)
+below_head text = cut_at 10 text |> λ x. if bytes_eq x.0 head_line then Some x.1 else None
+
+-- A line without its form is the first fault, wherever it stands; then come the number of instructions and their jumps.
+unfoldable pub code_of : List ℕ → Result (List Instr) CodeFault
+code_of text =
+    said 1 (below_head text) >>= λ rest.
+    instructions_of 2 (parts_of rest) >>= λ is.
+    code_from is
+
+-- ---- what reading is
+
+-- Exactly the lines of instructions are read, each as its instruction.
+abbrev pub OneLine : Type 0
+OneLine = (line : List ℕ) (i : Instr) → (instruction_of line ≡ Some i) ↔ (HasOperands i × (line ≡ instruction_line i))
+
+-- Exactly the listings of codes are read, each as its code. So a code has one listing, and what is printed reads as the same code.
+abbrev pub OneListing : Type 0
+OneListing = (text : List ℕ) (code : List Instr) → (code_of text ≡ Ok code) ↔ (IsListed code × (text ≡ listing_of code))

@@ -1,0 +1,234 @@
+//! The machine that tests each instruction.
+
+ghost use Rattle.std.specs.Prelude.{◌≡◌, ◌+◌, ◌^◌, ◌-◌, ◌<◌, ℕ, List, ℤ, length, Option, Result, IfErr};
+ghost use Rattle.fixed.specs.Fractions.{bits_of};
+ghost use Rattle.kernel_code.specs.declared.traps.Trap.{Trap};
+ghost use Rattle.kernel_code.specs.Code.{IsCode};
+ghost use Rattle.kernel_code.specs.Machine.{act, pushed, pushed_if, kept, on_two, on_one, branched, binary_of, unary_of, answer_of, IsOperation, IsTurn, Ends};
+ghost use Rattle.kernel_code.specs.Paths.{MissesNothing};
+ghost use Rattle.kernel_code.specs.Tables.{inputs_of};
+
+use crate::codes::Code;
+use crate::instructions::{BinaryOperation, Instr, UnaryOperation};
+use crate::operands::Operands;
+use crate::tables::{Inputs, TypeTable};
+use crate::traps::{Trap, TrapKind};
+use fixed::{
+    Fault, Frac, Fx, checked_abs, checked_add, checked_ceil, checked_div, checked_mul, checked_neg,
+    checked_sq, checked_sqrt, checked_sub, delta, floor, max, min, step,
+};
+use std::alloc::Allocator;
+
+/// The value of an operation on two numbers, or its fault.
+pub fn checked_binary(frac: Frac, operation: BinaryOperation, a: Fx, b: Fx) -> Result<Fx, Fault>
+    ensures { result ≡ binary_of (bits_of frac) operation a b }
+{
+    match operation {
+        BinaryOperation::Add => checked_add(a, b),
+        BinaryOperation::Subtract => checked_sub(a, b),
+        BinaryOperation::Multiply => checked_mul(frac, a, b),
+        BinaryOperation::Divide => checked_div(frac, a, b),
+        BinaryOperation::Minimum => Ok(min(a, b)),
+        BinaryOperation::Maximum => Ok(max(a, b)),
+    }
+}
+
+/// The value of an operation on one number, or its fault.
+pub fn checked_unary(frac: Frac, operation: UnaryOperation, a: Fx) -> Result<Fx, Fault>
+    ensures { result ≡ unary_of (bits_of frac) operation a }
+{
+    match operation {
+        UnaryOperation::Negate => checked_neg(a),
+        UnaryOperation::Square => checked_sq(frac, a),
+        UnaryOperation::SquareRoot => checked_sqrt(frac, a),
+        UnaryOperation::Absolute => checked_abs(a),
+        UnaryOperation::Step => Ok(step(frac, a)),
+        UnaryOperation::Delta => Ok(delta(frac, a)),
+        UnaryOperation::Floor => Ok(floor(frac, a)),
+        UnaryOperation::Ceiling => checked_ceil(frac, a),
+    }
+}
+
+fn push(value: Fx, pc: u32, stack: &mut Operands) -> Result<u32, TrapKind>
+    requires { pc < 2 ^ 32 - 1 }
+    ensures { (locals : List (Option ℤ)) → IsTurn (pushed value pc stack.old locals) result stack.new locals }
+{
+    if stack.is_full() {
+        return Err(TrapKind::StackFull);
+    }
+    stack.push(value);
+    Ok(pc + 1)
+}
+
+fn push_if(
+    missing: TrapKind,
+    value: Option<Fx>,
+    pc: u32,
+    stack: &mut Operands,
+) -> Result<u32, TrapKind>
+    requires { pc < 2 ^ 32 - 1 }
+    ensures { (locals : List (Option ℤ)) → IsTurn (pushed_if missing value pc stack.old locals) result stack.new locals }
+{
+    match value {
+        Some(value) => push(value, pc, stack),
+        None => Err(missing),
+    }
+}
+
+fn keep(
+    local: u8,
+    pc: u32,
+    stack: &mut Operands,
+    locals: &mut [Option<Fx>],
+) -> Result<u32, TrapKind>
+    requires room { pc < 2 ^ 32 - 1 }
+    requires locals { length locals.old ≡ 256 }
+    ensures { IsTurn (kept local pc stack.old locals.old) result stack.new locals.new }
+{
+    match stack.pop() {
+        Some(value) => {
+            locals[local as usize] = Some(value);
+            Ok(pc + 1)
+        }
+        None => Err(TrapKind::MissingOperand),
+    }
+}
+
+fn binary(
+    frac: Frac,
+    operation: BinaryOperation,
+    pc: u32,
+    stack: &mut Operands,
+) -> Result<u32, TrapKind>
+    requires { pc < 2 ^ 32 - 1 }
+    ensures { (locals : List (Option ℤ)) → IsTurn (on_two (bits_of frac) operation pc stack.old locals) result stack.new locals }
+{
+    let Some(b) = stack.pop() else {
+        return Err(TrapKind::MissingOperand);
+    };
+    let Some(a) = stack.pop() else {
+        return Err(TrapKind::MissingOperand);
+    };
+    match checked_binary(frac, operation, a, b) {
+        Ok(value) => {
+            stack.push(value);
+            Ok(pc + 1)
+        }
+        Err(fault) => Err(TrapKind::Operation(fault)),
+    }
+}
+
+fn unary(
+    frac: Frac,
+    operation: UnaryOperation,
+    pc: u32,
+    stack: &mut Operands,
+) -> Result<u32, TrapKind>
+    requires { pc < 2 ^ 32 - 1 }
+    ensures { (locals : List (Option ℤ)) → IsTurn (on_one (bits_of frac) operation pc stack.old locals) result stack.new locals }
+{
+    let Some(a) = stack.pop() else {
+        return Err(TrapKind::MissingOperand);
+    };
+    match checked_unary(frac, operation, a) {
+        Ok(value) => {
+            stack.push(value);
+            Ok(pc + 1)
+        }
+        Err(fault) => Err(TrapKind::Operation(fault)),
+    }
+}
+
+fn jump_if_zero(target: u32, pc: u32, stack: &mut Operands) -> Result<u32, TrapKind>
+    requires { pc < 2 ^ 32 - 1 }
+    ensures { (locals : List (Option ℤ)) → IsTurn (branched target pc stack.old locals) result stack.new locals }
+{
+    match stack.pop() {
+        Some(value) => Ok(if value.raw() == 0 { target } else { pc + 1 }),
+        None => Err(TrapKind::MissingOperand),
+    }
+}
+
+/// One instruction at the place `pc`, with every test: the next place, or why there is none. There are 256 locals.
+pub fn act_checked<A: Allocator>(
+    frac: Frac,
+    instr: Instr,
+    inputs: &Inputs<A>,
+    pc: u32,
+    stack: &mut Operands,
+    locals: &mut [Option<Fx>],
+) -> Result<u32, TrapKind>
+    requires room { pc < 2 ^ 32 - 1 }
+    requires locals { length locals.old ≡ 256 }
+    ensures { IsTurn (act (bits_of frac) instr inputs.now pc stack.old locals.old) result stack.new locals.new }
+{
+    match instr {
+        Instr::Push(value) => push(value, pc, stack),
+        Instr::Input(number) => push_if(TrapKind::MissingInput, inputs.get(number), pc, stack),
+        Instr::Keep(local) => keep(local, pc, stack, locals),
+        Instr::Get(local) => push_if(TrapKind::MissingLocal, locals[local as usize], pc, stack),
+        Instr::Binary(operation) => binary(frac, operation, pc, stack),
+        Instr::Unary(operation) => unary(frac, operation, pc, stack),
+        Instr::JumpIfZero(target) => jump_if_zero(target, pc, stack),
+        Instr::Jump(target) => Ok(target),
+    }
+}
+
+/// The value that stands alone on the stack at the end.
+fn answer(pc: u32, stack: &mut Operands) -> Result<Fx, Trap>
+    ensures { result ≡ answer_of pc stack.old }
+{
+    let bad = Trap {
+        pc,
+        kind: TrapKind::BadEnd,
+    };
+    match stack.pop() {
+        Some(value) => {
+            if stack.is_empty() {
+                Ok(value)
+            } else {
+                Err(bad)
+            }
+        }
+        None => Err(bad),
+    }
+}
+
+/// Runs the instructions on these inputs, with every test.
+fn run<A: Allocator>(frac: Frac, code: &[Instr], inputs: &Inputs<A>) -> Result<Fx, Trap>
+    requires { IsCode code.now }
+    ensures { (n : ℕ) × Ends (bits_of frac) code.now inputs.now n result }
+{
+    let mut stack = Operands::new();
+    let mut locals = [None; 256];
+    let mut pc = 0;
+    while (pc as usize) < code.len() {
+        match act_checked(frac, code[pc as usize], inputs, pc, &mut stack, &mut locals) {
+            Ok(next) => pc = next,
+            Err(kind) => return Err(Trap { pc, kind }),
+        }
+    }
+    answer(pc, &mut stack)
+}
+
+/// Runs the code on the inputs of a pair of types at the distance `r`, with every test: the value that it gives, or where and why it gives none. The types are the table's, counted from 0.
+///
+/// It takes no memory.
+pub fn run_checked<A: Allocator>(
+    code: &Code<A>,
+    table: &TypeTable<A>,
+    a: u32,
+    b: u32,
+    r: Fx,
+) -> Result<Fx, Trap>
+    requires first { a < length table.now.rows }
+    requires second { b < length table.now.rows }
+    // The machine's run ends so,
+    ensures ends { (n : ℕ) × Ends (bits_of table.now.frac) code.now (inputs_of table.now a b r) n result }
+    // and in no other way.
+    ensures only { (n : ℕ) (outcome : Result ℤ Trap) → Ends (bits_of table.now.frac) code.now (inputs_of table.now a b r) n outcome → outcome ≡ result }
+    // Where no path of the code misses anything, only an operation traps.
+    ensures operation { MissesNothing code.now (length (inputs_of table.now a b r)) → IfErr result (λ trap. IsOperation trap.kind) }
+{
+    run(table.frac(), code.as_slice(), &table.inputs(a, b, r))
+}

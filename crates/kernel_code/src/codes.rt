@@ -1,0 +1,92 @@
+//! Lists of instructions whose jumps go forwards.
+
+ghost use Rattle.std.specs.Prelude.{◌≡◌, ◌≤◌, length, IfOk, IfErr};
+ghost use Rattle.kernel_code.specs.Code.{IsCode, goes_forward, targets_checked, code_if, code_from};
+ghost use Rattle.kernel_code.specs.ListingFaults.{IsCodeFault};
+
+use crate::faults::CodeFault;
+use crate::instructions::Instr;
+use std::alloc::Allocator;
+use std::marker::Model;
+
+/// Code: at most 16,384 instructions, each of whose jumps goes forwards, and at most to the end.
+///
+/// A contract sees it as the list of its instructions.
+#[derive(Drop)]
+pub struct Code<A: Allocator> {
+    instructions: Vec<Instr, A>,
+}
+
+impl<A: Allocator> Model for Code<A> {
+    ghost use Rattle.std.specs.Prelude.{List};
+    ghost use Rattle.kernel_code.specs.declared.instructions.Instr.{Instr};
+    ghost use Rattle.kernel_code.specs.Code.{IsCode};
+
+    ghost Value = { List Instr };
+
+    ghost view = { λ c. c.instructions.items };
+
+    ghost invariant = { λ c. IsCode c.instructions.items };
+}
+
+/// The most instructions that code has.
+const MOST: usize = 16_384;
+
+impl<A: Allocator> Code<A> {
+    /// The code of these instructions.
+    ///
+    /// `TooLong` where there are more than 16,384; else `BadTarget` with the lowest place of a jump that doesn't go forwards, or goes past the end, plus 2: the number of its line in a listing.
+    pub fn new(instructions: Vec<Instr, A>) -> Result<Code<A>, CodeFault>
+        ensures exact { result ≡ code_from instructions.items }
+        ensures code { IfOk result (λ code. (code ≡ instructions.items) × IsCode code) }
+        ensures fault { IfErr result (IsCodeFault instructions.items) }
+    {
+        check(instructions.as_slice())?;
+        Ok(Code { instructions })
+    }
+
+    /// The instructions, each at its place.
+    pub fn as_slice(&self) -> &[Instr]
+        ensures items { result.now ≡ self.now }
+        ensures code { IsCode self.now }
+    {
+        self.instructions.as_slice()
+    }
+}
+
+/// `TooLong` or `BadTarget` where the instructions are no code.
+fn check(instructions: &[Instr]) -> Result<(), CodeFault>
+    ensures { code_if instructions.now result ≡ code_from instructions.now }
+{
+    if instructions.len() > MOST {
+        return Err(CodeFault::TooLong);
+    }
+    check_targets(instructions)
+}
+
+/// Whether an instruction at this place, of so many, goes on forwards and at most to the end.
+fn goes_forward(instr: &Instr, pc: usize, len: usize) -> bool
+    ensures { result ≡ goes_forward len pc instr.now }
+{
+    match *instr {
+        Instr::JumpIfZero(target) | Instr::Jump(target) => {
+            pc < target as usize && target as usize <= len
+        }
+        _ => true,
+    }
+}
+
+/// `BadTarget` at the first jump that doesn't go forwards, or goes past the end.
+fn check_targets(instructions: &[Instr]) -> Result<(), CodeFault>
+    requires { length instructions.now ≤ 16384 }
+    ensures { result ≡ targets_checked (length instructions.now) 0 instructions.now }
+{
+    for (pc, instr) in instructions.iter().enumerate() {
+        if !goes_forward(instr, pc, instructions.len()) {
+            return Err(CodeFault::BadTarget {
+                line: pc as u64 + 2,
+            });
+        }
+    }
+    Ok(())
+}

@@ -1,0 +1,118 @@
+//! Reading and printing listings.
+
+ghost use Rattle.std.specs.Prelude.{◌≡◌, List, Ok, IfOk, IfErr, option_map};
+ghost use Rattle.line_text.specs.Parts.{ended};
+ghost use Rattle.kernel_code.specs.declared.instructions.Instr.{Instr};
+ghost use Rattle.kernel_code.specs.Listing.{IsListed, listing_of, instruction_line, HasOperands};
+ghost use Rattle.kernel_code.specs.ListingFaults.{IsListingFault};
+ghost use Rattle.kernel_code.specs.ListingReading.{Gives, OneLine, OneListing, parts_of, below_head, line_at, instructions_of, code_of};
+
+use crate::codes::Code;
+use crate::faults::CodeFault;
+use crate::instructions::Instr;
+use crate::lines::{instruction, put_instruction};
+use line_text::{Line, cut, put};
+use std::alloc::{AllocError, Allocator};
+
+/// The code whose one listing the bytes are.
+///
+/// `BadLine` names the first line that is no instruction's (line 1: not `pairmd code 1`), that has an operand out of its range, or that lacks its line feed; an empty text has a bad line 1. `TooLong`, for more than 16,384 instructions, and `BadTarget`, for the lowest jump that doesn't go forwards and at most to the end, come only where every line is good, in this order. `Memory` comes only where a growth was refused.
+pub fn read<A: Allocator + Copy>(alloc: A, bytes: &[u8]) -> Result<Code<A>, CodeFault>
+    // What is read has these bytes as its listing.
+    ensures found { IfOk result (λ code. IsListed code × (bytes.now ≡ listing_of code)) }
+    // The listing of a code is read as that code, unless memory runs out.
+    ensures only { (code : List Instr) → IsListed code → bytes.now ≡ listing_of code → Gives (λ x. x) result (Ok code) }
+    // A fault says what is wrong, and where.
+    ensures fault { IfErr result (IsListingFault bytes.now) }
+    // The code, or the first fault.
+    ensures exact { Gives (λ x. x) result (code_of bytes.now) }
+    // The definition reads exactly the lines of instructions, and the listings of codes.
+    ensures one_line { OneLine }
+    ensures one_listing { OneListing }
+{
+    listing(alloc, bytes)
+}
+
+/// The listing of the code. It is read as this code again.
+///
+/// `AllocError` comes only where a growth was refused.
+pub fn print<A: Allocator + Copy, B: Allocator>(
+    alloc: A,
+    code: &Code<B>,
+) -> Result<Vec<u8, A>, AllocError>
+    ensures text { IfOk result (λ text. text.items ≡ listing_of code.now) }
+    ensures listed { IfOk result (λ _. IsListed code.now) }
+    ensures again { IfOk result (λ _. code_of (listing_of code.now) ≡ Ok code.now) }
+{
+    let mut text = Vec::from_slice(alloc, b"pairmd code 1\n")?;
+    for instr in code.as_slice() {
+        let line = whole_line(instr);
+        text.extend_from_slice(line.as_slice())?;
+    }
+    Ok(text)
+}
+
+#[tactic(auto, unfolding(crate::specs::ListingReading::code_of))]
+fn listing<A: Allocator + Copy>(alloc: A, bytes: &[u8]) -> Result<Code<A>, CodeFault>
+    ensures { Gives (λ x. x) result (code_of bytes.now) }
+{
+    let rest = below_head(bytes).ok_or(bad(1))?;
+    Code::new(instructions(alloc, rest)?)
+}
+
+/// An instruction's line with its line feed.
+fn whole_line(instr: &Instr) -> Line
+    ensures operands { HasOperands instr.now }
+    ensures items { result.items ≡ ended (instruction_line instr.now) }
+{
+    let mut line = Line::new();
+    put_instruction(&mut line, instr);
+    put(&mut line, b"\n");
+    line
+}
+
+fn bad(line: u64) -> CodeFault
+    ensures { result ≡ CodeFault.BadLine line }
+{
+    CodeFault::BadLine { line }
+}
+
+/// What stands after the first line, if that begins a listing.
+#[tactic(auto, unfolding(crate::specs::ListingReading::below_head))]
+fn below_head(bytes: &[u8]) -> Option<&[u8]>
+    ensures { option_map (λ x. x.now) result ≡ below_head bytes.now }
+{
+    let (line, rest) = cut(b'\n', bytes)?;
+    if line == b"pairmd code 1".as_slice() {
+        Some(rest)
+    } else {
+        None
+    }
+}
+
+/// The instruction of the first line, and what stands after that line.
+#[tactic(auto, unfolding(crate::specs::ListingReading::line_at))]
+fn line(bytes: &[u8]) -> Option<(Instr, &[u8])>
+    ensures { option_map (λ x. (x.0, x.1.now)) result ≡ line_at bytes.now }
+{
+    let (line, rest) = cut(b'\n', bytes)?;
+    Some((instruction(line)?, rest))
+}
+
+/// The instructions of these lines, the first of which is line 2.
+fn instructions<A: Allocator + Copy>(alloc: A, bytes: &[u8]) -> Result<Vec<Instr, A>, CodeFault>
+    ensures { Gives (λ v. v.items) result (instructions_of 2 (parts_of bytes.now)) }
+{
+    let mut instructions = Vec::new(alloc);
+    let mut number = 2;
+    let mut rest = bytes;
+    while !rest.is_empty() {
+        let Some((instr, after)) = line(rest) else {
+            return Err(bad(number));
+        };
+        instructions.push(instr)?;
+        number += 1;
+        rest = after;
+    }
+    Ok(instructions)
+}
