@@ -269,12 +269,7 @@ const FILES: [(&str, usize, &str, &str); 25] = [
         "2e0 2.00000 2.00000",
         "G5 BadBox 5",
     ),
-    (
-        "ten values",
-        5,
-        "2 2 2 0 0 0 0 0 0 0",
-        "G5 BadBox 5",
-    ),
+    ("ten values", 5, "2 2 2 0 0 0 0 0 0 0", "G5 BadBox 5"),
     (
         "a triclinic box",
         5,
