@@ -11,6 +11,7 @@ use Rattle.integrator.specs.declared.direction.Direction.TheVariants.{Forward, B
 use Rattle.cli.specs.declared.commands.Command.{Command}
 use Rattle.cli.specs.declared.commands.Command.TheVariants as command
 use Rattle.cli.specs.declared.commands.Frame.{Frame}
+use Rattle.cli.specs.declared.commands.Listing.{Listing}
 use Rattle.cli.specs.declared.commands.Run.{Run}
 use Rattle.cli.specs.declared.commands.Start.{Start}
 
@@ -45,6 +46,10 @@ starting = (with_rule (with_rule (with_rule (new_app (codes "start")) (path_rule
 abbrev pub stepping : Text → Shape
 stepping name = (with_rule (with_rule (with_rule (new_app name) (path_rule (codes "JOB"))) (path_rule (codes "STATE"))) steps_rule).top
 
+-- the command that takes a job alone
+abbrev pub listing : Shape
+listing = (with_rule (new_app (codes "code")) (path_rule (codes "JOB"))).top
+
 -- the command that takes a state alone
 abbrev pub framing : Shape
 framing = (with_rule (new_app (codes "frame")) (path_rule (codes "STATE"))).top
@@ -57,8 +62,11 @@ bare = let a = new_app (codes "pairmd") in
 abbrev pub forward : App
 forward = with_subcommand (with_subcommand bare starting) (stepping (codes "run"))
 
+abbrev pub returning : App
+returning = with_subcommand (with_subcommand forward (stepping (codes "back"))) framing
+
 abbrev pub program : App
-program = with_subcommand (with_subcommand forward (stepping (codes "back"))) framing
+program = with_subcommand returning listing
 
 -- ---- what the words ask for
 
@@ -97,11 +105,16 @@ pub record IsRun (name : Text) (rows : List Row) (run : Run) : Type 0 where
 pub record IsFrame (rows : List Row) (frame : Frame) : Type 0 where
   pub state : first_of (codes "STATE") rows ≡ Some frame.state.now
 
+-- the values of the arguments of `code` say this listing
+pub record IsListing (rows : List Row) (l : Listing) : Type 0 where
+  pub job : first_of (codes "JOB") rows ≡ Some l.job.now
+
 -- a command's name and the values of its arguments say this command
 abbrev pub IsNamed : Text → List Row → Command → Type 0
 IsNamed name rows (command.Start start) = (name ≡ codes "start") × IsStart rows start
 IsNamed name rows (command.Run run) = IsRun name rows run
 IsNamed name rows (command.Frame frame) = (name ≡ codes "frame") × IsFrame rows frame
+IsNamed name rows (command.Code l) = (name ≡ codes "code") × IsListing rows l
 
 abbrev pub IsNamedOf : Option (Text × List Row) → Command → Type 0
 IsNamedOf None c = ⊥

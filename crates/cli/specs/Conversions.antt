@@ -1,11 +1,14 @@
--- States made of GRO files, and GRO files made of states: from the bytes that are read to those that are printed.
+-- States made of GRO files, GRO files made of states, and listings made of jobs: from the bytes that are read to those that are printed.
 use Rattle.std.specs.Prelude.{◌≡◌, ℕ, ◌-◌, ◌<◌, ◌≤◌, List, length, Option, Ok, slice_index_or}
 use Rattle.gro.specs.Frames.{FrameView}
 use Rattle.gro.specs.GroReading.{frames_of}
 use Rattle.gro.specs.GroWriting.{frame_text}
 use Rattle.gro.specs.Out.{appended}
-use Rattle.job.specs.JobText.{reading_of, stage}
+use Rattle.integrator.specs.Starts.{slope_code_of}
+use Rattle.job.specs.JobText.{reading_of, limits}
 use Rattle.job.specs.Values.{JobValue}
+use Rattle.kernel_code.specs.Listing.{listing_of}
+use Rattle.kernel_code.specs.declared.instructions.Instr.{Instr}
 use Rattle.state.specs.Starts.{start_of}
 use Rattle.state.specs.StateFrames.{frame_of}
 use Rattle.state.specs.StateReading.{state_of}
@@ -23,7 +26,7 @@ pub record IsStartText (job gro : List ℕ) (number : ℕ) (before after : Optio
   pub frames : List FrameView
   pub frame : FrameView
   pub state : StateView
-  pub job_read : reading_of stage job ≡ Ok said
+  pub job_read : reading_of limits job ≡ Ok said
   pub gro_read : frames_of gro ≡ Ok frames
   pub picked : IsFrameOf frames number frame
   pub started : start_of said.time_step frame ≡ Ok state
@@ -34,3 +37,9 @@ pub record IsFrameText (state : List ℕ) (before after : Option (List ℕ)) : T
   pub said : StateView
   pub state_read : state_of state ≡ Ok said
   pub written : after ≡ appended before (frame_text (frame_of said))
+
+-- the listing of the code of this job's slope was written
+pub record IsCodeText (job : List ℕ) (before after : Option (List ℕ)) : Type 0 where
+  pub code : List Instr
+  pub compiled : slope_code_of job ≡ Ok code
+  pub written : after ≡ appended before (listing_of code)

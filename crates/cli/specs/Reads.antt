@@ -14,12 +14,14 @@ abbrev pub asked_by : Option (List (List ℕ)) → Command → Option (List (Lis
 asked_by paths (command.Start start) = also_asked (also_asked paths start.job.now) start.gro.now
 asked_by paths (command.Run run) = also_asked (also_asked paths run.job.now) run.state.now
 asked_by paths (command.Frame frame) = also_asked paths frame.state.now
+asked_by paths (command.Code l) = also_asked paths l.job.now
 
 -- a command has asked for its files in their order, or for the first of them
 abbrev pub AsksFor : Command → Option (List (List ℕ)) → Option (List (List ℕ)) → Type 0
 AsksFor (command.Start start) before after = (after ≡ also_asked before start.job.now) ⊎ (after ≡ asked_by before (command.Start start))
 AsksFor (command.Run run) before after = (after ≡ also_asked before run.job.now) ⊎ (after ≡ asked_by before (command.Run run))
 AsksFor (command.Frame frame) before after = after ≡ asked_by before (command.Frame frame)
+AsksFor (command.Code l) before after = after ≡ asked_by before (command.Code l)
 
 -- the fault of a command whose file at this path gave no bytes
 abbrev pub unread : {A : Type 0} → ReadFault → Bor (List ℕ) → CommandFault A

@@ -1,7 +1,7 @@
 -- The statuses that the program ends with, and which fault has which.
 use Rattle.std.specs.Prelude.{ℕ}
-use Rattle.expr.specs.declared.faults.ExprFault.{ExprFault}
-use Rattle.expr.specs.declared.faults.ExprFault.TheVariants as energy
+use Rattle.energy_program.specs.declared.faults.ExprFault.{ExprFault}
+use Rattle.energy_program.specs.declared.faults.ExprFault.TheVariants as energy
 use Rattle.job.specs.declared.faults.JobFault.{JobFault}
 use Rattle.job.specs.declared.faults.JobFault.TheVariants as job
 use Rattle.gro.specs.declared.faults.GroFault.{GroFault}

@@ -4,11 +4,12 @@ ghost use Rattle.std.specs.Prelude.{◌≡◌, ◌≤◌, ◌<◌, ◌^◌, ◌�
 ghost use Rattle.clap.specs.Words.{HasKind, app_of, first_of, found_of, kind_of, rows_of, rule_of, shape_of, subcommand_rows_of};
 ghost use Rattle.clap.specs.declared.builder.command.Command.TheViews.{out-Command};
 ghost use Rattle.clap.specs.declared.error.kind.ErrorKind.TheVariants.{OutOfMemory};
-ghost use Rattle.cli.specs.CommandLine.{IsCommand, IsFrame, IsFrameNumber, IsNamed, IsNamedOf, IsRun, IsStart, IsSteps, command_name, faults_of, forward, frame_rule, framing, path_rule, program, starting, steps_rule, stepping};
+ghost use Rattle.cli.specs.CommandLine.{IsCommand, IsFrame, IsFrameNumber, IsListing, IsNamed, IsNamedOf, IsRun, IsStart, IsSteps, command_name, faults_of, forward, frame_rule, framing, listing, path_rule, program, returning, starting, steps_rule, stepping};
 ghost use Rattle.cli.specs.declared.commands.Start.{Start};
 ghost use Rattle.cli.specs.declared.commands.Frame.{Frame};
+ghost use Rattle.cli.specs.declared.commands.Listing.{Listing};
 
-use crate::commands::{Command, Frame, MAX_STEPS, Run, Start};
+use crate::commands::{Command, Frame, Listing, MAX_STEPS, Run, Start};
 use clap::error::ErrorKind;
 use clap::{Arg, ArgMatches, Error, value_parser};
 use integrator::Direction;
@@ -50,6 +51,7 @@ fn command_by<'a>(name: &str, matches: &ArgMatches<'a>) -> Option<Command<'a>>
     match name {
         "start" => Some(Command::Start(start_of(matches)?)),
         "frame" => Some(Command::Frame(frame_of(matches)?)),
+        "code" => Some(Command::Code(listing_of(matches)?)),
         _ => Some(Command::Run(run_by(name, matches)?)),
     }
 }
@@ -91,6 +93,15 @@ fn frame_of<'a>(matches: &ArgMatches<'a>) -> Option<Frame<'a>>
     Some(Frame { state })
 }
 
+/// The listing to print that these matches say.
+fn listing_of<'a>(matches: &ArgMatches<'a>) -> Option<Listing<'a>>
+    ensures { MatchOption result ((l : Listing) → IsListing (rows_of (found_of matches.now)) l → ⊥)
+        (IsListing (rows_of (found_of matches.now))) }
+{
+    let job = path_of(matches, "JOB")?;
+    Some(Listing { job })
+}
+
 fn path_of<'a>(matches: &ArgMatches<'a>, name: &str) -> Option<&'a str>
     ensures { option_map (λ s. s.now) result ≡ first_of name.now (rows_of (found_of matches.now)) }
 {
@@ -130,6 +141,14 @@ fn direction_of(name: &str) -> Option<Direction>
 
 fn program<'a>(alloc: Global) -> Result<clap::Command<'a>, AllocError>
     ensures { IfOk result (λ c. app_of c ≡ program) }
+{
+    let code = listing(alloc)?;
+    returning(alloc)?.subcommand(code)
+}
+
+/// The program with its first four commands.
+fn returning<'a>(alloc: Global) -> Result<clap::Command<'a>, AllocError>
+    ensures { IfOk result (λ c. app_of c ≡ returning) }
 {
     let back = stepping(alloc, "back", "Prints the state so many steps back")?;
     let frame = framing(alloc)?;
@@ -194,6 +213,17 @@ fn framing<'a>(alloc: Global) -> Result<clap::Command<'a>, AllocError>
     clap::Command::new(alloc, "frame")
         .about("Prints the current frame of a state as a GRO file")
         .arg(state)
+}
+
+/// The command that takes a job alone.
+fn listing<'a>(alloc: Global) -> Result<clap::Command<'a>, AllocError>
+    ensures shape { IfOk result (λ c. shape_of c ≡ listing) }
+    ensures local { IfOk result (λ c. (out-Command c).has_globals ≡ false) }
+{
+    let job = path(alloc, "JOB", "The file of the job");
+    clap::Command::new(alloc, "code")
+        .about("Prints the code of a job's slope")
+        .arg(job)
 }
 
 fn path<'a>(alloc: Global, name: &'a str, help: &'a str) -> Arg<'a>

@@ -16,6 +16,8 @@ pub enum Command<'a> {
     Run(Run<'a>),
     /// `frame`: the current frame of a state as a GRO file.
     Frame(Frame<'a>),
+    /// `code`: the listing of the code of a job's slope.
+    Code(Listing<'a>),
 }
 
 /// A state to start.
@@ -50,4 +52,11 @@ pub struct Run<'a> {
 pub struct Frame<'a> {
     /// The path of the state.
     pub state: &'a str,
+}
+
+/// A listing to print.
+#[derive(Clone, Copy, Debug)]
+pub struct Listing<'a> {
+    /// The path of the job.
+    pub job: &'a str,
 }

@@ -13,8 +13,8 @@ ghost use Rattle.cli.specs.declared.commands.Command.{Command};
 ghost use Rattle.cli.specs.declared.faults.Status.{Status};
 
 use crate::command_line::parse;
-use crate::commands::{Command, Frame, Run, Start};
-use crate::conversions::{frame_bytes, start_bytes};
+use crate::commands::{Command, Frame, Listing, Run, Start};
+use crate::conversions::{code_bytes, frame_bytes, start_bytes};
 use crate::faults::{CommandFault, Status};
 use crate::files::{Files, ReadFault};
 use clap::Error;
@@ -95,6 +95,7 @@ fn perform<'a, A: Allocator + Copy, F: Files, O: Out>(
         Command::Start(start) => perform_start(alloc, start, files, out),
         Command::Run(run) => perform_run(alloc, run, files, out),
         Command::Frame(frame) => perform_frame(alloc, frame, files, out),
+        Command::Code(listing) => perform_code(alloc, listing, files, out),
     }
 }
 
@@ -131,6 +132,23 @@ fn perform_frame<'a, A: Allocator + Copy, F: Files, O: Out>(
 {
     let state = read(alloc, frame.state, files)?;
     frame_bytes(alloc, state.as_slice(), out)
+}
+
+/// Reads the job, and prints the code of its slope.
+fn perform_code<'a, A: Allocator + Copy, F: Files, O: Out>(
+    alloc: A,
+    listing: Listing<'a>,
+    files: &mut F,
+    out: &mut O,
+) -> Result<(), CommandFault<'a, A>>
+    requires { O.failed out.old < 2 ^ 64 - 1 }
+    ensures done { OnOk result (F.asked files.new ≡ asked_by (F.asked files.old) (Command.Code listing.entry)) }
+    ensures reads { AsksFor (Command.Code listing.entry) (F.asked files.old) (F.asked files.new) }
+    ensures kept { OnErr result ((O.taken out.new ≡ O.taken out.old) ⊎ (O.failed out.old < O.failed out.new)) }
+    ensures fault { IfErr result (λ f. status_of f ≢ Status.CommandLine) }
+{
+    let job = read(alloc, listing.job, files)?;
+    code_bytes(alloc, job.as_slice(), out)
 }
 
 /// Reads the job and then the state, and runs it.

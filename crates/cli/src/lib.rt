@@ -11,7 +11,7 @@ mod files;
 mod host;
 
 pub use command_line::parse;
-pub use commands::{Command, Frame, MAX_STEPS, Run, Start};
+pub use commands::{Command, Frame, Listing, MAX_STEPS, Run, Start};
 pub use execution::{execute, report};
 pub use faults::{CommandFault, Status};
 pub use files::{Files, ReadFault};

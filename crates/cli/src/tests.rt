@@ -94,6 +94,7 @@ Commands:
   run    Prints the state after so many steps
   back   Prints the state so many steps back
   frame  Prints the current frame of a state as a GRO file
+  code   Prints the code of a job's slope
   help   Print this message or the help of the given subcommand(s)
 
 Options:
@@ -137,6 +138,17 @@ Options:
   -h, --help  Print help
 ";
 
+const CODE_HELP: &str = "Prints the code of a job's slope
+
+Usage: pairmd code <JOB>
+
+Arguments:
+  <JOB>  The file of the job
+
+Options:
+  -h, --help  Print help
+";
+
 /// The status, and what came out on both outputs, of words over these files.
 fn outcome<T: Abort + AllocGlobal>(
     rt: &T,
@@ -166,6 +178,7 @@ fn prints_help(rt: HostRuntime) {
         (["help", "run"].as_slice(), RUN_HELP),
         (["help", "start"].as_slice(), START_HELP),
         (["frame", "--help"].as_slice(), FRAME_HELP),
+        (["help", "code"].as_slice(), CODE_HELP),
     ] {
         let (status, out, err) = outcome(&rt, words, &[]);
         assert_eq!(rt; status, 0);
@@ -287,6 +300,10 @@ fn reads_start_and_frame(rt: HostRuntime) -> Result<(), Fail> {
         panic!(rt; "another command");
     };
     assert_eq!(rt; frame.state, "a state");
+    let Command::Code(listing) = parse(rt.alloc(), &["code", "a job"])? else {
+        panic!(rt; "another command");
+    };
+    assert_eq!(rt; listing.job, "a job");
     Ok(())
 }
 
@@ -317,6 +334,31 @@ fn starts_a_state_and_prints_its_frame(rt: HostRuntime) {
     assert_eq!(rt; status, 1);
     assert!(rt; out.is_empty());
     assert_eq!(rt; err.as_slice(), b"pairmd: G8 NoSuchFrame\n".as_slice());
+}
+
+#[test]
+fn prints_the_code_of_a_slope(rt: HostRuntime) {
+    let files = [
+        (
+            "job",
+            Content::Bytes(b"pairmd job 1\nenergy r\ncore 0.2\ncutoff 0.9\ndt 2\n"),
+        ),
+        (
+            "unknown",
+            Content::Bytes(b"pairmd job 1\nenergy q\ncore 0.2\ncutoff 0.9\ndt 2\n"),
+        ),
+    ];
+    let (status, out, err) = outcome(&rt, &["code", "job"], &files);
+    assert_eq!(rt; status, 0);
+    assert_eq!(rt;
+        out.as_slice(),
+        b"pairmd code 1\npush 4294967296\n".as_slice()
+    );
+    assert!(rt; err.is_empty());
+    let (status, out, err) = outcome(&rt, &["code", "unknown"], &files);
+    assert_eq!(rt; status, 3);
+    assert!(rt; out.is_empty());
+    assert_eq!(rt; err.as_slice(), b"pairmd: E04 UnknownName q\n".as_slice());
 }
 
 #[test]

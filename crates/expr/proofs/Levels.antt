@@ -1,39 +1,31 @@
 -- What each level reads, as the code takes it apart.
 use Rattle.std.proofs.Common.{◌≡◌, ℕ, zero, suc, ◌-◌, ◌<◌, List, length, Option, Some, None, Result, Ok, Err, refl, ap, ◌∙◌, arith}
-use Rattle.expr.specs.declared.faults.ExprFault.{ExprFault}
-use Rattle.expr.specs.declared.faults.ExprFault.TheVariants as fault
-use Rattle.expr.specs.declared.programs.Operator.{Operator}
-use Rattle.expr.specs.Faults.{Refusal, BadCharacter, BadNumber, UnexpectedToken, UnknownName, NumberRange, TooLarge, LeftOutFunction, Says, Fails, Gives, ◌>>=◌}
-use Rattle.expr.specs.Names.{call_refusal}
+use Rattle.energy_program.specs.declared.faults.ExprFault.{ExprFault}
+use Rattle.energy_program.specs.declared.trees.Operator.{Operator}
+use Rattle.energy_program.specs.Faults.{Refusal, IsSaid, FailsBy, refusal_of, Says, Fails, Gives, ◌>>=◌}
 use Rattle.expr.specs.Tokens.{Placed}
-use Rattle.expr.specs.Syntax.{Syntax}
+use Rattle.expr.specs.Syntax.{Syntax, Arguments, One, with_argument}
 use Rattle.expr.specs.Syntax as tree
-use Rattle.expr.specs.Parsing.{Reading, Beginning, Word, Group, start, misplaced, sum_sign, product_sign, minus_sign, open_sign, chain, chained, atom_by, unary_by, name_by, unary_at, term_at, expr_at, closed_at, atom_at}
-use Rattle.expr.proofs.Chain.{turn, turn_fails, turn_ends, sum_signs, product_signs, unary_takes, term_takes}
+use Rattle.expr.specs.Parsing.{ReadingOf, power_at, call_at, list_at, listed, comma_sign, Reading, Beginning, Word, Group, start, misplaced, sum_sign, product_sign, minus_sign, open_sign, chain, chained, atom_by, unary_by, name_by, unary_at, term_at, expr_at, closed_at, atom_at}
+use Rattle.expr.proofs.Chain.{turn, turn_fails, turn_ends, sum_signs, product_signs, comma_signs, unary_takes, term_takes, expr_takes}
+
+fails_by : {A B : Type 0} (o : Option Refusal) (r : Result A Refusal) (f : A → Result B Refusal) → FailsBy r o → FailsBy (r >>= f) o
+fails_by (Some said) r f h = rw h refl
+fails_by None r f h = tt
 
 pub fails_then : {C A B : Type 0} (e : ExprFault C) (r : Result A Refusal) (f : A → Result B Refusal) → Fails e r → Fails e (r >>= f)
-fails_then (fault.BadCharacter at) r f h = rw h refl
-fails_then (fault.BadNumber at) r f h = rw h refl
-fails_then (fault.UnexpectedToken at) r f h = rw h refl
-fails_then (fault.UnknownName name) r f h = rw h refl
-fails_then (fault.NumberRange at) r f h = rw h refl
-fails_then fault.TooLarge r f h = rw h refl
-fails_then (fault.LeftOutFunction name) r f h = rw h refl
-fails_then fault.Memory r f h = tt
+fails_then e r f h = fails_by (refusal_of e) r f h
 
 pub fails_same : {C A : Type 0} (e : ExprFault C) (r s : Result A Refusal) → s ≡ r → Fails e r → Fails e s
 fails_same e r s same h = rw same h
 
+said_by : {A : Type 0} (o : Option Refusal) (r : Refusal) (read : Result A Refusal) → read ≡ Err r → IsSaid r o → FailsBy read o
+said_by (Some said) r read h k = rw (← k) h
+said_by None r read h k = tt
+
 -- a fault that says a refusal
 pub fails_says : {C A : Type 0} (e : ExprFault C) (r : Refusal) (read : Result A Refusal) → read ≡ Err r → Says e r → Fails e read
-fails_says (fault.BadCharacter at) r read h k = rw (← k) h
-fails_says (fault.BadNumber at) r read h k = rw (← k) h
-fails_says (fault.UnexpectedToken at) r read h k = rw (← k) h
-fails_says (fault.UnknownName name) r read h k = rw (← k) h
-fails_says (fault.NumberRange at) r read h k = rw (← k) h
-fails_says fault.TooLarge r read h k = rw (← k) h
-fails_says (fault.LeftOutFunction name) r read h k = rw (← k) h
-fails_says fault.Memory r read h k = tt
+fails_says e r read h k = said_by (refusal_of e) r read h k
 
 -- what a call gave stands for what is equal
 pub gives_same : {C X Y : Type 0} (view : X → Y) (r : Result X (ExprFault C)) (s u : Result Y Refusal) → u ≡ s → Gives view r s → Gives view r u
@@ -51,20 +43,20 @@ unfolding unary_at
 unary_none_left end zero ts e = refl
 unary_none_left end (suc n) ts e = absurd (omega arith)
 
-pub unary_is : (end n : ℕ) (ts : List Placed) → unary_at end (suc n) ts ≡ unary_by (unary_at end n) (atom_at end n ts) (minus_sign ts)
-unfolding unary_at atom_at expr_at term_at
+pub unary_is : (end n : ℕ) (ts : List Placed) → unary_at end (suc n) ts ≡ unary_by (unary_at end n) (power_at end n ts) (minus_sign ts)
+unfolding unary_at power_at atom_at expr_at term_at
 unary_is end n ts = refl
 
 less_one : (n k : ℕ) → n ≡ suc k → n - 1 ≡ k
 less_one n k e = omega arith
 
-pub unary_none : (end n : ℕ) (ts : List Placed) → 0 < n → minus_sign ts ≡ None → unary_at end n ts ≡ atom_at end (n - 1) ts
+pub unary_none : (end n : ℕ) (ts : List Placed) → 0 < n → minus_sign ts ≡ None → unary_at end n ts ≡ power_at end (n - 1) ts
 unary_none end zero ts d e = absurd (omega arith)
-unary_none end (suc n) ts d e = rw (less_one (suc n) n refl) (unary_is end n ts ∙ ap (unary_by (unary_at end n) (atom_at end n ts)) e)
+unary_none end (suc n) ts d e = rw (less_one (suc n) n refl) (unary_is end n ts ∙ ap (unary_by (unary_at end n) (power_at end n ts)) e)
 
 pub unary_minus : (end n : ℕ) (ts rest : List Placed) → 0 < n → minus_sign ts ≡ Some rest → unary_at end n ts ≡ (unary_at end (n - 1) rest >>= λ x. Ok (tree.Negated x.0, x.1))
 unary_minus end zero ts rest d e = absurd (omega arith)
-unary_minus end (suc n) ts rest d e = rw (less_one (suc n) n refl) (unary_is end n ts ∙ ap (unary_by (unary_at end n) (atom_at end n ts)) e)
+unary_minus end (suc n) ts rest d e = rw (less_one (suc n) n refl) (unary_is end n ts ∙ ap (unary_by (unary_at end n) (power_at end n ts)) e)
 
 pub minus_fails : {C : Type 0} (end n : ℕ) (ts rest : List Placed) (e : ExprFault C) → 0 < n → minus_sign ts ≡ Some rest → Fails e (unary_at end (n - 1) rest) → Fails e (unary_at end n ts)
 minus_fails end n ts rest e d f h = fails_same e _ (unary_at end n ts) (unary_minus end n ts rest d f) (fails_then e (unary_at end (n - 1) rest) (λ x. Ok (tree.Negated x.0, x.1)) h)
@@ -74,54 +66,51 @@ minus_reads end n ts rest x after d f h = unary_minus end n ts rest d f ∙ rw h
 
 -- ---- the loops
 
-pub term_starts : (end n : ℕ) (ts : List Placed) (x : Syntax) (rest : List Placed) → unary_at end n ts ≡ Ok (x, rest) → term_at end n ts ≡ chain product_sign (unary_at end n) (length rest) x rest
+pub term_starts : (end n : ℕ) (ts : List Placed) (x : Syntax) (rest : List Placed) → unary_at end n ts ≡ Ok (x, rest) → term_at end n ts ≡ chain product_sign (unary_at end n) tree.Binary (length rest) x rest
 unfolding term_at chained
 term_starts end n ts x rest e = rw e refl
 
-pub expr_starts : (end n : ℕ) (ts : List Placed) (x : Syntax) (rest : List Placed) → term_at end n ts ≡ Ok (x, rest) → expr_at end n ts ≡ chain sum_sign (term_at end n) (length rest) x rest
+pub expr_starts : (end n : ℕ) (ts : List Placed) (x : Syntax) (rest : List Placed) → term_at end n ts ≡ Ok (x, rest) → expr_at end n ts ≡ chain sum_sign (term_at end n) tree.Binary (length rest) x rest
 unfolding expr_at chained
 expr_starts end n ts x rest e = rw e refl
 
 pub term_fails : {C : Type 0} (end n : ℕ) (ts : List Placed) (e : ExprFault C) → Fails e (unary_at end n ts) → Fails e (term_at end n ts)
 unfolding term_at chained
-term_fails end n ts e h = fails_then e (unary_at end n ts) (λ x. chain product_sign (unary_at end n) (length x.1) x.0 x.1) h
+term_fails end n ts e h = fails_then e (unary_at end n ts) (λ x. chain product_sign (unary_at end n) tree.Binary (length x.1) x.0 x.1) h
 
 pub expr_fails : {C : Type 0} (end n : ℕ) (ts : List Placed) (e : ExprFault C) → Fails e (term_at end n ts) → Fails e (expr_at end n ts)
 unfolding expr_at chained
-expr_fails end n ts e h = fails_then e (term_at end n ts) (λ x. chain sum_sign (term_at end n) (length x.1) x.0 x.1) h
+expr_fails end n ts e h = fails_then e (term_at end n ts) (λ x. chain sum_sign (term_at end n) tree.Binary (length x.1) x.0 x.1) h
 
 pub term_turn : (end n : ℕ) (left : Syntax) (ts : List Placed) (o : Operator) (rest : List Placed) (y : Syntax) (after : List Placed) → product_sign ts ≡ Some (o, rest) → unary_at end n rest ≡ Ok (y, after)
-    → chain product_sign (unary_at end n) (length ts) left ts ≡ chain product_sign (unary_at end n) (length after) (tree.Binary o left y) after
-term_turn end n = turn product_sign (unary_at end n) product_signs (unary_takes end n)
+    → chain product_sign (unary_at end n) tree.Binary (length ts) left ts ≡ chain product_sign (unary_at end n) tree.Binary (length after) (tree.Binary o left y) after
+term_turn end n = turn product_sign (unary_at end n) tree.Binary product_signs (unary_takes end n)
 
 pub expr_turn : (end n : ℕ) (left : Syntax) (ts : List Placed) (o : Operator) (rest : List Placed) (y : Syntax) (after : List Placed) → sum_sign ts ≡ Some (o, rest) → term_at end n rest ≡ Ok (y, after)
-    → chain sum_sign (term_at end n) (length ts) left ts ≡ chain sum_sign (term_at end n) (length after) (tree.Binary o left y) after
-expr_turn end n = turn sum_sign (term_at end n) sum_signs (term_takes end n)
+    → chain sum_sign (term_at end n) tree.Binary (length ts) left ts ≡ chain sum_sign (term_at end n) tree.Binary (length after) (tree.Binary o left y) after
+expr_turn end n = turn sum_sign (term_at end n) tree.Binary sum_signs (term_takes end n)
 
 -- a fault of an operand is the loop's
-chain_fails : {C : Type 0} (e : ExprFault C) (operand whole : Reading) → ((f : Refusal) → operand ≡ Err f → whole ≡ Err f) → Fails e operand → Fails e whole
-chain_fails (fault.BadCharacter at) operand whole k h = k (BadCharacter at) h
-chain_fails (fault.BadNumber at) operand whole k h = k (BadNumber at) h
-chain_fails (fault.UnexpectedToken at) operand whole k h = k (UnexpectedToken at) h
-chain_fails (fault.UnknownName name) operand whole k h = k (UnknownName name.bytes.items) h
-chain_fails (fault.NumberRange at) operand whole k h = k (NumberRange at) h
-chain_fails fault.TooLarge operand whole k h = k TooLarge h
-chain_fails (fault.LeftOutFunction name) operand whole k h = k (LeftOutFunction name.bytes.items) h
-chain_fails fault.Memory operand whole k h = tt
+chain_fails_by : {X : Type 0} (o : Option Refusal) (operand : Reading) (whole : ReadingOf X) → ((f : Refusal) → operand ≡ Err f → whole ≡ Err f) → FailsBy operand o → FailsBy whole o
+chain_fails_by (Some said) operand whole k h = k said h
+chain_fails_by None operand whole k h = tt
+
+chain_fails : {C X : Type 0} (e : ExprFault C) (operand : Reading) (whole : ReadingOf X) → ((f : Refusal) → operand ≡ Err f → whole ≡ Err f) → Fails e operand → Fails e whole
+chain_fails e operand whole k h = chain_fails_by (refusal_of e) operand whole k h
 
 pub term_turn_fails : {C : Type 0} (end n : ℕ) (left : Syntax) (ts : List Placed) (o : Operator) (rest : List Placed) (e : ExprFault C) → product_sign ts ≡ Some (o, rest) → Fails e (unary_at end n rest)
-    → Fails e (chain product_sign (unary_at end n) (length ts) left ts)
-term_turn_fails end n left ts o rest e s h = chain_fails e (unary_at end n rest) _ (λ f. turn_fails product_sign (unary_at end n) product_signs (unary_takes end n) left ts o rest f s) h
+    → Fails e (chain product_sign (unary_at end n) tree.Binary (length ts) left ts)
+term_turn_fails end n left ts o rest e s h = chain_fails e (unary_at end n rest) _ (λ f. turn_fails product_sign (unary_at end n) tree.Binary product_signs (unary_takes end n) left ts o rest f s) h
 
 pub expr_turn_fails : {C : Type 0} (end n : ℕ) (left : Syntax) (ts : List Placed) (o : Operator) (rest : List Placed) (e : ExprFault C) → sum_sign ts ≡ Some (o, rest) → Fails e (term_at end n rest)
-    → Fails e (chain sum_sign (term_at end n) (length ts) left ts)
-expr_turn_fails end n left ts o rest e s h = chain_fails e (term_at end n rest) _ (λ f. turn_fails sum_sign (term_at end n) sum_signs (term_takes end n) left ts o rest f s) h
+    → Fails e (chain sum_sign (term_at end n) tree.Binary (length ts) left ts)
+expr_turn_fails end n left ts o rest e s h = chain_fails e (term_at end n rest) _ (λ f. turn_fails sum_sign (term_at end n) tree.Binary sum_signs (term_takes end n) left ts o rest f s) h
 
-pub term_ends : (end n : ℕ) (left : Syntax) (ts : List Placed) → product_sign ts ≡ None → chain product_sign (unary_at end n) (length ts) left ts ≡ Ok (left, ts)
-term_ends end n left ts = turn_ends product_sign (unary_at end n) product_signs (unary_takes end n) (length ts) left ts
+pub term_ends : (end n : ℕ) (left : Syntax) (ts : List Placed) → product_sign ts ≡ None → chain product_sign (unary_at end n) tree.Binary (length ts) left ts ≡ Ok (left, ts)
+term_ends end n left ts = turn_ends product_sign (unary_at end n) tree.Binary product_signs (unary_takes end n) (length ts) left ts
 
-pub expr_ends : (end n : ℕ) (left : Syntax) (ts : List Placed) → sum_sign ts ≡ None → chain sum_sign (term_at end n) (length ts) left ts ≡ Ok (left, ts)
-expr_ends end n left ts = turn_ends sum_sign (term_at end n) sum_signs (term_takes end n) (length ts) left ts
+pub expr_ends : (end n : ℕ) (left : Syntax) (ts : List Placed) → sum_sign ts ≡ None → chain sum_sign (term_at end n) tree.Binary (length ts) left ts ≡ Ok (left, ts)
+expr_ends end n left ts = turn_ends sum_sign (term_at end n) tree.Binary sum_signs (term_takes end n) (length ts) left ts
 
 -- each turn leaves fewer tokens
 pub term_less : (end n : ℕ) (ts : List Placed) (o : Operator) (rest : List Placed) (y : Syntax) (after : List Placed) → product_sign ts ≡ Some (o, rest) → unary_at end n rest ≡ Ok (y, after) → length after < length ts
@@ -141,7 +130,35 @@ unfolding closed_at
 atom_group end n ts rest f = atom_start end n ts _ f
 
 pub atom_name : (end n : ℕ) (ts : List Placed) (w : List ℕ) (rest : List Placed) → start ts ≡ Some (Word w, rest) → open_sign rest ≡ None → atom_at end n ts ≡ Ok (tree.Name w, rest)
-atom_name end n ts w rest f o = atom_start end n ts _ f ∙ ap (name_by w rest) o
+atom_name end n ts w rest f o = atom_start end n ts _ f ∙ ap (name_by end (expr_at end n) w rest) o
 
-pub atom_call : (end n : ℕ) (ts : List Placed) (w : List ℕ) (rest inside : List Placed) → start ts ≡ Some (Word w, rest) → open_sign rest ≡ Some inside → atom_at end n ts ≡ Err (call_refusal w)
-atom_call end n ts w rest inside f o = atom_start end n ts _ f ∙ ap (name_by w rest) o
+pub atom_call : (end n : ℕ) (ts : List Placed) (w : List ℕ) (rest inside : List Placed) → start ts ≡ Some (Word w, rest) → open_sign rest ≡ Some inside → atom_at end n ts ≡ call_at end n w inside
+unfolding call_at
+atom_call end n ts w rest inside f o = atom_start end n ts _ f ∙ ap (name_by end (expr_at end n) w rest) o
+
+-- ---- arguments
+
+abbrev pub list_reading : Arguments → List Placed → ReadingOf Arguments
+list_reading xs rest = Ok (xs, rest)
+
+pub list_starts : (end n : ℕ) (ts : List Placed) (x : Syntax) (rest : List Placed) → expr_at end n ts ≡ Ok (x, rest) → list_at end n ts ≡ chain comma_sign (expr_at end n) listed (length rest) (One x) rest
+unfolding list_at chained
+list_starts end n ts x rest e = rw e refl
+
+pub list_fails : {C : Type 0} (end n : ℕ) (ts : List Placed) (e : ExprFault C) → Fails e (expr_at end n ts) → Fails e (list_at end n ts)
+unfolding list_at chained
+list_fails end n ts e h = fails_then e (expr_at end n ts) (λ x. chain comma_sign (expr_at end n) listed (length x.1) (One x.0) x.1) h
+
+pub list_turn : (end n : ℕ) (left : Arguments) (ts : List Placed) (at : ℕ) (rest : List Placed) (y : Syntax) (after : List Placed) → comma_sign ts ≡ Some (at, rest) → expr_at end n rest ≡ Ok (y, after)
+    → chain comma_sign (expr_at end n) listed (length ts) left ts ≡ chain comma_sign (expr_at end n) listed (length after) (with_argument left y) after
+list_turn end n = turn comma_sign (expr_at end n) listed comma_signs (expr_takes end n)
+
+pub list_turn_fails : {C : Type 0} (end n : ℕ) (left : Arguments) (ts : List Placed) (at : ℕ) (rest : List Placed) (e : ExprFault C) → comma_sign ts ≡ Some (at, rest) → Fails e (expr_at end n rest)
+    → Fails e (chain comma_sign (expr_at end n) listed (length ts) left ts)
+list_turn_fails end n left ts at rest e s h = chain_fails e (expr_at end n rest) _ (λ f. turn_fails comma_sign (expr_at end n) listed comma_signs (expr_takes end n) left ts at rest f s) h
+
+pub list_ends : (end n : ℕ) (left : Arguments) (ts : List Placed) → comma_sign ts ≡ None → chain comma_sign (expr_at end n) listed (length ts) left ts ≡ Ok (left, ts)
+list_ends end n left ts = turn_ends comma_sign (expr_at end n) listed comma_signs (expr_takes end n) (length ts) left ts
+
+pub list_less : (end n : ℕ) (ts : List Placed) (at : ℕ) (rest : List Placed) (y : Syntax) (after : List Placed) → comma_sign ts ≡ Some (at, rest) → expr_at end n rest ≡ Ok (y, after) → length after < length ts
+list_less end n ts at rest y after s e = let p = comma_signs.token ts at rest s in let q = (expr_takes end n).token rest (y, after) e in omega arith

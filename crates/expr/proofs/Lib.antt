@@ -9,3 +9,7 @@ pub mod Halting
 pub mod TextLemmas
 pub mod Wrong
 pub mod Parsing
+mod Behind
+mod Checked
+mod Resolving
+mod Programs

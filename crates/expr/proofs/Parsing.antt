@@ -1,71 +1,91 @@
 -- A text is read as a tree where the grammar says so, and nowhere else; and each refusal has its cause.
-use Rattle.std.proofs.Common.{◌≡◌, ◌⊎◌, inl, inr, ℕ, suc, ◌<◌, Bool, true, false, ltb, List, [], ◌∷◌, ◌++◌, length, Option, Some, None, Result, Ok, Err, refl, sym, ap, subst, ◌∙◌, arith}
+use Rattle.std.proofs.Common.{◌≡◌, ◌⊎◌, inl, inr, ℕ, ℤ, ◌+◌, ◌<◌, ◌≤◌, Bool, true, false, ltb, List, [], ◌∷◌, length, Option, Some, None, Result, Ok, Err, refl, sym, ap, subst, ◌∙◌}
 use Rattle.std.specs.Prelude.{IfOk, IfErr, IfSome}
 use Rattle.std.proofs.lemmas.Bool.{ltb-true, ltb-false, le-ltb}
-use Rattle.std.proofs.lemmas.List.{append-nil}
-use Rattle.expr.specs.declared.faults.ExprFault.{ExprFault}
-use Rattle.expr.specs.declared.faults.ExprFault.TheVariants as fault
-use Rattle.expr.specs.declared.programs.Operator.{Operator}
-use Rattle.expr.specs.declared.programs.Program.{Program}
-use Rattle.expr.specs.Faults.{Refusal, BadCharacter, BadNumber, UnexpectedToken, UnknownName, NumberRange, TooLarge, LeftOutFunction, refusal_of, Fails, Gives, ◌>>=◌}
+use Rattle.energy_program.specs.declared.faults.ExprFault.{ExprFault}
+use Rattle.energy_program.specs.declared.faults.ExprFault.TheVariants as fault
+use Rattle.energy_program.specs.declared.trees.Operator.{Operator}
+use Rattle.energy_program.specs.declared.trees.Function.{Function}
+use Rattle.energy_program.specs.declared.programs.Program.{Program}
+use Rattle.energy_program.specs.Faults.{Refusal, BadCharacter, BadNumber, UnexpectedToken, UnknownName, WrongArgumentCount, BadExponent, NumberRange, RepeatedDefinition, ReservedName, TooLarge, LeftOutFunction, refusal_of, FailsBy, Fails, Gives, ◌>>=◌}
 use Rattle.expr.specs.Tokens.{Placed}
-use Rattle.expr.specs.Syntax.{Syntax}
+use Rattle.expr.specs.Syntax.{Syntax, Definition, Source, names_in}
 use Rattle.expr.specs.Syntax as s
-use Rattle.expr.specs.Tree.{Tree, program_tree}
-use Rattle.expr.specs.Tree as t
-use Rattle.expr.specs.Uses.{used, resolved}
-use Rattle.expr.specs.Names.{variable_of}
+use Rattle.energy_program.specs.Programs.{program_tree, Trees, trees_of}
+use Rattle.energy_program.specs.Tree.{Tree, substituted}
+use Rattle.energy_program.specs.Tree as t
+use Rattle.expr.specs.Uses.{used, used_later, resolved, all_resolved, in_place, trees, meaning}
+use Rattle.energy_program.specs.Names.{input_of}
 use Rattle.expr.specs.Lexing.{Tokens, tokens_of}
-use Rattle.expr.specs.Grammar.{IsExpr}
-use Rattle.expr.specs.Parsing.{Reading, ended, expr_at, whole_at}
-use Rattle.expr.specs.Energy.{IsEnergy, IsRead, IsCause, limited, program_of}
-use Rattle.expr.proofs.Sound.{expr_sound}
-use Rattle.expr.proofs.Complete.{Answers, expr_complete}
-use Rattle.expr.proofs.Halting.{whole_halts, expr_halting}
+use Rattle.expr.specs.Definitions.{checked, number_from}
+use Rattle.expr.specs.Sources.{source_at}
+use Rattle.expr.specs.Energy.{IsEnergy, IsRead, IsWritten, IsCause, limited, program_of, trees_in}
+use Rattle.expr.proofs.Checked.{Why, taken, given, are_new, new_checked, refused}
+use Rattle.expr.proofs.Levels.{fails_same, fails_then}
+use Rattle.expr.proofs.Programs.{Is, source_sound, source_complete, source_halts, source_halting}
 use Rattle.expr.proofs.TextLemmas.{text_sound, text_complete}
 use Rattle.expr.proofs.Wrong.{text_wrong}
-use Rattle.expr.proofs.Results.{ok_is, err_is, err_as, bind_ok, split}
-
--- ---- all of the tokens
-
-ended_is : (x : Syntax) (rest : List Placed) (e : Syntax) → ended x rest ≡ Ok e → (rest ≡ []) × (x ≡ e)
-ended_is x [] e h = (refl, ok_is x e h)
-ended_is x ((k, at) ∷ rest) e h = absurd cc
-
-whole_sound : (end : ℕ) (ts : List Placed) (e : Syntax) → whole_at end ts ≡ Ok e → IsExpr 65 ts e
-unfolding whole_at
-whole_sound end ts e h =
-    let b = bind_ok (expr_at end 65 ts) (λ x. ended x.0 x.1) e h in
-    let d = ended_is b.0.0 b.0.1 e b.2 in
-    let s = (expr_sound end 65).spells ts b.0.0 b.0.1 b.1 in
-    let whole : ts ≡ s.front = s.parts ∙ ap (λ (z : List Placed). s.front ++ z) d.0 ∙ append-nil s.front in
-    subst (λ (z : List Placed). IsExpr 65 z e) (sym whole) (subst (λ (x : Syntax). IsExpr 65 s.front x) d.1 s.holds)
-
-abbrev WholeIs : ℕ → ℕ → List Placed → Syntax → Type 0
-WholeIs end n ts e = (whole_at end ts ≡ Ok e) ⊎ ((64 < n) × (whole_at end ts ≡ Err TooLarge))
-
-whole_complete : (end n : ℕ) (ts : List Placed) (e : Syntax) → IsExpr (suc n) ts e → WholeIs end n ts e
-unfolding whole_at
-whole_complete end n ts e p = by_answer (subst (λ (z : List Placed). Answers (suc n) 65 (expr_at end 65 z) (Ok (e, []))) (append-nil ts) (expr_complete end (suc n) ts e p 65 [] refl refl refl))
-  where
-    by_answer : Answers (suc n) 65 (expr_at end 65 ts) (Ok (e, [])) → WholeIs end n ts e
-    by_answer (inl h) = inl (ap (λ (r : Reading). r >>= λ x. ended x.0 x.1) h)
-    by_answer (inr h) = inr (omega (arith, h.0), ap (λ (r : Reading). r >>= λ x. ended x.0 x.1) h.1)
+use Rattle.expr.proofs.Results.{ok_is, err_is, err_as, bind_ok, Split, split}
 
 -- ---- the steps of reading
 
-abbrev of_syntax : Result Syntax Refusal → Result Tree Refusal
-of_syntax r = r >>= λ syntax. resolved syntax
+abbrev Last : Type 0 → Type 0
+Last X = Source → Result X Refusal
 
-abbrev of_few : ℕ → Result (List Placed) Refusal → Result Tree Refusal
-of_few end r = r >>= λ few. of_syntax (whole_at end few)
+abbrev of_names : {X : Type 0} → Last X → Source → Result (List (List ℕ)) Refusal → Result X Refusal
+of_names last source r = r >>= λ names. last source
 
-abbrev of_tokens : ℕ → List Placed → Result Tree Refusal
-of_tokens end ts = of_few end (limited (ltb 4096 (length ts)) ts)
+abbrev of_source : {X : Type 0} → Last X → List (List ℕ) → Result Source Refusal → Result X Refusal
+of_source last vs r = r >>= λ source. of_names last source (checked vs [] (names_in source.1))
 
-program_is : (bits : ℕ) (text : List ℕ) → program_of bits text ≡ (tokens_of bits text >>= of_tokens (length text))
+abbrev of_few : {X : Type 0} → Last X → List (List ℕ) → ℕ → Result (List Placed) Refusal → Result X Refusal
+of_few last vs end r = r >>= λ few. of_source last vs (source_at end few)
+
+abbrev of_tokens : {X : Type 0} → Last X → List (List ℕ) → ℕ → List Placed → Result X Refusal
+of_tokens last vs end ts = of_few last vs end (limited (ltb 4096 (length ts)) ts)
+
+bind_then : {A B C : Type 0} (r : Result A Refusal) (f : A → Result B Refusal) (h : B → Result C Refusal) (k : A → Result C Refusal) → ((x : A) → (f x >>= h) ≡ k x) → ((r >>= f) >>= h) ≡ (r >>= k)
+bind_then (Ok x) f h k e = e x
+bind_then (Err w) f h k e = refl
+
+trees_is : (bits : ℕ) (vs : List (List ℕ)) (text : List ℕ) → trees_in bits vs text ≡ (tokens_of bits text >>= of_tokens (trees vs) vs (length text))
+unfolding trees_in
+trees_is bits vs text = refl
+
+program_is : (bits : ℕ) (vs : List (List ℕ)) (text : List ℕ) → program_of bits vs text ≡ (tokens_of bits text >>= of_tokens (meaning vs) vs (length text))
+unfolding program_of meaning
+program_is bits vs text =
+    ap in_place (trees_is bits vs text)
+    ∙ bind_then (tokens_of bits text) (of_tokens (trees vs) vs (length text)) placed (of_tokens (meaning vs) vs (length text))
+    (λ ts. bind_then (limited (ltb 4096 (length ts)) ts) (λ few. of_source (trees vs) vs (source_at (length text) few)) placed (λ few. of_source (meaning vs) vs (source_at (length text) few))
+    (λ few. bind_then (source_at (length text) few) (λ source. of_names (trees vs) source (checked vs [] (names_in source.1))) placed (λ source. of_names (meaning vs) source (checked vs [] (names_in source.1)))
+    (λ source. bind_then (checked vs [] (names_in source.1)) (λ names. trees vs source) placed (λ names. meaning vs source) (λ names. refl))))
+  where
+    placed : Trees → Result Tree Refusal
+    placed t = Ok (substituted t.0 t.1)
+
+source_is : (bits : ℕ) (vs : List (List ℕ)) (text : List ℕ) (ts : List Placed) (source : Source) → tokens_of bits text ≡ Ok ts → length ts ≤ 4096 → source_at (length text) ts ≡ Ok source
+    → trees_in bits vs text ≡ of_names (trees vs) source (checked vs [] (names_in source.1))
+source_is bits vs text ts source t few s =
+    trees_is bits vs text
+    ∙ ap (λ (r : Tokens). r >>= of_tokens (trees vs) vs (length text)) t
+    ∙ ap (λ (c : Bool). of_few (trees vs) vs (length text) (limited c ts)) (le-ltb 4096 (length ts) few)
+    ∙ ap (of_source (trees vs) vs) s
+
+pub named_fails : {A : Type 0} (bits : ℕ) (vs : List (List ℕ)) (text : List ℕ) (ts : List Placed) (source : Source) (e : ExprFault A) → tokens_of bits text ≡ Ok ts → length ts ≤ 4096 → source_at (length text) ts ≡ Ok source
+    → Fails e (checked vs [] (names_in source.1)) → Fails e (trees_in bits vs text)
+named_fails bits vs text ts source e t few s h =
+    fails_same e (of_names (trees vs) source (checked vs [] (names_in source.1))) (trees_in bits vs text) (source_is bits vs text ts source t few s) (fails_then e (checked vs [] (names_in source.1)) (λ names. trees vs source) h)
+
+pub named_is : (bits : ℕ) (vs : List (List ℕ)) (text : List ℕ) (ts : List Placed) (source : Source) (all : List (List ℕ)) → tokens_of bits text ≡ Ok ts → length ts ≤ 4096 → source_at (length text) ts ≡ Ok source
+    → checked vs [] (names_in source.1) ≡ Ok all → trees_in bits vs text ≡ trees vs source
+named_is bits vs text ts source all t few s h = source_is bits vs text ts source t few s ∙ ap (of_names (trees vs) source) h
+
+-- the program's trees say its tree
+pub in_place_gives : {A : Type 0} (bits : ℕ) (vs : List (List ℕ)) (text : List ℕ) (r : Result (Program A) (ExprFault A)) → Gives trees_of r (trees_in bits vs text) → Gives program_tree r (program_of bits vs text)
 unfolding program_of
-program_is bits text = refl
+in_place_gives bits vs text (Ok p) h = ap in_place h
+in_place_gives bits vs text (Err e) h = fails_then e (trees_in bits vs text) (λ t. Ok (substituted t.0 t.1)) h
 
 limited_ok : (c : Bool) (ts few : List Placed) → limited c ts ≡ Ok few → (c ≡ false) × (ts ≡ few)
 limited_ok true ts few e = absurd cc
@@ -77,37 +97,43 @@ limited_err false ts f e = absurd cc
 
 -- ---- what is read, the text says
 
-found : (bits : ℕ) (text : List ℕ) (e : Tree) → program_of bits text ≡ Ok e → IsEnergy bits text 64 e
-found bits text e h =
-    let a = bind_ok (tokens_of bits text) (of_tokens (length text)) e (sym (program_is bits text) ∙ h) in
-    let b = bind_ok (limited (ltb 4096 (length a.0)) a.0) (λ few. of_syntax (whole_at (length text) few)) e a.2 in
+found : (bits : ℕ) (vs : List (List ℕ)) (text : List ℕ) (e : Tree) → program_of bits vs text ≡ Ok e → IsEnergy bits vs text 64 e
+found bits vs text e h =
+    let a = bind_ok (tokens_of bits text) (of_tokens (meaning vs) vs (length text)) e (sym (program_is bits vs text) ∙ h) in
+    let b = bind_ok (limited (ltb 4096 (length a.0)) a.0) (λ few. of_source (meaning vs) vs (source_at (length text) few)) e a.2 in
     let l = limited_ok (ltb 4096 (length a.0)) a.0 b.0 b.1 in
-    let c = bind_ok (whole_at (length text) b.0) (λ syntax. resolved syntax) e b.2 in
+    let c = bind_ok (source_at (length text) b.0) (λ source. of_names (meaning vs) source (checked vs [] (names_in source.1))) e b.2 in
+    let d = bind_ok (checked vs [] (names_in c.0.1)) (λ names. meaning vs c.0) e c.2 in
+    let q = source_sound (length text) a.0 c.0.0 c.0.1 (ap (source_at (length text)) l.1 ∙ c.1) in
     record {
       tokens = a.0;
-      syntax = c.0;
+      body = c.0.0;
+      definitions = c.0.1;
       spelled = text_sound bits text a.0 a.1;
       few = ltb-false 4096 (length a.0) l.0;
-      derived = whole_sound (length text) a.0 c.0 (ap (whole_at (length text)) l.1 ∙ c.1);
-      meant = c.2;
+      derived = q.0;
+      few_definitions = q.1;
+      new = are_new vs [] (names_in c.0.1) d.0 d.1;
+      meant = d.2;
     }
 
-pub is_found : {A : Type 0} (bits : ℕ) (text : List ℕ) (r : Result (Program A) (ExprFault A)) → Gives program_tree r (program_of bits text) → IfOk r (λ p. IsEnergy bits text 64 (program_tree p))
-is_found bits text (Ok p) h = found bits text (program_tree p) h
-is_found bits text (Err f) h = tt
+pub is_found : {A : Type 0} (bits : ℕ) (vs : List (List ℕ)) (text : List ℕ) (r : Result (Program A) (ExprFault A)) → Gives program_tree r (program_of bits vs text) → IfOk r (λ p. IsEnergy bits vs text 64 (program_tree p))
+is_found bits vs text (Ok p) h = found bits vs text (program_tree p) h
+is_found bits vs text (Err f) h = tt
 
 -- ---- and nothing else
 
-complete : (bits : ℕ) (text : List ℕ) (n : ℕ) (e : Tree) → IsEnergy bits text n e → (program_of bits text ≡ Ok e) ⊎ ((64 < n) × (program_of bits text ≡ Err TooLarge))
-complete bits text n e p =
+complete : (bits : ℕ) (vs : List (List ℕ)) (text : List ℕ) (n : ℕ) (e : Tree) → IsEnergy bits vs text n e → (program_of bits vs text ≡ Ok e) ⊎ ((64 < n) × (program_of bits vs text ≡ Err TooLarge))
+complete bits vs text n e p =
     let few : ltb 4096 (length p.tokens) ≡ false = le-ltb 4096 (length p.tokens) p.few in
-    let start : program_of bits text ≡ of_syntax (whole_at (length text) p.tokens) =
-    program_is bits text ∙ ap (λ (r : Tokens). r >>= of_tokens (length text)) (text_complete bits text p.tokens p.spelled) ∙ ap (λ (c : Bool). of_few (length text) (limited c p.tokens)) few in
-    by_whole start (whole_complete (length text) n p.tokens p.syntax p.derived)
+    let start : program_of bits vs text ≡ of_source (meaning vs) vs (source_at (length text) p.tokens) =
+    program_is bits vs text ∙ ap (λ (r : Tokens). r >>= of_tokens (meaning vs) vs (length text)) (text_complete bits text p.tokens p.spelled) ∙ ap (λ (c : Bool). of_few (meaning vs) vs (length text) (limited c p.tokens)) few in
+    by_source start (source_complete (length text) n p.tokens p.body p.definitions p.derived p.few_definitions)
   where
-    by_whole : program_of bits text ≡ of_syntax (whole_at (length text) p.tokens) → WholeIs (length text) n p.tokens p.syntax → (program_of bits text ≡ Ok e) ⊎ ((64 < n) × (program_of bits text ≡ Err TooLarge))
-    by_whole start (inl h) = inl (start ∙ ap of_syntax h ∙ p.meant)
-    by_whole start (inr h) = inr (h.0, start ∙ ap of_syntax h.1)
+    by_source : program_of bits vs text ≡ of_source (meaning vs) vs (source_at (length text) p.tokens) → Is n (source_at (length text) p.tokens) (p.body, p.definitions) → (program_of bits vs text ≡ Ok e) ⊎ ((64 < n) × (program_of bits vs text ≡ Err TooLarge))
+    by_source start (inl h) =
+        inl (start ∙ ap (of_source (meaning vs) vs) h ∙ ap (of_names (meaning vs) (p.body, p.definitions)) (new_checked vs [] (names_in p.definitions) p.new) ∙ p.meant)
+    by_source start (inr h) = inr (h.0, start ∙ ap (of_source (meaning vs) vs) h.1)
 
 read_as : {A : Type 0} (n : ℕ) (e : Tree) (r : Result (Program A) (ExprFault A)) (whole : Result Tree Refusal) → (whole ≡ Ok e) ⊎ ((64 < n) × (whole ≡ Err TooLarge)) → Gives program_tree r whole → IsRead n e r
 read_as n e (Ok x) whole (inl h) g = ok_is (program_tree x) e (sym g ∙ h)
@@ -125,49 +151,72 @@ read_as n e (Err (fault.BadCharacter at)) whole (inl h) g = absurd cc
 read_as n e (Err (fault.BadCharacter at)) whole (inr h) g = absurd cc
 read_as n e (Err (fault.BadNumber at)) whole (inl h) g = absurd cc
 read_as n e (Err (fault.BadNumber at)) whole (inr h) g = absurd cc
+read_as n e (Err (fault.WrongArgumentCount name)) whole (inl h) g = absurd cc
+read_as n e (Err (fault.WrongArgumentCount name)) whole (inr h) g = absurd cc
+read_as n e (Err (fault.BadExponent at)) whole (inl h) g = absurd cc
+read_as n e (Err (fault.BadExponent at)) whole (inr h) g = absurd cc
+read_as n e (Err (fault.RepeatedDefinition name)) whole (inl h) g = absurd cc
+read_as n e (Err (fault.RepeatedDefinition name)) whole (inr h) g = absurd cc
+read_as n e (Err (fault.ReservedName name)) whole (inl h) g = absurd cc
+read_as n e (Err (fault.ReservedName name)) whole (inr h) g = absurd cc
 read_as n e (Err (fault.NumberRange at)) whole (inl h) g = absurd cc
 read_as n e (Err (fault.NumberRange at)) whole (inr h) g = absurd cc
 
-pub is_read : {A : Type 0} (bits : ℕ) (text : List ℕ) (r : Result (Program A) (ExprFault A)) → Gives program_tree r (program_of bits text) → (n : ℕ) (e : Tree) → IsEnergy bits text n e → IsRead n e r
-is_read bits text r h n e p = read_as n e r (program_of bits text) (complete bits text n e p) h
+pub is_read : {A : Type 0} (bits : ℕ) (vs : List (List ℕ)) (text : List ℕ) (r : Result (Program A) (ExprFault A)) → Gives program_tree r (program_of bits vs text) → (n : ℕ) (e : Tree) → IsEnergy bits vs text n e → IsRead n e r
+is_read bits vs text r h n e p = read_as n e r (program_of bits vs text) (complete bits vs text n e p) h
 
 -- ---- causes
 
 -- the step at which reading fails
-data Step (bits : ℕ) (text : List ℕ) (f : Refusal) : Type 0 where
-  lexing : tokens_of bits text ≡ Err f → Step bits text f
-  many : (ts : List Placed) → tokens_of bits text ≡ Ok ts → 4096 < length ts → TooLarge ≡ f → Step bits text f
-  grammar : (ts : List Placed) → tokens_of bits text ≡ Ok ts → whole_at (length text) ts ≡ Err f → Step bits text f
-  uses : (ts : List Placed) (syntax : Syntax) → tokens_of bits text ≡ Ok ts → whole_at (length text) ts ≡ Ok syntax → resolved syntax ≡ Err f → Step bits text f
+data Step (bits : ℕ) (vs : List (List ℕ)) (text : List ℕ) (f : Refusal) : Type 0 where
+  lexing : tokens_of bits text ≡ Err f → Step bits vs text f
+  many : (ts : List Placed) → tokens_of bits text ≡ Ok ts → 4096 < length ts → TooLarge ≡ f → Step bits vs text f
+  grammar : (ts : List Placed) → tokens_of bits text ≡ Ok ts → source_at (length text) ts ≡ Err f → Step bits vs text f
+  names : (ts : List Placed) (source : Source) → tokens_of bits text ≡ Ok ts → source_at (length text) ts ≡ Ok source → checked vs [] (names_in source.1) ≡ Err f → Step bits vs text f
+  uses : (ts : List Placed) (source : Source) (all : List (List ℕ)) → tokens_of bits text ≡ Ok ts → source_at (length text) ts ≡ Ok source → checked vs [] (names_in source.1) ≡ Ok all → meaning vs source ≡ Err f → Step bits vs text f
 
-step_few : (bits : ℕ) (text : List ℕ) (f : Refusal) (ts few : List Placed) → tokens_of bits text ≡ Ok ts → ts ≡ few → of_syntax (whole_at (length text) few) ≡ Err f → Step bits text f
-step_few bits text f ts few t same e = by_split (split f (whole_at (length text) few) (λ syntax. resolved syntax) e)
-  where
-    by_split : (whole_at (length text) few ≡ Err f) ⊎ ((x : Syntax) × (whole_at (length text) few ≡ Ok x) × (resolved x ≡ Err f)) → Step bits text f
-    by_split (inl h) = grammar ts t (ap (whole_at (length text)) same ∙ h)
-    by_split (inr h) = uses ts h.0 t (ap (whole_at (length text)) same ∙ h.1) h.2
+step_source : (bits : ℕ) (vs : List (List ℕ)) (text : List ℕ) (f : Refusal) (ts : List Placed) (source : Source) → tokens_of bits text ≡ Ok ts → source_at (length text) ts ≡ Ok source
+    → Split f (checked vs [] (names_in source.1)) (λ names. meaning vs source) → Step bits vs text f
+step_source bits vs text f ts source t s (inl h) = names ts source t s h
+step_source bits vs text f ts source t s (inr h) = uses ts source h.0 t s h.1 h.2
 
-step_tokens : (bits : ℕ) (text : List ℕ) (f : Refusal) (ts : List Placed) → tokens_of bits text ≡ Ok ts → of_tokens (length text) ts ≡ Err f → Step bits text f
-step_tokens bits text f ts t e = by_split (split f (limited (ltb 4096 (length ts)) ts) (λ few. of_syntax (whole_at (length text) few)) e)
-  where
-    by_split : (limited (ltb 4096 (length ts)) ts ≡ Err f) ⊎ ((few : List Placed) × (limited (ltb 4096 (length ts)) ts ≡ Ok few) × (of_syntax (whole_at (length text) few) ≡ Err f)) → Step bits text f
-    by_split (inl h) = let l = limited_err (ltb 4096 (length ts)) ts f h in many ts t (ltb-true 4096 (length ts) l.0) l.1
-    by_split (inr h) = let l = limited_ok (ltb 4096 (length ts)) ts h.0 h.1 in step_few bits text f ts h.0 t l.1 h.2
+step_few : (bits : ℕ) (vs : List (List ℕ)) (text : List ℕ) (f : Refusal) (ts few : List Placed) → tokens_of bits text ≡ Ok ts → ts ≡ few
+    → Split f (source_at (length text) few) (λ source. of_names (meaning vs) source (checked vs [] (names_in source.1))) → Step bits vs text f
+step_few bits vs text f ts few t same (inl h) = grammar ts t (ap (source_at (length text)) same ∙ h)
+step_few bits vs text f ts few t same (inr h) =
+    step_source bits vs text f ts h.0 t (ap (source_at (length text)) same ∙ h.1) (split f (checked vs [] (names_in h.0.1)) (λ names. meaning vs h.0) h.2)
 
-step_of : (bits : ℕ) (text : List ℕ) (f : Refusal) → program_of bits text ≡ Err f → Step bits text f
-step_of bits text f e = by_split (split f (tokens_of bits text) (of_tokens (length text)) (sym (program_is bits text) ∙ e))
+step_tokens : (bits : ℕ) (vs : List (List ℕ)) (text : List ℕ) (f : Refusal) (ts : List Placed) → tokens_of bits text ≡ Ok ts
+    → Split f (limited (ltb 4096 (length ts)) ts) (λ few. of_source (meaning vs) vs (source_at (length text) few)) → Step bits vs text f
+step_tokens bits vs text f ts t (inl h) = let l = limited_err (ltb 4096 (length ts)) ts f h in many ts t (ltb-true 4096 (length ts) l.0) l.1
+step_tokens bits vs text f ts t (inr h) =
+    let l = limited_ok (ltb 4096 (length ts)) ts h.0 h.1 in
+    step_few bits vs text f ts h.0 t l.1 (split f (source_at (length text) h.0) (λ source. of_names (meaning vs) source (checked vs [] (names_in source.1))) h.2)
+
+step_of : (bits : ℕ) (vs : List (List ℕ)) (text : List ℕ) (f : Refusal) → program_of bits vs text ≡ Err f → Step bits vs text f
+step_of bits vs text f e = by_split (split f (tokens_of bits text) (of_tokens (meaning vs) vs (length text)) (sym (program_is bits vs text) ∙ e))
   where
-    by_split : (tokens_of bits text ≡ Err f) ⊎ ((ts : List Placed) × (tokens_of bits text ≡ Ok ts) × (of_tokens (length text) ts ≡ Err f)) → Step bits text f
+    by_split : Split f (tokens_of bits text) (of_tokens (meaning vs) vs (length text)) → Step bits vs text f
     by_split (inl h) = lexing h
-    by_split (inr h) = step_tokens bits text f h.0 h.1 h.2
+    by_split (inr h) = step_tokens bits vs text f h.0 h.1 (split f (limited (ltb 4096 (length h.0)) h.0) (λ few. of_source (meaning vs) vs (source_at (length text) few)) h.2)
+
+abbrev trees_ok : List Tree → Result (List Tree) Refusal
+trees_ok z = Ok z
+
+abbrev pair_ok : Trees → Result Trees Refusal
+pair_ok z = Ok z
 
 -- names alone have no meaning
 abbrev IsName : Refusal → Type 0
 IsName f = (w : List ℕ) × (UnknownName w ≡ f)
 
-used_err : (w : List ℕ) (o : Option ℕ) (f : Refusal) → used w o ≡ Err f → IsName f
-used_err w None f e = (w, err_is (UnknownName w) f e)
-used_err w (Some i) f e = absurd cc
+later_err : (w : List ℕ) (o : Option ℕ) (f : Refusal) → used_later w o ≡ Err f → IsName f
+later_err w None f e = (w, err_is (UnknownName w) f e)
+later_err w (Some j) f e = absurd cc
+
+used_err : (i : ℕ) (ws : List (List ℕ)) (w : List ℕ) (o : Option ℕ) (f : Refusal) → used i ws w o ≡ Err f → IsName f
+used_err i ws w None f e = later_err w (number_from i ws w) f e
+used_err i ws w (Some k) f e = absurd cc
 
 negated_err : (a : Result Tree Refusal) (f : Refusal) → (a ≡ Err f → IsName f) → (a >>= λ x. Ok (t.Negated x)) ≡ Err f → IsName f
 negated_err (Ok x) f ih h = absurd cc
@@ -178,51 +227,121 @@ binary_err o (Ok x) (Ok y) f ih jh h = absurd cc
 binary_err o (Ok x) (Err k) f ih jh h = jh (err_as k f h)
 binary_err o (Err k) b f ih jh h = ih (err_as k f h)
 
-resolved_err : (e : Syntax) (f : Refusal) → resolved e ≡ Err f → IsName f
+applied_err : (g : Function) (a : Result Tree Refusal) (f : Refusal) → (a ≡ Err f → IsName f) → (a >>= λ x. Ok (t.Applied g x)) ≡ Err f → IsName f
+applied_err g (Ok x) f ih h = absurd cc
+applied_err g (Err k) f ih h = ih (err_as k f h)
+
+power_err : (n : ℤ) (a : Result Tree Refusal) (f : Refusal) → (a ≡ Err f → IsName f) → (a >>= λ x. Ok (t.Power x n)) ≡ Err f → IsName f
+power_err n (Ok x) f ih h = absurd cc
+power_err n (Err k) f ih h = ih (err_as k f h)
+
+select_err : (c a b : Result Tree Refusal) (f : Refusal) → (c ≡ Err f → IsName f) → (a ≡ Err f → IsName f) → (b ≡ Err f → IsName f) → (c >>= λ x. a >>= λ y. b >>= λ z. Ok (t.Select x y z)) ≡ Err f → IsName f
+select_err (Ok x) (Ok y) (Ok z) f ih jh kh h = absurd cc
+select_err (Ok x) (Ok y) (Err k) f ih jh kh h = kh (err_as k f h)
+select_err (Ok x) (Err k) b f ih jh kh h = jh (err_as k f h)
+select_err (Err k) a b f ih jh kh h = ih (err_as k f h)
+
+resolved_err : (vs : List (List ℕ)) (i : ℕ) (ws : List (List ℕ)) (e : Syntax) (f : Refusal) → resolved vs i ws e ≡ Err f → IsName f
 unfolding resolved
-resolved_err (s.Number z) f h = absurd cc
-resolved_err (s.Name w) f h = used_err w (variable_of w) f h
-resolved_err (s.Negated a) f h = negated_err (resolved a) f (resolved_err a f) h
-resolved_err (s.Binary o a b) f h = binary_err o (resolved a) (resolved b) f (resolved_err a f) (resolved_err b f) h
+resolved_err vs i ws (s.Number z) f h = absurd cc
+resolved_err vs i ws (s.Name w) f h = used_err i ws w (input_of vs w) f h
+resolved_err vs i ws (s.Negated a) f h = negated_err (resolved vs i ws a) f (resolved_err vs i ws a f) h
+resolved_err vs i ws (s.Binary o a b) f h = binary_err o (resolved vs i ws a) (resolved vs i ws b) f (resolved_err vs i ws a f) (resolved_err vs i ws b f) h
+resolved_err vs i ws (s.Applied g a) f h = applied_err g (resolved vs i ws a) f (resolved_err vs i ws a f) h
+resolved_err vs i ws (s.Power a n) f h = power_err n (resolved vs i ws a) f (resolved_err vs i ws a f) h
+resolved_err vs i ws (s.Select c a b) f h = select_err (resolved vs i ws c) (resolved vs i ws a) (resolved vs i ws b) f (resolved_err vs i ws c f) (resolved_err vs i ws a f) (resolved_err vs i ws b f) h
 
-cause_by : (bits : ℕ) (text : List ℕ) (f : Refusal) → Step bits text f → IsCause bits text f
-cause_by bits text (BadCharacter at) (lexing e) = text_wrong bits text (BadCharacter at) e
-cause_by bits text (BadNumber at) (lexing e) = text_wrong bits text (BadNumber at) e
-cause_by bits text (NumberRange at) (lexing e) = text_wrong bits text (NumberRange at) e
-cause_by bits text (UnexpectedToken at) step = tt
-cause_by bits text (UnknownName w) (lexing e) = absurd (text_wrong bits text (UnknownName w) e)
-cause_by bits text TooLarge (lexing e) = absurd (text_wrong bits text TooLarge e)
-cause_by bits text (LeftOutFunction w) (lexing e) = absurd (text_wrong bits text (LeftOutFunction w) e)
-cause_by bits text (BadCharacter at) (many ts t l e) = absurd cc
-cause_by bits text (BadNumber at) (many ts t l e) = absurd cc
-cause_by bits text (NumberRange at) (many ts t l e) = absurd cc
-cause_by bits text (UnknownName w) (many ts t l e) = absurd cc
-cause_by bits text TooLarge (many ts t l e) = record { tokens = ts; spelled = text_sound bits text ts t; many = inl l }
-cause_by bits text (LeftOutFunction w) (many ts t l e) = absurd cc
-cause_by bits text (BadCharacter at) (grammar ts t e) = absurd (expr_halting (whole_halts (length text) (BadCharacter at) (λ a k. absurd cc) ts e))
-cause_by bits text (BadNumber at) (grammar ts t e) = absurd (expr_halting (whole_halts (length text) (BadNumber at) (λ a k. absurd cc) ts e))
-cause_by bits text (NumberRange at) (grammar ts t e) = absurd (expr_halting (whole_halts (length text) (NumberRange at) (λ a k. absurd cc) ts e))
-cause_by bits text (UnknownName w) (grammar ts t e) = record { tokens = ts; spelled = text_sound bits text ts t; stands = inl (whole_halts (length text) (UnknownName w) (λ a k. absurd cc) ts e) }
-cause_by bits text TooLarge (grammar ts t e) = record { tokens = ts; spelled = text_sound bits text ts t; many = inr (whole_halts (length text) TooLarge (λ a k. absurd cc) ts e) }
-cause_by bits text (LeftOutFunction w) (grammar ts t e) = record { tokens = ts; spelled = text_sound bits text ts t; called = whole_halts (length text) (LeftOutFunction w) (λ a k. absurd cc) ts e }
-cause_by bits text (BadCharacter at) (uses ts x t g e) = let k = (resolved_err x (BadCharacter at) e).1 in absurd cc
-cause_by bits text (BadNumber at) (uses ts x t g e) = let k = (resolved_err x (BadNumber at) e).1 in absurd cc
-cause_by bits text (NumberRange at) (uses ts x t g e) = let k = (resolved_err x (NumberRange at) e).1 in absurd cc
-cause_by bits text (UnknownName w) (uses ts x t g e) =
-    record { tokens = ts; spelled = text_sound bits text ts t; stands = inr (record { syntax = x; derived = whole_sound (length text) ts x g; first = e }) }
-cause_by bits text TooLarge (uses ts x t g e) = let k = (resolved_err x TooLarge e).1 in absurd cc
-cause_by bits text (LeftOutFunction w) (uses ts x t g e) = let k = (resolved_err x (LeftOutFunction w) e).1 in absurd cc
+all_err : (vs : List (List ℕ)) (i : ℕ) (ds : List Definition) (f : Refusal) → all_resolved vs i ds ≡ Err f → IsName f
+unfolding all_resolved
+all_err vs i [] f h = absurd cc
+all_err vs i (d ∷ ds) f h = both_err (resolved vs (i + 1) (names_in ds) d.1) (all_resolved vs (i + 1) ds) f (resolved_err vs (i + 1) (names_in ds) d.1 f) (all_err vs (i + 1) ds f) h
+  where
+    both_err : (a : Result Tree Refusal) (b : Result (List Tree) Refusal) (f : Refusal) → (a ≡ Err f → IsName f) → (b ≡ Err f → IsName f) → (a >>= λ x. b >>= λ xs. trees_ok (x ∷ xs)) ≡ Err f → IsName f
+    both_err (Ok x) (Ok xs) f ih jh h = absurd cc
+    both_err (Ok x) (Err k) f ih jh h = jh (err_as k f h)
+    both_err (Err k) b f ih jh h = ih (err_as k f h)
 
-cause_of : {A : Type 0} (bits : ℕ) (text : List ℕ) (e : ExprFault A) → Fails e (program_of bits text) → IfSome (refusal_of e) (IsCause bits text)
-cause_of bits text (fault.BadCharacter at) h = cause_by bits text (BadCharacter at) (step_of bits text (BadCharacter at) h)
-cause_of bits text (fault.BadNumber at) h = cause_by bits text (BadNumber at) (step_of bits text (BadNumber at) h)
-cause_of bits text (fault.UnexpectedToken at) h = tt
-cause_of bits text (fault.UnknownName name) h = cause_by bits text (UnknownName name.bytes.items) (step_of bits text (UnknownName name.bytes.items) h)
-cause_of bits text (fault.NumberRange at) h = cause_by bits text (NumberRange at) (step_of bits text (NumberRange at) h)
-cause_of bits text fault.TooLarge h = cause_by bits text TooLarge (step_of bits text TooLarge h)
-cause_of bits text (fault.LeftOutFunction name) h = cause_by bits text (LeftOutFunction name.bytes.items) (step_of bits text (LeftOutFunction name.bytes.items) h)
-cause_of bits text fault.Memory h = tt
+trees_err : (vs : List (List ℕ)) (source : Source) (f : Refusal) → trees vs source ≡ Err f → IsName f
+unfolding trees
+trees_err vs source f h = both_err (resolved vs 0 (names_in source.1) source.0) (all_resolved vs 0 source.1) (resolved_err vs 0 (names_in source.1) source.0 f) (all_err vs 0 source.1 f) h
+  where
+    both_err : (a : Result Tree Refusal) (b : Result (List Tree) Refusal) → (a ≡ Err f → IsName f) → (b ≡ Err f → IsName f) → (a >>= λ x. b >>= λ xs. pair_ok (x, xs)) ≡ Err f → IsName f
+    both_err (Ok x) (Ok xs) ih jh h = absurd cc
+    both_err (Ok x) (Err k) ih jh h = jh (err_as k f h)
+    both_err (Err k) b ih jh h = ih (err_as k f h)
 
-pub is_cause : {A : Type 0} (bits : ℕ) (text : List ℕ) (r : Result (Program A) (ExprFault A)) → Gives program_tree r (program_of bits text) → IfErr r (λ e. IfSome (refusal_of e) (IsCause bits text))
-is_cause bits text (Ok p) h = tt
-is_cause bits text (Err e) h = cause_of bits text e h
+meaning_err : (vs : List (List ℕ)) (source : Source) (f : Refusal) → meaning vs source ≡ Err f → IsName f
+unfolding meaning
+meaning_err vs source f h = trees_err vs source f (unplaced (trees vs source) h)
+  where
+    unplaced : (r : Result Trees Refusal) → in_place r ≡ Err f → r ≡ Err f
+    unplaced (Ok t) h = absurd cc
+    unplaced (Err k) h = err_as k f h
+
+-- a text in the grammar
+abbrev written : (bits : ℕ) (text : List ℕ) (ts : List Placed) (source : Source) → tokens_of bits text ≡ Ok ts → source_at (length text) ts ≡ Ok source → IsWritten bits text
+written bits text ts source t s =
+    record { tokens = ts; body = source.0; definitions = source.1; spelled = text_sound bits text ts t; derived = (source_sound (length text) ts source.0 source.1 s).0 }
+
+-- the cause of a definition's refusal
+name_cause : (bits : ℕ) (vs : List (List ℕ)) (text : List ℕ) (f : Refusal) (ts : List Placed) (source : Source) → tokens_of bits text ≡ Ok ts → source_at (length text) ts ≡ Ok source → Why vs [] (names_in source.1) f → IsCause bits vs text f
+name_cause bits vs text f ts source t s (taken w b c e) =
+    subst (IsCause bits vs text) e (record { written = written bits text ts source t s; before = b.front; after = b.after; parts = b.parts; new = b.new; taken = c })
+name_cause bits vs text f ts source t s (given w b c d e) =
+    subst (IsCause bits vs text) e (record { written = written bits text ts source t s; before = b.front; after = b.after; parts = b.parts; new = b.new; free = c; given = d })
+
+cause_by : (bits : ℕ) (vs : List (List ℕ)) (text : List ℕ) (f : Refusal) → Step bits vs text f → IsCause bits vs text f
+cause_by bits vs text (UnexpectedToken at) step = tt
+cause_by bits vs text (WrongArgumentCount w) step = tt
+cause_by bits vs text (BadExponent at) step = tt
+cause_by bits vs text (BadCharacter at) (lexing e) = text_wrong bits text (BadCharacter at) e
+cause_by bits vs text (BadNumber at) (lexing e) = text_wrong bits text (BadNumber at) e
+cause_by bits vs text (NumberRange at) (lexing e) = text_wrong bits text (NumberRange at) e
+cause_by bits vs text (UnknownName w) (lexing e) = absurd (text_wrong bits text (UnknownName w) e)
+cause_by bits vs text TooLarge (lexing e) = absurd (text_wrong bits text TooLarge e)
+cause_by bits vs text (RepeatedDefinition w) (lexing e) = absurd (text_wrong bits text (RepeatedDefinition w) e)
+cause_by bits vs text (ReservedName w) (lexing e) = absurd (text_wrong bits text (ReservedName w) e)
+cause_by bits vs text (LeftOutFunction w) (lexing e) = absurd (text_wrong bits text (LeftOutFunction w) e)
+cause_by bits vs text (BadCharacter at) (many ts t l e) = absurd cc
+cause_by bits vs text (BadNumber at) (many ts t l e) = absurd cc
+cause_by bits vs text (NumberRange at) (many ts t l e) = absurd cc
+cause_by bits vs text (UnknownName w) (many ts t l e) = absurd cc
+cause_by bits vs text TooLarge (many ts t l e) = record { tokens = ts; spelled = text_sound bits text ts t; many = inl l }
+cause_by bits vs text (RepeatedDefinition w) (many ts t l e) = absurd cc
+cause_by bits vs text (ReservedName w) (many ts t l e) = absurd cc
+cause_by bits vs text (LeftOutFunction w) (many ts t l e) = absurd cc
+cause_by bits vs text (BadCharacter at) (grammar ts t e) = absurd (source_halting (source_halts (length text) (BadCharacter at) tt ts e))
+cause_by bits vs text (BadNumber at) (grammar ts t e) = absurd (source_halting (source_halts (length text) (BadNumber at) tt ts e))
+cause_by bits vs text (NumberRange at) (grammar ts t e) = absurd (source_halting (source_halts (length text) (NumberRange at) tt ts e))
+cause_by bits vs text (UnknownName w) (grammar ts t e) = inl (record { tokens = ts; spelled = text_sound bits text ts t; called = source_halts (length text) (UnknownName w) tt ts e })
+cause_by bits vs text TooLarge (grammar ts t e) = record { tokens = ts; spelled = text_sound bits text ts t; many = inr (source_halts (length text) TooLarge tt ts e) }
+cause_by bits vs text (RepeatedDefinition w) (grammar ts t e) = absurd (source_halting (source_halts (length text) (RepeatedDefinition w) tt ts e))
+cause_by bits vs text (ReservedName w) (grammar ts t e) = absurd (source_halting (source_halts (length text) (ReservedName w) tt ts e))
+cause_by bits vs text (LeftOutFunction w) (grammar ts t e) = record { tokens = ts; spelled = text_sound bits text ts t; called = source_halts (length text) (LeftOutFunction w) tt ts e }
+cause_by bits vs text (BadCharacter at) (names ts source t s e) = name_cause bits vs text (BadCharacter at) ts source t s (refused vs [] (names_in source.1) (BadCharacter at) e)
+cause_by bits vs text (BadNumber at) (names ts source t s e) = name_cause bits vs text (BadNumber at) ts source t s (refused vs [] (names_in source.1) (BadNumber at) e)
+cause_by bits vs text (NumberRange at) (names ts source t s e) = name_cause bits vs text (NumberRange at) ts source t s (refused vs [] (names_in source.1) (NumberRange at) e)
+cause_by bits vs text (UnknownName w) (names ts source t s e) = name_cause bits vs text (UnknownName w) ts source t s (refused vs [] (names_in source.1) (UnknownName w) e)
+cause_by bits vs text TooLarge (names ts source t s e) = name_cause bits vs text TooLarge ts source t s (refused vs [] (names_in source.1) TooLarge e)
+cause_by bits vs text (RepeatedDefinition w) (names ts source t s e) = name_cause bits vs text (RepeatedDefinition w) ts source t s (refused vs [] (names_in source.1) (RepeatedDefinition w) e)
+cause_by bits vs text (ReservedName w) (names ts source t s e) = name_cause bits vs text (ReservedName w) ts source t s (refused vs [] (names_in source.1) (ReservedName w) e)
+cause_by bits vs text (LeftOutFunction w) (names ts source t s e) = name_cause bits vs text (LeftOutFunction w) ts source t s (refused vs [] (names_in source.1) (LeftOutFunction w) e)
+cause_by bits vs text (BadCharacter at) (uses ts source all t s n e) = let k = (meaning_err vs source (BadCharacter at) e).1 in absurd cc
+cause_by bits vs text (BadNumber at) (uses ts source all t s n e) = let k = (meaning_err vs source (BadNumber at) e).1 in absurd cc
+cause_by bits vs text (NumberRange at) (uses ts source all t s n e) = let k = (meaning_err vs source (NumberRange at) e).1 in absurd cc
+cause_by bits vs text (UnknownName w) (uses ts source all t s n e) = inr (record { written = written bits text ts source t s; new = are_new vs [] (names_in source.1) all n; first = e })
+cause_by bits vs text TooLarge (uses ts source all t s n e) = let k = (meaning_err vs source TooLarge e).1 in absurd cc
+cause_by bits vs text (RepeatedDefinition w) (uses ts source all t s n e) = let k = (meaning_err vs source (RepeatedDefinition w) e).1 in absurd cc
+cause_by bits vs text (ReservedName w) (uses ts source all t s n e) = let k = (meaning_err vs source (ReservedName w) e).1 in absurd cc
+cause_by bits vs text (LeftOutFunction w) (uses ts source all t s n e) = let k = (meaning_err vs source (LeftOutFunction w) e).1 in absurd cc
+
+cause_of_said : (bits : ℕ) (vs : List (List ℕ)) (text : List ℕ) (said : Option Refusal) → FailsBy (program_of bits vs text) said → IfSome said (IsCause bits vs text)
+cause_of_said bits vs text (Some r) h = cause_by bits vs text r (step_of bits vs text r h)
+cause_of_said bits vs text None h = tt
+
+cause_of : {A : Type 0} (bits : ℕ) (vs : List (List ℕ)) (text : List ℕ) (e : ExprFault A) → Fails e (program_of bits vs text) → IfSome (refusal_of e) (IsCause bits vs text)
+cause_of bits vs text e h = cause_of_said bits vs text (refusal_of e) h
+
+pub is_cause : {A : Type 0} (bits : ℕ) (vs : List (List ℕ)) (text : List ℕ) (r : Result (Program A) (ExprFault A)) → Gives program_tree r (program_of bits vs text) → IfErr r (λ e. IfSome (refusal_of e) (IsCause bits vs text))
+is_cause bits vs text (Ok p) h = tt
+is_cause bits vs text (Err e) h = cause_of bits vs text e h

@@ -1,6 +1,6 @@
 -- Results and options: what equal ones hold, and which of two steps failed.
 use Rattle.std.proofs.Common.{◌≡◌, ◌⊎◌, inl, inr, Some, Result, Ok, Err, refl, ap}
-use Rattle.expr.specs.Faults.{Refusal, ◌>>=◌}
+use Rattle.energy_program.specs.Faults.{Refusal, ◌>>=◌}
 
 pub some_is : {A : Type 0} (x y : A) → Some x ≡ Some y → x ≡ y
 some_is x y e = cc

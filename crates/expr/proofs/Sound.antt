@@ -1,88 +1,100 @@
 -- What is read is in the grammar.
-use Rattle.std.proofs.Common.{◌≡◌, ℕ, zero, suc, ℤ, List, [], ◌∷◌, ◌++◌, length, Option, Some, None, Ok, refl, sym, ap, subst, ◌∙◌, append_assoc}
+use Rattle.std.proofs.Common.{◌≡◌, ℕ, zero, suc, ℤ, pos, Bool, true, false, List, [], ◌∷◌, ◌++◌, length, Option, Some, None, Ok, refl, sym, ap, subst, ◌∙◌, append_assoc}
+use Rattle.std.specs.Prelude.{neg_ℤ, if◌then◌else◌}
 use Rattle.std.proofs.lemmas.List.{append-nil}
-use Rattle.expr.specs.declared.programs.Operator.{Operator}
-use Rattle.expr.specs.declared.programs.Operator.TheVariants as op
-use Rattle.expr.specs.Faults.{◌>>=◌}
+use Rattle.energy_program.specs.declared.callees.Callee.{Callee}
+use Rattle.energy_program.specs.declared.trees.Operator.{Operator}
+use Rattle.energy_program.specs.declared.trees.Operator.TheVariants as op
+use Rattle.expr.specs.Calls.{called}
+use Rattle.energy_program.specs.Faults.{◌>>=◌}
+use Rattle.energy_program.specs.Names.{function_of}
 use Rattle.expr.specs.Tokens.{Lexeme, Placed}
 use Rattle.expr.specs.Tokens as t
-use Rattle.expr.specs.Syntax.{Syntax}
+use Rattle.energy_program.specs.Tree.{is_whole}
+use Rattle.expr.specs.Syntax.{Syntax, Arguments, Empty, One, with_argument}
 use Rattle.expr.specs.Syntax as tree
-use Rattle.expr.specs.Parsing.{Reading, Sign, Beginning, Numeral, Word, Group, start, on_sign, sum_sign, product_sign, minus_sign, open_sign, close, closed, name_by, chain, chained, atom_by, unary_by, unary_at, term_at, expr_at}
-use Rattle.expr.specs.Grammar.{IsExpr, IsTerm, IsUnary, IsAtom}
+use Rattle.expr.specs.Parsing.{ReadingOf, Reading, SignOf, Beginning, Numeral, Word, Group, start, on_sign, sum_sign, product_sign, minus_sign, open_sign, close_sign, caret_sign, comma_sign, close, closed, itself, operands, listed, listing, arguments_by, called_by, name_by, chain, chained, atom_by, unary_by, with_tokens, whole_sign, positive_whole, negative_whole, signed_by, signed_sign, or_bad, awaits_operand, grouped_by, unless_misplaced, grouped_at, exponent_by, exponent_at, raised_by, raised_at, powered, unary_at, term_at, expr_at}
+use Rattle.expr.specs.Grammar.{IsWhole, IsExponent, IsExpr, IsTerm, IsUnary, IsPower, IsAtom, IsArguments, IsList}
 use Rattle.expr.specs.Grammar as g
 use Rattle.expr.proofs.Results.{some_is, ok_is, bind_ok}
 
-abbrev pub Rule : Type 1
-Rule = List Placed → Syntax → Type 0
+abbrev pub RuleOf : Type 0 → Type 1
+RuleOf X = List Placed → X → Type 0
 
--- some tokens at the front stand for the tree
-pub record Spells (P : Rule) (ts : List Placed) (e : Syntax) (rest : List Placed) : Type 0 where
+abbrev pub Rule : Type 1
+Rule = RuleOf Syntax
+
+-- some tokens at the front stand for what is read
+pub record Spells {X : Type 0} (P : RuleOf X) (ts : List Placed) (e : X) (rest : List Placed) : Type 0 where
   pub front : List Placed
   pub parts : ts ≡ front ++ rest
   pub holds : P front e
 
 -- what is read is spelled so
-pub record Sound (P : Rule) (operand : List Placed → Reading) : Type 0 where
-  pub spells : (ts : List Placed) (e : Syntax) (rest : List Placed) → operand ts ≡ Ok (e, rest) → Spells P ts e rest
+pub record Sound {X : Type 0} (P : RuleOf X) (operand : List Placed → ReadingOf X) : Type 0 where
+  pub spells : (ts : List Placed) (e : X) (rest : List Placed) → operand ts ≡ Ok (e, rest) → Spells P ts e rest
 
 -- tokens with the operator of a sign between them
-pub record Joined (P Q : Rule) (ts : List Placed) (o : Operator) (rest : List Placed) : Type 0 where
+pub record Joined {S X : Type 0} (P : RuleOf X) (Q : Rule) (make : S → X → Syntax → X) (ts : List Placed) (o : S) (rest : List Placed) : Type 0 where
   pub token : Placed
   pub parts : ts ≡ token ∷ rest
-  pub join : (a b : List Placed) (x y : Syntax) → P a x → Q b y → P (a ++ (token ∷ b)) (tree.Binary o x y)
+  pub join : (a b : List Placed) (x : X) (y : Syntax) → P a x → Q b y → P (a ++ (token ∷ b)) (make o x y)
 
-pub record Joins (P Q : Rule) (sign : List Placed → Sign) : Type 0 where
-  pub joined : (ts : List Placed) (o : Operator) (rest : List Placed) → sign ts ≡ Some (o, rest) → Joined P Q ts o rest
+pub record Joins {S X : Type 0} (P : RuleOf X) (Q : Rule) (make : S → X → Syntax → X) (sign : List Placed → SignOf S) : Type 0 where
+  pub joined : (ts : List Placed) (o : S) (rest : List Placed) → sign ts ≡ Some (o, rest) → Joined P Q make ts o rest
 
-module _ (P Q : Rule) (token : Placed) (o : Operator) (join : (a b : List Placed) (x y : Syntax) → P a x → Q b y → P (a ++ (token ∷ b)) (tree.Binary o x y)) where
-  joined_by : (ts : List Placed) (o' : Operator) (rest : List Placed) → (s : Option (Operator × List Placed)) → s ≡ Some (o, ts) → s ≡ Some (o', rest) → Joined P Q (token ∷ ts) o' rest
+module _ {S X : Type 0} (P : RuleOf X) (Q : Rule) (make : S → X → Syntax → X) (token : Placed) (o : S) (join : (a b : List Placed) (x : X) (y : Syntax) → P a x → Q b y → P (a ++ (token ∷ b)) (make o x y)) where
+  joined_by : (ts : List Placed) (o' : S) (rest : List Placed) → (s : SignOf S) → s ≡ Some (o, ts) → s ≡ Some (o', rest) → Joined P Q make (token ∷ ts) o' rest
   joined_by ts o' rest s d e =
       let h = some_is (o, ts) (o', rest) (sym d ∙ e) in
-      let ho : o ≡ o' = ap (λ (p : Operator × List Placed). p.0) h in
+      let ho : o ≡ o' = ap (λ (p : S × List Placed). p.0) h in
       record {
         token = token;
-        parts = ap (λ (p : Operator × List Placed). token ∷ p.1) h;
-        join = λ a b x y p q. subst (λ (z : Operator). P (a ++ (token ∷ b)) (tree.Binary z x y)) ho (join a b x y p q);
+        parts = ap (λ (p : S × List Placed). token ∷ p.1) h;
+        join = λ a b x y p q. subst (λ (z : S). P (a ++ (token ∷ b)) (make z x y)) ho (join a b x y p q);
       }
 
-sum_joined : (n : ℕ) (ts : List Placed) (o : Operator) (rest : List Placed) → sum_sign ts ≡ Some (o, rest) → Joined (IsExpr n) (IsTerm n) ts o rest
-sum_joined n ((t.Plus, at) ∷ ts) o rest e = joined_by (IsExpr n) (IsTerm n) (t.Plus, at) op.Add (λ a b x y p q. g.sum at p q) ts o rest (sum_sign ((t.Plus, at) ∷ ts)) refl e
-sum_joined n ((t.Minus, at) ∷ ts) o rest e = joined_by (IsExpr n) (IsTerm n) (t.Minus, at) op.Subtract (λ a b x y p q. g.difference at p q) ts o rest (sum_sign ((t.Minus, at) ∷ ts)) refl e
+sum_joined : (n : ℕ) (ts : List Placed) (o : Operator) (rest : List Placed) → sum_sign ts ≡ Some (o, rest) → Joined (IsExpr n) (IsTerm n) tree.Binary ts o rest
+sum_joined n ((t.Plus, at) ∷ ts) o rest e = joined_by (IsExpr n) (IsTerm n) tree.Binary (t.Plus, at) op.Add (λ a b x y p q. g.sum at p q) ts o rest (sum_sign ((t.Plus, at) ∷ ts)) refl e
+sum_joined n ((t.Minus, at) ∷ ts) o rest e = joined_by (IsExpr n) (IsTerm n) tree.Binary (t.Minus, at) op.Subtract (λ a b x y p q. g.difference at p q) ts o rest (sum_sign ((t.Minus, at) ∷ ts)) refl e
 sum_joined n _ o rest e = absurd cc
 
-product_joined : (n : ℕ) (ts : List Placed) (o : Operator) (rest : List Placed) → product_sign ts ≡ Some (o, rest) → Joined (IsTerm n) (IsUnary n) ts o rest
-product_joined n ((t.Star, at) ∷ ts) o rest e = joined_by (IsTerm n) (IsUnary n) (t.Star, at) op.Multiply (λ a b x y p q. g.product at p q) ts o rest (product_sign ((t.Star, at) ∷ ts)) refl e
-product_joined n ((t.Slash, at) ∷ ts) o rest e = joined_by (IsTerm n) (IsUnary n) (t.Slash, at) op.Divide (λ a b x y p q. g.quotient at p q) ts o rest (product_sign ((t.Slash, at) ∷ ts)) refl e
+product_joined : (n : ℕ) (ts : List Placed) (o : Operator) (rest : List Placed) → product_sign ts ≡ Some (o, rest) → Joined (IsTerm n) (IsUnary n) tree.Binary ts o rest
+product_joined n ((t.Star, at) ∷ ts) o rest e = joined_by (IsTerm n) (IsUnary n) tree.Binary (t.Star, at) op.Multiply (λ a b x y p q. g.product at p q) ts o rest (product_sign ((t.Star, at) ∷ ts)) refl e
+product_joined n ((t.Slash, at) ∷ ts) o rest e = joined_by (IsTerm n) (IsUnary n) tree.Binary (t.Slash, at) op.Divide (λ a b x y p q. g.quotient at p q) ts o rest (product_sign ((t.Slash, at) ∷ ts)) refl e
 product_joined n _ o rest e = absurd cc
 
-module _ (P Q : Rule) (sign : List Placed → Sign) (operand : List Placed → Reading) (joins : Joins P Q sign) (sound : Sound Q operand) where
+comma_joined : (n : ℕ) (ts : List Placed) (o : ℕ) (rest : List Placed) → comma_sign ts ≡ Some (o, rest) → Joined (IsList n) (IsExpr n) listed ts o rest
+comma_joined n ((t.Comma, at) ∷ ts) o rest e = joined_by (IsList n) (IsExpr n) listed (t.Comma, at) at (λ a b x y p q. g.next at p q) ts o rest (comma_sign ((t.Comma, at) ∷ ts)) refl e
+comma_joined n _ o rest e = absurd cc
+
+module _ {S X : Type 0} (P : RuleOf X) (Q : Rule) (make : S → X → Syntax → X) (sign : List Placed → SignOf S) (operand : List Placed → Reading) (joins : Joins P Q make sign) (sound : Sound Q operand) where
   -- the tokens so far, and some more
-  record Goes (pre ts : List Placed) (e : Syntax) (rest : List Placed) : Type 0 where
+  record Goes (pre ts : List Placed) (e : X) (rest : List Placed) : Type 0 where
     front : List Placed
     parts : ts ≡ front ++ rest
     holds : P (pre ++ front) e
 
   abbrev Turns : ℕ → Type 0
-  Turns n = (pre : List Placed) (left : Syntax) (ts : List Placed) (e : Syntax) (rest : List Placed) → P pre left → chain sign operand n left ts ≡ Ok (e, rest) → Goes pre ts e rest
+  Turns n = (pre : List Placed) (left : X) (ts : List Placed) (e : X) (rest : List Placed) → P pre left → chain sign operand make n left ts ≡ Ok (e, rest) → Goes pre ts e rest
 
-  stays : (pre : List Placed) (left : Syntax) (ts : List Placed) (e : Syntax) (rest : List Placed) → P pre left → ◌≡◌ {A = Reading} (Ok (left, ts)) (Ok (e, rest)) → Goes pre ts e rest
+  stays : (pre : List Placed) (left : X) (ts : List Placed) (e : X) (rest : List Placed) → P pre left → ◌≡◌ {A = ReadingOf X} (Ok (left, ts)) (Ok (e, rest)) → Goes pre ts e rest
   stays pre left ts e rest p h =
       let k = ok_is (left, ts) (e, rest) h in
       record {
         front = [];
-        parts = ap (λ (x : Syntax × List Placed). x.1) k;
-        holds = subst (λ (a : List Placed). P a e) (sym (append-nil pre)) (subst (λ (x : Syntax). P pre x) (ap (λ (x : Syntax × List Placed). x.0) k) p);
+        parts = ap (λ (x : X × List Placed). x.1) k;
+        holds = subst (λ (a : List Placed). P a e) (sym (append-nil pre)) (subst (λ (x : X). P pre x) (ap (λ (x : X × List Placed). x.0) k) p);
       }
 
-  by_sign : (n : ℕ) → Turns n → (pre : List Placed) (left : Syntax) (ts : List Placed) (e : Syntax) (rest : List Placed) → P pre left → (s : Sign) → sign ts ≡ s
-      → on_sign s (Ok (left, ts)) (λ o r. operand r >>= λ y. chain sign operand n (tree.Binary o left y.0) y.1) ≡ Ok (e, rest) → Goes pre ts e rest
+  by_sign : (n : ℕ) → Turns n → (pre : List Placed) (left : X) (ts : List Placed) (e : X) (rest : List Placed) → P pre left → (s : SignOf S) → sign ts ≡ s
+      → on_sign s (Ok (left, ts)) (λ o r. operand r >>= λ y. chain sign operand make n (make o left y.0) y.1) ≡ Ok (e, rest) → Goes pre ts e rest
   by_sign n ih pre left ts e rest p None s h = stays pre left ts e rest p h
   by_sign n ih pre left ts e rest p (Some (o, r)) s h =
-      let b = bind_ok (operand r) (λ y. chain sign operand n (tree.Binary o left y.0) y.1) (e, rest) h in
+      let b = bind_ok (operand r) (λ y. chain sign operand make n (make o left y.0) y.1) (e, rest) h in
       let q = sound.spells r b.0.0 b.0.1 b.1 in
       let j = joins.joined ts o r s in
-      let f = ih (pre ++ (j.token ∷ q.front)) (tree.Binary o left b.0.0) b.0.1 e rest (j.join pre q.front left b.0.0 p q.holds) b.2 in
+      let f = ih (pre ++ (j.token ∷ q.front)) (make o left b.0.0) b.0.1 e rest (j.join pre q.front left b.0.0 p q.holds) b.2 in
       record {
         front = j.token ∷ (q.front ++ f.front);
         parts = j.parts ∙ ap (λ (x : List Placed). j.token ∷ x) (q.parts ∙ ap (λ (x : List Placed). q.front ++ x) f.parts ∙ sym (append_assoc q.front f.front rest));
@@ -94,13 +106,13 @@ module _ (P Q : Rule) (sign : List Placed → Sign) (operand : List Placed → R
   turns zero pre left ts e rest p h = stays pre left ts e rest p h
   turns (suc n) pre left ts e rest p h = by_sign n (turns n) pre left ts e rest p (sign ts) refl h
 
-  pub chained_sound : ((a : List Placed) (x : Syntax) → Q a x → P a x) → Sound P (chained sign operand)
+  pub chained_sound : (first : Syntax → X) → ((a : List Placed) (x : Syntax) → Q a x → P a (first x)) → Sound P (chained sign operand first make)
   unfolding chained
-  chained_sound one = record {
+  chained_sound first one = record {
     spells = λ ts e rest h.
-        let b = bind_ok (operand ts) (λ x. chain sign operand (length x.1) x.0 x.1) (e, rest) h in
+        let b = bind_ok (operand ts) (λ x. chain sign operand make (length x.1) (first x.0) x.1) (e, rest) h in
         let q = sound.spells ts b.0.0 b.0.1 b.1 in
-        let f = turns (length b.0.1) q.front b.0.0 b.0.1 e rest (one q.front b.0.0 q.holds) b.2 in
+        let f = turns (length b.0.1) q.front (first b.0.0) b.0.1 e rest (one q.front b.0.0 q.holds) b.2 in
         record {
           front = q.front ++ f.front;
           parts = q.parts ∙ ap (λ (x : List Placed). q.front ++ x) f.parts ∙ sym (append_assoc q.front f.front rest);
@@ -126,77 +138,226 @@ pub close_is : (end : ℕ) (ts rest : List Placed) → close end ts ≡ Ok rest 
 close_is end ((t.Close, at) ∷ ts) rest e = begins_with t.Close at ts rest (ok_is ts rest e)
 close_is end _ rest e = absurd cc
 
+pub close_sign_is : (ts rest : List Placed) → close_sign ts ≡ Some rest → Begins t.Close ts rest
+close_sign_is ((t.Close, at) ∷ ts) rest e = begins_with t.Close at ts rest (some_is ts rest e)
+close_sign_is _ rest e = absurd cc
+
+pub caret_is : (ts : List Placed) (at : ℕ) (rest : List Placed) → caret_sign ts ≡ Some (at, rest) → ts ≡ (t.Caret, at) ∷ rest
+caret_is ((t.Caret, at) ∷ ts) to rest e = ap (λ (z : ℕ × List Placed). (t.Caret, z.0) ∷ z.1) (some_is (at, ts) (to, rest) e)
+caret_is _ to rest e = absurd cc
+
 pub open_is : (ts rest : List Placed) → open_sign ts ≡ Some rest → Begins t.Open ts rest
 open_is ((t.Open, at) ∷ ts) rest e = begins_with t.Open at ts rest (some_is ts rest e)
 open_is _ rest e = absurd cc
 
-abbrev pub spelled : Beginning → Lexeme
-spelled (Numeral z) = t.Number z
-spelled (Word w) = t.Name w
-spelled Group = t.Open
+-- the token with which an atom begins
+abbrev pub Starts : Beginning → List Placed → List Placed → Type 0
+Starts (Numeral z) ts rest = (n : ℕ) × Begins (t.Number z n) ts rest
+Starts (Word w) ts rest = Begins (t.Name w) ts rest
+Starts Group ts rest = Begins t.Open ts rest
 
-start_by : (k : Lexeme) (at : ℕ) (b' : Beginning) (ts : List Placed) (b : Beginning) (rest : List Placed) → spelled b' ≡ k → ◌≡◌ {A = Option (Beginning × List Placed)} (Some (b', ts)) (Some (b, rest)) → Begins (spelled b) ((k, at) ∷ ts) rest
-start_by k at b' ts b rest s e =
-    let h = some_is (b', ts) (b, rest) e in
-    record { at = at; parts = rw (← s) (ap (λ (p : Beginning × List Placed). (spelled p.0, at) ∷ p.1) h) }
+start_same : (b' : Beginning) (ts us : List Placed) (b : Beginning) (rest : List Placed) → Starts b' ts us → ◌≡◌ {A = SignOf Beginning} (Some (b', us)) (Some (b, rest)) → Starts b ts rest
+start_same b' ts us b rest s e = subst (λ (p : Beginning × List Placed). Starts p.0 ts p.1) (some_is (b', us) (b, rest) e) s
 
-pub start_is : (ts : List Placed) (b : Beginning) (rest : List Placed) → start ts ≡ Some (b, rest) → Begins (spelled b) ts rest
+pub start_is : (ts : List Placed) (b : Beginning) (rest : List Placed) → start ts ≡ Some (b, rest) → Starts b ts rest
 start_is [] b rest e = absurd cc
-start_is ((t.Number z, at) ∷ ts) b rest e = start_by (t.Number z) at (Numeral z) ts b rest refl e
-start_is ((t.Name w, at) ∷ ts) b rest e = start_by (t.Name w) at (Word w) ts b rest refl e
-start_is ((t.Open, at) ∷ ts) b rest e = start_by t.Open at Group ts b rest refl e
+start_is ((t.Number z n, at) ∷ ts) b rest e = start_same (Numeral z) ((t.Number z n, at) ∷ ts) ts b rest (n, begins_with (t.Number z n) at ts ts refl) e
+start_is ((t.Name w, at) ∷ ts) b rest e = start_same (Word w) ((t.Name w, at) ∷ ts) ts b rest (begins_with (t.Name w) at ts ts refl) e
+start_is ((t.Open, at) ∷ ts) b rest e = start_same Group ((t.Open, at) ∷ ts) ts b rest (begins_with t.Open at ts ts refl) e
 start_is (_ ∷ ts) b rest e = absurd cc
 
-module _ (end : ℕ) (P Q : Rule) (inner : List Placed → Reading) (sound : Sound Q inner) where
-  -- one token
-  alone : (token : Placed) (x : Syntax) → P (token ∷ []) x → (ts : List Placed) (e : Syntax) (r rest : List Placed) → ts ≡ token ∷ r → ◌≡◌ {A = Reading} (Ok (x, r)) (Ok (e, rest)) → Spells P ts e rest
-  alone token x p ts e r rest s h =
-      let k = ok_is (x, r) (e, rest) h in
+-- what a rule says of one thing, it says of what is equal
+moved : {X : Type 0} (P : RuleOf X) (front ts : List Placed) (x e : X) (r rest : List Placed) → ts ≡ front ++ r → P front x → ◌≡◌ {A = ReadingOf X} (Ok (x, r)) (Ok (e, rest)) → Spells P ts e rest
+moved {X} P front ts x e r rest s p h =
+    let k = ok_is (x, r) (e, rest) h in
+    record {
+      front = front;
+      parts = s ∙ ap (λ (z : X × List Placed). front ++ z.1) k;
+      holds = subst (λ (z : X). P front z) (ap (λ (z : X × List Placed). z.0) k) p;
+    }
+
+-- ---- exponents
+
+abbrev ok_of : ℤ × List Placed → ReadingOf ℤ
+ok_of z = Ok z
+
+abbrev some_of : ℤ × List Placed → SignOf ℤ
+some_of z = Some z
+
+whole_is : (ts : List Placed) (n : ℕ) (rest : List Placed) → whole_sign ts ≡ Some (n, rest) → (z : ℤ) × (at : ℕ) × (is_whole n ≡ true) × (ts ≡ (t.Number z n, at) ∷ rest)
+whole_is [] n rest e = absurd cc
+whole_is ((t.Number z m, at) ∷ ts) n rest e = by_test (is_whole m) refl e
+  where
+    by_test : (c : Bool) → is_whole m ≡ c → with_tokens ts (if c then Some m else None) ≡ Some (n, rest) → (z' : ℤ) × (at' : ℕ) × (is_whole n ≡ true) × ((t.Number z m, at) ∷ ts ≡ (t.Number z' n, at') ∷ rest)
+    by_test false h e = absurd cc
+    by_test true h e =
+        let k = some_is (m, ts) (n, rest) e in
+        (z, at, subst (λ (y : ℕ × List Placed). is_whole y.0 ≡ true) k h, ap (λ (y : ℕ × List Placed). (t.Number z y.0, at) ∷ y.1) k)
+whole_is (_ ∷ ts) n rest e = absurd cc
+
+signed_sound : (ts : List Placed) (k : ℤ) (rest : List Placed) → signed_sign ts ≡ Some (k, rest) → Spells IsWhole ts k rest
+signed_sound ts k rest e = by_minus (minus_sign ts) refl e
+  where
+    by_positive : (s : SignOf ℕ) → whole_sign ts ≡ s → positive_whole s ≡ Some (k, rest) → Spells IsWhole ts k rest
+    by_positive None h e = absurd cc
+    by_positive (Some y) h e =
+        let w = whole_is ts y.0 y.1 h in
+        moved IsWhole ((t.Number w.0 y.0, w.1) ∷ []) ts (pos y.0) k y.1 rest w.3 (g.positive w.1 w.2) (ap ok_of (some_is (pos y.0, y.1) (k, rest) e))
+
+    by_negative : (r : List Placed) → Begins t.Minus ts r → (s : SignOf ℕ) → whole_sign r ≡ s → negative_whole s ≡ Some (k, rest) → Spells IsWhole ts k rest
+    by_negative r b None h e = absurd cc
+    by_negative r b (Some y) h e =
+        let w = whole_is r y.0 y.1 h in
+        moved IsWhole ((t.Minus, b.at) ∷ (t.Number w.0 y.0, w.1) ∷ []) ts (neg_ℤ (pos y.0)) k y.1 rest (b.parts ∙ ap (λ (z : List Placed). (t.Minus, b.at) ∷ z) w.3) (g.negative b.at w.1 w.2)
+        (ap ok_of (some_is (neg_ℤ (pos y.0), y.1) (k, rest) e))
+
+    by_minus : (o : Option (List Placed)) → minus_sign ts ≡ o → signed_by ts o ≡ Some (k, rest) → Spells IsWhole ts k rest
+    by_minus None h e = by_positive (whole_sign ts) refl e
+    by_minus (Some r) h e = by_negative r (minus_is ts r h) (whole_sign r) refl e
+
+bad_is : (at : ℕ) (s : SignOf ℤ) (k : ℤ) (rest : List Placed) → or_bad at s ≡ Ok (k, rest) → s ≡ Some (k, rest)
+bad_is at None k rest e = absurd cc
+bad_is at (Some y) k rest e = ap some_of (ok_is y (k, rest) e)
+
+signed_awaits : (ts : List Placed) (x : ℤ × List Placed) → signed_sign ts ≡ Some x → awaits_operand ts ≡ true
+signed_awaits [] x e = absurd cc
+signed_awaits ((t.Number z n, at) ∷ ts) x e = refl
+signed_awaits ((t.Minus, at) ∷ ts) x e = refl
+signed_awaits (_ ∷ ts) x e = absurd cc
+
+-- an exponent and the parenthesis behind it
+record Grouped (ts : List Placed) (k : ℤ) (rest : List Placed) : Type 0 where
+  front : List Placed
+  to : ℕ
+  parts : ts ≡ front ++ ((t.Close, to) ∷ rest)
+  holds : IsWhole front k
+
+grouped_body : (end at : ℕ) (ts : List Placed) (k : ℤ) (rest : List Placed) → grouped_by end at ts ≡ Ok (k, rest) → Grouped ts k rest
+grouped_body end at ts k rest e =
+    let b = bind_ok (or_bad at (signed_sign ts)) (λ y. close end y.1 >>= λ after. Ok (y.0, after)) (k, rest) e in
+    let c = bind_ok (close end b.0.1) (λ after. Ok (b.0.0, after)) (k, rest) b.2 in
+    let q = signed_sound ts b.0.0 b.0.1 (bad_is at (signed_sign ts) b.0.0 b.0.1 b.1) in
+    let same = ok_is (b.0.0, c.0) (k, rest) c.2 in
+    let d = close_is end b.0.1 c.0 c.1 in
+    let after : b.0.1 ≡ (t.Close, d.at) ∷ rest = d.parts ∙ ap (λ (z : ℤ × List Placed). (t.Close, d.at) ∷ z.1) same in
+    record { front = q.front; to = d.at; parts = q.parts ∙ ap (λ (z : List Placed). q.front ++ z) after; holds = subst (λ (z : ℤ). IsWhole q.front z) (ap (λ (z : ℤ × List Placed). z.0) same) q.holds }
+
+no_operand : (end at : ℕ) (ts : List Placed) (k : ℤ) (rest : List Placed) → awaits_operand ts ≡ false → grouped_by end at ts ≡ Ok (k, rest) → ⊥
+no_operand end at ts k rest a e =
+    let b = bind_ok (or_bad at (signed_sign ts)) (λ y. close end y.1 >>= λ after. Ok (y.0, after)) (k, rest) e in
+    let h : false ≡ true = sym a ∙ signed_awaits ts b.0 (bad_is at (signed_sign ts) b.0.0 b.0.1 b.1) in
+    absurd cc
+
+grouped_none : (end at : ℕ) (ts : List Placed) (k : ℤ) (rest : List Placed) (c : Bool) → awaits_operand ts ≡ c
+    → unless_misplaced c (grouped_by end at ts) ≡ Ok (k, rest) → ⊥
+grouped_none end at ts k rest true a e = absurd cc
+grouped_none end at ts k rest false a e = no_operand end at ts k rest a e
+
+grouped_sound : (end n at : ℕ) (ts inside : List Placed) (k : ℤ) (rest : List Placed) → Begins t.Open ts inside → grouped_at end n at inside ≡ Ok (k, rest) → Spells (IsExponent n) ts k rest
+unfolding grouped_at
+grouped_sound end zero at ts inside k rest b e = absurd (grouped_none end at inside k rest (awaits_operand inside) refl e)
+grouped_sound end (suc n) at ts inside k rest b e =
+    let q = grouped_body end at inside k rest e in
+    record {
+      front = (t.Open, b.at) ∷ (q.front ++ ((t.Close, q.to) ∷ []));
+      parts = b.parts ∙ ap (λ (z : List Placed). (t.Open, b.at) ∷ z) (q.parts ∙ simp append_assoc);
+      holds = g.group b.at q.to q.holds;
+    }
+
+exponent_sound : (end n at : ℕ) (ts : List Placed) (k : ℤ) (rest : List Placed) → exponent_at end n at ts ≡ Ok (k, rest) → Spells (IsExponent n) ts k rest
+unfolding exponent_at
+exponent_sound end n at ts k rest e = by_open (open_sign ts) refl e
+  where
+    by_open : (o : Option (List Placed)) → open_sign ts ≡ o → exponent_by end n at ts o ≡ Ok (k, rest) → Spells (IsExponent n) ts k rest
+    by_open None h e = let q = signed_sound ts k rest (bad_is at (signed_sign ts) k rest e) in record { front = q.front; parts = q.parts; holds = g.bare q.holds }
+    by_open (Some inside) h e = grouped_sound end n at ts inside k rest (open_is ts inside h) e
+
+-- what is read behind an atom
+raised_sound : (end n : ℕ) (front : List Placed) (x : Syntax) (ts : List Placed) (e : Syntax) (rest : List Placed) → IsAtom n front x → raised_at end n x ts ≡ Ok (e, rest) → Spells (IsPower n) (front ++ ts) e rest
+unfolding raised_at
+raised_sound end n front x ts e rest p h = by_caret (caret_sign ts) refl h
+  where
+    by_caret : (c : SignOf ℕ) → caret_sign ts ≡ c → raised_by end n x ts c ≡ Ok (e, rest) → Spells (IsPower n) (front ++ ts) e rest
+    by_caret None s h = moved (IsPower n) front (front ++ ts) x e ts rest refl (g.atom p) h
+    by_caret (Some c) s h =
+        let b = bind_ok (exponent_at end n c.0 c.1) (λ k. Ok (tree.Power x k.0, k.1)) (e, rest) h in
+        let q = exponent_sound end n c.0 c.1 b.0.0 b.0.1 b.1 in
+        let whole : front ++ ts ≡ (front ++ ((t.Caret, c.0) ∷ q.front)) ++ b.0.1 =
+        ap (λ (z : List Placed). front ++ z) (caret_is ts c.0 c.1 s ∙ ap (λ (z : List Placed). (t.Caret, c.0) ∷ z) q.parts) ∙ sym (append_assoc front ((t.Caret, c.0) ∷ q.front) b.0.1) in
+        moved (IsPower n) (front ++ ((t.Caret, c.0) ∷ q.front)) (front ++ ts) (tree.Power x b.0.0) e b.0.1 rest whole (g.raised c.0 p q.holds) b.2
+
+powered_sound : (end n : ℕ) (atom : Reading) (ts : List Placed) (e : Syntax) (rest : List Placed) → ((x : Syntax) (r : List Placed) → atom ≡ Ok (x, r) → Spells (IsAtom n) ts x r) → powered end n atom ≡ Ok (e, rest) → Spells (IsPower n) ts e rest
+powered_sound end n atom ts e rest sound h =
+    let b = bind_ok atom (λ x. raised_at end n x.0 x.1) (e, rest) h in
+    let q = sound b.0.0 b.0.1 b.1 in
+    subst (λ (z : List Placed). Spells (IsPower n) z e rest) (sym q.parts) (raised_sound end n q.front b.0.0 b.0.1 e rest q.holds b.2)
+
+-- ---- atoms
+
+-- what is in parentheses, and the one behind it
+pub record Closed {X : Type 0} (Q : RuleOf X) (ts : List Placed) (e : X) (rest : List Placed) : Type 0 where
+  pub front : List Placed
+  pub to : ℕ
+  pub parts : ts ≡ front ++ ((t.Close, to) ∷ rest)
+  pub holds : Q front e
+
+closed_sound : {X : Type 0} (end : ℕ) (Q : RuleOf X) (inner : List Placed → ReadingOf X) → Sound Q inner → (ts : List Placed) (e : X) (rest : List Placed) → closed end inner ts ≡ Ok (e, rest) → Closed Q ts e rest
+unfolding closed
+closed_sound {X} end Q inner sound ts e rest h =
+    let b = bind_ok (inner ts) (λ y. close end y.1 >>= λ after. Ok (y.0, after)) (e, rest) h in
+    let c = bind_ok (close end b.0.1) (λ after. Ok (b.0.0, after)) (e, rest) b.2 in
+    let q = sound.spells ts b.0.0 b.0.1 b.1 in
+    let k = ok_is (b.0.0, c.0) (e, rest) c.2 in
+    let d = close_is end b.0.1 c.0 c.1 in
+    let after : b.0.1 ≡ (t.Close, d.at) ∷ rest = d.parts ∙ ap (λ (z : X × List Placed). (t.Close, d.at) ∷ z.1) k in
+    record { front = q.front; to = d.at; parts = q.parts ∙ ap (λ (z : List Placed). q.front ++ z) after; holds = subst (λ (z : X). Q q.front z) (ap (λ (z : X × List Placed). z.0) k) q.holds }
+
+pub commas : (n : ℕ) → Joins (IsList n) (IsExpr n) listed comma_sign
+commas n = record { joined = comma_joined n }
+
+module _ (end n : ℕ) (inner : List Placed → Reading) (sound : Sound (IsExpr n) inner) where
+  pub listing_sound : Sound (IsList n) (listing inner)
+  listing_sound = chained_sound (IsList n) (IsExpr n) listed comma_sign inner (commas n) sound One (λ a x q. g.first q)
+
+  arguments_sound : (ts : List Placed) (xs : Arguments) (rest : List Placed) (o : Option (List Placed)) → close_sign ts ≡ o → arguments_by end inner ts o ≡ Ok (xs, rest) → Closed (IsArguments n) ts xs rest
+  arguments_sound ts xs rest None s h = let q = closed_sound end (IsList n) (listing inner) listing_sound ts xs rest h in record { front = q.front; to = q.to; parts = q.parts; holds = g.some q.holds }
+  arguments_sound ts xs rest (Some r) s h =
+      let b = close_sign_is ts r s in
+      let k = ok_is (Empty, r) (xs, rest) h in
       record {
-        front = token ∷ [];
-        parts = s ∙ ap (λ (z : Syntax × List Placed). token ∷ z.1) k;
-        holds = subst (λ (z : Syntax). P (token ∷ []) z) (ap (λ (z : Syntax × List Placed). z.0) k) p;
+        front = [];
+        to = b.at;
+        parts = b.parts ∙ ap (λ (z : Arguments × List Placed). (t.Close, b.at) ∷ z.1) k;
+        holds = subst (λ (z : Arguments). IsArguments n [] z) (ap (λ (z : Arguments × List Placed). z.0) k) g.none;
       }
 
-  -- an expression and the parenthesis behind it
-  pub record Closed (ts : List Placed) (e : Syntax) (rest : List Placed) : Type 0 where
-    pub front : List Placed
-    pub to : ℕ
-    pub parts : ts ≡ front ++ ((t.Close, to) ∷ rest)
-    pub holds : Q front e
+  call_sound : (w : List ℕ) (ts inside : List Placed) (at from : ℕ) (e : Syntax) (rest : List Placed) (f : Option Callee) → function_of w ≡ f → ts ≡ (t.Name w, at) ∷ (t.Open, from) ∷ inside
+      → called_by end inner w inside f ≡ Ok (e, rest) → Spells (IsAtom n) ts e rest
+  call_sound w ts inside at from e rest None s p h = absurd cc
+  call_sound w ts inside at from e rest (Some f) s p h =
+      let b = bind_ok (arguments_by end inner inside (close_sign inside)) (λ y. called w f y.0 >>= λ z. Ok (z, y.1)) (e, rest) h in
+      let c = bind_ok (called w f b.0.0) (λ z. Ok (z, b.0.1)) (e, rest) b.2 in
+      let q = arguments_sound inside b.0.0 b.0.1 (close_sign inside) refl b.1 in
+      let whole : ts ≡ ((t.Name w, at) ∷ (t.Open, from) ∷ (q.front ++ ((t.Close, q.to) ∷ []))) ++ b.0.1 = p ∙ ap (λ (z : List Placed). (t.Name w, at) ∷ (t.Open, from) ∷ z) (q.parts ∙ simp append_assoc) in
+      moved (IsAtom n) ((t.Name w, at) ∷ (t.Open, from) ∷ (q.front ++ ((t.Close, q.to) ∷ []))) ts c.0 e b.0.1 rest whole (g.call at from q.to s q.holds c.1) c.2
 
-  closed_sound : (ts : List Placed) (e : Syntax) (rest : List Placed) → closed end inner ts ≡ Ok (e, rest) → Closed ts e rest
-  unfolding closed
-  closed_sound ts e rest h =
-      let b = bind_ok (inner ts) (λ y. close end y.1 >>= λ after. Ok (y.0, after)) (e, rest) h in
-      let c = bind_ok (close end b.0.1) (λ after. Ok (b.0.0, after)) (e, rest) b.2 in
-      let q = sound.spells ts b.0.0 b.0.1 b.1 in
-      let k = ok_is (b.0.0, c.0) (e, rest) c.2 in
-      let d = close_is end b.0.1 c.0 c.1 in
-      let after : b.0.1 ≡ (t.Close, d.at) ∷ rest = d.parts ∙ ap (λ (z : Syntax × List Placed). (t.Close, d.at) ∷ z.1) k in
-      record { front = q.front; to = d.at; parts = q.parts ∙ ap (λ (z : List Placed). q.front ++ z) after; holds = subst (λ (z : Syntax). Q q.front z) (ap (λ (z : Syntax × List Placed). z.0) k) q.holds }
+  name_sound : (w : List ℕ) (ts : List Placed) (r : List Placed) (e : Syntax) (rest : List Placed) (o : Option (List Placed)) → Begins (t.Name w) ts r → open_sign r ≡ o → name_by end inner w r o ≡ Ok (e, rest) → Spells (IsAtom n) ts e rest
+  name_sound w ts r e rest None s k h = moved (IsAtom n) ((t.Name w, s.at) ∷ []) ts (tree.Name w) e r rest s.parts (g.name s.at) h
+  name_sound w ts r e rest (Some inside) s k h =
+      let p = open_is r inside k in
+      call_sound w ts inside s.at p.at e rest (function_of w) refl (s.parts ∙ ap (λ (z : List Placed). (t.Name w, s.at) ∷ z) p.parts) h
 
-  -- what the rule says of atoms
-  record Atoms : Type 0 where
-    number : (z : ℤ) (at : ℕ) → P ((t.Number z, at) ∷ []) (tree.Number z)
-    name : (w : List ℕ) (at : ℕ) → P ((t.Name w, at) ∷ []) (tree.Name w)
-    group : (a : List Placed) (x : Syntax) (at to : ℕ) → Q a x → P ((t.Open, at) ∷ (a ++ ((t.Close, to) ∷ []))) x
-
-  name_sound : Atoms → (w : List ℕ) (ts : List Placed) (r : List Placed) (e : Syntax) (rest : List Placed) (o : Option (List Placed)) → Begins (t.Name w) ts r → name_by w r o ≡ Ok (e, rest) → Spells P ts e rest
-  name_sound atoms w ts r e rest None s h = alone (t.Name w, s.at) (tree.Name w) (atoms.name w s.at) ts e r rest s.parts h
-  name_sound atoms w ts r e rest (Some inside) s h = absurd cc
-
-  atom_sound : Atoms → (ts : List Placed) (e : Syntax) (rest : List Placed) (f : Option (Beginning × List Placed)) → start ts ≡ f → atom_by end inner ts f ≡ Ok (e, rest) → Spells P ts e rest
-  atom_sound atoms ts e rest None s h = absurd cc
-  atom_sound atoms ts e rest (Some (Numeral z, r)) s h = let b = start_is ts (Numeral z) r s in alone (t.Number z, b.at) (tree.Number z) (atoms.number z b.at) ts e r rest b.parts h
-  atom_sound atoms ts e rest (Some (Word w, r)) s h = name_sound atoms w ts r e rest (open_sign r) (start_is ts (Word w) r s) h
-  atom_sound atoms ts e rest (Some (Group, r)) s h =
+  pub atom_sound : (ts : List Placed) (e : Syntax) (rest : List Placed) (f : Option (Beginning × List Placed)) → start ts ≡ f → atom_by end inner ts f ≡ Ok (e, rest) → Spells (IsAtom n) ts e rest
+  atom_sound ts e rest None s h = absurd cc
+  atom_sound ts e rest (Some (Numeral z, r)) s h = let b = start_is ts (Numeral z) r s in moved (IsAtom n) ((t.Number z b.0, b.1.at) ∷ []) ts (tree.Number z) e r rest b.1.parts (g.number b.1.at) h
+  atom_sound ts e rest (Some (Word w, r)) s h = name_sound w ts r e rest (open_sign r) (start_is ts (Word w) r s) refl h
+  atom_sound ts e rest (Some (Group, r)) s h =
       let b = start_is ts Group r s in
-      let q = closed_sound r e rest h in
+      let q = closed_sound end (IsExpr n) inner sound r e rest h in
       record {
         front = (t.Open, b.at) ∷ (q.front ++ ((t.Close, q.to) ∷ []));
         parts = b.parts ∙ ap (λ (z : List Placed). (t.Open, b.at) ∷ z) (q.parts ∙ simp append_assoc);
-        holds = atoms.group q.front e b.at q.to q.holds;
+        holds = g.group b.at q.to q.holds;
       }
 
 unary_sound_by : (P Q : Rule) (operand : List Placed → Reading) → Sound Q operand → ((a : List Placed) (x : Syntax) (at : ℕ) → Q a x → P ((t.Minus, at) ∷ a) (tree.Negated x)) → (other : Reading) (ts : List Placed) (e : Syntax) (rest : List Placed)
@@ -213,36 +374,29 @@ unary_sound_by P Q operand sound negative other ts e rest by_other (Some r) s h 
       holds = subst (λ (z : Syntax). P ((t.Minus, m.at) ∷ q.front) z) (ap (λ (z : Syntax × List Placed). z.0) k) (negative q.front b.0.0 m.at q.holds);
     }
 
-pub sums : (n : ℕ) → Joins (IsExpr n) (IsTerm n) sum_sign
+pub sums : (n : ℕ) → Joins (IsExpr n) (IsTerm n) tree.Binary sum_sign
 sums n = record { joined = sum_joined n }
 
-pub products : (n : ℕ) → Joins (IsTerm n) (IsUnary n) product_sign
+pub products : (n : ℕ) → Joins (IsTerm n) (IsUnary n) tree.Binary product_sign
 products n = record { joined = product_joined n }
 
-atoms_of : (end n : ℕ) (inner : List Placed → Reading) (sound : Sound (IsExpr n) inner) → Atoms end (IsAtom n) (IsExpr n) inner sound
-atoms_of end n inner sound = record {
-  number = λ z at. g.number at;
-  name = λ w at. g.name at;
-  group = λ a x at to q. g.group at to q;
-}
+term_by : (end n : ℕ) → Sound (IsUnary n) (unary_at end n) → Sound (IsTerm n) (operands product_sign (unary_at end n))
+term_by end n sound = chained_sound (IsTerm n) (IsUnary n) tree.Binary product_sign (unary_at end n) (products n) sound itself (λ a x q. g.unary q)
 
-term_by : (end n : ℕ) → Sound (IsUnary n) (unary_at end n) → Sound (IsTerm n) (chained product_sign (unary_at end n))
-term_by end n sound = chained_sound (IsTerm n) (IsUnary n) product_sign (unary_at end n) (products n) sound (λ a x q. g.unary q)
-
-expr_by : (end n : ℕ) → Sound (IsUnary n) (unary_at end n) → Sound (IsExpr n) (chained sum_sign (chained product_sign (unary_at end n)))
-expr_by end n sound = chained_sound (IsExpr n) (IsTerm n) sum_sign (chained product_sign (unary_at end n)) (sums n) (term_by end n sound) (λ a x q. g.term q)
+expr_by : (end n : ℕ) → Sound (IsUnary n) (unary_at end n) → Sound (IsExpr n) (operands sum_sign (operands product_sign (unary_at end n)))
+expr_by end n sound = chained_sound (IsExpr n) (IsTerm n) tree.Binary sum_sign (operands product_sign (unary_at end n)) (sums n) (term_by end n sound) itself (λ a x q. g.term q)
 
 pub unary_sound : (end n : ℕ) → Sound (IsUnary n) (unary_at end n)
 unfolding unary_at
 unary_sound end zero = record { spells = λ ts e rest h. absurd cc }
 unary_sound end (suc n) =
     let below = unary_sound end n in
-    let inner = chained sum_sign (chained product_sign (unary_at end n)) in
+    let inner = operands sum_sign (operands product_sign (unary_at end n)) in
     let expr = expr_by end n below in
     record {
-      spells = λ ts e rest h. unary_sound_by (IsUnary (suc n)) (IsUnary n) (unary_at end n) below (λ a x at q. g.negative at q) (atom_by end inner ts (start ts)) ts e rest
-          (λ k. let s = atom_sound end (IsAtom n) (IsExpr n) inner expr (atoms_of end n inner expr) ts e rest (start ts) refl k in
-          record { front = s.front; parts = s.parts; holds = g.atom s.holds })
+      spells = λ ts e rest h. unary_sound_by (IsUnary (suc n)) (IsUnary n) (unary_at end n) below (λ a x at q. g.negative at q) (powered end n (atom_by end inner ts (start ts))) ts e rest
+          (λ k. let s = powered_sound end n (atom_by end inner ts (start ts)) ts e rest (λ x r j. atom_sound end n inner expr ts x r (start ts) refl j) k in
+          record { front = s.front; parts = s.parts; holds = g.power s.holds })
           (minus_sign ts) refl h;
     }
 

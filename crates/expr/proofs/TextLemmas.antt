@@ -10,7 +10,7 @@ use Rattle.fixed.specs.Numerals.{Fraction, no_point, point, Numeral, IsNumeral, 
 use Rattle.expr.specs.Tokens.{Lexeme, Placed}
 use Rattle.expr.specs.Tokens as t
 use Rattle.expr.specs.Bytes.{is_space, begins_number, is_name_start, is_word}
-use Rattle.expr.specs.Numerals.{Ends, number_at, with_rest}
+use Rattle.expr.specs.Numerals.{whole_in, Ends, number_at, with_rest}
 use Rattle.expr.specs.Lexing.{symbol_of, TokenRead, number_token, symbol_token, token_at, Tokens, with_front, go_on, tokens_from, tokens_of}
 use Rattle.expr.specs.Text.{Every, Stops, IsToken, IsFront, IsText}
 use Rattle.expr.specs.Text as g
@@ -76,11 +76,21 @@ symbol_front : (bits b : ℕ) (rest : List ℕ) (k : Lexeme) (after : List ℕ) 
 symbol_front bits b rest k after None h e = absurd cc
 symbol_front bits b rest k after (Some x) h e = moved bits (b ∷ rest) x rest k after e (record { front = b ∷ []; parts = refl; spelled = symbol_sound bits rest b x h })
 
-number_front : (bits : ℕ) (ts : List ℕ) (k : Lexeme) (after : List ℕ) (r : Result (ℤ × List ℕ) NumFault) → number_at bits ts ≡ r → number_token r ≡ Ok (k, after) → Front bits ts k after
+-- the bytes in front, by how many follow
+front_taken : (ts front rest : List ℕ) → ts ≡ front ++ rest → take (length ts - length rest) ts ≡ front
+front_taken ts front rest e =
+    let n = ap length e in
+    let m = length-append front rest in
+    let count : length ts - length rest ≡ length front = omega arith in
+    rw (count, e) (take_at front rest (length front) refl)
+
+number_front : (bits : ℕ) (ts : List ℕ) (k : Lexeme) (after : List ℕ) (r : Result (ℤ × List ℕ) NumFault) → number_at bits ts ≡ r → number_token ts r ≡ Ok (k, after) → Front bits ts k after
 number_front bits ts k after (Err f) h e = absurd cc
 number_front bits ts k after (Ok (z, rest)) h e =
     let n = number_ok bits ts z rest h in
-    moved bits ts (t.Number z) rest k after e (record { front = numeral_text n.numeral; parts = sym n.parts; spelled = g.number n.is_numeral n.ends n.value })
+    let text = front_taken ts (numeral_text n.numeral) rest (sym n.parts) in
+    moved bits ts (t.Number z (whole_in (take (length ts - length rest) ts))) rest k after e
+    (record { front = numeral_text n.numeral; parts = sym n.parts; spelled = rw text (g.number n.is_numeral n.ends n.value) })
 
 name_front : (bits b : ℕ) (rest : List ℕ) (k : Lexeme) (after : List ℕ) → is_name_start b ≡ true → ◌≡◌ {A = TokenRead} (Ok (t.Name (take (prefix_len is_word (b ∷ rest)) (b ∷ rest)), drop (prefix_len is_word (b ∷ rest)) (b ∷ rest))) (Ok (k, after)) → Front bits (b ∷ rest) k after
 name_front bits b rest k after d e =
@@ -94,7 +104,7 @@ name_case : (bits b : ℕ) (rest : List ℕ) (k : Lexeme) (after : List ℕ) (c 
 name_case bits b rest k after true d e = name_front bits b rest k after d e
 name_case bits b rest k after false d e = symbol_front bits b rest k after (symbol_of b) refl e
 
-number_case : (bits : ℕ) (ts : List ℕ) (k : Lexeme) (after : List ℕ) (other : TokenRead) (c : Bool) → (other ≡ Ok (k, after) → Front bits ts k after) → cond c (number_token (number_at bits ts)) other ≡ Ok (k, after) → Front bits ts k after
+number_case : (bits : ℕ) (ts : List ℕ) (k : Lexeme) (after : List ℕ) (other : TokenRead) (c : Bool) → (other ≡ Ok (k, after) → Front bits ts k after) → cond c (number_token ts (number_at bits ts)) other ≡ Ok (k, after) → Front bits ts k after
 number_case bits ts k after other true f e = number_front bits ts k after (number_at bits ts) refl e
 number_case bits ts k after other false f e = f e
 
@@ -122,17 +132,21 @@ numeral_begins n rest h =
     let split : n.whole ++ (fraction_text n.fraction ++ (exponent_text n.exponent ++ rest)) ≡ numeral_text n ++ rest = simp append_assoc in
     subst BeginsNumeral split (numeral_begins_by n.whole n.fraction (exponent_text n.exponent ++ rest) h.whole_digits h.some_digit)
 
-token_number : (bits b : ℕ) (rest : List ℕ) → begins_number b ≡ true → token_at bits (b ∷ rest) ≡ number_token (number_at bits (b ∷ rest))
+token_number : (bits b : ℕ) (rest : List ℕ) → begins_number b ≡ true → token_at bits (b ∷ rest) ≡ number_token (b ∷ rest) (number_at bits (b ∷ rest))
 unfolding token_at
 token_number bits b rest h =
-    ap (λ c. cond c (number_token (number_at bits (b ∷ rest)))
+    ap (λ c. cond c (number_token (b ∷ rest) (number_at bits (b ∷ rest)))
     (cond (is_name_start b) (Ok (t.Name (take (prefix_len is_word (b ∷ rest)) (b ∷ rest)), drop (prefix_len is_word (b ∷ rest)) (b ∷ rest))) (symbol_token rest (symbol_of b)))) h
 
-numeral_token : (bits : ℕ) (n : Numeral) (z : ℤ) (rest : List ℕ) → IsNumeral n → Ends n rest → value_of bits n ≡ Ok z → token_at bits (numeral_text n ++ rest) ≡ Ok (t.Number z, rest)
+numeral_token : (bits : ℕ) (n : Numeral) (z : ℤ) (rest : List ℕ) → IsNumeral n → Ends n rest → value_of bits n ≡ Ok z → token_at bits (numeral_text n ++ rest) ≡ Ok (t.Number z (whole_in (numeral_text n)), rest)
 numeral_token bits n z rest h ends v =
     let b = numeral_begins n rest h in
-    ap (token_at bits) b.parts ∙ token_number bits b.byte b.rest b.begins ∙ ap (λ (u : List ℕ). number_token (number_at bits u)) (sym b.parts)
-    ∙ ap number_token (number_again bits n rest h ends ∙ ap (with_rest rest) v)
+    ap (token_at bits) b.parts ∙ token_number bits b.byte b.rest b.begins ∙ ap (λ (u : List ℕ). number_token u (number_at bits u)) (sym b.parts)
+    ∙ ap (number_token (numeral_text n ++ rest)) (number_again bits n rest h ends ∙ ap (with_rest rest) v)
+    ∙ ap (λ (u : List ℕ). number_read z (whole_in u) rest) (front_taken (numeral_text n ++ rest) (numeral_text n) rest refl)
+  where
+    number_read : ℤ → ℕ → List ℕ → TokenRead
+    number_read z n after = Ok (t.Number z n, after)
 
 start_no_number : (b : ℕ) → is_name_start b ≡ true → begins_number b ≡ false
 start_no_number b h = grind (arith, nat_tests)
@@ -141,7 +155,7 @@ name_again : (bits b : ℕ) (bs rest : List ℕ) → is_name_start b ≡ true �
 unfolding token_at
 name_again bits b bs rest d ev st =
     let n : prefix_len is_word (b ∷ (bs ++ rest)) ≡ length (b ∷ bs) = span_is is_word (b ∷ bs) rest (word_start b d, ev) st in
-    ap (λ c. cond c (number_token (number_at bits (b ∷ (bs ++ rest))))
+    ap (λ c. cond c (number_token (b ∷ (bs ++ rest)) (number_at bits (b ∷ (bs ++ rest))))
     (cond (is_name_start b) (Ok (t.Name (take (prefix_len is_word (b ∷ (bs ++ rest))) (b ∷ (bs ++ rest))), drop (prefix_len is_word (b ∷ (bs ++ rest))) (b ∷ (bs ++ rest)))) (symbol_token (bs ++ rest) (symbol_of b)))) (start_no_number b d)
     ∙ ap (λ c. cond c (name_read (prefix_len is_word (b ∷ (bs ++ rest)))) (symbol_token (bs ++ rest) (symbol_of b))) d
     ∙ ap name_read n

@@ -8,7 +8,7 @@ use Rattle.expr.specs.declared.lexer.Wrong.TheVariants as wrong
 use Rattle.expr.specs.Tokens.{Lexeme, Placed}
 use Rattle.expr.specs.Tokens as t
 use Rattle.expr.specs.Bytes.{is_space, begins_number, is_name_start, is_word}
-use Rattle.expr.specs.Faults.{Refusal, BadCharacter, BadNumber, NumberRange, UnexpectedToken, UnknownName, TooLarge, LeftOutFunction}
+use Rattle.energy_program.specs.Faults.{Refusal, BadCharacter, BadNumber, NumberRange, UnexpectedToken, UnknownName, WrongArgumentCount, BadExponent, RepeatedDefinition, ReservedName, TooLarge, LeftOutFunction}
 use Rattle.expr.specs.Numerals.{number_at, after_numeral}
 use Rattle.expr.specs.Lexing.{symbol_of, TokenRead, number_token, symbol_token, token_at, Tokens, with_front, refusal_at, go_on, tokens_from, tokens_of}
 use Rattle.expr.specs.Text.{IsToken, IsFront, BeginsNone, BeginsBadly, BeginsMalformed, BeginsTooGreat, IsWrongAt}
@@ -125,7 +125,7 @@ OtherErr b (wrong.Number f) = ⊥
 number_fault : (f k : NumFault) → ◌≡◌ {A = TokenRead} (Err (wrong.Number f)) (Err (wrong.Number k)) → ◌≡◌ {A = Result (ℤ × List ℕ) NumFault} (Err f) (Err k)
 number_fault f k e = let same : f ≡ k = cc in let failed : NumFault → Result (ℤ × List ℕ) NumFault = λ z. Err z in ap failed same
 
-number_err : (bits : ℕ) (ts : List ℕ) (w : Wrong) (r : Result (ℤ × List ℕ) NumFault) → number_at bits ts ≡ r → number_token r ≡ Err w → NumberErr bits ts w
+number_err : (bits : ℕ) (ts : List ℕ) (w : Wrong) (r : Result (ℤ × List ℕ) NumFault) → number_at bits ts ≡ r → number_token ts r ≡ Err w → NumberErr bits ts w
 number_err bits ts w (Ok x) h e = absurd cc
 number_err bits ts wrong.Byte (Err f) h e = absurd cc
 number_err bits ts (wrong.Number k) (Err f) h e = h ∙ number_fault f k e
@@ -144,7 +144,7 @@ TokenErr bits b ts w true = (begins_number b ≡ true) × NumberErr bits ts w
 TokenErr bits b ts w false = OtherErr b w
 
 token_err_by : (bits b : ℕ) (rest : List ℕ) (w : Wrong) (x : Lexeme × List ℕ) (c : Bool) → begins_number b ≡ c
-    → cond c (number_token (number_at bits (b ∷ rest))) (cond (is_name_start b) (Ok x) (symbol_token rest (symbol_of b))) ≡ Err w → TokenErr bits b (b ∷ rest) w c
+    → cond c (number_token (b ∷ rest) (number_at bits (b ∷ rest))) (cond (is_name_start b) (Ok x) (symbol_token rest (symbol_of b))) ≡ Err w → TokenErr bits b (b ∷ rest) w c
 token_err_by bits b rest w x true n e = (n, number_err bits (b ∷ rest) w (number_at bits (b ∷ rest)) refl e)
 token_err_by bits b rest w x false n e = name_err b x rest w (is_name_start b) n refl e
 
@@ -173,6 +173,10 @@ Lexical bits text (BadNumber at) = IsWrongAt bits BeginsMalformed text at
 Lexical bits text (NumberRange at) = IsWrongAt bits (BeginsTooGreat bits) text at
 Lexical bits text (UnexpectedToken at) = ⊥
 Lexical bits text (UnknownName name) = ⊥
+Lexical bits text (WrongArgumentCount name) = ⊥
+Lexical bits text (BadExponent at) = ⊥
+Lexical bits text (RepeatedDefinition name) = ⊥
+Lexical bits text (ReservedName name) = ⊥
 Lexical bits text TooLarge = ⊥
 Lexical bits text (LeftOutFunction name) = ⊥
 

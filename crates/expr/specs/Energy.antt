@@ -1,27 +1,32 @@
 -- Texts of energies.
-use Rattle.std.specs.Prelude.{◌≡◌, ℕ, suc, ◌<◌, ◌≤◌, nat_lt, ◌⊎◌, Bool, true, false, List, length, Result, Ok, Err}
-use Rattle.expr.specs.declared.faults.ExprFault.{ExprFault}
-use Rattle.expr.specs.declared.faults.ExprFault.TheVariants as fault
-use Rattle.expr.specs.declared.programs.Program.{Program}
-use Rattle.expr.specs.Faults.{Refusal, BadCharacter, BadNumber, UnexpectedToken, UnknownName, NumberRange, TooLarge, LeftOutFunction, ◌>>=◌}
-use Rattle.expr.specs.Grammar.{IsExpr}
-use Rattle.expr.specs.Halting.{HaltsExpr}
+use Rattle.std.specs.Prelude.{◌≡◌, ℕ, suc, ◌<◌, ◌≤◌, nat_lt, ◌⊎◌, Bool, true, false, List, [], ◌∷◌, ◌++◌, length, map, Result, Ok, Err}
+use Rattle.energy_program.specs.declared.faults.ExprFault.{ExprFault}
+use Rattle.energy_program.specs.declared.faults.ExprFault.TheVariants as fault
+use Rattle.energy_program.specs.declared.programs.Program.{Program}
+use Rattle.energy_program.specs.Faults.{Refusal, BadCharacter, BadNumber, UnexpectedToken, UnknownName, WrongArgumentCount, BadExponent, NumberRange, RepeatedDefinition, ReservedName, TooLarge, LeftOutFunction, ◌>>=◌}
+use Rattle.expr.specs.Definitions.{AreNew, checked, is_given, is_taken}
+use Rattle.expr.specs.Grammar.{IsProgram}
+use Rattle.expr.specs.Halting.{HaltsProgram}
 use Rattle.expr.specs.Lexing.{tokens_of}
-use Rattle.expr.specs.Parsing.{whole_at}
-use Rattle.expr.specs.Syntax.{Syntax}
+use Rattle.expr.specs.Sources.{source_at}
+use Rattle.expr.specs.Syntax.{Syntax, Definition, names_in}
 use Rattle.expr.specs.Text.{IsText, IsWrongAt, BeginsBadly, BeginsMalformed, BeginsTooGreat}
 use Rattle.expr.specs.Tokens.{Placed}
-use Rattle.expr.specs.Tree.{Tree, program_tree}
-use Rattle.expr.specs.Uses.{resolved}
+use Rattle.energy_program.specs.Programs.{program_tree, Trees}
+use Rattle.energy_program.specs.Tree.{Tree, tree_of}
+use Rattle.expr.specs.Uses.{in_place, meaning, trees}
 
--- the text says the tree, with at most n parentheses and minus signs open around a token
-pub record IsEnergy (bits : ℕ) (text : List ℕ) (n : ℕ) (e : Tree) : Type 0 where
+-- The text says the tree, where these are the variables, with at most n parentheses and minus signs open around a token.
+pub record IsEnergy (bits : ℕ) (variables : List (List ℕ)) (text : List ℕ) (n : ℕ) (e : Tree) : Type 0 where
   pub tokens : List Placed
-  pub syntax : Syntax
+  pub body : Syntax
+  pub definitions : List Definition
   pub spelled : IsText bits text tokens
   pub few : length tokens ≤ 4096
-  pub derived : IsExpr (suc n) tokens syntax
-  pub meant : resolved syntax ≡ Ok e
+  pub derived : IsProgram (suc n) tokens body definitions
+  pub few_definitions : length definitions ≤ 64
+  pub new : AreNew variables [] (names_in definitions)
+  pub meant : meaning variables (body, definitions) ≡ Ok e
 
 -- the answer to a text that says this tree
 abbrev pub IsRead : {A : Type 0} → ℕ → Tree → Result (Program A) (ExprFault A) → Type 0
@@ -32,44 +37,80 @@ IsRead n e (Err (fault.BadCharacter at)) = ⊥
 IsRead n e (Err (fault.BadNumber at)) = ⊥
 IsRead n e (Err (fault.UnexpectedToken at)) = ⊥
 IsRead n e (Err (fault.UnknownName name)) = ⊥
+IsRead n e (Err (fault.WrongArgumentCount name)) = ⊥
+IsRead n e (Err (fault.BadExponent at)) = ⊥
 IsRead n e (Err (fault.NumberRange at)) = ⊥
+IsRead n e (Err (fault.RepeatedDefinition name)) = ⊥
+IsRead n e (Err (fault.ReservedName name)) = ⊥
 IsRead n e (Err (fault.LeftOutFunction name)) = ⊥
 
 -- ---- why a text is refused
 
--- too many tokens, or too many parentheses and minus signs open around one
+-- too many tokens, or too many parentheses and minus signs open around one, or too many definitions
 pub record IsLarge (bits : ℕ) (text : List ℕ) : Type 0 where
   pub tokens : List Placed
   pub spelled : IsText bits text tokens
-  pub many : (4096 < length tokens) ⊎ HaltsExpr TooLarge 65 tokens
+  pub many : (4096 < length tokens) ⊎ HaltsProgram TooLarge 65 64 tokens
 
--- the name stands before a parenthesis, and the language has or leaves out such a function
+-- the name of a function that the language leaves out stands before a parenthesis
 pub record IsLeftOut (bits : ℕ) (text : List ℕ) (name : List ℕ) : Type 0 where
   pub tokens : List Placed
   pub spelled : IsText bits text tokens
-  pub called : HaltsExpr (LeftOutFunction name) 65 tokens
+  pub called : HaltsProgram (LeftOutFunction name) 65 64 tokens
 
--- the leftmost name that stands for nothing
-pub record IsUndefined (tokens : List Placed) (name : List ℕ) : Type 0 where
-  pub syntax : Syntax
-  pub derived : IsExpr 65 tokens syntax
-  pub first : resolved syntax ≡ Err (UnknownName name)
+-- the text is in the grammar
+pub record IsWritten (bits : ℕ) (text : List ℕ) : Type 0 where
+  pub tokens : List Placed
+  pub body : Syntax
+  pub definitions : List Definition
+  pub spelled : IsText bits text tokens
+  pub derived : IsProgram 65 tokens body definitions
 
--- the name stands before a parenthesis and is no function's, or is the first that stands for nothing
-pub record IsUnknown (bits : ℕ) (text : List ℕ) (name : List ℕ) : Type 0 where
+-- the first definition whose name isn't new has this name, which is reserved or a variable's
+pub record IsReserved (bits : ℕ) (variables : List (List ℕ)) (text : List ℕ) (name : List ℕ) : Type 0 where
+  pub written : IsWritten bits text
+  pub before : List (List ℕ)
+  pub after : List (List ℕ)
+  pub parts : names_in written.definitions ≡ before ++ (name ∷ after)
+  pub new : AreNew variables [] before
+  pub taken : is_taken variables name ≡ true
+
+-- the first definition whose name isn't new has this name, which one before it gives
+pub record IsRepeated (bits : ℕ) (variables : List (List ℕ)) (text : List ℕ) (name : List ℕ) : Type 0 where
+  pub written : IsWritten bits text
+  pub before : List (List ℕ)
+  pub after : List (List ℕ)
+  pub parts : names_in written.definitions ≡ before ++ (name ∷ after)
+  pub new : AreNew variables [] before
+  pub free : is_taken variables name ≡ false
+  pub given : is_given before name ≡ true
+
+-- the names of all definitions are new, and the leftmost name that stands for nothing is this one
+pub record IsUndefined (bits : ℕ) (variables : List (List ℕ)) (text : List ℕ) (name : List ℕ) : Type 0 where
+  pub written : IsWritten bits text
+  pub new : AreNew variables [] (names_in written.definitions)
+  pub first : meaning variables (written.body, written.definitions) ≡ Err (UnknownName name)
+
+-- the name stands before a parenthesis and is no function's
+pub record IsNoFunction (bits : ℕ) (text : List ℕ) (name : List ℕ) : Type 0 where
   pub tokens : List Placed
   pub spelled : IsText bits text tokens
-  pub stands : HaltsExpr (UnknownName name) 65 tokens ⊎ IsUndefined tokens name
+  pub called : HaltsProgram (UnknownName name) 65 64 tokens
 
--- A token out of place has no cause but that the text says no tree: where it stands is told by reading from left to right.
-abbrev pub IsCause : ℕ → List ℕ → Refusal → Type 0
-IsCause bits text (BadCharacter at) = IsWrongAt bits BeginsBadly text at
-IsCause bits text (BadNumber at) = IsWrongAt bits BeginsMalformed text at
-IsCause bits text (NumberRange at) = IsWrongAt bits (BeginsTooGreat bits) text at
-IsCause bits text (UnexpectedToken at) = Unit {0}
-IsCause bits text (UnknownName name) = IsUnknown bits text name
-IsCause bits text TooLarge = IsLarge bits text
-IsCause bits text (LeftOutFunction name) = IsLeftOut bits text name
+-- A token out of place, a wrong number of arguments and a bad exponent have no cause but that the text says no tree: where
+-- they stand is told by reading from left to right.
+abbrev pub IsCause : ℕ → List (List ℕ) → List ℕ → Refusal → Type 0
+IsCause bits variables text (BadCharacter at) = IsWrongAt bits BeginsBadly text at
+IsCause bits variables text (BadNumber at) = IsWrongAt bits BeginsMalformed text at
+IsCause bits variables text (NumberRange at) = IsWrongAt bits (BeginsTooGreat bits) text at
+IsCause bits variables text (UnexpectedToken at) = Unit {0}
+IsCause bits variables text (UnknownName name) = IsNoFunction bits text name ⊎ IsUndefined bits variables text name
+IsCause bits variables text (WrongArgumentCount name) = Unit {0}
+IsCause bits variables text (BadExponent at) = Unit {0}
+IsCause bits variables text (RepeatedDefinition name) = IsRepeated bits variables text name
+IsCause bits variables text (ReservedName name) = IsReserved bits variables text name
+IsCause bits variables text TooLarge = IsLarge bits text
+IsCause bits variables text (LeftOutFunction name) = IsLeftOut bits text name
 
 -- ---- reading from left to right
 
@@ -77,10 +118,15 @@ abbrev pub limited : Bool → List Placed → Result (List Placed) Refusal
 limited true tokens = Err TooLarge
 limited false tokens = Ok tokens
 
--- what a text is read as
-unfoldable pub program_of : ℕ → List ℕ → Result Tree Refusal
-program_of bits text = do
+-- the trees that a text is read as
+unfoldable pub trees_in : ℕ → List (List ℕ) → List ℕ → Result Trees Refusal
+trees_in bits variables text = do
   tokens ← tokens_of bits text
   few ← limited (nat_lt 4096 (length tokens)) tokens
-  syntax ← whole_at (length text) few
-  resolved syntax
+  source ← source_at (length text) few
+  names ← checked variables [] (names_in source.1)
+  trees variables source
+
+-- what a text is read as
+unfoldable pub program_of : ℕ → List (List ℕ) → List ℕ → Result Tree Refusal
+program_of bits variables text = in_place (trees_in bits variables text)

@@ -1,13 +1,31 @@
 -- The grammar: which tokens spell which tree. A rule has a case for each of its alternatives.
---   expr  = term { ("+" | "-") term }
---   term  = unary { ("*" | "/") unary }
---   unary = "-" unary | atom
---   atom  = number | name | "(" expr ")"
-use Rattle.std.specs.Prelude.{ℕ, suc, ℤ, List, [], ◌∷◌, ◌++◌}
-use Rattle.expr.specs.declared.programs.Operator.TheVariants as op
+--   program    = expr { ";" [ definition ] }
+--   definition = name "=" expr
+--   expr     = term { ("+" | "-") term }
+--   term     = unary { ("*" | "/") unary }
+--   unary    = "-" unary | power
+--   power    = atom [ "^" exponent ]
+--   exponent = [ "-" ] whole | "(" [ "-" ] whole ")"
+--   atom     = number | name | name "(" [ expr { "," expr } ] ")" | "(" expr ")"
+-- A whole is a number from 1 to 32 in digits alone. A function has as many arguments as it takes.
+use Rattle.std.specs.Prelude.{◌≡◌, ℕ, suc, ℤ, pos, neg_ℤ, true, List, [], ◌∷◌, ◌++◌, Some, Ok}
+use Rattle.energy_program.specs.declared.callees.Callee.{Callee}
+use Rattle.energy_program.specs.declared.trees.Operator.TheVariants as op
+use Rattle.expr.specs.Calls.{called}
+use Rattle.energy_program.specs.Names.{function_of}
+use Rattle.energy_program.specs.Tree.{is_whole}
 use Rattle.expr.specs.Tokens.{Placed}
 use Rattle.expr.specs.Tokens as t
-use Rattle.expr.specs.Syntax.{Syntax, Number, Name, Negated, Binary}
+use Rattle.expr.specs.Syntax.{Syntax, Number, Name, Negated, Binary, Power, Arguments, Empty, One, with_argument, Definition}
+
+pub data IsWhole : List Placed → ℤ → Type 0 where
+  positive : {z : ℤ} {n : ℕ} (at : ℕ) → is_whole n ≡ true → IsWhole ((t.Number z n, at) ∷ []) (pos n)
+  negative : {z : ℤ} {n : ℕ} (from at : ℕ) → is_whole n ≡ true → IsWhole ((t.Minus, from) ∷ (t.Number z n, at) ∷ []) (neg_ℤ (pos n))
+
+-- The number is of levels, as in the rules below: a minus here is on none.
+pub data IsExponent : ℕ → List Placed → ℤ → Type 0 where
+  bare : {n : ℕ} {a : List Placed} {k : ℤ} → IsWhole a k → IsExponent n a k
+  group : {n : ℕ} {a : List Placed} {k : ℤ} (at to : ℕ) → IsWhole a k → IsExponent (suc n) ((t.Open, at) ∷ (a ++ ((t.Close, to) ∷ []))) k
 
 -- The number is of levels: around each token fewer parentheses and minus signs stand open.
 mutual
@@ -23,10 +41,35 @@ mutual
 
   pub data IsUnary : ℕ → List Placed → Syntax → Type 0 where
     negative : {n : ℕ} {a : List Placed} {x : Syntax} (at : ℕ) → IsUnary n a x → IsUnary (suc n) ((t.Minus, at) ∷ a) (Negated x)
-    atom : {n : ℕ} {a : List Placed} {x : Syntax} → IsAtom n a x → IsUnary (suc n) a x
+    power : {n : ℕ} {a : List Placed} {x : Syntax} → IsPower n a x → IsUnary (suc n) a x
 
   -- with so many levels inside its parentheses
+  pub data IsPower : ℕ → List Placed → Syntax → Type 0 where
+    atom : {n : ℕ} {a : List Placed} {x : Syntax} → IsAtom n a x → IsPower n a x
+    raised : {n : ℕ} {a b : List Placed} {x : Syntax} {k : ℤ} (at : ℕ) → IsAtom n a x → IsExponent n b k → IsPower n (a ++ ((t.Caret, at) ∷ b)) (Power x k)
+
   pub data IsAtom : ℕ → List Placed → Syntax → Type 0 where
-    number : {n : ℕ} {z : ℤ} (at : ℕ) → IsAtom n ((t.Number z, at) ∷ []) (Number z)
+    number : {n : ℕ} {z : ℤ} {k : ℕ} (at : ℕ) → IsAtom n ((t.Number z k, at) ∷ []) (Number z)
     name : {n : ℕ} {w : List ℕ} (at : ℕ) → IsAtom n ((t.Name w, at) ∷ []) (Name w)
+    call : {n : ℕ} {w : List ℕ} {f : Callee} {a : List Placed} {xs : Arguments} {x : Syntax} (at from to : ℕ) → function_of w ≡ Some f → IsArguments n a xs → called w f xs ≡ Ok x
+        → IsAtom n ((t.Name w, at) ∷ (t.Open, from) ∷ (a ++ ((t.Close, to) ∷ []))) x
     group : {n : ℕ} {a : List Placed} {x : Syntax} (at to : ℕ) → IsExpr n a x → IsAtom n ((t.Open, at) ∷ (a ++ ((t.Close, to) ∷ []))) x
+
+  -- the arguments between the parentheses of a call
+  pub data IsArguments : ℕ → List Placed → Arguments → Type 0 where
+    none : {n : ℕ} → IsArguments n [] Empty
+    some : {n : ℕ} {a : List Placed} {xs : Arguments} → IsList n a xs → IsArguments n a xs
+
+  pub data IsList : ℕ → List Placed → Arguments → Type 0 where
+    first : {n : ℕ} {a : List Placed} {x : Syntax} → IsExpr n a x → IsList n a (One x)
+    next : {n : ℕ} {a b : List Placed} {xs : Arguments} {y : Syntax} (at : ℕ) → IsList n a xs → IsExpr n b y → IsList n (a ++ ((t.Comma, at) ∷ b)) (with_argument xs y)
+
+-- what stands behind the body: semicolons, each with a definition behind it or with none
+pub data IsTail : ℕ → List Placed → List Definition → Type 0 where
+  end : {n : ℕ} → IsTail n [] []
+  empty : {n : ℕ} {b : List Placed} {ds : List Definition} (at : ℕ) → IsTail n b ds → IsTail n ((t.Semicolon, at) ∷ b) ds
+  definition : {n : ℕ} {w : List ℕ} {a b : List Placed} {x : Syntax} {ds : List Definition} (at from to : ℕ) → IsExpr n a x → IsTail n b ds
+      → IsTail n ((t.Semicolon, at) ∷ (t.Name w, from) ∷ (t.Equals, to) ∷ (a ++ b)) ((w, x) ∷ ds)
+
+pub data IsProgram : ℕ → List Placed → Syntax → List Definition → Type 0 where
+  program : {n : ℕ} {a b : List Placed} {x : Syntax} {ds : List Definition} → IsExpr n a x → IsTail n b ds → IsProgram n (a ++ b) x ds

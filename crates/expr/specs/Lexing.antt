@@ -8,8 +8,8 @@ use Rattle.expr.specs.declared.lexer.Wrong.{Wrong}
 use Rattle.expr.specs.declared.lexer.Wrong.TheVariants as wrong
 use Rattle.expr.specs.declared.tokens.Kind.{Kind}
 use Rattle.expr.specs.Bytes.{is_space, begins_number, is_name_start, is_word}
-use Rattle.expr.specs.Faults.{Refusal, BadCharacter, BadNumber, NumberRange}
-use Rattle.expr.specs.Numerals.{number_at}
+use Rattle.energy_program.specs.Faults.{Refusal, BadCharacter, BadNumber, NumberRange}
+use Rattle.expr.specs.Numerals.{number_at, whole_in}
 use Rattle.expr.specs.Tokens.{Lexeme, Placed, lexeme}
 use Rattle.expr.specs.Tokens as t
 
@@ -26,9 +26,9 @@ ShowsKind (Some k) kind = kind ≡ Some (lexeme k)
 abbrev pub TokenRead : Type 0
 TokenRead = Result (Lexeme × List ℕ) Wrong
 
-abbrev pub number_token : Result (ℤ × List ℕ) NumFault → TokenRead
-number_token (Ok x) = Ok (t.Number x.0, x.1)
-number_token (Err f) = Err (wrong.Number f)
+abbrev pub number_token : List ℕ → Result (ℤ × List ℕ) NumFault → TokenRead
+number_token text (Ok x) = Ok (t.Number x.0 (whole_in (take (length text - length x.1) text)), x.1)
+number_token text (Err f) = Err (wrong.Number f)
 
 abbrev pub symbol_token : List ℕ → Option Lexeme → TokenRead
 symbol_token after None = Err wrong.Byte
@@ -38,7 +38,7 @@ symbol_token after (Some k) = Ok (k, after)
 unfoldable pub token_at : ℕ → List ℕ → TokenRead
 token_at bits [] = Err wrong.Byte
 token_at bits (b ∷ rest) =
-    if begins_number b then number_token (number_at bits (b ∷ rest))
+    if begins_number b then number_token (b ∷ rest) (number_at bits (b ∷ rest))
     else (if is_name_start b then Ok (t.Name (take (prefix_len is_word (b ∷ rest)) (b ∷ rest)), drop (prefix_len is_word (b ∷ rest)) (b ∷ rest))
     else symbol_token rest (symbol_of b))
 

@@ -1,7 +1,7 @@
 -- How far a numeral reaches: it is the longest front of the form digits, point, digits, exponent part. A second point
 -- right behind it, or an `e` or `E` without digits (a sign may stand between), makes it malformed.
-use Rattle.std.specs.Prelude.{◌≡◌, ℕ, ℤ, ◌+◌, Bool, true, false, not, ◌==◌, ◌&&◌, ◌||◌, nat_lt, nat_le, if◌then◌else◌, List, [], ◌∷◌, length, take, drop, Result, Ok, Err}
-use Rattle.std.specs.List.{prefix_len}
+use Rattle.std.specs.Prelude.{◌≡◌, ℕ, ℤ, ◌+◌, Bool, true, false, not, ◌==◌, ◌&&◌, ◌||◌, nat_lt, nat_le, if◌then◌else◌, List, [], ◌∷◌, length, take, drop, min, Result, Ok, Err}
+use Rattle.std.specs.List.{prefix_len, list_all}
 use Rattle.std.specs.Char.{is_ascii_digit}
 use Rattle.std.specs.Str.Parse.{digits_value}
 use Rattle.std.specs.Borrow.{Bor}
@@ -126,3 +126,9 @@ number_at bits text =
 abbrev pub ShowsNumber : Result (ℤ × Bor (List ℕ)) NumFault → Result (ℤ × List ℕ) NumFault → Type 0
 ShowsNumber (Ok x) read = read ≡ Ok (x.0, x.1.now)
 ShowsNumber (Err e) read = read ≡ Err e
+
+-- ---- whole numbers
+
+-- the number that the bytes write in digits alone, or 100 where it is more; otherwise 0
+abbrev pub whole_in : List ℕ → ℕ
+whole_in text = if list_all is_ascii_digit text then min 100 (digits_value 10 text) else 0

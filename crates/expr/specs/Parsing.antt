@@ -1,25 +1,39 @@
 -- Reading tokens from left to right, as far as the first fault.
-use Rattle.std.specs.Prelude.{◌≡◌, ℕ, zero, suc, ℤ, Bool, true, false, if◌then◌else◌, List, [], ◌∷◌, length, Option, Some, None, Result, Ok, Err}
+use Rattle.std.specs.Prelude.{◌≡◌, ℕ, zero, suc, ℤ, pos, neg_ℤ, Bool, true, false, if◌then◌else◌, List, [], ◌∷◌, length, Option, Some, None, Result, Ok, Err}
 use Rattle.std.specs.Borrow.{Bor}
 use Rattle.expr.specs.declared.parser.Start.{Start}
 use Rattle.expr.specs.declared.parser.Start.TheVariants as begin
-use Rattle.expr.specs.declared.programs.Operator.{Operator}
-use Rattle.expr.specs.declared.programs.Operator.TheVariants as op
+use Rattle.energy_program.specs.declared.trees.Operator.{Operator}
+use Rattle.energy_program.specs.declared.trees.Operator.TheVariants as op
+use Rattle.expr.specs.declared.calls.Arguments as call
+use Rattle.energy_program.specs.declared.callees.Callee.{Callee}
+use Rattle.energy_program.specs.declared.powers.Exponent.{Exponent}
 use Rattle.expr.specs.declared.syntax.Syntax as code
 use Rattle.expr.specs.declared.tokens.Token.{Token}
-use Rattle.expr.specs.Faults.{Refusal, UnexpectedToken, TooLarge, ◌>>=◌}
-use Rattle.expr.specs.Names.{call_refusal}
-use Rattle.expr.specs.Syntax.{Syntax, syntax_of}
+use Rattle.energy_program.specs.Faults.{Refusal, UnexpectedToken, BadExponent, TooLarge, ◌>>=◌}
+use Rattle.expr.specs.Calls.{called}
+use Rattle.energy_program.specs.Names.{call_refusal, function_of}
+use Rattle.expr.specs.Syntax.{Syntax, syntax_of, Arguments, Empty, One, arguments_of, with_argument}
 use Rattle.expr.specs.Syntax as s
 use Rattle.expr.specs.Tokens.{Lexeme, Placed, placed}
+use Rattle.energy_program.specs.Tree.{is_whole}
 use Rattle.expr.specs.Tokens as t
 
--- a tree and the tokens after it
+-- what is read, and the tokens after it
+abbrev pub ReadingOf : Type 0 → Type 0
+ReadingOf X = Result (X × List Placed) Refusal
+
 abbrev pub Reading : Type 0
-Reading = Result (Syntax × List Placed) Refusal
+Reading = ReadingOf Syntax
 
 abbrev pub seen : {A : Type 0} → code.Syntax A × Bor (List Token) → Syntax × List Placed
 seen x = (syntax_of x.0, placed x.1.now)
+
+abbrev pub arguments_seen : {A : Type 0} → call.Arguments A × Bor (List Token) → Arguments × List Placed
+arguments_seen x = (arguments_of x.0, placed x.1.now)
+
+abbrev pub exponent_seen : Exponent × Bor (List Token) → ℤ × List Placed
+exponent_seen x = (x.0.value, placed x.1.now)
 
 abbrev pub rest_seen : Bor (List Token) → List Placed
 rest_seen rest = placed rest.now
@@ -31,9 +45,12 @@ offset end ((k, at) ∷ rest) = at
 
 -- ---- what stands first
 
--- an operator, and the tokens after it
+-- what a sign says, and the tokens after it
+abbrev pub SignOf : Type 0 → Type 0
+SignOf S = Option (S × List Placed)
+
 abbrev pub Sign : Type 0
-Sign = Option (Operator × List Placed)
+Sign = SignOf Operator
 
 abbrev pub Shows : Option (Operator × Bor (List Token)) → Sign → Type 0
 Shows None sign = sign ≡ None
@@ -61,16 +78,37 @@ abbrev pub open_sign : List Placed → Option (List Placed)
 open_sign ((t.Open, at) ∷ rest) = Some rest
 open_sign _ = None
 
-abbrev pub close : ℕ → List Placed → Result (List Placed) Refusal
-close end ((t.Close, at) ∷ rest) = Ok rest
-close end ts = Err (UnexpectedToken (offset end ts))
+abbrev pub close_sign : List Placed → Option (List Placed)
+close_sign ((t.Close, at) ∷ rest) = Some rest
+close_sign _ = None
+
+abbrev pub caret_sign : List Placed → SignOf ℕ
+caret_sign ((t.Caret, at) ∷ rest) = Some (at, rest)
+caret_sign _ = None
+
+abbrev pub ShowsCaret : Option (ℕ × Bor (List Token)) → SignOf ℕ → Type 0
+ShowsCaret None sign = sign ≡ None
+ShowsCaret (Some x) sign = sign ≡ Some (x.0, placed x.1.now)
+
+abbrev pub comma_sign : List Placed → SignOf ℕ
+comma_sign ((t.Comma, at) ∷ rest) = Some (at, rest)
+comma_sign _ = None
 
 abbrev pub begins_operand : Lexeme → Bool
-begins_operand (t.Number z) = true
+begins_operand (t.Number z k) = true
 begins_operand (t.Name w) = true
 begins_operand t.Open = true
 begins_operand t.Minus = true
 begins_operand _ = false
+
+-- whether a token comes that can begin an operand
+abbrev pub awaits_operand : List Placed → Bool
+awaits_operand [] = false
+awaits_operand ((k, at) ∷ rest) = begins_operand k
+
+abbrev pub close : ℕ → List Placed → Result (List Placed) Refusal
+close end ((t.Close, at) ∷ rest) = Ok rest
+close end ts = Err (UnexpectedToken (offset end ts))
 
 -- why no operand is read where no level is left
 abbrev pub misplaced : ℕ → List Placed → Refusal
@@ -88,17 +126,17 @@ beginning (begin.Name name) = Word name.now
 beginning begin.Open = Group
 
 abbrev pub beginning_of : Lexeme → Option Beginning
-beginning_of (t.Number z) = Some (Numeral z)
+beginning_of (t.Number z k) = Some (Numeral z)
 beginning_of (t.Name name) = Some (Word name)
 beginning_of t.Open = Some Group
 beginning_of _ = None
 
-abbrev pub with_rest : List Placed → Option Beginning → Option (Beginning × List Placed)
+abbrev pub with_rest : List Placed → Option Beginning → SignOf Beginning
 with_rest rest None = None
 with_rest rest (Some b) = Some (b, rest)
 
 -- what an atom begins with, and the tokens after that
-abbrev pub start : List Placed → Option (Beginning × List Placed)
+abbrev pub start : List Placed → SignOf Beginning
 start [] = None
 start ((k, at) ∷ rest) = with_rest rest (beginning_of k)
 
@@ -106,44 +144,136 @@ abbrev pub ShowsBeginning : Option Start → Option Beginning → Type 0
 ShowsBeginning None first = first ≡ None
 ShowsBeginning (Some x) first = first ≡ Some (beginning x)
 
-abbrev pub ShowsStart : Option (Start × Bor (List Token)) → Option (Beginning × List Placed) → Type 0
+abbrev pub ShowsStart : Option (Start × Bor (List Token)) → SignOf Beginning → Type 0
 ShowsStart None first = first ≡ None
 ShowsStart (Some x) first = first ≡ Some (beginning x.0, placed x.1.now)
 
 -- ---- operands with signs between them
 
-abbrev pub on_sign : Sign → Reading → (Operator → List Placed → Reading) → Reading
+abbrev pub on_sign : {S X : Type 0} → SignOf S → ReadingOf X → (S → List Placed → ReadingOf X) → ReadingOf X
 on_sign None done go = done
 on_sign (Some x) done go = go x.0 x.1
 
 -- Further operands behind their signs, grouped to the left. The number bounds how many.
-unfoldable pub chain : (List Placed → Sign) → (List Placed → Reading) → ℕ → Syntax → List Placed → Reading
-chain sign operand zero left ts = Ok (left, ts)
-chain sign operand (suc n) left ts =
-    on_sign (sign ts) (Ok (left, ts)) (λ o rest. operand rest >>= λ y. chain sign operand n (s.Binary o left y.0) y.1)
+unfoldable pub chain : {S X : Type 0} → (List Placed → SignOf S) → (List Placed → Reading) → (S → X → Syntax → X) → ℕ → X → List Placed → ReadingOf X
+chain sign operand join zero left ts = Ok (left, ts)
+chain sign operand join (suc n) left ts =
+    on_sign (sign ts) (Ok (left, ts)) (λ o rest. operand rest >>= λ y. chain sign operand join n (join o left y.0) y.1)
 
 -- Each sign is a token, so there are no more of them than tokens.
-unfoldable pub chained : (List Placed → Sign) → (List Placed → Reading) → List Placed → Reading
-chained sign operand ts = operand ts >>= λ x. chain sign operand (length x.1) x.0 x.1
+unfoldable pub chained : {S X : Type 0} → (List Placed → SignOf S) → (List Placed → Reading) → (Syntax → X) → (S → X → Syntax → X) → List Placed → ReadingOf X
+chained sign operand first join ts = operand ts >>= λ x. chain sign operand join (length x.1) (first x.0) x.1
+
+-- the operands of a rule, with the rule's signs between them
+abbrev pub itself : Syntax → Syntax
+itself x = x
+
+abbrev pub operands : (List Placed → Sign) → (List Placed → Reading) → List Placed → Reading
+operands sign operand = chained sign operand itself s.Binary
+
+abbrev pub listed : ℕ → Arguments → Syntax → Arguments
+listed at xs y = with_argument xs y
+
+-- ---- exponents
+
+abbrev pub whole_of : Lexeme → Option ℕ
+whole_of (t.Number z n) = if is_whole n then Some n else None
+whole_of _ = None
+
+abbrev pub with_tokens : {S : Type 0} → List Placed → Option S → SignOf S
+with_tokens rest None = None
+with_tokens rest (Some x) = Some (x, rest)
+
+abbrev pub whole_sign : List Placed → SignOf ℕ
+whole_sign [] = None
+whole_sign ((k, at) ∷ rest) = with_tokens rest (whole_of k)
+
+abbrev pub positive_whole : SignOf ℕ → SignOf ℤ
+positive_whole None = None
+positive_whole (Some x) = Some (pos x.0, x.1)
+
+abbrev pub negative_whole : SignOf ℕ → SignOf ℤ
+negative_whole None = None
+negative_whole (Some x) = Some (neg_ℤ (pos x.0), x.1)
+
+abbrev pub signed_by : List Placed → Option (List Placed) → SignOf ℤ
+signed_by ts None = positive_whole (whole_sign ts)
+signed_by ts (Some rest) = negative_whole (whole_sign rest)
+
+-- a whole number with its sign, if one comes
+abbrev pub signed_sign : List Placed → SignOf ℤ
+signed_sign ts = signed_by ts (minus_sign ts)
+
+abbrev pub ShowsWhole : Option (Exponent × Bor (List Token)) → SignOf ℤ → Type 0
+ShowsWhole None sign = sign ≡ None
+ShowsWhole (Some x) sign = sign ≡ Some (x.0.value, placed x.1.now)
+
+-- the exponent behind a `^` at a place
+abbrev pub or_bad : ℕ → SignOf ℤ → ReadingOf ℤ
+or_bad at None = Err (BadExponent at)
+or_bad at (Some x) = Ok x
+
+abbrev pub is_misplaced : ℕ → List Placed → Bool
+is_misplaced zero ts = awaits_operand ts
+is_misplaced (suc n) ts = false
+
+abbrev pub grouped_by : ℕ → ℕ → List Placed → ReadingOf ℤ
+grouped_by end at ts = or_bad at (signed_sign ts) >>= λ x. close end x.1 >>= λ after. Ok (x.0, after)
+
+abbrev pub unless_misplaced : Bool → ReadingOf ℤ → ReadingOf ℤ
+unless_misplaced true reading = Err TooLarge
+unless_misplaced false reading = reading
+
+unfoldable pub grouped_at : ℕ → ℕ → ℕ → List Placed → ReadingOf ℤ
+grouped_at end n at ts = unless_misplaced (is_misplaced n ts) (grouped_by end at ts)
+
+abbrev pub exponent_by : ℕ → ℕ → ℕ → List Placed → Option (List Placed) → ReadingOf ℤ
+exponent_by end n at ts None = or_bad at (signed_sign ts)
+exponent_by end n at ts (Some inside) = grouped_at end n at inside
+
+unfoldable pub exponent_at : ℕ → ℕ → ℕ → List Placed → ReadingOf ℤ
+exponent_at end n at ts = exponent_by end n at ts (open_sign ts)
+
+abbrev pub raised_by : ℕ → ℕ → Syntax → List Placed → SignOf ℕ → Reading
+raised_by end n x ts None = Ok (x, ts)
+raised_by end n x ts (Some c) = exponent_at end n c.0 c.1 >>= λ k. Ok (s.Power x k.0, k.1)
+
+-- the power behind an atom
+unfoldable pub raised_at : ℕ → ℕ → Syntax → List Placed → Reading
+raised_at end n x ts = raised_by end n x ts (caret_sign ts)
 
 -- ---- the levels
 
 -- inner reads what stands in the parenthesis
-unfoldable pub closed : ℕ → (List Placed → Reading) → List Placed → Reading
+unfoldable pub closed : {X : Type 0} → ℕ → (List Placed → ReadingOf X) → List Placed → ReadingOf X
 closed end inner ts = do
   x ← inner ts
   after ← close end x.1
   Ok (x.0, after)
 
-abbrev pub name_by : List ℕ → List Placed → Option (List Placed) → Reading
-name_by name rest None = Ok (s.Name name, rest)
-name_by name rest (Some inside) = Err (call_refusal name)
+abbrev pub listing : (List Placed → Reading) → List Placed → ReadingOf Arguments
+listing inner = chained comma_sign inner One listed
 
-abbrev pub atom_by : ℕ → (List Placed → Reading) → List Placed → Option (Beginning × List Placed) → Reading
+abbrev pub arguments_by : ℕ → (List Placed → Reading) → List Placed → Option (List Placed) → ReadingOf Arguments
+arguments_by end inner ts None = closed end (listing inner) ts
+arguments_by end inner ts (Some rest) = Ok (Empty, rest)
+
+abbrev pub called_by : ℕ → (List Placed → Reading) → List ℕ → List Placed → Option Callee → Reading
+called_by end inner name ts None = Err (call_refusal name)
+called_by end inner name ts (Some f) = arguments_by end inner ts (close_sign ts) >>= λ x. called name f x.0 >>= λ y. Ok (y, x.1)
+
+abbrev pub name_by : ℕ → (List Placed → Reading) → List ℕ → List Placed → Option (List Placed) → Reading
+name_by end inner name rest None = Ok (s.Name name, rest)
+name_by end inner name rest (Some inside) = called_by end inner name inside (function_of name)
+
+abbrev pub atom_by : ℕ → (List Placed → Reading) → List Placed → SignOf Beginning → Reading
 atom_by end inner ts None = Err (UnexpectedToken (offset end ts))
 atom_by end inner ts (Some (Numeral z, rest)) = Ok (s.Number z, rest)
-atom_by end inner ts (Some (Word name, rest)) = name_by name rest (open_sign rest)
+atom_by end inner ts (Some (Word name, rest)) = name_by end inner name rest (open_sign rest)
 atom_by end inner ts (Some (Group, rest)) = closed end inner rest
+
+abbrev pub powered : ℕ → ℕ → Reading → Reading
+powered end n atom = atom >>= λ x. raised_at end n x.0 x.1
 
 abbrev pub unary_by : (List Placed → Reading) → Reading → Option (List Placed) → Reading
 unary_by operand other (Some rest) = operand rest >>= λ x. Ok (s.Negated x.0, x.1)
@@ -153,26 +283,28 @@ unary_by operand other None = other
 unfoldable pub unary_at : ℕ → ℕ → List Placed → Reading
 unary_at end zero ts = Err (misplaced end ts)
 unary_at end (suc n) ts =
-    unary_by (unary_at end n) (atom_by end (chained sum_sign (chained product_sign (unary_at end n))) ts (start ts)) (minus_sign ts)
+    unary_by (unary_at end n) (powered end n (atom_by end (operands sum_sign (operands product_sign (unary_at end n))) ts (start ts))) (minus_sign ts)
 
 unfoldable pub term_at : ℕ → ℕ → List Placed → Reading
-term_at end n = chained product_sign (unary_at end n)
+term_at end n = operands product_sign (unary_at end n)
 
 unfoldable pub expr_at : ℕ → ℕ → List Placed → Reading
-expr_at end n = chained sum_sign (term_at end n)
+expr_at end n = operands sum_sign (term_at end n)
 
 unfoldable pub closed_at : ℕ → ℕ → List Placed → Reading
 closed_at end n ts = closed end (expr_at end n) ts
 
+unfoldable pub list_at : ℕ → ℕ → List Placed → ReadingOf Arguments
+list_at end n = listing (expr_at end n)
+
+unfoldable pub arguments_at : ℕ → ℕ → List Placed → ReadingOf Arguments
+arguments_at end n ts = arguments_by end (expr_at end n) ts (close_sign ts)
+
+unfoldable pub call_at : ℕ → ℕ → List ℕ → List Placed → Reading
+call_at end n name ts = called_by end (expr_at end n) name ts (function_of name)
+
 unfoldable pub atom_at : ℕ → ℕ → List Placed → Reading
 atom_at end n ts = atom_by end (expr_at end n) ts (start ts)
 
-abbrev pub ended : Syntax → List Placed → Result Syntax Refusal
-ended e [] = Ok e
-ended e ((k, at) ∷ rest) = Err (UnexpectedToken at)
-
--- all of the tokens: at most 64 parentheses and minus signs stand open
-unfoldable pub whole_at : ℕ → List Placed → Result Syntax Refusal
-whole_at end ts = do
-  x ← expr_at end 65 ts
-  ended x.0 x.1
+unfoldable pub power_at : ℕ → ℕ → List Placed → Reading
+power_at end n ts = powered end n (atom_at end n ts)

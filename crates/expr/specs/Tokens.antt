@@ -5,9 +5,10 @@ use Rattle.expr.specs.declared.tokens.Kind.{Kind}
 use Rattle.expr.specs.declared.tokens.Kind.TheVariants as k
 use Rattle.expr.specs.declared.tokens.Token.{Token}
 
--- A number stands as its raw value, a name as its bytes.
+-- A number stands as its raw value, and as the whole number that its numeral writes in digits alone (at 100 or more as 100,
+-- otherwise as 0); a name as its bytes.
 pub data Lexeme : Type 0 where
-  Number : ℤ → Lexeme
+  Number : ℤ → ℕ → Lexeme
   Name : List ℕ → Lexeme
   Plus : Lexeme
   Minus : Lexeme
@@ -25,7 +26,7 @@ abbrev pub Placed : Type 0
 Placed = Lexeme × ℕ
 
 abbrev pub lexeme : Kind → Lexeme
-lexeme (k.Number z) = Number z
+lexeme (k.Number z n) = Number z n
 lexeme (k.Name bytes) = Name bytes.now
 lexeme k.Plus = Plus
 lexeme k.Minus = Minus

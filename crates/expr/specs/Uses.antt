@@ -1,18 +1,48 @@
--- Names put for what they stand for, from left to right, as far as the first that stands for nothing.
-use Rattle.std.specs.Prelude.{ℕ, List, Option, Some, None, Result, Ok, Err}
-use Rattle.expr.specs.Faults.{Refusal, UnknownName, ◌>>=◌}
-use Rattle.expr.specs.Names.{variable_of}
-use Rattle.expr.specs.Syntax.{Syntax}
+-- Names put for what they stand for, from left to right, as far as the first that stands for nothing. A name is one of the
+-- variables, or one that a later definition gives.
+use Rattle.std.specs.Prelude.{ℕ, ◌+◌, List, [], ◌∷◌, Option, Some, None, Result, Ok, Err}
+use Rattle.energy_program.specs.Faults.{Refusal, UnknownName, ◌>>=◌}
+use Rattle.energy_program.specs.Names.{input_of}
+use Rattle.expr.specs.Definitions.{number_from}
+use Rattle.expr.specs.Syntax.{Syntax, Definition, Source, names_in}
 use Rattle.expr.specs.Syntax as s
-use Rattle.expr.specs.Tree.{Tree}
-use Rattle.expr.specs.Tree as t
+use Rattle.energy_program.specs.Tree.{Tree, substituted}
+use Rattle.energy_program.specs.Tree as t
+use Rattle.energy_program.specs.Programs.{Trees}
 
-abbrev pub used : List ℕ → Option ℕ → Result Tree Refusal
-used name None = Err (UnknownName name)
-used name (Some i) = Ok (t.Input i)
+abbrev pub used_later : List ℕ → Option ℕ → Result Tree Refusal
+used_later name None = Err (UnknownName name)
+used_later name (Some j) = Ok (t.Definition j)
 
-unfoldable pub resolved : Syntax → Result Tree Refusal
-resolved (s.Number z) = Ok (t.Number z)
-resolved (s.Name name) = used name (variable_of name)
-resolved (s.Negated a) = resolved a >>= λ x. Ok (t.Negated x)
-resolved (s.Binary o a b) = resolved a >>= λ x. resolved b >>= λ y. Ok (t.Binary o x y)
+abbrev pub used : ℕ → List (List ℕ) → List ℕ → Option ℕ → Result Tree Refusal
+used first later name None = used_later name (number_from first later name)
+used first later name (Some i) = Ok (t.Input i)
+
+-- where these are the variables, and the later definitions, numbered from the first, have these names
+unfoldable pub resolved : List (List ℕ) → ℕ → List (List ℕ) → Syntax → Result Tree Refusal
+resolved vs i ws (s.Number z) = Ok (t.Number z)
+resolved vs i ws (s.Name name) = used i ws name (input_of vs name)
+resolved vs i ws (s.Negated a) = resolved vs i ws a >>= λ x. Ok (t.Negated x)
+resolved vs i ws (s.Binary o a b) = resolved vs i ws a >>= λ x. resolved vs i ws b >>= λ y. Ok (t.Binary o x y)
+resolved vs i ws (s.Applied f a) = resolved vs i ws a >>= λ x. Ok (t.Applied f x)
+resolved vs i ws (s.Power a n) = resolved vs i ws a >>= λ x. Ok (t.Power x n)
+resolved vs i ws (s.Select c a b) = resolved vs i ws c >>= λ x. resolved vs i ws a >>= λ y. resolved vs i ws b >>= λ z. Ok (t.Select x y z)
+
+-- definitions, which are numbered from i: to each those behind it are later
+unfoldable pub all_resolved : List (List ℕ) → ℕ → List Definition → Result (List Tree) Refusal
+all_resolved vs i [] = Ok []
+all_resolved vs i (d ∷ ds) = resolved vs (i + 1) (names_in ds) d.1 >>= λ x. all_resolved vs (i + 1) ds >>= λ xs. Ok (x ∷ xs)
+
+-- the trees of a text: to the body all definitions are later
+unfoldable pub trees : List (List ℕ) → Source → Result Trees Refusal
+trees vs source = do
+  body ← resolved vs 0 (names_in source.1) source.0
+  definitions ← all_resolved vs 0 source.1
+  Ok (body, definitions)
+
+abbrev pub in_place : Result Trees Refusal → Result Tree Refusal
+in_place r = r >>= λ t. Ok (substituted t.0 t.1)
+
+-- the tree of a text, with its definitions put in place
+unfoldable pub meaning : List (List ℕ) → Source → Result Tree Refusal
+meaning vs source = in_place (trees vs source)

@@ -1,14 +1,16 @@
-ghost use Rattle.std.specs.Prelude.{◌≡◌, ℕ, IfOk, IfErr, IfSome, IsTrue};
+ghost use Rattle.std.specs.Prelude.{◌≡◌, ℕ, IfOk, IfErr, IfSome};
 ghost use Rattle.fixed.specs.Fractions.{bits_of};
-ghost use Rattle.expr.specs.Tree.{Tree, inputs_below, program_tree};
-ghost use Rattle.expr.specs.Faults.{Gives, refusal_of};
-ghost use Rattle.expr.specs.Energy.{IsCause, IsEnergy, IsRead, program_of};
+ghost use Rattle.energy_program.specs.Programs.{program_tree, trees_of};
+ghost use Rattle.energy_program.specs.Tree.{Tree};
+ghost use Rattle.energy_program.specs.Variables.{names_of};
+ghost use Rattle.energy_program.specs.Faults.{Gives, refusal_of};
+ghost use Rattle.expr.specs.Energy.{IsCause, IsEnergy, IsRead, program_of, trees_in};
 
-use crate::faults::ExprFault;
+use crate::definitions::check_names;
 use crate::lexer::tokens;
 use crate::parser::Parser;
-use crate::programs::Program;
-use crate::uses::resolve;
+use crate::uses::program;
+use energy_program::{ExprFault, Names, Program};
 use fixed::Frac;
 use std::alloc::Allocator;
 
@@ -16,45 +18,66 @@ use std::alloc::Allocator;
 const MAX_TOKENS: usize = 4096;
 
 /// Reads an energy text as a program, with numbers of the given fraction bits (operators as in the OpenMM User Guide,
-/// custom force expressions).
+/// custom force expressions). The names are the variables that it may use.
 ///
-/// A text has numerals, the distance `r`, `+`, `-`, `*`, `/`, a minus in front, and parentheses; space, tab, CR and LF
-/// separate tokens. `+` and `-`, and `*` and `/`, group to the left, and a minus in front binds tighter than both. A
-/// numeral is read without its sign. Offsets count bytes from 0.
+/// A text is an expression, the body, and definitions behind it: `a*r^2; a=k*(q1-q2)`. A semicolon begins each definition;
+/// one with nothing behind it counts for nothing. The body may use each definition, and a definition those behind it. A
+/// definition that nothing uses is still read.
+///
+/// An expression has numerals, variables, defined names, `+`, `-`, `*`, `/`, a minus in front, powers, parentheses and calls;
+/// space, tab, CR and LF separate tokens. `+` and `-`, and `*` and `/`, group to the left; a minus in front binds tighter
+/// than both, and a power tighter still. An exponent is a whole number from 1 to 32 in digits alone, with or without a minus
+/// before it and parentheses around it. `sqrt`, `abs`, `step`, `delta`, `floor` and `ceil` take one argument, `min` and `max`
+/// two and `select` three. A numeral is read without its sign. Offsets count bytes from 0.
 ///
 /// The first of these is the answer:
 /// - from left to right through the bytes, `BadCharacter` for a byte that begins no token, `BadNumber` for a numeral that
 ///   is malformed, has more than 18 digits before its exponent part or an exponent past 99, and `NumberRange` for one
 ///   whose rounded value is 2^63 or more as a raw number; then `TooLarge` for more than 4,096 tokens;
 /// - from left to right through the tokens, `UnexpectedToken` for a token that the grammar doesn't take (at the end of
-///   the text, the text's length), `TooLarge` for an operand inside more than 64 parentheses and minus signs,
-///   `LeftOutFunction` for a function's name before a parenthesis, and `UnknownName` for any other name there;
-/// - from left to right, `UnknownName` for a name other than `r`;
+///   the text, the text's length), `TooLarge` for a token that can begin an operand inside more than 64 parentheses and
+///   minus signs (an exponent's parentheses count, its minus doesn't) and for the name that begins a 65th definition, for a
+///   name before a parenthesis that is no function's `LeftOutFunction` where the language leaves such a function out, else
+///   `UnknownName`, at the closing parenthesis of a call `WrongArgumentCount`, and `BadExponent` at a `^` that no exponent
+///   follows;
+/// - definition by definition, `ReservedName` for a name that is a variable's or reserved (`r`, the functions and those left
+///   out), else `RepeatedDefinition` for one that an earlier definition gives;
+/// - from left to right, the body first, `UnknownName` for a name that is no variable's and no later definition's;
 /// - `Memory`, wherever a growth is refused.
 pub fn parse<A: Allocator + Copy>(
     alloc: A,
     frac: Frac,
     text: &[u8],
+    names: &Names<A>,
 ) -> Result<Program<A>, ExprFault<A>>
     // What is read, the text says.
-    ensures found { IfOk result (λ p. IsEnergy (bits_of frac) text.now 64 (program_tree p)) }
+    ensures found { IfOk result (λ p. IsEnergy (bits_of frac) (names_of names.now) text.now 64 (program_tree p)) }
     // What the text says is read, unless it nests too deep or memory runs out.
-    ensures only { (n : ℕ) (e : Tree) → IsEnergy (bits_of frac) text.now n e → IsRead n e result }
+    ensures only { (n : ℕ) (e : Tree) → IsEnergy (bits_of frac) (names_of names.now) text.now n e → IsRead n e result }
     // Each refusal has its cause in the text.
-    ensures cause { IfErr result (λ fault. IfSome (refusal_of fault) (IsCause (bits_of frac) text.now)) }
-    // The distance is its one variable.
-    ensures inputs { IfOk result (λ p. IsTrue (inputs_below 1 (program_tree p))) }
+    ensures cause { IfErr result (λ fault. IfSome (refusal_of fault) (IsCause (bits_of frac) (names_of names.now) text.now)) }
     // Which answer it is.
-    ensures exact { Gives program_tree result (program_of (bits_of frac) text.now) }
+    ensures exact { Gives program_tree result (program_of (bits_of frac) (names_of names.now) text.now) }
+    // Its body and definitions, as they stand.
+    ensures trees { Gives trees_of result (trees_in (bits_of frac) (names_of names.now) text.now) }
+    // The program takes the inputs that the names are.
+    ensures parameters { IfOk result (λ p. p.parameters ≡ names.now.parameters) }
+    ensures globals { IfOk result (λ p. p.globals ≡ names.now.globals) }
 {
-    read(alloc, frac, text)
+    read(alloc, frac, text, names)
 }
 
-// The same, by the function on lists.
-#[tactic(auto, unfolding(crate::specs::Energy::program_of))]
-fn read<A: Allocator + Copy>(alloc: A, frac: Frac, text: &[u8]) -> Result<Program<A>, ExprFault<A>>
-    ensures value { Gives program_tree result (program_of (bits_of frac) text.now) }
-    ensures inputs { IfOk result (λ p. IsTrue (inputs_below 1 (program_tree p))) }
+// The program, by the function on lists.
+#[tactic(auto, unfolding(crate::specs::Energy::trees_in))]
+fn read<A: Allocator + Copy>(
+    alloc: A,
+    frac: Frac,
+    text: &[u8],
+    names: &Names<A>,
+) -> Result<Program<A>, ExprFault<A>>
+    ensures value { Gives trees_of result (trees_in (bits_of frac) (names_of names.now) text.now) }
+    ensures parameters { IfOk result (λ p. p.parameters ≡ names.now.parameters) }
+    ensures globals { IfOk result (λ p. p.globals ≡ names.now.globals) }
 {
     let tokens = tokens(alloc, frac, text)?;
     if tokens.len() > MAX_TOKENS {
@@ -64,7 +87,7 @@ fn read<A: Allocator + Copy>(alloc: A, frac: Frac, text: &[u8]) -> Result<Progra
         alloc,
         end: text.len(),
     };
-    let syntax = parser.whole(&tokens)?;
-    let body = resolve(alloc, &syntax)?;
-    Ok(Program { body })
+    let source = parser.source(&tokens)?;
+    check_names(alloc, names, &source.definitions)?;
+    program(alloc, names, &source)
 }

@@ -2,14 +2,14 @@
 ghost use Rattle.std.specs.Prelude.{◌≡◌, ◌≤◌, length};
 ghost use Rattle.std.specs.List.{prefix_len};
 ghost use Rattle.fixed.specs.Fractions.{bits_of};
-ghost use Rattle.expr.specs.Faults.{Gives, Says};
+ghost use Rattle.energy_program.specs.Faults.{Gives, Says};
 ghost use Rattle.expr.specs.Tokens.{placed_items};
 ghost use Rattle.expr.specs.Bytes.{is_space, begins_number, is_name_start, is_word};
 ghost use Rattle.expr.specs.Lexing.{symbol_of, ShowsKind, token_at, ShowsToken, refusal_at, tokens_of};
 
-use crate::faults::ExprFault;
-use crate::numerals::number;
+use crate::numerals::{number, whole};
 use crate::tokens::{Kind, Token};
+use energy_program::ExprFault;
 use fixed::{Frac, NumFault};
 use std::alloc::Allocator;
 
@@ -82,8 +82,13 @@ fn token_at<'a>(frac: Frac, text: &'a [u8]) -> Result<(Kind<'a>, &'a [u8]), Wron
         [] => Err(Wrong::Byte),
         [first, rest @ ..] => {
             if begins_number(*first) {
-                let (value, after) = number(frac, text).map_err(Wrong::Number)?;
-                Ok((Kind::Number(value), after))
+                match number(frac, text) {
+                    Ok((value, after)) => {
+                        let whole = whole(&text[..text.len() - after.len()]);
+                        Ok((Kind::Number(value, whole), after))
+                    }
+                    Err(fault) => Err(Wrong::Number(fault)),
+                }
             } else if is_name_start(*first) {
                 let (name, after) = text.split_at(word_len(text));
                 Ok((Kind::Name(name), after))

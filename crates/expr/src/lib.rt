@@ -1,13 +1,15 @@
-//! Energy expressions: from a text to a program, and what a program's value and slope are.
+//! Energy texts: from a text to the program that it says, or the reason why it says none.
 #![tactic(auto)]
 
+mod calls;
+mod definitions;
 mod energy;
-mod faults;
+mod exponents;
 mod lexer;
-mod names;
 mod numerals;
 mod parser;
-mod programs;
+mod parts;
+mod sources;
 mod syntax;
 #[cfg(test)]
 mod tests;
@@ -15,6 +17,4 @@ mod tokens;
 mod uses;
 
 pub use energy::parse;
-pub use faults::ExprFault;
-pub use names::Name;
-pub use programs::{Expr, Operator, Program};
+pub use energy_program::{Expr, ExprFault, Function, Name, Names, Operator, Program};

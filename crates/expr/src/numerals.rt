@@ -1,9 +1,10 @@
 // The numeral at the front of a text: digits, a point, digits and an exponent part, as far as they go.
-ghost use Rattle.std.specs.Prelude.{◌≡◌, ◌≤◌, length};
-ghost use Rattle.std.specs.List.{prefix_len};
+ghost use Rattle.std.specs.Prelude.{◌≡◌, ◌≤◌, length, min};
+ghost use Rattle.std.specs.Str.Parse.{digits_value};
+ghost use Rattle.std.specs.List.{AllPass, list_all, prefix_len};
 ghost use Rattle.std.specs.Char.{is_ascii_digit};
 ghost use Rattle.fixed.specs.Fractions.{bits_of};
-ghost use Rattle.expr.specs.Numerals.{begins_digit, begins_point, after_digits, after_fraction, after_sign, writes_exponent, after_exponent, spoils, ShowsNumber, number_at};
+ghost use Rattle.expr.specs.Numerals.{begins_digit, begins_point, after_digits, after_fraction, after_sign, writes_exponent, after_exponent, spoils, ShowsNumber, number_at, whole_in};
 
 use fixed::{Frac, NumFault, numeral};
 
@@ -98,4 +99,33 @@ pub fn number(frac: Frac, text: &[u8]) -> Result<(i64, &[u8]), NumFault>
     }
     let value = numeral(frac, &text[..text.len() - rest.len()])?;
     Ok((value.raw(), rest))
+}
+
+fn are_digits(text: &[u8]) -> bool
+    ensures { result ≡ list_all is_ascii_digit text.now }
+{
+    text.iter().all(u8::is_ascii_digit)
+}
+
+// The number that digits write, or 100 where it is more.
+fn capped_value(digits: &[u8]) -> u8
+    requires { AllPass is_ascii_digit digits.now }
+    ensures { result ≡ min 100 (digits_value 10 digits.now) }
+{
+    let mut value: u32 = 0;
+    for b in digits {
+        value = (value * 10 + u32::from(*b - b'0')).min(100);
+    }
+    value as u8
+}
+
+// The number that a numeral writes in digits alone, or 100 where it is more. Otherwise 0.
+pub fn whole(text: &[u8]) -> u8
+    ensures { result ≡ whole_in text.now }
+{
+    if are_digits(text) {
+        capped_value(text)
+    } else {
+        0
+    }
 }

@@ -1,26 +1,32 @@
 // From tokens to a tree, by recursive descent.
 ghost use Rattle.std.specs.Prelude.{◌≡◌};
 ghost use Rattle.expr.specs.Tokens.{lexeme, placed};
-ghost use Rattle.expr.specs.Faults.{Gives, IsOrMemory, Says};
-ghost use Rattle.expr.specs.Syntax.{syntax_of};
+ghost use Rattle.energy_program.specs.Faults.{Gives, IsOrMemory, Says};
+ghost use Rattle.expr.specs.Calls.{called};
+ghost use Rattle.expr.specs.Syntax.{arguments_of, syntax_of};
 ghost use Rattle.expr.specs.Syntax as s;
-ghost use Rattle.expr.specs.Parsing.{ShowsBeginning, ShowsStart, Shows, ShowsRest, seen, rest_seen, offset, begins_operand, misplaced, beginning_of, start, sum_sign, product_sign, minus_sign, open_sign, close, whole_at, expr_at, term_at, unary_at, atom_at, closed_at};
+ghost use Rattle.expr.specs.Parsing.{ShowsBeginning, ShowsStart, Shows, ShowsCaret, ShowsRest, arguments_seen, exponent_seen, seen, rest_seen, offset, begins_operand, misplaced, beginning_of, start, sum_sign, product_sign, minus_sign, open_sign, close_sign, comma_sign, close, expr_at, term_at, unary_at, power_at, raised_at, exponent_at, grouped_at, atom_at, call_at, arguments_at, list_at, closed_at};
 
-use crate::faults::ExprFault;
-use crate::names::call_refusal;
-use crate::programs::Operator;
+use crate::calls::Arguments;
+use crate::exponents::{awaits_operand, caret_sign, signed_sign};
 use crate::syntax::Syntax;
 use crate::tokens::{Kind, Token};
+use energy_program::{
+    Callee, Exponent, ExprFault, Operator, call_refusal, function_of, wrong_count,
+};
 use fixed::Fx;
 use std::alloc::Allocator;
 
 /// Fewer parentheses and minus signs than these may stand open around a token.
-const LEVELS: usize = 65;
+pub const LEVELS: usize = 65;
 
 /// What is read, and the tokens after it.
-type Read<'a, A> = Result<(Syntax<'a, A>, &'a [Token<'a>]), ExprFault<A>>;
+pub type Read<'a, A> = Result<(Syntax<'a, A>, &'a [Token<'a>]), ExprFault<A>>;
 
-/// Reads the tokens of one piece of text, which ends at a place.
+/// What arguments are read, and the tokens after them.
+type ReadArguments<'a, A> = Result<(Arguments<'a, A>, &'a [Token<'a>]), ExprFault<A>>;
+
+/// Reads the tokens of a text, which ends at a place.
 #[derive(Drop)]
 pub struct Parser<A: Allocator> {
     pub alloc: A,
@@ -74,7 +80,7 @@ fn product_sign<'a>(tokens: &'a [Token<'a>]) -> Option<(Operator, &'a [Token<'a>
 }
 
 // A minus sign, and the tokens after it.
-fn minus_sign<'a>(tokens: &'a [Token<'a>]) -> Option<&'a [Token<'a>]>
+pub fn minus_sign<'a>(tokens: &'a [Token<'a>]) -> Option<&'a [Token<'a>]>
     ensures { ShowsRest result (minus_sign (placed tokens.now)) }
 {
     match tokens {
@@ -105,12 +111,44 @@ fn open_sign<'a>(tokens: &'a [Token<'a>]) -> Option<&'a [Token<'a>]>
     }
 }
 
+// A closing parenthesis, and the tokens after it.
+fn close_sign<'a>(tokens: &'a [Token<'a>]) -> Option<&'a [Token<'a>]>
+    ensures { ShowsRest result (close_sign (placed tokens.now)) }
+{
+    match tokens {
+        [
+            Token {
+                kind: Kind::Close,
+                ..
+            },
+            rest @ ..,
+        ] => Some(rest),
+        _ => None,
+    }
+}
+
+// A comma's place, and the tokens after it.
+fn comma_sign<'a>(tokens: &'a [Token<'a>]) -> Option<(usize, &'a [Token<'a>])>
+    ensures { ShowsCaret result (comma_sign (placed tokens.now)) }
+{
+    match tokens {
+        [
+            Token {
+                kind: Kind::Comma,
+                at,
+            },
+            rest @ ..,
+        ] => Some((*at, rest)),
+        _ => None,
+    }
+}
+
 // Whether a token can begin an operand.
-fn begins_operand(kind: Kind<'_>) -> bool
+pub fn begins_operand(kind: Kind<'_>) -> bool
     ensures { result ≡ begins_operand (lexeme kind.entry) }
 {
     match kind {
-        Kind::Number(_) => true,
+        Kind::Number(_, _) => true,
         Kind::Name(_) => true,
         Kind::Open => true,
         Kind::Minus => true,
@@ -130,7 +168,7 @@ fn start_of(kind: Kind<'_>) -> Option<Start<'_>>
     ensures { ShowsBeginning result (beginning_of (lexeme kind.entry)) }
 {
     match kind {
-        Kind::Number(raw) => Some(Start::Number(raw)),
+        Kind::Number(raw, _) => Some(Start::Number(raw)),
         Kind::Name(name) => Some(Start::Name(name)),
         Kind::Open => Some(Start::Open),
         _ => None,
@@ -148,20 +186,8 @@ fn read_start<'a>(tokens: &'a [Token<'a>]) -> Option<(Start<'a>, &'a [Token<'a>]
 }
 
 impl<A: Allocator + Copy> Parser<A> {
-    /// Reads all of the tokens as one expression.
-    #[tactic(auto, unfolding(crate::specs::Parsing::whole_at))]
-    pub fn whole<'a>(&self, tokens: &'a [Token<'a>]) -> Result<Syntax<'a, A>, ExprFault<A>>
-        ensures { Gives syntax_of result (whole_at self.now.end (placed tokens.now)) }
-    {
-        let (syntax, rest) = self.expr(tokens, LEVELS)?;
-        match rest {
-            [] => Ok(syntax),
-            [next, ..] => Err(ExprFault::UnexpectedToken { at: next.at }),
-        }
-    }
-
-    // Where the tokens begin, or the piece ends.
-    fn offset(&self, tokens: &[Token]) -> usize
+    // Where the tokens begin, or the text ends.
+    pub fn offset(&self, tokens: &[Token]) -> usize
         ensures { result ≡ offset self.now.end (placed tokens.now) }
     {
         match tokens {
@@ -182,8 +208,9 @@ impl<A: Allocator + Copy> Parser<A> {
         }
     }
 
+    /// An expression in front, inside which there are so many levels, and the tokens after it.
     #[cycle(parser)]
-    fn expr<'a>(&self, tokens: &'a [Token<'a>], levels: usize) -> Read<'a, A>
+    pub fn expr<'a>(&self, tokens: &'a [Token<'a>], levels: usize) -> Read<'a, A>
         ensures { Gives seen result (expr_at self.now.end levels (placed tokens.now)) }
     {
         let (mut left, mut rest) = self.term(tokens, levels)?;
@@ -220,7 +247,69 @@ impl<A: Allocator + Copy> Parser<A> {
                 let (inner, rest) = self.unary(rest, levels - 1)?;
                 Ok((Syntax::Negated(Box::new(self.alloc, inner)?), rest))
             }
-            None => self.atom(tokens, levels - 1),
+            None => self.power(tokens, levels - 1),
+        }
+    }
+
+    // An atom, which may be raised.
+    #[cycle(parser)]
+    #[tactic(auto, unfolding(crate::specs::Parsing::power_at))]
+    fn power<'a>(&self, tokens: &'a [Token<'a>], levels: usize) -> Read<'a, A>
+        ensures { Gives seen result (power_at self.now.end levels (placed tokens.now)) }
+    {
+        let (base, rest) = self.atom(tokens, levels)?;
+        self.raised(base, rest, levels)
+    }
+
+    // The power behind an atom.
+    #[tactic(auto, unfolding(crate::specs::Parsing::raised_at))]
+    fn raised<'a>(&self, base: Syntax<'a, A>, tokens: &'a [Token<'a>], levels: usize) -> Read<'a, A>
+        ensures { Gives seen result (raised_at self.now.end levels (syntax_of base.entry) (placed tokens.now)) }
+    {
+        match caret_sign(tokens) {
+            None => Ok((base, tokens)),
+            Some((at, after)) => {
+                let (exponent, rest) = self.exponent(after, levels, at)?;
+                Ok((Syntax::Power(Box::new(self.alloc, base)?, exponent), rest))
+            }
+        }
+    }
+
+    // The exponent behind a `^` at a place.
+    #[tactic(auto, unfolding(crate::specs::Parsing::exponent_at))]
+    fn exponent<'a>(
+        &self,
+        tokens: &'a [Token<'a>],
+        levels: usize,
+        at: usize,
+    ) -> Result<(Exponent, &'a [Token<'a>]), ExprFault<A>>
+        ensures { Gives exponent_seen result (exponent_at self.now.end levels at (placed tokens.now)) }
+    {
+        match open_sign(tokens) {
+            Some(inside) => self.grouped(inside, levels, at),
+            None => match signed_sign(tokens) {
+                Some(read) => Ok(read),
+                None => Err(ExprFault::BadExponent { at }),
+            },
+        }
+    }
+
+    // An exponent behind a parenthesis, and the parenthesis that closes it.
+    #[tactic(auto, unfolding(crate::specs::Parsing::grouped_at))]
+    fn grouped<'a>(
+        &self,
+        tokens: &'a [Token<'a>],
+        levels: usize,
+        at: usize,
+    ) -> Result<(Exponent, &'a [Token<'a>]), ExprFault<A>>
+        ensures { Gives exponent_seen result (grouped_at self.now.end levels at (placed tokens.now)) }
+    {
+        if levels == 0 && awaits_operand(tokens) {
+            return Err(ExprFault::TooLarge);
+        }
+        match signed_sign(tokens) {
+            Some((exponent, rest)) => Ok((exponent, self.close(rest)?)),
+            None => Err(ExprFault::BadExponent { at }),
         }
     }
 
@@ -236,9 +325,81 @@ impl<A: Allocator + Copy> Parser<A> {
             Some((Start::Number(raw), rest)) => Ok((Syntax::Number(Fx::from_raw(raw)), rest)),
             Some((Start::Name(name), rest)) => match open_sign(rest) {
                 None => Ok((Syntax::Name(name), rest)),
-                Some(_) => Err(call_refusal(self.alloc, name)),
+                Some(inside) => self.call(name, inside, levels),
             },
             Some((Start::Open, rest)) => self.closed(rest, levels),
+        }
+    }
+
+    // A call, behind its parenthesis.
+    #[cycle(parser)]
+    #[tactic(auto, unfolding(crate::specs::Parsing::call_at, crate::specs::Parsing::arguments_at))]
+    fn call<'a>(&self, name: &'a [u8], tokens: &'a [Token<'a>], levels: usize) -> Read<'a, A>
+        ensures { Gives seen result (call_at self.now.end levels name.now (placed tokens.now)) }
+    {
+        match function_of(name) {
+            None => Err(call_refusal(self.alloc, name)),
+            Some(callee) => {
+                let (arguments, rest) = self.arguments(tokens, levels)?;
+                Ok((self.called(name, callee, arguments)?, rest))
+            }
+        }
+    }
+
+    // The arguments of a call, and the parenthesis that closes them.
+    #[cycle(parser)]
+    #[tactic(auto, unfolding(crate::specs::Parsing::arguments_at, crate::specs::Parsing::list_at, crate::specs::Parsing::closed))]
+    fn arguments<'a>(&self, tokens: &'a [Token<'a>], levels: usize) -> ReadArguments<'a, A>
+        ensures { Gives arguments_seen result (arguments_at self.now.end levels (placed tokens.now)) }
+    {
+        match close_sign(tokens) {
+            Some(rest) => Ok((Arguments::Empty, rest)),
+            None => {
+                let (arguments, rest) = self.list(tokens, levels)?;
+                Ok((arguments, self.close(rest)?))
+            }
+        }
+    }
+
+    // Arguments with commas between them.
+    #[cycle(parser)]
+    fn list<'a>(&self, tokens: &'a [Token<'a>], levels: usize) -> ReadArguments<'a, A>
+        ensures { Gives arguments_seen result (list_at self.now.end levels (placed tokens.now)) }
+    {
+        let (first, mut rest) = self.expr(tokens, levels)?;
+        let mut arguments = Arguments::One(first);
+        while let Some((_, after)) = comma_sign(rest) {
+            let (next, beyond) = self.expr(after, levels)?;
+            arguments = arguments.with(next);
+            rest = beyond;
+        }
+        Ok((arguments, rest))
+    }
+
+    // The function with this name, of these arguments.
+    fn called<'a>(
+        &self,
+        name: &'a [u8],
+        callee: Callee,
+        arguments: Arguments<'a, A>,
+    ) -> Result<Syntax<'a, A>, ExprFault<A>>
+        ensures { Gives syntax_of result (called name.now callee (arguments_of arguments.entry)) }
+    {
+        match callee {
+            Callee::One(function) => match arguments {
+                Arguments::One(part) => Ok(Syntax::Applied(function, Box::new(self.alloc, part)?)),
+                _ => Err(wrong_count(self.alloc, name)),
+            },
+            Callee::Two(operator) => match arguments {
+                Arguments::Two(left, right) => self.binary(operator, left, right),
+                _ => Err(wrong_count(self.alloc, name)),
+            },
+            Callee::Three => match arguments {
+                Arguments::Three(condition, chosen, otherwise) => {
+                    self.select(condition, chosen, otherwise)
+                }
+                _ => Err(wrong_count(self.alloc, name)),
+            },
         }
     }
 
@@ -283,6 +444,22 @@ impl<A: Allocator + Copy> Parser<A> {
             operator,
             Box::new(self.alloc, left)?,
             Box::new(self.alloc, right)?,
+        ))
+    }
+
+    // A choice between two parts by a third.
+    fn select<'a>(
+        &self,
+        condition: Syntax<'a, A>,
+        chosen: Syntax<'a, A>,
+        otherwise: Syntax<'a, A>,
+    ) -> Result<Syntax<'a, A>, ExprFault<A>>
+        ensures { IsOrMemory (λ e. syntax_of e ≡ s.Select (syntax_of condition.entry) (syntax_of chosen.entry) (syntax_of otherwise.entry)) result }
+    {
+        Ok(Syntax::Select(
+            Box::new(self.alloc, condition)?,
+            Box::new(self.alloc, chosen)?,
+            Box::new(self.alloc, otherwise)?,
         ))
     }
 }

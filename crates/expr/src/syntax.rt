@@ -1,4 +1,4 @@
-use crate::programs::Operator;
+use energy_program::{Exponent, Function, Operator};
 use fixed::Fx;
 use std::alloc::Allocator;
 
@@ -13,4 +13,10 @@ pub enum Syntax<'a, A: Allocator> {
     Negated(Box<Syntax<'a, A>, A>),
     /// An operation on two parts.
     Binary(Operator, Box<Syntax<'a, A>, A>, Box<Syntax<'a, A>, A>),
+    /// A function of a part.
+    Applied(Function, Box<Syntax<'a, A>, A>),
+    /// A part to a power.
+    Power(Box<Syntax<'a, A>, A>, Exponent),
+    /// The second part, or, where the first is 0, the third.
+    Select(Box<Syntax<'a, A>, A>, Box<Syntax<'a, A>, A>, Box<Syntax<'a, A>, A>),
 }

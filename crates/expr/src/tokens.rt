@@ -1,8 +1,8 @@
 /// What a token is.
 #[derive(Clone, Copy, Debug, PartialEq, Eq)]
 pub enum Kind<'a> {
-    /// A numeral's raw value.
-    Number(i64),
+    /// A numeral's raw value, and the whole number that it writes, as `numerals::whole` says.
+    Number(i64, u8),
     Name(&'a [u8]),
     Plus,
     Minus,

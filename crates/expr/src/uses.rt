@@ -1,36 +1,115 @@
-ghost use Rattle.std.specs.Prelude.{IfOk, IsTrue};
-ghost use Rattle.expr.specs.Faults.{Gives};
-ghost use Rattle.expr.specs.Syntax.{syntax_of};
-ghost use Rattle.expr.specs.Tree.{inputs_below, tree_of};
-ghost use Rattle.expr.specs.Uses.{resolved};
+// From names as they are written to what they stand for.
+ghost use Rattle.std.specs.Prelude.{◌≡◌, ◌+◌, ◌≤◌, IfOk, IsTrue, length, map};
+ghost use Rattle.energy_program.specs.Faults.{Gives};
+ghost use Rattle.energy_program.specs.Names.{input_of};
+ghost use Rattle.energy_program.specs.Tree.{are_scoped, inputs_of, is_scoped, tree_of};
+ghost use Rattle.energy_program.specs.Variables.{names_of};
+ghost use Rattle.energy_program.specs.Programs.{trees_of};
+ghost use Rattle.expr.specs.Syntax.{definition_of, definitions_of, names_in, source_of, syntax_of};
+ghost use Rattle.expr.specs.Uses.{all_resolved, resolved, trees, used};
 
-use crate::faults::ExprFault;
-use crate::names::{unknown, variable_of};
-use crate::programs::Expr;
+use crate::definitions::number_from;
+use crate::parts::{Part, application, choice, negative, operation, raised};
+use crate::sources::{Definition, Source};
 use crate::syntax::Syntax;
+use energy_program::{Expr, ExprFault, Names, Program, unknown};
 use std::alloc::Allocator;
+
+/// What an expression may name: the variables, and the later definitions, which are numbered from the first.
+#[derive(Drop)]
+pub struct Scope<'a, 'b, 'c, A: Allocator> {
+    pub names: &'a Names<A>,
+    pub first: u32,
+    pub later: &'b [Definition<'c, A>],
+    pub ghost few: { first + length later.now ≤ 64 },
+}
+
+// What a name stands for.
+fn used<A: Allocator + Copy>(alloc: A, scope: &Scope<A>, name: &[u8]) -> Part<A>
+    ensures value { Gives tree_of result (used scope.now.first (names_in (map definition_of scope.now.later.now)) name.now (input_of (names_of scope.now.names.now) name.now)) }
+    ensures scoped { IfOk result (λ e. IsTrue (is_scoped (inputs_of scope.now.names.now.parameters scope.now.names.now.globals) scope.now.first (scope.now.first + length scope.now.later.now) (tree_of e))) }
+{
+    match scope.names.input_of(name) {
+        Some(input) => Ok(Expr::Input(input)),
+        None => match number_from(scope.first, scope.later, name) {
+            Some(number) => Ok(Expr::Definition(number)),
+            None => Err(unknown(alloc, name)),
+        },
+    }
+}
 
 /// The tree in which each name is what it stands for.
 #[tactic(auto, unfolding(crate::specs::Uses::resolved))]
-pub fn resolve<A: Allocator + Copy>(alloc: A, syntax: &Syntax<A>) -> Result<Expr<A>, ExprFault<A>>
-    ensures value { Gives tree_of result (resolved (syntax_of syntax.now)) }
-    ensures inputs { IfOk result (λ e. IsTrue (inputs_below 1 (tree_of e))) }
+pub fn resolve<A: Allocator + Copy>(alloc: A, scope: &Scope<A>, syntax: &Syntax<A>) -> Part<A>
+    ensures value { Gives tree_of result (resolved (names_of scope.now.names.now) scope.now.first (names_in (map definition_of scope.now.later.now)) (syntax_of syntax.now)) }
+    ensures scoped { IfOk result (λ e. IsTrue (is_scoped (inputs_of scope.now.names.now.parameters scope.now.names.now.globals) scope.now.first (scope.now.first + length scope.now.later.now) (tree_of e))) }
 {
     match syntax {
         Syntax::Number(value) => Ok(Expr::Number(*value)),
-        Syntax::Name(name) => match variable_of(name) {
-            Some(input) => Ok(Expr::Input(input)),
-            None => Err(unknown(alloc, name)),
-        },
-        Syntax::Negated(part) => {
-            let part = resolve(alloc, part)?;
-            Ok(Expr::Negated(Box::new(alloc, part)?))
-        }
+        Syntax::Name(name) => used(alloc, scope, name),
+        Syntax::Negated(part) => negative(alloc, resolve(alloc, scope, part)?),
         Syntax::Binary(operator, left, right) => {
-            let left = resolve(alloc, left)?;
-            let right = resolve(alloc, right)?;
-            let left = Box::new(alloc, left)?;
-            Ok(Expr::Binary(*operator, left, Box::new(alloc, right)?))
+            let left = resolve(alloc, scope, left)?;
+            operation(alloc, *operator, left, resolve(alloc, scope, right)?)
+        }
+        Syntax::Applied(function, part) => {
+            application(alloc, *function, resolve(alloc, scope, part)?)
+        }
+        Syntax::Power(base, exponent) => raised(alloc, resolve(alloc, scope, base)?, *exponent),
+        Syntax::Select(condition, chosen, otherwise) => {
+            let condition = resolve(alloc, scope, condition)?;
+            let chosen = resolve(alloc, scope, chosen)?;
+            choice(alloc, condition, chosen, resolve(alloc, scope, otherwise)?)
         }
     }
+}
+
+// The trees of definitions.
+fn resolve_all<A: Allocator + Copy>(
+    alloc: A,
+    names: &Names<A>,
+    definitions: &[Definition<A>],
+) -> Result<Vec<Expr<A>, A>, ExprFault<A>>
+    requires { length definitions.now ≤ 64 }
+    ensures value { Gives (λ trees. map tree_of trees.items) result (all_resolved (names_of names.now) 0 (map definition_of definitions.now)) }
+    ensures scoped { IfOk result (λ trees. IsTrue (are_scoped (inputs_of names.now.parameters names.now.globals) 0 (map tree_of trees.items))) }
+    ensures count { IfOk result (λ trees. length trees.items ≡ length definitions.now) }
+{
+    let mut trees = Vec::new(alloc);
+    for number in 0..definitions.len() {
+        let scope = Scope {
+            names,
+            first: number as u32 + 1,
+            later: &definitions[number + 1..],
+        };
+        trees.push(resolve(alloc, &scope, &definitions[number].value)?)?;
+    }
+    Ok(trees)
+}
+
+/// The program that a text says, whose definitions' names are new.
+#[tactic(auto, unfolding(crate::specs::Uses::trees))]
+pub fn program<A: Allocator + Copy>(
+    alloc: A,
+    names: &Names<A>,
+    source: &Source<A>,
+) -> Result<Program<A>, ExprFault<A>>
+    requires { length source.now.definitions.items ≤ 64 }
+    ensures value { Gives trees_of result (trees (names_of names.now) (source_of source.now)) }
+    ensures parameters { IfOk result (λ p. p.parameters ≡ names.now.parameters) }
+    ensures globals { IfOk result (λ p. p.globals ≡ names.now.globals) }
+{
+    let scope = Scope {
+        names,
+        first: 0,
+        later: &source.definitions,
+    };
+    let body = resolve(alloc, &scope, &source.body)?;
+    let definitions = resolve_all(alloc, names, &source.definitions)?;
+    Ok(Program {
+        body,
+        definitions,
+        parameters: names.parameters,
+        globals: names.globals,
+    })
 }

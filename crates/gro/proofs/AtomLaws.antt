@@ -1,14 +1,13 @@
 -- An atom is read exactly where its line says it.
-use Rattle.std.proofs.Common.{◌≡◌, ℕ, zero, suc, ◌+◌, ◌-◌, ◌<◌, ◌≤◌, Bool, true, false, ◌&&◌, cond, eqb, ltb, not, List, [], ◌∷◌, ◌++◌, length, take, drop, get_or, replicate, Option, Some, None, Result, Ok, Err, ℤ, pos, IsTrue, refl, sym, ap, subst, ◌∙◌, append_assoc, arith, lit<}
-use Rattle.std.specs.List.{list_all, slice_range}
-use Rattle.std.specs.Int.{IsInRange}
-use Rattle.std.proofs.lemmas.Bool.{and_parts, and_from, eqb-true, eqb-false, ltb-false, le-ltb, ne_eqb, false_from_ne_true}
+use Rattle.std.proofs.Common.{◌≡◌, ℕ, suc, ◌+◌, ◌-◌, ◌<◌, ◌≤◌, Bool, true, false, ◌&&◌, cond, eqb, ltb, not, List, [], ◌∷◌, ◌++◌, length, take, drop, get_or, replicate, Option, Some, None, Result, Ok, Err, ℤ, pos, IsTrue, refl, sym, ap, subst, ◌∙◌, append_assoc, arith, lit<}
+use Rattle.std.specs.List.{slice_range}
+use Rattle.std.proofs.lemmas.Bool.{and_parts, ltb-false, le-ltb, false_from_ne_true}
 use Rattle.std.proofs.lemmas.List.{take-append-drop, length-append}
 use Rattle.std.proofs.lemmas.List.Folds.{list_all-append}
 use Rattle.std.proofs.Common.{length-take, length-drop}
 use Rattle.line_text.specs.Parts.{◌>>=◌, lacks, cut_at, name_of, trimmed, is_printable}
 use Rattle.line_text.specs.Columns.{signed_by, decimal_column_of, is_residue_number}
-use Rattle.line_text.specs.Written.{WritesWhole, WritesSigned, plain, minus, WritesDecimal, WritesColumn, WritesName}
+use Rattle.line_text.specs.Written.{WritesWhole, WritesSigned, plain, minus, WritesDecimal, WritesColumn}
 use Rattle.line_text.proofs.PartLaws.{some_of, none_or}
 use Rattle.line_text.proofs.LineLaws.{bind_some, copies_lack, lacks_append, cut_again}
 use Rattle.line_text.proofs.ResidueNumbers.{number_in_range, number_is}

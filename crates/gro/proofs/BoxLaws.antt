@@ -1,5 +1,5 @@
 -- The values of a box, one after another.
-use Rattle.std.proofs.Common.{◌≡◌, ℕ, zero, suc, ◌+◌, ◌-◌, ◌*◌, ◌^◌, ◌<◌, ◌≤◌, Bool, true, false, ◌&&◌, ◌||◌, cond, eqb, ltb, not, ℤ, pos, negsuc, List, [], ◌∷◌, ◌++◌, length, take, drop, get_or, replicate, Option, Some, None, option_map, Result, Ok, Err, refl, sym, ap, subst, ◌∙◌, append_assoc, arith, lit<}
+use Rattle.std.proofs.Common.{◌≡◌, ℕ, zero, suc, ◌+◌, ◌-◌, ◌*◌, ◌^◌, Bool, true, false, ◌&&◌, ◌||◌, cond, eqb, ltb, not, ℤ, pos, negsuc, List, [], ◌∷◌, ◌++◌, length, take, drop, get_or, replicate, Option, Some, None, option_map, Result, Ok, Err, refl, sym, ap, subst, ◌∙◌, append_assoc, arith, lit<}
 use Rattle.std.specs.List.{list_all}
 use Rattle.std.specs.Int.{IsInRange}
 use Rattle.std.proofs.lemmas.Bool.{and_parts, eqb-true, eqb-false, ltb-false, le-ltb, ne_eqb}
@@ -8,14 +8,14 @@ use Rattle.std.proofs.Common.{length-take, length-drop}
 use Rattle.line_text.specs.Parts.{◌>>=◌, cut_at}
 use Rattle.line_text.specs.Columns.{digits_of}
 use Rattle.line_text.specs.Words.{words}
-use Rattle.line_text.specs.Written.{WritesWhole, WritesSigned}
+use Rattle.line_text.specs.Written.{WritesSigned}
 use Rattle.line_text.proofs.PartLaws.{none_or}
 use Rattle.line_text.proofs.LineLaws.{bind_some, cut_found, cut_again, uncut}
 use Rattle.line_text.proofs.WrittenLaws.{digits_written, digits_read, digits_lack_byte, signed_written, signed_read}
 use Rattle.gro.specs.declared.faults.GroFault.{GroFault}
 use Rattle.gro.specs.declared.faults.GroFault.TheVariants.{Truncated, BadBox, Triclinic}
 use Rattle.gro.specs.GroText.{WritesFew, WritesLength, whole, pointed, AreValues, IsBox}
-use Rattle.gro.specs.GroReading.{LineView, few_digits_of, length_parts, length_of, value_of, values_of, is_zero, rectangular, sides_by, sides_in}
+use Rattle.gro.specs.GroReading.{LineView, few_digits_of, length_parts, length_of, value_of, values_of, is_zero, rectangular, sides_in}
 use Rattle.gro.proofs.CountLaws.{test_ok, first_digit}
 
 -- what was read before, and what is still read

@@ -1,18 +1,18 @@
 -- Frames are read exactly where the text stands for them.
-use Rattle.std.proofs.Common.{◌≡◌, ℕ, zero, suc, ◌+◌, ◌-◌, ◌<◌, ◌≤◌, Bool, true, false, ◌&&◌, ◌||◌, cond, eqb, List, [], ◌∷◌, ◌++◌, length, get_or, replicate, ℤ, Result, Ok, Err, IfOk, refl, sym, ap, subst, ◌∙◌, arith, inl, inr}
-use Rattle.std.specs.List.{list_all}
+use Rattle.std.proofs.Common.{◌≡◌, ℕ, zero, suc, ◌+◌, ◌<◌, ◌≤◌, Bool, true, false, ◌||◌, cond, eqb, List, [], ◌∷◌, ◌++◌, length, get_or, replicate, ℤ, Result, Ok, Err, refl, sym, ap, subst, ◌∙◌, arith, inl, inr}
 use Rattle.std.proofs.lemmas.Bool.{and_parts, ne_eqb, false_from_ne_true}
 use Rattle.std.proofs.lemmas.List.Folds.{list_all-append}
 use Rattle.gro.specs.declared.faults.GroFault.{GroFault}
-use Rattle.gro.specs.declared.frames.GroFrame.{GroFrame}
-use Rattle.gro.specs.Frames.{AtomView, FrameView, frame_view}
+use Rattle.gro.specs.Frames.{AtomView, FrameView}
 use Rattle.gro.specs.GroText.{IsLine, IsCount, IsBox, AreAtoms, IsFrame, is_blank, IsGroText}
-use Rattle.gro.specs.GroReading.{◌>>=◌, Gives, LineView, line_at, count_in, atom_in, sides_in, count_at, atom_at, atoms_at, sides_at, from_atoms, from_count, from_title, frame_at, and_more, frames_at, frames_of, ReadsGroTexts}
+use Rattle.line_text.specs.Steps.{◌>>=◌}
+use Rattle.gro.specs.GroReading.{LineView, line_at, count_in, atom_in, sides_in, count_at, atom_at, atoms_at, sides_at, from_atoms, from_count, from_title, frame_at, and_more, frames_at, frames_of, ReadsGroTexts}
 use Rattle.gro.proofs.LineLaws.{line_written, line_read}
 use Rattle.gro.proofs.CountLaws.{count_written, count_read, first_digit}
 use Rattle.gro.proofs.AtomLaws.{atom_written, atom_read}
 use Rattle.gro.proofs.BoxLaws.{sides_written, sides_read}
-use Rattle.gro.proofs.FrameLoops.{bind_ok, frame_shorter}
+use Rattle.line_text.proofs.StepLaws.{bind_ok}
+use Rattle.gro.proofs.FrameLoops.{frame_shorter}
 
 ok_is : {A : Type 0} {x y : A} → ◌≡◌ {A = Result A GroFault} (Ok x) (Ok y) → x ≡ y
 ok_is e = cc

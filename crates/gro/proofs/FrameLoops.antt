@@ -5,13 +5,10 @@ use Rattle.gro.specs.declared.faults.GroFault.{GroFault}
 use Rattle.gro.specs.declared.faults.GroFault.TheVariants.{Truncated, BadCount, BadColumns, Precision, BadBox, Triclinic, TooManyAtoms, NoSuchFrame, Memory}
 use Rattle.gro.specs.Frames.{AtomView, FrameView}
 use Rattle.gro.specs.GroText.{is_blank}
-use Rattle.gro.specs.GroReading.{◌>>=◌, Fails, LineView, line_at, count_in, atom_in, sides_in, count_at, atom_at, atoms_at, sides_at, from_atoms, from_count, from_title, frame_at, and_more, frames_at}
+use Rattle.line_text.specs.Steps.{◌>>=◌}
+use Rattle.line_text.proofs.StepLaws.{bind_ok}
+use Rattle.gro.specs.GroReading.{Fails, line_at, count_in, atom_in, sides_in, count_at, atom_at, atoms_at, sides_at, from_atoms, from_count, from_title, frame_at, and_more, frames_at}
 use Rattle.gro.proofs.LineLaws.{line_shorter}
-
--- a step that did not fail
-pub bind_ok : {A B : Type 0} (r : Result A GroFault) (f : A → Result B GroFault) (y : B) → (r >>= f) ≡ Ok y → (x : A) × (r ≡ Ok x) × (f x ≡ Ok y)
-bind_ok (Ok x) f y e = (x, refl, e)
-bind_ok (Err fault) f y e = absurd cc
 
 -- a fault of a text is its answer; want of memory is none
 pub fails_as : {X Y : Type 0} (fault : GroFault) (r : Result X GroFault) (s : Result Y GroFault) → (r ≡ Err fault → s ≡ Err fault) → Fails fault r → Fails fault s

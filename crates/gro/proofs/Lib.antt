@@ -1,5 +1,4 @@
 pub mod Appends
-pub mod Items
 pub mod Pieces
 pub mod LineLaws
 pub mod CountLaws

@@ -1,9 +1,9 @@
 -- A line is read exactly where it stands.
-use Rattle.std.proofs.Common.{◌≡◌, ℕ, zero, suc, ◌-◌, ◌<◌, ◌≤◌, Bool, true, false, ◌&&◌, cond, eqb, not, List, [], ◌∷◌, ◌++◌, length, get_or, replicate, Option, Some, None, Result, Ok, Err, IsTrue, refl, sym, ap, subst, ◌∙◌, append_assoc, arith, inl, inr, lit<}
-use Rattle.std.proofs.lemmas.Bool.{and_parts, and_from, eqb-false, ne_eqb, eq-eqb, not-true, cond-false}
-use Rattle.std.proofs.lemmas.List.{length-append, append-nil}
+use Rattle.std.proofs.Common.{◌≡◌, ℕ, ◌-◌, ◌<◌, Bool, true, false, cond, eqb, not, List, [], ◌∷◌, ◌++◌, length, get_or, replicate, Option, Some, None, Result, Ok, Err, IsTrue, refl, sym, ap, subst, ◌∙◌, append_assoc, arith, inl, inr, lit<}
+use Rattle.std.proofs.lemmas.Bool.{and_parts, and_from, eqb-false, ne_eqb, eq-eqb, not-true}
+use Rattle.std.proofs.lemmas.List.{length-append}
 use Rattle.line_text.specs.Parts.{lacks, is_title, cut_at, without_returns}
-use Rattle.line_text.proofs.LineLaws.{copies_lack, lacks_append, lacks_front, cut_found, cut_none, cut_again, uncut, cut_shorter, end_found, end_again, end_dropped}
+use Rattle.line_text.proofs.LineLaws.{copies_lack, lacks_append, lacks_front, cut_found, cut_none, cut_again, uncut, end_found, end_again, end_dropped}
 use Rattle.gro.specs.declared.faults.GroFault.{GroFault}
 use Rattle.gro.specs.declared.faults.GroFault.TheVariants.{Truncated}
 use Rattle.gro.specs.GroText.{IsLine}

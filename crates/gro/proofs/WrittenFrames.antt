@@ -1,13 +1,12 @@
 -- What is written of a frame stands for that one frame.
-use Rattle.std.proofs.Common.{◌≡◌, ℕ, zero, suc, ◌+◌, ◌-◌, ◌*◌, ◌/◌, ◌%◌, ◌^◌, ◌<◌, ◌≤◌, Bool, true, false, ◌&&◌, ◌||◌, cond, eqb, leb, not, List, [], ◌∷◌, ◌++◌, length, take, drop, get_or, replicate, ℤ, pos, negsuc, ◌≤ℤ◌, decimal, Result, Ok, IsTrue, refl, sym, ap, subst, ◌∙◌, append_assoc, arith, inl, inr, lit<}
-use Rattle.std.specs.List.{list_all, slice_range, flat_map, enumerate_from, position_or_len, AllByRecursion}
+use Rattle.std.proofs.Common.{◌≡◌, ℕ, zero, suc, ◌+◌, ◌-◌, ◌*◌, ◌/◌, ◌%◌, ◌^◌, ◌<◌, ◌≤◌, true, false, ◌&&◌, eqb, leb, not, List, [], ◌∷◌, ◌++◌, length, take, drop, get_or, replicate, ℤ, pos, negsuc, ◌≤ℤ◌, decimal, Ok, IsTrue, refl, sym, ap, subst, ◌∙◌, append_assoc, arith, inl, lit<}
+use Rattle.std.specs.List.{list_all, slice_range, flat_map, AllByRecursion}
 use Rattle.std.specs.Fmt.{signed_decimal}
 use Rattle.std.specs.Str.{all_ascii_digits}
-use Rattle.std.specs.Str.Parse.{digits_value}
 use Rattle.std.specs.Int.{IsInRange}
 use Rattle.std.proofs.lemmas.Bool.{and_parts, and_from, ne_eqb, eq-eqb, not-true, le-leb}
 use Rattle.std.proofs.lemmas.Int.{ints}
-use Rattle.std.proofs.lemmas.List.{append-nil, take_at, drop_at, length-append, length-replicate}
+use Rattle.std.proofs.lemmas.List.{append-nil, take_at, drop_at, length-append}
 use Rattle.std.proofs.lemmas.List.Folds.{list_all-append}
 use Rattle.std.proofs.lemmas.Fmt.{digits_decimal, digits_value-decimal, decimal_nonempty, length-decimal-le}
 use Rattle.std.proofs.lemmas.Nat.{div-add-mod', mod_below}
@@ -16,7 +15,7 @@ use lib.Signed.{mag}
 use Rattle.line_text.specs.Parts.{lacks, ended, is_title, is_name, is_printable, has_clean_ends, right_in, left_in, AreThree}
 use Rattle.line_text.specs.Columns.{decimals_text, with_decimals, zeros_in}
 use Rattle.line_text.specs.Words.{words}
-use Rattle.line_text.specs.Written.{IsPadded, IsDigits, WritesName, WritesWhole, WritesSigned, plain, minus, WritesColumn}
+use Rattle.line_text.specs.Written.{IsPadded, WritesName, WritesWhole, WritesSigned, plain, minus, WritesColumn}
 use Rattle.line_text.proofs.LineLaws.{ended_then, length-right_in, length-left_in}
 use Rattle.line_text.proofs.NameLaws.{is_clean, printable_lacks}
 use Rattle.line_text.proofs.ColumnLaws.{decimal_column_again, length-with_decimals-le, length-zeros_in, zeros_value, decimals_text_lacks}
@@ -25,7 +24,7 @@ use Rattle.line_text.proofs.ResidueNumbers.{number_short, number_small}
 use Rattle.line_text.proofs.WrittenLaws.{digit_in, column_written}
 use Rattle.line_text.proofs.WordLaws.{no_words, words_right, right_ends}
 use Rattle.gro.specs.Frames.{AtomView, FrameView}
-use Rattle.gro.specs.GroText.{IsLine, IsCount, IsResidueNumber, AreColumns, absent, IsAtomLine, WritesFew, WritesLength, pointed, AreValues, IsBox, AreAtoms, IsFrame, IsGroText}
+use Rattle.gro.specs.GroText.{IsLine, IsResidueNumber, AreColumns, absent, IsAtomLine, WritesLength, pointed, AreValues, IsBox, AreAtoms, IsFrame}
 use Rattle.gro.specs.GroReading.{frames_of}
 use Rattle.gro.specs.GroWriting.{count_line, atom_line, box_line, atom_lines, frame_text, FitsPosition, FitsSide, FitsAtom, FitsColumns, HasForm}
 use Rattle.gro.proofs.FrameLaws.{frames_of_text}

@@ -1,18 +1,14 @@
 -- Reading a GRO file from the top, to its frames or to the first fault that is met.
-use Rattle.std.specs.Prelude.{◌≡◌, ◌↔◌, ℕ, zero, suc, ◌+◌, ◌-◌, ◌*◌, ◌^◌, Bool, true, false, not, ◌&&◌, ◌||◌, ◌==◌, ◌⊎◌, ◌<◌, ◌≤◌, nat_lt, nat_le, slice_index_or, List, [], ◌∷◌, length, take, drop, Option, Some, None, option_map, Result, Ok, Err, if◌then◌else◌, ℤ, pos, negsuc}
+use Rattle.std.specs.Prelude.{◌≡◌, ◌↔◌, ℕ, zero, suc, ◌+◌, ◌-◌, ◌*◌, ◌^◌, Bool, true, false, not, ◌&&◌, ◌||◌, ◌==◌, ◌⊎◌, ◌<◌, ◌≤◌, nat_lt, nat_le, slice_index_or, List, [], ◌∷◌, length, take, drop, Option, Some, None, Result, Ok, Err, if◌then◌else◌, ℤ, pos, negsuc}
 use Rattle.std.specs.List.{list_all, slice_range}
 use Rattle.line_text.specs.Parts.{◌>>=◌ as ◌|>◌, cut_at, name_of, trimmed, without_returns, is_printable}
 use Rattle.line_text.specs.Columns.{digits_of, signed_by, decimal_column_of, is_residue_number}
 use Rattle.line_text.specs.Words.{words}
+use Rattle.line_text.specs.Steps.{◌>>=◌}
 use Rattle.gro.specs.Frames.{AtomView, FrameView}
 use Rattle.gro.specs.GroText.{are_spaces, is_blank, IsGroText}
 use Rattle.gro.specs.declared.faults.GroFault.{GroFault}
 use Rattle.gro.specs.declared.faults.GroFault.TheVariants.{Truncated, BadCount, BadColumns, Precision, BadBox, Triclinic, TooManyAtoms, NoSuchFrame, Memory}
-
-infixl 10 ◌>>=◌
-abbrev pub ◌>>=◌ : {A B : Type 0} → Result A GroFault → (A → Result B GroFault) → Result B GroFault
-(Ok x) >>= f = f x
-(Err e) >>= f = Err e
 
 -- What a call returned, seen by view, is what the definition answers. Want of memory says nothing.
 abbrev pub Fails : {Y : Type 0} → GroFault → Result Y GroFault → Type 0

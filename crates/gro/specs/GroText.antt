@@ -1,10 +1,9 @@
 -- What a GRO file says (GROMACS manual, gro file format): which texts stand for which frames.
 use Rattle.std.specs.Prelude.{◌≡◌, ℕ, ◌+◌, ◌*◌, ◌^◌, ◌-◌, ◌<◌, ◌≤◌, ◌⊎◌, Bool, ◌||◌, ◌==◌, List, [], ◌∷◌, ◌++◌, length, drop, replicate, ℤ, pos, negsuc, ◌≤ℤ◌, IsTrue}
 use Rattle.std.specs.List.{list_all, slice_range}
-use Rattle.std.specs.Str.Parse.{digits_value}
 use Rattle.line_text.specs.Parts.{is_title, is_printable}
 use Rattle.line_text.specs.Words.{words}
-use Rattle.line_text.specs.Written.{IsPadded, IsDigits, WritesName, WritesWhole, WritesSigned, WritesColumn}
+use Rattle.line_text.specs.Written.{IsPadded, WritesName, WritesWhole, WritesSigned, WritesColumn}
 use Rattle.gro.specs.Frames.{AtomView, FrameView}
 
 -- ---- lines

@@ -1,7 +1,6 @@
 pub mod Constructors
 pub mod StepLemmas
 pub mod SumLemmas
-pub mod EvaluationLemmas
 pub mod PairLemmas
 pub mod ForceLaws
 pub mod BoundLaws
@@ -11,3 +10,5 @@ pub mod StateLaws
 pub mod StartLaws
 pub mod ReturnLaws
 pub mod RunLaws
+pub mod KernelLaws
+pub mod EnergyLaws

@@ -6,9 +6,7 @@ use Rattle.std.proofs.lemmas.Int.{ints}
 use Rattle.std.proofs.lemmas.List.{ext_get_or, length-map, get_or-map}
 use Rattle.std.proofs.lemmas.List.Elements.{All-from_recursion, recursion_from_All, All-cons, All-nil, All-from_get_or}
 use Rattle.fixed.specs.Arithmetic.{in_range}
-use Rattle.expr.specs.Tree.{Tree}
-use Rattle.expr.specs.Energy.{program_of}
-use Rattle.job.specs.JobText.{reading_of, stage}
+use Rattle.job.specs.JobText.{reading_of, limits}
 use Rattle.job.specs.Values.{JobValue, TypeValue}
 use Rattle.line_text.specs.Parts.{AreThree}
 use lib.Signed.{mag}
@@ -18,7 +16,8 @@ use Rattle.state.specs.StateText.{AtomView, StateView, IsAtom, IsPlace, IsState,
 use Rattle.integrator.proofs.Constructors.{err_is_no_ok, none_is_no_some, some_same}
 use Rattle.integrator.specs.Frames.{AreFrames, ArePlaces, Frames, frames, opposite, places_of, turns}
 use Rattle.integrator.specs.States.{counter_after, counter_at, current_frame, frames_of, moved_state, nobody, placed, placed_atoms, previous_frame}
-use Rattle.integrator.specs.Starts.{Refusal, Start, atom_types, cutoff_too_long, dynamics_from, energy_refused, has_room, in_counter, job_refused, known, or_refused, require, ring_of, state_refused, step_range, type_with, start_of, start_with, ◌>>=◌}
+use Rattle.integrator.specs.Energies.{Energy, energy_of}
+use Rattle.integrator.specs.Starts.{Refusal, Start, atom_types, cutoff_too_long, dynamics_from, energy_refused, has_room, in_counter, job_refused, known, or_refused, ready_of, require, ring_of, state_refused, step_range, type_with, start_of, start_with, ◌>>=◌}
 use Rattle.integrator.specs.Runs.{IsRun}
 use Rattle.state.proofs.StateReadsAgain.{one_text}
 use Rattle.integrator.proofs.StartLaws.{started}
@@ -180,12 +179,12 @@ counter_returns w step k n fits e =
 pub record Parts (job state : List ℕ) (w : Direction) (n : ℕ) (start : Start) : Type 0 where
   pub j : JobValue
   pub s : StateView
-  pub energy : Tree
+  pub energy : Energy
   pub types : List ℕ
   pub counter : ℤ
-  pub job_read : reading_of stage job ≡ Ok j
+  pub job_read : reading_of limits job ≡ Ok j
   pub state_read : state_of state ≡ Ok s
-  pub energy_read : program_of 32 j.energy ≡ Ok energy
+  pub energy_read : energy_of j ≡ Ok energy
   pub typed : atom_types j.types 1 s.atoms ≡ Ok types
   pub room : has_room j.cutoff (ring_of s.sides) ≡ true
   pub counted : counter_after w s.step n ≡ Some counter
@@ -203,36 +202,41 @@ required : (b : Bool) (refusal : Refusal) (u : Unit {0}) → require b refusal �
 required true refusal u e = refl
 required false refusal u e = absurd (err_is_no_ok refusal u e)
 
+pair_same : (x y : List ℕ × ℤ) → ◌≡◌ {A = Result (List ℕ × ℤ) Refusal} (Ok x) (Ok y) → x ≡ y
+pair_same x y e = cc
+
 counted_ok : (o : Option ℤ) (k : ℤ) → in_counter o ≡ Ok k → o ≡ Some k
 counted_ok (Some z) k e = cc
 counted_ok None k e = absurd (err_is_no_ok step_range k e)
 
 parts_of : (job state : List ℕ) (w : Direction) (n : ℕ) (start : Start) → start_of job state w n ≡ Ok start → Parts job state w n start
-unfolding start_of start_with
+unfolding start_of start_with ready_of
 parts_of job state w n start e =
     let a = bind_ok _ _ start e in
     let b = bind_ok _ _ start a.2 in
     let c = bind_ok _ _ start b.2 in
-    let d = bind_ok _ _ start c.2 in
-    let r = bind_ok _ _ start d.2 in
-    let k = bind_ok _ _ start r.2 in
+    let ready = bind_ok _ _ start c.2 in
+    let d = bind_ok _ _ ready.0 ready.1 in
+    let r = bind_ok _ _ ready.0 d.2 in
+    let k = bind_ok _ _ ready.0 r.2 in
+    let same : (d.0, k.0) ≡ ready.0 = pair_same (d.0, k.0) ready.0 k.2 in
     record {
       j = a.0;
       s = b.0;
       energy = c.0;
       types = d.0;
       counter = k.0;
-      job_read = refused_ok job_refused (reading_of stage job) a.0 a.1;
+      job_read = refused_ok job_refused (reading_of limits job) a.0 a.1;
       state_read = refused_ok state_refused (state_of state) b.0 b.1;
-      energy_read = refused_ok energy_refused (program_of 32 a.0.energy) c.0 c.1;
+      energy_read = refused_ok energy_refused (energy_of a.0) c.0 c.1;
       typed = d.1;
       room = required (has_room a.0.cutoff (ring_of b.0.sides)) cutoff_too_long r.0 r.1;
       counted = counted_ok (counter_after w b.0.step n) k.0 k.1;
-      start_is = ok_same start _ k.2;
+      start_is = ok_same start _ ready.2 ∙ ap (λ (p : List ℕ × ℤ). record { state = b.0; dynamics = dynamics_from a.0 b.0 c.0 p.0; counter = p.1 }) (sym same);
     }
 
-start_from : (job state : List ℕ) (w : Direction) (n : ℕ) (j : JobValue) (s : StateView) (energy : Tree)
-    → reading_of stage job ≡ Ok j → state_of state ≡ Ok s → program_of 32 j.energy ≡ Ok energy → start_of job state w n ≡ start_with w n j s energy
+start_from : (job state : List ℕ) (w : Direction) (n : ℕ) (j : JobValue) (s : StateView) (energy : Energy)
+    → reading_of limits job ≡ Ok j → state_of state ≡ Ok s → energy_of j ≡ Ok energy → start_of job state w n ≡ start_with w n j s energy
 unfolding start_of
 start_from job state w n j s energy p q r = rw (p, q, r) refl
 

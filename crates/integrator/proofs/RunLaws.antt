@@ -1,9 +1,10 @@
 -- Texts have one run at most, and where they have one no refusal says otherwise.
-use Rattle.std.proofs.Common.{◌≡◌, ℕ, zero, suc, ◌+◌, ◌-◌, ◌<◌, List, length, Option, Some, None, Result, Ok, Err, ℤ, arith, refl, ap, sym, ◌∙◌}
+use Rattle.std.proofs.Common.{◌≡◌, ℕ, zero, suc, ◌+◌, ◌-◌, ◌<◌, false, List, length, Option, Some, None, Result, Ok, Err, ℤ, arith, refl, ap, sym, ◌∙◌}
 use Rattle.std.specs.Prelude.{IfSome, option_map}
 use Rattle.std.specs.Option.{option_and_then}
 use Rattle.fixed.specs.declared.faults.Fault.{Fault}
-use Rattle.expr.specs.Faults as energies
+use Rattle.integrator.specs.declared.slope_faults.SlopeFault.{SlopeFault}
+use Rattle.energy_program.specs.Faults as energies
 use Rattle.job.specs.Views as jobs
 use Rattle.state.specs.StateText.{StateView, state_text}
 use Rattle.integrator.proofs.Constructors.{err_is_no_ok, none_is_no_some, ok_same, some_same}
@@ -12,7 +13,7 @@ use Rattle.integrator.specs.Frames.{Dynamics, Frames, StopsAt, frames, middle, m
 use Rattle.integrator.specs.States.{frames_of, moved_state}
 use Rattle.integrator.specs.Starts.{Refusal, Start, cutoff_too_long, energy_refused, job_refused, start_of, step_range, unknown_type}
 use Rattle.integrator.specs.StartViews.{state_refusal}
-use Rattle.integrator.specs.Runs.{IsRefusal, IsRun, Lacks, Ran, Stopped}
+use Rattle.integrator.specs.Runs.{is_out, IsRefusal, IsRun, IsStop, Lacks, Ran, Stopped}
 use Rattle.integrator.specs.declared.direction.Direction.{Direction}
 use Rattle.integrator.specs.declared.direction.Direction.TheVariants.{Forward, Back}
 use Rattle.integrator.specs.declared.faults.RunFault.{RunFault}
@@ -49,7 +50,7 @@ stays_none w d f m (suc k) e =
     let s : m + suc k ≡ m + k + 1 = omega arith in
     rw s (turns-more w d (m + k) f ∙ ap (option_and_then (turn w d)) (stays_none w d f m k e))
 
-never_ends : (w : Direction) (d : Dynamics) (n : ℕ) (f : Frames) (done : ℕ) (pair : ℕ × ℕ) (why : Fault) → StopsAt w d n f done pair why → turns w d n f ≡ None
+never_ends : (w : Direction) (d : Dynamics) (n : ℕ) (f : Frames) (done : ℕ) (pair : ℕ × ℕ) (why : SlopeFault) → StopsAt w d n f done pair why → turns w d n f ≡ None
 never_ends w d n f done pair why h =
     let next : turns w d (done + 1) f ≡ None =
     turns-more w d done f ∙ ap (option_and_then (turn w d)) h.steps ∙ no_turn w d h.reached pair h.first in
@@ -57,9 +58,9 @@ never_ends w d n f done pair why h =
     let size : done + 1 + (n - (done + 1)) ≡ n = omega arith in
     rw size at (stays_none w d f (done + 1) (n - (done + 1)) next)
 
-stopped_or_ran : (w : Direction) (n : ℕ) (s : Start) (step : ℤ) (low high : ℕ) (why : Fault) (a : StateView) → Stopped w n s step low high why → Ran w n s a → ⊥
-stopped_or_ran w n s step low high why a p q =
-    none_is_no_some q.frames' (sym (never_ends w s.dynamics n (frames_of s.state) p.done p.pair why p.stops) ∙ q.turned)
+stopped_or_ran : (w : Direction) (n : ℕ) (s : Start) (step : ℤ) (low high pc : ℕ) (why : Fault) (a : StateView) → Stopped w n s step low high pc why → Ran w n s a → ⊥
+stopped_or_ran w n s step low high pc why a p q =
+    none_is_no_some q.frames' (sym (never_ends w s.dynamics n (frames_of s.state) p.done p.pair (record { pc = pc; fault = why }) p.stops) ∙ q.turned)
 
 -- ---- no refusal where there is a run
 
@@ -76,6 +77,30 @@ only_lacks job state w n text fault.CutoffTooLong r h = err_is_no_ok cutoff_too_
 only_lacks job state w n text fault.StepRange r h = err_is_no_ok step_range r.start (sym h ∙ r.starts)
 only_lacks job state w n text (fault.KernelFault step low high pc why) r h =
     let same : r.start ≡ h.start = ok_same r.start h.start (sym r.starts ∙ h.starts) in
-    stopped_or_ran w n h.start step low high why r.after h.stopped (start_moves w n r.start h.start r.after same r.ran)
+    stopped_or_ran w n h.start step low high pc why r.after h.stopped (start_moves w n r.start h.start r.after same r.ran)
 only_lacks job state w n text fault.Memory r h = tt
 only_lacks job state w n text (fault.Out f) r h = tt
+
+-- ---- why a run that has started gives no state
+
+pub stop_refuses : {A : Type 0} → (job state : List ℕ) (w : Direction) (n : ℕ) (start : Start) (f : RunFault A) → start_of job state w n ≡ Ok start → IsStop w n start f → IsRefusal job state w n f
+stop_refuses job state w n start (fault.KernelFault step low high pc why) e h = record { start = start; starts = e; stopped = h }
+stop_refuses job state w n start fault.Memory e h = tt
+stop_refuses job state w n start (fault.Job f) e h = absurd h
+stop_refuses job state w n start (fault.State f) e h = absurd h
+stop_refuses job state w n start (fault.Energy f) e h = absurd h
+stop_refuses job state w n start (fault.UnknownType k) e h = absurd h
+stop_refuses job state w n start fault.CutoffTooLong e h = absurd h
+stop_refuses job state w n start fault.StepRange e h = absurd h
+stop_refuses job state w n start (fault.Out f) e h = absurd h
+
+pub stop_unwritten : {A : Type 0} → (w : Direction) (n : ℕ) (start : Start) (f : RunFault A) → IsStop w n start f → is_out f ≡ false
+stop_unwritten w n start (fault.KernelFault step low high pc why) h = refl
+stop_unwritten w n start fault.Memory h = refl
+stop_unwritten w n start (fault.Job f) h = refl
+stop_unwritten w n start (fault.State f) h = refl
+stop_unwritten w n start (fault.Energy f) h = refl
+stop_unwritten w n start (fault.UnknownType k) h = refl
+stop_unwritten w n start fault.CutoffTooLong h = refl
+stop_unwritten w n start fault.StepRange h = refl
+stop_unwritten w n start (fault.Out f) h = absurd h

@@ -1,7 +1,7 @@
 -- Types of atoms, one after another.
 use Rattle.std.proofs.Common.{◌≡◌, ℕ, suc, ◌+◌, ◌<◌, Bool, true, cond, List, [], ◌∷◌, ◌++◌, length, get_or, drop, Option, Some, None, Result, Ok, Err, ℤ, refl, ap, sym, ◌∙◌, add-one, append_assoc}
 use Rattle.std.proofs.lemmas.List.{append-nil}
-use Rattle.std.specs.Prelude.{bytes_eq, map, not}
+use Rattle.std.specs.Prelude.{IfSome, bytes_eq, map, not}
 use Rattle.std.proofs.Math.Seq.{drop-cons}
 use Rattle.line_text.specs.Names.{name_text}
 use Rattle.job.specs.Views.{type_value}
@@ -10,10 +10,17 @@ use Rattle.std.specs.List.{position, position_or_len}
 use Rattle.std.proofs.lemmas.List.{length-map}
 use Rattle.job.specs.Values.{JobValue, TypeValue}
 use Rattle.state.specs.StateText.{AtomView, StateView}
-use Rattle.integrator.specs.Starts.{Refusal, atom_types, dynamics_from, has_room, ring_of, start_with, type_with, unknown_type, ◌>>=◌}
+use Rattle.job.specs.JobText.{reading_of, limits}
+use Rattle.job.specs.Views as jobs
+use Rattle.energy_program.specs.Faults as energies
+use Rattle.state.specs.StateReading.{state_of}
+use Rattle.integrator.specs.declared.faults.RunFault.{RunFault}
+use Rattle.integrator.specs.declared.faults.RunFault.TheVariants as fault
+use Rattle.integrator.specs.StartViews.{Refuses, state_refusal}
+use Rattle.integrator.specs.Energies.{Energy, energy_of}
+use Rattle.integrator.specs.Starts.{Refusal, cutoff_too_long, energy_refused, job_energy, job_refused, start_at, start_of, step_range, atom_types, dynamics_from, has_room, ready_of, ring_of, start_with, type_with, unknown_type, ◌>>=◌}
 use Rattle.integrator.specs.States.{counter_after}
 use Rattle.integrator.specs.declared.direction.Direction.{Direction}
-use Rattle.expr.specs.Tree.{Tree}
 
 position_or_len-map : {X Y : Type 0} → (p : Y → Bool) (f : X → Y) (xs : List X) → position_or_len p (map f xs) ≡ position_or_len (λ x. p (f x)) xs
 position_or_len-map p f [] = refl
@@ -62,8 +69,39 @@ found_type types name bytes r e h =
     position-map (λ t. bytes_eq t.name name) type_value types ∙ ap (λ n. position (λ t. bytes_eq (name_text t.name) n) types) (sym e) ∙ sym h
 
 -- a start whose parts are known
-pub started : (direction : Direction) (steps : ℕ) (j : JobValue) (s : StateView) (energy : Tree) (types : List ℕ) (counter : ℤ)
+pub started : (direction : Direction) (steps : ℕ) (j : JobValue) (s : StateView) (energy : Energy) (types : List ℕ) (counter : ℤ)
     → atom_types j.types 1 s.atoms ≡ Ok types → has_room j.cutoff (ring_of s.sides) ≡ true → counter_after direction s.step steps ≡ Some counter
     → start_with direction steps j s energy ≡ Ok (record { state = s; dynamics = dynamics_from j s energy types; counter = counter })
-unfolding start_with
+unfolding start_with ready_of
 started direction steps j s energy types counter t h k = rw (t, h, k) refl
+
+-- ---- refusals on the way
+
+refused_on : {X Y : Type 0} → (r : Result X Refusal) (f : X → Result Y Refusal) (why : Refusal) → r ≡ Err why → (r >>= f) ≡ Err why
+refused_on r f why h = rw h refl
+
+some_refused : {X Y R : Type 0} → (o : Option R) (made : R → Refusal) (r : Result X Refusal) (f : X → Result Y Refusal) → IfSome o (λ x. r ≡ Err (made x)) → IfSome o (λ x. (r >>= f) ≡ Err (made x))
+some_refused None made r f h = tt
+some_refused {X} {Y} (Some x) made r f h = refused_on r f (made x) h
+
+refuses_on : {A X Y : Type 0} → (e : RunFault A) (r : Result X Refusal) (f : X → Result Y Refusal) → Refuses e r → Refuses e (r >>= f)
+refuses_on (fault.Job g) r f h = some_refused (jobs.refusal_of g) job_refused r f h
+refuses_on (fault.State g) r f h = some_refused (state_refusal g) (λ x. x) r f h
+refuses_on (fault.Energy g) r f h = some_refused (energies.refusal_of g) energy_refused r f h
+refuses_on (fault.UnknownType n) r f h = refused_on r f (unknown_type n) h
+refuses_on fault.CutoffTooLong r f h = refused_on r f cutoff_too_long h
+refuses_on fault.StepRange r f h = refused_on r f step_range h
+refuses_on (fault.KernelFault step low high pc why) r f h = absurd h
+refuses_on fault.Memory r f h = tt
+refuses_on (fault.Out g) r f h = absurd h
+
+-- texts whose atoms can't be run
+pub start_refused : {A : Type 0} → (job state : List ℕ) (w : Direction) (n : ℕ) (j : JobValue) (s : StateView) (energy : Energy) (e : RunFault A)
+    → reading_of limits job ≡ Ok j → state_of state ≡ Ok s → energy_of j ≡ Ok energy → Refuses e (ready_of w n j s) → Refuses e (start_of job state w n)
+unfolding start_of start_with
+start_refused job state w n j s energy e p q r h = rw (p, q, r) (refuses_on e (ready_of w n j s) (λ ready. Ok (start_at j s energy ready)) h)
+
+-- the energy of a job's text
+pub energy_said : (job : List ℕ) (j : JobValue) (energy : Energy) → reading_of limits job ≡ Ok j → energy_of j ≡ Ok energy → job_energy job ≡ Ok (j, energy)
+unfolding job_energy
+energy_said job j energy p q = rw (p, q) refl

@@ -3,13 +3,13 @@
 use Rattle.std.specs.Prelude.{ℕ, zero, suc, ℤ, neg_ℤ, ◌==◌, ◌≡◌, ◌<◌, ◌^◌, List, [], ◌∷◌, length, map, Option, Some, None, slice_index, slice_index_or, if◌then◌else◌}
 use Rattle.std.specs.Option.{option_map, option_and_then}
 use Rattle.std.specs.List.{All}
-use Rattle.fixed.specs.declared.faults.Fault.{Fault}
 use Rattle.fixed.specs.declared.frac.Frac.{Frac}
 use Rattle.ring_box.specs.declared.boxes.RingBox.{RingBox}
 use Rattle.ring_box.specs.Distances.{square_of}
 use Rattle.ring_box.specs.Forces.{acting_distance_of, force_along_of}
 use Rattle.integrator.specs.Displacement.{displacement_of, next_place_of}
 use Rattle.integrator.specs.Forces.{component, first_without_force, forces_of, none, numbers_from}
+use Rattle.integrator.specs.declared.slope_faults.SlopeFault.{SlopeFault}
 use Rattle.integrator.specs.declared.direction.Direction.{Direction}
 use Rattle.integrator.specs.declared.direction.Direction.TheVariants.{Forward, Back}
 
@@ -22,7 +22,7 @@ pub record Dynamics : Type 0 where
   pub time_step : ℕ
   pub masses : List ℕ
   pub slope : ℕ × ℕ → ℤ → Option ℤ
-  pub fault : ℕ × ℕ → ℤ → Option Fault
+  pub fault : ℕ × ℕ → ℤ → Option SlopeFault
 
 -- the places of an atom
 abbrev pub places_of : List (List ℕ) → ℕ → List ℕ
@@ -40,7 +40,7 @@ pair_force dynamics frame p =
     force_at dynamics.ring (dynamics.slope p) (acting_distance_of dynamics.frac dynamics.ring dynamics.core dynamics.cutoff (places_of frame p.0) (places_of frame p.1)) (places_of frame p.0) (places_of frame p.1)
 
 -- why a pair has no force
-abbrev pub pair_fault : Dynamics → List (List ℕ) → ℕ × ℕ → Option Fault
+abbrev pub pair_fault : Dynamics → List (List ℕ) → ℕ × ℕ → Option SlopeFault
 pair_fault dynamics frame p =
     option_and_then (dynamics.fault p) (acting_distance_of dynamics.frac dynamics.ring dynamics.core dynamics.cutoff (places_of frame p.0) (places_of frame p.1))
 
@@ -102,7 +102,7 @@ middle Forward f = f.current
 middle Back f = f.previous
 
 -- of n steps from the frames f, `done` can be made, and in the frame whose forces the next one wants `pair` is the first pair without a force, because of this fault
-pub record StopsAt (direction : Direction) (dynamics : Dynamics) (n : ℕ) (f : Frames) (done : ℕ) (pair : ℕ × ℕ) (fault : Fault) : Type 0 where
+pub record StopsAt (direction : Direction) (dynamics : Dynamics) (n : ℕ) (f : Frames) (done : ℕ) (pair : ℕ × ℕ) (fault : SlopeFault) : Type 0 where
   pub reached : Frames
   pub steps : turns direction dynamics done f ≡ Some reached
   pub early : done < n

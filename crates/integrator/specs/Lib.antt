@@ -2,9 +2,10 @@ pub mod Displacement
 pub mod Forces
 pub mod Adding
 pub mod Frames
-pub mod Evaluation
 pub mod Systems
+pub mod Kernels
 pub mod SlopeBounds
+pub mod Energies
 pub mod States
 pub mod Starts
 pub mod StartViews

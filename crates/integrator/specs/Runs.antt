@@ -6,7 +6,7 @@ use Rattle.integrator.specs.Frames.{Frames, StopsAt, turns}
 use Rattle.integrator.specs.States.{forced_counter, frames_of, moved_state}
 use Rattle.integrator.specs.Starts.{Start, start_of}
 use Rattle.integrator.specs.StartViews.{Refuses, state_refusal}
-use Rattle.expr.specs.Faults as energies
+use Rattle.energy_program.specs.Faults as energies
 use Rattle.job.specs.Views as jobs
 use Rattle.gro.specs.Out.{appended, AppendsBeginning}
 use Rattle.integrator.specs.declared.direction.Direction.{Direction}
@@ -27,18 +27,19 @@ pub record IsRun (job state : List ℕ) (direction : Direction) (steps : ℕ) (t
   pub ran : Ran direction steps start after
   pub written : text ≡ state_text after
 
--- the run stops before this frame, at this pair, counted from 1, since the slope has no value there
-pub record Stopped (direction : Direction) (steps : ℕ) (start : Start) (step : ℤ) (low high : ℕ) (why : Fault) : Type 0 where
+-- the run stops before this frame, at this pair, counted from 1, since an operation of the kernel's code, at this place, has
+-- no value there
+pub record Stopped (direction : Direction) (steps : ℕ) (start : Start) (step : ℤ) (low high pc : ℕ) (why : Fault) : Type 0 where
   pub done : ℕ
   pub pair : ℕ × ℕ
-  pub stops : StopsAt direction start.dynamics steps (frames_of start.state) done pair why
+  pub stops : StopsAt direction start.dynamics steps (frames_of start.state) done pair (record { pc = pc; fault = why })
   pub counter : step ≡ forced_counter direction start.state.step done
   pub lower : low ≡ pair.0 + 1
   pub higher : high ≡ pair.1 + 1
 
 -- why a run that has started gives no state
 abbrev pub IsStop : {A : Type 0} → Direction → ℕ → Start → RunFault A → Type 0
-IsStop direction steps start (fault.KernelFault step low high pc why) = Stopped direction steps start step low high why × (pc ≡ 0)
+IsStop direction steps start (fault.KernelFault step low high pc why) = Stopped direction steps start step low high pc why
 IsStop direction steps start fault.Memory = Unit {0}
 IsStop direction steps start (fault.Job f) = ⊥
 IsStop direction steps start (fault.State f) = ⊥
@@ -52,8 +53,7 @@ IsStop direction steps start (fault.Out f) = ⊥
 pub record IsKernelFault (job state : List ℕ) (direction : Direction) (steps : ℕ) (step : ℤ) (low high pc : ℕ) (why : Fault) : Type 0 where
   pub start : Start
   pub starts : start_of job state direction steps ≡ Ok start
-  pub stopped : Stopped direction steps start step low high why
-  pub no_code : pc ≡ 0
+  pub stopped : Stopped direction steps start step low high pc why
 
 -- why texts give no text: want of memory and a failed output say nothing of them
 abbrev pub IsRefusal : {A : Type 0} → List ℕ → List ℕ → Direction → ℕ → RunFault A → Type 0

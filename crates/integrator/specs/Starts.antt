@@ -1,20 +1,22 @@
 -- What a run starts from: a job's text, a state's text, a number of steps and a direction give the state and what moves its atoms, or the first refusal.
-use Rattle.std.specs.Prelude.{ℕ, suc, ℤ, ◌*◌, ◌^◌, nat_le, ◌&&◌, Bool, true, false, List, [], ◌∷◌, map, Option, Some, None, Result, Ok, Err, slice_index, slice_index_or, unsigned_abs, bytes_eq}
+use Rattle.std.specs.Prelude.{◌≡◌, ℕ, suc, ℤ, ◌*◌, ◌^◌, nat_le, ◌&&◌, Bool, true, false, List, [], ◌∷◌, length, map, Option, Some, None, Result, Ok, Err, slice_index, slice_index_or, unsigned_abs, bytes_eq}
 use Rattle.std.specs.List.{position}
 use Rattle.fixed.specs.declared.frac.Frac.TheVariants.{F32}
-use Rattle.expr.specs.Tree.{Tree}
-use Rattle.expr.specs.Slope.{slope_of}
-use Rattle.expr.specs.Faults as energy
-use Rattle.expr.specs.Energy.{program_of}
+use Rattle.derivative.specs.Slope.{slope_of}
+use Rattle.energy_program.specs.Faults as energy
 use Rattle.job.specs.Faults as job
-use Rattle.job.specs.JobText.{reading_of, stage}
-use Rattle.job.specs.Values.{JobValue, TypeValue}
+use Rattle.job.specs.JobText.{reading_of, limits}
+use Rattle.job.specs.Values.{GlobalValue, JobValue, TypeValue}
+use Rattle.kernel_code.specs.Tables.{Table, inputs_of}
+use Rattle.kernel_code.specs.declared.instructions.Instr.{Instr}
+use Rattle.kernel_code.specs.declared.traps.Trap.{Trap}
 use Rattle.ring_box.specs.declared.boxes.RingBox.{RingBox}
 use Rattle.state.specs.StateReading.{state_of}
 use Rattle.state.specs.StateText.{AtomView, StateView}
 use Rattle.state.specs.declared.faults.StateFault.{StateFault}
-use Rattle.integrator.specs.Evaluation.{evaluated_slope, fault_of}
+use Rattle.integrator.specs.Energies.{Energy, IsCompiled, energy_of}
 use Rattle.integrator.specs.Frames.{Dynamics}
+use Rattle.integrator.specs.Kernels.{fault_of, outcome_of, where_given}
 use Rattle.integrator.specs.States.{counter_after}
 use Rattle.integrator.specs.declared.direction.Direction.{Direction}
 
@@ -78,8 +80,28 @@ require false refusal = Err refusal
 abbrev pub ring_of : List ℕ → RingBox
 ring_of sides = record { x = slice_index sides 0; y = slice_index sides 1; z = slice_index sides 2 }
 
--- what moves the atoms of these types, with this energy
-abbrev pub dynamics_from : JobValue → StateView → Tree → List ℕ → Dynamics
+-- each type's values of the parameters
+abbrev pub type_rows : List TypeValue → List (List ℤ)
+type_rows types = map (λ t. t.values) types
+
+abbrev pub global_values : List GlobalValue → List ℤ
+global_values globals = map (λ g. g.value) globals
+
+-- what the energy's variables stand for
+abbrev pub table_of : JobValue → Table
+table_of j = record { frac = F32; parameters = length j.parameters; rows = type_rows j.types; globals = global_values j.globals }
+
+-- the inputs of the energy for a pair of atoms of these types at a distance
+abbrev pub pair_inputs : JobValue → List ℕ → ℕ × ℕ → ℤ → List ℤ
+pair_inputs j types p r = inputs_of (table_of j) (slice_index types p.0) (slice_index types p.1) r
+
+-- how the run of the slope's code ends there
+abbrev pub pair_outcome : JobValue → Energy → List ℕ → ℕ × ℕ → ℤ → Option (Result ℤ Trap)
+pair_outcome j energy types p r = outcome_of 32 energy.code (pair_inputs j types p r)
+
+-- What moves the atoms of these types, with this energy: its slope as it is written, where the run of the slope's code gives a
+-- value. Else the fault is that of the run.
+abbrev pub dynamics_from : JobValue → StateView → Energy → List ℕ → Dynamics
 dynamics_from j s energy types = record {
   frac = F32;
   ring = ring_of s.sides;
@@ -87,8 +109,8 @@ dynamics_from j s energy types = record {
   cutoff = j.cutoff;
   time_step = j.time_step;
   masses = map (mass_of j.types) types;
-  slope = λ p r. slope_of 32 (r ∷ []) energy;
-  fault = λ p r. fault_of (evaluated_slope 32 (r ∷ []) energy);
+  slope = λ p r. where_given (pair_outcome j energy types p r) (slope_of 32 (pair_inputs j types p r) energy.tree);
+  fault = λ p r. fault_of (pair_outcome j energy types p r);
 }
 
 abbrev pub in_counter : Option ℤ → Result ℤ Refusal
@@ -101,17 +123,45 @@ pub record Start : Type 0 where
   pub dynamics : Dynamics
   pub counter : ℤ
 
--- after the texts: the types of the atoms, the range of the forces, the counter
-unfoldable pub start_with : Direction → ℕ → JobValue → StateView → Tree → Result Start Refusal
-start_with direction steps j s energy = do
+-- after the texts: the types of the atoms, the range of the forces, the counter; the types and the counter at the end
+unfoldable pub ready_of : Direction → ℕ → JobValue → StateView → Result (List ℕ × ℤ) Refusal
+ready_of direction steps j s = do
   types ← atom_types j.types 1 s.atoms
   room ← require (has_room j.cutoff (ring_of s.sides)) cutoff_too_long
   counter ← in_counter (counter_after direction s.step steps)
-  Ok (record { state = s; dynamics = dynamics_from j s energy types; counter = counter })
+  Ok (types, counter)
+
+abbrev pub start_at : JobValue → StateView → Energy → List ℕ × ℤ → Start
+start_at j s energy ready = record { state = s; dynamics = dynamics_from j s energy ready.0; counter = ready.1 }
+
+unfoldable pub start_with : Direction → ℕ → JobValue → StateView → Energy → Result Start Refusal
+start_with direction steps j s energy = do
+  ready ← ready_of direction steps j s
+  Ok (start_at j s energy ready)
 
 unfoldable pub start_of : List ℕ → List ℕ → Direction → ℕ → Result Start Refusal
 start_of job state direction steps = do
-  j ← or_refused job_refused (reading_of stage job)
+  j ← or_refused job_refused (reading_of limits job)
   s ← or_refused state_refused (state_of state)
-  energy ← or_refused energy_refused (program_of 32 j.energy)
+  energy ← or_refused energy_refused (energy_of j)
   start_with direction steps j s energy
+
+-- ---- the code alone
+
+-- what a job's text says, and its energy
+unfoldable pub job_energy : List ℕ → Result (JobValue × Energy) Refusal
+job_energy job = do
+  j ← or_refused job_refused (reading_of limits job)
+  energy ← or_refused energy_refused (energy_of j)
+  Ok (j, energy)
+
+-- the code of the slope of its energy
+abbrev pub slope_code_of : List ℕ → Result (List Instr) Refusal
+slope_code_of job = job_energy job >>= λ said. Ok said.1.code
+
+-- the code computes the slope of the energy of the job's text, where no input is missing
+pub record IsSlopeCode (job : List ℕ) (code : List Instr) : Type 0 where
+  pub said : JobValue × Energy
+  pub says : job_energy job ≡ Ok said
+  pub its : code ≡ said.1.code
+  pub compiled : IsCompiled 32 (length said.0.parameters) (length said.0.globals) said.1

@@ -1,11 +1,11 @@
 -- A system of the program as the dynamics that it stands for.
 use Rattle.std.specs.Prelude.{ℕ, ℤ, Option, slice_index}
-use Rattle.fixed.specs.declared.faults.Fault.{Fault}
 use Rattle.integrator.specs.Frames.{Dynamics}
+use Rattle.integrator.specs.declared.slope_faults.SlopeFault.{SlopeFault}
 use Rattle.integrator.specs.declared.systems.System.{System}
 
 -- `slope` is what the kernel gives for two types of atoms, and `fault` why it gives nothing
-abbrev pub dynamics_of : {K A : Type 0} → (K → ℕ → ℕ → ℤ → Option ℤ) → (K → ℕ → ℕ → ℤ → Option Fault) → System K A → Dynamics
+abbrev pub dynamics_of : {K A : Type 0} → (K → ℕ → ℕ → ℤ → Option ℤ) → (K → ℕ → ℕ → ℤ → Option SlopeFault) → System K A → Dynamics
 dynamics_of slope fault s = record {
   frac = s.frac;
   ring = s.ring;

@@ -34,7 +34,7 @@ pub enum RunFault<A: Allocator> {
     /// The step counter would leave an i64.
     #[error("A4 StepRange")]
     StepRange,
-    /// The slope has no value for the pair of atoms `low` and `high`, counted from 1, in the frame whose counter is `step`: it is the first such pair, by the lower atom and then by the higher. `pc` is the place in the kernel's code.
+    /// The code of the slope gives no value for the pair of atoms `low` and `high`, counted from 1, in the frame whose counter is `step`: it is the first such pair, by the lower atom and then by the higher. `pc` is the place of the operation that has none. Then the slope, or a definition that its program uses, has no value there.
     #[error("A5 KernelFault {step} {low} {high} {pc} {fault}")]
     KernelFault {
         step: i64,

@@ -1,14 +1,15 @@
 //! The force on each atom of a frame, summed exactly over all pairs.
 
-ghost use Rattle.std.specs.Prelude.{◌≡◌, ◌≤◌, ◌^◌, neg_ℤ, unsigned_abs, IfOk, IfErr, Some, None};
+ghost use Rattle.std.specs.Prelude.{◌≡◌, ◌<◌, ◌≤◌, ◌^◌, neg_ℤ, unsigned_abs, IfOk, IfErr, Some, None};
 ghost use Rattle.ring_box.specs.Forces.{force_along_of};
 ghost use Rattle.integrator.specs.Adding.{IsWithin};
 ghost use Rattle.integrator.specs.Frames.{force_at};
 
+use crate::slope_faults::SlopeFault;
 use crate::slopes::TestedSlope;
 use crate::sums::{add_pair, clear};
 use crate::systems::{PairFault, System};
-use fixed::{Fault, Fx};
+use fixed::Fx;
 use ring_box::RingBox;
 use std::alloc::Allocator;
 
@@ -35,7 +36,9 @@ fn force_at<K: TestedSlope>(
     r: Fx,
     x: [u32; 3],
     y: [u32; 3],
-) -> Result<[i128; 3], Fault>
+) -> Result<[i128; 3], SlopeFault>
+    requires lower { a < K.types kernel.now }
+    requires higher { b < K.types kernel.now }
     ensures value { IfOk result (λ v. force_at ring.now (K.slope kernel.now a b) (Some r) x y ≡ Some v) }
     ensures within { IfOk result (IsWithin (2 ^ 63)) }
     ensures none { IfErr result (λ _. force_at ring.now (K.slope kernel.now a b) (Some r) x y ≡ None) }
@@ -59,7 +62,15 @@ impl<K: TestedSlope + Drop, A: Allocator> System<K, A> {
     ghost use Rattle.integrator.specs.Systems.{dynamics_of};
 
     /// The force on the first of two atoms of the types `a` and `b` at the places `x` and `y`, or why it has none.
-    fn force_between(&self, a: u32, b: u32, x: [u32; 3], y: [u32; 3]) -> Result<[i128; 3], Fault>
+    fn force_between(
+        &self,
+        a: u32,
+        b: u32,
+        x: [u32; 3],
+        y: [u32; 3],
+    ) -> Result<[i128; 3], SlopeFault>
+        requires lower { a < K.types self.now.kernel }
+        requires higher { b < K.types self.now.kernel }
         ensures value { IfOk result (λ v. force_at self.now.ring (K.slope self.now.kernel a b) (acting_distance_of self.now.frac self.now.ring self.now.core self.now.cutoff x y) x y ≡ Some v) }
         ensures within { IfOk result (IsWithin (2 ^ 63)) }
         ensures none { IfErr result (λ _. force_at self.now.ring (K.slope self.now.kernel a b) (acting_distance_of self.now.frac self.now.ring self.now.core self.now.cutoff x y) x y ≡ None) }
@@ -75,10 +86,16 @@ impl<K: TestedSlope + Drop, A: Allocator> System<K, A> {
     }
 
     /// The force on the lower atom of a pair, or why it has none.
-    fn pair_force(&self, frame: &[[u32; 3]], low: usize, high: usize) -> Result<[i128; 3], Fault>
+    fn pair_force(
+        &self,
+        frame: &[[u32; 3]],
+        low: usize,
+        high: usize,
+    ) -> Result<[i128; 3], SlopeFault>
         requires low { low < length frame.now }
         requires high { high < length frame.now }
         requires atoms { length frame.now ≡ length self.now.types.items }
+        requires known { All (λ t. t < K.types self.now.kernel) self.now.types.items }
         ensures value { IfOk result (λ v. pair_force (dynamics_of K.slope K.fault self.now) frame.now (low, high) ≡ Some v) }
         ensures within { IfOk result (IsWithin (2 ^ 63)) }
         ensures none { IfErr result (λ _. pair_force (dynamics_of K.slope K.fault self.now) frame.now (low, high) ≡ None) }
@@ -96,6 +113,7 @@ impl<K: TestedSlope + Drop, A: Allocator> System<K, A> {
     ) -> Result<(), PairFault>
         requires low { low < length frame.now }
         requires atoms { length frame.now ≡ length self.now.types.items }
+        requires known { All (λ t. t < K.types self.now.kernel) self.now.types.items }
         requires sums { length sums.old ≡ length frame.now }
         requires room { All (IsWithin (2 ^ 98)) sums.old }
         ensures value { OnOk result (with_pairs (pair_force (dynamics_of K.slope K.fault self.now) frame.now) sums.old (pairs_with low (low + 1) (length frame.now - (low + 1))) ≡ Ok sums.new) }
@@ -115,6 +133,7 @@ impl<K: TestedSlope + Drop, A: Allocator> System<K, A> {
     /// Adds the forces of all pairs to the sums, by the lower atom and then by the higher.
     fn add_rows(&self, frame: &[[u32; 3]], sums: &mut [[i128; 3]]) -> Result<(), PairFault>
         requires atoms { length frame.now ≡ length self.now.types.items }
+        requires known { All (λ t. t < K.types self.now.kernel) self.now.types.items }
         requires zero { sums.old ≡ replicate (length frame.now) none }
         ensures value { OnOk result (with_pairs (pair_force (dynamics_of K.slope K.fault self.now) frame.now) sums.old (pairs_of (length frame.now)) ≡ Ok sums.new) }
         ensures fault { IfErr result (λ e. with_pairs (pair_force (dynamics_of K.slope K.fault self.now) frame.now) sums.old (pairs_of (length frame.now)) ≡ Err (e.low, e.high)) }
@@ -129,6 +148,7 @@ impl<K: TestedSlope + Drop, A: Allocator> System<K, A> {
     /// The force on each atom of the frame, in `sums`, or the first pair that has none, by the lower atom and then by the higher.
     pub(crate) fn forces(&self, frame: &[[u32; 3]], sums: &mut [[i128; 3]]) -> Result<(), PairFault>
         requires atoms { length frame.now ≡ length self.now.types.items }
+        requires known { All (λ t. t < K.types self.now.kernel) self.now.types.items }
         requires sums { length sums.old ≡ length frame.now }
         ensures value { OnOk result (frame_forces (dynamics_of K.slope K.fault self.now) frame.now ≡ Some sums.new) }
         ensures within { OnOk result (All (IsWithin (2 ^ 80)) sums.new) }

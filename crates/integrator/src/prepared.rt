@@ -1,17 +1,29 @@
 //! All that a run starts from.
 
-ghost use Rattle.std.specs.Prelude.{◌≡◌, length};
+ghost use Rattle.std.specs.Prelude.{◌≡◌, ◌<◌, length};
+ghost use Rattle.std.specs.List.{All};
 
-use crate::kernels::TreeKernel;
+use crate::kernels::CodeKernel;
 use crate::systems::System;
 use state::State;
 use std::alloc::Allocator;
+
+/// The types and masses of a state's atoms, and the counter at the end of the run.
+#[derive(Drop)]
+pub(crate) struct Ready<A: Allocator> {
+    /// The number of each atom's type.
+    pub types: Vec<u32, A>,
+    /// Each atom's mass, in 10^-5 u.
+    pub masses: Vec<u32, A>,
+    pub counter: i64,
+}
 
 /// A state, what moves its atoms, and the counter at the end of the run.
 #[derive(Drop)]
 pub(crate) struct Prepared<A: Allocator> {
     pub state: State<A>,
-    pub system: System<TreeKernel<A>, A>,
+    pub system: System<CodeKernel<A>, A>,
     pub counter: i64,
+    pub ghost known: { All (λ t. t < length system.kernel.table.rows) system.types.items },
     pub ghost atoms: { length state.atoms.items ≡ length system.masses.items },
 }

@@ -1,6 +1,7 @@
 //! Runs of states, and from bytes to bytes.
 
 ghost use Rattle.std.specs.Prelude.{◌≡◌, ◌<◌, ◌+◌, ◌-◌, ◌^◌, ◌+ℤ◌, ◌-ℤ◌, pos, length, map, true, false, Some, IfOk, OnOk, IfErr, ℕ, List, MatchResult, ◌⊎◌, OnErr};
+ghost use Rattle.std.specs.List.{All};
 ghost use Rattle.gro.specs.Out.{appended};
 ghost use Rattle.state.specs.StateViews.{atom_view, state_view};
 ghost use Rattle.fixed.specs.Arithmetic.{in_range};
@@ -35,6 +36,7 @@ fn turn_frames<K: TestedSlope + Drop, A: Allocator>(
     requires previous { length previous.old.items ≡ length system.now.masses.items }
     requires current { length current.old.items ≡ length system.now.masses.items }
     requires sums { length sums.old ≡ length system.now.masses.items }
+    requires known { All (λ t. t < K.types system.now.kernel) system.now.types.items }
     ensures value { OnOk result (turns direction (dynamics_of K.slope K.fault system.now) steps (frames previous.old.items current.old.items) ≡ Some (frames previous.new.items current.new.items)) }
     ensures previous { length previous.new.items ≡ length previous.old.items }
     ensures current { length current.new.items ≡ length current.old.items }
@@ -77,7 +79,8 @@ fn frames_after<K: TestedSlope + Drop, A: Allocator + Copy>(
     steps: u64,
     atoms: &[Atom],
 ) -> Result<Turned<A>, Halt>
-    requires { length atoms.now ≡ length system.now.masses.items }
+    requires atoms { length atoms.now ≡ length system.now.masses.items }
+    requires known { All (λ t. t < K.types system.now.kernel) system.now.types.items }
     ensures value { IfOk result (λ t. turns direction (dynamics_of K.slope K.fault system.now) steps (frames (previous_frame (map atom_view atoms.now)) (current_frame (map atom_view atoms.now))) ≡ Some (frames t.previous.items t.current.items)) }
     ensures previous { IfOk result (λ t. length t.previous.items ≡ length atoms.now) }
     ensures current { IfOk result (λ t. length t.current.items ≡ length atoms.now) }
@@ -150,14 +153,14 @@ fn kernel_fault<A: Allocator>(
 ) -> RunFault<A>
     requires fits { in_range (counter_at direction state.now.step steps) ≡ true }
     requires early { stop.done < steps }
-    ensures { result ≡ KernelFault (forced_counter direction state.now.step stop.done) (stop.pair.low + 1) (stop.pair.high + 1) 0 stop.pair.fault }
+    ensures { result ≡ KernelFault (forced_counter direction state.now.step stop.done) (stop.pair.low + 1) (stop.pair.high + 1) stop.pair.fault.pc stop.pair.fault.fault }
 {
     RunFault::KernelFault {
         step: forced_counter(direction, state.step, steps, stop.done),
         low: stop.pair.low as u64 + 1,
         high: stop.pair.high as u64 + 1,
-        pc: 0,
-        fault: stop.pair.fault,
+        pc: stop.pair.fault.pc,
+        fault: stop.pair.fault.fault,
     }
 }
 
@@ -202,9 +205,9 @@ fn state_after<A: Allocator + Copy>(
 
 /// Runs a state so many steps in a direction, on one thread with every operation tested, and writes the new state.
 ///
-/// `job` and `state` are the bytes of a job and a state file, `steps` at most 1,000,000,000,000. The step is Levesque and Verlet's (J. Stat. Phys. 72, 519, 1993), the forces are the energy's slope as written, summed exactly over all pairs. The same number of steps the other way over the written bytes gives the starting bytes again.
+/// `job` and `state` are the bytes of a job and a state file, `steps` at most 1,000,000,000,000. The step is Levesque and Verlet's (J. Stat. Phys. 72, 519, 1993), the forces are the energy's slope as written, summed exactly over all pairs. The slope comes from its code, each instruction tested: where a run of the code gives no value, there is no force. The same number of steps the other way over the written bytes gives the starting bytes again.
 ///
-/// The refusals come in this order: those of the job, of the state, of the energy; `UnknownType` for the lowest atom whose name no type has; `CutoffTooLong` where some side is shorter than two cutoffs; `StepRange` where the counter would leave an i64; `KernelFault` for the first pair without a slope in the first frame that has one; `Memory` wherever a growth is refused. Nothing is written then. `Out` comes only where a write failed, after a beginning of the new state's text.
+/// The refusals come in this order: those of the job, of the state, of the energy; `UnknownType` for the lowest atom whose name no type has; `CutoffTooLong` where some side is shorter than two cutoffs; `StepRange` where the counter would leave an i64; `KernelFault` for the first pair without a force in the first frame that has one; `Memory` wherever a growth is refused. Nothing is written then. `Out` comes only where a write failed, after a beginning of the new state's text.
 pub fn run_bytes_checked<A: Allocator + Copy, O: Out>(
     alloc: A,
     job: &[u8],

@@ -1,20 +1,26 @@
 //! The slope of a pair potential, where it may have none.
 
-ghost use Rattle.std.specs.Prelude.{◌≡◌, ℕ, ℤ, Option, Some, None, IfOk, IfErr, unsigned_abs, ◌≤◌, ◌^◌};
-ghost use Rattle.fixed.specs.declared.faults.Fault.{Fault};
+ghost use Rattle.std.specs.Prelude.{◌≡◌, ℕ, ℤ, Option, Some, None, IfOk, IfErr, unsigned_abs, ◌<◌, ◌≤◌, ◌^◌};
+ghost use Rattle.integrator.specs.declared.slope_faults.SlopeFault.{SlopeFault};
 
-use fixed::{Fault, Fx};
+use crate::slope_faults::SlopeFault;
+use fixed::Fx;
 
 /// A pair potential that is run with every operation tested.
 pub(crate) trait TestedSlope {
+    /// How many types of atoms it knows.
+    ghost types: { Self → ℕ };
+
     /// The slope for two types of atoms, the lower atom's first, at a distance.
     ghost slope: { Self → ℕ → ℕ → ℤ → Option ℤ };
 
     /// Why there is no slope.
-    ghost fault: { Self → ℕ → ℕ → ℤ → Option Fault };
+    ghost fault: { Self → ℕ → ℕ → ℤ → Option SlopeFault };
 
     /// The slope for the types `a` and `b` at the distance `r`, or why there is none.
-    fn slope(&self, a: u32, b: u32, r: Fx) -> Result<Fx, Fault>
+    fn slope(&self, a: u32, b: u32, r: Fx) -> Result<Fx, SlopeFault>
+        requires lower { a < types self.now }
+        requires higher { b < types self.now }
         ensures value { IfOk result (λ g. slope self.now a b r ≡ Some g) }
         ensures none { IfErr result (λ _. slope self.now a b r ≡ None) }
         ensures fault { IfErr result (λ f. fault self.now a b r ≡ Some f) };

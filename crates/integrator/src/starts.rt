@@ -1,24 +1,27 @@
 //! What a run starts from.
 
-ghost use Rattle.std.specs.Prelude.{◌≡◌, ◌*◌, ◌^◌, ◌<◌, ◌≤◌, length, map, true, IfOk, IsTrue};
+ghost use Rattle.std.specs.Prelude.{◌≡◌, ◌*◌, ◌^◌, ◌<◌, ◌≤◌, length, map, true, IfOk};
 ghost use Rattle.std.specs.List.{All};
-ghost use Rattle.expr.specs.Tree.{inputs_below, program_tree};
 ghost use Rattle.job.specs.Views.{job_value, type_value};
 ghost use Rattle.state.specs.StateViews.{atom_view, state_view};
-ghost use Rattle.integrator.specs.Starts.{atom_types, has_room, holds_two, mass_of, start_of, start_with};
+ghost use Rattle.integrator.specs.Energies.{IsCompiled};
+ghost use Rattle.integrator.specs.Starts.{atom_types, has_room, holds_two, mass_of, ready_of, start_at, IsSlopeCode, slope_code_of, start_of, start_with, table_of};
 ghost use Rattle.fixed.specs.Arithmetic.{in_range};
 ghost use Rattle.integrator.specs.States.{counter_at};
-ghost use Rattle.integrator.specs.StartViews.{Gives, start_view};
+ghost use Rattle.integrator.specs.StartViews.{Gives, energy_view, ready_view, start_view};
 
 use crate::direction::Direction;
+use crate::energies::energy;
 use crate::faults::RunFault;
-use crate::kernels::TreeKernel;
-use crate::prepared::Prepared;
+use crate::kernels::CodeKernel;
+use crate::prepared::{Prepared, Ready};
+use crate::slope_parts::SlopeParts;
 use crate::states::counter_after;
 use crate::systems::System;
-use expr::{Program, parse};
+use crate::tables::table;
 use fixed::{Frac, Fx};
 use job::{AtomType, Job};
+use kernel_code::Code;
 use ring_box::{RingBox, Side};
 use state::{Atom, State};
 use std::alloc::{AllocError, Allocator};
@@ -82,48 +85,87 @@ fn has_room(cutoff: Fx, ring: &RingBox) -> bool
     holds_two(cutoff, ring.x) && holds_two(cutoff, ring.y) && holds_two(cutoff, ring.z)
 }
 
-/// What the run of this job's energy starts from.
-#[tactic(auto, unfolding(crate::specs::Starts::start_with))]
-fn prepare<A: Allocator + Copy>(
+/// The kernel of a job with this energy.
+fn kernel<A: Allocator + Copy>(
+    alloc: A,
+    job: &Job<A>,
+    parts: SlopeParts<A>,
+) -> Result<CodeKernel<A>, AllocError>
+    requires { IsCompiled 32 (length job.now.parameters.items) (length job.now.globals.items) (energy_view parts) }
+    ensures parts { IfOk result (λ k. k.parts ≡ parts) }
+    ensures table { IfOk result (λ k. k.table ≡ table_of (job_value job.now)) }
+{
+    let table = table(alloc, job)?;
+    Ok(CodeKernel { parts, table })
+}
+
+/// The atoms of a state that can be run under this job.
+#[tactic(auto, unfolding(crate::specs::Starts::ready_of))]
+fn ready<A: Allocator + Copy>(
     alloc: A,
     direction: Direction,
     steps: u64,
     job: &Job<A>,
-    state: State<A>,
-    program: Program<A>,
-) -> Result<Prepared<A>, RunFault<A>>
-    requires { IsTrue (inputs_below 1 (program_tree program)) }
-    ensures value { Gives start_view result (start_with direction steps (job_value job.now) (state_view state) (program_tree program)) }
-    ensures fits { IfOk result (λ p. in_range (counter_at direction p.state.step steps) ≡ true) }
+    state: &State<A>,
+) -> Result<Ready<A>, RunFault<A>>
+    ensures value { Gives ready_view result (ready_of direction steps (job_value job.now) (state_view state.now)) }
+    ensures known { IfOk result (λ r. All (λ t. t < length job.now.types.items) r.types.items) }
+    ensures masses { IfOk result (λ r. r.masses.items ≡ map (mass_of (map type_value job.now.types.items)) r.types.items) }
+    ensures some { IfOk result (λ r. All (λ m. 0 < m) r.masses.items) }
+    ensures most { IfOk result (λ r. All (λ m. m ≤ 100000000) r.masses.items) }
+    ensures count { IfOk result (λ r. length r.types.items ≡ length state.now.atoms.items) }
+    ensures fits { IfOk result (λ r. in_range (counter_at direction state.now.step steps) ≡ true) }
 {
     let types = atom_types(alloc, job, &state.atoms)?;
     if !has_room(job.cutoff, &state.ring) {
         return Err(RunFault::CutoffTooLong);
     }
-    let Some(counter) = counter_after(direction, &state, steps) else {
+    let Some(counter) = counter_after(direction, state, steps) else {
         return Err(RunFault::StepRange);
     };
     let masses = atom_masses(alloc, &job.types, &types)?;
-    let frac = Frac::F32;
-    let system = System {
-        frac,
-        ring: state.ring,
-        core: job.core,
-        cutoff: job.cutoff,
-        time_step: job.time_step,
+    Ok(Ready {
         types,
         masses,
-        kernel: TreeKernel { frac, program },
-    };
-    Ok(Prepared {
-        state,
-        system,
         counter,
     })
 }
 
+/// What the run of this job starts from, with its kernel.
+fn prepare<A: Allocator + Copy>(
+    job: &Job<A>,
+    state: State<A>,
+    kernel: CodeKernel<A>,
+    ready: Ready<A>,
+) -> Prepared<A>
+    requires table { kernel.table ≡ table_of (job_value job.now) }
+    requires known { All (λ t. t < length job.now.types.items) ready.types.items }
+    requires masses { ready.masses.items ≡ map (mass_of (map type_value job.now.types.items)) ready.types.items }
+    requires some { All (λ m. 0 < m) ready.masses.items }
+    requires most { All (λ m. m ≤ 100000000) ready.masses.items }
+    requires count { length ready.types.items ≡ length state.atoms.items }
+    ensures value { start_view result ≡ start_at (job_value job.now) (state_view state) (energy_view kernel.parts) (ready_view ready) }
+    ensures step { result.state.step ≡ state.step }
+{
+    let system = System {
+        frac: Frac::F32,
+        ring: state.ring,
+        core: job.core,
+        cutoff: job.cutoff,
+        time_step: job.time_step,
+        types: ready.types,
+        masses: ready.masses,
+        kernel,
+    };
+    Prepared {
+        state,
+        system,
+        counter: ready.counter,
+    }
+}
+
 /// What a run of these texts starts from.
-#[tactic(auto, unfolding(crate::specs::Starts::start_of))]
+#[tactic(auto, unfolding(crate::specs::Starts::start_of, crate::specs::Starts::start_with))]
 pub(crate) fn start<A: Allocator + Copy>(
     alloc: A,
     direction: Direction,
@@ -136,6 +178,23 @@ pub(crate) fn start<A: Allocator + Copy>(
 {
     let job = Job::read(alloc, job)?;
     let state = State::read(alloc, state)?;
-    let program = parse(alloc, Frac::F32, &job.energy)?;
-    prepare(alloc, direction, steps, &job, state, program)
+    let parts = energy(alloc, &job)?;
+    let ready = ready(alloc, direction, steps, &job, &state)?;
+    let kernel = kernel(alloc, &job, parts)?;
+    Ok(prepare(&job, state, kernel, ready))
+}
+
+/// The code of the slope of a job's energy, as a run of the job has it. Whether it would give a value anywhere isn't asked.
+///
+/// `job` has the bytes of a job file. The refusals are those of the job and then of its energy; `Memory` wherever a growth is refused.
+#[tactic(auto, unfolding(crate::specs::Starts::job_energy))]
+pub fn slope_code<A: Allocator + Copy>(alloc: A, job: &[u8]) -> Result<Code<A>, RunFault<A>>
+    // Which answer it is.
+    ensures exact { Gives (λ code. code) result (slope_code_of job.now) }
+    // What the code gives.
+    ensures computes { IfOk result (IsSlopeCode job.now) }
+{
+    let job = Job::read(alloc, job)?;
+    let parts = energy(alloc, &job)?;
+    Ok(parts.code)
 }

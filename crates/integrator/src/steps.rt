@@ -76,6 +76,7 @@ impl<K: TestedSlope + Drop, A: Allocator> System<K, A> {
         requires before { length before.old ≡ length middle.now }
         requires middle { length middle.now ≡ length self.now.masses.items }
         requires sums { length sums.old ≡ length middle.now }
+        requires known { All (λ t. t < K.types self.now.kernel) self.now.types.items }
         ensures value { OnOk result (next_frame (dynamics_of K.slope K.fault self.now) before.old middle.now ≡ Some before.new) }
         ensures fault { IfErr result (λ e. first_without_force (pair_force (dynamics_of K.slope K.fault self.now) middle.now) (length middle.now) ≡ Some (e.low, e.high)) }
         ensures why { IfErr result (λ e. pair_fault (dynamics_of K.slope K.fault self.now) middle.now (e.low, e.high) ≡ Some e.fault) }
@@ -95,6 +96,7 @@ impl<K: TestedSlope + Drop, A: Allocator> System<K, A> {
         requires before { length before.old.items ≡ length self.now.masses.items }
         requires middle { length middle.old.items ≡ length self.now.masses.items }
         requires sums { length sums.old ≡ length self.now.masses.items }
+        requires known { All (λ t. t < K.types self.now.kernel) self.now.types.items }
         ensures value { OnOk result (step (dynamics_of K.slope K.fault self.now) (frames before.old.items middle.old.items) ≡ Some (frames before.new.items middle.new.items)) }
         ensures before { length before.new.items ≡ length before.old.items }
         ensures middle { length middle.new.items ≡ length middle.old.items }
@@ -117,6 +119,7 @@ impl<K: TestedSlope + Drop, A: Allocator> System<K, A> {
         requires before { length before.old.items ≡ length self.now.masses.items }
         requires middle { length middle.old.items ≡ length self.now.masses.items }
         requires sums { length sums.old ≡ length self.now.masses.items }
+        requires known { All (λ t. t < K.types self.now.kernel) self.now.types.items }
         ensures value { OnOk result (turns Forward (dynamics_of K.slope K.fault self.now) steps (frames before.old.items middle.old.items) ≡ Some (frames before.new.items middle.new.items)) }
         ensures before { length before.new.items ≡ length before.old.items }
         ensures middle { length middle.new.items ≡ length middle.old.items }

@@ -4,7 +4,8 @@ ghost use Rattle.std.specs.Prelude.{◌≡◌, ◌*◌, ◌<◌, ◌≤◌, ◌^
 ghost use Rattle.std.specs.List.{All};
 ghost use Rattle.fixed.specs.Fractions.{bits_of};
 
-use fixed::{Fault, Frac, Fx};
+use crate::slope_faults::SlopeFault;
+use fixed::{Frac, Fx};
 use ring_box::RingBox;
 use std::alloc::Allocator;
 
@@ -39,7 +40,7 @@ pub(crate) struct System<K: Drop, A: Allocator> {
 pub(crate) struct PairFault {
     pub low: usize,
     pub high: usize,
-    pub fault: Fault,
+    pub fault: SlopeFault,
     pub ghost apart: { low < high },
     pub ghost few: { high < 65536 },
 }

@@ -6,12 +6,12 @@ use Rattle.fixed.specs.declared.faults.NumFault.TheVariants.{BadNumber, NumberRa
 use Rattle.job.specs.declared.faults.Key.{Key}
 use Rattle.job.specs.declared.faults.Key.TheVariants as keys
 use Rattle.job.specs.Forms.{is_identifier, is_type_name}
-use Rattle.job.specs.Words.{words, without_blanks, after_word}
+use Rattle.line_text.specs.Words.{words, without_blanks, after_word}
 use Rattle.job.specs.Numbers.{Reading, both, only, alone, numeral_of, signed_of, values_of, cutoff_of, whole_of, mass_of}
 use Rattle.job.specs.Values.{Counts}
 use Rattle.job.specs.Statements.{Statement, skipped, core_is, cutoff_is, time_step_is, slices_is, parameter_is, global_is, type_is, well_formed, energy_statement, parameter_statement, global_statement, type_statement, key_of, key_statement, words_statement, entry_of}
 use Rattle.job.specs.Faults.{Refusal, bad_line, repeated_name, out_of_range, repeated_type, Said, energy_in, core_in, cutoff_in, time_step_in, slices_in, parameter_in, global_in, type_in, first, type_lines, summary, once, knows, listed, entry_fault, line_fault, or_else, first_fault}
-use Rattle.job.specs.JobText.{◌>>=◌}
+use Rattle.line_text.specs.Steps.{◌>>=◌}
 use Rattle.job.specs.Drafts.{number_of, energy_new, energy_into, core_into, cutoff_into, time_step_into, slices_into, parameter_new, parameter_into, global_new, global_by, global_into, type_new, type_by, type_into, key_into, words_into, line_into, lines_into}
 
 -- ---- one more line

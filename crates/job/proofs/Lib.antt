@@ -1,4 +1,3 @@
-pub mod WordLemmas
 pub mod NumberLemmas
 pub mod FormLemmas
 pub mod DraftLemmas

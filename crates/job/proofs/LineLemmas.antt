@@ -1,9 +1,30 @@
 -- Lines, one after another.
-use Rattle.std.proofs.Common.{◌≡◌, ℕ, ◌+◌, List, [], ◌∷◌, length, Option, Some, None, Result, Ok, Err, IfSome, ◌<◌, ◌≤◌, option_map, arith, sym, ap, ◌∙◌}
+use Rattle.std.proofs.Common.{◌≡◌, ◌==◌, refl, ℕ, ◌+◌, List, [], ◌∷◌, length, Option, Some, None, Result, Ok, Err, IfSome, ◌<◌, ◌≤◌, option_map, arith, sym, ap, ◌∙◌}
+use Rattle.std.specs.List.{slice_split}
+use Rattle.line_text.specs.Parts.{cut_at}
+use Rattle.line_text.proofs.LineLaws.{cut_none}
+use Rattle.line_text.proofs.SplitLaws.{split_cut, split_uncut, split_some}
+use Rattle.job.specs.Words.{without_return, ended, lines_of}
 use Rattle.job.specs.Faults.{Refusal, Said}
-use Rattle.job.specs.JobText.{◌>>=◌}
+use Rattle.line_text.specs.Steps.{◌>>=◌}
 use Rattle.job.specs.Values.{Counts}
 use Rattle.job.specs.Drafts.{line_into, lines_into}
+
+-- ---- lines
+
+ended_more : (line : List ℕ) (text : List ℕ) → ended (line ∷ slice_split (λ b. b == 10) text) ≡ without_return line ∷ lines_of text
+unfolding lines_of
+ended_more line text = let s = split_some (λ b. b == 10) text in rw s.2 refl
+
+pub lines_cut : (text a b : List ℕ) → cut_at 10 text ≡ Some (a, b) → lines_of text ≡ without_return a ∷ lines_of b
+unfolding lines_of
+lines_cut text a b e = ap ended (split_cut 10 text a b e) ∙ ended_more a b
+
+pub lines_whole : (text : List ℕ) → cut_at 10 text ≡ None → lines_of text ≡ text ∷ []
+unfolding lines_of
+lines_whole text e = ap ended (split_uncut 10 text (cut_none 10 text e))
+
+-- ---- line by line
 
 -- how much of a text is left
 abbrev pub size : Option (List ℕ) → ℕ

@@ -1,20 +1,18 @@
 -- What numerals, whole numbers and masses are read as.
-use Rattle.std.proofs.Common.{◌≡◌, ℕ, ◌+◌, ◌-◌, ◌*◌, ◌^◌, ◌<◌, ◌≤◌, ◌≤ℤ◌, ℤ, pos, negsuc, Bool, true, false, cond, min, List, [], ◌∷◌, ◌++◌, length, drop, get_or, Option, Some, None, Ok, Err, IfOk, option_map, refl, sym, ap, ◌∙◌, arith, append-nil, append_assoc, inl, inr, add-one, drop-cons}
-use Rattle.std.specs.List.{AllPass, list_all}
-use Rattle.std.specs.Char.{is_ascii_digit, digit_value}
-use Rattle.std.specs.Str.Parse.{digits_value, digits_value_after}
-use Rattle.std.proofs.lemmas.Bool.{cases_lt, le-leb, lt-leb}
+use Rattle.std.proofs.Common.{◌≡◌, ℕ, ◌+◌, ◌-◌, ◌*◌, ◌^◌, ◌<◌, ◌≤◌, ◌≤ℤ◌, ◌&&◌, ltb, leb, ℤ, pos, negsuc, Bool, true, false, cond, min, List, [], ◌∷◌, ◌++◌, length, Option, Some, None, Ok, Err, IfOk, option_map, refl, sym, ap, ◌∙◌, arith, append-nil, append_assoc, inl, inr}
+use Rattle.std.specs.Str.{all_ascii_digits}
+use Rattle.std.specs.Str.Parse.{digits_value}
+use Rattle.std.proofs.lemmas.Bool.{cases_lt, le-leb, lt-leb, lt-ltb}
 use Rattle.std.proofs.lemmas.Int.{ints}
-use Rattle.std.proofs.lemmas.Nat.{mul-le}
-use Rattle.std.proofs.lemmas.List.Elements.{All-tail}
-use Rattle.std.proofs.lemmas.List.Sums.{AllPass-from_list_all}
-use Rattle.std.proofs.Math.Nat.{pow-suc, pow-le-pow_right}
 use Rattle.fixed.specs.declared.faults.NumFault.{NumFault}
 use Rattle.fixed.specs.declared.faults.NumFault.TheVariants.{BadNumber, NumberRange}
 use Rattle.fixed.specs.Numerals.{IsReading, fixed_of}
 use Rattle.fixed.specs.NumeralParts.{decimal_of}
 use Rattle.fixed.proofs.NumeralLemmas.{sound, complete}
-use Rattle.job.specs.Numbers.{Reading, ◌>>=◌, both, or_malformed, numeral_of, signed_of, values_of, within, mass_from, is_whole}
+use Rattle.line_text.specs.Columns.{digits_of}
+use Rattle.line_text.proofs.WrittenLaws.{digits_written}
+use Rattle.line_text.specs.Steps.{◌>>=◌}
+use Rattle.job.specs.Numbers.{Reading, both, or_malformed, numeral_of, signed_of, values_of, within, whole_of, mass_from}
 
 -- ---- numerals
 
@@ -44,31 +42,6 @@ each_least f h (Some d) = h d
 pub numeral_least : (text : List ℕ) → IfOk (numeral_of text) (λ v. pos 0 ≤ℤ v)
 unfolding numeral_of
 numeral_least text = each_least (λ d. fixed_of 32 d.mantissa d.power) (λ d. fixed_least 32 d.mantissa d.power) (decimal_of text)
-
--- ---- digits
-
-after_ge : (n : ℕ) (ds : List ℕ) → n ≤ digits_value_after 10 n ds
-after_ge n [] = omega arith
-after_ge n (c ∷ cs) = omega (arith, after_ge (n * 10 + digit_value c) cs)
-
-pub digit_is : (c : ℕ) → is_ascii_digit c ≡ true → (48 ≤ c) × (c ≤ 57) × (digit_value c ≡ c - 48)
-digit_is c h = (grind arith, grind arith, grind arith)
-
-after_more : (n : ℕ) (ds : List ℕ) (i : ℕ) → i < length ds → digits_value_after 10 n (drop i ds) ≡ digits_value_after 10 (n * 10 + digit_value (get_or ds i 0)) (drop (i + 1) ds)
-after_more n ds i h = rw (drop-cons ds i 0, add-one) refl
-
-after_capped : (cap n : ℕ) (ds : List ℕ) → min cap (digits_value_after 10 (min n cap) ds) ≡ min cap (digits_value_after 10 n ds)
-after_capped cap n ds =
-    elim (cases_lt n cap) [
-      | inl l ↦ let e : min n cap ≡ n = omega arith in rw e refl
-      | inr g ↦ let e : min n cap ≡ cap = omega arith in rw e (omega (arith, after_ge n ds, after_ge cap ds))
-    ]
-
--- the digits so far up to the cap, one more, and the rest
-pub capped_step : (cap n r : ℕ) (ds : List ℕ) (i : ℕ) → i < length ds → r ≡ min (n * 10 + digit_value (get_or ds i 0)) cap
-    → min cap (digits_value_after 10 r (drop (i + 1) ds)) ≡ min cap (digits_value_after 10 n (drop i ds))
-capped_step cap n r ds i h e =
-    rw (e, after_more n ds i h) (after_capped cap (n * 10 + digit_value (get_or ds i 0)) (drop (i + 1) ds))
 
 -- ---- values
 
@@ -131,39 +104,91 @@ values_stop b values rest ws w total e s h = sym (values_bad b values ws w s) �
 pub values_all : (b : Bool) (values : List ℤ) (rest : List (List ℕ)) (total : Reading (List ℤ)) → rest ≡ [] → and_then (so_far b values) (values_of rest) ≡ total → so_far b values ≡ total
 values_all b values rest total e h = sym (values_end b values) ∙ ap (and_then (so_far b values)) (sym (ap values_of e ∙ values_none)) ∙ h
 
--- ---- masses
+-- ---- whole numbers and masses
 
-pub within_out : (n : ℕ) → 100000000 < n → within 1 100000000 n ≡ Err NumberRange
-within_out n lt = rw (lt-leb n 100000000 lt, le-leb 1 n (omega arith)) refl
+above_range : (least most n : ℕ) → most < n → within least most n ≡ Err NumberRange
+above_range least most n lt = rw (lt-leb n most lt) (at (leb least n))
+  where
+    at : (b : Bool) → ◌≡◌ {A = Reading ℕ} (cond (b && false) (Ok n) (Err NumberRange)) (Err NumberRange)
+    at true = refl
+    at false = refl
 
-pub within_in : (n : ℕ) → 1 ≤ n → n ≤ 100000000 → within 1 100000000 n ≡ Ok n
-within_in n low high = rw (le-leb 1 n low, le-leb n 100000000 high) refl
+capped_in : (limit r : ℕ) (o : Option ℕ) → Some r ≡ option_map (λ n. min n limit) o → (n : ℕ) × (o ≡ Some n) × (r ≡ min n limit)
+capped_in limit r None e = absurd cc
+capped_in limit r (Some n) e = let same : r ≡ min n limit = cc in (n, refl, same)
 
-pub within_low : (n : ℕ) → n < 1 → within 1 100000000 n ≡ Err NumberRange
-within_low n lt = rw (lt-leb 1 n lt) refl
+none_in : (limit : ℕ) (o : Option ℕ) → None ≡ option_map (λ n. min n limit) o → o ≡ None
+none_in limit None e = refl
+none_in limit (Some n) e = absurd cc
 
-within_capped : (w f : ℕ) → within 1 100000000 (min 1001 w * 100000 + f) ≡ within 1 100000000 (w * 100000 + f)
-within_capped w f =
+-- what digits up to a limit write
+digits_in : (limit r : ℕ) (text : List ℕ) → Some r ≡ option_map (λ n. min n limit) (digits_of text) → (all_ascii_digits text ≡ true) × (r ≡ min (digits_value 10 text) limit)
+digits_in limit r text e =
+    let c = capped_in limit r (digits_of text) e in
+    let d = digits_written text c.0 c.1 in
+    (d.0, c.2 ∙ ap (λ (n : ℕ). min n limit) (sym d.1))
+
+no_digits : (text : List ℕ) → digits_of text ≡ None → all_ascii_digits text ≡ false
+unfolding digits_of
+no_digits text e = at (all_ascii_digits text) refl e
+  where
+    at : (b : Bool) → all_ascii_digits text ≡ b → cond b (Some (digits_value 10 text)) None ≡ None → all_ascii_digits text ≡ false
+    at true t d = absurd cc
+    at false t d = t
+
+pub whole_empty : (least most : ℕ) (word : List ℕ) → length word ≡ 0 → Err BadNumber ≡ whole_of least most word
+unfolding whole_of
+whole_empty least most [] e = refl
+whole_empty least most (c ∷ cs) e = absurd (omega arith)
+
+pub whole_bad : (least most limit : ℕ) (word : List ℕ) → None ≡ option_map (λ n. min n limit) (digits_of word) → Err BadNumber ≡ whole_of least most word
+unfolding whole_of
+whole_bad least most limit word e = rw (no_digits word (none_in limit (digits_of word) e)) (at (ltb 0 (length word)))
+  where
+    at : (b : Bool) → Err BadNumber ≡ cond (b && false) (within least most (digits_value 10 word)) (Err BadNumber)
+    at true = refl
+    at false = refl
+
+pub whole_is : (least most limit r : ℕ) (word : List ℕ) → limit ≡ most + 1 → (length word ≡ 0 → ⊥) → Some r ≡ option_map (λ n. min n limit) (digits_of word) → within least most r ≡ whole_of least most word
+unfolding whole_of
+whole_is least most limit r word above some e =
+    let d = digits_in limit r word e in
+    let n = digits_value 10 word in
+    rw (lt-ltb 0 (length word) (omega (arith, some)), d.0, d.1) (
+    elim (cases_lt n limit) [
+      | inl l ↦ let e : min n limit ≡ n = omega arith in rw e refl
+      | inr g ↦ above_range least most (min n limit) (omega arith) ∙ sym (above_range least most n (omega arith))
+    ])
+
+-- a mass, by what is asked of its digits: some before the point, all digits there, all digits behind it, and few of those
+abbrev mass_if : Bool → Bool → Bool → Bool → Reading ℕ → Reading ℕ
+mass_if some whole part few mass = cond ((some && whole) && (part && few)) mass (Err BadNumber)
+
+bad_whole : (some part few : Bool) (mass : Reading ℕ) → Err BadNumber ≡ mass_if some false part few mass
+bad_whole true part few mass = refl
+bad_whole false part few mass = refl
+
+bad_part : (some whole few : Bool) (mass : Reading ℕ) → Err BadNumber ≡ mass_if some whole false few mass
+bad_part true true few mass = refl
+bad_part true false few mass = refl
+bad_part false whole few mass = refl
+
+pub mass_bad_whole : (limit : ℕ) (whole part : List ℕ) → None ≡ option_map (λ n. min n limit) (digits_of whole) → Err BadNumber ≡ mass_from whole part
+mass_bad_whole limit whole part e = rw (no_digits whole (none_in limit (digits_of whole) e)) (bad_whole (ltb 0 (length whole)) (all_ascii_digits part) (leb (length part) 5) _)
+
+pub mass_bad_part : (whole part : List ℕ) → None ≡ digits_of part → Err BadNumber ≡ mass_from whole part
+mass_bad_part whole part e = rw (no_digits part (sym e)) (bad_part (ltb 0 (length whole)) (all_ascii_digits whole) (leb (length part) 5) _)
+
+mass_capped : (w f : ℕ) → within 1 100000000 (min w 1001 * 100000 + f) ≡ within 1 100000000 (w * 100000 + f)
+mass_capped w f =
     elim (cases_lt w 1001) [
-      | inl l ↦ let e : min 1001 w ≡ w = omega arith in rw e refl
-      | inr g ↦ within_out (min 1001 w * 100000 + f) (omega arith) ∙ sym (within_out (w * 100000 + f) (omega arith))
+      | inl l ↦ let e : min w 1001 ≡ w = omega arith in rw e refl
+      | inr g ↦ above_range 1 100000000 (min w 1001 * 100000 + f) (omega arith) ∙ sym (above_range 1 100000000 (w * 100000 + f) (omega arith))
     ]
 
-after_lt : (n : ℕ) (ds : List ℕ) → AllPass is_ascii_digit ds → digits_value_after 10 n ds < (n + 1) * 10 ^ length ds
-after_lt n [] a = omega arith
-after_lt n (c ∷ cs) a =
-    let d = digit_is c (a 0 0 (omega arith)) in
-    let h = after_lt (n * 10 + digit_value c) cs (All-tail (λ x. is_ascii_digit x ≡ true) c cs a) in
-    let g : (n * 10 + digit_value c + 1) * 10 ^ length cs ≤ (n + 1) * 10 * 10 ^ length cs = mul-le (n * 10 + digit_value c + 1) (10 ^ length cs) ((n + 1) * 10) (10 ^ length cs) (omega (arith, d)) (omega arith) in
-    rw (pow-suc 10 (length cs)) (omega (arith, h, g))
-
-uncapped : (part : List ℕ) → list_all is_ascii_digit part ≡ true → length part ≤ 5 → min 100000 (digits_value 10 part) ≡ digits_value 10 part
-uncapped part digits le =
-    let lt = after_lt 0 part (AllPass-from_list_all is_ascii_digit part digits) in
-    let p : 10 ^ length part ≤ 10 ^ 5 = pow-le-pow_right (omega arith) le in
-    omega (arith, lt, p)
-
-pub mass_is : (whole part : List ℕ) (w f k : ℕ) → is_whole whole ≡ true → list_all is_ascii_digit part ≡ true → length part ≤ 5
-    → w ≡ min 1001 (digits_value 10 whole) → f ≡ min 100000 (digits_value 10 part) → k ≡ 10 ^ (5 - length part) → within 1 100000000 (w * 100000 + f * k) ≡ mass_from whole part
-mass_is whole part w f k a b le ew ef ek =
-    rw (a, b, le-leb (length part) 5 le, ew, ef, ek, uncapped part b le) (within_capped (digits_value 10 whole) (digits_value 10 part * 10 ^ (5 - length part)))
+pub mass_is : (whole part : List ℕ) (w d k : ℕ) → (length whole ≡ 0 → ⊥) → length part ≤ 5 → Some w ≡ option_map (λ n. min n 1001) (digits_of whole) → Some d ≡ digits_of part → k ≡ 10 ^ (5 - length part)
+    → within 1 100000000 (w * 100000 + d * k) ≡ mass_from whole part
+mass_is whole part w d k some few ew ed ek =
+    let u = digits_in 1001 w whole ew in
+    let v = digits_written part d (sym ed) in
+    rw (lt-ltb 0 (length whole) (omega (arith, some)), u.0, v.0, le-leb (length part) 5 few, u.1, v.1, ek) (mass_capped (digits_value 10 whole) (d * 10 ^ (5 - length part)))

@@ -7,7 +7,9 @@ use Rattle.job.specs.declared.faults.Key.{Key}
 use Rattle.job.specs.declared.faults.Key.TheVariants as keys
 use Rattle.job.specs.Words.{lines_of}
 use Rattle.job.specs.Faults.{Refusal, bad_line, out_of_range, TypeLine, Said, summary, line_fault, or_else, first_fault}
-use Rattle.job.specs.JobText.{◌>>=◌, header, IsJobText, Tells, needed, ordered, whole_types, job_from, unless, lines_reading, reading_of}
+use Rattle.line_text.specs.Steps.{◌>>=◌}
+use Rattle.line_text.proofs.StepLaws.{bind_ok}
+use Rattle.job.specs.JobText.{header, IsJobText, Tells, needed, ordered, whole_types, job_from, unless, lines_reading, reading_of}
 use Rattle.job.specs.Values.{TypeValue, JobValue, Counts}
 use Rattle.job.specs.declared.jobs.Job.{Job}
 use Rattle.job.specs.declared.faults.JobFault.{JobFault}
@@ -62,10 +64,6 @@ faultless_again most above (l ∷ ls) h =
     rw (first, rest) refl
 
 -- ---- the whole
-
-bind_ok : {X Y : Type 0} (r : Result X Refusal) (f : X → Result Y Refusal) (y : Y) → (r >>= f) ≡ Ok y → (x : X) × (r ≡ Ok x) × (f x ≡ Ok y)
-bind_ok (Ok x) f y e = (x, refl, e)
-bind_ok (Err d) f y e = absurd cc
 
 needed_ok : {X : Type 0} (key : Key) (o : Option X) (x : X) → needed key o ≡ Ok x → o ≡ Some x
 needed_ok key None x e = absurd cc

@@ -4,12 +4,13 @@ use Rattle.fixed.specs.declared.faults.NumFault.TheVariants.{BadNumber, NumberRa
 use Rattle.job.specs.declared.faults.Key.{Key}
 use Rattle.job.specs.declared.faults.Key.TheVariants as keys
 use Rattle.job.specs.Forms.{is_identifier, is_type_name}
-use Rattle.job.specs.Words.{words, without_blanks, after_word}
+use Rattle.line_text.specs.Words.{words, without_blanks, after_word}
 use Rattle.job.specs.Numbers.{Reading, both, only, alone, numeral_of, signed_of, values_of, cutoff_of, whole_of, mass_of}
 use Rattle.job.specs.Statements.{well_formed, key_of}
 use Rattle.job.specs.Values.{JobValue, Counts}
 use Rattle.job.specs.Faults.{Refusal, bad_line, repeated, repeated_name, out_of_range, repeated_type, Said, knows}
-use Rattle.job.specs.JobText.{◌>>=◌, header, job_from}
+use Rattle.line_text.specs.Steps.{◌>>=◌}
+use Rattle.job.specs.JobText.{header, job_from}
 
 -- the number of a key that one line may have
 abbrev pub number_of : {X : Type 0} → ℕ → Key → Option X → Reading X → Result X Refusal

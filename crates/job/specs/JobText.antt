@@ -1,17 +1,13 @@
 -- Which text is which job's, and the first fault of a text that is no job's.
 use Rattle.std.specs.Prelude.{◌≡◌, ℕ, ℤ, List, [], ◌∷◌, ◌++◌, length, map, filter_map, ◌≤◌, AllPairs, Option, Some, None, Result, Ok, Err, ◌==◌, ◌<ℤ◌, int_lt, codes, bytes_eq, All, if◌then◌else◌}
 use Rattle.std.specs.Option.{unwrap_or}
+use Rattle.line_text.specs.Steps.{◌>>=◌}
 use Rattle.job.specs.declared.faults.Key.{Key}
 use Rattle.job.specs.declared.faults.Key.TheVariants as keys
 use Rattle.job.specs.Words.{lines_of}
 use Rattle.job.specs.Statements.{Statement, entry_of}
 use Rattle.job.specs.Faults.{Refusal, bad_line, missing, out_of_range, TypeLine, Said, energy_in, core_in, cutoff_in, time_step_in, slices_in, summary, line_fault, first_fault}
 use Rattle.job.specs.Values.{TypeValue, JobValue, Counts}
-
-infixl 10 ◌>>=◌
-abbrev pub ◌>>=◌ : {X Y : Type 0} → Result X Refusal → (X → Result Y Refusal) → Result Y Refusal
-(Ok x) >>= f = f x
-(Err e) >>= f = Err e
 
 abbrev pub header : List ℕ
 header = codes "pairmd job 1"
@@ -116,6 +112,6 @@ lines_reading most (line ∷ lines) = if bytes_eq line header then unless (first
 unfoldable pub reading_of : Counts → List ℕ → Result JobValue Refusal
 reading_of most text = lines_reading most (lines_of text)
 
--- the counts of this stage
-abbrev pub stage : Counts
-stage = record { parameters = 0; globals = 0; types = 1 }
+-- how many parameters, globals and types a job may have
+abbrev pub limits : Counts
+limits = record { parameters = 8; globals = 16; types = 64 }

@@ -1,22 +1,17 @@
 -- The numbers of a job: each reading is a number, BadNumber where the word is malformed, or NumberRange where the number is out of its range.
 use Rattle.std.specs.Prelude.{◌≡◌, ℕ, ℤ, pos, neg_ℤ, Bool, ◌&&◌, ◌==◌, nat_le, nat_lt, int_le, ◌+◌, ◌-◌, ◌*◌, ◌^◌, List, [], ◌∷◌, length, Option, Some, None, Result, Ok, Err, if◌then◌else◌}
 use Rattle.std.specs.Option.{option_map}
-use Rattle.std.specs.List.{list_all}
-use Rattle.std.specs.Char.{is_ascii_digit}
+use Rattle.std.specs.Str.{all_ascii_digits}
 use Rattle.std.specs.Str.Parse.{digits_value}
 use Rattle.fixed.specs.Numerals.{fixed_of}
 use Rattle.fixed.specs.NumeralParts.{decimal_of}
 use Rattle.fixed.specs.declared.faults.NumFault.{NumFault}
 use Rattle.fixed.specs.declared.faults.NumFault.TheVariants.{BadNumber, NumberRange}
 use Rattle.line_text.specs.Parts.{cut_at}
+use Rattle.line_text.specs.Steps.{◌>>=◌}
 
 abbrev pub Reading : Type 0 → Type 0
 Reading X = Result X NumFault
-
-infixl 10 ◌>>=◌
-abbrev pub ◌>>=◌ : {X Y : Type 0} → Reading X → (X → Reading Y) → Reading Y
-(Ok x) >>= f = f x
-(Err e) >>= f = Err e
 
 abbrev pub mapped : {X Y : Type 0} → (X → Y) → Reading X → Reading Y
 mapped f (Ok x) = Ok (f x)
@@ -67,7 +62,7 @@ cutoff_of word = numeral_of word >>= cutoff_range
 
 -- one digit at least
 abbrev pub is_whole : List ℕ → Bool
-is_whole word = nat_lt 0 (length word) && list_all is_ascii_digit word
+is_whole word = nat_lt 0 (length word) && all_ascii_digits word
 
 abbrev pub within : ℕ → ℕ → ℕ → Reading ℕ
 within least most n = if nat_le least n && nat_le n most then Ok n else Err NumberRange
@@ -79,7 +74,7 @@ whole_of least most word = if is_whole word then within least most (digits_value
 -- a mass in u, 0.00001 to 1000, in units of 10^-5 u: digits, and behind a point one to five more
 abbrev pub mass_from : List ℕ → List ℕ → Reading ℕ
 mass_from whole part =
-    if is_whole whole && (list_all is_ascii_digit part && nat_le (length part) 5)
+    if is_whole whole && (all_ascii_digits part && nat_le (length part) 5)
     then within 1 100000000 (digits_value 10 whole * 100000 + digits_value 10 part * 10 ^ (5 - length part)) else Err BadNumber
 
 abbrev pub mass_parts : List ℕ → Option (List ℕ × List ℕ) → Reading ℕ

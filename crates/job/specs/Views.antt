@@ -7,11 +7,10 @@ use Rattle.job.specs.declared.faults.JobFault.TheVariants as faults
 use Rattle.job.specs.declared.jobs.Global.{Global}
 use Rattle.job.specs.declared.jobs.AtomType.{AtomType}
 use Rattle.job.specs.declared.jobs.Job.{Job}
-use Rattle.job.specs.declared.limits.Limits.{Limits}
 use Rattle.job.specs.declared.drafts.Draft.{Draft}
 use Rattle.job.specs.declared.drafts.TypeLine.{TypeLine}
 use Rattle.job.specs.declared.drafts.TypeNumbers.{TypeNumbers}
-use Rattle.job.specs.Values.{GlobalValue, TypeValue, JobValue, Counts}
+use Rattle.job.specs.Values.{GlobalValue, TypeValue, JobValue}
 use Rattle.job.specs.Faults as plain
 
 abbrev pub global_value : {A : Type 0} → Global A → GlobalValue
@@ -31,9 +30,6 @@ job_value j = record {
   globals = map global_value j.globals.items;
   types = map type_value j.types.items;
 }
-
-abbrev pub counts_of : Limits → Counts
-counts_of l = record { parameters = l.parameters; globals = l.globals; types = l.types }
 
 abbrev pub type_line : {A : Type 0} → TypeLine A → plain.TypeLine
 type_line t = record { line = t.line; value = type_value t.value }

@@ -9,32 +9,44 @@ use crate::jobs::{AtomType, Global};
 use fixed::Fx;
 use std::alloc::Allocator;
 
-/// What a type's line says behind its name: the mass in 10^-5 u, and the values.
+/// What a type's line says behind its name.
 #[derive(Drop)]
 pub struct TypeNumbers<A: Allocator> {
+    /// The mass in 10^-5 u, 1 to 100,000,000.
     pub mass: u32,
+    /// The values, as many as there are.
     pub values: Vec<Fx, A>,
     pub ghost some_mass: { 1 ≤ mass },
     pub ghost most_mass: { mass ≤ 100000000 },
 }
 
-/// A type of atoms, and the number of its line.
+/// A type of atoms, and its line.
 #[derive(Drop)]
 pub struct TypeLine<A: Allocator> {
+    /// The number of the line, counted from 1.
     pub line: u64,
+    /// The type that the line says.
     pub value: AtomType<A>,
 }
 
-/// What the lines so far have said.
+/// What the lines so far have said, each value as in the job; `None` where no line has its key.
 #[derive(Drop)]
 pub struct Draft<A: Allocator> {
+    /// The energy's text.
     pub energy: Option<Vec<u8, A>>,
+    /// The core in nm, at least 0.
     pub core: Option<Fx>,
+    /// The cutoff in nm, at most 80.
     pub cutoff: Option<Fx>,
+    /// The time step in fs, 1 to 1,000.
     pub time_step: Option<u32>,
+    /// The number of slices, 1 to 65,536.
     pub slices: Option<u32>,
+    /// The parameters' names, at most 8.
     pub parameters: Vec<Vec<u8, A>, A>,
+    /// The globals, at most 16.
     pub globals: Vec<Global<A>, A>,
+    /// The types, at most 64.
     pub types: Vec<TypeLine<A>, A>,
     ghost least_core: { IfSome core (λ v. pos 0 ≤ℤ v) } by { Prim.hlevel props },
     ghost most_cutoff: { IfSome cutoff (λ v. v ≤ℤ pos 343597383680) } by { Prim.hlevel props },

@@ -10,13 +10,21 @@ use thiserror::Error;
 /// The word that begins a job's line.
 #[derive(Clone, Copy, PartialEq, Eq, Debug)]
 pub enum Key {
+    /// `energy`, of which a job has one line.
     Energy,
+    /// `core`, of which a job has one line.
     Core,
+    /// `cutoff`, of which a job has one line.
     Cutoff,
+    /// `dt`, of which a job has one line.
     TimeStep,
+    /// `slices`, of which a job has one line or none.
     Slices,
+    /// `parameter`, of which a job has up to 8 lines.
     Parameter,
+    /// `global`, of which a job has up to 16 lines.
     Global,
+    /// `type`, of which a job has up to 64 lines.
     Types,
 }
 

@@ -14,6 +14,7 @@ use std::alloc::Allocator;
 pub struct Global<A: Allocator> {
     /// A letter or `_`, then letters, digits and `_`.
     pub name: Vec<u8, A>,
+    /// Its value, of 32 fraction bits.
     pub value: Fx,
     pub ghost named: { IsTrue (is_identifier name.items) },
 }

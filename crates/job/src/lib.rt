@@ -5,7 +5,6 @@ mod drafts;
 mod faults;
 mod forms;
 mod jobs;
-mod limits;
 mod lines;
 mod numbers;
 mod reading;

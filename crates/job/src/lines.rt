@@ -4,23 +4,30 @@ ghost use Rattle.std.specs.Prelude.{◌≡◌, ◌≤◌, ◌≤ℤ◌, pos, map
 ghost use Rattle.std.specs.List.{list_any};
 ghost use Rattle.line_text.specs.Names.{name_text};
 ghost use Rattle.job.specs.Forms.{is_identifier, is_type_name};
-ghost use Rattle.job.specs.Words.{words, without_blanks};
+ghost use Rattle.line_text.specs.Words.{words, without_blanks};
 ghost use Rattle.job.specs.Numbers.{alone, only, both, numeral_of, cutoff_of, whole_of, mass_of, values_of, mapped, HasRead};
 ghost use Rattle.job.specs.Statements.{well_formed};
 ghost use Rattle.job.specs.Faults.{bad_line, repeated_name, repeated_type, knows};
 ghost use Rattle.job.specs.Drafts.{number_of, energy_into, core_into, cutoff_into, time_step_into, slices_into, parameter_new, parameter_into, global_add, global_new, global_by, global_into, type_add, type_new, type_into, key_into, words_into, line_into};
-ghost use Rattle.job.specs.Views.{said_of, counts_of, global_value, type_line, refusal_of, type_numbers_of, Gives};
+ghost use Rattle.job.specs.JobText.{limits};
+ghost use Rattle.job.specs.Views.{said_of, global_value, type_line, refusal_of, type_numbers_of, Gives};
 
 use crate::drafts::{Draft, TypeLine, TypeNumbers};
 use crate::faults::{JobFault, Key};
 use crate::forms::{is_identifier, is_type_name, key_of};
 use crate::jobs::{AtomType, Global};
-use crate::limits::Limits;
 use crate::numbers::{cutoff, mass, numeral, signed_numeral, values, whole};
-use crate::words::{next_word, only_word, skip_blanks, two_words};
+use crate::words::{only_word, two_words};
 use fixed::{Fx, NumFault};
-use line_text::Name;
+use line_text::{Name, next_word, skip_blanks};
 use std::alloc::{AllocError, Allocator};
+
+// How many parameters, globals and types a job may have.
+const MOST_PARAMETERS: usize = 8;
+
+const MOST_GLOBALS: usize = 16;
+
+const MOST_TYPES: usize = 64;
 
 fn core_in(text: &[u8]) -> Result<Fx, NumFault>
     ensures value { result ≡ alone numeral_of (words text.now) }
@@ -182,16 +189,15 @@ fn knows_type<A: Allocator>(types: &[TypeLine<A>], name: &[u8]) -> bool
 fn add_parameter<A: Allocator + Copy>(
     alloc: A,
     mut draft: Draft<A>,
-    limits: &Limits,
     name: &[u8],
 ) -> Result<Draft<A>, JobFault<A>>
     requires { is_identifier name.now ≡ true }
-    ensures { Gives said_of result (parameter_new (counts_of limits.now) (said_of draft) name.now) }
+    ensures { Gives said_of result (parameter_new limits (said_of draft) name.now) }
 {
     if knows_parameter(draft.parameters.as_slice(), name) {
         return Err(repeated_name(alloc, name));
     }
-    if draft.parameters.as_slice().len() >= limits.parameters {
+    if draft.parameters.as_slice().len() >= MOST_PARAMETERS {
         return Err(JobFault::Range {
             key: Key::Parameter,
         });
@@ -204,14 +210,13 @@ fn add_parameter<A: Allocator + Copy>(
 fn take_parameter<A: Allocator + Copy>(
     alloc: A,
     draft: Draft<A>,
-    limits: &Limits,
     number: u64,
     text: &[u8],
 ) -> Result<Draft<A>, JobFault<A>>
-    ensures { Gives said_of result (parameter_into (counts_of limits.now) number (said_of draft) (only (words text.now))) }
+    ensures { Gives said_of result (parameter_into limits number (said_of draft) (only (words text.now))) }
 {
     match only_word(text) {
-        Ok(name) if is_identifier(name) => add_parameter(alloc, draft, limits, name),
+        Ok(name) if is_identifier(name) => add_parameter(alloc, draft, name),
         _ => Err(JobFault::BadLine { line: number }),
     }
 }
@@ -219,12 +224,11 @@ fn take_parameter<A: Allocator + Copy>(
 fn add_global<A: Allocator + Copy>(
     alloc: A,
     mut draft: Draft<A>,
-    limits: &Limits,
     name: &[u8],
     value: Option<Fx>,
 ) -> Result<Draft<A>, JobFault<A>>
     requires { is_identifier name.now ≡ true }
-    ensures { Gives said_of result (global_new (counts_of limits.now) (said_of draft) name.now value) }
+    ensures { Gives said_of result (global_new limits (said_of draft) name.now value) }
 {
     if knows_global(draft.globals.as_slice(), name) {
         return Err(repeated_name(alloc, name));
@@ -232,7 +236,7 @@ fn add_global<A: Allocator + Copy>(
     let Some(value) = value else {
         return Err(JobFault::Range { key: Key::Global });
     };
-    if draft.globals.as_slice().len() >= limits.globals {
+    if draft.globals.as_slice().len() >= MOST_GLOBALS {
         return Err(JobFault::Range { key: Key::Global });
     }
     let name = Vec::from_slice(alloc, name)?;
@@ -257,16 +261,15 @@ fn well_formed<T, A: Allocator>(
 fn take_global<A: Allocator + Copy>(
     alloc: A,
     draft: Draft<A>,
-    limits: &Limits,
     number: u64,
     text: &[u8],
 ) -> Result<Draft<A>, JobFault<A>>
-    ensures { Gives said_of result (global_into (counts_of limits.now) number (said_of draft) (words text.now)) }
+    ensures { Gives said_of result (global_into limits number (said_of draft) (words text.now)) }
 {
     match two_words(text) {
         Some((name, value)) if is_identifier(name) => {
             let value = well_formed(number, signed_numeral(value))?;
-            add_global(alloc, draft, limits, name, value)
+            add_global(alloc, draft, name, value)
         }
         _ => Err(JobFault::BadLine { line: number }),
     }
@@ -290,13 +293,12 @@ fn type_numbers<A: Allocator>(
 fn add_type<A: Allocator + Copy>(
     alloc: A,
     mut draft: Draft<A>,
-    limits: &Limits,
     number: u64,
     word: &[u8],
     numbers: Option<TypeNumbers<A>>,
 ) -> Result<Draft<A>, JobFault<A>>
     requires { is_type_name word.now ≡ true }
-    ensures { Gives said_of result (type_new (counts_of limits.now) number (said_of draft) word.now (option_map type_numbers_of numbers)) }
+    ensures { Gives said_of result (type_new limits number (said_of draft) word.now (option_map type_numbers_of numbers)) }
 {
     if knows_type(draft.types.as_slice(), word) {
         return Err(repeated_type(alloc, word));
@@ -304,7 +306,7 @@ fn add_type<A: Allocator + Copy>(
     let Some(numbers) = numbers else {
         return Err(JobFault::Range { key: Key::Types });
     };
-    if draft.types.as_slice().len() >= limits.types {
+    if draft.types.as_slice().len() >= MOST_TYPES {
         return Err(JobFault::Range { key: Key::Types });
     }
     let name = type_name(word);
@@ -333,11 +335,10 @@ fn type_name(word: &[u8]) -> Name
 fn take_type<A: Allocator + Copy>(
     alloc: A,
     draft: Draft<A>,
-    limits: &Limits,
     number: u64,
     text: &[u8],
 ) -> Result<Draft<A>, JobFault<A>>
-    ensures { Gives said_of result (type_into (counts_of limits.now) number (said_of draft) (words text.now)) }
+    ensures { Gives said_of result (type_into limits number (said_of draft) (words text.now)) }
 {
     let Some((name, rest)) = next_word(text) else {
         return Err(JobFault::BadLine { line: number });
@@ -349,19 +350,18 @@ fn take_type<A: Allocator + Copy>(
         return Err(JobFault::BadLine { line: number });
     }
     let numbers = well_formed(number, type_numbers(alloc, mass, rest)?)?;
-    add_type(alloc, draft, limits, number, name, numbers)
+    add_type(alloc, draft, number, name, numbers)
 }
 
 #[tactic(auto, unfolding(crate::specs::Drafts::key_into))]
 fn take_key<A: Allocator + Copy>(
     alloc: A,
     draft: Draft<A>,
-    limits: &Limits,
     number: u64,
     key: Option<Key>,
     text: &[u8],
 ) -> Result<Draft<A>, JobFault<A>>
-    ensures { Gives said_of result (key_into (counts_of limits.now) number (said_of draft) key text.now) }
+    ensures { Gives said_of result (key_into limits number (said_of draft) key text.now) }
 {
     match key {
         None => Err(JobFault::BadLine { line: number }),
@@ -370,9 +370,9 @@ fn take_key<A: Allocator + Copy>(
         Some(Key::Cutoff) => take_cutoff(draft, number, text),
         Some(Key::TimeStep) => take_time_step(draft, number, text),
         Some(Key::Slices) => take_slices(draft, number, text),
-        Some(Key::Parameter) => take_parameter(alloc, draft, limits, number, text),
-        Some(Key::Global) => take_global(alloc, draft, limits, number, text),
-        Some(Key::Types) => take_type(alloc, draft, limits, number, text),
+        Some(Key::Parameter) => take_parameter(alloc, draft, number, text),
+        Some(Key::Global) => take_global(alloc, draft, number, text),
+        Some(Key::Types) => take_type(alloc, draft, number, text),
     }
 }
 
@@ -381,17 +381,16 @@ fn take_key<A: Allocator + Copy>(
 pub fn take_line<A: Allocator + Copy>(
     alloc: A,
     draft: Draft<A>,
-    limits: &Limits,
     number: u64,
     line: &[u8],
 ) -> Result<Draft<A>, JobFault<A>>
-    ensures { Gives said_of result (line_into (counts_of limits.now) number (said_of draft) line.now) }
+    ensures { Gives said_of result (line_into limits number (said_of draft) line.now) }
 {
     if let [b'#', ..] = line {
         return Ok(draft);
     }
     match next_word(line) {
         None => Ok(draft),
-        Some((word, text)) => take_key(alloc, draft, limits, number, key_of(word), text),
+        Some((word, text)) => take_key(alloc, draft, number, key_of(word), text),
     }
 }

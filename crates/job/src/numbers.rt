@@ -1,15 +1,11 @@
 //! The numbers of a job. A word is malformed (`BadNumber`), or its number is out of its range (`NumberRange`).
 
-ghost use Rattle.std.specs.Prelude.{◌≡◌, ◌+◌, ◌*◌, ◌^◌, ◌≤◌, ◌≤ℤ◌, pos, min, length, IfOk};
-ghost use Rattle.std.specs.List.{list_all, AllPass};
-ghost use Rattle.std.specs.Char.{is_ascii_digit};
-ghost use Rattle.std.specs.Str.Parse.{digits_value};
-ghost use Rattle.job.specs.Words.{words};
-ghost use Rattle.job.specs.Numbers.{numeral_of, signed_of, cutoff_of, is_whole, whole_of, mass_from, mass_of, values_of, HasRead};
+ghost use Rattle.std.specs.Prelude.{◌≡◌, ◌≤◌, ◌≤ℤ◌, pos, IfOk};
+ghost use Rattle.line_text.specs.Words.{words};
+ghost use Rattle.job.specs.Numbers.{numeral_of, signed_of, cutoff_of, within, whole_of, mass_from, mass_of, values_of, HasRead};
 
-use crate::words::next_word;
 use fixed::{Frac, Fx, NumFault};
-use line_text::cut;
+use line_text::{cut, digits, digits_up_to, next_word, power_of_ten};
 use std::alloc::{AllocError, Allocator};
 
 const MOST_CUTOFF: i64 = 343_597_383_680;
@@ -49,64 +45,47 @@ pub fn cutoff(word: &[u8]) -> Result<Fx, NumFault>
     }
 }
 
-fn are_digits(text: &[u8]) -> bool
-    ensures { result ≡ list_all is_ascii_digit text.now }
-{
-    text.iter().all(|b| b.is_ascii_digit())
-}
-
-fn is_whole(word: &[u8]) -> bool
-    ensures { result ≡ is_whole word.now }
-{
-    !word.is_empty() && are_digits(word)
-}
-
-// The number, or the cap where it is more.
-fn capped_value(cap: u32, digits: &[u8]) -> u32
-    requires small { cap ≤ 100000000 }
-    requires digits { AllPass is_ascii_digit digits.now }
-    ensures { result ≡ min cap (digits_value 10 digits.now) }
-{
-    let mut value = 0;
-    for b in digits {
-        value = (value * 10 + u32::from(*b - b'0')).min(cap);
-    }
-    value
-}
-
-/// A whole number in the range.
-#[tactic(auto, unfolding(crate::specs::Numbers::whole_of))]
-pub fn whole(least: u32, most: u32, word: &[u8]) -> Result<u32, NumFault>
-    requires { most + 1 ≤ 100000000 }
-    ensures value { result ≡ whole_of least most word.now }
+// The number, where it is in the range.
+fn within(least: u32, most: u32, value: u64) -> Result<u32, NumFault>
+    ensures value { result ≡ within least most value }
     ensures range { IfOk result (λ n. (least ≤ n) × (n ≤ most)) }
 {
-    if !is_whole(word) {
-        return Err(NumFault::BadNumber);
-    }
-    let value = capped_value(most + 1, word);
-    if least <= value && value <= most {
-        Ok(value)
+    if u64::from(least) <= value && value <= u64::from(most) {
+        Ok(value as u32)
     } else {
         Err(NumFault::NumberRange)
     }
+}
+
+/// A whole number in the range, leading zeros allowed.
+pub fn whole(least: u32, most: u32, word: &[u8]) -> Result<u32, NumFault>
+    ensures value { result ≡ whole_of least most word.now }
+    ensures range { IfOk result (λ n. (least ≤ n) × (n ≤ most)) }
+{
+    if word.is_empty() {
+        return Err(NumFault::BadNumber);
+    }
+    let Some(value) = digits_up_to(u64::from(most) + 1, word) else {
+        return Err(NumFault::BadNumber);
+    };
+    within(least, most, value)
 }
 
 fn decimal_mass(whole: &[u8], part: &[u8]) -> Result<u32, NumFault>
     ensures value { result ≡ mass_from whole.now part.now }
     ensures range { IfOk result (λ n. (1 ≤ n) × (n ≤ 100000000)) }
 {
-    if !is_whole(whole) || !are_digits(part) || part.len() > 5 {
+    if whole.is_empty() || part.len() > 5 {
         return Err(NumFault::BadNumber);
     }
-    let places = 5 - part.len() as u32;
-    let mass = u64::from(capped_value(1001, whole)) * 100_000
-        + u64::from(capped_value(100_000, part)) * 10u64.pow(places);
-    if 1 <= mass && mass <= 100_000_000 {
-        Ok(mass as u32)
-    } else {
-        Err(NumFault::NumberRange)
-    }
+    let Some(units) = digits_up_to(1001, whole) else {
+        return Err(NumFault::BadNumber);
+    };
+    let Some(decimals) = digits(part) else {
+        return Err(NumFault::BadNumber);
+    };
+    let mass = units * 100_000 + decimals * power_of_ten(5 - part.len());
+    within(1, 100_000_000, mass)
 }
 
 /// A mass in u, in units of 10^-5 u: digits, and behind a point one to five more.

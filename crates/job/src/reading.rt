@@ -6,42 +6,30 @@ ghost use Rattle.std.specs.List.{All};
 ghost use Rattle.std.specs.Option.{unwrap_or};
 ghost use Rattle.job.specs.Words.{lines_of, more_lines};
 ghost use Rattle.job.specs.Drafts.{nothing, lines_into, lines_job};
-ghost use Rattle.job.specs.JobText.{header, needed, ordered, whole_types, job_from};
-ghost use Rattle.job.specs.Views.{said_of, counts_of, type_line, type_value, job_value, Gives};
+ghost use Rattle.job.specs.JobText.{header, needed, ordered, whole_types, job_from, limits};
+ghost use Rattle.job.specs.Views.{said_of, type_line, type_value, job_value, Gives};
 
 use crate::drafts::{Draft, TypeLine};
 use crate::faults::{JobFault, Key};
 use crate::jobs::{AtomType, Job};
-use crate::limits::Limits;
 use crate::lines::take_line;
 use crate::words::next_line;
 use fixed::Fx;
 use std::alloc::{AllocError, Allocator};
 
-/// How many parameters, globals and types a job may have for now; at last 8, 16 and 64.
-const STAGE: Limits = Limits {
-    parameters: 0,
-    globals: 0,
-    types: 1,
-};
-
 /// The number of slices of a job that names none.
 const SLICES: u32 = 64;
 
-fn take_lines<A: Allocator + Copy>(
-    alloc: A,
-    limits: &Limits,
-    text: Option<&[u8]>,
-) -> Result<Draft<A>, JobFault<A>>
+fn take_lines<A: Allocator + Copy>(alloc: A, text: Option<&[u8]>) -> Result<Draft<A>, JobFault<A>>
     requires { IfSome text (λ t. length t.now + 3 < 2 ^ 64) }
-    ensures { Gives said_of result (lines_into (counts_of limits.now) 2 nothing (more_lines (option_map (λ x. x.now) text.entry))) }
+    ensures { Gives said_of result (lines_into limits 2 nothing (more_lines (option_map (λ x. x.now) text.entry))) }
 {
     let mut draft = Draft::new(alloc);
     let mut number = 2;
     let mut rest = text;
     while let Some(lines) = rest {
         let (line, after) = next_line(lines);
-        draft = take_line(alloc, draft, limits, number, line)?;
+        draft = take_line(alloc, draft, number, line)?;
         number += 1;
         rest = after;
     }
@@ -161,39 +149,35 @@ fn is_header(line: &[u8]) -> bool
     line == b"pairmd job 1".as_slice()
 }
 
-fn read_within<A: Allocator + Copy>(
-    alloc: A,
-    limits: &Limits,
-    bytes: &[u8],
-) -> Result<Job<A>, JobFault<A>>
-    ensures { Gives job_value result (lines_job (counts_of limits.now) (lines_of bytes.now)) }
+fn read_lines<A: Allocator + Copy>(alloc: A, bytes: &[u8]) -> Result<Job<A>, JobFault<A>>
+    ensures { Gives job_value result (lines_job limits (lines_of bytes.now)) }
 {
     let (first, rest) = next_line(bytes);
     if !is_header(first) {
         return Err(JobFault::BadLine { line: 1 });
     }
-    let draft = take_lines(alloc, limits, rest)?;
+    let draft = take_lines(alloc, rest)?;
     finish(alloc, draft)
 }
 
 impl<A: Allocator + Copy> Job<A> {
-    ghost use Rattle.job.specs.JobText.{IsJobText, HasKeysOnce, HasNamesOnce, below_first, reading_of, stage};
+    ghost use Rattle.job.specs.JobText.{IsJobText, HasKeysOnce, HasNamesOnce, below_first, reading_of};
     ghost use Rattle.job.specs.Values.{JobValue};
     ghost use Rattle.job.specs.Views.{job_value, Gives, AnswersJob};
 
     /// Reads a job's text.
     ///
-    /// The first line is `pairmd job 1`. Below it, lines that are blank or begin with `#` are skipped, and the others begin with a key, in any order: `energy TEXT`, `core X`, `cutoff X` and `dt N` once, `slices N` at most once, and `parameter NAME`, `global NAME X` and `type NAME MASS X..`, of which a job may have none, none and one for now. Words are separated by spaces or tabs, and lines end with a line feed, before which one carriage return may stand.
+    /// The first line is `pairmd job 1`. Below it, lines that are blank or begin with `#` are skipped, and the others begin with a key, in any order: `energy TEXT`, `core X`, `cutoff X` and `dt N` once, `slices N` at most once, and `parameter NAME`, `global NAME X` and `type NAME MASS X..`, of which a job may have at most 8, 16 and 64. Words are separated by spaces or tabs, and lines end with a line feed, before which one carriage return may stand.
     ///
     /// The first fault is the answer. Lines are judged from the top, and on each `BadLine` where it is malformed, `Repeated` or `RepeatedName` where a line above has its key or its name, `RepeatedType` where a type above has its name, and `Range` where a number is out of its range or the line is one too many. Then come `Missing` for `energy`, `core`, `cutoff` and `dt` in this order, `Range` where the cutoff isn't more than the core, and `BadLine` for the first type with another number of values than there are parameters. `Memory` comes only where a growth was refused.
     pub fn read(alloc: A, bytes: &[u8]) -> Result<Job<A>, JobFault<A>>
-        ensures exact { Gives job_value result (reading_of stage bytes.now) }
-        ensures job { IfOk result (λ job. IsJobText stage bytes.now (job_value job)) }
+        ensures exact { Gives job_value result (reading_of limits bytes.now) }
+        ensures job { IfOk result (λ job. IsJobText limits bytes.now (job_value job)) }
         ensures once { IfOk result (λ _. HasKeysOnce (below_first (lines_of bytes.now))) }
         ensures apart { IfOk result (λ job. HasNamesOnce (job_value job)) }
-        ensures only { (job : JobValue) → IsJobText stage bytes.now job → AnswersJob result job }
+        ensures only { (job : JobValue) → IsJobText limits bytes.now job → AnswersJob result job }
     {
-        read_within(alloc, &STAGE, bytes)
+        read_lines(alloc, bytes)
     }
 }
 

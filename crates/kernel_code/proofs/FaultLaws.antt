@@ -9,7 +9,8 @@ use Rattle.kernel_code.specs.declared.faults.CodeFault.{CodeFault}
 use Rattle.kernel_code.specs.declared.faults.CodeFault.TheVariants.{BadLine, BadTarget, TooLong, Memory}
 use Rattle.kernel_code.specs.Code.{goes_forward, targets_checked, code_if, code_from}
 use Rattle.kernel_code.specs.Listing.{head_line, instruction_line, instruction_lines, HasOperands, listing_of}
-use Rattle.kernel_code.specs.ListingReading.{◌>>=◌, Gives, said, below_head, line_at, parts_of, instructions_of, code_of}
+use Rattle.line_text.specs.Steps.{◌>>=◌}
+use Rattle.kernel_code.specs.ListingReading.{Gives, said, below_head, line_at, parts_of, instructions_of, code_of}
 use Rattle.kernel_code.specs.ListingFaults.{IsCodeFault, BeginsWith, IsListingFault}
 use Rattle.kernel_code.proofs.LineLaws.{line_found, line_again, instructions_first, instructions_none, instructions_found, bad_first}
 use Rattle.kernel_code.proofs.ListingLaws.{below_head_found, below_head_again}

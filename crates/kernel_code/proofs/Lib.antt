@@ -5,3 +5,4 @@ pub mod LineLaws
 pub mod ListingLaws
 pub mod FaultLaws
 pub mod PathLaws
+pub mod EveryPath

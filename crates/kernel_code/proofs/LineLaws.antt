@@ -1,52 +1,24 @@
 -- The lines of a listing, one after another.
-use Rattle.std.proofs.Common.{◌≡◌, ℕ, suc, ◌+◌, ◌≤◌, ◌==◌, Bool, true, false, cond, eqb, ltb, not, List, [], ◌∷◌, ◌++◌, length, Option, Some, None, Result, Ok, Err, refl, sym, ap, subst, ◌∙◌, append_assoc, arith}
-use Rattle.std.specs.List.{onto_first, join_with_byte, AllByRecursion, before_first, after_first, position_or_len}
-use Rattle.std.proofs.lemmas.Bool.{and_parts, not-true, ltb-true, eqb-true, ne_eqb}
+use Rattle.std.proofs.Common.{◌≡◌, ℕ, suc, ◌+◌, ◌≤◌, ◌==◌, Bool, true, false, cond, eqb, List, [], ◌∷◌, ◌++◌, length, Option, Some, None, Result, Ok, Err, refl, sym, ap, subst, ◌∙◌, append_assoc, arith}
+use Rattle.std.specs.List.{join_with_byte, AllByRecursion}
+use Rattle.std.proofs.lemmas.Bool.{eqb-true, ne_eqb}
 use Rattle.std.proofs.lemmas.List.{append-nil, nil_from_length}
-use Rattle.std.proofs.lemmas.List.Splits.{join_with_byte-slice_split, slice_split-cons_no, slice_split_first}
-use Rattle.line_text.specs.Parts.{◌>>=◌ as ◌|>◌, lacks, cut_at, ended}
-use Rattle.line_text.proofs.PartLaws.{some_of}
+use Rattle.std.proofs.lemmas.List.Splits.{join_with_byte-slice_split}
+use Rattle.line_text.specs.Parts.{◌>>=◌ as ◌|>◌, cut_at, ended}
 use Rattle.line_text.proofs.LineLaws.{bind_some, pair_is, cut_found, cut_none, cut_shorter, line_cut, ended_then}
+use Rattle.line_text.proofs.SplitLaws.{split_cut, split_uncut, split_some}
 use Rattle.kernel_code.specs.declared.instructions.Instr.{Instr}
 use Rattle.kernel_code.specs.declared.faults.CodeFault.{CodeFault}
 use Rattle.kernel_code.specs.declared.faults.CodeFault.TheVariants.{BadLine}
 use Rattle.kernel_code.specs.Listing.{instruction_line, instruction_lines, HasOperands}
-use Rattle.kernel_code.specs.ListingReading.{◌>>=◌, said, line_at, parts_of, instruction_of, instructions_of}
+use Rattle.line_text.specs.Steps.{◌>>=◌}
+use Rattle.line_text.proofs.StepLaws.{bind_ok}
+use Rattle.kernel_code.specs.ListingReading.{said, line_at, parts_of, instruction_of, instructions_of}
 use Rattle.kernel_code.proofs.InstructionLaws.{instruction_found, instruction_again, instruction_lacks}
-
--- the value of a step that did not fail
-pub bind_ok : {A B : Type 0} (r : Result A CodeFault) (f : A → Result B CodeFault) (y : B) → (r >>= f) ≡ Ok y → (x : A) × (r ≡ Ok x) × (f x ≡ Ok y)
-bind_ok (Ok x) f y e = (x, refl, e)
-bind_ok (Err d) f y e = absurd cc
 
 pub said_found : {X : Type 0} (n : ℕ) (o : Option X) (x : X) → said n o ≡ Ok x → o ≡ Some x
 said_found n None x e = absurd cc
 said_found n (Some y) x e = cc
-
--- ---- parts
-
-parts_cut : (text a b : List ℕ) → cut_at 10 text ≡ Some (a, b) → parts_of text ≡ a ∷ parts_of b
-unfolding cut_at
-parts_cut text a b e =
-    let s = some_of (ltb (position_or_len (λ x. x == 10) text) (length text)) (before_first (λ x. x == 10) text, after_first (λ x. x == 10) text) (a, b) e in
-    let front : before_first (λ x. x == 10) text ≡ a = ap (λ (p : List ℕ × List ℕ). p.0) s.1 in
-    let rest : after_first (λ x. x == 10) text ≡ b = ap (λ (p : List ℕ × List ℕ). p.1) s.1 in
-    slice_split_first (λ x. x == 10) text 0 (ltb-true _ _ s.0) ∙ ap (λ (l : List ℕ). l ∷ parts_of (after_first (λ x. x == 10) text)) front ∙ ap (λ (t : List ℕ). a ∷ parts_of t) rest
-
-parts_uncut : (text : List ℕ) → lacks 10 text ≡ true → parts_of text ≡ text ∷ []
-parts_uncut [] l = refl
-parts_uncut (x ∷ xs) l =
-    let p = and_parts (not (eqb x 10)) (lacks 10 xs) l in
-    slice_split-cons_no (λ b. b == 10) x xs (not-true (eqb x 10) p.0) ∙ ap (onto_first x) (parts_uncut xs p.1)
-
-parts_some : (text : List ℕ) → (p : List ℕ) × (ps : List (List ℕ)) × (parts_of text ≡ p ∷ ps)
-parts_some [] = ([], [], refl)
-parts_some (x ∷ xs) = at (eqb x 10) (parts_some xs)
-  where
-    at : (b : Bool) → (p : List ℕ) × (ps : List (List ℕ)) × (parts_of xs ≡ p ∷ ps)
-        → (p : List ℕ) × (ps : List (List ℕ)) × (cond b ([] ∷ parts_of xs) (onto_first x (parts_of xs)) ≡ p ∷ ps)
-    at true h = ([], parts_of xs, refl)
-    at false h = (x ∷ h.0, h.1, ap (onto_first x) h.2)
 
 -- ---- one line
 
@@ -58,8 +30,8 @@ pub instructions_line : (n : ℕ) (text a b : List ℕ) → cut_at 10 text ≡ S
     → instructions_of n (parts_of text) ≡ (said n (instruction_of a) >>= λ i. instructions_of (n + 1) (parts_of b) >>= λ is. Ok (i ∷ is))
 unfolding instructions_of
 instructions_line n text a b e =
-    let s = parts_some b in
-    ap (instructions_of n) (parts_cut text a b e) ∙ ap (λ (ps : List (List ℕ)). instructions_of n (a ∷ ps)) s.2 ∙ opened s.0 s.1 ∙ ap (with_first n a) (sym s.2)
+    let s = split_some (λ x. x == 10) b in
+    ap (instructions_of n) (split_cut 10 text a b e) ∙ ap (λ (ps : List (List ℕ)). instructions_of n (a ∷ ps)) s.2 ∙ opened s.0 s.1 ∙ ap (with_first n a) (sym s.2)
   where
     opened : (p : List ℕ) (ps : List (List ℕ)) → instructions_of n (a ∷ p ∷ ps) ≡ with_first n a (p ∷ ps)
     opened p ps = refl
@@ -67,7 +39,7 @@ instructions_line n text a b e =
 -- a text without a line feed is no line, unless it is empty
 pub instructions_cut_off : (n x : ℕ) (xs : List ℕ) → cut_at 10 (x ∷ xs) ≡ None → instructions_of n (parts_of (x ∷ xs)) ≡ Err (BadLine n)
 unfolding instructions_of
-instructions_cut_off n x xs e = ap (instructions_of n) (parts_uncut (x ∷ xs) (cut_none 10 (x ∷ xs) e)) ∙ opened
+instructions_cut_off n x xs e = ap (instructions_of n) (split_uncut 10 (x ∷ xs) (cut_none 10 (x ∷ xs) e)) ∙ opened
   where
     opened : instructions_of n ((x ∷ xs) ∷ []) ≡ Err (BadLine n)
     opened = let some : eqb (suc (length xs)) 0 ≡ false = ne_eqb _ _ (λ h. omega arith) in rw some refl
@@ -99,7 +71,7 @@ pub line_found : (text rest : List ℕ) (i : Instr) → line_at text ≡ Some (i
 line_found text rest i e =
     let p = line_parts text rest i e in
     let f = instruction_found p.0 i p.2 in
-    (f.0, (cut_found 10 text p.0 rest p.1).0 ∙ ap (λ (l : List ℕ). l ++ 10 ∷ rest) f.1 ∙ sym (ended_then (instruction_line i) rest), cut_shorter 10 text p.0 rest p.1)
+    (f.0, (cut_found 10 text p.0 rest p.1).0 ∙ ap (λ (l : List ℕ). l ++ 10 ∷ rest) f.1 ∙ sym (ended_then (instruction_line i) rest), omega (arith, cut_shorter 10 text p.0 rest p.1))
 
 pub line_again : (i : Instr) (rest : List ℕ) → HasOperands i → line_at (ended (instruction_line i) ++ rest) ≡ Some (i, rest)
 unfolding line_at

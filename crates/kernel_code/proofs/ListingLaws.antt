@@ -1,18 +1,20 @@
 -- Listings: what is read is a code with this listing, and the listing of a code is read as that code.
-use Rattle.std.proofs.Common.{◌≡◌, ℕ, ◌+◌, ◌<◌, ◌≤◌, cond, List, [], ◌∷◌, ◌++◌, length, take, get_or, Some, None, Result, Ok, Err, IfOk, bytes_eq, refl, sym, ap, subst, ◌∙◌, append_assoc}
+use Rattle.std.proofs.Common.{◌≡◌, ℕ, ◌+◌, ◌<◌, ◌≤◌, cond, List, ◌∷◌, ◌++◌, length, take, get_or, Some, None, Result, Ok, Err, IfOk, bytes_eq, refl, sym, ap, subst, ◌∙◌, append_assoc}
 use Rattle.std.specs.List.{AllByRecursion}
-use Rattle.std.proofs.lemmas.List.{append-nil, take_more, take_all}
-use Rattle.std.proofs.lemmas.Grind.{flat_map-append}
+use Rattle.std.proofs.lemmas.List.{take_all}
 use Rattle.line_text.specs.Parts.{cut_at, ended}
 use Rattle.line_text.proofs.PartLaws.{some_of, same_bytes}
 use Rattle.line_text.proofs.LineLaws.{bind_some, cut_found, line_cut, ended_then}
+use Rattle.line_text.proofs.Items.{flat_map-take_more}
 use Rattle.kernel_code.specs.declared.instructions.Instr.{Instr}
 use Rattle.kernel_code.specs.declared.faults.CodeFault.{CodeFault}
 use Rattle.kernel_code.specs.Code.{IsCode, code_from}
 use Rattle.kernel_code.specs.Listing.{head_line, instruction_line, instruction_lines, HasOperands, IsListed, listing_of}
-use Rattle.kernel_code.specs.ListingReading.{◌>>=◌, Gives, said, parts_of, below_head, instructions_of, code_of, OneListing}
+use Rattle.line_text.specs.Steps.{◌>>=◌}
+use Rattle.kernel_code.specs.ListingReading.{Gives, said, parts_of, below_head, instructions_of, code_of, OneListing}
 use Rattle.kernel_code.proofs.TargetLaws.{code_from_found, code_from_again}
-use Rattle.kernel_code.proofs.LineLaws.{bind_ok, said_found, instructions_found, instructions_again}
+use Rattle.line_text.proofs.StepLaws.{bind_ok}
+use Rattle.kernel_code.proofs.LineLaws.{said_found, instructions_found, instructions_again}
 
 pub below_head_found : (text rest : List ℕ) → below_head text ≡ Some rest → text ≡ ended head_line ++ rest
 unfolding below_head
@@ -60,18 +62,9 @@ is_read text r h code l e = subst (Gives (λ x. x) r) (ap code_of e ∙ listing_
 pub lines_more : (xs : List Instr) (k : ℕ) (x : Instr) (head text line more : List ℕ) → k < length xs → x ≡ get_or xs k x → text ≡ head ++ instruction_lines (take k xs) → line ≡ ended (instruction_line x)
     → more ≡ text ++ line → more ≡ head ++ instruction_lines (take (k + 1) xs)
 lines_more xs k x head text line more within here so_far is e =
-    let one : instruction_lines (take (k + 1) xs) ≡ instruction_lines (take k xs) ++ ended (instruction_line x) =
-    ap instruction_lines (take_more xs k x within) ∙ flat_map-append (λ i. ended (instruction_line i)) (take k xs) (get_or xs k x ∷ [])
-    ∙ ap (λ (t : List ℕ). instruction_lines (take k xs) ++ t) (append-nil (ended (instruction_line (get_or xs k x))) ∙ ap (λ (i : Instr). ended (instruction_line i)) (sym here)) in
+    let one : instruction_lines (take (k + 1) xs) ≡ instruction_lines (take k xs) ++ ended (instruction_line x) = flat_map-take_more (λ i. ended (instruction_line i)) xs k x within here in
     e ∙ ap (λ (t : List ℕ). t ++ line) so_far ∙ ap (λ (t : List ℕ). head ++ instruction_lines (take k xs) ++ t) is
     ∙ append_assoc head (instruction_lines (take k xs)) (ended (instruction_line x)) ∙ ap (λ (t : List ℕ). head ++ t) (sym one)
-
-all_push : (xs : List Instr) (x : Instr) → AllByRecursion HasOperands xs → HasOperands x → AllByRecursion HasOperands (xs ++ x ∷ [])
-all_push [] x h p = (p, tt)
-all_push (y ∷ ys) x h p = (h.0, all_push ys x h.1 p)
-
-pub operands_more : (xs : List Instr) (k : ℕ) (x : Instr) → k < length xs → x ≡ get_or xs k x → AllByRecursion HasOperands (take k xs) → HasOperands x → AllByRecursion HasOperands (take (k + 1) xs)
-operands_more xs k x within here h p = rw (take_more xs k x within) (all_push (take k xs) (get_or xs k x) h (subst HasOperands here p))
 
 pub printed : (xs : List Instr) (k : ℕ) (text : List ℕ) → length xs ≤ k → text ≡ ended head_line ++ instruction_lines (take k xs) → text ≡ listing_of xs
 unfolding listing_of

@@ -2,6 +2,7 @@
 use Rattle.std.specs.Prelude.{◌≡◌, ◌↔◌, ℕ, ◌+◌, ◌^◌, List, [], ◌∷◌, length, codes, Option, Some, None, option_map, Result, Ok, Err, ◌==◌, bytes_eq, if◌then◌else◌}
 use Rattle.std.specs.List.{slice_split}
 use Rattle.line_text.specs.Parts.{◌>>=◌ as ◌|>◌, cut_at, natural_of, integer_of}
+use Rattle.line_text.specs.Steps.{◌>>=◌}
 use Rattle.kernel_code.specs.declared.faults.CodeFault.{CodeFault}
 use Rattle.kernel_code.specs.declared.faults.CodeFault.TheVariants.{BadLine, Memory}
 use Rattle.kernel_code.specs.declared.instructions.BinaryOperation.{BinaryOperation}
@@ -12,11 +13,6 @@ use Rattle.kernel_code.specs.declared.instructions.Instr.{Instr}
 use Rattle.kernel_code.specs.declared.instructions.Instr.TheVariants.{Push, Input, Keep, Get, Binary, Unary, JumpIfZero, Jump}
 use Rattle.kernel_code.specs.Code.{code_from}
 use Rattle.kernel_code.specs.Listing.{head_line, instruction_line, HasOperands, IsListed, listing_of}
-
-infixl 10 ◌>>=◌
-abbrev pub ◌>>=◌ : {A B : Type 0} → Result A CodeFault → (A → Result B CodeFault) → Result B CodeFault
-(Ok x) >>= f = f x
-(Err e) >>= f = Err e
 
 -- What a call returned is what the definition answers, its value seen by view. Want of memory says nothing.
 abbrev pub Fails : {Y : Type 0} → CodeFault → Result Y CodeFault → Type 0

@@ -1,8 +1,11 @@
 pub mod PartLaws
+pub mod StepLaws
 pub mod LineLaws
 pub mod NameLaws
 pub mod ColumnLaws
 pub mod DigitLaws
+pub mod SplitLaws
 pub mod WordLaws
 pub mod WrittenLaws
 pub mod ResidueNumbers
+pub mod Items

@@ -132,8 +132,8 @@ uncut c text l = at (cut_at c text) refl
         let whole : text ≡ p.0 ++ c ∷ p.1 = (cut_found c text p.0 p.1 e).0 in
         absurd (lacks_not_first c p.1 (lacks_rest c p.0 (c ∷ p.1) (subst (λ (t : List ℕ). lacks c t ≡ true) whole l)))
 
--- what stands after the byte is shorter than the text
-pub cut_shorter : (c : ℕ) (text a b : List ℕ) → cut_at c text ≡ Some (a, b) → length b + 1 ≤ length text
+-- the two parts are shorter than the text
+pub cut_shorter : (c : ℕ) (text a b : List ℕ) → cut_at c text ≡ Some (a, b) → length a + length b < length text
 cut_shorter c text a b e = omega (arith, ap length (cut_found c text a b e).0, length-append a (c ∷ b))
 
 pub ended_then : (line rest : List ℕ) → ended line ++ rest ≡ line ++ 10 ∷ rest

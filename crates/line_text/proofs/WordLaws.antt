@@ -1,13 +1,13 @@
 -- The words of a line, one after another.
-use Rattle.std.proofs.Common.{◌≡◌, ◌⊎◌, ℕ, zero, suc, ◌+◌, ◌<◌, ◌≤◌, Bool, true, false, cond, not, List, [], ◌∷◌, ◌++◌, ◌&&◌, ◌-◌, eqb, length, take, drop, get_or, replicate, refl, append_assoc, sym, ap, subst, ◌∙◌, arith, inl, inr}
-use Rattle.std.specs.List.{All, filter, slice_split, onto_first, position_or_len, before_first, after_first}
-use Rattle.std.proofs.lemmas.Bool.{cases_lt, and_parts, ne_eqb, not-true, eqb-false}
+use Rattle.std.proofs.Common.{◌≡◌, ◌⊎◌, ℕ, zero, suc, ◌+◌, ◌<◌, ◌≤◌, Bool, true, false, cond, not, List, [], ◌∷◌, ◌++◌, ◌-◌, eqb, length, take, drop, get_or, replicate, refl, append_assoc, sym, ap, subst, ◌∙◌, arith, inl, inr}
+use Rattle.std.specs.List.{All, filter, slice_split, onto_first, position_or_len}
+use Rattle.std.proofs.lemmas.Bool.{cases_lt, and_parts, not-true}
 use Rattle.std.proofs.lemmas.List.{take_all, drop_more, take_at, drop_at}
 use Rattle.std.proofs.lemmas.List.Sums.{fails_before_first, passes_at_first}
 use Rattle.std.proofs.lemmas.List.Splits.{slice_split_first, slice_split_none}
 use Rattle.std.proofs.Common.{drop_of_length-le, length-drop}
 use Rattle.line_text.specs.Parts.{lacks, right_in}
-use Rattle.line_text.specs.Words.{is_blank, is_empty, words, without_blanks}
+use Rattle.line_text.specs.Words.{is_blank, is_empty, words, without_blanks, after_word}
 use Rattle.line_text.proofs.LineLaws.{EndsWord}
 
 all_fail : (p : ℕ → Bool) (text : List ℕ) → length text ≤ position_or_len p text → All (λ b. p b ≡ false) text
@@ -75,11 +75,12 @@ words_none text [] e l = words_blanks text ∙ ap words (sym e) ∙ no_words
 words_none text (b ∷ bs) e l = absurd (omega arith)
 
 pub words_some : (text w : List ℕ) → w ≡ without_blanks text → (length w ≡ 0 → ⊥)
-    → (words text ≡ take (position_or_len is_blank w) w ∷ words (drop (position_or_len is_blank w) w)) × (length (drop (position_or_len is_blank w) w) < length w)
+    → (words text ≡ take (position_or_len is_blank w) w ∷ words (drop (position_or_len is_blank w) w)) × (drop (position_or_len is_blank w) w ≡ after_word text) × (length (drop (position_or_len is_blank w) w) < length w)
+unfolding after_word
 words_some text [] e l = absurd (l refl)
 words_some text (b ∷ bs) e l =
     let word = starts_word text bs b (sym e) in
-    (words_blanks text ∙ ap words (sym e) ∙ words_split b bs word, omega (arith, length-drop (position_or_len is_blank (b ∷ bs)) (b ∷ bs), some_bytes b bs word))
+    (words_blanks text ∙ ap words (sym e) ∙ words_split b bs word, ap (λ (t : List ℕ). drop (position_or_len is_blank t) t) e, omega (arith, length-drop (position_or_len is_blank (b ∷ bs)) (b ∷ bs), some_bytes b bs word))
 
 -- ---- a word that is written is read again
 

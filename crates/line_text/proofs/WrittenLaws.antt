@@ -1,19 +1,18 @@
 -- A part of a line is read as what it writes, and only as that.
-use Rattle.std.proofs.Common.{◌≡◌, ℕ, zero, suc, ◌+◌, ◌-◌, ◌*◌, ◌^◌, ◌<◌, ◌≤◌, Bool, true, false, ◌&&◌, cond, eqb, leb, ltb, not, List, [], ◌∷◌, ◌++◌, length, take, drop, get_or, replicate, reverse, Option, Some, None, option_map, ℤ, pos, IsTrue, refl, sym, ap, subst, ◌∙◌, arith, inl, inr, lit<}
+use Rattle.std.proofs.Common.{◌≡◌, ℕ, zero, suc, ◌+◌, ◌-◌, ◌*◌, ◌^◌, ◌<◌, ◌≤◌, Bool, true, false, cond, eqb, ltb, List, [], ◌∷◌, ◌++◌, length, take, drop, get_or, replicate, Option, Some, None, option_map, ℤ, pos, IsTrue, refl, sym, ap, subst, ◌∙◌, arith}
 use Rattle.std.specs.Prelude.{neg_ℤ}
-use Rattle.std.specs.Char.{is_ascii_digit}
 use Rattle.std.specs.Str.{all_ascii_digits}
-use Rattle.std.specs.Str.Parse.{digits_value, AllDigits}
+use Rattle.std.specs.Str.Parse.{digits_value}
 use Rattle.std.specs.Int.{IsInRange}
-use Rattle.std.proofs.lemmas.Bool.{cases_Bool, and_parts, and_from, eqb-true, ltb-false, ltb-true, le-ltb, ne_eqb, eq-eqb}
+use Rattle.std.proofs.lemmas.Bool.{eqb-true, ltb-false, ne_eqb}
 use Rattle.std.proofs.lemmas.Str.Parse.{digit_at}
-use Rattle.std.proofs.lemmas.List.{length-append, take-append-drop, drop_more, get_or_append_left}
+use Rattle.std.proofs.lemmas.List.{take-append-drop, drop_more, get_or_append_left}
 use Rattle.std.proofs.Common.{length-take, length-drop}
-use Rattle.line_text.specs.Parts.{◌>>=◌, lacks, is_name, name_of, without_front, without_spaces, without_end_spaces, trimmed}
+use Rattle.line_text.specs.Parts.{◌>>=◌, lacks, name_of, without_spaces, without_end_spaces, trimmed}
 use Rattle.line_text.specs.Columns.{digits_of, decimals_of, signed_by, decimal_column_of}
-use Rattle.line_text.specs.Written.{IsRight, IsPadded, WritesName, IsDigits, WritesWhole, WritesDecimal, WritesSigned, plain, minus, WritesColumn}
+use Rattle.line_text.specs.Written.{IsRight, IsPadded, WritesName, IsDigits, WritesDecimal, WritesSigned, plain, minus, WritesColumn}
 use Rattle.line_text.proofs.PartLaws.{some_of, none_or}
-use Rattle.line_text.proofs.LineLaws.{bind_some, front_found, front_again, front_dropped, end_found, end_again, end_dropped, lacks_append, digits_lack}
+use Rattle.line_text.proofs.LineLaws.{bind_some, front_found, front_again, end_found, end_again, digits_lack}
 use Rattle.line_text.proofs.NameLaws.{name_found, name_again, is_clean}
 use Rattle.line_text.proofs.DigitLaws.{own}
 use Rattle.line_text.proofs.ColumnLaws.{parts_read}

@@ -1,4 +1,5 @@
 pub mod Parts
+pub mod Steps
 pub mod Names
 pub mod Columns
 pub mod Words

@@ -1,6 +1,6 @@
-//! Parts of lines of text, which all formats share: decimals with one spelling, columns, cutting at a
-//! byte, trimming, names, and lines that are being written. What is written is read again: `proofs/`
-//! has that law for each writer and its reader, over texts alone.
+//! Parts of lines of text, which all formats share: decimals with one spelling, columns, words, cutting
+//! at a byte, trimming, names, and lines that are being written. What is written is read again:
+//! `proofs/` has that law for each writer and its reader, over texts alone.
 #![tactic(auto)]
 
 mod columns;
@@ -20,4 +20,4 @@ pub use name::{Name, is_printable};
 pub use text::{
     cut, integer, natural, strip, three_words, trim, trim_end, trim_front, trim_returns, word,
 };
-pub use words::next_word;
+pub use words::{next_word, skip_blanks};

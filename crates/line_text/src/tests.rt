@@ -144,6 +144,8 @@ fn reads_words_between_blanks(rt: HostRuntime) {
         Some((b"2.0".as_slice(), b"".as_slice()))
     );
     assert_eq!(rt; next_word(b" \t"), None);
+    assert_eq!(rt; skip_blanks(b"\t a b "), b"a b ".as_slice());
+    assert_eq!(rt; skip_blanks(b" \t"), b"".as_slice());
 }
 
 #[test]

@@ -2,7 +2,7 @@
 
 ghost use Rattle.std.specs.Prelude.{◌≡◌, ◌<◌, ◌≤◌, length, option_map, IfSome};
 ghost use Rattle.std.specs.List.{position_or_len};
-ghost use Rattle.line_text.specs.Words.{is_blank, words, without_blanks, more_words};
+ghost use Rattle.line_text.specs.Words.{is_blank, words, without_blanks, after_word, more_words};
 
 fn is_blank(byte: u8) -> bool
     ensures { result ≡ is_blank byte }
@@ -10,7 +10,8 @@ fn is_blank(byte: u8) -> bool
     byte == b' ' || byte == b'\t'
 }
 
-fn skip_blanks(text: &[u8]) -> &[u8]
+/// The text from its first byte on that is neither a space nor a tab; empty where there is none.
+pub fn skip_blanks(text: &[u8]) -> &[u8]
     ensures value { result.now ≡ without_blanks text.now }
     ensures shorter { length result.now ≤ length text.now }
 {
@@ -31,6 +32,7 @@ fn word_len(text: &[u8]) -> usize
 /// The first word, and what stands behind it; `None` where there is none.
 pub fn next_word(text: &[u8]) -> Option<(&[u8], &[u8])>
     ensures word { words text.now ≡ more_words (option_map (λ x. (x.0.now, x.1.now)) result) }
+    ensures rest { IfSome result (λ x. x.1.now ≡ after_word text.now) }
     ensures shorter { IfSome result (λ x. length x.1.now < length text.now) }
 {
     let text = skip_blanks(text);

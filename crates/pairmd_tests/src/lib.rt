@@ -6,6 +6,10 @@ mod fixtures;
 #[cfg(test)]
 mod gro_files;
 #[cfg(test)]
+mod kernels;
+#[cfg(test)]
+mod potentials;
+#[cfg(test)]
 mod refusals;
 #[cfg(test)]
 mod runs;

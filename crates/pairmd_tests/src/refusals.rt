@@ -6,10 +6,11 @@ use crate::fixtures::{
 use cli::execute;
 use gro::Collected;
 use linked_list_allocator::LocalHeap;
+use std::alloc::{AllocError, Global};
 use std::test::*;
 
 /// What a job with this line, in place of the one with this number, is refused for.
-const JOBS: [(&str, usize, &str, &str); 27] = [
+const JOBS: [(&str, usize, &str, &str); 29] = [
     ("another version", 1, "pairmd job 2", "J1 BadLine 1"),
     ("an empty energy", 2, "energy ", "J1 BadLine 2"),
     ("a malformed number", 3, "core 0,2", "J1 BadLine 3"),
@@ -63,9 +64,36 @@ const JOBS: [(&str, usize, &str, &str); 27] = [
     ("too many slices", 6, "slices 65537", "J4 Range slices"),
     ("no mass", 7, "type AR 0", "J4 Range type"),
     ("too much mass", 7, "type AR 1000.00001", "J4 Range type"),
-    ("a second type", 7, "type AR 1\ntype X 1", "J4 Range type"),
-    ("a parameter", 6, "parameter q", "J4 Range parameter"),
-    ("a global", 6, "global k 0.5", "J4 Range global"),
+    (
+        "a parameter without values",
+        6,
+        "parameter q",
+        "J1 BadLine 7",
+    ),
+    (
+        "a parameter twice",
+        6,
+        "parameter q\nparameter q",
+        "J3 Repeated q",
+    ),
+    (
+        "a global twice",
+        6,
+        "global k 0.5\nglobal k 1",
+        "J3 Repeated k",
+    ),
+    (
+        "a global past the numbers",
+        6,
+        "global k 3e9",
+        "J4 Range global",
+    ),
+    (
+        "nine parameters",
+        6,
+        "parameter a\nparameter b\nparameter c\nparameter d\nparameter e\nparameter f\nparameter g\nparameter h\nparameter i",
+        "J4 Range parameter",
+    ),
     (
         "a type twice",
         7,
@@ -84,24 +112,73 @@ fn refused_jobs(rt: HostRuntime) -> Result<(), Fail> {
     Ok(())
 }
 
-const ENERGIES: [(&str, &str); 13] = [
+const ENERGIES: [(&str, &str); 33] = [
     ("1 + $", "E01 BadCharacter 4"),
     ("1.2.3*r", "E02 BadNumber 0"),
     ("1 +", "E03 UnexpectedToken 3"),
     ("(r", "E03 UnexpectedToken 2"),
     ("+r", "E03 UnexpectedToken 0"),
+    ("r^2^3", "E03 UnexpectedToken 3"),
+    ("r; f(r)=1", "E03 UnexpectedToken 4"),
+    ("1+; a=1", "E03 UnexpectedToken 2"),
     ("2*b + c", "E04 UnknownName b"),
+    ("a; b=1; a=b", "E04 UnknownName b"),
+    ("a(2); a=1", "E04 UnknownName a"),
+    ("sqrt", "E04 UnknownName sqrt"),
+    ("min(r)", "E05 WrongArgumentCount min"),
+    ("select(r, 1)", "E05 WrongArgumentCount select"),
+    ("delta()", "E05 WrongArgumentCount delta"),
+    ("r^33", "E06 BadExponent 1"),
+    ("r^1.5", "E06 BadExponent 1"),
+    ("r^0", "E06 BadExponent 1"),
+    ("r^r", "E06 BadExponent 1"),
     ("2147483648*r", "E07 NumberRange 0"),
     ("3e9*r", "E07 NumberRange 0"),
     ("r*3e9", "E07 NumberRange 2"),
+    ("a; a=1; a=2", "E08 RepeatedDefinition a"),
+    ("r; r=1", "E09 ReservedName r"),
+    ("r; sqrt=1", "E09 ReservedName sqrt"),
+    ("r; erf=1", "E09 ReservedName erf"),
+    ("b; a=1; a=2; r=1", "E08 RepeatedDefinition a"),
     (
         "-----------------------------------------------------------------r",
         "E10 TooLarge",
     ),
-    ("sqrt(r)", "E11 LeftOutFunction sqrt"),
     ("exp(r)", "E11 LeftOutFunction exp"),
     ("1 + erfc(r)", "E11 LeftOutFunction erfc"),
+    ("select(r, sin(r))", "E11 LeftOutFunction sin"),
+    ("r^33; a", "E06 BadExponent 1"),
+    ("b; a=1 2", "E03 UnexpectedToken 7"),
 ];
+
+/// Names of a job's parameter and global, and what the energy is refused for.
+const NAMES: [(&str, &str, &str); 5] = [
+    ("atan", "k", "E09 ReservedName atan2"),
+    ("q", "r", "E09 ReservedName r"),
+    ("q", "floor", "E09 ReservedName floor"),
+    ("q", "exp", "E09 ReservedName exp"),
+    ("q", "q2", "E09 ReservedName q2"),
+];
+
+#[test]
+fn refused_names(rt: HostRuntime) -> Result<(), Fail> {
+    for (parameter, global, line) in NAMES {
+        let names = format!(in rt.alloc(); "parameter {parameter}\nglobal {global} 1")?;
+        let job = with_line(rt.alloc(), JOB, 6, &names)?;
+        let job = with_value(rt.alloc(), &job)?;
+        let refused = moved(rt.alloc(), "run", "0", &job, STATE.as_bytes());
+        assert_refuses(&rt, &refused, 3, line, line);
+    }
+    Ok(())
+}
+
+/// The job with a value behind its last line, which is its type's.
+fn with_value(alloc: Global, job: &[u8]) -> Result<Vec<u8>, AllocError> {
+    let mut changed = Vec::new(alloc);
+    changed.extend_from_slice(job.trim_ascii_end())?;
+    changed.extend_from_slice(b" 1\n")?;
+    Ok(changed)
+}
 
 #[test]
 fn refused_energies(rt: HostRuntime) -> Result<(), Fail> {

@@ -62,17 +62,23 @@ fn a_lattice_there_and_back(rt: HostRuntime) -> Result<(), Fail> {
 #[test]
 fn slopes_without_a_value(rt: HostRuntime) -> Result<(), Fail> {
     for (energy, command, line) in [
-        ("1/(r-0.5)", "run", "A5 KernelFault 0 1 2 0 F2 ZeroDivisor"),
+        ("1/(r-0.5)", "run", "A5 KernelFault 0 1 2 12 F2 ZeroDivisor"),
         (
             "1/(r-0.5)",
             "back",
-            "A5 KernelFault -1 1 2 0 F2 ZeroDivisor",
+            "A5 KernelFault -1 1 2 12 F2 ZeroDivisor",
         ),
         (
             "2147483647*(r+r)",
             "run",
-            "A5 KernelFault 0 1 2 0 F1 Overflow",
+            "A5 KernelFault 0 1 2 4 F1 Overflow",
         ),
+        (
+            "sqrt(r-0.6)",
+            "run",
+            "A5 KernelFault 0 1 2 7 F3 NegativeRoot",
+        ),
+        ("1/r^32", "run", "A5 KernelFault 0 1 2 33 F2 ZeroDivisor"),
     ] {
         let job = job_with_energy(rt.alloc(), energy)?;
         let stopped = moved(rt.alloc(), command, "1", &job, STATE.as_bytes());
@@ -94,8 +100,8 @@ fn the_first_pair_without_a_slope(rt: HostRuntime) -> Result<(), Fail> {
     ];
     let start = state_of(rt.alloc(), 41, 200000, &atoms)?;
     for (command, line) in [
-        ("run", "A5 KernelFault 41 2 3 0 F2 ZeroDivisor"),
-        ("back", "A5 KernelFault 40 2 3 0 F2 ZeroDivisor"),
+        ("run", "A5 KernelFault 41 2 3 12 F2 ZeroDivisor"),
+        ("back", "A5 KernelFault 40 2 3 12 F2 ZeroDivisor"),
     ] {
         let stopped = moved(rt.alloc(), command, "1", &job, &start);
         assert_refuses(&rt, &stopped, 1, line, command);

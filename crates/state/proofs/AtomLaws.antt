@@ -9,8 +9,9 @@ use Rattle.line_text.proofs.PartLaws.{some_of, none_or, same_bytes, bytes_same, 
 use Rattle.line_text.proofs.LineLaws.{bind_some, lacks_append, lacks_first, signed_lacks, right_lacks, left_lacks, words_lack, EndsWord, three_found, three_again, length-right_in, length-left_in, right_again}
 use Rattle.line_text.proofs.NameLaws.{name_found, is_clean, name_lacks, right_name_again, left_name_again}
 use Rattle.state.specs.StateText.{AtomView, atom_line, IsPlace, IsAtom}
-use Rattle.state.specs.StateReading.{atom_of, is_residue_number}
-use Rattle.state.proofs.ResidueNumbers.{number_short, number_small, number_in_range, number_is}
+use Rattle.state.specs.StateReading.{atom_of}
+use Rattle.line_text.specs.Columns.{is_residue_number}
+use Rattle.line_text.proofs.ResidueNumbers.{number_short, number_small, number_in_range, number_is}
 use Rattle.state.proofs.LineLaws.{Spells}
 
 -- the steps of reading an atom, the last first

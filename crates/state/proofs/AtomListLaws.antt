@@ -4,8 +4,10 @@ use Rattle.std.specs.List.{AllByRecursion}
 use Rattle.line_text.specs.Parts.{ended}
 use Rattle.state.specs.declared.faults.StateFault.{StateFault}
 use Rattle.state.specs.StateText.{AtomView, atom_line, atom_lines, IsAtom}
-use Rattle.state.specs.StateReading.{◌>>=◌, atom_of, field_at, atom_at, atoms_at}
-use Rattle.state.proofs.LineLaws.{bind_ok, field_found, field_again}
+use Rattle.line_text.specs.Steps.{◌>>=◌}
+use Rattle.state.specs.StateReading.{atom_of, field_at, atom_at, atoms_at}
+use Rattle.line_text.proofs.StepLaws.{bind_ok}
+use Rattle.state.proofs.LineLaws.{field_found, field_again}
 use Rattle.state.proofs.AtomLaws.{atom_found, atom_again, atom_lacks}
 
 pub atoms_found : (n k : ℕ) (bytes : List ℕ) (p : List AtomView × List ℕ) → atoms_at n k bytes ≡ Ok p

@@ -4,7 +4,8 @@ use Rattle.std.proofs.lemmas.List.{append-nil}
 use Rattle.state.specs.declared.faults.StateFault.{StateFault}
 use Rattle.state.specs.declared.faults.StateFault.TheVariants.{BadLine, Truncated, Trailing, Memory}
 use Rattle.state.specs.StateText.{AtomView}
-use Rattle.state.specs.StateReading.{◌>>=◌, Fails, atom_at, atoms_at}
+use Rattle.line_text.specs.Steps.{◌>>=◌}
+use Rattle.state.specs.StateReading.{Fails, atom_at, atoms_at}
 
 -- what was read before, and what is still read
 abbrev pub with_front : List AtomView → Result (List AtomView × List ℕ) StateFault → Result (List AtomView × List ℕ) StateFault

@@ -1,4 +1,3 @@
-pub mod ResidueNumbers
 pub mod LineLaws
 pub mod AtomLaws
 pub mod AtomListLaws
@@ -7,6 +6,5 @@ pub mod StateFound
 pub mod StateReadsAgain
 pub mod CallLaws
 pub mod Pieces
-pub mod AtomPieces
 pub mod StartLaws
 pub mod FrameLaws

@@ -1,5 +1,5 @@
 -- The lines of a state: what is read is spelled so, and what is spelled so is read.
-use Rattle.std.proofs.Common.{◌≡◌, ℕ, ◌-◌, ◌^◌, ◌<◌, ◌≤◌, Bool, true, false, ◌&&◌, cond, eqb, ltb, not, List, [], ◌∷◌, ◌++◌, length, get_or, Option, Some, None, Result, Ok, Err, ℤ, codes, decimal, bytes_eq, IsTrue, refl, sym, ap, subst, ◌∙◌, arith, lit<}
+use Rattle.std.proofs.Common.{◌≡◌, ℕ, ◌-◌, ◌^◌, ◌<◌, ◌≤◌, Bool, true, false, ◌&&◌, cond, eqb, ltb, not, List, [], ◌∷◌, ◌++◌, length, get_or, Option, Some, None, Ok, ℤ, codes, decimal, bytes_eq, IsTrue, refl, sym, ap, subst, ◌∙◌, arith, lit<}
 use Rattle.std.specs.Fmt.{signed_decimal}
 use Rattle.std.specs.List.{flat_map, list_all}
 use Rattle.std.proofs.lemmas.Bool.{and_parts, and_from, not-true, eqb-true, ltb-true, lt-ltb}
@@ -8,14 +8,10 @@ use lib.Signed.{mag}
 use Rattle.line_text.specs.Parts.{◌>>=◌ as ◌|>◌, word, ended, AreThree, lacks, is_title, cut_at, after, natural_of, integer_of, three_at}
 use Rattle.line_text.proofs.PartLaws.{some_of, none_of, same_bytes, natural_found, natural_again, integer_found, integer_again}
 use Rattle.line_text.proofs.LineLaws.{bind_some, lacks_append, lacks_rest, decimal_lacks, signed_lacks, cut_found, line_cut, ended_then, after_found, after_again, three_found, three_again, words_lack}
-use Rattle.state.specs.declared.faults.StateFault.{StateFault}
 use Rattle.state.specs.StateText.{head_line, title_line, step_line, count_line, box_line, IsSide}
-use Rattle.state.specs.StateReading.{◌>>=◌, head_of, title_of, step_of, count_of, sides_of, line_at, needed, said, field_at}
-
--- the value of a step that did not fail
-pub bind_ok : {A B : Type 0} (r : Result A StateFault) (f : A → Result B StateFault) (y : B) → (r >>= f) ≡ Ok y → (x : A) × (r ≡ Ok x) × (f x ≡ Ok y)
-bind_ok (Ok x) f y e = (x, refl, e)
-bind_ok (Err d) f y e = absurd cc
+use Rattle.line_text.specs.Steps.{◌>>=◌}
+use Rattle.line_text.proofs.StepLaws.{bind_ok}
+use Rattle.state.specs.StateReading.{head_of, title_of, step_of, count_of, sides_of, line_at, needed, said, field_at}
 
 -- ---- any line
 

@@ -7,7 +7,8 @@ use Rattle.state.specs.declared.faults.StateFault.{StateFault}
 use Rattle.state.specs.declared.faults.StateFault.TheVariants.{Trailing}
 use Rattle.state.specs.StateText.{StateView, head_line, title_line, step_line, count_line, box_line, atom_lines, state_text, IsState}
 use Rattle.state.specs.StateReading.{head_of, title_of, step_of, count_of, sides_of, field_at, atoms_at, from_atoms, from_sides, from_count, from_step, from_title, state_of}
-use Rattle.state.proofs.LineLaws.{bind_ok, field_found, head_found, title_found, step_found, count_found, sides_found}
+use Rattle.line_text.proofs.StepLaws.{bind_ok}
+use Rattle.state.proofs.LineLaws.{field_found, head_found, title_found, step_found, count_found, sides_found}
 use Rattle.state.proofs.AtomListLaws.{atoms_found}
 
 guard_ended : {A : Type 0} (b : Bool) (d : StateFault) (x y : A) → cond b (Ok x) (Err d) ≡ Ok y → (b ≡ true) × (x ≡ y)

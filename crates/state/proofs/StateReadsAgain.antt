@@ -5,7 +5,8 @@ use Rattle.line_text.specs.Parts.{ended}
 use Rattle.state.specs.declared.faults.StateFault.{StateFault}
 use Rattle.state.specs.declared.faults.StateFault.TheVariants.{Trailing}
 use Rattle.state.specs.StateText.{AtomView, StateView, head_line, title_line, step_line, count_line, box_line, atom_lines, state_text, IsState}
-use Rattle.state.specs.StateReading.{◌>>=◌, head_of, title_of, step_of, count_of, sides_of, field_at, atoms_at, from_atoms, from_sides, from_count, from_step, from_title, state_of, OneText}
+use Rattle.line_text.specs.Steps.{◌>>=◌}
+use Rattle.state.specs.StateReading.{head_of, title_of, step_of, count_of, sides_of, field_at, atoms_at, from_atoms, from_sides, from_count, from_step, from_title, state_of, OneText}
 use Rattle.state.proofs.LineLaws.{field_again, title_again, title_lacks, step_again, step_lacks, count_again, count_lacks, sides_again, sides_lack}
 use Rattle.state.proofs.AtomListLaws.{atoms_again}
 use Rattle.state.proofs.StateFound.{state_found}

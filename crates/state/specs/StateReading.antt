@@ -1,15 +1,12 @@
 -- Reading a state from the top, to the state or to the first fault that is met.
-use Rattle.std.specs.Prelude.{◌≡◌, ◌↔◌, ℕ, zero, suc, ◌+◌, ◌-◌, ◌^◌, ◌&&◌, List, [], ◌∷◌, length, take, drop, codes, Option, Some, None, Result, Ok, Err, nat_lt, ◌==◌, slice_index, bytes_eq, if◌then◌else◌, Bool, ℤ, pos, negsuc, int_le}
+use Rattle.std.specs.Prelude.{◌≡◌, ◌↔◌, ℕ, zero, suc, ◌+◌, ◌-◌, ◌^◌, ◌&&◌, List, [], ◌∷◌, length, take, drop, codes, Option, Some, None, Result, Ok, Err, nat_lt, ◌==◌, slice_index, bytes_eq, if◌then◌else◌, ℤ}
 use Rattle.std.specs.List.{list_all}
 use Rattle.line_text.specs.Parts.{◌>>=◌ as ◌|>◌, cut_at, after, natural_of, integer_of, three_at, name_of, without_spaces, without_end_spaces}
+use Rattle.line_text.specs.Columns.{is_residue_number}
+use Rattle.line_text.specs.Steps.{◌>>=◌}
 use Rattle.state.specs.StateText.{AtomView, StateView, head_line, atom_line, IsState, state_text}
 use Rattle.state.specs.declared.faults.StateFault.{StateFault}
 use Rattle.state.specs.declared.faults.StateFault.TheVariants.{BadLine, Truncated, Trailing, Memory}
-
-infixl 10 ◌>>=◌
-abbrev pub ◌>>=◌ : {A B : Type 0} → Result A StateFault → (A → Result B StateFault) → Result B StateFault
-(Ok x) >>= f = f x
-(Err e) >>= f = Err e
 
 -- What a call returned, seen by view, is what the definition answers. Want of memory says nothing.
 abbrev pub Fails : {Y : Type 0} → StateFault → Result Y StateFault → Type 0
@@ -39,10 +36,6 @@ sides_of line =
     after (codes "box") line |> λ rest.
     three_at 16000001 rest |> λ w.
     if length w.1 == 0 && list_all (λ x. nat_lt 0 x) w.0 then Some w.0 else None
-
--- from -9999 to 99999
-abbrev pub is_residue_number : ℤ → Bool
-is_residue_number z = int_le (negsuc 9998) z && int_le z (pos 99999)
 
 -- Read by columns and words; only the line that this atom has is taken.
 unfoldable pub atom_of : List ℕ → Option AtomView

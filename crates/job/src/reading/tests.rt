@@ -3,12 +3,6 @@ use linked_list_allocator::LocalHeap;
 use std::alloc::Global;
 use std::test::Fail;
 
-const FINAL: Limits = Limits {
-    parameters: 8,
-    globals: 16,
-    types: 64,
-};
-
 const JOB_A: &[u8] =
     b"pairmd job 1\nenergy 1/r\ncore 0.2\ncutoff 0.9\ndt 2\nslices 64\ntype AR 1\n";
 
@@ -61,7 +55,7 @@ fn reads_lines_in_any_form(rt: HostRuntime) -> Result<(), Fail> {
 fn reads_parameters_globals_and_types(rt: HostRuntime) -> Result<(), Fail> {
     let text =
         b"pairmd job 1\ntype AR 39.948 0.34 -0.5\nparameter sigma\nglobal k -0\nenergy r\nglobal _2 1e-9\ncutoff 1\nparameter epsilon\ncore .5\ndt 1\ntype X 0.00001 1 2.\n";
-    let job = read_within(rt.alloc(), &FINAL, text)?;
+    let job = Job::read(rt.alloc(), text)?;
     assert_eq!(rt; job.slices, 64);
     assert_eq!(rt; job.parameters.len(), 2);
     assert_eq!(rt; job.parameters[1].as_slice(), b"epsilon".as_slice());
@@ -111,15 +105,6 @@ fn names_the_first_fault(rt: HostRuntime) -> Result<(), Fail> {
         (
             b"pairmd job 1\ncutoff 80.001\n".as_slice(),
             "J4 Range cutoff",
-        ),
-        (
-            b"pairmd job 1\nparameter p\n".as_slice(),
-            "J4 Range parameter",
-        ),
-        (b"pairmd job 1\nglobal g 1\n".as_slice(), "J4 Range global"),
-        (
-            b"pairmd job 1\ntype A 1\ntype B 1\n".as_slice(),
-            "J4 Range type",
         ),
         (
             b"pairmd job 1\ntype A 1\ntype A 0\n".as_slice(),
@@ -200,8 +185,35 @@ fn names_faults_of_lists(rt: HostRuntime) -> Result<(), Fail> {
             "J1 BadLine 7",
         ),
     ] {
-        let line = verdict(rt.alloc(), read_within(rt.alloc(), &FINAL, text))?;
+        let line = verdict(rt.alloc(), Job::read(rt.alloc(), text))?;
         assert_eq!(rt; line.as_str(), want);
+    }
+    Ok(())
+}
+
+/// What a job of so many such lines, told apart by their numbers, is refused for.
+fn repeated(alloc: Global, count: usize, before: &str, after: &str) -> Result<String, Fail> {
+    let mut text = Vec::new(alloc);
+    text.extend_from_slice(b"pairmd job 1\n")?;
+    for number in 0..count {
+        let line = format!(in alloc; "{before}{number}{after}\n")?;
+        text.extend_from_slice(line.as_bytes())?;
+    }
+    let line = verdict(alloc, Job::read(alloc, &text))?;
+    Ok(line)
+}
+
+#[test]
+fn counts_its_lines(rt: HostRuntime) -> Result<(), Fail> {
+    for (most, before, after, want) in [
+        (8, "parameter p", "", "J4 Range parameter"),
+        (16, "global g", " 1", "J4 Range global"),
+        (64, "type T", " 1", "J4 Range type"),
+    ] {
+        let full = repeated(rt.alloc(), most, before, after)?;
+        assert_eq!(rt; full.as_str(), "J2 Missing energy");
+        let past = repeated(rt.alloc(), most + 1, before, after)?;
+        assert_eq!(rt; past.as_str(), want);
     }
     Ok(())
 }

@@ -1,6 +1,5 @@
-use Rattle.std.proofs.Common.{◌≡◌, ◌∷◌, [], ◌∙◌, ap, sym, length, take, get_or, pos, ℤ, List, Result, Ok, cond, w64, to_z, of_z, rules, arith}
-use Rattle.gro.specs.declared.faults.GroFault.{GroFault}
-use Rattle.gro.proofs.Items.{three_items}
+use Rattle.std.proofs.Common.{◌≡◌, ◌∷◌, [], ◌∙◌, ap, sym, get_or, pos, ℤ, List, Ok, w64, to_z, of_z, rules}
+use Rattle.line_text.proofs.Items.{three_items}
 use Rattle.gro.proofs.boxes.rectangular.Goals as goal
 
 pub returns-then-are_zero : goal.returns-then-are_zero

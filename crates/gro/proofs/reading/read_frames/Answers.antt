@@ -1,4 +1,4 @@
-use Rattle.std.proofs.Common.{◌≡◌, List, ℕ, map, Result, Ok, Err, IfOk, Vec, subst}
+use Rattle.std.proofs.Common.{List, ℕ, map, Result, Ok, Err, IfOk, Vec, subst}
 use Rattle.gro.specs.Frames.{FrameView, frame_view}
 use Rattle.gro.specs.GroText.{IsGroText}
 use Rattle.gro.specs.GroReading.{Gives, frames_of}

@@ -1,8 +1,9 @@
-use Rattle.std.proofs.Common.{◌≡◌, ◌++◌, ◌∷◌, [], ◌∙◌, ap, sym, length, get_or, pos, ℤ, List, w64, to_z, of_z, rules}
+use Rattle.std.proofs.Common.{◌≡◌, ◌++◌, ◌∙◌, ap, sym, length, get_or, pos, ℤ, List, w64, to_z, of_z, rules}
 use Rattle.std.specs.List.{flat_map}
 use Rattle.line_text.specs.Parts.{right_in}
 use Rattle.line_text.specs.Columns.{decimals_text}
-use Rattle.gro.proofs.Items.{three_pieces, three_items}
+use Rattle.line_text.proofs.Items.{three_items}
+use Rattle.gro.proofs.Pieces.{three_pieces}
 use Rattle.gro.proofs.writing.put_three.Goals as goal
 
 pub returns-clause-items : goal.returns-clause-items

@@ -1,4 +1,4 @@
-use Rattle.std.proofs.Common.{◌≡◌, length, ◌++◌, ◌∷◌, [], ◌∙◌, ap, sym, ◌%◌, ◌<◌, ◌^◌, decimal, arith}
+use Rattle.std.proofs.Common.{◌≡◌, length, ◌++◌, ◌∷◌, [], ◌∙◌, ap, ◌%◌, ◌<◌, ◌^◌, decimal, arith}
 use Rattle.std.proofs.lemmas.Int.{to_z-of_z}
 use Rattle.std.proofs.lemmas.Fmt.{length-decimal-le}
 use Rattle.std.proofs.lemmas.Nat.{mod_below}
@@ -9,7 +9,7 @@ use Rattle.line_text.specs.Parts.{right_in, left_in}
 use Rattle.line_text.specs.Columns.{decimals_text}
 use Rattle.line_text.specs.Names.{name_text}
 use Rattle.line_text.proofs.ResidueNumbers.{number_short, number_fits_32}
-use Rattle.gro.proofs.Items.{six_pieces}
+use Rattle.gro.proofs.Pieces.{six_pieces}
 use Rattle.gro.proofs.writing.whole_atom_line.Goals as goal
 
 pub put_right-requires-clause-fits : goal.put_right-requires-clause-fits

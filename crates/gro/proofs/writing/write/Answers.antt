@@ -1,10 +1,10 @@
-use Rattle.std.proofs.Common.{◌≡◌, List, ℕ, ◌++◌, ◌∷◌, ◌∙◌, ap, sym, map, length, arith}
+use Rattle.std.proofs.Common.{◌≡◌, List, ℕ, ◌++◌, ◌∷◌, ◌∙◌, ap, sym, length, arith}
 use Rattle.std.specs.List.{AllByRecursion}
 use Rattle.std.proofs.lemmas.List.{length-map}
 use Rattle.std.proofs.lemmas.Result.{on_ok_weaker, on_err_weaker}
 use Rattle.line_text.specs.Parts.{ended}
 use Rattle.gro.specs.Frames.{FrameView, atom_view, frame_view}
-use Rattle.gro.specs.GroWriting.{HasForm, FitsColumns, count_line, atom_lines, box_line}
+use Rattle.gro.specs.GroWriting.{HasForm, count_line, atom_lines, box_line}
 use Rattle.gro.proofs.Appends.{appended_after, beginning_of_more, beginning_after, beginning_between, OnErr_of}
 use Rattle.gro.proofs.Pieces.{in_pieces}
 use Rattle.gro.proofs.WrittenFrames.{written_again}

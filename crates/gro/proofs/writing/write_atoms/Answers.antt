@@ -1,9 +1,9 @@
-use Rattle.std.proofs.Common.{◌≡◌, ℕ, ◌+◌, ◌<◌, ◌≤◌, ◌∙◌, List, map, length, get_or, take, ap, arith}
+use Rattle.std.proofs.Common.{◌≡◌, ℕ, ◌+◌, ◌<◌, ◌∙◌, List, map, length, take, ap, arith}
 use Rattle.std.specs.List.{flat_map, enumerate_from}
 use Rattle.std.proofs.lemmas.List.{length-map, take_all}
 use Rattle.std.proofs.lemmas.List.FromFn.{length-enumerate_from}
 use Rattle.gro.proofs.Appends.{appended_piece, beginning_at_piece, OnErr_of}
-use Rattle.gro.proofs.Items.{item_is, indexed_is, indexed_within, all_more}
+use Rattle.line_text.proofs.Items.{item_is, indexed_is, indexed_within, all_more}
 use Rattle.line_text.specs.Parts.{ended}
 use Rattle.gro.specs.Out.{appended}
 use Rattle.gro.specs.Frames.{AtomView, atom_view}

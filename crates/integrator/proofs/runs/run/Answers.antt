@@ -18,13 +18,12 @@ returns-clause-stop g c =
     let stop = c.in-Err-Stop.stop in
     let halt = rw c.in-Err-Stop.field-0-is at c.in-Err-Stop.ensures.halt in
     rw c.kernel_fault.ensures (
-      record {
-        done = stop.done;
-        pair = (stop.pair.low, stop.pair.high);
-        stops = rw (← atoms) halt;
-        counter = refl;
-        lower = refl;
-        higher = refl;
-      },
-      refl,
+    record {
+      done = stop.done;
+      pair = (stop.pair.low, stop.pair.high);
+      stops = rw (← atoms) halt;
+      counter = refl;
+      lower = refl;
+      higher = refl;
+    }
     )

@@ -2,7 +2,8 @@ use Rattle.std.proofs.Common.{ap, arith, ◌∙◌, List, ℕ, length}
 use Rattle.std.proofs.lemmas.List.{length-map}
 use Rattle.job.specs.Values.{GlobalValue}
 use Rattle.job.specs.Drafts.{global_new}
-use Rattle.job.specs.Views.{said_of, counts_of, refusal_of, global_value}
+use Rattle.job.specs.JobText.{limits}
+use Rattle.job.specs.Views.{said_of, refusal_of, global_value}
 use Rattle.job.proofs.FormLemmas.{known_through}
 use Rattle.job.proofs.DraftLemmas.{refused, pushed, global_known, global_out, global_full, global_added}
 use Rattle.job.proofs.lines.add_global.Goals as goal
@@ -10,29 +11,29 @@ use Rattle.job.proofs.lines.add_global.Goals as goal
 pub returns-then-knows_global : goal.returns-then-knows_global
 returns-then-knows_global g c =
     refused (refusal_of c.repeated_name.result) _ _ c.repeated_name.ensures
-    (global_known (counts_of c.args.limits.now) (said_of c.args.draft) c.args.name.now c.args.value
+    (global_known limits (said_of c.args.draft) c.args.name.now c.args.value
     (known_through (global_value {A = g.row.A.Denot}) (λ (v : GlobalValue). v.name) c.args.draft.globals.items _ _ _ _ c.as_slice.ensures.value c.knows_global.ensures c.if-knows_global.true))
 
 pub returns-in_default : goal.returns-in_default
 returns-in_default g c =
-    ap (global_new (counts_of c.args.limits.now) (said_of c.args.draft) c.args.name.now) c.in_default.is
-    ∙ global_out (counts_of c.args.limits.now) (said_of c.args.draft) c.args.name.now
+    ap (global_new limits (said_of c.args.draft) c.args.name.now) c.in_default.is
+    ∙ global_out limits (said_of c.args.draft) c.args.name.now
     (known_through (global_value {A = g.row.A.Denot}) (λ (v : GlobalValue). v.name) c.args.draft.globals.items _ _ _ _ c.as_slice.ensures.value c.knows_global.ensures c.if-knows_global.false)
 
-pub returns-then-as_slice-limits : goal.returns-then-as_slice-limits
-returns-then-as_slice-limits g c =
-    ap (global_new (counts_of c.args.limits.now) (said_of c.args.draft) c.args.name.now) c.in-Some.is
-    ∙ global_full (counts_of c.args.limits.now) (said_of c.args.draft) c.args.name.now _
+pub returns-then-as_slice-ge-MOST_GLOBALS : goal.returns-then-as_slice-ge-MOST_GLOBALS
+returns-then-as_slice-ge-MOST_GLOBALS g c =
+    ap (global_new limits (said_of c.args.draft) c.args.name.now) c.in-Some.is
+    ∙ global_full limits (said_of c.args.draft) c.args.name.now _
     (known_through (global_value {A = g.row.A.Denot}) (λ (v : GlobalValue). v.name) c.args.draft.globals.items _ _ _ _ c.as_slice.ensures.value c.knows_global.ensures c.if-knows_global.false)
-    (omega (arith, length-map c.args.draft.globals.items (global_value {A = g.row.A.Denot}), ap length c.as_slice-2.ensures.value, c.if-as_slice-limits.true))
+    (omega (arith, length-map c.args.draft.globals.items (global_value {A = g.row.A.Denot}), ap length c.as_slice-2.ensures.value, c.if-as_slice-ge-MOST_GLOBALS.true))
 
 pub invariant_of-draft-clause-few_globals : goal.invariant_of-draft-clause-few_globals
 invariant_of-draft-clause-few_globals g c = omega (arith, ap length c.in_err-push.ensures.items, c.args.draft.few_globals)
 
 pub returns : goal.returns
 returns g c =
-    ap (global_new (counts_of c.args.limits.now) (said_of c.args.draft) c.args.name.now) c.in-Some.is
-    ∙ global_added (counts_of c.args.limits.now) (said_of c.args.draft) c.args.name.now _ _
+    ap (global_new limits (said_of c.args.draft) c.args.name.now) c.in-Some.is
+    ∙ global_added limits (said_of c.args.draft) c.args.name.now _ _
     (known_through (global_value {A = g.row.A.Denot}) (λ (v : GlobalValue). v.name) c.args.draft.globals.items _ _ _ _ c.as_slice.ensures.value c.knows_global.ensures c.if-knows_global.false)
-    (omega (arith, length-map c.args.draft.globals.items (global_value {A = g.row.A.Denot}), ap length c.as_slice-2.ensures.value, c.if-as_slice-limits.false))
+    (omega (arith, length-map c.args.draft.globals.items (global_value {A = g.row.A.Denot}), ap length c.as_slice-2.ensures.value, c.if-as_slice-ge-MOST_GLOBALS.false))
     (pushed (global_value {A = g.row.A.Denot}) c.args.draft.globals.items _ _ _ c.in_ok-push.ensures.items (ap (λ (n : List ℕ). record { name = n; value = c.in-Some.value }) c.in_ok-name.ensures.items))

@@ -1,8 +1,9 @@
-use Rattle.std.proofs.Common.{◌<◌, ap, arith, subst, sym, IsTrue, Vec, List, ℕ, length, length-append, [], ◌∷◌}
+use Rattle.std.proofs.Common.{ap, arith, subst, sym, IsTrue, Vec, List, ℕ, length, length-append, [], ◌∷◌}
 use Rattle.std.proofs.lemmas.List.{length-map}
 use Rattle.std.proofs.lemmas.List.Elements.{All-same, All-push}
 use Rattle.job.specs.Forms.{is_identifier}
-use Rattle.job.specs.Views.{said_of, counts_of, refusal_of}
+use Rattle.job.specs.JobText.{limits}
+use Rattle.job.specs.Views.{said_of, refusal_of}
 use Rattle.job.proofs.FormLemmas.{known_is}
 use Rattle.job.proofs.DraftLemmas.{refused, pushed, parameter_known, parameter_full, parameter_added}
 use Rattle.job.proofs.lines.add_parameter.Goals as goal
@@ -10,14 +11,14 @@ use Rattle.job.proofs.lines.add_parameter.Goals as goal
 pub returns-then-knows_parameter : goal.returns-then-knows_parameter
 returns-then-knows_parameter g c =
     refused (refusal_of c.repeated_name.result) _ _ c.repeated_name.ensures
-    (parameter_known (counts_of c.args.limits.now) (said_of c.args.draft) c.args.name.now
+    (parameter_known limits (said_of c.args.draft) c.args.name.now
     (known_is (λ (p : Vec ℕ g.row.A.Denot). p.items) c.args.draft.parameters.items _ _ _ _ c.as_slice.ensures.value c.knows_parameter.ensures c.if-knows_parameter.true))
 
-pub returns-then-as_slice-limits : goal.returns-then-as_slice-limits
-returns-then-as_slice-limits g c =
-    parameter_full (counts_of c.args.limits.now) (said_of c.args.draft) c.args.name.now
+pub returns-then-as_slice-ge-MOST_PARAMETERS : goal.returns-then-as_slice-ge-MOST_PARAMETERS
+returns-then-as_slice-ge-MOST_PARAMETERS g c =
+    parameter_full limits (said_of c.args.draft) c.args.name.now
     (known_is (λ (p : Vec ℕ g.row.A.Denot). p.items) c.args.draft.parameters.items _ _ _ _ c.as_slice.ensures.value c.knows_parameter.ensures c.if-knows_parameter.false)
-    (omega (arith, length-map c.args.draft.parameters.items (λ (p : Vec ℕ g.row.A.Denot). p.items), ap length c.as_slice-2.ensures.value, c.if-as_slice-limits.true))
+    (omega (arith, length-map c.args.draft.parameters.items (λ (p : Vec ℕ g.row.A.Denot). p.items), ap length c.as_slice-2.ensures.value, c.if-as_slice-ge-MOST_PARAMETERS.true))
 
 pub invariant_of-draft-clause-named : goal.invariant_of-draft-clause-named
 invariant_of-draft-clause-named g c = All-same (λ (p : Vec ℕ g.row.A.Denot). IsTrue (is_identifier p.items)) c.push.new.self.items c.args.draft.parameters.items c.in_err-push.ensures.items c.args.draft.named
@@ -32,12 +33,11 @@ invariant_of-draft-2-clause-named g c =
 
 pub invariant_of-draft-2-clause-few_parameters : goal.invariant_of-draft-2-clause-few_parameters
 invariant_of-draft-2-clause-few_parameters g c =
-    let n : length c.args.draft.parameters.items < c.args.limits.now.parameters = omega (arith, ap length c.as_slice-2.ensures.value, c.if-as_slice-limits.false) in
-    omega (arith, ap length c.in_ok-push.ensures.items, length-append c.args.draft.parameters.items (c.in_ok-name.name ∷ []), n, c.args.limits.now.few_parameters)
+    omega (arith, ap length c.in_ok-push.ensures.items, length-append c.args.draft.parameters.items (c.in_ok-name.name ∷ []), ap length c.as_slice-2.ensures.value, c.if-as_slice-ge-MOST_PARAMETERS.false)
 
 pub returns : goal.returns
 returns g c =
-    parameter_added (counts_of c.args.limits.now) (said_of c.args.draft) c.args.name.now _
+    parameter_added limits (said_of c.args.draft) c.args.name.now _
     (known_is (λ (p : Vec ℕ g.row.A.Denot). p.items) c.args.draft.parameters.items _ _ _ _ c.as_slice.ensures.value c.knows_parameter.ensures c.if-knows_parameter.false)
-    (omega (arith, length-map c.args.draft.parameters.items (λ (p : Vec ℕ g.row.A.Denot). p.items), ap length c.as_slice-2.ensures.value, c.if-as_slice-limits.false))
+    (omega (arith, length-map c.args.draft.parameters.items (λ (p : Vec ℕ g.row.A.Denot). p.items), ap length c.as_slice-2.ensures.value, c.if-as_slice-ge-MOST_PARAMETERS.false))
     (pushed (λ (p : Vec ℕ g.row.A.Denot). p.items) c.args.draft.parameters.items _ _ _ c.in_ok-push.ensures.items c.in_ok-name.ensures.items)

@@ -2,7 +2,8 @@ use Rattle.std.proofs.Common.{ap, arith, ◌∙◌, List, ℕ, length, option_ma
 use Rattle.std.proofs.lemmas.List.{length-map}
 use Rattle.job.specs.Faults.{TypeLine}
 use Rattle.job.specs.Drafts.{type_new}
-use Rattle.job.specs.Views.{said_of, counts_of, refusal_of, type_line, type_numbers_of}
+use Rattle.job.specs.JobText.{limits}
+use Rattle.job.specs.Views.{said_of, refusal_of, type_line, type_numbers_of}
 use Rattle.job.proofs.FormLemmas.{known_through}
 use Rattle.job.proofs.DraftLemmas.{refused, pushed, type_known, type_out, type_full, type_added}
 use Rattle.job.proofs.lines.add_type.Goals as goal
@@ -10,30 +11,30 @@ use Rattle.job.proofs.lines.add_type.Goals as goal
 pub returns-then-knows_type : goal.returns-then-knows_type
 returns-then-knows_type g c =
     refused (refusal_of c.repeated_type.result) _ _ c.repeated_type.ensures
-    (type_known (counts_of c.args.limits.now) c.args.number (said_of c.args.draft) c.args.word.now (option_map (type_numbers_of {A = g.row.A.Denot}) c.args.numbers)
+    (type_known limits c.args.number (said_of c.args.draft) c.args.word.now (option_map (type_numbers_of {A = g.row.A.Denot}) c.args.numbers)
     (known_through (type_line {A = g.row.A.Denot}) (λ (t : TypeLine). t.value.name) c.args.draft.types.items _ _ _ _ c.as_slice.ensures.value c.knows_type.ensures c.if-knows_type.true))
 
 pub returns-in_default : goal.returns-in_default
 returns-in_default g c =
-    ap (λ o. type_new (counts_of c.args.limits.now) c.args.number (said_of c.args.draft) c.args.word.now (option_map (type_numbers_of {A = g.row.A.Denot}) o)) c.in_default.is
-    ∙ type_out (counts_of c.args.limits.now) c.args.number (said_of c.args.draft) c.args.word.now
+    ap (λ o. type_new limits c.args.number (said_of c.args.draft) c.args.word.now (option_map (type_numbers_of {A = g.row.A.Denot}) o)) c.in_default.is
+    ∙ type_out limits c.args.number (said_of c.args.draft) c.args.word.now
     (known_through (type_line {A = g.row.A.Denot}) (λ (t : TypeLine). t.value.name) c.args.draft.types.items _ _ _ _ c.as_slice.ensures.value c.knows_type.ensures c.if-knows_type.false)
 
-pub returns-then-as_slice-limits : goal.returns-then-as_slice-limits
-returns-then-as_slice-limits g c =
-    ap (λ o. type_new (counts_of c.args.limits.now) c.args.number (said_of c.args.draft) c.args.word.now (option_map (type_numbers_of {A = g.row.A.Denot}) o)) c.in-Some.is
-    ∙ type_full (counts_of c.args.limits.now) c.args.number (said_of c.args.draft) c.args.word.now _
+pub returns-then-as_slice-ge-MOST_TYPES : goal.returns-then-as_slice-ge-MOST_TYPES
+returns-then-as_slice-ge-MOST_TYPES g c =
+    ap (λ o. type_new limits c.args.number (said_of c.args.draft) c.args.word.now (option_map (type_numbers_of {A = g.row.A.Denot}) o)) c.in-Some.is
+    ∙ type_full limits c.args.number (said_of c.args.draft) c.args.word.now _
     (known_through (type_line {A = g.row.A.Denot}) (λ (t : TypeLine). t.value.name) c.args.draft.types.items _ _ _ _ c.as_slice.ensures.value c.knows_type.ensures c.if-knows_type.false)
-    (omega (arith, length-map c.args.draft.types.items (type_line {A = g.row.A.Denot}), ap length c.as_slice-2.ensures.value, c.if-as_slice-limits.true))
+    (omega (arith, length-map c.args.draft.types.items (type_line {A = g.row.A.Denot}), ap length c.as_slice-2.ensures.value, c.if-as_slice-ge-MOST_TYPES.true))
 
 pub invariant_of-draft-clause-few_types : goal.invariant_of-draft-clause-few_types
 invariant_of-draft-clause-few_types g c = omega (arith, ap length c.in_err-push.ensures.items, c.args.draft.few_types)
 
 pub returns : goal.returns
 returns g c =
-    ap (λ o. type_new (counts_of c.args.limits.now) c.args.number (said_of c.args.draft) c.args.word.now (option_map (type_numbers_of {A = g.row.A.Denot}) o)) c.in-Some.is
-    ∙ type_added (counts_of c.args.limits.now) c.args.number (said_of c.args.draft) c.args.word.now _ _
+    ap (λ o. type_new limits c.args.number (said_of c.args.draft) c.args.word.now (option_map (type_numbers_of {A = g.row.A.Denot}) o)) c.in-Some.is
+    ∙ type_added limits c.args.number (said_of c.args.draft) c.args.word.now _ _
     (known_through (type_line {A = g.row.A.Denot}) (λ (t : TypeLine). t.value.name) c.args.draft.types.items _ _ _ _ c.as_slice.ensures.value c.knows_type.ensures c.if-knows_type.false)
-    (omega (arith, length-map c.args.draft.types.items (type_line {A = g.row.A.Denot}), ap length c.as_slice-2.ensures.value, c.if-as_slice-limits.false))
+    (omega (arith, length-map c.args.draft.types.items (type_line {A = g.row.A.Denot}), ap length c.as_slice-2.ensures.value, c.if-as_slice-ge-MOST_TYPES.false))
     (pushed (type_line {A = g.row.A.Denot}) c.args.draft.types.items _ _ _ c.in_ok-push.ensures.items
     (ap (λ (n : List ℕ). record { line = c.args.number; value = record { name = n; mass = c.in-Some.numbers.mass; values = c.in-Some.numbers.values.items } }) c.type_name-name.ensures))

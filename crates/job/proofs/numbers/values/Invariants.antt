@@ -1,5 +1,5 @@
 use Rattle.std.proofs.Common.{◌≡◌, length}
-use Rattle.job.specs.Words.{words}
+use Rattle.line_text.specs.Words.{words}
 use Rattle.job.specs.Numbers.{values_of}
 use Rattle.job.proofs.NumberLemmas.{and_then, so_far}
 use Rattle.job.proofs.numbers.values.Given as goal

@@ -2,14 +2,15 @@ use Rattle.std.proofs.Common.{◌≡◌, ◌+◌, ◌<◌, ◌^◌, ℕ, List, O
 use Rattle.std.proofs.lemmas.Result.{err_from_is_err_and}
 use Rattle.job.specs.Words.{more_lines}
 use Rattle.job.specs.Drafts.{lines_into}
-use Rattle.job.specs.Views.{said_of, counts_of, refusal_of}
+use Rattle.job.specs.JobText.{limits}
+use Rattle.job.specs.Views.{said_of, refusal_of}
 use Rattle.job.proofs.LineLemmas.{size, size_left, size_within, lines_step, lines_fault, lines_end}
 use Rattle.job.proofs.reading.take_lines.Goals as goal
 
 pub returns-in_err-draft : goal.returns-in_err-draft
 returns-in_err-draft g c =
     let p = err_from_is_err_and c.from_residual.result c.from_residual.ensures.1 in
-    rw (p.1, p.2) (lines_fault (counts_of c.args.limits.now) c.loop-rest.number (said_of c.loop-rest.draft) _ _ (more_lines (option_map (λ (x : Bor (List ℕ)). x.now) c.loop-rest.rest)) _ (refusal_of c.in_err-draft.field-0.0)
+    rw (p.1, p.2) (lines_fault limits c.loop-rest.number (said_of c.loop-rest.draft) _ _ (more_lines (option_map (λ (x : Bor (List ℕ)). x.now) c.loop-rest.rest)) _ (refusal_of c.in_err-draft.field-0.0)
     (ap (λ (r : Option (Bor (List ℕ))). more_lines (option_map (λ x. x.now) r)) c.in-Some.is ∙ c.next_line.ensures.lines) c.in_err-draft.ensures c.loop-rest.invariant.lines)
 
 pub overflow_add-number : goal.overflow_add-number
@@ -27,12 +28,12 @@ pub loop-rest-preserved : goal.loop-rest-preserved
 loop-rest-preserved g c =
     let left : size (option_map (λ (x : Bor (List ℕ)). x.now) c.loop-rest.rest) ≡ 1 + length c.in-Some.lines.now = ap (λ (r : Option (Bor (List ℕ))). size (option_map (λ x. x.now) r)) c.in-Some.is in
     record {
-      lines = lines_step (counts_of c.args.limits.now) c.loop-rest.number (said_of c.loop-rest.draft) (said_of c.in_ok-draft.draft) _ _ (more_lines (option_map (λ (x : Bor (List ℕ)). x.now) c.loop-rest.rest)) _
+      lines = lines_step limits c.loop-rest.number (said_of c.loop-rest.draft) (said_of c.in_ok-draft.draft) _ _ (more_lines (option_map (λ (x : Bor (List ℕ)). x.now) c.loop-rest.rest)) _
           (ap (λ (r : Option (Bor (List ℕ))). more_lines (option_map (λ x. x.now) r)) c.in-Some.is ∙ c.next_line.ensures.lines) c.in_ok-draft.ensures c.loop-rest.invariant.lines;
       count = omega (arith, left, size_left (λ (x : Bor (List ℕ)). x.now) c.next_line.result.1 c.next_line.result.0.now c.in-Some.lines.now c.next_line.ensures.shorter, c.loop-rest.invariant.count);
     }
 
 pub returns : goal.returns
 returns g c =
-    lines_end (counts_of c.args.limits.now) c.loop-rest.number (said_of c.loop-rest.draft) _
-    (ap (λ (r : Option (Bor (List ℕ))). lines_into (counts_of c.args.limits.now) c.loop-rest.number (said_of c.loop-rest.draft) (more_lines (option_map (λ x. x.now) r))) (sym c.in_default.is) ∙ c.loop-rest.invariant.lines)
+    lines_end limits c.loop-rest.number (said_of c.loop-rest.draft) _
+    (ap (λ (r : Option (Bor (List ℕ))). lines_into limits c.loop-rest.number (said_of c.loop-rest.draft) (more_lines (option_map (λ x. x.now) r))) (sym c.in_default.is) ∙ c.loop-rest.invariant.lines)

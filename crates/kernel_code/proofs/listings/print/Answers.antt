@@ -1,8 +1,9 @@
 use Rattle.std.proofs.Common.{sym, ap, subst, ◌∙◌}
 use Rattle.line_text.specs.Parts.{ended}
 use Rattle.kernel_code.specs.Code.{IsCode}
-use Rattle.kernel_code.specs.Listing.{head_line, IsListed, listing_of}
-use Rattle.kernel_code.proofs.ListingLaws.{lines_more, operands_more, printed, is_listed, listing_again}
+use Rattle.kernel_code.specs.Listing.{head_line, HasOperands, IsListed, listing_of}
+use Rattle.line_text.proofs.Items.{all_more}
+use Rattle.kernel_code.proofs.ListingLaws.{lines_more, printed, is_listed, listing_again}
 use Rattle.kernel_code.proofs.listings.print.Goals as goal
 
 pub loop-instr-init : goal.loop-instr-init
@@ -15,7 +16,7 @@ loop-instr-preserved g c =
     record {
       text = lines_more is k c.instr-item.result (ended head_line) c.loop-instr.text.items c.as_slice.result.now c.extend_from_slice.new.self.items c.loop-instr-test.true c.instr-item.is c.loop-instr.invariant.text
           (c.as_slice.ensures.value ∙ c.whole_line-line.ensures.items) c.in_ok-extend_from_slice.ensures.items;
-      operands = operands_more is k c.instr-item.result c.loop-instr-test.true c.instr-item.is c.loop-instr.invariant.operands c.whole_line-line.ensures.operands;
+      operands = all_more HasOperands is k c.instr-item.result c.loop-instr-test.true c.instr-item.is c.loop-instr.invariant.operands c.whole_line-line.ensures.operands;
     }
 
 pub returns-clause-text : goal.returns-clause-text

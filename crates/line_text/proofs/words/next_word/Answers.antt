@@ -11,7 +11,12 @@ returns-else-is_empty-clause-word c =
     let s = words_some c.args.text.now c.skip_blanks-text.result.now c.skip_blanks-text.ensures.value (eqb-false _ _ (sym c.is_empty.ensures ∙ c.if-is_empty.false)) in
     rw (c.split_at.ensures.front, c.split_at.ensures.back, c.word_len.ensures.value) s.0
 
+pub returns-else-is_empty-clause-rest : goal.returns-else-is_empty-clause-rest
+returns-else-is_empty-clause-rest c =
+    let s = words_some c.args.text.now c.skip_blanks-text.result.now c.skip_blanks-text.ensures.value (eqb-false _ _ (sym c.is_empty.ensures ∙ c.if-is_empty.false)) in
+    rw (c.split_at.ensures.back, c.word_len.ensures.value) s.1
+
 pub returns-else-is_empty-clause-shorter : goal.returns-else-is_empty-clause-shorter
 returns-else-is_empty-clause-shorter c =
     let s = words_some c.args.text.now c.skip_blanks-text.result.now c.skip_blanks-text.ensures.value (eqb-false _ _ (sym c.is_empty.ensures ∙ c.if-is_empty.false)) in
-    rw (c.split_at.ensures.back, c.word_len.ensures.value) (omega (arith, s.1, c.skip_blanks-text.ensures.shorter))
+    rw (c.split_at.ensures.back, c.word_len.ensures.value) (omega (arith, s.2, c.skip_blanks-text.ensures.shorter))

@@ -6,7 +6,7 @@ use mir.Syntax.{w32}
 use Rattle.line_text.specs.Parts.{word, right_in, left_in}
 use Rattle.line_text.specs.Names.{name_text}
 use Rattle.state.proofs.Pieces.{in_five}
-use Rattle.state.proofs.ResidueNumbers.{number_short, number_fits_32}
+use Rattle.line_text.proofs.ResidueNumbers.{number_short, number_fits_32}
 use Rattle.state.proofs.lines.put_atom.Goals as goal
 
 pub put_right-requires-clause-fits : goal.put_right-requires-clause-fits

@@ -4,7 +4,7 @@ use Rattle.gro.proofs.Appends.{appended_piece, beginning_at_piece, OnErr_of}
 use Rattle.line_text.specs.Parts.{ended}
 use Rattle.state.specs.StateText.{AtomView, IsAtom, atom_line}
 use Rattle.state.specs.StateViews.{atom_view}
-use Rattle.state.proofs.AtomPieces.{item_is, all_more}
+use Rattle.line_text.proofs.Items.{item_is, all_more}
 use Rattle.state.proofs.writing.write_atoms.Goals as goal
 
 pub returns-in_err-write_all-clause-fault_taken : goal.returns-in_err-write_all-clause-fault_taken

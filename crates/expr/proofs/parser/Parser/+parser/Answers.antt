@@ -4,8 +4,8 @@ use Rattle.std.proofs.lemmas.Result.{err_from_is_err_and}
 use Rattle.expr.specs.Tokens.{placed}
 use Rattle.expr.specs.Syntax.{syntax_of}
 use Rattle.expr.specs.Syntax as tree
-use Rattle.expr.specs.Parsing.{beginning, sum_sign, product_sign, chain, term_at, unary_at}
-use Rattle.expr.proofs.Levels.{fails_says, unary_none_left, atom_group, atom_name, atom_call, minus_fails, minus_reads, gives_same, atom_start, unary_none, term_starts, expr_starts, term_fails, expr_fails, term_turn, expr_turn, term_turn_fails, expr_turn_fails, term_ends, expr_ends, term_less, expr_less, started, reading}
+use Rattle.expr.specs.Parsing.{beginning, sum_sign, product_sign, comma_sign, listed, chain, expr_at, term_at, unary_at}
+use Rattle.expr.proofs.Levels.{fails_says, unary_none_left, atom_group, atom_name, atom_call, minus_fails, minus_reads, gives_same, atom_start, unary_none, term_starts, expr_starts, term_fails, expr_fails, term_turn, expr_turn, term_turn_fails, expr_turn_fails, term_ends, expr_ends, term_less, expr_less, started, reading, list_starts, list_fails, list_turn, list_turn_fails, list_ends, list_less}
 use Rattle.expr.proofs.parser.Parser.+parser.Goals as goal
 
 pub expr-returns-in_err-left : goal.expr-returns-in_err-left
@@ -30,7 +30,7 @@ pub expr-loop-operator-preserved : goal.expr-loop-operator-preserved
 expr-loop-operator-preserved g t c =
     c.loop-operator.invariant
     ∙ expr_turn c.args.self.now.end c.args.levels _ (placed c.loop-operator.rest.now) _ _ _ _ c.in-Some.ensures c.in_ok-right.ensures
-    ∙ ap (λ left. chain sum_sign (term_at c.args.self.now.end c.args.levels) (length (placed c.in_ok-right.beyond.now)) left (placed c.in_ok-right.beyond.now)) (sym c.in_ok-left-2.ensures)
+    ∙ ap (λ left. chain sum_sign (term_at c.args.self.now.end c.args.levels) tree.Binary (length (placed c.in_ok-right.beyond.now)) left (placed c.in_ok-right.beyond.now)) (sym c.in_ok-left-2.ensures)
 
 pub expr-returns : goal.expr-returns
 expr-returns g t c = c.loop-operator.invariant ∙ expr_ends c.args.self.now.end c.args.levels _ (placed c.loop-operator.rest.now) c.in_default.ensures
@@ -57,7 +57,7 @@ pub term-loop-operator-preserved : goal.term-loop-operator-preserved
 term-loop-operator-preserved g t c =
     c.loop-operator.invariant
     ∙ term_turn c.args.self.now.end c.args.levels _ (placed c.loop-operator.rest.now) _ _ _ _ c.in-Some.ensures c.in_ok-right.ensures
-    ∙ ap (λ left. chain product_sign (unary_at c.args.self.now.end c.args.levels) (length (placed c.in_ok-right.beyond.now)) left (placed c.in_ok-right.beyond.now)) (sym c.in_ok-left-2.ensures)
+    ∙ ap (λ left. chain product_sign (unary_at c.args.self.now.end c.args.levels) tree.Binary (length (placed c.in_ok-right.beyond.now)) left (placed c.in_ok-right.beyond.now)) (sym c.in_ok-left-2.ensures)
 
 pub term-returns : goal.term-returns
 term-returns g t c = c.loop-operator.invariant ∙ term_ends c.args.self.now.end c.args.levels _ (placed c.loop-operator.rest.now) c.in_default.ensures
@@ -76,7 +76,7 @@ unary-returns-in_ok-new-in-Some g t c =
     ∙ ap (λ e. reading (tree.Negated (syntax_of e)) (placed c.in_ok-inner-in-Some.rest.now)) (sym c.in_ok-new-in-Some.ensures.ok)
 
 pub unary-returns-in-None : goal.unary-returns-in-None
-unary-returns-in-None g t c = gives_same _ c.atom.result _ _ (unary_none c.args.self.now.end c.args.levels (placed c.args.tokens.now) (omega arith) c.in-None.ensures) c.atom.ensures
+unary-returns-in-None g t c = gives_same _ c.power.result _ _ (unary_none c.args.self.now.end c.args.levels (placed c.args.tokens.now) (omega arith) c.in-None.ensures) c.power.ensures
 
 pub atom-returns-in-None : goal.atom-returns-in-None
 atom-returns-in-None g t c = rw (c.offset.ensures) (atom_start c.args.self.now.end c.args.levels (placed c.args.tokens.now) _ c.in-None.ensures)
@@ -96,9 +96,36 @@ atom-returns-in-None-open_sign g t c =
 pub atom-returns-in-Some : goal.atom-returns-in-Some
 atom-returns-in-Some g t c =
     let a = c.in-Some-Name-default in
-    fails_says _ _ _ (atom_call c.args.self.now.end c.args.levels (placed c.args.tokens.now) _ _ _ (started _ beginning _ _ _ a.ensures a.field-0-0-is) c.in-Some.ensures) c.call_refusal.ensures
+    gives_same _ c.call.result _ _ (atom_call c.args.self.now.end c.args.levels (placed c.args.tokens.now) _ _ _ (started _ beginning _ _ _ a.ensures a.field-0-0-is) c.in-Some.ensures) c.call.ensures
 
 pub atom-returns-in-Some-Open-default : goal.atom-returns-in-Some-Open-default
 atom-returns-in-Some-Open-default g t c =
     let a = c.in-Some-Open-default in
     gives_same _ c.closed.result _ _ (atom_group c.args.self.now.end c.args.levels (placed c.args.tokens.now) _ (started _ beginning _ _ _ a.ensures a.field-0-0-is)) c.closed.ensures
+
+pub list-returns-in_err-first : goal.list-returns-in_err-first
+list-returns-in_err-first g t c =
+    let p = err_from_is_err_and c.from_residual.result c.from_residual.ensures.1 in
+    rw (p.1, p.2) (list_fails c.args.self.now.end c.args.levels (placed c.args.tokens.now) _ c.in_err-first.ensures)
+
+pub list-loop-after-init : goal.list-loop-after-init
+list-loop-after-init g t c = list_starts c.args.self.now.end c.args.levels (placed c.args.tokens.now) _ _ c.in_ok-first.ensures
+
+pub list-returns-in_err-next : goal.list-returns-in_err-next
+list-returns-in_err-next g t c =
+    let p = err_from_is_err_and c.from_residual-in_err-next.result c.from_residual-in_err-next.ensures.1 in
+    rw (p.1, p.2, c.loop-after.invariant) (list_turn_fails c.args.self.now.end c.args.levels _ (placed c.loop-after.rest.now) _ _ _ c.in-Some.ensures c.in_err-next.ensures)
+
+pub list-loop-after-smaller : goal.list-loop-after-smaller
+list-loop-after-smaller g t c =
+    let h = list_less c.args.self.now.end c.args.levels (placed c.loop-after.rest.now) _ _ _ _ c.in-Some.ensures c.in_ok-next.ensures in
+    omega (arith, simp length-map at h)
+
+pub list-loop-after-preserved : goal.list-loop-after-preserved
+list-loop-after-preserved g t c =
+    c.loop-after.invariant
+    ∙ list_turn c.args.self.now.end c.args.levels _ (placed c.loop-after.rest.now) _ _ _ _ c.in-Some.ensures c.in_ok-next.ensures
+    ∙ ap (λ left. chain comma_sign (expr_at c.args.self.now.end c.args.levels) listed (length (placed c.in_ok-next.beyond.now)) left (placed c.in_ok-next.beyond.now)) (sym c.with-arguments.ensures)
+
+pub list-returns : goal.list-returns
+list-returns g t c = c.loop-after.invariant ∙ list_ends c.args.self.now.end c.args.levels _ (placed c.loop-after.rest.now) c.in_default.ensures

@@ -1,7 +1,8 @@
 use Rattle.std.proofs.Common.{◌≡◌, ◌+◌, ◌*◌, length}
 use Rattle.expr.specs.Tokens.{placed}
-use Rattle.expr.specs.Syntax.{syntax_of}
-use Rattle.expr.specs.Parsing.{sum_sign, product_sign, chain, expr_at, term_at, unary_at}
+use Rattle.expr.specs.Syntax.{syntax_of, arguments_of}
+use Rattle.expr.specs.Syntax as tree
+use Rattle.expr.specs.Parsing.{sum_sign, product_sign, comma_sign, listed, list_at, chain, expr_at, term_at, unary_at}
 use Rattle.expr.proofs.parser.Parser.+parser.Given as goal
 
 abbrev pub decreases-unary : goal.decreases-unary
@@ -16,19 +17,38 @@ decreases-expr g l = 8 * l.levels + 2
 abbrev pub decreases-closed : goal.decreases-closed
 decreases-closed g l = 8 * l.levels + 3
 
+abbrev pub decreases-list : goal.decreases-list
+decreases-list g l = 8 * l.levels + 3
+
+abbrev pub decreases-arguments : goal.decreases-arguments
+decreases-arguments g l = 8 * l.levels + 4
+
+abbrev pub decreases-call : goal.decreases-call
+decreases-call g l = 8 * l.levels + 5
+
 abbrev pub decreases-atom : goal.decreases-atom
-decreases-atom g l = 8 * l.levels + 4
+decreases-atom g l = 8 * l.levels + 6
+
+abbrev pub decreases-power : goal.decreases-power
+decreases-power g l = 8 * l.levels + 7
+
+abbrev pub invariant-list-loop-after : goal.invariant-list-loop-after
+invariant-list-loop-after g l =
+    list_at l.self.end l.levels (placed l.fn.tokens) ≡ chain comma_sign (expr_at l.self.end l.levels) listed (length (placed l.rest)) (arguments_of l.arguments) (placed l.rest)
+
+abbrev pub decreases-list-loop-after : goal.decreases-list-loop-after
+decreases-list-loop-after g l = length l.rest
 
 abbrev pub invariant-expr-loop-operator : goal.invariant-expr-loop-operator
 invariant-expr-loop-operator g l =
-    expr_at l.self.end l.levels (placed l.fn.tokens) ≡ chain sum_sign (term_at l.self.end l.levels) (length (placed l.rest)) (syntax_of l.left) (placed l.rest)
+    expr_at l.self.end l.levels (placed l.fn.tokens) ≡ chain sum_sign (term_at l.self.end l.levels) tree.Binary (length (placed l.rest)) (syntax_of l.left) (placed l.rest)
 
 abbrev pub decreases-expr-loop-operator : goal.decreases-expr-loop-operator
 decreases-expr-loop-operator g l = length l.rest
 
 abbrev pub invariant-term-loop-operator : goal.invariant-term-loop-operator
 invariant-term-loop-operator g l =
-    term_at l.self.end l.levels (placed l.fn.tokens) ≡ chain product_sign (unary_at l.self.end l.levels) (length (placed l.rest)) (syntax_of l.left) (placed l.rest)
+    term_at l.self.end l.levels (placed l.fn.tokens) ≡ chain product_sign (unary_at l.self.end l.levels) tree.Binary (length (placed l.rest)) (syntax_of l.left) (placed l.rest)
 
 abbrev pub decreases-term-loop-operator : goal.decreases-term-loop-operator
 decreases-term-loop-operator g l = length l.rest

@@ -1,0 +1,15 @@
+-- Tests that hold together.
+use Rattle.std.proofs.Common.{Bool, true, false, ◌&&◌, refl}
+use Rattle.std.specs.Bool.{IsTrue}
+
+pub left_of : (a b : Bool) → IsTrue (a && b) → IsTrue a
+left_of true b h = refl
+left_of false b h = h
+
+pub right_of : (a b : Bool) → IsTrue (a && b) → IsTrue b
+right_of true b h = h
+right_of false b h = absurd (cc)
+
+pub both : (a b : Bool) → IsTrue a → IsTrue b → IsTrue (a && b)
+both true b h k = k
+both false b h k = h

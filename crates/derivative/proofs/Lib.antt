@@ -1,0 +1,16 @@
+pub mod Bool
+pub mod Scoped
+pub mod Meaning
+pub mod Ranges
+pub mod Table
+pub mod Written
+pub mod Derives
+pub mod Shared
+pub mod Uses
+pub mod Whole
+pub mod Pushed
+pub mod Pruned
+pub mod Turns
+pub mod Left
+pub mod Sources
+pub mod Final

@@ -1,0 +1,48 @@
+-- What definitions stand for.
+use Rattle.std.proofs.Common.{◌≡◌, ℕ, ◌+◌, ◌≤◌, ◌==◌, pos, Bool, true, false, List, [], ◌∷◌, ◌++◌, map, length, refl, ap, ◌∙◌, arith}
+use Rattle.std.proofs.lemmas.Bool.{eqb-true, eqb-false, ne_eqb, eq-eqb}
+use Rattle.energy_program.specs.Tree.{Tree, Number, Input, Definition, Negated, Binary, Applied, Power, Select, put, meaning}
+use Rattle.derivative.specs.Written.{moved}
+
+-- a later definition is not this one
+pub skip : (i j : ℕ) (d : Tree) (ds : List Tree) → i + 1 ≤ j → meaning i (d ∷ ds) j ≡ meaning (i + 1) ds j
+skip i j d ds h = let e : (j == i) ≡ false = ne_eqb j i (λ w. omega arith) in rw e refl
+
+pub here : (i j : ℕ) (d : Tree) (ds : List Tree) → j ≡ i → meaning i (d ∷ ds) j ≡ put (meaning (i + 1) ds) d
+here i j d ds h = let e : (j == i) ≡ true = eq-eqb j i h in rw e refl
+
+-- past the definitions there is 0
+pub past : (i : ℕ) (ds : List Tree) (j : ℕ) → i + length ds ≤ j → meaning i ds j ≡ Number (pos 0)
+past i [] j h = refl
+past i (d ∷ ds) j h = skip i j d ds (omega arith) ∙ past (i + 1) ds j (omega arith)
+
+-- past the definitions of a list come those of the next
+pub skip_all : (xs ys : List Tree) (i j m : ℕ) → i + length xs ≡ m → m ≤ j → meaning i (xs ++ ys) j ≡ meaning m ys j
+skip_all [] ys i j m e h = let w : i ≡ m = omega arith in ap (λ k. meaning k ys j) w
+skip_all (x ∷ xs) ys i j m e h = skip i j x (xs ++ ys) (omega arith) ∙ skip_all xs ys (i + 1) j m (omega arith) h
+
+-- the moved definitions stand for what they did
+put_moved : (n : ℕ) (f g : ℕ → Tree) → ((j : ℕ) → f (n + j) ≡ g j) → (e : Tree) → put f (moved n e) ≡ put g e
+put_moved n f g same (Number z) = refl
+put_moved n f g same (Input i) = refl
+put_moved n f g same (Definition j) = same j
+put_moved n f g same (Negated a) = ap Negated (put_moved n f g same a)
+put_moved n f g same (Binary o a b) = rw (put_moved n f g same a, put_moved n f g same b) refl
+put_moved n f g same (Applied k a) = ap (Applied k) (put_moved n f g same a)
+put_moved n f g same (Power a k) = ap (λ x. Power x k) (put_moved n f g same a)
+put_moved n f g same (Select c a b) = rw (put_moved n f g same c, put_moved n f g same a, put_moved n f g same b) refl
+
+same_test : (n i j : ℕ) → ((n + j) == (n + i)) ≡ (j == i)
+same_test n i j = by_test (j == i) refl
+  where
+    by_test : (b : Bool) → (j == i) ≡ b → ((n + j) == (n + i)) ≡ b
+    by_test true h = let w = eqb-true j i h in eq-eqb (n + j) (n + i) (omega arith)
+    by_test false h = ne_eqb (n + j) (n + i) (λ w. eqb-false j i h (omega arith))
+
+pub moved_meaning : (n i m : ℕ) (ds : List Tree) → m ≡ n + i → (j : ℕ) → meaning m (map (moved n) ds) (n + j) ≡ meaning i ds j
+moved_meaning n i m [] e j = refl
+moved_meaning n i m (d ∷ ds) e j =
+    let rest = moved_meaning n (i + 1) (m + 1) ds (omega arith) in
+    let test : ((n + j) == m) ≡ (j == i) = rw e (same_test n i j) in
+    let at = put_moved n (meaning (m + 1) (map (moved n) ds)) (meaning (i + 1) ds) rest d in
+    rw (test, at, rest j) refl

@@ -1,0 +1,28 @@
+-- The program of a slope.
+use Rattle.std.specs.Prelude.{ℕ, nat_lt, if◌then◌else◌, List, map, length, Result, Ok, Err}
+use Rattle.energy_program.specs.declared.programs.Program.{Program}
+use Rattle.derivative.specs.declared.parts.Parts.{Parts}
+use Rattle.energy_program.specs.Faults.{Refusal, TooLarge}
+use Rattle.energy_program.specs.Tree.{Tree, tree_of}
+use Rattle.derivative.specs.Written.{slope_tree, free_among, all_slopes}
+use Rattle.energy_program.specs.Uses.{marks_of}
+use Rattle.energy_program.specs.Programs.{Trees}
+use Rattle.derivative.specs.Used.{rank, renumbered, kept_from}
+
+abbrev pub parts_of : {A : Type 0} → Parts A → Trees
+parts_of p = (tree_of p.body, map tree_of p.definitions.items)
+
+-- the slope, with the slopes of all definitions and all definitions
+abbrev pub with_all : ℕ → Trees → Trees
+with_all bits (body, definitions) =
+    (slope_tree bits (free_among definitions) (length definitions) body, all_slopes bits (free_among definitions) definitions)
+
+-- the program without the definitions that it doesn't use, directly or through another
+abbrev pub pruned : Trees → Trees
+pruned (body, definitions) =
+    (renumbered (rank (marks_of body definitions)) body, kept_from (marks_of body definitions) 0 definitions)
+
+-- The slope's program: none where it would have more than 128 definitions.
+abbrev pub slope_program : ℕ → Trees → Result Trees Refusal
+slope_program bits program =
+    if nat_lt 128 (length (pruned (with_all bits program)).1) then Err TooLarge else Ok (pruned (with_all bits program))

@@ -1,0 +1,4 @@
+pub mod Slope
+pub mod Written
+pub mod Used
+pub mod Derive

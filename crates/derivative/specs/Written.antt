@@ -1,0 +1,112 @@
+-- The trees that are written for slopes, and all definitions of the program that they stand in. Each row is one of the table
+-- of slopes. In a written tree the use of a definition j stands for its slope, and that of n + j for what j stood for, where
+-- there were n definitions.
+use Rattle.std.specs.Prelude.{◌≡◌, ℕ, ◌+◌, ◌*◌, ◌^◌, ◌-◌, ℤ, pos, negsuc, neg_ℤ, Bool, true, false, ◌==◌, ◌&&◌, nat_lt, if◌then◌else◌, List, ◌++◌, map, length, slice_index_or}
+use Rattle.fixed.specs.Arithmetic.{one}
+use Rattle.energy_program.specs.declared.trees.Operator.{Operator}
+use Rattle.energy_program.specs.declared.trees.Operator.TheVariants as op
+use Rattle.energy_program.specs.declared.trees.Function.{Function}
+use Rattle.energy_program.specs.declared.trees.Function.TheVariants as f
+use Rattle.energy_program.specs.Tree.{Tree, Number, Input, Definition, Negated, Binary, Applied, Power, Select, is_exponent, is_free_of_distance, meaning}
+
+-- the distance doesn't occur, where this is known of the definitions
+abbrev pub is_free_given : (ℕ → Bool) → Tree → Bool
+is_free_given free (Number z) = true
+is_free_given free (Input i) = if i == 0 then false else true
+is_free_given free (Definition j) = free j
+is_free_given free (Negated a) = is_free_given free a
+is_free_given free (Binary o a b) = is_free_given free a && is_free_given free b
+is_free_given free (Applied g a) = is_free_given free a
+is_free_given free (Power a n) = is_free_given free a
+is_free_given free (Select x a b) = is_free_given free x && (is_free_given free a && is_free_given free b)
+
+-- the tree with n more in each use of a definition
+abbrev pub moved : ℕ → Tree → Tree
+moved n (Number z) = Number z
+moved n (Input i) = Input i
+moved n (Definition j) = Definition (n + j)
+moved n (Negated a) = Negated (moved n a)
+moved n (Binary o a b) = Binary o (moved n a) (moved n b)
+moved n (Applied g a) = Applied g (moved n a)
+moved n (Power a k) = Power (moved n a) k
+moved n (Select x a b) = Select (moved n x) (moved n a) (moved n b)
+
+-- each use of a definition has a number that fits 32 bits with n more, and each power is one that there is
+abbrev pub is_writable : ℕ → Tree → Bool
+is_writable n (Number z) = true
+is_writable n (Input i) = true
+is_writable n (Definition j) = nat_lt (n + j) (2 ^ 32)
+is_writable n (Negated a) = is_writable n a
+is_writable n (Binary o a b) = is_writable n a && is_writable n b
+is_writable n (Applied g a) = is_writable n a
+is_writable n (Power a k) = is_exponent k && is_writable n a
+is_writable n (Select x a b) = is_writable n x && (is_writable n a && is_writable n b)
+
+-- `u` and `v` are the parts, `du` and `dv` what is written for their slopes
+abbrev pub product_tree : (u_free v_free : Bool) → (u v du dv : Tree) → Tree
+product_tree true v_free u v du dv = Binary op.Multiply u dv
+product_tree false true u v du dv = Binary op.Multiply du v
+product_tree false false u v du dv = Binary op.Add (Binary op.Multiply du v) (Binary op.Multiply u dv)
+
+abbrev pub quotient_tree : (u_free v_free : Bool) → (u v du dv : Tree) → Tree
+quotient_tree u_free true u v du dv = Binary op.Divide du v
+quotient_tree true false u v du dv = Binary op.Divide (Negated (Binary op.Multiply u dv)) (Power v (pos 2))
+quotient_tree false false u v du dv = Binary op.Divide (Binary op.Subtract (Binary op.Multiply du v) (Binary op.Multiply u dv)) (Power v (pos 2))
+
+abbrev pub operation_tree : Operator → (u_free v_free : Bool) → (u v du dv : Tree) → Tree
+operation_tree op.Add u_free v_free u v du dv = Binary op.Add du dv
+operation_tree op.Subtract u_free v_free u v du dv = Binary op.Subtract du dv
+operation_tree op.Multiply u_free v_free u v du dv = product_tree u_free v_free u v du dv
+operation_tree op.Divide u_free v_free u v du dv = quotient_tree u_free v_free u v du dv
+operation_tree op.Minimum u_free v_free u v du dv = Select (Applied f.Step (Binary op.Subtract v u)) du dv
+operation_tree op.Maximum u_free v_free u v du dv = Select (Applied f.Step (Binary op.Subtract u v)) du dv
+
+-- the whole number n
+abbrev pub whole_number : ℕ → ℕ → Tree
+whole_number bits n = Number (pos (n * 2 ^ bits))
+
+-- The slope of an absolute value is that of the part, times one or minus one: so `du` stands there once.
+abbrev pub applied_tree : ℕ → Function → (u du : Tree) → Tree
+applied_tree bits f.SquareRoot u du = Binary op.Divide du (Binary op.Multiply (whole_number bits 2) (Applied f.SquareRoot u))
+applied_tree bits f.Absolute u du = Binary op.Multiply (Select (Applied f.Step u) (Number (one bits)) (Number (neg_ℤ (one bits)))) du
+applied_tree bits f.Step u du = Number (pos 0)
+applied_tree bits f.Delta u du = Number (pos 0)
+applied_tree bits f.Floor u du = Number (pos 0)
+applied_tree bits f.Ceiling u du = Number (pos 0)
+
+-- negsuc m is -(m + 1)
+abbrev pub power_tree : ℕ → ℤ → (u du : Tree) → Tree
+power_tree bits (pos n) u du = if n == 1 then du else Binary op.Multiply (Binary op.Multiply (whole_number bits n) (Power u (pos (n - 1)))) du
+power_tree bits (negsuc m) u du = Negated (Binary op.Divide (Binary op.Multiply (whole_number bits (m + 1)) du) (Power u (pos (m + 2))))
+
+-- zero for what is free of the distance
+abbrev pub unless_free : Bool → Tree → Tree
+unless_free true e = Number (pos 0)
+unless_free false e = e
+
+abbrev pub slope_tree : ℕ → (ℕ → Bool) → ℕ → Tree → Tree
+slope_tree bits free n (Number z) = Number (pos 0)
+slope_tree bits free n (Input i) = Number (if i == 0 then one bits else pos 0)
+slope_tree bits free n (Definition j) = unless_free (free j) (Definition j)
+slope_tree bits free n (Negated a) = unless_free (is_free_given free a) (Negated (slope_tree bits free n a))
+slope_tree bits free n (Binary o a b) =
+    unless_free (is_free_given free a && is_free_given free b)
+    (operation_tree o (is_free_given free a) (is_free_given free b) (moved n a) (moved n b) (slope_tree bits free n a) (slope_tree bits free n b))
+slope_tree bits free n (Applied g a) = unless_free (is_free_given free a) (applied_tree bits g (moved n a) (slope_tree bits free n a))
+slope_tree bits free n (Power a k) = unless_free (is_free_given free a) (power_tree bits k (moved n a) (slope_tree bits free n a))
+slope_tree bits free n (Select x a b) =
+    unless_free (is_free_given free x && (is_free_given free a && is_free_given free b))
+    (Select (moved n x) (slope_tree bits free n a) (slope_tree bits free n b))
+
+-- what these definitions stand for is free of the distance
+abbrev pub free_among : List Tree → ℕ → Bool
+free_among definitions j = is_free_of_distance (meaning 0 definitions j)
+
+-- the slopes of all definitions, and then the definitions
+abbrev pub all_slopes : ℕ → (ℕ → Bool) → List Tree → List Tree
+all_slopes bits free definitions =
+    map (slope_tree bits free (length definitions)) definitions ++ map (moved (length definitions)) definitions
+
+-- the list says of each definition whether it is free of the distance, and no other is a definition
+abbrev pub IsFreeTable : List Bool → List Tree → Type 0
+IsFreeTable table definitions = (j : ℕ) → slice_index_or table j true ≡ free_among definitions j

@@ -1,0 +1,82 @@
+//! A program without the definitions that it doesn't use.
+
+ghost use Rattle.std.specs.Prelude.{◌≡◌, ◌≤◌, IfOk, map};
+ghost use Rattle.energy_program.specs.Tree.{tree_of};
+ghost use Rattle.derivative.specs.Derive as d;
+ghost use Rattle.derivative.specs.Derive.{parts_of};
+ghost use Rattle.derivative.specs.Used as u;
+
+use crate::parts::Parts;
+use energy_program::{Built, Expr, applied, binary, is_marked, marks_of, negated, power, select};
+use std::alloc::{AllocError, Allocator};
+
+// The new number of a definition: how many before it are marked.
+fn rank(marks: &[bool], number: u32) -> u32
+    ensures value { result ≡ u.rank marks.now number }
+    ensures bound { result ≤ number }
+{
+    if number == 0 {
+        return 0;
+    }
+    let below = rank(marks, number - 1);
+    if is_marked(marks, (number - 1) as usize) {
+        below + 1
+    } else {
+        below
+    }
+}
+
+// A copy in which definitions have their new numbers.
+fn renumbered<A: Allocator + Copy>(alloc: A, marks: &[bool], tree: &Expr<A>) -> Built<A>
+    ensures { IfOk result (λ e. tree_of e ≡ u.renumbered (u.rank marks.now) (tree_of tree.now)) }
+{
+    match tree {
+        Expr::Number(value) => Ok(Expr::Number(*value)),
+        Expr::Input(input) => Ok(Expr::Input(*input)),
+        Expr::Definition(number) => Ok(Expr::Definition(rank(marks, *number))),
+        Expr::Negated(part) => negated(alloc, renumbered(alloc, marks, part)?),
+        Expr::Binary(operator, left, right) => {
+            let left = renumbered(alloc, marks, left)?;
+            let right = renumbered(alloc, marks, right)?;
+            binary(alloc, *operator, left, right)
+        }
+        Expr::Applied(function, part) => {
+            applied(alloc, *function, renumbered(alloc, marks, part)?)
+        }
+        Expr::Power(part, exponent) => power(alloc, renumbered(alloc, marks, part)?, *exponent),
+        Expr::Select(condition, chosen, otherwise) => {
+            let condition = renumbered(alloc, marks, condition)?;
+            let chosen = renumbered(alloc, marks, chosen)?;
+            let otherwise = renumbered(alloc, marks, otherwise)?;
+            select(alloc, condition, chosen, otherwise)
+        }
+    }
+}
+
+// The definitions that are marked.
+fn kept<A: Allocator + Copy>(
+    alloc: A,
+    marks: &[bool],
+    definitions: &[Expr<A>],
+) -> Result<Vec<Expr<A>, A>, AllocError>
+    ensures { IfOk result (λ v. map tree_of v.items ≡ u.kept_from marks.now 0 (map tree_of definitions.now)) }
+{
+    let mut left = Vec::new(alloc);
+    for (i, definition) in definitions.iter().enumerate() {
+        if !is_marked(marks, i) {
+            continue;
+        }
+        left.push(renumbered(alloc, marks, definition)?)?;
+    }
+    Ok(left)
+}
+
+/// The same without the definitions that the body doesn't need.
+pub fn pruned<A: Allocator + Copy>(alloc: A, parts: &Parts<A>) -> Result<Parts<A>, AllocError>
+    ensures { IfOk result (λ p. parts_of p ≡ d.pruned (parts_of parts.now)) }
+{
+    let marks = marks_of(alloc, &parts.body, &parts.definitions)?;
+    let definitions = kept(alloc, &marks, &parts.definitions)?;
+    let body = renumbered(alloc, &marks, &parts.body)?;
+    Ok(Parts { body, definitions })
+}

@@ -1,0 +1,287 @@
+//! The rows of the table of slopes: what is written for an operation, where the slopes of its parts are written already.
+//! `u` and `v` are the parts, `du` and `dv` their slopes.
+
+ghost use Rattle.std.specs.Prelude.{◌≡◌, ◌&&◌, pos, true, false, IfOk, IsTrue};
+ghost use Rattle.fixed.specs.Fractions.{bits_of};
+ghost use Rattle.energy_program.specs.Tree as t;
+ghost use Rattle.energy_program.specs.Tree.{is_exponent, tree_of};
+ghost use Rattle.derivative.specs.Written as w;
+ghost use Rattle.derivative.specs.Written.{is_writable, operation_tree, product_tree, quotient_tree, applied_tree, power_tree, unless_free};
+
+use crate::moved::moved;
+use energy_program::{Built, Expr, Function, Operator, applied, binary, negated, power, select};
+use fixed::{Frac, Fx};
+use std::alloc::{AllocError, Allocator};
+
+/// The slope of a tree, and whether that is 0 because the distance doesn't occur in the tree.
+#[derive(Drop)]
+pub struct Slope<A: Allocator> {
+    /// What is written for the slope.
+    pub tree: Expr<A>,
+    /// The distance doesn't occur.
+    pub free: bool,
+}
+
+/// The slope of what is free of the distance.
+pub fn zero<A: Allocator>() -> Slope<A>
+    ensures tree { tree_of result.tree ≡ t.Number (pos 0) }
+    ensures free { result.free ≡ true }
+{
+    Slope {
+        tree: Expr::Number(Fx::from_raw(0)),
+        free: true,
+    }
+}
+
+/// The slope of what isn't.
+pub fn varying<A: Allocator>(tree: Expr<A>) -> Slope<A>
+    ensures tree { tree_of result.tree ≡ tree_of tree }
+    ensures free { result.free ≡ false }
+{
+    Slope { tree, free: false }
+}
+
+// The whole number `n`.
+fn whole_number<A: Allocator>(frac: Frac, n: u8) -> Expr<A>
+    ensures { tree_of result ≡ w.whole_number (bits_of frac) n }
+{
+    Expr::Number(Fx::from_raw(i64::from(n) * frac.one()))
+}
+
+// 1 where `above` is at least `below`, else 0.
+fn is_at_least<A: Allocator + Copy>(alloc: A, by: u32, above: &Expr<A>, below: &Expr<A>) -> Built<A>
+    requires above { IsTrue (is_writable by (tree_of above.now)) }
+    requires below { IsTrue (is_writable by (tree_of below.now)) }
+    ensures { IfOk result (λ e. tree_of e ≡ t.Applied Function.Step (t.Binary Operator.Subtract (w.moved by (tree_of above.now)) (w.moved by (tree_of below.now)))) }
+{
+    let above = moved(alloc, by, above)?;
+    let below = moved(alloc, by, below)?;
+    let difference = binary(alloc, Operator::Subtract, above, below)?;
+    applied(alloc, Function::Step, difference)
+}
+
+fn product_row<A: Allocator + Copy>(
+    alloc: A,
+    by: u32,
+    u: &Expr<A>,
+    v: &Expr<A>,
+    du: Slope<A>,
+    dv: Slope<A>,
+) -> Built<A>
+    requires u { IsTrue (is_writable by (tree_of u.now)) }
+    requires v { IsTrue (is_writable by (tree_of v.now)) }
+    ensures { IfOk result (λ e. tree_of e ≡ product_tree du.free dv.free (w.moved by (tree_of u.now)) (w.moved by (tree_of v.now)) (tree_of du.tree) (tree_of dv.tree)) }
+{
+    if du.free {
+        return binary(alloc, Operator::Multiply, moved(alloc, by, u)?, dv.tree);
+    }
+    let left = binary(alloc, Operator::Multiply, du.tree, moved(alloc, by, v)?)?;
+    if dv.free {
+        return Ok(left);
+    }
+    let right = binary(alloc, Operator::Multiply, moved(alloc, by, u)?, dv.tree)?;
+    binary(alloc, Operator::Add, left, right)
+}
+
+fn quotient_row<A: Allocator + Copy>(
+    alloc: A,
+    by: u32,
+    u: &Expr<A>,
+    v: &Expr<A>,
+    du: Slope<A>,
+    dv: Slope<A>,
+) -> Built<A>
+    requires u { IsTrue (is_writable by (tree_of u.now)) }
+    requires v { IsTrue (is_writable by (tree_of v.now)) }
+    ensures { IfOk result (λ e. tree_of e ≡ quotient_tree du.free dv.free (w.moved by (tree_of u.now)) (w.moved by (tree_of v.now)) (tree_of du.tree) (tree_of dv.tree)) }
+{
+    let divisor = moved(alloc, by, v)?;
+    if dv.free {
+        return binary(alloc, Operator::Divide, du.tree, divisor);
+    }
+    let right = binary(alloc, Operator::Multiply, moved(alloc, by, u)?, dv.tree)?;
+    let dividend = if du.free {
+        negated(alloc, right)?
+    } else {
+        let left = binary(alloc, Operator::Multiply, du.tree, moved(alloc, by, v)?)?;
+        binary(alloc, Operator::Subtract, left, right)?
+    };
+    binary(alloc, Operator::Divide, dividend, power(alloc, divisor, 2)?)
+}
+
+fn operation_row<A: Allocator + Copy>(
+    alloc: A,
+    by: u32,
+    operator: Operator,
+    u: &Expr<A>,
+    v: &Expr<A>,
+    du: Slope<A>,
+    dv: Slope<A>,
+) -> Built<A>
+    requires u { IsTrue (is_writable by (tree_of u.now)) }
+    requires v { IsTrue (is_writable by (tree_of v.now)) }
+    ensures { IfOk result (λ e. tree_of e ≡ operation_tree operator du.free dv.free (w.moved by (tree_of u.now)) (w.moved by (tree_of v.now)) (tree_of du.tree) (tree_of dv.tree)) }
+{
+    match operator {
+        Operator::Add => binary(alloc, Operator::Add, du.tree, dv.tree),
+        Operator::Subtract => binary(alloc, Operator::Subtract, du.tree, dv.tree),
+        Operator::Multiply => product_row(alloc, by, u, v, du, dv),
+        Operator::Divide => quotient_row(alloc, by, u, v, du, dv),
+        Operator::Minimum => {
+            let is_first = is_at_least(alloc, by, v, u)?;
+            select(alloc, is_first, du.tree, dv.tree)
+        }
+        Operator::Maximum => {
+            let is_first = is_at_least(alloc, by, u, v)?;
+            select(alloc, is_first, du.tree, dv.tree)
+        }
+    }
+}
+
+fn function_row<A: Allocator + Copy>(
+    alloc: A,
+    frac: Frac,
+    by: u32,
+    function: Function,
+    u: &Expr<A>,
+    du: Expr<A>,
+) -> Built<A>
+    requires { IsTrue (is_writable by (tree_of u.now)) }
+    ensures { IfOk result (λ e. tree_of e ≡ applied_tree (bits_of frac) function (w.moved by (tree_of u.now)) (tree_of du)) }
+{
+    match function {
+        Function::SquareRoot => {
+            let root = applied(alloc, Function::SquareRoot, moved(alloc, by, u)?)?;
+            let twice = binary(alloc, Operator::Multiply, whole_number(frac, 2), root)?;
+            binary(alloc, Operator::Divide, du, twice)
+        }
+        Function::Absolute => {
+            let is_above = applied(alloc, Function::Step, moved(alloc, by, u)?)?;
+            let above = Expr::Number(Fx::from_raw(frac.one()));
+            let below = Expr::Number(Fx::from_raw(-frac.one()));
+            let sign = select(alloc, is_above, above, below)?;
+            binary(alloc, Operator::Multiply, sign, du)
+        }
+        Function::Step | Function::Delta | Function::Floor | Function::Ceiling => {
+            Ok(Expr::Number(Fx::from_raw(0)))
+        }
+    }
+}
+
+fn power_row<A: Allocator + Copy>(
+    alloc: A,
+    frac: Frac,
+    by: u32,
+    exponent: i8,
+    u: &Expr<A>,
+    du: Expr<A>,
+) -> Built<A>
+    requires exponent { IsTrue (is_exponent exponent) }
+    requires u { IsTrue (is_writable by (tree_of u.now)) }
+    ensures { IfOk result (λ e. tree_of e ≡ power_tree (bits_of frac) exponent (w.moved by (tree_of u.now)) (tree_of du)) }
+{
+    if exponent == 1 {
+        return Ok(du);
+    }
+    let factor = whole_number(frac, exponent.unsigned_abs());
+    if 0 < exponent {
+        let lower = power(alloc, moved(alloc, by, u)?, exponent - 1)?;
+        let product = binary(alloc, Operator::Multiply, factor, lower)?;
+        binary(alloc, Operator::Multiply, product, du)
+    } else {
+        let higher = power(alloc, moved(alloc, by, u)?, 1 - exponent)?;
+        let product = binary(alloc, Operator::Multiply, factor, du)?;
+        negated(alloc, binary(alloc, Operator::Divide, product, higher)?)
+    }
+}
+
+/// The slope of a negative.
+pub fn negated_slope<A: Allocator + Copy>(alloc: A, du: Slope<A>) -> Result<Slope<A>, AllocError>
+    ensures tree { IfOk result (λ s. tree_of s.tree ≡ unless_free du.free (t.Negated (tree_of du.tree))) }
+    ensures free { IfOk result (λ s. s.free ≡ du.free) }
+{
+    if du.free {
+        return Ok(zero());
+    }
+    Ok(varying(negated(alloc, du.tree)?))
+}
+
+/// The slope of an operation on two parts.
+pub fn operation_slope<A: Allocator + Copy>(
+    alloc: A,
+    by: u32,
+    operator: Operator,
+    u: &Expr<A>,
+    v: &Expr<A>,
+    du: Slope<A>,
+    dv: Slope<A>,
+) -> Result<Slope<A>, AllocError>
+    requires u { IsTrue (is_writable by (tree_of u.now)) }
+    requires v { IsTrue (is_writable by (tree_of v.now)) }
+    ensures tree { IfOk result (λ s. tree_of s.tree ≡ unless_free (du.free && dv.free) (operation_tree operator du.free dv.free (w.moved by (tree_of u.now)) (w.moved by (tree_of v.now)) (tree_of du.tree) (tree_of dv.tree))) }
+    ensures free { IfOk result (λ s. s.free ≡ (du.free && dv.free)) }
+{
+    if du.free && dv.free {
+        return Ok(zero());
+    }
+    Ok(varying(operation_row(alloc, by, operator, u, v, du, dv)?))
+}
+
+/// The slope of a function of a part.
+pub fn function_slope<A: Allocator + Copy>(
+    alloc: A,
+    frac: Frac,
+    by: u32,
+    function: Function,
+    u: &Expr<A>,
+    du: Slope<A>,
+) -> Result<Slope<A>, AllocError>
+    requires { IsTrue (is_writable by (tree_of u.now)) }
+    ensures tree { IfOk result (λ s. tree_of s.tree ≡ unless_free du.free (applied_tree (bits_of frac) function (w.moved by (tree_of u.now)) (tree_of du.tree))) }
+    ensures free { IfOk result (λ s. s.free ≡ du.free) }
+{
+    if du.free {
+        return Ok(zero());
+    }
+    Ok(varying(function_row(alloc, frac, by, function, u, du.tree)?))
+}
+
+/// The slope of a power.
+pub fn power_slope<A: Allocator + Copy>(
+    alloc: A,
+    frac: Frac,
+    by: u32,
+    exponent: i8,
+    u: &Expr<A>,
+    du: Slope<A>,
+) -> Result<Slope<A>, AllocError>
+    requires exponent { IsTrue (is_exponent exponent) }
+    requires u { IsTrue (is_writable by (tree_of u.now)) }
+    ensures tree { IfOk result (λ s. tree_of s.tree ≡ unless_free du.free (power_tree (bits_of frac) exponent (w.moved by (tree_of u.now)) (tree_of du.tree))) }
+    ensures free { IfOk result (λ s. s.free ≡ du.free) }
+{
+    if du.free {
+        return Ok(zero());
+    }
+    Ok(varying(power_row(alloc, frac, by, exponent, u, du.tree)?))
+}
+
+/// The slope of a choice, whose condition is free of the distance or not.
+pub fn select_slope<A: Allocator + Copy>(
+    alloc: A,
+    by: u32,
+    condition: &Expr<A>,
+    is_free: bool,
+    du: Slope<A>,
+    dv: Slope<A>,
+) -> Result<Slope<A>, AllocError>
+    requires { IsTrue (is_writable by (tree_of condition.now)) }
+    ensures tree { IfOk result (λ s. tree_of s.tree ≡ unless_free (is_free && (du.free && dv.free)) (t.Select (w.moved by (tree_of condition.now)) (tree_of du.tree) (tree_of dv.tree))) }
+    ensures free { IfOk result (λ s. s.free ≡ (is_free && (du.free && dv.free))) }
+{
+    if is_free && (du.free && dv.free) {
+        return Ok(zero());
+    }
+    let condition = moved(alloc, by, condition)?;
+    Ok(varying(select(alloc, condition, du.tree, dv.tree)?))
+}

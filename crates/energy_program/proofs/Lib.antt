@@ -1,0 +1,5 @@
+pub mod Substitution
+pub mod ValueLemmas
+pub mod NameLemmas
+pub mod Scopes
+pub mod MarkLaws

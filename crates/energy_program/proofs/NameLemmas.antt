@@ -1,0 +1,198 @@
+-- Tests and places of names, seen through the lists that hold them; and how a program's variables come together.
+use Rattle.std.proofs.Common.{◌≡◌, ℕ, Bool, true, false, cond, not, ◌||◌, if◌then◌else◌, List, [], ◌∷◌, ◌++◌, ◌+◌, length, map, position, Option, Some, None, IsSomeAnd, Result, Ok, Err, refl, ap, sym, ◌∙◌, append_assoc, true≢false, codes, get_or, drop, drop-cons, suc, ◌<◌, ◌≤◌, ◌-◌, ◌*◌, take, take_all, arith}
+use Rattle.std.proofs.Common.{Vec}
+use Rattle.std.specs.List.{list_any, position_or_len}
+use Rattle.std.specs.Str.{bytes_eq}
+use Rattle.std.proofs.lemmas.List.{append-nil, length-append, length-map, map-append}
+use Rattle.std.proofs.lemmas.Simd.{map-map}
+use Rattle.std.proofs.lemmas.Bool.{le-leb, lt-leb}
+use Rattle.std.proofs.Math.Bool.{and-false}
+use native.Mathlib.Numerals.{unary_clauses}
+use Rattle.indexmap.specs.IndexSet.{insert_key}
+use Rattle.energy_program.specs.declared.faults.ExprFault.{ExprFault}
+use Rattle.energy_program.specs.Faults.{Refusal, RepeatedDefinition, ReservedName, TooLarge, Says, IsSaid, Fails, FailsBy, refusal_of, ◌>>=◌}
+use Rattle.energy_program.specs.Names.{are_few, first_clash, first_repeated, is_among, first_particle, second_particle, is_reserved, names_from, parameters_and_globals, refused_for, variables_of}
+use Rattle.energy_program.specs.Variables.{added, filled}
+
+module _ {X Y : Type 0} (p : Y → Bool) (h : X → Y) where
+  pub list_any-map : (xs : List X) → list_any p (map h xs) ≡ list_any (λ x. p (h x)) xs
+  list_any-map [] = refl
+  list_any-map (x ∷ xs) = ap (λ b. p (h x) || b) (list_any-map xs)
+
+  position_or_len-map : (xs : List X) → position_or_len p (map h xs) ≡ position_or_len (λ x. p (h x)) xs
+  position_or_len-map [] = refl
+  position_or_len-map (x ∷ xs) = ap (λ n. cond (not (p (h x))) (1 + n) 0) (position_or_len-map xs)
+
+  pub position-map : (xs : List X) → position p (map h xs) ≡ position (λ x. p (h x)) xs
+  position-map xs = simp (position_or_len-map xs, length-map xs h)
+
+-- the first name comes again, or those behind it decide
+module _ {X : Type 0} (h : X → List ℕ) where
+  abbrev behind : List X → List X
+  behind names = take (length names - 1) (drop 1 names)
+
+  all_behind : (x : X) (xs : List X) → behind (x ∷ xs) ≡ xs
+  all_behind x xs = simp unary_clauses (take_all (length xs) xs (omega arith))
+
+  pub repeated_next : (names : List X) (d : X) (b : Bool) → 1 ≤ length names → b ≡ list_any (λ m. bytes_eq (h (get_or names 0 d)) (h m)) (behind names)
+      → first_repeated (map h names) ≡ (if b then Some (h (get_or names 0 d)) else first_repeated (map h (behind names)))
+  repeated_next [] d b within e = absurd (omega arith)
+  repeated_next (x ∷ xs) d b within e =
+      ap (λ t. if t then Some (h x) else first_repeated (map h xs)) (list_any-map (bytes_eq (h x)) h xs ∙ ap (list_any (λ m. bytes_eq (h x) (h m))) (sym (all_behind x xs)) ∙ sym e)
+      ∙ ap (λ l. if b then Some (h x) else first_repeated (map h l)) (sym (all_behind x xs))
+
+-- what fails, fails with more steps behind it
+module _ {X Y : Type 0} (next : X → Result Y Refusal) where
+  failing : (said : Option Refusal) (r : Result X Refusal) → FailsBy r said → FailsBy (r >>= next) said
+  failing None r h = tt
+  failing (Some said) (Ok x) h = absurd cc
+  failing (Some said) (Err d) h = cc
+
+  pub fails_first : {A : Type 0} (e : ExprFault A) (r : Result X Refusal) → Fails e r → Fails e (r >>= next)
+  fails_first e r h = failing (refusal_of e) r h
+
+-- a fault that says why reading fails
+pub fails_as : {A Y : Type 0} (e : ExprFault A) (r : Refusal) (read : Result Y Refusal) → read ≡ Err r → Says e r → Fails e read
+fails_as e r read f says = by (refusal_of e) says
+  where
+    by : (said : Option Refusal) → IsSaid r said → FailsBy read said
+    by None h = tt
+    by (Some said) h = cc
+
+module _ {A : Type 0} (keys : List (Vec ℕ A)) (v : Vec ℕ A) (name : List ℕ) (named : v.items ≡ name) (free : is_reserved name ≡ false) where
+  -- the name is taken where a key has its bytes
+  tested : (b : Bool) → list_any (λ k. bytes_eq v.items k.items) keys ≡ b → (is_reserved name || is_among (map (λ k. k.items) keys) name) ≡ b
+  tested b e = ap (λ o. o || is_among (map (λ k. k.items) keys) name) free ∙ list_any-map (bytes_eq name) (λ k. k.items) keys ∙ ap (λ n. list_any (λ k. bytes_eq n k.items) keys) (sym named) ∙ e
+
+  -- a name that goes into the set as a new key is one more variable
+  pub added_new : (new : List (Vec ℕ A)) → not (list_any (λ k. bytes_eq v.items k.items) keys) ≡ true → new ≡ insert_key (λ x y. bytes_eq x.items y.items) keys v
+      → added (map (λ k. k.items) keys) name ≡ Ok (map (λ k. k.items) new)
+  added_new new fresh is = by (list_any (λ k. bytes_eq v.items k.items) keys) refl
+    where
+      by : (b : Bool) → list_any (λ k. bytes_eq v.items k.items) keys ≡ b → added (map (λ k. k.items) keys) name ≡ Ok (map (λ k. k.items) new)
+      by true e = absurd (true≢false (sym fresh ∙ ap not e))
+      by false e =
+          ap (λ b. if b then Err (ReservedName name) else Ok (map (λ k. k.items) keys ++ name ∷ [])) (tested false e)
+          ∙ ap (λ n. Ok (map (λ k. k.items) keys ++ n ∷ [])) (sym named)
+          ∙ ap Ok (sym (map-append (λ k. k.items) keys (v ∷ [])))
+          ∙ ap (λ l. Ok (map (λ k. k.items) l)) (sym (is ∙ ap (λ b. if b then keys else keys ++ v ∷ []) e))
+
+  -- and one that doesn't is taken
+  pub added_taken : not (list_any (λ k. bytes_eq v.items k.items) keys) ≡ false → added (map (λ k. k.items) keys) name ≡ Err (ReservedName name)
+  added_taken known = by (list_any (λ k. bytes_eq v.items k.items) keys) refl
+    where
+      by : (b : Bool) → list_any (λ k. bytes_eq v.items k.items) keys ≡ b → added (map (λ k. k.items) keys) name ≡ Err (ReservedName name)
+      by true e = ap (λ b. if b then Err (ReservedName name) else Ok (map (λ k. k.items) keys ++ name ∷ [])) (tested true e)
+      by false e = absurd (true≢false (sym (ap not e) ∙ known))
+
+-- Variables that come together one by one: all of them, unless one's name is reserved or taken.
+module _ (v : List ℕ) (names vs : List (List ℕ)) where
+  joined : (b : Bool) → filled (names ++ v ∷ []) vs ≡ refused_for ReservedName (first_clash (names ++ v ∷ []) vs) (Ok ((names ++ v ∷ []) ++ vs))
+      → ((if b then Err (ReservedName v) else Ok (names ++ v ∷ [])) >>= λ more. filled more vs)
+      ≡ refused_for ReservedName (if b then Some v else first_clash (names ++ v ∷ []) vs) (Ok (names ++ v ∷ vs))
+  joined true rest = refl
+  joined false rest = rest ∙ ap (λ l. refused_for ReservedName (first_clash (names ++ v ∷ []) vs) (Ok l)) (append_assoc names (v ∷ []) vs)
+
+pub filled_whole : (names more : List (List ℕ)) → filled names more ≡ refused_for ReservedName (first_clash names more) (Ok (names ++ more))
+filled_whole names [] = ap Ok (sym (append-nil names))
+filled_whole names (v ∷ vs) = joined v names vs (is_reserved v || is_among names v) (filled_whole (names ++ v ∷ []) vs)
+
+allowed : (o : Option (List ℕ)) (xs ys : List (List ℕ)) → refused_for ReservedName o (Ok xs) ≡ Ok ys → ys ≡ xs
+allowed None xs ys e = cc
+allowed (Some n) xs ys e = absurd cc
+
+pub filled_ok : (names more all : List (List ℕ)) → filled names more ≡ Ok all → all ≡ names ++ more
+filled_ok names more all e = allowed (first_clash names more) (names ++ more) all (sym (filled_whole names more) ∙ e)
+
+-- variables that come together in two parts
+module _ (vs second : List (List ℕ)) where
+  parted : (r : Result (List (List ℕ)) Refusal) → ((names : List (List ℕ)) → filled names (vs ++ second) ≡ (filled names vs >>= λ more. filled more second))
+      → (r >>= λ more. filled more (vs ++ second)) ≡ ((r >>= λ more. filled more vs) >>= λ more. filled more second)
+  parted (Ok more) rest = rest more
+  parted (Err e) rest = refl
+
+pub filled_append : (names first second : List (List ℕ)) → filled names (first ++ second) ≡ (filled names first >>= λ more. filled more second)
+filled_append names [] second = refl
+filled_append names (v ∷ vs) second = parted vs second (added names v) (λ more. filled_append more vs second)
+
+-- a variable that is refused, among those that are left
+pub fails_at : {X A : Type 0} (h : X → List ℕ) (names : List (List ℕ)) (xs : List X) (i : ℕ) (d : X) (e : ExprFault A) (name : List ℕ) → i < length xs → name ≡ h (get_or xs i d)
+    → Fails e (added names name) → Fails e (filled names (map h (drop i xs)))
+fails_at h names xs i d e name within is f =
+    rw (drop-cons xs i d, ← is) (fails_first (λ more. filled more (map h (drop (suc i) xs))) e (added names name) f)
+
+-- All variables but the distance come together in three steps.
+module _ {X Y : Type 0} (h : X → List ℕ) (k : Y → List ℕ) (ps : List X) (gs : List Y) (names : List (List ℕ)) where
+  abbrev all : Result (List (List ℕ)) Refusal
+  all = filled names (parameters_and_globals (map h ps) (map k gs))
+
+  steps : all ≡ (filled names (map (λ p. h p ++ 49 ∷ []) ps) >>= λ a. filled a (map (λ p. h p ++ 50 ∷ []) ps) >>= λ b. filled b (map k gs))
+  steps =
+      filled_append names (first_particle (map h ps)) (second_particle (map h ps) ++ map k gs)
+      ∙ ap (λ l. filled names l >>= λ a. filled a (second_particle (map h ps) ++ map k gs)) (map-map (λ p. p ++ codes "1") h ps)
+      ∙ ap (λ next. filled names (map (λ p. h p ++ 49 ∷ []) ps) >>= next) (λ i a. (filled_append a (second_particle (map h ps)) (map k gs) ∙ ap (λ l. filled a l >>= λ b. filled b (map k gs)) (map-map (λ p. p ++ codes "2") h ps)) i)
+
+  module _ {A : Type 0} (e : ExprFault A) where
+    pub first_fails : Fails e (filled names (map (λ p. h p ++ 49 ∷ []) ps)) → Fails e all
+    first_fails f = rw steps (fails_first _ e _ f)
+
+    pub second_fails : (a : List (List ℕ)) → filled names (map (λ p. h p ++ 49 ∷ []) ps) ≡ Ok a → Fails e (filled a (map (λ p. h p ++ 50 ∷ []) ps)) → Fails e all
+    second_fails a first f = rw (steps, first) (fails_first (λ b. filled b (map k gs)) e _ f)
+
+    pub third_fails : (a b : List (List ℕ)) → filled names (map (λ p. h p ++ 49 ∷ []) ps) ≡ Ok a → filled a (map (λ p. h p ++ 50 ∷ []) ps) ≡ Ok b → Fails e (filled b (map k gs)) → Fails e all
+    third_fails a b first second f = rw (steps, first, second) f
+
+  pub all_filled : (a b c : List (List ℕ)) → filled names (map (λ p. h p ++ 49 ∷ []) ps) ≡ Ok a → filled a (map (λ p. h p ++ 50 ∷ []) ps) ≡ Ok b → filled b (map k gs) ≡ Ok c → all ≡ Ok c
+  all_filled a b c first second third = rw (steps, first, second) third
+
+-- what a program's names are, case by case
+module _ (ps gs : List (List ℕ)) where
+  abbrev checked : Bool → Option (List ℕ) → Option (List ℕ) → Result (List (List ℕ)) Refusal
+  checked few first second =
+      if few
+      then refused_for RepeatedDefinition first
+      (refused_for RepeatedDefinition second
+      (refused_for ReservedName (first_clash (codes "r" ∷ []) (parameters_and_globals ps gs)) (Ok (variables_of ps gs))))
+      else Err TooLarge
+
+  is_checked : names_from ps gs ≡ checked (are_few ps gs) (first_repeated ps) (first_repeated gs)
+  unfolding names_from
+  is_checked = refl
+
+  -- how many variables there are
+  pub variables_counted : (all : List (List ℕ)) → filled (codes "r" ∷ []) (parameters_and_globals ps gs) ≡ Ok all → length all ≡ 1 + (2 * length ps + length gs)
+  variables_counted all e =
+      ap length (filled_ok (codes "r" ∷ []) (parameters_and_globals ps gs) all e)
+      ∙ simp (length-append, length-map) (omega arith)
+
+  pub names_many : are_few ps gs ≡ false → names_from ps gs ≡ Err TooLarge
+  names_many few = is_checked ∙ ap (λ b. checked b (first_repeated ps) (first_repeated gs)) few
+
+  module _ (few : are_few ps gs ≡ true) where
+    by_lists : (first second : Option (List ℕ)) → first_repeated ps ≡ first → first_repeated gs ≡ second → names_from ps gs ≡ checked true first second
+    by_lists first second e f = is_checked ∙ ap (λ b. checked b (first_repeated ps) (first_repeated gs)) few ∙ ap (λ o. checked true o (first_repeated gs)) e ∙ ap (checked true first) f
+
+    module _ {A : Type 0} (e : ExprFault A) where
+      refused : (o : Option (List ℕ)) → IsSomeAnd o (λ n. Says e (RepeatedDefinition n)) → (n : List ℕ) × (o ≡ Some n) × Says e (RepeatedDefinition n)
+      refused None h = absurd h
+      refused (Some n) h = (n, refl, h)
+
+      pub parameter_repeated : IsSomeAnd (first_repeated ps) (λ n. Says e (RepeatedDefinition n)) → Fails e (names_from ps gs)
+      parameter_repeated h = let p = refused (first_repeated ps) h in fails_as e (RepeatedDefinition p.0) _ (by_lists (Some p.0) _ p.1 refl) p.2
+
+      pub global_repeated : first_repeated ps ≡ None → IsSomeAnd (first_repeated gs) (λ n. Says e (RepeatedDefinition n)) → Fails e (names_from ps gs)
+      global_repeated once h = let p = refused (first_repeated gs) h in fails_as e (RepeatedDefinition p.0) _ (by_lists None (Some p.0) once p.1) p.2
+
+    pub names_filled : first_repeated ps ≡ None → first_repeated gs ≡ None → names_from ps gs ≡ filled (codes "r" ∷ []) (parameters_and_globals ps gs)
+    names_filled once and = by_lists None None once and ∙ sym (filled_whole (codes "r" ∷ []) (parameters_and_globals ps gs))
+
+-- how many names there are
+module _ {X Y : Type 0} (h : X → List ℕ) (k : Y → List ℕ) (ps : List X) (gs : List Y) where
+  pub few_names : length ps ≤ 8 → length gs ≤ 16 → are_few (map h ps) (map k gs) ≡ true
+  few_names p g = simp (length-map, le-leb (length ps) 8 p, le-leb (length gs) 16 g)
+
+  pub many_parameters : 8 < length ps → are_few (map h ps) (map k gs) ≡ false
+  many_parameters p = simp (length-map, lt-leb (length ps) 8 p)
+
+  pub many_globals : 16 < length gs → are_few (map h ps) (map k gs) ≡ false
+  many_globals g = simp (length-map, lt-leb (length gs) 16 g, and-false)

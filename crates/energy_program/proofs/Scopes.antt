@@ -1,0 +1,49 @@
+-- What trees may name, as facts on each part.
+use Rattle.std.proofs.Common.{◌≡◌, ℕ, ◌+◌, ◌<◌, ◌≤◌, List, [], ◌∷◌, length, IsTrue, arith, subst}
+use Rattle.std.specs.Prelude.{◌&&◌, nat_lt, nat_le}
+use Rattle.std.proofs.lemmas.Bool.{and_parts, ltb-true, leb-true}
+use Rattle.energy_program.specs.Tree.{Tree, is_scoped, are_scoped, is_exponent}
+use Rattle.energy_program.specs.Tree as t
+
+-- each variable is an input, each definition that is used has a number from j up to, not with, count, and powers are of exponents that there are
+abbrev pub IsValid : (inputs j count : ℕ) → Tree → Type 0
+IsValid inputs j count (t.Number z) = Unit {0}
+IsValid inputs j count (t.Input k) = k < inputs
+IsValid inputs j count (t.Definition k) = (j ≤ k) × (k < count)
+IsValid inputs j count (t.Negated a) = IsValid inputs j count a
+IsValid inputs j count (t.Binary o a b) = IsValid inputs j count a × IsValid inputs j count b
+IsValid inputs j count (t.Applied g a) = IsValid inputs j count a
+IsValid inputs j count (t.Power a n) = IsTrue (is_exponent n) × IsValid inputs j count a
+IsValid inputs j count (t.Select x a b) = IsValid inputs j count x × IsValid inputs j count a × IsValid inputs j count b
+
+abbrev pub AreValid : (inputs j count : ℕ) → List Tree → Type 0
+AreValid inputs j count [] = Unit {0}
+AreValid inputs j count (d ∷ ds) = IsValid inputs (j + 1) count d × AreValid inputs (j + 1) count ds
+
+pub valid_of : (inputs j count : ℕ) (e : Tree) → IsTrue (is_scoped inputs j count e) → IsValid inputs j count e
+valid_of inputs j count (t.Number z) h = tt
+valid_of inputs j count (t.Input k) h = ltb-true k inputs h
+valid_of inputs j count (t.Definition k) h =
+    let p = and_parts (nat_le j k) (nat_lt k count) h in
+    (leb-true j k p.0, ltb-true k count p.1)
+valid_of inputs j count (t.Negated a) h = valid_of inputs j count a h
+valid_of inputs j count (t.Binary o a b) h =
+    let p = and_parts (is_scoped inputs j count a) (is_scoped inputs j count b) h in
+    (valid_of inputs j count a p.0, valid_of inputs j count b p.1)
+valid_of inputs j count (t.Applied g a) h = valid_of inputs j count a h
+valid_of inputs j count (t.Power a n) h =
+    let p = and_parts (is_exponent n) (is_scoped inputs j count a) h in
+    (p.0, valid_of inputs j count a p.1)
+valid_of inputs j count (t.Select x a b) h =
+    let p = and_parts (is_scoped inputs j count x) (is_scoped inputs j count a && is_scoped inputs j count b) h in
+    let q = and_parts (is_scoped inputs j count a) (is_scoped inputs j count b) p.1 in
+    (valid_of inputs j count x p.0, valid_of inputs j count a q.0, valid_of inputs j count b q.1)
+
+pub are_valid : (inputs j count : ℕ) (ds : List Tree) → count ≡ j + length ds → IsTrue (are_scoped inputs j ds) → AreValid inputs j count ds
+are_valid inputs j count [] e h = tt
+are_valid inputs j count (d ∷ ds) e h =
+    let p = and_parts (is_scoped inputs (j + 1) (j + (1 + length ds)) d) (are_scoped inputs (j + 1) ds) h in
+    let here : j + (1 + length ds) ≡ count = omega arith in (
+      valid_of inputs (j + 1) count d (subst (λ n. IsTrue (is_scoped inputs (j + 1) n d)) here p.0),
+      are_valid inputs (j + 1) count ds (omega arith) p.1,
+    )

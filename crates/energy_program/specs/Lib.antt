@@ -1,0 +1,8 @@
+pub mod Faults
+pub mod Names
+pub mod Tree
+pub mod Value
+pub mod Programs
+pub mod Evaluation
+pub mod Variables
+pub mod Uses

@@ -1,0 +1,93 @@
+-- Trees of energy expressions, without where they lie in memory.
+use Rattle.std.specs.Prelude.{ℕ, ◌+◌, ◌*◌, ℤ, pos, negsuc, Bool, true, false, ◌==◌, ◌&&◌, nat_lt, nat_le, if◌then◌else◌, List, [], ◌∷◌, length}
+use Rattle.energy_program.specs.declared.trees.Operator.{Operator}
+use Rattle.energy_program.specs.declared.trees.Function.{Function}
+use Rattle.energy_program.specs.declared.trees.Expr.{Expr}
+use Rattle.energy_program.specs.declared.trees.Expr.TheVariants as e
+
+-- A number stands as its raw value, a variable as its input number, a use of a definition as the definition's number.
+pub data Tree : Type 0 where
+  Number : ℤ → Tree
+  Input : ℕ → Tree
+  Definition : ℕ → Tree
+  Negated : Tree → Tree
+  Binary : Operator → Tree → Tree → Tree
+  Applied : Function → Tree → Tree
+  Power : Tree → ℤ → Tree
+  Select : Tree → Tree → Tree → Tree
+
+abbrev pub tree_of : {A : Type 0} → Expr A → Tree
+tree_of (e.Number z) = Number z
+tree_of (e.Input i) = Input i
+tree_of (e.Definition j) = Definition j
+tree_of (e.Negated' p a) = Negated (tree_of a)
+tree_of (e.Binary' o p a q b) = Binary o (tree_of a) (tree_of b)
+tree_of (e.Applied' f p a) = Applied f (tree_of a)
+tree_of (e.Power' p a n) = Power (tree_of a) n
+tree_of (e.Select' p x q a s b) = Select (tree_of x) (tree_of a) (tree_of b)
+
+-- ---- what a tree may name
+
+-- the inputs are the distance, the parameters of both particles and the globals
+abbrev pub inputs_of : ℕ → ℕ → ℕ
+inputs_of parameters globals = 1 + (2 * parameters + globals)
+
+-- from 1 to 32: an exponent as a text writes it, without its minus
+abbrev pub is_whole : ℕ → Bool
+is_whole n = nat_lt 0 n && nat_le n 32
+
+-- from -32 to 33, but 0
+abbrev pub is_exponent : ℤ → Bool
+is_exponent (pos n) = nat_lt 0 n && nat_le n 33
+is_exponent (negsuc n) = nat_lt n 32
+
+-- Each variable is one of the inputs, each definition that is used has a number from `first` up to, not with, `end`, and
+-- each power is one that there is.
+abbrev pub is_scoped : ℕ → ℕ → ℕ → Tree → Bool
+is_scoped inputs first end (Number z) = true
+is_scoped inputs first end (Input i) = nat_lt i inputs
+is_scoped inputs first end (Definition j) = nat_le first j && nat_lt j end
+is_scoped inputs first end (Negated a) = is_scoped inputs first end a
+is_scoped inputs first end (Binary o a b) = is_scoped inputs first end a && is_scoped inputs first end b
+is_scoped inputs first end (Applied f a) = is_scoped inputs first end a
+is_scoped inputs first end (Power a n) = is_exponent n && is_scoped inputs first end a
+is_scoped inputs first end (Select x a b) = is_scoped inputs first end x && (is_scoped inputs first end a && is_scoped inputs first end b)
+
+-- these definitions, numbered from i, name only definitions after them
+abbrev pub are_scoped : ℕ → ℕ → List Tree → Bool
+are_scoped inputs i [] = true
+are_scoped inputs i (d ∷ ds) = is_scoped inputs (i + 1) (i + (1 + length ds)) d && are_scoped inputs (i + 1) ds
+
+-- the distance, input 0, doesn't occur in the tree; a definition's own tree isn't looked at
+abbrev pub is_free_of_distance : Tree → Bool
+is_free_of_distance (Number z) = true
+is_free_of_distance (Input i) = if i == 0 then false else true
+is_free_of_distance (Definition j) = true
+is_free_of_distance (Negated a) = is_free_of_distance a
+is_free_of_distance (Binary o a b) = is_free_of_distance a && is_free_of_distance b
+is_free_of_distance (Applied f a) = is_free_of_distance a
+is_free_of_distance (Power a n) = is_free_of_distance a
+is_free_of_distance (Select x a b) = is_free_of_distance x && (is_free_of_distance a && is_free_of_distance b)
+
+-- ---- the substituted tree
+
+-- the tree with each use of a definition replaced by what it stands for
+abbrev pub put : (ℕ → Tree) → Tree → Tree
+put f (Number z) = Number z
+put f (Input i) = Input i
+put f (Definition j) = f j
+put f (Negated a) = Negated (put f a)
+put f (Binary o a b) = Binary o (put f a) (put f b)
+put f (Applied g a) = Applied g (put f a)
+put f (Power a n) = Power (put f a) n
+put f (Select x a b) = Select (put f x) (put f a) (put f b)
+
+-- What a definition stands for, of these, which are numbered from i: its tree with what the later ones stand for. A number
+-- that none has stands for 0.
+abbrev pub meaning : ℕ → List Tree → ℕ → Tree
+meaning i [] j = Number (pos 0)
+meaning i (d ∷ ds) j = if j == i then put (meaning (i + 1) ds) d else meaning (i + 1) ds j
+
+-- the body with each defined name replaced by what it stands for
+abbrev pub substituted : Tree → List Tree → Tree
+substituted body definitions = put (meaning 0 definitions) body

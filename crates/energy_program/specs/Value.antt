@@ -1,0 +1,92 @@
+-- Values of energy expressions (operators as in the OpenMM User Guide, custom force expressions; numbers are fixed-point).
+-- A value is partial: there is none where an operation that the tree asks for has none.
+use Rattle.std.specs.Prelude.{ℕ, ℤ, List, Option, Some, None, Result, Ok, Err, slice_get, if◌then◌else◌}
+use Rattle.std.specs.Int.{int_max, int_min}
+use Rattle.fixed.specs.declared.faults.Fault.{Fault}
+use Rattle.fixed.specs.Arithmetic.{sum_of, difference_of, negative_of, product_of, square_of, quotient_of, square_root_of, absolute_of, step_of, delta_of, whole_of, ceiling_of, signed_power_of, is_zero}
+use Rattle.energy_program.specs.declared.trees.Operator.{Operator}
+use Rattle.energy_program.specs.declared.trees.Operator.TheVariants as op
+use Rattle.energy_program.specs.declared.trees.Function.{Function}
+use Rattle.energy_program.specs.declared.trees.Function.TheVariants as f
+use Rattle.energy_program.specs.Tree.{Tree, Number, Input, Definition, Negated, Binary, Applied, Power, Select}
+
+-- a result's number, whatever the fault otherwise
+abbrev pub number_of : Result ℤ Fault → Option ℤ
+number_of (Ok z) = Some z
+number_of (Err f) = None
+
+-- an operation on values, each of which may be missing
+abbrev pub on_one : (ℤ → Result ℤ Fault) → Option ℤ → Option ℤ
+on_one f (Some x) = number_of (f x)
+on_one f None = None
+
+abbrev pub on_two : (ℤ → ℤ → Result ℤ Fault) → Option ℤ → Option ℤ → Option ℤ
+on_two f (Some x) y = on_one (f x) y
+on_two f None y = None
+
+abbrev pub negative : Option ℤ → Option ℤ
+negative x = on_one negative_of x
+
+abbrev pub sum : Option ℤ → Option ℤ → Option ℤ
+sum x y = on_two sum_of x y
+
+abbrev pub difference : Option ℤ → Option ℤ → Option ℤ
+difference x y = on_two difference_of x y
+
+abbrev pub product : ℕ → Option ℤ → Option ℤ → Option ℤ
+product bits x y = on_two (product_of bits) x y
+
+abbrev pub square : ℕ → Option ℤ → Option ℤ
+square bits x = on_one (square_of bits) x
+
+abbrev pub quotient : ℕ → Option ℤ → Option ℤ → Option ℤ
+quotient bits x y = on_two (quotient_of bits) x y
+
+-- the operations that have a value for any two
+abbrev pub minimum : Option ℤ → Option ℤ → Option ℤ
+minimum x y = on_two (λ a b. Ok (int_min a b)) x y
+
+abbrev pub maximum : Option ℤ → Option ℤ → Option ℤ
+maximum x y = on_two (λ a b. Ok (int_max a b)) x y
+
+abbrev pub operation : ℕ → Operator → Option ℤ → Option ℤ → Option ℤ
+operation bits op.Add x y = sum x y
+operation bits op.Subtract x y = difference x y
+operation bits op.Multiply x y = product bits x y
+operation bits op.Divide x y = quotient bits x y
+operation bits op.Minimum x y = minimum x y
+operation bits op.Maximum x y = maximum x y
+
+abbrev pub square_root : ℕ → Option ℤ → Option ℤ
+square_root bits x = on_one (square_root_of bits) x
+
+abbrev pub step : ℕ → Option ℤ → Option ℤ
+step bits x = on_one (λ a. Ok (step_of bits a)) x
+
+abbrev pub applied : ℕ → Function → Option ℤ → Option ℤ
+applied bits f.SquareRoot x = square_root bits x
+applied bits f.Absolute x = on_one absolute_of x
+applied bits f.Step x = step bits x
+applied bits f.Delta x = on_one (λ a. Ok (delta_of bits a)) x
+applied bits f.Floor x = on_one (λ a. Ok (whole_of bits a)) x
+applied bits f.Ceiling x = on_one (ceiling_of bits) x
+
+abbrev pub power : ℕ → Option ℤ → ℤ → Option ℤ
+power bits x n = on_one (λ a. signed_power_of bits a n) x
+
+-- the second where the first is not 0, else the third: of those two only the one that is asked for has to have a value
+abbrev pub selected : Option ℤ → Option ℤ → Option ℤ → Option ℤ
+selected None y z = None
+selected (Some x) y z = if is_zero x then z else y
+
+-- The value of a tree, with so many bits behind the point, where these are the inputs: the distance, then the others. A
+-- definition has none: values are those of trees with all definitions put in place.
+abbrev pub value_of : ℕ → List ℤ → Tree → Option ℤ
+value_of bits inputs (Number z) = Some z
+value_of bits inputs (Input i) = slice_get inputs i
+value_of bits inputs (Definition j) = None
+value_of bits inputs (Negated a) = negative (value_of bits inputs a)
+value_of bits inputs (Binary o a b) = operation bits o (value_of bits inputs a) (value_of bits inputs b)
+value_of bits inputs (Applied g a) = applied bits g (value_of bits inputs a)
+value_of bits inputs (Power a n) = power bits (value_of bits inputs a) n
+value_of bits inputs (Select x a b) = selected (value_of bits inputs x) (value_of bits inputs a) (value_of bits inputs b)

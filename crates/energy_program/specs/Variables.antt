@@ -1,0 +1,24 @@
+-- Variables as lists of names, and how a program's come together.
+use Rattle.std.specs.Prelude.{ℕ, ◌||◌, if◌then◌else◌, List, [], ◌∷◌, ◌++◌, map, Result, Ok, Err}
+use Rattle.std.specs.HashSet.{HashSet}
+use Rattle.std.specs.declared.vec.Vec.{Vec}
+use Rattle.energy_program.specs.declared.variables.Names.{Names}
+use Rattle.energy_program.specs.Faults.{Refusal, ReservedName, ◌>>=◌}
+use Rattle.energy_program.specs.Names.{is_among, is_reserved}
+
+-- the names in a set, in the order in which they came in
+abbrev pub names_in : {A S : Type 0} → HashSet (Vec ℕ A) S → List (List ℕ)
+names_in s = map (λ v. v.items) s.keys
+
+-- the names of the variables, in the order of their input numbers
+abbrev pub names_of : {A : Type 0} → Names A → List (List ℕ)
+names_of n = names_in n.variables
+
+-- one more variable behind these, unless its name is reserved or taken
+abbrev pub added : List (List ℕ) → List ℕ → Result (List (List ℕ)) Refusal
+added names name = if is_reserved name || is_among names name then Err (ReservedName name) else Ok (names ++ name ∷ [])
+
+-- more variables, one behind the other
+abbrev pub filled : List (List ℕ) → List (List ℕ) → Result (List (List ℕ)) Refusal
+filled names [] = Ok names
+filled names (v ∷ vs) = added names v >>= λ more. filled more vs

@@ -1,0 +1,61 @@
+// Parts put together to a tree. They are boxed here, apart from the recursions that build trees: so the frames of these stay small.
+
+ghost use Rattle.std.specs.Prelude.{◌≡◌, IfOk};
+ghost use Rattle.energy_program.specs.Tree as t;
+ghost use Rattle.energy_program.specs.Tree.{tree_of};
+
+use crate::trees::{Expr, Function, Operator};
+use std::alloc::{AllocError, Allocator};
+
+/// A tree that was built, unless memory ran out.
+pub type Built<A> = Result<Expr<A>, AllocError>;
+
+/// The negative of a tree.
+pub fn negated<A: Allocator + Copy>(alloc: A, part: Expr<A>) -> Built<A>
+    ensures { IfOk result (λ e. tree_of e ≡ t.Negated (tree_of part)) }
+{
+    Ok(Expr::Negated(Box::new(alloc, part)?))
+}
+
+/// An operation on two trees.
+pub fn binary<A: Allocator + Copy>(
+    alloc: A,
+    operator: Operator,
+    left: Expr<A>,
+    right: Expr<A>,
+) -> Built<A>
+    ensures { IfOk result (λ e. tree_of e ≡ t.Binary operator (tree_of left) (tree_of right)) }
+{
+    let left = Box::new(alloc, left)?;
+    let right = Box::new(alloc, right)?;
+    Ok(Expr::Binary(operator, left, right))
+}
+
+/// A function of a tree.
+pub fn applied<A: Allocator + Copy>(alloc: A, function: Function, part: Expr<A>) -> Built<A>
+    ensures { IfOk result (λ e. tree_of e ≡ t.Applied function (tree_of part)) }
+{
+    Ok(Expr::Applied(function, Box::new(alloc, part)?))
+}
+
+/// A power of a tree.
+pub fn power<A: Allocator + Copy>(alloc: A, part: Expr<A>, exponent: i8) -> Built<A>
+    ensures { IfOk result (λ e. tree_of e ≡ t.Power (tree_of part) exponent) }
+{
+    Ok(Expr::Power(Box::new(alloc, part)?, exponent))
+}
+
+/// A choice between two trees.
+pub fn select<A: Allocator + Copy>(
+    alloc: A,
+    condition: Expr<A>,
+    chosen: Expr<A>,
+    otherwise: Expr<A>,
+) -> Built<A>
+    ensures { IfOk result (λ e. tree_of e ≡ t.Select (tree_of condition) (tree_of chosen) (tree_of otherwise)) }
+{
+    let condition = Box::new(alloc, condition)?;
+    let chosen = Box::new(alloc, chosen)?;
+    let otherwise = Box::new(alloc, otherwise)?;
+    Ok(Expr::Select(condition, chosen, otherwise))
+}

@@ -1,0 +1,175 @@
+// The names of a program's variables, and which input each is.
+ghost use Rattle.std.specs.Prelude.{◌≡◌, ◌<◌, ◌++◌, ◌∷◌, [], length, codes, map, All, IfErr, IfOk, IfSome, IsSomeAnd, IsTrue, None, OnOk};
+ghost use Rattle.std.specs.List.{list_any};
+ghost use Rattle.std.specs.Option.{option_map};
+ghost use Rattle.std.specs.Str.{bytes_eq};
+ghost use Rattle.energy_program.specs.Names.{first_repeated, input_of, is_name, names_from, parameters_and_globals};
+ghost use Rattle.energy_program.specs.Faults.{Gives, IsOrMemory, RepeatedDefinition, Says};
+ghost use Rattle.energy_program.specs.Tree.{inputs_of};
+ghost use Rattle.energy_program.specs.Variables.{added, filled, names_in, names_of};
+
+use crate::faults::ExprFault;
+use crate::names::{is_reserved, repeated, taken};
+use crate::variables::{MAX_GLOBALS, MAX_PARAMETERS, NameSet, Names};
+use indexmap::IndexSet;
+use std::alloc::Allocator;
+
+// Whether the name is one of these.
+fn is_among(names: &[&[u8]], name: &[u8]) -> bool
+    ensures { result ≡ list_any (λ n. bytes_eq name.now n.now) names.now }
+{
+    names.iter().any(|other| name == *other)
+}
+
+// The first name that comes again.
+fn first_repeated<'a>(names: &[&'a [u8]]) -> Option<&'a [u8]>
+    ensures { option_map (λ n. n.now) result ≡ first_repeated (map (λ n. n.now) names.now) }
+{
+    match names {
+        [] => None,
+        [name, others @ ..] => {
+            if is_among(others, name) {
+                Some(name)
+            } else {
+                first_repeated(others)
+            }
+        }
+    }
+}
+
+// Refuses the first name that comes again.
+fn refuse_repeated<A: Allocator + Copy>(alloc: A, names: &[&[u8]]) -> Result<(), ExprFault<A>>
+    ensures once { OnOk result (first_repeated (map (λ n. n.now) names.now) ≡ None) }
+    ensures refused { IfErr result (λ e. IsSomeAnd (first_repeated (map (λ n. n.now) names.now)) (λ name. Says e (RepeatedDefinition name))) }
+{
+    match first_repeated(names) {
+        Some(name) => Err(repeated(alloc, name)),
+        None => Ok(()),
+    }
+}
+
+// One more variable, unless its name is reserved or taken.
+fn add<A: Allocator + Copy>(
+    alloc: A,
+    names: &mut NameSet<A>,
+    name: &[u8],
+) -> Result<(), ExprFault<A>>
+    ensures { Gives (λ _. names_in names.new) result (added (names_in names.old) name.now) }
+{
+    if is_reserved(name) {
+        return Err(taken(alloc, name));
+    }
+    let (_, is_new) = names.insert_full(Vec::from_slice(alloc, name)?)?;
+    if is_new {
+        Ok(())
+    } else {
+        Err(taken(alloc, name))
+    }
+}
+
+// The variable of one particle for a parameter: the parameter's name with the particle's digit behind it.
+fn numbered<A: Allocator + Copy>(
+    alloc: A,
+    parameter: &[u8],
+    digit: u8,
+) -> Result<Vec<u8, A>, ExprFault<A>>
+    ensures { IsOrMemory (λ name. name.items ≡ parameter.now ++ digit ∷ []) result }
+{
+    let mut name = Vec::from_slice(alloc, parameter)?;
+    name.push(digit)?;
+    Ok(name)
+}
+
+// The variables of one particle.
+fn add_particle<A: Allocator + Copy>(
+    alloc: A,
+    names: &mut NameSet<A>,
+    parameters: &[&[u8]],
+    digit: u8,
+) -> Result<(), ExprFault<A>>
+    ensures { Gives (λ _. names_in names.new) result (filled (names_in names.old) (map (λ p. p.now ++ digit ∷ []) parameters.now)) }
+{
+    for parameter in parameters {
+        let name = numbered(alloc, parameter, digit)?;
+        add(alloc, names, &name)?;
+    }
+    Ok(())
+}
+
+fn add_all<A: Allocator + Copy>(
+    alloc: A,
+    names: &mut NameSet<A>,
+    globals: &[&[u8]],
+) -> Result<(), ExprFault<A>>
+    ensures { Gives (λ _. names_in names.new) result (filled (names_in names.old) (map (λ g. g.now) globals.now)) }
+{
+    for global in globals {
+        add(alloc, names, global)?;
+    }
+    Ok(())
+}
+
+// The distance.
+fn only_distance<A: Allocator + Copy>(alloc: A) -> Result<NameSet<A>, ExprFault<A>>
+    ensures { IsOrMemory (λ names. names_in names ≡ codes "r" ∷ []) result }
+{
+    let mut names = IndexSet::new(alloc);
+    names.insert(Vec::from_slice(alloc, b"r")?)?;
+    Ok(names)
+}
+
+// The distance, the parameters of both particles and the globals.
+fn all_variables<A: Allocator + Copy>(
+    alloc: A,
+    parameters: &[&[u8]],
+    globals: &[&[u8]],
+) -> Result<NameSet<A>, ExprFault<A>>
+    ensures { Gives names_in result (filled (codes "r" ∷ []) (parameters_and_globals (map (λ p. p.now) parameters.now) (map (λ g. g.now) globals.now))) }
+{
+    let mut names = only_distance(alloc)?;
+    add_particle(alloc, &mut names, parameters, b'1')?;
+    add_particle(alloc, &mut names, parameters, b'2')?;
+    add_all(alloc, &mut names, globals)?;
+    Ok(names)
+}
+
+impl<A: Allocator + Copy> Names<A> {
+    /// The variables of a program whose particles have these parameters, with these globals.
+    ///
+    /// It refuses more than 8 parameters or 16 globals by `TooLarge`; else a name that stands twice in its own list by
+    /// `RepeatedDefinition`, the first that occurs again; else a variable by `ReservedName` whose name is reserved or an earlier
+    /// one's, the first such: parameters come before globals. So a parameter `atan` is refused for its variable `atan2`.
+    ///
+    /// The caller hands in names by their form: a letter or `_`, then letters, digits and `_`.
+    pub fn new(alloc: A, parameters: &[&[u8]], globals: &[&[u8]]) -> Result<Names<A>, ExprFault<A>>
+        requires parameters_named { All (λ p. IsTrue (is_name p.now)) parameters.now }
+        requires globals_named { All (λ g. IsTrue (is_name g.now)) globals.now }
+        ensures exact { Gives names_of result (names_from (map (λ p. p.now) parameters.now) (map (λ g. g.now) globals.now)) }
+        ensures parameters { IfOk result (λ n. n.parameters ≡ length parameters.now) }
+        ensures globals { IfOk result (λ n. n.globals ≡ length globals.now) }
+    {
+        if parameters.len() > MAX_PARAMETERS || globals.len() > MAX_GLOBALS {
+            return Err(ExprFault::TooLarge);
+        }
+        refuse_repeated(alloc, parameters)?;
+        refuse_repeated(alloc, globals)?;
+        Ok(Names {
+            variables: all_variables(alloc, parameters, globals)?,
+            parameters: parameters.len() as u32,
+            globals: globals.len() as u32,
+        })
+    }
+}
+
+impl<A: Allocator> Names<A> {
+    /// The input number of the variable with this name.
+    pub fn input_of(&self, name: &[u8]) -> Option<u32>
+        ensures value { result ≡ input_of (names_of self.now) name.now }
+        ensures bound { IfSome result (λ input. input < inputs_of self.now.parameters self.now.globals) }
+    {
+        match self.variables.get_index_of(name) {
+            Some(input) => Some(input as u32),
+            None => None,
+        }
+    }
+}

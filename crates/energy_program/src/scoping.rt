@@ -1,0 +1,89 @@
+//! What a program's trees may name.
+
+ghost use Rattle.std.specs.Prelude.{◌≡◌, ◌≤◌, ◌+◌, ◌&&◌, length, map, nat_le, is_some, IfSome};
+ghost use Rattle.energy_program.specs.Programs.{trees_of};
+ghost use Rattle.energy_program.specs.Tree.{are_scoped, inputs_of, is_exponent, is_scoped, tree_of};
+
+use crate::programs::{MAX_DEFINITIONS, Program};
+use crate::trees::Expr;
+use crate::variables::{MAX_GLOBALS, MAX_PARAMETERS};
+use std::alloc::Allocator;
+
+fn is_exponent(exponent: i8) -> bool
+    ensures { result ≡ is_exponent exponent }
+{
+    if exponent > 0 {
+        exponent <= 33
+    } else {
+        exponent != 0 && exponent >= -32
+    }
+}
+
+// Whether each use in a tree is one of so many inputs, or a definition from `first` up to, not with, `end`.
+fn is_scoped<A: Allocator>(inputs: u32, first: usize, end: usize, tree: &Expr<A>) -> bool
+    ensures { result ≡ is_scoped inputs first end (tree_of tree.now) }
+{
+    match tree {
+        Expr::Number(_) => true,
+        Expr::Input(input) => *input < inputs,
+        Expr::Definition(number) => first <= *number as usize && (*number as usize) < end,
+        Expr::Negated(part) | Expr::Applied(_, part) => is_scoped(inputs, first, end, part),
+        Expr::Binary(_, left, right) => is_scoped(inputs, first, end, left)
+            && is_scoped(inputs, first, end, right),
+        Expr::Power(part, exponent) => is_exponent(*exponent)
+            && is_scoped(inputs, first, end, part),
+        Expr::Select(condition, chosen, otherwise) => {
+            is_scoped(inputs, first, end, condition)
+                && (is_scoped(inputs, first, end, chosen)
+                    && is_scoped(inputs, first, end, otherwise))
+        }
+    }
+}
+
+fn are_scoped<A: Allocator>(inputs: u32, number: usize, definitions: &[Expr<A>]) -> bool
+    requires { number + length definitions.now ≤ 128 }
+    ensures { result ≡ are_scoped inputs number (map tree_of definitions.now) }
+{
+    match definitions {
+        [] => true,
+        [first, later @ ..] => {
+            is_scoped(inputs, number + 1, number + (1 + later.len()), first)
+                && are_scoped(inputs, number + 1, later)
+        }
+    }
+}
+
+impl<A: Allocator> Program<A> {
+    /// The program of a body and definitions, for particles with so many parameters and for so many globals. There is none
+    /// where there are more than 128 definitions, 8 parameters or 16 globals, or where a tree uses another input than these or
+    /// another definition than a later one, or has a power of 0, below -32 or above 33.
+    pub fn new(
+        body: Expr<A>,
+        definitions: Vec<Expr<A>, A>,
+        parameters: u32,
+        globals: u32,
+    ) -> Option<Program<A>>
+        ensures trees { IfSome result (λ p. trees_of p ≡ (tree_of body, map tree_of definitions.items)) }
+        ensures parameters { IfSome result (λ p. p.parameters ≡ parameters) }
+        ensures globals { IfSome result (λ p. p.globals ≡ globals) }
+        ensures made { is_some result ≡ (nat_le (length definitions.items) 128 && nat_le parameters 8 && nat_le globals 16 && is_scoped (inputs_of parameters globals) 0 (length definitions.items) (tree_of body) && are_scoped (inputs_of parameters globals) 0 (map tree_of definitions.items)) }
+    {
+        if definitions.len() > MAX_DEFINITIONS
+            || parameters as usize > MAX_PARAMETERS
+            || globals as usize > MAX_GLOBALS
+        {
+            return None;
+        }
+        let inputs = 1 + 2 * parameters + globals;
+        if is_scoped(inputs, 0, definitions.len(), &body) && are_scoped(inputs, 0, &definitions) {
+            Some(Program {
+                body,
+                definitions,
+                parameters,
+                globals,
+            })
+        } else {
+            None
+        }
+    }
+}

@@ -1,0 +1,130 @@
+-- The definitions behind the body, one after the other.
+use Rattle.std.proofs.Common.{◌≡◌, ℕ, suc, ◌+◌, ◌-◌, ◌<◌, ◌≤◌, Bool, true, false, eqb, List, [], ◌∷◌, ◌++◌, length, Option, Some, None, Result, Ok, Err, refl, sym, ap, ◌∙◌, append_assoc, arith}
+use Rattle.std.proofs.lemmas.Bool.{eqb-true, eqb-false}
+use Rattle.std.proofs.lemmas.List.{append-nil}
+use Rattle.energy_program.specs.declared.faults.ExprFault.{ExprFault}
+use Rattle.energy_program.specs.Faults.{Refusal, Fails, ◌>>=◌}
+use Rattle.expr.specs.Parsing.{SignOf, expr_at}
+use Rattle.expr.specs.Sources.{semicolon_sign, name_sign, after_semicolons, no_heading, named_by, named_at, heading_by, heading_at, Definitions, before, defined, definitions_at, source_at}
+use Rattle.expr.specs.Syntax.{Syntax, Definition, Source}
+use Rattle.expr.specs.Tokens.{Placed}
+use Rattle.expr.specs.Tokens as t
+use Rattle.expr.proofs.Levels.{fails_then, fails_same}
+use Rattle.expr.proofs.Results.{some_is}
+
+-- a text with this body, these definitions, and others behind them
+abbrev pub behind : Syntax → List Definition → Definitions → Result Source Refusal
+behind body front others = others >>= λ ds. Ok (body, front ++ ds)
+
+pub semicolon_less : (ts rest : List Placed) → semicolon_sign ts ≡ Some rest → length rest < length ts
+semicolon_less ((t.Semicolon, at) ∷ ts) rest e = let h = ap length (some_is ts rest e) in omega arith
+semicolon_less _ rest e = absurd cc
+
+-- ---- a full text has no further definition
+
+no_heading_none : (ts : List Placed) (h : List ℕ × List Placed) → no_heading ts ≡ Ok (Some h) → ⊥
+no_heading_none [] h e = absurd cc
+no_heading_none ((k, at) ∷ rest) h e = absurd cc
+
+named_full : (end : ℕ) (ts : List Placed) (s : SignOf (List ℕ)) (h : List ℕ × List Placed) → named_by end true ts s ≡ Ok (Some h) → ⊥
+named_full end ts None h e = no_heading_none ts h e
+named_full end ts (Some x) h e = absurd cc
+
+heading_full : (end : ℕ) (ts : List Placed) (s : Option (List Placed)) (h : List ℕ × List Placed) → heading_by end true ts s ≡ Ok (Some h) → ⊥
+unfolding named_at
+heading_full end ts None h e = no_heading_none ts h e
+heading_full end ts (Some rest) h e = named_full end (after_semicolons rest) (name_sign (after_semicolons rest)) h e
+
+pub full_none : (end : ℕ) (ts : List Placed) (h : List ℕ × List Placed) → heading_at end true ts ≡ Ok (Some h) → ⊥
+unfolding heading_at
+full_none end ts h e = heading_full end ts (semicolon_sign ts) h e
+
+-- ---- one definition more
+
+turn : (end n : ℕ) (ts : List Placed) (w : List ℕ) (after : List Placed) (x : Syntax) (beyond : List Placed) → heading_at end false ts ≡ Ok (Some (w, after)) → expr_at end 65 after ≡ Ok (x, beyond)
+    → definitions_at end (suc n) ts ≡ before ((w, x) ∷ []) (definitions_at end n beyond)
+unfolding definitions_at
+turn end n ts w after x beyond h e = rw (h, e) refl
+
+one_less : (count : ℕ) → count ≤ 64 → eqb count 64 ≡ false → 64 - count ≡ suc (64 - (count + 1))
+one_less count few c = let d = eqb-false count 64 c in omega (arith, d)
+
+none_left : (count : ℕ) → eqb count 64 ≡ true → 64 - count ≡ 0
+none_left count c = let d = eqb-true count 64 c in omega arith
+
+turn_by : (end count : ℕ) (ts : List Placed) (full : Bool) (w : List ℕ) (after : List Placed) (x : Syntax) (beyond : List Placed) → count ≤ 64 → eqb count 64 ≡ full → heading_at end full ts ≡ Ok (Some (w, after)) → expr_at end 65 after ≡ Ok (x, beyond)
+    → definitions_at end (64 - count) ts ≡ before ((w, x) ∷ []) (definitions_at end (64 - (count + 1)) beyond)
+turn_by end count ts true w after x beyond few c h e = absurd (full_none end ts (w, after) h)
+turn_by end count ts false w after x beyond few c h e = ap (λ (z : ℕ). definitions_at end z ts) (one_less count few c) ∙ turn end (64 - (count + 1)) ts w after x beyond h e
+
+pub not_full : (end count : ℕ) (ts : List Placed) (h : List ℕ × List Placed) → count ≤ 64 → heading_at end (eqb count 64) ts ≡ Ok (Some h) → count < 64
+not_full end count ts h few e = by_test (eqb count 64) refl e
+  where
+    by_test : (full : Bool) → eqb count 64 ≡ full → heading_at end full ts ≡ Ok (Some h) → count < 64
+    by_test true c e = absurd (full_none end ts h e)
+    by_test false c e = let d = eqb-false count 64 c in omega (arith, d)
+
+regroup : (body : Syntax) (front : List Definition) (d : Definition) (r : Definitions) → behind body front (before (d ∷ []) r) ≡ behind body (front ++ (d ∷ [])) r
+regroup body front d (Ok ds) = ap (λ (z : List Definition). source_ok z) (sym (append_assoc front (d ∷ []) ds))
+  where
+    source_ok : List Definition → Result Source Refusal
+    source_ok z = Ok (body, z)
+regroup body front d (Err e) = refl
+
+pub more : (end count later : ℕ) (body : Syntax) (front longer : List Definition) (ts : List Placed) (w : List ℕ) (after : List Placed) (x : Syntax) (beyond : List Placed) → count ≤ 64 → later ≡ count + 1 → longer ≡ front ++ ((w, x) ∷ [])
+    → heading_at end (eqb count 64) ts ≡ Ok (Some (w, after)) → expr_at end 65 after ≡ Ok (x, beyond)
+    → behind body front (definitions_at end (64 - count) ts) ≡ behind body longer (definitions_at end (64 - later) beyond)
+more end count later body front longer ts w after x beyond few c f h e =
+    ap (behind body front) (turn_by end count ts (eqb count 64) w after x beyond few refl h e)
+    ∙ regroup body front (w, x) (definitions_at end (64 - (count + 1)) beyond)
+    ∙ ap (λ (z : List Definition). behind body z (definitions_at end (64 - (count + 1)) beyond)) (sym f)
+    ∙ ap (λ (z : ℕ). behind body longer (definitions_at end (64 - z) beyond)) (sym c)
+
+pub starts : (end : ℕ) (ts : List Placed) (body : Syntax) (rest : List Placed) (front : List Definition) (count : ℕ) → front ≡ [] → count ≡ 0 → expr_at end 65 ts ≡ Ok (body, rest)
+    → source_at end ts ≡ behind body front (definitions_at end (64 - count) rest)
+unfolding source_at
+starts end ts body rest front count f c e = rw (f, c, e) refl
+
+-- ---- faults and the end
+
+heading_fails_by : {C : Type 0} (end count : ℕ) (ts : List Placed) (full : Bool) (e : ExprFault C) → count ≤ 64 → eqb count 64 ≡ full → Fails e (heading_at end full ts) → Fails e (definitions_at end (64 - count) ts)
+unfolding definitions_at
+heading_fails_by end count ts true e few c h =
+    fails_same e (definitions_at end 0 ts) (definitions_at end (64 - count) ts) (ap (λ (z : ℕ). definitions_at end z ts) (none_left count c)) (fails_then e (heading_at end true ts) (λ h. Ok []) h)
+heading_fails_by end count ts false e few c h =
+    fails_same e (definitions_at end (suc (64 - (count + 1))) ts) (definitions_at end (64 - count) ts) (ap (λ (z : ℕ). definitions_at end z ts) (one_less count few c))
+    (fails_then e (heading_at end false ts) (λ h. defined (expr_at end 65) (definitions_at end (64 - (count + 1))) h) h)
+
+pub heading_fails : {C : Type 0} (end count : ℕ) (body : Syntax) (front : List Definition) (ts : List Placed) (e : ExprFault C) → count ≤ 64 → Fails e (heading_at end (eqb count 64) ts)
+    → Fails e (behind body front (definitions_at end (64 - count) ts))
+heading_fails end count body front ts e few h = fails_then e (definitions_at end (64 - count) ts) (λ ds. Ok (body, front ++ ds)) (heading_fails_by end count ts (eqb count 64) e few refl h)
+
+value_turn : (end n : ℕ) (ts : List Placed) (w : List ℕ) (after : List Placed) → heading_at end false ts ≡ Ok (Some (w, after))
+    → definitions_at end (suc n) ts ≡ (expr_at end 65 after >>= λ x. before ((w, x.0) ∷ []) (definitions_at end n x.1))
+unfolding definitions_at
+value_turn end n ts w after h = rw h refl
+
+value_fails_by : {C : Type 0} (end count : ℕ) (ts : List Placed) (full : Bool) (w : List ℕ) (after : List Placed) (e : ExprFault C) → count ≤ 64 → eqb count 64 ≡ full → heading_at end full ts ≡ Ok (Some (w, after)) → Fails e (expr_at end 65 after)
+    → Fails e (definitions_at end (64 - count) ts)
+value_fails_by end count ts true w after e few c h f = absurd (full_none end ts (w, after) h)
+value_fails_by end count ts false w after e few c h f =
+    fails_same e _ (definitions_at end (64 - count) ts) (ap (λ (z : ℕ). definitions_at end z ts) (one_less count few c) ∙ value_turn end (64 - (count + 1)) ts w after h)
+    (fails_then e (expr_at end 65 after) (λ x. before ((w, x.0) ∷ []) (definitions_at end (64 - (count + 1)) x.1)) f)
+
+pub value_fails : {C : Type 0} (end count : ℕ) (body : Syntax) (front : List Definition) (ts : List Placed) (w : List ℕ) (after : List Placed) (e : ExprFault C) → count ≤ 64 → heading_at end (eqb count 64) ts ≡ Ok (Some (w, after))
+    → Fails e (expr_at end 65 after) → Fails e (behind body front (definitions_at end (64 - count) ts))
+value_fails end count body front ts w after e few h f =
+    fails_then e (definitions_at end (64 - count) ts) (λ ds. Ok (body, front ++ ds)) (value_fails_by end count ts (eqb count 64) w after e few refl h f)
+
+ends_by : (end count : ℕ) (ts : List Placed) (full : Bool) → count ≤ 64 → eqb count 64 ≡ full → heading_at end full ts ≡ Ok None → definitions_at end (64 - count) ts ≡ Ok []
+unfolding definitions_at
+ends_by end count ts true few c h = ap (λ (z : ℕ). definitions_at end z ts) (none_left count c) ∙ rw h refl
+ends_by end count ts false few c h = ap (λ (z : ℕ). definitions_at end z ts) (one_less count few c) ∙ rw h refl
+
+pub ends : (end count : ℕ) (body : Syntax) (front : List Definition) (ts : List Placed) → count ≤ 64 → heading_at end (eqb count 64) ts ≡ Ok None
+    → behind body front (definitions_at end (64 - count) ts) ≡ Ok (body, front)
+ends end count body front ts few h = ap (behind body front) (ends_by end count ts (eqb count 64) few refl h) ∙ simp append-nil refl
+
+pub body_fails : {C : Type 0} (end : ℕ) (ts : List Placed) (e : ExprFault C) → Fails e (expr_at end 65 ts) → Fails e (source_at end ts)
+unfolding source_at
+body_fails end ts e h = fails_then e (expr_at end 65 ts) (λ x. definitions_at end 64 x.1 >>= λ ds. Ok (x.0, ds)) h

@@ -1,0 +1,6 @@
+use Rattle.fixed.specs.Fractions.{bits_of}
+use Rattle.expr.proofs.Lexing.{number_shorter}
+use Rattle.expr.proofs.lexer.token_at.Goals as goal
+
+pub slice_bounds-whole-count : goal.slice_bounds-whole-count
+slice_bounds-whole-count c = number_shorter (bits_of c.args.frac) c.args.text.now _ _ c.in-Ok.ensures

@@ -1,0 +1,31 @@
+// Functions and their arguments.
+ghost use Rattle.std.specs.Prelude.{◌≡◌};
+ghost use Rattle.expr.specs.Syntax.{arguments_of, syntax_of, with_argument};
+
+use crate::syntax::Syntax;
+use std::alloc::Allocator;
+
+/// The arguments of a call; no function takes more than three.
+#[derive(Drop)]
+pub enum Arguments<'a, A: Allocator> {
+    Empty,
+    One(Syntax<'a, A>),
+    Two(Syntax<'a, A>, Syntax<'a, A>),
+    Three(Syntax<'a, A>, Syntax<'a, A>, Syntax<'a, A>),
+    More,
+}
+
+impl<'a, A: Allocator> Arguments<'a, A> {
+    // These and one more behind them.
+    pub fn with(self, next: Syntax<'a, A>) -> Arguments<'a, A>
+        ensures { arguments_of result ≡ with_argument (arguments_of self.entry) (syntax_of next.entry) }
+    {
+        match self {
+            Arguments::Empty => Arguments::One(next),
+            Arguments::One(first) => Arguments::Two(first, next),
+            Arguments::Two(first, second) => Arguments::Three(first, second, next),
+            Arguments::Three(_, _, _) => Arguments::More,
+            Arguments::More => Arguments::More,
+        }
+    }
+}

@@ -1,0 +1,75 @@
+// Exponents: a whole number from 1 to 32 in digits alone, with or without a minus before it and parentheses around it.
+ghost use Rattle.std.specs.Prelude.{◌≡◌, IfSome, IsTrue};
+ghost use Rattle.expr.specs.Tokens.{lexeme, placed};
+ghost use Rattle.energy_program.specs.Tree.{is_whole};
+ghost use Rattle.expr.specs.Parsing.{ShowsCaret, ShowsWhole, awaits_operand, caret_sign, signed_sign, whole_of, whole_sign};
+
+use crate::parser::{begins_operand, minus_sign};
+use crate::tokens::{Kind, Token};
+use energy_program::Exponent;
+
+// The place of a `^`, and the tokens after it.
+pub fn caret_sign<'a>(tokens: &'a [Token<'a>]) -> Option<(usize, &'a [Token<'a>])>
+    ensures { ShowsCaret result (caret_sign (placed tokens.now)) }
+{
+    match tokens {
+        [
+            Token {
+                kind: Kind::Caret,
+                at,
+            },
+            rest @ ..,
+        ] => Some((*at, rest)),
+        _ => None,
+    }
+}
+
+// Whether a token comes that can begin an operand.
+pub fn awaits_operand(tokens: &[Token]) -> bool
+    ensures { result ≡ awaits_operand (placed tokens.now) }
+{
+    match tokens {
+        [token, ..] => begins_operand(token.kind),
+        [] => false,
+    }
+}
+
+// The whole number from 1 to 32 that a token is.
+fn whole_of(kind: Kind<'_>) -> Option<u8>
+    ensures value { result ≡ whole_of (lexeme kind.entry) }
+    ensures range { IfSome result (λ n. IsTrue (is_whole n)) }
+{
+    match kind {
+        Kind::Number(_, whole) if 0 < whole && whole <= 32 => Some(whole),
+        _ => None,
+    }
+}
+
+// A whole number from 1 to 32, and the tokens after it.
+fn whole_sign<'a>(tokens: &'a [Token<'a>]) -> Option<(u8, &'a [Token<'a>])>
+    ensures value { ShowsCaret result (whole_sign (placed tokens.now)) }
+    ensures range { IfSome result (λ x. IsTrue (is_whole x.0)) }
+{
+    match tokens {
+        [token, rest @ ..] => Some((whole_of(token.kind)?, rest)),
+        [] => None,
+    }
+}
+
+// A whole number with its sign, and the tokens after it.
+pub fn signed_sign<'a>(tokens: &'a [Token<'a>]) -> Option<(Exponent, &'a [Token<'a>])>
+    ensures { ShowsWhole result (signed_sign (placed tokens.now)) }
+{
+    match minus_sign(tokens) {
+        None => {
+            let (whole, rest) = whole_sign(tokens)?;
+            let value = whole as i8;
+            Some((Exponent { value }, rest))
+        }
+        Some(after) => {
+            let (whole, rest) = whole_sign(after)?;
+            let value = -(whole as i8);
+            Some((Exponent { value }, rest))
+        }
+    }
+}

@@ -1,0 +1,151 @@
+// Whole texts: a body, and definitions behind it.
+ghost use Rattle.std.specs.Prelude.{◌≡◌};
+ghost use Rattle.energy_program.specs.Faults.{Gives};
+ghost use Rattle.expr.specs.Parsing.{ShowsRest, rest_seen};
+ghost use Rattle.expr.specs.Sources.{ShowsBytes, ShowsName, after_semicolons, definitions_at, equals, heading_at, heading_seen, name_in, name_sign, named_at, no_heading, semicolon_sign, source_at};
+ghost use Rattle.expr.specs.Syntax.{definitions_of, source_of};
+ghost use Rattle.expr.specs.Tokens.{lexeme, placed};
+
+use crate::parser::{LEVELS, Parser};
+use crate::syntax::Syntax;
+use crate::tokens::{Kind, Token};
+use energy_program::ExprFault;
+use std::alloc::Allocator;
+
+/// How many definitions a text may have.
+const MAX_DEFINITIONS: usize = 64;
+
+/// A name, and what it stands for.
+#[derive(Drop)]
+pub struct Definition<'a, A: Allocator> {
+    pub name: &'a [u8],
+    pub value: Syntax<'a, A>,
+}
+
+/// What the grammar makes of a whole text.
+#[derive(Drop)]
+pub struct Source<'a, A: Allocator> {
+    pub body: Syntax<'a, A>,
+    pub definitions: Vec<Definition<'a, A>, A>,
+}
+
+/// The name that a definition gives and the tokens behind its `=`, or nothing, where no definition follows.
+type Heading<'a, A> = Result<Option<(&'a [u8], &'a [Token<'a>])>, ExprFault<A>>;
+
+// A semicolon, and the tokens after it.
+fn semicolon_sign<'a>(tokens: &'a [Token<'a>]) -> Option<&'a [Token<'a>]>
+    ensures { ShowsRest result (semicolon_sign (placed tokens.now)) }
+{
+    match tokens {
+        [
+            Token {
+                kind: Kind::Semicolon,
+                ..
+            },
+            rest @ ..,
+        ] => Some(rest),
+        _ => None,
+    }
+}
+
+// The tokens after the semicolons in front.
+#[tactic(auto, unfolding(crate::specs::Sources::after_semicolons))]
+fn after_semicolons<'a>(tokens: &'a [Token<'a>]) -> &'a [Token<'a>]
+    ensures { placed result.now ≡ after_semicolons (placed tokens.now) }
+{
+    match semicolon_sign(tokens) {
+        Some(after) => after_semicolons(after),
+        None => tokens,
+    }
+}
+
+// The name that a token is.
+fn name_in(kind: Kind<'_>) -> Option<&[u8]>
+    ensures { ShowsBytes result (name_in (lexeme kind.entry)) }
+{
+    match kind {
+        Kind::Name(name) => Some(name),
+        _ => None,
+    }
+}
+
+// A name, and the tokens after it.
+fn name_sign<'a>(tokens: &'a [Token<'a>]) -> Option<(&'a [u8], &'a [Token<'a>])>
+    ensures { ShowsName result (name_sign (placed tokens.now)) }
+{
+    match tokens {
+        [token, rest @ ..] => Some((name_in(token.kind)?, rest)),
+        [] => None,
+    }
+}
+
+// No definition follows: this is the end of the text.
+fn no_heading<'a, A: Allocator>(tokens: &'a [Token<'a>]) -> Heading<'a, A>
+    ensures { Gives heading_seen result (no_heading (placed tokens.now)) }
+{
+    match tokens {
+        [] => Ok(None),
+        [next, ..] => Err(ExprFault::UnexpectedToken { at: next.at }),
+    }
+}
+
+impl<A: Allocator + Copy> Parser<A> {
+    /// Reads all of the tokens as a body and definitions behind it.
+    pub fn source<'a>(&self, tokens: &'a [Token<'a>]) -> Result<Source<'a, A>, ExprFault<A>>
+        ensures { Gives source_of result (source_at self.now.end (placed tokens.now)) }
+    {
+        let (body, mut rest) = self.expr(tokens, LEVELS)?;
+        let mut definitions = Vec::new(self.alloc);
+        while let Some((name, after)) = self.heading(rest, definitions.len() == MAX_DEFINITIONS)? {
+            let (value, beyond) = self.expr(after, LEVELS)?;
+            definitions.push(Definition { name, value })?;
+            rest = beyond;
+        }
+        Ok(Source { body, definitions })
+    }
+
+    // The heading of the next definition, where no more than these may come if there are as many as a text may have.
+    #[tactic(auto, unfolding(crate::specs::Sources::heading_at))]
+    fn heading<'a>(&self, tokens: &'a [Token<'a>], full: bool) -> Heading<'a, A>
+        ensures { Gives heading_seen result (heading_at self.now.end full (placed tokens.now)) }
+    {
+        match semicolon_sign(tokens) {
+            Some(after) => self.named(after_semicolons(after), full),
+            None => no_heading(tokens),
+        }
+    }
+
+    // The heading behind semicolons.
+    #[tactic(auto, unfolding(crate::specs::Sources::named_at))]
+    fn named<'a>(&self, tokens: &'a [Token<'a>], full: bool) -> Heading<'a, A>
+        ensures { Gives heading_seen result (named_at self.now.end full (placed tokens.now)) }
+    {
+        match name_sign(tokens) {
+            Some((name, after)) => {
+                if full {
+                    return Err(ExprFault::TooLarge);
+                }
+                Ok(Some((name, self.equals(after)?)))
+            }
+            None => no_heading(tokens),
+        }
+    }
+
+    // The tokens after an equals sign.
+    fn equals<'a>(&self, tokens: &'a [Token<'a>]) -> Result<&'a [Token<'a>], ExprFault<A>>
+        ensures { Gives rest_seen result (equals self.now.end (placed tokens.now)) }
+    {
+        match tokens {
+            [
+                Token {
+                    kind: Kind::Equals,
+                    ..
+                },
+                rest @ ..,
+            ] => Ok(rest),
+            _ => Err(ExprFault::UnexpectedToken {
+                at: self.offset(tokens),
+            }),
+        }
+    }
+}

@@ -1,0 +1,45 @@
+-- The energy of a job, and the code of its slope.
+use Rattle.std.specs.Prelude.{◌≡◌, ℕ, ◌+◌, ◌*◌, ◌≤◌, ℤ, List, length, map, Result, Ok, Err}
+use Rattle.derivative.specs.Derive.{slope_program}
+use Rattle.energy_program.specs.Faults.{Refusal, ◌>>=◌}
+use Rattle.energy_program.specs.Names.{names_from}
+use Rattle.energy_program.specs.Programs.{Trees}
+use Rattle.energy_program.specs.Tree.{Tree, inputs_of, substituted}
+use Rattle.expr.specs.Energy.{trees_in}
+use Rattle.job.specs.Values.{GlobalValue, JobValue}
+use Rattle.kernel_code.specs.declared.instructions.Instr.{Instr}
+use Rattle.kernel_compiler.specs.Code.{compiled}
+use Rattle.integrator.specs.Kernels.{ComputesSlope}
+
+-- the energy with all definitions put in place, the program of its slope, and that program's code
+pub record Energy : Type 0 where
+  pub tree : Tree
+  pub slope : Trees
+  pub code : List Instr
+
+abbrev pub global_names : List GlobalValue → List (List ℕ)
+global_names globals = map (λ g. g.name) globals
+
+-- a program's slope, with so many bits behind the point, and its code
+unfoldable pub energy_from : ℕ → Trees → Result Energy Refusal
+energy_from bits program = do
+  slope ← slope_program bits program
+  code ← compiled bits slope.0 slope.1
+  Ok (record { tree = substituted program.0 program.1; slope = slope; code = code })
+
+-- The program of a job's energy: first its names are judged, then its text.
+unfoldable pub job_program : JobValue → Result Trees Refusal
+job_program j = do
+  variables ← names_from j.parameters (global_names j.globals)
+  trees_in 32 variables j.energy
+
+-- The energy of a job: first its program is judged, then the size of its slope's program, then that of the code.
+unfoldable pub energy_of : JobValue → Result Energy Refusal
+energy_of j = do
+  program ← job_program j
+  energy_from 32 program
+
+-- the code computes the slope, where no input is missing
+abbrev pub IsCompiled : ℕ → (parameters globals : ℕ) → Energy → Type 0
+IsCompiled bits parameters globals energy =
+    (inputs : List ℤ) → inputs_of parameters globals ≤ length inputs → ComputesSlope bits energy.tree energy.slope energy.code inputs

@@ -1,0 +1,96 @@
+//! From a job to its energy and the code of its slope.
+
+ghost use Rattle.std.specs.Prelude.{◌≡◌, length, map, IfOk};
+ghost use Rattle.energy_program.specs.Faults.{Gives};
+ghost use Rattle.energy_program.specs.Names.{names_from};
+ghost use Rattle.energy_program.specs.Variables.{names_of};
+ghost use Rattle.energy_program.specs.Programs.{trees_of};
+ghost use Rattle.job.specs.Views.{job_value};
+ghost use Rattle.integrator.specs.Energies.{IsCompiled, energy_from, energy_of, global_names, job_program};
+ghost use Rattle.integrator.specs.StartViews.{energy_view};
+
+use crate::slope_parts::SlopeParts;
+use derivative::derive;
+use energy_program::{ExprFault, Names, Program};
+use expr::parse;
+use fixed::Frac;
+use job::{Global, Job};
+use kernel_compiler::compile;
+use std::alloc::{AllocError, Allocator};
+
+fn parameter_names<A: Allocator + Copy>(alloc: A, job: &Job<A>) -> Result<Vec<&[u8], A>, AllocError>
+    ensures value { IfOk result (λ v. map (λ p. p.now) v.items ≡ map (λ p. p.items) job.now.parameters.items) }
+{
+    let mut names = Vec::new(alloc);
+    for parameter in &job.parameters {
+        names.push(parameter.as_slice())?;
+    }
+    Ok(names)
+}
+
+fn global_names<A: Allocator + Copy>(
+    alloc: A,
+    globals: &[Global<A>],
+) -> Result<Vec<&[u8], A>, AllocError>
+    ensures value { IfOk result (λ v. map (λ g. g.now) v.items ≡ map (λ g. g.name.items) globals.now) }
+{
+    let mut names = Vec::new(alloc);
+    for global in globals {
+        names.push(global.name.as_slice())?;
+    }
+    Ok(names)
+}
+
+/// The names that a job's energy may use.
+fn names<A: Allocator + Copy>(alloc: A, job: &Job<A>) -> Result<Names<A>, ExprFault<A>>
+    ensures value { Gives names_of result (names_from (job_value job.now).parameters (global_names (job_value job.now).globals)) }
+    ensures parameters { IfOk result (λ n. n.parameters ≡ length job.now.parameters.items) }
+    ensures globals { IfOk result (λ n. n.globals ≡ length job.now.globals.items) }
+{
+    let parameters = parameter_names(alloc, job)?;
+    let globals = global_names(alloc, &job.globals)?;
+    Names::new(alloc, &parameters, &globals)
+}
+
+/// The program of a job's energy.
+#[tactic(auto, unfolding(crate::specs::Energies::job_program))]
+fn program<A: Allocator + Copy>(alloc: A, job: &Job<A>) -> Result<Program<A>, ExprFault<A>>
+    ensures value { Gives trees_of result (job_program (job_value job.now)) }
+    ensures parameters { IfOk result (λ p. p.parameters ≡ length job.now.parameters.items) }
+    ensures globals { IfOk result (λ p. p.globals ≡ length job.now.globals.items) }
+{
+    let names = names(alloc, job)?;
+    parse(alloc, Frac::F32, &job.energy, &names)
+}
+
+/// An energy with the code of its slope.
+#[tactic(auto, unfolding(crate::specs::Energies::energy_from))]
+fn with_slope<A: Allocator + Copy>(
+    alloc: A,
+    energy: Program<A>,
+) -> Result<SlopeParts<A>, ExprFault<A>>
+    ensures value { Gives energy_view result (energy_from 32 (trees_of energy)) }
+    ensures compiled { IfOk result (λ p. IsCompiled 32 energy.parameters energy.globals (energy_view p)) }
+{
+    let slope = derive(alloc, Frac::F32, &energy)?;
+    let code = compile(alloc, Frac::F32, &slope)?;
+    prove!(code.as_slice().len() <= 16_384);
+    Ok(SlopeParts {
+        energy,
+        slope,
+        code,
+    })
+}
+
+/// The energy of a job, and the code of its slope.
+#[tactic(auto, unfolding(crate::specs::Energies::energy_of))]
+pub(crate) fn energy<A: Allocator + Copy>(
+    alloc: A,
+    job: &Job<A>,
+) -> Result<SlopeParts<A>, ExprFault<A>>
+    ensures value { Gives energy_view result (energy_of (job_value job.now)) }
+    ensures compiled { IfOk result (λ p. IsCompiled 32 (length job.now.parameters.items) (length job.now.globals.items) (energy_view p)) }
+{
+    let program = program(alloc, job)?;
+    with_slope(alloc, program)
+}

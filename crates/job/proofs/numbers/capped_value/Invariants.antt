@@ -1,9 +1,0 @@
-use Rattle.std.proofs.Common.{◌≡◌, ◌≤◌, drop, min}
-use Rattle.std.specs.Str.Parse.{digits_value, digits_value_after}
-use Rattle.job.proofs.numbers.capped_value.Given as goal
-
-abbrev pub invariant-loop-b : goal.invariant-loop-b
-invariant-loop-b l = record {
-  small : l.value ≤ l.cap;
-  same : min l.cap (digits_value_after 10 l.value (drop l.b-index l.digits)) ≡ min l.cap (digits_value 10 l.digits);
-}

@@ -1,0 +1,12 @@
+pub mod Powers
+pub mod Place
+pub mod Runs
+pub mod Well
+pub mod Scopes
+pub mod Fine
+pub mod SizeLaws
+pub mod Shallow
+pub mod Patch
+pub mod Limits
+pub mod ProgramLaws
+pub mod WholeLaws

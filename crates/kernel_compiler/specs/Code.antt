@@ -1,0 +1,162 @@
+-- The code of trees and programs.
+use Rattle.std.specs.Prelude.{ℕ, zero, suc, ◌+◌, ◌/◌, ◌%◌, ◌==◌, ◌&&◌, min, max, nat_lt, nat_le, ℤ, pos, negsuc, List, [], ◌∷◌, ◌++◌, length, Bool, true, false, if◌then◌else◌, Result, Ok, Err}
+use Rattle.std.specs.List.{list_all}
+use Rattle.fixed.specs.Arithmetic.{one}
+use Rattle.kernel_code.specs.declared.instructions.BinaryOperation.{BinaryOperation}
+use Rattle.kernel_code.specs.declared.instructions.BinaryOperation.TheVariants as binary
+use Rattle.kernel_code.specs.declared.instructions.UnaryOperation.{UnaryOperation}
+use Rattle.kernel_code.specs.declared.instructions.UnaryOperation.TheVariants as unary
+use Rattle.kernel_code.specs.declared.instructions.Instr.{Instr}
+use Rattle.kernel_code.specs.declared.instructions.Instr.TheVariants.{Push, Input, Keep, Get, Binary, Unary, JumpIfZero, Jump}
+use Rattle.energy_program.specs.declared.trees.Operator.{Operator}
+use Rattle.energy_program.specs.declared.trees.Operator.TheVariants as op
+use Rattle.energy_program.specs.declared.trees.Function.{Function}
+use Rattle.energy_program.specs.declared.trees.Function.TheVariants as f
+use Rattle.energy_program.specs.Faults.{Refusal, TooLarge}
+use Rattle.energy_program.specs.Tree.{Tree}
+use Rattle.energy_program.specs.Tree as t
+use Rattle.energy_program.specs.Uses.{is_marked, marks_of}
+
+-- ---- operations
+
+abbrev pub operation_of : Operator → BinaryOperation
+operation_of op.Add = binary.Add
+operation_of op.Subtract = binary.Subtract
+operation_of op.Multiply = binary.Multiply
+operation_of op.Divide = binary.Divide
+operation_of op.Minimum = binary.Minimum
+operation_of op.Maximum = binary.Maximum
+
+abbrev pub function_of : Function → UnaryOperation
+function_of f.SquareRoot = unary.SquareRoot
+function_of f.Absolute = unary.Absolute
+function_of f.Step = unary.Step
+function_of f.Delta = unary.Delta
+function_of f.Floor = unary.Floor
+function_of f.Ceiling = unary.Ceiling
+
+-- ---- locals
+
+-- that of a power's base
+abbrev pub base : ℕ
+base = 0
+
+-- another for values that change places
+abbrev pub spare : ℕ
+spare = 1
+
+-- that of the definition with this number
+abbrev pub local_of : ℕ → ℕ
+local_of j = j + 2
+
+-- ---- powers, by squaring, of the base
+
+-- `halvings` is the number of halvings that it may make
+unfoldable pub power_code_within : ℕ → ℕ → List Instr
+power_code_within zero n = Get base ∷ []
+power_code_within (suc halvings) n =
+    if n == 1 then Get base ∷ []
+    else if n % 2 == 0 then power_code_within halvings (n / 2) ++ (Unary unary.Square ∷ [])
+    else power_code_within halvings (n / 2) ++ (Unary unary.Square ∷ Get base ∷ Binary binary.Multiply ∷ [])
+
+abbrev pub power_code : ℕ → List Instr
+power_code n = power_code_within n n
+
+-- takes the base from the stack
+abbrev pub raised_code : ℕ → ℤ → List Instr
+raised_code bits (pos n) = Keep base ∷ power_code n
+raised_code bits (negsuc n) = Keep base ∷ Push (one bits) ∷ (power_code (suc n) ++ (Binary binary.Divide ∷ []))
+
+-- ---- how many values stand on the stack at most
+
+abbrev pub raised_need : ℤ → ℕ
+raised_need (pos n) = 2
+raised_need (negsuc n) = 3
+
+-- Two parts are computed in their order, but the second first where it needs more of the stack, and much of it.
+abbrev pub is_second_first : ℕ → ℕ → Bool
+is_second_first first second = nat_lt (max 47 first) second
+
+abbrev pub pair_need : Bool → ℕ → ℕ → ℕ
+pair_need false first second = max first (second + 1)
+pair_need true first second = max second (first + 1)
+
+-- counted up to 65
+abbrev pub need : Tree → ℕ
+need (t.Number z) = 1
+need (t.Input i) = 1
+need (t.Definition j) = 1
+need (t.Negated a) = need a
+need (t.Binary o a b) = min 65 (pair_need (is_second_first (need a) (need b)) (need a) (need b))
+need (t.Applied g a) = need a
+need (t.Power a n) = max (need a) (raised_need n)
+need (t.Select x a b) = max (need x) (max (need a) (need b))
+
+-- ---- trees
+
+-- two values, the second of which was computed first, in their order
+abbrev pub exchange_code : List Instr
+exchange_code = Keep spare ∷ Keep base ∷ Get spare ∷ Get base ∷ []
+
+-- The code of a part is given as a function of the place where it begins.
+abbrev pub pair_code : Bool → BinaryOperation → ℕ → (ℕ → List Instr) → (ℕ → List Instr) → List Instr
+pair_code false o at first second = let one = first at in one ++ (second (at + length one) ++ (Binary o ∷ []))
+pair_code true o at first second = let two = second at in two ++ (first (at + length two) ++ (exchange_code ++ (Binary o ∷ [])))
+
+-- At 0 the condition's jump passes the first branch; the first branch's jump passes the second.
+abbrev pub choice_code : ℕ → List Instr → (ℕ → List Instr) → (ℕ → List Instr) → List Instr
+choice_code at condition first second =
+    let one = at + length condition + 1 in
+    let two = one + length (first one) + 1 in
+    condition ++ (JumpIfZero two ∷ (first one ++ (Jump (two + length (second two)) ∷ second two)))
+
+-- the code of a tree, with so many bits behind the point, that begins at this place
+abbrev pub tree_code : (bits at : ℕ) → Tree → List Instr
+tree_code bits at (t.Number z) = Push z ∷ []
+tree_code bits at (t.Input i) = Input i ∷ []
+tree_code bits at (t.Definition j) = Get (local_of j) ∷ []
+tree_code bits at (t.Negated a) = tree_code bits at a ++ (Unary unary.Negate ∷ [])
+tree_code bits at (t.Binary o a b) = pair_code (is_second_first (need a) (need b)) (operation_of o) at (λ p. tree_code bits p a) (λ p. tree_code bits p b)
+tree_code bits at (t.Applied g a) = tree_code bits at a ++ (Unary (function_of g) ∷ [])
+tree_code bits at (t.Power a n) = tree_code bits at a ++ raised_code bits n
+tree_code bits at (t.Select x a b) = choice_code at (tree_code bits at x) (λ p. tree_code bits p a) (λ p. tree_code bits p b)
+
+-- ---- programs
+
+abbrev pub kept_code : Bool → (bits at j : ℕ) → Tree → List Instr
+kept_code true bits at j d = tree_code bits at d ++ (Keep (local_of j) ∷ [])
+kept_code false bits at j d = []
+
+-- the marked ones of these definitions, which are numbered from j: the last first, each kept in its local
+abbrev pub definitions_code : (bits j : ℕ) → List Bool → List Tree → List Instr
+definitions_code bits j marks [] = []
+definitions_code bits j marks (d ∷ ds) =
+    let later = definitions_code bits (j + 1) marks ds in
+    later ++ kept_code (is_marked marks j) bits (length later) j d
+
+-- the definitions that the body needs, then the body
+unfoldable pub program_code : ℕ → Tree → List Tree → List Instr
+program_code bits body definitions =
+    let first = definitions_code bits 0 (marks_of body definitions) definitions in
+    first ++ tree_code bits (length first) body
+
+-- ---- limits
+
+abbrev pub has_local : Instr → Bool
+has_local (Push v) = true
+has_local (Input k) = true
+has_local (Keep k) = nat_lt k 256
+has_local (Get k) = nat_lt k 256
+has_local (Binary o) = true
+has_local (Unary o) = true
+has_local (JumpIfZero to) = true
+has_local (Jump to) = true
+
+-- no more than 16,384 instructions, and no more than 256 locals
+unfoldable pub is_within_limits : List Instr → Bool
+is_within_limits code = nat_le (length code) 16384 && list_all has_local code
+
+-- the program's code, if it is within the limits
+abbrev pub compiled : ℕ → Tree → List Tree → Result (List Instr) Refusal
+compiled bits body definitions =
+    if is_within_limits (program_code bits body definitions) then Ok (program_code bits body definitions) else Err TooLarge

@@ -1,0 +1,44 @@
+-- What the code of a program is to do.
+use Rattle.std.specs.Prelude.{◌≡◌, ℕ, ◌<◌, ◌≤◌, ◌⊎◌, ℤ, List, length, Some, None, IsSome, Result, Ok, Err, slice_get}
+use Rattle.kernel_code.specs.declared.instructions.Instr.{Instr}
+use Rattle.kernel_code.specs.declared.instructions.Instr.TheVariants.{Keep, Get}
+use Rattle.kernel_code.specs.declared.traps.Trap.{Trap}
+use Rattle.kernel_code.specs.Machine.{Ends, IsOperation}
+use Rattle.energy_program.specs.declared.faults.ExprFault.{ExprFault}
+use Rattle.energy_program.specs.declared.faults.ExprFault.TheVariants as fault
+use Rattle.energy_program.specs.Tree.{Tree, meaning, substituted}
+use Rattle.energy_program.specs.Value.{value_of}
+use Rattle.energy_program.specs.Uses.{Needs}
+
+-- a definition that the body uses, directly or through another, has no value
+pub record LacksDefinition (bits : ℕ) (body : Tree) (definitions : List Tree) (inputs : List ℤ) : Type 0 where
+  pub number : ℕ
+  pub needed : Needs body definitions number
+  pub lacking : value_of bits inputs (meaning 0 definitions number) ≡ None
+
+-- what a run of the code on these inputs comes to, with so many bits behind the point
+pub record Computes (bits : ℕ) (body : Tree) (definitions : List Tree) (code : List Instr) (inputs : List ℤ) : Type 0 where
+  -- a value is the tree's
+  pub value : (n : ℕ) (v : ℤ) → Ends bits code inputs n (Ok v) → value_of bits inputs (substituted body definitions) ≡ Some v
+  -- where the tree, and each definition that the body uses, has a value, the run ends with the tree's
+  pub comes : (v : ℤ) → value_of bits inputs (substituted body definitions) ≡ Some v
+      → ((k : ℕ) → Needs body definitions k → IsSome (value_of bits inputs (meaning 0 definitions k)))
+      → (n : ℕ) × Ends bits code inputs n (Ok v)
+  -- a trap is the fault of an operation, where the tree, or such a definition, has no value
+  pub fault : (n : ℕ) (trap : Trap) → Ends bits code inputs n (Err trap)
+      → IsOperation trap.kind × ((value_of bits inputs (substituted body definitions) ≡ None) ⊎ LacksDefinition bits body definitions inputs)
+  -- each run ends
+  pub ends : (n : ℕ) × (outcome : Result ℤ Trap) × Ends bits code inputs n outcome
+
+-- ---- refusals
+
+abbrev pub IsTooLarge : {A X : Type 0} → Result X (ExprFault A) → Type 0
+IsTooLarge result = result ≡ Err fault.TooLarge
+
+-- the instruction at this place names this local
+abbrev pub NamesLocal : List Instr → (pc k : ℕ) → Type 0
+NamesLocal code pc k = (slice_get code pc ≡ Some (Keep k)) ⊎ (slice_get code pc ≡ Some (Get k))
+
+-- there are more than 16,384 instructions, or one names a local that isn't one of the 256
+abbrev pub PassesLimit : List Instr → Type 0
+PassesLimit code = (16384 < length code) ⊎ ((pc : ℕ) × (k : ℕ) × NamesLocal code pc k × (256 ≤ k))

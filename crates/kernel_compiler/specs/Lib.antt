@@ -1,0 +1,4 @@
+pub mod Parts
+pub mod Code
+pub mod Sizes
+pub mod Compiled

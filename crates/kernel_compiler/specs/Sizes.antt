@@ -1,0 +1,81 @@
+-- How many instructions a code has, and what a code asks for.
+use Rattle.std.specs.Prelude.{◌≡◌, ℕ, suc, ◌+◌, ◌<◌, ◌≤◌, ℤ, pos, negsuc, List, [], ◌∷◌, length, Bool, true, false, Option, Some, None, IsTrue}
+use Rattle.energy_program.specs.Tree.{Tree, is_exponent}
+use Rattle.energy_program.specs.Tree as t
+use Rattle.kernel_compiler.specs.declared.sizes.Extent.{Extent}
+use Rattle.energy_program.specs.Uses.{is_marked}
+use Rattle.kernel_compiler.specs.Code.{power_code, is_second_first, need}
+
+abbrev pub raised_size : ℤ → ℕ
+raised_size (pos n) = length (power_code n) + 1
+raised_size (negsuc n) = length (power_code (suc n)) + 3
+
+abbrev pub pair_size : Bool → ℕ
+pair_size false = 1
+pair_size true = 5
+
+-- of a tree's code
+abbrev pub size : Tree → ℕ
+size (t.Number z) = 1
+size (t.Input i) = 1
+size (t.Definition j) = 1
+size (t.Negated a) = size a + 1
+size (t.Binary o a b) = size a + size b + pair_size (is_second_first (need a) (need b))
+size (t.Applied g a) = size a + 1
+size (t.Power a n) = size a + raised_size n
+size (t.Select x a b) = size x + 1 + size a + 1 + size b
+
+abbrev pub kept_size : Bool → Tree → ℕ
+kept_size true d = size d + 1
+kept_size false d = 0
+
+-- of the code of the marked ones of these definitions, which are numbered from j
+abbrev pub definitions_size : ℕ → List Bool → List Tree → ℕ
+definitions_size j marks [] = 0
+definitions_size j marks (d ∷ ds) = definitions_size (j + 1) marks ds + kept_size (is_marked marks j) d
+
+-- what is left of some room for instructions
+abbrev pub Left : Option ℕ → (room taken : ℕ) → Type 0
+Left (Some rest) room taken = rest + taken ≡ room
+Left None room taken = room < taken
+
+-- the same, with what is needed of the stack
+abbrev pub Taken : Option Extent → (room own need : ℕ) → Type 0
+Taken (Some m) room own need = (m.rest + own ≡ room) × (m.need ≡ need)
+Taken None room own need = room < own
+
+-- the same for a tree's code
+abbrev pub Measured : Option Extent → (room : ℕ) → Tree → Type 0
+Measured (Some m) room e = (m.rest + size e ≡ room) × (m.need ≡ need e) × (m.need ≤ 65)
+Measured None room e = room < size e
+
+-- powers are of exponents that there are
+abbrev pub HasPowers : Tree → Type 0
+HasPowers (t.Number z) = Unit {0}
+HasPowers (t.Input i) = Unit {0}
+HasPowers (t.Definition j) = Unit {0}
+HasPowers (t.Negated a) = HasPowers a
+HasPowers (t.Binary o a b) = HasPowers a × HasPowers b
+HasPowers (t.Applied g a) = HasPowers a
+HasPowers (t.Power a n) = IsTrue (is_exponent n) × HasPowers a
+HasPowers (t.Select x a b) = HasPowers x × HasPowers a × HasPowers b
+
+abbrev pub AllHavePowers : List Tree → Type 0
+AllHavePowers [] = Unit {0}
+AllHavePowers (d ∷ ds) = HasPowers d × AllHavePowers ds
+
+-- what an instruction can hold: inputs to 32, locals to 255
+abbrev pub IsEmittable : Tree → Type 0
+IsEmittable (t.Number z) = Unit {0}
+IsEmittable (t.Input i) = i ≤ 32
+IsEmittable (t.Definition j) = j < 254
+IsEmittable (t.Negated a) = IsEmittable a
+IsEmittable (t.Binary o a b) = IsEmittable a × IsEmittable b
+IsEmittable (t.Applied g a) = IsEmittable a
+IsEmittable (t.Power a n) = IsTrue (is_exponent n) × IsEmittable a
+IsEmittable (t.Select x a b) = IsEmittable x × IsEmittable a × IsEmittable b
+
+-- each marked one of these definitions, which are numbered from j, has a local and can be emitted
+abbrev pub AllEmittable : ℕ → List Bool → List Tree → Type 0
+AllEmittable j marks [] = Unit {0}
+AllEmittable j marks (d ∷ ds) = (is_marked marks j ≡ true → (j < 254) × IsEmittable d) × AllEmittable (j + 1) marks ds

@@ -1,0 +1,219 @@
+//! Emitting code, for which there is room.
+
+ghost use Rattle.std.specs.Prelude.{◌≡◌, ℕ, ◌≤◌, ◌<◌, ◌+◌, [], ◌∷◌, ◌++◌, OnOk, IfOk, IsTrue, length, map};
+ghost use Rattle.fixed.specs.Fractions.{bits_of};
+ghost use Rattle.energy_program.specs.Tree as t;
+ghost use Rattle.energy_program.specs.Tree.{tree_of, is_exponent};
+ghost use Rattle.kernel_compiler.specs.Code.{operation_of, function_of, exchange_code, power_code, raised_code, tree_code, definitions_code};
+ghost use Rattle.kernel_compiler.specs.Sizes.{raised_size, size, definitions_size, IsEmittable, AllEmittable};
+
+use crate::sizes::{is_second_first, need};
+use energy_program::{Expr, Function, Operator};
+use fixed::{Frac, Fx};
+use kernel_code::{BinaryOperation, InputNumber, Instr, UnaryOperation};
+use std::alloc::{AllocError, Allocator};
+
+/// The local of a power's base.
+const BASE: u8 = 0;
+
+/// A local for a value that changes places with another.
+const SPARE: u8 = 1;
+
+/// The local of the first definition.
+const FIRST: usize = 2;
+
+fn operation(operator: Operator) -> BinaryOperation
+    ensures { result ≡ operation_of operator }
+{
+    match operator {
+        Operator::Add => BinaryOperation::Add,
+        Operator::Subtract => BinaryOperation::Subtract,
+        Operator::Multiply => BinaryOperation::Multiply,
+        Operator::Divide => BinaryOperation::Divide,
+        Operator::Minimum => BinaryOperation::Minimum,
+        Operator::Maximum => BinaryOperation::Maximum,
+    }
+}
+
+fn function(function: Function) -> UnaryOperation
+    ensures { result ≡ function_of function }
+{
+    match function {
+        Function::SquareRoot => UnaryOperation::SquareRoot,
+        Function::Absolute => UnaryOperation::Absolute,
+        Function::Step => UnaryOperation::Step,
+        Function::Delta => UnaryOperation::Delta,
+        Function::Floor => UnaryOperation::Floor,
+        Function::Ceiling => UnaryOperation::Ceiling,
+    }
+}
+
+/// One more instruction.
+fn put<A: Allocator>(code: &mut Vec<Instr, A>, instr: Instr) -> Result<(), AllocError>
+    ensures items { OnOk result (code.new.items ≡ code.old.items ++ instr ∷ []) }
+    ensures len { OnOk result (length code.new.items ≡ length code.old.items + 1) }
+{
+    code.push(instr)?;
+    Ok(())
+}
+
+/// The two values on the stack change places.
+fn put_exchange<A: Allocator>(code: &mut Vec<Instr, A>) -> Result<(), AllocError>
+    ensures items { OnOk result (code.new.items ≡ code.old.items ++ exchange_code) }
+    ensures len { OnOk result (length code.new.items ≡ length code.old.items + 4) }
+{
+    put(code, Instr::Keep(SPARE))?;
+    put(code, Instr::Keep(BASE))?;
+    put(code, Instr::Get(SPARE))?;
+    put(code, Instr::Get(BASE))
+}
+
+/// A power of the base, by squaring.
+#[tactic(auto, using(crate::proofs::Powers::power_one, crate::proofs::Powers::power_even, crate::proofs::Powers::power_odd, crate::proofs::Powers::size_one, crate::proofs::Powers::size_even, crate::proofs::Powers::size_odd))]
+fn put_power<A: Allocator>(code: &mut Vec<Instr, A>, exponent: u32) -> Result<(), AllocError>
+    requires { 0 < exponent }
+    ensures items { OnOk result (code.new.items ≡ code.old.items ++ power_code exponent) }
+    ensures len { OnOk result (length code.new.items ≡ length code.old.items + length (power_code exponent)) }
+{
+    if exponent == 1 {
+        return put(code, Instr::Get(BASE));
+    }
+    put_power(code, exponent / 2)?;
+    put(code, Instr::Unary(UnaryOperation::Square))?;
+    if exponent % 2 != 0 {
+        put(code, Instr::Get(BASE))?;
+        put(code, Instr::Binary(BinaryOperation::Multiply))?;
+    }
+    Ok(())
+}
+
+/// The value on the stack is raised to a power. One below 0 is one over the power.
+fn put_raised<A: Allocator>(
+    code: &mut Vec<Instr, A>,
+    frac: Frac,
+    exponent: i8,
+) -> Result<(), AllocError>
+    requires { IsTrue (is_exponent exponent) }
+    ensures items { OnOk result (code.new.items ≡ code.old.items ++ raised_code (bits_of frac) exponent) }
+    ensures len { OnOk result (length code.new.items ≡ length code.old.items + raised_size exponent) }
+{
+    put(code, Instr::Keep(BASE))?;
+    let magnitude = u32::from(exponent.unsigned_abs());
+    if exponent > 0 {
+        return put_power(code, magnitude);
+    }
+    put(code, Instr::Push(Fx::from_raw(frac.one())))?;
+    put_power(code, magnitude)?;
+    put(code, Instr::Binary(BinaryOperation::Divide))
+}
+
+/// The code of an expression.
+#[cycle(emit)]
+pub(crate) fn emit<A: Allocator>(
+    code: &mut Vec<Instr, A>,
+    frac: Frac,
+    e: &Expr<A>,
+) -> Result<(), AllocError>
+    requires room { length code.old.items + size (tree_of e.now) ≤ 16384 }
+    requires operands { IsEmittable (tree_of e.now) }
+    ensures items { OnOk result (code.new.items ≡ code.old.items ++ tree_code (bits_of frac) (length code.old.items) (tree_of e.now)) }
+    ensures len { OnOk result (length code.new.items ≡ length code.old.items + size (tree_of e.now)) }
+{
+    match e {
+        Expr::Number(number) => put(code, Instr::Push(*number)),
+        Expr::Input(number) => put(code, Instr::Input(InputNumber::new(*number as u8))),
+        Expr::Definition(number) => put(code, Instr::Get((*number as usize + FIRST) as u8)),
+        Expr::Negated(a) => {
+            emit(code, frac, a)?;
+            put(code, Instr::Unary(UnaryOperation::Negate))
+        }
+        Expr::Binary(operator, a, b) => emit_pair(code, frac, *operator, a, b),
+        Expr::Applied(name, a) => {
+            emit(code, frac, a)?;
+            put(code, Instr::Unary(function(*name)))
+        }
+        Expr::Power(a, exponent) => {
+            emit(code, frac, a)?;
+            put_raised(code, frac, *exponent)
+        }
+        Expr::Select(condition, a, b) => emit_choice(code, frac, condition, a, b),
+    }
+}
+
+/// The code of an operation on two parts.
+#[cycle(emit)]
+fn emit_pair<A: Allocator>(
+    code: &mut Vec<Instr, A>,
+    frac: Frac,
+    operator: Operator,
+    a: &Expr<A>,
+    b: &Expr<A>,
+) -> Result<(), AllocError>
+    requires room { length code.old.items + size (t.Binary operator (tree_of a.now) (tree_of b.now)) ≤ 16384 }
+    requires operands { IsEmittable (t.Binary operator (tree_of a.now) (tree_of b.now)) }
+    ensures items { OnOk result (code.new.items ≡ code.old.items ++ tree_code (bits_of frac) (length code.old.items) (t.Binary operator (tree_of a.now) (tree_of b.now))) }
+    ensures len { OnOk result (length code.new.items ≡ length code.old.items + size (t.Binary operator (tree_of a.now) (tree_of b.now))) }
+{
+    if is_second_first(need(a), need(b)) {
+        emit(code, frac, b)?;
+        emit(code, frac, a)?;
+        put_exchange(code)?;
+    } else {
+        emit(code, frac, a)?;
+        emit(code, frac, b)?;
+    }
+    put(code, Instr::Binary(operation(operator)))
+}
+
+/// The code of a choice between two branches. Its jumps are written when their targets are known.
+#[cycle(emit)]
+fn emit_choice<A: Allocator>(
+    code: &mut Vec<Instr, A>,
+    frac: Frac,
+    condition: &Expr<A>,
+    a: &Expr<A>,
+    b: &Expr<A>,
+) -> Result<(), AllocError>
+    requires room { length code.old.items + size (t.Select (tree_of condition.now) (tree_of a.now) (tree_of b.now)) ≤ 16384 }
+    requires operands { IsEmittable (t.Select (tree_of condition.now) (tree_of a.now) (tree_of b.now)) }
+    ensures items { OnOk result (code.new.items ≡ code.old.items ++ tree_code (bits_of frac) (length code.old.items) (t.Select (tree_of condition.now) (tree_of a.now) (tree_of b.now))) }
+    ensures len { OnOk result (length code.new.items ≡ length code.old.items + size (t.Select (tree_of condition.now) (tree_of a.now) (tree_of b.now))) }
+{
+    emit(code, frac, condition)?;
+    let condition_end = code.len();
+    put(code, Instr::JumpIfZero(0))?;
+    emit(code, frac, a)?;
+    let first_end = code.len();
+    put(code, Instr::Jump(0))?;
+    let second = code.len();
+    emit(code, frac, b)?;
+    code[condition_end] = Instr::JumpIfZero(second as u32);
+    code[first_end] = Instr::Jump(code.len() as u32);
+    Ok(())
+}
+
+/// The code of the marked ones of these definitions, the last first, each kept in its local. The first of these has
+/// this number.
+pub(crate) fn emit_definitions<A: Allocator>(
+    code: &mut Vec<Instr, A>,
+    frac: Frac,
+    marks: &[bool],
+    number: usize,
+    definitions: &[Expr<A>],
+) -> Result<(), AllocError>
+    requires from_start { code.old.items ≡ [] }
+    requires within { number + length definitions.now ≤ length marks.now }
+    requires room { definitions_size number marks.now (map tree_of definitions.now) ≤ 16384 }
+    requires operands { AllEmittable number marks.now (map tree_of definitions.now) }
+    ensures items { OnOk result (code.new.items ≡ definitions_code (bits_of frac) number marks.now (map tree_of definitions.now)) }
+    ensures len { OnOk result (length code.new.items ≡ definitions_size number marks.now (map tree_of definitions.now)) }
+{
+    if let [first, later @ ..] = definitions {
+        emit_definitions(code, frac, marks, number + 1, later)?;
+        if marks[number] {
+            emit(code, frac, first)?;
+            put(code, Instr::Keep((number + FIRST) as u8))?;
+        }
+    }
+    Ok(())
+}
