@@ -1,0 +1,56 @@
+-- From values at all distances to a certificate.
+use Rattle.std.proofs.Common.{◌≡◌, ℕ, zero, suc, ◌≤◌, List, [], ◌∷◌, length, Option, Some, None, Ok, Err, refl, ap, subst, arith, ℤ, pos, ◌-ℤ◌}
+use Rattle.std.specs.Prelude.{slice_get, option_map}
+use Rattle.fixed.specs.Fractions.{bits_of}
+use Rattle.kernel_code.specs.declared.instructions.Instr.{Instr}
+use Rattle.kernel_code.specs.Code.{IsCode}
+use Rattle.kernel_code.specs.Machine.{State, Turn, act, end_of, Ends}
+use Rattle.kernel_code.specs.Paths.{IsPath, IsLongest, MissesNothing}
+use Rattle.kernel_code.specs.Tables.{Table, inputs_of}
+use Rattle.kernel_code.proofs.PathLaws.{set_of, run_is_path, path_within}
+use Rattle.kernel_paths.specs.Misfits.{DoesWell}
+use Rattle.verifier.specs.declared.faults.VerifyFault.{VerifyFault}
+use Rattle.verifier.specs.declared.faults.VerifyFault.TheVariants.{Malformed, DepthOver64, Fault, Undecided, Memory}
+use Rattle.verifier.specs.Safety.{IsSafe, IsCertified, IsFound, IsRefusal, input_count}
+
+at_end : (code : List Instr) (pc : ℕ) → pc ≤ length code → slice_get code pc ≡ None → pc ≡ length code
+at_end [] pc h e = omega (arith, h)
+at_end (i ∷ is) zero h e = absurd cc
+at_end (i ∷ is) (suc pc) h e = ap suc (at_end is pc (omega (arith, h)) e)
+
+no_turn : (s : State) (t : Turn) (v : ℤ) → end_of s (Some t) ≡ Some (Ok v) → ⊥
+no_turn s (Ok next) v e = absurd cc
+no_turn s (Err kind) v e = absurd cc
+
+-- a run that gives a value has at most as many instructions as the longest path
+pub value_few : (bits : ℕ) (code : List Instr) (inputs : List ℤ) (n steps : ℕ) (v : ℤ) → IsCode code → IsLongest code steps → Ends bits code inputs n (Ok v) → n ≤ steps
+value_few bits code inputs n steps v is longest e = at (slice_get code s.pc) refl e.over
+  where
+    s : State
+    s = e.state
+
+    path : IsPath code n s.pc (length s.stack) (set_of s.locals)
+    path = run_is_path bits code inputs n s e.reached
+
+    at : (o : Option Instr) → slice_get code s.pc ≡ o → end_of s (option_map (λ i. act bits i inputs s.pc s.stack s.locals) o) ≡ Some (Ok v) → n ≤ steps
+    at None here over =
+        let last : s.pc ≡ length code = at_end code s.pc (path_within code is.forward path) here in
+        longest.most n (length s.stack) (set_of s.locals) (subst (λ (pc : ℕ). IsPath code n pc (length s.stack) (set_of s.locals)) last path)
+    at (Some i) here over = absurd (no_turn s (act bits i inputs s.pc s.stack s.locals) v over)
+
+pub certified : (code : List Instr) (t : Table) (core cutoff : ℤ) (inputs steps bound : ℕ) → IsCode code → DoesWell code inputs steps → inputs ≡ input_count t → IsSafe code t (length t.rows) core cutoff bound → IsCertified code t core cutoff steps bound
+certified code t core cutoff inputs steps bound is d e h =
+    record {
+      each = λ a b r la lb low high.
+          let g = ((h.each a la).each b lb).each r low high in
+          record { value = g.value; n = g.n; ends = g.ends; few = value_few (bits_of t.frac) code (inputs_of t a b r) g.n steps g.value is d.longest g.ends; small = g.small };
+      longest = d.longest;
+      misses = subst (λ (n : ℕ). MissesNothing code n) e d.misses;
+    }
+
+pub refused : (code : List Instr) (t : Table) (core cutoff : ℤ) (limit : ℕ) (f : VerifyFault) → IsFound code t core (cutoff -ℤ pos 1) limit f → IsRefusal code t core cutoff limit f
+refused code t core cutoff limit (Malformed pc) h = absurd h
+refused code t core cutoff limit (DepthOver64 pc) h = absurd h
+refused code t core cutoff limit (Fault a b r trap) h = h
+refused code t core cutoff limit (Undecided a b lo hi trap) h = h
+refused code t core cutoff limit Memory h = tt

@@ -1,0 +1,15 @@
+use Rattle.std.proofs.Common.{sym, ap, ◌∙◌, length}
+use Rattle.std.proofs.lemmas.List.{with_items_is}
+use Rattle.verifier.proofs.Joining.{frame_widens_so}
+use Rattle.verifier.proofs.frames.Frame.widen.Goals as goal
+
+pub returns : goal.returns
+returns g c =
+    let spans = c.as_mut_slice.ensures.value in
+    let locals = c.as_mut_slice-2.ensures.value in
+    let e = with_items_is c.self.inside.stack c.widen_spans.new.spans (c.widen_spans.auto.spans ∙ ap length spans ∙ sym c.self.inside.stack.ok.0) in
+    let f = with_items_is c.self.inside.locals c.widen_locals.new.locals (c.widen_locals.auto.locals ∙ ap length locals ∙ sym c.self.inside.locals.ok.0) in
+    rw (e, f)
+    (frame_widens_so c.args.self.now c.args.other.now c.self.inside.stack.items _ c.other.inside.stack.items _ c.widen_spans.new.spans c.self.inside.locals.items _ c.other.inside.locals.items _ c.widen_locals.new.locals (sym c.self.view_is) (sym c.other.view_is)
+    spans c.as_slice.ensures.value locals c.as_slice-2.ensures.value
+    c.widen_spans.ensures c.widen_locals.ensures)

@@ -1,0 +1,130 @@
+-- Frames: spans that the stacks and locals of runs at one place lie in.
+use Rattle.std.specs.Prelude.{◌≡◌, ℕ, ◌+◌, ◌<◌, List, [], ◌∷◌, length, ℤ, Option, Some, None, slice_index_or, slice_get, slice_set, replicate, Ok}
+use Rattle.interval_domain.specs.declared.span.Span.{Span}
+use Rattle.interval_domain.specs.Spans.{IsMember, IsWithin, IsLeastSpan, IsOutcome, IsOutcomeOfTwo}
+use Rattle.kernel_code.specs.declared.instructions.Instr.{Instr}
+use Rattle.kernel_code.specs.declared.instructions.Instr.TheVariants.{Push, Input, Keep, Get, Binary, Unary, JumpIfZero, Jump}
+use Rattle.kernel_code.specs.declared.instructions.BinaryOperation.{BinaryOperation}
+use Rattle.kernel_code.specs.declared.instructions.UnaryOperation.{UnaryOperation}
+use Rattle.kernel_code.specs.Machine.{act, binary_of, unary_of}
+
+-- a span for each value on the stack, its top first, and for each local that is set on all paths
+pub record SpanFrame : Type 0 where
+  pub stack : List Span
+  pub locals : List (Option Span)
+
+-- ---- members
+
+-- each number is in the span at its place
+abbrev pub AreMembers : List ℤ → List Span → Type 0
+AreMembers [] [] = Unit {0}
+AreMembers [] (s ∷ spans) = ⊥
+AreMembers (x ∷ xs) [] = ⊥
+AreMembers (x ∷ xs) (s ∷ spans) = IsMember x s × AreMembers xs spans
+
+-- each span holds the input of its number
+pub record AreInputsOf (xs : List ℤ) (spans : List Span) : Type 0 where
+  pub each : (k : ℕ) (s : Span) → slice_get spans k ≡ Some s → (x : ℤ) × (slice_get xs k ≡ Some x) × IsMember x s
+
+-- a local that has a span is set, to one of its members
+abbrev pub IsLocalOf : Option ℤ → Option Span → Type 0
+IsLocalOf o None = Unit {0}
+IsLocalOf None (Some s) = ⊥
+IsLocalOf (Some x) (Some s) = IsMember x s
+
+pub record AreLocalsOf (locals : List (Option ℤ)) (spans : List (Option Span)) : Type 0 where
+  pub long : length locals ≡ 256
+  pub each : (k : ℕ) → IsLocalOf (slice_index_or locals k None) (slice_index_or spans k None)
+
+-- the stack and the locals are within the frame
+pub record AreIn (frame : SpanFrame) (stack : List ℤ) (locals : List (Option ℤ)) : Type 0 where
+  pub on_stack : AreMembers stack frame.stack
+  pub set : AreLocalsOf locals frame.locals
+
+-- nothing on the stack, and no local set
+pub record IsUnset (frame : SpanFrame) : Type 0 where
+  pub stack : frame.stack ≡ []
+  pub locals : (n : ℕ) × (frame.locals ≡ replicate n None)
+
+-- ---- frames joined
+
+-- whatever is in one of two lists of spans is in a third
+pub record WidensSpans (old other new : List Span) : Type 0 where
+  pub mine : (xs : List ℤ) → AreMembers xs old → AreMembers xs new
+  pub others : (xs : List ℤ) → AreMembers xs other → AreMembers xs new
+
+-- the first k spans of now hold those of other too
+pub record WidensFirst (k : ℕ) (old other now : List Span) : Type 0 where
+  pub long : length now ≡ length other
+  pub mine : (xs : List ℤ) → AreMembers xs old → AreMembers xs now
+  pub first : (j : ℕ) (s t : Span) → j < k → slice_get other j ≡ Some s → slice_get now j ≡ Some t → IsWithin s t
+
+-- the same of locals
+pub record WidensLocal (old other new : Option Span) : Type 0 where
+  pub mine : (o : Option ℤ) → IsLocalOf o old → IsLocalOf o new
+  pub others : (o : Option ℤ) → IsLocalOf o other → IsLocalOf o new
+
+pub record WidensLocals (old other new : List (Option Span)) : Type 0 where
+  pub each : (k : ℕ) → WidensLocal (slice_index_or old k None) (slice_index_or other k None) (slice_index_or new k None)
+
+pub record WidensFirstLocals (k : ℕ) (old other now : List (Option Span)) : Type 0 where
+  pub long : length now ≡ length other
+  pub mine : (j : ℕ) (o : Option ℤ) → IsLocalOf o (slice_index_or old j None) → IsLocalOf o (slice_index_or now j None)
+  pub first : (j : ℕ) (o : Option ℤ) → j < k → IsLocalOf o (slice_index_or other j None) → IsLocalOf o (slice_index_or now j None)
+
+-- whatever is in one of two frames is in a third
+pub record Widens (old other new : SpanFrame) : Type 0 where
+  pub mine : (ys : List ℤ) (ls : List (Option ℤ)) → AreIn old ys ls → AreIn new ys ls
+  pub others : (ys : List ℤ) (ls : List (Option ℤ)) → AreIn other ys ls → AreIn new ys ls
+
+-- ---- changes of a frame
+
+pub record Pushes (s : Span) (old new : SpanFrame) : Type 0 where
+  pub room : length old.stack < 64
+  pub stack : new.stack ≡ s ∷ old.stack
+  pub locals : new.locals ≡ old.locals
+
+pub record Pops (s : Span) (old new : SpanFrame) : Type 0 where
+  pub stack : old.stack ≡ s ∷ new.stack
+  pub locals : new.locals ≡ old.locals
+
+pub record Keeps (k : ℕ) (s : Span) (old new : SpanFrame) : Type 0 where
+  pub stack : new.stack ≡ old.stack
+  pub locals : new.locals ≡ slice_set old.locals k (Some s)
+
+pub record AppliesBinary (bits : ℕ) (op : BinaryOperation) (old new : SpanFrame) : Type 0 where
+  pub a : Span
+  pub b : Span
+  pub s : Span
+  pub rest : List Span
+  pub taken : old.stack ≡ b ∷ (a ∷ rest)
+  pub least : IsLeastSpan (IsOutcomeOfTwo (binary_of bits op) a b) s
+  pub given : new.stack ≡ s ∷ rest
+  pub locals : new.locals ≡ old.locals
+
+pub record AppliesUnary (bits : ℕ) (op : UnaryOperation) (old new : SpanFrame) : Type 0 where
+  pub a : Span
+  pub s : Span
+  pub rest : List Span
+  pub taken : old.stack ≡ a ∷ rest
+  pub least : IsLeastSpan (IsOutcome (unary_of bits op) a) s
+  pub given : new.stack ≡ s ∷ rest
+  pub locals : new.locals ≡ old.locals
+
+-- ---- one instruction
+
+-- it goes on to the next place
+abbrev pub IsPlain : Instr → Type 0
+IsPlain (Push v) = Unit {0}
+IsPlain (Input k) = Unit {0}
+IsPlain (Keep k) = Unit {0}
+IsPlain (Get k) = Unit {0}
+IsPlain (Binary op) = Unit {0}
+IsPlain (Unary op) = Unit {0}
+IsPlain (JumpIfZero to) = ⊥
+IsPlain (Jump to) = ⊥
+
+-- where inputs, stack and locals are within the old frame, the instruction goes on to the next place, within the new one
+pub record Follows (bits : ℕ) (i : Instr) (inputs : List Span) (old new : SpanFrame) : Type 0 where
+  pub leads : (xs : List ℤ) (pc : ℕ) (ys : List ℤ) (ls : List (Option ℤ)) → AreInputsOf xs inputs → AreIn old ys ls →
+      (ys' : List ℤ) × (ls' : List (Option ℤ)) × (act bits i xs pc ys ls ≡ Ok (record { pc = pc + 1; stack = ys'; locals = ls' })) × AreIn new ys' ls'

@@ -1,0 +1,17 @@
+-- What accepted code is seen as.
+use Rattle.std.specs.Prelude.{ℕ, List, ℤ}
+use Rattle.kernel_code.specs.declared.instructions.Instr.{Instr}
+use Rattle.kernel_code.specs.Tables.{Table}
+use Rattle.verifier.specs.Safety.{IsCertified}
+
+-- the code, with the table and the distances that it was accepted for, and what is promised of it
+pub record Kernel : Type 0 where
+  pub code : List Instr
+  pub table : Table
+  pub core : ℤ
+  pub cutoff : ℤ
+  pub steps : ℕ
+  pub bound : ℕ
+
+abbrev pub IsKernel : Kernel → Type 0
+IsKernel k = IsCertified k.code k.table k.core k.cutoff k.steps k.bound

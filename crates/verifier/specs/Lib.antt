@@ -1,0 +1,4 @@
+pub mod Frames
+pub mod Slices
+pub mod Safety
+pub mod Kernels

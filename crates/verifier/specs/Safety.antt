@@ -1,0 +1,98 @@
+-- What it means that code never goes wrong, and what its refusals say.
+use Rattle.std.specs.Prelude.{ℕ, ◌+◌, ◌<◌, ◌≤◌, List, length, ℤ, pos, ◌≤ℤ◌, ◌<ℤ◌, ◌+ℤ◌, ◌-ℤ◌, ◌*◌, Ok, Err, unsigned_abs}
+use Rattle.fixed.specs.Fractions.{bits_of}
+use Rattle.kernel_code.specs.declared.instructions.Instr.{Instr}
+use Rattle.kernel_code.specs.declared.traps.Trap.{Trap}
+use Rattle.kernel_code.specs.Machine.{Ends}
+use Rattle.kernel_code.specs.Tables.{Table, inputs_of}
+use Rattle.kernel_code.specs.Paths.{IsLongest, MissesNothing}
+use Rattle.kernel_paths.specs.Misfits.{GoesWrong, Overfills}
+use Rattle.verifier.specs.declared.faults.VerifyFault.{VerifyFault}
+use Rattle.verifier.specs.declared.faults.VerifyFault.TheVariants.{Malformed, DepthOver64, Fault, Undecided, Memory}
+
+-- ---- values
+
+-- on the inputs of these types at this distance the code gives a value of at most this magnitude
+pub record GivesWithin (code : List Instr) (t : Table) (a b : ℕ) (r : ℤ) (bound : ℕ) : Type 0 where
+  pub value : ℤ
+  pub n : ℕ
+  pub ends : Ends (bits_of t.frac) code (inputs_of t a b r) n (Ok value)
+  pub small : unsigned_abs value ≤ bound
+
+-- so it does at each distance from one to before another
+pub record IsSafeFrom (code : List Instr) (t : Table) (a b : ℕ) (core cutoff : ℤ) (bound : ℕ) : Type 0 where
+  pub each : (r : ℤ) → core ≤ℤ r → r <ℤ cutoff → GivesWithin code t a b r bound
+
+-- ---- refusals
+
+-- the machine traps so at this distance
+pub record Traps (code : List Instr) (t : Table) (from last : ℤ) (a b : ℕ) (r : ℤ) (trap : Trap) : Type 0 where
+  pub first : a < length t.rows
+  pub second : b < length t.rows
+  pub low : from ≤ℤ r
+  pub high : r ≤ℤ last
+  pub n : ℕ
+  pub ends : Ends (bits_of t.frac) code (inputs_of t a b r) n (Err trap)
+
+-- the machine gives a value
+pub record Gives (code : List Instr) (t : Table) (a b : ℕ) (r : ℤ) : Type 0 where
+  pub value : ℤ
+  pub n : ℕ
+  pub ends : Ends (bits_of t.frac) code (inputs_of t a b r) n (Ok value)
+
+-- so it does at both distances, which are not one, and there are more distances than the limit
+pub record IsUndecided (code : List Instr) (t : Table) (from last : ℤ) (limit : ℕ) (a b : ℕ) (lo hi : ℤ) : Type 0 where
+  pub first : a < length t.rows
+  pub second : b < length t.rows
+  pub low : from ≤ℤ lo
+  pub two : lo <ℤ hi
+  pub high : hi ≤ℤ last
+  pub at_lo : Gives code t a b lo
+  pub at_hi : Gives code t a b hi
+  pub wide : (from +ℤ pos limit) ≤ℤ last
+
+-- what a refusal at the distances from one to another says, where so many are always decided; want of memory says nothing
+abbrev pub IsFound : List Instr → Table → (from last : ℤ) → (limit : ℕ) → VerifyFault → Type 0
+IsFound code t from last limit (Malformed pc) = ⊥
+IsFound code t from last limit (DepthOver64 pc) = ⊥
+IsFound code t from last limit (Fault a b r trap) = Traps code t from last a b r trap
+IsFound code t from last limit (Undecided a b lo hi trap) = IsUndecided code t from last limit a b lo hi
+IsFound code t from last limit Memory = Unit {0}
+
+-- ---- all pairs
+
+-- with each second type before this number
+pub record IsSafeRow (code : List Instr) (t : Table) (a types : ℕ) (core cutoff : ℤ) (bound : ℕ) : Type 0 where
+  pub each : (b : ℕ) → b < types → IsSafeFrom code t a b core cutoff bound
+
+-- for each first type before this number, and each second
+pub record IsSafe (code : List Instr) (t : Table) (types : ℕ) (core cutoff : ℤ) (bound : ℕ) : Type 0 where
+  pub each : (a : ℕ) → a < types → IsSafeRow code t a (length t.rows) core cutoff bound
+
+-- ---- accepted code
+
+-- how many inputs code has under a table: the distance, the parameters of both particles, and the globals
+abbrev pub input_count : Table → ℕ
+input_count t = 2 * t.parameters + length t.globals + 1
+
+-- on the inputs of these types at this distance the code gives a value in at most so many instructions, of at most this magnitude
+pub record GivesInSteps (code : List Instr) (t : Table) (a b : ℕ) (r : ℤ) (steps bound : ℕ) : Type 0 where
+  pub value : ℤ
+  pub n : ℕ
+  pub ends : Ends (bits_of t.frac) code (inputs_of t a b r) n (Ok value)
+  pub few : n ≤ steps
+  pub small : unsigned_abs value ≤ bound
+
+-- so it does for every two types at each distance from core to before cutoff; no path misses anything, and the longest has so many instructions
+pub record IsCertified (code : List Instr) (t : Table) (core cutoff : ℤ) (steps bound : ℕ) : Type 0 where
+  pub each : (a b : ℕ) (r : ℤ) → a < length t.rows → b < length t.rows → core ≤ℤ r → r <ℤ cutoff → GivesInSteps code t a b r steps bound
+  pub longest : IsLongest code steps
+  pub misses : MissesNothing code (input_count t)
+
+-- what a refusal says
+abbrev pub IsRefusal : List Instr → Table → (core cutoff : ℤ) → (limit : ℕ) → VerifyFault → Type 0
+IsRefusal code t core cutoff limit (Malformed pc) = GoesWrong code (input_count t)
+IsRefusal code t core cutoff limit (DepthOver64 pc) = Overfills code pc
+IsRefusal code t core cutoff limit (Fault a b r trap) = Traps code t core (cutoff -ℤ pos 1) a b r trap
+IsRefusal code t core cutoff limit (Undecided a b lo hi trap) = IsUndecided code t core (cutoff -ℤ pos 1) limit a b lo hi
+IsRefusal code t core cutoff limit Memory = Unit {0}

@@ -1,0 +1,76 @@
+//! Code judged whole.
+
+ghost use Rattle.std.specs.Prelude.{◌≡◌, ◌*◌, ◌^◌, ◌<◌, ◌≤ℤ◌, ◌<ℤ◌, pos, IfOk, IfErr};
+ghost use Rattle.verifier.specs.Safety.{IsCertified, IsRefusal};
+
+use crate::faults::VerifyFault;
+use crate::pairs::judge_all;
+use crate::places::Places;
+use fixed::Fx;
+use kernel_code::{Code, Instr, TypeTable};
+use kernel_paths::{Misfit, longest_path};
+use std::alloc::Allocator;
+
+/// What is known of code that never goes wrong.
+#[derive(Clone, Copy, PartialEq, Eq, Debug)]
+pub struct Certificate {
+    /// The number of instructions on the longest path.
+    pub steps: u32,
+    /// No value that the code gives is greater in magnitude, as a raw value.
+    pub bound: u64,
+}
+
+/// How many locals the code may set: one more than the greatest number of them.
+fn locals_of(code: &[Instr]) -> usize {
+    let mut count = 0usize;
+    for instr in code {
+        if let Instr::Keep(local) = *instr {
+            count = count.max(local as usize + 1);
+        }
+    }
+    count
+}
+
+/// As `certify`, where a slice is cut in two at most so many times.
+pub fn certify_to<A: Allocator + Copy, B: Allocator>(
+    alloc: A,
+    code: &Code<B>,
+    table: &TypeTable<B>,
+    core: Fx,
+    cutoff: Fx,
+    slices: u32,
+    depth: u32,
+) -> Result<Certificate, VerifyFault>
+    requires core { pos 0 ≤ℤ core }
+    requires range { core <ℤ cutoff }
+    requires slices { 0 < slices }
+    ensures certified { IfOk result (λ c. IsCertified code.now table.now core cutoff c.steps c.bound) }
+    ensures refused { IfErr result (IsRefusal code.now table.now core cutoff (slices * 2 ^ depth)) }
+{
+    let inputs = 2 * table.parameters() + table.globals() + 1;
+    let steps = match longest_path(alloc, code, inputs) {
+        Ok(steps) => steps,
+        Err(Misfit::Malformed { pc }) => return Err(VerifyFault::Malformed { pc }),
+        Err(Misfit::DepthOver64 { pc }) => return Err(VerifyFault::DepthOver64 { pc }),
+        Err(Misfit::Memory) => return Err(VerifyFault::Memory),
+    };
+    let instructions = code.as_slice();
+    let locals = locals_of(instructions);
+    let Ok(mut places) = Places::new(alloc, instructions.len()) else {
+        return Err(VerifyFault::Memory);
+    };
+    match judge_all(
+        alloc,
+        code,
+        table,
+        locals,
+        core,
+        cutoff,
+        slices,
+        depth,
+        &mut places,
+    ) {
+        Ok(bound) => Ok(Certificate { steps, bound }),
+        Err(fault) => Err(fault),
+    }
+}

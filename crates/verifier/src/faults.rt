@@ -1,0 +1,88 @@
+//! Why code isn't accepted.
+
+ghost use Rattle.std.specs.Prelude.{◌≡◌};
+ghost use Rattle.verifier.specs.declared.faults.VerifyFault.TheVariants.{Memory};
+
+use fixed::Fx;
+use kernel_code::Trap;
+use std::alloc::{AllocError, AllocFailed};
+use std::error::Error;
+use std::fmt;
+
+/// Why code isn't accepted. Types are numbers of the table, counted from 0.
+#[derive(Clone, Copy, PartialEq, Eq, Debug)]
+pub enum VerifyFault {
+    /// At this place, an instruction's or the code's length, a path lacks an operand, a local or an input, or ends with other than one value, or paths meet with stacks of different heights.
+    Malformed {
+        pc: u32,
+    },
+    /// On some path the instruction at this place would push a 65th value.
+    DepthOver64 {
+        pc: u32,
+    },
+    /// On the inputs of these types at the distance `r` the code traps so.
+    Fault {
+        first: u32,
+        second: u32,
+        r: Fx,
+        trap: Trap,
+    },
+    /// At some distance from `lo` to `hi` the code may trap so for these types, by the spans of its values; at `lo` and at `hi` it gives a value.
+    Undecided {
+        first: u32,
+        second: u32,
+        lo: Fx,
+        hi: Fx,
+        trap: Trap,
+    },
+    /// Memory ran out.
+    Memory,
+}
+
+impl fmt::Display for VerifyFault {
+    fn fmt<W: fmt::Write>(&self, f: &mut fmt::Formatter<W>) -> fmt::Result {
+        match *self {
+            VerifyFault::Malformed { pc } => write!(f, "V1 Malformed {pc}"),
+            VerifyFault::DepthOver64 { pc } => write!(f, "V4 DepthOver64 {pc}"),
+            VerifyFault::Fault {
+                first,
+                second,
+                r,
+                trap,
+            } => {
+                let raw = r.raw();
+                write!(f, "V2 Fault {first} {second} r {raw} {trap}")
+            }
+            VerifyFault::Undecided {
+                first,
+                second,
+                lo,
+                hi,
+                trap,
+            } => {
+                let from = lo.raw();
+                let to = hi.raw();
+                write!(f, "V3 Undecided {first} {second} {from} {to} {trap}")
+            }
+            VerifyFault::Memory => write!(f, "Memory"),
+        }
+    }
+}
+
+impl Error for VerifyFault {}
+
+impl From<AllocError> for VerifyFault {
+    ghost from_gives = { λ _ e. e ≡ Memory };
+
+    fn from(_e: AllocError) -> VerifyFault {
+        VerifyFault::Memory
+    }
+}
+
+impl<T: Drop> From<AllocFailed<T>> for VerifyFault {
+    ghost from_gives = { λ _ e. e ≡ Memory };
+
+    fn from(_e: AllocFailed<T>) -> VerifyFault {
+        VerifyFault::Memory
+    }
+}

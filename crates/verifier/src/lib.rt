@@ -1,0 +1,18 @@
+//! Accepts or refuses code: whether it gives a value for every two types of a table, at every distance from a core to a cutoff. What that means stands in `specs/Safety.antt`.
+#![tactic(auto)]
+
+mod certificates;
+mod distances;
+mod faults;
+mod frames;
+mod instructions;
+mod pairs;
+mod places;
+mod slices;
+#[cfg(test)]
+mod tests;
+mod verified;
+mod widening;
+
+pub use faults::VerifyFault;
+pub use verified::{Verified, verify};

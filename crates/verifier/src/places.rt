@@ -1,0 +1,95 @@
+//! The places that runs may still come to, each with its frame.
+
+ghost use Rattle.std.specs.Prelude.{◌≡◌, ◌+◌, ◌<◌, length, IfOk, OnOk};
+ghost use Rattle.verifier.specs.Slices.{Branches, Joins, Takes};
+
+use crate::frames::{Frame, Stop};
+use fixed::Fx;
+use std::alloc::{AllocError, Allocator};
+use std::marker::Model;
+
+/// For each place of a code, its end too, the frame of the runs that come to it, where there are any.
+#[derive(Drop)]
+pub struct Places<A: Allocator> {
+    frames: Vec<Option<Frame<A>>, A>,
+}
+
+impl<A: Allocator> Model for Places<A> {
+    ghost use Rattle.std.specs.Prelude.{List, Option};
+    ghost use Rattle.verifier.specs.Frames.{SpanFrame};
+
+    ghost Value = { List (Option SpanFrame) };
+
+    ghost view = { λ p. p.frames.items };
+}
+
+impl<A: Allocator> Places<A> {
+    /// The places of so many instructions, and the end, without frames.
+    pub fn new(alloc: A, instructions: usize) -> Result<Places<A>, AllocError>
+        ensures { IfOk result (λ places. length places ≡ instructions + 1) }
+    {
+        let mut frames = Vec::new(alloc);
+        frames.push(None)?;
+        for _ in 0..instructions {
+            frames.push(None)?;
+        }
+        Ok(Places { frames })
+    }
+
+    /// Takes all frames away.
+    pub fn clear(&mut self)
+        ensures { length self.new ≡ length self.old }
+    {
+        for at in 0..self.frames.len() {
+            self.frames[at] = None;
+        }
+    }
+
+    /// Takes the frame of a place.
+    pub fn take(&mut self, at: usize) -> Option<Frame<A>>
+        requires { at < length self.old }
+        ensures { Takes at result self.old self.new }
+    {
+        self.frames[at].take()
+    }
+
+    /// Joins the runs of a frame to those that come to a place.
+    pub fn join(&mut self, to: usize, frame: Frame<A>) -> Result<(), Stop>
+        requires { to < length self.old }
+        ensures joins { OnOk result (Joins to frame self.old self.new) }
+        ensures long { length self.new ≡ length self.old }
+    {
+        match self.frames[to].take() {
+            None => self.frames[to] = Some(frame),
+            Some(mut earlier) => {
+                earlier.widen(&frame)?;
+                self.frames[to] = Some(earlier);
+            }
+        }
+        Ok(())
+    }
+}
+
+/// Joins the runs of a frame, each by the value that it pops, to those that come to `target` at 0, and else to `next`.
+pub fn branch<A: Allocator + Copy>(
+    alloc: A,
+    next: usize,
+    target: usize,
+    mut frame: Frame<A>,
+    places: &mut Places<A>,
+) -> Result<(), Stop>
+    requires next { next < length places.old }
+    requires target { target < length places.old }
+    ensures branches { OnOk result (Branches next target frame places.old places.new) }
+    ensures long { length places.new ≡ length places.old }
+{
+    let span = frame.pop()?;
+    if !span.contains(Fx::from_raw(0)) {
+        return places.join(next, frame);
+    }
+    if span.lo == span.hi {
+        return places.join(target, frame);
+    }
+    places.join(next, frame.copy(alloc)?)?;
+    places.join(target, frame)
+}

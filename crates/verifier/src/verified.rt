@@ -1,0 +1,113 @@
+//! Accepted code.
+
+ghost use Rattle.std.specs.Prelude.{◌≡◌, ◌*◌, ◌^◌, ◌<◌, ◌≤ℤ◌, ◌<ℤ◌, pos, IfOk, IfErr};
+ghost use Rattle.verifier.specs.Safety.{IsRefusal};
+
+use crate::certificates::certify_to;
+use crate::faults::VerifyFault;
+use fixed::Fx;
+use kernel_code::{Code, TypeTable};
+use std::alloc::Allocator;
+use std::marker::Model;
+
+/// Code that gives a value for every two types of its table, at every distance from its core to before its cutoff.
+#[derive(Drop)]
+pub struct Verified<A: Allocator> {
+    code: Code<A>,
+    table: TypeTable<A>,
+    core: Fx,
+    cutoff: Fx,
+    steps: u32,
+    bound: u64,
+}
+
+impl<A: Allocator> Model for Verified<A> {
+    ghost use Rattle.verifier.specs.Kernels.{Kernel};
+    ghost use Rattle.verifier.specs.Safety.{IsCertified};
+
+    ghost Value = { Kernel };
+
+    ghost view = { λ v. record { code = v.code; table = v.table; core = v.core; cutoff = v.cutoff; steps = v.steps; bound = v.bound } };
+
+    ghost invariant = { λ v. IsCertified v.code v.table v.core v.cutoff v.steps v.bound };
+}
+
+impl<A: Allocator> Verified<A> {
+    ghost use Rattle.verifier.specs.Kernels.{IsKernel};
+
+    /// The code that was handed in.
+    pub fn code(&self) -> &Code<A>
+        ensures code { result.now ≡ self.now.code }
+        ensures kernel { IsKernel self.now }
+    {
+        &self.code
+    }
+
+    /// The table that it was accepted for.
+    pub fn table(&self) -> &TypeTable<A>
+        ensures { result.now ≡ self.now.table }
+    {
+        &self.table
+    }
+
+    /// The least distance.
+    pub fn core(&self) -> Fx
+        ensures { result ≡ self.now.core }
+    {
+        self.core
+    }
+
+    /// The distance that all others are below.
+    pub fn cutoff(&self) -> Fx
+        ensures { result ≡ self.now.cutoff }
+    {
+        self.cutoff
+    }
+
+    /// The number of instructions on the code's longest path.
+    pub fn steps(&self) -> u32
+        ensures { result ≡ self.now.steps }
+    {
+        self.steps
+    }
+
+    /// No value that the code gives is greater in magnitude, as a raw value: the greatest magnitude of the ends of the values' spans, 0 where there are no types.
+    pub fn bound(&self) -> u64
+        ensures { result ≡ self.now.bound }
+    {
+        self.bound
+    }
+}
+
+/// Accepts code that gives a value for every two types of the table, at every distance from `core` to before `cutoff`. The distances are cut into so many slices, and a slice on which some run may trap, by the spans of the code's values, is cut in two again and again, at most 24 times deep.
+///
+/// `Malformed` and `DepthOver64` where some path of the code goes wrong, whatever the values; else `Fault` where the code traps, and `Undecided` where that stays open, never where there are at most 2^24 distances for each slice. `Memory` comes only where a growth was refused.
+pub fn verify<A: Allocator, B: Allocator>(
+    alloc: A,
+    code: Code<B>,
+    table: TypeTable<B>,
+    core: Fx,
+    cutoff: Fx,
+    slices: u32,
+) -> Result<Verified<B>, VerifyFault>
+    requires core { pos 0 ≤ℤ core }
+    requires range { core <ℤ cutoff }
+    requires slices { 0 < slices }
+    ensures code { IfOk result (λ v. v.code ≡ code) }
+    ensures table { IfOk result (λ v. v.table ≡ table) }
+    ensures core { IfOk result (λ v. v.core ≡ core) }
+    ensures cutoff { IfOk result (λ v. v.cutoff ≡ cutoff) }
+    ensures refused { IfErr result (IsRefusal code table core cutoff (slices * 2 ^ 24)) }
+{
+    match certify_to(&alloc, &code, &table, core, cutoff, slices, 24) {
+        Ok(certificate) => Ok(Verified {
+            code,
+            table,
+            core,
+            cutoff,
+            steps: certificate.steps,
+            bound: certificate.bound,
+        }),
+        Err(fault) => Err(fault),
+    }
+}
