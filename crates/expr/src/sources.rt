@@ -104,7 +104,7 @@ impl<A: Allocator + Copy> Parser<A> {
         Ok(Source { body, definitions })
     }
 
-    // The heading of the next definition, where no more than these may come if there are as many as a text may have.
+    // The heading of the next definition; full: there are as many as a text may have.
     #[tactic(auto, unfolding(crate::specs::Sources::heading_at))]
     fn heading<'a>(&self, tokens: &'a [Token<'a>], full: bool) -> Heading<'a, A>
         ensures { Gives heading_seen result (heading_at self.now.end full (placed tokens.now)) }

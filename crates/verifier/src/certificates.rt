@@ -31,7 +31,7 @@ fn locals_of(code: &[Instr]) -> usize {
     count
 }
 
-/// As `certify`, where a slice is cut in two at most so many times.
+/// What is known of the code, as `verify` judges it, where a slice is cut in two at most so many times.
 pub fn certify_to<A: Allocator + Copy, B: Allocator>(
     alloc: A,
     code: &Code<B>,
