@@ -1,5 +1,5 @@
 -- The command line: which words name which command. Words are read by the rules of utilities (POSIX.1-2017, Utility Syntax Guidelines), as `clap` states them.
-use Rattle.std.specs.Prelude.{◌≡◌, ◌≢◌, ℕ, List, [], ◌∷◌, Option, Some, None, true, codes}
+use Rattle.std.specs.Prelude.{◌≡◌, ◌≢◌, ℕ, List, [], ◌∷◌, Option, Some, None, option_map, true, codes}
 use Rattle.std.specs.Str.Parse.{IsNumeral, digits_value, without_leading_plus}
 use Rattle.clap.specs.Words.{App, IsAmong, Kinds, Row, Rule, Shape, Text, fault_of, first_of, new_app, new_rule, one_of, subcommand_of, with_rule, with_subcommand}
 use Rattle.clap.specs.Kinds.{or_else}
@@ -10,6 +10,8 @@ use Rattle.integrator.specs.declared.direction.Direction.{Direction}
 use Rattle.integrator.specs.declared.direction.Direction.TheVariants.{Forward, Back}
 use Rattle.cli.specs.declared.commands.Command.{Command}
 use Rattle.cli.specs.declared.commands.Command.TheVariants as command
+use Rattle.cli.specs.declared.commands.Check.{Check}
+use Rattle.cli.specs.declared.commands.Energy.{Energy}
 use Rattle.cli.specs.declared.commands.Frame.{Frame}
 use Rattle.cli.specs.declared.commands.Listing.{Listing}
 use Rattle.cli.specs.declared.commands.Run.{Run}
@@ -38,6 +40,13 @@ steps_rule = record (new_rule (codes "steps")) {
   parser = Some (Unsigned 0 1000000000000);
 }
 
+-- `--code LISTING`, which need not be given
+abbrev pub code_rule : Rule
+code_rule = record (new_rule (codes "code")) {
+  long = Some (codes "code");
+  value_names = 1;
+}
+
 -- the command that takes a job, a GRO file and the number of a frame
 abbrev pub starting : Shape
 starting = (with_rule (with_rule (with_rule (new_app (codes "start")) (path_rule (codes "JOB"))) (path_rule (codes "GRO"))) frame_rule).top
@@ -45,6 +54,14 @@ starting = (with_rule (with_rule (with_rule (new_app (codes "start")) (path_rule
 -- a command that takes a job, a state and a number of steps
 abbrev pub stepping : Text → Shape
 stepping name = (with_rule (with_rule (with_rule (new_app name) (path_rule (codes "JOB"))) (path_rule (codes "STATE"))) steps_rule).top
+
+-- the command that takes a job and a state
+abbrev pub weighing : Shape
+weighing = (with_rule (with_rule (new_app (codes "energy")) (path_rule (codes "JOB"))) (path_rule (codes "STATE"))).top
+
+-- the command that takes a job and may take a listing
+abbrev pub checking : Shape
+checking = (with_rule (with_rule (new_app (codes "check")) (path_rule (codes "JOB"))) code_rule).top
 
 -- the command that takes a job alone
 abbrev pub listing : Shape
@@ -65,8 +82,11 @@ forward = with_subcommand (with_subcommand bare starting) (stepping (codes "run"
 abbrev pub returning : App
 returning = with_subcommand (with_subcommand forward (stepping (codes "back"))) framing
 
+abbrev pub judging : App
+judging = with_subcommand (with_subcommand returning weighing) checking
+
 abbrev pub program : App
-program = with_subcommand returning listing
+program = with_subcommand judging listing
 
 -- ---- what the words ask for
 
@@ -105,6 +125,16 @@ pub record IsRun (name : Text) (rows : List Row) (run : Run) : Type 0 where
 pub record IsFrame (rows : List Row) (frame : Frame) : Type 0 where
   pub state : first_of (codes "STATE") rows ≡ Some frame.state.now
 
+-- the values of the arguments of `energy` say this job and this state
+pub record IsEnergy (rows : List Row) (energy : Energy) : Type 0 where
+  pub job : first_of (codes "JOB") rows ≡ Some energy.job.now
+  pub state : first_of (codes "STATE") rows ≡ Some energy.state.now
+
+-- the values of the arguments of `check` say this job, and this listing if any
+pub record IsCheck (rows : List Row) (check : Check) : Type 0 where
+  pub job : first_of (codes "JOB") rows ≡ Some check.job.now
+  pub listing : first_of (codes "code") rows ≡ option_map (λ path. path.now) check.listing
+
 -- the values of the arguments of `code` say this listing
 pub record IsListing (rows : List Row) (l : Listing) : Type 0 where
   pub job : first_of (codes "JOB") rows ≡ Some l.job.now
@@ -114,6 +144,8 @@ abbrev pub IsNamed : Text → List Row → Command → Type 0
 IsNamed name rows (command.Start start) = (name ≡ codes "start") × IsStart rows start
 IsNamed name rows (command.Run run) = IsRun name rows run
 IsNamed name rows (command.Frame frame) = (name ≡ codes "frame") × IsFrame rows frame
+IsNamed name rows (command.Energy energy) = (name ≡ codes "energy") × IsEnergy rows energy
+IsNamed name rows (command.Check check) = (name ≡ codes "check") × IsCheck rows check
 IsNamed name rows (command.Code l) = (name ≡ codes "code") × IsListing rows l
 
 abbrev pub IsNamedOf : Option (Text × List Row) → Command → Type 0

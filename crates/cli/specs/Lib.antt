@@ -5,3 +5,4 @@ pub mod Host
 pub mod Reads
 pub mod Reports
 pub mod Statuses
+pub mod Verdicts

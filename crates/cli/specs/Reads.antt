@@ -1,5 +1,5 @@
 -- What commands read, and what they say of a file that gave no bytes.
-use Rattle.std.specs.Prelude.{◌≡◌, ◌⊎◌, ℕ, List, Option}
+use Rattle.std.specs.Prelude.{◌≡◌, ◌⊎◌, ℕ, List, Option, Some, None}
 use Rattle.std.specs.Borrow.{Bor}
 use Rattle.cli.specs.Asked.{also_asked}
 use Rattle.cli.specs.declared.commands.Command.{Command}
@@ -9,11 +9,18 @@ use Rattle.cli.specs.declared.faults.CommandFault.TheVariants as fault
 use Rattle.cli.specs.declared.files.ReadFault.{ReadFault}
 use Rattle.cli.specs.declared.files.ReadFault.TheVariants as read
 
+-- a file that need not be given
+abbrev pub also_asked_if : Option (List (List ℕ)) → Option (Bor (List ℕ)) → Option (List (List ℕ))
+also_asked_if paths None = paths
+also_asked_if paths (Some path) = also_asked paths path.now
+
 -- the paths asked for after a command has read all its files, in their order
 abbrev pub asked_by : Option (List (List ℕ)) → Command → Option (List (List ℕ))
 asked_by paths (command.Start start) = also_asked (also_asked paths start.job.now) start.gro.now
 asked_by paths (command.Run run) = also_asked (also_asked paths run.job.now) run.state.now
 asked_by paths (command.Frame frame) = also_asked paths frame.state.now
+asked_by paths (command.Energy energy) = also_asked (also_asked paths energy.job.now) energy.state.now
+asked_by paths (command.Check check) = also_asked_if (also_asked paths check.job.now) check.listing
 asked_by paths (command.Code l) = also_asked paths l.job.now
 
 -- a command has asked for its files in their order, or for the first of them
@@ -21,6 +28,8 @@ abbrev pub AsksFor : Command → Option (List (List ℕ)) → Option (List (List
 AsksFor (command.Start start) before after = (after ≡ also_asked before start.job.now) ⊎ (after ≡ asked_by before (command.Start start))
 AsksFor (command.Run run) before after = (after ≡ also_asked before run.job.now) ⊎ (after ≡ asked_by before (command.Run run))
 AsksFor (command.Frame frame) before after = after ≡ asked_by before (command.Frame frame)
+AsksFor (command.Energy energy) before after = (after ≡ also_asked before energy.job.now) ⊎ (after ≡ asked_by before (command.Energy energy))
+AsksFor (command.Check check) before after = (after ≡ also_asked before check.job.now) ⊎ (after ≡ asked_by before (command.Check check))
 AsksFor (command.Code l) before after = after ≡ asked_by before (command.Code l)
 
 -- the fault of a command whose file at this path gave no bytes

@@ -10,6 +10,8 @@ use Rattle.state.specs.declared.faults.StartFault.{StartFault}
 use Rattle.state.specs.declared.faults.StartFault.TheVariants as start
 use Rattle.state.specs.declared.faults.StateFault.{StateFault}
 use Rattle.state.specs.declared.faults.StateFault.TheVariants as state
+use Rattle.kernel_code.specs.declared.faults.CodeFault.{CodeFault}
+use Rattle.kernel_code.specs.declared.faults.CodeFault.TheVariants as listing
 use Rattle.integrator.specs.declared.faults.RunFault.{RunFault}
 use Rattle.integrator.specs.declared.faults.RunFault.TheVariants as run
 use Rattle.cli.specs.declared.faults.CommandFault.{CommandFault}
@@ -45,12 +47,18 @@ abbrev pub start_status : StartFault → Status
 start_status start.Memory = status.Memory
 start_status _ = status.RefusedData
 
+abbrev pub listing_status : CodeFault → Status
+listing_status listing.Memory = status.Memory
+listing_status _ = status.RefusedData
+
 abbrev pub run_status : {A : Type 0} → RunFault A → Status
 run_status (run.Job f) = job_status f
 run_status (run.State f) = state_status f
 run_status (run.Energy f) = energy_status f
+run_status (run.Kernel f) = status.RefusedKernel
 run_status (run.Out f) = status.File
 run_status run.Memory = status.Memory
+run_status (run.MemoryAfter done) = status.Memory
 run_status _ = status.RefusedData
 
 abbrev pub status_of : {A : Type 0} → CommandFault A → Status
@@ -61,6 +69,7 @@ status_of (fault.Job f) = job_status f
 status_of (fault.Gro f) = gro_status f
 status_of (fault.Start f) = start_status f
 status_of (fault.State f) = state_status f
+status_of (fault.Listing f) = listing_status f
 status_of (fault.Run f) = run_status f
 status_of (fault.Out f) = status.File
 status_of fault.Memory = status.Memory

@@ -4,12 +4,14 @@ ghost use Rattle.std.specs.Prelude.{◌≡◌, ◌≤◌, ◌<◌, ◌^◌, ◌�
 ghost use Rattle.clap.specs.Words.{HasKind, app_of, first_of, found_of, kind_of, rows_of, rule_of, shape_of, subcommand_rows_of};
 ghost use Rattle.clap.specs.declared.builder.command.Command.TheViews.{out-Command};
 ghost use Rattle.clap.specs.declared.error.kind.ErrorKind.TheVariants.{OutOfMemory};
-ghost use Rattle.cli.specs.CommandLine.{IsCommand, IsFrame, IsFrameNumber, IsListing, IsNamed, IsNamedOf, IsRun, IsStart, IsSteps, command_name, faults_of, forward, frame_rule, framing, listing, path_rule, program, returning, starting, steps_rule, stepping};
+ghost use Rattle.cli.specs.CommandLine.{IsCheck, IsCommand, IsEnergy, IsFrame, IsFrameNumber, IsListing, IsNamed, IsNamedOf, IsRun, IsStart, IsSteps, checking, code_rule, command_name, faults_of, forward, frame_rule, framing, judging, listing, path_rule, program, returning, starting, steps_rule, stepping, weighing};
 ghost use Rattle.cli.specs.declared.commands.Start.{Start};
 ghost use Rattle.cli.specs.declared.commands.Frame.{Frame};
 ghost use Rattle.cli.specs.declared.commands.Listing.{Listing};
+ghost use Rattle.cli.specs.declared.commands.Energy.{Energy};
+ghost use Rattle.cli.specs.declared.commands.Check.{Check};
 
-use crate::commands::{Command, Frame, Listing, MAX_STEPS, Run, Start};
+use crate::commands::{Check, Command, Energy, Frame, Listing, MAX_STEPS, Run, Start};
 use clap::error::ErrorKind;
 use clap::{Arg, ArgMatches, Error, value_parser};
 use integrator::Direction;
@@ -51,6 +53,8 @@ fn command_by<'a>(name: &str, matches: &ArgMatches<'a>) -> Option<Command<'a>>
     match name {
         "start" => Some(Command::Start(start_of(matches)?)),
         "frame" => Some(Command::Frame(frame_of(matches)?)),
+        "energy" => Some(Command::Energy(energy_of(matches)?)),
+        "check" => Some(Command::Check(check_of(matches)?)),
         "code" => Some(Command::Code(listing_of(matches)?)),
         _ => Some(Command::Run(run_by(name, matches)?)),
     }
@@ -91,6 +95,26 @@ fn frame_of<'a>(matches: &ArgMatches<'a>) -> Option<Frame<'a>>
 {
     let state = path_of(matches, "STATE")?;
     Some(Frame { state })
+}
+
+/// The state to weigh that these matches say.
+fn energy_of<'a>(matches: &ArgMatches<'a>) -> Option<Energy<'a>>
+    ensures { MatchOption result ((e : Energy) → IsEnergy (rows_of (found_of matches.now)) e → ⊥)
+        (IsEnergy (rows_of (found_of matches.now))) }
+{
+    let job = path_of(matches, "JOB")?;
+    let state = path_of(matches, "STATE")?;
+    Some(Energy { job, state })
+}
+
+/// The code to judge that these matches say.
+fn check_of<'a>(matches: &ArgMatches<'a>) -> Option<Check<'a>>
+    ensures { MatchOption result ((c : Check) → IsCheck (rows_of (found_of matches.now)) c → ⊥)
+        (IsCheck (rows_of (found_of matches.now))) }
+{
+    let job = path_of(matches, "JOB")?;
+    let listing = path_of(matches, "code");
+    Some(Check { job, listing })
 }
 
 /// The listing to print that these matches say.
@@ -143,7 +167,16 @@ fn program<'a>(alloc: Global) -> Result<clap::Command<'a>, AllocError>
     ensures { IfOk result (λ c. app_of c ≡ program) }
 {
     let code = listing(alloc)?;
-    returning(alloc)?.subcommand(code)
+    judging(alloc)?.subcommand(code)
+}
+
+/// The program with its first six commands.
+fn judging<'a>(alloc: Global) -> Result<clap::Command<'a>, AllocError>
+    ensures { IfOk result (λ c. app_of c ≡ judging) }
+{
+    let energy = weighing(alloc)?;
+    let check = checking(alloc)?;
+    returning(alloc)?.subcommand(energy)?.subcommand(check)
 }
 
 /// The program with its first four commands.
@@ -215,6 +248,32 @@ fn framing<'a>(alloc: Global) -> Result<clap::Command<'a>, AllocError>
         .arg(state)
 }
 
+/// The command that takes a job and a state.
+fn weighing<'a>(alloc: Global) -> Result<clap::Command<'a>, AllocError>
+    ensures shape { IfOk result (λ c. shape_of c ≡ weighing) }
+    ensures local { IfOk result (λ c. (out-Command c).has_globals ≡ false) }
+{
+    let job = path(alloc, "JOB", "The file of the job");
+    let state = path(alloc, "STATE", "The file of the state");
+    clap::Command::new(alloc, "energy")
+        .about("Prints the energy of a state")
+        .arg(job)?
+        .arg(state)
+}
+
+/// The command that takes a job and may take a listing.
+fn checking<'a>(alloc: Global) -> Result<clap::Command<'a>, AllocError>
+    ensures shape { IfOk result (λ c. shape_of c ≡ checking) }
+    ensures local { IfOk result (λ c. (out-Command c).has_globals ≡ false) }
+{
+    let job = path(alloc, "JOB", "The file of the job");
+    let code = code(alloc);
+    clap::Command::new(alloc, "check")
+        .about("Judges the code of a job's slope, or other code under the job")
+        .arg(job)?
+        .arg(code)
+}
+
 /// The command that takes a job alone.
 fn listing<'a>(alloc: Global) -> Result<clap::Command<'a>, AllocError>
     ensures shape { IfOk result (λ c. shape_of c ≡ listing) }
@@ -243,6 +302,16 @@ fn frame_number<'a>(alloc: Global) -> Arg<'a>
         .default_value("1")
         .value_parser(value_parser!(u64).range(1..))
         .help("Which frame of the GRO file, from 1")
+}
+
+fn code<'a>(alloc: Global) -> Arg<'a>
+    ensures rule { rule_of result ≡ code_rule }
+    ensures local { result.global ≡ false }
+{
+    Arg::new(alloc, "code")
+        .long("code")
+        .value_name("LISTING")
+        .help("The listing to judge in place of the job's own code")
 }
 
 fn steps<'a>(alloc: Global) -> Arg<'a>

@@ -16,6 +16,10 @@ pub enum Command<'a> {
     Run(Run<'a>),
     /// `frame`: the current frame of a state as a GRO file.
     Frame(Frame<'a>),
+    /// `energy`: the energy of a state.
+    Energy(Energy<'a>),
+    /// `check`: what is known of a job's code, or of a listing under the job.
+    Check(Check<'a>),
     /// `code`: the listing of the code of a job's slope.
     Code(Listing<'a>),
 }
@@ -52,6 +56,24 @@ pub struct Run<'a> {
 pub struct Frame<'a> {
     /// The path of the state.
     pub state: &'a str,
+}
+
+/// A state whose energy is asked for.
+#[derive(Clone, Copy, Debug)]
+pub struct Energy<'a> {
+    /// The path of the job.
+    pub job: &'a str,
+    /// The path of the state.
+    pub state: &'a str,
+}
+
+/// Code to judge.
+#[derive(Clone, Copy, Debug)]
+pub struct Check<'a> {
+    /// The path of the job.
+    pub job: &'a str,
+    /// The path of the listing to judge under the job; the code of the job's own slope where there is none.
+    pub listing: Option<&'a str>,
 }
 
 /// A listing to print.

@@ -13,14 +13,15 @@ ghost use Rattle.cli.specs.declared.commands.Command.{Command};
 ghost use Rattle.cli.specs.declared.faults.Status.{Status};
 
 use crate::command_line::parse;
-use crate::commands::{Command, Frame, Listing, Run, Start};
+use crate::commands::{Check, Command, Energy, Frame, Listing, Run, Start};
 use crate::conversions::{code_bytes, frame_bytes, start_bytes};
 use crate::faults::{CommandFault, Status};
 use crate::files::{Files, ReadFault};
+use crate::verdicts::{energy_bytes, listing_verdict_bytes, slope_verdict_bytes};
 use clap::Error;
 use clap::error::ErrorKind;
 use gro::{Out, write_all};
-use integrator::run_bytes_checked;
+use integrator::run_bytes;
 use std::alloc::{AllocError, Allocator, Global};
 use std::convert::AsStr;
 
@@ -95,6 +96,8 @@ fn perform<'a, A: Allocator + Copy, F: Files, O: Out>(
         Command::Start(start) => perform_start(alloc, start, files, out),
         Command::Run(run) => perform_run(alloc, run, files, out),
         Command::Frame(frame) => perform_frame(alloc, frame, files, out),
+        Command::Energy(energy) => perform_energy(alloc, energy, files, out),
+        Command::Check(check) => perform_check(alloc, check, files, out),
         Command::Code(listing) => perform_code(alloc, listing, files, out),
     }
 }
@@ -134,6 +137,47 @@ fn perform_frame<'a, A: Allocator + Copy, F: Files, O: Out>(
     frame_bytes(alloc, state.as_slice(), out)
 }
 
+/// Reads the job and then the state, and prints its energy.
+fn perform_energy<'a, A: Allocator + Copy, F: Files, O: Out>(
+    alloc: A,
+    energy: Energy<'a>,
+    files: &mut F,
+    out: &mut O,
+) -> Result<(), CommandFault<'a, A>>
+    requires { O.failed out.old < 2 ^ 64 - 1 }
+    ensures done { OnOk result (F.asked files.new ≡ asked_by (F.asked files.old) (Command.Energy energy.entry)) }
+    ensures reads { AsksFor (Command.Energy energy.entry) (F.asked files.old) (F.asked files.new) }
+    ensures kept { OnErr result ((O.taken out.new ≡ O.taken out.old) ⊎ (O.failed out.old < O.failed out.new)) }
+    ensures fault { IfErr result (λ f. status_of f ≢ Status.CommandLine) }
+{
+    let job = read(alloc, energy.job, files)?;
+    let state = read(alloc, energy.state, files)?;
+    energy_bytes(alloc, job.as_slice(), state.as_slice(), out)
+}
+
+/// Reads the job, and then the listing if there is one, and judges the code.
+fn perform_check<'a, A: Allocator + Copy, F: Files, O: Out>(
+    alloc: A,
+    check: Check<'a>,
+    files: &mut F,
+    out: &mut O,
+) -> Result<(), CommandFault<'a, A>>
+    requires { O.failed out.old < 2 ^ 64 - 1 }
+    ensures done { OnOk result (F.asked files.new ≡ asked_by (F.asked files.old) (Command.Check check.entry)) }
+    ensures reads { AsksFor (Command.Check check.entry) (F.asked files.old) (F.asked files.new) }
+    ensures kept { OnErr result ((O.taken out.new ≡ O.taken out.old) ⊎ (O.failed out.old < O.failed out.new)) }
+    ensures fault { IfErr result (λ f. status_of f ≢ Status.CommandLine) }
+{
+    let job = read(alloc, check.job, files)?;
+    match check.listing {
+        None => slope_verdict_bytes(alloc, job.as_slice(), out),
+        Some(path) => {
+            let listing = read(alloc, path, files)?;
+            listing_verdict_bytes(alloc, job.as_slice(), listing.as_slice(), out)
+        }
+    }
+}
+
 /// Reads the job, and prints the code of its slope.
 fn perform_code<'a, A: Allocator + Copy, F: Files, O: Out>(
     alloc: A,
@@ -166,7 +210,7 @@ fn perform_run<'a, A: Allocator + Copy, F: Files, O: Out>(
 {
     let job = read(alloc, run.job, files)?;
     let state = read(alloc, run.state, files)?;
-    run_bytes_checked(
+    run_bytes(
         alloc,
         job.as_slice(),
         state.as_slice(),

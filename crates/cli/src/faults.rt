@@ -1,13 +1,14 @@
 //! Why a command was not done, and the statuses of the program.
 
 ghost use Rattle.std.specs.Prelude.{◌≡◌, ◌≤◌};
-ghost use Rattle.cli.specs.declared.faults.CommandFault.TheVariants.{Gro, Job, Memory, Out, Run, Start, State};
+ghost use Rattle.cli.specs.declared.faults.CommandFault.TheVariants.{Gro, Job, Listing, Memory, Out, Run, Start, State};
 
 use clap::Error;
 use expr::ExprFault;
 use gro::{GroFault, OutFault};
 use integrator::RunFault;
 use job::JobFault;
+use kernel_code::CodeFault;
 use state::{StartFault, StateFault};
 use std::alloc::{AllocError, AllocFailed, Allocator};
 use thiserror::Error;
@@ -72,7 +73,10 @@ pub enum CommandFault<'a, A: Allocator> {
     /// The state of a frame is refused.
     #[error("{0}")]
     State(StateFault),
-    /// The run is refused.
+    /// The listing to judge is refused.
+    #[error("{0}")]
+    Listing(CodeFault),
+    /// The run is refused, or its engine.
     #[error("{0}")]
     Run(RunFault<A>),
     /// The output failed.
@@ -139,6 +143,14 @@ impl<'a, A: Allocator> From<StateFault> for CommandFault<'a, A> {
     }
 }
 
+impl<'a, A: Allocator> From<CodeFault> for CommandFault<'a, A> {
+    ghost from_gives = { λ fault e. e ≡ Listing fault };
+
+    fn from(fault: CodeFault) -> CommandFault<'a, A> {
+        CommandFault::Listing(fault)
+    }
+}
+
 impl<'a, A: Allocator> From<RunFault<A>> for CommandFault<'a, A> {
     ghost from_gives = { λ fault e. e ≡ Run fault };
 
@@ -161,13 +173,14 @@ impl<'a, A: Allocator> CommandFault<'a, A> {
             CommandFault::Gro(fault) => status_of_gro(fault),
             CommandFault::Start(fault) => status_of_start(fault),
             CommandFault::State(fault) => status_of_state(fault),
+            CommandFault::Listing(fault) => status_of_listing(fault),
             CommandFault::Run(fault) => status_of_run(fault),
             CommandFault::Memory => Status::Memory,
         }
     }
 }
 
-ghost use Rattle.cli.specs.Statuses.{energy_status, gro_status, job_status, run_status, start_status, state_status};
+ghost use Rattle.cli.specs.Statuses.{energy_status, gro_status, job_status, listing_status, run_status, start_status, state_status};
 
 /// The status that a refused job ends with. Want of memory inside a refused text is want of memory, here and below.
 fn status_of_job<A: Allocator>(fault: &JobFault<A>) -> Status
@@ -215,6 +228,15 @@ fn status_of_energy<A: Allocator>(fault: &ExprFault<A>) -> Status
     }
 }
 
+fn status_of_listing(fault: &CodeFault) -> Status
+    ensures { result ≡ listing_status fault.now }
+{
+    match fault {
+        CodeFault::Memory => Status::Memory,
+        _ => Status::RefusedData,
+    }
+}
+
 /// The status that a refused run ends with.
 fn status_of_run<A: Allocator>(fault: &RunFault<A>) -> Status
     ensures { result ≡ run_status fault.now }
@@ -223,11 +245,13 @@ fn status_of_run<A: Allocator>(fault: &RunFault<A>) -> Status
         RunFault::Job(fault) => status_of_job(fault),
         RunFault::State(fault) => status_of_state(fault),
         RunFault::Energy(fault) => status_of_energy(fault),
+        RunFault::Kernel(_) => Status::RefusedKernel,
         RunFault::UnknownType { .. }
         | RunFault::CutoffTooLong
+        | RunFault::ForceRange
         | RunFault::StepRange
         | RunFault::KernelFault { .. } => Status::RefusedData,
         RunFault::Out(_) => Status::File,
-        RunFault::Memory => Status::Memory,
+        RunFault::Memory | RunFault::MemoryAfter { .. } => Status::Memory,
     }
 }

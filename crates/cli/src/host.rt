@@ -41,10 +41,7 @@ impl<'a, R: fs::Files> Files for HostFiles<'a, R> {
 }
 
 /// All bytes that the reader has left.
-pub(crate) fn read_all<A: Allocator, R: Read>(
-    alloc: A,
-    reader: &mut R,
-) -> Result<Vec<u8, A>, ReadFault>
+pub fn read_all<A: Allocator, R: Read>(alloc: A, reader: &mut R) -> Result<Vec<u8, A>, ReadFault>
     ensures all { IfOk result (λ v. IfSome (R.remaining reader.old) (λ bytes. v.items ≡ bytes)) }
     ensures end { OnOk result (IsAtEnd (R.remaining reader.new)) }
 {

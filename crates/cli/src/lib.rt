@@ -9,13 +9,11 @@ mod execution;
 mod faults;
 mod files;
 mod host;
+mod verdicts;
 
 pub use command_line::parse;
-pub use commands::{Command, Frame, Listing, MAX_STEPS, Run, Start};
+pub use commands::{Check, Command, Energy, Frame, Listing, MAX_STEPS, Run, Start};
 pub use execution::{execute, report};
 pub use faults::{CommandFault, Status};
 pub use files::{Files, ReadFault};
-pub use host::{HostFiles, Stream, words};
-
-#[cfg(test)]
-mod tests;
+pub use host::{HostFiles, Stream, read_all, words};

@@ -9,6 +9,3 @@ mod rows;
 mod slopes;
 
 pub use derivative::derive;
-
-#[cfg(test)]
-mod tests;

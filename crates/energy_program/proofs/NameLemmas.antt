@@ -10,9 +10,11 @@ use Rattle.std.proofs.Math.Bool.{and-false}
 use native.Mathlib.Numerals.{unary_clauses}
 use Rattle.indexmap.specs.IndexSet.{insert_key}
 use Rattle.energy_program.specs.declared.faults.ExprFault.{ExprFault}
-use Rattle.energy_program.specs.Faults.{Refusal, RepeatedDefinition, ReservedName, TooLarge, Says, IsSaid, Fails, FailsBy, refusal_of, ◌>>=◌}
+use Rattle.line_text.specs.Steps.{◌>>=◌}
+use Rattle.energy_program.specs.Faults.{Refusal, RepeatedDefinition, ReservedName, TooLarge, Says, Fails}
 use Rattle.energy_program.specs.Names.{are_few, first_clash, first_repeated, is_among, first_particle, second_particle, is_reserved, names_from, parameters_and_globals, refused_for, variables_of}
 use Rattle.energy_program.specs.Variables.{added, filled}
+use Rattle.energy_program.proofs.FaultLaws.{fails_says, fails_then}
 
 module _ {X Y : Type 0} (p : Y → Bool) (h : X → Y) where
   pub list_any-map : (xs : List X) → list_any p (map h xs) ≡ list_any (λ x. p (h x)) xs
@@ -40,24 +42,6 @@ module _ {X : Type 0} (h : X → List ℕ) where
   repeated_next (x ∷ xs) d b within e =
       ap (λ t. if t then Some (h x) else first_repeated (map h xs)) (list_any-map (bytes_eq (h x)) h xs ∙ ap (list_any (λ m. bytes_eq (h x) (h m))) (sym (all_behind x xs)) ∙ sym e)
       ∙ ap (λ l. if b then Some (h x) else first_repeated (map h l)) (sym (all_behind x xs))
-
--- what fails, fails with more steps behind it
-module _ {X Y : Type 0} (next : X → Result Y Refusal) where
-  failing : (said : Option Refusal) (r : Result X Refusal) → FailsBy r said → FailsBy (r >>= next) said
-  failing None r h = tt
-  failing (Some said) (Ok x) h = absurd cc
-  failing (Some said) (Err d) h = cc
-
-  pub fails_first : {A : Type 0} (e : ExprFault A) (r : Result X Refusal) → Fails e r → Fails e (r >>= next)
-  fails_first e r h = failing (refusal_of e) r h
-
--- a fault that says why reading fails
-pub fails_as : {A Y : Type 0} (e : ExprFault A) (r : Refusal) (read : Result Y Refusal) → read ≡ Err r → Says e r → Fails e read
-fails_as e r read f says = by (refusal_of e) says
-  where
-    by : (said : Option Refusal) → IsSaid r said → FailsBy read said
-    by None h = tt
-    by (Some said) h = cc
 
 module _ {A : Type 0} (keys : List (Vec ℕ A)) (v : Vec ℕ A) (name : List ℕ) (named : v.items ≡ name) (free : is_reserved name ≡ false) where
   -- the name is taken where a key has its bytes
@@ -119,7 +103,7 @@ filled_append names (v ∷ vs) second = parted vs second (added names v) (λ mor
 pub fails_at : {X A : Type 0} (h : X → List ℕ) (names : List (List ℕ)) (xs : List X) (i : ℕ) (d : X) (e : ExprFault A) (name : List ℕ) → i < length xs → name ≡ h (get_or xs i d)
     → Fails e (added names name) → Fails e (filled names (map h (drop i xs)))
 fails_at h names xs i d e name within is f =
-    rw (drop-cons xs i d, ← is) (fails_first (λ more. filled more (map h (drop (suc i) xs))) e (added names name) f)
+    rw (drop-cons xs i d, ← is) (fails_then e (added names name) (λ more. filled more (map h (drop (suc i) xs))) f)
 
 -- All variables but the distance come together in three steps.
 module _ {X Y : Type 0} (h : X → List ℕ) (k : Y → List ℕ) (ps : List X) (gs : List Y) (names : List (List ℕ)) where
@@ -134,10 +118,10 @@ module _ {X Y : Type 0} (h : X → List ℕ) (k : Y → List ℕ) (ps : List X) 
 
   module _ {A : Type 0} (e : ExprFault A) where
     pub first_fails : Fails e (filled names (map (λ p. h p ++ 49 ∷ []) ps)) → Fails e all
-    first_fails f = rw steps (fails_first _ e _ f)
+    first_fails f = rw steps (fails_then e _ _ f)
 
     pub second_fails : (a : List (List ℕ)) → filled names (map (λ p. h p ++ 49 ∷ []) ps) ≡ Ok a → Fails e (filled a (map (λ p. h p ++ 50 ∷ []) ps)) → Fails e all
-    second_fails a first f = rw (steps, first) (fails_first (λ b. filled b (map k gs)) e _ f)
+    second_fails a first f = rw (steps, first) (fails_then e _ (λ b. filled b (map k gs)) f)
 
     pub third_fails : (a b : List (List ℕ)) → filled names (map (λ p. h p ++ 49 ∷ []) ps) ≡ Ok a → filled a (map (λ p. h p ++ 50 ∷ []) ps) ≡ Ok b → Fails e (filled b (map k gs)) → Fails e all
     third_fails a b first second f = rw (steps, first, second) f
@@ -178,10 +162,10 @@ module _ (ps gs : List (List ℕ)) where
       refused (Some n) h = (n, refl, h)
 
       pub parameter_repeated : IsSomeAnd (first_repeated ps) (λ n. Says e (RepeatedDefinition n)) → Fails e (names_from ps gs)
-      parameter_repeated h = let p = refused (first_repeated ps) h in fails_as e (RepeatedDefinition p.0) _ (by_lists (Some p.0) _ p.1 refl) p.2
+      parameter_repeated h = let p = refused (first_repeated ps) h in fails_says e (RepeatedDefinition p.0) _ (by_lists (Some p.0) _ p.1 refl) p.2
 
       pub global_repeated : first_repeated ps ≡ None → IsSomeAnd (first_repeated gs) (λ n. Says e (RepeatedDefinition n)) → Fails e (names_from ps gs)
-      global_repeated once h = let p = refused (first_repeated gs) h in fails_as e (RepeatedDefinition p.0) _ (by_lists None (Some p.0) once p.1) p.2
+      global_repeated once h = let p = refused (first_repeated gs) h in fails_says e (RepeatedDefinition p.0) _ (by_lists None (Some p.0) once p.1) p.2
 
     pub names_filled : first_repeated ps ≡ None → first_repeated gs ≡ None → names_from ps gs ≡ filled (codes "r" ∷ []) (parameters_and_globals ps gs)
     names_filled once and = by_lists None None once and ∙ sym (filled_whole (codes "r" ∷ []) (parameters_and_globals ps gs))

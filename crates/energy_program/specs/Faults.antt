@@ -17,11 +17,6 @@ pub data Refusal : Type 0 where
   TooLarge : Refusal
   LeftOutFunction : List ℕ → Refusal
 
-infixl 10 ◌>>=◌
-abbrev pub ◌>>=◌ : {A B : Type 0} → Result A Refusal → (A → Result B Refusal) → Result B Refusal
-(Ok x) >>= f = f x
-(Err r) >>= f = Err r
-
 -- what a fault says of the text: nothing, where memory ran out
 abbrev pub refusal_of : {A : Type 0} → ExprFault A → Option Refusal
 refusal_of (fault.BadCharacter at) = Some (BadCharacter at)

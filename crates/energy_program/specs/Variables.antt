@@ -3,7 +3,8 @@ use Rattle.std.specs.Prelude.{ℕ, ◌||◌, if◌then◌else◌, List, [], ◌�
 use Rattle.std.specs.HashSet.{HashSet}
 use Rattle.std.specs.declared.vec.Vec.{Vec}
 use Rattle.energy_program.specs.declared.variables.Names.{Names}
-use Rattle.energy_program.specs.Faults.{Refusal, ReservedName, ◌>>=◌}
+use Rattle.line_text.specs.Steps.{◌>>=◌}
+use Rattle.energy_program.specs.Faults.{Refusal, ReservedName}
 use Rattle.energy_program.specs.Names.{is_among, is_reserved}
 
 -- the names in a set, in the order in which they came in

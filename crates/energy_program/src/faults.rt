@@ -1,7 +1,9 @@
 ghost use Rattle.std.specs.Prelude.{◌≡◌};
 ghost use Rattle.energy_program.specs.declared.faults.ExprFault.TheVariants.{Memory};
+ghost use Rattle.energy_program.specs.Faults.{Says, IsOrMemory, RepeatedDefinition, ReservedName, UnknownName, WrongArgumentCount};
+ghost use Rattle.energy_program.specs.Names.{call_refusal};
 
-use crate::names::Name;
+use crate::names::{Name, is_left_out};
 use std::alloc::{AllocError, AllocFailed, Allocator};
 use thiserror::Error;
 
@@ -47,6 +49,75 @@ pub enum ExprFault<A: Allocator> {
     /// No memory is left.
     #[error("Memory")]
     Memory,
+}
+
+// The name's own copy.
+fn copied<A: Allocator + Copy>(alloc: A, name: &[u8]) -> Result<Name<A>, ExprFault<A>>
+    ensures { IsOrMemory (λ copy. copy.bytes.items ≡ name.now) result }
+{
+    Ok(Name {
+        bytes: Vec::from_slice(alloc, name)?,
+    })
+}
+
+// Each names a fault by its own copy of the name, and is `Memory` where none is left for that.
+impl<A: Allocator + Copy> ExprFault<A> {
+    /// The refusal of a name that stands for nothing.
+    pub fn unknown_name(alloc: A, name: &[u8]) -> ExprFault<A>
+        ensures { Says result (UnknownName name.now) }
+    {
+        match copied(alloc, name) {
+            Err(_) => ExprFault::Memory,
+            Ok(name) => ExprFault::UnknownName { name },
+        }
+    }
+
+    /// The refusal of a name before a parenthesis that is no function's: the function is left out of the language, or
+    /// the name stands for nothing.
+    pub fn no_function(alloc: A, name: &[u8]) -> ExprFault<A>
+        ensures { Says result (call_refusal name.now) }
+    {
+        match copied(alloc, name) {
+            Err(_) => ExprFault::Memory,
+            Ok(copy) => {
+                if is_left_out(name) {
+                    ExprFault::LeftOutFunction { name: copy }
+                } else {
+                    ExprFault::UnknownName { name: copy }
+                }
+            }
+        }
+    }
+
+    /// The refusal of a function's name before another number of arguments.
+    pub fn wrong_argument_count(alloc: A, name: &[u8]) -> ExprFault<A>
+        ensures { Says result (WrongArgumentCount name.now) }
+    {
+        match copied(alloc, name) {
+            Err(_) => ExprFault::Memory,
+            Ok(name) => ExprFault::WrongArgumentCount { name },
+        }
+    }
+
+    /// The refusal of a name that stands twice.
+    pub fn repeated_definition(alloc: A, name: &[u8]) -> ExprFault<A>
+        ensures { Says result (RepeatedDefinition name.now) }
+    {
+        match copied(alloc, name) {
+            Err(_) => ExprFault::Memory,
+            Ok(name) => ExprFault::RepeatedDefinition { name },
+        }
+    }
+
+    /// The refusal of a name that is taken: it is reserved or a variable's.
+    pub fn reserved_name(alloc: A, name: &[u8]) -> ExprFault<A>
+        ensures { Says result (ReservedName name.now) }
+    {
+        match copied(alloc, name) {
+            Err(_) => ExprFault::Memory,
+            Ok(name) => ExprFault::ReservedName { name },
+        }
+    }
 }
 
 impl<A: Allocator> From<AllocError> for ExprFault<A> {

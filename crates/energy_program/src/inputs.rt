@@ -3,13 +3,14 @@ ghost use Rattle.std.specs.Prelude.{◌≡◌, ◌<◌, ◌++◌, ◌∷◌, [],
 ghost use Rattle.std.specs.List.{list_any};
 ghost use Rattle.std.specs.Option.{option_map};
 ghost use Rattle.std.specs.Str.{bytes_eq};
-ghost use Rattle.energy_program.specs.Names.{first_repeated, input_of, is_name, names_from, parameters_and_globals};
+ghost use Rattle.line_text.specs.Identifiers.{is_identifier};
+ghost use Rattle.energy_program.specs.Names.{first_repeated, input_of, names_from, parameters_and_globals};
 ghost use Rattle.energy_program.specs.Faults.{Gives, IsOrMemory, RepeatedDefinition, Says};
 ghost use Rattle.energy_program.specs.Tree.{inputs_of};
 ghost use Rattle.energy_program.specs.Variables.{added, filled, names_in, names_of};
 
 use crate::faults::ExprFault;
-use crate::names::{is_reserved, repeated, taken};
+use crate::names::is_reserved;
 use crate::variables::{MAX_GLOBALS, MAX_PARAMETERS, NameSet, Names};
 use indexmap::IndexSet;
 use std::alloc::Allocator;
@@ -43,7 +44,7 @@ fn refuse_repeated<A: Allocator + Copy>(alloc: A, names: &[&[u8]]) -> Result<(),
     ensures refused { IfErr result (λ e. IsSomeAnd (first_repeated (map (λ n. n.now) names.now)) (λ name. Says e (RepeatedDefinition name))) }
 {
     match first_repeated(names) {
-        Some(name) => Err(repeated(alloc, name)),
+        Some(name) => Err(ExprFault::repeated_definition(alloc, name)),
         None => Ok(()),
     }
 }
@@ -57,13 +58,13 @@ fn add<A: Allocator + Copy>(
     ensures { Gives (λ _. names_in names.new) result (added (names_in names.old) name.now) }
 {
     if is_reserved(name) {
-        return Err(taken(alloc, name));
+        return Err(ExprFault::reserved_name(alloc, name));
     }
     let (_, is_new) = names.insert_full(Vec::from_slice(alloc, name)?)?;
     if is_new {
         Ok(())
     } else {
-        Err(taken(alloc, name))
+        Err(ExprFault::reserved_name(alloc, name))
     }
 }
 
@@ -140,10 +141,10 @@ impl<A: Allocator + Copy> Names<A> {
     /// `RepeatedDefinition`, the first that occurs again; else a variable by `ReservedName` whose name is reserved or an earlier
     /// one's, the first such: parameters come before globals. So a parameter `atan` is refused for its variable `atan2`.
     ///
-    /// The caller hands in names by their form: a letter or `_`, then letters, digits and `_`.
+    /// The caller hands in identifiers.
     pub fn new(alloc: A, parameters: &[&[u8]], globals: &[&[u8]]) -> Result<Names<A>, ExprFault<A>>
-        requires parameters_named { All (λ p. IsTrue (is_name p.now)) parameters.now }
-        requires globals_named { All (λ g. IsTrue (is_name g.now)) globals.now }
+        requires parameters_named { All (λ p. IsTrue (is_identifier p.now)) parameters.now }
+        requires globals_named { All (λ g. IsTrue (is_identifier g.now)) globals.now }
         ensures exact { Gives names_of result (names_from (map (λ p. p.now) parameters.now) (map (λ g. g.now) globals.now)) }
         ensures parameters { IfOk result (λ n. n.parameters ≡ length parameters.now) }
         ensures globals { IfOk result (λ n. n.globals ≡ length globals.now) }

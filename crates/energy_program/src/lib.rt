@@ -12,8 +12,6 @@ mod names;
 mod powers;
 mod programs;
 mod scoping;
-#[cfg(test)]
-mod tests;
 mod trees;
 mod uses;
 mod variables;
@@ -21,7 +19,7 @@ mod variables;
 pub use build::{Built, applied, binary, negated, power, select};
 pub use callees::{Callee, function_of};
 pub use faults::ExprFault;
-pub use names::{Name, call_refusal, is_name, is_reserved, repeated, taken, unknown, wrong_count};
+pub use names::{Name, is_reserved};
 pub use powers::Exponent;
 pub use programs::{MAX_DEFINITIONS, Program};
 pub use trees::{Expr, Function, Operator};

@@ -3,13 +3,14 @@ use Rattle.std.proofs.Common.{◌≡◌, ℕ, suc, ◌+◌, ◌-◌, ◌<◌, �
 use Rattle.std.proofs.lemmas.Bool.{eqb-true, eqb-false}
 use Rattle.std.proofs.lemmas.List.{append-nil}
 use Rattle.energy_program.specs.declared.faults.ExprFault.{ExprFault}
-use Rattle.energy_program.specs.Faults.{Refusal, Fails, ◌>>=◌}
+use Rattle.line_text.specs.Steps.{◌>>=◌}
+use Rattle.energy_program.specs.Faults.{Refusal, Fails}
 use Rattle.expr.specs.Parsing.{SignOf, expr_at}
 use Rattle.expr.specs.Sources.{semicolon_sign, name_sign, after_semicolons, no_heading, named_by, named_at, heading_by, heading_at, Definitions, before, defined, definitions_at, source_at}
 use Rattle.expr.specs.Syntax.{Syntax, Definition, Source}
 use Rattle.expr.specs.Tokens.{Placed}
 use Rattle.expr.specs.Tokens as t
-use Rattle.expr.proofs.Levels.{fails_then, fails_same}
+use Rattle.energy_program.proofs.FaultLaws.{fails_then, fails_same}
 use Rattle.expr.proofs.Results.{some_is}
 
 -- a text with this body, these definitions, and others behind them

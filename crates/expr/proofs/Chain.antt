@@ -5,14 +5,15 @@ use Rattle.energy_program.specs.declared.callees.Callee.{Callee}
 use Rattle.energy_program.specs.declared.trees.Operator.{Operator}
 use Rattle.energy_program.specs.declared.trees.Operator.TheVariants as op
 use Rattle.expr.specs.Calls.{called}
-use Rattle.energy_program.specs.Faults.{Refusal, ◌>>=◌}
+use Rattle.line_text.specs.Steps.{◌>>=◌}
+use Rattle.energy_program.specs.Faults.{Refusal}
 use Rattle.energy_program.specs.Names.{function_of}
 use Rattle.expr.specs.Tokens.{Lexeme, Placed}
 use Rattle.expr.specs.Tokens as t
 use Rattle.expr.specs.Syntax.{Syntax, Arguments, Empty, One}
 use Rattle.expr.specs.Syntax as tree
 use Rattle.expr.specs.Parsing.{ReadingOf, Reading, SignOf, Sign, Beginning, Numeral, Word, Group, start, on_sign, sum_sign, product_sign, minus_sign, open_sign, close_sign, caret_sign, comma_sign, close, chain, chained, itself, operands, listed, listing, closed, arguments_by, called_by, name_by, atom_by, unary_by, whole_of, with_tokens, whole_sign, positive_whole, negative_whole, signed_by, signed_sign, or_bad, is_misplaced, grouped_by, unless_misplaced, grouped_at, exponent_by, exponent_at, powered, raised_by, raised_at, unary_at, term_at, expr_at}
-use Rattle.expr.proofs.Results.{bind_ok}
+use Rattle.line_text.proofs.StepLaws.{bind_ok}
 
 abbrev done : {A : Type 0} → A → Result A Refusal
 done x = Ok x

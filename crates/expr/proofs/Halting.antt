@@ -6,7 +6,8 @@ use Rattle.energy_program.specs.declared.callees.Callee.TheVariants as takes
 use Rattle.energy_program.specs.declared.trees.Operator.{Operator}
 use Rattle.energy_program.specs.declared.trees.Operator.TheVariants as op
 use Rattle.expr.specs.Calls.{called}
-use Rattle.energy_program.specs.Faults.{Refusal, UnexpectedToken, UnknownName, WrongArgumentCount, BadExponent, TooLarge, LeftOutFunction, ◌>>=◌}
+use Rattle.line_text.specs.Steps.{◌>>=◌}
+use Rattle.energy_program.specs.Faults.{Refusal, UnexpectedToken, UnknownName, WrongArgumentCount, BadExponent, TooLarge, LeftOutFunction}
 use Rattle.energy_program.specs.Names.{function_of, is_left_out}
 use Rattle.expr.specs.Tokens.{Lexeme, Placed}
 use Rattle.expr.specs.Tokens as t
@@ -18,7 +19,8 @@ use Rattle.expr.specs.Grammar as g
 use Rattle.expr.specs.Halting.{Halts, HaltsExpr, HaltsTerm, HaltsUnary, HaltsList}
 use Rattle.expr.specs.Halting as h
 use Rattle.expr.proofs.Sound.{RuleOf, Rule, Sound, Joins, Begins, Spells, unary_sound, term_sound, expr_sound, atom_sound, sums, products, commas, minus_is, open_is, caret_is, start_is}
-use Rattle.expr.proofs.Results.{some_is, err_is, err_as, Split, split}
+use Rattle.line_text.proofs.StepLaws.{Split, split}
+use Rattle.expr.proofs.Results.{some_is, err_is, err_as}
 
 abbrev Rest : Type 1
 Rest = List Placed → Type 0

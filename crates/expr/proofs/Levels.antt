@@ -2,30 +2,14 @@
 use Rattle.std.proofs.Common.{◌≡◌, ℕ, zero, suc, ◌-◌, ◌<◌, List, length, Option, Some, None, Result, Ok, Err, refl, ap, ◌∙◌, arith}
 use Rattle.energy_program.specs.declared.faults.ExprFault.{ExprFault}
 use Rattle.energy_program.specs.declared.trees.Operator.{Operator}
-use Rattle.energy_program.specs.Faults.{Refusal, IsSaid, FailsBy, refusal_of, Says, Fails, Gives, ◌>>=◌}
+use Rattle.line_text.specs.Steps.{◌>>=◌}
+use Rattle.energy_program.specs.Faults.{Refusal, Fails, FailsBy, Gives, refusal_of}
 use Rattle.expr.specs.Tokens.{Placed}
 use Rattle.expr.specs.Syntax.{Syntax, Arguments, One, with_argument}
 use Rattle.expr.specs.Syntax as tree
 use Rattle.expr.specs.Parsing.{ReadingOf, power_at, call_at, list_at, listed, comma_sign, Reading, Beginning, Word, Group, start, misplaced, sum_sign, product_sign, minus_sign, open_sign, chain, chained, atom_by, unary_by, name_by, unary_at, term_at, expr_at, closed_at, atom_at}
+use Rattle.energy_program.proofs.FaultLaws.{fails_same, fails_then}
 use Rattle.expr.proofs.Chain.{turn, turn_fails, turn_ends, sum_signs, product_signs, comma_signs, unary_takes, term_takes, expr_takes}
-
-fails_by : {A B : Type 0} (o : Option Refusal) (r : Result A Refusal) (f : A → Result B Refusal) → FailsBy r o → FailsBy (r >>= f) o
-fails_by (Some said) r f h = rw h refl
-fails_by None r f h = tt
-
-pub fails_then : {C A B : Type 0} (e : ExprFault C) (r : Result A Refusal) (f : A → Result B Refusal) → Fails e r → Fails e (r >>= f)
-fails_then e r f h = fails_by (refusal_of e) r f h
-
-pub fails_same : {C A : Type 0} (e : ExprFault C) (r s : Result A Refusal) → s ≡ r → Fails e r → Fails e s
-fails_same e r s same h = rw same h
-
-said_by : {A : Type 0} (o : Option Refusal) (r : Refusal) (read : Result A Refusal) → read ≡ Err r → IsSaid r o → FailsBy read o
-said_by (Some said) r read h k = rw (← k) h
-said_by None r read h k = tt
-
--- a fault that says a refusal
-pub fails_says : {C A : Type 0} (e : ExprFault C) (r : Refusal) (read : Result A Refusal) → read ≡ Err r → Says e r → Fails e read
-fails_says e r read h k = said_by (refusal_of e) r read h k
 
 -- what a call gave stands for what is equal
 pub gives_same : {C X Y : Type 0} (view : X → Y) (r : Result X (ExprFault C)) (s u : Result Y Refusal) → u ≡ s → Gives view r s → Gives view r u

@@ -7,7 +7,8 @@ use Rattle.fixed.specs.Numerals.{numeral_text}
 use Rattle.expr.specs.declared.lexer.Wrong.{Wrong}
 use Rattle.expr.specs.Tokens.{Lexeme, Placed}
 use Rattle.expr.specs.Tokens as t
-use Rattle.expr.specs.Bytes.{is_space, begins_number, is_name_start, is_word}
+use Rattle.line_text.specs.Identifiers.{is_identifier_start, is_identifier_continue}
+use Rattle.expr.specs.Bytes.{is_space, begins_number}
 use Rattle.expr.specs.Numerals.{whole_in, number_at}
 use Rattle.expr.specs.Lexing.{symbol_of, TokenRead, number_token, symbol_token, token_at, Tokens, with_front, refusal_at, go_on, tokens_from, tokens_of}
 use Rattle.expr.proofs.NumeralLemmas.{number_ok, numeral_some}
@@ -23,7 +24,7 @@ prefix_stops test b rest h = rw h refl
 shorter : (test : ℕ → Bool) (b : ℕ) (rest : List ℕ) → test b ≡ true → length (drop (prefix_len test (b ∷ rest)) (b ∷ rest)) < length (b ∷ rest)
 shorter test b rest h = let p = prefix_more test b rest h in omega (arith, length-drop (prefix_len test (b ∷ rest)) (b ∷ rest))
 
-pub word_start : (b : ℕ) → is_name_start b ≡ true → is_word b ≡ true
+pub word_start : (b : ℕ) → is_identifier_start b ≡ true → is_identifier_continue b ≡ true
 word_start b h = rw h refl
 
 number_less : (bits : ℕ) (text : List ℕ) (r : Result (ℤ × List ℕ) NumFault) (x : Lexeme × List ℕ) → number_at bits text ≡ r → number_token text r ≡ Ok x → length x.1 < length text
@@ -63,7 +64,7 @@ unfolding token_at
 token_less bits [] x e = absurd cc
 token_less bits (b ∷ rest) x e =
     number_or (begins_number b) bits (b ∷ rest) _ x
-    (λ k. name_less (is_name_start b) _ _ rest (symbol_of b) x (length (b ∷ rest)) (λ h. shorter is_word b rest (word_start b h)) (omega arith) k) e
+    (λ k. name_less (is_identifier_start b) _ _ rest (symbol_of b) x (length (b ∷ rest)) (λ h. shorter is_identifier_continue b rest (word_start b h)) (omega arith) k) e
 
 -- ---- fuel
 

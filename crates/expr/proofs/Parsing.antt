@@ -7,7 +7,8 @@ use Rattle.energy_program.specs.declared.faults.ExprFault.TheVariants as fault
 use Rattle.energy_program.specs.declared.trees.Operator.{Operator}
 use Rattle.energy_program.specs.declared.trees.Function.{Function}
 use Rattle.energy_program.specs.declared.programs.Program.{Program}
-use Rattle.energy_program.specs.Faults.{Refusal, BadCharacter, BadNumber, UnexpectedToken, UnknownName, WrongArgumentCount, BadExponent, NumberRange, RepeatedDefinition, ReservedName, TooLarge, LeftOutFunction, refusal_of, FailsBy, Fails, Gives, ◌>>=◌}
+use Rattle.line_text.specs.Steps.{◌>>=◌}
+use Rattle.energy_program.specs.Faults.{Refusal, BadCharacter, BadNumber, UnexpectedToken, UnknownName, WrongArgumentCount, BadExponent, NumberRange, RepeatedDefinition, ReservedName, TooLarge, LeftOutFunction, refusal_of, FailsBy, Fails, Gives}
 use Rattle.expr.specs.Tokens.{Placed}
 use Rattle.expr.specs.Syntax.{Syntax, Definition, Source, names_in}
 use Rattle.expr.specs.Syntax as s
@@ -21,11 +22,12 @@ use Rattle.expr.specs.Definitions.{checked, number_from}
 use Rattle.expr.specs.Sources.{source_at}
 use Rattle.expr.specs.Energy.{IsEnergy, IsRead, IsWritten, IsCause, limited, program_of, trees_in}
 use Rattle.expr.proofs.Checked.{Why, taken, given, are_new, new_checked, refused}
-use Rattle.expr.proofs.Levels.{fails_same, fails_then}
+use Rattle.energy_program.proofs.FaultLaws.{fails_same, fails_then}
 use Rattle.expr.proofs.Programs.{Is, source_sound, source_complete, source_halts, source_halting}
 use Rattle.expr.proofs.TextLemmas.{text_sound, text_complete}
 use Rattle.expr.proofs.Wrong.{text_wrong}
-use Rattle.expr.proofs.Results.{ok_is, err_is, err_as, bind_ok, Split, split}
+use Rattle.line_text.proofs.StepLaws.{bind_ok, Split, split}
+use Rattle.expr.proofs.Results.{ok_is, err_is, err_as}
 
 -- ---- the steps of reading
 

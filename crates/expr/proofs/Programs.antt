@@ -1,6 +1,7 @@
 -- A body and the definitions behind it are read where the grammar says so, and halt as the tokens say.
 use Rattle.std.proofs.Common.{◌≡◌, ◌⊎◌, inl, inr, ℕ, zero, suc, ◌<◌, ◌≤◌, Bool, true, false, List, [], ◌∷◌, ◌++◌, length, Option, Some, None, Result, Ok, Err, refl, sym, ap, subst, ◌∙◌, arith}
-use Rattle.energy_program.specs.Faults.{Refusal, UnexpectedToken, TooLarge, ◌>>=◌}
+use Rattle.line_text.specs.Steps.{◌>>=◌}
+use Rattle.energy_program.specs.Faults.{Refusal, UnexpectedToken, TooLarge}
 use Rattle.expr.specs.Parsing.{SignOf, offset, open_sign, caret_sign, sum_sign, product_sign, expr_at}
 use Rattle.expr.specs.Sources.{semicolon_sign, name_sign, after_semicolons, equals, Heading, no_heading, named_by, named_at, heading_by, heading_at, Definitions, before, defined, definitions_at, source_at}
 use Rattle.expr.specs.Syntax.{Syntax, Definition, Source}
@@ -14,7 +15,8 @@ use Rattle.expr.proofs.Behind.{full_none}
 use Rattle.expr.proofs.Sound.{Begins, expr_sound}
 use Rattle.expr.proofs.Complete.{Answers, expr_complete}
 use Rattle.expr.proofs.Halting.{IsHalting, IsOther, other, expr_halts, expr_halting}
-use Rattle.expr.proofs.Results.{some_is, ok_is, err_is, err_as, bind_ok, Split, split}
+use Rattle.line_text.proofs.StepLaws.{bind_ok, Split, split}
+use Rattle.expr.proofs.Results.{some_is, ok_is, err_is, err_as}
 
 abbrev Rest : Type 1
 Rest = List Placed → Type 0

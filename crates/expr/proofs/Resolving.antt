@@ -4,11 +4,12 @@ use Rattle.std.specs.Prelude.{◌&&◌}
 use Rattle.std.proofs.lemmas.Bool.{and_parts}
 use Rattle.std.proofs.lemmas.List.{append-nil}
 use Rattle.energy_program.specs.declared.faults.ExprFault.{ExprFault}
-use Rattle.energy_program.specs.Faults.{Refusal, Fails, ◌>>=◌}
+use Rattle.line_text.specs.Steps.{◌>>=◌}
+use Rattle.energy_program.specs.Faults.{Refusal, Fails}
 use Rattle.energy_program.specs.Tree.{Tree, are_scoped, is_scoped}
 use Rattle.expr.specs.Syntax.{Definition, names_in}
 use Rattle.expr.specs.Uses.{resolved, all_resolved}
-use Rattle.expr.proofs.Levels.{fails_then, fails_same}
+use Rattle.energy_program.proofs.FaultLaws.{fails_then, fails_same}
 
 abbrev pub Several : Type 0
 Several = Result (List Tree) Refusal

@@ -6,7 +6,7 @@ use Rattle.energy_program.specs.declared.callees.Callee.{Callee}
 use Rattle.energy_program.specs.declared.trees.Operator.{Operator}
 use Rattle.energy_program.specs.declared.trees.Operator.TheVariants as op
 use Rattle.expr.specs.Calls.{called}
-use Rattle.energy_program.specs.Faults.{◌>>=◌}
+use Rattle.line_text.specs.Steps.{◌>>=◌}
 use Rattle.energy_program.specs.Names.{function_of}
 use Rattle.expr.specs.Tokens.{Lexeme, Placed}
 use Rattle.expr.specs.Tokens as t
@@ -16,7 +16,8 @@ use Rattle.expr.specs.Syntax as tree
 use Rattle.expr.specs.Parsing.{ReadingOf, Reading, SignOf, Beginning, Numeral, Word, Group, start, on_sign, sum_sign, product_sign, minus_sign, open_sign, close_sign, caret_sign, comma_sign, close, closed, itself, operands, listed, listing, arguments_by, called_by, name_by, chain, chained, atom_by, unary_by, with_tokens, whole_sign, positive_whole, negative_whole, signed_by, signed_sign, or_bad, awaits_operand, grouped_by, unless_misplaced, grouped_at, exponent_by, exponent_at, raised_by, raised_at, powered, unary_at, term_at, expr_at}
 use Rattle.expr.specs.Grammar.{IsWhole, IsExponent, IsExpr, IsTerm, IsUnary, IsPower, IsAtom, IsArguments, IsList}
 use Rattle.expr.specs.Grammar as g
-use Rattle.expr.proofs.Results.{some_is, ok_is, bind_ok}
+use Rattle.line_text.proofs.StepLaws.{bind_ok}
+use Rattle.expr.proofs.Results.{some_is, ok_is}
 
 abbrev pub RuleOf : Type 0 → Type 1
 RuleOf X = List Placed → X → Type 0

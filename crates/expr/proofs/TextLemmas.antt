@@ -9,7 +9,8 @@ use Rattle.fixed.specs.declared.faults.NumFault.{NumFault}
 use Rattle.fixed.specs.Numerals.{Fraction, no_point, point, Numeral, IsNumeral, fraction_digits, fraction_text, exponent_text, numeral_text, value_of}
 use Rattle.expr.specs.Tokens.{Lexeme, Placed}
 use Rattle.expr.specs.Tokens as t
-use Rattle.expr.specs.Bytes.{is_space, begins_number, is_name_start, is_word}
+use Rattle.line_text.specs.Identifiers.{is_identifier_start, is_identifier_continue}
+use Rattle.expr.specs.Bytes.{is_space, begins_number}
 use Rattle.expr.specs.Numerals.{whole_in, Ends, number_at, with_rest}
 use Rattle.expr.specs.Lexing.{symbol_of, TokenRead, number_token, symbol_token, token_at, Tokens, with_front, go_on, tokens_from, tokens_of}
 use Rattle.expr.specs.Text.{Every, Stops, IsToken, IsFront, IsText}
@@ -92,15 +93,15 @@ number_front bits ts k after (Ok (z, rest)) h e =
     moved bits ts (t.Number z (whole_in (take (length ts - length rest) ts))) rest k after e
     (record { front = numeral_text n.numeral; parts = sym n.parts; spelled = rw text (g.number n.is_numeral n.ends n.value) })
 
-name_front : (bits b : ℕ) (rest : List ℕ) (k : Lexeme) (after : List ℕ) → is_name_start b ≡ true → ◌≡◌ {A = TokenRead} (Ok (t.Name (take (prefix_len is_word (b ∷ rest)) (b ∷ rest)), drop (prefix_len is_word (b ∷ rest)) (b ∷ rest))) (Ok (k, after)) → Front bits (b ∷ rest) k after
+name_front : (bits b : ℕ) (rest : List ℕ) (k : Lexeme) (after : List ℕ) → is_identifier_start b ≡ true → ◌≡◌ {A = TokenRead} (Ok (t.Name (take (prefix_len is_identifier_continue (b ∷ rest)) (b ∷ rest)), drop (prefix_len is_identifier_continue (b ∷ rest)) (b ∷ rest))) (Ok (k, after)) → Front bits (b ∷ rest) k after
 name_front bits b rest k after d e =
-    let n = prefix_len is_word rest in
-    let e' = subst (λ (m : ℕ). ◌≡◌ {A = TokenRead} (Ok (t.Name (take m (b ∷ rest)), drop m (b ∷ rest))) (Ok (k, after))) (prefix_more is_word b rest (word_start b d)) e in
+    let n = prefix_len is_identifier_continue rest in
+    let e' = subst (λ (m : ℕ). ◌≡◌ {A = TokenRead} (Ok (t.Name (take m (b ∷ rest)), drop m (b ∷ rest))) (Ok (k, after))) (prefix_more is_identifier_continue b rest (word_start b d)) e in
     moved bits (b ∷ rest) (t.Name (b ∷ take n rest)) (drop n rest) k after e'
-    (record { front = b ∷ take n rest; parts = ap (λ (z : List ℕ). b ∷ z) (sym (take-append-drop n rest)); spelled = g.name d (span_every is_word rest) (span_stops is_word rest) })
+    (record { front = b ∷ take n rest; parts = ap (λ (z : List ℕ). b ∷ z) (sym (take-append-drop n rest)); spelled = g.name d (span_every is_identifier_continue rest) (span_stops is_identifier_continue rest) })
 
-name_case : (bits b : ℕ) (rest : List ℕ) (k : Lexeme) (after : List ℕ) (c : Bool) → is_name_start b ≡ c
-    → cond c (Ok (t.Name (take (prefix_len is_word (b ∷ rest)) (b ∷ rest)), drop (prefix_len is_word (b ∷ rest)) (b ∷ rest))) (symbol_token rest (symbol_of b)) ≡ Ok (k, after) → Front bits (b ∷ rest) k after
+name_case : (bits b : ℕ) (rest : List ℕ) (k : Lexeme) (after : List ℕ) (c : Bool) → is_identifier_start b ≡ c
+    → cond c (Ok (t.Name (take (prefix_len is_identifier_continue (b ∷ rest)) (b ∷ rest)), drop (prefix_len is_identifier_continue (b ∷ rest)) (b ∷ rest))) (symbol_token rest (symbol_of b)) ≡ Ok (k, after) → Front bits (b ∷ rest) k after
 name_case bits b rest k after true d e = name_front bits b rest k after d e
 name_case bits b rest k after false d e = symbol_front bits b rest k after (symbol_of b) refl e
 
@@ -111,7 +112,7 @@ number_case bits ts k after other false f e = f e
 pub token_sound : (bits : ℕ) (ts : List ℕ) (k : Lexeme) (after : List ℕ) → token_at bits ts ≡ Ok (k, after) → Front bits ts k after
 unfolding token_at
 token_sound bits [] k after e = absurd cc
-token_sound bits (b ∷ rest) k after e = number_case bits (b ∷ rest) k after _ (begins_number b) (λ h. name_case bits b rest k after (is_name_start b) refl h) e
+token_sound bits (b ∷ rest) k after e = number_case bits (b ∷ rest) k after _ (begins_number b) (λ h. name_case bits b rest k after (is_identifier_start b) refl h) e
 
 -- ---- and back
 
@@ -136,7 +137,7 @@ token_number : (bits b : ℕ) (rest : List ℕ) → begins_number b ≡ true →
 unfolding token_at
 token_number bits b rest h =
     ap (λ c. cond c (number_token (b ∷ rest) (number_at bits (b ∷ rest)))
-    (cond (is_name_start b) (Ok (t.Name (take (prefix_len is_word (b ∷ rest)) (b ∷ rest)), drop (prefix_len is_word (b ∷ rest)) (b ∷ rest))) (symbol_token rest (symbol_of b)))) h
+    (cond (is_identifier_start b) (Ok (t.Name (take (prefix_len is_identifier_continue (b ∷ rest)) (b ∷ rest)), drop (prefix_len is_identifier_continue (b ∷ rest)) (b ∷ rest))) (symbol_token rest (symbol_of b)))) h
 
 numeral_token : (bits : ℕ) (n : Numeral) (z : ℤ) (rest : List ℕ) → IsNumeral n → Ends n rest → value_of bits n ≡ Ok z → token_at bits (numeral_text n ++ rest) ≡ Ok (t.Number z (whole_in (numeral_text n)), rest)
 numeral_token bits n z rest h ends v =
@@ -148,16 +149,16 @@ numeral_token bits n z rest h ends v =
     number_read : ℤ → ℕ → List ℕ → TokenRead
     number_read z n after = Ok (t.Number z n, after)
 
-start_no_number : (b : ℕ) → is_name_start b ≡ true → begins_number b ≡ false
+start_no_number : (b : ℕ) → is_identifier_start b ≡ true → begins_number b ≡ false
 start_no_number b h = grind (arith, nat_tests)
 
-name_again : (bits b : ℕ) (bs rest : List ℕ) → is_name_start b ≡ true → Every is_word bs → Stops is_word rest → token_at bits (b ∷ (bs ++ rest)) ≡ Ok (t.Name (b ∷ bs), rest)
+name_again : (bits b : ℕ) (bs rest : List ℕ) → is_identifier_start b ≡ true → Every is_identifier_continue bs → Stops is_identifier_continue rest → token_at bits (b ∷ (bs ++ rest)) ≡ Ok (t.Name (b ∷ bs), rest)
 unfolding token_at
 name_again bits b bs rest d ev st =
-    let n : prefix_len is_word (b ∷ (bs ++ rest)) ≡ length (b ∷ bs) = span_is is_word (b ∷ bs) rest (word_start b d, ev) st in
+    let n : prefix_len is_identifier_continue (b ∷ (bs ++ rest)) ≡ length (b ∷ bs) = span_is is_identifier_continue (b ∷ bs) rest (word_start b d, ev) st in
     ap (λ c. cond c (number_token (b ∷ (bs ++ rest)) (number_at bits (b ∷ (bs ++ rest))))
-    (cond (is_name_start b) (Ok (t.Name (take (prefix_len is_word (b ∷ (bs ++ rest))) (b ∷ (bs ++ rest))), drop (prefix_len is_word (b ∷ (bs ++ rest))) (b ∷ (bs ++ rest)))) (symbol_token (bs ++ rest) (symbol_of b)))) (start_no_number b d)
-    ∙ ap (λ c. cond c (name_read (prefix_len is_word (b ∷ (bs ++ rest)))) (symbol_token (bs ++ rest) (symbol_of b))) d
+    (cond (is_identifier_start b) (Ok (t.Name (take (prefix_len is_identifier_continue (b ∷ (bs ++ rest))) (b ∷ (bs ++ rest))), drop (prefix_len is_identifier_continue (b ∷ (bs ++ rest))) (b ∷ (bs ++ rest)))) (symbol_token (bs ++ rest) (symbol_of b)))) (start_no_number b d)
+    ∙ ap (λ c. cond c (name_read (prefix_len is_identifier_continue (b ∷ (bs ++ rest)))) (symbol_token (bs ++ rest) (symbol_of b))) d
     ∙ ap name_read n
     ∙ ap (λ (z : List ℕ). made (take (length (b ∷ bs)) (b ∷ (bs ++ rest))) z) (drop_at (b ∷ bs) rest (length (b ∷ bs)) refl)
     ∙ ap (λ (z : List ℕ). made z rest) (take_at (b ∷ bs) rest (length (b ∷ bs)) refl)
@@ -190,7 +191,7 @@ Begins ts = (b : ℕ) × (r : List ℕ) × (ts ≡ b ∷ r) × (is_space b ≡ f
 number_no_space : (b : ℕ) → begins_number b ≡ true → is_space b ≡ false
 number_no_space b h = grind (arith, nat_tests)
 
-start_no_space : (b : ℕ) → is_name_start b ≡ true → is_space b ≡ false
+start_no_space : (b : ℕ) → is_identifier_start b ≡ true → is_space b ≡ false
 start_no_space b h = grind (arith, nat_tests)
 
 begins : {bits : ℕ} {a rest : List ℕ} {k : Lexeme} → IsToken bits rest a k → Begins (a ++ rest)

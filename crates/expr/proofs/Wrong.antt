@@ -7,7 +7,8 @@ use Rattle.expr.specs.declared.lexer.Wrong.{Wrong}
 use Rattle.expr.specs.declared.lexer.Wrong.TheVariants as wrong
 use Rattle.expr.specs.Tokens.{Lexeme, Placed}
 use Rattle.expr.specs.Tokens as t
-use Rattle.expr.specs.Bytes.{is_space, begins_number, is_name_start, is_word}
+use Rattle.line_text.specs.Identifiers.{is_identifier_start, is_identifier_continue}
+use Rattle.expr.specs.Bytes.{is_space, begins_number}
 use Rattle.energy_program.specs.Faults.{Refusal, BadCharacter, BadNumber, NumberRange, UnexpectedToken, UnknownName, WrongArgumentCount, BadExponent, RepeatedDefinition, ReservedName, TooLarge, LeftOutFunction}
 use Rattle.expr.specs.Numerals.{number_at, after_numeral}
 use Rattle.expr.specs.Lexing.{symbol_of, TokenRead, number_token, symbol_token, token_at, Tokens, with_front, refusal_at, go_on, tokens_from, tokens_of}
@@ -88,7 +89,7 @@ text_stuck bits text f e = stuck (length text) bits (length text) 0 text f (omeg
 
 record NoStart (b : ℕ) : Type 0 where
   number : begins_number b ≡ false
-  letter : is_name_start b ≡ false
+  letter : is_identifier_start b ≡ false
   symbol : symbol_of b ≡ None
 
 head_is : (m b : ℕ) (a a' : List ℕ) → m ∷ a ≡ b ∷ a' → m ≡ b
@@ -111,7 +112,7 @@ begins_none (g.number {n = m} i ends v) b a e n =
     let same : p.byte ≡ b = head_is p.byte b p.rest (a ++ []) (sym p.parts ∙ ap (λ (z : List ℕ). z ++ []) e) in
     let h : true ≡ false = sym p.begins ∙ ap begins_number same ∙ n.number in
     absurd cc
-begins_none (g.name {b = c} {bs} d ev st) b a e n = let h : true ≡ false = sym d ∙ ap is_name_start (head_is c b bs a e) ∙ n.letter in absurd cc
+begins_none (g.name {b = c} {bs} d ev st) b a e n = let h : true ≡ false = sym d ∙ ap is_identifier_start (head_is c b bs a e) ∙ n.letter in absurd cc
 
 -- a token that is not read: by its first byte
 abbrev NumberErr : ℕ → List ℕ → Wrong → Type 0
@@ -130,12 +131,12 @@ number_err bits ts w (Ok x) h e = absurd cc
 number_err bits ts wrong.Byte (Err f) h e = absurd cc
 number_err bits ts (wrong.Number k) (Err f) h e = h ∙ number_fault f k e
 
-symbol_err : (b : ℕ) (rest : List ℕ) (w : Wrong) (o : Option Lexeme) → begins_number b ≡ false → is_name_start b ≡ false → symbol_of b ≡ o → symbol_token rest o ≡ Err w → OtherErr b w
+symbol_err : (b : ℕ) (rest : List ℕ) (w : Wrong) (o : Option Lexeme) → begins_number b ≡ false → is_identifier_start b ≡ false → symbol_of b ≡ o → symbol_token rest o ≡ Err w → OtherErr b w
 symbol_err b rest wrong.Byte None n l s e = record { number = n; letter = l; symbol = s }
 symbol_err b rest (wrong.Number f) None n l s e = absurd cc
 symbol_err b rest w (Some k) n l s e = absurd cc
 
-name_err : (b : ℕ) (x : Lexeme × List ℕ) (rest : List ℕ) (w : Wrong) (c : Bool) → begins_number b ≡ false → is_name_start b ≡ c → cond c (Ok x) (symbol_token rest (symbol_of b)) ≡ Err w → OtherErr b w
+name_err : (b : ℕ) (x : Lexeme × List ℕ) (rest : List ℕ) (w : Wrong) (c : Bool) → begins_number b ≡ false → is_identifier_start b ≡ c → cond c (Ok x) (symbol_token rest (symbol_of b)) ≡ Err w → OtherErr b w
 name_err b x rest w true n l e = absurd cc
 name_err b x rest w false n l e = symbol_err b rest w (symbol_of b) n l refl e
 
@@ -144,13 +145,13 @@ TokenErr bits b ts w true = (begins_number b ≡ true) × NumberErr bits ts w
 TokenErr bits b ts w false = OtherErr b w
 
 token_err_by : (bits b : ℕ) (rest : List ℕ) (w : Wrong) (x : Lexeme × List ℕ) (c : Bool) → begins_number b ≡ c
-    → cond c (number_token (b ∷ rest) (number_at bits (b ∷ rest))) (cond (is_name_start b) (Ok x) (symbol_token rest (symbol_of b))) ≡ Err w → TokenErr bits b (b ∷ rest) w c
+    → cond c (number_token (b ∷ rest) (number_at bits (b ∷ rest))) (cond (is_identifier_start b) (Ok x) (symbol_token rest (symbol_of b))) ≡ Err w → TokenErr bits b (b ∷ rest) w c
 token_err_by bits b rest w x true n e = (n, number_err bits (b ∷ rest) w (number_at bits (b ∷ rest)) refl e)
-token_err_by bits b rest w x false n e = name_err b x rest w (is_name_start b) n refl e
+token_err_by bits b rest w x false n e = name_err b x rest w (is_identifier_start b) n refl e
 
 token_err : (bits b : ℕ) (rest : List ℕ) (w : Wrong) → token_at bits (b ∷ rest) ≡ Err w → TokenErr bits b (b ∷ rest) w (begins_number b)
 unfolding token_at
-token_err bits b rest w e = token_err_by bits b rest w (t.Name (take (prefix_len is_word (b ∷ rest)) (b ∷ rest)), drop (prefix_len is_word (b ∷ rest)) (b ∷ rest)) (begins_number b) refl e
+token_err bits b rest w e = token_err_by bits b rest w (t.Name (take (prefix_len is_identifier_continue (b ∷ rest)) (b ∷ rest)), drop (prefix_len is_identifier_continue (b ∷ rest)) (b ∷ rest)) (begins_number b) refl e
 
 byte_none : (bits b : ℕ) (rest : List ℕ) (c : Bool) → TokenErr bits b (b ∷ rest) wrong.Byte c → is_space b ≡ false → BeginsNone b
 byte_none bits b rest true e s = absurd e.1

@@ -1,13 +1,13 @@
 -- Names of definitions: none is a variable's or reserved, and none is given twice.
-use Rattle.std.specs.Prelude.{◌≡◌, ℕ, ◌+◌, Bool, false, ◌||◌, if◌then◌else◌, List, [], ◌∷◌, ◌++◌, Option, Some, None, is_some, Result, Ok, Err}
+use Rattle.std.specs.Prelude.{◌≡◌, ℕ, Bool, false, ◌||◌, if◌then◌else◌, List, [], ◌∷◌, ◌++◌, Option, is_some, Result, Ok, Err}
+use Rattle.std.specs.List.{position_from}
 use Rattle.std.specs.Str.{bytes_eq}
 use Rattle.energy_program.specs.Faults.{Refusal, RepeatedDefinition, ReservedName}
 use Rattle.energy_program.specs.Names.{input_of, is_reserved}
 
 -- the number of the first of these that is this name, where they are numbered from i
 abbrev pub number_from : ℕ → List (List ℕ) → List ℕ → Option ℕ
-number_from i [] name = None
-number_from i (n ∷ names) name = if bytes_eq n name then Some i else number_from (i + 1) names name
+number_from i names name = position_from (λ n. bytes_eq n name) i names
 
 -- no definition may have such a name: it is reserved, or one of these variables has it
 abbrev pub is_taken : List (List ℕ) → List ℕ → Bool

@@ -3,7 +3,8 @@ use Rattle.std.specs.Prelude.{◌≡◌, ℕ, suc, ◌<◌, ◌≤◌, nat_lt, �
 use Rattle.energy_program.specs.declared.faults.ExprFault.{ExprFault}
 use Rattle.energy_program.specs.declared.faults.ExprFault.TheVariants as fault
 use Rattle.energy_program.specs.declared.programs.Program.{Program}
-use Rattle.energy_program.specs.Faults.{Refusal, BadCharacter, BadNumber, UnexpectedToken, UnknownName, WrongArgumentCount, BadExponent, NumberRange, RepeatedDefinition, ReservedName, TooLarge, LeftOutFunction, ◌>>=◌}
+use Rattle.line_text.specs.Steps.{◌>>=◌}
+use Rattle.energy_program.specs.Faults.{Refusal, BadCharacter, BadNumber, UnexpectedToken, UnknownName, WrongArgumentCount, BadExponent, NumberRange, RepeatedDefinition, ReservedName, TooLarge, LeftOutFunction}
 use Rattle.expr.specs.Definitions.{AreNew, checked, is_given, is_taken}
 use Rattle.expr.specs.Grammar.{IsProgram}
 use Rattle.expr.specs.Halting.{HaltsProgram}

@@ -7,7 +7,8 @@ use Rattle.fixed.specs.declared.faults.NumFault.TheVariants as number
 use Rattle.expr.specs.declared.lexer.Wrong.{Wrong}
 use Rattle.expr.specs.declared.lexer.Wrong.TheVariants as wrong
 use Rattle.expr.specs.declared.tokens.Kind.{Kind}
-use Rattle.expr.specs.Bytes.{is_space, begins_number, is_name_start, is_word}
+use Rattle.line_text.specs.Identifiers.{is_identifier_start, is_identifier_continue}
+use Rattle.expr.specs.Bytes.{is_space, begins_number}
 use Rattle.energy_program.specs.Faults.{Refusal, BadCharacter, BadNumber, NumberRange}
 use Rattle.expr.specs.Numerals.{number_at, whole_in}
 use Rattle.expr.specs.Tokens.{Lexeme, Placed, lexeme}
@@ -39,7 +40,7 @@ unfoldable pub token_at : ℕ → List ℕ → TokenRead
 token_at bits [] = Err wrong.Byte
 token_at bits (b ∷ rest) =
     if begins_number b then number_token (b ∷ rest) (number_at bits (b ∷ rest))
-    else (if is_name_start b then Ok (t.Name (take (prefix_len is_word (b ∷ rest)) (b ∷ rest)), drop (prefix_len is_word (b ∷ rest)) (b ∷ rest))
+    else (if is_identifier_start b then Ok (t.Name (take (prefix_len is_identifier_continue (b ∷ rest)) (b ∷ rest)), drop (prefix_len is_identifier_continue (b ∷ rest)) (b ∷ rest))
     else symbol_token rest (symbol_of b))
 
 abbrev pub ShowsToken : Result (Kind × Bor (List ℕ)) Wrong → TokenRead → Type 0

@@ -10,7 +10,8 @@ use Rattle.energy_program.specs.declared.callees.Callee.{Callee}
 use Rattle.energy_program.specs.declared.powers.Exponent.{Exponent}
 use Rattle.expr.specs.declared.syntax.Syntax as code
 use Rattle.expr.specs.declared.tokens.Token.{Token}
-use Rattle.energy_program.specs.Faults.{Refusal, UnexpectedToken, BadExponent, TooLarge, ◌>>=◌}
+use Rattle.line_text.specs.Steps.{◌>>=◌}
+use Rattle.energy_program.specs.Faults.{Refusal, UnexpectedToken, BadExponent, TooLarge}
 use Rattle.expr.specs.Calls.{called}
 use Rattle.energy_program.specs.Names.{call_refusal, function_of}
 use Rattle.expr.specs.Syntax.{Syntax, syntax_of, Arguments, Empty, One, arguments_of, with_argument}

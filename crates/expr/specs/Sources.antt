@@ -2,7 +2,8 @@
 use Rattle.std.specs.Prelude.{◌≡◌, ℕ, zero, suc, Bool, true, false, List, [], ◌∷◌, ◌++◌, Option, Some, None, Result, Ok, Err}
 use Rattle.std.specs.Borrow.{Bor}
 use Rattle.expr.specs.declared.tokens.Token.{Token}
-use Rattle.energy_program.specs.Faults.{Refusal, UnexpectedToken, TooLarge, ◌>>=◌}
+use Rattle.line_text.specs.Steps.{◌>>=◌}
+use Rattle.energy_program.specs.Faults.{Refusal, UnexpectedToken, TooLarge}
 use Rattle.expr.specs.Parsing.{Reading, SignOf, offset, with_tokens, expr_at}
 use Rattle.expr.specs.Syntax.{Definition, Source}
 use Rattle.expr.specs.Tokens.{Lexeme, Placed, placed}

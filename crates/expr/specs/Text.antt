@@ -4,7 +4,8 @@ use Rattle.fixed.specs.declared.faults.NumFault.TheVariants.{NumberRange}
 use Rattle.fixed.specs.Numerals.{Numeral, IsNumeral, numeral_text, value_of}
 use Rattle.expr.specs.Tokens.{Lexeme, Placed}
 use Rattle.expr.specs.Tokens as t
-use Rattle.expr.specs.Bytes.{is_space, begins_number, is_name_start, is_word}
+use Rattle.line_text.specs.Identifiers.{is_identifier_start, is_identifier_continue}
+use Rattle.expr.specs.Bytes.{is_space, begins_number}
 use Rattle.expr.specs.Numerals.{Ends, whole_in}
 
 abbrev pub Every : (ℕ → Bool) → List ℕ → Type 0
@@ -30,7 +31,7 @@ pub data IsToken (bits : ℕ) (rest : List ℕ) : List ℕ → Lexeme → Type 0
   semicolon : IsToken bits rest (59 ∷ []) t.Semicolon
   equals : IsToken bits rest (61 ∷ []) t.Equals
   number : {n : Numeral} {z : ℤ} → IsNumeral n → Ends n rest → value_of bits n ≡ Ok z → IsToken bits rest (numeral_text n) (t.Number z (whole_in (numeral_text n)))
-  name : {b : ℕ} {bs : List ℕ} → is_name_start b ≡ true → Every is_word bs → Stops is_word rest → IsToken bits rest (b ∷ bs) (t.Name (b ∷ bs))
+  name : {b : ℕ} {bs : List ℕ} → is_identifier_start b ≡ true → Every is_identifier_continue bs → Stops is_identifier_continue rest → IsToken bits rest (b ∷ bs) (t.Name (b ∷ bs))
 
 -- From this place on the text begins with these tokens, each with its place, and goes on from that place with the rest.
 pub data IsFront (bits : ℕ) : ℕ → List ℕ → List Placed → ℕ → List ℕ → Type 0 where

@@ -1,7 +1,8 @@
 -- Names put for what they stand for, from left to right, as far as the first that stands for nothing. A name is one of the
 -- variables, or one that a later definition gives.
 use Rattle.std.specs.Prelude.{ℕ, ◌+◌, List, [], ◌∷◌, Option, Some, None, Result, Ok, Err}
-use Rattle.energy_program.specs.Faults.{Refusal, UnknownName, ◌>>=◌}
+use Rattle.line_text.specs.Steps.{◌>>=◌}
+use Rattle.energy_program.specs.Faults.{Refusal, UnknownName}
 use Rattle.energy_program.specs.Names.{input_of}
 use Rattle.expr.specs.Definitions.{number_from}
 use Rattle.expr.specs.Syntax.{Syntax, Definition, Source, names_in}

@@ -6,7 +6,7 @@ ghost use Rattle.expr.specs.Definitions.{checked, is_taken, number_from};
 ghost use Rattle.expr.specs.Syntax.{definition_of, names_in};
 
 use crate::sources::Definition;
-use energy_program::{ExprFault, Names, is_reserved, repeated, taken};
+use energy_program::{ExprFault, Names, is_reserved};
 use std::alloc::Allocator;
 
 /// The number of the first of these definitions that gives the name, where they are numbered from the first.
@@ -49,10 +49,10 @@ pub fn check_names<A: Allocator + Copy>(
     for number in 0..definitions.len() {
         let name = definitions[number].name;
         if is_taken(names, name) {
-            return Err(taken(alloc, name));
+            return Err(ExprFault::reserved_name(alloc, name));
         }
         if number_from(0, &definitions[..number], name).is_some() {
-            return Err(repeated(alloc, name));
+            return Err(ExprFault::repeated_definition(alloc, name));
         }
     }
     Ok(())

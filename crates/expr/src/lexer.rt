@@ -4,13 +4,15 @@ ghost use Rattle.std.specs.List.{prefix_len};
 ghost use Rattle.fixed.specs.Fractions.{bits_of};
 ghost use Rattle.energy_program.specs.Faults.{Gives, Says};
 ghost use Rattle.expr.specs.Tokens.{placed_items};
-ghost use Rattle.expr.specs.Bytes.{is_space, begins_number, is_name_start, is_word};
+ghost use Rattle.line_text.specs.Identifiers.{is_identifier_continue};
+ghost use Rattle.expr.specs.Bytes.{is_space, begins_number};
 ghost use Rattle.expr.specs.Lexing.{symbol_of, ShowsKind, token_at, ShowsToken, refusal_at, tokens_of};
 
 use crate::numerals::{number, whole};
 use crate::tokens::{Kind, Token};
 use energy_program::ExprFault;
 use fixed::{Frac, NumFault};
+use line_text::{is_identifier_continue, is_identifier_start};
 use std::alloc::Allocator;
 
 /// What is wrong at the front of a text.
@@ -34,18 +36,6 @@ fn begins_number(byte: u8) -> bool
     byte.is_ascii_digit() || byte == b'.'
 }
 
-fn is_name_start(byte: u8) -> bool
-    ensures { result ≡ is_name_start byte }
-{
-    byte == b'_' || byte.is_ascii_alphabetic()
-}
-
-fn is_word(byte: u8) -> bool
-    ensures { result ≡ is_word byte }
-{
-    is_name_start(byte) || byte.is_ascii_digit()
-}
-
 #[tactic(auto, unfolding(crate::specs::Lexing::symbol_of))]
 fn symbol_of<'a>(byte: u8) -> Option<Kind<'a>>
     ensures { ShowsKind result (symbol_of byte) }
@@ -67,10 +57,12 @@ fn symbol_of<'a>(byte: u8) -> Option<Kind<'a>>
 
 // How many bytes of a name a text begins with.
 fn word_len(text: &[u8]) -> usize
-    ensures value { result ≡ prefix_len is_word text.now }
+    ensures value { result ≡ prefix_len is_identifier_continue text.now }
     ensures bound { result ≤ length text.now }
 {
-    text.iter().take_while(|byte| is_word(**byte)).count()
+    text.iter()
+        .take_while(|byte| is_identifier_continue(**byte))
+        .count()
 }
 
 // The token at the front, and the bytes after it.
@@ -89,7 +81,7 @@ fn token_at<'a>(frac: Frac, text: &'a [u8]) -> Result<(Kind<'a>, &'a [u8]), Wron
                     }
                     Err(fault) => Err(Wrong::Number(fault)),
                 }
-            } else if is_name_start(*first) {
+            } else if is_identifier_start(*first) {
                 let (name, after) = text.split_at(word_len(text));
                 Ok((Kind::Name(name), after))
             } else {

@@ -11,8 +11,6 @@ mod parser;
 mod parts;
 mod sources;
 mod syntax;
-#[cfg(test)]
-mod tests;
 mod tokens;
 mod uses;
 

@@ -11,9 +11,7 @@ use crate::calls::Arguments;
 use crate::exponents::{awaits_operand, caret_sign, signed_sign};
 use crate::syntax::Syntax;
 use crate::tokens::{Kind, Token};
-use energy_program::{
-    Callee, Exponent, ExprFault, Operator, call_refusal, function_of, wrong_count,
-};
+use energy_program::{Callee, Exponent, ExprFault, Operator, function_of};
 use fixed::Fx;
 use std::alloc::Allocator;
 
@@ -338,7 +336,7 @@ impl<A: Allocator + Copy> Parser<A> {
         ensures { Gives seen result (call_at self.now.end levels name.now (placed tokens.now)) }
     {
         match function_of(name) {
-            None => Err(call_refusal(self.alloc, name)),
+            None => Err(ExprFault::no_function(self.alloc, name)),
             Some(callee) => {
                 let (arguments, rest) = self.arguments(tokens, levels)?;
                 Ok((self.called(name, callee, arguments)?, rest))
@@ -388,17 +386,17 @@ impl<A: Allocator + Copy> Parser<A> {
         match callee {
             Callee::One(function) => match arguments {
                 Arguments::One(part) => Ok(Syntax::Applied(function, Box::new(self.alloc, part)?)),
-                _ => Err(wrong_count(self.alloc, name)),
+                _ => Err(ExprFault::wrong_argument_count(self.alloc, name)),
             },
             Callee::Two(operator) => match arguments {
                 Arguments::Two(left, right) => self.binary(operator, left, right),
-                _ => Err(wrong_count(self.alloc, name)),
+                _ => Err(ExprFault::wrong_argument_count(self.alloc, name)),
             },
             Callee::Three => match arguments {
                 Arguments::Three(condition, chosen, otherwise) => {
                     self.select(condition, chosen, otherwise)
                 }
-                _ => Err(wrong_count(self.alloc, name)),
+                _ => Err(ExprFault::wrong_argument_count(self.alloc, name)),
             },
         }
     }

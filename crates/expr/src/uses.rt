@@ -12,7 +12,7 @@ use crate::definitions::number_from;
 use crate::parts::{Part, application, choice, negative, operation, raised};
 use crate::sources::{Definition, Source};
 use crate::syntax::Syntax;
-use energy_program::{Expr, ExprFault, Names, Program, unknown};
+use energy_program::{Expr, ExprFault, Names, Program};
 use std::alloc::Allocator;
 
 /// What an expression may name: the variables, and the later definitions, which are numbered from the first.
@@ -33,7 +33,7 @@ fn used<A: Allocator + Copy>(alloc: A, scope: &Scope<A>, name: &[u8]) -> Part<A>
         Some(input) => Ok(Expr::Input(input)),
         None => match number_from(scope.first, scope.later, name) {
             Some(number) => Ok(Expr::Definition(number)),
-            None => Err(unknown(alloc, name)),
+            None => Err(ExprFault::unknown_name(alloc, name)),
         },
     }
 }

@@ -1,4 +1,5 @@
-// Estimates in floating point. Nothing is promised of how near they are: whoever takes one corrects it exactly, and only the time depends on it.
+// Estimates in floating point. Nothing is promised of how near they are: whoever takes one corrects it exactly, and
+// only the time depends on it.
 ghost use Rattle.std.specs.Prelude.{◌<◌};
 
 use std::num::{nearest_u64_to_f64, saturating_f64_to_u64};

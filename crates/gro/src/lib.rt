@@ -18,6 +18,3 @@ pub use frames::{GroAtom, GroFrame};
 pub use output::{Out, OutFault, write_all};
 pub use reading::{pick, read_frames};
 pub use writing::write;
-
-#[cfg(test)]
-mod tests;

@@ -1,11 +1,9 @@
 -- Names of a job's energy, and its kernel's table.
-use Rattle.std.proofs.Common.{◌≡◌, ℕ, ◌+◌, ◌<◌, ◌≤◌, arith, List, [], ◌∷◌, length, ℤ, refl, sym, ap, ◌∙◌, subst, get_or}
-use Rattle.std.specs.Prelude.{map, IsTrue}
+use Rattle.std.proofs.Common.{◌≡◌, ℕ, ◌<◌, ◌≤◌, arith, List, [], ◌∷◌, length, ℤ, refl, sym, ap, ◌∙◌}
+use Rattle.std.specs.Prelude.{map}
 use Rattle.std.specs.List.{All}
 use Rattle.std.proofs.lemmas.List.{length-map}
-use Rattle.std.proofs.lemmas.List.Elements.{All-cons, All-head, All-map, All-nil, All-same, All-tail, All-weaker}
-use Rattle.energy_program.specs.Names.{is_name}
-use Rattle.job.specs.Forms.{is_identifier}
+use Rattle.std.proofs.lemmas.List.Elements.{All-cons, All-head, All-map, All-nil, All-same, All-tail}
 use Rattle.energy_program.specs.Tree as trees
 use Rattle.job.specs.Views.{global_value, job_value, type_value}
 use Rattle.job.specs.declared.jobs.AtomType.{AtomType}
@@ -30,16 +28,6 @@ all_alike P f h xs ys e a = all_of_map P f xs (All-same P (map f xs) (map h ys) 
 
 pub length-alike : {X Y Z : Type 0} (f : X → Z) (h : Y → Z) (xs : List X) (ys : List Y) → map f xs ≡ map h ys → length xs ≡ length ys
 length-alike f h xs ys e = sym (length-map xs f) ∙ ap length e ∙ length-map ys h
-
--- a job's names have the form of names
-form_is : (name : List ℕ) → IsTrue (is_identifier name) → IsTrue (is_name name)
-unfolding is_identifier
-form_is [] h = h
-form_is (b ∷ bs) h = h
-
-pub are_names : {X Y : Type 0} (f : X → List ℕ) (h : Y → List ℕ) (xs : List X) (ys : List Y) → map f xs ≡ map h ys → All (λ y. IsTrue (is_identifier (h y))) ys → All (λ x. IsTrue (is_name (f x))) xs
-are_names f h xs ys e named =
-    all_alike (λ n. IsTrue (is_name n)) f h xs ys e (All-weaker (λ y. IsTrue (is_identifier (h y))) (λ y. IsTrue (is_name (h y))) (λ y. form_is (h y)) ys named)
 
 pub names-views : {A : Type 0} (globals : List (Global A)) → global_names (map global_value globals) ≡ map (λ g. g.name.items) globals
 names-views [] = refl

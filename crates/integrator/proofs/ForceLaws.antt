@@ -1,5 +1,5 @@
 -- Forces added up pair by pair are the exact sums over all pairs.
-use Rattle.std.proofs.Common.{◌≡◌, ◌≢◌, ℕ, zero, suc, ◌+◌, ◌<◌, ◌≤◌, true, false, List, [], ◌∷◌, ◌++◌, length, replicate, get_or, ℤ, pos, ◌+ℤ◌, Option, Some, None, Result, Ok, Err, arith, refl, ap, sym, ◌∙◌, zero-add, inl, inr}
+use Rattle.std.proofs.Common.{◌≡◌, ◌≢◌, ℕ, zero, suc, ◌+◌, ◌<◌, ◌≤◌, true, false, List, [], ◌∷◌, ◌++◌, length, replicate, get_or, ℤ, pos, ◌+ℤ◌, Option, Some, None, Ok, Err, arith, refl, ap, sym, ◌∙◌, zero-add, inl, inr}
 use Rattle.std.specs.Prelude.{is_some, is_none, unwrap_or, map, ◌==◌}
 use Rattle.std.specs.List.{find, list_all}
 use Rattle.std.proofs.lemmas.Int.{ints}
@@ -17,26 +17,30 @@ use Rattle.integrator.specs.Adding.{on_force, with_force, with_pair, with_pairs}
 pub IsThree : List ℤ → Type 0
 IsThree v = v ≡ component v 0 ∷ component v 1 ∷ component v 2 ∷ []
 
-three : (a b c d e f : ℤ) → a ≡ d → b ≡ e → c ≡ f → a ∷ b ∷ c ∷ [] ≡ d ∷ e ∷ f ∷ []
+pub three : (a b c d e f : ℤ) → a ≡ d → b ≡ e → c ≡ f → a ∷ b ∷ c ∷ [] ≡ d ∷ e ∷ f ∷ []
 three a b c d e f p q r = cc
 
 plus-three : (u v : List ℤ) → IsThree (plus u v)
 unfolding IsThree
 plus-three u v = refl
 
-none-three : IsThree none
+pub three_parts : (v : List ℤ) → IsThree v → v ≡ component v 0 ∷ component v 1 ∷ component v 2 ∷ []
+unfolding IsThree
+three_parts v h = h
+
+pub none-three : IsThree none
 unfolding IsThree
 none-three = refl
 
-plus-none : (v : List ℤ) → IsThree v → plus v none ≡ v
+pub plus-none : (v : List ℤ) → IsThree v → plus v none ≡ v
 unfolding IsThree
 plus-none v h = three (component v 0 +ℤ pos 0) (component v 1 +ℤ pos 0) (component v 2 +ℤ pos 0) (component v 0) (component v 1) (component v 2) (omega (arith, ints)) (omega (arith, ints)) (omega (arith, ints)) ∙ sym h
 
-none-plus : (v : List ℤ) → IsThree v → plus none v ≡ v
+pub none-plus : (v : List ℤ) → IsThree v → plus none v ≡ v
 unfolding IsThree
 none-plus v h = three (pos 0 +ℤ component v 0) (pos 0 +ℤ component v 1) (pos 0 +ℤ component v 2) (component v 0) (component v 1) (component v 2) (omega (arith, ints)) (omega (arith, ints)) (omega (arith, ints)) ∙ sym h
 
-plus-assoc : (u v w : List ℤ) → plus (plus u v) w ≡ plus u (plus v w)
+pub plus-assoc : (u v w : List ℤ) → plus (plus u v) w ≡ plus u (plus v w)
 plus-assoc u v w =
     three ((component u 0 +ℤ component v 0) +ℤ component w 0) ((component u 1 +ℤ component v 1) +ℤ component w 1) ((component u 2 +ℤ component v 2) +ℤ component w 2)
     (component u 0 +ℤ (component v 0 +ℤ component w 0)) (component u 1 +ℤ (component v 1 +ℤ component w 1)) (component u 2 +ℤ (component v 2 +ℤ component w 2))
@@ -65,6 +69,10 @@ pub ArePairsOf : ℕ → List (ℕ × ℕ) → Type 0
 ArePairsOf n [] = Unit {0}
 ArePairsOf n (p ∷ ps) = IsPairOf n p × ArePairsOf n ps
 
+pub pairs_parts : (n : ℕ) (p : ℕ × ℕ) (ps : List (ℕ × ℕ)) → ArePairsOf n (p ∷ ps) → IsPairOf n p × ArePairsOf n ps
+unfolding ArePairsOf
+pairs_parts n p ps h = h
+
 pairs-append : (n : ℕ) (ps qs : List (ℕ × ℕ)) → ArePairsOf n ps → ArePairsOf n qs → ArePairsOf n (ps ++ qs)
 unfolding ArePairsOf
 pairs-append n [] qs p q = q
@@ -83,10 +91,10 @@ frame_pairs n i (suc m) h =
 
 -- ---- one pair
 
-same_share : (i j : ℕ) (v : List ℤ) → share_of (i, j) v i ≡ v
+pub same_share : (i j : ℕ) (v : List ℤ) → share_of (i, j) v i ≡ v
 same_share i j v = let e : (i == i) ≡ true = grind (arith, nat_tests) in rw e refl
 
-higher_share : (i j : ℕ) (v : List ℤ) → i ≢ j → share_of (i, j) v j ≡ negative v
+pub higher_share : (i j : ℕ) (v : List ℤ) → i ≢ j → share_of (i, j) v j ≡ negative v
 higher_share i j v n =
     let e : (i == j) ≡ false = grind (arith, nat_tests) in
     let f : (j == j) ≡ true = grind (arith, nat_tests) in

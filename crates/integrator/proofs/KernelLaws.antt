@@ -1,10 +1,10 @@
 -- The end of a run is found among as many instructions as the code has, and code that computes a slope gives it.
-use Rattle.std.proofs.Common.{◌≡◌, ℕ, zero, suc, ◌+◌, ◌<◌, ◌≤◌, ◌++◌, [], length-append, Bool, true, false, List, length, Option, Some, None, Result, Ok, Err, ℤ, arith, refl, sym, ap, ◌∙◌, subst, ⊎_elim, inl, inr}
-use Rattle.std.specs.Prelude.{slice_get, ◌⊎◌, IsSome}
+use Rattle.std.proofs.Common.{◌≡◌, ℕ, zero, suc, ◌+◌, ◌<◌, ◌≤◌, ◌++◌, [], length-append, true, List, length, Option, Some, None, Result, Ok, Err, ℤ, arith, refl, sym, ap, ◌∙◌, ⊎_elim, inl, inr}
+use Rattle.std.specs.Prelude.{slice_get}
 use Rattle.std.specs.Option.{option_and_then}
 use Rattle.std.specs.List.{All}
 use Rattle.std.proofs.lemmas.Bool.{cases_lt}
-use Rattle.std.proofs.lemmas.Option.{slice_get_past, slice_get_within}
+use Rattle.std.proofs.lemmas.Option.{slice_get_within}
 use Rattle.derivative.specs.Slope.{slope_of}
 use Rattle.energy_program.specs.Tree.{Tree, meaning, substituted}
 use Rattle.energy_program.specs.Tree as trees
@@ -17,8 +17,7 @@ use Rattle.kernel_code.specs.Code.{JumpsForward}
 use Rattle.kernel_code.specs.Machine.{State, Turn, act, after, end_of, goes_on, next_state, start, turn_at, Ends, IsOperation}
 use Rattle.kernel_code.specs.Tables.{Table, inputs_of, row_of}
 use Rattle.kernel_code.proofs.Runs.{one_end, turn_leads}
-use Rattle.kernel_compiler.specs.Compiled.{Computes, LacksDefinition}
-use Rattle.energy_program.specs.Uses.{Needs}
+use Rattle.kernel_compiler.specs.Compiled.{Computes}
 use Rattle.energy_program.specs.Programs.{Trees}
 use Rattle.integrator.proofs.Constructors.{none_is_no_some, some_same}
 use Rattle.integrator.specs.Kernels.{ComputesSlope, GivesSlope, end_after, fault_of, first_from, is_operation, operation_fault, or_else, outcome_of, where_given}

@@ -1,5 +1,5 @@
 -- The pairs of a frame in order, and forces added up over them.
-use Rattle.std.proofs.Common.{◌≡◌, ℕ, zero, suc, ◌+◌, ◌-◌, ◌<◌, ◌≤◌, List, [], ◌∷◌, ◌++◌, ℤ, Option, Some, None, Result, Ok, Err, arith, refl, ap, sym, add-one}
+use Rattle.std.proofs.Common.{◌≡◌, ℕ, zero, suc, ◌+◌, ◌-◌, ◌<◌, ◌≤◌, List, [], ◌∷◌, ◌++◌, ℤ, Option, Some, None, Ok, Err, arith, refl, ap, sym, add-one}
 use Rattle.integrator.proofs.Constructors.{err_is_no_ok, ok_same}
 use Rattle.integrator.specs.Forces.{pairs_with, pairs_from}
 use Rattle.integrator.specs.Adding.{on_force, with_pair, with_pairs}

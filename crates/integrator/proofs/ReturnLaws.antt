@@ -9,6 +9,8 @@ use Rattle.fixed.specs.Arithmetic.{in_range}
 use Rattle.job.specs.JobText.{reading_of, limits}
 use Rattle.job.specs.Values.{JobValue, TypeValue}
 use Rattle.line_text.specs.Parts.{AreThree}
+use Rattle.line_text.specs.Steps.{◌>>=◌}
+use Rattle.line_text.proofs.StepLaws.{bind_ok}
 use lib.Signed.{mag}
 use Rattle.std.proofs.lemmas.Bool.{ltb-true, lt-ltb}
 use Rattle.state.specs.StateReading.{state_of}
@@ -17,7 +19,7 @@ use Rattle.integrator.proofs.Constructors.{err_is_no_ok, none_is_no_some, some_s
 use Rattle.integrator.specs.Frames.{AreFrames, ArePlaces, Frames, frames, opposite, places_of, turns}
 use Rattle.integrator.specs.States.{counter_after, counter_at, current_frame, frames_of, moved_state, nobody, placed, placed_atoms, previous_frame}
 use Rattle.integrator.specs.Energies.{Energy, energy_of}
-use Rattle.integrator.specs.Starts.{Refusal, Start, atom_types, cutoff_too_long, dynamics_from, energy_refused, has_room, in_counter, job_refused, known, or_refused, ready_of, require, ring_of, state_refused, step_range, type_with, start_of, start_with, ◌>>=◌}
+use Rattle.integrator.specs.Starts.{Refusal, Start, atom_types, Law, cutoff_too_long, energy_refused, has_room, in_counter, job_refused, known, or_refused, require, ring_of, state_refused, step_range, type_with, start_at, start_of, start_with, system_of, types_of}
 use Rattle.integrator.specs.Runs.{IsRun}
 use Rattle.state.proofs.StateReadsAgain.{one_text}
 use Rattle.integrator.proofs.StartLaws.{started}
@@ -142,7 +144,7 @@ fits_is : (z : ℤ) → in_range z ≡ true → mag z < 2 ^ 63
 fits_is (pos n) h = ltb-true n (2 ^ 63) h
 fits_is (negsuc n) h = ltb-true n (2 ^ 63) h
 
-in_range_is : (z : ℤ) → mag z < 2 ^ 63 → in_range z ≡ true
+pub in_range_is : (z : ℤ) → mag z < 2 ^ 63 → in_range z ≡ true
 in_range_is (pos n) h = lt-ltb n (2 ^ 63) h
 in_range_is (negsuc n) h = lt-ltb n (2 ^ 63) h
 
@@ -176,7 +178,7 @@ counter_returns w step k n fits e =
 -- ---- the start
 
 -- what a start was made of
-pub record Parts (job state : List ℕ) (w : Direction) (n : ℕ) (start : Start) : Type 0 where
+pub record Parts (law : Law) (job state : List ℕ) (w : Direction) (n : ℕ) (start : Start) : Type 0 where
   pub j : JobValue
   pub s : StateView
   pub energy : Energy
@@ -188,11 +190,7 @@ pub record Parts (job state : List ℕ) (w : Direction) (n : ℕ) (start : Start
   pub typed : atom_types j.types 1 s.atoms ≡ Ok types
   pub room : has_room j.cutoff (ring_of s.sides) ≡ true
   pub counted : counter_after w s.step n ≡ Some counter
-  pub start_is : start ≡ record { state = s; dynamics = dynamics_from j s energy types; counter = counter }
-
-bind_ok : {X Y : Type 0} → (r : Result X Refusal) (f : X → Result Y Refusal) (y : Y) → (r >>= f) ≡ Ok y → (x : X) × (r ≡ Ok x) × (f x ≡ Ok y)
-bind_ok (Ok x) f y e = (x, refl, e)
-bind_ok {X} {Y} (Err r) f y e = absurd (err_is_no_ok r y e)
+  pub start_is : start ≡ start_at law j s (energy, types) counter
 
 refused_ok : {X R : Type 0} → (refused : R → Refusal) (r : Result X R) (x : X) → or_refused refused r ≡ Ok x → r ≡ Ok x
 refused_ok refused (Ok y) x e = cc
@@ -202,43 +200,65 @@ required : (b : Bool) (refusal : Refusal) (u : Unit {0}) → require b refusal �
 required true refusal u e = refl
 required false refusal u e = absurd (err_is_no_ok refusal u e)
 
-pair_same : (x y : List ℕ × ℤ) → ◌≡◌ {A = Result (List ℕ × ℤ) Refusal} (Ok x) (Ok y) → x ≡ y
+pair_same : {X Y : Type 0} → (x y : X × Y) → ◌≡◌ {A = Result (X × Y) Refusal} (Ok x) (Ok y) → x ≡ y
 pair_same x y e = cc
+
+list_same : (x y : List ℕ) → ◌≡◌ {A = Result (List ℕ) Refusal} (Ok x) (Ok y) → x ≡ y
+list_same x y e = cc
 
 counted_ok : (o : Option ℤ) (k : ℤ) → in_counter o ≡ Ok k → o ≡ Some k
 counted_ok (Some z) k e = cc
 counted_ok None k e = absurd (err_is_no_ok step_range k e)
 
-parts_of : (job state : List ℕ) (w : Direction) (n : ℕ) (start : Start) → start_of job state w n ≡ Ok start → Parts job state w n start
-unfolding start_of start_with ready_of
-parts_of job state w n start e =
+-- what a system was made of
+pub record SystemParts (j : JobValue) (s : StateView) (system : Energy × List ℕ) : Type 0 where
+  pub energy_read : energy_of j ≡ Ok system.0
+  pub typed : atom_types j.types 1 s.atoms ≡ Ok system.1
+  pub room : has_room j.cutoff (ring_of s.sides) ≡ true
+
+pub system_parts : (j : JobValue) (s : StateView) (system : Energy × List ℕ) → system_of j s ≡ Ok system → SystemParts j s system
+unfolding system_of types_of
+system_parts j s system e =
+    let a = bind_ok _ _ system e in
+    let b = bind_ok _ _ system a.2 in
+    let c = bind_ok _ _ b.0 b.1 in
+    let d = bind_ok _ _ b.0 c.2 in
+    let types : c.0 ≡ b.0 = list_same c.0 b.0 d.2 in
+    let same : (a.0, b.0) ≡ system = pair_same (a.0, b.0) system b.2 in
+    rw (← same)
+    (record {
+      energy_read = refused_ok energy_refused (energy_of j) a.0 a.1;
+      typed = c.1 ∙ ap Ok types;
+      room = required (has_room j.cutoff (ring_of s.sides)) cutoff_too_long d.0 d.1;
+    })
+
+pub parts_of : (law : Law) (job state : List ℕ) (w : Direction) (n : ℕ) (start : Start) → start_of law job state w n ≡ Ok start → Parts law job state w n start
+unfolding start_of start_with
+parts_of law job state w n start e =
     let a = bind_ok _ _ start e in
     let b = bind_ok _ _ start a.2 in
     let c = bind_ok _ _ start b.2 in
-    let ready = bind_ok _ _ start c.2 in
-    let d = bind_ok _ _ ready.0 ready.1 in
-    let r = bind_ok _ _ ready.0 d.2 in
-    let k = bind_ok _ _ ready.0 r.2 in
-    let same : (d.0, k.0) ≡ ready.0 = pair_same (d.0, k.0) ready.0 k.2 in
+    let k = bind_ok _ _ start c.2 in
+    let parts = system_parts a.0 b.0 c.0 c.1 in
     record {
       j = a.0;
       s = b.0;
-      energy = c.0;
-      types = d.0;
+      energy = c.0.0;
+      types = c.0.1;
       counter = k.0;
       job_read = refused_ok job_refused (reading_of limits job) a.0 a.1;
       state_read = refused_ok state_refused (state_of state) b.0 b.1;
-      energy_read = refused_ok energy_refused (energy_of a.0) c.0 c.1;
-      typed = d.1;
-      room = required (has_room a.0.cutoff (ring_of b.0.sides)) cutoff_too_long r.0 r.1;
+      energy_read = parts.energy_read;
+      typed = parts.typed;
+      room = parts.room;
       counted = counted_ok (counter_after w b.0.step n) k.0 k.1;
-      start_is = ok_same start _ ready.2 ∙ ap (λ (p : List ℕ × ℤ). record { state = b.0; dynamics = dynamics_from a.0 b.0 c.0 p.0; counter = p.1 }) (sym same);
+      start_is = ok_same start _ k.2;
     }
 
-start_from : (job state : List ℕ) (w : Direction) (n : ℕ) (j : JobValue) (s : StateView) (energy : Energy)
-    → reading_of limits job ≡ Ok j → state_of state ≡ Ok s → energy_of j ≡ Ok energy → start_of job state w n ≡ start_with w n j s energy
+pub start_from : (law : Law) (job state : List ℕ) (w : Direction) (n : ℕ) (j : JobValue) (s : StateView)
+    → reading_of limits job ≡ Ok j → state_of state ≡ Ok s → start_of law job state w n ≡ start_with law w n j s
 unfolding start_of
-start_from job state w n j s energy p q r = rw (p, q, r) refl
+start_from law job state w n j s p q = rw (p, q) refl
 
 -- ---- the way back
 
@@ -247,11 +267,11 @@ frames-placed s f k p c =
     ap (λ q. frames q (current_frame (placed_atoms s.atoms f))) (previous-placed s.atoms f p)
     ∙ ap (frames f.previous) (current-placed s.atoms f c)
 
-pub run_back : (job state : List ℕ) (w : Direction) (n : ℕ) (text : List ℕ) → IsRun job state w n text → IsRun job text (opposite w) n state
-run_back job state w n text r =
-    let p = parts_of job state w n r.start r.starts in
+pub run_back : (law : Law) (job state : List ℕ) (w : Direction) (n : ℕ) (text : List ℕ) → IsRun law job state w n text → IsRun law job text (opposite w) n state
+run_back law job state w n text r =
+    let p = parts_of law job state w n r.start r.starts in
     let s = p.s in
-    let d = dynamics_from p.j s p.energy p.types in
+    let d = law p.j s.sides p.energy p.types in
     let f = r.ran.frames' in
     let read = (one_text state s).0 p.state_read in
     let turned = rw p.start_is at r.ran.turned in
@@ -263,12 +283,12 @@ run_back job state w n text r =
     let is_after : r.after ≡ after = rw p.start_is at r.ran.moved in
     let again : state_of text ≡ Ok after =
     (one_text text after).1 (moved_is s f p.counter read.0 back.frames' previous reached.1, r.written ∙ ap state_text is_after) in
-    let start : Start = record { state = after; dynamics = dynamics_from p.j after p.energy p.types; counter = s.step } in
+    let start : Start = start_at law p.j after (p.energy, p.types) s.step in
     record {
       start = start;
       starts =
-          start_from job text (opposite w) n p.j after p.energy p.job_read again p.energy_read
-          ∙ started (opposite w) n p.j after p.energy p.types s.step (types-placed p.j.types 1 s.atoms f ∙ p.typed) p.room
+          start_from law job text (opposite w) n p.j after p.job_read again
+          ∙ started law (opposite w) n p.j after p.energy p.types s.step p.energy_read (types-placed p.j.types 1 s.atoms f ∙ p.typed) p.room
           (counter_returns w s.step p.counter n (in_range_is s.step read.0.step) p.counted);
       after = s;
       ran = record {

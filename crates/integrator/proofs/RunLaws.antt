@@ -11,7 +11,7 @@ use Rattle.integrator.proofs.Constructors.{err_is_no_ok, none_is_no_some, ok_sam
 use Rattle.integrator.specs.Forces.{first_without_force}
 use Rattle.integrator.specs.Frames.{Dynamics, Frames, StopsAt, frames, middle, moved_frame, next_frame, pair_force, turn, turns}
 use Rattle.integrator.specs.States.{frames_of, moved_state}
-use Rattle.integrator.specs.Starts.{Refusal, Start, cutoff_too_long, energy_refused, job_refused, start_of, step_range, unknown_type}
+use Rattle.integrator.specs.Starts.{Law, Refusal, Start, cutoff_too_long, energy_refused, job_refused, start_of, step_range, unknown_type}
 use Rattle.integrator.specs.StartViews.{state_refusal}
 use Rattle.integrator.specs.Runs.{is_out, IsRefusal, IsRun, IsStop, Lacks, Ran, Stopped}
 use Rattle.integrator.specs.declared.direction.Direction.{Direction}
@@ -30,8 +30,8 @@ ran_same w n s a b p q =
 start_moves : (w : Direction) (n : ℕ) (s t : Start) (a : StateView) → s ≡ t → Ran w n s a → Ran w n t a
 start_moves w n s t a e r = rw (← e) r
 
-pub run_unique : (job state : List ℕ) (w : Direction) (n : ℕ) (a b : List ℕ) → IsRun job state w n a → IsRun job state w n b → a ≡ b
-run_unique job state w n a b p q =
+pub run_unique : (law : Law) (job state : List ℕ) (w : Direction) (n : ℕ) (a b : List ℕ) → IsRun law job state w n a → IsRun law job state w n b → a ≡ b
+run_unique law job state w n a b p q =
     let same : p.start ≡ q.start = ok_same p.start q.start (sym p.starts ∙ q.starts) in
     p.written ∙ ap state_text (ran_same w n q.start p.after q.after (start_moves w n p.start q.start p.after same p.ran) q.ran) ∙ sym q.written
 
@@ -68,31 +68,37 @@ lacks_at : {R : Type 0} → (o : Option R) (made : R → Refusal) (start : Resul
 lacks_at None made start s e h = refl
 lacks_at (Some r) made start s e h = absurd (err_is_no_ok (made r) s (sym h ∙ e))
 
-pub only_lacks : {A : Type 0} → (job state : List ℕ) (w : Direction) (n : ℕ) (text : List ℕ) (f : RunFault A) → IsRun job state w n text → IsRefusal job state w n f → Lacks f
-only_lacks job state w n text (fault.Job f) r h = lacks_at (jobs.refusal_of f) job_refused (start_of job state w n) r.start r.starts h
-only_lacks job state w n text (fault.State f) r h = lacks_at (state_refusal f) (λ x. x) (start_of job state w n) r.start r.starts h
-only_lacks job state w n text (fault.Energy f) r h = lacks_at (energies.refusal_of f) energy_refused (start_of job state w n) r.start r.starts h
-only_lacks job state w n text (fault.UnknownType k) r h = err_is_no_ok (unknown_type k) r.start (sym h ∙ r.starts)
-only_lacks job state w n text fault.CutoffTooLong r h = err_is_no_ok cutoff_too_long r.start (sym h ∙ r.starts)
-only_lacks job state w n text fault.StepRange r h = err_is_no_ok step_range r.start (sym h ∙ r.starts)
-only_lacks job state w n text (fault.KernelFault step low high pc why) r h =
+pub only_lacks : {A : Type 0} → (law : Law) (job state : List ℕ) (w : Direction) (n : ℕ) (text : List ℕ) (f : RunFault A) → IsRun law job state w n text → IsRefusal law job state w n f → Lacks f
+only_lacks law job state w n text (fault.Job f) r h = lacks_at (jobs.refusal_of f) job_refused (start_of law job state w n) r.start r.starts h
+only_lacks law job state w n text (fault.State f) r h = lacks_at (state_refusal f) (λ x. x) (start_of law job state w n) r.start r.starts h
+only_lacks law job state w n text (fault.Energy f) r h = lacks_at (energies.refusal_of f) energy_refused (start_of law job state w n) r.start r.starts h
+only_lacks law job state w n text (fault.UnknownType k) r h = err_is_no_ok (unknown_type k) r.start (sym h ∙ r.starts)
+only_lacks law job state w n text fault.CutoffTooLong r h = err_is_no_ok cutoff_too_long r.start (sym h ∙ r.starts)
+only_lacks law job state w n text fault.StepRange r h = err_is_no_ok step_range r.start (sym h ∙ r.starts)
+only_lacks law job state w n text (fault.KernelFault step low high pc why) r h =
     let same : r.start ≡ h.start = ok_same r.start h.start (sym r.starts ∙ h.starts) in
     stopped_or_ran w n h.start step low high pc why r.after h.stopped (start_moves w n r.start h.start r.after same r.ran)
-only_lacks job state w n text fault.Memory r h = tt
-only_lacks job state w n text (fault.Out f) r h = tt
+only_lacks law job state w n text (fault.Kernel f) r h = h
+only_lacks law job state w n text fault.ForceRange r h = h
+only_lacks law job state w n text (fault.MemoryAfter done) r h = h
+only_lacks law job state w n text fault.Memory r h = tt
+only_lacks law job state w n text (fault.Out f) r h = tt
 
 -- ---- why a run that has started gives no state
 
-pub stop_refuses : {A : Type 0} → (job state : List ℕ) (w : Direction) (n : ℕ) (start : Start) (f : RunFault A) → start_of job state w n ≡ Ok start → IsStop w n start f → IsRefusal job state w n f
-stop_refuses job state w n start (fault.KernelFault step low high pc why) e h = record { start = start; starts = e; stopped = h }
-stop_refuses job state w n start fault.Memory e h = tt
-stop_refuses job state w n start (fault.Job f) e h = absurd h
-stop_refuses job state w n start (fault.State f) e h = absurd h
-stop_refuses job state w n start (fault.Energy f) e h = absurd h
-stop_refuses job state w n start (fault.UnknownType k) e h = absurd h
-stop_refuses job state w n start fault.CutoffTooLong e h = absurd h
-stop_refuses job state w n start fault.StepRange e h = absurd h
-stop_refuses job state w n start (fault.Out f) e h = absurd h
+pub stop_refuses : {A : Type 0} → (law : Law) (job state : List ℕ) (w : Direction) (n : ℕ) (start : Start) (f : RunFault A) → start_of law job state w n ≡ Ok start → IsStop w n start f → IsRefusal law job state w n f
+stop_refuses law job state w n start (fault.KernelFault step low high pc why) e h = record { start = start; starts = e; stopped = h }
+stop_refuses law job state w n start fault.Memory e h = tt
+stop_refuses law job state w n start (fault.Job f) e h = absurd h
+stop_refuses law job state w n start (fault.State f) e h = absurd h
+stop_refuses law job state w n start (fault.Energy f) e h = absurd h
+stop_refuses law job state w n start (fault.UnknownType k) e h = absurd h
+stop_refuses law job state w n start fault.CutoffTooLong e h = absurd h
+stop_refuses law job state w n start fault.StepRange e h = absurd h
+stop_refuses law job state w n start (fault.Kernel f) e h = absurd h
+stop_refuses law job state w n start fault.ForceRange e h = absurd h
+stop_refuses law job state w n start (fault.MemoryAfter done) e h = absurd h
+stop_refuses law job state w n start (fault.Out f) e h = absurd h
 
 pub stop_unwritten : {A : Type 0} → (w : Direction) (n : ℕ) (start : Start) (f : RunFault A) → IsStop w n start f → is_out f ≡ false
 stop_unwritten w n start (fault.KernelFault step low high pc why) h = refl
@@ -103,4 +109,7 @@ stop_unwritten w n start (fault.Energy f) h = refl
 stop_unwritten w n start (fault.UnknownType k) h = refl
 stop_unwritten w n start fault.CutoffTooLong h = refl
 stop_unwritten w n start fault.StepRange h = refl
+stop_unwritten w n start (fault.Kernel f) h = refl
+stop_unwritten w n start fault.ForceRange h = refl
+stop_unwritten w n start (fault.MemoryAfter done) h = refl
 stop_unwritten w n start (fault.Out f) h = absurd h

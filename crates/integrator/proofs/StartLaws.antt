@@ -4,6 +4,8 @@ use Rattle.std.proofs.lemmas.List.{append-nil}
 use Rattle.std.specs.Prelude.{IfSome, bytes_eq, map, not}
 use Rattle.std.proofs.Math.Seq.{drop-cons}
 use Rattle.line_text.specs.Names.{name_text}
+use Rattle.line_text.specs.Steps.{◌>>=◌}
+use Rattle.line_text.proofs.StepLaws.{bind_err}
 use Rattle.job.specs.Views.{type_value}
 use Rattle.job.specs.declared.jobs.AtomType.{AtomType}
 use Rattle.std.specs.List.{position, position_or_len}
@@ -18,7 +20,7 @@ use Rattle.integrator.specs.declared.faults.RunFault.{RunFault}
 use Rattle.integrator.specs.declared.faults.RunFault.TheVariants as fault
 use Rattle.integrator.specs.StartViews.{Refuses, state_refusal}
 use Rattle.integrator.specs.Energies.{Energy, energy_of}
-use Rattle.integrator.specs.Starts.{Refusal, cutoff_too_long, energy_refused, job_energy, job_refused, start_at, start_of, step_range, atom_types, dynamics_from, has_room, ready_of, ring_of, start_with, type_with, unknown_type, ◌>>=◌}
+use Rattle.integrator.specs.Starts.{Law, Refusal, cutoff_too_long, energy_refused, in_counter, job_energy, job_refused, start_at, start_of, step_range, atom_types, has_room, ring_of, start_with, system_of, types_of, type_with, unknown_type}
 use Rattle.integrator.specs.States.{counter_after}
 use Rattle.integrator.specs.declared.direction.Direction.{Direction}
 
@@ -69,37 +71,43 @@ found_type types name bytes r e h =
     position-map (λ t. bytes_eq t.name name) type_value types ∙ ap (λ n. position (λ t. bytes_eq (name_text t.name) n) types) (sym e) ∙ sym h
 
 -- a start whose parts are known
-pub started : (direction : Direction) (steps : ℕ) (j : JobValue) (s : StateView) (energy : Energy) (types : List ℕ) (counter : ℤ)
-    → atom_types j.types 1 s.atoms ≡ Ok types → has_room j.cutoff (ring_of s.sides) ≡ true → counter_after direction s.step steps ≡ Some counter
-    → start_with direction steps j s energy ≡ Ok (record { state = s; dynamics = dynamics_from j s energy types; counter = counter })
-unfolding start_with ready_of
-started direction steps j s energy types counter t h k = rw (t, h, k) refl
+pub started : (law : Law) (direction : Direction) (steps : ℕ) (j : JobValue) (s : StateView) (energy : Energy) (types : List ℕ) (counter : ℤ)
+    → energy_of j ≡ Ok energy → atom_types j.types 1 s.atoms ≡ Ok types → has_room j.cutoff (ring_of s.sides) ≡ true → counter_after direction s.step steps ≡ Some counter
+    → start_with law direction steps j s ≡ Ok (start_at law j s (energy, types) counter)
+unfolding start_with system_of types_of
+started law direction steps j s energy types counter e t h k = rw (e, t, h, k) refl
 
 -- ---- refusals on the way
 
-refused_on : {X Y : Type 0} → (r : Result X Refusal) (f : X → Result Y Refusal) (why : Refusal) → r ≡ Err why → (r >>= f) ≡ Err why
-refused_on r f why h = rw h refl
-
 some_refused : {X Y R : Type 0} → (o : Option R) (made : R → Refusal) (r : Result X Refusal) (f : X → Result Y Refusal) → IfSome o (λ x. r ≡ Err (made x)) → IfSome o (λ x. (r >>= f) ≡ Err (made x))
 some_refused None made r f h = tt
-some_refused {X} {Y} (Some x) made r f h = refused_on r f (made x) h
+some_refused {X} {Y} (Some x) made r f h = bind_err r f (made x) h
 
-refuses_on : {A X Y : Type 0} → (e : RunFault A) (r : Result X Refusal) (f : X → Result Y Refusal) → Refuses e r → Refuses e (r >>= f)
+pub refuses_on : {A X Y : Type 0} → (e : RunFault A) (r : Result X Refusal) (f : X → Result Y Refusal) → Refuses e r → Refuses e (r >>= f)
 refuses_on (fault.Job g) r f h = some_refused (jobs.refusal_of g) job_refused r f h
 refuses_on (fault.State g) r f h = some_refused (state_refusal g) (λ x. x) r f h
 refuses_on (fault.Energy g) r f h = some_refused (energies.refusal_of g) energy_refused r f h
-refuses_on (fault.UnknownType n) r f h = refused_on r f (unknown_type n) h
-refuses_on fault.CutoffTooLong r f h = refused_on r f cutoff_too_long h
-refuses_on fault.StepRange r f h = refused_on r f step_range h
+refuses_on (fault.UnknownType n) r f h = bind_err r f (unknown_type n) h
+refuses_on fault.CutoffTooLong r f h = bind_err r f cutoff_too_long h
+refuses_on fault.StepRange r f h = bind_err r f step_range h
 refuses_on (fault.KernelFault step low high pc why) r f h = absurd h
+refuses_on (fault.Kernel g) r f h = absurd h
+refuses_on fault.ForceRange r f h = absurd h
+refuses_on (fault.MemoryAfter done) r f h = absurd h
 refuses_on fault.Memory r f h = tt
 refuses_on (fault.Out g) r f h = absurd h
 
--- texts whose atoms can't be run
-pub start_refused : {A : Type 0} → (job state : List ℕ) (w : Direction) (n : ℕ) (j : JobValue) (s : StateView) (energy : Energy) (e : RunFault A)
-    → reading_of limits job ≡ Ok j → state_of state ≡ Ok s → energy_of j ≡ Ok energy → Refuses e (ready_of w n j s) → Refuses e (start_of job state w n)
+-- a job and a state whose atoms can't be run
+pub system_refused : {A : Type 0} → (j : JobValue) (s : StateView) (energy : Energy) (e : RunFault A) → energy_of j ≡ Ok energy → Refuses e (types_of j s) → Refuses e (system_of j s)
+unfolding system_of
+system_refused j s energy e r h = rw r (refuses_on e (types_of j s) (λ types. Ok (energy, types)) h)
+
+-- texts that have no system
+pub start_refused : {A : Type 0} → (law : Law) (job state : List ℕ) (w : Direction) (n : ℕ) (j : JobValue) (s : StateView) (e : RunFault A)
+    → reading_of limits job ≡ Ok j → state_of state ≡ Ok s → Refuses e (system_of j s) → Refuses e (start_of law job state w n)
 unfolding start_of start_with
-start_refused job state w n j s energy e p q r h = rw (p, q, r) (refuses_on e (ready_of w n j s) (λ ready. Ok (start_at j s energy ready)) h)
+start_refused law job state w n j s e p q h =
+    rw (p, q) (refuses_on e (system_of j s) (λ system. in_counter (counter_after w s.step n) >>= λ counter. Ok (start_at law j s system counter)) h)
 
 -- the energy of a job's text
 pub energy_said : (job : List ℕ) (j : JobValue) (energy : Energy) → reading_of limits job ≡ Ok j → energy_of j ≡ Ok energy → job_energy job ≡ Ok (j, energy)

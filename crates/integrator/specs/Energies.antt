@@ -1,10 +1,11 @@
 -- The energy of a job, and the code of its slope.
-use Rattle.std.specs.Prelude.{◌≡◌, ℕ, ◌+◌, ◌*◌, ◌≤◌, ℤ, List, length, map, Result, Ok, Err}
+use Rattle.std.specs.Prelude.{ℕ, ◌≤◌, ℤ, pos, List, length, map, Result, Ok, Err}
 use Rattle.derivative.specs.Derive.{slope_program}
-use Rattle.energy_program.specs.Faults.{Refusal, ◌>>=◌}
+use Rattle.line_text.specs.Steps.{◌>>=◌}
+use Rattle.energy_program.specs.Faults.{Refusal}
 use Rattle.energy_program.specs.Names.{names_from}
 use Rattle.energy_program.specs.Programs.{Trees}
-use Rattle.energy_program.specs.Tree.{Tree, inputs_of, substituted}
+use Rattle.energy_program.specs.Tree.{Number, Tree, inputs_of, substituted}
 use Rattle.expr.specs.Energy.{trees_in}
 use Rattle.job.specs.Values.{GlobalValue, JobValue}
 use Rattle.kernel_code.specs.declared.instructions.Instr.{Instr}
@@ -38,6 +39,14 @@ unfoldable pub energy_of : JobValue → Result Energy Refusal
 energy_of j = do
   program ← job_program j
   energy_from 32 program
+
+abbrev pub tree_or_zero : Result Energy Refusal → Tree
+tree_or_zero (Ok energy) = energy.tree
+tree_or_zero (Err refusal) = Number (pos 0)
+
+-- the energy with all definitions put in place; 0 where the job has none
+unfoldable pub job_tree : JobValue → Tree
+job_tree j = tree_or_zero (energy_of j)
 
 -- the code computes the slope, where no input is missing
 abbrev pub IsCompiled : ℕ → (parameters globals : ℕ) → Energy → Type 0

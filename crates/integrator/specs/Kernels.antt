@@ -1,5 +1,5 @@
 -- What a kernel's code gives on the tested machine, and what that says of the slope that it was compiled from.
-use Rattle.std.specs.Prelude.{◌≡◌, ℕ, zero, suc, ◌+◌, ◌⊎◌, ℤ, Bool, true, false, List, length, Option, Some, None, IsSome, Result, Ok, Err}
+use Rattle.std.specs.Prelude.{◌≡◌, ℕ, zero, suc, ◌+◌, ◌⊎◌, ℤ, unsigned_abs, nat_le, Bool, true, false, List, length, Option, Some, None, IsSome, Result, Ok, Err}
 use Rattle.std.specs.Option.{option_and_then}
 use Rattle.derivative.specs.Slope.{slope_of}
 use Rattle.energy_program.specs.Tree.{Tree, meaning}
@@ -56,6 +56,11 @@ abbrev pub fault_of : Option (Result ℤ Trap) → Option SlopeFault
 fault_of None = None
 fault_of (Some (Ok v)) = None
 fault_of (Some (Err trap)) = operation_fault trap.pc trap.kind
+
+-- there is a number, of at most this magnitude
+abbrev pub is_small : ℕ → Option ℤ → Bool
+is_small bound None = false
+is_small bound (Some v) = nat_le (unsigned_abs v) bound
 
 -- ---- code of slopes
 

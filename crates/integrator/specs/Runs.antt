@@ -4,7 +4,7 @@ use Rattle.fixed.specs.declared.faults.Fault.{Fault}
 use Rattle.state.specs.StateText.{StateView, state_text}
 use Rattle.integrator.specs.Frames.{Frames, StopsAt, turns}
 use Rattle.integrator.specs.States.{forced_counter, frames_of, moved_state}
-use Rattle.integrator.specs.Starts.{Start, start_of}
+use Rattle.integrator.specs.Starts.{Law, Start, start_of}
 use Rattle.integrator.specs.StartViews.{Refuses, state_refusal}
 use Rattle.energy_program.specs.Faults as energies
 use Rattle.job.specs.Views as jobs
@@ -20,9 +20,9 @@ pub record Ran (direction : Direction) (steps : ℕ) (start : Start) (after : St
   pub moved : after ≡ moved_state start.state frames' start.counter
 
 -- the text of the state after the steps
-pub record IsRun (job state : List ℕ) (direction : Direction) (steps : ℕ) (text : List ℕ) : Type 0 where
+pub record IsRun (law : Law) (job state : List ℕ) (direction : Direction) (steps : ℕ) (text : List ℕ) : Type 0 where
   pub start : Start
-  pub starts : start_of job state direction steps ≡ Ok start
+  pub starts : start_of law job state direction steps ≡ Ok start
   pub after : StateView
   pub ran : Ran direction steps start after
   pub written : text ≡ state_text after
@@ -47,25 +47,31 @@ IsStop direction steps start (fault.Energy f) = ⊥
 IsStop direction steps start (fault.UnknownType n) = ⊥
 IsStop direction steps start fault.CutoffTooLong = ⊥
 IsStop direction steps start fault.StepRange = ⊥
+IsStop direction steps start (fault.Kernel f) = ⊥
+IsStop direction steps start fault.ForceRange = ⊥
+IsStop direction steps start (fault.MemoryAfter done) = ⊥
 IsStop direction steps start (fault.Out f) = ⊥
 
 -- a kernel's fault on the way from these texts
-pub record IsKernelFault (job state : List ℕ) (direction : Direction) (steps : ℕ) (step : ℤ) (low high pc : ℕ) (why : Fault) : Type 0 where
+pub record IsKernelFault (law : Law) (job state : List ℕ) (direction : Direction) (steps : ℕ) (step : ℤ) (low high pc : ℕ) (why : Fault) : Type 0 where
   pub start : Start
-  pub starts : start_of job state direction steps ≡ Ok start
+  pub starts : start_of law job state direction steps ≡ Ok start
   pub stopped : Stopped direction steps start step low high pc why
 
 -- why texts give no text: want of memory and a failed output say nothing of them
-abbrev pub IsRefusal : {A : Type 0} → List ℕ → List ℕ → Direction → ℕ → RunFault A → Type 0
-IsRefusal job state direction steps (fault.KernelFault step low high pc why) = IsKernelFault job state direction steps step low high pc why
-IsRefusal job state direction steps (fault.Out f) = Unit {0}
-IsRefusal job state direction steps fault.Memory = Unit {0}
-IsRefusal {A} job state direction steps (fault.Job f) = Refuses {A = A} (fault.Job f) (start_of job state direction steps)
-IsRefusal {A} job state direction steps (fault.State f) = Refuses {A = A} (fault.State f) (start_of job state direction steps)
-IsRefusal {A} job state direction steps (fault.Energy f) = Refuses {A = A} (fault.Energy f) (start_of job state direction steps)
-IsRefusal {A} job state direction steps (fault.UnknownType n) = Refuses {A = A} (fault.UnknownType n) (start_of job state direction steps)
-IsRefusal {A} job state direction steps fault.CutoffTooLong = Refuses {A = A} fault.CutoffTooLong (start_of job state direction steps)
-IsRefusal {A} job state direction steps fault.StepRange = Refuses {A = A} fault.StepRange (start_of job state direction steps)
+abbrev pub IsRefusal : {A : Type 0} → Law → List ℕ → List ℕ → Direction → ℕ → RunFault A → Type 0
+IsRefusal law job state direction steps (fault.KernelFault step low high pc why) = IsKernelFault law job state direction steps step low high pc why
+IsRefusal law job state direction steps (fault.Out f) = Unit {0}
+IsRefusal law job state direction steps fault.Memory = Unit {0}
+IsRefusal law job state direction steps (fault.Kernel f) = ⊥
+IsRefusal law job state direction steps fault.ForceRange = ⊥
+IsRefusal law job state direction steps (fault.MemoryAfter done) = ⊥
+IsRefusal {A} law job state direction steps (fault.Job f) = Refuses {A = A} (fault.Job f) (start_of law job state direction steps)
+IsRefusal {A} law job state direction steps (fault.State f) = Refuses {A = A} (fault.State f) (start_of law job state direction steps)
+IsRefusal {A} law job state direction steps (fault.Energy f) = Refuses {A = A} (fault.Energy f) (start_of law job state direction steps)
+IsRefusal {A} law job state direction steps (fault.UnknownType n) = Refuses {A = A} (fault.UnknownType n) (start_of law job state direction steps)
+IsRefusal {A} law job state direction steps fault.CutoffTooLong = Refuses {A = A} fault.CutoffTooLong (start_of law job state direction steps)
+IsRefusal {A} law job state direction steps fault.StepRange = Refuses {A = A} fault.StepRange (start_of law job state direction steps)
 
 -- the output failed
 abbrev pub is_out : {A : Type 0} → RunFault A → Bool
@@ -73,23 +79,23 @@ is_out (fault.Out f) = true
 is_out _ = false
 
 -- a state that the texts lead to
-pub record IsAfter (job state : List ℕ) (direction : Direction) (steps : ℕ) (after : StateView) : Type 0 where
+pub record IsAfter (law : Law) (job state : List ℕ) (direction : Direction) (steps : ℕ) (after : StateView) : Type 0 where
   pub start : Start
-  pub starts : start_of job state direction steps ≡ Ok start
+  pub starts : start_of law job state direction steps ≡ Ok start
   pub ran : Ran direction steps start after
 
 -- ---- the output
 
 -- all of the run's text was appended
-pub record Wrote (job state : List ℕ) (direction : Direction) (steps : ℕ) (before after : Option (List ℕ)) : Type 0 where
+pub record Wrote (law : Law) (job state : List ℕ) (direction : Direction) (steps : ℕ) (before after : Option (List ℕ)) : Type 0 where
   pub text : List ℕ
-  pub run : IsRun job state direction steps text
+  pub run : IsRun law job state direction steps text
   pub appended' : after ≡ appended before text
 
 -- a beginning of the run's text was appended
-pub record WroteBeginning (job state : List ℕ) (direction : Direction) (steps : ℕ) (before after : Option (List ℕ)) : Type 0 where
+pub record WroteBeginning (law : Law) (job state : List ℕ) (direction : Direction) (steps : ℕ) (before after : Option (List ℕ)) : Type 0 where
   pub text : List ℕ
-  pub run : IsRun job state direction steps text
+  pub run : IsRun law job state direction steps text
   pub beginning : AppendsBeginning before after text
 
 -- ---- what is left where there is a run
@@ -103,5 +109,8 @@ Lacks (fault.UnknownType n) = ⊥
 Lacks fault.CutoffTooLong = ⊥
 Lacks fault.StepRange = ⊥
 Lacks (fault.KernelFault step low high pc why) = ⊥
+Lacks (fault.Kernel f) = ⊥
+Lacks fault.ForceRange = ⊥
+Lacks (fault.MemoryAfter done) = ⊥
 Lacks fault.Memory = Unit {0}
 Lacks (fault.Out f) = Unit {0}

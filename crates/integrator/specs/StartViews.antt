@@ -1,5 +1,5 @@
 -- What a call that may want memory answers, as what a run starts from.
-use Rattle.std.specs.Prelude.{◌≡◌, ℕ, ℤ, List, Option, Some, None, Result, Ok, Err, IfSome}
+use Rattle.std.specs.Prelude.{◌≡◌, ℕ, ℤ, Bool, true, false, List, Option, Some, None, Result, Ok, Err, IfSome}
 use Rattle.fixed.specs.Fractions.{bits_of}
 use Rattle.derivative.specs.Slope.{slope_of}
 use Rattle.energy_program.specs.Programs.{program_tree, trees_of}
@@ -29,7 +29,7 @@ state_refusal state.Truncated = Some (state_refused state.Truncated)
 state_refusal state.Trailing = Some (state_refused state.Trailing)
 state_refusal state.Memory = None
 
--- the fault says why there is no start: want of memory says nothing, and no start is refused for a run or an output
+-- the fault says why there is no start: want of memory says nothing, and no start is refused for a verdict, a run or an output
 abbrev pub Refuses : {A Y : Type 0} → RunFault A → Result Y Refusal → Type 0
 Refuses (fault.Job f) start = IfSome (job.refusal_of f) (λ r. start ≡ Err (job_refused r))
 Refuses (fault.State f) start = IfSome (state_refusal f) (λ r. start ≡ Err r)
@@ -37,9 +37,20 @@ Refuses (fault.Energy f) start = IfSome (energy.refusal_of f) (λ r. start ≡ E
 Refuses (fault.UnknownType n) start = start ≡ Err (unknown_type n)
 Refuses fault.CutoffTooLong start = start ≡ Err cutoff_too_long
 Refuses fault.StepRange start = start ≡ Err step_range
+Refuses (fault.Kernel f) start = ⊥
+Refuses fault.ForceRange start = ⊥
 Refuses (fault.KernelFault step low high pc why) start = ⊥
 Refuses fault.Memory start = Unit {0}
+Refuses (fault.MemoryAfter done) start = ⊥
 Refuses (fault.Out f) start = ⊥
+
+-- a fault that a system may be refused by
+abbrev pub is_of_system : {A : Type 0} → RunFault A → Bool
+is_of_system (fault.Energy f) = true
+is_of_system (fault.UnknownType n) = true
+is_of_system fault.CutoffTooLong = true
+is_of_system fault.Memory = true
+is_of_system _ = false
 
 abbrev pub Gives : {X Y A : Type 0} → (X → Y) → Result X (RunFault A) → Result Y Refusal → Type 0
 Gives view (Ok x) start = start ≡ Ok (view x)
@@ -61,8 +72,8 @@ kernel_slope k a b r = where_given (kernel_outcome k a b r) (slope_of (bits_of k
 abbrev pub kernel_fault : {A : Type 0} → CodeKernel A → ℕ → ℕ → ℤ → Option SlopeFault
 kernel_fault k a b r = fault_of (kernel_outcome k a b r)
 
-abbrev pub ready_view : {A : Type 0} → Ready A → List ℕ × ℤ
-ready_view r = (r.types.items, r.counter)
+abbrev pub ready_view : {A : Type 0} → Ready A → Energy × List ℕ
+ready_view r = (energy_view r.parts, r.atoms.types.items)
 
 abbrev pub start_view : {A : Type 0} → Prepared A → Start
 start_view p = record { state = state_view p.state; dynamics = dynamics_of kernel_slope kernel_fault p.system; counter = p.counter }

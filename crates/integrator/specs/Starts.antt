@@ -4,9 +4,11 @@ use Rattle.std.specs.List.{position}
 use Rattle.fixed.specs.declared.frac.Frac.TheVariants.{F32}
 use Rattle.derivative.specs.Slope.{slope_of}
 use Rattle.energy_program.specs.Faults as energy
+use Rattle.energy_program.specs.Tree.{Tree}
 use Rattle.job.specs.Faults as job
 use Rattle.job.specs.JobText.{reading_of, limits}
 use Rattle.job.specs.Values.{GlobalValue, JobValue, TypeValue}
+use Rattle.line_text.specs.Steps.{◌>>=◌}
 use Rattle.kernel_code.specs.Tables.{Table, inputs_of}
 use Rattle.kernel_code.specs.declared.instructions.Instr.{Instr}
 use Rattle.kernel_code.specs.declared.traps.Trap.{Trap}
@@ -19,6 +21,7 @@ use Rattle.integrator.specs.Frames.{Dynamics}
 use Rattle.integrator.specs.Kernels.{fault_of, outcome_of, where_given}
 use Rattle.integrator.specs.States.{counter_after}
 use Rattle.integrator.specs.declared.direction.Direction.{Direction}
+use Rattle.integrator.specs.declared.slope_faults.SlopeFault.{SlopeFault}
 
 -- why there is no start; an atom counts from 1
 pub data Refusal : Type 0 where
@@ -28,11 +31,6 @@ pub data Refusal : Type 0 where
   unknown_type : ℕ → Refusal
   cutoff_too_long : Refusal
   step_range : Refusal
-
-infixl 10 ◌>>=◌
-abbrev pub ◌>>=◌ : {X Y : Type 0} → Result X Refusal → (X → Result Y Refusal) → Result Y Refusal
-(Ok x) >>= f = f x
-(Err r) >>= f = Err r
 
 -- an answer of a part, its refusals as those of a start
 abbrev pub or_refused : {X R : Type 0} → (R → Refusal) → Result X R → Result X Refusal
@@ -99,19 +97,34 @@ pair_inputs j types p r = inputs_of (table_of j) (slice_index types p.0) (slice_
 abbrev pub pair_outcome : JobValue → Energy → List ℕ → ℕ × ℕ → ℤ → Option (Result ℤ Trap)
 pair_outcome j energy types p r = outcome_of 32 energy.code (pair_inputs j types p r)
 
--- What moves the atoms of these types, with this energy: its slope as it is written, where the run of the slope's code gives a
--- value. Else the fault is that of the run.
-abbrev pub dynamics_from : JobValue → StateView → Energy → List ℕ → Dynamics
-dynamics_from j s energy types = record {
+-- what moves the atoms of these types by these slopes, in a box with these sides
+abbrev pub dynamics_by : (ℕ × ℕ → ℤ → Option ℤ) → (ℕ × ℕ → ℤ → Option SlopeFault) → JobValue → (sides types : List ℕ) → Dynamics
+dynamics_by slope fault j sides types = record {
   frac = F32;
-  ring = ring_of s.sides;
+  ring = ring_of sides;
   core = j.core;
   cutoff = j.cutoff;
   time_step = j.time_step;
   masses = map (mass_of j.types) types;
-  slope = λ p r. where_given (pair_outcome j energy types p r) (slope_of 32 (pair_inputs j types p r) energy.tree);
-  fault = λ p r. fault_of (pair_outcome j energy types p r);
+  slope = slope;
+  fault = fault;
 }
+
+-- how what moves the atoms follows from a job, the box's sides, the energy and the atoms' types
+abbrev pub Law : Type 0
+Law = JobValue → List ℕ → Energy → List ℕ → Dynamics
+
+-- by the slope of a tree as it is written
+abbrev pub as_written : JobValue → (sides : List ℕ) → Tree → (types : List ℕ) → Dynamics
+as_written j sides tree types = dynamics_by (λ p r. slope_of 32 (pair_inputs j types p r) tree) (λ p r. None) j sides types
+
+abbrev pub plain : Law
+plain j sides energy types = as_written j sides energy.tree types
+
+-- The same where the run of the slope's code gives a value. Else the fault is that of the run.
+abbrev pub tested : Law
+tested j sides energy types =
+    dynamics_by (λ p r. where_given (pair_outcome j energy types p r) (slope_of 32 (pair_inputs j types p r) energy.tree)) (λ p r. fault_of (pair_outcome j energy types p r)) j sides types
 
 abbrev pub in_counter : Option ℤ → Result ℤ Refusal
 in_counter (Some z) = Ok z
@@ -123,28 +136,34 @@ pub record Start : Type 0 where
   pub dynamics : Dynamics
   pub counter : ℤ
 
--- after the texts: the types of the atoms, the range of the forces, the counter; the types and the counter at the end
-unfoldable pub ready_of : Direction → ℕ → JobValue → StateView → Result (List ℕ × ℤ) Refusal
-ready_of direction steps j s = do
+-- the types of a state's atoms, in a box that has room for the forces
+unfoldable pub types_of : JobValue → StateView → Result (List ℕ) Refusal
+types_of j s = do
   types ← atom_types j.types 1 s.atoms
   room ← require (has_room j.cutoff (ring_of s.sides)) cutoff_too_long
+  Ok types
+
+-- a job's energy, and the types of a state's atoms
+unfoldable pub system_of : JobValue → StateView → Result (Energy × List ℕ) Refusal
+system_of j s = do
+  energy ← or_refused energy_refused (energy_of j)
+  types ← types_of j s
+  Ok (energy, types)
+
+abbrev pub start_at : Law → JobValue → StateView → Energy × List ℕ → ℤ → Start
+start_at law j s system counter = record { state = s; dynamics = law j s.sides system.0 system.1; counter = counter }
+
+unfoldable pub start_with : Law → Direction → ℕ → JobValue → StateView → Result Start Refusal
+start_with law direction steps j s = do
+  system ← system_of j s
   counter ← in_counter (counter_after direction s.step steps)
-  Ok (types, counter)
+  Ok (start_at law j s system counter)
 
-abbrev pub start_at : JobValue → StateView → Energy → List ℕ × ℤ → Start
-start_at j s energy ready = record { state = s; dynamics = dynamics_from j s energy ready.0; counter = ready.1 }
-
-unfoldable pub start_with : Direction → ℕ → JobValue → StateView → Energy → Result Start Refusal
-start_with direction steps j s energy = do
-  ready ← ready_of direction steps j s
-  Ok (start_at j s energy ready)
-
-unfoldable pub start_of : List ℕ → List ℕ → Direction → ℕ → Result Start Refusal
-start_of job state direction steps = do
+unfoldable pub start_of : Law → List ℕ → List ℕ → Direction → ℕ → Result Start Refusal
+start_of law job state direction steps = do
   j ← or_refused job_refused (reading_of limits job)
   s ← or_refused state_refused (state_of state)
-  energy ← or_refused energy_refused (energy_of j)
-  start_with direction steps j s energy
+  start_with law direction steps j s
 
 -- ---- the code alone
 

@@ -1,5 +1,5 @@
 -- A system of the program as the dynamics that it stands for.
-use Rattle.std.specs.Prelude.{ℕ, ℤ, Option, slice_index}
+use Rattle.std.specs.Prelude.{ℕ, ℤ, Option, None, slice_index}
 use Rattle.integrator.specs.Frames.{Dynamics}
 use Rattle.integrator.specs.declared.slope_faults.SlopeFault.{SlopeFault}
 use Rattle.integrator.specs.declared.systems.System.{System}
@@ -16,3 +16,7 @@ dynamics_of slope fault s = record {
   slope = λ p r. slope s.kernel (slice_index s.types.items p.0) (slice_index s.types.items p.1) r;
   fault = λ p r. fault s.kernel (slice_index s.types.items p.0) (slice_index s.types.items p.1) r;
 }
+
+-- the same without a pair potential: places are all that it tells
+abbrev pub forceless : {K A : Type 0} → System K A → Dynamics
+forceless s = dynamics_of (λ k a b r. None) (λ k a b r. None) s

@@ -61,7 +61,8 @@ fn nearest(a: i128, b: i128) -> i128
     round_div(a, b)
 }
 
-/// By how many places a force moves an atom in one step: `force` in 2^-`bits` kJ/mol/nm, `time_step` in fs (at most 1,000), `mass` in 10^-5 u (1 to 100,000,000).
+/// By how many places a force moves an atom in one step: `force` in 2^-`bits` kJ/mol/nm, `time_step` in fs (at most
+/// 1,000), `mass` in 10^-5 u (1 to 100,000,000).
 pub(crate) fn displacement(frac: Frac, force: i128, time_step: u32, mass: u32, side: Side) -> i128
     requires force { unsigned_abs force ≤ 2 ^ 80 }
     requires time_step { time_step ≤ 1000 }
@@ -83,7 +84,8 @@ fn onward(before: u32, middle: u32, displacement: i128) -> i128
     2 * i128::from(middle) - i128::from(before) + displacement
 }
 
-/// The place that follows `before` and `middle`, where `displacement` is that of `middle`. The place before `middle` and `before` is found by the same rule, so the rule leads back.
+/// The place that follows `before` and `middle`, where `displacement` is that of `middle`. The place before `middle`
+/// and `before` is found by the same rule, so the rule leads back.
 #[tactic(auto, using(crate::proofs::StepLemmas::there_and_back))]
 pub(crate) fn next_place(before: u32, middle: u32, displacement: i128) -> u32
     requires { unsigned_abs displacement < 2 ^ 123 }

@@ -71,6 +71,7 @@ fn with_slope<A: Allocator + Copy>(
 ) -> Result<SlopeParts<A>, ExprFault<A>>
     ensures value { Gives energy_view result (energy_from 32 (trees_of energy)) }
     ensures compiled { IfOk result (λ p. IsCompiled 32 energy.parameters energy.globals (energy_view p)) }
+    ensures energy { IfOk result (λ p. p.energy ≡ energy) }
 {
     let slope = derive(alloc, Frac::F32, &energy)?;
     let code = compile(alloc, Frac::F32, &slope)?;
@@ -90,6 +91,8 @@ pub(crate) fn energy<A: Allocator + Copy>(
 ) -> Result<SlopeParts<A>, ExprFault<A>>
     ensures value { Gives energy_view result (energy_of (job_value job.now)) }
     ensures compiled { IfOk result (λ p. IsCompiled 32 (length job.now.parameters.items) (length job.now.globals.items) (energy_view p)) }
+    ensures parameters { IfOk result (λ p. p.energy.parameters ≡ length job.now.parameters.items) }
+    ensures globals { IfOk result (λ p. p.energy.globals ≡ length job.now.globals.items) }
 {
     let program = program(alloc, job)?;
     with_slope(alloc, program)

@@ -145,7 +145,8 @@ impl<K: TestedSlope + Drop, A: Allocator> System<K, A> {
         Ok(())
     }
 
-    /// The force on each atom of the frame, in `sums`, or the first pair that has none, by the lower atom and then by the higher.
+    /// The force on each atom of the frame, in `sums`, or the first pair that has none, by the lower atom and then by
+    /// the higher.
     pub(crate) fn forces(&self, frame: &[[u32; 3]], sums: &mut [[i128; 3]]) -> Result<(), PairFault>
         requires atoms { length frame.now ≡ length self.now.types.items }
         requires known { All (λ t. t < K.types self.now.kernel) self.now.types.items }

@@ -5,11 +5,18 @@ mod code_slopes;
 mod direction;
 mod displacement;
 mod energies;
+mod engine_runs;
+mod engines;
 mod faults;
 mod forces;
+mod kernel_refusals;
 mod kernels;
 mod prepared;
 mod runs;
+mod safe_energies;
+mod safe_kernels;
+mod safe_slopes;
+mod safe_systems;
 mod slope_faults;
 mod slope_parts;
 mod slopes;
@@ -19,11 +26,14 @@ mod steps;
 mod sums;
 mod systems;
 mod tables;
+mod verdicts;
+mod wrapping_sums;
 
 pub use direction::Direction;
-pub use faults::RunFault;
+pub use engine_runs::{run_bytes, state_energy};
+pub use engines::Engine;
+pub use faults::{RunFault, StepFault};
+pub use kernel_refusals::KernelRefusal;
 pub use runs::run_bytes_checked;
 pub use starts::slope_code;
-
-#[cfg(test)]
-mod tests;
+pub use verdicts::{verdict, verified_slope};

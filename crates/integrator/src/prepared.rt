@@ -1,21 +1,30 @@
 //! All that a run starts from.
 
-ghost use Rattle.std.specs.Prelude.{◌≡◌, ◌<◌, length};
+ghost use Rattle.std.specs.Prelude.{◌≡◌, ◌<◌, ◌≤◌, length};
 ghost use Rattle.std.specs.List.{All};
 
 use crate::kernels::CodeKernel;
+use crate::slope_parts::SlopeParts;
 use crate::systems::System;
 use state::State;
 use std::alloc::Allocator;
 
-/// The types and masses of a state's atoms, and the counter at the end of the run.
+/// The types and masses of a state's atoms.
 #[derive(Drop)]
-pub(crate) struct Ready<A: Allocator> {
+pub(crate) struct TypedAtoms<A: Allocator> {
     /// The number of each atom's type.
     pub types: Vec<u32, A>,
     /// Each atom's mass, in 10^-5 u.
     pub masses: Vec<u32, A>,
-    pub counter: i64,
+    pub ghost some: { All (λ m. 0 < m) masses.items },
+    pub ghost most: { All (λ m. m ≤ 100000000) masses.items },
+}
+
+/// The energy of a job, and the atoms of a state that can be run under it.
+#[derive(Drop)]
+pub(crate) struct Ready<A: Allocator> {
+    pub parts: SlopeParts<A>,
+    pub atoms: TypedAtoms<A>,
 }
 
 /// A state, what moves its atoms, and the counter at the end of the run.

@@ -7,6 +7,7 @@ ghost use Rattle.state.specs.StateViews.{atom_view, state_view};
 ghost use Rattle.fixed.specs.Arithmetic.{in_range};
 ghost use Rattle.integrator.specs.Runs.{is_out, IsAfter, IsRefusal, IsRun, IsStop, Lacks, Ran, Wrote, WroteBeginning};
 ghost use Rattle.integrator.specs.StartViews.{start_view};
+ghost use Rattle.integrator.specs.Starts.{plain, tested};
 ghost use Rattle.integrator.specs.declared.faults.RunFault.TheVariants.{KernelFault};
 ghost use Rattle.integrator.specs.Halts.{IsHalt};
 ghost use Rattle.integrator.specs.States.{counter_at, current_frame, forced_counter, moved_state, previous_frame};
@@ -18,7 +19,7 @@ use crate::faults::RunFault;
 use crate::prepared::Prepared;
 use crate::slopes::TestedSlope;
 use crate::starts::start;
-use crate::states::{current_frame, place, previous_frame};
+use crate::states::{Turned, advance, current_frame, previous_frame};
 use crate::systems::{Stop, System};
 use gro::Out;
 use state::{Atom, State};
@@ -46,13 +47,6 @@ fn turn_frames<K: TestedSlope + Drop, A: Allocator>(
         Direction::Forward => system.turns(steps, previous, current, sums),
         Direction::Back => system.turns(steps, current, previous, sums),
     }
-}
-
-/// The two frames of a run.
-#[derive(Drop)]
-struct Turned<A: Allocator> {
-    previous: Vec<[u32; 3], A>,
-    current: Vec<[u32; 3], A>,
 }
 
 /// Why a run did not reach its end.
@@ -133,17 +127,6 @@ fn forced_counter(direction: Direction, step: i64, steps: u64, done: u64) -> i64
     }
 }
 
-/// The state at these frames, with this counter.
-fn moved<A: Allocator>(mut state: State<A>, turned: &Turned<A>, counter: i64) -> State<A>
-    requires previous { length turned.now.previous.items ≡ length state.atoms.items }
-    requires current { length turned.now.current.items ≡ length state.atoms.items }
-    ensures { state_view result ≡ moved_state (state_view state) (frames turned.now.previous.items turned.now.current.items) counter }
-{
-    place(&mut state.atoms, &turned.previous, &turned.current);
-    state.step = counter;
-    state
-}
-
 /// The fault of a run that stopped, its atoms counted from 1.
 fn kernel_fault<A: Allocator>(
     direction: Direction,
@@ -176,12 +159,15 @@ fn run<A: Allocator + Copy>(
     ensures stop { IfErr result (IsStop direction steps (start_view prepared)) }
 {
     let Prepared {
-        state,
+        mut state,
         system,
         counter,
     } = prepared;
     match frames_after(alloc, &system, direction, steps, &state.atoms) {
-        Ok(turned) => Ok(moved(state, &turned, counter)),
+        Ok(turned) => {
+            advance(&mut state, &turned, counter);
+            Ok(state)
+        }
         Err(Halt::Memory) => Err(RunFault::Memory),
         Err(Halt::Stop(stop)) => Err(kernel_fault(direction, &state, steps, stop)),
     }
@@ -195,8 +181,8 @@ fn state_after<A: Allocator + Copy>(
     steps: u64,
     direction: Direction,
 ) -> Result<State<A>, RunFault<A>>
-    ensures value { IfOk result (λ s. IsAfter job.now state.now direction steps (state_view s)) }
-    ensures refused { IfErr result (IsRefusal job.now state.now direction steps) }
+    ensures value { IfOk result (λ s. IsAfter tested job.now state.now direction steps (state_view s)) }
+    ensures refused { IfErr result (IsRefusal tested job.now state.now direction steps) }
     ensures unwritten { IfErr result (λ f. is_out f ≡ false) }
 {
     let prepared = start(alloc, direction, steps, job, state)?;
@@ -205,9 +191,16 @@ fn state_after<A: Allocator + Copy>(
 
 /// Runs a state so many steps in a direction, on one thread with every operation tested, and writes the new state.
 ///
-/// `job` and `state` are the bytes of a job and a state file, `steps` at most 1,000,000,000,000. The step is Levesque and Verlet's (J. Stat. Phys. 72, 519, 1993), the forces are the energy's slope as written, summed exactly over all pairs. The slope comes from its code, each instruction tested: where a run of the code gives no value, there is no force. The same number of steps the other way over the written bytes gives the starting bytes again.
+/// `job` and `state` are the bytes of a job and a state file, `steps` at most 1,000,000,000,000. The step is Levesque
+/// and Verlet's (J. Stat. Phys. 72, 519, 1993), the forces are the energy's slope as written, summed exactly over all
+/// pairs. The slope comes from its code, each instruction tested: where a run of the code gives no value, there is no
+/// force. The same number of steps the other way over the written bytes gives the starting bytes again.
 ///
-/// The refusals come in this order: those of the job, of the state, of the energy; `UnknownType` for the lowest atom whose name no type has; `CutoffTooLong` where some side is shorter than two cutoffs; `StepRange` where the counter would leave an i64; `KernelFault` for the first pair without a force in the first frame that has one; `Memory` wherever a growth is refused. Nothing is written then. `Out` comes only where a write failed, after a beginning of the new state's text.
+/// The refusals come in this order: those of the job, of the state, of the energy; `UnknownType` for the lowest atom
+/// whose name no type has; `CutoffTooLong` where some side is shorter than two cutoffs; `StepRange` where the counter
+/// would leave an i64; `KernelFault` for the first pair without a force in the first frame that has one; `Memory`
+/// wherever a growth is refused. Nothing is written then. `Out` comes only where a write failed, after a beginning of
+/// the new state's text.
 pub fn run_bytes_checked<A: Allocator + Copy, O: Out>(
     alloc: A,
     job: &[u8],
@@ -218,19 +211,21 @@ pub fn run_bytes_checked<A: Allocator + Copy, O: Out>(
 ) -> Result<(), RunFault<A>>
     requires count { O.failed out.old < 2 ^ 64 - 1 }
     // The text of the state after the steps is written.
-    ensures ran { OnOk result (Wrote job.now state.now direction steps (O.taken out.old) (O.taken out.new)) }
+    ensures ran { OnOk result (Wrote tested job.now state.now direction steps (O.taken out.old) (O.taken out.new)) }
     ensures kept { OnOk result (O.failed out.new ≡ O.failed out.old) }
     // Why there is none.
-    ensures refused { IfErr result (IsRefusal job.now state.now direction steps) }
+    ensures refused { IfErr result (IsRefusal tested job.now state.now direction steps) }
     // A refusal writes nothing, but where the output failed.
     ensures unwritten { IfErr result (λ f. is_out f ≡ false → O.taken out.new ≡ O.taken out.old) }
-    ensures beginning { IfErr result (λ f. is_out f ≡ true → WroteBeginning job.now state.now direction steps (O.taken out.old) (O.taken out.new)) }
+    ensures beginning { IfErr result (λ f. is_out f ≡ true → WroteBeginning tested job.now state.now direction steps (O.taken out.old) (O.taken out.new)) }
     ensures failed { IfErr result (λ f. is_out f ≡ true → O.failed out.old < O.failed out.new) }
     ensures quiet { OnErr result ((O.taken out.new ≡ O.taken out.old) ⊎ (O.failed out.old < O.failed out.new)) }
     // Where the texts have a run it is written, unless memory or the output fails.
-    ensures only { (text : List ℕ) → IsRun job.now state.now direction steps text → MatchResult result (λ _. O.taken out.new ≡ appended (O.taken out.old) text) Lacks }
+    ensures only { (text : List ℕ) → IsRun tested job.now state.now direction steps text → MatchResult result (λ _. O.taken out.new ≡ appended (O.taken out.old) text) Lacks }
+    // The texts that have a tested run have it with the plain slope.
+    ensures same { (text : List ℕ) → IsRun tested job.now state.now direction steps text → IsRun plain job.now state.now direction steps text }
     // So many steps the other way over the written text give the starting text.
-    ensures returns { (text : List ℕ) → IsRun job.now state.now direction steps text → IsRun job.now text (opposite direction) steps state.now }
+    ensures returns { (text : List ℕ) → IsRun tested job.now state.now direction steps text → IsRun tested job.now text (opposite direction) steps state.now }
 {
     let after = state_after(alloc, job, state, steps, direction)?;
     after.write(out)?;

@@ -1,20 +1,20 @@
 //! What a run starts from.
 
-ghost use Rattle.std.specs.Prelude.{◌≡◌, ◌*◌, ◌^◌, ◌<◌, ◌≤◌, length, map, true, IfOk};
+ghost use Rattle.std.specs.Prelude.{◌≡◌, ◌*◌, ◌^◌, ◌<◌, ◌≤◌, length, map, true, IfOk, IfErr};
 ghost use Rattle.std.specs.List.{All};
 ghost use Rattle.job.specs.Views.{job_value, type_value};
 ghost use Rattle.state.specs.StateViews.{atom_view, state_view};
 ghost use Rattle.integrator.specs.Energies.{IsCompiled};
-ghost use Rattle.integrator.specs.Starts.{atom_types, has_room, holds_two, mass_of, ready_of, start_at, IsSlopeCode, slope_code_of, start_of, start_with, table_of};
+ghost use Rattle.integrator.specs.Starts.{atom_types, has_room, holds_two, mass_of, start_at, system_of, types_of, IsSlopeCode, slope_code_of, start_of, table_of, tested};
 ghost use Rattle.fixed.specs.Arithmetic.{in_range};
 ghost use Rattle.integrator.specs.States.{counter_at};
-ghost use Rattle.integrator.specs.StartViews.{Gives, energy_view, ready_view, start_view};
+ghost use Rattle.integrator.specs.StartViews.{Gives, is_of_system, energy_view, ready_view, start_view};
 
 use crate::direction::Direction;
 use crate::energies::energy;
 use crate::faults::RunFault;
 use crate::kernels::CodeKernel;
-use crate::prepared::{Prepared, Ready};
+use crate::prepared::{Prepared, Ready, TypedAtoms};
 use crate::slope_parts::SlopeParts;
 use crate::states::counter_after;
 use crate::systems::System;
@@ -35,6 +35,7 @@ fn atom_types<A: Allocator + Copy>(
     ensures value { Gives (λ v. v.items) result (atom_types (map type_value job.now.types.items) 1 (map atom_view atoms.now)) }
     ensures known { IfOk result (λ v. All (λ t. t < length job.now.types.items) v.items) }
     ensures count { IfOk result (λ v. length v.items ≡ length atoms.now) }
+    ensures only { IfErr result (λ f. is_of_system f ≡ true) }
 {
     let mut types = Vec::new(alloc);
     for (k, atom) in atoms.iter().enumerate() {
@@ -100,35 +101,45 @@ fn kernel<A: Allocator + Copy>(
 }
 
 /// The atoms of a state that can be run under this job.
-#[tactic(auto, unfolding(crate::specs::Starts::ready_of))]
-fn ready<A: Allocator + Copy>(
+#[tactic(auto, unfolding(crate::specs::Starts::types_of))]
+fn typed_atoms<A: Allocator + Copy>(
     alloc: A,
-    direction: Direction,
-    steps: u64,
     job: &Job<A>,
     state: &State<A>,
-) -> Result<Ready<A>, RunFault<A>>
-    ensures value { Gives ready_view result (ready_of direction steps (job_value job.now) (state_view state.now)) }
-    ensures known { IfOk result (λ r. All (λ t. t < length job.now.types.items) r.types.items) }
-    ensures masses { IfOk result (λ r. r.masses.items ≡ map (mass_of (map type_value job.now.types.items)) r.types.items) }
-    ensures some { IfOk result (λ r. All (λ m. 0 < m) r.masses.items) }
-    ensures most { IfOk result (λ r. All (λ m. m ≤ 100000000) r.masses.items) }
-    ensures count { IfOk result (λ r. length r.types.items ≡ length state.now.atoms.items) }
-    ensures fits { IfOk result (λ r. in_range (counter_at direction state.now.step steps) ≡ true) }
+) -> Result<TypedAtoms<A>, RunFault<A>>
+    ensures value { Gives (λ t. t.types.items) result (types_of (job_value job.now) (state_view state.now)) }
+    ensures known { IfOk result (λ t. All (λ k. k < length job.now.types.items) t.types.items) }
+    ensures masses { IfOk result (λ t. t.masses.items ≡ map (mass_of (map type_value job.now.types.items)) t.types.items) }
+    ensures count { IfOk result (λ t. length t.types.items ≡ length state.now.atoms.items) }
+    ensures only { IfErr result (λ f. is_of_system f ≡ true) }
 {
     let types = atom_types(alloc, job, &state.atoms)?;
     if !has_room(job.cutoff, &state.ring) {
         return Err(RunFault::CutoffTooLong);
     }
-    let Some(counter) = counter_after(direction, state, steps) else {
-        return Err(RunFault::StepRange);
-    };
     let masses = atom_masses(alloc, &job.types, &types)?;
-    Ok(Ready {
-        types,
-        masses,
-        counter,
-    })
+    Ok(TypedAtoms { types, masses })
+}
+
+/// The energy of this job, and the atoms of a state that can be run under it.
+#[tactic(auto, unfolding(crate::specs::Starts::system_of))]
+pub(crate) fn ready<A: Allocator + Copy>(
+    alloc: A,
+    job: &Job<A>,
+    state: &State<A>,
+) -> Result<Ready<A>, RunFault<A>>
+    ensures value { Gives ready_view result (system_of (job_value job.now) (state_view state.now)) }
+    ensures compiled { IfOk result (λ r. IsCompiled 32 (length job.now.parameters.items) (length job.now.globals.items) (energy_view r.parts)) }
+    ensures parameters { IfOk result (λ r. r.parts.energy.parameters ≡ length job.now.parameters.items) }
+    ensures globals { IfOk result (λ r. r.parts.energy.globals ≡ length job.now.globals.items) }
+    ensures known { IfOk result (λ r. All (λ k. k < length job.now.types.items) r.atoms.types.items) }
+    ensures masses { IfOk result (λ r. r.atoms.masses.items ≡ map (mass_of (map type_value job.now.types.items)) r.atoms.types.items) }
+    ensures count { IfOk result (λ r. length r.atoms.types.items ≡ length state.now.atoms.items) }
+    ensures only { IfErr result (λ f. is_of_system f ≡ true) }
+{
+    let parts = energy(alloc, job)?;
+    let atoms = typed_atoms(alloc, job, state)?;
+    Ok(Ready { parts, atoms })
 }
 
 /// What the run of this job starts from, with its kernel.
@@ -136,15 +147,14 @@ fn prepare<A: Allocator + Copy>(
     job: &Job<A>,
     state: State<A>,
     kernel: CodeKernel<A>,
-    ready: Ready<A>,
+    atoms: TypedAtoms<A>,
+    counter: i64,
 ) -> Prepared<A>
     requires table { kernel.table ≡ table_of (job_value job.now) }
-    requires known { All (λ t. t < length job.now.types.items) ready.types.items }
-    requires masses { ready.masses.items ≡ map (mass_of (map type_value job.now.types.items)) ready.types.items }
-    requires some { All (λ m. 0 < m) ready.masses.items }
-    requires most { All (λ m. m ≤ 100000000) ready.masses.items }
-    requires count { length ready.types.items ≡ length state.atoms.items }
-    ensures value { start_view result ≡ start_at (job_value job.now) (state_view state) (energy_view kernel.parts) (ready_view ready) }
+    requires known { All (λ k. k < length job.now.types.items) atoms.types.items }
+    requires masses { atoms.masses.items ≡ map (mass_of (map type_value job.now.types.items)) atoms.types.items }
+    requires count { length atoms.types.items ≡ length state.atoms.items }
+    ensures value { start_view result ≡ start_at tested (job_value job.now) (state_view state) (energy_view kernel.parts, atoms.types.items) counter }
     ensures step { result.state.step ≡ state.step }
 {
     let system = System {
@@ -153,18 +163,18 @@ fn prepare<A: Allocator + Copy>(
         core: job.core,
         cutoff: job.cutoff,
         time_step: job.time_step,
-        types: ready.types,
-        masses: ready.masses,
+        types: atoms.types,
+        masses: atoms.masses,
         kernel,
     };
     Prepared {
         state,
         system,
-        counter: ready.counter,
+        counter,
     }
 }
 
-/// What a run of these texts starts from.
+/// What a tested run of these texts starts from.
 #[tactic(auto, unfolding(crate::specs::Starts::start_of, crate::specs::Starts::start_with))]
 pub(crate) fn start<A: Allocator + Copy>(
     alloc: A,
@@ -173,20 +183,23 @@ pub(crate) fn start<A: Allocator + Copy>(
     job: &[u8],
     state: &[u8],
 ) -> Result<Prepared<A>, RunFault<A>>
-    ensures value { Gives start_view result (start_of job.now state.now direction steps) }
+    ensures value { Gives start_view result (start_of tested job.now state.now direction steps) }
     ensures fits { IfOk result (λ p. in_range (counter_at direction p.state.step steps) ≡ true) }
 {
     let job = Job::read(alloc, job)?;
     let state = State::read(alloc, state)?;
-    let parts = energy(alloc, &job)?;
-    let ready = ready(alloc, direction, steps, &job, &state)?;
-    let kernel = kernel(alloc, &job, parts)?;
-    Ok(prepare(&job, state, kernel, ready))
+    let ready = ready(alloc, &job, &state)?;
+    let Some(counter) = counter_after(direction, &state, steps) else {
+        return Err(RunFault::StepRange);
+    };
+    let kernel = kernel(alloc, &job, ready.parts)?;
+    Ok(prepare(&job, state, kernel, ready.atoms, counter))
 }
 
 /// The code of the slope of a job's energy, as a run of the job has it. Whether it would give a value anywhere isn't asked.
 ///
-/// `job` has the bytes of a job file. The refusals are those of the job and then of its energy; `Memory` wherever a growth is refused.
+/// `job` has the bytes of a job file. The refusals are those of the job and then of its energy; `Memory` wherever a
+/// growth is refused.
 #[tactic(auto, unfolding(crate::specs::Starts::job_energy))]
 pub fn slope_code<A: Allocator + Copy>(alloc: A, job: &[u8]) -> Result<Code<A>, RunFault<A>>
     // Which answer it is.

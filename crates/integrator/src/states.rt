@@ -2,9 +2,9 @@
 
 ghost use Rattle.std.specs.Prelude.{◌≡◌, length, map, true, IfOk, IfSome};
 ghost use Rattle.fixed.specs.Arithmetic.{in_range};
-ghost use Rattle.state.specs.StateViews.{atom_view};
+ghost use Rattle.state.specs.StateViews.{atom_view, state_view};
 ghost use Rattle.integrator.specs.Frames.{frames};
-ghost use Rattle.integrator.specs.States.{counter_after, counter_at, placed, placed_atoms};
+ghost use Rattle.integrator.specs.States.{counter_after, counter_at, moved_state, placed, placed_atoms};
 
 use crate::direction::Direction;
 use state::{Atom, State};
@@ -70,4 +70,23 @@ pub(crate) fn place(atoms: &mut [Atom], previous: &[[u32; 3]], current: &[[u32; 
     for k in 0..atoms.len() {
         atoms[k] = placed(atoms[k], previous[k], current[k]);
     }
+}
+
+/// Two frames that follow one another.
+#[derive(Drop)]
+pub(crate) struct Turned<A: Allocator> {
+    pub previous: Vec<[u32; 3], A>,
+    pub current: Vec<[u32; 3], A>,
+}
+
+/// Puts a state's atoms at the places of these frames, and gives it this counter.
+pub(crate) fn advance<A: Allocator>(state: &mut State<A>, turned: &Turned<A>, counter: i64)
+    requires previous { length turned.now.previous.items ≡ length state.old.atoms.items }
+    requires current { length turned.now.current.items ≡ length state.old.atoms.items }
+    ensures value { state_view state.new ≡ moved_state (state_view state.old) (frames turned.now.previous.items turned.now.current.items) counter }
+    ensures ring { state.new.ring ≡ state.old.ring }
+    ensures atoms { length state.new.atoms.items ≡ length state.old.atoms.items }
+{
+    place(&mut state.atoms, &turned.previous, &turned.current);
+    state.step = counter;
 }

@@ -7,15 +7,12 @@ use ring_box::Side;
 use std::alloc::Allocator;
 use std::mem;
 
-impl<K: TestedSlope + Drop, A: Allocator> System<K, A> {
-    ghost use Rattle.std.specs.Prelude.{◌≡◌, ◌<◌, ◌≤◌, ◌^◌, unsigned_abs, length, Some, OnOk, IfErr};
-    ghost use Rattle.std.specs.List.{All};
+impl<K: Drop, A: Allocator> System<K, A> {
+    ghost use Rattle.std.specs.Prelude.{◌≡◌, ◌<◌, ◌≤◌, ◌^◌, unsigned_abs};
     ghost use Rattle.integrator.specs.Displacement.{displacement_of, next_place_of};
     ghost use Rattle.integrator.specs.Adding.{IsWithin};
-    ghost use Rattle.integrator.specs.Frames.{frames, moved_frame, next_frame, next_places, pair_fault, pair_force, step, turns, StopsAt};
-    ghost use Rattle.integrator.specs.declared.direction.Direction.TheVariants.{Forward};
-    ghost use Rattle.integrator.specs.Forces.{first_without_force};
-    ghost use Rattle.integrator.specs.Systems.{dynamics_of};
+    ghost use Rattle.integrator.specs.Frames.{next_places};
+    ghost use Rattle.integrator.specs.Systems.{forceless};
 
     fn next_coordinate(&self, mass: u32, side: Side, before: u32, middle: u32, force: i128) -> u32
         requires some_mass { 0 < mass }
@@ -28,7 +25,7 @@ impl<K: TestedSlope + Drop, A: Allocator> System<K, A> {
     }
 
     /// The places that follow `before` and `middle` of an atom that feels this force at `middle`.
-    fn next_places(
+    pub(crate) fn next_places(
         &self,
         mass: u32,
         before: [u32; 3],
@@ -38,7 +35,7 @@ impl<K: TestedSlope + Drop, A: Allocator> System<K, A> {
         requires some_mass { 0 < mass }
         requires most_mass { mass ≤ 100000000 }
         requires force { IsWithin (2 ^ 80) force }
-        ensures { result ≡ next_places (dynamics_of K.slope K.fault self.now) mass before middle force }
+        ensures { result ≡ next_places (forceless self.now) mass before middle force }
     {
         [
             self.next_coordinate(mass, self.ring.x, before[0], middle[0], force[0]),
@@ -46,6 +43,16 @@ impl<K: TestedSlope + Drop, A: Allocator> System<K, A> {
             self.next_coordinate(mass, self.ring.z, before[2], middle[2], force[2]),
         ]
     }
+}
+
+impl<K: TestedSlope + Drop, A: Allocator> System<K, A> {
+    ghost use Rattle.std.specs.Prelude.{◌≡◌, ◌<◌, ◌≤◌, ◌^◌, unsigned_abs, length, Some, OnOk, IfErr};
+    ghost use Rattle.std.specs.List.{All};
+    ghost use Rattle.integrator.specs.Adding.{IsWithin};
+    ghost use Rattle.integrator.specs.Frames.{frames, moved_frame, next_frame, pair_fault, pair_force, step, turns, StopsAt};
+    ghost use Rattle.integrator.specs.declared.direction.Direction.TheVariants.{Forward};
+    ghost use Rattle.integrator.specs.Forces.{first_without_force};
+    ghost use Rattle.integrator.specs.Systems.{dynamics_of};
 
     /// Makes of the frame `before` the one that follows it and `middle`, where the atoms feel these forces at `middle`.
     fn advance(&self, before: &mut [[u32; 3]], middle: &[[u32; 3]], forces: &[[i128; 3]])
@@ -86,7 +93,8 @@ impl<K: TestedSlope + Drop, A: Allocator> System<K, A> {
         Ok(())
     }
 
-    /// One step: the frames `before` and `middle` become `middle` and the frame after it. Where a pair has no force they stay.
+    /// One step: the frames `before` and `middle` become `middle` and the frame after it. Where a pair has no force
+    /// they stay.
     fn turn(
         &self,
         before: &mut Vec<[u32; 3], A>,

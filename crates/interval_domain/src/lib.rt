@@ -9,8 +9,6 @@ mod products;
 mod roots;
 mod span;
 mod steps;
-#[cfg(test)]
-mod tests;
 
 pub use joins::{halves, hull};
 pub use linear::{add, neg, sub};

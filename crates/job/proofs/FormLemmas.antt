@@ -1,38 +1,19 @@
 -- What the forms of names allow.
-use Rattle.std.proofs.Common.{◌≡◌, ℕ, zero, suc, nat_le, ◌<◌, ◌≤◌, Bool, true, ◌&&◌, ◌||◌, List, Some, None, not, get_or, ◌==◌, ◌-◌, [], ◌∷◌, length, map, IsAscii, bytes_eq, refl, ap, sym, ◌∙◌, arith}
+use Rattle.std.proofs.Common.{◌≡◌, ℕ, nat_le, ◌<◌, ◌≤◌, Bool, true, ◌&&◌, ◌||◌, List, Some, None, not, get_or, ◌==◌, ◌-◌, [], ◌∷◌, length, map, IsAscii, bytes_eq, refl, ap, sym, ◌∙◌, arith}
 use Rattle.std.proofs.lemmas.Bool.{and_parts, and_from, or_right, cond-true, leb-true, le-leb, ne_eqb}
 use Rattle.std.proofs.lemmas.List.Sums.{AllPass-from_list_all, list_all-from_AllPass}
 use Rattle.std.specs.List.{list_all, list_any}
 use Rattle.line_text.specs.Parts.{name_of, is_name, is_printable, has_clean_ends}
-use Rattle.job.specs.Forms.{is_letter, is_name_byte, is_graphic, is_identifier, is_type_name}
+use Rattle.line_text.proofs.IdentifierLaws.{ascii_all}
+use Rattle.job.specs.Forms.{is_graphic, is_type_name}
 use Rattle.job.specs.Faults.{knows}
-
-letter_small : (b : ℕ) → is_letter b ≡ true → b < 128
-letter_small b e = grind arith
-
-name_byte_small : (b : ℕ) → is_name_byte b ≡ true → b < 128
-name_byte_small b e = grind (arith, letter_small)
 
 graphic_small : (b : ℕ) → is_graphic b ≡ true → b < 128
 graphic_small b e = grind arith
 
-ascii_cons : (b : ℕ) (bs : List ℕ) → b < 128 → IsAscii bs → IsAscii (b ∷ bs)
-ascii_cons b bs lt h zero = lt
-ascii_cons b bs lt h (suc i) = h i
-
-all_small : (p : ℕ → Bool) → ((b : ℕ) → p b ≡ true → b < 128) → (bs : List ℕ) → list_all p bs ≡ true → IsAscii bs
-all_small p h [] e = λ i. omega arith
-all_small p h (b ∷ bs) e = ascii_cons b bs (h b (and_parts (p b) (list_all p bs) e).0) (all_small p h bs (and_parts (p b) (list_all p bs) e).1)
-
-pub ascii_identifier : (name : List ℕ) → is_identifier name ≡ true → IsAscii name
-unfolding is_identifier
-ascii_identifier [] e = absurd cc
-ascii_identifier (b ∷ bs) e =
-    let p = and_parts (is_letter b) (list_all is_name_byte bs) e in ascii_cons b bs (letter_small b p.0) (all_small is_name_byte name_byte_small bs p.1)
-
 pub ascii_type_name : (name : List ℕ) → is_type_name name ≡ true → IsAscii name
 unfolding is_type_name
-ascii_type_name name e = all_small is_graphic graphic_small name (and_parts (nat_le 1 (length name) && nat_le (length name) 5) (list_all is_graphic name) e).1
+ascii_type_name name e = ascii_all is_graphic graphic_small name (and_parts (nat_le 1 (length name) && nat_le (length name) 5) (list_all is_graphic name) e).1
 
 knows_map : {X : Type 0} (f : X → List ℕ) (xs : List X) (name : List ℕ) → list_any (λ x. bytes_eq (f x) name) xs ≡ knows (map f xs) name
 knows_map f [] name = refl

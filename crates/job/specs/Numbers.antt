@@ -1,4 +1,5 @@
--- The numbers of a job: each reading is a number, BadNumber where the word is malformed, or NumberRange where the number is out of its range.
+-- The numbers of a job: each reading is a number, BadNumber where the word is malformed, or NumberRange where the
+-- number is out of its range.
 use Rattle.std.specs.Prelude.{◌≡◌, ℕ, ℤ, pos, neg_ℤ, Bool, ◌&&◌, ◌==◌, nat_le, nat_lt, int_le, ◌+◌, ◌-◌, ◌*◌, ◌^◌, List, [], ◌∷◌, length, Option, Some, None, Result, Ok, Err, if◌then◌else◌}
 use Rattle.std.specs.Option.{option_map}
 use Rattle.std.specs.Str.{all_ascii_digits}

@@ -3,7 +3,8 @@ use Rattle.std.specs.Prelude.{ℕ, ℤ, List, [], ◌∷◌, Option, Some, None,
 use Rattle.fixed.specs.declared.faults.NumFault.TheVariants.{BadNumber, NumberRange}
 use Rattle.job.specs.declared.faults.Key.{Key}
 use Rattle.job.specs.declared.faults.Key.TheVariants as keys
-use Rattle.job.specs.Forms.{is_identifier, is_type_name}
+use Rattle.line_text.specs.Identifiers.{is_identifier}
+use Rattle.job.specs.Forms.{is_type_name}
 use Rattle.line_text.specs.Words.{words, without_blanks, after_word}
 use Rattle.job.specs.Numbers.{Reading, both, alone, numeral_of, signed_of, values_of, cutoff_of, whole_of, mass_of}
 

@@ -3,7 +3,7 @@
 ghost use Rattle.std.specs.Prelude.{◌≡◌, ◌≤◌, ◌≤ℤ◌, pos, length, IfSome, IsTrue};
 ghost use Rattle.std.specs.List.{All};
 ghost use Rattle.std.proofs.Props.{props};
-ghost use Rattle.job.specs.Forms.{is_identifier};
+ghost use Rattle.line_text.specs.Identifiers.{is_identifier};
 
 use crate::jobs::{AtomType, Global};
 use fixed::Fx;

@@ -45,10 +45,12 @@ impl fmt::Display for Key {
 
 /// Why a text is no job: the first fault.
 ///
-/// The lines count from the top, and on each line a malformed line comes before a repeated key or name, and that before a range. What the whole text lacks comes after all lines.
+/// The lines count from the top, and on each line a malformed line comes before a repeated key or name, and that before
+/// a range. What the whole text lacks comes after all lines.
 #[derive(Debug, Drop, Error)]
 pub enum JobFault<A: Allocator> {
-    /// This line, counted from 1, is malformed, or is the first `type` line with another number of values than the job has parameters.
+    /// This line, counted from 1, is malformed, or is the first `type` line with another number of values than the job
+    /// has parameters.
     #[error("J1 BadLine {line}")]
     BadLine { line: u64 },
     /// No line has this key.

@@ -3,7 +3,8 @@
 ghost use Rattle.std.specs.Prelude.{◌≡◌, ◌≤◌, ◌≤ℤ◌, ◌<ℤ◌, pos, length, IsTrue};
 ghost use Rattle.std.specs.List.{All};
 ghost use Rattle.line_text.specs.Names.{name_text};
-ghost use Rattle.job.specs.Forms.{is_identifier, is_type_name};
+ghost use Rattle.line_text.specs.Identifiers.{is_identifier};
+ghost use Rattle.job.specs.Forms.{is_type_name};
 
 use fixed::Fx;
 use line_text::Name;

@@ -3,7 +3,8 @@
 ghost use Rattle.std.specs.Prelude.{◌≡◌, ◌≤◌, ◌≤ℤ◌, pos, map, true, length, option_map, IfOk, IfSome, IsTrue, IsAscii, string_bytes, bytes_eq, ok_or};
 ghost use Rattle.std.specs.List.{list_any};
 ghost use Rattle.line_text.specs.Names.{name_text};
-ghost use Rattle.job.specs.Forms.{is_identifier, is_type_name};
+ghost use Rattle.line_text.specs.Identifiers.{is_identifier};
+ghost use Rattle.job.specs.Forms.{is_type_name};
 ghost use Rattle.line_text.specs.Words.{words, without_blanks};
 ghost use Rattle.job.specs.Numbers.{alone, only, both, numeral_of, cutoff_of, whole_of, mass_of, values_of, mapped, HasRead};
 ghost use Rattle.job.specs.Statements.{well_formed};
@@ -14,12 +15,12 @@ ghost use Rattle.job.specs.Views.{said_of, global_value, type_line, refusal_of, 
 
 use crate::drafts::{Draft, TypeLine, TypeNumbers};
 use crate::faults::{JobFault, Key};
-use crate::forms::{is_identifier, is_type_name, key_of};
+use crate::forms::{is_type_name, key_of};
 use crate::jobs::{AtomType, Global};
 use crate::numbers::{cutoff, mass, numeral, signed_numeral, values, whole};
 use crate::words::{only_word, two_words};
 use fixed::{Fx, NumFault};
-use line_text::{Name, next_word, skip_blanks};
+use line_text::{Name, is_identifier, next_word, skip_blanks};
 use std::alloc::{AllocError, Allocator};
 
 // How many parameters, globals and types a job may have.
@@ -146,7 +147,7 @@ fn text_of<A: Allocator>(alloc: A, name: &[u8]) -> Result<String<A>, AllocError>
     }
 }
 
-#[tactic(auto, using(crate::proofs::FormLemmas::ascii_identifier))]
+#[tactic(auto, using(line_text::proofs::IdentifierLaws::ascii_identifier))]
 fn repeated_name<A: Allocator>(alloc: A, name: &[u8]) -> JobFault<A>
     requires { is_identifier name.now ≡ true }
     ensures { IfSome (refusal_of result) (λ f. f ≡ repeated_name name.now) }

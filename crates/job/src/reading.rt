@@ -167,9 +167,18 @@ impl<A: Allocator + Copy> Job<A> {
 
     /// Reads a job's text.
     ///
-    /// The first line is `pairmd job 1`. Below it, lines that are blank or begin with `#` are skipped, and the others begin with a key, in any order: `energy TEXT`, `core X`, `cutoff X` and `dt N` once, `slices N` at most once, and `parameter NAME`, `global NAME X` and `type NAME MASS X..`, of which a job may have at most 8, 16 and 64. Words are separated by spaces or tabs, and lines end with a line feed, before which one carriage return may stand.
+    /// The first line is `pairmd job 1`. Below it, lines that are blank or begin with `#` are skipped, and the others
+    /// begin with a key, in any order: `energy TEXT`, `core X`, `cutoff X` and `dt N` once, `slices N` at most once,
+    /// and `parameter NAME`, `global NAME X` and `type NAME MASS X..`, of which a job may have at most 8, 16 and 64.
+    /// Words are separated by spaces or tabs, and lines end with a line feed, before which one carriage return may
+    /// stand.
     ///
-    /// The first fault is the answer. Lines are judged from the top, and on each `BadLine` where it is malformed, `Repeated` or `RepeatedName` where a line above has its key or its name, `RepeatedType` where a type above has its name, and `Range` where a number is out of its range or the line is one too many. Then come `Missing` for `energy`, `core`, `cutoff` and `dt` in this order, `Range` where the cutoff isn't more than the core, and `BadLine` for the first type with another number of values than there are parameters. `Memory` comes only where a growth was refused.
+    /// The first fault is the answer. Lines are judged from the top, and on each `BadLine` where it is malformed,
+    /// `Repeated` or `RepeatedName` where a line above has its key or its name, `RepeatedType` where a type above has
+    /// its name, and `Range` where a number is out of its range or the line is one too many. Then come `Missing` for
+    /// `energy`, `core`, `cutoff` and `dt` in this order, `Range` where the cutoff isn't more than the core, and
+    /// `BadLine` for the first type with another number of values than there are parameters. `Memory` comes only where
+    /// a growth was refused.
     pub fn read(alloc: A, bytes: &[u8]) -> Result<Job<A>, JobFault<A>>
         ensures exact { Gives job_value result (reading_of limits bytes.now) }
         ensures job { IfOk result (λ job. IsJobText limits bytes.now (job_value job)) }
@@ -193,6 +202,3 @@ impl<A: Allocator> Job<A> {
         }
     }
 }
-
-#[cfg(test)]
-mod tests;

@@ -132,6 +132,7 @@ code_of text =
 abbrev pub OneLine : Type 0
 OneLine = (line : List ℕ) (i : Instr) → (instruction_of line ≡ Some i) ↔ (HasOperands i × (line ≡ instruction_line i))
 
--- Exactly the listings of codes are read, each as its code. So a code has one listing, and what is printed reads as the same code.
+-- Exactly the listings of codes are read, each as its code. So a code has one listing, and what is printed reads as the
+-- same code.
 abbrev pub OneListing : Type 0
 OneListing = (text : List ℕ) (code : List Instr) → (code_of text ≡ Ok code) ↔ (IsListed code × (text ≡ listing_of code))

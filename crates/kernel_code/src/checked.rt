@@ -211,7 +211,8 @@ fn run<A: Allocator>(frac: Frac, code: &[Instr], inputs: &Inputs<A>) -> Result<F
     answer(pc, &mut stack)
 }
 
-/// Runs the code on the inputs of a pair of types at the distance `r`, with every test: the value that it gives, or where and why it gives none. The types are the table's, counted from 0.
+/// Runs the code on the inputs of a pair of types at the distance `r`, with every test: the value that it gives, or
+/// where and why it gives none. The types are the table's, counted from 0.
 ///
 /// It takes no memory.
 pub fn run_checked<A: Allocator>(

@@ -35,7 +35,8 @@ const MOST: usize = 16_384;
 impl<A: Allocator> Code<A> {
     /// The code of these instructions.
     ///
-    /// `TooLong` where there are more than 16,384; else `BadTarget` with the lowest place of a jump that doesn't go forwards, or goes past the end, plus 2: the number of its line in a listing.
+    /// `TooLong` where there are more than 16,384; else `BadTarget` with the lowest place of a jump that doesn't go
+    /// forwards, or goes past the end, plus 2: the number of its line in a listing.
     pub fn new(instructions: Vec<Instr, A>) -> Result<Code<A>, CodeFault>
         ensures exact { result ≡ code_from instructions.items }
         ensures code { IfOk result (λ code. (code ≡ instructions.items) × IsCode code) }

@@ -9,7 +9,8 @@ use thiserror::Error;
 /// The first fault, or want of memory.
 #[derive(Clone, Copy, PartialEq, Eq, Debug, Error)]
 pub enum CodeFault {
-    /// The line with this number, counted from 1, is no instruction's (line 1: not `pairmd code 1`), has an operand out of its range, or lacks its line feed.
+    /// The line with this number, counted from 1, is no instruction's (line 1: not `pairmd code 1`), has an operand out
+    /// of its range, or lacks its line feed.
     #[error("C1 BadLine {line}")]
     BadLine { line: u64 },
     /// A jump goes to its own place, backwards, or past the end. The number is that of its line, the place plus 2.

@@ -2,7 +2,8 @@ ghost use Rattle.std.specs.Prelude.{ℕ, ◌≡◌, ◌≤◌};
 
 use std::marker::Model;
 
-/// The number of an input, 0 to 32. Input 0 is the distance `r`; then come the parameters of particle 1, those of particle 2, and the globals.
+/// The number of an input, 0 to 32. Input 0 is the distance `r`; then come the parameters of particle 1, those of
+/// particle 2, and the globals.
 #[derive(Clone, Copy, PartialEq, Eq, Debug)]
 pub struct InputNumber(u8);
 

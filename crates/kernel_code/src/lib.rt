@@ -1,4 +1,6 @@
-//! Instructions of the kernel's stack machine, code whose jumps go forwards, its one text (a listing), and the tables that its inputs come from. What code does stands in `specs/Machine.antt`, and what it may do whatever the values in `specs/Paths.antt`.
+//! Instructions of the kernel's stack machine, code whose jumps go forwards, its one text (a listing), and the tables
+//! that its inputs come from. What code does stands in `specs/Machine.antt`, and what it may do whatever the values in
+//! `specs/Paths.antt`.
 #![tactic(auto)]
 
 mod checked;
@@ -10,8 +12,6 @@ mod lines;
 mod listings;
 mod operands;
 mod tables;
-#[cfg(test)]
-mod tests;
 mod traps;
 
 pub use checked::{act_checked, checked_binary, checked_unary, run_checked};

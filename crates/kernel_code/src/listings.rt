@@ -16,7 +16,10 @@ use std::alloc::{AllocError, Allocator};
 
 /// The code whose one listing the bytes are.
 ///
-/// `BadLine` names the first line that is no instruction's (line 1: not `pairmd code 1`), that has an operand out of its range, or that lacks its line feed; an empty text has a bad line 1. `TooLong`, for more than 16,384 instructions, and `BadTarget`, for the lowest jump that doesn't go forwards and at most to the end, come only where every line is good, in this order. `Memory` comes only where a growth was refused.
+/// `BadLine` names the first line that is no instruction's (line 1: not `pairmd code 1`), that has an operand out of
+/// its range, or that lacks its line feed; an empty text has a bad line 1. `TooLong`, for more than 16,384
+/// instructions, and `BadTarget`, for the lowest jump that doesn't go forwards and at most to the end, come only where
+/// every line is good, in this order. `Memory` comes only where a growth was refused.
 pub fn read<A: Allocator + Copy>(alloc: A, bytes: &[u8]) -> Result<Code<A>, CodeFault>
     // What is read has these bytes as its listing.
     ensures found { IfOk result (λ code. IsListed code × (bytes.now ≡ listing_of code)) }

@@ -30,7 +30,8 @@ impl<A: Allocator> Model for TypeTable<A> {
 }
 
 impl<A: Allocator> TypeTable<A> {
-    /// The table of these types, each with a row of values: one for each parameter, of which there are at most 8. There may be no type; there are at most 64, and at most 16 globals.
+    /// The table of these types, each with a row of values: one for each parameter, of which there are at most 8. There
+    /// may be no type; there are at most 64, and at most 16 globals.
     ///
     /// All numbers have as many bits behind the point as `frac` says.
     pub fn new(
@@ -87,7 +88,9 @@ impl<A: Allocator> TypeTable<A> {
         self.globals.len()
     }
 
-    /// The input with this number of a pair of these types at the distance `r`: `r` itself, then the parameters of particle 1, those of particle 2, and the globals. `None` where there are fewer inputs. The types are the table's, counted from 0.
+    /// The input with this number of a pair of these types at the distance `r`: `r` itself, then the parameters of
+    /// particle 1, those of particle 2, and the globals. `None` where there are fewer inputs. The types are the
+    /// table's, counted from 0.
     pub fn input(&self, a: u32, b: u32, r: Fx, number: InputNumber) -> Option<Fx>
         requires first { a < length self.now.rows }
         requires second { b < length self.now.rows }

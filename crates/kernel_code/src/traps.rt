@@ -1,7 +1,8 @@
 use fixed::Fault;
 use thiserror::Error;
 
-/// Why a run of code stops without a value. Each prints as its code and its name, as `F2 ZeroDivisor` or `M1 MissingOperand`.
+/// Why a run of code stops without a value. Each prints as its code and its name, as `F2 ZeroDivisor` or
+/// `M1 MissingOperand`.
 #[derive(Clone, Copy, PartialEq, Eq, Debug, Error)]
 pub enum TrapKind {
     /// An operation has no value: `F1`, `F2` or `F3`.

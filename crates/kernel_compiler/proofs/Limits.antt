@@ -1,22 +1,21 @@
 -- When the code of a program is within the limits.
-use Rattle.std.proofs.Common.{◌≡◌, ◌≢◌, ℕ, zero, suc, ◌+◌, ◌/◌, ◌%◌, ◌==◌, ◌⊎◌, ◌<◌, ◌≤◌, List, [], ◌∷◌, ◌++◌, length, Some, refl, sym, ◌∙◌, subst, arith, length-append, ⊎_elim, inl, inr, ℤ, pos, negsuc, Bool, true, false, if◌then◌else◌, nat_lt}
+use Rattle.std.proofs.Common.{◌≡◌, ◌≢◌, ℕ, zero, suc, ◌+◌, ◌/◌, ◌%◌, ◌==◌, ◌<◌, ◌≤◌, List, [], ◌∷◌, ◌++◌, length, Some, refl, sym, ◌∙◌, subst, arith, length-append, ⊎_elim, ℤ, pos, negsuc, Bool, true, false, if◌then◌else◌, nat_lt}
 use Rattle.std.specs.Prelude.{slice_get, nat_le, ◌&&◌}
 use Rattle.std.specs.List.{list_all}
-use Rattle.std.proofs.lemmas.Bool.{and_parts, cases_eq, cases_lt}
+use Rattle.std.proofs.lemmas.Bool.{and_parts, cases_eq}
 use Rattle.std.proofs.lemmas.Bool.Decides.{nat_tests}
 use Rattle.std.proofs.lemmas.List.Folds.{list_all-append}
 use Rattle.kernel_code.specs.declared.instructions.BinaryOperation.{BinaryOperation}
 use Rattle.kernel_code.specs.declared.instructions.BinaryOperation.TheVariants.{Multiply, Divide}
 use Rattle.kernel_code.specs.declared.instructions.UnaryOperation.TheVariants.{Square, Negate}
 use Rattle.kernel_code.specs.declared.instructions.Instr.{Instr}
-use Rattle.kernel_code.specs.declared.instructions.Instr.TheVariants.{Push, Input, Get, Keep, Binary, Unary, JumpIfZero, Jump}
+use Rattle.kernel_code.specs.declared.instructions.Instr.TheVariants.{Get, Keep, Binary, Unary, JumpIfZero, Jump}
 use Rattle.kernel_code.specs.Code.{goes_forward, IsCode}
 use Rattle.energy_program.specs.Tree.{Tree}
 use Rattle.energy_program.specs.Tree as t
 use Rattle.energy_program.specs.Uses.{is_marked, marks_of}
 use Rattle.kernel_compiler.specs.Code.{operation_of, function_of, base, local_of, power_code_within, power_code, raised_code, is_second_first, need, exchange_code, pair_code, tree_code, kept_code, definitions_code, program_code, has_local, is_within_limits}
 use Rattle.kernel_compiler.specs.Sizes.{size, definitions_size, IsEmittable, AllEmittable}
-use Rattle.kernel_compiler.specs.Compiled.{NamesLocal, PassesLimit}
 use Rattle.kernel_compiler.proofs.SizeLaws.{length-program}
 
 -- ---- each instruction goes forwards, and has a local where it names one
@@ -195,34 +194,3 @@ within_has bits body ds h =
     let short : length (first ++ last) ≤ 16384 = (let e = p.0 in grind (arith, nat_tests)) in
     let q = and_parts (list_all has_local first) (list_all has_local last) (sym (list_all-append has_local first last) ∙ p.1) in
     ((λ k lt e. each_has_local bits 0 (marks_of body ds) ds q.0 k (omega arith) (omega arith) e), omega (arith, length-program bits body ds))
-
--- ---- what a limit is
-
-lacks_local : (i : Instr) → has_local i ≡ false → (k : ℕ) × ((Some i ≡ Some (Keep k)) ⊎ (Some i ≡ Some (Get k))) × (256 ≤ k)
-lacks_local (Push v) h = absurd (cc)
-lacks_local (Input k) h = absurd (cc)
-lacks_local (Keep k) h = let g : 256 ≤ k = grind (arith, nat_tests) in (k, inl refl, g)
-lacks_local (Get k) h = let g : 256 ≤ k = grind (arith, nat_tests) in (k, inr refl, g)
-lacks_local (Binary o) h = absurd (cc)
-lacks_local (Unary o) h = absurd (cc)
-lacks_local (JumpIfZero to) h = absurd (cc)
-lacks_local (Jump to) h = absurd (cc)
-
-some_lacks_by : (b : Bool) (i : Instr) (is : List Instr) → has_local i ≡ b → (b && list_all has_local is) ≡ false → (list_all has_local is ≡ false → (pc : ℕ) × (k : ℕ) × NamesLocal is pc k × (256 ≤ k)) → (pc : ℕ) × (k : ℕ) × NamesLocal (i ∷ is) pc k × (256 ≤ k)
-some_lacks_by true i is e h rest = let a = rest h in (suc a.0, a.1, a.2, a.3)
-some_lacks_by false i is e h rest = let a = lacks_local i e in (0, a.0, a.1, a.2)
-
-some_lacks : (code : List Instr) → list_all has_local code ≡ false → (pc : ℕ) × (k : ℕ) × NamesLocal code pc k × (256 ≤ k)
-some_lacks [] h = absurd (cc)
-some_lacks (i ∷ is) h = some_lacks_by (has_local i) i is refl h (λ rest. some_lacks is rest)
-
-pub passes_limit : (code : List Instr) → is_within_limits code ≡ false → PassesLimit code
-unfolding is_within_limits
-passes_limit code h =
-    ⊎_elim
-    (λ (long : 16384 < length code). inl long)
-    (λ (short : length code ≤ 16384).
-    let a : nat_le (length code) 16384 ≡ true = grind (arith, nat_tests) in
-    let b : list_all has_local code ≡ false = (rw a at h) in
-    inr (some_lacks code b))
-    (cases_lt 16384 (length code))

@@ -1,6 +1,7 @@
 -- What is known of a whole program.
-use Rattle.std.proofs.Common.{◌≡◌, ℕ, ◌+◌, ◌≤◌, List, [], ◌∷◌, ◌++◌, length, IsTrue, refl, sym, ap, ◌∙◌, subst, arith, ℤ, Bool, true, false, Option, Some, None, Ok, Err}
+use Rattle.std.proofs.Common.{◌≡◌, ◌⊎◌, inl, inr, true≢false, ℕ, ◌+◌, ◌<◌, ◌≤◌, List, [], ◌∷◌, ◌++◌, length, IsTrue, refl, sym, ap, ◌∙◌, subst, arith, ℤ, Bool, true, false, Option, Some, None, Ok, Err}
 use Rattle.std.specs.Prelude.{is_some}
+use Rattle.std.proofs.lemmas.Bool.{cases_lt}
 use Rattle.kernel_code.specs.declared.instructions.Instr.{Instr}
 use Rattle.kernel_code.specs.Code.{IsCode}
 use Rattle.kernel_code.specs.Paths.{MissesNothing}
@@ -9,7 +10,7 @@ use Rattle.std.proofs.lemmas.List.{length-map}
 use Rattle.energy_program.specs.declared.programs.Program.{Program}
 use Rattle.energy_program.specs.Tree.{Tree, tree_of, is_scoped}
 use Rattle.kernel_compiler.specs.declared.sizes.Extent.{Extent}
-use Rattle.kernel_compiler.specs.Parts.{body_of, definitions_of, input_count_of}
+use Rattle.energy_program.specs.Programs.{body_of, definitions_of, input_count_of}
 use Rattle.energy_program.specs.Uses.{marks_of}
 use Rattle.kernel_compiler.specs.Code.{need, definitions_code, tree_code, program_code, is_within_limits, compiled}
 use Rattle.kernel_compiler.specs.Sizes.{size, definitions_size, HasPowers, AllHavePowers, IsEmittable, AllEmittable, Measured}
@@ -22,6 +23,7 @@ use Rattle.kernel_compiler.proofs.Fine.{AreFine, program_fine}
 use Rattle.kernel_compiler.proofs.Shallow.{definitions_need, shallow, definitions_shallow}
 use Rattle.kernel_compiler.proofs.Limits.{program_is_code, program_within, within_has}
 use Rattle.kernel_compiler.proofs.ProgramLaws.{program_computes, program_misses_nothing}
+use Rattle.kernel_compiler.proofs.SizeLaws.{length-program}
 
 fine_emittable : (inputs j : ℕ) (ms : List Bool) (ds : List Tree) → inputs ≤ 33 → HaveLocals ms → AreFine inputs ms j ds → AllHavePowers ds → AllEmittable j ms ds
 fine_emittable inputs j ms [] few have fine powers = tt
@@ -93,6 +95,14 @@ module _ {A : Type 0} (p : Program A) where
       by : (b : Bool) → is_within_limits (program_code bits body ds) ≡ b → b ≡ false
       by true e = absurd (h (fits bits e))
       by false e = refl
+
+  -- the limit that is passed where one is
+  pub too_long : (bits : ℕ) → is_within_limits (program_code bits body ds) ≡ false → 16384 < length (program_code bits body ds)
+  too_long bits h = by (cases_lt 16384 (length (program_code bits body ds)))
+    where
+      by : (16384 < length (program_code bits body ds)) ⊎ (length (program_code bits body ds) ≤ 16384) → 16384 < length (program_code bits body ds)
+      by (inl long) = long
+      by (inr short) = absurd (true≢false (sym (within bits (record { short = omega (arith, length-program bits body ds) })) ∙ h))
 
   pub is_code : (bits : ℕ) → is_within_limits (program_code bits body ds) ≡ true → IsCode (program_code bits body ds)
   is_code bits h = let f = fits bits h in program_is_code bits body ds (body_emittable f) (all_emittable f) f.short

@@ -1,7 +1,6 @@
 -- What the code of a program is to do.
-use Rattle.std.specs.Prelude.{◌≡◌, ℕ, ◌<◌, ◌≤◌, ◌⊎◌, ℤ, List, length, Some, None, IsSome, Result, Ok, Err, slice_get}
+use Rattle.std.specs.Prelude.{◌≡◌, ℕ, ◌⊎◌, ℤ, List, Some, None, IsSome, Result, Ok, Err}
 use Rattle.kernel_code.specs.declared.instructions.Instr.{Instr}
-use Rattle.kernel_code.specs.declared.instructions.Instr.TheVariants.{Keep, Get}
 use Rattle.kernel_code.specs.declared.traps.Trap.{Trap}
 use Rattle.kernel_code.specs.Machine.{Ends, IsOperation}
 use Rattle.energy_program.specs.declared.faults.ExprFault.{ExprFault}
@@ -34,11 +33,3 @@ pub record Computes (bits : ℕ) (body : Tree) (definitions : List Tree) (code :
 
 abbrev pub IsTooLarge : {A X : Type 0} → Result X (ExprFault A) → Type 0
 IsTooLarge result = result ≡ Err fault.TooLarge
-
--- the instruction at this place names this local
-abbrev pub NamesLocal : List Instr → (pc k : ℕ) → Type 0
-NamesLocal code pc k = (slice_get code pc ≡ Some (Keep k)) ⊎ (slice_get code pc ≡ Some (Get k))
-
--- there are more than 16,384 instructions, or one names a local that isn't one of the 256
-abbrev pub PassesLimit : List Instr → Type 0
-PassesLimit code = (16384 < length code) ⊎ ((pc : ℕ) × (k : ℕ) × NamesLocal code pc k × (256 ≤ k))

@@ -1,4 +1,3 @@
-pub mod Parts
 pub mod Code
 pub mod Sizes
 pub mod Compiled

@@ -1,13 +1,13 @@
 //! The code of a program.
 
-ghost use Rattle.std.specs.Prelude.{◌≡◌, ℕ, ◌≤◌, ℤ, IfOk, true, List, length};
+ghost use Rattle.std.specs.Prelude.{◌≡◌, ℕ, ◌<◌, ◌≤◌, ℤ, IfOk, true, List, length};
 ghost use Rattle.fixed.specs.Fractions.{bits_of};
 ghost use Rattle.energy_program.specs.Faults.{Gives};
 ghost use Rattle.kernel_code.specs.Paths.{MissesNothing};
-ghost use Rattle.kernel_compiler.specs.Parts.{body_of, definitions_of, input_count_of};
+ghost use Rattle.energy_program.specs.Programs.{body_of, definitions_of, input_count_of};
 ghost use Rattle.energy_program.specs.Uses.{marks_of};
 ghost use Rattle.kernel_compiler.specs.Code.{program_code, is_within_limits, compiled};
-ghost use Rattle.kernel_compiler.specs.Compiled.{Computes, IsTooLarge, PassesLimit};
+ghost use Rattle.kernel_compiler.specs.Compiled.{Computes, IsTooLarge};
 
 use crate::emit::{emit, emit_definitions};
 use crate::sizes::{definitions_left, measure};
@@ -62,13 +62,14 @@ pub fn compile<A: Allocator + Copy>(
     frac: Frac,
     program: &Program<A>,
 ) -> Result<Code<A>, ExprFault<A>>
-    // Where a run gives a value it is the tree's; a fault is an operation's, where the tree or a definition that is used has no value.
+    // Where a run gives a value it is the tree's; a fault is an operation's, where the tree or a definition that is
+    // used has no value.
     ensures value { IfOk result (λ code. (inputs : List ℤ) → input_count_of program.now ≤ length inputs → Computes (bits_of frac) (body_of program.now) (definitions_of program.now) code inputs) }
     // No run misses an operand, a local or an input, meets a full stack, or ends with other than one value.
     ensures paths { IfOk result (λ code. MissesNothing code (input_count_of program.now)) }
     // Which answer it is.
     ensures exact { Gives (λ code. code) result (compiled (bits_of frac) (body_of program.now) (definitions_of program.now)) }
-    ensures refused { IsTooLarge result → PassesLimit (program_code (bits_of frac) (body_of program.now) (definitions_of program.now)) }
+    ensures refused { IsTooLarge result → 16384 < length (program_code (bits_of frac) (body_of program.now) (definitions_of program.now)) }
 {
     let marks = marks_of(alloc, &program.body, &program.definitions)?;
     if !is_within_limits(program, &marks) {

@@ -5,7 +5,5 @@
 mod compiler;
 mod emit;
 mod sizes;
-#[cfg(test)]
-mod tests;
 
 pub use compiler::compile;

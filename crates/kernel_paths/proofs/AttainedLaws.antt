@@ -1,4 +1,5 @@
--- How attained heights and sets begin, go on and join; and where no path misses anything, each instruction has what it needs there.
+-- How attained heights and sets begin, go on and join; and where no path misses anything, each instruction has what it
+-- needs there.
 use Rattle.std.proofs.Common.{◌≡◌, ℕ, suc, Bool, true, false, ◌&&◌, List, length, replicate, Some, refl, sym, ◌∙◌, slice_index_or, ⊎_elim}
 use Rattle.std.specs.Prelude.{slice_get}
 use Rattle.std.proofs.lemmas.List.{length-replicate}

@@ -1,4 +1,5 @@
--- A height and a set of locals that paths to a place really have: what a walk over all paths may join, as spans of values are.
+-- A height and a set of locals that paths to a place really have: what a walk over all paths may join, as spans of
+-- values are.
 use Rattle.std.specs.Prelude.{◌≡◌, ℕ, List, length, Bool, false, slice_index_or}
 use Rattle.kernel_code.specs.declared.instructions.Instr.{Instr}
 use Rattle.kernel_code.specs.Paths.{IsPath}

@@ -9,7 +9,8 @@ use thiserror::Error;
 /// The first place at which some path of a code goes wrong, or want of memory.
 #[derive(Clone, Copy, PartialEq, Eq, Debug, Error)]
 pub enum Misfit {
-    /// At this place, an instruction's or the code's length, a path lacks an operand, a local or an input, or ends with other than one value, or paths meet with stacks of different heights.
+    /// At this place, an instruction's or the code's length, a path lacks an operand, a local or an input, or ends with
+    /// other than one value, or paths meet with stacks of different heights.
     #[error("V1 Malformed {pc}")]
     Malformed { pc: u32 },
     /// On some path the instruction at this place would push a 65th value.

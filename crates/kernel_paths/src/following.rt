@@ -51,9 +51,14 @@ fn judge_end(end: &Meeting, len: usize) -> Result<u32, Misfit>
     }
 }
 
-/// The number of instructions on the longest path of the code, where so many inputs are at hand and every path does well: none misses an operand, a local or an input, pushes a 65th value, or ends with other than one value, and paths that meet have stacks of one height. Each conditional jump may go either way, whatever the values.
+/// The number of instructions on the longest path of the code, where so many inputs are at hand and every path does
+/// well: none misses an operand, a local or an input, pushes a 65th value, or ends with other than one value, and paths
+/// that meet have stacks of one height. Each conditional jump may go either way, whatever the values.
 ///
-/// Otherwise the lowest place that is wrong decides. `Malformed` where a path lacks an operand, a local or an input, where paths meet with stacks of different heights, or at the end, the place that is the code's length, where a path has other than one value; else `DepthOver64` where a path pushes a 65th value. Instructions that no path comes to are passed over. `Memory` comes only where a growth was refused.
+/// Otherwise the lowest place that is wrong decides. `Malformed` where a path lacks an operand, a local or an input,
+/// where paths meet with stacks of different heights, or at the end, the place that is the code's length, where a path
+/// has other than one value; else `DepthOver64` where a path pushes a 65th value. Instructions that no path comes to
+/// are passed over. `Memory` comes only where a growth was refused.
 pub fn longest_path<A: Allocator, B: Allocator>(
     alloc: A,
     code: &Code<B>,

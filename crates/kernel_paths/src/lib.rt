@@ -1,4 +1,5 @@
-//! Whether code does well on all its paths, whatever the values: each conditional jump is taken both ways. What that means stands in `specs/Misfits.antt`.
+//! Whether code does well on all its paths, whatever the values: each conditional jump is taken both ways. What that
+//! means stands in `specs/Misfits.antt`.
 #![tactic(auto)]
 
 mod faults;
@@ -6,8 +7,6 @@ mod following;
 mod instructions;
 mod locals;
 mod meetings;
-#[cfg(test)]
-mod tests;
 
 pub use faults::Misfit;
 pub use following::longest_path;

@@ -2,6 +2,7 @@ pub mod PartLaws
 pub mod StepLaws
 pub mod LineLaws
 pub mod NameLaws
+pub mod IdentifierLaws
 pub mod ColumnLaws
 pub mod DigitLaws
 pub mod SplitLaws

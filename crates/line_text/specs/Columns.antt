@@ -1,4 +1,5 @@
--- Numbers with a fixed number of decimals, as C's %8.3f prints them, in whole units of the last decimal (GROMACS manual, gro file format).
+-- Numbers with a fixed number of decimals, as C's %8.3f prints them, in whole units of the last decimal (GROMACS
+-- manual, gro file format).
 use Rattle.std.specs.Prelude.{ℕ, suc, ◌+◌, ◌-◌, ◌*◌, ◌/◌, ◌%◌, ◌^◌, List, ◌∷◌, ◌++◌, length, take, drop, replicate, Option, Some, None, ℤ, pos, negsuc, neg_ℤ, int_le, Bool, ◌&&◌, nat_lt, ◌==◌, slice_index, decimal, if◌then◌else◌, option_map}
 use Rattle.std.specs.Str.{all_ascii_digits}
 use Rattle.std.specs.Str.Parse.{digits_value}

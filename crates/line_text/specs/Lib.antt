@@ -4,3 +4,4 @@ pub mod Names
 pub mod Columns
 pub mod Words
 pub mod Written
+pub mod Identifiers

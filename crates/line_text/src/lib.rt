@@ -1,13 +1,12 @@
 //! Parts of lines of text, which all formats share: decimals with one spelling, columns, words, cutting
-//! at a byte, trimming, names, and lines that are being written. What is written is read again:
+//! at a byte, trimming, names, identifiers, and lines that are being written. What is written is read again:
 //! `proofs/` has that law for each writer and its reader, over texts alone.
 #![tactic(auto)]
 
 mod columns;
+mod identifiers;
 mod line;
 mod name;
-#[cfg(test)]
-mod tests;
 mod text;
 mod words;
 
@@ -15,6 +14,7 @@ pub use columns::{
     column, decimal_column, digits, digits_up_to, power_of_ten, put_decimals, put_decimals_right,
     put_thousandths,
 };
+pub use identifiers::{is_identifier, is_identifier_continue, is_identifier_start};
 pub use line::{Line, put, put_integer, put_left, put_natural, put_right, put_word};
 pub use name::{Name, is_printable};
 pub use text::{

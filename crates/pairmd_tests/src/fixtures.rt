@@ -4,6 +4,7 @@ ghost use Rattle.std.specs.Prelude.{None};
 
 use cli::{Files, ReadFault, execute};
 use gro::Collected;
+use integrator::{Direction, run_bytes_checked};
 use std::alloc::{AllocError, Allocator, Global};
 use std::process::Abort;
 use std::test::*;
@@ -168,6 +169,29 @@ pub(crate) fn moved(alloc: Global, command: &str, steps: &str, job: &[u8], state
         job,
         state,
     )
+}
+
+/// What a tested run by so many steps writes, and its refusal as a line of the program.
+pub(crate) fn tested(
+    alloc: Global,
+    direction: Direction,
+    steps: u64,
+    job: &[u8],
+    state: &[u8],
+) -> Result<Answer, AllocError> {
+    let mut out = Collected::new(alloc);
+    let mut err = Vec::new(alloc);
+    let mut status = 0;
+    if let Err(fault) = run_bytes_checked(alloc, job, state, steps, direction, &mut out) {
+        let line = format!(in alloc; "pairmd: {fault}\n")?;
+        err.extend_from_slice(line.as_bytes())?;
+        status = 1;
+    }
+    Ok(Answer {
+        status,
+        out: out.into_bytes(),
+        err,
+    })
 }
 
 /// Ends the test unless the answer is this text.

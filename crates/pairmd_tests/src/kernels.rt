@@ -147,6 +147,7 @@ fn outcomes(alloc: Global, program: &Program<Global>, r: i64) -> Result<[Option<
 }
 
 /// The program that the text says, and that of its slope.
+#[tactic(auto, unfolding(line_text::specs::Identifiers::is_identifier))]
 fn programs(alloc: Global, text: &str) -> Result<[Program<Global>; 2], Fail> {
     let Ok(names) = Names::new(alloc, &[b"q"], &[b"k"]) else {
         return Err(Fail::from("no names"));

@@ -2,11 +2,15 @@
 #![tactic(auto)]
 
 #[cfg(test)]
+mod commands;
+#[cfg(test)]
 mod fixtures;
 #[cfg(test)]
 mod gro_files;
 #[cfg(test)]
 mod kernels;
+#[cfg(test)]
+mod library;
 #[cfg(test)]
 mod potentials;
 #[cfg(test)]
@@ -19,3 +23,5 @@ mod shortages;
 mod steps;
 #[cfg(test)]
 mod texts;
+#[cfg(test)]
+mod verdicts;

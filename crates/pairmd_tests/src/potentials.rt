@@ -2,7 +2,9 @@
 
 use crate::fixtures::{
     JOB, STATE, answer_over, assert_prints, assert_refuses, job_with_energy, moved, state_of,
+    tested,
 };
+use integrator::Direction;
 use std::alloc::{AllocError, Global};
 use std::test::*;
 
@@ -50,6 +52,8 @@ fn steps_under_energies(rt: HostRuntime) -> Result<(), Fail> {
         let end = state_of(alloc, 1, 200000, &[[low, next_low], [high, next_high]])?;
         let forwards = moved(alloc, "run", "1", &job, &start);
         assert_prints(&rt, &forwards, &end, energy);
+        let checked = tested(alloc, Direction::Forward, 1, &job, &start)?;
+        assert_prints(&rt, &checked, &end, energy);
         let back = moved(alloc, "back", "1", &job, &end);
         assert_prints(&rt, &back, &start, energy);
     }

@@ -336,13 +336,13 @@ const PAIRS: [(&str, usize, &str, usize, &str, u8, &str); 6] = [
         "A2 CutoffTooLong",
     ),
     (
-        "the counter before the slopes",
+        "the code before the counter",
         2,
-        "energy 1/(r-0.5)",
+        "energy r/0",
         3,
         "step 9223372036854775807",
-        1,
-        "A4 StepRange",
+        3,
+        "V2 Fault AR AR r 858993459 pc 2 F2 ZeroDivisor",
     ),
 ];
 

@@ -1,8 +1,9 @@
 //! Runs that come back, and runs that stop.
 
 use crate::fixtures::{
-    JOB, STATE, assert_prints, assert_refuses, job_with_energy, moved, state_of, with_line,
+    JOB, STATE, assert_prints, assert_refuses, job_with_energy, moved, state_of, tested, with_line,
 };
+use integrator::Direction;
 use std::alloc::{AllocError, Global};
 use std::test::*;
 
@@ -21,6 +22,8 @@ fn a_thousand_steps_there_and_back(rt: HostRuntime) -> Result<(), Fail> {
     let end = state_of(rt.alloc(), 1000, 200000, &[low, high])?;
     let there = moved(rt.alloc(), "run", "1000", job, &start);
     assert_prints(&rt, &there, &end, "a thousand steps");
+    let there = tested(rt.alloc(), Direction::Forward, 1000, job, &start)?;
+    assert_prints(&rt, &there, &end, "a thousand tested steps");
     let again = moved(rt.alloc(), "back", "1000", job, &there.out);
     assert_prints(&rt, &again, &start, "a thousand steps back");
     Ok(())
@@ -54,6 +57,8 @@ fn a_lattice_there_and_back(rt: HostRuntime) -> Result<(), Fail> {
     let end = lattice(rt.alloc(), 3, &pushed)?;
     let there = moved(rt.alloc(), "run", "3", job, &start);
     assert_prints(&rt, &there, &end, "three steps");
+    let there = tested(rt.alloc(), Direction::Forward, 3, job, &start)?;
+    assert_prints(&rt, &there, &end, "three tested steps");
     let again = moved(rt.alloc(), "back", "3", job, &there.out);
     assert_prints(&rt, &again, &start, "three steps back");
     Ok(())
@@ -61,29 +66,37 @@ fn a_lattice_there_and_back(rt: HostRuntime) -> Result<(), Fail> {
 
 #[test]
 fn slopes_without_a_value(rt: HostRuntime) -> Result<(), Fail> {
-    for (energy, command, line) in [
-        ("1/(r-0.5)", "run", "A5 KernelFault 0 1 2 12 F2 ZeroDivisor"),
+    for (energy, direction, line) in [
         (
             "1/(r-0.5)",
-            "back",
+            Direction::Forward,
+            "A5 KernelFault 0 1 2 12 F2 ZeroDivisor",
+        ),
+        (
+            "1/(r-0.5)",
+            Direction::Back,
             "A5 KernelFault -1 1 2 12 F2 ZeroDivisor",
         ),
         (
             "2147483647*(r+r)",
-            "run",
+            Direction::Forward,
             "A5 KernelFault 0 1 2 4 F1 Overflow",
         ),
         (
             "sqrt(r-0.6)",
-            "run",
+            Direction::Forward,
             "A5 KernelFault 0 1 2 7 F3 NegativeRoot",
         ),
-        ("1/r^32", "run", "A5 KernelFault 0 1 2 33 F2 ZeroDivisor"),
+        (
+            "1/r^32",
+            Direction::Forward,
+            "A5 KernelFault 0 1 2 33 F2 ZeroDivisor",
+        ),
     ] {
         let job = job_with_energy(rt.alloc(), energy)?;
-        let stopped = moved(rt.alloc(), command, "1", &job, STATE.as_bytes());
+        let stopped = tested(rt.alloc(), direction, 1, &job, STATE.as_bytes())?;
         assert_refuses(&rt, &stopped, 1, line, energy);
-        let unmoved = moved(rt.alloc(), command, "0", &job, STATE.as_bytes());
+        let unmoved = tested(rt.alloc(), direction, 0, &job, STATE.as_bytes())?;
         assert_prints(&rt, &unmoved, STATE.as_bytes(), energy);
     }
     Ok(())
@@ -99,12 +112,15 @@ fn the_first_pair_without_a_slope(rt: HostRuntime) -> Result<(), Fail> {
         [[1073741824, 0, 0]; 2],
     ];
     let start = state_of(rt.alloc(), 41, 200000, &atoms)?;
-    for (command, line) in [
-        ("run", "A5 KernelFault 41 2 3 12 F2 ZeroDivisor"),
-        ("back", "A5 KernelFault 40 2 3 12 F2 ZeroDivisor"),
+    for (direction, line) in [
+        (
+            Direction::Forward,
+            "A5 KernelFault 41 2 3 12 F2 ZeroDivisor",
+        ),
+        (Direction::Back, "A5 KernelFault 40 2 3 12 F2 ZeroDivisor"),
     ] {
-        let stopped = moved(rt.alloc(), command, "1", &job, &start);
-        assert_refuses(&rt, &stopped, 1, line, command);
+        let stopped = tested(rt.alloc(), direction, 1, &job, &start)?;
+        assert_refuses(&rt, &stopped, 1, line, line);
     }
     Ok(())
 }

@@ -5,7 +5,7 @@ ghost use Rattle.std.specs.Prelude.{◌≡◌, Some};
 use crate::fixtures::{AFTER_TWO, JOB, STATE, Table, answer_to, assert_refuses, job_with_energy};
 use cli::execute;
 use gro::{Collected, Out, OutFault};
-use integrator::{Direction, run_bytes_checked};
+use integrator::{Direction, run_bytes, run_bytes_checked};
 use linked_list_allocator::LocalHeap;
 use std::alloc::{AllocError, Allocator, Global};
 use std::test::*;
@@ -87,18 +87,16 @@ fn an_output_that_takes_all_gets_all(rt: HostRuntime) {
     }
 }
 
-/// What two steps with a memory of this size write, or the line of their refusal, after which nothing was written.
-fn run_within(alloc: Global, size: usize) -> Result<Vec<u8>, AllocError> {
+/// What two steps with a memory of this size write, tested or not, or the line of their refusal, after which nothing was written.
+fn run_within(alloc: Global, size: usize, tested: bool) -> Result<Vec<u8>, AllocError> {
     let heap = LocalHeap::new(alloc, size)?;
     let mut out = Collected::new(alloc);
-    let ran = run_bytes_checked(
-        &heap,
-        JOB.as_bytes(),
-        STATE.as_bytes(),
-        2,
-        Direction::Forward,
-        &mut out,
-    );
+    let (job, state) = (JOB.as_bytes(), STATE.as_bytes());
+    let ran = if tested {
+        run_bytes_checked(&heap, job, state, 2, Direction::Forward, &mut out)
+    } else {
+        run_bytes(&heap, job, state, 2, Direction::Forward, &mut out)
+    };
     if let Err(fault) = ran {
         let line = format!(in alloc; "{fault}")?;
         let mut text = out.into_bytes();
@@ -110,20 +108,22 @@ fn run_within(alloc: Global, size: usize) -> Result<Vec<u8>, AllocError> {
 
 #[test]
 fn refused_memory_is_told_or_not_noticed(rt: HostRuntime) -> Result<(), Fail> {
-    let mut refused = 0;
-    for size in 1..=128 {
-        let text = run_within(rt.alloc(), 64 * size)?;
-        if text.as_slice() == b"Memory".as_slice() {
-            refused = size;
-        } else {
-            assert_eq!(rt;
-                text.as_slice(),
-                AFTER_TWO.as_bytes(),
-                "a heap of 64 * {size} bytes"
-            );
+    for tested in [true, false] {
+        let mut refused = 0;
+        for size in 1..=512 {
+            let text = run_within(rt.alloc(), 64 * size, tested)?;
+            if text.starts_with(b"Memory") {
+                refused = size;
+            } else {
+                assert_eq!(rt;
+                    text.as_slice(),
+                    AFTER_TWO.as_bytes(),
+                    "a heap of 64 * {size} bytes"
+                );
+            }
         }
+        assert!(rt; 0 < refused && refused < 512);
     }
-    assert!(rt; 0 < refused && refused < 128);
     Ok(())
 }
 

@@ -12,6 +12,3 @@ mod writing;
 
 pub use faults::{StartFault, StateFault};
 pub use states::{Atom, State};
-
-#[cfg(test)]
-mod tests;

@@ -50,7 +50,7 @@ passed pairs first k o e before = sym (tile_of-drop pairs k o e) ∙ before
 pub stands_at_pair : (pairs : List (Option PairAdd)) (first k : ℕ) (p : PairAdd) → slice_get pairs k ≡ Some (Some p) → tile_of (drop k pairs) ≡ tile_of (drop first pairs) → doing (additions_of (Some p) ++ tile_of (drop (k + 1) pairs)) ≡ doing (tile_of (drop first pairs))
 stands_at_pair pairs first k p e before = ap doing (passed pairs first k (Some p) e before)
 
-tile_at-tiles_of : (plan : List (List (Option PairAdd))) (t : ℕ) → tile_at (tiles_of plan) t ≡ tile_of (pairs_at plan t)
+pub tile_at-tiles_of : (plan : List (List (Option PairAdd))) (t : ℕ) → tile_at (tiles_of plan) t ≡ tile_of (pairs_at plan t)
 tile_at-tiles_of [] t = refl
 tile_at-tiles_of (ps ∷ plan) zero = refl
 tile_at-tiles_of (ps ∷ plan) (suc t) = tile_at-tiles_of plan t

@@ -9,8 +9,6 @@ mod faults;
 mod laws;
 mod places;
 mod round;
-#[cfg(test)]
-mod tests;
 mod work;
 
 pub use events::{Event, Outcome};

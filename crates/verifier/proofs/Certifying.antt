@@ -1,17 +1,22 @@
 -- From values at all distances to a certificate.
-use Rattle.std.proofs.Common.{◌≡◌, ℕ, zero, suc, ◌≤◌, List, [], ◌∷◌, length, Option, Some, None, Ok, Err, refl, ap, subst, arith, ℤ, pos, ◌-ℤ◌}
-use Rattle.std.specs.Prelude.{slice_get, option_map}
+use Rattle.std.proofs.Common.{◌≡◌, ◌≢◌, ℕ, zero, suc, ◌+◌, ◌<◌, ◌≤◌, List, [], ◌∷◌, length, Option, Some, None, Ok, Err, refl, sym, ap, ◌∙◌, subst, arith, ⊎_elim, ℤ, pos, ◌-ℤ◌, ◌≤ℤ◌, ◌<ℤ◌}
+use Rattle.std.specs.Prelude.{slice_get, slice_index_or, option_map}
+use Rattle.std.proofs.lemmas.Bool.{cases_eq}
+use Rattle.std.proofs.lemmas.Option.{slice_get_within}
 use Rattle.fixed.specs.Fractions.{bits_of}
 use Rattle.kernel_code.specs.declared.instructions.Instr.{Instr}
+use Rattle.kernel_code.specs.declared.instructions.Instr.TheVariants.{Keep}
 use Rattle.kernel_code.specs.Code.{IsCode}
 use Rattle.kernel_code.specs.Machine.{State, Turn, act, end_of, Ends}
 use Rattle.kernel_code.specs.Paths.{IsPath, IsLongest, MissesNothing}
-use Rattle.kernel_code.specs.Tables.{Table, inputs_of}
+use Rattle.kernel_code.specs.Tables.{Table, IsTable, inputs_of}
 use Rattle.kernel_code.proofs.PathLaws.{set_of, run_is_path, path_within}
 use Rattle.kernel_paths.specs.Misfits.{DoesWell}
 use Rattle.verifier.specs.declared.faults.VerifyFault.{VerifyFault}
 use Rattle.verifier.specs.declared.faults.VerifyFault.TheVariants.{Malformed, DepthOver64, Fault, Undecided, Memory}
 use Rattle.verifier.specs.Safety.{IsSafe, IsCertified, IsFound, IsRefusal, input_count}
+use Rattle.verifier.specs.Slices.{AreEnoughLocals}
+use Rattle.verifier.specs.Searches.{Searched, IsSearch}
 
 at_end : (code : List Instr) (pc : ℕ) → pc ≤ length code → slice_get code pc ≡ None → pc ≡ length code
 at_end [] pc h e = omega (arith, h)
@@ -51,6 +56,32 @@ certified code t core cutoff inputs steps bound is d e h =
 pub refused : (code : List Instr) (t : Table) (core cutoff : ℤ) (limit : ℕ) (f : VerifyFault) → IsFound code t core (cutoff -ℤ pos 1) limit f → IsRefusal code t core cutoff limit f
 refused code t core cutoff limit (Malformed pc) h = absurd h
 refused code t core cutoff limit (DepthOver64 pc) h = absurd h
-refused code t core cutoff limit (Fault a b r trap) h = h
-refused code t core cutoff limit (Undecided a b lo hi trap) h = h
+refused code t core cutoff limit (Fault a b r pc fault) h = h
+refused code t core cutoff limit (Undecided a b lo hi pc fault) h = h
 refused code t core cutoff limit Memory h = tt
+
+-- ---- locals
+
+get_same : (code : List Instr) (at k : ℕ) (i item : Instr) → at < length code → item ≡ slice_index_or code at item → slice_get code at ≡ Some i → i ≡ item
+get_same [] at k i item within is e = absurd (omega arith)
+get_same (j ∷ js) zero k i item within is e = let same : j ≡ i = cc in sym same ∙ sym is
+get_same (j ∷ js) (suc at) k i item within is e = get_same js at k i item (omega (arith, within)) is e
+
+-- an instruction more, with as many locals at least
+pub locals_more : (code : List Instr) (at count count' : ℕ) (item : Instr) → at < length code → item ≡ slice_index_or code at item → ((pc k : ℕ) → pc < at → slice_get code pc ≡ Some (Keep k) → k < count) → count ≤ count' → ((k : ℕ) → item ≡ Keep k → k < count')
+    → (pc k : ℕ) → pc < at + 1 → slice_get code pc ≡ Some (Keep k) → k < count'
+locals_more code at count count' item within is before more here pc k lt there =
+    ⊎_elim
+    (λ (e : pc ≡ at).
+    let there' : slice_get code at ≡ Some (Keep k) = subst (λ (n : ℕ). slice_get code n ≡ Some (Keep k)) e there in
+    here k (sym (get_same code at k (Keep k) item within is there')))
+    (λ (n : pc ≢ at). let h = before pc k (omega (arith, lt, n)) there in omega (arith, h, more))
+    (cases_eq pc at)
+
+pub locals_all : (code : List Instr) (at count : ℕ) → ((pc k : ℕ) → pc < at → slice_get code pc ≡ Some (Keep k) → k < count) → length code ≤ at → AreEnoughLocals code count
+locals_all code at count before past = record { kept = λ pc k there. let w = slice_get_within code pc (Keep k) there in before pc k (omega (arith, w, past)) there }
+
+-- ---- the search
+
+pub is_search : (s : Searched) (inputs steps : ℕ) → IsTable s.table → DoesWell s.code inputs steps → inputs ≡ input_count s.table → AreEnoughLocals s.code s.locals → pos 0 ≤ℤ s.core → s.core <ℤ s.cutoff → 0 < s.slices → IsSearch s
+is_search s inputs steps t d e l core range slices = record { table = t; well = (steps, subst (λ (n : ℕ). DoesWell s.code n steps) e d); locals = l; core = core; range = range; slices = slices }

@@ -1,5 +1,5 @@
 -- Each instruction, within frames of spans.
-use Rattle.std.proofs.Common.{◌≡◌, ℕ, zero, suc, ◌+◌, ◌<◌, ◌≤◌, List, [], ◌∷◌, length, Option, Some, None, Result, Ok, Err, refl, sym, ap, ◌∙◌, subst, arith, ℤ, true, ◌≢◌, ⊎_elim}
+use Rattle.std.proofs.Common.{◌≡◌, ℕ, zero, suc, ◌+◌, ◌<◌, List, [], ◌∷◌, length, Option, Some, None, Result, Ok, Err, refl, sym, ap, ◌∙◌, subst, arith, ℤ, Bool, true, false, ◌≢◌, ⊎_elim}
 use Rattle.std.specs.Prelude.{OnOk, slice_get, slice_set, slice_index_or, nat_lt}
 use Rattle.std.proofs.lemmas.Bool.{cases_eq, lt-ltb}
 use Rattle.std.proofs.lemmas.Int.{ints}
@@ -12,7 +12,7 @@ use Rattle.kernel_code.specs.declared.instructions.UnaryOperation.{UnaryOperatio
 use Rattle.kernel_code.specs.declared.instructions.Instr.TheVariants.{Push, Input, Keep, Get, Binary, Unary}
 use Rattle.kernel_code.specs.declared.traps.TrapKind.TheVariants.{MissingInput, MissingLocal}
 use Rattle.kernel_code.specs.Machine.{pushed, pushed_if, kept, given, on_two, on_one, binary_of, unary_of}
-use Rattle.verifier.specs.Frames.{SpanFrame, AreMembers, IsLocalOf, AreLocalsOf, AreIn, Pushes, Pops, Keeps, AppliesBinary, AppliesUnary, Follows}
+use Rattle.verifier.specs.Frames.{SpanFrame, AreMembers, IsLocalOf, AreLocalsOf, AreIn, HasSet, IsOfSize, Pushes, Pops, Keeps, AppliesBinary, AppliesUnary, Follows}
 
 -- what a call says at `Ok`, passed on
 pub on_ok : {T E : Type 0} (r : Result T E) (P Q : Type 0) → OnOk r P → (P → Q) → OnOk r Q
@@ -38,6 +38,30 @@ popped s old new ys p h = tops ys s new.stack (subst (AreMembers ys) p.stack h)
 pub same_locals : (ls : List (Option ℤ)) (a b : List (Option Span)) → b ≡ a → AreLocalsOf ls a → AreLocalsOf ls b
 same_locals ls a b e h = rw e h
 
+-- ---- heights and sets of locals
+
+same_set : (a b : List (Option Span)) (set : List Bool) → b ≡ a → HasSet a set → HasSet b set
+same_set a b set e h = rw e h
+
+pushes_size : (s : Span) (old new : SpanFrame) → Pushes s old new → IsOfSize (length old.stack + 1) (length old.locals) new
+pushes_size s old new p =
+    let e : length new.stack ≡ suc (length old.stack) = ap length p.stack in
+    record { height' = omega arith; locals' = ap length p.locals }
+
+-- a local that is kept
+set_with : (l : List (Option Span)) (set : List Bool) (k : ℕ) (s : Span) → k < 256 → k < length l → HasSet l set → HasSet (slice_set l k (Some s)) (slice_set set k true)
+set_with l set k s fits within h =
+    let there : k < length set = omega (arith, h.long) in
+    record {
+      long = length-set set k true ∙ h.long;
+      same =
+          λ j.
+          ⊎_elim
+          (λ (e : j ≡ k). rw (e, get_or-set_same set k true false there, get_or-set_same l k (Some s) None within) refl)
+          (λ (n : j ≢ k). rw (get_or-set_other set k j true false n, get_or-set_other l k j (Some s) None n) (h.same j))
+          (cases_eq j k);
+    }
+
 -- ---- one instruction
 
 push_leads : (x : ℤ) (s : Span) (pc : ℕ) (ys : List ℤ) (ls : List (Option ℤ)) (old new : SpanFrame) → AreIn old ys ls → Pushes s old new → IsMember x s → (pushed x pc ys ls ≡ Ok (record { pc = pc + 1; stack = x ∷ ys; locals = ls })) × AreIn new (x ∷ ys) ls
@@ -53,6 +77,8 @@ follows_push bits v s inputs old new lo hi p =
           let i : IsMember v s = record { at_least = omega (arith, ints, lo); at_most = omega (arith, ints, hi) } in
           let r = push_leads v s pc ys ls old new h p i in
           (v ∷ ys, ls, r.0, r.1);
+      size = pushes_size s old new p;
+      set = λ set h. same_set old.locals new.locals set p.locals h;
     }
 
 pub follows_input : (bits k : ℕ) (s : Span) (inputs : List Span) (old new : SpanFrame) → slice_get inputs k ≡ Some s → Pushes s old new → Follows bits (Input k) inputs old new
@@ -62,6 +88,8 @@ follows_input bits k s inputs old new e p =
           let g = hx.each k s e in
           let r = push_leads g.0 s pc ys ls old new h p g.2 in
           (g.0 ∷ ys, ls, ap (λ o. pushed_if MissingInput o pc ys ls) g.1 ∙ r.0, r.1);
+      size = pushes_size s old new p;
+      set = λ set h. same_set old.locals new.locals set p.locals h;
     }
 
 local_set : (o : Option ℤ) (s : Span) → IsLocalOf o (Some s) → (x : ℤ) × (o ≡ Some x) × IsMember x s
@@ -75,13 +103,9 @@ follows_get bits k s inputs old new e p =
           let g = local_set (slice_index_or ls k None) s (subst (IsLocalOf (slice_index_or ls k None)) e (h.set.each k)) in
           let r = push_leads g.0 s pc ys ls old new h p g.2 in
           (g.0 ∷ ys, ls, ap (λ o. pushed_if MissingLocal o pc ys ls) g.1 ∙ r.0, r.1);
+      size = pushes_size s old new p;
+      set = λ set h. same_set old.locals new.locals set p.locals h;
     }
-
--- a local past the list has no span
-set_past : (l : List (Option Span)) (k : ℕ) (v : Option Span) → length l ≤ k → slice_index_or (slice_set l k v) k None ≡ None
-set_past [] k v h = refl
-set_past (x ∷ l) zero v h = absurd (omega arith)
-set_past (x ∷ l) (suc k) v h = set_past l k v (omega arith)
 
 kept_here : (x : ℤ) (s : Span) (l : List (Option Span)) (k : ℕ) → IsMember x s → IsLocalOf (Some x) (slice_index_or (slice_set l k (Some s)) k None)
 kept_here x s [] k i = tt
@@ -101,8 +125,8 @@ locals_kept ls l k x s h within i =
           (cases_eq j k);
     }
 
-pub follows_keep : (bits k : ℕ) (s : Span) (inputs : List Span) (old between new : SpanFrame) → k < 256 → Pops s old between → Keeps k s between new → Follows bits (Keep k) inputs old new
-follows_keep bits k s inputs old between new within p n =
+pub follows_keep : (bits k : ℕ) (s : Span) (inputs : List Span) (old between new : SpanFrame) → k < 256 → k < length old.locals → Pops s old between → Keeps k s between new → Follows bits (Keep k) inputs old new
+follows_keep bits k s inputs old between new fits within p n =
     record {
       leads = λ xs pc ys ls hx h.
           let t = popped s old between ys p h.on_stack in (
@@ -111,9 +135,11 @@ follows_keep bits k s inputs old between new within p n =
             ap (λ l. kept k pc l ls) t.2,
             record {
               on_stack = subst (AreMembers t.1) (sym n.stack) t.4;
-              set = subst (AreLocalsOf (slice_set ls k (Some t.0))) (sym n.locals) (locals_kept ls between.locals k t.0 s (same_locals ls old.locals between.locals p.locals h.set) within t.3);
+              set = subst (AreLocalsOf (slice_set ls k (Some t.0))) (sym n.locals) (locals_kept ls between.locals k t.0 s (same_locals ls old.locals between.locals p.locals h.set) fits t.3);
             },
           );
+      size = record { height' = omega (arith, ap length p.stack, ap length n.stack); locals' = ap length n.locals ∙ length-set between.locals k (Some s) ∙ ap length p.locals };
+      set = λ set h. same_set (slice_set between.locals k (Some s)) new.locals (slice_set set k true) n.locals (set_with between.locals set k s fits (omega (arith, ap length p.locals, within)) (same_set old.locals between.locals set p.locals h));
     }
 
 pub applies_binary : (bits : ℕ) (op : BinaryOperation) (a b s : Span) (old one two new : SpanFrame) → Pops b old one → Pops a one two → IsLeastSpan (IsOutcomeOfTwo (binary_of bits op) a b) s → Pushes s two new → AppliesBinary bits op old new
@@ -139,6 +165,8 @@ follows_binary bits op inputs old new f =
               set = same_locals ls old.locals new.locals f.locals h.set;
             },
           );
+      size = record { height' = omega (arith, ap length f.taken, ap length f.given); locals' = ap length f.locals };
+      set = λ set h. same_set old.locals new.locals set f.locals h;
     }
 
 pub follows_unary : (bits : ℕ) (op : UnaryOperation) (inputs : List Span) (old new : SpanFrame) → AppliesUnary bits op old new → Follows bits (Unary op) inputs old new
@@ -155,4 +183,6 @@ follows_unary bits op inputs old new f =
               set = same_locals ls old.locals new.locals f.locals h.set;
             },
           );
+      size = record { height' = omega (arith, ap length f.taken, ap length f.given); locals' = ap length f.locals };
+      set = λ set h. same_set old.locals new.locals set f.locals h;
     }

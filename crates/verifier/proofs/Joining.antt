@@ -1,13 +1,13 @@
 -- Frames where paths meet hold what each of them held.
-use Rattle.std.proofs.Common.{◌≡◌, ◌≢◌, ℕ, zero, suc, ◌+◌, ◌<◌, ◌≤◌, List, [], ◌∷◌, length, Option, Some, None, refl, sym, ap, ◌∙◌, subst, arith, ℤ, ⊎_elim, reverse}
-use Rattle.std.specs.Prelude.{slice_get, slice_set, slice_index_or}
+use Rattle.std.proofs.Common.{◌≡◌, ◌≢◌, ℕ, zero, suc, ◌+◌, ◌<◌, ◌≤◌, Bool, true, false, ◌&&◌, List, [], ◌∷◌, length, Option, Some, None, refl, sym, ap, ◌∙◌, subst, arith, ℤ, ⊎_elim, reverse}
+use Rattle.std.specs.Prelude.{slice_get, slice_set, slice_index_or, is_some}
 use Rattle.std.proofs.lemmas.Bool.{cases_eq, cases_lt}
-use Rattle.std.proofs.lemmas.List.{get_or-set_same, get_or-set_other, get_or_past, reverse-reverse}
+use Rattle.std.proofs.lemmas.List.{get_or-set_same, get_or-set_other, get_or_past, length-reverse, reverse-reverse}
 use Rattle.std.proofs.Math.ListN.{length-set}
 use mathlib.Core.List.{reverse_aux}
 use Rattle.interval_domain.specs.declared.span.Span.{Span}
 use Rattle.interval_domain.specs.Spans.{IsMember, IsWithin, IsHull}
-use Rattle.verifier.specs.Frames.{SpanFrame, AreMembers, IsLocalOf, WidensSpans, WidensFirst, WidensLocal, WidensLocals, WidensFirstLocals, Widens}
+use Rattle.verifier.specs.Frames.{SpanFrame, AreMembers, IsLocalOf, IsOfSize, WidensSpans, WidensFirst, WidensLocal, WidensLocals, WidensFirstLocals, Widens}
 
 -- ---- spans
 
@@ -70,11 +70,22 @@ spans_all k old other now w past =
 
 -- ---- locals
 
-pub local_none : (a b : Option Span) → WidensLocal a b None
-local_none a b = record { mine = λ o m. tt; others = λ o m. tt }
+and_none : (b : Bool) → (b && false) ≡ false
+and_none true = refl
+and_none false = refl
+
+-- a local without a span on one side
+pub local_none : (a b : Option Span) → (is_some a && is_some b) ≡ false → WidensLocal a b None
+local_none a b e = record { mine = λ o m. tt; others = λ o m. tt; set = sym e }
+
+pub local_first_none : (b : Option Span) → WidensLocal None b None
+local_first_none b = local_none None b refl
+
+pub local_second_none : (a : Option Span) → WidensLocal a None None
+local_second_none a = local_none a None (and_none (is_some a))
 
 pub local_hull : (a b h : Span) → IsHull a b h → WidensLocal (Some a) (Some b) (Some h)
-local_hull a b h hull = record { mine = mine; others = others }
+local_hull a b h hull = record { mine = mine; others = others; set = refl }
   where
     mine : (o : Option ℤ) → IsLocalOf o (Some a) → IsLocalOf o (Some h)
     mine None m = m
@@ -85,41 +96,33 @@ local_hull a b h hull = record { mine = mine; others = others }
     others (Some x) m = hull.second.members x m
 
 pub locals_none : (old other : List (Option Span)) → length old ≡ length other → WidensFirstLocals 0 old other old
-locals_none old other e = record { long = e; mine = λ j o m. m; first = λ j o lt m. absurd (omega (arith, lt)) }
+locals_none old other e = record { long = e; first = λ j lt. absurd (omega (arith, lt)); rest = λ j le. refl }
 
 pub locals_more : (k : ℕ) (old other now : List (Option Span)) (a b h : Option Span) → WidensFirstLocals k old other now → k < length now → slice_index_or now k None ≡ a → slice_index_or other k None ≡ b → WidensLocal a b h → WidensFirstLocals (k + 1) old other (slice_set now k h)
 locals_more k old other now a b h w within ea eb l =
+    let here : WidensLocal (slice_index_or old k None) (slice_index_or other k None) h = rw (← w.rest k (omega arith), ea, eb) l in
     record {
       long = length-set now k h ∙ w.long;
-      mine =
-          λ j o m.
-          ⊎_elim
-          (λ (e : j ≡ k).
-          let here : IsLocalOf o (slice_index_or now k None) = subst (λ (i : ℕ). IsLocalOf o (slice_index_or now i None)) e (w.mine j o m) in
-          rw (e, get_or-set_same now k h None within) (l.mine o (subst (IsLocalOf o) ea here)))
-          (λ (n : j ≢ k). rw (get_or-set_other now k j h None n) (w.mine j o m))
-          (cases_eq j k);
       first =
-          λ j o lt m.
+          λ j lt.
           ⊎_elim
-          (λ (e : j ≡ k).
-          let here : IsLocalOf o (slice_index_or other k None) = subst (λ (i : ℕ). IsLocalOf o (slice_index_or other i None)) e m in
-          rw (e, get_or-set_same now k h None within) (l.others o (subst (IsLocalOf o) eb here)))
-          (λ (n : j ≢ k). rw (get_or-set_other now k j h None n) (w.first j o (omega (arith, lt, n)) m))
+          (λ (e : j ≡ k). rw (e, get_or-set_same now k h None within) here)
+          (λ (n : j ≢ k). rw (get_or-set_other now k j h None n) (w.first j (omega (arith, lt, n))))
           (cases_eq j k);
+      rest = λ j le. get_or-set_other now k j h None (omega (arith, le)) ∙ w.rest j (omega (arith, le));
     }
 
 pub locals_all : (k : ℕ) (old other now : List (Option Span)) → WidensFirstLocals k old other now → length other ≤ k → WidensLocals old other now
 locals_all k old other now w past =
     record {
-      each = λ j. record {
-        mine = w.mine j;
-        others = λ o m.
-            ⊎_elim
-            (λ (lt : j < k). w.first j o lt m)
-            (λ (le : k ≤ j). let e : slice_index_or now j None ≡ None = get_or_past now j None (omega (arith, w.long, past, le)) in rw e tt)
-            (cases_lt j k);
-      };
+      each = λ j.
+          ⊎_elim
+          (λ (lt : j < k). w.first j lt)
+          (λ (le : k ≤ j).
+          let now' : slice_index_or now j None ≡ None = get_or_past now j None (omega (arith, w.long, past, le)) in
+          let other' : slice_index_or other j None ≡ None = get_or_past other j None (omega (arith, past, le)) in
+          rw (now', other') (local_second_none (slice_index_or old j None)))
+          (cases_lt j k);
     }
 
 -- ---- frames
@@ -138,8 +141,9 @@ turned_back ys old new w m =
     let down : AreMembers (reverse ys) old = subst (AreMembers (reverse ys)) (reverse-reverse old) (turned ys (reverse old) m) in
     subst (λ (l : List ℤ). AreMembers l (reverse new)) (reverse-reverse ys) (turned (reverse ys) new (w (reverse ys) down))
 
-pub frame_widens : (s t n : List Span) (ls ms ns : List (Option Span)) → WidensSpans s t n → WidensLocals ls ms ns → Widens (record { stack = reverse s; locals = ls }) (record { stack = reverse t; locals = ms }) (record { stack = reverse n; locals = ns })
-frame_widens s t n ls ms ns w l =
+pub frame_widens : (s t n : List Span) (ls ms ns : List (Option Span)) → WidensSpans s t n → length n ≡ length t → WidensLocals ls ms ns → length ns ≡ length ms
+    → Widens (record { stack = reverse s; locals = ls }) (record { stack = reverse t; locals = ms }) (record { stack = reverse n; locals = ns })
+frame_widens s t n ls ms ns w long l long' =
     record {
       mine = λ ys vs m. record {
         on_stack = turned_back ys s n w.mine m.on_stack;
@@ -149,14 +153,26 @@ frame_widens s t n ls ms ns w l =
         on_stack = turned_back ys t n w.others m.on_stack;
         set = record { long = m.set.long; each = λ k. (l.each k).others (slice_index_or vs k None) (m.set.each k) };
       };
+      size = record { height' = length-reverse n ∙ long ∙ sym (length-reverse t); locals' = long' };
+      set = λ k. (l.each k).set;
     }
+
+same_height : (old other : SpanFrame) (s t : List Span) (ls ms : List (Option Span)) → old ≡ record { stack = reverse s; locals = ls } → other ≡ record { stack = reverse t; locals = ms } → IsOfSize (length other.stack) (length other.locals) old
+    → (length s ≡ length t) × (length ls ≡ length ms)
+same_height old other s t ls ms eo ep size =
+    let a : length old.stack ≡ length s = ap (λ (f : SpanFrame). length f.stack) eo ∙ length-reverse s in
+    let b : length other.stack ≡ length t = ap (λ (f : SpanFrame). length f.stack) ep ∙ length-reverse t in
+    let c : length old.locals ≡ length ls = ap (λ (f : SpanFrame). length f.locals) eo in
+    let d : length other.locals ≡ length ms = ap (λ (f : SpanFrame). length f.locals) ep in
+    (sym a ∙ size.height' ∙ b, sym c ∙ size.locals' ∙ d)
 
 -- the same by equal names
 pub frame_widens_so : (old other : SpanFrame) (s s' t t' n : List Span) (ls ls' ms ms' ns : List (Option Span)) → old ≡ record { stack = reverse s; locals = ls } → other ≡ record { stack = reverse t; locals = ms } → s' ≡ s → t' ≡ t → ls' ≡ ls → ms' ≡ ms
-    → WidensSpans s' t' n → WidensLocals ls' ms' ns → Widens old other (record { stack = reverse n; locals = ns })
-frame_widens_so old other s s' t t' n ls ls' ms ms' ns eo ep es et el em w l =
+    → IsOfSize (length other.stack) (length other.locals) old → WidensSpans s' t' n → length n ≡ length s' → WidensLocals ls' ms' ns → length ns ≡ length ls' → Widens old other (record { stack = reverse n; locals = ns })
+frame_widens_so old other s s' t t' n ls ls' ms ms' ns eo ep es et el em size w long l long' =
+    let high = same_height old other s t ls ms eo ep size in
     let w' = subst (λ (x : List Span). WidensSpans x t n) es (subst (λ (x : List Span). WidensSpans s' x n) et w) in
     let l' = subst (λ (x : List (Option Span)). WidensLocals x ms ns) el (subst (λ (x : List (Option Span)). WidensLocals ls' x ns) em l) in
     let to : SpanFrame = record { stack = reverse n; locals = ns } in
-    let mid : Widens (record { stack = reverse s; locals = ls }) (record { stack = reverse t; locals = ms }) to = frame_widens s t n ls ms ns w' l' in
+    let mid : Widens (record { stack = reverse s; locals = ls }) (record { stack = reverse t; locals = ms }) to = frame_widens s t n ls ms ns w' (long ∙ ap length es ∙ high.0) l' (long' ∙ ap length el ∙ high.1) in
     subst (λ (x : SpanFrame). Widens x other to) (sym eo) (subst (λ (x : SpanFrame). Widens (record { stack = reverse s; locals = ls }) x to) (sym ep) mid)

@@ -1,6 +1,6 @@
 -- What is judged of some distances.
-use Rattle.std.proofs.Common.{◌≡◌, ℕ, zero, suc, ◌+◌, ◌-◌, ◌*◌, ◌^◌, ◌≤◌, List, [], ◌∷◌, ◌++◌, length, Some, refl, sym, ap, ◌∙◌, subst, arith, ◌≢◌, ℤ, pos, negsuc, ◌≤ℤ◌, ◌<ℤ◌, ◌+ℤ◌, ◌-ℤ◌, ⊎_elim, inl, inr, max, lit<}
-use Rattle.std.specs.Prelude.{slice_get, ◌⊎◌, unsigned_abs}
+use Rattle.std.proofs.Common.{◌≡◌, ℕ, zero, suc, ◌+◌, ◌-◌, ◌*◌, ◌^◌, ◌≤◌, List, refl, subst, arith, ◌≢◌, ℤ, pos, negsuc, ◌≤ℤ◌, ◌<ℤ◌, ◌+ℤ◌, ◌-ℤ◌, ⊎_elim, max, lit<}
+use Rattle.std.specs.Prelude.{unsigned_abs}
 use Rattle.std.proofs.Math.Nat.{pow-suc}
 use Rattle.std.proofs.lemmas.Int.{ints}
 use Rattle.fixed.specs.Fractions.{bits_of}
@@ -14,41 +14,7 @@ use Rattle.verifier.specs.declared.faults.VerifyFault.TheVariants.{Malformed, De
 use Rattle.verifier.specs.Frames.{AreInputsOf}
 use Rattle.verifier.specs.Slices.{AllGiveIn}
 use Rattle.verifier.specs.Safety.{GivesWithin, IsFound}
-
--- ---- inputs
-
-get_push : (ss : List Span) (s t : Span) (j : ℕ) → slice_get (ss ++ s ∷ []) j ≡ Some t → (slice_get ss j ≡ Some t) ⊎ ((j ≡ length ss) × (t ≡ s))
-get_push [] s t zero e = inr (refl, cc)
-get_push [] s t (suc j) e = absurd cc
-get_push (x ∷ ss) s t zero e = inl e
-get_push (x ∷ ss) s t (suc j) e = ⊎_elim (λ (h : slice_get ss j ≡ Some t). inl h) (λ (h : (j ≡ length ss) × (t ≡ s)). inr (ap suc h.0, h.1)) (get_push ss s t j e)
-
-same_later : (x y : ℤ) (rest : List ℤ) (k : ℕ) → 1 ≤ k → slice_get (x ∷ rest) k ≡ slice_get (y ∷ rest) k
-same_later x y rest zero h = absurd (omega (arith, h))
-same_later x y rest (suc k) h = refl
-
--- input 0
-pub inputs_first : (x : ℤ) (rest : List ℤ) (s : Span) → IsMember x s → AreInputsOf (x ∷ rest) (s ∷ [])
-inputs_first x rest s m = record { each = first }
-  where
-    first : (k : ℕ) (t : Span) → slice_get (s ∷ []) k ≡ Some t → (y : ℤ) × (slice_get (x ∷ rest) k ≡ Some y) × IsMember y t
-    first zero t e = let same : s ≡ t = cc in (x, refl, subst (IsMember x) same m)
-    first (suc k) t e = absurd cc
-
--- one input more, of a number from 1 on, whose value is the same at any distance
-pub inputs_more : (t : Table) (a b : ℕ) (r lo v : ℤ) (k k' : ℕ) (ss : List Span) (s : Span) → AreInputsOf (inputs_of t a b r) ss → length ss ≡ k → 1 ≤ k → Some v ≡ slice_get (inputs_of t a b lo) k' → k' ≡ k → s.lo ≡ v → s.hi ≡ v → AreInputsOf (inputs_of t a b r) (ss ++ s ∷ [])
-inputs_more t a b r lo v k k' ss s h long one there same el eh =
-    let m : IsMember v s = record { at_least = omega (arith, ints, el); at_most = omega (arith, ints, eh) } in
-    let here : slice_get (inputs_of t a b r) k ≡ Some v = same_later r lo _ k one ∙ sym (there ∙ ap (slice_get (inputs_of t a b lo)) same) in
-    record {
-      each = λ j x e.
-          ⊎_elim
-          (λ (old : slice_get ss j ≡ Some x). h.each j x old)
-          (λ (new : (j ≡ length ss) × (x ≡ s)).
-          let at : slice_get (inputs_of t a b r) j ≡ Some v = ap (slice_get (inputs_of t a b r)) (new.0 ∙ long) ∙ here in
-          (v, at, subst (IsMember v) (sym new.1) m))
-          (get_push ss s x j e);
-    }
+use Rattle.verifier.specs.Searches.{HoldInputs, IsSafeAt}
 
 -- ---- magnitudes
 
@@ -61,11 +27,24 @@ abs_between (negsuc m) (pos n) (pos k) a b = let c : n ≤ k = omega (arith, int
 abs_between (negsuc m) (pos n) (negsuc k) a b = absurd (omega (arith, ints))
 abs_between (negsuc m) (negsuc n) hi a b = let c : n ≤ m = omega (arith, ints) in omega arith
 
-pub gives_within : (code : List Instr) (t : Table) (a b : ℕ) (r : ℤ) (inputs : List Span) (s : Span) (bound : ℕ) → AllGiveIn (bits_of t.frac) code inputs s → AreInputsOf (inputs_of t a b r) inputs → bound ≡ max (unsigned_abs s.lo) (unsigned_abs s.hi) → GivesWithin code t a b r bound
+gives_within : (code : List Instr) (t : Table) (a b : ℕ) (r : ℤ) (inputs : List Span) (s : Span) (bound : ℕ) → AllGiveIn (bits_of t.frac) code inputs s → AreInputsOf (inputs_of t a b r) inputs → bound ≡ max (unsigned_abs s.lo) (unsigned_abs s.hi) → GivesWithin code t a b r bound
 gives_within code t a b r inputs s bound g h e =
     let k = g.each (inputs_of t a b r) h in
     let small = abs_between s.lo k.value s.hi k.member.at_least k.member.at_most in
     record { value = k.value; n = k.n; ends = k.ends; small = omega (arith, small, e) }
+
+-- at all distances of a slice
+pub safe_slice : (code : List Instr) (t : Table) (a b : ℕ) (distances : Span) (inputs : List Span) (s : Span) (bound : ℕ) → AllGiveIn (bits_of t.frac) code inputs s → HoldInputs t a b distances inputs → bound ≡ max (unsigned_abs s.lo) (unsigned_abs s.hi) → IsSafeAt code t a b distances bound
+safe_slice code t a b distances inputs s bound g h e = record { each = λ r m. gives_within code t a b r inputs s bound g (h.each r m) e }
+
+-- at one alone
+pub safe_single : (code : List Instr) (t : Table) (a b : ℕ) (distances : Span) (bound : ℕ) → distances.hi ≤ℤ distances.lo → GivesWithin code t a b distances.lo bound → IsSafeAt code t a b distances bound
+safe_single code t a b distances bound single g =
+    record {
+      each = λ r m.
+          let same : distances.lo ≡ r = omega (arith, ints, m.at_least, m.at_most, single) in
+          subst (λ (x : ℤ). GivesWithin code t a b x bound) same g;
+    }
 
 pub gives_weaker : (code : List Instr) (t : Table) (a b : ℕ) (r : ℤ) (x y : ℕ) → x ≤ y → GivesWithin code t a b r x → GivesWithin code t a b r y
 gives_weaker code t a b r x y h g = record { value = g.value; n = g.n; ends = g.ends; small = omega (arith, g.small, h) }
@@ -76,9 +55,9 @@ gives_weaker code t a b r x y h g = record { value = g.value; n = g.n; ends = g.
 pub found_within : (code : List Instr) (t : Table) (from last from' last' : ℤ) (limit limit' : ℕ) (f : VerifyFault) → from' ≤ℤ from → last ≤ℤ last' → ((from +ℤ pos limit) ≤ℤ last → (from' +ℤ pos limit') ≤ℤ last') → IsFound code t from last limit f → IsFound code t from' last' limit' f
 found_within code t from last from' last' limit limit' (Malformed pc) a b w h = h
 found_within code t from last from' last' limit limit' (DepthOver64 pc) a b w h = h
-found_within code t from last from' last' limit limit' (Fault x y r trap) a b w h =
+found_within code t from last from' last' limit limit' (Fault x y r pc fault) a b w h =
     record { first = h.first; second = h.second; low = omega (arith, ints, a, h.low); high = omega (arith, ints, b, h.high); n = h.n; ends = h.ends }
-found_within code t from last from' last' limit limit' (Undecided x y lo hi trap) a b w h =
+found_within code t from last from' last' limit limit' (Undecided x y lo hi pc fault) a b w h =
     record { first = h.first; second = h.second; low = omega (arith, ints, a, h.low); two = h.two; high = omega (arith, ints, b, h.high); at_lo = h.at_lo; at_hi = h.at_hi; wide = w h.wide }
 found_within code t from last from' last' limit limit' Memory a b w h = tt
 
@@ -113,9 +92,12 @@ found_upper code t s lower upper limit limit' f two h e found =
     (λ w. omega (arith, ints, next, to, mid, two, e, w, q.at_most, q.next_above)) found
 
 -- the distances of both halves
-pub safe_both : (code : List Instr) (t : Table) (a b : ℕ) (s lower upper : Span) (x y z : ℕ) → ArePartsOf s lower upper → ((r : ℤ) → IsMember r lower → GivesWithin code t a b r x) → ((r : ℤ) → IsMember r upper → GivesWithin code t a b r y) → z ≡ max x y → (r : ℤ) → IsMember r s → GivesWithin code t a b r z
-safe_both code t a b s lower upper x y z parts f g e r m =
-    ⊎_elim
-    (λ (h : IsMember r lower). gives_weaker code t a b r x z (omega (arith, e)) (f r h))
-    (λ (h : IsMember r upper). gives_weaker code t a b r y z (omega (arith, e)) (g r h))
-    ((parts.members r).0 m)
+pub safe_both : (code : List Instr) (t : Table) (a b : ℕ) (s lower upper : Span) (x y z : ℕ) → ArePartsOf s lower upper → IsSafeAt code t a b lower x → IsSafeAt code t a b upper y → z ≡ max x y → IsSafeAt code t a b s z
+safe_both code t a b s lower upper x y z parts f g e =
+    record {
+      each = λ r m.
+          ⊎_elim
+          (λ (h : IsMember r lower). gives_weaker code t a b r x z (omega (arith, e)) (f.each r h))
+          (λ (h : IsMember r upper). gives_weaker code t a b r y z (omega (arith, e)) (g.each r h))
+          ((parts.members r).0 m);
+    }

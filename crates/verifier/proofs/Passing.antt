@@ -1,12 +1,13 @@
 -- Runs on inputs in some spans, place by place.
 use Rattle.std.proofs.Common.{◌≡◌, ◌≢◌, ℕ, zero, suc, ◌+◌, ◌<◌, ◌≤◌, List, [], ◌∷◌, length, Option, Some, None, Ok, refl, sym, ap, ◌∙◌, subst, arith, ℤ, pos, negsuc, ⊎_elim, replicate, Bool, true, false, IsTrue, ◌↔◌}
 use Rattle.std.specs.Prelude.{slice_get, slice_set, slice_index_or, nat_lt, nat_le}
-use Rattle.std.proofs.lemmas.Bool.{cases_eq, and_parts, leb-true}
+use Rattle.std.proofs.lemmas.Bool.{cases_eq, cases_lt, and_parts, leb-true}
 use Rattle.std.proofs.lemmas.Int.{ints}
 use Rattle.std.proofs.lemmas.Bool.Decides.{Decides-int_eq}
 use Rattle.std.specs.Ordering.{int_eq}
 use Rattle.std.proofs.lemmas.Option.{slice_get_within}
-use Rattle.std.proofs.lemmas.List.{get_or-set_same, get_or-set_other, length-replicate}
+use Rattle.std.proofs.lemmas.List.{get_or-set_same, get_or-set_other, get_or_past, length-replicate}
+use Rattle.std.proofs.Math.ListN.{length-set}
 use Rattle.interval_domain.specs.declared.span.Span.{Span}
 use Rattle.interval_domain.specs.Spans.{IsMember}
 use Rattle.kernel_code.specs.declared.instructions.Instr.{Instr}
@@ -14,16 +15,17 @@ use Rattle.kernel_code.specs.declared.instructions.Instr.TheVariants.{JumpIfZero
 use Rattle.kernel_code.specs.Code.{IsCode}
 use Rattle.kernel_code.specs.Machine.{State, act, after, start, branched, at_zero}
 use Rattle.kernel_code.proofs.Runs.{after_more, ends_there, turn_leads}
-use Rattle.verifier.specs.Frames.{SpanFrame, AreInputsOf, AreMembers, AreLocalsOf, AreIn, IsUnset, Pops, Follows, Widens}
-use Rattle.verifier.specs.Slices.{frame_at, Holds, Takes, Loses, Joins, Branches, Comes, AllGiveIn}
+use Rattle.verifier.specs.Frames.{SpanFrame, AreInputsOf, AreMembers, AreLocalsOf, AreIn, IsOfSize, IsUnset, Pops, Follows, Widens}
+use Rattle.verifier.specs.Slices.{frame_at, Holds, Takes, CanMeet, IsJoined, Joins, Branches, goes_on, jumps, may_jump, Comes, AllGiveIn}
 use Rattle.verifier.proofs.Following.{popped}
 
 -- ---- places
 
-pub loses_none : (p : List (Option SpanFrame)) → Loses p p
-loses_none p = record { nothing = λ at ys ls h. h }
+-- nothing that was held is held no more
+pub record Loses (old new : List (Option SpanFrame)) : Type 0 where
+  pub nothing : (at : ℕ) (ys : List ℤ) (ls : List (Option ℤ)) → Holds old at ys ls → Holds new at ys ls
 
-pub loses_both : (a b c : List (Option SpanFrame)) → Loses a b → Loses b c → Loses a c
+loses_both : (a b c : List (Option SpanFrame)) → Loses a b → Loses b c → Loses a c
 loses_both a b c x y = record { nothing = λ at ys ls h. y.nothing at ys ls (x.nothing at ys ls h) }
 
 set_again : (l : List (Option SpanFrame)) (k : ℕ) (a b : Option SpanFrame) → slice_set (slice_set l k a) k b ≡ slice_set l k b
@@ -31,45 +33,73 @@ set_again [] k a b = refl
 set_again (x ∷ l) zero a b = refl
 set_again (x ∷ l) (suc k) a b = ap (λ (t : List (Option SpanFrame)). x ∷ t) (set_again l k a b)
 
--- a frame is put where there is none
-pub joins_new : (to : ℕ) (frame : SpanFrame) (old : List (Option SpanFrame)) → to < length old → frame_at old to ≡ None → Joins to frame old (slice_set old to (Some frame))
-joins_new to frame old within none =
+joins_set : (to : ℕ) (frame new : SpanFrame) (o : Option SpanFrame) (old : List (Option SpanFrame)) → to < length old → frame_at old to ≡ o → IsJoined o frame (Some new) → Joins to frame old (slice_set old to (Some new))
+joins_set to frame new o old within was j =
     record {
-      mine = λ ys ls m. record { frame = frame; there = get_or-set_same old to (Some frame) None within; within = m };
-      others = record {
-        nothing = λ at ys ls h.
-            ⊎_elim
-            (λ (e : at ≡ to).
-            let there : frame_at old to ≡ Some h.frame = subst (λ (i : ℕ). frame_at old i ≡ Some h.frame) e h.there in
-            absurd cc)
-            (λ (n : at ≢ to). record { frame = h.frame; there = get_or-set_other old to at (Some frame) None n ∙ h.there; within = h.within })
-            (cases_eq at to);
-      };
+      long = length-set old to (Some new);
+      there = rw (was, get_or-set_same old to (Some new) None within) j;
+      others = λ k n. get_or-set_other old to k (Some new) None n;
     }
 
--- a frame is widened
-pub joins_wide : (to : ℕ) (frame earlier wide : SpanFrame) (old : List (Option SpanFrame)) → to < length old → frame_at old to ≡ Some earlier → Widens earlier frame wide → Joins to frame old (slice_set old to (Some wide))
-joins_wide to frame earlier wide old within was w =
-    record {
-      mine = λ ys ls m. record { frame = wide; there = get_or-set_same old to (Some wide) None within; within = w.others ys ls m };
-      others = record {
-        nothing = λ at ys ls h.
-            ⊎_elim
-            (λ (e : at ≡ to).
-            let there : frame_at old to ≡ Some h.frame = subst (λ (i : ℕ). frame_at old i ≡ Some h.frame) e h.there in
-            let same : h.frame ≡ earlier = cc in
-            let new : frame_at (slice_set old to (Some wide)) at ≡ Some wide = ap (frame_at (slice_set old to (Some wide))) e ∙ get_or-set_same old to (Some wide) None within in
-            record { frame = wide; there = new; within = w.mine ys ls (subst (λ (f : SpanFrame). AreIn f ys ls) same h.within) })
-            (λ (n : at ≢ to). record { frame = h.frame; there = get_or-set_other old to at (Some wide) None n ∙ h.there; within = h.within })
-            (cases_eq at to);
-      };
-    }
+-- a place's frame was taken, and another is put there: the list of frames goes by two names
+pub joins_new : (to : ℕ) (frame : SpanFrame) (old items : List (Option SpanFrame)) (o : Option SpanFrame) → old ≡ items → to < length old → None ≡ frame_at items to → Joins to frame old (slice_set (slice_set items to o) to (Some frame))
+joins_new to frame old items o e within was =
+    let j : Joins to frame old (slice_set old to (Some frame)) = joins_set to frame frame None old within (ap (λ (l : List (Option SpanFrame)). frame_at l to) e ∙ sym was) refl in
+    subst (Joins to frame old) (ap (λ (l : List (Option SpanFrame)). slice_set l to (Some frame)) e ∙ sym (set_again items to o (Some frame))) j
 
--- the same, where the place's frame was taken, by equal names
-pub joins_wide_so : (to : ℕ) (frame earlier wide : SpanFrame) (old items : List (Option SpanFrame)) (o : Option SpanFrame) → old ≡ items → to < length old → Some earlier ≡ frame_at items to → Widens earlier frame wide → Joins to frame old (slice_set (slice_set items to o) to (Some wide))
-joins_wide_so to frame earlier wide old items o e within was w =
-    let j : Joins to frame old (slice_set old to (Some wide)) = joins_wide to frame earlier wide old within (ap (λ (l : List (Option SpanFrame)). frame_at l to) e ∙ sym was) w in
+pub joins_wide : (to : ℕ) (frame earlier wide : SpanFrame) (old items : List (Option SpanFrame)) (o : Option SpanFrame) → old ≡ items → to < length old → Some earlier ≡ frame_at items to → Widens earlier frame wide → Joins to frame old (slice_set (slice_set items to o) to (Some wide))
+joins_wide to frame earlier wide old items o e within was w =
+    let j : Joins to frame old (slice_set old to (Some wide)) = joins_set to frame wide (Some earlier) old within (ap (λ (l : List (Option SpanFrame)). frame_at l to) e ∙ sym was) w in
     subst (Joins to frame old) (ap (λ (l : List (Option SpanFrame)). slice_set l to (Some wide)) e ∙ sym (set_again items to o (Some wide))) j
+
+-- the earlier frame there has the size that it may meet
+pub met_size : (to height locals : ℕ) (earlier : SpanFrame) (old items : List (Option SpanFrame)) → old ≡ items → CanMeet (frame_at old to) height locals → Some earlier ≡ frame_at items to → IsOfSize height locals earlier
+met_size to height locals earlier old items e m was =
+    subst (λ (o : Option SpanFrame). CanMeet o height locals) (ap (λ (l : List (Option SpanFrame)). frame_at l to) e ∙ sym was) m
+
+-- one place after another is cleared
+pub takes_none : (at : ℕ) (o : Option SpanFrame) (old new : List (Option SpanFrame)) → Takes at o old new → ((k : ℕ) → k < at → frame_at old k ≡ None) → (k : ℕ) → k < at + 1 → frame_at new k ≡ None
+takes_none at o old new t none k lt =
+    ⊎_elim
+    (λ (e : k ≡ at). subst (λ (i : ℕ). frame_at new i ≡ None) (sym e) t.none)
+    (λ (n : k ≢ at). t.others k n ∙ none k (omega (arith, lt, n)))
+    (cases_eq k at)
+
+pub none_past : (at : ℕ) (places : List (Option SpanFrame)) → ((k : ℕ) → k < at → frame_at places k ≡ None) → length places ≤ at → (k : ℕ) → frame_at places k ≡ None
+none_past at places none past k =
+    ⊎_elim
+    (λ (lt : k < at). none k lt)
+    (λ (le : at ≤ k). get_or_past places k None (omega (arith, le, past)))
+    (cases_lt k at)
+
+held_mine : (to : ℕ) (frame : SpanFrame) (new : List (Option SpanFrame)) (o o' : Option SpanFrame) → frame_at new to ≡ o' → IsJoined o frame o' → (ys : List ℤ) (ls : List (Option ℤ)) → AreIn frame ys ls → Holds new to ys ls
+held_mine to frame new None None e j ys ls m = absurd j
+held_mine to frame new None (Some f) e j ys ls m = record { frame = f; there = e; within = subst (λ (x : SpanFrame). AreIn x ys ls) (sym j) m }
+held_mine to frame new (Some earlier) None e j ys ls m = absurd j
+held_mine to frame new (Some earlier) (Some f) e j ys ls m = record { frame = f; there = e; within = j.others ys ls m }
+
+-- the place holds what is in the frame
+pub joins_mine : (to : ℕ) (frame : SpanFrame) (old new : List (Option SpanFrame)) → Joins to frame old new → (ys : List ℤ) (ls : List (Option ℤ)) → AreIn frame ys ls → Holds new to ys ls
+joins_mine to frame old new j ys ls m = held_mine to frame new (frame_at old to) (frame_at new to) refl j.there ys ls m
+
+held_still : (to : ℕ) (frame f : SpanFrame) (new : List (Option SpanFrame)) (o o' : Option SpanFrame) → o ≡ Some f → frame_at new to ≡ o' → IsJoined o frame o' → (ys : List ℤ) (ls : List (Option ℤ)) → AreIn f ys ls → Holds new to ys ls
+held_still to frame f new None o' was e j ys ls m = absurd cc
+held_still to frame f new (Some earlier) None was e j ys ls m = absurd j
+held_still to frame f new (Some earlier) (Some wide) was e j ys ls m =
+    let same : f ≡ earlier = cc in
+    record { frame = wide; there = e; within = j.mine ys ls (subst (λ (x : SpanFrame). AreIn x ys ls) same m) }
+
+pub joins_loses : (to : ℕ) (frame : SpanFrame) (old new : List (Option SpanFrame)) → Joins to frame old new → Loses old new
+joins_loses to frame old new j =
+    record {
+      nothing = λ at ys ls h.
+          ⊎_elim
+          (λ (e : at ≡ to).
+          let there : frame_at old to ≡ Some h.frame = subst (λ (i : ℕ). frame_at old i ≡ Some h.frame) e h.there in
+          subst (λ (i : ℕ). Holds new i ys ls) (sym e) (held_still to frame h.frame new (frame_at old to) (frame_at new to) there refl j.there ys ls h.within))
+          (λ (n : at ≢ to). record { frame = h.frame; there = j.others at n ∙ h.there; within = h.within })
+          (cases_eq at to);
+    }
 
 -- ---- branches
 
@@ -88,46 +118,45 @@ nonzero (pos zero) to next n = absurd (n refl)
 nonzero (pos (suc k)) to next n = refl
 nonzero (negsuc k) to next n = refl
 
-pub branch_next : (next to : ℕ) (s : Span) (frame rest : SpanFrame) (old new : List (Option SpanFrame)) → Pops s frame rest → (IsMember (pos 0) s → ⊥) → Joins next rest old new → Branches next to frame old new
-branch_next next to s frame rest old new p without j =
-    record {
-      mine = λ ys ls m.
-          let t = popped s frame rest ys p m.on_stack in
-          let n : t.0 ≢ pos 0 = λ e. without (subst (λ (v : ℤ). IsMember v s) e t.3) in
-          let h = j.mine t.1 ls (record { on_stack = t.4; set = subst (AreLocalsOf ls) (sym p.locals) m.set }) in
-          (t.0, t.1, t.2, subst (λ (k : ℕ). Holds new k t.1 ls) (sym (nonzero t.0 to next n)) h);
-      others = j.others;
-    }
-
 only_zero : (v : ℤ) (s : Span) → IsMember (pos 0) s → s.lo ≡ s.hi → IsMember v s → v ≡ pos 0
 only_zero v s z e m = omega (arith, ints, z.at_least, z.at_most, e, m.at_least, m.at_most)
-
-pub branch_target : (next to : ℕ) (s : Span) (frame rest : SpanFrame) (old new : List (Option SpanFrame)) → Pops s frame rest → IsMember (pos 0) s → s.lo ≡ s.hi → Joins to rest old new → Branches next to frame old new
-branch_target next to s frame rest old new p holds single j =
-    record {
-      mine = λ ys ls m.
-          let t = popped s frame rest ys p m.on_stack in
-          let z : t.0 ≡ pos 0 = only_zero t.0 s holds single t.3 in
-          let h = j.mine t.1 ls (record { on_stack = t.4; set = subst (AreLocalsOf ls) (sym p.locals) m.set }) in
-          (t.0, t.1, t.2, subst (λ (v : ℤ). Holds new (at_zero v to next) t.1 ls) (sym z) h);
-      others = j.others;
-    }
 
 either : (v : ℤ) (to next : ℕ) (new : List (Option SpanFrame)) (ys : List ℤ) (ls : List (Option ℤ)) → Holds new to ys ls → Holds new next ys ls → Holds new (at_zero v to next) ys ls
 either (pos zero) to next new ys ls a b = a
 either (pos (suc n)) to next new ys ls a b = b
 either (negsuc n) to next new ys ls a b = b
 
-pub branch_both : (next to : ℕ) (s : Span) (frame rest rest' : SpanFrame) (old between new : List (Option SpanFrame)) → Pops s frame rest → rest' ≡ rest → Joins next rest' old between → Joins to rest between new → Branches next to frame old new
-branch_both next to s frame rest rest' old between new p e j k =
-    record {
-      mine = λ ys ls m.
-          let t = popped s frame rest ys p m.on_stack in
-          let i : AreIn rest t.1 ls = record { on_stack = t.4; set = subst (AreLocalsOf ls) (sym p.locals) m.set } in
-          let i' : AreIn rest' t.1 ls = subst (λ (f : SpanFrame). AreIn f t.1 ls) (sym e) i in
-          (t.0, t.1, t.2, either t.0 to next new t.1 ls (k.mine t.1 ls i) (k.others.nothing next t.1 ls (j.mine t.1 ls i')));
-      others = loses_both old between new j.others k.others;
-    }
+rest_in : (s : Span) (frame rest : SpanFrame) (ys : List ℤ) (ls : List (Option ℤ)) → Pops s frame rest → AreMembers ys rest.stack → AreLocalsOf ls frame.locals → AreIn rest ys ls
+rest_in s frame rest ys ls p m l = record { on_stack = m; set = subst (AreLocalsOf ls) (sym p.locals) l }
+
+-- what is in the frame goes on as the value on its top says, and is held there
+pub branches_mine : (next to : ℕ) (frame : SpanFrame) (old new : List (Option SpanFrame)) → Branches next to frame old new → (ys : List ℤ) (ls : List (Option ℤ)) → AreIn frame ys ls
+    → (v : ℤ) × (ys' : List ℤ) × (ys ≡ v ∷ ys') × Holds new (at_zero v to next) ys' ls
+branches_mine next to frame old new (goes_on {s = s} {rest = rest} p without j) ys ls m =
+    let t = popped s frame rest ys p m.on_stack in
+    let n : t.0 ≢ pos 0 = λ e. without (subst (λ (v : ℤ). IsMember v s) e t.3) in
+    let h = joins_mine next rest old new j t.1 ls (rest_in s frame rest t.1 ls p t.4 m.set) in
+    (t.0, t.1, t.2, subst (λ (k : ℕ). Holds new k t.1 ls) (sym (nonzero t.0 to next n)) h)
+branches_mine next to frame old new (jumps {s = s} {rest = rest} p holds single j) ys ls m =
+    let t = popped s frame rest ys p m.on_stack in
+    let z : t.0 ≡ pos 0 = only_zero t.0 s holds single t.3 in
+    let h = joins_mine to rest old new j t.1 ls (rest_in s frame rest t.1 ls p t.4 m.set) in
+    (t.0, t.1, t.2, subst (λ (v : ℤ). Holds new (at_zero v to next) t.1 ls) (sym z) h)
+branches_mine next to frame old new (may_jump {s = s} {rest = rest} {between = between} p holds j k) ys ls m =
+    let t = popped s frame rest ys p m.on_stack in
+    let i = rest_in s frame rest t.1 ls p t.4 m.set in
+    let kept = joins_loses to rest between new k in
+    (t.0, t.1, t.2, either t.0 to next new t.1 ls (joins_mine to rest between new k t.1 ls i) (kept.nothing next t.1 ls (joins_mine next rest old between j t.1 ls i)))
+
+pub branches_loses : (next to : ℕ) (frame : SpanFrame) (old new : List (Option SpanFrame)) → Branches next to frame old new → Loses old new
+branches_loses next to frame old new (goes_on {s = s} {rest = rest} p without j) = joins_loses next rest old new j
+branches_loses next to frame old new (jumps {s = s} {rest = rest} p holds single j) = joins_loses to rest old new j
+branches_loses next to frame old new (may_jump {s = s} {rest = rest} {between = between} p holds j k) =
+    loses_both old between new (joins_loses next rest old between j) (joins_loses to rest between new k)
+
+-- a copy of the frame goes on, and the frame itself jumps
+pub may_jump_copied : (next to : ℕ) (s : Span) (frame rest copy : SpanFrame) (old between new : List (Option SpanFrame)) → Pops s frame rest → copy ≡ rest → IsMember (pos 0) s → Joins next copy old between → Joins to rest between new → Branches next to frame old new
+may_jump_copied next to s frame rest copy old between new p e holds j k = may_jump p holds (subst (λ (f : SpanFrame). Joins next f old between) e j) k
 
 -- ---- the first place
 
@@ -136,19 +165,19 @@ unset_locals zero k = refl
 unset_locals (suc n) zero = refl
 unset_locals (suc n) (suc k) = unset_locals n k
 
-start_in : (frame : SpanFrame) → IsUnset frame → AreIn frame [] (replicate 256 None)
-start_in frame u =
+start_in : (count : ℕ) (frame : SpanFrame) → IsUnset count frame → AreIn frame [] (replicate 256 None)
+start_in count frame u =
     record {
       on_stack = rw u.stack tt;
       set = record {
         long = length-replicate {A = Option ℤ} 256 None;
-        each = λ k. rw (u.locals.1, unset_locals u.locals.0 k) tt;
+        each = λ k. rw (u.locals, unset_locals count k) tt;
       };
     }
 
-pub comes_first : (bits : ℕ) (code : List Instr) (inputs : List Span) (frame : SpanFrame) (old new : List (Option SpanFrame)) → IsUnset frame → Joins 0 frame old new → Comes bits code inputs 0 new
-comes_first bits code inputs frame old new u j =
-    record { each = λ xs m. record { n = 0; state = start; reached = refl; from = omega arith; within = omega arith; held = j.mine [] (replicate 256 None) (start_in frame u) } }
+pub comes_first : (bits : ℕ) (code : List Instr) (inputs : List Span) (count : ℕ) (frame : SpanFrame) (old new : List (Option SpanFrame)) → IsUnset count frame → Joins 0 frame old new → Comes bits code inputs 0 new
+comes_first bits code inputs count frame old new u j =
+    record { each = λ xs m. record { n = 0; state = start; reached = refl; from = omega arith; within = omega arith; held = joins_mine 0 frame old new j [] (replicate 256 None) (start_in count frame u) } }
 
 -- ---- a place is passed
 
@@ -203,18 +232,18 @@ passes_plain bits code inputs here frame frame' i old new f j =
     record {
       each = λ xs ys ls hx h.
           let a = f.leads xs here ys ls hx h in
-          (record { pc = here + 1; stack = a.0; locals = a.1 }, a.2, j.mine a.0 a.1 a.3);
+          (record { pc = here + 1; stack = a.0; locals = a.1 }, a.2, joins_mine (here + 1) frame' old new j a.0 a.1 a.3);
     }
 
 pub passes_jump : (bits : ℕ) (code : List Instr) (inputs : List Span) (here to : ℕ) (frame : SpanFrame) (old new : List (Option SpanFrame)) → Joins to frame old new → Passes bits code inputs here frame (Jump to) new
 passes_jump bits code inputs here to frame old new j =
-    record { each = λ xs ys ls hx h. (record { pc = to; stack = ys; locals = ls }, refl, j.mine ys ls h) }
+    record { each = λ xs ys ls hx h. (record { pc = to; stack = ys; locals = ls }, refl, joins_mine to frame old new j ys ls h) }
 
 pub passes_branch : (bits : ℕ) (code : List Instr) (inputs : List Span) (here to : ℕ) (frame : SpanFrame) (old new : List (Option SpanFrame)) → Branches (here + 1) to frame old new → Passes bits code inputs here frame (JumpIfZero to) new
 passes_branch bits code inputs here to frame old new b =
     record {
       each = λ xs ys ls hx h.
-          let t = b.mine ys ls h in
+          let t = branches_mine (here + 1) to frame old new b ys ls h in
           (record { pc = at_zero t.0 to (here + 1); stack = t.1; locals = ls }, ap (λ (l : List ℤ). branched to here l ls) t.2, t.3);
     }
 
@@ -236,8 +265,10 @@ no_spans : (l : List Span) → length l ≡ 0 → l ≡ []
 no_spans [] e = refl
 no_spans (x ∷ l) e = absurd (omega (arith, e))
 
-pub gives_at_end : (bits : ℕ) (code : List Instr) (inputs : List Span) (s : Span) (frame rest : SpanFrame) (old new : List (Option SpanFrame)) → Comes bits code inputs (length code) old → Takes (length code) (Some frame) old new → Pops s frame rest → length rest.stack ≡ 0 → AllGiveIn bits code inputs s
-gives_at_end bits code inputs s frame rest old new c t p none =
+-- the span of the one value that is left at the end
+pub gives_at_end : (bits : ℕ) (code : List Instr) (inputs : List Span) (s : Span) (frame rest : SpanFrame) (old new : List (Option SpanFrame)) → Comes bits code inputs (length code) old → Takes (length code) (Some frame) old new → Pops s frame rest → length frame.stack ≡ 1 → AllGiveIn bits code inputs s
+gives_at_end bits code inputs s frame rest old new c t p one =
+    let none : length rest.stack ≡ 0 = omega (arith, ap length p.stack, one) in
     record {
       each = λ xs m.
           let a = c.each xs m in
@@ -252,3 +283,25 @@ gives_at_end bits code inputs s frame rest old new c t p none =
           let reached : after bits code xs a.n ≡ Some st = a.reached ∙ ap (λ (l : List ℤ). Some (record { pc = a.state.pc; stack = l; locals = a.state.locals })) o.1 in
           record { value = o.0; n = a.n; ends = ends_there bits code xs a.n st reached (omega (arith, last)); member = o.2 };
     }
+
+-- some inputs are in the spans
+least : List Span → List ℤ
+least [] = []
+least (s ∷ ss) = s.lo ∷ least ss
+
+least_in : (ss : List Span) (k : ℕ) (s : Span) → slice_get ss k ≡ Some s → (x : ℤ) × (slice_get (least ss) k ≡ Some x) × IsMember x s
+unfolding least
+least_in [] k s e = absurd cc
+least_in (t ∷ ss) zero s e =
+    let same : t ≡ s = cc in
+    (t.lo, refl, subst (λ (u : Span). IsMember t.lo u) same (record { at_least = omega (arith, ints); at_most = t.ordered }))
+least_in (t ∷ ss) (suc k) s e = least_in ss k s e
+
+-- so some run comes to the end
+pub some_end : (bits : ℕ) (code : List Instr) (inputs : List Span) (old new : List (Option SpanFrame)) → Comes bits code inputs (length code) old → Takes (length code) None old new → ⊥
+some_end bits code inputs old new c t =
+    let a = c.each (least inputs) (record { each = least_in inputs }) in
+    let last : a.state.pc ≡ length code = omega (arith, a.from, a.within) in
+    let there : frame_at old (length code) ≡ Some a.held.frame = subst (λ (i : ℕ). frame_at old i ≡ Some a.held.frame) last a.held.there in
+    let taken = t.taken in
+    cc

@@ -4,11 +4,11 @@ use Rattle.std.proofs.lemmas.Int.{ints, by_lt_z}
 use Rattle.std.proofs.lemmas.Bool.{cases_lt, cases_eq}
 use Rattle.std.proofs.Math.Nat.{div-lt_iff_lt-mul, le-div_iff_mul-le, lt-div-mul-add}
 use Rattle.interval_domain.specs.declared.span.Span.{Span}
-use Rattle.interval_domain.specs.Spans.{IsMember}
 use Rattle.kernel_code.specs.declared.instructions.Instr.{Instr}
 use Rattle.kernel_code.specs.Tables.{Table}
 use Rattle.verifier.specs.declared.faults.VerifyFault.{VerifyFault}
 use Rattle.verifier.specs.Safety.{GivesWithin, IsFound, IsSafeFrom, IsSafeRow, IsSafe}
+use Rattle.verifier.specs.Searches.{IsSafeAt}
 use Rattle.verifier.proofs.Judging.{gives_weaker, found_within}
 
 -- ---- distances
@@ -16,13 +16,13 @@ use Rattle.verifier.proofs.Judging.{gives_weaker, found_within}
 pub safe_none : (code : List Instr) (t : Table) (a b : ℕ) (core to : ℤ) (bound : ℕ) → to ≤ℤ core → IsSafeFrom code t a b core to bound
 safe_none code t a b core to bound e = record { each = λ r low high. absurd (omega (arith, ints, e, low, high)) }
 
-pub safe_more : (code : List Instr) (t : Table) (a b : ℕ) (core : ℤ) (from end : ℕ) (s : Span) (x y z : ℕ) → IsSafeFrom code t a b core (core +ℤ pos from) x → ((r : ℤ) → IsMember r s → GivesWithin code t a b r y) → s.lo ≡ (core +ℤ pos from) → s.hi ≡ (core +ℤ pos end -ℤ pos 1) → z ≡ max x y → IsSafeFrom code t a b core (core +ℤ pos end) z
+pub safe_more : (code : List Instr) (t : Table) (a b : ℕ) (core : ℤ) (from end : ℕ) (s : Span) (x y z : ℕ) → IsSafeFrom code t a b core (core +ℤ pos from) x → IsSafeAt code t a b s y → s.lo ≡ (core +ℤ pos from) → s.hi ≡ (core +ℤ pos end -ℤ pos 1) → z ≡ max x y → IsSafeFrom code t a b core (core +ℤ pos end) z
 safe_more code t a b core from end s x y z h k el eh e =
     record {
       each = λ r low high.
           by_lt_z {P = GivesWithin code t a b r z} r (core +ℤ pos from)
           (λ lt. gives_weaker code t a b r x z (omega (arith, e)) (h.each r low lt))
-          (λ le. gives_weaker code t a b r y z (omega (arith, e)) (k r (record { at_least = omega (arith, ints, el, le); at_most = omega (arith, ints, eh, high) })));
+          (λ le. gives_weaker code t a b r y z (omega (arith, e)) (k.each r (record { at_least = omega (arith, ints, el, le); at_most = omega (arith, ints, eh, high) })));
     }
 
 pub safe_less : (code : List Instr) (t : Table) (a b : ℕ) (core to to' : ℤ) (x y : ℕ) → IsSafeFrom code t a b core to x → to' ≤ℤ to → x ≤ y → IsSafeFrom code t a b core to' y

@@ -1,5 +1,5 @@
 -- Frames: spans that the stacks and locals of runs at one place lie in.
-use Rattle.std.specs.Prelude.{◌≡◌, ℕ, ◌+◌, ◌<◌, List, [], ◌∷◌, length, ℤ, Option, Some, None, slice_index_or, slice_get, slice_set, replicate, Ok}
+use Rattle.std.specs.Prelude.{◌≡◌, ℕ, ◌+◌, ◌<◌, ◌≤◌, List, [], ◌∷◌, length, ℤ, Bool, false, ◌&&◌, Option, Some, None, is_some, IsSome, slice_index_or, slice_get, slice_set, replicate, Ok}
 use Rattle.interval_domain.specs.declared.span.Span.{Span}
 use Rattle.interval_domain.specs.Spans.{IsMember, IsWithin, IsLeastSpan, IsOutcome, IsOutcomeOfTwo}
 use Rattle.kernel_code.specs.declared.instructions.Instr.{Instr}
@@ -7,6 +7,7 @@ use Rattle.kernel_code.specs.declared.instructions.Instr.TheVariants.{Push, Inpu
 use Rattle.kernel_code.specs.declared.instructions.BinaryOperation.{BinaryOperation}
 use Rattle.kernel_code.specs.declared.instructions.UnaryOperation.{UnaryOperation}
 use Rattle.kernel_code.specs.Machine.{act, binary_of, unary_of}
+use Rattle.kernel_code.specs.Paths.{height_after, set_after}
 
 -- a span for each value on the stack, its top first, and for each local that is set on all paths
 pub record SpanFrame : Type 0 where
@@ -41,10 +42,22 @@ pub record AreIn (frame : SpanFrame) (stack : List ℤ) (locals : List (Option �
   pub on_stack : AreMembers stack frame.stack
   pub set : AreLocalsOf locals frame.locals
 
--- nothing on the stack, and no local set
-pub record IsUnset (frame : SpanFrame) : Type 0 where
+-- nothing on the stack, and none of so many locals set
+pub record IsUnset (count : ℕ) (frame : SpanFrame) : Type 0 where
   pub stack : frame.stack ≡ []
-  pub locals : (n : ℕ) × (frame.locals ≡ replicate n None)
+  pub locals : frame.locals ≡ replicate count None
+
+-- ---- heights and locals
+
+-- the set of all 256 locals has those that have a span
+pub record HasSet (locals : List (Option Span)) (set : List Bool) : Type 0 where
+  pub long : length set ≡ 256
+  pub same : (k : ℕ) → slice_index_or set k false ≡ is_some (slice_index_or locals k None)
+
+-- the frame has so many spans on its stack, and follows so many locals
+pub record IsOfSize (height locals : ℕ) (frame : SpanFrame) : Type 0 where
+  pub height' : length frame.stack ≡ height
+  pub locals' : length frame.locals ≡ locals
 
 -- ---- frames joined
 
@@ -59,23 +72,27 @@ pub record WidensFirst (k : ℕ) (old other now : List Span) : Type 0 where
   pub mine : (xs : List ℤ) → AreMembers xs old → AreMembers xs now
   pub first : (j : ℕ) (s t : Span) → j < k → slice_get other j ≡ Some s → slice_get now j ≡ Some t → IsWithin s t
 
--- the same of locals
+-- the same of locals, of which one has a span where it has one in both
 pub record WidensLocal (old other new : Option Span) : Type 0 where
   pub mine : (o : Option ℤ) → IsLocalOf o old → IsLocalOf o new
   pub others : (o : Option ℤ) → IsLocalOf o other → IsLocalOf o new
+  pub set : is_some new ≡ (is_some old && is_some other)
 
 pub record WidensLocals (old other new : List (Option Span)) : Type 0 where
   pub each : (k : ℕ) → WidensLocal (slice_index_or old k None) (slice_index_or other k None) (slice_index_or new k None)
 
+-- the first k locals of now are widened, and the others are those of old
 pub record WidensFirstLocals (k : ℕ) (old other now : List (Option Span)) : Type 0 where
   pub long : length now ≡ length other
-  pub mine : (j : ℕ) (o : Option ℤ) → IsLocalOf o (slice_index_or old j None) → IsLocalOf o (slice_index_or now j None)
-  pub first : (j : ℕ) (o : Option ℤ) → j < k → IsLocalOf o (slice_index_or other j None) → IsLocalOf o (slice_index_or now j None)
+  pub first : (j : ℕ) → j < k → WidensLocal (slice_index_or old j None) (slice_index_or other j None) (slice_index_or now j None)
+  pub rest : (j : ℕ) → k ≤ j → slice_index_or now j None ≡ slice_index_or old j None
 
--- whatever is in one of two frames is in a third
+-- whatever is in one of two frames of one size is in a third, where the locals have a span that have one in both
 pub record Widens (old other new : SpanFrame) : Type 0 where
   pub mine : (ys : List ℤ) (ls : List (Option ℤ)) → AreIn old ys ls → AreIn new ys ls
   pub others : (ys : List ℤ) (ls : List (Option ℤ)) → AreIn other ys ls → AreIn new ys ls
+  pub size : IsOfSize (length other.stack) (length other.locals) new
+  pub set : (k : ℕ) → is_some (slice_index_or new.locals k None) ≡ (is_some (slice_index_or old.locals k None) && is_some (slice_index_or other.locals k None))
 
 -- ---- changes of a frame
 
@@ -124,7 +141,21 @@ IsPlain (Unary op) = Unit {0}
 IsPlain (JumpIfZero to) = ⊥
 IsPlain (Jump to) = ⊥
 
--- where inputs, stack and locals are within the old frame, the instruction goes on to the next place, within the new one
+-- what the instruction needs is there: its operands, its input or its local, and room for what it pushes
+abbrev pub IsAtHand : Instr → List Span → SpanFrame → Type 0
+IsAtHand (Push v) inputs frame = length frame.stack < 64
+IsAtHand (Input k) inputs frame = (k < length inputs) × (length frame.stack < 64)
+IsAtHand (Keep k) inputs frame = (1 ≤ length frame.stack) × (k < length frame.locals)
+IsAtHand (Get k) inputs frame = IsSome (slice_index_or frame.locals k None) × (length frame.stack < 64)
+IsAtHand (Binary op) inputs frame = 2 ≤ length frame.stack
+IsAtHand (Unary op) inputs frame = 1 ≤ length frame.stack
+IsAtHand (JumpIfZero to) inputs frame = 1 ≤ length frame.stack
+IsAtHand (Jump to) inputs frame = Unit {0}
+
+-- where inputs, stack and locals are within the old frame, the instruction goes on to the next place, within the new one,
+-- which has the height and the locals that any path has there
 pub record Follows (bits : ℕ) (i : Instr) (inputs : List Span) (old new : SpanFrame) : Type 0 where
   pub leads : (xs : List ℤ) (pc : ℕ) (ys : List ℤ) (ls : List (Option ℤ)) → AreInputsOf xs inputs → AreIn old ys ls →
       (ys' : List ℤ) × (ls' : List (Option ℤ)) × (act bits i xs pc ys ls ≡ Ok (record { pc = pc + 1; stack = ys'; locals = ls' })) × AreIn new ys' ls'
+  pub size : IsOfSize (height_after i (length old.stack)) (length old.locals) new
+  pub set : (set : List Bool) → HasSet old.locals set → HasSet new.locals (set_after i set)

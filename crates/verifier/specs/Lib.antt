@@ -1,4 +1,5 @@
 pub mod Frames
 pub mod Slices
 pub mod Safety
+pub mod Searches
 pub mod Kernels

@@ -3,6 +3,7 @@ use Rattle.std.specs.Prelude.{ℕ, ◌+◌, ◌<◌, ◌≤◌, List, length, �
 use Rattle.fixed.specs.Fractions.{bits_of}
 use Rattle.kernel_code.specs.declared.instructions.Instr.{Instr}
 use Rattle.kernel_code.specs.declared.traps.Trap.{Trap}
+use Rattle.kernel_code.specs.declared.traps.TrapKind.TheVariants.{Operation}
 use Rattle.kernel_code.specs.Machine.{Ends}
 use Rattle.kernel_code.specs.Tables.{Table, inputs_of}
 use Rattle.kernel_code.specs.Paths.{IsLongest, MissesNothing}
@@ -55,8 +56,8 @@ pub record IsUndecided (code : List Instr) (t : Table) (from last : ℤ) (limit 
 abbrev pub IsFound : List Instr → Table → (from last : ℤ) → (limit : ℕ) → VerifyFault → Type 0
 IsFound code t from last limit (Malformed pc) = ⊥
 IsFound code t from last limit (DepthOver64 pc) = ⊥
-IsFound code t from last limit (Fault a b r trap) = Traps code t from last a b r trap
-IsFound code t from last limit (Undecided a b lo hi trap) = IsUndecided code t from last limit a b lo hi
+IsFound code t from last limit (Fault a b r pc fault) = Traps code t from last a b r (record { pc = pc; kind = Operation fault })
+IsFound code t from last limit (Undecided a b lo hi pc fault) = IsUndecided code t from last limit a b lo hi
 IsFound code t from last limit Memory = Unit {0}
 
 -- ---- all pairs
@@ -75,7 +76,8 @@ pub record IsSafe (code : List Instr) (t : Table) (types : ℕ) (core cutoff : �
 abbrev pub input_count : Table → ℕ
 input_count t = 2 * t.parameters + length t.globals + 1
 
--- on the inputs of these types at this distance the code gives a value in at most so many instructions, of at most this magnitude
+-- on the inputs of these types at this distance the code gives a value, of at most this magnitude, in at most so many
+-- instructions
 pub record GivesInSteps (code : List Instr) (t : Table) (a b : ℕ) (r : ℤ) (steps bound : ℕ) : Type 0 where
   pub value : ℤ
   pub n : ℕ
@@ -83,7 +85,8 @@ pub record GivesInSteps (code : List Instr) (t : Table) (a b : ℕ) (r : ℤ) (s
   pub few : n ≤ steps
   pub small : unsigned_abs value ≤ bound
 
--- so it does for every two types at each distance from core to before cutoff; no path misses anything, and the longest has so many instructions
+-- so it does for every two types at each distance from core to before cutoff; no path misses anything, and the longest
+-- has so many instructions
 pub record IsCertified (code : List Instr) (t : Table) (core cutoff : ℤ) (steps bound : ℕ) : Type 0 where
   pub each : (a b : ℕ) (r : ℤ) → a < length t.rows → b < length t.rows → core ≤ℤ r → r <ℤ cutoff → GivesInSteps code t a b r steps bound
   pub longest : IsLongest code steps
@@ -93,6 +96,6 @@ pub record IsCertified (code : List Instr) (t : Table) (core cutoff : ℤ) (step
 abbrev pub IsRefusal : List Instr → Table → (core cutoff : ℤ) → (limit : ℕ) → VerifyFault → Type 0
 IsRefusal code t core cutoff limit (Malformed pc) = GoesWrong code (input_count t)
 IsRefusal code t core cutoff limit (DepthOver64 pc) = Overfills code pc
-IsRefusal code t core cutoff limit (Fault a b r trap) = Traps code t core (cutoff -ℤ pos 1) a b r trap
-IsRefusal code t core cutoff limit (Undecided a b lo hi trap) = IsUndecided code t core (cutoff -ℤ pos 1) limit a b lo hi
+IsRefusal code t core cutoff limit (Fault a b r pc fault) = Traps code t core (cutoff -ℤ pos 1) a b r (record { pc = pc; kind = Operation fault })
+IsRefusal code t core cutoff limit (Undecided a b lo hi pc fault) = IsUndecided code t core (cutoff -ℤ pos 1) limit a b lo hi
 IsRefusal code t core cutoff limit Memory = Unit {0}

@@ -1,10 +1,12 @@
 -- Where runs on inputs in some spans may stand, when all places below another were followed.
-use Rattle.std.specs.Prelude.{◌≡◌, ◌≢◌, ℕ, ◌≤◌, List, ◌∷◌, length, ℤ, Option, Some, None, Ok, slice_index_or}
+use Rattle.std.specs.Prelude.{◌≡◌, ◌≢◌, ℕ, ◌<◌, ◌≤◌, List, length, ℤ, pos, Bool, Option, Some, None, Ok, slice_get, slice_index_or}
 use Rattle.interval_domain.specs.declared.span.Span.{Span}
 use Rattle.interval_domain.specs.Spans.{IsMember}
 use Rattle.kernel_code.specs.declared.instructions.Instr.{Instr}
-use Rattle.kernel_code.specs.Machine.{State, after, at_zero, Ends}
-use Rattle.verifier.specs.Frames.{SpanFrame, AreInputsOf, AreIn}
+use Rattle.kernel_code.specs.declared.instructions.Instr.TheVariants.{Keep}
+use Rattle.kernel_code.specs.Machine.{State, after, Ends}
+use Rattle.kernel_paths.specs.Attained.{IsAttained}
+use Rattle.verifier.specs.Frames.{SpanFrame, AreInputsOf, AreIn, HasSet, IsOfSize, Pops, Widens}
 
 -- ---- places, some with a frame
 
@@ -17,25 +19,61 @@ pub record Holds (places : List (Option SpanFrame)) (at : ℕ) (ys : List ℤ) (
   pub there : frame_at places at ≡ Some frame
   pub within : AreIn frame ys ls
 
--- this was the place's frame, and the others stay
+-- this was the place's frame, it has none now, and the others stay
 pub record Takes (at : ℕ) (frame : Option SpanFrame) (old new : List (Option SpanFrame)) : Type 0 where
   pub long : length new ≡ length old
   pub taken : frame_at old at ≡ frame
+  pub none : frame_at new at ≡ None
   pub others : (k : ℕ) → k ≢ at → frame_at new k ≡ frame_at old k
 
--- nothing that was held is held no more
-pub record Loses (old new : List (Option SpanFrame)) : Type 0 where
-  pub nothing : (at : ℕ) (ys : List ℤ) (ls : List (Option ℤ)) → Holds old at ys ls → Holds new at ys ls
+-- the place has no frame, or one of this size
+abbrev pub CanMeet : Option SpanFrame → (height locals : ℕ) → Type 0
+CanMeet None height locals = Unit {0}
+CanMeet (Some frame) height locals = IsOfSize height locals frame
 
--- a place holds what is in the frame too
+-- a frame stands alone, or an earlier one is widened by it
+abbrev pub IsJoined : Option SpanFrame → SpanFrame → Option SpanFrame → Type 0
+IsJoined None frame None = ⊥
+IsJoined None frame (Some new) = new ≡ frame
+IsJoined (Some earlier) frame None = ⊥
+IsJoined (Some earlier) frame (Some new) = Widens earlier frame new
+
+-- a frame joins that of a place, and the other places stay
 pub record Joins (to : ℕ) (frame : SpanFrame) (old new : List (Option SpanFrame)) : Type 0 where
-  pub mine : (ys : List ℤ) (ls : List (Option ℤ)) → AreIn frame ys ls → Holds new to ys ls
-  pub others : Loses old new
+  pub long : length new ≡ length old
+  pub there : IsJoined (frame_at old to) frame (frame_at new to)
+  pub others : (k : ℕ) → k ≢ to → frame_at new k ≡ frame_at old k
 
--- the target holds what is in the frame where 0 is popped, and the next place the others
-pub record Branches (next target : ℕ) (frame : SpanFrame) (old new : List (Option SpanFrame)) : Type 0 where
-  pub mine : (ys : List ℤ) (ls : List (Option ℤ)) → AreIn frame ys ls → (v : ℤ) × (ys' : List ℤ) × (ys ≡ v ∷ ys') × Holds new (at_zero v target next) ys' ls
-  pub others : Loses old new
+-- a frame's top is popped, and the rest joins that of the next place where the top isn't 0, that of the target where it
+-- is 0, and both where it may be
+pub data Branches (next target : ℕ) (frame : SpanFrame) (old new : List (Option SpanFrame)) : Type 0 where
+  goes_on : {s : Span} {rest : SpanFrame} → Pops s frame rest → (IsMember (pos 0) s → ⊥) → Joins next rest old new → Branches next target frame old new
+  jumps : {s : Span} {rest : SpanFrame} → Pops s frame rest → IsMember (pos 0) s → s.lo ≡ s.hi → Joins target rest old new → Branches next target frame old new
+  may_jump : {s : Span} {rest : SpanFrame} {between : List (Option SpanFrame)}
+      → Pops s frame rest → IsMember (pos 0) s → Joins next rest old between → Joins target rest between new → Branches next target frame old new
+
+-- ---- paths
+
+-- the code keeps no local that isn't among so many
+pub record AreEnoughLocals (code : List Instr) (locals : ℕ) : Type 0 where
+  pub kept : (pc k : ℕ) → slice_get code pc ≡ Some (Keep k) → k < locals
+
+-- paths to the place really have the frame's height, and for each local without a span one that leaves it unset
+pub record IsAttainedFrame (code : List Instr) (locals at : ℕ) (frame : SpanFrame) : Type 0 where
+  pub long : length frame.locals ≡ locals
+  pub set : List Bool
+  pub has : HasSet frame.locals set
+  pub attained : IsAttained code at (length frame.stack) set
+
+-- so it is of each place's frame
+pub record AreAttainedFrames (code : List Instr) (locals : ℕ) (places : List (Option SpanFrame)) : Type 0 where
+  pub each : (at : ℕ) (frame : SpanFrame) → frame_at places at ≡ Some frame → IsAttainedFrame code locals at frame
+
+-- and enough locals are followed
+pub record AreAttained (code : List Instr) (places : List (Option SpanFrame)) : Type 0 where
+  pub locals : ℕ
+  pub enough : AreEnoughLocals code locals
+  pub frames : AreAttainedFrames code locals places
 
 -- ---- runs
 

@@ -2,10 +2,11 @@
 
 ghost use Rattle.std.specs.Prelude.{◌≡◌, ◌*◌, ◌^◌, ◌<◌, ◌≤ℤ◌, ◌<ℤ◌, pos, IfOk, IfErr};
 ghost use Rattle.verifier.specs.Safety.{IsCertified, IsRefusal};
+ghost use Rattle.verifier.specs.Slices.{AreEnoughLocals};
 
 use crate::faults::VerifyFault;
-use crate::pairs::judge_all;
 use crate::places::Places;
+use crate::searches::Search;
 use fixed::Fx;
 use kernel_code::{Code, Instr, TypeTable};
 use kernel_paths::{Misfit, longest_path};
@@ -21,7 +22,9 @@ pub struct Certificate {
 }
 
 /// How many locals the code may set: one more than the greatest number of them.
-fn locals_of(code: &[Instr]) -> usize {
+fn locals_of(code: &[Instr]) -> usize
+    ensures { AreEnoughLocals code.now result }
+{
     let mut count = 0usize;
     for instr in code {
         if let Instr::Keep(local) = *instr {
@@ -59,17 +62,17 @@ pub fn certify_to<A: Allocator + Copy, B: Allocator>(
     let Ok(mut places) = Places::new(alloc, instructions.len()) else {
         return Err(VerifyFault::Memory);
     };
-    match judge_all(
+    let search = Search {
         alloc,
         code,
         table,
-        locals,
         core,
         cutoff,
         slices,
         depth,
-        &mut places,
-    ) {
+        locals,
+    };
+    match search.judge_all(&mut places) {
         Ok(bound) => Ok(Certificate { steps, bound }),
         Err(fault) => Err(fault),
     }

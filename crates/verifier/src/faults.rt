@@ -3,8 +3,7 @@
 ghost use Rattle.std.specs.Prelude.{◌≡◌};
 ghost use Rattle.verifier.specs.declared.faults.VerifyFault.TheVariants.{Memory};
 
-use fixed::Fx;
-use kernel_code::Trap;
+use fixed::{Fault, Fx};
 use std::alloc::{AllocError, AllocFailed};
 use std::error::Error;
 use std::fmt;
@@ -12,7 +11,8 @@ use std::fmt;
 /// Why code isn't accepted. Types are numbers of the table, counted from 0.
 #[derive(Clone, Copy, PartialEq, Eq, Debug)]
 pub enum VerifyFault {
-    /// At this place, an instruction's or the code's length, a path lacks an operand, a local or an input, or ends with other than one value, or paths meet with stacks of different heights.
+    /// At this place, an instruction's or the code's length, a path lacks an operand, a local or an
+    /// input, or ends with other than one value, or paths meet with stacks of different heights.
     Malformed {
         pc: u32,
     },
@@ -20,20 +20,23 @@ pub enum VerifyFault {
     DepthOver64 {
         pc: u32,
     },
-    /// On the inputs of these types at the distance `r` the code traps so.
+    /// On the inputs of these types at the distance `r` the operation at this place has no value.
     Fault {
         first: u32,
         second: u32,
         r: Fx,
-        trap: Trap,
+        pc: u32,
+        fault: Fault,
     },
-    /// At some distance from `lo` to `hi` the code may trap so for these types, by the spans of its values; at `lo` and at `hi` it gives a value.
+    /// At some distance from `lo` to `hi` the operation at this place may have no value for these
+    /// types, by the spans of the code's values; at `lo` and at `hi` the code gives a value.
     Undecided {
         first: u32,
         second: u32,
         lo: Fx,
         hi: Fx,
-        trap: Trap,
+        pc: u32,
+        fault: Fault,
     },
     /// Memory ran out.
     Memory,
@@ -48,21 +51,26 @@ impl fmt::Display for VerifyFault {
                 first,
                 second,
                 r,
-                trap,
+                pc,
+                fault,
             } => {
                 let raw = r.raw();
-                write!(f, "V2 Fault {first} {second} r {raw} {trap}")
+                write!(f, "V2 Fault {first} {second} r {raw} pc {pc} {fault}")
             }
             VerifyFault::Undecided {
                 first,
                 second,
                 lo,
                 hi,
-                trap,
+                pc,
+                fault,
             } => {
                 let from = lo.raw();
                 let to = hi.raw();
-                write!(f, "V3 Undecided {first} {second} {from} {to} {trap}")
+                write!(
+                    f,
+                    "V3 Undecided {first} {second} {from} {to} pc {pc} {fault}"
+                )
             }
             VerifyFault::Memory => write!(f, "Memory"),
         }

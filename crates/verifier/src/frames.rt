@@ -1,19 +1,19 @@
 //! Where runs may stand at a place: spans on the stack and in the locals.
 
-ghost use Rattle.std.specs.Prelude.{◌≡◌, ◌∷◌, [], None, length, replicate, slice_index_or, IfOk, OnOk, IfSome, IfNone};
-ghost use Rattle.verifier.specs.Frames.{IsUnset, Keeps, Pops, Pushes, Widens};
+ghost use Rattle.std.specs.Prelude.{◌≡◌, ◌<◌, ◌≤◌, None, length, slice_index_or, IfOk, OnOk};
+ghost use Rattle.verifier.specs.Frames.{IsOfSize, IsUnset, Keeps, Pops, Pushes, Widens};
 
 use crate::widening::{widen_locals, widen_spans};
+use fixed::Fault;
 use interval_domain::Span;
-use kernel_code::TrapKind;
 use std::alloc::{AllocError, AllocFailed, Allocator};
 use std::marker::Model;
 
 /// Why runs aren't followed further.
 #[derive(Clone, Copy, PartialEq, Eq, Debug)]
 pub enum Stop {
-    /// Some run may trap so.
-    Trap(TrapKind),
+    /// The instruction's operation may have no value, for this reason.
+    Fault(Fault),
     /// Memory ran out.
     Memory,
 }
@@ -41,12 +41,14 @@ pub struct Frame<A: Allocator> {
 }
 
 impl<A: Allocator> Model for Frame<A> {
-    ghost use Rattle.std.specs.Prelude.{reverse};
+    ghost use Rattle.std.specs.Prelude.{reverse, length, ◌≤◌};
     ghost use Rattle.verifier.specs.Frames.{SpanFrame};
 
     ghost Value = { SpanFrame };
 
     ghost view = { λ f. record { stack = reverse f.stack.items; locals = f.locals.items } };
+
+    ghost invariant = { λ f. length f.stack.items ≤ 64 };
 }
 
 impl<A: Allocator> Frame<A> {
@@ -54,7 +56,7 @@ impl<A: Allocator> Frame<A> {
     pub fn start(alloc: A, locals: usize) -> Result<Frame<A>, AllocError>
     where
         A: Copy,
-        ensures { IfOk result IsUnset }
+        ensures { IfOk result (IsUnset locals) }
     {
         Ok(Frame {
             stack: Vec::new(alloc),
@@ -74,50 +76,37 @@ impl<A: Allocator> Frame<A> {
         })
     }
 
-    /// Widens the frame by another: each span to the least that holds both, and a local that isn't set in both is set no more.
-    ///
-    /// `BadEnd` where their stacks have different heights.
-    pub fn widen(&mut self, other: &Frame<A>) -> Result<(), Stop>
-        ensures { OnOk result (Widens self.old other.now self.new) }
+    /// Widens the frame by another of its size: each span to the least that holds both, and a local
+    /// that isn't set in both is set no more.
+    pub fn widen(&mut self, other: &Frame<A>)
+        requires { IsOfSize (length other.now.stack) (length other.now.locals) self.old }
+        ensures { Widens self.old other.now self.new }
     {
-        if self.stack.len() != other.stack.len() || self.locals.len() != other.locals.len() {
-            return Err(Stop::Trap(TrapKind::BadEnd));
-        }
         widen_spans(self.stack.as_mut_slice(), other.stack.as_slice());
         widen_locals(self.locals.as_mut_slice(), other.locals.as_slice());
-        Ok(())
     }
 
-    /// Puts a span on the stack.
-    ///
-    /// `StackFull` where there are 64.
+    /// Puts a span on the stack. Only memory can stop it.
     pub fn push(&mut self, span: Span) -> Result<(), Stop>
+        requires { length self.old.stack < 64 }
         ensures { OnOk result (Pushes span self.old self.new) }
     {
-        if self.stack.len() >= 64 {
-            return Err(Stop::Trap(TrapKind::StackFull));
-        }
         match self.stack.push(span) {
             Ok(()) => Ok(()),
             Err(_) => Err(Stop::Memory),
         }
     }
 
-    /// Takes the span on top of the stack; `MissingOperand` where there is none.
-    pub fn pop(&mut self) -> Result<Span, Stop>
-        ensures { IfOk result (λ span. Pops span self.old self.new) }
+    /// Takes the span on top of the stack.
+    pub fn pop(&mut self) -> Span
+        requires { 1 ≤ length self.old.stack }
+        ensures pops { Pops result self.old self.new }
+        ensures room { length self.new.stack < 64 }
     {
         match self.stack.pop() {
-            Some(span) => Ok(span),
-            None => Err(Stop::Trap(TrapKind::MissingOperand)),
+            Some(span) => span,
+            None => unreachable!(),
         }
-    }
-
-    /// How many spans stand on the stack.
-    pub fn height(&self) -> usize
-        ensures { result ≡ length self.now.stack }
-    {
-        self.stack.len()
     }
 
     /// The span of a local; `None` where it may be unset.
@@ -127,12 +116,11 @@ impl<A: Allocator> Frame<A> {
         self.locals.get(local as usize).copied().flatten()
     }
 
-    /// Gives a local a span, if it is one of those that are followed.
+    /// Gives a local a span.
     pub fn keep(&mut self, local: u8, span: Span)
+        requires { local < length self.old.locals }
         ensures { Keeps local span self.old self.new }
     {
-        if (local as usize) < self.locals.len() {
-            self.locals[local as usize] = Some(span);
-        }
+        self.locals[local as usize] = Some(span);
     }
 }

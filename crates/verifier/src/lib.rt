@@ -1,13 +1,14 @@
-//! Accepts or refuses code: whether it gives a value for every two types of a table, at every distance from a core to a cutoff. What that means stands in `specs/Safety.antt`.
+//! Accepts or refuses code: whether it gives a value for every two types of a table, at every distance
+//! from a core to a cutoff. What that means stands in `specs/Safety.antt`.
 #![tactic(auto)]
 
 mod certificates;
-mod distances;
 mod faults;
 mod frames;
 mod instructions;
-mod pairs;
 mod places;
+mod ranges;
+mod searches;
 mod slices;
 #[cfg(test)]
 mod tests;

@@ -1,7 +1,7 @@
 //! The places that runs may still come to, each with its frame.
 
-ghost use Rattle.std.specs.Prelude.{◌≡◌, ◌+◌, ◌<◌, length, IfOk, OnOk};
-ghost use Rattle.verifier.specs.Slices.{Branches, Joins, Takes};
+ghost use Rattle.std.specs.Prelude.{◌≡◌, ◌+◌, ◌-◌, ◌<◌, ◌≤◌, ℕ, None, length, IfOk, OnOk};
+ghost use Rattle.verifier.specs.Slices.{Branches, CanMeet, Joins, Takes, frame_at};
 
 use crate::frames::{Frame, Stop};
 use fixed::Fx;
@@ -36,15 +36,6 @@ impl<A: Allocator> Places<A> {
         Ok(Places { frames })
     }
 
-    /// Takes all frames away.
-    pub fn clear(&mut self)
-        ensures { length self.new ≡ length self.old }
-    {
-        for at in 0..self.frames.len() {
-            self.frames[at] = None;
-        }
-    }
-
     /// Takes the frame of a place.
     pub fn take(&mut self, at: usize) -> Option<Frame<A>>
         requires { at < length self.old }
@@ -54,23 +45,23 @@ impl<A: Allocator> Places<A> {
     }
 
     /// Joins the runs of a frame to those that come to a place.
-    pub fn join(&mut self, to: usize, frame: Frame<A>) -> Result<(), Stop>
-        requires { to < length self.old }
-        ensures joins { OnOk result (Joins to frame self.old self.new) }
-        ensures long { length self.new ≡ length self.old }
+    pub fn join(&mut self, to: usize, frame: Frame<A>)
+        requires place { to < length self.old }
+        requires meet { CanMeet (frame_at self.old to) (length frame.stack) (length frame.locals) }
+        ensures { Joins to frame self.old self.new }
     {
         match self.frames[to].take() {
             None => self.frames[to] = Some(frame),
             Some(mut earlier) => {
-                earlier.widen(&frame)?;
+                earlier.widen(&frame);
                 self.frames[to] = Some(earlier);
             }
         }
-        Ok(())
     }
 }
 
-/// Joins the runs of a frame, each by the value that it pops, to those that come to `target` at 0, and else to `next`.
+/// Joins the runs of a frame, each by the value that it pops, to those that come to `target` at 0,
+/// and else to `next`. Only memory can stop it.
 pub fn branch<A: Allocator + Copy>(
     alloc: A,
     next: usize,
@@ -80,16 +71,20 @@ pub fn branch<A: Allocator + Copy>(
 ) -> Result<(), Stop>
     requires next { next < length places.old }
     requires target { target < length places.old }
+    requires operand { 1 ≤ length frame.stack }
+    requires meet_next { CanMeet (frame_at places.old next) (length frame.stack - 1) (length frame.locals) }
+    requires meet_target { CanMeet (frame_at places.old target) (length frame.stack - 1) (length frame.locals) }
     ensures branches { OnOk result (Branches next target frame places.old places.new) }
     ensures long { length places.new ≡ length places.old }
 {
-    let span = frame.pop()?;
+    let span = frame.pop();
     if !span.contains(Fx::from_raw(0)) {
-        return places.join(next, frame);
+        places.join(next, frame);
+    } else if span.lo == span.hi {
+        places.join(target, frame);
+    } else {
+        places.join(next, frame.copy(alloc)?);
+        places.join(target, frame);
     }
-    if span.lo == span.hi {
-        return places.join(target, frame);
-    }
-    places.join(next, frame.copy(alloc)?)?;
-    places.join(target, frame)
+    Ok(())
 }

@@ -1,23 +1,37 @@
 //! All runs on inputs in some spans, followed place by place.
 
-ghost use Rattle.std.specs.Prelude.{◌≡◌, ◌+◌, ◌<◌, length, IfOk, OnOk};
+ghost use Rattle.std.specs.Prelude.{◌≡◌, ◌+◌, ◌<◌, ℕ, None, length, IfOk, OnOk};
 ghost use Rattle.fixed.specs.Fractions.{bits_of};
 ghost use Rattle.kernel_code.specs.Code.{IsCode};
-ghost use Rattle.verifier.specs.Slices.{AllGiveIn, Comes};
+ghost use Rattle.kernel_paths.specs.Misfits.{DoesWell};
+ghost use Rattle.verifier.specs.Slices.{AllGiveIn, AreAttained, AreEnoughLocals, Comes, frame_at};
 
 use crate::frames::{Frame, Stop};
 use crate::instructions::follow;
 use crate::places::{Places, branch};
-use fixed::Frac;
+use fixed::{Fault, Frac};
 use interval_domain::Span;
-use kernel_code::{Instr, TrapKind};
+use kernel_code::Instr;
 use std::alloc::Allocator;
 
-/// Where runs aren't followed further, and why.
+/// Why the runs of a slice aren't followed to their end.
 #[derive(Clone, Copy, PartialEq, Eq, Debug)]
-pub struct Stopped {
-    pub pc: u32,
-    pub stop: Stop,
+pub enum Stopped {
+    /// The operation at this place may have no value, for this reason.
+    Fault { pc: u32, fault: Fault },
+    /// Memory ran out.
+    Memory,
+}
+
+/// Takes all frames away.
+fn clear<A: Allocator>(code: &[Instr], places: &mut Places<A>)
+    requires { length places.old ≡ length code.now + 1 }
+    ensures none { (at : ℕ) → frame_at places.new at ≡ None }
+    ensures long { length places.new ≡ length code.now + 1 }
+{
+    for at in 0..code.len() + 1 {
+        places.take(at);
+    }
 }
 
 /// Follows the runs that come to the place `here` by its instruction.
@@ -30,10 +44,13 @@ fn pass<A: Allocator + Copy>(
     places: &mut Places<A>,
 ) -> Result<(), Stop>
     requires code { IsCode code.now }
+    requires well { (steps : ℕ) × DoesWell code.now (length inputs.now) steps }
     requires within { here < length code.now }
     requires long { length places.old ≡ length code.now + 1 }
+    requires attained { AreAttained code.now places.old }
     requires comes { Comes (bits_of frac) code.now inputs.now here places.old }
     ensures on { OnOk result (Comes (bits_of frac) code.now inputs.now (here + 1) places.new) }
+    ensures attained { OnOk result (AreAttained code.now places.new) }
     ensures long { length places.new ≡ length code.now + 1 }
 {
     let Some(mut frame) = places.take(here) else {
@@ -41,39 +58,36 @@ fn pass<A: Allocator + Copy>(
     };
     let instr = &code[here];
     match *instr {
-        Instr::Jump(target) => places.join(target as usize, frame),
+        Instr::Jump(target) => {
+            places.join(target as usize, frame);
+            Ok(())
+        }
         Instr::JumpIfZero(target) => branch(alloc, here + 1, target as usize, frame, places),
         _ => {
             follow(frac, instr, inputs, &mut frame)?;
-            places.join(here + 1, frame)
+            places.join(here + 1, frame);
+            Ok(())
         }
     }
 }
 
-/// The span of the value at the end, which stands alone on the stack.
-fn answer<A: Allocator>(
-    frac: Frac,
-    code: &[Instr],
-    inputs: &[Span],
-    places: &mut Places<A>,
-) -> Result<Span, Stop>
+/// The span of the value at the end.
+fn answer<A: Allocator>(frac: Frac, code: &[Instr], inputs: &[Span], places: &mut Places<A>) -> Span
+    requires well { (steps : ℕ) × DoesWell code.now (length inputs.now) steps }
     requires long { length places.old ≡ length code.now + 1 }
+    requires attained { AreAttained code.now places.old }
     requires comes { Comes (bits_of frac) code.now inputs.now (length code.now) places.old }
-    ensures span { IfOk result (AllGiveIn (bits_of frac) code.now inputs.now) }
+    ensures span { AllGiveIn (bits_of frac) code.now inputs.now result }
     ensures long { length places.new ≡ length code.now + 1 }
 {
     let Some(mut frame) = places.take(code.len()) else {
-        return Err(Stop::Trap(TrapKind::BadEnd));
+        unreachable!()
     };
-    let span = frame.pop()?;
-    if frame.height() == 0 {
-        Ok(span)
-    } else {
-        Err(Stop::Trap(TrapKind::BadEnd))
-    }
+    frame.pop()
 }
 
-/// The span of the values that the code gives on all inputs in these spans, or the first place at which some run may trap. So many locals are followed.
+/// The span of the values that the code gives on all inputs in these spans, or the first place at
+/// which the operation of some run may have no value. So many locals are followed.
 pub fn follow_slice<A: Allocator + Copy>(
     alloc: A,
     frac: Frac,
@@ -83,34 +97,26 @@ pub fn follow_slice<A: Allocator + Copy>(
     places: &mut Places<A>,
 ) -> Result<Span, Stopped>
     requires code { IsCode code.now }
+    requires well { (steps : ℕ) × DoesWell code.now (length inputs.now) steps }
+    requires locals { AreEnoughLocals code.now locals }
     requires long { length places.old ≡ length code.now + 1 }
     ensures span { IfOk result (AllGiveIn (bits_of frac) code.now inputs.now) }
     ensures long { length places.new ≡ length code.now + 1 }
 {
-    let memory = Stopped {
-        pc: 0,
-        stop: Stop::Memory,
-    };
     let Ok(start) = Frame::start(alloc, locals) else {
-        return Err(memory);
+        return Err(Stopped::Memory);
     };
-    places.clear();
-    if let Err(stop) = places.join(0, start) {
-        return Err(Stopped { pc: 0, stop });
-    }
+    clear(code, places);
+    places.join(0, start);
     for here in 0..code.len() {
-        if let Err(stop) = pass(alloc, frac, code, here, inputs, places) {
-            return Err(Stopped {
-                pc: here as u32,
-                stop,
-            });
+        match pass(alloc, frac, code, here, inputs, places) {
+            Ok(()) => {}
+            Err(Stop::Memory) => return Err(Stopped::Memory),
+            Err(Stop::Fault(fault)) => {
+                let pc = here as u32;
+                return Err(Stopped::Fault { pc, fault });
+            }
         }
     }
-    match answer(frac, code, inputs, places) {
-        Ok(span) => Ok(span),
-        Err(stop) => Err(Stopped {
-            pc: code.len() as u32,
-            stop,
-        }),
-    }
+    Ok(answer(frac, code, inputs, places))
 }

@@ -71,7 +71,8 @@ impl<A: Allocator> Verified<A> {
         self.steps
     }
 
-    /// No value that the code gives is greater in magnitude, as a raw value: the greatest magnitude of the ends of the values' spans, 0 where there are no types.
+    /// No value that the code gives is greater in magnitude, as a raw value: the greatest magnitude of
+    /// the ends of the values' spans, 0 where there are no types.
     pub fn bound(&self) -> u64
         ensures { result ≡ self.now.bound }
     {
@@ -79,9 +80,14 @@ impl<A: Allocator> Verified<A> {
     }
 }
 
-/// Accepts code that gives a value for every two types of the table, at every distance from `core` to before `cutoff`. The distances are cut into so many slices, and a slice on which some run may trap, by the spans of the code's values, is cut in two again and again, at most 24 times deep.
+/// Accepts code that gives a value for every two types of the table, at every distance from `core`
+/// to before `cutoff`. The distances are cut into so many slices, and a slice on which some run may
+/// meet a fault, by the spans of the code's values, is cut in two again and again, at most 24 times
+/// deep.
 ///
-/// `Malformed` and `DepthOver64` where some path of the code goes wrong, whatever the values; else `Fault` where the code traps, and `Undecided` where that stays open, never where there are at most 2^24 distances for each slice. `Memory` comes only where a growth was refused.
+/// `Malformed` and `DepthOver64` where some path of the code goes wrong, whatever the values; else
+/// `Fault` where an operation has no value, and `Undecided` where that stays open, never where there
+/// are at most 2^24 distances for each slice. `Memory` comes only where a growth was refused.
 pub fn verify<A: Allocator, B: Allocator>(
     alloc: A,
     code: Code<B>,

@@ -1,5 +1,6 @@
 use Rattle.std.proofs.Common.{sym, ◌∙◌}
-use Rattle.energy_program.proofs.NameLemmas.{added_new, added_taken, fails_as}
+use Rattle.energy_program.proofs.FaultLaws.{fails_says}
+use Rattle.energy_program.proofs.NameLemmas.{added_new, added_taken}
 use Rattle.energy_program.proofs.inputs.add.Goals as goal
 
 pub returns-then-is_new : goal.returns-then-is_new
@@ -9,4 +10,4 @@ returns-then-is_new g c =
 
 pub returns-else-is_new : goal.returns-else-is_new
 returns-else-is_new g c =
-    fails_as c.taken-else-is_new.result _ _ (added_taken c.args.names.now.keys c.in_ok-from_slice.field-0 c.args.name.now c.in_ok-from_slice.ensures.items (sym c.is_reserved.ensures ∙ c.if-is_reserved.false) (sym c.in_ok-is_new.ensures.added ∙ c.if-is_new.false)) c.taken-else-is_new.ensures
+    fails_says c.reserved_name-else-is_new.result _ _ (added_taken c.args.names.now.keys c.in_ok-from_slice.field-0 c.args.name.now c.in_ok-from_slice.ensures.items (sym c.is_reserved.ensures ∙ c.if-is_reserved.false) (sym c.in_ok-is_new.ensures.added ∙ c.if-is_new.false)) c.reserved_name-else-is_new.ensures

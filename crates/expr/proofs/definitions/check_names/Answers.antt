@@ -5,21 +5,21 @@ use Rattle.energy_program.specs.Variables.{names_of}
 use Rattle.expr.specs.Definitions.{checked}
 use Rattle.expr.specs.Syntax.{definition_of, names_in}
 use Rattle.expr.proofs.Checked.{name_next, name_more, refused_taken, refused_given, goes_on, all_checked}
-use Rattle.expr.proofs.Levels.{fails_says}
+use Rattle.energy_program.proofs.FaultLaws.{fails_says}
 use Rattle.expr.proofs.definitions.check_names.Goals as goal
 
 pub returns-then-is_taken : goal.returns-then-is_taken
 returns-then-is_taken g c =
     let x = c.index-definitions-number in
     let next = name_next definition_of c.args.definitions.now c.loop-number.number x.result c.loop-number-test.true in
-    fails_says _ _ _ (c.loop-number.invariant ∙ refused_taken (names_of c.args.names.now) _ _ _ _ next (sym c.is_taken.ensures ∙ c.if-is_taken.true)) c.taken.ensures
+    fails_says _ _ _ (c.loop-number.invariant ∙ refused_taken (names_of c.args.names.now) _ _ _ _ next (sym c.is_taken.ensures ∙ c.if-is_taken.true)) c.reserved_name.ensures
 
 pub returns-then-is_some : goal.returns-then-is_some
 returns-then-is_some g c =
     let x = c.index-definitions-number in
     let next = name_next definition_of c.args.definitions.now c.loop-number.number x.result c.loop-number-test.true in
     let given = ap is_some (sym c.number_from.ensures.value) ∙ sym c.is_some.ensures ∙ c.if-is_some.true in
-    fails_says _ _ _ (c.loop-number.invariant ∙ refused_given (names_of c.args.names.now) _ _ _ _ next (sym c.is_taken.ensures ∙ c.if-is_taken.false) given) c.repeated.ensures
+    fails_says _ _ _ (c.loop-number.invariant ∙ refused_given (names_of c.args.names.now) _ _ _ _ next (sym c.is_taken.ensures ∙ c.if-is_taken.false) given) c.repeated_definition.ensures
 
 pub loop-number-preserved : goal.loop-number-preserved
 loop-number-preserved g c =

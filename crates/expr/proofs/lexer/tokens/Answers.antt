@@ -4,7 +4,7 @@ use Rattle.fixed.specs.Fractions.{bits_of}
 use Rattle.expr.specs.Tokens.{placed}
 use Rattle.expr.specs.Lexing.{with_front, tokens_from}
 use Rattle.expr.proofs.Lexing.{tail_less, skip_list, take_list, fail_list, done_list, all_spaces_off, regroup, token_less}
-use Rattle.expr.proofs.Levels.{fails_says}
+use Rattle.energy_program.proofs.FaultLaws.{fails_says}
 use Rattle.expr.proofs.lexer.tokens.Goals as goal
 
 pub loop-rest-init : goal.loop-rest-init

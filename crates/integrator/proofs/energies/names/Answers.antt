@@ -1,19 +1,20 @@
 use Rattle.std.proofs.Common.{ap, sym, ◌∙◌, get_or, length}
-use Rattle.std.specs.Prelude.{map}
+use Rattle.std.specs.Prelude.{IsTrue, map}
 use Rattle.std.proofs.lemmas.Result.{IfOk-weaker}
-use Rattle.integrator.proofs.EnergyLaws.{are_names, length-alike, names-views}
+use Rattle.line_text.specs.Identifiers.{is_identifier}
+use Rattle.integrator.proofs.EnergyLaws.{all_alike, length-alike, names-views}
 use Rattle.integrator.proofs.energies.names.Goals as goal
 
 pub new-requires-clause-parameters_named : goal.new-requires-clause-parameters_named
 new-requires-clause-parameters_named g c =
     rw c.deref-2.ensures.value
-    (are_names (λ p. p.now) (λ p. p.items) c.in_ok-parameters.parameters.items c.args.job.now.parameters.items c.in_ok-parameters.ensures.value c.args.job.now.named)
+    (all_alike (λ n. IsTrue (is_identifier n)) (λ p. p.now) (λ p. p.items) c.in_ok-parameters.parameters.items c.args.job.now.parameters.items c.in_ok-parameters.ensures.value c.args.job.now.named)
 
 pub new-requires-clause-globals_named : goal.new-requires-clause-globals_named
 new-requires-clause-globals_named g c =
     let job = c.args.job.now in
     rw c.deref-3.ensures.value
-    (are_names (λ p. p.now) (λ p. p.name.items) c.in_ok-globals.globals.items job.globals.items (rw c.deref.ensures.value at c.in_ok-globals.ensures.value) (λ k d h. (get_or job.globals.items k d).named))
+    (all_alike (λ n. IsTrue (is_identifier n)) (λ p. p.now) (λ p. p.name.items) c.in_ok-globals.globals.items job.globals.items (rw c.deref.ensures.value at c.in_ok-globals.ensures.value) (λ k d h. (get_or job.globals.items k d).named))
 
 pub returns-clause-value : goal.returns-clause-value
 returns-clause-value g c =

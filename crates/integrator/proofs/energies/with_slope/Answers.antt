@@ -1,4 +1,3 @@
-use Rattle.std.proofs.Common.{arith}
 use Rattle.std.specs.Prelude.{map}
 use Rattle.energy_program.specs.Programs.{program_tree}
 use Rattle.energy_program.specs.Tree.{tree_of}

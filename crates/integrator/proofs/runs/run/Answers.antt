@@ -9,7 +9,7 @@ returns-in-Ok-clause-value g c =
     record {
       frames' = frames c.in-Ok.turned.previous.items c.in-Ok.turned.current.items;
       turned = rw (← atoms) c.in-Ok.ensures.value;
-      moved = rw counter at c.moved.ensures;
+      moved = rw counter at c.advance.ensures.value;
     }
 
 pub returns-clause-stop : goal.returns-clause-stop

@@ -1,4 +1,5 @@
 use Rattle.std.proofs.lemmas.Result.{IfErr-weaker, IfOk-weaker}
+use Rattle.integrator.specs.Starts.{tested}
 use Rattle.integrator.specs.StartViews.{start_view}
 use Rattle.integrator.proofs.RunLaws.{stop_refuses, stop_unwritten}
 use Rattle.integrator.proofs.runs.state_after.Goals as goal
@@ -9,7 +10,7 @@ returns-clause-value g c =
 
 pub returns-clause-refused : goal.returns-clause-refused
 returns-clause-refused g c =
-    IfErr-weaker c.run.result _ _ (λ f h. stop_refuses c.args.job.now c.args.state.now c.args.direction c.args.steps (start_view c.in_ok-prepared.prepared) f c.in_ok-prepared.ensures.value h) c.run.ensures.stop
+    IfErr-weaker c.run.result _ _ (λ f h. stop_refuses tested c.args.job.now c.args.state.now c.args.direction c.args.steps (start_view c.in_ok-prepared.prepared) f c.in_ok-prepared.ensures.value h) c.run.ensures.stop
 
 pub returns-clause-unwritten : goal.returns-clause-unwritten
 returns-clause-unwritten g c =

@@ -1,13 +1,11 @@
-use Rattle.std.proofs.Common.{◌≡◌, ◌<◌, length, ap, sym, ◌∙◌, arith, refl, rules, to_z, of_z, w64}
-use Rattle.std.specs.Prelude.{map}
+use Rattle.std.proofs.Common.{◌≡◌, length, ap, ◌∙◌, arith, refl, rules, to_z, of_z, w64}
 use Rattle.kernel_code.specs.Tables.{Table}
 use Rattle.integrator.proofs.EnergyLaws.{length-rows}
 use Rattle.integrator.proofs.starts.prepare.Goals as goal
 
 pub returns-clause-value : goal.returns-clause-value
 returns-clause-value g c =
-    let ready = c.args.ready in
-    let counter : to_z w64 (of_z w64 ready.counter) ≡ ready.counter = search rules in
+    let counter : to_z w64 (of_z w64 c.args.counter) ≡ c.args.counter = search rules in
     rw (counter, c.requires.masses, c.requires.table) refl
 
 pub invariant_of-result-clause-known : goal.invariant_of-result-clause-known

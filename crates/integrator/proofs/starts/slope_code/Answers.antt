@@ -1,8 +1,6 @@
-use Rattle.std.proofs.Common.{Ok, refl, length}
-use Rattle.std.proofs.lemmas.List.{length-map}
-use Rattle.job.specs.Views.{global_value, job_value}
+use Rattle.std.proofs.Common.{refl}
+use Rattle.job.specs.Views.{job_value}
 use Rattle.integrator.specs.StartViews.{energy_view}
-use Rattle.integrator.specs.Starts.{job_energy}
 use Rattle.integrator.proofs.EnergyLaws.{compiled_for}
 use Rattle.integrator.proofs.StartLaws.{energy_said}
 use Rattle.integrator.proofs.starts.slope_code.Goals as goal

@@ -1,8 +1,8 @@
-use Rattle.std.proofs.Common.{◌≡◌, ◌≤◌, ◌∙◌, ap, arith, length, sym}
+use Rattle.std.proofs.Common.{◌≡◌, ◌∙◌, ap, arith, length, sym}
 use Rattle.std.specs.Prelude.{map}
 use Rattle.std.proofs.lemmas.List.{length-map}
-use Rattle.job.specs.Views.{global_value, job_value, type_value}
-use Rattle.integrator.specs.Starts.{global_values, table_of, type_rows}
+use Rattle.job.specs.Views.{global_value, job_value}
+use Rattle.integrator.specs.Starts.{global_values, table_of}
 use Rattle.integrator.proofs.EnergyLaws.{length-alike, length-globals, rows_of_types, table_alike, whole_rows}
 use Rattle.integrator.proofs.tables.table.Goals as goal
 

@@ -1,7 +1,7 @@
 use Rattle.std.proofs.Common.{ap, arith, subst, sym, IsTrue, Vec, List, ℕ, length, length-append, [], ◌∷◌}
 use Rattle.std.proofs.lemmas.List.{length-map}
 use Rattle.std.proofs.lemmas.List.Elements.{All-same, All-push}
-use Rattle.job.specs.Forms.{is_identifier}
+use Rattle.line_text.specs.Identifiers.{is_identifier}
 use Rattle.job.specs.JobText.{limits}
 use Rattle.job.specs.Views.{said_of, refusal_of}
 use Rattle.job.proofs.FormLemmas.{known_is}

@@ -4,17 +4,15 @@ use Rattle.kernel_code.specs.declared.instructions.Instr.{Instr}
 use Rattle.kernel_code.specs.Code.{code_from}
 use Rattle.kernel_code.specs.Paths.{MissesNothing}
 use Rattle.kernel_code.proofs.TargetLaws.{code_from_again}
-use Rattle.kernel_compiler.specs.Parts.{body_of, definitions_of, input_count_of}
+use Rattle.energy_program.specs.Programs.{body_of, definitions_of, input_count_of}
 use Rattle.kernel_compiler.specs.Code.{program_code, is_within_limits}
 use Rattle.kernel_compiler.specs.Compiled.{Computes}
-use Rattle.kernel_compiler.proofs.Limits.{passes_limit}
-use Rattle.kernel_compiler.proofs.WholeLaws.{is_code, computes, misses_nothing}
+use Rattle.kernel_compiler.proofs.WholeLaws.{is_code, computes, misses_nothing, too_long}
 use Rattle.kernel_compiler.proofs.compiler.compile.Goals as goal
 
 pub returns-then-not-is_within_limits-clause-refused : goal.returns-then-not-is_within_limits-clause-refused
 returns-then-not-is_within_limits-clause-refused g c = λ large.
-    passes_limit (program_code (bits_of c.args.frac) (body_of c.args.program.now) (definitions_of c.args.program.now))
-    (c.is_within_limits.ensures (bits_of c.args.frac) ∙ c.if-not-is_within_limits.true)
+    too_long c.args.program.now (bits_of c.args.frac) (c.is_within_limits.ensures (bits_of c.args.frac) ∙ c.if-not-is_within_limits.true)
 
 pub unreachable-requires : goal.unreachable-requires
 unreachable-requires g c =

@@ -2,7 +2,7 @@ use Rattle.std.proofs.Common.{◌≡◌, length, refl, ap, ◌∙◌, arith}
 use Rattle.std.proofs.lemmas.List.{length-map}
 use Rattle.fixed.specs.Fractions.{bits_of}
 use Rattle.energy_program.specs.Tree.{tree_of}
-use Rattle.kernel_compiler.specs.Parts.{body_of, definitions_of}
+use Rattle.energy_program.specs.Programs.{body_of, definitions_of}
 use Rattle.energy_program.specs.Uses.{marks_of}
 use Rattle.kernel_compiler.specs.Sizes.{definitions_size}
 use Rattle.energy_program.proofs.MarkLaws.{length-marks}

@@ -1,7 +1,7 @@
 use Rattle.std.proofs.Common.{◌≡◌, ◌+◌, ◌<◌, length, sym, ap, ◌∙◌, arith}
 use Rattle.std.proofs.lemmas.List.{length-map}
 use Rattle.energy_program.specs.Tree.{tree_of}
-use Rattle.kernel_compiler.specs.Parts.{body_of, definitions_of}
+use Rattle.energy_program.specs.Programs.{body_of, definitions_of}
 use Rattle.energy_program.specs.Uses.{marks_of}
 use Rattle.kernel_compiler.specs.Sizes.{definitions_size}
 use Rattle.energy_program.proofs.MarkLaws.{length-marks}

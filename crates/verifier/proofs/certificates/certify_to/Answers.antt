@@ -1,6 +1,11 @@
 use Rattle.std.proofs.Common.{arith}
-use Rattle.verifier.proofs.Certifying.{certified}
+use Rattle.verifier.proofs.Certifying.{certified, is_search}
 use Rattle.verifier.proofs.certificates.certify_to.Goals as goal
+
+pub invariant_of-search : goal.invariant_of-search
+invariant_of-search g c =
+    let enough = rw c.as_slice-instructions.ensures.items at c.locals_of-locals.ensures in
+    is_search _ _ c.in-Ok.steps c.parameters.ensures.table c.in-Ok.ensures.judged (omega (arith, c.parameters.ensures.value, c.globals.ensures.value)) enough c.requires.core c.requires.range c.requires.slices
 
 pub returns-in-Ok-judge_all-clause-certified : goal.returns-in-Ok-judge_all-clause-certified
 returns-in-Ok-judge_all-clause-certified g c =

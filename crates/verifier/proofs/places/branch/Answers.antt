@@ -1,12 +1,14 @@
-use Rattle.verifier.proofs.Following.{on_ok}
-use Rattle.verifier.proofs.Passing.{same_ends, not_member, is_member, branch_next, branch_target, branch_both}
+use Rattle.verifier.specs.Slices.{goes_on, jumps}
+use Rattle.verifier.proofs.Passing.{same_ends, not_member, is_member, may_jump_copied}
 use Rattle.verifier.proofs.places.branch.Goals as goal
 
 pub returns-then-not-contains-clause-branches : goal.returns-then-not-contains-clause-branches
-returns-then-not-contains-clause-branches g c = on_ok c.join.result _ _ c.join.ensures.joins (λ j. branch_next c.args.next c.args.target c.in_ok-span.span c.args.frame c.pop.new.self c.args.places.now c.join.new.self c.in_ok-span.ensures (not_member _ _ _ c.contains.ensures c.from_raw.ensures c.if-not-contains.true) j)
+returns-then-not-contains-clause-branches g c = goes_on c.pop-span.ensures.pops (not_member _ _ _ c.contains.ensures c.from_raw.ensures c.if-not-contains.true) c.join.ensures
 
 pub returns-then-eq-clause-branches : goal.returns-then-eq-clause-branches
-returns-then-eq-clause-branches g c = on_ok c.join-then-eq.result _ _ c.join-then-eq.ensures.joins (λ j. branch_target c.args.next c.args.target c.in_ok-span.span c.args.frame c.pop.new.self c.args.places.now c.join-then-eq.new.self c.in_ok-span.ensures (is_member _ _ _ c.contains.ensures c.from_raw.ensures c.if-not-contains.false) (same_ends _ _ c.if-eq.ensures) j)
+returns-then-eq-clause-branches g c = jumps c.pop-span.ensures.pops (is_member _ _ _ c.contains.ensures c.from_raw.ensures c.if-not-contains.false) (same_ends _ _ c.if-eq.ensures) c.join-then-eq.ensures
 
-pub returns-clause-branches : goal.returns-clause-branches
-returns-clause-branches g c = on_ok c.join-3.result _ _ c.join-3.ensures.joins (λ j. branch_both c.args.next c.args.target c.in_ok-span.span c.args.frame c.pop.new.self c.in_ok-copy.field-0 c.args.places.now c.join-2.new.self c.join-3.new.self c.in_ok-span.ensures c.in_ok-copy.ensures c.in_ok-join.ensures.joins j)
+pub returns-in_ok-copy-clause-branches : goal.returns-in_ok-copy-clause-branches
+returns-in_ok-copy-clause-branches g c =
+    may_jump_copied c.args.next c.args.target c.pop-span.result c.args.frame c.pop-span.new.self c.in_ok-copy.field-0 c.args.places.now c.join-else-eq.new.self c.join-else-eq-2.new.self c.pop-span.ensures.pops c.in_ok-copy.ensures
+    (is_member _ _ _ c.contains.ensures c.from_raw.ensures c.if-not-contains.false) c.join-else-eq.ensures c.join-else-eq-2.ensures

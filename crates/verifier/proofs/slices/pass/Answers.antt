@@ -1,16 +1,42 @@
-use Rattle.std.proofs.Common.{arith, refl, length, ◌∙◌, ap, Some}
+use Rattle.std.proofs.Common.{arith, refl, length, ◌∙◌, ◌+◌, ap, inl, inr, Some}
 use Rattle.std.proofs.lemmas.Option.{slice_get_read}
 use Rattle.fixed.specs.Fractions.{bits_of}
 use Rattle.kernel_code.specs.declared.instructions.Instr.TheVariants.{JumpIfZero, Jump}
 use Rattle.verifier.proofs.Following.{on_ok}
-use Rattle.verifier.proofs.Passing.{jump_within, branch_within, comes_on, passes_jump, passes_branch, passes_plain}
+use Rattle.verifier.proofs.Passing.{jump_within, branch_within, comes_on, passes_jump, passes_branch, passes_plain, joins_loses, branches_loses}
+use Rattle.verifier.proofs.Attaining.{past_attained, is_plain, at_hand, plain_meets, plain_attained, jump_meets, jump_attained, branch_meets, branch_attained}
 use Rattle.verifier.proofs.slices.pass.Goals as goal
 
-pub join-requires : goal.join-requires
-join-requires g c =
+-- ---- no run comes here
+
+pub returns-in_default-clause-attained : goal.returns-in_default-clause-attained
+returns-in_default-clause-attained g c = past_attained c.args.code.now c.args.here c.args.places.now c.take.new.self c.requires.attained c.in_default.ensures
+
+-- ---- a jump
+
+pub join-requires-clause-place : goal.join-requires-clause-place
+join-requires-clause-place g c =
     let there = slice_get_read c.args.code.now (length c.args.code.now) c.args.here c.index-code-here.result refl c.requires.within c.index-code-here.is in
     let w = jump_within c.args.code.now c.args.here c.in-Jump.target c.requires.code (there ∙ ap Some c.in-Jump.is) in
     omega (arith, w, c.take.ensures.long, c.requires.long)
+
+pub join-requires-clause-meet : goal.join-requires-clause-meet
+join-requires-clause-meet g c =
+    let there = slice_get_read c.args.code.now (length c.args.code.now) c.args.here c.index-code-here.result refl c.requires.within c.index-code-here.is in
+    jump_meets c.args.code.now (length c.args.inputs.now) c.requires.well.0 c.args.here c.in-Jump.target c.in-Some.frame c.args.places.now c.take.new.self c.requires.well.1 c.requires.attained c.in-Some.ensures (there ∙ ap Some c.in-Jump.is)
+
+pub returns-in-Jump-clause-on : goal.returns-in-Jump-clause-on
+returns-in-Jump-clause-on g c =
+    let there = slice_get_read c.args.code.now (length c.args.code.now) c.args.here c.index-code-here.result refl c.requires.within c.index-code-here.is in
+    comes_on (bits_of c.args.frac) c.args.code.now c.args.inputs.now c.args.here (Jump c.in-Jump.target) c.in-Some.frame c.args.places.now c.take.new.self c.join.new.self c.requires.code c.requires.comes (there ∙ ap Some c.in-Jump.is)
+    c.in-Some.ensures (passes_jump _ _ _ _ _ _ c.take.new.self _ c.join.ensures) (joins_loses _ _ _ _ c.join.ensures)
+
+pub returns-in-Jump-clause-attained : goal.returns-in-Jump-clause-attained
+returns-in-Jump-clause-attained g c =
+    let there = slice_get_read c.args.code.now (length c.args.code.now) c.args.here c.index-code-here.result refl c.requires.within c.index-code-here.is in
+    jump_attained c.args.code.now (length c.args.inputs.now) c.requires.well.0 c.args.here c.in-Jump.target c.in-Some.frame c.args.places.now c.take.new.self c.join.new.self c.requires.well.1 c.requires.attained c.in-Some.ensures (there ∙ ap Some c.in-Jump.is) c.join.ensures
+
+-- ---- a jump at 0
 
 pub branch-alloc-requires-clause-target : goal.branch-alloc-requires-clause-target
 branch-alloc-requires-clause-target g c =
@@ -18,26 +44,55 @@ branch-alloc-requires-clause-target g c =
     let w = branch_within c.args.code.now c.args.here c.in-JumpIfZero.target c.requires.code (there ∙ ap Some c.in-JumpIfZero.is) in
     omega (arith, w, c.take.ensures.long, c.requires.long)
 
-pub returns-in-Jump-clause-on : goal.returns-in-Jump-clause-on
-returns-in-Jump-clause-on g c =
+pub branch-alloc-requires-clause-operand : goal.branch-alloc-requires-clause-operand
+branch-alloc-requires-clause-operand g c =
     let there = slice_get_read c.args.code.now (length c.args.code.now) c.args.here c.index-code-here.result refl c.requires.within c.index-code-here.is in
-    on_ok c.join.result _ _ c.join.ensures.joins (λ j.
-    comes_on (bits_of c.args.frac) c.args.code.now c.args.inputs.now c.args.here (Jump c.in-Jump.target) c.in-Some.frame c.args.places.now c.take.new.self c.join.new.self c.requires.code c.requires.comes (there ∙ ap Some c.in-Jump.is)
-    c.in-Some.ensures (passes_jump _ _ _ _ _ _ c.take.new.self _ j) j.others)
+    at_hand c.args.code.now c.args.inputs.now c.requires.well.0 c.args.here (JumpIfZero c.in-JumpIfZero.target) c.in-Some.frame c.args.places.now c.take.new.self c.requires.well.1 c.requires.attained c.in-Some.ensures (there ∙ ap Some c.in-JumpIfZero.is)
+
+pub branch-alloc-requires-clause-meet_next : goal.branch-alloc-requires-clause-meet_next
+branch-alloc-requires-clause-meet_next g c =
+    let there = slice_get_read c.args.code.now (length c.args.code.now) c.args.here c.index-code-here.result refl c.requires.within c.index-code-here.is in
+    branch_meets c.args.code.now (length c.args.inputs.now) c.requires.well.0 c.args.here c.in-JumpIfZero.target (c.args.here + 1) c.in-Some.frame c.args.places.now c.take.new.self c.requires.well.1 c.requires.attained c.in-Some.ensures (there ∙ ap Some c.in-JumpIfZero.is) (inl refl)
+
+pub branch-alloc-requires-clause-meet_target : goal.branch-alloc-requires-clause-meet_target
+branch-alloc-requires-clause-meet_target g c =
+    let there = slice_get_read c.args.code.now (length c.args.code.now) c.args.here c.index-code-here.result refl c.requires.within c.index-code-here.is in
+    branch_meets c.args.code.now (length c.args.inputs.now) c.requires.well.0 c.args.here c.in-JumpIfZero.target c.in-JumpIfZero.target c.in-Some.frame c.args.places.now c.take.new.self c.requires.well.1 c.requires.attained c.in-Some.ensures (there ∙ ap Some c.in-JumpIfZero.is) (inr refl)
 
 pub returns-in-JumpIfZero-clause-on : goal.returns-in-JumpIfZero-clause-on
 returns-in-JumpIfZero-clause-on g c =
     let there = slice_get_read c.args.code.now (length c.args.code.now) c.args.here c.index-code-here.result refl c.requires.within c.index-code-here.is in
     on_ok c.branch-alloc.result _ _ c.branch-alloc.ensures.branches (λ b.
     comes_on (bits_of c.args.frac) c.args.code.now c.args.inputs.now c.args.here (JumpIfZero c.in-JumpIfZero.target) c.in-Some.frame c.args.places.now c.take.new.self c.branch-alloc.new.places c.requires.code c.requires.comes (there ∙ ap Some c.in-JumpIfZero.is)
-    c.in-Some.ensures (passes_branch _ _ _ _ _ _ c.take.new.self _ b) b.others)
+    c.in-Some.ensures (passes_branch _ _ _ _ _ _ c.take.new.self _ b) (branches_loses _ _ _ _ _ b))
+
+pub returns-in-JumpIfZero-clause-attained : goal.returns-in-JumpIfZero-clause-attained
+returns-in-JumpIfZero-clause-attained g c =
+    let there = slice_get_read c.args.code.now (length c.args.code.now) c.args.here c.index-code-here.result refl c.requires.within c.index-code-here.is in
+    on_ok c.branch-alloc.result _ _ c.branch-alloc.ensures.branches (λ b.
+    branch_attained c.args.code.now (length c.args.inputs.now) c.requires.well.0 c.args.here c.in-JumpIfZero.target c.in-Some.frame c.args.places.now c.take.new.self c.branch-alloc.new.places c.requires.well.1 c.requires.attained c.in-Some.ensures (there ∙ ap Some c.in-JumpIfZero.is) b)
+
+-- ---- any other
+
+pub follow-requires-clause-at_hand : goal.follow-requires-clause-at_hand
+follow-requires-clause-at_hand g c =
+    let there = slice_get_read c.args.code.now (length c.args.code.now) c.args.here c.index-code-here.result refl c.requires.within c.index-code-here.is in
+    at_hand c.args.code.now c.args.inputs.now c.requires.well.0 c.args.here c.index-code-here.result c.in-Some.frame c.args.places.now c.take.new.self c.requires.well.1 c.requires.attained c.in-Some.ensures there
+
+pub join-requires-in_default-instr-clause-meet : goal.join-requires-in_default-instr-clause-meet
+join-requires-in_default-instr-clause-meet g c =
+    let there = slice_get_read c.args.code.now (length c.args.code.now) c.args.here c.index-code-here.result refl c.requires.within c.index-code-here.is in
+    plain_meets (bits_of c.args.frac) c.args.code.now c.args.inputs.now c.requires.well.0 c.args.here c.index-code-here.result c.in-Some.frame c.follow.new.frame c.args.places.now c.take.new.self c.requires.well.1 c.requires.attained c.in-Some.ensures there
+    (is_plain _ c.in_default-instr.not-JumpIfZero c.in_default-instr.not-Jump) c.in_ok-follow-in_default-instr.ensures
 
 pub returns-in_ok-follow-in_default-instr : goal.returns-in_ok-follow-in_default-instr
 returns-in_ok-follow-in_default-instr g c =
     let there = slice_get_read c.args.code.now (length c.args.code.now) c.args.here c.index-code-here.result refl c.requires.within c.index-code-here.is in
+    let j = c.join-in_default-instr.ensures in
     record {
-      on = on_ok c.join-in_default-instr.result _ _ c.join-in_default-instr.ensures.joins (λ j.
-          comes_on (bits_of c.args.frac) c.args.code.now c.args.inputs.now c.args.here c.index-code-here.result c.in-Some.frame c.args.places.now c.take.new.self c.join-in_default-instr.new.self c.requires.code c.requires.comes there
-          c.in-Some.ensures (passes_plain _ _ _ _ _ c.follow.new.frame _ c.take.new.self _ c.in_ok-follow-in_default-instr.ensures j) j.others);
-      long = c.join-in_default-instr.ensures.long ∙ c.take.ensures.long ∙ c.requires.long;
+      on = comes_on (bits_of c.args.frac) c.args.code.now c.args.inputs.now c.args.here c.index-code-here.result c.in-Some.frame c.args.places.now c.take.new.self c.join-in_default-instr.new.self c.requires.code c.requires.comes there
+          c.in-Some.ensures (passes_plain _ _ _ _ _ c.follow.new.frame _ c.take.new.self _ c.in_ok-follow-in_default-instr.ensures j) (joins_loses _ _ _ _ j);
+      attained = plain_attained (bits_of c.args.frac) c.args.code.now c.args.inputs.now c.requires.well.0 c.args.here c.index-code-here.result c.in-Some.frame c.follow.new.frame c.args.places.now c.take.new.self c.join-in_default-instr.new.self c.requires.well.1 c.requires.attained c.in-Some.ensures there
+          (is_plain _ c.in_default-instr.not-JumpIfZero c.in_default-instr.not-Jump) c.in_ok-follow-in_default-instr.ensures j;
+      long = j.long ∙ c.take.ensures.long ∙ c.requires.long;
     }

@@ -5,7 +5,8 @@ use Rattle.expr.specs.Tokens.{placed}
 use Rattle.expr.specs.Syntax.{syntax_of}
 use Rattle.expr.specs.Syntax as tree
 use Rattle.expr.specs.Parsing.{beginning, sum_sign, product_sign, comma_sign, listed, chain, expr_at, term_at, unary_at}
-use Rattle.expr.proofs.Levels.{fails_says, unary_none_left, atom_group, atom_name, atom_call, minus_fails, minus_reads, gives_same, atom_start, unary_none, term_starts, expr_starts, term_fails, expr_fails, term_turn, expr_turn, term_turn_fails, expr_turn_fails, term_ends, expr_ends, term_less, expr_less, started, reading, list_starts, list_fails, list_turn, list_turn_fails, list_ends, list_less}
+use Rattle.energy_program.proofs.FaultLaws.{fails_says}
+use Rattle.expr.proofs.Levels.{unary_none_left, atom_group, atom_name, atom_call, minus_fails, minus_reads, gives_same, atom_start, unary_none, term_starts, expr_starts, term_fails, expr_fails, term_turn, expr_turn, term_turn_fails, expr_turn_fails, term_ends, expr_ends, term_less, expr_less, started, reading, list_starts, list_fails, list_turn, list_turn_fails, list_ends, list_less}
 use Rattle.expr.proofs.parser.Parser.+parser.Goals as goal
 
 pub expr-returns-in_err-left : goal.expr-returns-in_err-left

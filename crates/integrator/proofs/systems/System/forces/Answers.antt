@@ -1,4 +1,4 @@
-use Rattle.std.proofs.Common.{◌≡◌, ◌≤◌, ◌^◌, ◌*◌, length, replicate, arith, ap, sym, ◌∙◌, Some}
+use Rattle.std.proofs.Common.{◌≡◌, ◌≤◌, ◌^◌, ◌-◌, ◌*◌, length, replicate, arith, ap, sym, ◌∙◌, Some}
 use Rattle.std.proofs.lemmas.Result.{on_ok_weaker, MatchResult-weaker}
 use Rattle.integrator.specs.Forces.{none, pairs_of, forces_of}
 use Rattle.integrator.specs.Adding.{with_pairs}
@@ -29,11 +29,11 @@ returns-clause-within g c =
     let start : c.clear.new.sums ≡ replicate n none = c.clear.ensures ∙ ap (λ m. replicate m none) c.requires.sums in
     on_ok_weaker c.add_rows.result (λ e.
     let found : forces_of force n ≡ Some c.add_rows.new.sums = forces_found force n c.add_rows.new.sums (sym (ap (λ s. with_pairs force s (pairs_of n)) start) ∙ e) in
-    all_within-weaker (2 ^ 63 * n) (2 ^ 80) c.add_rows.new.sums (omega arith)
+    all_within-weaker (2 ^ 63 * (n - 1)) (2 ^ 80) c.add_rows.new.sums (omega arith)
     (found_within (2 ^ 63) force n c.add_rows.new.sums
-    (λ p v h. force_at_within (2 ^ 63) s.ring (g.K.TestedSlope.slope s.kernel (slice_index s.types.items p.0) (slice_index s.types.items p.1))
-    (acting_distance_of s.frac s.ring s.core s.cutoff (places_of frame p.0) (places_of frame p.1)) (places_of frame p.0) (places_of frame p.1) v
-    (g.met.K.TestedSlope.bounded s.kernel (slice_index s.types.items p.0) (slice_index s.types.items p.1)) h)
+    (λ i j v apart below h. force_at_within (2 ^ 63) s.ring (g.K.TestedSlope.slope s.kernel (slice_index s.types.items i) (slice_index s.types.items j))
+    (acting_distance_of s.frac s.ring s.core s.cutoff (places_of frame i) (places_of frame j)) (places_of frame i) (places_of frame j) v
+    (g.met.K.TestedSlope.bounded s.kernel (slice_index s.types.items i) (slice_index s.types.items j)) h)
     found))
     c.add_rows.ensures.value
 

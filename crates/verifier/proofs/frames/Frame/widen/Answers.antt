@@ -12,4 +12,4 @@ returns g c =
     rw (e, f)
     (frame_widens_so c.args.self.now c.args.other.now c.self.inside.stack.items _ c.other.inside.stack.items _ c.widen_spans.new.spans c.self.inside.locals.items _ c.other.inside.locals.items _ c.widen_locals.new.locals (sym c.self.view_is) (sym c.other.view_is)
     spans c.as_slice.ensures.value locals c.as_slice-2.ensures.value
-    c.widen_spans.ensures c.widen_locals.ensures)
+    c.requires c.widen_spans.ensures c.widen_spans.auto.spans c.widen_locals.ensures c.widen_locals.auto.locals)

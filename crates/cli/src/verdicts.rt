@@ -1,0 +1,109 @@
+//! What is printed of a job's code, of other code under a job, and of a state's energy.
+
+ghost use Rattle.std.specs.Prelude.{◌≡◌, ◌≢◌, ◌⊎◌, ◌-◌, ◌<◌, ◌^◌, IfErr, IfOk, OnErr, OnOk, string_bytes};
+ghost use Rattle.gro.specs.Out.{appended};
+ghost use Rattle.cli.specs.Statuses.{status_of};
+ghost use Rattle.cli.specs.Verdicts.{IsEnergyText, IsListingVerdict, IsSlopeVerdict, energy_line, verdict_line};
+ghost use Rattle.cli.specs.declared.faults.Status.{Status};
+
+use crate::faults::CommandFault;
+use gro::{Out, write_all};
+use integrator::{state_energy, verdict, verified_slope};
+use job::Job;
+use kernel_code::read;
+use std::alloc::{AllocError, Allocator};
+
+/// The line that says what is known of accepted code.
+#[tactic(auto, unfolding(crate::specs::Verdicts::verdict_line))]
+fn verdict_line<A: Allocator + Copy>(
+    alloc: A,
+    steps: u32,
+    bound: u64,
+) -> Result<String<A>, AllocError>
+    ensures { IfOk result (λ s. string_bytes s ≡ verdict_line steps bound) }
+{
+    format!(in alloc; "accepted: steps {steps}, bound {bound}\n")
+}
+
+/// The line of an energy, in units of 2^-32 kJ/mol.
+fn energy_line<A: Allocator + Copy>(alloc: A, energy: i128) -> Result<String<A>, AllocError>
+    ensures { IfOk result (λ s. string_bytes s ≡ energy_line energy) }
+{
+    format!(in alloc; "energy {energy}\n")
+}
+
+/// Writes the line of accepted code.
+fn write_verdict<'a, A: Allocator + Copy, O: Out>(
+    alloc: A,
+    steps: u32,
+    bound: u64,
+    out: &mut O,
+) -> Result<(), CommandFault<'a, A>>
+    requires { O.failed out.old < 2 ^ 64 - 1 }
+    ensures written { OnOk result (O.taken out.new ≡ appended (O.taken out.old) (verdict_line steps bound)) }
+    ensures fault { IfErr result (λ f. status_of f ≢ Status.CommandLine) }
+    ensures kept { OnErr result ((O.taken out.new ≡ O.taken out.old) ⊎ (O.failed out.old < O.failed out.new)) }
+{
+    let line = verdict_line(alloc, steps, bound)?;
+    write_all(out, line.as_bytes())?;
+    Ok(())
+}
+
+/// Writes what is known of the code of a job's slope. A refusal, of the job, its energy or that code, writes nothing, unless a write
+/// failed.
+#[tactic(auto, using(crate::proofs::VerdictLaws::slope_verdict))]
+pub(crate) fn slope_verdict_bytes<'a, A: Allocator + Copy, O: Out>(
+    alloc: A,
+    job: &[u8],
+    out: &mut O,
+) -> Result<(), CommandFault<'a, A>>
+    requires { O.failed out.old < 2 ^ 64 - 1 }
+    ensures written { OnOk result (IsSlopeVerdict job.now (O.taken out.old) (O.taken out.new)) }
+    ensures fault { IfErr result (λ f. status_of f ≢ Status.CommandLine) }
+    ensures kept { OnErr result ((O.taken out.new ≡ O.taken out.old) ⊎ (O.failed out.old < O.failed out.new)) }
+{
+    let job = Job::read(alloc, job)?;
+    let kernel = verified_slope(alloc, &job)?;
+    write_verdict(alloc, kernel.steps(), kernel.bound(), out)?;
+    Ok(())
+}
+
+/// Writes what is known of the code of a listing under a job. A refusal, of the job, the listing or its code, writes nothing, unless a
+/// write failed.
+#[tactic(auto, using(crate::proofs::VerdictLaws::listing_verdict))]
+pub(crate) fn listing_verdict_bytes<'a, A: Allocator + Copy, O: Out>(
+    alloc: A,
+    job: &[u8],
+    listing: &[u8],
+    out: &mut O,
+) -> Result<(), CommandFault<'a, A>>
+    requires { O.failed out.old < 2 ^ 64 - 1 }
+    ensures written { OnOk result (IsListingVerdict job.now listing.now (O.taken out.old) (O.taken out.new)) }
+    ensures fault { IfErr result (λ f. status_of f ≢ Status.CommandLine) }
+    ensures kept { OnErr result ((O.taken out.new ≡ O.taken out.old) ⊎ (O.failed out.old < O.failed out.new)) }
+{
+    let job = Job::read(alloc, job)?;
+    let code = read(alloc, listing)?;
+    let kernel = verdict(alloc, &job, code)?;
+    write_verdict(alloc, kernel.steps(), kernel.bound(), out)?;
+    Ok(())
+}
+
+/// Writes the energy of a state under a job. A refusal, of the job, the state, their engine or the energy's own code, writes nothing,
+/// unless a write failed.
+pub(crate) fn energy_bytes<'a, A: Allocator + Copy, O: Out>(
+    alloc: A,
+    job: &[u8],
+    state: &[u8],
+    out: &mut O,
+) -> Result<(), CommandFault<'a, A>>
+    requires { O.failed out.old < 2 ^ 64 - 1 }
+    ensures written { OnOk result (IsEnergyText job.now state.now (O.taken out.old) (O.taken out.new)) }
+    ensures fault { IfErr result (λ f. status_of f ≢ Status.CommandLine) }
+    ensures kept { OnErr result ((O.taken out.new ≡ O.taken out.old) ⊎ (O.failed out.old < O.failed out.new)) }
+{
+    let energy = state_energy(alloc, job, state)?;
+    let line = energy_line(alloc, energy)?;
+    write_all(out, line.as_bytes())?;
+    Ok(())
+}

@@ -1,0 +1,3 @@
+pub mod Stale
+pub mod Keeping
+pub mod Accepted

@@ -1,0 +1,88 @@
+//! One instruction that doesn't trap.
+
+ghost use Rattle.std.specs.Prelude.{◌≡◌, ◌^◌, ◌-◌, ◌<◌, ◌≤◌, length, IsOk, Ok};
+ghost use Rattle.fixed.specs.Fractions.{bits_of};
+ghost use Rattle.kernel_code.specs.Machine.{act};
+ghost use Rattle.kernel_machine.specs.Storage.{stack_of, all_set};
+
+use crate::operations::{binary, unary};
+use crate::slots::{push, top};
+use fixed::{Frac, Fx};
+use kernel_code::{Inputs, Instr};
+use std::alloc::Allocator;
+
+/// Where a run stands: the place of the next instruction, and how many values are on the stack.
+#[derive(Clone, Copy)]
+pub struct Position {
+    pub pc: u32,
+    pub height: usize,
+}
+
+/// One instruction at this position: the next one. The stack lies in 64 slots, and each of the 256 locals holds some value.
+#[inline]
+pub fn go_on<A: Allocator>(
+    frac: Frac,
+    instr: Instr,
+    inputs: &Inputs<A>,
+    at: Position,
+    slots: &mut [Fx],
+    locals: &mut [Fx],
+) -> Position
+    requires room { at.pc < 2 ^ 32 - 1 }
+    requires height { at.height ≤ 64 }
+    requires slots { length slots.old ≡ 64 }
+    requires locals { length locals.old ≡ 256 }
+    requires goes { IsOk (act (bits_of frac) instr inputs.now at.pc (stack_of at.height slots.old) (all_set locals.old)) }
+    ensures height { result.height ≤ 64 }
+    ensures turn { act (bits_of frac) instr inputs.now at.pc (stack_of at.height slots.old) (all_set locals.old) ≡ Ok (record { pc = result.pc; stack = stack_of result.height slots.new; locals = all_set locals.new }) }
+{
+    let Position { pc, height } = at;
+    let next = pc + 1;
+    match instr {
+        Instr::Push(value) => Position {
+            pc: next,
+            height: push(slots, height, value),
+        },
+        Instr::Input(number) => match inputs.get(number) {
+            Some(value) => Position {
+                pc: next,
+                height: push(slots, height, value),
+            },
+            None => unreachable!(),
+        },
+        Instr::Keep(local) => {
+            locals[local as usize] = top(slots, height);
+            Position {
+                pc: next,
+                height: height - 1,
+            }
+        }
+        Instr::Get(local) => Position {
+            pc: next,
+            height: push(slots, height, locals[local as usize]),
+        },
+        Instr::Binary(operation) => {
+            let b = top(slots, height);
+            let a = top(slots, height - 1);
+            Position {
+                pc: next,
+                height: push(slots, height - 2, binary(frac, operation, a, b)),
+            }
+        }
+        Instr::Unary(operation) => {
+            let a = top(slots, height);
+            Position {
+                pc: next,
+                height: push(slots, height - 1, unary(frac, operation, a)),
+            }
+        }
+        Instr::JumpIfZero(target) => {
+            let taken = top(slots, height).raw() == 0;
+            Position {
+                pc: if taken { target } else { next },
+                height: height - 1,
+            }
+        }
+        Instr::Jump(target) => Position { pc: target, height },
+    }
+}

@@ -1,0 +1,15 @@
+//! Tests. Rounds and pools in which workers draw tiles.
+#![tactic(auto)]
+
+#[cfg(test)]
+mod gates;
+#[cfg(test)]
+mod listed;
+#[cfg(test)]
+mod plain;
+#[cfg(test)]
+mod pools;
+#[cfg(test)]
+mod rounds;
+#[cfg(test)]
+mod watched;

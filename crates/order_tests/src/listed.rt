@@ -1,0 +1,68 @@
+//! Tiles that are given as lists.
+
+ghost use Rattle.std.specs.Prelude.{◌≡◌, ◌&&◌, map, Option, Some, None, IfOk, IfSome, nat_lt, if◌then◌else◌};
+ghost use Rattle.std.specs.Option.{option_and_then};
+ghost use Rattle.tile_round.specs.Tiles.{IsPairOf};
+
+use std::alloc::{AllocError, Global};
+use tile_round::{PairAdd, Work};
+
+// Tiles that are given as lists. What is no pair of the atoms does not act.
+#[derive(Drop)]
+pub(crate) struct Listed {
+    pub(crate) atoms: u32,
+    pub(crate) tiles: Vec<Vec<Option<PairAdd>>>,
+}
+
+impl Work for Listed {
+    ghost plan = { λ w. map (λ t. map (option_and_then (λ p. if nat_lt p.low p.high && nat_lt p.high w.atoms then Some p else None)) t.items) w.tiles.items };
+
+    ghost atoms = { λ w. w.atoms };
+
+    fn tiles(&self) -> u64 {
+        self.tiles.len() as u64
+    }
+
+    fn pairs(&self, tile: u64) -> u64 {
+        self.tiles[tile as usize].len() as u64
+    }
+
+    fn pair(&self, tile: u64, k: u64) -> Option<PairAdd> {
+        acting(self.atoms, self.tiles[tile as usize][k as usize])
+    }
+}
+
+fn acting(atoms: u32, pair: Option<PairAdd>) -> Option<PairAdd>
+    ensures value { result ≡ option_and_then (λ p. if nat_lt p.low p.high && nat_lt p.high atoms then Some p else None) pair }
+    ensures atoms { IfSome result (IsPairOf atoms) }
+{
+    match pair {
+        Some(p) => {
+            if p.low < p.high && p.high < atoms {
+                Some(p)
+            } else {
+                None
+            }
+        }
+        None => None,
+    }
+}
+
+pub(crate) fn add(low: u32, high: u32, force: [i64; 3]) -> Option<PairAdd> {
+    Some(PairAdd { low, high, force })
+}
+
+// Each pair in a tile of its own.
+pub(crate) fn one_a_tile(
+    alloc: Global,
+    atoms: u32,
+    pairs: &[Option<PairAdd>],
+) -> Result<Listed, AllocError>
+    ensures { IfOk result (λ w. w.atoms ≡ atoms) }
+{
+    let mut tiles = Vec::new(alloc);
+    for pair in pairs {
+        tiles.push(vec![in alloc; *pair]?)?;
+    }
+    Ok(Listed { atoms, tiles })
+}

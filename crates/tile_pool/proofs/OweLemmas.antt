@@ -1,0 +1,146 @@
+-- What a worker owes after it has drawn a ticket, and after it has made additions.
+use Rattle.std.proofs.Common.{◌≡◌, ℕ, suc, ◌+◌, ◌<◌, ◌≤◌, List, [], ◌∷◌, ◌++◌, length, take, drop, Option, Some, None, slice_get, refl, sym, ap, subst, ◌∙◌, append-nil, append_assoc}
+use Rattle.std.proofs.lemmas.Grind.{flat_map-append}
+use Rattle.std.proofs.lemmas.List.{get_or_past, take_all}
+use Rattle.tile_round.specs.Tiles.{Addition, tile_at, additions_of, tile_of, tiles_of, pairs_at}
+use Rattle.tile_round.specs.declared.work.PairAdd.{PairAdd}
+use Rattle.tile_round.proofs.PlaceLemmas.{tile_at-tiles_of}
+use Rattle.tile_pool.specs.declared.rule.Worker.{Worker}
+use Rattle.tile_pool.specs.Workers.{Each, Owes, IsReady, HasDrawn, HasStopped, additions, fresh, drew, added}
+use Rattle.tile_pool.specs.Rule.{Seen, first_of, alone}
+use Rattle.tile_pool.proofs.CountLemmas.{each_append, each_last}
+use Rattle.tile_pool.proofs.TakeLemmas.{take_next, split_at, tile_next, tile_split}
+
+added_twice : (h : Worker) (xs ys : List Addition) → added (added h xs) ys ≡ added h (xs ++ ys)
+added_twice h xs ys = ap (λ (ds : List Addition). let k : Worker = record { number = h.number; tickets = h.tickets; deposits = ds } in k) (append_assoc h.deposits xs ys)
+
+-- a seat that stands for a worker alone stands for its first one alone
+pub is_alone : (me : Seen) (h : Worker) → me ≡ alone h → me ≡ alone (first_of me.0)
+is_alone me h e = let P : Seen → Type 0 = λ m. m ≡ alone (first_of m.0) in subst P (sym e) refl
+
+pub first_is : (me : Seen) (h : Worker) → me ≡ alone h → first_of me.0 ≡ h
+first_is me h e = ap (λ (m : Seen). first_of m.0) e
+
+-- additions after one another are made as one
+pub added_on : (me next last : Seen) (xs ys : List Addition) → next ≡ alone (added (first_of me.0) xs) → last ≡ alone (added (first_of next.0) ys) → last ≡ alone (added (first_of me.0) (xs ++ ys))
+added_on me next last xs ys e f = f ∙ ap alone (ap (λ h. added h ys) (first_is next (added (first_of me.0) xs) e) ∙ added_twice (first_of me.0) xs ys)
+
+-- a worker keeps its number
+pub keeps_number : (me next last : Seen) (xs : List Addition) (t : ℕ) → next ≡ alone (added (first_of me.0) xs) → last ≡ alone (drew (first_of next.0) t) → (first_of last.0).number ≡ (first_of me.0).number
+keeps_number me next last xs t e f = ap (λ (h : Worker). h.number) (first_is last (drew (first_of next.0) t) f) ∙ ap (λ (h : Worker). h.number) (first_is next (added (first_of me.0) xs) e)
+
+-- before the first addition
+pub nothing_added : (me : Seen) → me ≡ alone (first_of me.0) → me ≡ alone (added (first_of me.0) [])
+nothing_added me e =
+    e ∙ ap (λ (ds : List Addition). let k : Worker = record { number = (first_of me.0).number; tickets = (first_of me.0).tickets; deposits = ds } in alone k) (sym (append-nil (first_of me.0).deposits))
+
+module _ (tiles : List (List Addition)) where
+  owes_rest : (h : Worker) (xs rest : List Addition) → Owes tiles h (xs ++ rest) → Owes tiles (added h xs) rest
+  owes_rest h xs rest o = record {
+    earlier = o.earlier;
+    last = o.last;
+    made = o.made ++ xs;
+    tickets = o.tickets;
+    deposits = ap (λ ds. ds ++ xs) o.deposits ∙ append_assoc (additions tiles o.earlier) o.made xs;
+    tile = append_assoc o.made xs rest ∙ o.tile;
+  }
+
+  -- once a beginning of the additions is made, the rest is owed
+  pub owes : (me next : Seen) (all made rest more : List Addition) → Owes tiles (first_of me.0) (all ++ more) → all ≡ made ++ rest → next ≡ alone (added (first_of me.0) made) → Owes tiles (first_of next.0) (rest ++ more)
+  owes me next all made rest more o split e =
+      let whole : all ++ more ≡ made ++ (rest ++ more) = ap (λ xs. xs ++ more) split ∙ append_assoc made rest more in
+      let P : Worker → Type 0 = λ h. Owes tiles h (rest ++ more) in
+      subst P (sym (first_is next (added (first_of me.0) made) e)) (owes_rest (first_of me.0) made (rest ++ more) (subst (λ xs. Owes tiles (first_of me.0) xs) whole o))
+
+  -- a worker between two tickets
+  pub begins : (me : Seen) (n : ℕ) → me ≡ alone (fresh n) → IsReady tiles (first_of me.0)
+  begins me n e = let P : Worker → Type 0 = λ h. IsReady tiles h in subst P (sym (first_is me (fresh n) e)) record { tickets = tt; deposits = refl }
+
+  pub has_drawn : (me next : Seen) (t : ℕ) → IsReady tiles (first_of me.0) → next ≡ alone (drew (first_of me.0) t) → HasDrawn tiles (first_of next.0) t
+  has_drawn me next t ready e =
+      let P : Worker → Type 0 = λ h. HasDrawn tiles h t in
+      subst P (sym (first_is next (drew (first_of me.0) t) e)) record { earlier = (first_of me.0).tickets; tickets = refl; inside = ready.tickets; deposits = ready.deposits }
+
+  -- the additions of the ticket's tile are owed
+  drawn_owes : (h : Worker) (t : ℕ) → HasDrawn tiles h t → Owes tiles h (tile_at tiles t)
+  drawn_owes h t d = record {
+    earlier = d.earlier;
+    last = t;
+    made = [];
+    tickets = d.tickets;
+    deposits = d.deposits ∙ sym (append-nil (additions tiles d.earlier));
+    tile = refl;
+  }
+
+  pub additions_push : (ts : List ℕ) (t : ℕ) → additions tiles (ts ++ t ∷ []) ≡ additions tiles ts ++ tile_at tiles t
+  additions_push ts t = flat_map-append (tile_at tiles) ts (t ∷ []) ∙ ap (λ xs. additions tiles ts ++ xs) (append-nil (tile_at tiles t))
+
+  ready_added : (h : Worker) (t : ℕ) → HasDrawn tiles h t → t < length tiles → IsReady tiles (added h (tile_at tiles t))
+  ready_added h t d lt = record {
+    tickets = subst (Each (λ u. u < length tiles)) (sym d.tickets) (each_append (λ u. u < length tiles) d.earlier (t ∷ []) d.inside (lt, tt));
+    deposits = ap (λ xs. xs ++ tile_at tiles t) d.deposits ∙ (sym (additions_push d.earlier t) ∙ ap (additions tiles) (sym d.tickets));
+  }
+
+  pub ready_after : (me next : Seen) (t : ℕ) → HasDrawn tiles (first_of me.0) t → t < length tiles → next ≡ alone (added (first_of me.0) (tile_at tiles t)) → IsReady tiles (first_of next.0)
+  ready_after me next t d lt e =
+      let P : Worker → Type 0 = λ h. IsReady tiles h in
+      subst P (sym (first_is next (added (first_of me.0) (tile_at tiles t)) e)) (ready_added (first_of me.0) t d lt)
+
+  pub has_stopped : (h : Worker) (t : ℕ) → HasDrawn tiles h t → length tiles ≤ t → HasStopped tiles h
+  has_stopped h t d le = record {
+    earlier = d.earlier;
+    last = t;
+    tickets = d.tickets;
+    past = le;
+    deposits = d.deposits
+        ∙ (sym (append-nil (additions tiles d.earlier)) ∙ (ap (λ xs. additions tiles d.earlier ++ xs) (sym (get_or_past tiles t [] le)) ∙ (sym (additions_push d.earlier t) ∙ ap (additions tiles) (sym d.tickets))));
+  }
+
+  -- the next ticket is greater
+  pub rises : (me next : Seen) (xs : List Addition) (t n : ℕ) → HasDrawn tiles (first_of me.0) t → next ≡ alone (added (first_of me.0) xs) → Each (λ u. u < n) (first_of next.0).tickets → t < n
+  rises me next xs t n d e later =
+      let same : (first_of next.0).tickets ≡ d.earlier ++ t ∷ [] = ap (λ (h : Worker). h.tickets) (first_is next (added (first_of me.0) xs) e) ∙ d.tickets in
+      each_last (λ u. u < n) d.earlier t (subst (Each (λ u. u < n)) same later)
+
+-- the loop over the additions of a pair, which began at `me`
+module _ (p : PairAdd) (me : Seen) where
+  pub part_owes : (tiles : List (List Addition)) (now : Seen) (k : ℕ) (a : Addition) (rest : List Addition) → Owes tiles (first_of me.0) (additions_of (Some p) ++ rest) → slice_get (additions_of (Some p)) k ≡ Some a
+      → now ≡ alone (added (first_of me.0) (take k (additions_of (Some p)))) → Owes tiles (first_of now.0) (a ∷ drop (suc k) (additions_of (Some p)) ++ rest)
+  part_owes tiles now k a rest o at e = owes tiles me now (additions_of (Some p)) (take k (additions_of (Some p))) (a ∷ drop (suc k) (additions_of (Some p))) rest o (split_at (additions_of (Some p)) k a at) e
+
+  pub part_adds : (now next : Seen) (k : ℕ) (a : Addition) → slice_get (additions_of (Some p)) k ≡ Some a → now ≡ alone (added (first_of me.0) (take k (additions_of (Some p)))) → next ≡ alone (added (first_of now.0) (a ∷ []))
+      → next ≡ alone (added (first_of me.0) (take (k + 1) (additions_of (Some p))))
+  part_adds now next k a at e f =
+      added_on me now next (take k (additions_of (Some p))) (a ∷ []) e f ∙ ap (λ (xs : List Addition). alone (added (first_of me.0) xs)) (sym (take_next (additions_of (Some p)) k a at))
+
+  pub parts_end : (now : Seen) (k : ℕ) → 6 ≤ k → now ≡ alone (added (first_of me.0) (take k (additions_of (Some p)))) → now ≡ alone (added (first_of me.0) (additions_of (Some p)))
+  parts_end now k le e = e ∙ ap (λ (xs : List Addition). alone (added (first_of me.0) xs)) (take_all k (additions_of (Some p)) le)
+
+-- the loop over the pairs of a tile, which began at `me`
+module _ (plan : List (List (Option PairAdd))) (t : ℕ) (me : Seen) where
+  abbrev Pairs : List (Option PairAdd)
+  Pairs = pairs_at plan t
+
+  pub pair_owes : (now : Seen) (k : ℕ) (p : Option PairAdd) → HasDrawn (tiles_of plan) (first_of me.0) t → slice_get Pairs k ≡ Some p → now ≡ alone (added (first_of me.0) (tile_of (take k Pairs)))
+      → (rest : List Addition) × Owes (tiles_of plan) (first_of now.0) (additions_of p ++ rest)
+  pair_owes now k p d at e =
+      let whole : tile_at (tiles_of plan) t ≡ tile_of Pairs ++ [] = tile_at-tiles_of plan t ∙ sym (append-nil (tile_of Pairs)) in
+      let o : Owes (tiles_of plan) (first_of me.0) (tile_of Pairs ++ []) = subst (λ xs. Owes (tiles_of plan) (first_of me.0) xs) whole (drawn_owes (tiles_of plan) (first_of me.0) t d) in
+      let rest = tile_of (drop (suc k) Pairs) in
+      let left = owes (tiles_of plan) me now (tile_of Pairs) (tile_of (take k Pairs)) (additions_of p ++ rest) [] o (tile_split Pairs k p at) e in
+      (rest, subst (λ xs. Owes (tiles_of plan) (first_of now.0) xs) (append-nil (additions_of p ++ rest)) left)
+
+  pub pair_adds : (now next : Seen) (k : ℕ) (p : Option PairAdd) → slice_get Pairs k ≡ Some p → now ≡ alone (added (first_of me.0) (tile_of (take k Pairs))) → next ≡ alone (added (first_of now.0) (additions_of p))
+      → next ≡ alone (added (first_of me.0) (tile_of (take (k + 1) Pairs)))
+  pair_adds now next k p at e f =
+      added_on me now next (tile_of (take k Pairs)) (additions_of p) e f ∙ ap (λ (xs : List Addition). alone (added (first_of me.0) xs)) (sym (tile_next Pairs k p at))
+
+  pub pair_skips : (now : Seen) (k : ℕ) → slice_get Pairs k ≡ Some None → now ≡ alone (added (first_of me.0) (tile_of (take k Pairs))) → now ≡ alone (added (first_of me.0) (tile_of (take (k + 1) Pairs)))
+  pair_skips now k at e = e ∙ ap (λ (xs : List Addition). alone (added (first_of me.0) xs)) (sym (tile_next Pairs k None at ∙ append-nil (tile_of (take k Pairs))))
+
+  pub pairs_end : (now : Seen) (k : ℕ) → length Pairs ≤ k → now ≡ alone (added (first_of me.0) (tile_of (take k Pairs))) → now ≡ alone (added (first_of me.0) (tile_of Pairs))
+  pairs_end now k le e = e ∙ ap (λ (xs : List (Option PairAdd)). alone (added (first_of me.0) (tile_of xs))) (take_all k Pairs le)
+
+  -- all of the tile, as its ticket names it
+  pub tile_added : (next : Seen) → next ≡ alone (added (first_of me.0) (tile_of Pairs)) → next ≡ alone (added (first_of me.0) (tile_at (tiles_of plan) t))
+  tile_added next e = e ∙ ap (λ (xs : List Addition). alone (added (first_of me.0) xs)) (sym (tile_at-tiles_of plan t))

@@ -1,0 +1,9 @@
+use Rattle.std.proofs.Common.{◌≡◌, take}
+use Rattle.tile_round.specs.Tiles.{tile_of, pairs_at}
+use Rattle.tile_pool.specs.Workers.{added}
+use Rattle.tile_pool.specs.Rule.{alone, first_of}
+use Rattle.tile_pool.proofs.driving.deposit_tile.Given as goal
+
+abbrev pub invariant-loop-k : goal.invariant-loop-k
+invariant-loop-k g l = (l.seat.table_id ≡ l.fn.seat.table_id)
+    × (l.seat.me ≡ alone (added (first_of l.fn.seat.me.0) (tile_of (take l.k (pairs_at (g.W.Work.plan l.work) l.tile)))))

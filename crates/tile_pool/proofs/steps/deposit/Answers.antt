@@ -1,0 +1,15 @@
+use Rattle.std.proofs.Common.{arith}
+use Rattle.tile_round.specs.Tiles.{tiles_of}
+use Rattle.tile_pool.proofs.RunningLemmas.{deposits_as}
+use Rattle.tile_pool.proofs.steps.deposit.Goals as goal
+
+pub overflow_add-entry : goal.overflow_add-entry
+overflow_add-entry g c = omega (arith, c.requires.entry, c.requires.sized.few)
+
+pub fetch_add-requires : goal.fetch_add-requires
+fetch_add-requires g c =
+    let key = c.args.table.now.key in (
+      c.requires.table,
+      omega (arith, c.requires.sized.width, c.requires.entry),
+      deposits_as (tiles_of (g.W.Work.plan key.work.value)) key.atoms key.workers c.args.table.now.table_id.slots c.args.seat.now.id c.args.seat.now.me c.args.entry c.args.amount c.requires.next.0 c.requires.entry c.requires.alone c.requires.next.1,
+    )

@@ -1,0 +1,4 @@
+pub mod Workers
+pub mod Rule
+pub mod Totals
+pub mod Events

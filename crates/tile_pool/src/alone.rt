@@ -1,0 +1,60 @@
+//! The sums without workers.
+ghost use Rattle.std.specs.Prelude.{◌≡◌, ◌*◌, ◌/◌, ◌<◌, ◌≤◌, length, Some, IfOk};
+ghost use Rattle.std.specs.List.{flat_map};
+ghost use Rattle.tile_round.specs.Tiles.{additions_of, tile_of, tiles_of, pairs_at, IsPairOf};
+ghost use Rattle.tile_pool.specs.Totals.{AreTotals, GoesOn};
+
+use crate::sums::Forces;
+use std::alloc::Allocator;
+use tile_round::{Memory, PairAdd, Work};
+
+// Makes the additions of a pair.
+fn add_pair(sums: &mut [i64], add: &PairAdd)
+    requires { IsPairOf (length sums.old / 3) add.now }
+    ensures { GoesOn sums.old (additions_of (Some add.now)) sums.new }
+{
+    for part in 0..PairAdd::PARTS {
+        let (entry, amount) = add.addition(part);
+        let sum = sums[entry].cast_unsigned().wrapping_add(amount);
+        sums[entry] = sum.cast_signed();
+    }
+}
+
+// Makes those of all pairs of a tile.
+fn add_tile<W: Work>(sums: &mut [i64], work: &W, tile: u64)
+    requires tile { tile < length (W.plan work.now) }
+    requires atoms { W.atoms work.now ≤ length sums.old / 3 }
+    ensures { GoesOn sums.old (tile_of (pairs_at (W.plan work.now) tile)) sums.new }
+{
+    for k in 0..work.pairs(tile) {
+        match work.pair(tile, k) {
+            Some(add) => add_pair(sums, &add),
+            None => {}
+        }
+    }
+}
+
+// Makes those of all tiles.
+fn add_tiles<W: Work>(sums: &mut [i64], work: &W)
+    requires { W.atoms work.now ≤ length sums.old / 3 }
+    ensures { GoesOn sums.old (flat_map tile_of (W.plan work.now)) sums.new }
+{
+    for tile in 0..work.tiles() {
+        add_tile(sums, work, tile);
+    }
+}
+
+/// The same sums on the caller's thread alone, which waits for nobody. It answers `Memory` where
+/// memory is refused. The caller's condition: the work has no more than this many atoms.
+pub fn forces_alone<A: Allocator + Copy, W: Work>(
+    alloc: A,
+    work: &W,
+    atoms: u32,
+) -> Result<Forces<A>, Memory>
+    requires atoms { W.atoms work.now ≤ atoms }
+    ensures totals { IfOk result (AreTotals (tiles_of (W.plan work.now)) atoms) }
+{
+    let mut sums = vec![in alloc; 0i64; 3 * atoms as usize]?;
+    add_tiles(sums.as_mut_slice(), work);
+    Ok(Forces { sums })
+}

@@ -1,0 +1,68 @@
+//! One worker, from its first ticket to the one that stops it.
+ghost use Rattle.std.specs.Prelude.{◌≡◌, ◌<◌, ◌≤◌, length};
+ghost use Rattle.tile_round.specs.Tiles.{tiles_of, tile_of, pairs_at};
+ghost use Rattle.tile_pool.specs.Workers.{HasDrawn, HasStopped, fresh, added};
+ghost use Rattle.tile_pool.specs.Rule.{alone, first_of, IsFor};
+
+use crate::rule::{PoolSeat, PoolTable};
+use crate::steps::{claim, deposit_pair};
+use tile_round::Work;
+
+/// What a worker passes before each tile that it has drawn.
+pub trait Gate {
+    /// It is called once for each tile that is drawn, by the worker that drew it, after its claim
+    /// and before the tile's first pair is asked for.
+    fn before_tile(&self, worker: u32, tile: u64);
+}
+
+// Makes all additions of the tile that was drawn.
+fn deposit_tile<W: Work>(table: &PoolTable<W>, seat: &mut PoolSeat, work: &W, tile: u64)
+    requires table { seat.old.table_id ≡ table.now.table_id }
+    requires made { IsFor W.plan W.atoms table.now.table_id table.now.key.work.value
+        table.now.key.atoms table.now.key.workers work.now }
+    requires tile { tile < length (W.plan work.now) }
+    requires alone { seat.old.me ≡ alone (first_of seat.old.me.0) }
+    requires drawn { HasDrawn (tiles_of (W.plan work.now)) (first_of seat.old.me.0) tile }
+    ensures table { seat.new.table_id ≡ seat.old.table_id }
+    ensures added { seat.new.me
+        ≡ alone (added (first_of seat.old.me.0) (tile_of (pairs_at (W.plan work.now) tile))) }
+{
+    for k in 0..work.pairs(tile) {
+        match work.pair(tile, k) {
+            Some(add) => deposit_pair(table, seat, &add),
+            None => {}
+        }
+    }
+}
+
+/// Draws tiles and makes their additions, each by one step on the table, until a ticket is past
+/// the tiles. It gives the seat back, whose view holds this worker alone, stopped: so it has added
+/// all that its tiles say, in order, and nothing else. It takes no memory and waits for nobody.
+///
+/// The caller's conditions: the table is made for this work and for enough atoms, and the seat is
+/// the table's and stands for this worker alone, which has drawn nothing yet.
+pub fn drive<W: Work, G: Gate>(
+    table: &PoolTable<W>,
+    mut seat: PoolSeat,
+    worker: u32,
+    work: &W,
+    gate: &G,
+) -> PoolSeat
+    requires table { seat.table_id ≡ table.now.table_id }
+    requires made { IsFor W.plan W.atoms table.now.table_id table.now.key.work.value
+        table.now.key.atoms table.now.key.workers work.now }
+    requires fresh { seat.me ≡ alone (fresh worker) }
+    ensures table { result.table_id ≡ seat.table_id }
+    ensures alone { result.me ≡ alone (first_of result.me.0) }
+    ensures number { (first_of result.me.0).number ≡ worker }
+    ensures stopped { HasStopped (tiles_of (W.plan work.now)) (first_of result.me.0) }
+{
+    let tiles = work.tiles();
+    let mut tile = claim(table, &mut seat);
+    while tile < tiles {
+        gate.before_tile(worker, tile);
+        deposit_tile(table, &mut seat, work, tile);
+        tile = claim(table, &mut seat);
+    }
+    seat
+}

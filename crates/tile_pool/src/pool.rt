@@ -1,0 +1,123 @@
+//! The whole pool: its threads, its table, and what it answers.
+ghost use Rattle.std.specs.Prelude.{◌≡◌, ℕ, ◌+◌, ◌*◌, ◌%◌, ◌^◌, ◌<◌, ◌≤◌, [], length, IfOk, vec_len, vec_capacity, slice_index};
+ghost use Rattle.std.specs.Mem.Slots.{slots_items, slots_len, IsFull};
+ghost use denote.Param.Send.{IsSync};
+ghost use Rattle.tile_round.specs.Tiles.{tiles_of};
+ghost use Rattle.tile_pool.specs.Workers.{Each, HasStopped, fresh};
+ghost use Rattle.tile_pool.specs.Rule.{alone, first_of, fresh_workers, IsFor};
+ghost use Rattle.tile_pool.specs.Totals.{AreTotals, AreWords};
+
+use crate::driving::{Gate, drive};
+use crate::rule::{FirstWorker, PoolSeat, PoolTable, Setting};
+use crate::sums::Forces;
+use atomic_table::{Closed, Table};
+use std::alloc::Allocator;
+use std::snapshot::Snapshot;
+use std::thread::{Threads, join};
+use tile_round::{Memory, Work};
+
+// Runs the workers below `count`, the last in a thread of its own where one can be made, and the
+// others here. Where none can be made, the last runs here after the others.
+fn run_all<R: Threads + Sync, W: Work + Sync, G: Gate + Sync>(
+    rt: &R,
+    table: &PoolTable<W>,
+    mut seat: PoolSeat,
+    count: u32,
+    work: &W,
+    gate: &G,
+) -> PoolSeat
+    requires table { seat.table_id ≡ table.now.table_id }
+    requires made { IsFor W.plan W.atoms table.now.table_id table.now.key.work.value
+        table.now.key.atoms table.now.key.workers work.now }
+    requires count { 0 < count }
+    requires fresh { seat.me ≡ (fresh_workers count, []) }
+    ensures table { result.table_id ≡ seat.table_id }
+    ensures count { (result.me.1 ≡ []) × (length result.me.0 ≡ count) }
+    ensures stopped { Each (HasStopped (tiles_of (W.plan work.now))) result.me.0 }
+{
+    if count == 1 {
+        return drive(table, seat, 0, work, gate);
+    }
+    let last = count - 1;
+    let other = table.split_seat::<FirstWorker>(&mut seat);
+    let (other, mut seat) = join(
+        rt,
+        move || -> PoolSeat
+            requires { (other.table_id ≡ table.now.table_id)
+                × IsFor W.plan W.atoms table.now.table_id table.now.key.work.value
+                table.now.key.atoms table.now.key.workers work.now
+                × (other.me ≡ alone (fresh last)) }
+            ensures { (result.table_id ≡ other.table_id)
+                × (result.me ≡ alone (first_of result.me.0))
+                × HasStopped (tiles_of (W.plan work.entry.now)) (first_of result.me.0) }
+        { drive(table, other, last, work, gate) },
+        move || -> PoolSeat
+            requires { IsSync R.row × IsSync W.row × IsSync G.row
+                × (seat.table_id ≡ table.now.table_id)
+                × IsFor W.plan W.atoms table.now.table_id table.now.key.work.value
+                table.now.key.atoms table.now.key.workers work.now
+                × (0 < last) × (seat.me ≡ (fresh_workers last, [])) }
+            ensures { (result.table_id ≡ seat.table_id)
+                × (result.me.1 ≡ []) × (length result.me.0 ≡ last)
+                × Each (HasStopped (tiles_of (W.plan work.entry.now))) result.me.0 }
+        { run_all(rt, table, seat, last, work, gate) },
+    );
+    table.join_seat::<FirstWorker>(&mut seat, other);
+    seat
+}
+
+// The words after the first, read as signed numbers.
+fn read_words<A: Allocator + Copy>(
+    closed: &Closed<(), A>,
+    mut sums: Vec<i64, A>,
+    count: usize,
+) -> Vec<i64, A>
+    requires words { IsFull closed.now.words × (slots_len closed.now.words ≡ count + 1) }
+    requires room { (vec_len sums ≡ 0) × (count ≤ vec_capacity sums) }
+    ensures { AreWords (λ k. slice_index (slots_items closed.now.words) (1 + k)) count
+        result.items }
+{
+    for k in 0..count {
+        sums.push_reserved(closed.word(1 + k).cast_signed());
+    }
+    sums
+}
+
+/// The sum of all forces on each component of each atom: what all tiles come to on it, modulo
+/// 2^64 and read as a signed number, whatever the number of workers and the order of their steps.
+/// It answers `Memory` where memory is refused. The caller's thread is worker 0, and each other
+/// worker has a thread, which is joined. A worker whose thread can't be started is run by the
+/// caller's thread after the others, so each pair is asked for once. Memory is taken before the
+/// first worker starts. Each worker takes a thread and a frame of the caller's stack: a program
+/// bounds their number.
+///
+/// The caller's conditions: there is a worker, the work has no more than this many atoms, and
+/// tiles and workers together are fewer than 2^64.
+pub fn forces<R: Threads + Sync, A: Allocator + Copy, W: Work + Sync, G: Gate + Sync>(
+    rt: &R,
+    alloc: A,
+    work: &W,
+    atoms: u32,
+    workers: u32,
+    gate: &G,
+) -> Result<Forces<A>, Memory>
+    requires workers { 0 < workers }
+    requires atoms { W.atoms work.now ≤ atoms }
+    requires tiles { length (W.plan work.now) + workers < 2 ^ 64 }
+    ensures totals { IfOk result (AreTotals (tiles_of (W.plan work.now)) atoms) }
+{
+    let count = 3 * atoms as usize;
+    let sums = Vec::with_capacity(alloc, count)?;
+    let words = vec![in alloc; 0u64; count + 1]?;
+    let setting = Setting {
+        work: Snapshot::of(work),
+        atoms: u64::from(atoms),
+        workers: u64::from(workers),
+    };
+    let (table, seat) = Table::of_words(alloc, words.as_slice(), &setting)?;
+    let seat = run_all(rt, &table.shared, seat, workers, work, gate);
+    let closed = table.close_with(seat);
+    let sums = read_words(&closed, sums, count);
+    closed.free();
+    Ok(Forces { sums })
+}

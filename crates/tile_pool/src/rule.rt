@@ -1,0 +1,106 @@
+//! What is known at each seat of the table, the rule between any two steps, and what a step tells.
+use atomic_table::{Join, Play, Seat, Shared, Split, TableRule};
+use std::alloc::Global;
+use std::collections::LinkedList;
+use std::marker::PhantomData;
+use std::snapshot::Snapshot;
+use tile_round::Work;
+
+/// What one worker has drawn and added so far, in order. It stands in proofs alone: no value of it
+/// is made.
+pub struct Worker {
+    pub number: u64,
+    /// The tickets that it drew.
+    pub tickets: LinkedList<u64, Global>,
+    /// What it added: the entry of the sums, and the amount modulo 2^64.
+    pub deposits: LinkedList<(u64, u64), Global>,
+}
+
+/// The workers that a seat stands for.
+pub type View = LinkedList<Worker, Global>;
+
+/// What a table is made for: the work as it was then, and how many atoms and workers there are.
+pub struct Setting<W> {
+    pub work: Snapshot<W>,
+    pub atoms: u64,
+    pub workers: u64,
+}
+
+impl<W> Drop for Setting<W> {
+    fn drop(self) {
+        let Self {
+            work: _,
+            atoms: _,
+            workers: _,
+        } = self;
+    }
+}
+
+/// The rule of the table. Between any two steps:
+///
+/// - the tickets in all views are the numbers below word 0, each once;
+/// - each worker's tickets ascend, and at most the last is past the tiles;
+/// - each worker's deposits are the additions of its tickets' tiles in order, whole but for the
+///   last one's, of which they are a beginning;
+/// - each other word is the sum modulo 2^64 of the deposits in all views;
+/// - the numbers of the workers in all views are those below the number of workers, each once.
+///
+/// So a sum that was kept aside is no deposit, and no deposit is one of a tile that wasn't drawn.
+/// Besides, words and views stand for a state that the machine of a round reaches by some list of
+/// events, as `steps_are_events` says step by step.
+pub struct PoolRule<W> {
+    work: PhantomData<W>,
+}
+
+impl<W: Work> TableRule<(), View, Setting<W>> for PoolRule<W> {
+    ghost use Rattle.tile_round.specs.Tiles.{tiles_of};
+    ghost use Rattle.tile_pool.specs.Rule.{fresh_workers};
+    ghost use Rattle.tile_pool.specs.Events.{IsRunning};
+
+    ghost holds = { λ key s. IsRunning (tiles_of (W.plan key.work.value)) key.atoms key.workers s.words s.views };
+
+    ghost first = { λ key. fresh_workers key.workers };
+}
+
+/// The table as all workers see it.
+pub type PoolTable<W> = Shared<(), View, Setting<W>, PoolRule<W>>;
+
+/// A seat at the table.
+pub type PoolSeat = Seat<(), View>;
+
+/// The step that draws a ticket.
+pub struct Claim;
+
+impl Play<(), View> for Claim {
+    ghost use Rattle.tile_pool.specs.Rule.{draws};
+
+    ghost then = { draws };
+}
+
+/// The step that makes an addition.
+pub struct Deposit;
+
+impl Play<(), View> for Deposit {
+    ghost use Rattle.tile_pool.specs.Rule.{adds};
+
+    ghost then = { adds };
+}
+
+/// The first worker of a view, which goes to a seat of its own and comes back from it.
+pub struct FirstWorker;
+
+impl Split<View> for FirstWorker {
+    ghost use Rattle.std.specs.Prelude.{take, drop};
+
+    ghost left = { λ v. drop 1 v };
+
+    ghost right = { λ v. take 1 v };
+}
+
+impl Join<View> for FirstWorker {
+    ghost use Rattle.std.specs.Prelude.{◌++◌, []};
+
+    ghost both = { λ v w. v ++ w };
+
+    ghost spent = { [] };
+}

@@ -1,0 +1,55 @@
+//! The two steps on the table.
+ghost use Rattle.std.specs.Prelude.{◌≡◌, ◌+◌, ◌*◌, ◌<◌, List, [], ◌∷◌, ◌++◌, length, take, Some};
+ghost use Rattle.tile_round.specs.Tiles.{Addition, tiles_of, additions_of, IsPairOf};
+ghost use Rattle.tile_pool.specs.Workers.{Each, IsReady, Owes, drew, added};
+ghost use Rattle.tile_pool.specs.Rule.{alone, first_of, IsSized};
+
+use crate::rule::{Claim, Deposit, PoolSeat, PoolTable};
+use tile_round::{PairAdd, Work};
+
+// Draws a ticket.
+pub(crate) fn claim<W: Work>(table: &PoolTable<W>, seat: &mut PoolSeat) -> u64
+    requires table { seat.old.table_id ≡ table.now.table_id }
+    requires sized { IsSized table.now.table_id table.now.key.atoms table.now.key.workers
+        (length (W.plan table.now.key.work.value)) }
+    requires alone { seat.old.me ≡ alone (first_of seat.old.me.0) }
+    requires ready { IsReady (tiles_of (W.plan table.now.key.work.value)) (first_of seat.old.me.0) }
+    ensures table { seat.new.table_id ≡ seat.old.table_id }
+    ensures drew { seat.new.me ≡ alone (drew (first_of seat.old.me.0) result) }
+    ensures later { Each (λ t. t < result) (first_of seat.old.me.0).tickets }
+{
+    table.fetch_add::<Claim>(seat, 0, 1)
+}
+
+// Makes the next addition that the worker owes.
+pub(crate) fn deposit<W: Work>(table: &PoolTable<W>, seat: &mut PoolSeat, entry: usize, amount: u64)
+    requires table { seat.old.table_id ≡ table.now.table_id }
+    requires sized { IsSized table.now.table_id table.now.key.atoms table.now.key.workers
+        (length (W.plan table.now.key.work.value)) }
+    requires entry { entry < 3 * table.now.key.atoms }
+    requires alone { seat.old.me ≡ alone (first_of seat.old.me.0) }
+    requires next { (rest : List Addition) × Owes (tiles_of (W.plan table.now.key.work.value))
+        (first_of seat.old.me.0) ((entry, amount) ∷ rest) }
+    ensures table { seat.new.table_id ≡ seat.old.table_id }
+    ensures added { seat.new.me ≡ alone (added (first_of seat.old.me.0) ((entry, amount) ∷ [])) }
+{
+    table.fetch_add::<Deposit>(seat, 1 + entry, amount);
+}
+
+// Makes the six additions of a pair.
+pub(crate) fn deposit_pair<W: Work>(table: &PoolTable<W>, seat: &mut PoolSeat, add: &PairAdd)
+    requires table { seat.old.table_id ≡ table.now.table_id }
+    requires sized { IsSized table.now.table_id table.now.key.atoms table.now.key.workers
+        (length (W.plan table.now.key.work.value)) }
+    requires atoms { IsPairOf table.now.key.atoms add.now }
+    requires alone { seat.old.me ≡ alone (first_of seat.old.me.0) }
+    requires next { (rest : List Addition) × Owes (tiles_of (W.plan table.now.key.work.value))
+        (first_of seat.old.me.0) (additions_of (Some add.now) ++ rest) }
+    ensures table { seat.new.table_id ≡ seat.old.table_id }
+    ensures added { seat.new.me ≡ alone (added (first_of seat.old.me.0) (additions_of (Some add.now))) }
+{
+    for part in 0..PairAdd::PARTS {
+        let (entry, amount) = add.addition(part);
+        deposit(table, seat, entry, amount);
+    }
+}

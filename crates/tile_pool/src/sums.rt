@@ -1,0 +1,28 @@
+ghost use Rattle.std.specs.Prelude.{◌≡◌};
+
+use std::alloc::Allocator;
+use std::marker::Model;
+
+/// The forces on all atoms, a sum for each component: entry `3a + axis` is that of atom `a`. It is
+/// seen as the list of its entries.
+#[derive(Drop)]
+pub struct Forces<A: Allocator + Copy> {
+    pub(crate) sums: Vec<i64, A>,
+}
+
+impl<A: Allocator + Copy> Model for Forces<A> {
+    ghost use Rattle.std.specs.Prelude.{List, ℤ};
+
+    ghost Value = { List ℤ };
+
+    ghost view = { λ f. f.sums.items };
+}
+
+impl<A: Allocator + Copy> Forces<A> {
+    /// All entries in order.
+    pub fn as_slice(&self) -> &[i64]
+        ensures { result.now ≡ self.now }
+    {
+        self.sums.as_slice()
+    }
+}

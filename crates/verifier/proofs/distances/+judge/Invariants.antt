@@ -1,4 +1,0 @@
-use Rattle.verifier.proofs.distances.+judge.Given as goal
-
-abbrev pub decreases-judge : goal.decreases-judge
-decreases-judge g l = l.depth

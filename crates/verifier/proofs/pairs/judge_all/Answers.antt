@@ -1,8 +1,0 @@
-use Rattle.verifier.proofs.Sweeping.{all_more}
-use Rattle.verifier.proofs.pairs.judge_all.Goals as goal
-
-pub loop-first-preserved : goal.loop-first-preserved
-loop-first-preserved g c = record {
-  long = c.judge_row.ensures.long;
-  safe = all_more c.args.code.now c.args.table.now c.loop-first.first c.args.core c.args.cutoff c.loop-first.bound c.in-Ok.greatest c.max-bound.result c.loop-first.invariant.safe c.in-Ok.ensures.safe c.max-bound.ensures;
-}

@@ -1,8 +1,0 @@
-use Rattle.verifier.proofs.Sweeping.{row_more}
-use Rattle.verifier.proofs.pairs.judge_row.Goals as goal
-
-pub loop-second-preserved : goal.loop-second-preserved
-loop-second-preserved g c = record {
-  long = c.judge_pair.ensures.long;
-  safe = row_more c.args.code.now c.args.table.now c.args.first c.loop-second.second c.args.core c.args.cutoff c.loop-second.bound c.in-Ok.greatest c.max-bound.result c.loop-second.invariant.safe c.in-Ok.ensures.safe c.max-bound.ensures;
-}

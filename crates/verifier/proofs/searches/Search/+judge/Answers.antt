@@ -1,0 +1,24 @@
+use Rattle.std.proofs.Common.{arith, ◌^◌}
+use Rattle.std.proofs.lemmas.Int.{ints}
+use Rattle.std.proofs.lemmas.Result.{err_from_is_err_and}
+use Rattle.verifier.proofs.Judging.{twice, found_lower, found_upper, safe_both}
+use Rattle.verifier.proofs.searches.Search.+judge.Goals as goal
+
+pub returns-in_err-low-clause-fault : goal.returns-in_err-low-clause-fault
+returns-in_err-low-clause-fault g t c =
+    let p = err_from_is_err_and c.from_residual.result c.from_residual.ensures.1 in
+    rw (p.1, p.2)
+    (found_lower c.args.self.now.code c.args.self.now.table c.args.distances.now _ _ _ _ c.in_err-low.field-0.0 (omega (arith, ints, c.if-raw.false, c.raw.ensures, c.raw-2.ensures)) c.halves-lower.ensures.cut (twice c.args.depth (omega (arith, c.if-depth-eq0.false))) c.in_err-low.ensures.fault)
+
+pub returns-in_err-high-clause-fault : goal.returns-in_err-high-clause-fault
+returns-in_err-high-clause-fault g t c =
+    let p = err_from_is_err_and c.from_residual-in_err-high.result c.from_residual-in_err-high.ensures.1 in
+    rw (p.1, p.2)
+    (found_upper c.args.self.now.code c.args.self.now.table c.args.distances.now _ _ _ _ c.in_err-high.field-0.0 (omega (arith, ints, c.if-raw.false, c.raw.ensures, c.raw-2.ensures)) c.halves-lower.ensures.cut (twice c.args.depth (omega (arith, c.if-depth-eq0.false))) c.in_err-high.ensures.fault)
+
+pub returns-clause-safe : goal.returns-clause-safe
+returns-clause-safe g t c =
+    safe_both c.args.self.now.code c.args.self.now.table _ _ c.args.distances.now _ _ c.in_ok-low.low c.in_ok-high.high c.max.result c.halves-lower.ensures.members c.in_ok-low.ensures.safe c.in_ok-high.ensures.safe c.max.ensures
+
+pub returns-then-raw-clause-fault : goal.returns-then-raw-clause-fault
+returns-then-raw-clause-fault g t c = c.judge_single.ensures.fault (2 ^ c.args.depth)

@@ -1,0 +1,47 @@
+use Rattle.std.proofs.Common.{arith, sym, subst, ◌∙◌, ◌^◌, ◌≡◌, ◌+◌, ◌*◌, ◌/◌, pos, ◌+ℤ◌, ◌-ℤ◌}
+use Rattle.std.proofs.lemmas.Int.{ints}
+use Rattle.verifier.specs.Safety.{IsFound}
+use Rattle.verifier.specs.Searches.{Searched}
+use Rattle.verifier.proofs.Sweeping.{safe_more, safe_less, found_more, share_all}
+use Rattle.verifier.proofs.searches.Search.judge_pair.Goals as goal
+use Rattle.verifier.proofs.searches.Search.judge_pair.Goals.{then-from-end+in-Ok, else-from-end}
+
+pub returns-in-Err-clause-fault : goal.returns-in-Err-clause-fault
+returns-in-Err-clause-fault g c =
+    let view = c.self.view_is in
+    let from = subst (λ (s : Searched). c.loop-i.from ≡ c.width_of-width.result * c.loop-i.i / s.slices) (sym view) c.loop-i.invariant.from in
+    let found = subst (λ (s : Searched). IsFound s.code s.table c.slice_span-distances.result.lo c.slice_span-distances.result.hi (2 ^ c.self.inside.depth) c.in-Err.fault) (sym view) c.in-Err.ensures.fault in
+    subst (λ (s : Searched). IsFound s.code s.table s.core (s.cutoff -ℤ pos 1) (s.slices * 2 ^ s.depth) c.in-Err.fault) view
+    (found_more c.self.inside.code.now c.self.inside.table.now c.self.inside.core c.self.inside.cutoff c.width_of-width.result c.loop-i.i c.self.inside.slices (2 ^ c.self.inside.depth) c.loop-i.from c.share-end.result c.slice_span-distances.result c.in-Err.fault
+    c.self.invariant.slices c.width_of-width.ensures.width from c.share-end.ensures.exact c.share-end.ensures.within c.slice_span-distances.ensures.lo c.slice_span-distances.ensures.hi found)
+
+pub loop-i-preserved : goal.loop-i-preserved
+loop-i-preserved g c =
+    let view = c.self.view_is in
+    let exact = subst (λ (s : Searched). c.share-end.result ≡ c.width_of-width.result * (c.loop-i.i + 1) / s.slices) view c.share-end.ensures.exact in
+    elim c.if-from-end.branch [
+      | then-from-end+in-Ok w ↦ record {
+        long = rw w.places-is w.judge.ensures.long;
+        from = exact;
+        safe =
+            let lo = subst (λ (s : Searched). w.slice_span-distances.result.lo ≡ (s.core +ℤ pos c.loop-i.from)) view w.slice_span-distances.ensures.lo in
+            let hi = subst (λ (s : Searched). w.slice_span-distances.result.hi ≡ (s.core +ℤ pos c.share-end.result -ℤ pos 1)) view w.slice_span-distances.ensures.hi in
+            safe_more c.args.self.now.code c.args.self.now.table c.args.pair.first c.args.pair.second c.args.self.now.core c.loop-i.from c.share-end.result w.slice_span-distances.result c.loop-i.bound w.in-Ok.greatest c.if-from-end.bound c.loop-i.invariant.safe w.in-Ok.ensures.safe
+            lo hi (w.bound-is ∙ w.max-bound.ensures);
+      }
+      | else-from-end w ↦ record {
+        long = rw w.places-is c.loop-i.invariant.long;
+        from = exact;
+        safe = safe_less c.args.self.now.code c.args.self.now.table c.args.pair.first c.args.pair.second c.args.self.now.core _ _ c.loop-i.bound c.if-from-end.bound c.loop-i.invariant.safe (omega (arith, ints, w.if-from-end.false)) (omega (arith, w.bound-is));
+      }
+    ]
+
+pub returns-clause-safe : goal.returns-clause-safe
+returns-clause-safe g c =
+    let view = c.self.view_is in
+    let last : c.loop-i.i ≡ c.self.inside.slices = omega arith in
+    let all = share_all c.width_of-width.result c.loop-i.i c.self.inside.slices c.self.invariant.slices last in
+    let from = subst (λ (s : Searched). c.loop-i.from ≡ c.width_of-width.result * c.loop-i.i / s.slices) (sym view) c.loop-i.invariant.from in
+    let width = subst (λ (s : Searched). (s.core +ℤ pos c.width_of-width.result) ≡ s.cutoff) view c.width_of-width.ensures.width in
+    safe_less c.args.self.now.code c.args.self.now.table c.args.pair.first c.args.pair.second c.args.self.now.core _ c.args.self.now.cutoff c.loop-i.bound c.loop-i.bound c.loop-i.invariant.safe
+    (omega (arith, ints, all, from, width)) (omega arith)

@@ -1,0 +1,267 @@
+//! The search for values and faults: all pairs of types, all slices of the distances.
+
+ghost use Rattle.std.specs.Prelude.{◌≡◌, ◌+◌, ◌*◌, ◌<◌, ◌≤◌, ◌^◌, ◌<ℤ◌, ◌≤ℤ◌, pos, ◌-ℤ◌, ℕ, length, max, unsigned_abs, IfOk, IfErr};
+ghost use Rattle.kernel_paths.specs.Misfits.{DoesWell};
+ghost use Rattle.verifier.specs.Safety.{GivesWithin, IsFound, IsSafe, IsSafeFrom, IsSafeRow, input_count};
+ghost use Rattle.verifier.specs.Searches.{HoldInputs, IsSafeAt};
+ghost use Rattle.verifier.specs.Slices.{AreEnoughLocals};
+
+use crate::faults::VerifyFault;
+use crate::places::Places;
+use crate::ranges::{share, slice_span, width_of};
+use crate::slices::{Stopped, follow_slice};
+use fixed::{Fault, Fx};
+use interval_domain::{Span, halves};
+use kernel_code::{Code, InputNumber, TrapKind, TypeTable, run_checked};
+use std::alloc::{AllocError, Allocator};
+use std::marker::Model;
+
+/// Two types of the table, counted from 0.
+#[derive(Clone, Copy, PartialEq, Eq, Debug)]
+pub struct Pair {
+    pub first: u32,
+    pub second: u32,
+}
+
+/// The raw value without its sign.
+fn magnitude(x: Fx) -> u64
+    ensures { result ≡ unsigned_abs x }
+{
+    x.raw().unsigned_abs()
+}
+
+/// The greatest magnitude of a span's members.
+fn greatest(span: &Span) -> u64
+    ensures { result ≡ max (unsigned_abs span.now.lo) (unsigned_abs span.now.hi) }
+{
+    magnitude(span.lo).max(magnitude(span.hi))
+}
+
+/// Code whose paths all do well, and the distances at which its values are searched for. Where some
+/// run of a slice may meet a fault, the slice is cut in two, `depth` times at most.
+#[derive(Drop)]
+pub struct Search<'a, A: Allocator + Copy, B: Allocator> {
+    pub alloc: A,
+    pub code: &'a Code<B>,
+    pub table: &'a TypeTable<B>,
+    pub core: Fx,
+    pub cutoff: Fx,
+    pub slices: u32,
+    pub depth: u32,
+    /// How many locals are followed: one more than the greatest number that the code keeps.
+    pub locals: usize,
+}
+
+impl<'a, A: Allocator + Copy, B: Allocator> Model for Search<'a, A, B> {
+    ghost use Rattle.verifier.specs.Searches.{Searched, IsSearch};
+
+    ghost Value = { Searched };
+
+    ghost view = { λ s. record { code = s.code.now; table = s.table.now; core = s.core; cutoff = s.cutoff; slices = s.slices; depth = s.depth; locals = s.locals } };
+
+    ghost invariant = { λ s. IsSearch (record { code = s.code.now; table = s.table.now; core = s.core; cutoff = s.cutoff; slices = s.slices; depth = s.depth; locals = s.locals }) };
+}
+
+impl<'a, A: Allocator + Copy, B: Allocator> Search<'a, A, B> {
+    /// A span for each input of the pair: its one value, or for input 0 the distances.
+    fn input_spans(&self, pair: Pair, distances: &Span) -> Result<Vec<Span, A>, AllocError>
+        requires first { pair.first < length self.now.table.rows }
+        requires second { pair.second < length self.now.table.rows }
+        ensures { IfOk result (λ spans. HoldInputs self.now.table pair.first pair.second distances.now spans.items) }
+    {
+        let count = 2 * self.table.parameters() + self.table.globals() + 1;
+        let mut spans = Vec::new(self.alloc);
+        spans.push(*distances)?;
+        for number in 1..count {
+            let number = InputNumber::new(number as u8);
+            match self
+                .table
+                .input(pair.first, pair.second, distances.lo, number)
+            {
+                Some(value) => spans.push(Span::single(value))?,
+                None => unreachable!(),
+            }
+        }
+        Ok(spans)
+    }
+
+    /// The greatest magnitude of what the spans of the code's values hold at the distances, or where
+    /// some run may meet a fault.
+    fn try_slice(
+        &self,
+        pair: Pair,
+        distances: &Span,
+        places: &mut Places<A>,
+    ) -> Result<u64, Stopped>
+        requires first { pair.first < length self.now.table.rows }
+        requires second { pair.second < length self.now.table.rows }
+        requires long { length places.old ≡ length self.now.code + 1 }
+        ensures safe { IfOk result (IsSafeAt self.now.code self.now.table pair.first pair.second distances.now) }
+        ensures long { length places.new ≡ length self.now.code + 1 }
+    {
+        let Ok(inputs) = self.input_spans(pair, distances) else {
+            return Err(Stopped::Memory);
+        };
+        let frac = self.table.frac();
+        let code = self.code.as_slice();
+        let inputs = inputs.as_slice();
+        let span = follow_slice(self.alloc, frac, code, self.locals, inputs, places)?;
+        Ok(greatest(&span))
+    }
+
+    /// The magnitude of the code's value at one distance.
+    fn judge_one(&self, pair: Pair, r: Fx) -> Result<u64, VerifyFault>
+        requires first { pair.first < length self.now.table.rows }
+        requires second { pair.second < length self.now.table.rows }
+        ensures safe { IfOk result (GivesWithin self.now.code self.now.table pair.first pair.second r) }
+        ensures fault { (limit : ℕ) → IfErr result (IsFound self.now.code self.now.table r r limit) }
+    {
+        match run_checked(self.code, self.table, pair.first, pair.second, r) {
+            Ok(value) => Ok(magnitude(value)),
+            Err(trap) => match trap.kind {
+                TrapKind::Operation(fault) => Err(VerifyFault::Fault {
+                    first: pair.first,
+                    second: pair.second,
+                    r,
+                    pc: trap.pc,
+                    fault,
+                }),
+                _ => unreachable!(),
+            },
+        }
+    }
+
+    /// The same at a span's one distance.
+    fn judge_single(&self, pair: Pair, distances: &Span) -> Result<u64, VerifyFault>
+        requires first { pair.first < length self.now.table.rows }
+        requires second { pair.second < length self.now.table.rows }
+        requires single { distances.now.hi ≤ℤ distances.now.lo }
+        ensures safe { IfOk result (IsSafeAt self.now.code self.now.table pair.first pair.second distances.now) }
+        ensures fault { (limit : ℕ) → IfErr result (IsFound self.now.code self.now.table distances.now.lo distances.now.hi limit) }
+    {
+        match self.judge_one(pair, distances.lo) {
+            Ok(bound) => Ok(bound),
+            Err(found) => Err(found),
+        }
+    }
+
+    /// What is said of distances of which some may meet a fault at this place: the fault at the least
+    /// or at the greatest of them, if the code meets one there.
+    fn judge_ends(&self, pair: Pair, distances: &Span, pc: u32, fault: Fault) -> VerifyFault
+        requires first { pair.first < length self.now.table.rows }
+        requires second { pair.second < length self.now.table.rows }
+        requires two { distances.now.lo <ℤ distances.now.hi }
+        ensures { IsFound self.now.code self.now.table distances.now.lo distances.now.hi 1 result }
+    {
+        if let Err(found) = self.judge_one(pair, distances.lo) {
+            return found;
+        }
+        if let Err(found) = self.judge_one(pair, distances.hi) {
+            return found;
+        }
+        VerifyFault::Undecided {
+            first: pair.first,
+            second: pair.second,
+            lo: distances.lo,
+            hi: distances.hi,
+            pc,
+            fault,
+        }
+    }
+
+    /// The greatest magnitude that the code's values may have at the distances, which are cut in two
+    /// so many times where some run may meet a fault.
+    ///
+    /// `Fault` and `Undecided` as they say; never `Undecided` where the depth suffices to come to
+    /// single distances.
+    fn judge(
+        &self,
+        pair: Pair,
+        distances: &Span,
+        depth: u32,
+        places: &mut Places<A>,
+    ) -> Result<u64, VerifyFault>
+        requires first { pair.first < length self.now.table.rows }
+        requires second { pair.second < length self.now.table.rows }
+        requires long { length places.old ≡ length self.now.code + 1 }
+        ensures safe { IfOk result (IsSafeAt self.now.code self.now.table pair.first pair.second distances.now) }
+        ensures fault { IfErr result (IsFound self.now.code self.now.table distances.now.lo distances.now.hi (2 ^ depth)) }
+        ensures long { length places.new ≡ length self.now.code + 1 }
+    {
+        if distances.lo.raw() >= distances.hi.raw() {
+            return self.judge_single(pair, distances);
+        }
+        let (pc, fault) = match self.try_slice(pair, distances, places) {
+            Ok(bound) => return Ok(bound),
+            Err(Stopped::Memory) => return Err(VerifyFault::Memory),
+            Err(Stopped::Fault { pc, fault }) => (pc, fault),
+        };
+        if depth == 0 {
+            return Err(self.judge_ends(pair, distances, pc, fault));
+        }
+        let (lower, upper) = halves(*distances);
+        let low = self.judge(pair, &lower, depth - 1, places)?;
+        let high = self.judge(pair, &upper, depth - 1, places)?;
+        Ok(low.max(high))
+    }
+
+    /// The greatest magnitude of a pair's values.
+    fn judge_pair(&self, pair: Pair, places: &mut Places<A>) -> Result<u64, VerifyFault>
+        requires first { pair.first < length self.now.table.rows }
+        requires second { pair.second < length self.now.table.rows }
+        requires long { length places.old ≡ length self.now.code + 1 }
+        ensures safe { IfOk result (IsSafeFrom self.now.code self.now.table pair.first pair.second self.now.core self.now.cutoff) }
+        ensures fault { IfErr result (IsFound self.now.code self.now.table self.now.core (self.now.cutoff -ℤ pos 1) (self.now.slices * 2 ^ self.now.depth)) }
+        ensures long { length places.new ≡ length self.now.code + 1 }
+    {
+        let width = width_of(self.core, self.cutoff);
+        let mut bound = 0u64;
+        let mut from = 0u64;
+        for i in 0..self.slices {
+            let end = share(width, i + 1, self.slices);
+            if from < end {
+                let distances = slice_span(self.core, from, end);
+                match self.judge(pair, &distances, self.depth, places) {
+                    Ok(greatest) => bound = bound.max(greatest),
+                    Err(fault) => return Err(fault),
+                }
+            }
+            from = end;
+        }
+        Ok(bound)
+    }
+
+    /// The greatest magnitude of the values for a first type.
+    fn judge_row(&self, first: u32, places: &mut Places<A>) -> Result<u64, VerifyFault>
+        requires first { first < length self.now.table.rows }
+        requires long { length places.old ≡ length self.now.code + 1 }
+        ensures safe { IfOk result (IsSafeRow self.now.code self.now.table first (length self.now.table.rows) self.now.core self.now.cutoff) }
+        ensures fault { IfErr result (IsFound self.now.code self.now.table self.now.core (self.now.cutoff -ℤ pos 1) (self.now.slices * 2 ^ self.now.depth)) }
+        ensures long { length places.new ≡ length self.now.code + 1 }
+    {
+        let mut bound = 0u64;
+        for second in 0..self.table.types() {
+            match self.judge_pair(Pair { first, second }, places) {
+                Ok(greatest) => bound = bound.max(greatest),
+                Err(fault) => return Err(fault),
+            }
+        }
+        Ok(bound)
+    }
+
+    /// The greatest magnitude of the values for all pairs.
+    pub fn judge_all(&self, places: &mut Places<A>) -> Result<u64, VerifyFault>
+        requires long { length places.old ≡ length self.now.code + 1 }
+        ensures safe { IfOk result (IsSafe self.now.code self.now.table (length self.now.table.rows) self.now.core self.now.cutoff) }
+        ensures fault { IfErr result (IsFound self.now.code self.now.table self.now.core (self.now.cutoff -ℤ pos 1) (self.now.slices * 2 ^ self.now.depth)) }
+    {
+        let mut bound = 0u64;
+        for first in 0..self.table.types() {
+            match self.judge_row(first, places) {
+                Ok(greatest) => bound = bound.max(greatest),
+                Err(fault) => return Err(fault),
+            }
+        }
+        Ok(bound)
+    }
+}
