@@ -1,0 +1,82 @@
+-- The atoms of each cell, as one atom after another is put into its cell.
+use Rattle.std.proofs.Common.{◌≡◌, ℕ, zero, suc, ◌+◌, ◌<◌, ◌≤◌, ◌≢◌, Bool, true, false, cond, eqb, List, [], ◌∷◌, ◌++◌, length, map, filter, get_or, set, replicate, refl, sym, ap, ◌∙◌, ⊎_elim, arith, append-nil}
+use Rattle.std.specs.List.{All}
+use Rattle.std.proofs.lemmas.Bool.{cases_eq, eq-eqb, ne_eqb}
+use Rattle.std.proofs.lemmas.List.{ext_get_or, get_or-map, get_or-replicate, get_or-set_other, get_or-set_same, length-map, length-replicate, length-set}
+use Rattle.std.proofs.lemmas.List.Elements.{All-from_get_or, filter-append}
+use Rattle.std.proofs.lemmas.List.Sums.{count_by-le-length, length-filter}
+use Rattle.cell_tiles.specs.Cells.{cell_number, cells_of, first_members, members_among, members_of, numbers_below, places_of}
+use Rattle.cell_tiles.specs.Tiles.{members_at}
+use Rattle.cell_tiles.proofs.CountLemmas.{below_more, below_zero, get_below, length_below}
+
+length_members : (bits : List ℕ) (frame : List (List ℕ)) (n : ℕ) → length (first_members bits frame n) ≡ cells_of bits
+length_members bits frame n = length-map (numbers_below (cells_of bits)) (members_among bits frame n) ∙ length_below (cells_of bits)
+
+-- the atoms of a cell, out of those of all cells
+pub members_here : (bits : List ℕ) (frame : List (List ℕ)) (n c : ℕ) → c < cells_of bits → get_or (first_members bits frame n) c [] ≡ members_among bits frame n c
+members_here bits frame n c h =
+    let l = length_below (cells_of bits) in
+    get_or-map (members_among bits frame n) (numbers_below (cells_of bits)) c 0 [] (omega arith)
+    ∙ ap (members_among bits frame n) (get_below (cells_of bits) c 0 h)
+
+among_none : (bits : List ℕ) (frame : List (List ℕ)) (c : ℕ) → members_among bits frame 0 c ≡ []
+among_none bits frame c = ap (filter (λ a. eqb (cell_number bits (places_of frame a)) c)) below_zero
+
+one_filtered : (p : ℕ → Bool) (n : ℕ) (b : Bool) → p n ≡ b → filter p (n ∷ []) ≡ cond b (n ∷ []) []
+one_filtered p n b e = rw e refl
+
+among_more : (bits : List ℕ) (frame : List (List ℕ)) (n c : ℕ) (b : Bool) → eqb (cell_number bits (places_of frame n)) c ≡ b →
+    members_among bits frame (n + 1) c ≡ members_among bits frame n c ++ cond b (n ∷ []) []
+among_more bits frame n c b e =
+    let p : ℕ → Bool = λ a. eqb (cell_number bits (places_of frame a)) c in
+    ap (filter p) (below_more n) ∙ (filter-append p (numbers_below n) (n ∷ []) ∙ ap (λ xs. filter p (numbers_below n) ++ xs) (one_filtered p n b e))
+
+-- before the first atom each cell is empty
+pub no_members : (bits : List ℕ) (frame : List (List ℕ)) → replicate (cells_of bits) [] ≡ first_members bits frame 0
+no_members bits frame =
+    let l = length_members bits frame 0 in
+    let r : length (replicate {A = List ℕ} (cells_of bits) []) ≡ cells_of bits = length-replicate (cells_of bits) [] in
+    ext_get_or [] (replicate (cells_of bits) []) (first_members bits frame 0) (omega arith)
+    (λ c h. let lt : c < cells_of bits = omega arith in get_or-replicate (cells_of bits) c [] [] lt ∙ sym (members_here bits frame 0 c lt ∙ among_none bits frame c))
+
+-- the next atom is put behind those of its cell
+pub next_member : (bits : List ℕ) (frame : List (List ℕ)) (n k : ℕ) → k ≡ cell_number bits (places_of frame n) → k < cells_of bits →
+    set (first_members bits frame n) k (members_at (first_members bits frame n) k ++ n ∷ []) ≡ first_members bits frame (n + 1)
+next_member bits frame n k e h =
+    let l = length_members bits frame n in
+    let m = length_members bits frame (n + 1) in
+    let s = length-set (first_members bits frame n) k (members_at (first_members bits frame n) k ++ n ∷ []) in
+    ext_get_or [] (set (first_members bits frame n) k (members_at (first_members bits frame n) k ++ n ∷ [])) (first_members bits frame (n + 1)) (omega arith)
+    (λ c lt. ⊎_elim (λ i. here c i (omega arith)) (λ ne. other c ne (omega arith)) (cases_eq c k))
+  where
+    here : (c : ℕ) → c ≡ k → k < length (first_members bits frame n) → get_or (set (first_members bits frame n) k (members_at (first_members bits frame n) k ++ n ∷ [])) c [] ≡ get_or (first_members bits frame (n + 1)) c []
+    here c i lt =
+        let t : eqb (cell_number bits (places_of frame n)) k ≡ true = eq-eqb _ _ (sym e) in
+        ap (λ j. get_or (set (first_members bits frame n) k (members_at (first_members bits frame n) k ++ n ∷ [])) j []) i
+        ∙ (get_or-set_same (first_members bits frame n) k (members_at (first_members bits frame n) k ++ n ∷ []) [] lt
+        ∙ (ap (λ xs. xs ++ n ∷ []) (members_here bits frame n k h)
+        ∙ (sym (among_more bits frame n k true t)
+        ∙ (sym (members_here bits frame (n + 1) k h) ∙ ap (λ j. get_or (first_members bits frame (n + 1)) j []) (sym i)))))
+
+    other : (c : ℕ) → c ≢ k → c < cells_of bits → get_or (set (first_members bits frame n) k (members_at (first_members bits frame n) k ++ n ∷ [])) c [] ≡ get_or (first_members bits frame (n + 1)) c []
+    other c ne lt =
+        let t : eqb (cell_number bits (places_of frame n)) c ≡ false = ne_eqb _ _ (λ q. ne (sym q ∙ sym e)) in
+        get_or-set_other (first_members bits frame n) k c (members_at (first_members bits frame n) k ++ n ∷ []) [] ne
+        ∙ (members_here bits frame n c lt
+        ∙ (sym (append-nil (members_among bits frame n c))
+        ∙ (sym (among_more bits frame n c false t) ∙ sym (members_here bits frame (n + 1) c lt))))
+
+-- no cell has more atoms than there are
+pub few_members : (bits : List ℕ) (frame : List (List ℕ)) (n m : ℕ) → n ≤ m → All (λ xs. length xs ≤ m) (first_members bits frame n)
+few_members bits frame n m h =
+    let l = length_members bits frame n in
+    All-from_get_or (λ xs. length xs ≤ m) (first_members bits frame n) [] (λ c lt. here c (omega arith))
+  where
+    here : (c : ℕ) → c < cells_of bits → length (get_or (first_members bits frame n) c []) ≤ m
+    here c lt =
+        let p : ℕ → Bool = λ a. eqb (cell_number bits (places_of frame a)) c in
+        let e : length (get_or (first_members bits frame n) c []) ≡ length (filter p (numbers_below n)) = ap length (members_here bits frame n c lt) in
+        let f = length-filter p (numbers_below n) in
+        let g = count_by-le-length p (numbers_below n) in
+        let k = length_below n in
+        omega arith

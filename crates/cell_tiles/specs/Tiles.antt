@@ -1,0 +1,42 @@
+-- Tiles: two neighbouring cells, or a cell with itself; and the pairs of atoms that lie in them.
+use Rattle.std.specs.Prelude.{ℕ, zero, suc, ◌==◌, nat_lt, if◌then◌else◌, List, [], ◌∷◌, ◌++◌, length, map, filter, take, flat_map, slice_index, slice_index_or}
+use Rattle.cell_tiles.specs.Cells.{are_near, cells_of, members_of, numbers_below}
+
+-- the tiles of a cell with the cells up to it: two cells, the lower number first
+abbrev pub tiles_with : List ℕ → ℕ → List (ℕ × ℕ)
+tiles_with bits d = map (λ c. (c, d)) (filter (λ c. are_near bits c d) (numbers_below (suc d)))
+
+-- all tiles, each once
+abbrev pub tiles_of : List ℕ → List (ℕ × ℕ)
+tiles_of bits = flat_map (tiles_with bits) (numbers_below (cells_of bits))
+
+-- a pair is two atoms, the lower first
+abbrev pub pair_of : ℕ → ℕ → ℕ × ℕ
+pair_of a b = if nat_lt a b then (a, b) else (b, a)
+
+-- the pairs of an atom with others
+abbrev pub pairs_with : ℕ → List ℕ → List (ℕ × ℕ)
+pairs_with a bs = map (pair_of a) bs
+
+-- the pairs of an atom of the one list with one of the other
+abbrev pub pairs_between : List ℕ → List ℕ → List (ℕ × ℕ)
+pairs_between xs ys = flat_map (λ a. pairs_with a ys) xs
+
+-- the pairs of the first m atoms of a list: of each with those before it
+unfoldable pub pairs_among : List ℕ → ℕ → List (ℕ × ℕ)
+pairs_among xs zero = []
+pairs_among xs (suc m) = pairs_among xs m ++ pairs_with (slice_index xs m) (take m xs)
+
+-- the atoms of a cell
+abbrev pub members_at : List (List ℕ) → ℕ → List ℕ
+members_at members c = slice_index_or members c []
+
+-- the pairs of a tile, where `members` are the atoms of each cell
+abbrev pub pairs_in : List (List ℕ) → ℕ × ℕ → List (ℕ × ℕ)
+pairs_in members t =
+    if t.0 == t.1 then pairs_among (members_at members t.0) (length (members_at members t.0))
+    else pairs_between (members_at members t.0) (members_at members t.1)
+
+-- the pairs of each tile for the atoms of a frame
+abbrev pub tile_pairs : List ℕ → List (List ℕ) → List (List (ℕ × ℕ))
+tile_pairs bits frame = map (pairs_in (members_of bits frame)) (tiles_of bits)

@@ -1,0 +1,15 @@
+//! Cells of a periodic box, and tiles of them: each pair of atoms that lie in one cell or in neighbouring cells is in one
+//! tile, once.
+#![tactic(auto)]
+
+mod cells;
+mod grids;
+mod laws;
+mod pairs;
+mod tiles;
+
+pub use cells::Cells;
+pub use grids::Grid;
+pub use laws::{each_pair_once, sums_as_all};
+pub use pairs::AtomPair;
+pub use tiles::{Tile, Tiles};
