@@ -3,6 +3,7 @@ pub mod CellLemmas
 pub mod PairLemmas
 pub mod NumberLemmas
 pub mod MemberLemmas
+pub mod VectorLemmas
 pub mod TileLemmas
 pub mod CoverLemmas
 pub mod SumLemmas

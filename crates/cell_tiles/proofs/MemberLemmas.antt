@@ -9,7 +9,7 @@ use Rattle.cell_tiles.specs.Cells.{cell_number, cells_of, first_members, members
 use Rattle.cell_tiles.specs.Tiles.{members_at}
 use Rattle.cell_tiles.proofs.CountLemmas.{below_more, below_zero, get_below, length_below}
 
-length_members : (bits : List ℕ) (frame : List (List ℕ)) (n : ℕ) → length (first_members bits frame n) ≡ cells_of bits
+pub length_members : (bits : List ℕ) (frame : List (List ℕ)) (n : ℕ) → length (first_members bits frame n) ≡ cells_of bits
 length_members bits frame n = length-map (numbers_below (cells_of bits)) (members_among bits frame n) ∙ length_below (cells_of bits)
 
 -- the atoms of a cell, out of those of all cells

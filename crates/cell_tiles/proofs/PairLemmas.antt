@@ -29,7 +29,7 @@ abbrev MetBy : ℕ → ℕ → ℕ → ℕ → ℕ → Type 0
 MetBy lo hi a b n = n ≡ one_way lo hi * same lo a * same hi b + other_way lo hi * same hi a * same lo b
 
 -- a product of two that are not both so
-not_both : (x a y b : ℕ) → (x ≡ a → y ≡ b → ⊥) → same x a * same y b ≡ 0
+pub not_both : (x a y b : ℕ) → (x ≡ a → y ≡ b → ⊥) → same x a * same y b ≡ 0
 not_both x a y b h =
     ⊎_elim (λ e. ⊎_elim (λ f. absurd (h e f)) (λ ne. let s = same_else y b ne in rw s (omega arith)) (cases_eq y b))
     (λ ne. let s = same_else x a ne in rw s (omega arith)) (cases_eq x a)
@@ -127,3 +127,44 @@ times_among_suc lo hi xs m =
 
 count_suc : (x : ℕ) (xs : List ℕ) (m : ℕ) → m < length xs → count x (take (suc m) xs) ≡ count x (take m xs) + same x (get_or xs m 0)
 count_suc x xs m h = ap (count x) (take-suc xs m 0 h) ∙ count_push x (get_or xs m 0) (take m xs)
+
+-- the step of a product of two counts
+product_step : (l h x y : ℕ) → x * y ≡ 0 → l * h + (1 * x * h + 1 * y * l) ≡ (l + x) * (h + y)
+product_step l h x y z = omega arith
+
+pub times_among : (lo hi : ℕ) (xs : List ℕ) (m : ℕ) → lo < hi → m ≤ length xs → times (lo, hi) (pairs_among xs m) ≡ count lo (take m xs) * count hi (take m xs)
+times_among lo hi xs zero p h = ap (times (lo, hi)) (among_none xs)
+times_among lo hi xs (suc m) p h =
+    let rest : times (lo, hi) (pairs_among xs m) ≡ count lo (take m xs) * count hi (take m xs) = times_among lo hi xs m p (omega arith) in
+    let u : leb lo hi ≡ true = le-leb lo hi (omega arith) in
+    let v : ltb lo hi ≡ true = lt-ltb lo hi p in
+    let z : same lo (get_or xs m 0) * same hi (get_or xs m 0) ≡ 0 = not_both lo (get_or xs m 0) hi (get_or xs m 0) (λ e f. omega arith) in
+    rw (times_among_suc lo hi xs m, count_suc lo xs m h, count_suc hi xs m h, rest, u, v)
+    (product_step (count lo (take m xs)) (count hi (take m xs)) (same lo (get_or xs m 0)) (same hi (get_or xs m 0)) z)
+
+-- an atom that stands in a list once at most makes no pair with itself
+pub times_twice : (a : ℕ) (xs : List ℕ) (m : ℕ) → m ≤ length xs → count a (take m xs) ≤ 1 → times (a, a) (pairs_among xs m) ≡ 0
+times_twice a xs zero h one = ap (times (a, a)) (among_none xs)
+times_twice a xs (suc m) h one =
+    let more : count a (take (suc m) xs) ≡ count a (take m xs) + same a (get_or xs m 0) = count_suc a xs m h in
+    let rest : times (a, a) (pairs_among xs m) ≡ 0 = times_twice a xs m (omega arith) (omega arith) in
+    let v : ltb a a ≡ false = le-ltb a a (omega arith) in
+    let z : same a (get_or xs m 0) * count a (take m xs) ≡ 0 = not_twice (same a (get_or xs m 0)) (count a (take m xs)) (omega arith) in
+    rw (times_among_suc a a xs m, rest, v) (last (one_way a a) (same a (get_or xs m 0)) (count a (take m xs)) (same a (get_or xs m 0)) z)
+  where
+    not_twice : (x y : ℕ) → y + x ≤ 1 → x * y ≡ 0
+    not_twice zero y h = omega arith
+    not_twice (suc x) zero h = omega arith
+    not_twice (suc x) (suc y) h = absurd (omega arith)
+
+    last : (u x y w : ℕ) → x * y ≡ 0 → 0 + (u * x * y + 0 * w * y) ≡ 0
+    last u x y w z = let e : u * x * y ≡ u * (x * y) = omega arith in omega (arith, ap (λ n. u * n) z)
+
+-- a pair that is not in order stands nowhere
+pub times_turned : (lo hi : ℕ) (xs : List ℕ) (m : ℕ) → hi < lo → times (lo, hi) (pairs_among xs m) ≡ 0
+times_turned lo hi xs zero p = ap (times (lo, hi)) (among_none xs)
+times_turned lo hi xs (suc m) p =
+    let rest : times (lo, hi) (pairs_among xs m) ≡ 0 = times_turned lo hi xs m p in
+    let u : leb lo hi ≡ false = lt-leb lo hi p in
+    let v : ltb lo hi ≡ false = le-ltb lo hi (omega arith) in
+    rw (times_among_suc lo hi xs m, rest, u, v) (omega arith)

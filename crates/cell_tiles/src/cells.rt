@@ -19,23 +19,23 @@ pub struct Cells<A: Allocator + Copy> {
 }
 
 impl<A: Allocator + Copy> Model for Cells<A> {
-    ghost use Rattle.std.specs.Prelude.{◌≤◌, length, map};
+    ghost use Rattle.std.specs.Prelude.{◌≡◌, ◌≤◌, length, map};
     ghost use Rattle.std.specs.List.{All};
-    ghost use Rattle.cell_tiles.specs.Cells.{CellAtoms};
+    ghost use Rattle.cell_tiles.specs.Cells.{CellAtoms, cells_of};
 
     ghost Value = { CellAtoms };
 
     ghost view = { λ c. record { bits = c.grid.bits; members = map (λ m. m.items) c.members.items } };
 
-    ghost invariant = { λ c. All (λ m. length m.items ≤ 65536) c.members.items };
+    ghost invariant = { λ c. (length c.members.items ≡ cells_of c.grid.bits) × All (λ m. length m.items ≤ 65536) c.members.items };
 }
 
 // Empties each cell, and keeps its memory.
 fn clear_all<A: Allocator + Copy>(members: &mut Vec<Vec<u32, A>, A>)
     ensures { map (λ m. m.items) members.new.items ≡ replicate (length members.old.items) [] }
 {
-    for cell in members.iter_mut() {
-        cell.clear();
+    for cell in 0..members.len() {
+        members[cell].clear();
     }
 }
 

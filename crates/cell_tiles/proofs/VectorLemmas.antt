@@ -1,0 +1,52 @@
+-- A list of lists that is seen by what each holds.
+use Rattle.std.proofs.Common.{◌≡◌, ℕ, ◌+◌, ◌<◌, ◌≤◌, List, [], ◌∷◌, ◌++◌, length, map, get_or, set, take, replicate, Result, Ok, Err, refl, sym, ap, subst, ◌∙◌, arith}
+use Rattle.std.specs.Prelude.{OnErr}
+use Rattle.std.specs.List.{All}
+use Rattle.std.proofs.lemmas.List.{get_or-map, length-map, length-replicate, map-set, replicate_more, set-get_or, take_all, take_more_set}
+use Rattle.std.proofs.lemmas.List.Elements.{All-from_get_or, All-get_or, All-replicate, All-same}
+use Rattle.cell_tiles.specs.Tiles.{members_at}
+
+module _ {T : Type 0} (view : T → List ℕ) where
+  pub cleared_more : (xs : List T) (i : ℕ) (y : T) → view y ≡ [] → i < length xs → take i (map view xs) ≡ replicate i [] → take (i + 1) (map view (set xs i y)) ≡ replicate (i + 1) []
+  cleared_more xs i y e lt h =
+      let l : length (map view xs) ≡ length xs = length-map xs view in
+      ap (take (i + 1)) (map-set view xs i y)
+      ∙ (take_more_set (map view xs) i (view y) (omega arith)
+      ∙ (ap (λ z. take i (map view xs) ++ z ∷ []) e
+      ∙ (ap (λ zs. zs ++ [] ∷ []) h ∙ replicate_more i [])))
+
+  pub cleared_all : (xs : List T) (i n : ℕ) → length xs ≤ i → i ≡ n → take i (map view xs) ≡ replicate i [] → map view xs ≡ replicate n []
+  cleared_all xs i n le e h =
+      let l : length (map view xs) ≡ length xs = length-map xs view in
+      sym (take_all i (map view xs) (omega arith)) ∙ (h ∙ ap (λ m. replicate m []) e)
+
+  -- a list that one more number is put behind
+  pub put_one : (xs : List T) (i a : ℕ) (x y : T) → i < length xs → x ≡ get_or xs i x → view y ≡ view x ++ a ∷ [] → map view (set xs i y) ≡ set (map view xs) i (members_at (map view xs) i ++ a ∷ [])
+  put_one xs i a x y lt r e =
+      let here : members_at (map view xs) i ≡ view x = get_or-map view xs i x [] lt ∙ ap view (sym r) in
+      map-set view xs i y ∙ ap (set (map view xs) i) (e ∙ ap (λ zs. zs ++ a ∷ []) (sym here))
+
+  -- a list that stays
+  pub put_none : (xs : List T) (i : ℕ) (x y : T) → i < length xs → x ≡ get_or xs i x → view y ≡ view x → map view (set xs i y) ≡ map view xs
+  put_none xs i x y lt r e =
+      let here : view y ≡ get_or (map view xs) i [] = e ∙ sym (get_or-map view xs i x [] lt ∙ ap view (sym r)) in
+      map-set view xs i y ∙ (ap (set (map view xs) i) here ∙ set-get_or (map view xs) i [])
+
+  pub length_seen : (xs : List T) (ms : List (List ℕ)) (n : ℕ) → map view xs ≡ ms → length ms ≡ n → length xs ≡ n
+  length_seen xs ms n e l = sym (length-map xs view) ∙ (ap length e ∙ l)
+
+  pub few_seen : (xs : List T) (ms : List (List ℕ)) (n : ℕ) → map view xs ≡ ms → All (λ m. length m ≤ n) ms → All (λ x. length (view x) ≤ n) xs
+  few_seen xs ms n e all k d lt =
+      let l : length (map view xs) ≡ length xs = length-map xs view in
+      let P : List ℕ → Type 0 = λ m. length m ≤ n in
+      subst P (get_or-map view xs k d [] lt) (All-get_or P (map view xs) k [] (omega arith) (All-same P (map view xs) ms e all))
+
+  pub length_empty : (xs : List T) (n : ℕ) → map view xs ≡ replicate n [] → length xs ≡ n
+  length_empty xs n e = length_seen xs (replicate n []) n e (length-replicate n [])
+
+  pub few_empty : (xs : List T) (n m : ℕ) → map view xs ≡ replicate n [] → All (λ x. length (view x) ≤ m) xs
+  few_empty xs n m e = few_seen xs (replicate n []) m e (All-replicate (λ z. length z ≤ m) n [] (omega arith))
+
+pub on_err : {A E P : Type 0} (r : Result A E) → P → OnErr r P
+on_err (Ok x) p = tt
+on_err (Err e) p = p

@@ -1,0 +1,48 @@
+use Rattle.std.proofs.Common.{◌∙◌, ◌++◌, [], ◌∷◌, ap, arith, set}
+use Rattle.cell_tiles.specs.Cells.{first_members}
+use Rattle.cell_tiles.specs.Tiles.{members_at}
+use Rattle.cell_tiles.proofs.MemberLemmas.{few_members, length_members, next_member, no_members}
+use Rattle.cell_tiles.proofs.VectorLemmas.{few_seen, length_seen}
+use Rattle.cell_tiles.proofs.cells.put_all.Goals as goal
+
+pub loop-atom-init : goal.loop-atom-init
+loop-atom-init g c = c.requires.empty ∙ no_members c.args.grid.now.bits c.args.frame.now
+
+pub put-requires : goal.put-requires
+put-requires g c =
+    let bits = c.args.grid.now.bits in
+    let frame = c.args.frame.now in
+    let l = length_seen (λ m. m.items) c.loop-atom.members.items (first_members bits frame c.loop-atom.atom) _ c.loop-atom.invariant (length_members bits frame c.loop-atom.atom) in
+    omega (arith, l, c.cell_of.ensures.bound)
+
+pub returns-in_err-put-clause-few : goal.returns-in_err-put-clause-few
+returns-in_err-put-clause-few g c =
+    let bits = c.args.grid.now.bits in
+    let frame = c.args.frame.now in
+    few_seen (λ m. m.items) c.put.new.members.items (first_members bits frame c.loop-atom.atom) 65536 (c.in_err-put.ensures.err ∙ c.loop-atom.invariant) (few_members bits frame c.loop-atom.atom 65536 (omega arith))
+
+pub returns-in_err-put-clause-cells : goal.returns-in_err-put-clause-cells
+returns-in_err-put-clause-cells g c =
+    let bits = c.args.grid.now.bits in
+    let frame = c.args.frame.now in
+    length_seen (λ m. m.items) c.put.new.members.items (first_members bits frame c.loop-atom.atom) _ (c.in_err-put.ensures.err ∙ c.loop-atom.invariant) (length_members bits frame c.loop-atom.atom)
+
+pub loop-atom-preserved : goal.loop-atom-preserved
+loop-atom-preserved g c =
+    let bits = c.args.grid.now.bits in
+    let frame = c.args.frame.now in
+    c.in_ok-put.ensures.ok
+    ∙ (ap (λ ms. set ms c.cell_of.result (members_at ms c.cell_of.result ++ c.loop-atom.atom ∷ [])) c.loop-atom.invariant
+    ∙ next_member bits frame c.loop-atom.atom c.cell_of.result ? c.cell_of.ensures.bound)
+
+pub returns-clause-few : goal.returns-clause-few
+returns-clause-few g c =
+    let bits = c.args.grid.now.bits in
+    let frame = c.args.frame.now in
+    few_seen (λ m. m.items) c.loop-atom.members.items (first_members bits frame c.loop-atom.atom) 65536 c.loop-atom.invariant (few_members bits frame c.loop-atom.atom 65536 (omega arith))
+
+pub returns-clause-cells : goal.returns-clause-cells
+returns-clause-cells g c =
+    let bits = c.args.grid.now.bits in
+    let frame = c.args.frame.now in
+    length_seen (λ m. m.items) c.loop-atom.members.items (first_members bits frame c.loop-atom.atom) _ c.loop-atom.invariant (length_members bits frame c.loop-atom.atom)
