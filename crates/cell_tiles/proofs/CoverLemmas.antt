@@ -227,20 +227,20 @@ module _ (bits : List ℕ) (frame : List (List ℕ)) (g : IsGrid bits) (places :
       let l : lo < length frame = omega arith in
       either_near bits (times_at lo hi) (number lo) (number hi) (number_is_below lo l) (number_is_below hi q)
       (λ c d le below.
-          let k : c < cells_of bits = omega arith in
-          times_in_tile (members_of bits frame) lo hi c d p
-          ∙ same_in_tile c d (λ c. count lo (members_at (members_of bits frame) c)) (λ c. count hi (members_at (members_of bits frame) c)) (same (number lo)) (same (number hi))
-          (counted_in lo c l k) (counted_in lo d l below) (counted_in hi c q k) (counted_in hi d q below))
+      let k : c < cells_of bits = omega arith in
+      times_in_tile (members_of bits frame) lo hi c d p
+      ∙ same_in_tile c d (λ c. count lo (members_at (members_of bits frame) c)) (λ c. count hi (members_at (members_of bits frame) c)) (same (number lo)) (same (number hi))
+      (counted_in lo c l k) (counted_in lo d l below) (counted_in hi c q k) (counted_in hi d q below))
       ∙ ap (λ b. cond b 1 0) (near_are_neighbours bits (places_of frame lo) (places_of frame hi) g (All-get_or ArePlaces frame lo [] l places) (All-get_or ArePlaces frame hi [] q places))
 
   high_out : (lo hi : ℕ) → lo < hi → length frame ≤ hi → sum_by (times_at lo hi) (tiles_of bits) ≡ 0
   high_out lo hi p q =
       no_tiles bits (times_at lo hi)
       (λ c d k l.
-          times_in_tile (members_of bits frame) lo hi c d p
-          ∙ (same_in_tile c d (λ c. count lo (members_at (members_of bits frame) c)) (λ c. count hi (members_at (members_of bits frame) c)) (λ c. count lo (members_at (members_of bits frame) c)) (λ _. 0)
-          refl refl (counted_out hi c q k) (counted_out hi d q l)
-          ∙ nothing (eqb c d) (count lo (members_at (members_of bits frame) c)) (count lo (members_at (members_of bits frame) d))))
+      times_in_tile (members_of bits frame) lo hi c d p
+      ∙ (same_in_tile c d (λ c. count lo (members_at (members_of bits frame) c)) (λ c. count hi (members_at (members_of bits frame) c)) (λ c. count lo (members_at (members_of bits frame) c)) (λ _. 0)
+      refl refl (counted_out hi c q k) (counted_out hi d q l)
+      ∙ nothing (eqb c d) (count lo (members_at (members_of bits frame) c)) (count lo (members_at (members_of bits frame) d))))
     where
       nothing : (b : Bool) (x y : ℕ) → cond b (x * 0) (x * 0 + 0 * y) ≡ 0
       nothing true x y = omega arith

@@ -48,7 +48,7 @@ fn put<A: Allocator + Copy>(
     requires { cell < length members.old.items }
     ensures ok { OnOk result (map (λ m. m.items) members.new.items
         ≡ slice_set (map (λ m. m.items) members.old.items) cell
-            (members_at (map (λ m. m.items) members.old.items) cell ++ atom ∷ [])) }
+        (members_at (map (λ m. m.items) members.old.items) cell ++ atom ∷ [])) }
     ensures err { OnErr result (map (λ m. m.items) members.new.items ≡ map (λ m. m.items) members.old.items) }
 {
     members[cell as usize].push(atom)?;
@@ -73,7 +73,10 @@ fn put_all<A: Allocator + Copy>(
     Ok(())
 }
 
-fn empty_cells<A: Allocator + Copy>(alloc: A, grid: &Grid) -> Result<Vec<Vec<u32, A>, A>, AllocError>
+fn empty_cells<A: Allocator + Copy>(
+    alloc: A,
+    grid: &Grid,
+) -> Result<Vec<Vec<u32, A>, A>, AllocError>
     ensures { IfOk result (λ v. map (λ m. m.items) v.items ≡ replicate (cells_of grid.now.bits) []) }
 {
     let mut members = Vec::new(alloc);

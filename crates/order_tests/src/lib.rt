@@ -1,6 +1,8 @@
-//! Tests. Rounds and pools in which workers draw tiles.
+//! Tests. Cells and tiles of them; rounds and pools in which workers draw tiles.
 #![tactic(auto)]
 
+#[cfg(test)]
+mod cells;
 #[cfg(test)]
 mod gates;
 #[cfg(test)]

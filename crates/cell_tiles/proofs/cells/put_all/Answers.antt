@@ -1,5 +1,6 @@
 use Rattle.std.proofs.Common.{◌∙◌, ◌++◌, [], ◌∷◌, ap, arith, set}
-use Rattle.cell_tiles.specs.Cells.{first_members}
+use Rattle.std.proofs.lemmas.List.{get_or_default}
+use Rattle.cell_tiles.specs.Cells.{cell_number, first_members}
 use Rattle.cell_tiles.specs.Tiles.{members_at}
 use Rattle.cell_tiles.proofs.MemberLemmas.{few_members, length_members, next_member, no_members}
 use Rattle.cell_tiles.proofs.VectorLemmas.{few_seen, length_seen}
@@ -33,7 +34,7 @@ loop-atom-preserved g c =
     let frame = c.args.frame.now in
     c.in_ok-put.ensures.ok
     ∙ (ap (λ ms. set ms c.cell_of.result (members_at ms c.cell_of.result ++ c.loop-atom.atom ∷ [])) c.loop-atom.invariant
-    ∙ next_member bits frame c.loop-atom.atom c.cell_of.result ? c.cell_of.ensures.bound)
+    ∙ next_member bits frame c.loop-atom.atom c.cell_of.result (c.cell_of.ensures.value ∙ ap (cell_number bits) (get_or_default frame c.loop-atom.atom _ [] (omega arith))) c.cell_of.ensures.bound)
 
 pub returns-clause-few : goal.returns-clause-few
 returns-clause-few g c =
