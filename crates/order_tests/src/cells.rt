@@ -67,28 +67,28 @@ fn numbers_the_cells(rt: HostRuntime) -> Result<(), Fail> {
     assert_eq!(rt; grid.cell_of([0, 0, 0]), 0);
     assert_eq!(rt; grid.cell_of([HALF - 1, QUARTER, 2 * SIXTEENTH]), 18);
     assert_eq!(rt; grid.cell_of([TOP, TOP, TOP]), 127);
-    let tiles = Tiles::new(rt.alloc(), Grid::new([1, 1, 1]))?;
-    assert_eq!(rt;
-        tiles.get(0),
-        Tile {
-            first: 0,
-            second: 0
-        }
-    );
-    assert_eq!(rt;
-        tiles.get(1),
-        Tile {
-            first: 0,
-            second: 1
-        }
-    );
-    assert_eq!(rt;
-        tiles.get(35),
-        Tile {
-            first: 7,
-            second: 7
-        }
-    );
+    Ok(())
+}
+
+// The two cells of each tile of a grid of 8 cells.
+fn tiles_of_eight(alloc: Global) -> Result<Vec<(u32, u32)>, AllocError> {
+    let tiles = Tiles::new(alloc, Grid::new([1, 1, 1]))?;
+    let mut ends = Vec::new(alloc);
+    for number in 0..tiles.len() {
+        let tile = tiles.get(number);
+        ends.push((tile.first, tile.second))?;
+    }
+    Ok(ends)
+}
+
+#[test]
+fn lists_the_tiles(rt: HostRuntime) -> Result<(), Fail> {
+    let ends = tiles_of_eight(rt.alloc())?;
+    assert_eq!(rt; ends.get(0).copied(), Some((0, 0)));
+    assert_eq!(rt; ends.get(1).copied(), Some((0, 1)));
+    assert_eq!(rt; ends.get(2).copied(), Some((1, 1)));
+    assert_eq!(rt; ends.get(35).copied(), Some((7, 7)));
+    assert_eq!(rt; ends.get(36).copied(), None);
     Ok(())
 }
 
@@ -196,21 +196,24 @@ fn tiles_hold_each_close_pair_once(rt: HostRuntime) -> Result<(), Fail> {
         [Some(36), Some(3), Some(0)]
     );
     assert_eq!(rt;
-        in_turn(alloc, [4, 4, 4], [16, 16, 16])?,
-        [Some(12), Some(2), Some(0)]
+        in_turn(alloc, [3, 2, 3], [8, 4, 8])?,
+        [Some(30), Some(2), Some(0)]
     );
     Ok(())
 }
 
-// How many pairs the first cell of 8 holds, of a frame after another.
-fn filled<A: Allocator + Copy>(alloc: A) -> Result<u64, AllocError> {
+// How many tiles 8 cells have, and how many pairs the first cell holds of a frame after another.
+fn filled<A: Allocator + Copy>(alloc: A) -> Result<(u64, u64), AllocError> {
     let grid = Grid::new([1, 1, 1]);
     let tiles = Tiles::new(alloc, grid)?;
     let mut cells = Cells::new(alloc, grid)?;
     cells.fill(OTHER_FRAME.as_slice())?;
     cells.fill(FRAME.as_slice())?;
-    let own = tiles.get(0);
-    Ok(cells.pairs(own))
+    let own = Tile {
+        first: 0,
+        second: 0,
+    };
+    Ok((tiles.len(), cells.pairs(own)))
 }
 
 #[test]
@@ -219,7 +222,7 @@ fn refuses_without_memory(rt: HostRuntime) -> Result<(), Fail> {
     for size in 1..64 {
         let heap = LocalHeap::new(rt.alloc(), 32 * size)?;
         match filled(&heap) {
-            Ok(pairs) => assert_eq!(rt; pairs, 6),
+            Ok(counts) => assert_eq!(rt; counts, (36, 6)),
             Err(AllocError) => refused = refused.wrapping_add(1),
         }
         assert_eq!(rt; heap.used(), 0);
