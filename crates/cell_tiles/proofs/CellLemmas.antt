@@ -1,12 +1,12 @@
 -- The numbers of cells: how many there are, and the numbers along the sides that a cell's number is made of.
-use Rattle.std.proofs.Common.{◌≡◌, ℕ, zero, suc, ◌+◌, ◌*◌, ◌/◌, ◌%◌, ◌^◌, ◌-◌, ◌<◌, ◌≤◌, Bool, true, false, ◌&&◌, ◌||◌, eqb, List, refl, sym, ap, ◌∙◌, arith}
+use Rattle.std.proofs.Common.{◌≡◌, ℕ, zero, suc, ◌+◌, ◌*◌, ◌/◌, ◌%◌, ◌^◌, ◌<◌, ◌≤◌, Bool, true, false, ◌&&◌, ◌||◌, eqb, List, refl, ap, ◌∙◌, arith}
 use Rattle.std.specs.Prelude.{slice_index}
 use Rattle.std.proofs.lemmas.Nat.{mul-le, mul-add-lt, div-mul-add, mod-mul-add, div_below, one_shl}
 use Rattle.std.proofs.lemmas.Bool.Decides.{nat_tests}
 use Rattle.std.proofs.Math.Nat.{pow-le-pow_right, mul_comm}
 use Rattle.ring_box.specs.Cells.{ArePlaces, are_near_cells, are_neighbours, cell_of}
 use Rattle.ring_box.proofs.CellLemmas.{cell_below}
-use Rattle.cell_tiles.specs.Cells.{IsBits, IsGrid, are_near, cell_at, cell_number, cells_of, x_number, y_number, z_number}
+use Rattle.cell_tiles.specs.Cells.{IsBits, IsGrid, are_near, cell_number, cells_of, x_number, y_number, z_number}
 
 -- ---- how many
 

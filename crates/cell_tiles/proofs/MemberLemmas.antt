@@ -1,11 +1,11 @@
 -- The atoms of each cell, as one atom after another is put into its cell.
-use Rattle.std.proofs.Common.{◌≡◌, ℕ, zero, suc, ◌+◌, ◌<◌, ◌≤◌, ◌≢◌, Bool, true, false, cond, eqb, List, [], ◌∷◌, ◌++◌, length, map, filter, get_or, set, replicate, refl, sym, ap, ◌∙◌, ⊎_elim, arith, append-nil}
+use Rattle.std.proofs.Common.{◌≡◌, ℕ, ◌+◌, ◌<◌, ◌≤◌, ◌≢◌, Bool, true, false, cond, eqb, List, [], ◌∷◌, ◌++◌, length, filter, get_or, set, replicate, refl, sym, ap, ◌∙◌, ⊎_elim, arith, append-nil}
 use Rattle.std.specs.List.{All}
 use Rattle.std.proofs.lemmas.Bool.{cases_eq, eq-eqb, ne_eqb}
 use Rattle.std.proofs.lemmas.List.{ext_get_or, get_or-map, get_or-replicate, get_or-set_other, get_or-set_same, length-map, length-replicate, length-set}
 use Rattle.std.proofs.lemmas.List.Elements.{All-from_get_or, filter-append}
 use Rattle.std.proofs.lemmas.List.Sums.{count_by-le-length, length-filter}
-use Rattle.cell_tiles.specs.Cells.{cell_number, cells_of, first_members, members_among, members_of, numbers_below, places_of}
+use Rattle.cell_tiles.specs.Cells.{cell_number, cells_of, first_members, members_among, numbers_below, places_of}
 use Rattle.cell_tiles.specs.Tiles.{members_at}
 use Rattle.cell_tiles.proofs.CountLemmas.{below_more, below_zero, get_below, length_below}
 

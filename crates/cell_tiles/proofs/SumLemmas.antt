@@ -1,12 +1,12 @@
 -- Lists in which each pair stands equally often have equal sums.
-use Rattle.std.proofs.Common.{◌≡◌, ℕ, zero, suc, ◌+◌, ◌*◌, ◌<◌, ◌≤◌, Bool, true, false, cond, ◌&&◌, eqb, List, [], ◌∷◌, ◌++◌, length, filter, sum_by, refl, sym, ap, ◌∙◌, ⊎_elim, arith}
+use Rattle.std.proofs.Common.{◌≡◌, ℕ, ◌+◌, ◌<◌, Bool, true, false, cond, ◌&&◌, eqb, List, [], ◌∷◌, length, filter, sum_by, refl, sym, ap, ◌∙◌, ⊎_elim, arith}
 use Rattle.std.specs.List.{All, flat_map}
 use Rattle.std.proofs.lemmas.Bool.{and_parts, cases_Bool, eqb-true, eq-eqb}
 use Rattle.std.proofs.lemmas.List.Sums.{sum_by-cons}
 use Rattle.ring_box.specs.Cells.{ArePlaces}
 use Rattle.cell_tiles.specs.Cells.{IsGrid}
 use Rattle.cell_tiles.specs.Tiles.{tile_pairs}
-use Rattle.cell_tiles.specs.Cover.{ArePairs, SumsAsAll, are_close, is_pair, is_same, times}
+use Rattle.cell_tiles.specs.Cover.{SumsAsAll, are_close, is_pair, is_same, times}
 use Rattle.cell_tiles.proofs.CountLemmas.{sum_filter, sum_flat_map, sum_nothing, sum_same}
 use Rattle.cell_tiles.proofs.PairLemmas.{same_pair}
 use Rattle.cell_tiles.proofs.CoverLemmas.{covers}

@@ -1,9 +1,9 @@
 -- A list of lists that is seen by what each holds.
-use Rattle.std.proofs.Common.{◌≡◌, ℕ, ◌+◌, ◌<◌, ◌≤◌, List, [], ◌∷◌, ◌++◌, length, map, get_or, set, take, replicate, Result, Ok, Err, refl, sym, ap, subst, ◌∙◌, arith}
+use Rattle.std.proofs.Common.{◌≡◌, ℕ, ◌+◌, ◌<◌, ◌≤◌, List, [], ◌∷◌, ◌++◌, length, map, get_or, set, take, replicate, Result, Ok, Err, sym, ap, subst, ◌∙◌, arith}
 use Rattle.std.specs.Prelude.{OnErr}
 use Rattle.std.specs.List.{All}
 use Rattle.std.proofs.lemmas.List.{get_or-map, length-map, length-replicate, map-set, replicate_more, set-get_or, take_all, take_more_set}
-use Rattle.std.proofs.lemmas.List.Elements.{All-from_get_or, All-get_or, All-replicate, All-same}
+use Rattle.std.proofs.lemmas.List.Elements.{All-get_or, All-replicate, All-same}
 use Rattle.cell_tiles.specs.Tiles.{members_at}
 
 module _ {T : Type 0} (view : T → List ℕ) where

@@ -1,5 +1,5 @@
 -- The cells of a box, each by one number, and the atoms in them (GROMACS manual, Neighbor searching, grid search).
-use Rattle.std.specs.Prelude.{ℕ, zero, suc, ◌+◌, ◌*◌, ◌/◌, ◌%◌, ◌^◌, ◌==◌, ◌<◌, ◌≤◌, Bool, ◌&&◌, List, [], ◌∷◌, ◌++◌, length, map, filter, slice_index, slice_index_or}
+use Rattle.std.specs.Prelude.{ℕ, zero, suc, ◌+◌, ◌*◌, ◌/◌, ◌%◌, ◌^◌, ◌==◌, ◌≤◌, Bool, ◌&&◌, List, [], ◌∷◌, ◌++◌, length, map, filter, slice_index, slice_index_or}
 use Rattle.ring_box.specs.Cells.{are_near_cells, cell_of}
 
 -- each side is cut into 2^b cells, where b is from 1 to 4

@@ -1,8 +1,7 @@
 -- What the tiles come to: each pair of atoms that lie in one cell or in neighbouring cells stands in one tile, once, and no other pair stands in any.
 use Rattle.std.specs.Prelude.{◌≡◌, ℕ, ◌==◌, Bool, false, ◌&&◌, nat_lt, if◌then◌else◌, List, length, sum_by, count_by}
-use Rattle.std.specs.List.{All}
-use Rattle.ring_box.specs.Cells.{ArePlaces, are_neighbours}
-use Rattle.cell_tiles.specs.Cells.{IsGrid, places_of}
+use Rattle.ring_box.specs.Cells.{are_neighbours}
+use Rattle.cell_tiles.specs.Cells.{places_of}
 use Rattle.cell_tiles.specs.Tiles.{tile_pairs}
 
 -- whether p is q

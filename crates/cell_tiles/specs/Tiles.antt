@@ -1,5 +1,5 @@
 -- Tiles: two neighbouring cells, or a cell with itself; and the pairs of atoms that lie in them.
-use Rattle.std.specs.Prelude.{ℕ, zero, suc, ◌==◌, nat_lt, if◌then◌else◌, List, [], ◌∷◌, ◌++◌, length, map, filter, take, flat_map, slice_index, slice_index_or}
+use Rattle.std.specs.Prelude.{ℕ, zero, suc, ◌==◌, nat_lt, if◌then◌else◌, List, [], ◌++◌, length, map, filter, take, flat_map, slice_index, slice_index_or}
 use Rattle.cell_tiles.specs.Cells.{are_near, cells_of, members_of, numbers_below}
 
 -- the tiles of a cell with the cells up to it: two cells, the lower number first
