@@ -4,6 +4,7 @@ ghost use Rattle.std.specs.Prelude.{◌≡◌, ◌+◌, ◌<◌, ◌≤◌, [], 
 ghost use Rattle.std.specs.List.{All};
 ghost use Rattle.cell_tiles.specs.Cells.{CellAtoms, cells_of, first_members, members_of};
 ghost use Rattle.cell_tiles.specs.Tiles.{members_at, pairs_in};
+ghost use Rattle.ring_box.specs.Cells.{ArePlaces};
 
 use crate::grids::Grid;
 use crate::pairs::{AtomPair, count_among, count_between, pair_among, pair_between};
@@ -64,6 +65,7 @@ fn put_all<A: Allocator + Copy>(
     requires few { length frame.now ≤ 65536 }
     requires empty { map (λ m. m.items) members.old.items ≡ replicate (cells_of grid.now.bits) [] }
     ensures ok { OnOk result (map (λ m. m.items) members.new.items ≡ members_of grid.now.bits frame.now) }
+    ensures on_ring { OnOk result (All ArePlaces frame.now) }
     ensures few { All (λ m. length m.items ≤ 65536) members.new.items }
     ensures cells { length members.new.items ≡ cells_of grid.now.bits }
 {
@@ -103,6 +105,8 @@ impl<A: Allocator + Copy> Cells<A> {
         requires { length frame.now ≤ 65536 }
         ensures bits { self.new.bits ≡ self.old.bits }
         ensures ok { OnOk result (self.new.members ≡ members_of self.old.bits frame.now) }
+        // What the frame's type says of each atom, at hand for all of them.
+        ensures on_ring { OnOk result (All ArePlaces frame.now) }
     {
         clear_all(&mut self.members);
         put_all(&mut self.members, &self.grid, frame)

@@ -2,6 +2,7 @@
 
 ghost use Rattle.std.specs.Prelude.{◌≡◌, ◌^◌, ◌<◌, ◌≤◌, [], ◌∷◌, slice_index};
 ghost use Rattle.cell_tiles.specs.Cells.{IsGrid, are_near, cell_number, cells_of, x_number, y_number, z_number};
+ghost use Rattle.ring_box.specs.Cells.{ArePlaces};
 
 use ring_box::{are_near_cells, cell};
 
@@ -44,6 +45,7 @@ impl Grid {
     pub fn cell_of(&self, places: [u32; 3]) -> u32
         ensures value { result ≡ cell_number self.now.bits places }
         ensures bound { result < cells_of self.now.bits }
+        ensures on_ring { ArePlaces places }
     {
         let [x, y, z] = self.bits;
         let (i, j, k) = (cell(places[0], x), cell(places[1], y), cell(places[2], z));

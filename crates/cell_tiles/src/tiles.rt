@@ -17,7 +17,7 @@ pub struct Tile {
 /// All tiles of a grid: each two cells that are neighbours, and each cell with itself, once.
 #[derive(Drop)]
 pub struct Tiles<A: Allocator + Copy> {
-    /// The grid whose tiles they are.
+    /// The grid of whose cells they are.
     pub grid: Grid,
     tiles: Vec<Tile, A>,
     ghost are_all: { map (λ t. (t.first, t.second)) tiles.items ≡ tiles_of grid.bits },

@@ -2,7 +2,7 @@
 use Rattle.std.proofs.Common.{◌≡◌, ℕ, List, Option, Ok}
 use Rattle.gro.specs.Out.{appended}
 use Rattle.integrator.specs.Starts.{table_of}
-use Rattle.integrator.specs.Verdicts.{IsSlopeKernel}
+use Rattle.engine.specs.Verdicts.{IsSlopeKernel}
 use Rattle.job.specs.JobText.{reading_of, limits}
 use Rattle.job.specs.Values.{JobValue}
 use Rattle.kernel_code.specs.ListingReading.{code_of}

@@ -40,6 +40,15 @@ steps_rule = record (new_rule (codes "steps")) {
   parser = Some (Unsigned 0 1000000000000);
 }
 
+-- `--workers w`, from 1 to 64; 1 where it isn't given
+abbrev pub workers_rule : Rule
+workers_rule = record (new_rule (codes "workers")) {
+  long = Some (codes "workers");
+  value_names = 1;
+  defaults = codes "1" ∷ [];
+  parser = Some (Unsigned 1 64);
+}
+
 -- `--code LISTING`, which need not be given
 abbrev pub code_rule : Rule
 code_rule = record (new_rule (codes "code")) {
@@ -51,9 +60,9 @@ code_rule = record (new_rule (codes "code")) {
 abbrev pub starting : Shape
 starting = (with_rule (with_rule (with_rule (new_app (codes "start")) (path_rule (codes "JOB"))) (path_rule (codes "GRO"))) frame_rule).top
 
--- a command that takes a job, a state and a number of steps
+-- a command that takes a job, a state, a number of steps and one of workers
 abbrev pub stepping : Text → Shape
-stepping name = (with_rule (with_rule (with_rule (new_app name) (path_rule (codes "JOB"))) (path_rule (codes "STATE"))) steps_rule).top
+stepping name = (with_rule (with_rule (with_rule (with_rule (new_app name) (path_rule (codes "JOB"))) (path_rule (codes "STATE"))) steps_rule) workers_rule).top
 
 -- the command that takes a job and a state
 abbrev pub weighing : Shape
@@ -105,6 +114,9 @@ SaysNumber name rows n = (text : Text) × (one_of name rows ≡ Some text) × Wr
 abbrev pub IsSteps : List Row → ℕ → Type 0
 IsSteps rows n = SaysNumber (codes "steps") rows n
 
+abbrev pub IsWorkers : List Row → ℕ → Type 0
+IsWorkers rows n = SaysNumber (codes "workers") rows n
+
 abbrev pub IsFrameNumber : List Row → ℕ → Type 0
 IsFrameNumber rows n = SaysNumber (codes "frame") rows n
 
@@ -120,6 +132,7 @@ pub record IsRun (name : Text) (rows : List Row) (run : Run) : Type 0 where
   pub job : first_of (codes "JOB") rows ≡ Some run.job.now
   pub state : first_of (codes "STATE") rows ≡ Some run.state.now
   pub steps : IsSteps rows run.steps
+  pub workers : IsWorkers rows run.workers
 
 -- the values of the arguments of `frame` say this frame
 pub record IsFrame (rows : List Row) (frame : Frame) : Type 0 where

@@ -2,8 +2,8 @@
 use Rattle.std.specs.Prelude.{◌≡◌, ℕ, ℤ, List, ◌++◌, [], ◌∷◌, Option, Ok, codes, decimal}
 use Rattle.std.specs.Fmt.{signed_decimal}
 use Rattle.gro.specs.Out.{appended}
-use Rattle.integrator.specs.PairEnergies.{IsEnergyOfTexts}
-use Rattle.integrator.specs.Verdicts.{IsSlopeKernel, IsUnder}
+use Rattle.engine.specs.PairEnergies.{IsEnergyOfTexts}
+use Rattle.engine.specs.Verdicts.{IsSlopeKernel, IsUnder}
 use Rattle.job.specs.JobText.{reading_of, limits}
 use Rattle.job.specs.Values.{JobValue}
 use Rattle.kernel_code.specs.ListingReading.{code_of}

@@ -4,14 +4,14 @@ ghost use Rattle.std.specs.Prelude.{◌≡◌, ◌≤◌, ◌<◌, ◌^◌, ◌�
 ghost use Rattle.clap.specs.Words.{HasKind, app_of, first_of, found_of, kind_of, rows_of, rule_of, shape_of, subcommand_rows_of};
 ghost use Rattle.clap.specs.declared.builder.command.Command.TheViews.{out-Command};
 ghost use Rattle.clap.specs.declared.error.kind.ErrorKind.TheVariants.{OutOfMemory};
-ghost use Rattle.cli.specs.CommandLine.{IsCheck, IsCommand, IsEnergy, IsFrame, IsFrameNumber, IsListing, IsNamed, IsNamedOf, IsRun, IsStart, IsSteps, checking, code_rule, command_name, faults_of, forward, frame_rule, framing, judging, listing, path_rule, program, returning, starting, steps_rule, stepping, weighing};
+ghost use Rattle.cli.specs.CommandLine.{IsCheck, IsCommand, IsEnergy, IsFrame, IsFrameNumber, IsListing, IsNamed, IsNamedOf, IsRun, IsStart, IsSteps, IsWorkers, checking, code_rule, command_name, faults_of, forward, frame_rule, framing, judging, listing, path_rule, program, returning, starting, steps_rule, stepping, weighing, workers_rule};
 ghost use Rattle.cli.specs.declared.commands.Start.{Start};
 ghost use Rattle.cli.specs.declared.commands.Frame.{Frame};
 ghost use Rattle.cli.specs.declared.commands.Listing.{Listing};
 ghost use Rattle.cli.specs.declared.commands.Energy.{Energy};
 ghost use Rattle.cli.specs.declared.commands.Check.{Check};
 
-use crate::commands::{Check, Command, Energy, Frame, Listing, MAX_STEPS, Run, Start};
+use crate::commands::{Check, Command, Energy, Frame, Listing, MAX_STEPS, MAX_WORKERS, Run, Start};
 use clap::error::ErrorKind;
 use clap::{Arg, ArgMatches, Error, value_parser};
 use integrator::Direction;
@@ -80,11 +80,13 @@ fn run_by<'a>(name: &str, matches: &ArgMatches<'a>) -> Option<Run<'a>>
     let job = path_of(matches, "JOB")?;
     let state = path_of(matches, "STATE")?;
     let steps = steps_of(matches)?;
+    let workers = workers_of(matches)?;
     Some(Run {
         direction,
         job,
         state,
         steps,
+        workers,
     })
 }
 
@@ -149,6 +151,16 @@ fn steps_of(matches: &ArgMatches<'_>) -> Option<u64>
         Some(steps)
     } else {
         None
+    }
+}
+
+fn workers_of(matches: &ArgMatches<'_>) -> Option<u32>
+    ensures { MatchOption result ((n : ℕ) → 1 ≤ n → n ≤ MAX_WORKERS → IsWorkers (rows_of (found_of matches.now)) n → ⊥)
+        (λ n. (1 ≤ n) × (n ≤ MAX_WORKERS) × IsWorkers (rows_of (found_of matches.now)) n) }
+{
+    match matches.get_one("workers")? {
+        workers @ 1..=MAX_WORKERS => Some(workers as u32),
+        _ => None,
     }
 }
 
@@ -218,7 +230,7 @@ fn starting<'a>(alloc: Global) -> Result<clap::Command<'a>, AllocError>
         .arg(frame)
 }
 
-/// A command that takes a job, a state and a number of steps.
+/// A command that takes a job, a state, a number of steps and one of workers.
 fn stepping<'a>(
     alloc: Global,
     name: &'a str,
@@ -230,11 +242,13 @@ fn stepping<'a>(
     let job = path(alloc, "JOB", "The file of the job");
     let state = path(alloc, "STATE", "The file of the state");
     let steps = steps(alloc);
+    let workers = workers(alloc);
     clap::Command::new(alloc, name)
         .about(about)
         .arg(job)?
         .arg(state)?
-        .arg(steps)
+        .arg(steps)?
+        .arg(workers)
 }
 
 /// The command that takes a state alone.
@@ -324,4 +338,16 @@ fn steps<'a>(alloc: Global) -> Arg<'a>
         .required(true)
         .value_parser(value_parser!(u64).range(0..=MAX_STEPS as i64))
         .help("How many steps, from 0 to 1000000000000")
+}
+
+fn workers<'a>(alloc: Global) -> Arg<'a>
+    ensures rule { rule_of result ≡ workers_rule }
+    ensures local { result.global ≡ false }
+{
+    Arg::new(alloc, "workers")
+        .long("workers")
+        .value_name("w")
+        .default_value("1")
+        .value_parser(value_parser!(u64).range(1..=MAX_WORKERS as i64))
+        .help("How many workers, from 1 to 64")
 }

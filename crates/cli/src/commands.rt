@@ -7,6 +7,9 @@ use integrator::Direction;
 /// The most steps that one command takes.
 pub const MAX_STEPS: u64 = 1_000_000_000_000;
 
+/// The most workers that one command takes.
+pub const MAX_WORKERS: u64 = 64;
+
 /// What the words ask for.
 #[derive(Clone, Copy, Debug)]
 pub enum Command<'a> {
@@ -48,7 +51,11 @@ pub struct Run<'a> {
     pub state: &'a str,
     /// How many steps.
     pub steps: u64,
+    /// How many workers, from 1.
+    pub workers: u32,
     ghost within: { steps ≤ 1000000000000 },
+    ghost some: { 1 ≤ workers },
+    ghost few: { workers ≤ 64 },
 }
 
 /// A frame to print.

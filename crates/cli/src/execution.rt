@@ -20,15 +20,17 @@ use crate::files::{Files, ReadFault};
 use crate::verdicts::{energy_bytes, listing_verdict_bytes, slope_verdict_bytes};
 use clap::Error;
 use clap::error::ErrorKind;
+use engine::run_bytes;
 use gro::{Out, write_all};
-use integrator::run_bytes;
 use std::alloc::{AllocError, Allocator, Global};
 use std::convert::AsStr;
+use std::thread::Threads;
 
 /// Does what the words ask for, and answers the status to end with, from 0 to 5.
 ///
-/// The words begin after the program's own name. What a command prints, and help, goes to `out`; the line of a refusal goes to `err`, and so does the parser's text on words that name no command. The command line's parser takes its memory of `words_alloc`, all else of `alloc`.
-pub fn execute<A: Allocator + Copy, S: AsStr, F: Files, O: Out, E: Out>(
+/// Workers are started by `rt`. The words begin after the program's own name. What a command prints, and help, goes to `out`; the line of a refusal goes to `err`, and so does the parser's text on words that name no command. The command line's parser takes its memory of `words_alloc`, all else of `alloc`.
+pub fn execute<R: Threads + Sync, A: Allocator + Copy + Sync, S: AsStr, F: Files, O: Out, E: Out>(
+    rt: &R,
     words_alloc: Global,
     alloc: A,
     words: &[S],
@@ -49,14 +51,15 @@ pub fn execute<A: Allocator + Copy, S: AsStr, F: Files, O: Out, E: Out>(
     ensures reads { (F.asked files.new ≡ F.asked files.old)
         ⊎ ((c : Command) × IsCommand (map S.text words.now) c × AsksFor c (F.asked files.old) (F.asked files.new)) }
 {
-    match respond(words_alloc, alloc, words, files, out) {
+    match respond(rt, words_alloc, alloc, words, files, out) {
         Ok(()) => Status::Done.code(),
         Err(fault) => report(alloc, &fault, err),
     }
 }
 
 /// Does what the words ask for.
-fn respond<'a, A: Allocator + Copy, S: AsStr, F: Files, O: Out>(
+fn respond<'a, R: Threads + Sync, A: Allocator + Copy + Sync, S: AsStr, F: Files, O: Out>(
+    rt: &R,
     words_alloc: Global,
     alloc: A,
     words: &'a [S],
@@ -74,13 +77,14 @@ fn respond<'a, A: Allocator + Copy, S: AsStr, F: Files, O: Out>(
         ⊎ ((c : Command) × IsCommand (map S.text words.entry.now) c × AsksFor c (F.asked files.old) (F.asked files.new)) }
 {
     match parse(words_alloc, words) {
-        Ok(command) => perform(alloc, command, files, out),
+        Ok(command) => perform(rt, alloc, command, files, out),
         Err(error) => answer(alloc, error, out),
     }
 }
 
 /// Does what a command says.
-fn perform<'a, A: Allocator + Copy, F: Files, O: Out>(
+fn perform<'a, R: Threads + Sync, A: Allocator + Copy + Sync, F: Files, O: Out>(
+    rt: &R,
     alloc: A,
     command: Command<'a>,
     files: &mut F,
@@ -94,7 +98,7 @@ fn perform<'a, A: Allocator + Copy, F: Files, O: Out>(
 {
     match command {
         Command::Start(start) => perform_start(alloc, start, files, out),
-        Command::Run(run) => perform_run(alloc, run, files, out),
+        Command::Run(run) => perform_run(rt, alloc, run, files, out),
         Command::Frame(frame) => perform_frame(alloc, frame, files, out),
         Command::Energy(energy) => perform_energy(alloc, energy, files, out),
         Command::Check(check) => perform_check(alloc, check, files, out),
@@ -196,7 +200,8 @@ fn perform_code<'a, A: Allocator + Copy, F: Files, O: Out>(
 }
 
 /// Reads the job and then the state, and runs it.
-fn perform_run<'a, A: Allocator + Copy, F: Files, O: Out>(
+fn perform_run<'a, R: Threads + Sync, A: Allocator + Copy + Sync, F: Files, O: Out>(
+    rt: &R,
     alloc: A,
     run: Run<'a>,
     files: &mut F,
@@ -211,11 +216,13 @@ fn perform_run<'a, A: Allocator + Copy, F: Files, O: Out>(
     let job = read(alloc, run.job, files)?;
     let state = read(alloc, run.state, files)?;
     run_bytes(
+        rt,
         alloc,
         job.as_slice(),
         state.as_slice(),
         run.steps,
         run.direction,
+        run.workers,
         out,
     )?;
     Ok(())

@@ -7,8 +7,8 @@ ghost use Rattle.cli.specs.Verdicts.{IsEnergyText, IsListingVerdict, IsSlopeVerd
 ghost use Rattle.cli.specs.declared.faults.Status.{Status};
 
 use crate::faults::CommandFault;
+use engine::{state_energy, verdict, verified_slope};
 use gro::{Out, write_all};
-use integrator::{state_energy, verdict, verified_slope};
 use job::Job;
 use kernel_code::read;
 use std::alloc::{AllocError, Allocator};

@@ -4,9 +4,6 @@ pub mod SumLemmas
 pub mod PairLemmas
 pub mod ForceLaws
 pub mod BoundLaws
-pub mod WrappingLaws
-pub mod SafeLaws
-pub mod VerdictLaws
 pub mod NumberLaws
 pub mod PlainLaws
 pub mod TurnLaws
@@ -14,9 +11,5 @@ pub mod StateLaws
 pub mod StartLaws
 pub mod ReturnLaws
 pub mod RunLaws
-pub mod EngineLaws
-pub mod EnergySumLaws
-pub mod EngineEnergyLaws
 pub mod KernelLaws
 pub mod EnergyLaws
-pub mod EnergyOfTexts

@@ -11,11 +11,4 @@ pub mod Starts
 pub mod StartViews
 pub mod Runs
 pub mod Halts
-pub mod Wrapping
-pub mod SafeKernels
 pub mod StepFaults
-pub mod Verdicts
-pub mod Engines
-pub mod EngineViews
-pub mod PairEnergies
-pub mod SafeEnergies

@@ -84,11 +84,11 @@ fn with_slope<A: Allocator + Copy>(
 }
 
 /// The energy of a job, and the code of its slope.
+///
+/// The refusals are those of `Names::new` for the job's parameters and globals, of `parse`, of `derive` and of `compile`, in this
+/// order; `Memory` wherever a growth is refused.
 #[tactic(auto, unfolding(crate::specs::Energies::energy_of))]
-pub(crate) fn energy<A: Allocator + Copy>(
-    alloc: A,
-    job: &Job<A>,
-) -> Result<SlopeParts<A>, ExprFault<A>>
+pub fn job_slope<A: Allocator + Copy>(alloc: A, job: &Job<A>) -> Result<SlopeParts<A>, ExprFault<A>>
     ensures value { Gives energy_view result (energy_of (job_value job.now)) }
     ensures compiled { IfOk result (λ p. IsCompiled 32 (length job.now.parameters.items) (length job.now.globals.items) (energy_view p)) }
     ensures parameters { IfOk result (λ p. p.energy.parameters ≡ length job.now.parameters.items) }

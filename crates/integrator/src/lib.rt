@@ -1,22 +1,17 @@
-//! Jobs and states run forwards and back by the Levesque-Verlet rule.
+//! Jobs and states, run forwards and back by the Levesque-Verlet rule with every instruction tested; and what an engine
+//! starts from.
 #![tactic(auto)]
 
 mod code_slopes;
 mod direction;
 mod displacement;
 mod energies;
-mod engine_runs;
-mod engines;
 mod faults;
 mod forces;
 mod kernel_refusals;
 mod kernels;
 mod prepared;
 mod runs;
-mod safe_energies;
-mod safe_kernels;
-mod safe_slopes;
-mod safe_systems;
 mod slope_faults;
 mod slope_parts;
 mod slopes;
@@ -26,14 +21,15 @@ mod steps;
 mod sums;
 mod systems;
 mod tables;
-mod verdicts;
-mod wrapping_sums;
 
 pub use direction::Direction;
-pub use engine_runs::{run_bytes, state_energy};
-pub use engines::Engine;
+pub use energies::job_slope;
 pub use faults::{RunFault, StepFault};
 pub use kernel_refusals::KernelRefusal;
+pub use prepared::{Ready, TypedAtoms};
 pub use runs::run_bytes_checked;
-pub use starts::slope_code;
-pub use verdicts::{verdict, verified_slope};
+pub use slope_parts::SlopeParts;
+pub use starts::{ready, slope_code};
+pub use states::{Turned, advance, counter_after, current_frame, previous_frame};
+pub use systems::System;
+pub use tables::type_table;

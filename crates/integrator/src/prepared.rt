@@ -11,7 +11,7 @@ use std::alloc::Allocator;
 
 /// The types and masses of a state's atoms.
 #[derive(Drop)]
-pub(crate) struct TypedAtoms<A: Allocator> {
+pub struct TypedAtoms<A: Allocator> {
     /// The number of each atom's type.
     pub types: Vec<u32, A>,
     /// Each atom's mass, in 10^-5 u.
@@ -22,8 +22,10 @@ pub(crate) struct TypedAtoms<A: Allocator> {
 
 /// The energy of a job, and the atoms of a state that can be run under it.
 #[derive(Drop)]
-pub(crate) struct Ready<A: Allocator> {
+pub struct Ready<A: Allocator> {
+    /// The energy, and the code of its slope.
     pub parts: SlopeParts<A>,
+    /// The type and the mass of each atom.
     pub atoms: TypedAtoms<A>,
 }
 

@@ -6,7 +6,7 @@ use std::alloc::Allocator;
 
 /// An energy, the program of its slope, and that program's code.
 #[derive(Drop)]
-pub(crate) struct SlopeParts<A: Allocator> {
+pub struct SlopeParts<A: Allocator> {
     /// The energy as its text says it.
     pub energy: Program<A>,
     /// The program whose value is the energy's slope.

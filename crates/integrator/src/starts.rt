@@ -11,14 +11,14 @@ ghost use Rattle.integrator.specs.States.{counter_at};
 ghost use Rattle.integrator.specs.StartViews.{Gives, is_of_system, energy_view, ready_view, start_view};
 
 use crate::direction::Direction;
-use crate::energies::energy;
+use crate::energies::job_slope;
 use crate::faults::RunFault;
 use crate::kernels::CodeKernel;
 use crate::prepared::{Prepared, Ready, TypedAtoms};
 use crate::slope_parts::SlopeParts;
 use crate::states::counter_after;
 use crate::systems::System;
-use crate::tables::table;
+use crate::tables::type_table;
 use fixed::{Frac, Fx};
 use job::{AtomType, Job};
 use kernel_code::Code;
@@ -96,7 +96,7 @@ fn kernel<A: Allocator + Copy>(
     ensures parts { IfOk result (λ k. k.parts ≡ parts) }
     ensures table { IfOk result (λ k. k.table ≡ table_of (job_value job.now)) }
 {
-    let table = table(alloc, job)?;
+    let table = type_table(alloc, job)?;
     Ok(CodeKernel { parts, table })
 }
 
@@ -122,8 +122,11 @@ fn typed_atoms<A: Allocator + Copy>(
 }
 
 /// The energy of this job, and the atoms of a state that can be run under it.
+///
+/// The refusals come in this order: those of the energy, of its slope and of its code; `UnknownType` for the lowest atom whose name no
+/// type has, counted from 1; `CutoffTooLong` where some side is shorter than two cutoffs. `Memory` wherever a growth is refused.
 #[tactic(auto, unfolding(crate::specs::Starts::system_of))]
-pub(crate) fn ready<A: Allocator + Copy>(
+pub fn ready<A: Allocator + Copy>(
     alloc: A,
     job: &Job<A>,
     state: &State<A>,
@@ -137,7 +140,7 @@ pub(crate) fn ready<A: Allocator + Copy>(
     ensures count { IfOk result (λ r. length r.atoms.types.items ≡ length state.now.atoms.items) }
     ensures only { IfErr result (λ f. is_of_system f ≡ true) }
 {
-    let parts = energy(alloc, job)?;
+    let parts = job_slope(alloc, job)?;
     let atoms = typed_atoms(alloc, job, state)?;
     Ok(Ready { parts, atoms })
 }
@@ -208,6 +211,6 @@ pub fn slope_code<A: Allocator + Copy>(alloc: A, job: &[u8]) -> Result<Code<A>, 
     ensures computes { IfOk result (IsSlopeCode job.now) }
 {
     let job = Job::read(alloc, job)?;
-    let parts = energy(alloc, &job)?;
+    let parts = job_slope(alloc, &job)?;
     Ok(parts.code)
 }

@@ -11,7 +11,7 @@ use state::{Atom, State};
 use std::alloc::{AllocError, Allocator};
 
 /// A state's counter after so many steps, where it fits.
-pub(crate) fn counter_after<A: Allocator>(
+pub fn counter_after<A: Allocator>(
     direction: Direction,
     state: &State<A>,
     steps: u64,
@@ -27,7 +27,8 @@ pub(crate) fn counter_after<A: Allocator>(
     i64::try_from(after).ok()
 }
 
-pub(crate) fn previous_frame<A: Allocator>(
+/// The places of the atoms one step earlier. Want of memory is its only refusal.
+pub fn previous_frame<A: Allocator>(
     alloc: A,
     atoms: &[Atom],
 ) -> Result<Vec<[u32; 3], A>, AllocError>
@@ -40,10 +41,8 @@ pub(crate) fn previous_frame<A: Allocator>(
     Ok(frame)
 }
 
-pub(crate) fn current_frame<A: Allocator>(
-    alloc: A,
-    atoms: &[Atom],
-) -> Result<Vec<[u32; 3], A>, AllocError>
+/// The places of the atoms. Want of memory is its only refusal.
+pub fn current_frame<A: Allocator>(alloc: A, atoms: &[Atom]) -> Result<Vec<[u32; 3], A>, AllocError>
     ensures { IfOk result (λ v. v.items ≡ map (λ a. a.current) atoms.now) }
 {
     let mut frame = Vec::new(alloc);
@@ -62,7 +61,7 @@ fn placed(mut atom: Atom, previous: [u32; 3], current: [u32; 3]) -> Atom
 }
 
 /// Puts the atoms at the places of these frames.
-pub(crate) fn place(atoms: &mut [Atom], previous: &[[u32; 3]], current: &[[u32; 3]])
+fn place(atoms: &mut [Atom], previous: &[[u32; 3]], current: &[[u32; 3]])
     requires previous { length previous.now ≡ length atoms.old }
     requires current { length current.now ≡ length atoms.old }
     ensures { map atom_view atoms.new ≡ placed_atoms (map atom_view atoms.old) (frames previous.now current.now) }
@@ -74,13 +73,15 @@ pub(crate) fn place(atoms: &mut [Atom], previous: &[[u32; 3]], current: &[[u32; 
 
 /// Two frames that follow one another.
 #[derive(Drop)]
-pub(crate) struct Turned<A: Allocator> {
+pub struct Turned<A: Allocator> {
+    /// Each atom's places one step earlier.
     pub previous: Vec<[u32; 3], A>,
+    /// Each atom's places.
     pub current: Vec<[u32; 3], A>,
 }
 
 /// Puts a state's atoms at the places of these frames, and gives it this counter.
-pub(crate) fn advance<A: Allocator>(state: &mut State<A>, turned: &Turned<A>, counter: i64)
+pub fn advance<A: Allocator>(state: &mut State<A>, turned: &Turned<A>, counter: i64)
     requires previous { length turned.now.previous.items ≡ length state.old.atoms.items }
     requires current { length turned.now.current.items ≡ length state.old.atoms.items }
     ensures value { state_view state.new ≡ moved_state (state_view state.old) (frames turned.now.previous.items turned.now.current.items) counter }

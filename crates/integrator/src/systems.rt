@@ -11,7 +11,7 @@ use std::alloc::Allocator;
 
 /// The atoms' types and masses, the box, and the pair potential.
 #[derive(Drop)]
-pub(crate) struct System<K: Drop, A: Allocator> {
+pub struct System<K: Drop, A: Allocator> {
     pub frac: Frac,
     pub ring: RingBox,
     /// Closer pairs are taken to be at this distance.

@@ -36,8 +36,8 @@ fn global_values<A: Allocator + Copy>(
     Ok(values)
 }
 
-/// The table of a job's types and globals.
-pub(crate) fn table<A: Allocator + Copy>(alloc: A, job: &Job<A>) -> Result<TypeTable<A>, AllocError>
+/// The table of a job's types and globals. Want of memory is its only refusal.
+pub fn type_table<A: Allocator + Copy>(alloc: A, job: &Job<A>) -> Result<TypeTable<A>, AllocError>
     ensures value { IfOk result (λ t. t ≡ table_of (job_value job.now)) }
 {
     let rows = rows(alloc, &job.types)?;

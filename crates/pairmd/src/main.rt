@@ -10,6 +10,7 @@ fn main(rt: HostRuntime) -> ExitCode {
     let mut files = HostFiles::new(&rt);
     let status = match words(&rt) {
         Ok(words) => execute(
+            &rt,
             rt.alloc(),
             rt.alloc(),
             words.as_slice(),

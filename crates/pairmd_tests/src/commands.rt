@@ -15,6 +15,7 @@ use std::io;
 use std::io::Read;
 use std::process::Abort;
 use std::test::*;
+use std::thread::Threads;
 
 /// What a file gives.
 #[derive(Clone, Copy)]
@@ -106,15 +107,16 @@ Options:
 
 const RUN_HELP: &str = "Prints the state after so many steps
 
-Usage: pairmd run --steps <n> <JOB> <STATE>
+Usage: pairmd run [OPTIONS] --steps <n> <JOB> <STATE>
 
 Arguments:
   <JOB>    The file of the job
   <STATE>  The file of the state
 
 Options:
-      --steps <n>  How many steps, from 0 to 1000000000000
-  -h, --help       Print help
+      --steps <n>    How many steps, from 0 to 1000000000000
+      --workers <w>  How many workers, from 1 to 64 [default: 1]
+  -h, --help         Print help
 ";
 
 const START_HELP: &str = "Prints the state that begins at a frame of a GRO file
@@ -165,7 +167,7 @@ Options:
 ";
 
 /// The status, and what came out on both outputs, of words over these files.
-fn outcome<T: Abort + AllocGlobal>(
+fn outcome<T: Abort + AllocGlobal + Threads + Sync>(
     rt: &T,
     words: &[&str],
     files: &[(&'static str, Content)],
@@ -174,6 +176,7 @@ fn outcome<T: Abort + AllocGlobal>(
     let mut out = Collected::new(rt.alloc());
     let mut err = Collected::new(rt.alloc());
     let status = execute(
+        rt,
         rt.alloc(),
         rt.alloc(),
         words,
@@ -203,7 +206,7 @@ fn prints_help(rt: HostRuntime) {
     }
 }
 
-const REFUSED_WORDS: [(&str, &str); 18] = [
+const REFUSED_WORDS: [(&str, &str); 22] = [
     (
         "",
         "error: 'pairmd' requires a subcommand but one was not provided",
@@ -273,6 +276,22 @@ const REFUSED_WORDS: [(&str, &str); 18] = [
         "run job state --steps 1 --steps 2",
         "error: the argument '--steps <n>' cannot be used multiple times",
     ),
+    (
+        "run job state --steps 1 --workers 0",
+        "error: invalid value '0' for '--workers <w>': 0 is not in 1..=64",
+    ),
+    (
+        "back job state --steps 1 --workers 65",
+        "error: invalid value '65' for '--workers <w>': 65 is not in 1..=64",
+    ),
+    (
+        "run job state --steps 1 --workers two",
+        "error: invalid value 'two' for '--workers <w>': invalid digit found in string",
+    ),
+    (
+        "energy job state --workers 1",
+        "error: unexpected argument '--workers' found",
+    ),
 ];
 
 #[test]
@@ -298,8 +317,15 @@ fn reads_commands(rt: HostRuntime) -> Result<(), Fail> {
             };
             assert_eq!(rt; run.direction, direction);
             assert_eq!(rt; (run.job, run.state), ("a job", "state"));
-            assert_eq!(rt; run.steps, steps);
+            assert_eq!(rt; (run.steps, run.workers), (steps, 1));
         }
+    }
+    for (text, workers) in [("1", 1), ("2", 2), ("64", 64)] {
+        let words = ["run", "job", "--workers", text, "state", "--steps", "1"];
+        let Command::Run(run) = parse(rt.alloc(), &words)? else {
+            panic!(rt; "another command");
+        };
+        assert_eq!(rt; run.workers, workers);
     }
     Ok(())
 }
@@ -451,6 +477,7 @@ fn reads_files_in_order(rt: HostRuntime) {
         let mut out = Collected::new(rt.alloc());
         let mut err = Collected::new(rt.alloc());
         let ended = execute(
+            &rt,
             rt.alloc(),
             rt.alloc(),
             &words,
@@ -471,6 +498,7 @@ fn closed_outputs(rt: HostRuntime) {
     let mut out = Closed { failures: 0 };
     let mut err = Collected::new(rt.alloc());
     let status = execute(
+        &rt,
         rt.alloc(),
         rt.alloc(),
         &["--help"],
@@ -483,6 +511,7 @@ fn closed_outputs(rt: HostRuntime) {
     let mut out = Collected::new(rt.alloc());
     let mut err = Closed { failures: 0 };
     let status = execute(
+        &rt,
         rt.alloc(),
         rt.alloc(),
         &["walk"],

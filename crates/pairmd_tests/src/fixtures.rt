@@ -8,6 +8,7 @@ use integrator::{Direction, run_bytes_checked};
 use std::alloc::{AllocError, Allocator, Global};
 use std::process::Abort;
 use std::test::*;
+use std::thread::Threads;
 
 /// Atoms that repel each other by 1/r.
 pub(crate) const JOB: &str = "pairmd job 1
@@ -121,27 +122,27 @@ pub(crate) struct Answer {
 }
 
 /// The program's answer to these words, over files with these bytes, where all but the words takes its memory of `short`.
-pub(crate) fn answer_to<A: Allocator + Copy>(
-    alloc: Global,
+pub(crate) fn answer_to<R: Threads + Sync + AllocGlobal, A: Allocator + Copy + Sync>(
+    rt: &R,
     short: A,
     words: &[&str],
     job: &[u8],
     state: &[u8],
 ) -> Answer {
-    answer_over(alloc, short, words, &[("job", job), ("state", state)])
+    answer_over(rt, short, words, &[("job", job), ("state", state)])
 }
 
 /// The program's answer to these words over these files, where all but the words takes its memory of `short`.
-pub(crate) fn answer_over<A: Allocator + Copy>(
-    alloc: Global,
+pub(crate) fn answer_over<R: Threads + Sync + AllocGlobal, A: Allocator + Copy + Sync>(
+    rt: &R,
     short: A,
     words: &[&str],
     files: &[(&str, &[u8])],
 ) -> Answer {
     let mut table = Table { files };
-    let mut out = Collected::new(alloc);
-    let mut err = Collected::new(alloc);
-    let status = execute(alloc, short, words, &mut table, &mut out, &mut err);
+    let mut out = Collected::new(rt.alloc());
+    let mut err = Collected::new(rt.alloc());
+    let status = execute(rt, rt.alloc(), short, words, &mut table, &mut out, &mut err);
     Answer {
         status,
         out: out.into_bytes(),
@@ -150,25 +151,51 @@ pub(crate) fn answer_over<A: Allocator + Copy>(
 }
 
 /// The program's answer to `start` on this job and this GRO file.
-pub(crate) fn started(alloc: Global, job: &[u8], gro: &[u8]) -> Answer {
+pub(crate) fn started<R: Threads + Sync + AllocGlobal>(rt: &R, job: &[u8], gro: &[u8]) -> Answer {
     let files = [("job", job), ("gro", gro)];
-    answer_over(alloc, alloc, &["start", "job", "gro"], &files)
+    answer_over(rt, rt.alloc(), &["start", "job", "gro"], &files)
 }
 
 /// The program's answer to `frame` on this state.
-pub(crate) fn framed(alloc: Global, state: &[u8]) -> Answer {
-    answer_over(alloc, alloc, &["frame", "state"], &[("state", state)])
+pub(crate) fn framed<R: Threads + Sync + AllocGlobal>(rt: &R, state: &[u8]) -> Answer {
+    answer_over(rt, rt.alloc(), &["frame", "state"], &[("state", state)])
 }
 
-/// The program's answer to `run` or `back` by so many steps.
-pub(crate) fn moved(alloc: Global, command: &str, steps: &str, job: &[u8], state: &[u8]) -> Answer {
-    answer_to(
-        alloc,
-        alloc,
-        &[command, "job", "state", "--steps", steps],
-        job,
-        state,
-    )
+/// The program's answer to `run` or `back` by so many steps and workers.
+fn moved_by<R: Threads + Sync + AllocGlobal>(
+    rt: &R,
+    command: &str,
+    steps: &str,
+    workers: &str,
+    job: &[u8],
+    state: &[u8],
+) -> Answer {
+    let words = [
+        command,
+        "job",
+        "state",
+        "--steps",
+        steps,
+        "--workers",
+        workers,
+    ];
+    answer_to(rt, rt.alloc(), &words, job, state)
+}
+
+/// The program's answer to `run` or `back` by so many steps, which is the same for all numbers of workers.
+pub(crate) fn moved<R: Threads + Sync + AllocGlobal + Abort>(
+    rt: &R,
+    command: &str,
+    steps: &str,
+    job: &[u8],
+    state: &[u8],
+) -> Answer {
+    let alone = moved_by(rt, command, steps, "1", job, state);
+    for workers in ["2", "3", "64"] {
+        let together = moved_by(rt, command, steps, workers, job, state);
+        assert_same(rt, &together, &alone, workers);
+    }
+    alone
 }
 
 /// What a tested run by so many steps writes, and its refusal as a line of the program.
@@ -192,6 +219,13 @@ pub(crate) fn tested(
         out: out.into_bytes(),
         err,
     })
+}
+
+/// Ends the test unless both answers are the same.
+pub(crate) fn assert_same<T: Abort>(rt: &T, answer: &Answer, other: &Answer, shows: &str) {
+    assert_eq!(rt; answer.status, other.status, "{shows}");
+    assert_eq!(rt; answer.out.as_slice(), other.out.as_slice(), "{shows}");
+    assert_eq!(rt; answer.err.as_slice(), other.err.as_slice(), "{shows}");
 }
 
 /// Ends the test unless the answer is this text.

@@ -7,17 +7,17 @@ use std::test::*;
 
 #[test]
 fn a_state_from_a_file(rt: HostRuntime) {
-    let start = started(rt.alloc(), JOB.as_bytes(), GRO.as_bytes());
+    let start = started(&rt, JOB.as_bytes(), GRO.as_bytes());
     assert_prints(&rt, &start, STATE.as_bytes(), "two atoms at rest");
-    let frame = framed(rt.alloc(), &start.out);
+    let frame = framed(&rt, &start.out);
     assert_prints(&rt, &frame, GRO.as_bytes(), "the frame that it began at");
 }
 
 // In one step the atoms move by less than half a picometre.
 #[test]
 fn the_frame_after_a_step(rt: HostRuntime) {
-    let after = moved(rt.alloc(), "run", "1", JOB.as_bytes(), STATE.as_bytes());
-    let frame = framed(rt.alloc(), &after.out);
+    let after = moved(&rt, "run", "1", JOB.as_bytes(), STATE.as_bytes());
+    let frame = framed(&rt, &after.out);
     assert_prints(&rt, &frame, GRO.as_bytes(), "one step");
 }
 
@@ -27,17 +27,17 @@ fn chosen_frames(rt: HostRuntime) -> Result<(), Fail> {
     let files = [("job", JOB.as_bytes()), ("gro", twice.as_bytes())];
     for frame in ["1", "2", "+2", "02"] {
         let words = ["start", "job", "gro", "--frame", frame];
-        let start = answer_over(rt.alloc(), rt.alloc(), &words, &files);
+        let start = answer_over(&rt, rt.alloc(), &words, &files);
         assert_prints(&rt, &start, STATE.as_bytes(), frame);
     }
     for frame in ["3", "18446744073709551615"] {
         let words = ["start", "--frame", frame, "job", "gro"];
-        let start = answer_over(rt.alloc(), rt.alloc(), &words, &files);
+        let start = answer_over(&rt, rt.alloc(), &words, &files);
         assert_refuses(&rt, &start, 1, "G8 NoSuchFrame", frame);
     }
     for frame in ["0", "18446744073709551616", "-1", "1.0", ""] {
         let words = ["start", "job", "gro", "--frame", frame];
-        let start = answer_over(rt.alloc(), rt.alloc(), &words, &files);
+        let start = answer_over(&rt, rt.alloc(), &words, &files);
         assert_eq!(rt; start.status, 2, "{frame}");
         assert!(rt; start.out.is_empty());
     }
@@ -48,7 +48,7 @@ fn chosen_frames(rt: HostRuntime) -> Result<(), Fail> {
 fn frames_end_at_blank_lines(rt: HostRuntime) -> Result<(), Fail> {
     for blank in ["", " \r\n\n  ", "\n"] {
         let text = format!(in rt.alloc(); "{GRO}{blank}")?;
-        let start = started(rt.alloc(), JOB.as_bytes(), text.as_bytes());
+        let start = started(&rt, JOB.as_bytes(), text.as_bytes());
         assert_prints(&rt, &start, STATE.as_bytes(), blank);
     }
     Ok(())
@@ -108,7 +108,7 @@ fn atoms_of_many_forms(rt: HostRuntime) -> Result<(), Fail> {
     for (shows, atom, line) in ATOMS {
         let text = with_line(rt.alloc(), GRO, 3, atom)?;
         let start = with_line(rt.alloc(), STATE, 6, line)?;
-        let begun = started(rt.alloc(), JOB.as_bytes(), &text);
+        let begun = started(&rt, JOB.as_bytes(), &text);
         assert_prints(&rt, &begun, &start, shows);
     }
     Ok(())
@@ -134,9 +134,9 @@ const WATER_FRAME: &[u8] = b"water
 
 #[test]
 fn lines_that_end_in_carriage_returns(rt: HostRuntime) {
-    let start = started(rt.alloc(), JOB.as_bytes(), WATER);
+    let start = started(&rt, JOB.as_bytes(), WATER);
     assert_prints(&rt, &start, WATER_STATE, "CR LF");
-    let frame = framed(rt.alloc(), &start.out);
+    let frame = framed(&rt, &start.out);
     assert_prints(&rt, &frame, WATER_FRAME, "its frame");
 }
 
@@ -166,13 +166,13 @@ const SOLVATED_FRAME: &str = "Wasser \u{2014} H\u{2082}O t=   0.00000 step= 0
 
 #[test]
 fn a_solvated_box(rt: HostRuntime) {
-    let start = started(rt.alloc(), JOB.as_bytes(), SOLVATED.as_bytes());
+    let start = started(&rt, JOB.as_bytes(), SOLVATED.as_bytes());
     assert_eq!(rt; start.status, 0);
-    let frame = framed(rt.alloc(), &start.out);
+    let frame = framed(&rt, &start.out);
     assert_prints(&rt, &frame, SOLVATED_FRAME.as_bytes(), "a solvated box");
-    let again = started(rt.alloc(), JOB.as_bytes(), &frame.out);
+    let again = started(&rt, JOB.as_bytes(), &frame.out);
     assert_eq!(rt; again.status, 0);
-    let same = framed(rt.alloc(), &again.out);
+    let same = framed(&rt, &again.out);
     assert_prints(&rt, &same, &frame.out, "a frame of its own frame");
 }
 
@@ -284,7 +284,7 @@ const FILES: [(&str, usize, &str, &str); 25] = [
 fn refused_files(rt: HostRuntime) -> Result<(), Fail> {
     for (shows, number, text, line) in FILES {
         let gro = with_line(rt.alloc(), GRO, number, text)?;
-        let start = started(rt.alloc(), JOB.as_bytes(), &gro);
+        let start = started(&rt, JOB.as_bytes(), &gro);
         assert_refuses(&rt, &start, 1, line, shows);
     }
     Ok(())
@@ -294,7 +294,7 @@ fn refused_files(rt: HostRuntime) -> Result<(), Fail> {
 #[test]
 fn beginnings_of_a_file(rt: HostRuntime) {
     for length in 0..GRO.len() {
-        let start = started(rt.alloc(), JOB.as_bytes(), &GRO.as_bytes()[..length]);
+        let start = started(&rt, JOB.as_bytes(), &GRO.as_bytes()[..length]);
         match length {
             0..=10 | 15..=129 => assert_refuses(&rt, &start, 1, "G1 Truncated", "a beginning"),
             11..=14 => assert_refuses(&rt, &start, 1, "G2 BadCount 2", "an empty count"),
@@ -306,14 +306,14 @@ fn beginnings_of_a_file(rt: HostRuntime) {
 
 #[test]
 fn files_are_judged_in_order(rt: HostRuntime) {
-    let none = started(rt.alloc(), b"", b"");
+    let none = started(&rt, b"", b"");
     assert_refuses(&rt, &none, 1, "J1 BadLine 1", "an empty job and file");
     let words = ["start", "job", "gro"];
     let job = [("job", b"".as_slice())];
-    let lost = answer_over(rt.alloc(), rt.alloc(), &words, &job);
+    let lost = answer_over(&rt, rt.alloc(), &words, &job);
     assert_refuses(&rt, &lost, 5, "O1 CannotRead gro", "no GRO file");
-    let lost = answer_over(rt.alloc(), rt.alloc(), &words, &[]);
+    let lost = answer_over(&rt, rt.alloc(), &words, &[]);
     assert_refuses(&rt, &lost, 5, "O1 CannotRead job", "no files");
-    let cut = framed(rt.alloc(), &STATE.as_bytes()[..100]);
+    let cut = framed(&rt, &STATE.as_bytes()[..100]);
     assert_refuses(&rt, &cut, 1, "S2 Truncated", "a state cut off");
 }

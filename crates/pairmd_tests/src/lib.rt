@@ -8,10 +8,6 @@ mod fixtures;
 #[cfg(test)]
 mod gro_files;
 #[cfg(test)]
-mod kernels;
-#[cfg(test)]
-mod library;
-#[cfg(test)]
 mod potentials;
 #[cfg(test)]
 mod refusals;

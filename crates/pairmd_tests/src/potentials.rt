@@ -1,8 +1,7 @@
 //! Single steps of two atoms under energies of the whole language, computed outside the program.
 
 use crate::fixtures::{
-    JOB, STATE, answer_over, assert_prints, assert_refuses, job_with_energy, moved, state_of,
-    tested,
+    JOB, answer_over, assert_prints, assert_refuses, job_with_energy, moved, state_of, tested,
 };
 use integrator::Direction;
 use std::alloc::{AllocError, Global};
@@ -50,11 +49,11 @@ fn steps_under_energies(rt: HostRuntime) -> Result<(), Fail> {
         let job = job_with_energy(alloc, energy)?;
         let [next_low, next_high] = end.map(|x| [x, 0, 0]);
         let end = state_of(alloc, 1, 200000, &[[low, next_low], [high, next_high]])?;
-        let forwards = moved(alloc, "run", "1", &job, &start);
+        let forwards = moved(&rt, "run", "1", &job, &start);
         assert_prints(&rt, &forwards, &end, energy);
         let checked = tested(alloc, Direction::Forward, 1, &job, &start)?;
         assert_prints(&rt, &checked, &end, energy);
-        let back = moved(alloc, "back", "1", &job, &end);
+        let back = moved(&rt, "back", "1", &job, &end);
         assert_prints(&rt, &back, &start, energy);
     }
     Ok(())
@@ -118,7 +117,7 @@ fn steps_of_two_types(rt: HostRuntime) -> Result<(), Fail> {
     for (job, names, end) in MIXTURES {
         let start = pair_of(alloc, 0, names, AT_REST)?;
         let end = pair_of(alloc, 1, names, end)?;
-        let forwards = moved(alloc, "run", "1", job.as_bytes(), &start);
+        let forwards = moved(&rt, "run", "1", job.as_bytes(), &start);
         assert_prints(&rt, &forwards, &end, names[0]);
     }
     Ok(())
@@ -141,11 +140,11 @@ div
 fn code_of_a_slope(rt: HostRuntime) -> Result<(), Fail> {
     let alloc = rt.alloc();
     let files = [("job", JOB.as_bytes())];
-    let listed = answer_over(alloc, alloc, &["code", "job"], &files);
+    let listed = answer_over(&rt, alloc, &["code", "job"], &files);
     assert_prints(&rt, &listed, LISTING.as_bytes(), "the code of a job");
     let job = job_with_energy(alloc, "1/x")?;
     let files = [("job", job.as_slice())];
-    let refused = answer_over(alloc, alloc, &["code", "job"], &files);
+    let refused = answer_over(&rt, alloc, &["code", "job"], &files);
     assert_refuses(
         &rt,
         &refused,

@@ -1,11 +1,10 @@
 //! The line and the status of each refusal.
 
 use crate::fixtures::{
-    JOB, STATE, Table, answer_to, assert_prints, assert_refuses, job_with_energy, moved, with_line,
+    JOB, STATE, Table, assert_prints, assert_refuses, job_with_energy, moved, with_line,
 };
 use cli::execute;
 use gro::Collected;
-use linked_list_allocator::LocalHeap;
 use std::alloc::{AllocError, Global};
 use std::test::*;
 
@@ -106,7 +105,7 @@ const JOBS: [(&str, usize, &str, &str); 29] = [
 fn refused_jobs(rt: HostRuntime) -> Result<(), Fail> {
     for (shows, number, text, line) in JOBS {
         let job = with_line(rt.alloc(), JOB, number, text)?;
-        let refused = moved(rt.alloc(), "run", "1", &job, STATE.as_bytes());
+        let refused = moved(&rt, "run", "1", &job, STATE.as_bytes());
         assert_refuses(&rt, &refused, 1, line, shows);
     }
     Ok(())
@@ -166,7 +165,7 @@ fn refused_names(rt: HostRuntime) -> Result<(), Fail> {
         let names = format!(in rt.alloc(); "parameter {parameter}\nglobal {global} 1")?;
         let job = with_line(rt.alloc(), JOB, 6, &names)?;
         let job = with_value(rt.alloc(), &job)?;
-        let refused = moved(rt.alloc(), "run", "0", &job, STATE.as_bytes());
+        let refused = moved(&rt, "run", "0", &job, STATE.as_bytes());
         assert_refuses(&rt, &refused, 3, line, line);
     }
     Ok(())
@@ -185,7 +184,7 @@ fn refused_energies(rt: HostRuntime) -> Result<(), Fail> {
     for (energy, line) in ENERGIES {
         let job = job_with_energy(rt.alloc(), energy)?;
         for command in ["run", "back"] {
-            let refused = moved(rt.alloc(), command, "0", &job, STATE.as_bytes());
+            let refused = moved(&rt, command, "0", &job, STATE.as_bytes());
             assert_refuses(&rt, &refused, 3, line, energy);
         }
     }
@@ -274,7 +273,7 @@ const STATES: [(&str, &str, usize, &str, &str); 12] = [
 fn refused_states(rt: HostRuntime) -> Result<(), Fail> {
     for (shows, text, number, state_line, line) in STATES {
         let state = with_line(rt.alloc(), text, number, state_line)?;
-        let refused = moved(rt.alloc(), "run", "1", JOB.as_bytes(), &state);
+        let refused = moved(&rt, "run", "1", JOB.as_bytes(), &state);
         assert_refuses(&rt, &refused, 1, line, shows);
     }
     Ok(())
@@ -283,7 +282,7 @@ fn refused_states(rt: HostRuntime) -> Result<(), Fail> {
 #[test]
 fn a_box_of_two_cutoffs(rt: HostRuntime) -> Result<(), Fail> {
     let state = with_line(rt.alloc(), STATE, 5, "box 180000 180000 180000")?;
-    let unmoved = moved(rt.alloc(), "run", "0", JOB.as_bytes(), &state);
+    let unmoved = moved(&rt, "run", "0", JOB.as_bytes(), &state);
     assert_prints(&rt, &unmoved, &state, "sides of two cutoffs");
     Ok(())
 }
@@ -351,7 +350,7 @@ fn the_first_of_two_faults(rt: HostRuntime) -> Result<(), Fail> {
     for (shows, job_number, job_line, state_number, state_line, status, line) in PAIRS {
         let job = with_line(rt.alloc(), JOB, job_number, job_line)?;
         let state = with_line(rt.alloc(), STATE, state_number, state_line)?;
-        let refused = moved(rt.alloc(), "run", "1", &job, &state);
+        let refused = moved(&rt, "run", "1", &job, &state);
         assert_refuses(&rt, &refused, status, line, shows);
     }
     Ok(())
@@ -369,6 +368,7 @@ fn files_that_are_missing(rt: HostRuntime) {
         let mut out = Collected::new(rt.alloc());
         let mut err = Collected::new(rt.alloc());
         let status = execute(
+            &rt,
             rt.alloc(),
             rt.alloc(),
             &words,
@@ -380,13 +380,4 @@ fn files_that_are_missing(rt: HostRuntime) {
         assert!(rt; out.bytes().is_empty());
         assert_eq!(rt; err.bytes(), line.as_bytes());
     }
-}
-
-#[test]
-fn memory_for_no_file(rt: HostRuntime) -> Result<(), Fail> {
-    let heap = LocalHeap::new(rt.alloc(), 64)?;
-    let words = ["run", "job", "state", "--steps", "1"];
-    let refused = answer_to(rt.alloc(), &heap, &words, JOB.as_bytes(), STATE.as_bytes());
-    assert_refuses(&rt, &refused, 4, "Memory", "a heap of 64 bytes");
-    Ok(())
 }

@@ -20,17 +20,21 @@ fn a_thousand_steps_there_and_back(rt: HostRuntime) -> Result<(), Fail> {
     let low = [[614356521, 0, 0], [610307235, 0, 0]];
     let high = [[2606868951, 0, 0], [2610918237, 0, 0]];
     let end = state_of(rt.alloc(), 1000, 200000, &[low, high])?;
-    let there = moved(rt.alloc(), "run", "1000", job, &start);
+    let there = moved(&rt, "run", "1000", job, &start);
     assert_prints(&rt, &there, &end, "a thousand steps");
     let there = tested(rt.alloc(), Direction::Forward, 1000, job, &start)?;
     assert_prints(&rt, &there, &end, "a thousand tested steps");
-    let again = moved(rt.alloc(), "back", "1000", job, &there.out);
+    let again = moved(&rt, "back", "1000", job, &there.out);
     assert_prints(&rt, &again, &start, "a thousand steps back");
     Ok(())
 }
 
 /// Forty-eight atoms in three layers of four rows of four, 0.5 nm apart in a row, in a box of 2 nm, with the previous and the current places of the layers.
-fn lattice(alloc: Global, step: i64, layers: &[[u32; 2]]) -> Result<Vec<u8>, AllocError> {
+pub(crate) fn lattice(
+    alloc: Global,
+    step: i64,
+    layers: &[[u32; 2]],
+) -> Result<Vec<u8>, AllocError> {
     let quarters = [0, 1073741824, 2147483648, 3221225472];
     let mut atoms = Vec::new(alloc);
     for [previous, current] in layers {
@@ -55,11 +59,11 @@ fn a_lattice_there_and_back(rt: HostRuntime) -> Result<(), Fail> {
     ];
     let start = lattice(rt.alloc(), 0, &still)?;
     let end = lattice(rt.alloc(), 3, &pushed)?;
-    let there = moved(rt.alloc(), "run", "3", job, &start);
+    let there = moved(&rt, "run", "3", job, &start);
     assert_prints(&rt, &there, &end, "three steps");
     let there = tested(rt.alloc(), Direction::Forward, 3, job, &start)?;
     assert_prints(&rt, &there, &end, "three tested steps");
-    let again = moved(rt.alloc(), "back", "3", job, &there.out);
+    let again = moved(&rt, "back", "3", job, &there.out);
     assert_prints(&rt, &again, &start, "three steps back");
     Ok(())
 }
@@ -135,9 +139,9 @@ fn counters_at_their_ends(rt: HostRuntime) -> Result<(), Fail> {
     ] {
         let line = format!(in rt.alloc(); "step {counter}")?;
         let start = with_line(rt.alloc(), STATE, 3, &line)?;
-        let beyond = moved(rt.alloc(), command, steps, JOB.as_bytes(), &start);
+        let beyond = moved(&rt, command, steps, JOB.as_bytes(), &start);
         assert_refuses(&rt, &beyond, 1, "A4 StepRange", counter);
-        let unmoved = moved(rt.alloc(), command, "0", JOB.as_bytes(), &start);
+        let unmoved = moved(&rt, command, "0", JOB.as_bytes(), &start);
         assert_prints(&rt, &unmoved, &start, counter);
     }
     Ok(())

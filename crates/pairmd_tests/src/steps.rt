@@ -68,9 +68,9 @@ fn steps_from_rest(rt: HostRuntime) -> Result<(), Fail> {
         let [next_low, next_high] = step.end;
         let start = state_of(alloc, 0, 200000, &[[low, low], [high, high]])?;
         let end = state_of(alloc, 1, 200000, &[[low, next_low], [high, next_high]])?;
-        let forwards = moved(alloc, "run", "1", &job, &start);
+        let forwards = moved(&rt, "run", "1", &job, &start);
         assert_prints(&rt, &forwards, &end, step.shows);
-        let back = moved(alloc, "back", "1", &job, &end);
+        let back = moved(&rt, "back", "1", &job, &end);
         assert_prints(&rt, &back, &start, step.shows);
     }
     Ok(())
@@ -93,9 +93,9 @@ fn two_steps_at_once_and_one_by_one(rt: HostRuntime) {
         ("the second step", "1", AFTER_ONE, AFTER_TWO),
         ("both steps at once", "2", STATE, AFTER_TWO),
     ] {
-        let forwards = moved(rt.alloc(), "run", steps, JOB.as_bytes(), start.as_bytes());
+        let forwards = moved(&rt, "run", steps, JOB.as_bytes(), start.as_bytes());
         assert_prints(&rt, &forwards, end.as_bytes(), shows);
-        let back = moved(rt.alloc(), "back", steps, JOB.as_bytes(), end.as_bytes());
+        let back = moved(&rt, "back", steps, JOB.as_bytes(), end.as_bytes());
         assert_prints(&rt, &back, start.as_bytes(), shows);
     }
 }
@@ -116,7 +116,7 @@ box 200000 200000 200000
 
 #[test]
 fn steps_without_atoms(rt: HostRuntime) {
-    let forwards = moved(rt.alloc(), "run", "5", JOB.as_bytes(), NO_ATOMS.as_bytes());
+    let forwards = moved(&rt, "run", "5", JOB.as_bytes(), NO_ATOMS.as_bytes());
     assert_prints(&rt, &forwards, NO_ATOMS_LATER.as_bytes(), "no atoms");
 }
 
@@ -160,7 +160,7 @@ fn numerals_as_slopes(rt: HostRuntime) -> Result<(), Fail> {
             side,
             &[[[0; 3], low_end], [[high, 0, 0], high_end]],
         )?;
-        let forwards = moved(alloc, "run", "1", &job, &start);
+        let forwards = moved(&rt, "run", "1", &job, &start);
         assert_prints(&rt, &forwards, &end, numeral);
     }
     Ok(())

@@ -26,7 +26,7 @@ fn a_title_of_every_byte(rt: HostRuntime) -> Result<(), Fail> {
     }
     let start = one_atom(rt.alloc(), 0, &title, b"AR      AR")?;
     let end = one_atom(rt.alloc(), 1, &title, b"AR      AR")?;
-    let forwards = moved(rt.alloc(), "run", "1", JOB.as_bytes(), &start);
+    let forwards = moved(&rt, "run", "1", JOB.as_bytes(), &start);
     assert_prints(&rt, &forwards, &end, "every byte but LF");
     Ok(())
 }
@@ -48,7 +48,7 @@ fn names_of_every_byte(rt: HostRuntime) -> Result<(), Fail> {
         let (job, names) = names_with(rt.alloc(), byte)?;
         let start = one_atom(rt.alloc(), 0, b"", &names)?;
         let end = one_atom(rt.alloc(), 1, b"", &names)?;
-        let forwards = moved(rt.alloc(), "run", "1", &job, &start);
+        let forwards = moved(&rt, "run", "1", &job, &start);
         assert_prints(&rt, &forwards, &end, "a printable byte");
     }
     Ok(())
@@ -60,8 +60,8 @@ const CARRIAGE_JOB: &[u8] =
 
 #[test]
 fn jobs_of_other_forms(rt: HostRuntime) {
-    let plain = moved(rt.alloc(), "run", "7", JOB.as_bytes(), STATE.as_bytes());
+    let plain = moved(&rt, "run", "7", JOB.as_bytes(), STATE.as_bytes());
     assert_eq!(rt; plain.status, 0);
-    let other = moved(rt.alloc(), "run", "7", CARRIAGE_JOB, STATE.as_bytes());
+    let other = moved(&rt, "run", "7", CARRIAGE_JOB, STATE.as_bytes());
     assert_prints(&rt, &other, &plain.out, "lines ended by CR LF");
 }

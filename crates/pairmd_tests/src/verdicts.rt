@@ -6,16 +6,22 @@ use crate::fixtures::{
 };
 use std::alloc::{AllocError, Global};
 use std::test::*;
+use std::thread::Threads;
 
 /// The answer to `check` on a job.
-fn checked(alloc: Global, job: &[u8]) -> Answer {
-    answer_over(alloc, alloc, &["check", "job"], &[("job", job)])
+fn checked<R: Threads + Sync + AllocGlobal>(rt: &R, job: &[u8]) -> Answer {
+    answer_over(rt, rt.alloc(), &["check", "job"], &[("job", job)])
 }
 
 /// The answer to `check` on a listing under a job.
-fn checked_listing(alloc: Global, job: &[u8], listing: &[u8]) -> Answer {
+fn checked_listing<R: Threads + Sync + AllocGlobal>(rt: &R, job: &[u8], listing: &[u8]) -> Answer {
     let files = [("job", job), ("listing", listing)];
-    answer_over(alloc, alloc, &["check", "job", "--code", "listing"], &files)
+    answer_over(
+        rt,
+        rt.alloc(),
+        &["check", "job", "--code", "listing"],
+        &files,
+    )
 }
 
 /// The listing of these lines.
@@ -44,7 +50,7 @@ const ACCEPTED: [(&str, &str); 4] = [
 fn accepted_listings(rt: HostRuntime) -> Result<(), Fail> {
     for (lines, line) in ACCEPTED {
         let text = listing(rt.alloc(), lines)?;
-        let answer = checked_listing(rt.alloc(), JOB.as_bytes(), &text);
+        let answer = checked_listing(&rt, JOB.as_bytes(), &text);
         assert_prints(&rt, &answer, line.as_bytes(), lines);
     }
     Ok(())
@@ -75,7 +81,7 @@ const REFUSED: [(&str, u8, &str); 9] = [
 fn refused_listings(rt: HostRuntime) -> Result<(), Fail> {
     for (lines, status, line) in REFUSED {
         let text = listing(rt.alloc(), lines)?;
-        let answer = checked_listing(rt.alloc(), JOB.as_bytes(), &text);
+        let answer = checked_listing(&rt, JOB.as_bytes(), &text);
         assert_refuses(&rt, &answer, status, line, lines);
     }
     Ok(())
@@ -89,7 +95,7 @@ fn listings_past_their_limits(rt: HostRuntime) -> Result<(), Fail> {
             lines.push_str("push 0\n")?;
         }
         let text = listing(rt.alloc(), &lines)?;
-        let answer = checked_listing(rt.alloc(), JOB.as_bytes(), &text);
+        let answer = checked_listing(&rt, JOB.as_bytes(), &text);
         assert_refuses(&rt, &answer, status, line, line);
     }
     Ok(())
@@ -99,7 +105,7 @@ fn listings_past_their_limits(rt: HostRuntime) -> Result<(), Fail> {
 fn beginnings_of_a_listing(rt: HostRuntime) {
     let text = b"pairmd code 1\npush 0\n";
     for len in 0..text.len() + 1 {
-        let answer = checked_listing(rt.alloc(), JOB.as_bytes(), &text[..len]);
+        let answer = checked_listing(&rt, JOB.as_bytes(), &text[..len]);
         match len {
             0..=13 => assert_refuses(&rt, &answer, 1, "C1 BadLine 1", "no first line"),
             14 => assert_refuses(&rt, &answer, 3, "V1 Malformed 0", "no instructions"),
@@ -114,14 +120,14 @@ fn beginnings_of_a_listing(rt: HostRuntime) {
 fn a_listing_under_a_job_whose_energy_is_refused(rt: HostRuntime) -> Result<(), Fail> {
     let text = listing(rt.alloc(), "push 0\n")?;
     let job = job_with_energy(rt.alloc(), "nothing + $")?;
-    let answer = checked_listing(rt.alloc(), &job, &text);
+    let answer = checked_listing(&rt, &job, &text);
     assert_prints(&rt, &answer, b"accepted: steps 1, bound 0\n", "a listing");
-    let refused = checked(rt.alloc(), &job);
+    let refused = checked(&rt, &job);
     assert_refuses(&rt, &refused, 3, "E01 BadCharacter 10", "the energy");
     let clash = with_line(rt.alloc(), JOB, 6, "global r 1")?;
-    let answer = checked_listing(rt.alloc(), &clash, &text);
+    let answer = checked_listing(&rt, &clash, &text);
     assert_prints(&rt, &answer, b"accepted: steps 1, bound 0\n", "a clash");
-    let refused = checked(rt.alloc(), &clash);
+    let refused = checked(&rt, &clash);
     assert_refuses(&rt, &refused, 3, "E09 ReservedName r", "a clash");
     Ok(())
 }
@@ -166,7 +172,7 @@ fn energies_whose_slope_goes_wrong(rt: HostRuntime) -> Result<(), Fail> {
         let job = job_with_energy(rt.alloc(), energy)?;
         let text = str::from_utf8(&job).ok().ok_or("no text")?;
         let job = with_line(rt.alloc(), text, 6, slices)?;
-        let answer = checked(rt.alloc(), &job);
+        let answer = checked(&rt, &job);
         assert_eq!(rt; answer.status, 3, "{energy}");
         assert!(rt; answer.out.is_empty(), "{energy}");
         let line = line_of(&answer).ok_or("no line")?;
@@ -201,7 +207,7 @@ fn energies_that_are_accepted(rt: HostRuntime) -> Result<(), Fail> {
         let job = job_with_energy(rt.alloc(), energy)?;
         let text = str::from_utf8(&job).ok().ok_or("no text")?;
         let job = with_line(rt.alloc(), text, 6, slices)?;
-        let answer = checked(rt.alloc(), &job);
+        let answer = checked(&rt, &job);
         assert_eq!(rt; answer.status, 0, "{energy}");
         let line = str::from_utf8(&answer.out).ok().ok_or("no text")?;
         assert!(rt; line.starts_with("accepted: steps "), "{line}");
@@ -231,20 +237,20 @@ fn a_jobs_listing_is_judged_as_its_slope(rt: HostRuntime) -> Result<(), Fail> {
     let alloc = rt.alloc();
     for job in [JOB, MIXTURE] {
         let job = job.as_bytes();
-        let code = answer_over(alloc, alloc, &["code", "job"], &[("job", job)]);
-        let own = checked(alloc, job);
+        let code = answer_over(&rt, alloc, &["code", "job"], &[("job", job)]);
+        let own = checked(&rt, job);
         assert_eq!(rt; own.status, 0);
         assert!(rt; own.out.starts_with(b"accepted: steps "));
-        let listed = checked_listing(alloc, job, &code.out);
+        let listed = checked_listing(&rt, job, &code.out);
         assert_prints(&rt, &listed, &own.out, "its own listing");
     }
     Ok(())
 }
 
 /// The answer to `energy`.
-fn weighed(alloc: Global, job: &[u8], state: &[u8]) -> Answer {
+fn weighed<R: Threads + Sync + AllocGlobal>(rt: &R, job: &[u8], state: &[u8]) -> Answer {
     let files = [("job", job), ("state", state)];
-    answer_over(alloc, alloc, &["energy", "job", "state"], &files)
+    answer_over(rt, rt.alloc(), &["energy", "job", "state"], &files)
 }
 
 /// The places along x of two atoms, and the line of their energy: apart, at one place, and beyond the cutoff.
@@ -260,11 +266,11 @@ fn energies_of_states(rt: HostRuntime) -> Result<(), Fail> {
     for ([low, high], line) in WEIGHED {
         let atoms = [[[low, 0, 0]; 2], [[high, 0, 0]; 2]];
         let state = state_of(alloc, 0, 200000, &atoms)?;
-        let answer = weighed(alloc, JOB.as_bytes(), &state);
+        let answer = weighed(&rt, JOB.as_bytes(), &state);
         assert_prints(&rt, &answer, line.as_bytes(), line);
     }
     let none = state_of(alloc, 5, 200000, &[])?;
-    let answer = weighed(alloc, JOB.as_bytes(), &none);
+    let answer = weighed(&rt, JOB.as_bytes(), &none);
     assert_prints(&rt, &answer, b"energy 0\n", "no atoms");
     Ok(())
 }
@@ -273,7 +279,7 @@ fn energies_of_states(rt: HostRuntime) -> Result<(), Fail> {
 #[test]
 fn an_energy_without_a_value(rt: HostRuntime) -> Result<(), Fail> {
     let job = job_with_energy(rt.alloc(), "1/r+(2000000000+2000000000)")?;
-    let answer = weighed(rt.alloc(), &job, STATE.as_bytes());
+    let answer = weighed(&rt, &job, STATE.as_bytes());
     assert_eq!(rt; answer.status, 3);
     assert!(rt; answer.out.is_empty());
     let line = line_of(&answer).ok_or("no line")?;
@@ -295,7 +301,7 @@ fn forces_past_their_range(rt: HostRuntime) -> Result<(), Fail> {
         let state = state_of(rt.alloc(), 0, 200000, &atoms)?;
         let files = [("job", job.as_slice()), ("state", state.as_slice())];
         let words = ["run", "job", "state", "--steps", "0"];
-        let answer = answer_over(rt.alloc(), rt.alloc(), &words, &files);
+        let answer = answer_over(&rt, rt.alloc(), &words, &files);
         if refused {
             assert_refuses(&rt, &answer, 1, "A3 ForceRange", "six atoms");
         } else {

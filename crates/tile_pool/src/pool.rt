@@ -115,6 +115,7 @@ pub fn forces<R: Threads + Sync, A: Allocator + Copy, W: Work + Sync, G: Gate + 
         workers: u64::from(workers),
     };
     let (table, seat) = Table::of_words(alloc, words.as_slice(), &setting)?;
+    drop(words);
     let seat = run_all(rt, &table.shared, seat, workers, work, gate);
     let closed = table.close_with(seat);
     let sums = read_words(&closed, sums, count);

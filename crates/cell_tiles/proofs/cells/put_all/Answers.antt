@@ -1,5 +1,7 @@
-use Rattle.std.proofs.Common.{◌∙◌, ◌++◌, [], ◌∷◌, ap, arith, set}
+use Rattle.std.proofs.Common.{◌∙◌, ◌++◌, [], ◌∷◌, ap, arith, set, subst, inl, inr}
+use Rattle.std.proofs.lemmas.Bool.{cases_eq}
 use Rattle.std.proofs.lemmas.List.{get_or_default}
+use Rattle.ring_box.specs.Cells.{ArePlaces}
 use Rattle.cell_tiles.specs.Cells.{cell_number, first_members}
 use Rattle.cell_tiles.specs.Tiles.{members_at}
 use Rattle.cell_tiles.proofs.MemberLemmas.{few_members, length_members, next_member, no_members}
@@ -7,43 +9,53 @@ use Rattle.cell_tiles.proofs.VectorLemmas.{few_seen, length_seen}
 use Rattle.cell_tiles.proofs.cells.put_all.Goals as goal
 
 pub loop-atom-init : goal.loop-atom-init
-loop-atom-init g c = c.requires.empty ∙ no_members c.args.grid.now.bits c.args.frame.now
+loop-atom-init g c = record {
+  put = c.requires.empty ∙ no_members c.args.grid.now.bits c.args.frame.now;
+  on_ring = λ k d h. absurd (omega arith);
+}
 
 pub put-requires : goal.put-requires
 put-requires g c =
     let bits = c.args.grid.now.bits in
     let frame = c.args.frame.now in
-    let l = length_seen (λ m. m.items) c.loop-atom.members.items (first_members bits frame c.loop-atom.atom) _ c.loop-atom.invariant (length_members bits frame c.loop-atom.atom) in
+    let l = length_seen (λ m. m.items) c.loop-atom.members.items (first_members bits frame c.loop-atom.atom) _ c.loop-atom.invariant.put (length_members bits frame c.loop-atom.atom) in
     omega (arith, l, c.cell_of.ensures.bound)
 
 pub returns-in_err-put-clause-few : goal.returns-in_err-put-clause-few
 returns-in_err-put-clause-few g c =
     let bits = c.args.grid.now.bits in
     let frame = c.args.frame.now in
-    few_seen (λ m. m.items) c.put.new.members.items (first_members bits frame c.loop-atom.atom) 65536 (c.in_err-put.ensures.err ∙ c.loop-atom.invariant) (few_members bits frame c.loop-atom.atom 65536 (omega arith))
+    few_seen (λ m. m.items) c.put.new.members.items (first_members bits frame c.loop-atom.atom) 65536 (c.in_err-put.ensures.err ∙ c.loop-atom.invariant.put) (few_members bits frame c.loop-atom.atom 65536 (omega arith))
 
 pub returns-in_err-put-clause-cells : goal.returns-in_err-put-clause-cells
 returns-in_err-put-clause-cells g c =
     let bits = c.args.grid.now.bits in
     let frame = c.args.frame.now in
-    length_seen (λ m. m.items) c.put.new.members.items (first_members bits frame c.loop-atom.atom) _ (c.in_err-put.ensures.err ∙ c.loop-atom.invariant) (length_members bits frame c.loop-atom.atom)
+    length_seen (λ m. m.items) c.put.new.members.items (first_members bits frame c.loop-atom.atom) _ (c.in_err-put.ensures.err ∙ c.loop-atom.invariant.put) (length_members bits frame c.loop-atom.atom)
 
 pub loop-atom-preserved : goal.loop-atom-preserved
 loop-atom-preserved g c =
     let bits = c.args.grid.now.bits in
     let frame = c.args.frame.now in
-    c.in_ok-put.ensures.ok
-    ∙ (ap (λ ms. set ms c.cell_of.result (members_at ms c.cell_of.result ++ c.loop-atom.atom ∷ [])) c.loop-atom.invariant
-    ∙ next_member bits frame c.loop-atom.atom c.cell_of.result (c.cell_of.ensures.value ∙ ap (cell_number bits) (get_or_default frame c.loop-atom.atom _ [] (omega arith))) c.cell_of.ensures.bound)
+    record {
+      put =
+          c.in_ok-put.ensures.ok
+          ∙ (ap (λ ms. set ms c.cell_of.result (members_at ms c.cell_of.result ++ c.loop-atom.atom ∷ [])) c.loop-atom.invariant.put
+          ∙ next_member bits frame c.loop-atom.atom c.cell_of.result (c.cell_of.ensures.value ∙ ap (cell_number bits) (get_or_default frame c.loop-atom.atom _ [] (omega arith))) c.cell_of.ensures.bound);
+      on_ring = λ k d h. elim (cases_eq k c.loop-atom.atom) [
+        | inl e ↦ rw e (subst ArePlaces (get_or_default frame c.loop-atom.atom _ d (omega arith)) c.cell_of.ensures.on_ring)
+        | inr o ↦ c.loop-atom.invariant.on_ring k d (omega arith)
+      ];
+    }
 
 pub returns-clause-few : goal.returns-clause-few
 returns-clause-few g c =
     let bits = c.args.grid.now.bits in
     let frame = c.args.frame.now in
-    few_seen (λ m. m.items) c.loop-atom.members.items (first_members bits frame c.loop-atom.atom) 65536 c.loop-atom.invariant (few_members bits frame c.loop-atom.atom 65536 (omega arith))
+    few_seen (λ m. m.items) c.loop-atom.members.items (first_members bits frame c.loop-atom.atom) 65536 c.loop-atom.invariant.put (few_members bits frame c.loop-atom.atom 65536 (omega arith))
 
 pub returns-clause-cells : goal.returns-clause-cells
 returns-clause-cells g c =
     let bits = c.args.grid.now.bits in
     let frame = c.args.frame.now in
-    length_seen (λ m. m.items) c.loop-atom.members.items (first_members bits frame c.loop-atom.atom) _ c.loop-atom.invariant (length_members bits frame c.loop-atom.atom)
+    length_seen (λ m. m.items) c.loop-atom.members.items (first_members bits frame c.loop-atom.atom) _ c.loop-atom.invariant.put (length_members bits frame c.loop-atom.atom)

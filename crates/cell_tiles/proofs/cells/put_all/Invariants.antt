@@ -1,6 +1,12 @@
-use Rattle.std.proofs.Common.{◌≡◌, map}
+use Rattle.std.proofs.Common.{◌≡◌, ◌<◌, ℕ, List, map, get_or}
+use Rattle.ring_box.specs.Cells.{ArePlaces}
 use Rattle.cell_tiles.specs.Cells.{first_members}
 use Rattle.cell_tiles.proofs.cells.put_all.Given as goal
 
+-- the atoms so far stand in their cells
 abbrev pub invariant-loop-atom : goal.invariant-loop-atom
-invariant-loop-atom g l = map (λ m. m.items) l.members.items ≡ first_members l.grid.bits l.frame l.atom
+invariant-loop-atom g l =
+    record {
+      put : map (λ m. m.items) l.members.items ≡ first_members l.grid.bits l.frame l.atom;
+      on_ring : (k : ℕ) (d : List ℕ) → k < l.atom → ArePlaces (get_or l.frame k d);
+    }

@@ -1,4 +1,4 @@
-use Rattle.std.proofs.Common.{◌≤◌, ◌<◌, ◌^◌, ℕ, MatchOption, codes, subst, arith}
+use Rattle.std.proofs.Common.{◌<◌, ◌^◌, ℕ, MatchOption, codes, subst, arith}
 use Rattle.clap.specs.Words.{found_of, rows_of}
 use Rattle.cli.specs.CommandLine.{SaysNumber}
 use Rattle.cli.proofs.CommandLineLaws.{said_read, said_once}

@@ -1,7 +1,6 @@
-use Rattle.std.proofs.Common.{◌≤◌, ◌<◌, ◌^◌, ℕ, MatchOption, codes, subst, arith}
+use Rattle.std.proofs.Common.{◌<◌, ◌^◌, ℕ, MatchOption, codes, subst, arith}
 use Rattle.clap.specs.Words.{found_of, rows_of}
 use Rattle.cli.specs.CommandLine.{SaysNumber}
-use Rattle.cli.specs.declared.commands.TheConstants.{MAX_STEPS}
 use Rattle.cli.proofs.CommandLineLaws.{said_read, said_once}
 use Rattle.cli.proofs.command_line.steps_of.Goals as goal
 

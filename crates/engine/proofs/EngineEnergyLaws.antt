@@ -1,0 +1,78 @@
+-- The energy of an engine is that of its system.
+use Rattle.std.proofs.Common.{◌≡◌, ℕ, ◌<◌, ◌≤◌, List, length, ℤ, Option, Some, None, Result, Ok, Err, refl, ap, sym, ◌∙◌}
+use Rattle.std.specs.Prelude.{IfSome, slice_index}
+use Rattle.fixed.specs.Fractions.{bits_of}
+use Rattle.energy_program.specs.Faults as energy
+use Rattle.energy_program.specs.Programs.{program_tree, trees_of}
+use Rattle.energy_program.specs.Tree as trees
+use Rattle.energy_program.specs.Value.{value_of}
+use Rattle.energy_program.specs.declared.faults.ExprFault.{ExprFault}
+use Rattle.energy_program.specs.declared.programs.Program.{Program}
+use Rattle.job.specs.Views.{job_value}
+use Rattle.job.specs.declared.jobs.Job.{Job}
+use Rattle.kernel_code.specs.declared.instructions.Instr.{Instr}
+use Rattle.kernel_code.specs.Machine.{Ends}
+use Rattle.kernel_code.specs.Tables.{Table, inputs_of}
+use Rattle.kernel_compiler.specs.Code.{compiled}
+use Rattle.kernel_compiler.specs.Compiled.{Computes}
+use Rattle.state.specs.declared.states.State.{State}
+use Rattle.integrator.proofs.EnergyLaws.{enough_of_job}
+use Rattle.integrator.specs.Energies.{job_tree}
+use Rattle.engine.specs.Engines.{EngineView, engine_dynamics}
+use Rattle.engine.specs.EngineViews.{IsEngine, engine_view}
+use Rattle.integrator.specs.Forces.{pairs_of}
+use Rattle.engine.specs.PairEnergies.{HasNoEnergy, energy_sum, engine_value, pair_energy}
+use Rattle.engine.specs.SafeEnergies.{safe_value}
+use Rattle.engine.specs.SafeKernels.{safe_dynamics}
+use Rattle.integrator.specs.Starts.{energy_refused, or_refused, table_of}
+use Rattle.engine.specs.Verdicts.{IsVerdict}
+use Rattle.integrator.specs.declared.faults.RunFault.{RunFault}
+use Rattle.integrator.specs.declared.faults.RunFault.TheVariants as run
+use Rattle.engine.specs.declared.safe_kernels.SafeKernel.{SafeKernel}
+use Rattle.integrator.specs.declared.systems.System.{System}
+
+-- code of the energy, under the job's table, gives the energy's value
+pub energy_gives : {A : Type 0} (j : Job A) (t : Table) (p : Program A) (code : List Instr) → t ≡ table_of (job_value j) → p.parameters ≡ length j.parameters.items → p.globals ≡ length j.globals.items
+    → ((inputs : List ℤ) → trees.inputs_of p.parameters p.globals ≤ length inputs → Computes 32 (trees_of p).0 (trees_of p).1 code inputs)
+    → (a b : ℕ) (r : ℤ) (n : ℕ) (v : ℤ) → a < length t.rows → b < length t.rows → Ends (bits_of t.frac) code (inputs_of t a b r) n (Ok v)
+    → value_of (bits_of t.frac) (inputs_of t a b r) (program_tree p) ≡ Some v
+energy_gives j t p code same parameters globals h =
+    let u = table_of (job_value j) in
+    rw same
+    (λ a b r n v first second ends.
+    let enough : trees.inputs_of p.parameters p.globals ≤ length (inputs_of u a b r) = rw (parameters, globals) (enough_of_job j a b r first second) in
+    (h (inputs_of u a b r) enough).value n v ends)
+
+-- a sum of the system's is the engine's
+pub engine_energy : {A : Type 0} (j : Job A) (s : State A) (y : System (SafeKernel A) A) (frame : List (List ℕ)) (z : ℤ) → IsEngine j s y
+    → energy_sum (pair_energy (safe_dynamics y) (safe_value y) frame) (pairs_of (length frame)) ≡ Some z
+    → energy_sum (pair_energy (engine_dynamics (engine_view j s y)) (engine_value (engine_view j s y)) frame) (pairs_of (length frame)) ≡ Some z
+engine_energy j s y frame z h e =
+    let worth = λ (t : Table) (tree : trees.Tree) (p : ℕ × ℕ) (r : ℤ). value_of (bits_of t.frac) (inputs_of t (slice_index y.types.items p.0) (slice_index y.types.items p.1) r) tree in
+    let value : safe_value y ≡ engine_value (engine_view j s y) = ap (λ t. worth t (program_tree y.kernel.energy)) h.table ∙ ap (worth (table_of (job_value j))) h.energy in
+    sym (ap (λ d. energy_sum (pair_energy d (engine_value (engine_view j s y)) frame) (pairs_of (length frame))) h.dynamics)
+    ∙ sym (ap (λ v. energy_sum (pair_energy (safe_dynamics y) v frame) (pairs_of (length frame))) value)
+    ∙ e
+
+refused_at : (o : Option energy.Refusal) (read : Result (List Instr) energy.Refusal) → energy.FailsBy read o → IfSome o (λ r. or_refused energy_refused read ≡ Err (energy_refused r))
+refused_at None read h = tt
+refused_at (Some r) read h = rw h refl
+
+-- code that would be too large
+pub too_large : {A : Type 0} (e : EngineView) (p : Program A) (f : ExprFault A) → program_tree p ≡ job_tree e.job → energy.Fails f (compiled 32 (trees_of p).0 (trees_of p).1) → HasNoEnergy {A = A} e (run.Energy f)
+too_large e p f same h = record { program = trees_of p; its = same; it = refused_at (energy.refusal_of f) (compiled 32 (trees_of p).0 (trees_of p).1) h }
+
+-- code that the verifier refuses
+pub not_accepted : {A : Type 0} (e : EngineView) (p : Program A) (code : List Instr) (f : RunFault A) → program_tree p ≡ job_tree e.job → compiled 32 (trees_of p).0 (trees_of p).1 ≡ Ok code → IsVerdict e.job code f → HasNoEnergy e f
+not_accepted e p code (run.Kernel r) same c h = record { program = trees_of p; its = same; it = record { code = code; is = c; why = h } }
+not_accepted e p code run.Memory same c h = tt
+not_accepted e p code (run.Energy f) same c h = absurd h
+not_accepted e p code (run.UnknownType k) same c h = absurd h
+not_accepted e p code run.CutoffTooLong same c h = absurd h
+not_accepted e p code run.ForceRange same c h = absurd h
+not_accepted e p code (run.Job f) same c h = absurd h
+not_accepted e p code (run.State f) same c h = absurd h
+not_accepted e p code run.StepRange same c h = absurd h
+not_accepted e p code (run.KernelFault a b c' d f) same c h = absurd h
+not_accepted e p code (run.MemoryAfter done) same c h = absurd h
+not_accepted e p code (run.Out f) same c h = absurd h

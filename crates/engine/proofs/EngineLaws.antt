@@ -1,0 +1,283 @@
+-- Engines: what their parts make them, and their steps as runs.
+use Rattle.std.proofs.Common.{◌≡◌, ℕ, ◌-◌, ◌*◌, ◌^◌, ◌<◌, ◌≤◌, Bool, true, false, List, [], length, get_or, ℤ, pos, negsuc, ◌+ℤ◌, ◌-ℤ◌, ◌≤ℤ◌, Option, Some, None, Ok, Err, arith, refl, ap, sym, ◌∙◌, zero-add}
+use Rattle.std.specs.Prelude.{nat_lt, is_none, unsigned_abs, ◌&&◌, if◌then◌else◌, IfSome}
+use Rattle.std.proofs.lemmas.Int.{ints}
+use Rattle.std.proofs.lemmas.Bool.{and_parts, leb-true, lt-ltb, ltb-false, ltb-true}
+use Rattle.std.proofs.lemmas.List.{ext_get_or, get_or-map}
+use Rattle.fixed.specs.Arithmetic.{in_range}
+use Rattle.fixed.specs.declared.frac.Frac.TheVariants.{F32}
+use Rattle.ring_box.specs.Cells.{HasCells}
+use Rattle.ring_box.specs.declared.boxes.RingBox.{RingBox}
+use Rattle.job.specs.Faults as jobfaults
+use Rattle.job.specs.Views as jobs
+use Rattle.job.specs.declared.faults.JobFault.{JobFault}
+use Rattle.verifier.specs.Kernels.{IsKernel, Kernel}
+use Rattle.verifier.specs.Safety.{IsCertified}
+use Rattle.job.specs.JobText.{reading_of, limits}
+use Rattle.job.specs.Values.{JobValue}
+use Rattle.kernel_code.specs.declared.instructions.Instr.{Instr}
+use Rattle.state.specs.StateReading.{Fails, state_of}
+use Rattle.state.specs.declared.faults.StateFault.{StateFault}
+use Rattle.state.specs.declared.faults.StateFault.TheVariants as statefault
+use Rattle.state.specs.StateText.{AtomView, StateView}
+use Rattle.integrator.proofs.ReturnLaws.{start_from, system_parts}
+use Rattle.integrator.proofs.StartLaws.{start_refused, started}
+use Rattle.integrator.proofs.NumberLaws.{length-numbers, at_number}
+use Rattle.integrator.specs.Energies.{Energy, energy_of, job_tree}
+use Rattle.engine.specs.Engines.{EngineView, HasNoEngine, HasNoEngineOfTexts, IsEngineOfTexts, IsEngineRefusal, Stopped, Went, engine_dynamics}
+use Rattle.integrator.specs.Frames.{frames, places_of, turns}
+use Rattle.integrator.specs.Runs.{IsAfter, is_out}
+use Rattle.integrator.specs.Starts.{has_room, holds_two, job_refused, plain, start_of, start_with, step_range, system_of, table_of}
+use Rattle.integrator.specs.StartViews.{Refuses, is_of_system}
+use Rattle.integrator.specs.States.{counter_after, counter_at, current_frame, frames_of, moved_state, nobody, placed, placed_atoms, previous_frame}
+use Rattle.integrator.specs.StepFaults.{run_fault_of}
+use Rattle.engine.specs.Tilings.{IsUnstarted, frames_along}
+use Rattle.engine.specs.Verdicts.{IsSafeFor, IsVerdict, PassesRange}
+use Rattle.integrator.specs.declared.direction.Direction.{Direction}
+use Rattle.integrator.specs.declared.direction.Direction.TheVariants.{Forward, Back}
+use Rattle.integrator.specs.declared.faults.RunFault.{RunFault}
+use Rattle.integrator.specs.declared.faults.RunFault.TheVariants as run
+use Rattle.integrator.specs.declared.faults.StepFault.{StepFault}
+use Rattle.integrator.specs.declared.faults.StepFault.TheVariants as step
+
+no_fault : ◌≡◌ {A = Bool} false true → ⊥
+no_fault e = cc
+
+-- ---- no step
+
+-- atoms at their own places are themselves
+at_home : (atoms : List AtomView) → placed_atoms atoms (frames (previous_frame atoms) (current_frame atoms)) ≡ atoms
+at_home atoms =
+    let home = frames (previous_frame atoms) (current_frame atoms) in
+    let g = λ (a : ℕ). placed (get_or atoms a nobody) (places_of home.previous a) (places_of home.current a) in
+    ext_get_or nobody (placed_atoms atoms home) atoms (length-numbers g 0 (length atoms)) (λ k h.
+    let l : k < length atoms = omega (arith, length-numbers g 0 (length atoms)) in
+    at_number g nobody 0 (length atoms) k l ∙ ap g (zero-add k)
+    ∙ ap (λ p. placed (get_or atoms k nobody) p (places_of home.current k)) (get_or-map (λ (a : AtomView). a.previous) atoms k nobody [] l)
+    ∙ ap (λ p. placed (get_or atoms k nobody) (get_or atoms k nobody).previous p) (get_or-map (λ (a : AtomView). a.current) atoms k nobody [] l))
+
+no_way : (w : Direction) (z : ℤ) → counter_at w z 0 ≡ z
+no_way Forward z = omega (arith, ints)
+no_way Back z = omega (arith, ints)
+
+stays : (w : Direction) (z : ℤ) → in_range z ≡ true → counter_after w z 0 ≡ Some z
+stays w z h = rw (no_way w z, h) refl
+
+-- after no step an engine is as it was
+pub went_nowhere : (w : Direction) (e : EngineView) → in_range e.state.step ≡ true → Went w 0 e e
+unfolding turns
+went_nowhere w e h = record {
+  frames' = frames_of e.state;
+  turned = refl;
+  counter = e.state.step;
+  counted = stays w e.state.step h;
+  moved = ap (λ atoms. record e { state = record e.state { atoms = atoms } }) (sym (at_home e.state.atoms));
+}
+
+-- an engine whose atoms stand at the frames that its steps come to
+pub went_on : (w : Direction) (n : ℕ) (e f : EngineView) (b m p q : List (List ℕ)) (k : ℤ) → turns w (engine_dynamics e) n (frames_of e.state) ≡ Some (frames_along w b m) → frames p q ≡ frames_along w b m
+    → counter_after w e.state.step n ≡ Some k → f ≡ record e { state = moved_state e.state (frames p q) k } → Went w n e f
+went_on w n e f b m p q k turned same counted moved = record { frames' = frames p q; turned = turned ∙ ap Some (sym same); counter = k; counted = counted; moved = moved }
+
+-- steps that don't start leave an engine as it was
+pub unstarted : (w : Direction) (n : ℕ) (e : EngineView) (fault : StepFault) → in_range e.state.step ≡ true → IsUnstarted w n e.state.step fault → Stopped w n e e fault
+unstarted w n e step.StepRange fits h = (h, refl)
+unstarted w n e (step.Memory done) fits h = rw h (omega arith, went_nowhere w e fits)
+
+-- ---- some of the steps
+
+upper : (m : ℕ) (c : ℤ) → in_range c ≡ true → pos m ≤ℤ c → in_range (pos m) ≡ true
+upper m (pos k) h l = let b = ltb-true k (2 ^ 63) h in lt-ltb m (2 ^ 63) (omega (arith, ints))
+upper m (negsuc k) h l = absurd (omega (arith, ints))
+
+lower : (m : ℕ) (a : ℤ) → in_range a ≡ true → a ≤ℤ negsuc m → in_range (negsuc m) ≡ true
+lower m (negsuc j) h l = let b = ltb-true j (2 ^ 63) h in lt-ltb m (2 ^ 63) (omega (arith, ints))
+lower m (pos j) h l = absurd (omega (arith, ints))
+
+between : (a b c : ℤ) → in_range a ≡ true → in_range c ≡ true → a ≤ℤ b → b ≤ℤ c → in_range b ≡ true
+between a (pos m) c h k l u = upper m c k u
+between a (negsuc m) c h k l u = lower m a h l
+
+fits_between : (w : Direction) (z : ℤ) (k n : ℕ) → in_range z ≡ true → in_range (counter_at w z n) ≡ true → k ≤ n → in_range (counter_at w z k) ≡ true
+fits_between Forward z k n h f l = between z (z +ℤ pos k) (z +ℤ pos n) h f (omega (arith, ints)) (omega (arith, ints))
+fits_between Back z k n h f l = between (z -ℤ pos n) (z -ℤ pos k) z f h (omega (arith, ints)) (omega (arith, ints))
+
+some_fits : (b : Bool) (z : ℤ) → is_none (if b then Some z else None) ≡ false → b ≡ true
+some_fits true z h = refl
+some_fits false z h = absurd (no_fault (sym h))
+
+-- where the counter fits after all steps it does after some of them
+pub counter_reached : (w : Direction) (z : ℤ) (k n : ℕ) → in_range z ≡ true → k ≤ n → is_none (counter_after w z n) ≡ false → counter_after w z k ≡ Some (counter_at w z k)
+counter_reached w z k n h l s =
+    let fits = fits_between w z k n h (some_fits (in_range (counter_at w z n)) (counter_at w z n) s) l in
+    rw fits refl
+
+-- ---- runs of texts
+
+pub job_tree_is : (j : JobValue) (energy : Energy) → energy_of j ≡ Ok energy → job_tree j ≡ energy.tree
+unfolding job_tree
+job_tree_is j energy e = rw e refl
+
+-- a start of an engine's texts, with the counter at its end
+engine_start : (job state : List ℕ) (w : Direction) (n : ℕ) (e : EngineView) (counter : ℤ) → (t : IsEngineOfTexts job state e) → counter_after w e.state.step n ≡ Some counter
+    → start_of plain job state w n ≡ Ok (record { state = e.state; dynamics = engine_dynamics e; counter = counter })
+engine_start job state w n e counter t h =
+    let parts = system_parts t.j t.s t.it.system t.it.made in
+    let k = rw t.it.is at h in
+    let tree = job_tree_is t.j t.it.system.0 parts.energy_read in
+    rw (t.it.is, tree)
+    (start_from plain job state w n t.j t.s t.job_read t.state_read
+    ∙ started plain w n t.j t.s t.it.system.0 t.it.system.1 counter parts.energy_read parts.typed parts.room k)
+
+pub engine_ran : (job state : List ℕ) (w : Direction) (n : ℕ) (e f : EngineView) → IsEngineOfTexts job state e → Went w n e f → IsAfter plain job state w n f.state
+engine_ran job state w n e f t h = record {
+  start = record { state = e.state; dynamics = engine_dynamics e; counter = h.counter };
+  starts = engine_start job state w n e h.counter t h.counted;
+  ran = record { frames' = h.frames'; turned = h.turned; moved = ap (λ (e : EngineView). e.state) h.moved };
+}
+
+no_counter : (job state : List ℕ) (w : Direction) (n : ℕ) (j : JobValue) (s : StateView) (system : Energy × List ℕ) → reading_of limits job ≡ Ok j → state_of state ≡ Ok s → system_of j s ≡ Ok system
+    → counter_after w s.step n ≡ None → start_of plain job state w n ≡ Err step_range
+unfolding start_with
+no_counter job state w n j s system p q r h = start_from plain job state w n j s p q ∙ rw (r, h) refl
+
+pub engine_stops : (A : Type 0) (job state : List ℕ) (w : Direction) (n : ℕ) (e f : EngineView) (fault : StepFault) → IsEngineOfTexts job state e → Stopped w n e f fault
+    → IsEngineRefusal {A = A} job state w n (run_fault_of fault)
+engine_stops A job state w n e f step.StepRange t h =
+    let none = rw t.it.is at h.0 in
+    no_counter job state w n t.j t.s t.it.system t.job_read t.state_read t.it.made none
+engine_stops A job state w n e f (step.Memory done) t h = h.0
+
+pub step_unwritten : (A : Type 0) (fault : StepFault) → is_out (run_fault_of {A = A} fault) ≡ false
+step_unwritten A step.StepRange = refl
+step_unwritten A (step.Memory done) = refl
+
+-- why there is no engine is why there is no run
+pub no_engine_refuses : {A : Type 0} (job state : List ℕ) (w : Direction) (n : ℕ) (f : RunFault A) → HasNoEngineOfTexts job state f → IsEngineRefusal job state w n f
+no_engine_refuses job state w n (run.Job f) h = h w n
+no_engine_refuses job state w n (run.State f) h = h w n
+no_engine_refuses job state w n (run.Energy f) h = h w n
+no_engine_refuses job state w n (run.UnknownType k) h = h w n
+no_engine_refuses job state w n run.CutoffTooLong h = h w n
+no_engine_refuses job state w n (run.Kernel r) h = h
+no_engine_refuses job state w n run.ForceRange h = h
+no_engine_refuses job state w n run.Memory h = tt
+no_engine_refuses job state w n run.StepRange h = absurd h
+no_engine_refuses job state w n (run.KernelFault a b c d e) h = absurd h
+no_engine_refuses job state w n (run.MemoryAfter done) h = absurd h
+no_engine_refuses job state w n (run.Out f) h = absurd h
+
+pub no_engine_unwritten : {A : Type 0} (job state : List ℕ) (f : RunFault A) → HasNoEngineOfTexts job state f → is_out f ≡ false
+no_engine_unwritten job state (run.Job f) h = refl
+no_engine_unwritten job state (run.State f) h = refl
+no_engine_unwritten job state (run.Energy f) h = refl
+no_engine_unwritten job state (run.UnknownType k) h = refl
+no_engine_unwritten job state run.CutoffTooLong h = refl
+no_engine_unwritten job state (run.Kernel r) h = refl
+no_engine_unwritten job state run.ForceRange h = refl
+no_engine_unwritten job state run.Memory h = refl
+no_engine_unwritten job state run.StepRange h = refl
+no_engine_unwritten job state (run.KernelFault a b c d e) h = refl
+no_engine_unwritten job state (run.MemoryAfter done) h = refl
+no_engine_unwritten job state (run.Out f) h = absurd h
+
+-- texts that are read, of which there is no engine
+pub texts_refused : {A : Type 0} (job state : List ℕ) (j : JobValue) (s : StateView) (f : RunFault A) → reading_of limits job ≡ Ok j → state_of state ≡ Ok s → HasNoEngine j s f → HasNoEngineOfTexts job state f
+texts_refused {A} job state j s (run.Energy f) p q h = λ w n. start_refused plain job state w n j s (run.Energy f) p q h
+texts_refused {A} job state j s (run.UnknownType k) p q h = λ w n. start_refused {A = A} plain job state w n j s (run.UnknownType k) p q h
+texts_refused {A} job state j s run.CutoffTooLong p q h = λ w n. start_refused {A = A} plain job state w n j s run.CutoffTooLong p q h
+texts_refused job state j s (run.Kernel r) p q h = record { j = j; s = s; job_read = p; state_read = q; it = h }
+texts_refused job state j s run.ForceRange p q h = record { j = j; s = s; job_read = p; state_read = q; it = h }
+texts_refused job state j s run.Memory p q h = tt
+texts_refused job state j s (run.Job f) p q h = absurd h
+texts_refused job state j s (run.State f) p q h = absurd h
+texts_refused job state j s run.StepRange p q h = absurd h
+texts_refused job state j s (run.KernelFault a b c d e) p q h = absurd h
+texts_refused job state j s (run.MemoryAfter done) p q h = absurd h
+texts_refused job state j s (run.Out f) p q h = absurd h
+
+-- ---- which engines there are
+
+-- a verdict on the code of the slope is why there is no engine
+pub verdict_refuses : {A : Type 0} (j : JobValue) (s : StateView) (system : Energy × List ℕ) (f : RunFault A) → system_of j s ≡ Ok system → IsVerdict j system.0.code f → HasNoEngine j s f
+verdict_refuses j s system (run.Kernel r) e h = record { system = system; made = e; it = h }
+verdict_refuses j s system run.Memory e h = tt
+verdict_refuses j s system (run.Job g) e h = absurd h
+verdict_refuses j s system (run.State g) e h = absurd h
+verdict_refuses j s system (run.Energy g) e h = absurd h
+verdict_refuses j s system (run.UnknownType n) e h = absurd h
+verdict_refuses j s system run.CutoffTooLong e h = absurd h
+verdict_refuses j s system run.ForceRange e h = absurd h
+verdict_refuses j s system run.StepRange e h = absurd h
+verdict_refuses j s system (run.KernelFault a b c d k) e h = absurd h
+verdict_refuses j s system (run.MemoryAfter done) e h = absurd h
+verdict_refuses j s system (run.Out g) e h = absurd h
+
+-- what has no system has no engine
+pub system_refuses : {A : Type 0} (j : JobValue) (s : StateView) (f : RunFault A) → is_of_system f ≡ true → Refuses f (system_of j s) → HasNoEngine j s f
+system_refuses j s (run.Energy g) o h = h
+system_refuses j s (run.UnknownType n) o h = h
+system_refuses j s run.CutoffTooLong o h = h
+system_refuses j s run.Memory o h = tt
+system_refuses j s (run.Kernel r) o h = absurd (no_fault o)
+system_refuses j s (run.Job g) o h = absurd (no_fault o)
+system_refuses j s (run.State g) o h = absurd (no_fault o)
+system_refuses j s run.ForceRange o h = absurd (no_fault o)
+system_refuses j s run.StepRange o h = absurd (no_fault o)
+system_refuses j s (run.KernelFault a b c d k) o h = absurd (no_fault o)
+system_refuses j s (run.MemoryAfter done) o h = absurd (no_fault o)
+system_refuses j s (run.Out g) o h = absurd (no_fault o)
+
+certified_for : (j : JobValue) (code : List Instr) (k : Kernel) → IsKernel k → k.code ≡ code → k.table ≡ table_of j → k.core ≡ j.core → k.cutoff ≡ j.cutoff → IsCertified code (table_of j) j.core j.cutoff k.steps k.bound
+certified_for j code k h a b c d = rw (← a, ← b, ← c, ← d) h
+
+-- the answer of the test of the range, and what it was asked with
+test_is : (r : Bool) (b c n m : ℕ) → r ≡ nat_lt (c * (m - 1)) (2 ^ 63) → c ≡ b → m ≡ n → r ≡ nat_lt (b * (n - 1)) (2 ^ 63)
+test_is r b c n m e p q = rw (← p, ← q) e
+
+pub is_safe : (j : JobValue) (code : List Instr) (k : Kernel) (r : Bool) (c m n : ℕ) → IsKernel k → k.code ≡ code → k.table ≡ table_of j → k.core ≡ j.core → k.cutoff ≡ j.cutoff
+    → r ≡ nat_lt (c * (m - 1)) (2 ^ 63) → c ≡ k.bound → m ≡ n → r ≡ true → IsSafeFor j code n
+is_safe j code k r c m n h a b d e t p q passed = record {
+  steps = k.steps;
+  bound = k.bound;
+  certified = certified_for j code k h a b d e;
+  fits = ltb-true (k.bound * (n - 1)) (2 ^ 63) (sym (test_is r k.bound c n m t p q) ∙ passed);
+}
+
+pub passes : (j : JobValue) (code : List Instr) (k : Kernel) (r : Bool) (c m n : ℕ) → IsKernel k → k.code ≡ code → k.table ≡ table_of j → k.core ≡ j.core → k.cutoff ≡ j.cutoff
+    → r ≡ nat_lt (c * (m - 1)) (2 ^ 63) → c ≡ k.bound → m ≡ n → r ≡ false → PassesRange j code n
+passes j code k r c m n h a b d e t p q failed = record {
+  steps = k.steps;
+  bound = k.bound;
+  certified = certified_for j code k h a b d e;
+  far = ltb-false (k.bound * (n - 1)) (2 ^ 63) (sym (test_is r k.bound c n m t p q) ∙ failed);
+}
+
+-- ---- room for cells
+
+-- a box with room for two cutoffs along each side can be cut into cells
+pub room_for_cells : (cutoff : ℤ) (ring : RingBox) → has_room cutoff ring ≡ true → HasCells F32 ring cutoff
+room_for_cells cutoff ring h =
+    let p = and_parts (holds_two cutoff ring.x) (holds_two cutoff ring.y && holds_two cutoff ring.z) h in
+    let q = and_parts (holds_two cutoff ring.y) (holds_two cutoff ring.z) p.1 in
+    let x = leb-true (200000 * unsigned_abs cutoff) (ring.x * 2 ^ 32) p.0 in
+    let y = leb-true (200000 * unsigned_abs cutoff) (ring.y * 2 ^ 32) q.0 in
+    let z = leb-true (200000 * unsigned_abs cutoff) (ring.z * 2 ^ 32) q.1 in
+    (omega arith, omega arith, omega arith)
+
+-- ---- texts that aren't read
+
+job_unread_at : (job state : List ℕ) (w : Direction) (n : ℕ) (o : Option jobfaults.Refusal) → IfSome o (λ r. reading_of limits job ≡ Err r) → IfSome o (λ r. start_of plain job state w n ≡ Err (job_refused r))
+unfolding start_of
+job_unread_at job state w n None h = tt
+job_unread_at job state w n (Some r) h = rw h refl
+
+pub job_unread : {A : Type 0} (job state : List ℕ) (f : JobFault A) → IfSome (jobs.refusal_of f) (λ r. reading_of limits job ≡ Err r) → HasNoEngineOfTexts {A = A} job state (run.Job f)
+job_unread job state f h = λ w n. job_unread_at job state w n (jobs.refusal_of f) h
+
+pub state_unread : (A : Type 0) (job state : List ℕ) (j : JobValue) (f : StateFault) → reading_of limits job ≡ Ok j → Fails f (state_of state) → HasNoEngineOfTexts {A = A} job state (run.State f)
+unfolding start_of
+state_unread A job state j (statefault.BadLine n) p h = λ w n. rw (p, h) refl
+state_unread A job state j statefault.Truncated p h = λ w n. rw (p, h) refl
+state_unread A job state j statefault.Trailing p h = λ w n. rw (p, h) refl
+state_unread A job state j statefault.Memory p h = λ w n. tt

@@ -1,0 +1,9 @@
+pub mod SafeLaws
+pub mod RoundLaws
+pub mod TileLaws
+pub mod CourseLaws
+pub mod VerdictLaws
+pub mod EngineLaws
+pub mod EnergySumLaws
+pub mod EngineEnergyLaws
+pub mod EnergyOfTexts

@@ -1,0 +1,182 @@
+-- Accepted slopes: where a pair acts there is a slope, and each pair has a force that fits.
+use Rattle.std.proofs.Common.{◌≡◌, ℕ, ◌-◌, ◌*◌, ◌^◌, ◌<◌, ◌≤◌, Bool, true, false, List, length, ℤ, pos, Option, Some, None, arith, refl, ap, ◌∙◌}
+use Rattle.std.specs.Prelude.{unsigned_abs, neg_ℤ, unwrap_or, option_map, ◌≤ℤ◌, ◌<ℤ◌, int_lt, nat_lt, not, ◌&&◌, ◌==◌, if◌then◌else◌, IfSome, slice_index}
+use Rattle.std.proofs.lemmas.Nat.{mul-le}
+use Rattle.std.proofs.lemmas.Int.{ints}
+use Rattle.std.proofs.lemmas.Bool.{and_from, and_parts, le-leb, leb-true, lt-ltb, ltb-true, not_from_false, not-true}
+use Rattle.fixed.specs.declared.frac.Frac.{Frac}
+use Rattle.ring_box.specs.declared.boxes.RingBox.{RingBox}
+use Rattle.ring_box.specs.Distances.{distance_at, is_near, square_of}
+use Rattle.ring_box.specs.Forces.{acting_distance_of, force_along_of, taken_distance_of}
+use Rattle.ring_box.proofs.ForceLemmas.{max_high, max_low}
+use Rattle.integrator.proofs.BoundLaws.{along_within}
+use Rattle.integrator.proofs.Constructors.{none_is_no_some, some_same}
+use Rattle.integrator.proofs.SumLemmas.{within-weaker}
+use Rattle.integrator.specs.Adding.{IsWithin}
+use Rattle.integrator.specs.Forces.{none}
+use Rattle.integrator.specs.Frames.{force_at, pair_force, places_of}
+use Rattle.integrator.specs.Kernels.{is_small}
+use Rattle.engine.specs.SafeKernels.{IsAccepted, Potential, is_taken, minus, potential_of, safe_dynamics, slope_at}
+use Rattle.engine.specs.declared.safe_kernels.SafeKernel.{SafeKernel}
+use Rattle.integrator.specs.declared.systems.System.{System}
+
+-- ---- what is taken
+
+pub record Taken (k : Potential) (a b : ℕ) (r : ℤ) : Type 0 where
+  pub bound : k.bound < 2 ^ 63
+  pub first : a < length k.table.rows
+  pub second : b < length k.table.rows
+  pub low : k.core ≤ℤ r
+  pub high : r <ℤ k.cutoff
+
+not_below : (r c : ℤ) → int_lt r c ≡ false → c ≤ℤ r
+not_below r c h = grind (arith, ints)
+
+below : (r c : ℤ) → int_lt r c ≡ true → r <ℤ c
+below r c h = grind (arith, ints)
+
+is_not_below : (r c : ℤ) → c ≤ℤ r → int_lt r c ≡ false
+is_not_below r c h = grind (arith, ints)
+
+is_below : (r c : ℤ) → r <ℤ c → int_lt r c ≡ true
+is_below r c h = grind (arith, ints)
+
+pub taken_parts : (k : Potential) (a b : ℕ) (r : ℤ) → is_taken k a b r ≡ true → Taken k a b r
+taken_parts k a b r h =
+    let n = length k.table.rows in
+    let p = and_parts (nat_lt k.bound (2 ^ 63)) (nat_lt a n && (nat_lt b n && (not (int_lt r k.core) && int_lt r k.cutoff))) h in
+    let q = and_parts (nat_lt a n) (nat_lt b n && (not (int_lt r k.core) && int_lt r k.cutoff)) p.1 in
+    let s = and_parts (nat_lt b n) (not (int_lt r k.core) && int_lt r k.cutoff) q.1 in
+    let t = and_parts (not (int_lt r k.core)) (int_lt r k.cutoff) s.1 in
+    record {
+      bound = ltb-true k.bound (2 ^ 63) p.0;
+      first = ltb-true a n q.0;
+      second = ltb-true b n s.0;
+      low = not_below r k.core (not-true (int_lt r k.core) t.0);
+      high = below r k.cutoff t.1;
+    }
+
+pub taken_from : (k : Potential) (a b : ℕ) (r : ℤ) → Taken k a b r → is_taken k a b r ≡ true
+taken_from k a b r t =
+    let n = length k.table.rows in
+    and_from (nat_lt k.bound (2 ^ 63)) (nat_lt a n && (nat_lt b n && (not (int_lt r k.core) && int_lt r k.cutoff))) (lt-ltb k.bound (2 ^ 63) t.bound)
+    (and_from (nat_lt a n) (nat_lt b n && (not (int_lt r k.core) && int_lt r k.cutoff)) (lt-ltb a n t.first)
+    (and_from (nat_lt b n) (not (int_lt r k.core) && int_lt r k.cutoff) (lt-ltb b n t.second)
+    (and_from (not (int_lt r k.core)) (int_lt r k.cutoff) (not_from_false (int_lt r k.core) (is_not_below r k.core t.low)) (is_below r k.cutoff t.high))))
+
+-- ---- slopes
+
+-- a slope, of at most this magnitude
+pub record HasSlope (bound : ℕ) (slope : Option ℤ) : Type 0 where
+  pub v : ℤ
+  pub has : slope ≡ Some v
+  pub small : unsigned_abs v ≤ bound
+
+false_is_not_true : ◌≡◌ {A = Bool} false true → ⊥
+false_is_not_true e = cc
+
+small_parts : (b : ℕ) (o : Option ℤ) → is_small b o ≡ true → HasSlope b o
+small_parts b None h = absurd (false_is_not_true h)
+small_parts b (Some v) h = record { v = v; has = refl; small = leb-true (unsigned_abs v) b h }
+
+pub is_small_value : (b : ℕ) (o : Option ℤ) (v : ℤ) → o ≡ Some v → unsigned_abs v ≤ b → is_small b o ≡ true
+is_small_value b o v e h = rw e (le-leb (unsigned_abs v) b h)
+
+pub has_slope : {A : Type 0} (k : SafeKernel A) (a b : ℕ) (r : ℤ) → a < length k.verified.table.rows → b < length k.verified.table.rows → k.verified.core ≤ℤ r → r <ℤ k.verified.cutoff
+    → HasSlope k.verified.bound (slope_at (potential_of k) a b r)
+has_slope k a b r first second low high = small_parts k.verified.bound (slope_at (potential_of k) a b r) (k.bounded a b r first second low high)
+
+pub minus_is : (slope : Option ℤ) (v : ℤ) → slope ≡ Some v → neg_ℤ v ≡ minus slope
+minus_is slope v e = rw e refl
+
+-- ---- the distance at which a pair acts
+
+in_range_at : (f : Frac) (ring : RingBox) (core cutoff : ℤ) (x y : List ℕ) (r : ℤ) (near : Bool) → core <ℤ cutoff → is_near f (square_of ring x y) cutoff ≡ near
+    → (if near then Some (taken_distance_of f ring core x y) else None) ≡ Some r → (core ≤ℤ r) × (r <ℤ cutoff)
+in_range_at f ring core cutoff x y r true h e s =
+    let d = pos (distance_at f (square_of ring x y)) in
+    rw (← some_same (taken_distance_of f ring core x y) r s) (max_low d core, max_high d core cutoff e h)
+in_range_at f ring core cutoff x y r false h e s = absurd (none_is_no_some r s)
+
+pub in_range : (f : Frac) (ring : RingBox) (core cutoff : ℤ) (x y : List ℕ) (r : ℤ) → core <ℤ cutoff → acting_distance_of f ring core cutoff x y ≡ Some r → (core ≤ℤ r) × (r <ℤ cutoff)
+in_range f ring core cutoff x y r h e = in_range_at f ring core cutoff x y r (is_near f (square_of ring x y) cutoff) h refl e
+
+-- ---- the force of a pair
+
+along : (ring : RingBox) (x y : List ℕ) (g : ℤ) (together : Bool) → (square_of ring x y == 0) ≡ together
+    → (if together then Some none else Some (force_along_of ring (neg_ℤ g) x y)) ≡ Some (force_along_of ring (neg_ℤ g) x y)
+along ring x y g true e = rw e refl
+along ring x y g false e = refl
+
+forced_at : (ring : RingBox) (slope : ℤ → Option ℤ) (r v : ℤ) (x y : List ℕ) → slope r ≡ Some v → force_at ring slope (Some r) x y ≡ Some (force_along_of ring (minus (slope r)) x y)
+forced_at ring slope r v x y e =
+    let same : force_at ring slope (Some r) x y ≡ (if square_of ring x y == 0 then Some none else Some (force_along_of ring (neg_ℤ v) x y)) = rw e refl in
+    same ∙ along ring x y v (square_of ring x y == 0) refl ∙ ap (λ g. Some (force_along_of ring g x y)) (minus_is (slope r) v e)
+
+-- where the pair has a slope it has a force
+pub forced : (b : ℕ) (ring : RingBox) (slope : ℤ → Option ℤ) (o : Option ℤ) (x y : List ℕ) → ((r : ℤ) → o ≡ Some r → HasSlope b (slope r))
+    → force_at ring slope o x y ≡ Some (unwrap_or (option_map (λ r. force_along_of ring (minus (slope r)) x y) o) none)
+forced b ring slope None x y h = refl
+forced b ring slope (Some r) x y h = let s = h r refl in forced_at ring slope r s.v x y s.has
+
+-- and no component of it passes the greatest slope
+pub forced_within : (b : ℕ) (ring : RingBox) (slope : ℤ → Option ℤ) (o : Option ℤ) (x y : List ℕ) → ((r : ℤ) → o ≡ Some r → HasSlope b (slope r))
+    → IfSome (option_map (λ r. force_along_of ring (minus (slope r)) x y) o) (IsWithin b)
+forced_within b ring slope None x y h = tt
+forced_within b ring slope (Some r) x y h =
+    let s = h r refl in
+    rw (← minus_is (slope r) s.v s.has) (along_within b ring s.v x y s.small)
+
+none_within : (b : ℕ) → IsWithin b none
+none_within b = record { x = omega arith; y = omega arith; z = omega arith }
+
+within_or_none : (b : ℕ) (o : Option (List ℤ)) → IfSome o (IsWithin b) → IsWithin b (unwrap_or o none)
+within_or_none b None h = none_within b
+within_or_none b (Some v) h = h
+
+-- a pair's force, with no component of a greater magnitude
+pub record HasForce (b : ℕ) (o : Option (List ℤ)) : Type 0 where
+  pub v : List ℤ
+  pub has : o ≡ Some v
+  pub small : IsWithin b v
+
+-- ---- a system
+
+module _ {A : Type 0} (s : System (SafeKernel A) A) (accepted : IsAccepted s) where
+  -- with two atoms or more no slope is the least number
+  pub bound_fits : (i j : ℕ) → i < j → j < length s.types.items → s.kernel.verified.bound < 2 ^ 63
+  bound_fits i j apart below =
+      let same : length s.types.items ≡ length s.masses.items = s.atoms in
+      let b = s.kernel.verified.bound in
+      let least : b * 1 ≤ b * (length s.masses.items - 1) = mul-le b 1 b (length s.masses.items - 1) (omega arith) (omega arith) in
+      let fits : b * (length s.masses.items - 1) < 2 ^ 63 = accepted.fits in
+      omega arith
+
+  pub slopes : (i j : ℕ) → i < length s.types.items → j < length s.types.items → (x y : List ℕ) (r : ℤ) → acting_distance_of s.frac s.ring s.core s.cutoff x y ≡ Some r
+      → HasSlope s.kernel.verified.bound (slope_at (potential_of s.kernel) (slice_index s.types.items i) (slice_index s.types.items j) r)
+  slopes i j first second x y r e =
+      let range = in_range s.frac s.ring s.core s.cutoff x y r s.below_cutoff e in
+      has_slope s.kernel (slice_index s.types.items i) (slice_index s.types.items j) r (accepted.known i 0 first) (accepted.known j 0 second) (rw accepted.core range.0) (rw accepted.cutoff range.1)
+
+  pub takes : (i j : ℕ) → i < j → j < length s.types.items → (r : ℤ) → s.core ≤ℤ r → r <ℤ s.cutoff
+      → is_taken (potential_of s.kernel) (slice_index s.types.items i) (slice_index s.types.items j) r ≡ true
+  takes i j apart below r low high =
+      taken_from (potential_of s.kernel) (slice_index s.types.items i) (slice_index s.types.items j) r
+      (record { bound = bound_fits i j apart below; first = accepted.known i 0 (omega arith); second = accepted.known j 0 below; low = rw accepted.core low; high = rw accepted.cutoff high })
+
+  pub has_force : (frame : List (List ℕ)) (i j : ℕ) → i < j → j < length s.types.items → HasForce s.kernel.verified.bound (pair_force (safe_dynamics s) frame (i, j))
+  has_force frame i j apart below =
+      let x = places_of frame i in
+      let y = places_of frame j in
+      let slope = λ (r : ℤ). slope_at (potential_of s.kernel) (slice_index s.types.items i) (slice_index s.types.items j) r in
+      let o = acting_distance_of s.frac s.ring s.core s.cutoff x y in
+      let h = slopes i j (omega arith) below x y in
+      record {
+        v = unwrap_or (option_map (λ r. force_along_of s.ring (minus (slope r)) x y) o) none;
+        has = forced s.kernel.verified.bound s.ring slope o x y h;
+        small = within_or_none s.kernel.verified.bound (option_map (λ r. force_along_of s.ring (minus (slope r)) x y) o) (forced_within s.kernel.verified.bound s.ring slope o x y h);
+      }
+
+pub some_within : (b c : ℕ) (o : Option (List ℤ)) → b ≤ c → IfSome o (IsWithin b) → IfSome o (IsWithin c)
+some_within b c None h w = tt
+some_within b c (Some v) h w = within-weaker b c h v w

@@ -1,0 +1,27 @@
+use Rattle.std.proofs.Common.{refl}
+use Rattle.std.proofs.lemmas.Result.{err_from_is_err_and}
+use Rattle.state.specs.StateText.{state_text}
+use Rattle.integrator.specs.Starts.{plain}
+use Rattle.integrator.proofs.ReturnLaws.{run_back}
+use Rattle.engine.proofs.engine_runs.run_bytes.Goals as goal
+
+pub returns-in_err-write-clause-beginning : goal.returns-in_err-write-clause-beginning
+returns-in_err-write-clause-beginning g c =
+    let p = err_from_is_err_and c.from_residual-in_err-write.result c.from_residual-in_err-write.ensures.1 in
+    let after = c.in_ok-engine.ensures.value in
+    rw p.1
+    (λ is_out. record {
+      text = state_text c.in_ok-engine.engine.state;
+      run = record { start = after.start; starts = after.starts; after = c.in_ok-engine.engine.state; ran = after.ran; written = refl };
+      beginning = rw c.state.ensures at c.in_err-write.ensures.fault_taken;
+    })
+
+-- the law of return, at each exit
+pub returns-in_err-engine-clause-returns : goal.returns-in_err-engine-clause-returns
+returns-in_err-engine-clause-returns g c = run_back plain c.args.job.now c.args.state.now c.args.direction c.args.steps
+
+pub returns-in_err-write-clause-returns : goal.returns-in_err-write-clause-returns
+returns-in_err-write-clause-returns g c = run_back plain c.args.job.now c.args.state.now c.args.direction c.args.steps
+
+pub returns-clause-returns : goal.returns-clause-returns
+returns-clause-returns g c = run_back plain c.args.job.now c.args.state.now c.args.direction c.args.steps

@@ -1,0 +1,29 @@
+use Rattle.std.proofs.Common.{rules, w64}
+use mir.Val.{SFits}
+use Rattle.std.proofs.lemmas.Result.{err_from_is_err_and}
+use Rattle.state.specs.StateViews.{state_view}
+use Rattle.engine.specs.EngineViews.{engine_view}
+use Rattle.engine.specs.Engines.{engine_dynamics}
+use Rattle.engine.specs.SafeKernels.{safe_dynamics}
+use Rattle.integrator.specs.States.{frames_of}
+use Rattle.integrator.proofs.ReturnLaws.{in_range_is}
+use Rattle.engine.proofs.EngineLaws.{unstarted}
+use Rattle.engine.proofs.CourseLaws.{turned_along}
+use Rattle.engine.proofs.engines.Engine.turns_alone.Goals as goal
+
+pub returns-in_err-course-clause-stopped : goal.returns-in_err-course-clause-stopped
+returns-in_err-course-clause-stopped g c =
+    let p = err_from_is_err_and c.from_residual.result c.from_residual.ensures.1 in
+    let i = c.self.inside in
+    let signed : SFits w64 i.state.step = search rules in
+    rw (p.1, p.2, ← c.self.view_is)
+    (unstarted c.args.direction c.args.steps (engine_view i.job i.state i.motion.system) c.in_err-course.field-0.0 (in_range_is i.state.step signed.sfits) c.in_err-course.ensures.refused)
+
+pub arrive-requires-clause-turned : goal.arrive-requires-clause-turned
+arrive-requires-clause-turned g c =
+    let i = c.self.inside in
+    let from = c.in_ok-course.course in
+    let to = c.turns_alone-done.new.course in
+    rw (← c.self.view_is)
+    (turned_along c.args.direction (safe_dynamics i.motion.system) (engine_dynamics (engine_view i.job i.state i.motion.system)) c.turns_alone-done.result
+    from.before.items from.middle.items to.before.items to.middle.items (frames_of (state_view i.state)) c.self.invariant.dynamics c.in_ok-course.ensures.frames c.turns_alone-done.ensures.value)

@@ -1,0 +1,295 @@
+//! Engines: a job and a state, with a slope that the verifier accepts.
+
+ghost use Rattle.std.specs.Prelude.{◌≡◌, ◌<◌, ◌≤◌, ◌-◌, ◌*◌, ◌^◌, nat_lt, length, map, Some, is_none, false, IfOk, IfErr};
+ghost use Rattle.std.specs.List.{All};
+ghost use Rattle.energy_program.specs.Programs.{program_tree};
+ghost use Rattle.job.specs.Views.{job_value, type_value};
+ghost use Rattle.integrator.specs.Energies.{job_tree};
+ghost use Rattle.fixed.specs.declared.frac.Frac.TheVariants.{F32};
+ghost use Rattle.ring_box.specs.Cells.{HasCells};
+ghost use Rattle.state.specs.StateViews.{state_view};
+ghost use Rattle.engine.specs.Engines.{engine_dynamics, HasNoEngine, IsEngineOf, Stopped, Went};
+ghost use Rattle.engine.specs.EngineViews.{IsEngine};
+ghost use Rattle.engine.specs.PairEnergies.{HasNoEnergy, IsEnergy};
+ghost use Rattle.engine.specs.Tilings.{frames_along};
+ghost use Rattle.integrator.specs.Frames.{turns};
+ghost use Rattle.integrator.specs.Starts.{mass_of, table_of};
+ghost use Rattle.integrator.specs.States.{counter_after, frames_of};
+ghost use Rattle.integrator.specs.declared.direction.Direction.TheVariants.{Back, Forward};
+
+use crate::frame_steps::Course;
+use crate::pools::{NoGate, Pool};
+use crate::safe_energies::SafeEnergy;
+use crate::safe_kernels::SafeKernel;
+use crate::safe_systems::SafeSystem;
+use crate::verdicts::{safe_kernel, verdict};
+use fixed::Frac;
+use integrator::{
+    Direction, RunFault, StepFault, System, TypedAtoms, advance, counter_after, current_frame,
+    ready,
+};
+use job::Job;
+use kernel_compiler::compile;
+use state::State;
+use std::alloc::Allocator;
+use std::marker::Model;
+use std::thread::Threads;
+use tile_pool::Gate;
+
+/// A job and a state that can be run with no fault but want of memory and the end of the step counter: for every two
+/// types of atoms, and at each distance at which two atoms act, the code of the energy's slope gives that slope.
+#[derive(Drop)]
+pub struct Engine<A: Allocator> {
+    alloc: A,
+    job: Job<A>,
+    state: State<A>,
+    motion: SafeSystem<A>,
+}
+
+impl<A: Allocator> Model for Engine<A> {
+    ghost use Rattle.engine.specs.Engines.{EngineView};
+
+    ghost Value = { EngineView };
+
+    ghost use Rattle.engine.specs.EngineViews.{IsEngine, engine_view};
+
+    ghost view = { λ e. engine_view e.job e.state e.motion.system };
+
+    ghost invariant = { λ e. IsEngine e.job e.state e.motion.system };
+}
+
+/// Whether no force on one of so many atoms can pass 64 bits, where no slope passes `bound`.
+fn fits(bound: u64, atoms: usize) -> bool
+    ensures { result ≡ nat_lt (bound * (atoms - 1)) (2 ^ 63) }
+{
+    let others = atoms.saturating_sub(1);
+    u128::from(bound) * (others as u128) < 9_223_372_036_854_775_808
+}
+
+/// What moves these atoms by this slope, in the box of the state.
+fn motion<A: Allocator>(
+    job: &Job<A>,
+    state: &State<A>,
+    kernel: SafeKernel<A>,
+    atoms: TypedAtoms<A>,
+) -> SafeSystem<A>
+    requires energy { program_tree kernel.energy ≡ job_tree (job_value job.now) }
+    requires parameters { kernel.energy.parameters ≡ length job.now.parameters.items }
+    requires globals { kernel.energy.globals ≡ length job.now.globals.items }
+    requires table { kernel.verified.table ≡ table_of (job_value job.now) }
+    requires core { kernel.verified.core ≡ job.now.core }
+    requires cutoff { kernel.verified.cutoff ≡ job.now.cutoff }
+    requires known { All (λ k. k < length job.now.types.items) atoms.types.items }
+    requires masses { atoms.masses.items ≡ map (mass_of (map type_value job.now.types.items)) atoms.types.items }
+    requires count { length atoms.types.items ≡ length state.now.atoms.items }
+    requires fits { kernel.verified.bound * (length state.now.atoms.items - 1) < 2 ^ 63 }
+    requires room { HasCells F32 state.now.ring job.now.cutoff }
+    ensures kernel { result.system.kernel ≡ kernel }
+    ensures types { result.system.types.items ≡ atoms.types.items }
+    ensures engine { IsEngine job.now state.now result.system }
+{
+    let system = System {
+        frac: Frac::F32,
+        ring: state.ring,
+        core: job.core,
+        cutoff: job.cutoff,
+        time_step: job.time_step,
+        types: atoms.types,
+        masses: atoms.masses,
+        kernel,
+    };
+    SafeSystem { system }
+}
+
+impl<A: Allocator + Copy> Engine<A> {
+    /// The engine of a job and a state.
+    ///
+    /// The refusals come in this order: those of the energy, of its slope and of its code; `UnknownType` for the lowest
+    /// atom whose name no type has; `CutoffTooLong` where some side is shorter than two cutoffs; `Kernel` where the
+    /// verifier refuses the code of the slope; `ForceRange` where the greatest slope that it found, times one less than
+    /// the number of atoms, is 2^63 or more. `Memory` wherever a growth is refused.
+    pub fn new(alloc: A, job: Job<A>, state: State<A>) -> Result<Engine<A>, RunFault<A>>
+        ensures engine { IfOk result (IsEngineOf (job_value job) (state_view state)) }
+        ensures refused { IfErr result (HasNoEngine (job_value job) (state_view state)) }
+    {
+        let ready = ready(alloc, &job, &state)?;
+        let kernel = safe_kernel(alloc, &job, ready.parts)?;
+        if !fits(kernel.verified.bound(), state.atoms.len()) {
+            return Err(RunFault::ForceRange);
+        }
+        let motion = motion(&job, &state, kernel, ready.atoms);
+        Ok(Engine {
+            alloc,
+            job,
+            state,
+            motion,
+        })
+    }
+
+    /// The state that the engine has come to; at first that which was handed in.
+    pub fn state(&self) -> &State<A>
+        ensures { state_view result.now ≡ self.now.state }
+    {
+        &self.state
+    }
+
+    /// The energy of the current frame in 2^-32 kJ/mol: the exact sum, over all pairs of atoms that act, of the job's
+    /// energy at their distance, or at the core where that is more; also where both are at one place.
+    ///
+    /// `Energy` where the code of the energy itself would be too large, `Kernel` where the verifier refuses it, though
+    /// it accepts that of the slope. `Memory` wherever a growth is refused.
+    pub fn energy(&self) -> Result<i128, RunFault<A>>
+        ensures value { IfOk result (IsEnergy self.now) }
+        ensures refused { IfErr result (HasNoEnergy self.now) }
+    {
+        let code = compile(self.alloc, Frac::F32, &self.motion.system.kernel.energy)?;
+        let verified = verdict(self.alloc, &self.job, code)?;
+        let frame = current_frame(self.alloc, &self.state.atoms)?;
+        let energy = SafeEnergy {
+            motion: &self.motion,
+            verified,
+        };
+        Ok(energy.of_frame(&frame))
+    }
+
+    /// Takes over the frames that so many steps came to, of all those that were asked for.
+    fn arrive(
+        &mut self,
+        direction: Direction,
+        steps: u64,
+        done: u64,
+        course: Course<A>,
+    ) -> Result<(), StepFault>
+        requires before { length course.before.items ≡ length self.old.state.atoms }
+        requires middle { length course.middle.items ≡ length self.old.state.atoms }
+        requires fits { is_none (counter_after direction self.old.state.step steps) ≡ false }
+        requires few { done ≤ steps }
+        requires turned { turns direction (engine_dynamics self.old) done (frames_of self.old.state) ≡ Some (frames_along direction course.before.items course.middle.items) }
+        ensures went { IfOk result (λ _. Went direction steps self.old self.new) }
+        ensures stopped { IfErr result (Stopped direction steps self.old self.new) }
+    {
+        let Some(counter) = counter_after(direction, &self.state, done) else {
+            unreachable!()
+        };
+        advance(&mut self.state, &course.turned(direction), counter);
+        if done < steps {
+            return Err(StepFault::Memory { done });
+        }
+        Ok(())
+    }
+
+    /// So many steps in a direction, on one thread.
+    pub(crate) fn turns_alone(&mut self, direction: Direction, steps: u64) -> Result<(), StepFault>
+        ensures went { IfOk result (λ _. Went direction steps self.old self.new) }
+        ensures stopped { IfErr result (Stopped direction steps self.old self.new) }
+    {
+        let mut course = self
+            .motion
+            .course(self.alloc, direction, &self.state, steps)?;
+        let done = self.motion.turns_alone(self.alloc, steps, &mut course);
+        self.arrive(direction, steps, done, course)
+    }
+
+    /// So many steps forward, on one thread, at most 1,000,000,000,000: Levesque and Verlet's (J. Stat. Phys. 72, 519,
+    /// 1993) by the exact sums of the forces of all pairs, with the energy's slope as it is written.
+    ///
+    /// `StepRange` exactly where the step counter would leave an i64, and then nothing is done. `Memory` where a growth
+    /// is refused: the state is that after so many whole steps.
+    pub fn forward_alone(&mut self, steps: u64) -> Result<(), StepFault>
+        ensures went { IfOk result (λ _. Went Forward steps self.old self.new) }
+        ensures stopped { IfErr result (Stopped Forward steps self.old self.new) }
+    {
+        self.turns_alone(Direction::Forward, steps)
+    }
+
+    /// So many steps back, on one thread, as `forward_alone`.
+    pub fn back_alone(&mut self, steps: u64) -> Result<(), StepFault>
+        ensures went { IfOk result (λ _. Went Back steps self.old self.new) }
+        ensures stopped { IfErr result (Stopped Back steps self.old self.new) }
+    {
+        self.turns_alone(Direction::Back, steps)
+    }
+}
+
+impl<A: Allocator + Copy + Sync> Engine<A> {
+    ghost use Rattle.std.specs.Prelude.{◌<◌, ◌≤◌, IfOk, IfErr};
+    ghost use Rattle.engine.specs.Engines.{Stopped, Went};
+    ghost use Rattle.integrator.specs.declared.direction.Direction.TheVariants.{Back, Forward};
+
+    /// So many steps in a direction by so many workers, 1 to 64, of which the caller's thread is the first.
+    pub(crate) fn turns_pooled<R: Threads + Sync, G: Gate + Sync>(
+        &mut self,
+        rt: &R,
+        direction: Direction,
+        steps: u64,
+        workers: u32,
+        gate: &G,
+    ) -> Result<(), StepFault>
+        requires some { 0 < workers }
+        requires few { workers ≤ 64 }
+        ensures went { IfOk result (λ _. Went direction steps self.old self.new) }
+        ensures stopped { IfErr result (Stopped direction steps self.old self.new) }
+    {
+        let mut course = self
+            .motion
+            .course(self.alloc, direction, &self.state, steps)?;
+        let pool = Pool { rt, workers, gate };
+        let done = self
+            .motion
+            .turns_pooled(self.alloc, &pool, steps, &mut course);
+        self.arrive(direction, steps, done, course)
+    }
+
+    /// So many steps in a direction by so many workers that pass no gate. One worker waits for nobody.
+    pub(crate) fn turns_ungated<R: Threads + Sync>(
+        &mut self,
+        rt: &R,
+        direction: Direction,
+        steps: u64,
+        workers: u32,
+    ) -> Result<(), StepFault>
+        requires some { 0 < workers }
+        requires few { workers ≤ 64 }
+        ensures went { IfOk result (λ _. Went direction steps self.old self.new) }
+        ensures stopped { IfErr result (Stopped direction steps self.old self.new) }
+    {
+        if workers == 1 {
+            return self.turns_alone(direction, steps);
+        }
+        self.turns_pooled(rt, direction, steps, workers, &NoGate)
+    }
+
+    /// So many steps forward by so many workers, 1 to 64, of which the caller's thread is the first: the same states and the same
+    /// refusals as `forward_alone`, in whatever order the workers take their tiles and add their forces. A worker passes `gate`
+    /// before each tile that it has drawn. A worker whose thread can't be started is run by the caller's.
+    pub fn forward<R: Threads + Sync, G: Gate + Sync>(
+        &mut self,
+        rt: &R,
+        steps: u64,
+        workers: u32,
+        gate: &G,
+    ) -> Result<(), StepFault>
+        requires some { 0 < workers }
+        requires few { workers ≤ 64 }
+        ensures went { IfOk result (λ _. Went Forward steps self.old self.new) }
+        ensures stopped { IfErr result (Stopped Forward steps self.old self.new) }
+    {
+        self.turns_pooled(rt, Direction::Forward, steps, workers, gate)
+    }
+
+    /// So many steps back by so many workers, as `forward`.
+    pub fn back<R: Threads + Sync, G: Gate + Sync>(
+        &mut self,
+        rt: &R,
+        steps: u64,
+        workers: u32,
+        gate: &G,
+    ) -> Result<(), StepFault>
+        requires some { 0 < workers }
+        requires few { workers ≤ 64 }
+        ensures went { IfOk result (λ _. Went Back steps self.old self.new) }
+        ensures stopped { IfErr result (Stopped Back steps self.old self.new) }
+    {
+        self.turns_pooled(rt, Direction::Back, steps, workers, gate)
+    }
+}

@@ -1,0 +1,17 @@
+//! Engines: jobs and states whose slope the verifier accepts, run by its code with no test left.
+#![tactic(auto)]
+
+mod engine_runs;
+mod engines;
+mod frame_steps;
+mod frame_works;
+mod pools;
+mod safe_energies;
+mod safe_kernels;
+mod safe_slopes;
+mod safe_systems;
+mod verdicts;
+
+pub use engine_runs::{run_bytes, state_energy};
+pub use engines::Engine;
+pub use verdicts::{verdict, verified_slope};
