@@ -1,0 +1,107 @@
+"""Liquid argon as jobs and states of pairmd, and how many of its pairs act and are asked for. The scripts beside it share it.
+
+The atoms stand on a grid that is shaken a little; where the grid has more sites than there are atoms, some sites, chosen at random,
+are left empty. Nothing is read from outside, and the same numbers give the same bytes.
+"""
+
+import itertools
+import random
+from collections import Counter
+from fractions import Fraction
+
+PLACES = 2**32
+DENSITY = 21.0  # atoms in a cubic nanometre: liquid argon near its boiling point
+CORE = "0.25"  # below every distance of the shaken grid; with 0.2 the forces of 16,000 atoms might pass 64 bits (A3)
+CUTOFF = "0.9"
+SHAKE = 0.02  # nm
+
+LENNARD_JONES = "4*epsilon*((sigma/r)^12-(sigma/r)^6); sigma=0.5*(sigma1+sigma2); epsilon=sqrt(epsilon1*epsilon2)"
+
+# Boxes whose cells are hardly longer than the cutoff, so that the pairs asked for grow with the atoms alone.
+TIGHT = {1000: (10, 10, 10), 4000: (10, 20, 20), 16000: (20, 20, 40), 65536: (40, 40, 41)}
+# Boxes that are nearly cubes, as most are: how well their cells fit the cutoff is another thing at each size.
+CUBES = {1000: (10, 10, 10), 4000: (16, 16, 16), 16000: (25, 25, 26), 65536: (40, 40, 41)}
+SHAPES = {"tight": TIGHT, "cubes": CUBES}
+
+
+def job(energy, cutoff):
+    """The text of a job of argon with this energy."""
+    return (
+        f"pairmd job 1\nenergy {energy}\ncore {CORE}\ncutoff {cutoff}\ndt 2\n"
+        "parameter sigma\nparameter epsilon\ntype AR 39.948 0.34 0.996\n"
+    )
+
+
+def argon(atoms, grid, seed=1):
+    """The sides in 10^-5 nm, and each atom's places."""
+    sites = list(itertools.product(*map(range, grid)))
+    spacing = (DENSITY * len(sites) / atoms) ** (-1 / 3)
+    sides = [round(count * spacing * 100_000) for count in grid]
+    numbers = random.Random(seed)
+    places = []
+    for site in sites:
+        at = [(count + 0.5) * spacing + numbers.uniform(-SHAKE, SHAKE) for count in site]
+        places.append([round(x * 100_000 / side * PLACES) % PLACES for x, side in zip(at, sides)])
+    kept = sorted(random.Random(seed).sample(range(len(sites)), atoms)) if atoms < len(sites) else range(atoms)
+    return sides, [places[k] for k in kept]
+
+
+def state(sides, places):
+    """The text of a state at rest."""
+    lines = ["pairmd state 1", "title liquid argon", "step 0", f"atoms {len(places)}", "box " + " ".join(map(str, sides))]
+    for number, at in enumerate(places):
+        x = " ".join(map(str, at))
+        lines.append(f"{number % 100_000:5}{'AR':<5}{'AR':>5} {x} {x}")
+    return "\n".join(lines) + "\n"
+
+
+def acting_pairs(sides, places, cutoff):
+    """How many pairs are nearer than the cutoff, by a grid of cells of its own."""
+    reach = float(cutoff)
+    lengths = [side / 100_000 for side in sides]
+    counts = [int(length / reach) for length in lengths]
+    cells = {}
+    for at in places:
+        cell = tuple(x * count // PLACES for x, count in zip(at, counts))
+        cells.setdefault(cell, []).append([x / PLACES * length for x, length in zip(at, lengths)])
+    limit = reach**2
+    near = 0
+    for cell, members in cells.items():
+        for (x, y, z), (u, v, w) in itertools.combinations(members, 2):
+            near += (x - u) ** 2 + (y - v) ** 2 + (z - w) ** 2 < limit
+        for step in HALF:
+            turns, other = zip(*(divmod(c + s, count) for c, s, count in zip(cell, step, counts)))
+            far_x, far_y, far_z = (turn * length for turn, length in zip(turns, lengths))
+            for u, v, w in cells.get(other, ()):
+                u, v, w = u + far_x, v + far_y, w + far_z
+                near += sum([(x - u) ** 2 + (y - v) ** 2 + (z - w) ** 2 < limit for x, y, z in members])
+    return near
+
+
+# One of each two opposite steps to a neighbouring cell.
+HALF = [step for step in itertools.product((-1, 0, 1), repeat=3) if step > (0, 0, 0)]
+
+
+def cell_bits(sides, cutoff):
+    """Into how many cells the program cuts each side: 2^b, where b is the greatest from 1 to 4 with no cell shorter than the cutoff."""
+    need = 100_000 * int(Fraction(cutoff) * PLACES + Fraction(1, 2))
+    return [max(b for b in (1, 2, 3, 4) if need * 2**b <= side * PLACES) for side in sides]
+
+
+def asked_pairs(sides, places, cutoff):
+    """How many pairs the program asks for: those of atoms in one cell or in neighbouring cells."""
+    bits = cell_bits(sides, cutoff)
+    atoms = Counter(tuple(x >> (32 - b) for x, b in zip(at, bits)) for at in places)
+    twice = 0
+    for cell, count in atoms.items():
+        steps = itertools.product((-1, 0, 1), repeat=3)
+        around = {tuple((c + s) % 2**b for c, s, b in zip(cell, step, bits)) for step in steps} - {cell}
+        twice += count * (count - 1) + count * sum(atoms[other] for other in around)
+    return twice // 2
+
+
+def least_cutoff(sides, cutoff):
+    """The least cutoff of so many thousandths of a nanometre with the same cells: it asks for the same pairs, and fewer of them act."""
+    bits = cell_bits(sides, cutoff)
+    shorter = (f"0.{thousandths:03}" for thousandths in range(260, 1000))
+    return next(it for it in shorter if cell_bits(sides, it) == bits)
