@@ -2,22 +2,45 @@
 // only the time depends on it.
 ghost use Rattle.std.specs.Prelude.{◌<◌};
 
-use std::num::{nearest_u64_to_f64, saturating_f64_to_u64};
+use std::num::{f64_to_bits_with_nan, nearest_u64_to_f64, saturating_f64_to_u64};
 
-fn near_float(n: u128) -> f64 {
+// Three times 2^51, and its pattern: floats around it are whole numbers, and their patterns count them.
+const MIDDLE: f64 = 6755399441055744.0;
+const PATTERN_OF_MIDDLE: u64 = 0x4338_0000_0000_0000;
+
+fn near_natural(n: u128) -> f64 {
     let high = nearest_u64_to_f64((n >> 64) as u64);
     let low = nearest_u64_to_f64((n & 0xFFFF_FFFF_FFFF_FFFF) as u64);
     high * 18446744073709551616.0 + low
+}
+
+// About `n`.
+pub(crate) fn near_float(n: i64) -> f64 {
+    let low = n.cast_unsigned() & 0xFFFF_FFFF;
+    ((n >> 32) as f64) * 4294967296.0 + low as f64
+}
+
+// About the floor of `x`, where `x` lies between -2^51 and 2^51.
+pub(crate) fn floor_estimate(x: f64) -> i64 {
+    f64_to_bits_with_nan(x - 0.5 + MIDDLE)
+        .wrapping_sub(PATTERN_OF_MIDDLE)
+        .cast_signed()
 }
 
 // About the square root, and at least 1.
 pub(crate) fn root_estimate(n: u128) -> u64
     ensures { 0 < result }
 {
-    saturating_f64_to_u64(near_float(n).sqrt()).max(1)
+    let root = near_natural(n).sqrt();
+    let estimate = if root < 2251799813685248.0 {
+        floor_estimate(root).unsigned_abs()
+    } else {
+        saturating_f64_to_u64(root)
+    };
+    estimate.max(1)
 }
 
 // About `n / d`.
 pub(crate) fn quotient_estimate(n: u128, d: u64) -> u64 {
-    saturating_f64_to_u64(near_float(n) / nearest_u64_to_f64(d))
+    saturating_f64_to_u64(near_natural(n) / nearest_u64_to_f64(d))
 }

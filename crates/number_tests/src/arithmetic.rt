@@ -195,6 +195,32 @@ fn halves_go_upward(rt: HostRuntime) {
     );
 }
 
+#[test]
+fn multiples_of_a_fraction_are_rounded_down(rt: HostRuntime) {
+    let multiples: [((i64, u64), [i64; 3], [i128; 3]); 5] = [
+        ((7, 2), [-3, 0, 3], [-11, 0, 10]),
+        (
+            (i64::MIN, 3),
+            [i64::MIN, i64::MAX, 1],
+            [
+                28_356_863_910_078_205_288_614_550_619_314_017_621,
+                -28_356_863_910_078_205_285_540_093_273_695_759_019,
+                -3_074_457_345_618_258_603,
+            ],
+        ),
+        ((1, u64::MAX), [1, -1, i64::MAX], [0, -1, 0]),
+        (
+            (-812_345_678_901_234, 187_654_321_098_765),
+            [123_456_789_012_345, -98_765_432_109_876, 1],
+            [-534_437_941_519_162, 427_550_357_111_382, -5],
+        ),
+        ((6, 8), [4, -4, 5], [3, -3, 3]),
+    ];
+    for ((g, d), [x, y, z], floors) in multiples {
+        assert_eq!(rt; floor_multiples(g, x, y, z, d), floors);
+    }
+}
+
 // Whether each plain form agrees with the checked form, where that has a value.
 fn plain_sums_agree(a: Fx, b: Fx) -> bool {
     (checked_add(a, b).is_err() || Ok(add(a, b)) == checked_add(a, b))

@@ -4,7 +4,7 @@ ghost use Rattle.ring_box.specs.Distances.{square};
 ghost use Rattle.ring_box.specs.Forces.{IsWithin, component_of};
 
 use crate::separations::Separation;
-use fixed::{floor_div, isqrt};
+use fixed::{floor_div, floor_multiples, isqrt};
 
 /// The line through two atoms that are apart: its parts along the axes, and its length rounded down, which no part passes.
 #[derive(Clone, Copy)]
@@ -83,20 +83,31 @@ impl Line {
         ensures value { result ≡ component_of g self.x self.length ∷ component_of g self.y self.length ∷ component_of g self.z self.length ∷ [] }
         ensures bound { IsWithin g result }
     {
+        let [x, y, z] = floor_multiples(g, self.x, self.y, self.z, self.length);
         [
-            small_component(g, self.x, self.length),
-            small_component(g, self.y, self.length),
-            small_component(g, self.z, self.length),
+            small_component(g, self.x, self.length, x),
+            small_component(g, self.y, self.length, y),
+            small_component(g, self.z, self.length, z),
         ]
     }
 }
 
-fn small_component(g: i64, a: i64, d: u64) -> i64
+fn narrowed(value: i128) -> i64
+    requires { unsigned_abs value < 2 ^ 63 }
+    ensures { result ≡ value }
+{
+    value as i64
+}
+
+// What is known to be a component, in 64 bits.
+#[tactic(auto, using(crate::proofs::ForceLemmas::result_within))]
+fn small_component(g: i64, a: i64, d: u64, value: i128) -> i64
     requires size { unsigned_abs g < 2 ^ 63 }
     requires positive { 0 < d }
     requires within { unsigned_abs a ≤ d }
+    requires value { value ≡ component_of g a d }
     ensures value { result ≡ component_of g a d }
     ensures bound { unsigned_abs result ≤ unsigned_abs g }
 {
-    component(i128::from(g), a, d) as i64
+    narrowed(value)
 }
