@@ -1,15 +1,15 @@
 -- What a worker owes after it has drawn a ticket, and after it has made additions.
-use Rattle.std.proofs.Common.{◌≡◌, ℕ, suc, ◌+◌, ◌<◌, ◌≤◌, List, [], ◌∷◌, ◌++◌, length, take, drop, Option, Some, None, slice_get, refl, sym, ap, subst, ◌∙◌, append-nil, append_assoc}
+use Rattle.std.proofs.Common.{◌≡◌, ℕ, suc, ◌+◌, ◌<◌, ◌≤◌, List, [], ◌∷◌, ◌++◌, length, take, drop, Option, Some, slice_get, refl, sym, ap, subst, ◌∙◌, append-nil, append_assoc}
 use Rattle.std.proofs.lemmas.Grind.{flat_map-append}
-use Rattle.std.proofs.lemmas.List.{get_or_past, take_all}
-use Rattle.tile_round.specs.Tiles.{Addition, tile_at, additions_of, tile_of, tiles_of, pairs_at}
+use Rattle.std.proofs.lemmas.List.{get_or_past}
+use Rattle.tile_round.specs.Tiles.{Addition, tile_at, additions_of, tile_of, tiles_of, pairs_at, AreIdle, ActsFirst}
 use Rattle.tile_round.specs.declared.work.PairAdd.{PairAdd}
 use Rattle.tile_round.proofs.PlaceLemmas.{tile_at-tiles_of}
 use Rattle.tile_pool.specs.declared.rule.Worker.{Worker}
 use Rattle.tile_pool.specs.Workers.{Each, Owes, IsReady, HasDrawn, HasStopped, additions, fresh, drew, added}
 use Rattle.tile_pool.specs.Rule.{Seen, first_of, alone}
 use Rattle.tile_pool.proofs.CountLemmas.{each_append, each_last}
-use Rattle.tile_pool.proofs.TakeLemmas.{take_next, split_at, tile_next, tile_split}
+use Rattle.tile_pool.proofs.TakeLemmas.{take_next, split_at, tile_split, idle_adds, acting_adds}
 
 added_twice : (h : Worker) (xs ys : List Addition) → added (added h xs) ys ≡ added h (xs ++ ys)
 added_twice h xs ys = ap (λ (ds : List Addition). let k : Worker = record { number = h.number; tickets = h.tickets; deposits = ds } in k) (append_assoc h.deposits xs ys)
@@ -28,11 +28,6 @@ added_on me next last xs ys e f = f ∙ ap alone (ap (λ h. added h ys) (first_i
 -- a worker keeps its number
 pub keeps_number : (me next last : Seen) (xs : List Addition) (t : ℕ) → next ≡ alone (added (first_of me.0) xs) → last ≡ alone (drew (first_of next.0) t) → (first_of last.0).number ≡ (first_of me.0).number
 keeps_number me next last xs t e f = ap (λ (h : Worker). h.number) (first_is last (drew (first_of next.0) t) f) ∙ ap (λ (h : Worker). h.number) (first_is next (added (first_of me.0) xs) e)
-
--- before the first addition
-pub nothing_added : (me : Seen) → me ≡ alone (first_of me.0) → me ≡ alone (added (first_of me.0) [])
-nothing_added me e =
-    e ∙ ap (λ (ds : List Addition). let k : Worker = record { number = (first_of me.0).number; tickets = (first_of me.0).tickets; deposits = ds } in alone k) (sym (append-nil (first_of me.0).deposits))
 
 module _ (tiles : List (List Addition)) where
   owes_rest : (h : Worker) (xs rest : List Addition) → Owes tiles h (xs ++ rest) → Owes tiles (added h xs) rest
@@ -113,33 +108,32 @@ module _ (p : PairAdd) (me : Seen) where
   part_adds now next k a at e f =
       added_on me now next (take k (additions_of (Some p))) (a ∷ []) e f ∙ ap (λ (xs : List Addition). alone (added (first_of me.0) xs)) (sym (take_next (additions_of (Some p)) k a at))
 
-  pub parts_end : (now : Seen) (k : ℕ) → 6 ≤ k → now ≡ alone (added (first_of me.0) (take k (additions_of (Some p)))) → now ≡ alone (added (first_of me.0) (additions_of (Some p)))
-  parts_end now k le e = e ∙ ap (λ (xs : List Addition). alone (added (first_of me.0) xs)) (take_all k (additions_of (Some p)) le)
-
 -- the loop over the pairs of a tile, which began at `me`
 module _ (plan : List (List (Option PairAdd))) (t : ℕ) (me : Seen) where
   abbrev Pairs : List (Option PairAdd)
   Pairs = pairs_at plan t
 
-  pub pair_owes : (now : Seen) (k : ℕ) (p : Option PairAdd) → HasDrawn (tiles_of plan) (first_of me.0) t → slice_get Pairs k ≡ Some p → now ≡ alone (added (first_of me.0) (tile_of (take k Pairs)))
-      → (rest : List Addition) × Owes (tiles_of plan) (first_of now.0) (additions_of p ++ rest)
-  pair_owes now k p d at e =
+  -- the first pair that acts from k on
+  pub acting_owes : (now : Seen) (k n : ℕ) (add : PairAdd) → HasDrawn (tiles_of plan) (first_of me.0) t → ActsFirst Pairs k n add → now ≡ alone (added (first_of me.0) (tile_of (take k Pairs)))
+      → (rest : List Addition) × Owes (tiles_of plan) (first_of now.0) (additions_of (Some add) ++ rest)
+  acting_owes now k n add d first e =
       let whole : tile_at (tiles_of plan) t ≡ tile_of Pairs ++ [] = tile_at-tiles_of plan t ∙ sym (append-nil (tile_of Pairs)) in
       let o : Owes (tiles_of plan) (first_of me.0) (tile_of Pairs ++ []) = subst (λ xs. Owes (tiles_of plan) (first_of me.0) xs) whole (drawn_owes (tiles_of plan) (first_of me.0) t d) in
-      let rest = tile_of (drop (suc k) Pairs) in
-      let left = owes (tiles_of plan) me now (tile_of Pairs) (tile_of (take k Pairs)) (additions_of p ++ rest) [] o (tile_split Pairs k p at) e in
-      (rest, subst (λ xs. Owes (tiles_of plan) (first_of now.0) xs) (append-nil (additions_of p ++ rest)) left)
+      let rest = tile_of (drop (suc n) Pairs) in
+      let before = e ∙ ap (λ (xs : List Addition). alone (added (first_of me.0) xs)) (sym (idle_adds Pairs k n first.from first.idle)) in
+      let left = owes (tiles_of plan) me now (tile_of Pairs) (tile_of (take n Pairs)) (additions_of (Some add) ++ rest) [] o (tile_split Pairs n (Some add) first.acts) before in
+      (rest, subst (λ xs. Owes (tiles_of plan) (first_of now.0) xs) (append-nil (additions_of (Some add) ++ rest)) left)
 
-  pub pair_adds : (now next : Seen) (k : ℕ) (p : Option PairAdd) → slice_get Pairs k ≡ Some p → now ≡ alone (added (first_of me.0) (tile_of (take k Pairs))) → next ≡ alone (added (first_of now.0) (additions_of p))
-      → next ≡ alone (added (first_of me.0) (tile_of (take (k + 1) Pairs)))
-  pair_adds now next k p at e f =
-      added_on me now next (tile_of (take k Pairs)) (additions_of p) e f ∙ ap (λ (xs : List Addition). alone (added (first_of me.0) xs)) (sym (tile_next Pairs k p at))
+  pub acting_leads : (now next : Seen) (k n after : ℕ) (add : PairAdd) → after ≡ n + 1 → ActsFirst Pairs k n add → now ≡ alone (added (first_of me.0) (tile_of (take k Pairs))) → next ≡ alone (added (first_of now.0) (additions_of (Some add)))
+      → next ≡ alone (added (first_of me.0) (tile_of (take after Pairs)))
+  acting_leads now next k n after add s first e f =
+      added_on me now next (tile_of (take k Pairs)) (additions_of (Some add)) e f
+      ∙ ap (λ (xs : List Addition). alone (added (first_of me.0) xs)) (sym (ap (λ m. tile_of (take m Pairs)) s ∙ acting_adds Pairs k n add first))
 
-  pub pair_skips : (now : Seen) (k : ℕ) → slice_get Pairs k ≡ Some None → now ≡ alone (added (first_of me.0) (tile_of (take k Pairs))) → now ≡ alone (added (first_of me.0) (tile_of (take (k + 1) Pairs)))
-  pair_skips now k at e = e ∙ ap (λ (xs : List Addition). alone (added (first_of me.0) xs)) (sym (tile_next Pairs k None at ∙ append-nil (tile_of (take k Pairs))))
-
-  pub pairs_end : (now : Seen) (k : ℕ) → length Pairs ≤ k → now ≡ alone (added (first_of me.0) (tile_of (take k Pairs))) → now ≡ alone (added (first_of me.0) (tile_of Pairs))
-  pairs_end now k le e = e ∙ ap (λ (xs : List (Option PairAdd)). alone (added (first_of me.0) (tile_of xs))) (take_all k Pairs le)
+  -- where none that is left acts
+  pub idle_leads : (now : Seen) (k n : ℕ) → n ≡ length Pairs → k ≤ length Pairs → AreIdle Pairs k (length Pairs) → now ≡ alone (added (first_of me.0) (tile_of (take k Pairs))) → now ≡ alone (added (first_of me.0) (tile_of (take n Pairs)))
+  idle_leads now k n s le idle e =
+      e ∙ ap (λ (xs : List Addition). alone (added (first_of me.0) xs)) (sym (ap (λ m. tile_of (take m Pairs)) s ∙ idle_adds Pairs k (length Pairs) le idle))
 
   -- all of the tile, as its ticket names it
   pub tile_added : (next : Seen) → next ≡ alone (added (first_of me.0) (tile_of Pairs)) → next ≡ alone (added (first_of me.0) (tile_at (tiles_of plan) t))

@@ -26,11 +26,16 @@ fn add_tile<W: Work>(sums: &mut [i64], work: &W, tile: u64)
     requires atoms { W.atoms work.now ≤ length sums.old / 3 }
     ensures { GoesOn sums.old (tile_of (pairs_at (W.plan work.now) tile)) sums.new }
 {
-    for k in 0..work.pairs(tile) {
-        match work.pair(tile, k) {
-            Some(add) => add_pair(sums, &add),
-            None => {}
-        }
+    let pairs = work.pairs(tile);
+    let mut k = 0;
+    while k < pairs {
+        k = match work.next_acting(tile, k) {
+            Some((add, next)) => {
+                add_pair(sums, &add);
+                next
+            }
+            None => pairs,
+        };
     }
 }
 

@@ -27,11 +27,16 @@ fn deposit_tile<W: Work>(table: &PoolTable<W>, seat: &mut PoolSeat, work: &W, ti
     ensures added { seat.new.me
         ≡ alone (added (first_of seat.old.me.0) (tile_of (pairs_at (W.plan work.now) tile))) }
 {
-    for k in 0..work.pairs(tile) {
-        match work.pair(tile, k) {
-            Some(add) => deposit_pair(table, seat, &add),
-            None => {}
-        }
+    let pairs = work.pairs(tile);
+    let mut k = 0;
+    while k < pairs {
+        k = match work.next_acting(tile, k) {
+            Some((add, next)) => {
+                deposit_pair(table, seat, &add);
+                next
+            }
+            None => pairs,
+        };
     }
 }
 

@@ -1,6 +1,6 @@
-ghost use Rattle.std.specs.Prelude.{◌≡◌, ◌+◌, ◌<◌, ℕ, List, length, slice_get, Option, Some, IfSome};
+ghost use Rattle.std.specs.Prelude.{◌≡◌, ◌+◌, ◌<◌, ◌≤◌, ℕ, List, length, slice_get, Option, Some, IfSome};
 ghost use Rattle.tile_round.specs.declared.work.PairAdd.{PairAdd};
-ghost use Rattle.tile_round.specs.Tiles.{additions_of, along, against, pairs_at, IsPairOf};
+ghost use Rattle.tile_round.specs.Tiles.{additions_of, along, against, pairs_at, IsNextActing, IsPairOf};
 
 /// What a pair of atoms that acts adds: the force to the atom `low`, and its negative to the atom
 /// `high`, each along the axes x, y and z.
@@ -73,4 +73,22 @@ pub trait Work {
         requires pair { k < length (pairs_at (plan self.now) tile) }
         ensures planned { slice_get (pairs_at (plan self.now) tile) k ≡ Some result }
         ensures atoms { IfSome result (IsPairOf (atoms self.now)) };
+
+    /// What the first pair from the number `k` on that acts adds, and the number after its own; `None` where none of
+    /// them does. Work that finds pairs faster in order than by number has a body of its own. The caller's condition:
+    /// there is such a tile, and no more than `k` pairs are left out.
+    fn next_acting(&self, tile: u64, k: u64) -> Option<(PairAdd, u64)>
+        requires tile { tile < length (plan self.now) }
+        requires start { k ≤ length (pairs_at (plan self.now) tile) }
+        ensures next { IsNextActing (pairs_at (plan self.now) tile) k result }
+        ensures atoms { IfSome result (λ found. IsPairOf (atoms self.now) found.0) }
+    {
+        for number in k..self.pairs(tile) {
+            match self.pair(tile, number) {
+                Some(add) => return Some((add, number + 1)),
+                None => {}
+            }
+        }
+        None
+    }
 }

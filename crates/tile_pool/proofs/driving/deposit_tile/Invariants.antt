@@ -1,8 +1,11 @@
-use Rattle.std.proofs.Common.{◌≡◌, take}
+use Rattle.std.proofs.Common.{◌≡◌, ◌-◌, take}
 use Rattle.tile_round.specs.Tiles.{tile_of, pairs_at}
 use Rattle.tile_pool.specs.Workers.{added}
 use Rattle.tile_pool.specs.Rule.{alone, first_of}
 use Rattle.tile_pool.proofs.driving.deposit_tile.Given as goal
+
+abbrev pub decreases-loop-k : goal.decreases-loop-k
+decreases-loop-k g l = l.pairs - l.k
 
 abbrev pub invariant-loop-k : goal.invariant-loop-k
 invariant-loop-k g l = (l.seat.table_id ≡ l.fn.seat.table_id)
