@@ -7,3 +7,4 @@ pub mod VectorLemmas
 pub mod TileLemmas
 pub mod CoverLemmas
 pub mod SumLemmas
+pub mod WalkLemmas

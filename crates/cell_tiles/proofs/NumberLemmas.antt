@@ -32,7 +32,7 @@ between_row xs ys k h = let l = length_between xs ys in div_below k (length ys) 
 pub between_column : (xs ys : List ℕ) (k : ℕ) → k < length (pairs_between xs ys) → k % length ys < length ys
 between_column xs ys k h = mod_below k (length ys) (between_some xs ys k h)
 
-get_between : (xs ys : List ℕ) (i j n : ℕ) → i < length xs → j < length ys → n ≡ i * length ys + j → get_or (pairs_between xs ys) n (0, 0) ≡ pair_of (get_or xs i 0) (get_or ys j 0)
+pub get_between : (xs ys : List ℕ) (i j n : ℕ) → i < length xs → j < length ys → n ≡ i * length ys + j → get_or (pairs_between xs ys) n (0, 0) ≡ pair_of (get_or xs i 0) (get_or ys j 0)
 get_between [] ys i j n p q e = absurd (omega arith)
 get_between (x ∷ xs) ys zero j n p q e =
     let l = length_with x ys in
@@ -80,7 +80,7 @@ number_below i j k m l p q e f =
     difference : (m j : ℕ) → j < m → m ≡ suc j + (m - suc j)
     difference m j q = omega arith
 
-get_among : (xs : List ℕ) (m i j k : ℕ) → m ≤ length xs → i < j → j < m → 2 * k + j ≡ j * j + 2 * i → get_or (pairs_among xs m) k (0, 0) ≡ pair_of (get_or xs j 0) (get_or xs i 0)
+pub get_among : (xs : List ℕ) (m i j k : ℕ) → m ≤ length xs → i < j → j < m → 2 * k + j ≡ j * j + 2 * i → get_or (pairs_among xs m) k (0, 0) ≡ pair_of (get_or xs j 0) (get_or xs i 0)
 get_among xs zero i j k h p q e = absurd (omega arith)
 get_among xs (suc m) i j k h p q e =
     let l = length_among xs m (omega arith) in

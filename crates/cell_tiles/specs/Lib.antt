@@ -1,3 +1,4 @@
 pub mod Cells
 pub mod Cover
 pub mod Tiles
+pub mod Walks

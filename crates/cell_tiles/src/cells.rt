@@ -1,6 +1,6 @@
 //! The atoms of each cell.
 
-ghost use Rattle.std.specs.Prelude.{◌≡◌, ◌+◌, ◌<◌, ◌≤◌, [], ◌∷◌, ◌++◌, length, map, replicate, slice_get, slice_index_or, slice_set, Some, IfOk, OnOk, OnErr};
+ghost use Rattle.std.specs.Prelude.{◌≡◌, ◌+◌, ◌<◌, ◌≤◌, [], ◌∷◌, ◌++◌, drop, length, map, replicate, slice_get, slice_index_or, slice_set, Some, IfOk, OnOk, OnErr};
 ghost use Rattle.std.specs.List.{All};
 ghost use Rattle.cell_tiles.specs.Cells.{CellAtoms, cells_of, first_members, members_of};
 ghost use Rattle.cell_tiles.specs.Tiles.{members_at, pairs_in};
@@ -9,6 +9,7 @@ ghost use Rattle.ring_box.specs.Cells.{ArePlaces};
 use crate::grids::Grid;
 use crate::pairs::{AtomPair, count_among, count_between, pair_among, pair_between};
 use crate::tiles::Tile;
+use crate::walks::{TilePairs, walk_among, walk_between};
 use std::alloc::{AllocError, Allocator};
 use std::marker::Model;
 
@@ -145,6 +146,20 @@ impl<A: Allocator + Copy> Cells<A> {
             pair_among(atoms, k)
         } else {
             pair_between(atoms, self.atoms(tile.second), k)
+        }
+    }
+
+    /// The pairs of a tile in order, from that with the number `k` on. The caller's condition: `k` is at most their
+    /// number.
+    pub fn pairs_from(&self, tile: Tile, k: u64) -> TilePairs<'_>
+        requires { k ≤ length (pairs_in self.now.members (tile.first, tile.second)) }
+        ensures { result ≡ drop k (pairs_in self.now.members (tile.first, tile.second)) }
+    {
+        let atoms = self.atoms(tile.first);
+        if tile.first == tile.second {
+            walk_among(atoms, k)
+        } else {
+            walk_between(atoms, self.atoms(tile.second), k)
         }
     }
 }

@@ -7,9 +7,11 @@ mod grids;
 mod laws;
 mod pairs;
 mod tiles;
+mod walks;
 
 pub use cells::Cells;
 pub use grids::Grid;
 pub use laws::{each_pair_once, sums_as_all};
 pub use pairs::AtomPair;
 pub use tiles::{Tile, Tiles};
+pub use walks::TilePairs;

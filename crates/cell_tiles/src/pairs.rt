@@ -12,8 +12,9 @@ pub struct AtomPair {
     pub high: u32,
 }
 
-// The pair of an atom of the one list with one of the other.
-fn pair_at(atoms: &[u32], i: u64, others: &[u32], j: u64) -> AtomPair
+/// The pair of an atom of the one list with one of the other.
+#[inline]
+pub(crate) fn pair_at(atoms: &[u32], i: u64, others: &[u32], j: u64) -> AtomPair
     requires i { i < length atoms.now }
     requires j { j < length others.now }
     ensures { (result.low, result.high) ≡ pair_of (slice_index atoms.now i) (slice_index others.now j) }
@@ -36,8 +37,8 @@ pub(crate) fn count_among(atoms: &[u32]) -> u64
     (n * n - n) / 2
 }
 
-// Pair `k` of a list is that of its places i and j, where i < j and k = j (j - 1) / 2 + i.
-fn places_of_pair(k: u64) -> (u64, u64)
+/// Pair `k` of a list is that of its places i and j, where i < j and k = j (j - 1) / 2 + i.
+pub(crate) fn places_of_pair(k: u64) -> (u64, u64)
     requires { k < 2 ^ 32 }
     ensures order { result.0 < result.1 }
     ensures number { 2 * k + result.1 ≡ result.1 * result.1 + 2 * result.0 }

@@ -114,6 +114,54 @@ fn listed(
     Ok(pairs)
 }
 
+// What a walk over the pairs of a tile gives from the number `k` on, asked more often than there are pairs.
+fn walked(alloc: Global, cells: &Cells<Global>, tile: Tile, k: u64) -> Result<Pairs, AllocError> {
+    let mut pairs = Vec::new(alloc);
+    if k > cells.pairs(tile) {
+        return Ok(pairs);
+    }
+    let mut walk = cells.pairs_from(tile, k);
+    for _ in 0..100 {
+        if let Some(pair) = walk.next() {
+            pairs.push((pair.low as usize, pair.high as usize))?;
+        }
+    }
+    Ok(pairs)
+}
+
+#[test]
+fn walks_over_the_pairs_of_a_tile(rt: HostRuntime) -> Result<(), Fail> {
+    let alloc = rt.alloc();
+    let mut cells = Cells::new(alloc, Grid::new([1, 1, 1]))?;
+    cells.fill(FRAME.as_slice())?;
+    let own = Tile {
+        first: 0,
+        second: 0,
+    };
+    let two = Tile {
+        first: 0,
+        second: 1,
+    };
+    let all = walked(alloc, &cells, own, 0)?;
+    assert_eq!(rt;
+        all.as_slice(),
+        [(0, 3), (0, 5), (3, 5), (0, 8), (3, 8), (5, 8)].as_slice()
+    );
+    let some = walked(alloc, &cells, own, 2)?;
+    assert_eq!(rt;
+        some.as_slice(),
+        [(3, 5), (0, 8), (3, 8), (5, 8)].as_slice()
+    );
+    let some = walked(alloc, &cells, two, 3)?;
+    assert_eq!(rt;
+        some.as_slice(),
+        [(3, 12), (5, 6), (5, 12), (6, 8), (8, 12)].as_slice()
+    );
+    let none = walked(alloc, &cells, own, 6)?;
+    assert_eq!(rt; none.len(), 0);
+    Ok(())
+}
+
 // Whether the cells of two places are one or follow one another, where a side has so many.
 fn are_near(cells: u64, x: u32, y: u32) -> bool {
     let i = u64::from(x).wrapping_mul(cells) >> 32;

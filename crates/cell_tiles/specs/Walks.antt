@@ -1,0 +1,29 @@
+-- A walk over the pairs of a tile: what is left of it, and at which row and column it stands.
+use Rattle.std.specs.Prelude.{◌≡◌, ℕ, ◌+◌, ◌*◌, ◌-◌, ◌<◌, ◌≤◌, Bool, true, false, List, length, drop}
+use Rattle.cell_tiles.specs.Tiles.{pairs_among, pairs_between}
+
+-- the pairs of one cell, or of two
+abbrev pub pairs_over : Bool → List ℕ → List ℕ → List (ℕ × ℕ)
+pairs_over true xs ys = pairs_among xs (length xs)
+pairs_over false xs ys = pairs_between xs ys
+
+-- the last n of a list
+abbrev pub last_of : ℕ → List (ℕ × ℕ) → List (ℕ × ℕ)
+last_of n ps = drop (length ps - n) ps
+
+-- how many columns a row has: of one cell as many as atoms come before the row's, of two cells as many as the second has atoms
+abbrev pub width_of : Bool → List ℕ → ℕ → ℕ
+width_of true ys row = row
+width_of false ys row = length ys
+
+-- the pair with the number k stands in this row and column
+abbrev pub IsPlaceOf : Bool → List ℕ → List ℕ → ℕ → ℕ → ℕ → Type 0
+IsPlaceOf true xs ys row column k = (ys ≡ xs) × ((column < row) × (2 * k + row ≡ row * row + 2 * column))
+IsPlaceOf false xs ys row column k = (column < length ys) × (k ≡ row * length ys + column)
+
+-- a walk with so many pairs left stands at the first of them
+pub record IsWalk (one : Bool) (xs ys : List ℕ) (row column width left : ℕ) : Type 0 where
+  pub few : length xs ≤ 65536
+  pub within : left ≤ length (pairs_over one xs ys)
+  pub width_is : width ≡ width_of one ys row
+  pub place : 0 < left → IsPlaceOf one xs ys row column (length (pairs_over one xs ys) - left)
