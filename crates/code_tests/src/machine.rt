@@ -1,8 +1,10 @@
 // Worked examples: values and numbers of instructions computed outside.
 
+ghost use Rattle.std.specs.Prelude.{◌≡◌};
+
 use fixed::{Frac, Fx};
 use kernel_code::{CodeFault, TypeTable, read};
-use kernel_machine::{Stack, run};
+use kernel_machine::{Prepared, Stack, run, run_prepared};
 use std::alloc::Global;
 use std::test::*;
 use verifier::{Verified, verify};
@@ -10,6 +12,27 @@ use verifier::{Verified, verify};
 const CORE: i64 = 858_993_459;
 
 const CUTOFF: i64 = 3_865_470_566;
+
+/// (p1 - q2) r + g.
+const PARAMETERS: &str = "input 1\ninput 4\nsub\ninput 0\nmul\ninput 5\nadd\n";
+
+/// select(step(r - 0.5), sqrt(r - 0.4), 0).
+const JUMPS: &str =
+    "input 0\npush 2147483648\nsub\nstep\njumpifzero 10\ninput 0\npush 1717986918\nsub\nsqrt\njump 11\npush 0\n";
+
+/// r r + r.
+const KEEPS: &str = "input 0\nkeep 7\nget 7\nget 7\nmul\nget 7\nadd\n";
+
+/// r - min(r, p2).
+const KEEPS_ABOVE: &str = "input 0\ninput 3\nkeep 7\ninput 0\nget 7\nmin\nsub\n";
+
+/// Operations of all kinds.
+const OPERATIONS: &str =
+    "input 0\nneg\nabs\nkeep 0\nget 0\nsqrt\nget 0\nsq\nmax\nget 0\nmin\npush 2\ninput 0\nstep\nadd\nget 0\nfloor\ndelta\nadd\nget 0\nceil\nmul\nsub\ninput 0\ndiv\n";
+
+/// r (r + 2^-31), by values that are kept at once.
+const KEPT_AT_ONCE: &str =
+    "push 2\ninput 0\nadd\nkeep 1\ninput 0\nneg\nkeep 2\nget 2\nneg\nget 1\nmul\n";
 
 /// Two types of two parameters each, and a global.
 fn table(alloc: Global) -> Result<TypeTable<Global>, CodeFault> {
@@ -46,6 +69,26 @@ fn ran(kernel: &Verified<Global>, stack: &mut Stack, a: u32, b: u32, r: i64) -> 
     Some((value.raw(), stack.turns()))
 }
 
+/// The same of the kernel's code, made ready.
+fn ran_prepared(
+    kernel: &Verified<Global>,
+    prepared: &Prepared<Global>,
+    stack: &mut Stack,
+    a: u32,
+    b: u32,
+    r: i64,
+) -> Option<(i64, u32)>
+    requires { prepared.now ≡ kernel.now.code }
+{
+    let types = kernel.table().types();
+    let distance = Fx::from_raw(r);
+    if a >= types || b >= types || distance < kernel.core() || distance >= kernel.cutoff() {
+        return None;
+    }
+    let value = run_prepared(kernel, prepared, stack, a, b, distance);
+    Some((value.raw(), stack.turns()))
+}
+
 #[test]
 fn no_turns_before_a_run(rt: HostRuntime) -> Result<(), Fail> {
     assert_eq!(rt; Stack::new().turns(), 0);
@@ -54,11 +97,7 @@ fn no_turns_before_a_run(rt: HostRuntime) -> Result<(), Fail> {
 
 #[test]
 fn takes_the_parameters_of_both_types(rt: HostRuntime) -> Result<(), Fail> {
-    // (p1 - q2) r + g
-    let kernel = accepted(
-        rt.alloc(),
-        "input 1\ninput 4\nsub\ninput 0\nmul\ninput 5\nadd\n",
-    )?;
+    let kernel = accepted(rt.alloc(), PARAMETERS)?;
     let mut stack = Stack::new();
     for (a, b, r, value) in [
         (0, 0, 2_147_483_648, 12_029_146_987),
@@ -73,10 +112,7 @@ fn takes_the_parameters_of_both_types(rt: HostRuntime) -> Result<(), Fail> {
 
 #[test]
 fn jumps_and_goes_on(rt: HostRuntime) -> Result<(), Fail> {
-    // select(step(r - 0.5), sqrt(r - 0.4), 0)
-    let lines =
-        "input 0\npush 2147483648\nsub\nstep\njumpifzero 10\ninput 0\npush 1717986918\nsub\nsqrt\njump 11\npush 0\n";
-    let kernel = accepted(rt.alloc(), lines)?;
+    let kernel = accepted(rt.alloc(), JUMPS)?;
     let mut stack = Stack::new();
     assert_eq!(rt; kernel.steps(), 10);
     for (r, value, turns) in [
@@ -91,15 +127,8 @@ fn jumps_and_goes_on(rt: HostRuntime) -> Result<(), Fail> {
 
 #[test]
 fn forgets_what_earlier_runs_kept(rt: HostRuntime) -> Result<(), Fail> {
-    // r r + r, and r - min(r, p2)
-    let first = accepted(
-        rt.alloc(),
-        "input 0\nkeep 7\nget 7\nget 7\nmul\nget 7\nadd\n",
-    )?;
-    let second = accepted(
-        rt.alloc(),
-        "input 0\ninput 3\nkeep 7\ninput 0\nget 7\nmin\nsub\n",
-    )?;
+    let first = accepted(rt.alloc(), KEEPS)?;
+    let second = accepted(rt.alloc(), KEEPS_ABOVE)?;
     let mut stack = Stack::new();
     assert_eq!(rt;
         ran(&first, &mut stack, 0, 0, 1_000_000_007),
@@ -119,9 +148,7 @@ fn forgets_what_earlier_runs_kept(rt: HostRuntime) -> Result<(), Fail> {
 
 #[test]
 fn makes_each_operation(rt: HostRuntime) -> Result<(), Fail> {
-    let lines =
-        "input 0\nneg\nabs\nkeep 0\nget 0\nsqrt\nget 0\nsq\nmax\nget 0\nmin\npush 2\ninput 0\nstep\nadd\nget 0\nfloor\ndelta\nadd\nget 0\nceil\nmul\nsub\ninput 0\ndiv\n";
-    let kernel = accepted(rt.alloc(), lines)?;
+    let kernel = accepted(rt.alloc(), OPERATIONS)?;
     let mut stack = Stack::new();
     assert_eq!(rt;
         ran(&kernel, &mut stack, 0, 0, 858_993_459),
@@ -131,5 +158,35 @@ fn makes_each_operation(rt: HostRuntime) -> Result<(), Fail> {
         ran(&kernel, &mut stack, 1, 0, 3_865_470_565),
         Some((-5_249_404_479, 25))
     );
+    Ok(())
+}
+
+#[test]
+fn prepared_code_gives_the_same_in_as_many_instructions(rt: HostRuntime) -> Result<(), Fail> {
+    let mut stack = Stack::new();
+    for lines in [
+        PARAMETERS,
+        JUMPS,
+        KEEPS,
+        KEEPS_ABOVE,
+        OPERATIONS,
+        KEPT_AT_ONCE,
+    ] {
+        let kernel = accepted(rt.alloc(), lines)?;
+        let prepared = Prepared::new(rt.alloc(), kernel.code().as_slice())?;
+        for (a, b, r) in [
+            (0, 0, 858_993_459),
+            (0, 1, 1_000_000_007),
+            (1, 0, 2_147_483_648),
+            (1, 1, 3_865_470_565),
+        ] {
+            let value = ran(&kernel, &mut stack, a, b, r);
+            assert!(rt; value.is_some());
+            assert_eq!(rt;
+                ran_prepared(&kernel, &prepared, &mut stack, a, b, r),
+                value
+            );
+        }
+    }
     Ok(())
 }
