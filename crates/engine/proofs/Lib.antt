@@ -7,3 +7,4 @@ pub mod EngineLaws
 pub mod EnergySumLaws
 pub mod EngineEnergyLaws
 pub mod EnergyOfTexts
+pub mod WalkLaws

@@ -4,7 +4,7 @@ use Rattle.std.specs.Prelude.{IfSome, map, slice_get, option_map, nat_lt, ◌&&�
 use Rattle.std.specs.List.{All}
 use Rattle.std.proofs.lemmas.Bool.{and_parts, cases_eq, cases_lt, ltb-true}
 use Rattle.std.proofs.lemmas.Bool.Decides.{nat_tests}
-use Rattle.std.proofs.lemmas.List.{get_or_past}
+use Rattle.std.proofs.lemmas.List.{get_or_past, length-map}
 use Rattle.std.proofs.lemmas.List.Sums.{sum_by-append, sum_by-cons}
 use Rattle.cell_tiles.specs.Cells.{IsGrid, members_of}
 use Rattle.cell_tiles.specs.Cover.{ArePairs, Covers, SumsAsAll, are_close, is_pair, is_same, times, times_in_all}
@@ -200,6 +200,10 @@ tile_planned s frame t tile e =
     let m = members_of (grid_of s) frame in
     found_at (plan_of s frame) t (map (add_of s frame) (pairs_in m tile)) []
     (mapped_at (λ ps. map (add_of s frame) ps) (tile_pairs (grid_of s) frame) t (pairs_in m tile) (mapped_at (pairs_in m) (tiles_of (grid_of s)) t tile e))
+
+pub tile_length : {A : Type 0} (s : System (SafeKernel A) A) (frame : List (List ℕ)) (t : ℕ) (tile : ℕ × ℕ) → slice_get (tiles_of (grid_of s)) t ≡ Some tile
+    → length (pairs_at (plan_of s frame) t) ≡ length (pairs_in (members_of (grid_of s) frame) tile)
+tile_length s frame t tile e = ap length (tile_planned s frame t tile e) ∙ length-map (pairs_in (members_of (grid_of s) frame) tile) (add_of s frame)
 
 -- what a pair adds is a pair of atoms
 some_pair_of : (n : ℕ) (p : ℕ × ℕ) (o : Option (List ℤ)) → p.0 < p.1 → p.1 < n → IfSome (option_map {U = PairAdd} (λ v. record { low = p.0; high = p.1; force = v }) o) (IsPairOf n)

@@ -8,14 +8,17 @@ ghost use Rattle.derivative.specs.Slope.{slope_of};
 ghost use Rattle.integrator.specs.Kernels.{GivesSlope, is_small};
 
 use energy_program::Program;
+use kernel_machine::Prepared;
 use std::alloc::Allocator;
 use verifier::Verified;
 
-/// An energy, and the accepted code of its slope.
+/// An energy, and the accepted code of its slope, made ready for runs.
 #[derive(Drop)]
 pub(crate) struct SafeKernel<A: Allocator> {
     pub energy: Program<A>,
     pub verified: Verified<A>,
+    pub prepared: Prepared<A>,
+    pub ghost same_code: { prepared ≡ verified.code },
     pub ghost bounded: { (a b : ℕ) (r : ℤ) → a < length verified.table.rows → b < length verified.table.rows → verified.core ≤ℤ r → r <ℤ verified.cutoff → is_small verified.bound (slope_of (bits_of verified.table.frac) (inputs_of verified.table a b r) (program_tree energy)) ≡ true },
     pub ghost gives: { (a b : ℕ) (r : ℤ) → a < length verified.table.rows → b < length verified.table.rows → GivesSlope (bits_of verified.table.frac) (program_tree energy) verified.code (inputs_of verified.table a b r) },
 }

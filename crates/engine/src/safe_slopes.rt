@@ -4,7 +4,7 @@ ghost use Rattle.std.specs.Prelude.{◌≡◌, ◌<◌, ◌^◌, neg_ℤ, unsign
 
 use crate::safe_kernels::SafeKernel;
 use fixed::Fx;
-use kernel_machine::{Stack, run};
+use kernel_machine::{Stack, run_prepared};
 use ring_box::PairForce;
 use std::alloc::Allocator;
 
@@ -34,6 +34,16 @@ impl<'a, A: Allocator> PairForce for SafeSlope<'a, A> {
     ghost slope = { λ k a b r. minus (slope_at k a b r) };
 
     fn minus_slope(&mut self, a: u32, b: u32, r: Fx) -> Fx {
-        opposite(run(&self.kernel.verified, &mut Stack::new(), a, b, r))
+        let SafeKernel {
+            verified, prepared, ..
+        } = self.kernel;
+        opposite(run_prepared(
+            verified,
+            prepared,
+            &mut Stack::new(),
+            a,
+            b,
+            r,
+        ))
     }
 }
