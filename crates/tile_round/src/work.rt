@@ -76,7 +76,7 @@ pub trait Work {
 
     /// What the first pair from the number `k` on that acts adds, and the number after its own; `None` where none of
     /// them does. Work that finds pairs faster in order than by number has a body of its own. The caller's condition:
-    /// there is such a tile, and no more than `k` pairs are left out.
+    /// there is such a tile, and it has at least `k` pairs.
     fn next_acting(&self, tile: u64, k: u64) -> Option<(PairAdd, u64)>
         requires tile { tile < length (plan self.now) }
         requires start { k ≤ length (pairs_at (plan self.now) tile) }
