@@ -35,15 +35,10 @@ impl<'a, A: Allocator> PairForce for SafeSlope<'a, A> {
 
     fn minus_slope(&mut self, a: u32, b: u32, r: Fx) -> Fx {
         let SafeKernel {
-            verified, prepared, ..
-        } = self.kernel;
-        opposite(run_prepared(
             verified,
             prepared,
-            &mut Stack::new(),
-            a,
-            b,
-            r,
-        ))
+            ..
+        } = self.kernel;
+        opposite(run_prepared(verified, prepared, &mut Stack::new(), a, b, r))
     }
 }

@@ -6,6 +6,7 @@ use std::num::{f64_to_bits_with_nan, nearest_u64_to_f64, saturating_f64_to_u64};
 
 // Three times 2^51, and its pattern: floats around it are whole numbers, and their patterns count them.
 const MIDDLE: f64 = 6755399441055744.0;
+
 const PATTERN_OF_MIDDLE: u64 = 0x4338_0000_0000_0000;
 
 fn near_natural(n: u128) -> f64 {
