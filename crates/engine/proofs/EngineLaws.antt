@@ -24,7 +24,7 @@ use Rattle.integrator.proofs.ReturnLaws.{start_from, system_parts}
 use Rattle.integrator.proofs.StartLaws.{start_refused, started}
 use Rattle.integrator.proofs.NumberLaws.{length-numbers, at_number}
 use Rattle.integrator.specs.Energies.{Energy, energy_of, job_tree}
-use Rattle.engine.specs.Engines.{EngineView, HasNoEngine, HasNoEngineOfTexts, IsEngineOfTexts, IsEngineRefusal, Stopped, Went, engine_dynamics}
+use Rattle.engine.specs.Engines.{AreSafe, EngineView, HasNoEngine, HasNoEngineOfTexts, IsEngineOfTexts, IsEngineRefusal, Stopped, Went, engine_dynamics}
 use Rattle.integrator.specs.Frames.{frames, places_of, turns}
 use Rattle.integrator.specs.Runs.{IsAfter, is_out}
 use Rattle.integrator.specs.Starts.{has_room, holds_two, job_refused, plain, start_of, start_with, step_range, system_of, table_of}
@@ -141,12 +141,16 @@ no_counter : (job state : List ℕ) (w : Direction) (n : ℕ) (j : JobValue) (s 
 unfolding start_with
 no_counter job state w n j s system p q r h = start_from plain job state w n j s p q ∙ rw (r, h) refl
 
+-- the texts of an engine are safe
+pub safe_texts : (job state : List ℕ) (e : EngineView) → IsEngineOfTexts job state e → AreSafe job state
+safe_texts job state e t = record { j = t.j; s = t.s; job_read = t.job_read; state_read = t.state_read; it = record { system = t.it.system; made = t.it.made; it = t.it.safe } }
+
 pub engine_stops : (A : Type 0) (job state : List ℕ) (w : Direction) (n : ℕ) (e f : EngineView) (fault : StepFault) → IsEngineOfTexts job state e → Stopped w n e f fault
     → IsEngineRefusal {A = A} job state w n (run_fault_of fault)
 engine_stops A job state w n e f step.StepRange t h =
     let none = rw t.it.is at h.0 in
-    no_counter job state w n t.j t.s t.it.system t.job_read t.state_read t.it.made none
-engine_stops A job state w n e f (step.Memory done) t h = h.0
+    (no_counter job state w n t.j t.s t.it.system t.job_read t.state_read t.it.made none, safe_texts job state e t)
+engine_stops A job state w n e f (step.Memory done) t h = (h.0, safe_texts job state e t)
 
 pub step_unwritten : (A : Type 0) (fault : StepFault) → is_out (run_fault_of {A = A} fault) ≡ false
 step_unwritten A step.StepRange = refl

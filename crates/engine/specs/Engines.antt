@@ -86,6 +86,10 @@ pub record OfTexts (job state : List ℕ) (holds : JobValue → StateView → Ty
 abbrev pub IsEngineOfTexts : List ℕ → List ℕ → EngineView → Type 0
 IsEngineOfTexts job state e = OfTexts job state (λ j s. IsEngineOf j s e)
 
+-- both are read, and the code of the energy's slope is certified for the atoms of the state: wherever they come to, none of its instructions goes wrong, and no pair takes more of them than the certified number
+abbrev pub AreSafe : List ℕ → List ℕ → Type 0
+AreSafe job state = OfTexts job state (λ j s. OfSlope j s (λ code. IsSafeFor j code (length s.atoms)))
+
 -- why texts have no engine; what is refused before the verifier is what a run is refused for, whatever its steps
 abbrev pub HasNoEngineOfTexts : {A : Type 0} → List ℕ → List ℕ → RunFault A → Type 0
 HasNoEngineOfTexts {A} job state (run.Job f) = (direction : Direction) (steps : ℕ) → Refuses {A = A} (run.Job f) (start_of plain job state direction steps)
@@ -101,17 +105,17 @@ HasNoEngineOfTexts job state (run.KernelFault step low high pc why) = ⊥
 HasNoEngineOfTexts job state (run.MemoryAfter done) = ⊥
 HasNoEngineOfTexts job state (run.Out f) = ⊥
 
--- why texts give no text on an engine: want of memory and a failed output say nothing of them
+-- why texts give no text on an engine; want of memory says nothing of them, and after some steps, as a failed output, that they are safe
 abbrev pub IsEngineRefusal : {A : Type 0} → List ℕ → List ℕ → Direction → ℕ → RunFault A → Type 0
 IsEngineRefusal {A} job state direction steps (run.Job f) = Refuses {A = A} (run.Job f) (start_of plain job state direction steps)
 IsEngineRefusal {A} job state direction steps (run.State f) = Refuses {A = A} (run.State f) (start_of plain job state direction steps)
 IsEngineRefusal {A} job state direction steps (run.Energy f) = Refuses {A = A} (run.Energy f) (start_of plain job state direction steps)
 IsEngineRefusal {A} job state direction steps (run.UnknownType n) = Refuses {A = A} (run.UnknownType n) (start_of plain job state direction steps)
 IsEngineRefusal {A} job state direction steps run.CutoffTooLong = Refuses {A = A} run.CutoffTooLong (start_of plain job state direction steps)
-IsEngineRefusal {A} job state direction steps run.StepRange = Refuses {A = A} run.StepRange (start_of plain job state direction steps)
+IsEngineRefusal {A} job state direction steps run.StepRange = Refuses {A = A} run.StepRange (start_of plain job state direction steps) × AreSafe job state
 IsEngineRefusal {A} job state direction steps (run.Kernel r) = OfTexts job state (λ j s. HasNoEngine {A = A} j s (run.Kernel r))
 IsEngineRefusal {A} job state direction steps run.ForceRange = OfTexts job state (λ j s. HasNoEngine {A = A} j s run.ForceRange)
 IsEngineRefusal job state direction steps (run.KernelFault step low high pc why) = ⊥
 IsEngineRefusal job state direction steps run.Memory = Unit {0}
-IsEngineRefusal job state direction steps (run.MemoryAfter done) = done ≤ steps
-IsEngineRefusal job state direction steps (run.Out f) = Unit {0}
+IsEngineRefusal job state direction steps (run.MemoryAfter done) = (done ≤ steps) × AreSafe job state
+IsEngineRefusal job state direction steps (run.Out f) = AreSafe job state

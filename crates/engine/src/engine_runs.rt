@@ -1,7 +1,7 @@
 //! Runs from bytes to bytes on an engine.
 
 ghost use Rattle.std.specs.Prelude.{◌≡◌, ◌<◌, ◌≤◌, ◌-◌, ◌^◌, true, false, IfOk, OnOk, IfErr, OnErr, ℕ, List, ◌⊎◌};
-ghost use Rattle.engine.specs.Engines.{HasNoEngineOfTexts, IsEngineOfTexts, IsEngineRefusal};
+ghost use Rattle.engine.specs.Engines.{AreSafe, HasNoEngineOfTexts, IsEngineOfTexts, IsEngineRefusal};
 ghost use Rattle.integrator.specs.Frames.{opposite};
 ghost use Rattle.engine.specs.PairEnergies.{HasNoEnergyOfTexts, IsEnergyOfTexts};
 ghost use Rattle.integrator.specs.Runs.{is_out, IsAfter, IsRun, Wrote, WroteBeginning};
@@ -61,6 +61,7 @@ fn engine_after<R: Threads + Sync, A: Allocator + Copy + Sync>(
     requires some { 0 < workers }
     requires few { workers ≤ 64 }
     ensures value { IfOk result (λ e. IsAfter plain job.now state.now direction steps e.state) }
+    ensures safe { IfOk result (λ _. AreSafe job.now state.now) }
     ensures refused { IfErr result (IsEngineRefusal job.now state.now direction steps) }
     ensures unwritten { IfErr result (λ f. is_out f ≡ false) }
 {
@@ -76,7 +77,7 @@ fn engine_after<R: Threads + Sync, A: Allocator + Copy + Sync>(
 /// the workers' claims and additions, the frames are those of so many Levesque-Verlet steps (J. Stat. Phys. 72, 519, 1993) with the
 /// energy's slope as written and exact sums over all pairs; and the same number of steps the other way over the written bytes gives
 /// the starting bytes again. The slope's code is accepted by the verifier (`Engine::new`), so that none of its instructions faults and
-/// each pair takes at most the certified steps (`kernel_machine::run`): a fault of a kernel is no refusal here.
+/// each pair takes at most the certified steps (`kernel_machine::run_prepared`): a fault of a kernel is no refusal here.
 ///
 /// The refusals come in this order: those of the job, of the state, of `Engine::new`; `StepRange` where the counter
 /// would leave an i64; `Memory` or `MemoryAfter` wherever a growth is refused. Nothing is written then. `Out` comes
@@ -94,6 +95,8 @@ pub fn run_bytes<R: Threads + Sync, A: Allocator + Copy + Sync, O: Out>(
     requires some { 0 < workers }
     requires few { workers ≤ 64 }
     requires count { O.failed out.old < 2 ^ 64 - 1 }
+    // No instruction of the slope's code goes wrong, and no pair takes more of them than the certified number.
+    ensures safe { OnOk result (AreSafe job.now state.now) }
     // The text of the state after the steps is written.
     ensures ran { OnOk result (Wrote plain job.now state.now direction steps (O.taken out.old) (O.taken out.new)) }
     ensures kept { OnOk result (O.failed out.new ≡ O.failed out.old) }

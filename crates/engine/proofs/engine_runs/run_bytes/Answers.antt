@@ -16,6 +16,12 @@ returns-in_err-write-clause-beginning g c =
       beginning = rw c.state.ensures at c.in_err-write.ensures.fault_taken;
     })
 
+-- texts whose state could not be written are safe
+pub returns-in_err-write-clause-refused : goal.returns-in_err-write-clause-refused
+returns-in_err-write-clause-refused g c =
+    let p = err_from_is_err_and c.from_residual-in_err-write.result c.from_residual-in_err-write.ensures.1 in
+    rw (p.1, p.2) c.in_ok-engine.ensures.safe
+
 -- the law of return, at each exit
 pub returns-in_err-engine-clause-returns : goal.returns-in_err-engine-clause-returns
 returns-in_err-engine-clause-returns g c = run_back plain c.args.job.now c.args.state.now c.args.direction c.args.steps
