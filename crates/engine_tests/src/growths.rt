@@ -112,7 +112,7 @@ fn turn(
 }
 
 /// The state after so many tested steps.
-fn tested(
+pub(crate) fn tested(
     alloc: Global,
     direction: Direction,
     steps: u64,

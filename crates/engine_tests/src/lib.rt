@@ -11,3 +11,5 @@ mod growths;
 mod kernels;
 #[cfg(test)]
 mod library;
+#[cfg(test)]
+mod requests;

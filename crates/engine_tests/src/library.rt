@@ -196,18 +196,21 @@ box 200000 200000 200000
     1AR      AR 1073741824 0 0 1073741824 0 0
 ";
 
+// A job, a state, and how the line of their refusal begins and ends.
+const REFUSED: [(&[u8], &[u8], &str, &str); 3] = [
+    (STRONG, SIX, "A3 ForceRange", "A3 ForceRange"),
+    (JOB, LAST, "A4 StepRange", "A4 StepRange"),
+    (
+        STEEP,
+        STATE,
+        "V2 Fault AR AR r 858993459 pc ",
+        " F2 ZeroDivisor",
+    ),
+];
+
 #[test]
 fn refuses_by_lines(rt: HostRuntime) -> Result<(), Fail> {
-    for (job, state, front, end) in [
-        (STRONG, SIX, "A3 ForceRange", "A3 ForceRange"),
-        (JOB, LAST, "A4 StepRange", "A4 StepRange"),
-        (
-            STEEP,
-            STATE,
-            "V2 Fault AR AR r 858993459 pc ",
-            " F2 ZeroDivisor",
-        ),
-    ] {
+    for (job, state, front, end) in REFUSED {
         let mut after = Collected::new(rt.alloc());
         let fault = run_bytes(
             &rt,

@@ -437,42 +437,46 @@ fn prints_the_code_of_a_slope(rt: HostRuntime) {
     assert_eq!(rt; err.as_slice(), b"pairmd: E04 UnknownName q\n".as_slice());
 }
 
+const EMPTY: Content = Content::Bytes(b"");
+
+// Files of a run, its status, its line, and the places of the files that were read.
+const FILES_IN_ORDER: [([(&str, Content); 2], u8, &str, &[usize]); 5] = [
+    (
+        [("other", EMPTY), ("state", EMPTY)],
+        5,
+        "pairmd: O1 CannotRead job\n",
+        &[],
+    ),
+    (
+        [("job", EMPTY), ("other", EMPTY)],
+        5,
+        "pairmd: O1 CannotRead state\n",
+        &[0],
+    ),
+    (
+        [("job", Content::Unreadable), ("state", Content::Unreadable)],
+        5,
+        "pairmd: O1 CannotRead job\n",
+        &[0],
+    ),
+    (
+        [("state", Content::TooLarge), ("job", EMPTY)],
+        4,
+        "pairmd: Memory\n",
+        &[1, 0],
+    ),
+    (
+        [("job", Content::TooLarge), ("state", EMPTY)],
+        4,
+        "pairmd: Memory\n",
+        &[0],
+    ),
+];
+
 #[test]
 fn reads_files_in_order(rt: HostRuntime) {
-    let text = Content::Bytes(b"");
     let words = ["run", "job", "state", "--steps", "1"];
-    for (files, status, line, reads) in [
-        (
-            [("other", text), ("state", text)],
-            5,
-            "pairmd: O1 CannotRead job\n",
-            [].as_slice(),
-        ),
-        (
-            [("job", text), ("other", text)],
-            5,
-            "pairmd: O1 CannotRead state\n",
-            [0].as_slice(),
-        ),
-        (
-            [("job", Content::Unreadable), ("state", Content::Unreadable)],
-            5,
-            "pairmd: O1 CannotRead job\n",
-            [0].as_slice(),
-        ),
-        (
-            [("state", Content::TooLarge), ("job", text)],
-            4,
-            "pairmd: Memory\n",
-            [1, 0].as_slice(),
-        ),
-        (
-            [("job", Content::TooLarge), ("state", text)],
-            4,
-            "pairmd: Memory\n",
-            [0].as_slice(),
-        ),
-    ] {
+    for (files, status, line, reads) in FILES_IN_ORDER {
         let mut table = Table::new(&files, rt.alloc());
         let mut out = Collected::new(rt.alloc());
         let mut err = Collected::new(rt.alloc());
@@ -524,8 +528,8 @@ fn closed_outputs(rt: HostRuntime) {
 }
 
 #[test]
-fn reports_each_fault(rt: HostRuntime) {
-    let run_faults: [(RunFault<Global>, u8, &str); 15] = [
+fn reports_faults_of_texts(rt: HostRuntime) {
+    let faults: [(RunFault<Global>, u8, &str); 7] = [
         (
             RunFault::Job(JobFault::Missing { key: Key::TimeStep }),
             1,
@@ -549,6 +553,18 @@ fn reports_each_fault(rt: HostRuntime) {
             "pairmd: E03 UnexpectedToken 4\n",
         ),
         (RunFault::Energy(ExprFault::Memory), 4, "pairmd: Memory\n"),
+    ];
+    for (fault, status, line) in faults {
+        let mut err = Collected::new(rt.alloc());
+        let fault = CommandFault::Run(fault);
+        assert_eq!(rt; report(rt.alloc(), &fault, &mut err), status, "{line}");
+        assert_eq!(rt; err.bytes(), line.as_bytes());
+    }
+}
+
+#[test]
+fn reports_faults_of_runs(rt: HostRuntime) {
+    let faults: [(RunFault<Global>, u8, &str); 8] = [
         (
             RunFault::UnknownType { atom: 2 },
             1,
@@ -576,12 +592,16 @@ fn reports_each_fault(rt: HostRuntime) {
         ),
         (RunFault::Out(OutFault), 5, "pairmd: O2 CannotWrite\n"),
     ];
-    for (fault, status, line) in run_faults {
+    for (fault, status, line) in faults {
         let mut err = Collected::new(rt.alloc());
         let fault = CommandFault::Run(fault);
         assert_eq!(rt; report(rt.alloc(), &fault, &mut err), status, "{line}");
         assert_eq!(rt; err.bytes(), line.as_bytes());
     }
+}
+
+#[test]
+fn reports_words_that_are_no_text(rt: HostRuntime) {
     let mut err = Collected::new(rt.alloc());
     let fault: CommandFault<'_, Global> = CommandFault::NotText;
     assert_eq!(rt; report(rt.alloc(), &fault, &mut err), 2);

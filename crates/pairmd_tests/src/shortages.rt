@@ -1,11 +1,13 @@
-//! Outputs that fail.
+//! Outputs that fail, and memory that is refused.
 
 ghost use Rattle.std.specs.Prelude.{◌≡◌, Some};
 
 use crate::fixtures::{GRO, JOB, STATE, Table, answer_over};
 use cli::execute;
 use gro::{Collected, Out, OutFault};
+use refusing_memory::RefusingAllocator;
 use std::alloc::Allocator;
+use std::process::Abort;
 use std::test::*;
 use std::thread::Threads;
 
@@ -52,9 +54,10 @@ impl<A: Allocator> Out for OneByOne<A> {
 }
 
 /// The commands, each with its words.
-const COMMANDS: [&[&str]; 7] = [
+const COMMANDS: [&[&str]; 8] = [
     &["start", "job", "gro"],
     &["run", "job", "state", "--steps", "2"],
+    &["run", "job", "state", "--steps", "3", "--workers", "4"],
     &["back", "job", "state", "--steps", "2", "--workers", "2"],
     &["frame", "state"],
     &["energy", "job", "state"],
@@ -117,5 +120,47 @@ fn an_output_that_takes_all_gets_all(rt: HostRuntime) {
             assert_eq!(rt; out.as_slice(), whole.out.as_slice());
             assert!(rt; err.is_empty());
         }
+    }
+}
+
+/// No command makes so many requests for memory.
+const REQUESTS: u64 = 100_000;
+
+/// Where the request with this number is refused, a command gives its whole answer or wants memory. Tells whether it made that request.
+fn is_whole_or_wants_memory<R: Threads + Sync + AllocGlobal + Abort>(
+    rt: &R,
+    words: &[&str],
+    whole: &[u8],
+    number: u64,
+) -> bool {
+    let memory = RefusingAllocator::new(rt.alloc(), number);
+    let answer = answer_over(rt, &memory, words, &files());
+    if answer.status == 0 {
+        assert_eq!(rt; answer.out.as_slice(), whole);
+        assert!(rt; answer.err.is_empty());
+    } else {
+        assert_eq!(rt; answer.status, 4, "without request {number}");
+        assert!(rt; answer.out.is_empty());
+        assert!(rt;
+            answer.err.starts_with(b"pairmd: Memory"),
+            "without request {number}"
+        );
+    }
+    number < memory.requests()
+}
+
+#[test]
+fn each_request_of_a_command_may_be_refused(rt: HostRuntime) {
+    for words in COMMANDS {
+        let whole = answer_over(&rt, rt.alloc(), words, &files());
+        assert_eq!(rt; whole.status, 0);
+        let mut requests = 0;
+        for number in 0..REQUESTS {
+            if !is_whole_or_wants_memory(&rt, words, &whole.out, number) {
+                break;
+            }
+            requests = number;
+        }
+        assert!(rt; 0 < requests && requests < REQUESTS - 1);
     }
 }
