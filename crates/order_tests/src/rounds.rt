@@ -12,37 +12,39 @@ use tile_round::{Event, Memory, Outcome, PairAdd, Round, RoundFault, Work};
 
 pub(crate) type Answer = Result<Outcome, RoundFault>;
 
+// Events in their order, and what each comes to.
+const SCRIPT: [(Event, Answer); 22] = [
+    (Event::Claim(0), Ok(Outcome::Drew(0))),
+    (Event::Claim(1), Ok(Outcome::Drew(1))),
+    (Event::Deposit(1), Ok(Outcome::Added(1))),
+    (Event::Claim(1), Err(RoundFault::Busy)),
+    (Event::Claim(2), Err(RoundFault::NoSuchWorker)),
+    (Event::Deposit(1), Ok(Outcome::Added(2))),
+    (Event::Deposit(1), Ok(Outcome::Added(3))),
+    (Event::Deposit(1), Ok(Outcome::Added(7))),
+    (Event::Deposit(1), Ok(Outcome::Added(8))),
+    (Event::Deposit(1), Ok(Outcome::Added(9))),
+    (Event::Deposit(0), Ok(Outcome::Added(1))),
+    (Event::Deposit(0), Ok(Outcome::Added(2))),
+    (Event::Deposit(0), Ok(Outcome::Added(3))),
+    (Event::Deposit(0), Ok(Outcome::Added(4))),
+    (Event::Deposit(0), Ok(Outcome::Added(5))),
+    (Event::Deposit(0), Ok(Outcome::Added(6))),
+    (Event::Deposit(0), Err(RoundFault::Idle)),
+    (Event::Claim(0), Ok(Outcome::Ended)),
+    (Event::Claim(1), Ok(Outcome::Ended)),
+    (Event::Claim(0), Err(RoundFault::Stopped)),
+    (Event::Deposit(1), Err(RoundFault::Stopped)),
+    (Event::Deposit(2), Err(RoundFault::NoSuchWorker)),
+];
+
 #[test]
 fn plays_two_workers(rt: HostRuntime) -> Result<(), Fail> {
     let pairs = [add(0, 1, [5, -7, 0]), add(0, 2, [i64::MAX, 0, 0])];
     let work = one_a_tile(rt.alloc(), 3, &pairs)?;
     assert_eq!(rt; work.tiles(), 2);
     let mut round = Round::new(rt.alloc(), &work, 3, 2)?;
-    let script: [(Event, Answer); 22] = [
-        (Event::Claim(0), Ok(Outcome::Drew(0))),
-        (Event::Claim(1), Ok(Outcome::Drew(1))),
-        (Event::Deposit(1), Ok(Outcome::Added(1))),
-        (Event::Claim(1), Err(RoundFault::Busy)),
-        (Event::Claim(2), Err(RoundFault::NoSuchWorker)),
-        (Event::Deposit(1), Ok(Outcome::Added(2))),
-        (Event::Deposit(1), Ok(Outcome::Added(3))),
-        (Event::Deposit(1), Ok(Outcome::Added(7))),
-        (Event::Deposit(1), Ok(Outcome::Added(8))),
-        (Event::Deposit(1), Ok(Outcome::Added(9))),
-        (Event::Deposit(0), Ok(Outcome::Added(1))),
-        (Event::Deposit(0), Ok(Outcome::Added(2))),
-        (Event::Deposit(0), Ok(Outcome::Added(3))),
-        (Event::Deposit(0), Ok(Outcome::Added(4))),
-        (Event::Deposit(0), Ok(Outcome::Added(5))),
-        (Event::Deposit(0), Ok(Outcome::Added(6))),
-        (Event::Deposit(0), Err(RoundFault::Idle)),
-        (Event::Claim(0), Ok(Outcome::Ended)),
-        (Event::Claim(1), Ok(Outcome::Ended)),
-        (Event::Claim(0), Err(RoundFault::Stopped)),
-        (Event::Deposit(1), Err(RoundFault::Stopped)),
-        (Event::Deposit(2), Err(RoundFault::NoSuchWorker)),
-    ];
-    for (event, answer) in &script {
+    for (event, answer) in &SCRIPT {
         assert_eq!(rt; round.step(*event), *answer, "at {event:?}");
     }
     assert_eq!(rt; round.tickets(), 4);

@@ -154,38 +154,41 @@ fn reads_velocities_line_by_line(rt: HostRuntime) -> Result<(), Fail> {
     Ok(())
 }
 
+// Atom lines, and the number, the residue, the name and the place that they have.
+const FULL_COLUMNS: [(&str, i32, &str, &str, [i64; 3]); 4] = [
+    (
+        "99999ABCDEFGHIJ99999-999.9999999.999   0.001",
+        99999,
+        "ABCDE",
+        "FGHIJ",
+        [-999_999, 9_999_999, 1],
+    ),
+    (
+        "-9999A B C     00000  -0.000   0.100  10.000",
+        -9999,
+        "A B C",
+        "",
+        [0, 100, 10_000],
+    ),
+    (
+        " 0007  X    y  *****   1.234  -5.678   9.012",
+        7,
+        "X",
+        "y",
+        [1234, -5678, 9012],
+    ),
+    (
+        "-0   SOL    OW     1   0.000   0.000   0.000",
+        0,
+        "SOL",
+        "OW",
+        [0, 0, 0],
+    ),
+];
+
 #[test]
 fn reads_full_columns(rt: HostRuntime) -> Result<(), Fail> {
-    for (line, number, residue, name, at) in [
-        (
-            "99999ABCDEFGHIJ99999-999.9999999.999   0.001",
-            99999,
-            "ABCDE",
-            "FGHIJ",
-            [-999_999, 9_999_999, 1],
-        ),
-        (
-            "-9999A B C     00000  -0.000   0.100  10.000",
-            -9999,
-            "A B C",
-            "",
-            [0, 100, 10_000],
-        ),
-        (
-            " 0007  X    y  *****   1.234  -5.678   9.012",
-            7,
-            "X",
-            "y",
-            [1234, -5678, 9012],
-        ),
-        (
-            "-0   SOL    OW     1   0.000   0.000   0.000",
-            0,
-            "SOL",
-            "OW",
-            [0, 0, 0],
-        ),
-    ] {
+    for (line, number, residue, name, at) in FULL_COLUMNS {
         let text = with_line(rt.alloc(), 3, line)?;
         let frame = only(rt.alloc(), &text)?;
         let atom = frame.atoms.first().ok_or("an atom")?;
@@ -197,98 +200,101 @@ fn reads_full_columns(rt: HostRuntime) -> Result<(), Fail> {
     Ok(())
 }
 
+// Other first atom lines of the example.
+const OTHER_ATOMS: [(&str, GroFault); 21] = [
+    // four decimals, and two
+    (
+        "    1AR      AR    1   0.5000   0.0000   0.0000",
+        GroFault::Precision { line: 3 },
+    ),
+    (
+        "    1AR      AR    1   0.50   0.00   0.00",
+        GroFault::Precision { line: 3 },
+    ),
+    (
+        "    1AR      AR    1  0.5  .",
+        GroFault::Precision { line: 3 },
+    ),
+    // fewer than two points
+    (
+        "    1AR      AR    1   0.500",
+        GroFault::BadColumns { line: 3 },
+    ),
+    ("", GroFault::BadColumns { line: 3 }),
+    // too short, but with two points
+    (
+        "    1AR      AR    1   0.500   0.000",
+        GroFault::BadColumns { line: 3 },
+    ),
+    // no digit before the point
+    (
+        "    1AR      AR    1    .500   0.000   0.000",
+        GroFault::BadColumns { line: 3 },
+    ),
+    (
+        "    1AR      AR    1   -.500   0.000   0.000",
+        GroFault::BadColumns { line: 3 },
+    ),
+    (
+        "    1AR      AR    1   0.5 0   0.000   0.000",
+        GroFault::BadColumns { line: 3 },
+    ),
+    (
+        "    1AR      AR    1  0.500    0.000   0.000",
+        GroFault::Precision { line: 3 },
+    ),
+    // bytes come before points
+    (
+        "    1AR\t     AR    1   0.5000   0.0000   0.0000",
+        GroFault::BadColumns { line: 3 },
+    ),
+    (
+        "    1AR      AR    1   0.500   0.000   0.000\t",
+        GroFault::BadColumns { line: 3 },
+    ),
+    (
+        "    1\u{e9}R     AR    1   0.500   0.000   0.000",
+        GroFault::BadColumns { line: 3 },
+    ),
+    // numbers of residues
+    (
+        "     AR      AR    1   0.500   0.000   0.000",
+        GroFault::BadColumns { line: 3 },
+    ),
+    (
+        "  1 2AR      AR    1   0.500   0.000   0.000",
+        GroFault::BadColumns { line: 3 },
+    ),
+    (
+        "   +1AR      AR    1   0.500   0.000   0.000",
+        GroFault::BadColumns { line: 3 },
+    ),
+    (
+        "  - 1AR      AR    1   0.500   0.000   0.000",
+        GroFault::BadColumns { line: 3 },
+    ),
+    // after the position
+    (
+        "    1AR      AR    1   0.500   0.000   0.000x",
+        GroFault::BadColumns { line: 3 },
+    ),
+    (
+        "    1AR      AR    1   0.500   0.000   0.000  0.5000 -0.5000",
+        GroFault::BadColumns { line: 3 },
+    ),
+    (
+        "    1AR      AR    1   0.500   0.000   0.000   0.500  -0.500   0.000",
+        GroFault::BadColumns { line: 3 },
+    ),
+    (
+        "    1AR      AR    1   0.500   0.000   0.000  0.5000 -0.5000  0.0000x",
+        GroFault::BadColumns { line: 3 },
+    ),
+];
+
 #[test]
 fn refuses_other_atoms(rt: HostRuntime) -> Result<(), Fail> {
-    for (line, expected) in [
-        // four decimals, and two
-        (
-            "    1AR      AR    1   0.5000   0.0000   0.0000",
-            GroFault::Precision { line: 3 },
-        ),
-        (
-            "    1AR      AR    1   0.50   0.00   0.00",
-            GroFault::Precision { line: 3 },
-        ),
-        (
-            "    1AR      AR    1  0.5  .",
-            GroFault::Precision { line: 3 },
-        ),
-        // fewer than two points
-        (
-            "    1AR      AR    1   0.500",
-            GroFault::BadColumns { line: 3 },
-        ),
-        ("", GroFault::BadColumns { line: 3 }),
-        // too short, but with two points
-        (
-            "    1AR      AR    1   0.500   0.000",
-            GroFault::BadColumns { line: 3 },
-        ),
-        // no digit before the point
-        (
-            "    1AR      AR    1    .500   0.000   0.000",
-            GroFault::BadColumns { line: 3 },
-        ),
-        (
-            "    1AR      AR    1   -.500   0.000   0.000",
-            GroFault::BadColumns { line: 3 },
-        ),
-        (
-            "    1AR      AR    1   0.5 0   0.000   0.000",
-            GroFault::BadColumns { line: 3 },
-        ),
-        (
-            "    1AR      AR    1  0.500    0.000   0.000",
-            GroFault::Precision { line: 3 },
-        ),
-        // bytes come before points
-        (
-            "    1AR\t     AR    1   0.5000   0.0000   0.0000",
-            GroFault::BadColumns { line: 3 },
-        ),
-        (
-            "    1AR      AR    1   0.500   0.000   0.000\t",
-            GroFault::BadColumns { line: 3 },
-        ),
-        (
-            "    1\u{e9}R     AR    1   0.500   0.000   0.000",
-            GroFault::BadColumns { line: 3 },
-        ),
-        // numbers of residues
-        (
-            "     AR      AR    1   0.500   0.000   0.000",
-            GroFault::BadColumns { line: 3 },
-        ),
-        (
-            "  1 2AR      AR    1   0.500   0.000   0.000",
-            GroFault::BadColumns { line: 3 },
-        ),
-        (
-            "   +1AR      AR    1   0.500   0.000   0.000",
-            GroFault::BadColumns { line: 3 },
-        ),
-        (
-            "  - 1AR      AR    1   0.500   0.000   0.000",
-            GroFault::BadColumns { line: 3 },
-        ),
-        // after the position
-        (
-            "    1AR      AR    1   0.500   0.000   0.000x",
-            GroFault::BadColumns { line: 3 },
-        ),
-        (
-            "    1AR      AR    1   0.500   0.000   0.000  0.5000 -0.5000",
-            GroFault::BadColumns { line: 3 },
-        ),
-        (
-            "    1AR      AR    1   0.500   0.000   0.000   0.500  -0.500   0.000",
-            GroFault::BadColumns { line: 3 },
-        ),
-        (
-            "    1AR      AR    1   0.500   0.000   0.000  0.5000 -0.5000  0.0000x",
-            GroFault::BadColumns { line: 3 },
-        ),
-    ] {
+    for (line, expected) in OTHER_ATOMS {
         let text = with_line(rt.alloc(), 3, line)?;
         assert_eq!(rt; fault(rt.alloc(), &text), Some(expected), "at {line:?}");
     }
@@ -346,29 +352,37 @@ fn reads_and_refuses_counts(rt: HostRuntime) -> Result<(), Fail> {
     Ok(())
 }
 
+// Box lines, and the sides that they have in 10^-5 nm.
+const BOXES: [(&str, [i64; 3]); 7] = [
+    (
+        "   2.00000   3.00000   4.00000",
+        [200_000, 300_000, 400_000],
+    ),
+    ("2 3 4", [200_000, 300_000, 400_000]),
+    (
+        "\t1.5\t-0.00001  999999999999.99999 ",
+        [150_000, -1, 99_999_999_999_999_999],
+    ),
+    ("2 2 2 0", [200_000, 200_000, 200_000]),
+    (
+        "   2.00000   2.00000   2.00000   0.00000   0.00000  -0.00000   0.00000   0.00000   0.00000",
+        [200_000, 200_000, 200_000],
+    ),
+    ("0 0 0", [0, 0, 0]),
+    ("-0.00000 -1 1.2", [0, -100_000, 120_000]),
+];
+
 #[test]
-fn reads_and_refuses_boxes(rt: HostRuntime) -> Result<(), Fail> {
-    for (line, sides) in [
-        (
-            "   2.00000   3.00000   4.00000",
-            [200_000, 300_000, 400_000],
-        ),
-        ("2 3 4", [200_000, 300_000, 400_000]),
-        (
-            "\t1.5\t-0.00001  999999999999.99999 ",
-            [150_000, -1, 99_999_999_999_999_999],
-        ),
-        ("2 2 2 0", [200_000, 200_000, 200_000]),
-        (
-            "   2.00000   2.00000   2.00000   0.00000   0.00000  -0.00000   0.00000   0.00000   0.00000",
-            [200_000, 200_000, 200_000],
-        ),
-        ("0 0 0", [0, 0, 0]),
-        ("-0.00000 -1 1.2", [0, -100_000, 120_000]),
-    ] {
+fn reads_boxes(rt: HostRuntime) -> Result<(), Fail> {
+    for (line, sides) in BOXES {
         let text = with_line(rt.alloc(), 5, line)?;
         assert_eq!(rt; only(rt.alloc(), &text)?.sides, sides, "at {line:?}");
     }
+    Ok(())
+}
+
+#[test]
+fn refuses_boxes(rt: HostRuntime) -> Result<(), Fail> {
     for line in [
         "",
         "2 2",
@@ -390,6 +404,16 @@ fn reads_and_refuses_boxes(rt: HostRuntime) -> Result<(), Fail> {
             "at {line:?}"
         );
     }
+    assert_eq!(rt; fault(rt.alloc(), b"\n0\n2 x"), Some(GroFault::Truncated));
+    assert_eq!(rt;
+        fault(rt.alloc(), b"\n0\n2 2 x"),
+        Some(GroFault::BadBox { line: 3 })
+    );
+    Ok(())
+}
+
+#[test]
+fn refuses_triclinic_boxes(rt: HostRuntime) -> Result<(), Fail> {
     for line in [
         "   2.00000   2.00000   2.00000   0.10000   0.00000   0.00000   0.00000   0.00000   0.00000",
         "2 2 2 0 0 0 0 0 -0.00001",
@@ -402,11 +426,6 @@ fn reads_and_refuses_boxes(rt: HostRuntime) -> Result<(), Fail> {
             "at {line:?}"
         );
     }
-    assert_eq!(rt; fault(rt.alloc(), b"\n0\n2 x"), Some(GroFault::Truncated));
-    assert_eq!(rt;
-        fault(rt.alloc(), b"\n0\n2 2 x"),
-        Some(GroFault::BadBox { line: 3 })
-    );
     Ok(())
 }
 

@@ -75,77 +75,56 @@ fn reads_parameters_globals_and_types(rt: HostRuntime) -> Result<(), Fail> {
     Ok(())
 }
 
+// Texts, and the line of the first fault of each.
+const REFUSED_JOBS: [(&[u8], &str); 34] = [
+    (b"", "J1 BadLine 1"),
+    (b"pairmd job 1\r", "J1 BadLine 1"),
+    (b" pairmd job 1\n", "J1 BadLine 1"),
+    (b"pairmd job 1\r\n", "J2 Missing energy"),
+    (b"pairmd job 1\nenergy \ndt 0\n", "J1 BadLine 2"),
+    (b"pairmd job 1\n # a\n", "J1 BadLine 2"),
+    (b"pairmd job 1\nEnergy r\n", "J1 BadLine 2"),
+    (b"pairmd job 1\n\rdt 1\n", "J1 BadLine 2"),
+    (b"pairmd job 1\ndt 1\r\r\n", "J1 BadLine 2"),
+    (b"pairmd job 1\ndt 1\r", "J1 BadLine 2"),
+    (b"pairmd job 1\ncore -1\n", "J1 BadLine 2"),
+    (b"pairmd job 1\ncore 1 2\n", "J1 BadLine 2"),
+    (b"pairmd job 1\n\ndt +1\n", "J1 BadLine 3"),
+    (b"pairmd job 1\ndt 1\ndt 0\n", "J3 Repeated dt"),
+    (b"pairmd job 1\ndt 1\ndt x\n", "J1 BadLine 3"),
+    (b"pairmd job 1\ndt 1001\n", "J4 Range dt"),
+    (b"pairmd job 1\ndt 99999999999999999999999\n", "J4 Range dt"),
+    (b"pairmd job 1\nslices 0\n", "J4 Range slices"),
+    (b"pairmd job 1\nslices 65537\n", "J4 Range slices"),
+    (b"pairmd job 1\ncore 3e9\n", "J4 Range core"),
+    (b"pairmd job 1\ncutoff 0\n", "J4 Range cutoff"),
+    (b"pairmd job 1\ncutoff 80.001\n", "J4 Range cutoff"),
+    (b"pairmd job 1\ntype A 1\ntype A 0\n", "J5 RepeatedType A"),
+    (b"pairmd job 1\ntype ABCDEF 1\n", "J1 BadLine 2"),
+    (b"pairmd job 1\ntype A 0\n", "J4 Range type"),
+    (b"pairmd job 1\ntype A 1000.00001\n", "J4 Range type"),
+    (b"pairmd job 1\ntype A 1.000000\n", "J1 BadLine 2"),
+    (b"pairmd job 1\ntype A 1.\n", "J1 BadLine 2"),
+    (b"pairmd job 1\ntype A .5\n", "J1 BadLine 2"),
+    (b"pairmd job 1\nenergy r\ndt 1\n", "J2 Missing core"),
+    (b"pairmd job 1\nenergy r\ncore 1\n", "J2 Missing cutoff"),
+    (
+        b"pairmd job 1\nenergy r\ncutoff 1\ncore 1\n",
+        "J2 Missing dt",
+    ),
+    (
+        b"pairmd job 1\nenergy r\ncutoff 1\ncore 1\ndt 1\ntype A 1 1",
+        "J4 Range cutoff",
+    ),
+    (
+        b"pairmd job 1\nenergy r\ncutoff 1\ncore 0\ndt 1\n\ntype A 1 1",
+        "J1 BadLine 7",
+    ),
+];
+
 #[test]
 fn names_the_first_fault(rt: HostRuntime) -> Result<(), Fail> {
-    for (text, want) in [
-        (b"".as_slice(), "J1 BadLine 1"),
-        (b"pairmd job 1\r".as_slice(), "J1 BadLine 1"),
-        (b" pairmd job 1\n".as_slice(), "J1 BadLine 1"),
-        (b"pairmd job 1\r\n".as_slice(), "J2 Missing energy"),
-        (b"pairmd job 1\nenergy \ndt 0\n".as_slice(), "J1 BadLine 2"),
-        (b"pairmd job 1\n # a\n".as_slice(), "J1 BadLine 2"),
-        (b"pairmd job 1\nEnergy r\n".as_slice(), "J1 BadLine 2"),
-        (b"pairmd job 1\n\rdt 1\n".as_slice(), "J1 BadLine 2"),
-        (b"pairmd job 1\ndt 1\r\r\n".as_slice(), "J1 BadLine 2"),
-        (b"pairmd job 1\ndt 1\r".as_slice(), "J1 BadLine 2"),
-        (b"pairmd job 1\ncore -1\n".as_slice(), "J1 BadLine 2"),
-        (b"pairmd job 1\ncore 1 2\n".as_slice(), "J1 BadLine 2"),
-        (b"pairmd job 1\n\ndt +1\n".as_slice(), "J1 BadLine 3"),
-        (b"pairmd job 1\ndt 1\ndt 0\n".as_slice(), "J3 Repeated dt"),
-        (b"pairmd job 1\ndt 1\ndt x\n".as_slice(), "J1 BadLine 3"),
-        (b"pairmd job 1\ndt 1001\n".as_slice(), "J4 Range dt"),
-        (
-            b"pairmd job 1\ndt 99999999999999999999999\n".as_slice(),
-            "J4 Range dt",
-        ),
-        (b"pairmd job 1\nslices 0\n".as_slice(), "J4 Range slices"),
-        (
-            b"pairmd job 1\nslices 65537\n".as_slice(),
-            "J4 Range slices",
-        ),
-        (b"pairmd job 1\ncore 3e9\n".as_slice(), "J4 Range core"),
-        (b"pairmd job 1\ncutoff 0\n".as_slice(), "J4 Range cutoff"),
-        (
-            b"pairmd job 1\ncutoff 80.001\n".as_slice(),
-            "J4 Range cutoff",
-        ),
-        (
-            b"pairmd job 1\ntype A 1\ntype A 0\n".as_slice(),
-            "J5 RepeatedType A",
-        ),
-        (b"pairmd job 1\ntype ABCDEF 1\n".as_slice(), "J1 BadLine 2"),
-        (b"pairmd job 1\ntype A 0\n".as_slice(), "J4 Range type"),
-        (
-            b"pairmd job 1\ntype A 1000.00001\n".as_slice(),
-            "J4 Range type",
-        ),
-        (
-            b"pairmd job 1\ntype A 1.000000\n".as_slice(),
-            "J1 BadLine 2",
-        ),
-        (b"pairmd job 1\ntype A 1.\n".as_slice(), "J1 BadLine 2"),
-        (b"pairmd job 1\ntype A .5\n".as_slice(), "J1 BadLine 2"),
-        (
-            b"pairmd job 1\nenergy r\ndt 1\n".as_slice(),
-            "J2 Missing core",
-        ),
-        (
-            b"pairmd job 1\nenergy r\ncore 1\n".as_slice(),
-            "J2 Missing cutoff",
-        ),
-        (
-            b"pairmd job 1\nenergy r\ncutoff 1\ncore 1\n".as_slice(),
-            "J2 Missing dt",
-        ),
-        (
-            b"pairmd job 1\nenergy r\ncutoff 1\ncore 1\ndt 1\ntype A 1 1".as_slice(),
-            "J4 Range cutoff",
-        ),
-        (
-            b"pairmd job 1\nenergy r\ncutoff 1\ncore 0\ndt 1\n\ntype A 1 1".as_slice(),
-            "J1 BadLine 7",
-        ),
-    ] {
+    for (text, want) in REFUSED_JOBS {
         let line = verdict(rt.alloc(), Job::read(rt.alloc(), text))?;
         assert_eq!(rt; line.as_str(), want);
     }

@@ -114,41 +114,44 @@ fn reads_names_of_printable_bytes(rt: HostRuntime) -> Result<(), Fail> {
     Ok(())
 }
 
+// A line of the example by its number, and another that no state has there.
+const OTHER_LINES: [(usize, &str); 31] = [
+    (1, "pairmd state 2"),
+    (1, "pairmd state 1\r"),
+    (2, "title"),
+    (2, "titletwo atoms"),
+    (2, "title two atoms\r"),
+    (3, "step 007"),
+    (3, "step -0"),
+    (3, "step +1"),
+    (3, "step  0"),
+    (3, "step 0 "),
+    (3, "step"),
+    (3, "step 9223372036854775808"),
+    (4, "atoms 02"),
+    (4, "atoms -2"),
+    (4, "atoms 65537"),
+    (5, "box 200000 200000 16000001"),
+    (5, "box 200000 0 200000"),
+    (5, "box 200000  200000 200000"),
+    (5, "box 200000 200000"),
+    (5, "box 200000 200000 200000 200000"),
+    (6, "    1AR      AR 4294967296 0 0 1 0 0"),
+    (6, "    1AR      AR 1073741824 0 0 1 0"),
+    (6, "    1AR      AR 1073741824 0 0 1 0 0 "),
+    (6, "    1AR      AR 1073741824 0 0 1 0 00"),
+    (6, "    1AR      AR\t1073741824 0 0 1 0 0"),
+    (6, "    1   AR   AR 1073741824 0 0 1 0 0"),
+    (6, "    1AR   AR    1073741824 0 0 1 0 0"),
+    (6, "1    AR      AR 1073741824 0 0 1 0 0"),
+    (6, "00001AR      AR 1073741824 0 0 1 0 0"),
+    (6, "-0001AR      AR 1073741824 0 0 1 0 0"),
+    (7, ""),
+];
+
 #[test]
 fn refuses_other_lines(rt: HostRuntime) -> Result<(), Fail> {
-    for (number, line) in [
-        (1, "pairmd state 2"),
-        (1, "pairmd state 1\r"),
-        (2, "title"),
-        (2, "titletwo atoms"),
-        (2, "title two atoms\r"),
-        (3, "step 007"),
-        (3, "step -0"),
-        (3, "step +1"),
-        (3, "step  0"),
-        (3, "step 0 "),
-        (3, "step"),
-        (3, "step 9223372036854775808"),
-        (4, "atoms 02"),
-        (4, "atoms -2"),
-        (4, "atoms 65537"),
-        (5, "box 200000 200000 16000001"),
-        (5, "box 200000 0 200000"),
-        (5, "box 200000  200000 200000"),
-        (5, "box 200000 200000"),
-        (5, "box 200000 200000 200000 200000"),
-        (6, "    1AR      AR 4294967296 0 0 1 0 0"),
-        (6, "    1AR      AR 1073741824 0 0 1 0"),
-        (6, "    1AR      AR 1073741824 0 0 1 0 0 "),
-        (6, "    1AR      AR 1073741824 0 0 1 0 00"),
-        (6, "    1AR      AR\t1073741824 0 0 1 0 0"),
-        (6, "    1   AR   AR 1073741824 0 0 1 0 0"),
-        (6, "    1AR   AR    1073741824 0 0 1 0 0"),
-        (6, "1    AR      AR 1073741824 0 0 1 0 0"),
-        (6, "00001AR      AR 1073741824 0 0 1 0 0"),
-        (6, "-0001AR      AR 1073741824 0 0 1 0 0"),
-        (7, ""),
-    ] {
+    for (number, line) in OTHER_LINES {
         let text = with_line(rt.alloc(), number, line.as_bytes())?;
         let line_number = number as u64;
         assert_eq!(rt;
