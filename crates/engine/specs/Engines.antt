@@ -105,7 +105,7 @@ HasNoEngineOfTexts job state (run.KernelFault step low high pc why) = ⊥
 HasNoEngineOfTexts job state (run.MemoryAfter done) = ⊥
 HasNoEngineOfTexts job state (run.Out f) = ⊥
 
--- why texts give no text on an engine; want of memory says nothing of them, and after some steps, as a failed output, that they are safe
+-- why texts give no text on an engine; want of memory before the steps says nothing of them, and where the counter, the memory of a step or the output ends a run they are safe
 abbrev pub IsEngineRefusal : {A : Type 0} → List ℕ → List ℕ → Direction → ℕ → RunFault A → Type 0
 IsEngineRefusal {A} job state direction steps (run.Job f) = Refuses {A = A} (run.Job f) (start_of plain job state direction steps)
 IsEngineRefusal {A} job state direction steps (run.State f) = Refuses {A = A} (run.State f) (start_of plain job state direction steps)
