@@ -1,0 +1,142 @@
+#!/usr/bin/env python3
+"""Proves the libraries that a crate stands on, side by side, and tells where it is: a line a crate. A program is then proved and linked.
+
+  tools/build.py [CRATE] [--jobs N]     CRATE is pairmd where none is named
+
+What was proved is kept in crates/*/out, so a second build proves what has changed. The prover's own words go to a log, which the first
+line names. Crates that the named one doesn't stand on, as those of tests, are left alone.
+"""
+import argparse
+import os
+import subprocess
+import sys
+import threading
+import time
+from concurrent.futures import FIRST_COMPLETED, ThreadPoolExecutor, wait
+
+import kit
+
+BYTES_OF_A_CHECK = 4 << 30
+
+
+def jobs():
+    """Returns how many crates to prove side by side: one for each processor and each 4 GB of memory that is free."""
+    with open("/proc/meminfo", encoding="ascii") as lines:
+        free = next(int(line.split()[1]) << 10 for line in lines if line.startswith("MemAvailable"))
+    return max(1, min(len(os.sched_getaffinity(0)), free // BYTES_OF_A_CHECK))
+
+
+def longest_chains(crates):
+    """Returns, for each crate, the lines on the longest chain of crates from it to the top: those that others wait for go first."""
+    own = {it: it.count(rb"\n") for it in crates}
+    behind = dict(own)
+    for it in reversed(crates):
+        for dep in own.keys() & {*it.below()}:
+            behind[dep] = max(behind[dep], behind[it] + own[dep])
+    return behind
+
+
+class Build:
+    def __init__(self, crates, log):
+        self.crates, self.log = crates, log
+        self.began, self.done, self.printing = time.monotonic(), 0, threading.Lock()
+
+    def prove(self, crate):
+        """Returns whether the library was proved and built."""
+        began = time.monotonic()
+        crate.out = open(f"{self.log}.{crate.name}", "w+", encoding="utf-8", errors="replace")
+        with crate.out:
+            status = crate.build_rlib(["--jobs", "1"], anew=False)
+            crate.out.seek(0)
+            said = crate.out.read()
+        os.remove(f"{self.log}.{crate.name}")
+        self.tell(crate, status, said, time.monotonic() - began)
+        return not status
+
+    def tell(self, crate, status, said, seconds):
+        with self.printing:
+            self.done += 1
+            with open(self.log, "a", encoding="utf-8") as log:
+                log.write(f"== {crate.name}\n{said}")
+            minutes = (time.monotonic() - self.began) / 60
+            word = "NOT proved" if status else "proved"
+            print(f"{self.done:3} of {len(self.crates)}  {minutes:5.1f} min  {crate.name} {word} in {seconds:.0f} s", flush=True)
+            if status:
+                print("".join(line for line in said.splitlines(True) if ": error" in line)[:4000], end="", flush=True)
+
+    def run(self, lanes):
+        """Proves each crate once those below it are proved, and returns whether all were."""
+        behind = longest_chains(self.crates)
+        left, running = sorted(self.crates, key=lambda it: -behind[it]), {}
+        proved = {dep for it in left for dep in it.below()} - set(left)
+        with ThreadPoolExecutor(lanes) as pool:
+            while left or running:
+                ready = [it for it in left if proved.issuperset(it.below())][: lanes - len(running)]
+                for it in ready:
+                    left.remove(it)
+                    running[pool.submit(self.prove, it)] = it
+                if not running:
+                    return False
+                for it in wait(running, return_when=FIRST_COMPLETED).done:
+                    crate = running.pop(it)
+                    proved |= {crate} if it.result() else set()
+        return True
+
+
+def libraries_below(named):
+    return sorted(named.below(), key=lambda it: len(it.below()))
+
+
+def build(rtlib, named, lanes):
+    """Proves and builds the libraries below a crate that aren't built as they stand, and returns whether all are."""
+    wanted = [it for it in libraries_below(named) if not it.is_built()]
+    if not wanted:
+        return True
+    held = rtlib.lock([*named.below(), named])
+    os.makedirs(f"{named.folder}/out", exist_ok=True)
+    log = log_of(named)
+    open(log, "w", encoding="utf-8").close()
+    print(f"{len(wanted)} of {len(named.below())} libraries are to be proved, {lanes} at a time; the prover's words are in {os.path.relpath(log)}", flush=True)
+    built = Build(wanted, log).run(lanes)
+    for it in held:
+        os.close(it)
+    return built
+
+
+def log_of(named):
+    return f"{named.folder}/out/build.log"
+
+
+def link(named):
+    """Proves and links a program over its libraries, which are built, and returns whether it was."""
+    began, program = time.monotonic(), f"{named.folder}/out/{named.name}"
+    was = os.stat(program).st_mtime_ns if os.path.exists(program) else None
+    with open(log_of(named), "ab") as log:
+        ran = subprocess.run(["rt", "run", "--", "--help"], cwd=named.folder, stdin=subprocess.DEVNULL, stdout=log, stderr=log)
+    if ran.returncode:
+        print(f"{named.name} was NOT proved and linked: {os.path.relpath(log_of(named))} says why")
+    elif os.stat(program).st_mtime_ns != was:
+        print(f"{named.name} proved and linked in {time.monotonic() - began:.0f} s", flush=True)
+    return ran.returncode == 0
+
+
+def main():
+    parser = argparse.ArgumentParser(description=__doc__, formatter_class=argparse.RawDescriptionHelpFormatter)
+    parser.add_argument("crate", nargs="?", default="pairmd")
+    parser.add_argument("--jobs", type=int, default=jobs())
+    parser.add_argument("--count", action="store_true", help="print how many crates would be proved side by side, and stop")
+    told = parser.parse_args()
+    if told.count:
+        print(jobs())
+        return 0
+    rtlib = kit.module("rtlib.py")
+    rtlib.guarded()
+    os.chdir(kit.ROOT)
+    named = next((it for it in rtlib.crates_below(kit.ROOT) if it.name == told.crate), None)
+    if named is None:
+        sys.exit(f"crates.txt names no crate {told.crate}")
+    return 0 if build(rtlib, named, told.jobs) and (not named.is_program or link(named)) else 1
+
+
+if __name__ == "__main__":
+    sys.exit(main())

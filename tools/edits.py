@@ -1,0 +1,121 @@
+#!/usr/bin/env python3
+"""Tries the edits that must fail of crates/NAME/edits: the prover has to refuse each.
+
+  tools/edits.py [NAME ..] [--jobs N]      those of the named crates, or of all
+  tools/edits.py --stale [--jobs N]        those of each crate that has changed since they were last all refused
+
+They have the form of the edits in crates/NAME/must-fail, which the gate tries itself. Each is tried over the work that a check has kept,
+so that no crate is proved again for it. Where all edits of a crate were refused, crates/NAME/edits/stamp gets the sum of the crate's src, specs and
+edits; while it fits, they would be refused again. --stale works over the libraries that the gate has just built, and else none is built anew.
+"""
+import argparse
+import hashlib
+import os
+import shutil
+import sys
+import tempfile
+import threading
+import types
+from concurrent.futures import ThreadPoolExecutor
+
+import build
+import kit
+
+PARTS = ("edits", "specs", "src")
+
+
+def edits_of(crate):
+    folder = f"{crate.folder}/edits"
+    names = sorted(os.listdir(folder)) if os.path.isdir(folder) else []
+    return [f"{folder}/{name}" for name in names if name.endswith(".edit")]
+
+
+def sum_of(crate):
+    """Returns the sum of what decides whether the edits are refused: the crate's code, its definitions, and the edits."""
+    found = hashlib.sha256()
+    for part in PARTS:
+        for at, folders, files in os.walk(f"{crate.folder}/{part}"):
+            folders.sort()
+            for name in sorted(files):
+                if name != "stamp":
+                    path = f"{at}/{name}"
+                    with open(path, "rb") as it:
+                        found.update(f"{os.path.relpath(path, crate.folder)}\0".encode() + it.read() + b"\0")
+    return found.hexdigest()
+
+
+def stamp_of(crate):
+    try:
+        with open(f"{crate.folder}/edits/stamp", encoding="ascii") as it:
+            return it.read().strip()
+    except OSError:
+        return None
+
+
+class Trial:
+    """Tries the edits of crates side by side, and counts."""
+
+    def __init__(self, rt, over_gate):
+        self.rt, self.over_gate = rt, over_gate
+        self.passed, self.failed, self.printing = 0, 0, threading.Lock()
+
+    def kept(self, crate, room):
+        """Returns the folder over which edits are tried: what a check has kept of the crate, or a new one."""
+        own = f"{crate.folder}/out/incremental"
+        return own if os.path.isdir(own) and not self.over_gate else room
+
+    def run(self, crate):
+        flags = ["--jobs", "1"]
+        edits = edits_of(crate)
+        with tempfile.TemporaryDirectory(prefix="edits-") as room:
+            kept = self.kept(crate, room)
+            ran = self.rt.checked(crate, {}, flags, kept)
+            if ran.returncode:
+                self.tell(crate, [(False, f"{crate.name} itself is not proved: {ran.stdout[-600:]}")])
+                return
+            tried = []
+            for edit in edits:
+                refused, said = self.rt.must_fail(crate, edit, flags, kept)
+                tried.append((refused, said.replace("must-fail ", "edits/", 1)))
+                self.tell(crate, tried[-1:])
+            self.rt.checked(crate, {}, flags, kept)
+        if all(refused for refused, _ in tried) and not self.over_gate:
+            with open(f"{crate.folder}/edits/stamp", "w", encoding="ascii") as it:
+                it.write(f"{sum_of(crate)}\n")
+
+    def tell(self, crate, tried):
+        with self.printing:
+            for refused, said in tried:
+                self.passed, self.failed = self.passed + refused, self.failed + (not refused)
+                print(said[:400], flush=True)
+
+
+def main():
+    parser = argparse.ArgumentParser(description=__doc__, formatter_class=argparse.RawDescriptionHelpFormatter)
+    parser.add_argument("names", nargs="*")
+    parser.add_argument("--stale", action="store_true")
+    parser.add_argument("--jobs", type=int, default=build.jobs())
+    told = parser.parse_args()
+    rt = kit.module("rt")
+    rt.rtlib.guarded()
+    os.chdir(kit.ROOT)
+    crates = [it for it in rt.rtlib.crates_below(kit.ROOT) if edits_of(it) and (not told.names or it.name in told.names)]
+    if told.stale:
+        crates = [it for it in crates if stamp_of(it) != sum_of(it)]
+        # as the gate builds its libraries: those above load their statements
+        rt.rtlib.Crate.cuts_libraries = True
+    elif not all(build.build(rt.rtlib, it, told.jobs) for it in crates):
+        return 1
+    if not crates:
+        print("the edits of all crates were refused as they stand, by their stamps")
+        return 0
+    trial = Trial(rt, told.stale)
+    with ThreadPoolExecutor(told.jobs) as pool:
+        for it in [pool.submit(trial.run, crate) for crate in sorted(crates, key=lambda it: -len(edits_of(it)))]:
+            it.result()
+    print(f"edits: {trial.passed} passed, {trial.failed} failed")
+    return 1 if trial.failed else 0
+
+
+if __name__ == "__main__":
+    sys.exit(main())
