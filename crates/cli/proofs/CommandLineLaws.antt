@@ -1,9 +1,12 @@
 -- What the parser's contracts say of this program's command line.
 use Rattle.std.proofs.Common.{◌≡◌, ◌≢◌, ◌⊎◌, ◌∙◌, ◌<◌, ◌^◌, ℕ, List, [], ◌∷◌, Option, Some, None, MatchOption, ap, refl, sym, subst, true, inl, inr, arith}
+use Rattle.std.proofs.lemmas.Result.{IfOk-weaker}
 use Rattle.std.specs.Prelude.{Result}
+use Rattle.std.specs.declared.alloc.AllocError.{AllocError}
 use Rattle.std.specs.Str.Parse.{ExplainsUnsignedError, HasUnsignedDigitsIfOk, IsNumeral, ParsesUnsigned, digits_value, without_leading_plus}
 use Rattle.std.specs.declared.num.ParseIntError.{ParseIntError}
 use Rattle.clap.specs.Words.{App, HasKind, HasMatchesOf, IsAmong, Kinds, ReadsOne, Row, Text, fault_of, is_simple, is_simple_and_free, kind_of, one_of, one_text, rows_of, subcommand_of, subcommand_rows_of}
+use Rattle.clap.specs.declared.builder.command.Command as parser
 use Rattle.clap.specs.declared.error.Error.{Error}
 use Rattle.clap.specs.declared.error.kind.ErrorKind.{ErrorKind}
 use Rattle.clap.specs.declared.error.kind.ErrorKind.TheVariants.{DisplayHelp, OutOfMemory, MissingRequiredArgument}
@@ -12,8 +15,16 @@ use Rattle.clap.specs.declared.parser.matches.ArgMatches.{ArgMatches}
 use Rattle.clap.specs.declared.parser.matches.Found.{Found}
 use Rattle.clap.proofs.WalkLemmas.{one_text-rows}
 use Rattle.clap.proofs.OnLiterals.{clap_on_literals}
-use Rattle.cli.specs.CommandLine.{AsksForHelp, IsCommand, IsMisuse, IsNamedOf, SaysNumber, WritesNumber, faults_of, program}
+use Rattle.cli.specs.CommandLine.{AsksForHelp, IsBuilt, IsCommand, IsMisuse, IsNamedOf, IsShaped, SaysNumber, WritesNumber, faults_of, program}
 use Rattle.cli.specs.declared.commands.Command.{Command}
+
+-- ---- building the program
+
+-- what stands below another command is told by its shape alone
+pub shaped : (built : Result parser.Command AllocError) (app : App) → IsBuilt built app → IsShaped built app.top
+shaped built app is = IfOk-weaker built _ _ (λ c h. (ap (λ (a : App). a.top) h.0, h.1)) is
+
+-- ---- what the parser says of it
 
 pub program_is_simple : is_simple program ≡ true
 unfolding clap_on_literals

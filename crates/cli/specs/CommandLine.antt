@@ -1,7 +1,10 @@
 -- The command line: which words name which command. Words are read by the rules of utilities (POSIX.1-2017, Utility Syntax Guidelines), as `clap` states them.
-use Rattle.std.specs.Prelude.{◌≡◌, ◌≢◌, ℕ, List, [], ◌∷◌, Option, Some, None, option_map, true, codes}
+use Rattle.std.specs.Prelude.{◌≡◌, ◌≢◌, ℕ, List, [], ◌∷◌, Option, Some, None, Result, IfOk, option_map, true, false, codes}
 use Rattle.std.specs.Str.Parse.{IsNumeral, digits_value, without_leading_plus}
-use Rattle.clap.specs.Words.{App, IsAmong, Kinds, Row, Rule, Shape, Text, fault_of, first_of, new_app, new_rule, one_of, subcommand_of, with_rule, with_subcommand}
+use Rattle.std.specs.declared.alloc.AllocError.{AllocError}
+use Rattle.clap.specs.Words.{App, IsAmong, Kinds, Row, Rule, Shape, Text, app_of, fault_of, first_of, new_app, new_rule, one_of, shape_of, subcommand_of, with_rule, with_subcommand}
+use Rattle.clap.specs.declared.builder.command.Command as parser
+use Rattle.clap.specs.declared.builder.command.Command.TheViews.{out-Command}
 use Rattle.clap.specs.Kinds.{or_else}
 use Rattle.clap.specs.declared.error.kind.ErrorKind.{ErrorKind}
 use Rattle.clap.specs.declared.error.kind.ErrorKind.TheVariants.{DisplayHelp, MissingRequiredArgument}
@@ -96,6 +99,16 @@ judging = with_subcommand (with_subcommand returning weighing) checking
 
 abbrev pub program : App
 program = with_subcommand judging listing
+
+-- ---- commands of the parser
+
+-- Unless memory ran out, the command is as said, and each of its arguments is its own: it is none of a command below it.
+abbrev pub IsBuilt : Result parser.Command AllocError → App → Type 0
+IsBuilt built app = IfOk built (λ c. (app_of c ≡ app) × ((out-Command c).has_globals ≡ false))
+
+-- the same of a command that stands below another
+abbrev pub IsShaped : Result parser.Command AllocError → Shape → Type 0
+IsShaped built shape = IfOk built (λ c. (shape_of c ≡ shape) × ((out-Command c).has_globals ≡ false))
 
 -- ---- what the words ask for
 

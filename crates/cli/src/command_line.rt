@@ -1,10 +1,9 @@
 //! The command line.
 
-ghost use Rattle.std.specs.Prelude.{◌≡◌, ◌≤◌, ◌<◌, ◌^◌, ◌⊎◌, ℕ, IfOk, IfErr, MatchOption, option_map, map, false};
-ghost use Rattle.clap.specs.Words.{HasKind, app_of, first_of, found_of, kind_of, rows_of, rule_of, shape_of, subcommand_rows_of};
-ghost use Rattle.clap.specs.declared.builder.command.Command.TheViews.{out-Command};
+ghost use Rattle.std.specs.Prelude.{◌≡◌, ◌≤◌, ◌<◌, ◌^◌, ◌⊎◌, ℕ, IfOk, IfErr, MatchOption, codes, option_map, map, false};
+ghost use Rattle.clap.specs.Words.{App, HasKind, Rule, Shape, app_of, first_of, found_of, kind_of, new_app, rows_of, rule_of, subcommand_rows_of, with_rule, with_subcommand};
 ghost use Rattle.clap.specs.declared.error.kind.ErrorKind.TheVariants.{OutOfMemory};
-ghost use Rattle.cli.specs.CommandLine.{IsCheck, IsCommand, IsEnergy, IsFrame, IsFrameNumber, IsListing, IsNamed, IsNamedOf, IsRun, IsStart, IsSteps, IsWorkers, checking, code_rule, command_name, faults_of, forward, frame_rule, framing, judging, listing, path_rule, program, returning, starting, steps_rule, stepping, weighing, workers_rule};
+ghost use Rattle.cli.specs.CommandLine.{IsBuilt, IsCheck, IsCommand, IsEnergy, IsFrame, IsFrameNumber, IsListing, IsNamed, IsNamedOf, IsRun, IsShaped, IsStart, IsSteps, IsWorkers, bare, checking, code_rule, command_name, faults_of, frame_rule, framing, listing, path_rule, program, starting, steps_rule, stepping, weighing, workers_rule};
 ghost use Rattle.cli.specs.declared.commands.Start.{Start};
 ghost use Rattle.cli.specs.declared.commands.Frame.{Frame};
 ghost use Rattle.cli.specs.declared.commands.Listing.{Listing};
@@ -175,128 +174,121 @@ fn direction_of(name: &str) -> Option<Direction>
     }
 }
 
-fn program<'a>(alloc: Global) -> Result<clap::Command<'a>, AllocError>
+/// A command, unless memory runs out. What builds on one takes it as it is, so that no command waits while another is built.
+type Built<'a> = Result<clap::Command<'a>, AllocError>;
+
+fn program<'a>(alloc: Global) -> Built<'a>
     ensures { IfOk result (λ c. app_of c ≡ program) }
 {
-    let code = listing(alloc)?;
-    judging(alloc)?.subcommand(code)
+    let run = stepping(alloc, "run", "Prints the state after so many steps");
+    let forward = with_command(with_command(bare(alloc), starting(alloc)), run);
+    let back = stepping(alloc, "back", "Prints the state so many steps back");
+    let returning = with_command(with_command(forward, back), framing(alloc));
+    let judging = with_command(with_command(returning, weighing(alloc)), checking(alloc));
+    with_command(judging, listing(alloc))
 }
 
-/// The program with its first six commands.
-fn judging<'a>(alloc: Global) -> Result<clap::Command<'a>, AllocError>
-    ensures { IfOk result (λ c. app_of c ≡ judging) }
+/// The program without its commands.
+fn bare<'a>(alloc: Global) -> Built<'a>
+    ensures { IsBuilt result bare }
 {
-    let energy = weighing(alloc)?;
-    let check = checking(alloc)?;
-    returning(alloc)?.subcommand(energy)?.subcommand(check)
-}
-
-/// The program with its first four commands.
-fn returning<'a>(alloc: Global) -> Result<clap::Command<'a>, AllocError>
-    ensures { IfOk result (λ c. app_of c ≡ returning) }
-{
-    let back = stepping(alloc, "back", "Prints the state so many steps back")?;
-    let frame = framing(alloc)?;
-    forward(alloc)?.subcommand(back)?.subcommand(frame)
-}
-
-/// The program with its first two commands.
-fn forward<'a>(alloc: Global) -> Result<clap::Command<'a>, AllocError>
-    ensures { IfOk result (λ c. app_of c ≡ forward) }
-{
-    let start = starting(alloc)?;
-    let run = stepping(alloc, "run", "Prints the state after so many steps")?;
     clap::Command::new(alloc, "pairmd")
         .about("Reversible molecular dynamics on whole numbers")
-        .bin_name("pairmd")?
         .no_binary_name(true)
         .subcommand_required(true)
-        .subcommand(start)?
-        .subcommand(run)
+        .bin_name("pairmd")
 }
 
 /// The command that takes a job, a GRO file and the number of a frame.
-fn starting<'a>(alloc: Global) -> Result<clap::Command<'a>, AllocError>
-    ensures shape { IfOk result (λ c. shape_of c ≡ starting) }
-    ensures local { IfOk result (λ c. (out-Command c).has_globals ≡ false) }
+fn starting<'a>(alloc: Global) -> Built<'a>
+    ensures { IsShaped result starting }
 {
-    let job = path(alloc, "JOB", "The file of the job");
-    let gro = path(alloc, "GRO", "The GRO file");
-    let frame = frame_number(alloc);
-    clap::Command::new(alloc, "start")
-        .about("Prints the state that begins at a frame of a GRO file")
-        .arg(job)?
-        .arg(gro)?
-        .arg(frame)
+    let command = of_job(
+        alloc,
+        "start",
+        "Prints the state that begins at a frame of a GRO file",
+    );
+    let command = with_arg(command, path(alloc, "GRO", "The GRO file"));
+    with_arg(command, frame_number(alloc))
 }
 
 /// A command that takes a job, a state, a number of steps and one of workers.
-fn stepping<'a>(
-    alloc: Global,
-    name: &'a str,
-    about: &'a str,
-) -> Result<clap::Command<'a>, AllocError>
-    ensures shape { IfOk result (λ c. shape_of c ≡ stepping name.entry.now) }
-    ensures local { IfOk result (λ c. (out-Command c).has_globals ≡ false) }
+fn stepping<'a>(alloc: Global, name: &'a str, about: &'a str) -> Built<'a>
+    ensures { IsShaped result (stepping name.entry.now) }
 {
-    let job = path(alloc, "JOB", "The file of the job");
-    let state = path(alloc, "STATE", "The file of the state");
-    let steps = steps(alloc);
-    let workers = workers(alloc);
-    clap::Command::new(alloc, name)
-        .about(about)
-        .arg(job)?
-        .arg(state)?
-        .arg(steps)?
-        .arg(workers)
+    let command = of_state(alloc, of_job(alloc, name, about));
+    with_arg(with_arg(command, steps(alloc)), workers(alloc))
 }
 
 /// The command that takes a state alone.
-fn framing<'a>(alloc: Global) -> Result<clap::Command<'a>, AllocError>
-    ensures shape { IfOk result (λ c. shape_of c ≡ framing) }
-    ensures local { IfOk result (λ c. (out-Command c).has_globals ≡ false) }
+fn framing<'a>(alloc: Global) -> Built<'a>
+    ensures { IsShaped result framing }
 {
-    let state = path(alloc, "STATE", "The file of the state");
-    clap::Command::new(alloc, "frame")
-        .about("Prints the current frame of a state as a GRO file")
-        .arg(state)
+    let command = clap::Command::new(alloc, "frame").about(
+        "Prints the current frame of a state as a GRO file",
+    );
+    of_state(alloc, Ok(command))
 }
 
 /// The command that takes a job and a state.
-fn weighing<'a>(alloc: Global) -> Result<clap::Command<'a>, AllocError>
-    ensures shape { IfOk result (λ c. shape_of c ≡ weighing) }
-    ensures local { IfOk result (λ c. (out-Command c).has_globals ≡ false) }
+fn weighing<'a>(alloc: Global) -> Built<'a>
+    ensures { IsShaped result weighing }
 {
-    let job = path(alloc, "JOB", "The file of the job");
-    let state = path(alloc, "STATE", "The file of the state");
-    clap::Command::new(alloc, "energy")
-        .about("Prints the energy of a state")
-        .arg(job)?
-        .arg(state)
+    of_state(
+        alloc,
+        of_job(alloc, "energy", "Prints the energy of a state"),
+    )
 }
 
 /// The command that takes a job and may take a listing.
-fn checking<'a>(alloc: Global) -> Result<clap::Command<'a>, AllocError>
-    ensures shape { IfOk result (λ c. shape_of c ≡ checking) }
-    ensures local { IfOk result (λ c. (out-Command c).has_globals ≡ false) }
+fn checking<'a>(alloc: Global) -> Built<'a>
+    ensures { IsShaped result checking }
 {
-    let job = path(alloc, "JOB", "The file of the job");
-    let code = code(alloc);
-    clap::Command::new(alloc, "check")
-        .about("Judges the code of a job's slope, or other code under the job")
-        .arg(job)?
-        .arg(code)
+    let command = of_job(
+        alloc,
+        "check",
+        "Judges the code of a job's slope, or other code under the job",
+    );
+    with_arg(command, code(alloc))
 }
 
 /// The command that takes a job alone.
-fn listing<'a>(alloc: Global) -> Result<clap::Command<'a>, AllocError>
-    ensures shape { IfOk result (λ c. shape_of c ≡ listing) }
-    ensures local { IfOk result (λ c. (out-Command c).has_globals ≡ false) }
+fn listing<'a>(alloc: Global) -> Built<'a>
+    ensures { IsShaped result listing }
 {
-    let job = path(alloc, "JOB", "The file of the job");
-    clap::Command::new(alloc, "code")
-        .about("Prints the code of a job's slope")
-        .arg(job)
+    of_job(alloc, "code", "Prints the code of a job's slope")
+}
+
+/// A command that takes a job, so far.
+fn of_job<'a>(alloc: Global, name: &'a str, about: &'a str) -> Built<'a>
+    ensures { IsBuilt result (with_rule (new_app name.entry.now) (path_rule (codes "JOB"))) }
+{
+    let command = clap::Command::new(alloc, name).about(about);
+    command.arg(path(alloc, "JOB", "The file of the job"))
+}
+
+/// A command that takes a state besides what it takes.
+fn of_state<'a>(alloc: Global, command: Built<'a>) -> Built<'a>
+    ensures { (app : App) → IsBuilt command.entry app → IsBuilt result (with_rule app (path_rule (codes "STATE"))) }
+{
+    with_arg(command, path(alloc, "STATE", "The file of the state"))
+}
+
+/// A command with one argument more.
+fn with_arg<'a>(command: Built<'a>, arg: Arg<'a>) -> Built<'a>
+    ensures { (app : App) (rule : Rule) → IsBuilt command.entry app → rule_of arg.entry ≡ rule → arg.entry.global ≡ false
+        → IsBuilt result (with_rule app rule) }
+{
+    command?.arg(arg)
+}
+
+/// A program with one command more.
+fn with_command<'a>(program: Built<'a>, command: Built<'a>) -> Built<'a>
+    ensures { (app : App) (shape : Shape) → IsBuilt program.entry app → IsShaped command.entry shape
+        → IsBuilt result (with_subcommand app shape) }
+{
+    let program = program?;
+    program.subcommand(command?)
 }
 
 fn path<'a>(alloc: Global, name: &'a str, help: &'a str) -> Arg<'a>

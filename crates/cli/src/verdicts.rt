@@ -51,7 +51,6 @@ fn write_verdict<'a, A: Allocator + Copy, O: Out>(
 
 /// Writes what is known of the code of a job's slope. A refusal, of the job, its energy or that code, writes nothing, unless a write
 /// failed.
-#[tactic(auto, using(crate::proofs::VerdictLaws::slope_verdict))]
 pub(crate) fn slope_verdict_bytes<'a, A: Allocator + Copy, O: Out>(
     alloc: A,
     job: &[u8],
@@ -64,13 +63,11 @@ pub(crate) fn slope_verdict_bytes<'a, A: Allocator + Copy, O: Out>(
 {
     let job = Job::read(alloc, job)?;
     let kernel = verified_slope(alloc, &job)?;
-    write_verdict(alloc, kernel.steps(), kernel.bound(), out)?;
-    Ok(())
+    write_verdict(alloc, kernel.steps(), kernel.bound(), out)
 }
 
 /// Writes what is known of the code of a listing under a job. A refusal, of the job, the listing or its code, writes nothing, unless a
 /// write failed.
-#[tactic(auto, using(crate::proofs::VerdictLaws::listing_verdict))]
 pub(crate) fn listing_verdict_bytes<'a, A: Allocator + Copy, O: Out>(
     alloc: A,
     job: &[u8],
@@ -85,8 +82,7 @@ pub(crate) fn listing_verdict_bytes<'a, A: Allocator + Copy, O: Out>(
     let job = Job::read(alloc, job)?;
     let code = read(alloc, listing)?;
     let kernel = verdict(alloc, &job, code)?;
-    write_verdict(alloc, kernel.steps(), kernel.bound(), out)?;
-    Ok(())
+    write_verdict(alloc, kernel.steps(), kernel.bound(), out)
 }
 
 /// Writes the energy of a state under a job. A refusal, of the job, the state, their engine or the energy's own code, writes nothing,

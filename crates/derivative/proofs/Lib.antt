@@ -4,6 +4,7 @@ pub mod Meaning
 pub mod Ranges
 pub mod Table
 pub mod Written
+pub mod Powers
 pub mod Derives
 pub mod Shared
 pub mod Uses

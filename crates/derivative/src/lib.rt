@@ -2,6 +2,7 @@
 #![tactic(auto)]
 
 mod derivative;
+mod joined;
 mod moved;
 mod parts;
 mod prune;

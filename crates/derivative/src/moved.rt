@@ -4,7 +4,8 @@ ghost use Rattle.std.specs.Prelude.{◌≡◌, IfOk, IsTrue};
 ghost use Rattle.energy_program.specs.Tree.{tree_of};
 ghost use Rattle.derivative.specs.Written as w;
 
-use energy_program::{Built, Expr, applied, binary, negated, power, select};
+use crate::joined::{both, choice};
+use energy_program::{Built, Expr, applied, negated, power};
 use std::alloc::Allocator;
 
 /// A copy in which each use of a definition has a number that is higher by `by`.
@@ -18,17 +19,17 @@ pub fn moved<A: Allocator + Copy>(alloc: A, by: u32, tree: &Expr<A>) -> Built<A>
         Expr::Definition(number) => Ok(Expr::Definition(by + *number)),
         Expr::Negated(part) => negated(alloc, moved(alloc, by, part)?),
         Expr::Binary(operator, left, right) => {
-            let left = moved(alloc, by, left)?;
-            let right = moved(alloc, by, right)?;
-            binary(alloc, *operator, left, right)
+            let left = moved(alloc, by, left);
+            let right = moved(alloc, by, right);
+            both(alloc, *operator, left, right)
         }
         Expr::Applied(function, part) => applied(alloc, *function, moved(alloc, by, part)?),
         Expr::Power(part, exponent) => power(alloc, moved(alloc, by, part)?, *exponent),
         Expr::Select(condition, chosen, otherwise) => {
-            let condition = moved(alloc, by, condition)?;
-            let chosen = moved(alloc, by, chosen)?;
-            let otherwise = moved(alloc, by, otherwise)?;
-            select(alloc, condition, chosen, otherwise)
+            let condition = moved(alloc, by, condition);
+            let chosen = moved(alloc, by, chosen);
+            let otherwise = moved(alloc, by, otherwise);
+            choice(alloc, condition, chosen, otherwise)
         }
     }
 }

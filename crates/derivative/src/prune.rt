@@ -6,8 +6,9 @@ ghost use Rattle.derivative.specs.Derive as d;
 ghost use Rattle.derivative.specs.Derive.{parts_of};
 ghost use Rattle.derivative.specs.Used as u;
 
+use crate::joined::{both, choice};
 use crate::parts::Parts;
-use energy_program::{Built, Expr, applied, binary, is_marked, marks_of, negated, power, select};
+use energy_program::{Built, Expr, applied, is_marked, marks_of, negated, power};
 use std::alloc::{AllocError, Allocator};
 
 // The new number of a definition: how many before it are marked.
@@ -36,19 +37,19 @@ fn renumbered<A: Allocator + Copy>(alloc: A, marks: &[bool], tree: &Expr<A>) -> 
         Expr::Definition(number) => Ok(Expr::Definition(rank(marks, *number))),
         Expr::Negated(part) => negated(alloc, renumbered(alloc, marks, part)?),
         Expr::Binary(operator, left, right) => {
-            let left = renumbered(alloc, marks, left)?;
-            let right = renumbered(alloc, marks, right)?;
-            binary(alloc, *operator, left, right)
+            let left = renumbered(alloc, marks, left);
+            let right = renumbered(alloc, marks, right);
+            both(alloc, *operator, left, right)
         }
         Expr::Applied(function, part) => {
             applied(alloc, *function, renumbered(alloc, marks, part)?)
         }
         Expr::Power(part, exponent) => power(alloc, renumbered(alloc, marks, part)?, *exponent),
         Expr::Select(condition, chosen, otherwise) => {
-            let condition = renumbered(alloc, marks, condition)?;
-            let chosen = renumbered(alloc, marks, chosen)?;
-            let otherwise = renumbered(alloc, marks, otherwise)?;
-            select(alloc, condition, chosen, otherwise)
+            let condition = renumbered(alloc, marks, condition);
+            let chosen = renumbered(alloc, marks, chosen);
+            let otherwise = renumbered(alloc, marks, otherwise);
+            choice(alloc, condition, chosen, otherwise)
         }
     }
 }

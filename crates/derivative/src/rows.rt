@@ -1,13 +1,15 @@
 //! The rows of the table of slopes: what is written for an operation, where the slopes of its parts are written already.
 //! `u` and `v` are the parts, `du` and `dv` their slopes.
 
-ghost use Rattle.std.specs.Prelude.{◌≡◌, ◌&&◌, pos, true, false, IfOk, IsTrue};
+ghost use Rattle.std.specs.Prelude.{◌≡◌, ◌&&◌, pos, neg_ℤ, true, false, IfOk, IsTrue};
+ghost use Rattle.fixed.specs.Arithmetic.{one};
 ghost use Rattle.fixed.specs.Fractions.{bits_of};
 ghost use Rattle.energy_program.specs.Tree as t;
-ghost use Rattle.energy_program.specs.Tree.{is_exponent, tree_of};
+ghost use Rattle.energy_program.specs.Tree.{Tree, is_exponent, tree_of};
 ghost use Rattle.derivative.specs.Written as w;
 ghost use Rattle.derivative.specs.Written.{is_writable, operation_tree, product_tree, quotient_tree, applied_tree, power_tree, unless_free};
 
+use crate::joined::{both, choice};
 use crate::moved::moved;
 use energy_program::{Built, Expr, Function, Operator, applied, binary, negated, power, select};
 use fixed::{Frac, Fx};
@@ -48,16 +50,39 @@ fn whole_number<A: Allocator>(frac: Frac, n: u8) -> Expr<A>
     Expr::Number(Fx::from_raw(i64::from(n) * frac.one()))
 }
 
+// A function of a part's copy.
+fn applied_to<A: Allocator + Copy>(alloc: A, by: u32, function: Function, u: &Expr<A>) -> Built<A>
+    requires { IsTrue (is_writable by (tree_of u.now)) }
+    ensures { IfOk result (λ e. tree_of e ≡ t.Applied function (w.moved by (tree_of u.now))) }
+{
+    applied(alloc, function, moved(alloc, by, u)?)
+}
+
+// A power of a part's copy.
+fn power_of<A: Allocator + Copy>(alloc: A, by: u32, u: &Expr<A>, exponent: i8) -> Built<A>
+    requires { IsTrue (is_writable by (tree_of u.now)) }
+    ensures { IfOk result (λ e. tree_of e ≡ t.Power (w.moved by (tree_of u.now)) exponent) }
+{
+    power(alloc, moved(alloc, by, u)?, exponent)
+}
+
 // 1 where `above` is at least `below`, else 0.
 fn is_at_least<A: Allocator + Copy>(alloc: A, by: u32, above: &Expr<A>, below: &Expr<A>) -> Built<A>
     requires above { IsTrue (is_writable by (tree_of above.now)) }
     requires below { IsTrue (is_writable by (tree_of below.now)) }
     ensures { IfOk result (λ e. tree_of e ≡ t.Applied Function.Step (t.Binary Operator.Subtract (w.moved by (tree_of above.now)) (w.moved by (tree_of below.now)))) }
 {
-    let above = moved(alloc, by, above)?;
-    let below = moved(alloc, by, below)?;
-    let difference = binary(alloc, Operator::Subtract, above, below)?;
+    let above = moved(alloc, by, above);
+    let below = moved(alloc, by, below);
+    let difference = both(alloc, Operator::Subtract, above, below)?;
     applied(alloc, Function::Step, difference)
+}
+
+// The negative of a tree, if that was built.
+fn opposite<A: Allocator + Copy>(alloc: A, part: Built<A>) -> Built<A>
+    ensures { (u : Tree) → IfOk part (λ e. tree_of e ≡ u) → IfOk result (λ e. tree_of e ≡ t.Negated u) }
+{
+    negated(alloc, part?)
 }
 
 fn product_row<A: Allocator + Copy>(
@@ -73,14 +98,14 @@ fn product_row<A: Allocator + Copy>(
     ensures { IfOk result (λ e. tree_of e ≡ product_tree du.free dv.free (w.moved by (tree_of u.now)) (w.moved by (tree_of v.now)) (tree_of du.tree) (tree_of dv.tree)) }
 {
     if du.free {
-        return binary(alloc, Operator::Multiply, moved(alloc, by, u)?, dv.tree);
+        return both(alloc, Operator::Multiply, moved(alloc, by, u), Ok(dv.tree));
     }
-    let left = binary(alloc, Operator::Multiply, du.tree, moved(alloc, by, v)?)?;
+    let left = both(alloc, Operator::Multiply, Ok(du.tree), moved(alloc, by, v));
     if dv.free {
-        return Ok(left);
+        return left;
     }
-    let right = binary(alloc, Operator::Multiply, moved(alloc, by, u)?, dv.tree)?;
-    binary(alloc, Operator::Add, left, right)
+    let right = both(alloc, Operator::Multiply, moved(alloc, by, u), Ok(dv.tree));
+    both(alloc, Operator::Add, left, right)
 }
 
 fn quotient_row<A: Allocator + Copy>(
@@ -95,18 +120,17 @@ fn quotient_row<A: Allocator + Copy>(
     requires v { IsTrue (is_writable by (tree_of v.now)) }
     ensures { IfOk result (λ e. tree_of e ≡ quotient_tree du.free dv.free (w.moved by (tree_of u.now)) (w.moved by (tree_of v.now)) (tree_of du.tree) (tree_of dv.tree)) }
 {
-    let divisor = moved(alloc, by, v)?;
     if dv.free {
-        return binary(alloc, Operator::Divide, du.tree, divisor);
+        return both(alloc, Operator::Divide, Ok(du.tree), moved(alloc, by, v));
     }
-    let right = binary(alloc, Operator::Multiply, moved(alloc, by, u)?, dv.tree)?;
-    let dividend = if du.free {
-        negated(alloc, right)?
-    } else {
-        let left = binary(alloc, Operator::Multiply, du.tree, moved(alloc, by, v)?)?;
-        binary(alloc, Operator::Subtract, left, right)?
-    };
-    binary(alloc, Operator::Divide, dividend, power(alloc, divisor, 2)?)
+    let right = both(alloc, Operator::Multiply, moved(alloc, by, u), Ok(dv.tree));
+    let square = power_of(alloc, by, v, 2);
+    if du.free {
+        return both(alloc, Operator::Divide, opposite(alloc, right), square);
+    }
+    let left = both(alloc, Operator::Multiply, Ok(du.tree), moved(alloc, by, v));
+    let dividend = both(alloc, Operator::Subtract, left, right);
+    both(alloc, Operator::Divide, dividend, square)
 }
 
 fn operation_row<A: Allocator + Copy>(
@@ -128,14 +152,25 @@ fn operation_row<A: Allocator + Copy>(
         Operator::Multiply => product_row(alloc, by, u, v, du, dv),
         Operator::Divide => quotient_row(alloc, by, u, v, du, dv),
         Operator::Minimum => {
-            let is_first = is_at_least(alloc, by, v, u)?;
-            select(alloc, is_first, du.tree, dv.tree)
+            let is_first = is_at_least(alloc, by, v, u);
+            choice(alloc, is_first, Ok(du.tree), Ok(dv.tree))
         }
         Operator::Maximum => {
-            let is_first = is_at_least(alloc, by, u, v)?;
-            select(alloc, is_first, du.tree, dv.tree)
+            let is_first = is_at_least(alloc, by, u, v);
+            choice(alloc, is_first, Ok(du.tree), Ok(dv.tree))
         }
     }
+}
+
+// 1 where a part is at least 0, else -1.
+fn sign<A: Allocator + Copy>(alloc: A, frac: Frac, by: u32, u: &Expr<A>) -> Built<A>
+    requires { IsTrue (is_writable by (tree_of u.now)) }
+    ensures { IfOk result (λ e. tree_of e ≡ t.Select (t.Applied Function.Step (w.moved by (tree_of u.now))) (t.Number (one (bits_of frac))) (t.Number (neg_ℤ (one (bits_of frac))))) }
+{
+    let is_above = applied_to(alloc, by, Function::Step, u)?;
+    let above = Expr::Number(Fx::from_raw(frac.one()));
+    let below = Expr::Number(Fx::from_raw(-frac.one()));
+    select(alloc, is_above, above, below)
 }
 
 fn function_row<A: Allocator + Copy>(
@@ -151,17 +186,11 @@ fn function_row<A: Allocator + Copy>(
 {
     match function {
         Function::SquareRoot => {
-            let root = applied(alloc, Function::SquareRoot, moved(alloc, by, u)?)?;
-            let twice = binary(alloc, Operator::Multiply, whole_number(frac, 2), root)?;
-            binary(alloc, Operator::Divide, du, twice)
+            let root = applied_to(alloc, by, Function::SquareRoot, u);
+            let twice = both(alloc, Operator::Multiply, Ok(whole_number(frac, 2)), root);
+            both(alloc, Operator::Divide, Ok(du), twice)
         }
-        Function::Absolute => {
-            let is_above = applied(alloc, Function::Step, moved(alloc, by, u)?)?;
-            let above = Expr::Number(Fx::from_raw(frac.one()));
-            let below = Expr::Number(Fx::from_raw(-frac.one()));
-            let sign = select(alloc, is_above, above, below)?;
-            binary(alloc, Operator::Multiply, sign, du)
-        }
+        Function::Absolute => both(alloc, Operator::Multiply, sign(alloc, frac, by, u), Ok(du)),
         Function::Step | Function::Delta | Function::Floor | Function::Ceiling => {
             Ok(Expr::Number(Fx::from_raw(0)))
         }
@@ -185,13 +214,13 @@ fn power_row<A: Allocator + Copy>(
     }
     let factor = whole_number(frac, exponent.unsigned_abs());
     if 0 < exponent {
-        let lower = power(alloc, moved(alloc, by, u)?, exponent - 1)?;
-        let product = binary(alloc, Operator::Multiply, factor, lower)?;
-        binary(alloc, Operator::Multiply, product, du)
+        let lower = power_of(alloc, by, u, exponent - 1);
+        let product = both(alloc, Operator::Multiply, Ok(factor), lower);
+        both(alloc, Operator::Multiply, product, Ok(du))
     } else {
-        let higher = power(alloc, moved(alloc, by, u)?, 1 - exponent)?;
-        let product = binary(alloc, Operator::Multiply, factor, du)?;
-        negated(alloc, binary(alloc, Operator::Divide, product, higher)?)
+        let higher = power_of(alloc, by, u, 1 - exponent);
+        let product = both(alloc, Operator::Multiply, Ok(factor), Ok(du));
+        opposite(alloc, both(alloc, Operator::Divide, product, higher))
     }
 }
 
@@ -282,6 +311,7 @@ pub fn select_slope<A: Allocator + Copy>(
     if is_free && (du.free && dv.free) {
         return Ok(zero());
     }
-    let condition = moved(alloc, by, condition)?;
-    Ok(varying(select(alloc, condition, du.tree, dv.tree)?))
+    let condition = moved(alloc, by, condition);
+    let chosen = choice(alloc, condition, Ok(du.tree), Ok(dv.tree))?;
+    Ok(varying(chosen))
 }

@@ -1,5 +1,5 @@
 -- Reading tokens from left to right, as far as the first fault.
-use Rattle.std.specs.Prelude.{◌≡◌, ℕ, zero, suc, ℤ, pos, neg_ℤ, Bool, true, false, if◌then◌else◌, List, [], ◌∷◌, length, Option, Some, None, Result, Ok, Err}
+use Rattle.std.specs.Prelude.{◌≡◌, ℕ, zero, suc, ℤ, pos, neg_ℤ, Bool, true, false, if◌then◌else◌, List, [], ◌∷◌, length, Option, Some, None, Result, Ok, Err, Box}
 use Rattle.std.specs.Borrow.{Bor}
 use Rattle.expr.specs.declared.parser.Start.{Start}
 use Rattle.expr.specs.declared.parser.Start.TheVariants as begin
@@ -27,8 +27,8 @@ ReadingOf X = Result (X × List Placed) Refusal
 abbrev pub Reading : Type 0
 Reading = ReadingOf Syntax
 
-abbrev pub seen : {A : Type 0} → code.Syntax A × Bor (List Token) → Syntax × List Placed
-seen x = (syntax_of x.0, placed x.1.now)
+abbrev pub seen : {A : Type 0} → Box (code.Syntax A) A × Bor (List Token) → Syntax × List Placed
+seen x = (syntax_of x.0.value, placed x.1.now)
 
 abbrev pub arguments_seen : {A : Type 0} → call.Arguments A × Bor (List Token) → Arguments × List Placed
 arguments_seen x = (arguments_of x.0, placed x.1.now)

@@ -38,9 +38,9 @@ pub data Arguments : Type 0 where
 
 abbrev pub arguments_of : {A : Type 0} → written.Arguments A → Arguments
 arguments_of w.Empty = Empty
-arguments_of (w.One x) = One (syntax_of x)
-arguments_of (w.Two x y) = Two (syntax_of x) (syntax_of y)
-arguments_of (w.Three x y z) = Three (syntax_of x) (syntax_of y) (syntax_of z)
+arguments_of (w.One x) = One (syntax_of x.value)
+arguments_of (w.Two x y) = Two (syntax_of x.value) (syntax_of y.value)
+arguments_of (w.Three x y z) = Three (syntax_of x.value) (syntax_of y.value) (syntax_of z.value)
 arguments_of w.More = More
 
 -- and one more behind them
@@ -56,7 +56,7 @@ abbrev pub Definition : Type 0
 Definition = List ℕ × Syntax
 
 abbrev pub definition_of : {A : Type 0} → define.Definition A → Definition
-definition_of d = (d.name.now, syntax_of d.value)
+definition_of d = (d.name.now, syntax_of d.value.value)
 
 abbrev pub definitions_of : {A : Type 0} → Vec (define.Definition A) A → List Definition
 definitions_of v = map definition_of v.items
@@ -70,4 +70,4 @@ abbrev pub Source : Type 0
 Source = Syntax × List Definition
 
 abbrev pub source_of : {A : Type 0} → whole.Source A → Source
-source_of s = (syntax_of s.body, definitions_of s.definitions)
+source_of s = (syntax_of s.body.value, definitions_of s.definitions)

@@ -2,23 +2,23 @@
 ghost use Rattle.std.specs.Prelude.{◌≡◌};
 ghost use Rattle.expr.specs.Syntax.{arguments_of, syntax_of, with_argument};
 
-use crate::syntax::Syntax;
+use crate::syntax::Boxed;
 use std::alloc::Allocator;
 
 /// The arguments of a call; no function takes more than three.
 #[derive(Drop)]
 pub enum Arguments<'a, A: Allocator> {
     Empty,
-    One(Syntax<'a, A>),
-    Two(Syntax<'a, A>, Syntax<'a, A>),
-    Three(Syntax<'a, A>, Syntax<'a, A>, Syntax<'a, A>),
+    One(Boxed<'a, A>),
+    Two(Boxed<'a, A>, Boxed<'a, A>),
+    Three(Boxed<'a, A>, Boxed<'a, A>, Boxed<'a, A>),
     More,
 }
 
 impl<'a, A: Allocator> Arguments<'a, A> {
     // These and one more behind them.
-    pub fn with(self, next: Syntax<'a, A>) -> Arguments<'a, A>
-        ensures { arguments_of result ≡ with_argument (arguments_of self.entry) (syntax_of next.entry) }
+    pub fn with(self, next: Boxed<'a, A>) -> Arguments<'a, A>
+        ensures { arguments_of result ≡ with_argument (arguments_of self.entry) (syntax_of next.entry.value) }
     {
         match self {
             Arguments::Empty => Arguments::One(next),

@@ -9,7 +9,7 @@ ghost use Rattle.expr.specs.Parsing.{ShowsBeginning, ShowsStart, Shows, ShowsCar
 
 use crate::calls::Arguments;
 use crate::exponents::{awaits_operand, caret_sign, signed_sign};
-use crate::syntax::Syntax;
+use crate::syntax::{Boxed, Syntax};
 use crate::tokens::{Kind, Token};
 use energy_program::{Callee, Exponent, ExprFault, Operator, function_of};
 use fixed::Fx;
@@ -19,7 +19,7 @@ use std::alloc::Allocator;
 pub const LEVELS: usize = 65;
 
 /// What is read, and the tokens after it.
-pub type Read<'a, A> = Result<(Syntax<'a, A>, &'a [Token<'a>]), ExprFault<A>>;
+pub type Read<'a, A> = Result<(Boxed<'a, A>, &'a [Token<'a>]), ExprFault<A>>;
 
 /// What arguments are read, and the tokens after them.
 type ReadArguments<'a, A> = Result<(Arguments<'a, A>, &'a [Token<'a>]), ExprFault<A>>;
@@ -243,7 +243,7 @@ impl<A: Allocator + Copy> Parser<A> {
         match minus_sign(tokens) {
             Some(rest) => {
                 let (inner, rest) = self.unary(rest, levels - 1)?;
-                Ok((Syntax::Negated(Box::new(self.alloc, inner)?), rest))
+                Ok((Box::new(self.alloc, Syntax::Negated(inner))?, rest))
             }
             None => self.power(tokens, levels - 1),
         }
@@ -261,14 +261,14 @@ impl<A: Allocator + Copy> Parser<A> {
 
     // The power behind an atom.
     #[tactic(auto, unfolding(crate::specs::Parsing::raised_at))]
-    fn raised<'a>(&self, base: Syntax<'a, A>, tokens: &'a [Token<'a>], levels: usize) -> Read<'a, A>
-        ensures { Gives seen result (raised_at self.now.end levels (syntax_of base.entry) (placed tokens.now)) }
+    fn raised<'a>(&self, base: Boxed<'a, A>, tokens: &'a [Token<'a>], levels: usize) -> Read<'a, A>
+        ensures { Gives seen result (raised_at self.now.end levels (syntax_of base.entry.value) (placed tokens.now)) }
     {
         match caret_sign(tokens) {
             None => Ok((base, tokens)),
             Some((at, after)) => {
                 let (exponent, rest) = self.exponent(after, levels, at)?;
-                Ok((Syntax::Power(Box::new(self.alloc, base)?, exponent), rest))
+                Ok((Box::new(self.alloc, Syntax::Power(base, exponent))?, rest))
             }
         }
     }
@@ -320,9 +320,12 @@ impl<A: Allocator + Copy> Parser<A> {
             None => Err(ExprFault::UnexpectedToken {
                 at: self.offset(tokens),
             }),
-            Some((Start::Number(raw), rest)) => Ok((Syntax::Number(Fx::from_raw(raw)), rest)),
+            Some((Start::Number(raw), rest)) => Ok((
+                Box::new(self.alloc, Syntax::Number(Fx::from_raw(raw)))?,
+                rest,
+            )),
             Some((Start::Name(name), rest)) => match open_sign(rest) {
-                None => Ok((Syntax::Name(name), rest)),
+                None => Ok((Box::new(self.alloc, Syntax::Name(name))?, rest)),
                 Some(inside) => self.call(name, inside, levels),
             },
             Some((Start::Open, rest)) => self.closed(rest, levels),
@@ -380,24 +383,20 @@ impl<A: Allocator + Copy> Parser<A> {
         name: &'a [u8],
         callee: Callee,
         arguments: Arguments<'a, A>,
-    ) -> Result<Syntax<'a, A>, ExprFault<A>>
-        ensures { Gives syntax_of result (called name.now callee (arguments_of arguments.entry)) }
+    ) -> Result<Boxed<'a, A>, ExprFault<A>>
+        ensures { Gives (λ part. syntax_of part.value) result (called name.now callee (arguments_of arguments.entry)) }
     {
-        match callee {
-            Callee::One(function) => match arguments {
-                Arguments::One(part) => Ok(Syntax::Applied(function, Box::new(self.alloc, part)?)),
-                _ => Err(ExprFault::wrong_argument_count(self.alloc, name)),
-            },
-            Callee::Two(operator) => match arguments {
-                Arguments::Two(left, right) => self.binary(operator, left, right),
-                _ => Err(ExprFault::wrong_argument_count(self.alloc, name)),
-            },
-            Callee::Three => match arguments {
-                Arguments::Three(condition, chosen, otherwise) => {
-                    self.select(condition, chosen, otherwise)
-                }
-                _ => Err(ExprFault::wrong_argument_count(self.alloc, name)),
-            },
+        match (callee, arguments) {
+            (Callee::One(function), Arguments::One(part)) => {
+                Ok(Box::new(self.alloc, Syntax::Applied(function, part))?)
+            }
+            (Callee::Two(operator), Arguments::Two(left, right)) => {
+                self.binary(operator, left, right)
+            }
+            (Callee::Three, Arguments::Three(condition, chosen, otherwise)) => {
+                self.select(condition, chosen, otherwise)
+            }
+            _ => Err(ExprFault::wrong_argument_count(self.alloc, name)),
         }
     }
 
@@ -433,31 +432,23 @@ impl<A: Allocator + Copy> Parser<A> {
     fn binary<'a>(
         &self,
         operator: Operator,
-        left: Syntax<'a, A>,
-        right: Syntax<'a, A>,
-    ) -> Result<Syntax<'a, A>, ExprFault<A>>
-        ensures { IsOrMemory (λ e. syntax_of e ≡ s.Binary operator (syntax_of left.entry) (syntax_of right.entry)) result }
+        left: Boxed<'a, A>,
+        right: Boxed<'a, A>,
+    ) -> Result<Boxed<'a, A>, ExprFault<A>>
+        ensures { IsOrMemory (λ e. syntax_of e.value ≡ s.Binary operator (syntax_of left.entry.value) (syntax_of right.entry.value)) result }
     {
-        Ok(Syntax::Binary(
-            operator,
-            Box::new(self.alloc, left)?,
-            Box::new(self.alloc, right)?,
-        ))
+        Ok(Box::new(self.alloc, Syntax::Binary(operator, left, right))?)
     }
 
     // A choice between two parts by a third.
     fn select<'a>(
         &self,
-        condition: Syntax<'a, A>,
-        chosen: Syntax<'a, A>,
-        otherwise: Syntax<'a, A>,
-    ) -> Result<Syntax<'a, A>, ExprFault<A>>
-        ensures { IsOrMemory (λ e. syntax_of e ≡ s.Select (syntax_of condition.entry) (syntax_of chosen.entry) (syntax_of otherwise.entry)) result }
+        condition: Boxed<'a, A>,
+        chosen: Boxed<'a, A>,
+        otherwise: Boxed<'a, A>,
+    ) -> Result<Boxed<'a, A>, ExprFault<A>>
+        ensures { IsOrMemory (λ e. syntax_of e.value ≡ s.Select (syntax_of condition.entry.value) (syntax_of chosen.entry.value) (syntax_of otherwise.entry.value)) result }
     {
-        Ok(Syntax::Select(
-            Box::new(self.alloc, condition)?,
-            Box::new(self.alloc, chosen)?,
-            Box::new(self.alloc, otherwise)?,
-        ))
+        Ok(Box::new(self.alloc, Syntax::Select(condition, chosen, otherwise))?)
     }
 }

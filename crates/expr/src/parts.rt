@@ -4,50 +4,59 @@ ghost use Rattle.energy_program.specs.Faults.{IsOrMemory};
 ghost use Rattle.energy_program.specs.Tree.{tree_of};
 ghost use Rattle.energy_program.specs.Tree as t;
 
-use energy_program::{
-    Exponent, Expr, ExprFault, Function, Operator, applied, binary, negated, power, select,
-};
+use energy_program::{Exponent, Expr, ExprFault, Function, Operator};
 use std::alloc::Allocator;
 
-/// A tree, or why there is none.
-pub type Part<A> = Result<Expr<A>, ExprFault<A>>;
+/// A tree, or why there is none. It stands in a block of its own, so that one that waits for others is a pointer.
+pub type Part<A> = Result<Box<Expr<A>, A>, ExprFault<A>>;
 
-pub fn negative<A: Allocator + Copy>(alloc: A, part: Expr<A>) -> Part<A>
-    ensures { IsOrMemory (λ e. tree_of e ≡ t.Negated (tree_of part)) result }
+/// A tree without parts.
+pub fn leaf<A: Allocator + Copy>(alloc: A, tree: Expr<A>) -> Part<A>
+    ensures { IsOrMemory (λ e. e.value ≡ tree) result }
 {
-    Ok(negated(alloc, part)?)
+    Ok(Box::new(alloc, tree)?)
+}
+
+pub fn negative<A: Allocator + Copy>(alloc: A, part: Box<Expr<A>, A>) -> Part<A>
+    ensures { IsOrMemory (λ e. tree_of e.value ≡ t.Negated (tree_of part.value)) result }
+{
+    Ok(Box::new(alloc, Expr::Negated(part))?)
 }
 
 pub fn operation<A: Allocator + Copy>(
     alloc: A,
     operator: Operator,
-    left: Expr<A>,
-    right: Expr<A>,
+    left: Box<Expr<A>, A>,
+    right: Box<Expr<A>, A>,
 ) -> Part<A>
-    ensures { IsOrMemory (λ e. tree_of e ≡ t.Binary operator (tree_of left) (tree_of right)) result }
+    ensures { IsOrMemory (λ e. tree_of e.value ≡ t.Binary operator (tree_of left.value) (tree_of right.value)) result }
 {
-    Ok(binary(alloc, operator, left, right)?)
+    Ok(Box::new(alloc, Expr::Binary(operator, left, right))?)
 }
 
-pub fn application<A: Allocator + Copy>(alloc: A, function: Function, part: Expr<A>) -> Part<A>
-    ensures { IsOrMemory (λ e. tree_of e ≡ t.Applied function (tree_of part)) result }
+pub fn application<A: Allocator + Copy>(
+    alloc: A,
+    function: Function,
+    part: Box<Expr<A>, A>,
+) -> Part<A>
+    ensures { IsOrMemory (λ e. tree_of e.value ≡ t.Applied function (tree_of part.value)) result }
 {
-    Ok(applied(alloc, function, part)?)
+    Ok(Box::new(alloc, Expr::Applied(function, part))?)
 }
 
-pub fn raised<A: Allocator + Copy>(alloc: A, base: Expr<A>, exponent: Exponent) -> Part<A>
-    ensures { IsOrMemory (λ e. tree_of e ≡ t.Power (tree_of base) exponent.value) result }
+pub fn raised<A: Allocator + Copy>(alloc: A, base: Box<Expr<A>, A>, exponent: Exponent) -> Part<A>
+    ensures { IsOrMemory (λ e. tree_of e.value ≡ t.Power (tree_of base.value) exponent.value) result }
 {
-    Ok(power(alloc, base, exponent.value)?)
+    Ok(Box::new(alloc, Expr::Power(base, exponent.value))?)
 }
 
 pub fn choice<A: Allocator + Copy>(
     alloc: A,
-    condition: Expr<A>,
-    chosen: Expr<A>,
-    otherwise: Expr<A>,
+    condition: Box<Expr<A>, A>,
+    chosen: Box<Expr<A>, A>,
+    otherwise: Box<Expr<A>, A>,
 ) -> Part<A>
-    ensures { IsOrMemory (λ e. tree_of e ≡ t.Select (tree_of condition) (tree_of chosen) (tree_of otherwise)) result }
+    ensures { IsOrMemory (λ e. tree_of e.value ≡ t.Select (tree_of condition.value) (tree_of chosen.value) (tree_of otherwise.value)) result }
 {
-    Ok(select(alloc, condition, chosen, otherwise)?)
+    Ok(Box::new(alloc, Expr::Select(condition, chosen, otherwise))?)
 }

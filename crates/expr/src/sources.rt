@@ -7,7 +7,7 @@ ghost use Rattle.expr.specs.Syntax.{definitions_of, source_of};
 ghost use Rattle.expr.specs.Tokens.{lexeme, placed};
 
 use crate::parser::{LEVELS, Parser};
-use crate::syntax::Syntax;
+use crate::syntax::Boxed;
 use crate::tokens::{Kind, Token};
 use energy_program::ExprFault;
 use std::alloc::Allocator;
@@ -19,13 +19,13 @@ const MAX_DEFINITIONS: usize = 64;
 #[derive(Drop)]
 pub struct Definition<'a, A: Allocator> {
     pub name: &'a [u8],
-    pub value: Syntax<'a, A>,
+    pub value: Boxed<'a, A>,
 }
 
 /// What the grammar makes of a whole text.
 #[derive(Drop)]
 pub struct Source<'a, A: Allocator> {
-    pub body: Syntax<'a, A>,
+    pub body: Boxed<'a, A>,
     pub definitions: Vec<Definition<'a, A>, A>,
 }
 

@@ -20,3 +20,6 @@ pub enum Syntax<'a, A: Allocator> {
     /// The second part, or, where the first is 0, the third.
     Select(Box<Syntax<'a, A>, A>, Box<Syntax<'a, A>, A>, Box<Syntax<'a, A>, A>),
 }
+
+/// A part in a block of its own, so that what waits for other parts to be read is a pointer.
+pub type Boxed<'a, A> = Box<Syntax<'a, A>, A>;

@@ -9,7 +9,7 @@ ghost use Rattle.expr.specs.Syntax.{definition_of, definitions_of, names_in, sou
 ghost use Rattle.expr.specs.Uses.{all_resolved, resolved, trees, used};
 
 use crate::definitions::number_from;
-use crate::parts::{Part, application, choice, negative, operation, raised};
+use crate::parts::{Part, application, choice, leaf, negative, operation, raised};
 use crate::sources::{Definition, Source};
 use crate::syntax::Syntax;
 use energy_program::{Expr, ExprFault, Names, Program};
@@ -26,13 +26,13 @@ pub struct Scope<'a, 'b, 'c, A: Allocator> {
 
 // What a name stands for.
 fn used<A: Allocator + Copy>(alloc: A, scope: &Scope<A>, name: &[u8]) -> Part<A>
-    ensures value { Gives tree_of result (used scope.now.first (names_in (map definition_of scope.now.later.now)) name.now (input_of (names_of scope.now.names.now) name.now)) }
-    ensures scoped { IfOk result (λ e. IsTrue (is_scoped (inputs_of scope.now.names.now.parameters scope.now.names.now.globals) scope.now.first (scope.now.first + length scope.now.later.now) (tree_of e))) }
+    ensures value { Gives (λ part. tree_of part.value) result (used scope.now.first (names_in (map definition_of scope.now.later.now)) name.now (input_of (names_of scope.now.names.now) name.now)) }
+    ensures scoped { IfOk result (λ e. IsTrue (is_scoped (inputs_of scope.now.names.now.parameters scope.now.names.now.globals) scope.now.first (scope.now.first + length scope.now.later.now) (tree_of e.value))) }
 {
     match scope.names.input_of(name) {
-        Some(input) => Ok(Expr::Input(input)),
+        Some(input) => leaf(alloc, Expr::Input(input)),
         None => match number_from(scope.first, scope.later, name) {
-            Some(number) => Ok(Expr::Definition(number)),
+            Some(number) => leaf(alloc, Expr::Definition(number)),
             None => Err(ExprFault::unknown_name(alloc, name)),
         },
     }
@@ -41,11 +41,11 @@ fn used<A: Allocator + Copy>(alloc: A, scope: &Scope<A>, name: &[u8]) -> Part<A>
 /// The tree in which each name is what it stands for.
 #[tactic(auto, unfolding(crate::specs::Uses::resolved))]
 pub fn resolve<A: Allocator + Copy>(alloc: A, scope: &Scope<A>, syntax: &Syntax<A>) -> Part<A>
-    ensures value { Gives tree_of result (resolved (names_of scope.now.names.now) scope.now.first (names_in (map definition_of scope.now.later.now)) (syntax_of syntax.now)) }
-    ensures scoped { IfOk result (λ e. IsTrue (is_scoped (inputs_of scope.now.names.now.parameters scope.now.names.now.globals) scope.now.first (scope.now.first + length scope.now.later.now) (tree_of e))) }
+    ensures value { Gives (λ part. tree_of part.value) result (resolved (names_of scope.now.names.now) scope.now.first (names_in (map definition_of scope.now.later.now)) (syntax_of syntax.now)) }
+    ensures scoped { IfOk result (λ e. IsTrue (is_scoped (inputs_of scope.now.names.now.parameters scope.now.names.now.globals) scope.now.first (scope.now.first + length scope.now.later.now) (tree_of e.value))) }
 {
     match syntax {
-        Syntax::Number(value) => Ok(Expr::Number(*value)),
+        Syntax::Number(value) => leaf(alloc, Expr::Number(*value)),
         Syntax::Name(name) => used(alloc, scope, name),
         Syntax::Negated(part) => negative(alloc, resolve(alloc, scope, part)?),
         Syntax::Binary(operator, left, right) => {
@@ -82,7 +82,8 @@ fn resolve_all<A: Allocator + Copy>(
             first: number as u32 + 1,
             later: &definitions[number + 1..],
         };
-        trees.push(resolve(alloc, &scope, &definitions[number].value)?)?;
+        let tree = resolve(alloc, &scope, &definitions[number].value)?;
+        trees.push(Box::into_inner(tree))?;
     }
     Ok(trees)
 }
@@ -107,7 +108,7 @@ pub fn program<A: Allocator + Copy>(
     let body = resolve(alloc, &scope, &source.body)?;
     let definitions = resolve_all(alloc, names, &source.definitions)?;
     Ok(Program {
-        body,
+        body: Box::into_inner(body),
         definitions,
         parameters: names.parameters,
         globals: names.globals,

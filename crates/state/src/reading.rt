@@ -1,9 +1,9 @@
 //! Reading a state.
 
 ghost use Rattle.std.specs.Prelude.{◌≡◌, ◌≤◌, length, map, IfOk, IsTrue};
-ghost use Rattle.line_text.specs.Parts.{lacks};
+ghost use Rattle.line_text.specs.Parts.{is_title, lacks};
 ghost use Rattle.state.specs.StateViews.{atom_view, state_view};
-ghost use Rattle.state.specs.StateReading.{Gives, line_at, atom_at, atoms_at, head_of, state_of};
+ghost use Rattle.state.specs.StateReading.{Gives, line_at, atom_at, atoms_at, head_of, from_count, state_of};
 
 use crate::faults::StateFault;
 use crate::lines;
@@ -47,7 +47,20 @@ fn state<A: Allocator + Copy>(alloc: A, bytes: &[u8]) -> Result<State<A>, StateF
     let title = lines::title(text).ok_or(bad(2))?;
     let (text, rest) = line(rest)?;
     let step = lines::step(text).ok_or(bad(3))?;
-    let (text, rest) = line(rest)?;
+    from_count(alloc, title, step, rest)
+}
+
+/// The state of this title and step whose count, box and atoms the bytes are.
+fn from_count<A: Allocator + Copy>(
+    alloc: A,
+    title: &[u8],
+    step: i64,
+    bytes: &[u8],
+) -> Result<State<A>, StateFault>
+    requires { IsTrue (is_title title.now) }
+    ensures { Gives state_view result (from_count title.now step bytes.now) }
+{
+    let (text, rest) = line(bytes)?;
     let count = lines::count(text).ok_or(bad(4))?;
     let (text, rest) = line(rest)?;
     let ring = lines::sides(text).ok_or(bad(5))?;

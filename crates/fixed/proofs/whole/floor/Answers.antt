@@ -5,3 +5,6 @@ use Rattle.fixed.proofs.whole.floor.Goals as goal
 
 pub returns-clause-greatest : goal.returns-clause-greatest
 returns-clause-greatest c = whole_is (bits_of c.args.frac) c.args.a _ (search rules)
+
+pub returns-clause-value : goal.returns-clause-value
+returns-clause-value c = search rules

@@ -1,4 +1,5 @@
-use Rattle.std.proofs.Common.{◌≡◌, length, map, ap, sym, ◌∙◌, refl, Ok, List}
+use Rattle.std.proofs.Common.{arith, ◌≡◌, length, map, ap, sym, ◌∙◌, refl, Ok, List}
+use Rattle.std.proofs.lemmas.Grind.{common_steps}
 use Rattle.std.proofs.lemmas.List.Elements.{All-map, All-same}
 use Rattle.job.specs.declared.drafts.TypeLine.{TypeLine}
 use Rattle.job.specs.declared.jobs.AtomType.{AtomType}
@@ -22,3 +23,13 @@ returns-clause-whole g c =
     All-same (λ (t : AtomType g.row.A.Denot). length t.values.items ≡ c.args.count) c.in_ok-without_lines.field-0.items _ c.in_ok-without_lines.ensures
     (All-map (λ (t : AtomType g.row.A.Denot). length t.values.items ≡ c.args.count) (λ (l : TypeLine g.row.A.Denot). l.value) c.args.lines.items
     (All-same (λ (l : TypeLine g.row.A.Denot). length l.value.values.items ≡ c.args.count) c.args.lines.items c.as_slice.result.now (sym c.as_slice.ensures.value) c.in_ok-check_counts.ensures.whole))
+
+-- Without the answers below the check searches for seconds, in vain, before `grind` closes the goals.
+pub returns-in_err-check_counts-clause-value : goal.returns-in_err-check_counts-clause-value
+returns-in_err-check_counts-clause-value g c = grind (arith, common_steps)
+
+pub returns-in_err-without_lines-clause-value : goal.returns-in_err-without_lines-clause-value
+returns-in_err-without_lines-clause-value g c = grind (arith, common_steps)
+
+pub returns-clause-few : goal.returns-clause-few
+returns-clause-few g c = grind (arith, common_steps)

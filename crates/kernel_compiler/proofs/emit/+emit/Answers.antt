@@ -1,4 +1,5 @@
-use Rattle.std.proofs.Common.{◌∙◌}
+use Rattle.std.proofs.Common.{arith, ◌∙◌}
+use Rattle.std.proofs.lemmas.Grind.{common_steps}
 use Rattle.fixed.specs.Fractions.{bits_of}
 use Rattle.energy_program.specs.Tree.{tree_of}
 use Rattle.kernel_compiler.proofs.Patch.{patch_choice}
@@ -10,3 +11,15 @@ emit_choice-returns-clause-items g t c =
     c.in_ok-emit.ensures.items (c.len-condition_end.ensures ∙ c.emit.new.code.ok.0) c.in_ok-put.ensures.items
     c.in_ok-emit-2.ensures.items (c.len-first_end.ensures ∙ c.emit-2.new.code.ok.0) c.in_ok-put-2.ensures.items
     (c.len-second.ensures ∙ c.put-2.new.code.ok.0) c.in_ok-emit-3.ensures.items (c.len.ensures ∙ c.emit-3.new.code.ok.0)
+
+pub emit-returns-in_ok-emit-in-Negated-clause-items : goal.emit-returns-in_ok-emit-in-Negated-clause-items
+emit-returns-in_ok-emit-in-Negated-clause-items g t c = grind (arith, common_steps)
+
+pub emit-returns-in_ok-emit-in-Applied-clause-items : goal.emit-returns-in_ok-emit-in-Applied-clause-items
+emit-returns-in_ok-emit-in-Applied-clause-items g t c = grind (arith, common_steps)
+
+pub emit-returns-in_ok-emit-in-Power-clause-items : goal.emit-returns-in_ok-emit-in-Power-clause-items
+emit-returns-in_ok-emit-in-Power-clause-items g t c = grind (arith, common_steps)
+
+pub emit_pair-returns-clause-items : goal.emit_pair-returns-clause-items
+emit_pair-returns-clause-items g t c = grind (arith, common_steps)

@@ -74,7 +74,7 @@ unary-returns-in_err-inner-in-Some g t c =
 pub unary-returns-in_ok-new-in-Some : goal.unary-returns-in_ok-new-in-Some
 unary-returns-in_ok-new-in-Some g t c =
     minus_reads c.args.self.now.end c.args.levels (placed c.args.tokens.now) _ _ _ (omega arith) c.in-Some.ensures c.in_ok-inner-in-Some.ensures
-    ∙ ap (λ e. reading (tree.Negated (syntax_of e)) (placed c.in_ok-inner-in-Some.rest.now)) (sym c.in_ok-new-in-Some.ensures.ok)
+    ∙ ap (λ e. reading (syntax_of e) (placed c.in_ok-inner-in-Some.rest.now)) (sym c.in_ok-new-in-Some.ensures.ok)
 
 pub unary-returns-in-None : goal.unary-returns-in-None
 unary-returns-in-None g t c = gives_same _ c.power.result _ _ (unary_none c.args.self.now.end c.args.levels (placed c.args.tokens.now) (omega arith) c.in-None.ensures) c.power.ensures
@@ -82,17 +82,19 @@ unary-returns-in-None g t c = gives_same _ c.power.result _ _ (unary_none c.args
 pub atom-returns-in-None : goal.atom-returns-in-None
 atom-returns-in-None g t c = rw (c.offset.ensures) (atom_start c.args.self.now.end c.args.levels (placed c.args.tokens.now) _ c.in-None.ensures)
 
-pub atom-returns-in-Some-Number-default : goal.atom-returns-in-Some-Number-default
-atom-returns-in-Some-Number-default g t c =
+pub atom-returns-in_ok-new-in-Some-Number-default : goal.atom-returns-in_ok-new-in-Some-Number-default
+atom-returns-in_ok-new-in-Some-Number-default g t c =
     let a = c.in-Some-Number-default in
     let h : c.from_raw.result ≡ a.raw = search rules in
     atom_start c.args.self.now.end c.args.levels (placed c.args.tokens.now) _ (started _ beginning _ _ _ a.ensures a.field-0-0-is)
     ∙ ap (λ z. reading (tree.Number z) (placed a.rest.now)) (sym h)
+    ∙ ap (λ e. reading (syntax_of e) (placed a.rest.now)) (sym c.in_ok-new-in-Some-Number-default.ensures.ok)
 
-pub atom-returns-in-None-open_sign : goal.atom-returns-in-None-open_sign
-atom-returns-in-None-open_sign g t c =
+pub atom-returns-in_ok-new-in-None-open_sign : goal.atom-returns-in_ok-new-in-None-open_sign
+atom-returns-in_ok-new-in-None-open_sign g t c =
     let a = c.in-Some-Name-default in
     atom_name c.args.self.now.end c.args.levels (placed c.args.tokens.now) _ _ (started _ beginning _ _ _ a.ensures a.field-0-0-is) c.in-None-open_sign.ensures
+    ∙ ap (λ e. reading (syntax_of e) (placed a.rest.now)) (sym c.in_ok-new-in-None-open_sign.ensures.ok)
 
 pub atom-returns-in-Some : goal.atom-returns-in-Some
 atom-returns-in-Some g t c =

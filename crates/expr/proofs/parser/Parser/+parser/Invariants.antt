@@ -41,14 +41,14 @@ decreases-list-loop-after g l = length l.rest
 
 abbrev pub invariant-expr-loop-operator : goal.invariant-expr-loop-operator
 invariant-expr-loop-operator g l =
-    expr_at l.self.end l.levels (placed l.fn.tokens) ≡ chain sum_sign (term_at l.self.end l.levels) tree.Binary (length (placed l.rest)) (syntax_of l.left) (placed l.rest)
+    expr_at l.self.end l.levels (placed l.fn.tokens) ≡ chain sum_sign (term_at l.self.end l.levels) tree.Binary (length (placed l.rest)) (syntax_of l.left.value) (placed l.rest)
 
 abbrev pub decreases-expr-loop-operator : goal.decreases-expr-loop-operator
 decreases-expr-loop-operator g l = length l.rest
 
 abbrev pub invariant-term-loop-operator : goal.invariant-term-loop-operator
 invariant-term-loop-operator g l =
-    term_at l.self.end l.levels (placed l.fn.tokens) ≡ chain product_sign (unary_at l.self.end l.levels) tree.Binary (length (placed l.rest)) (syntax_of l.left) (placed l.rest)
+    term_at l.self.end l.levels (placed l.fn.tokens) ≡ chain product_sign (unary_at l.self.end l.levels) tree.Binary (length (placed l.rest)) (syntax_of l.left.value) (placed l.rest)
 
 abbrev pub decreases-term-loop-operator : goal.decreases-term-loop-operator
 decreases-term-loop-operator g l = length l.rest

@@ -9,7 +9,7 @@ use Rattle.expr.proofs.parser.Parser.source.Given as goal
 abbrev pub invariant-loop-definitions : goal.invariant-loop-definitions
 invariant-loop-definitions g l = record {
   few : length l.definitions.items ≤ 64;
-  left : source_at l.self.end (placed l.fn.tokens) ≡ behind (syntax_of l.body) (map definition_of l.definitions.items) (definitions_at l.self.end (64 - length l.definitions.items) (placed l.rest));
+  left : source_at l.self.end (placed l.fn.tokens) ≡ behind (syntax_of l.body.value) (map definition_of l.definitions.items) (definitions_at l.self.end (64 - length l.definitions.items) (placed l.rest));
 }
 
 abbrev pub decreases-loop-definitions : goal.decreases-loop-definitions

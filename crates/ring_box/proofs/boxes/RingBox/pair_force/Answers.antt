@@ -1,4 +1,5 @@
-use Rattle.std.proofs.Common.{rules, ◌∙◌, ◌≡◌, true, to_z, of_z, w64}
+use Rattle.std.proofs.Common.{arith, rules, ◌∙◌, ◌≡◌, true, to_z, of_z, w64}
+use Rattle.std.proofs.lemmas.Grind.{common_steps}
 use Rattle.ring_box.specs.Distances.{is_near, square_of}
 use Rattle.ring_box.specs.Forces.{taken_distance_of}
 use Rattle.ring_box.proofs.ForceLemmas.{force_along_is, pair_force_is}
@@ -24,3 +25,6 @@ returns-clause-bound g c =
     let d : c.outside_core.result ≡ taken_distance_of c.args.frac c.args.self.now c.args.core c.args.x c.args.y = search rules in
     let e : to_z w64 (of_z w64 c.raw.result) ≡ m c.outside_core.result = search rules in
     rw (e, d) at c.small_force.ensures.bound
+
+pub returns-then-not-is_near-clause-far : goal.returns-then-not-is_near-clause-far
+returns-then-not-is_near-clause-far g c = grind (arith, common_steps)

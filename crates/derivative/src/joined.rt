@@ -1,0 +1,38 @@
+//! Trees put together of parts that may not have been built. They are taken apart here alone: so their callers hold no tree
+//! where a part is missing.
+
+ghost use Rattle.std.specs.Prelude.{◌≡◌, IfOk};
+ghost use Rattle.energy_program.specs.Tree as t;
+ghost use Rattle.energy_program.specs.Tree.{Tree, tree_of};
+
+use energy_program::{Built, Operator, binary, select};
+use std::alloc::Allocator;
+
+/// An operation on two trees, if both were built.
+pub fn both<A: Allocator + Copy>(
+    alloc: A,
+    operator: Operator,
+    left: Built<A>,
+    right: Built<A>,
+) -> Built<A>
+    ensures { (l r : Tree) → IfOk left (λ e. tree_of e ≡ l) → IfOk right (λ e. tree_of e ≡ r) → IfOk result (λ e. tree_of e ≡ t.Binary operator l r) }
+{
+    let left = left?;
+    let right = right?;
+    binary(alloc, operator, left, right)
+}
+
+/// A choice between two trees, if all three were built.
+pub fn choice<A: Allocator + Copy>(
+    alloc: A,
+    condition: Built<A>,
+    chosen: Built<A>,
+    otherwise: Built<A>,
+) -> Built<A>
+    ensures { (x l r : Tree) → IfOk condition (λ e. tree_of e ≡ x) → IfOk chosen (λ e. tree_of e ≡ l) → IfOk otherwise (λ e. tree_of e ≡ r) → IfOk result (λ e. tree_of e ≡ t.Select x l r) }
+{
+    let condition = condition?;
+    let chosen = chosen?;
+    let otherwise = otherwise?;
+    select(alloc, condition, chosen, otherwise)
+}

@@ -1,0 +1,9 @@
+-- Without answers the check closes the goals too, after a search of seconds.
+use Rattle.std.proofs.Common.{rules}
+use Rattle.fixed.proofs.quotients.floor_quotient.Goals as goal
+
+pub returns-then-d-gt0 : goal.returns-then-d-gt0
+returns-then-d-gt0 c = search rules
+
+pub returns-else-d-gt0 : goal.returns-else-d-gt0
+returns-else-d-gt0 c = search rules

@@ -1,0 +1,19 @@
+-- Without these answers the check searches for seconds, in vain, before `grind` closes the goals.
+use Rattle.std.proofs.Common.{arith}
+use Rattle.std.proofs.lemmas.Grind.{common_steps}
+use Rattle.state.proofs.starts.started.Goals as goal
+
+pub returns-in_err-ring : goal.returns-in_err-ring
+returns-in_err-ring g c = grind (arith, common_steps)
+
+pub returns-in_err-title : goal.returns-in_err-title
+returns-in_err-title g c = grind (arith, common_steps)
+
+pub returns-in_err-atoms : goal.returns-in_err-atoms
+returns-in_err-atoms g c = grind (arith, common_steps)
+
+pub invariant_of-result : goal.invariant_of-result
+invariant_of-result g c = grind (arith, common_steps)
+
+pub returns : goal.returns
+returns g c = grind (arith, common_steps)
