@@ -1,20 +1,14 @@
-//! A job and states by hand.
+//! A job and states by hand, and their engines.
 
-use std::alloc::{AllocError, Global};
+use engine::Engine;
+use gro::Collected;
+use job::Job;
+use state::State;
+use std::alloc::{AllocError, Allocator, Global};
 
 /// Atoms that repel each other by 1/r.
 pub(crate) const JOB: &[u8] = b"pairmd job 1
 energy 1/r
-core 0.2
-cutoff 0.9
-dt 2
-slices 64
-type AR 1
-";
-
-/// A job whose energy has a name that stands for nothing.
-pub(crate) const UNKNOWN: &[u8] = b"pairmd job 1
-energy 2*epsilon
 core 0.2
 cutoff 0.9
 dt 2
@@ -32,17 +26,7 @@ box 200000 200000 200000
     1AR      AR 2147483648 0 0 2147483648 0 0
 ";
 
-/// The two atoms after a step: the force on the first is -17179869184, its displacement -34360.
-pub(crate) const AFTER_ONE: &[u8] = b"pairmd state 1
-title two atoms
-step 1
-atoms 2
-box 200000 200000 200000
-    1AR      AR 1073741824 0 0 1073707464 0 0
-    1AR      AR 2147483648 0 0 2147518008 0 0
-";
-
-/// After two steps: at the second they are 2147621088 apart.
+/// The two atoms after two steps: at the first they are moved by 34360 places, and at the second they are 2147621088 apart.
 pub(crate) const AFTER_TWO: &[u8] = b"pairmd state 1
 title two atoms
 step 2
@@ -68,4 +52,20 @@ pub(crate) fn layers(alloc: Global) -> Result<Vec<u8>, AllocError> {
         }
     }
     Ok(text)
+}
+
+/// The engine of the job and this state, with memory from this allocator.
+pub(crate) fn engine_over<A: Allocator + Copy>(alloc: A, state: &[u8]) -> Option<Engine<A>> {
+    let job = Job::read(alloc, JOB).ok()?;
+    let state = State::read(alloc, state).ok()?;
+    Engine::new(alloc, job, state).ok()
+}
+
+/// The text of the state that an engine has come to.
+pub(crate) fn text_of<A: Allocator + Copy>(alloc: Global, engine: &Engine<A>) -> Option<Vec<u8>> {
+    let mut out = Collected::new(alloc);
+    if engine.state().write(&mut out).is_err() {
+        return None;
+    }
+    Some(out.into_bytes())
 }

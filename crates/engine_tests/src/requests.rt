@@ -1,21 +1,64 @@
-//! Memory that is refused: one request after another, on one thread and by workers.
+//! Memory that is refused: one request after another, of a tested run, and of engines on one thread and with workers.
 
-use crate::fixtures::{JOB, layers};
-use crate::growths::tested;
+ghost use Rattle.std.specs.Prelude.{◌<◌, ◌≤◌};
+
+use crate::fixtures::{AFTER_TWO, JOB, STATE, engine_over, layers, text_of};
 use engine::Engine;
 use gro::Collected;
-use integrator::{Direction, StepFault};
-use job::Job;
+use integrator::{Direction, RunFault, StepFault, run_bytes_checked};
 use refusing_memory::RefusingAllocator;
-use state::State;
-use std::alloc::{AllocError, Global};
-use std::process::Abort;
+use std::alloc::{AllocError, Allocator, Global};
 use std::test::*;
 use std::thread::Threads;
 use tile_pool::Gate;
 
 /// No run of a test makes so many requests for memory.
 const REQUESTS: u64 = 100_000;
+
+/// Whether the line of this fault tells want of memory.
+fn is_of_memory<A: Allocator>(alloc: Global, fault: &RunFault<A>) -> bool {
+    match format!(in alloc; "{fault}") {
+        Ok(line) => line.as_str().starts_with("Memory"),
+        Err(_) => false,
+    }
+}
+
+/// A tested run where the request with this number is refused: it ends with the text of its state, or wants memory and writes
+/// nothing. Tells whether that request was made, and nothing where the run ends otherwise.
+fn run_without(alloc: Global, number: u64) -> Option<bool> {
+    let memory = RefusingAllocator::new(alloc, number);
+    let mut out = Collected::new(alloc);
+    let expected = match run_bytes_checked(&memory, JOB, STATE, 2, Direction::Forward, &mut out) {
+        Ok(()) => AFTER_TWO,
+        Err(fault) => {
+            if !is_of_memory(alloc, &fault) {
+                return None;
+            }
+            b"".as_slice()
+        }
+    };
+    if out.bytes() == expected {
+        Some(number < memory.requests())
+    } else {
+        None
+    }
+}
+
+/// How many requests for memory a tested run makes, where it does well without each.
+fn requests_of_a_tested_run(alloc: Global) -> Option<u64> {
+    for number in 0..REQUESTS {
+        if !run_without(alloc, number)? {
+            return Some(number);
+        }
+    }
+    None
+}
+
+#[test]
+fn each_request_of_a_tested_run(rt: HostRuntime) {
+    let requests = requests_of_a_tested_run(rt.alloc());
+    assert!(rt; requests.unwrap_or(0) > 10, "{requests:?} requests");
+}
 
 /// Lets each tile through.
 #[derive(Drop)]
@@ -25,104 +68,152 @@ impl Gate for Open {
     fn before_tile(&self, _worker: u32, _tile: u64) {}
 }
 
-/// Who makes the steps.
-#[derive(Clone, Copy)]
-enum Workers {
-    Alone,
-    Four,
-}
-
-/// The engine of a state, with memory from this allocator.
-fn engine_over<'a>(
-    memory: &'a RefusingAllocator<Global>,
-    state: &[u8],
-) -> Option<Engine<&'a RefusingAllocator<Global>>> {
-    let job = Job::read(memory, JOB).ok()?;
-    let state = State::read(memory, state).ok()?;
-    Engine::new(memory, job, state).ok()
-}
-
+/// So many steps by so many workers, one of them on the caller's thread alone.
 fn turn<R: Threads + Sync>(
     rt: &R,
     engine: &mut Engine<&RefusingAllocator<Global>>,
     direction: Direction,
-    workers: Workers,
-) -> Result<(), StepFault> {
+    steps: u64,
+    workers: u32,
+) -> Result<(), StepFault>
+    requires some { 0 < workers }
+    requires few { workers ≤ 64 }
+{
     match (direction, workers) {
-        (Direction::Forward, Workers::Alone) => engine.forward_alone(3),
-        (Direction::Forward, Workers::Four) => engine.forward(rt, 3, 4, &Open),
-        (Direction::Back, Workers::Alone) => engine.back_alone(3),
-        (Direction::Back, Workers::Four) => engine.back(rt, 3, 4, &Open),
+        (Direction::Forward, 1) => engine.forward_alone(steps),
+        (Direction::Back, 1) => engine.back_alone(steps),
+        (Direction::Forward, _) => engine.forward(rt, steps, workers, &Open),
+        (Direction::Back, _) => engine.back(rt, steps, workers, &Open),
     }
 }
 
-/// The text of the state that an engine has come to.
-fn text_of(
+/// Whether an engine stands at the last of these states after three steps; and where a step wants memory, first at that after so many
+/// whole steps as it says, from which it makes the others.
+fn goes_on<R: Threads + Sync + AllocGlobal>(
+    rt: &R,
+    engine: &mut Engine<&RefusingAllocator<Global>>,
+    direction: Direction,
+    workers: u32,
+    states: &[Option<Vec<u8>>],
+) -> bool
+    requires some { 0 < workers }
+    requires few { workers ≤ 64 }
+{
+    match turn(rt, engine, direction, 3, workers) {
+        Ok(()) => stands_at(rt.alloc(), engine, states, 3),
+        Err(StepFault::Memory { done }) => {
+            stands_at(rt.alloc(), engine, states, done)
+                && turn(rt, engine, direction, 3u64.saturating_sub(done), 1).is_ok()
+                && stands_at(rt.alloc(), engine, states, 3)
+        }
+        Err(StepFault::StepRange) => false,
+    }
+}
+
+/// Whether an engine stands at the state with this number.
+fn stands_at(
     alloc: Global,
     engine: &Engine<&RefusingAllocator<Global>>,
-) -> Result<Vec<u8>, AllocError> {
-    let mut out = Collected::new(alloc);
-    match engine.state().write(&mut out) {
-        Ok(()) => Ok(out.into_bytes()),
-        Err(_) => Err(AllocError),
-    }
-}
-
-/// Three steps where the request with this number is refused: where a step wants it, the engine stands after so many whole steps as it
-/// says, and makes the others afterwards. Tells whether that request was made.
-fn steps_without<R: Threads + Sync + AllocGlobal + Abort>(
-    rt: &R,
-    direction: Direction,
-    workers: Workers,
-    start: &[u8],
+    states: &[Option<Vec<u8>>],
     number: u64,
-) -> Result<bool, AllocError> {
-    let memory = RefusingAllocator::new(rt.alloc(), number);
-    let Some(mut engine) = engine_over(&memory, start) else {
-        return Ok(true);
+) -> bool {
+    let Some(state) = states.get(number as usize) else {
+        return false;
     };
-    if let Err(fault) = turn(rt, &mut engine, direction, workers) {
-        let StepFault::Memory { done } = fault else {
-            panic!(rt; "the counter has room");
-        };
-        assert!(rt; done < 3);
-        let there = tested(rt.alloc(), direction, done, start)?;
-        assert_eq!(rt; text_of(rt.alloc(), &engine)?.as_slice(), there.as_slice());
-        let others = match direction {
-            Direction::Forward => engine.forward_alone(3 - done),
-            Direction::Back => engine.back_alone(3 - done),
-        };
-        assert!(rt; others.is_ok());
-    }
-    let after = tested(rt.alloc(), direction, 3, start)?;
-    assert_eq!(rt; text_of(rt.alloc(), &engine)?.as_slice(), after.as_slice());
-    Ok(number < memory.requests())
+    state.is_some() && text_of(alloc, engine) == *state
 }
 
-/// Each request in turn, from the first that is made to the last.
-fn steps_without_each<R: Threads + Sync + AllocGlobal + Abort>(
+/// Three steps from the first of these states where the request with this number is refused. Tells whether that request was made, and
+/// nothing where an engine goes otherwise than it should.
+fn steps_without<R: Threads + Sync + AllocGlobal>(
     rt: &R,
     direction: Direction,
-    workers: Workers,
-) -> Result<(), AllocError> {
-    let start = layers(rt.alloc())?;
+    workers: u32,
+    start: &[u8],
+    states: &[Option<Vec<u8>>],
+    number: u64,
+) -> Option<bool>
+    requires some { 0 < workers }
+    requires few { workers ≤ 64 }
+{
+    let memory = RefusingAllocator::new(rt.alloc(), number);
+    let right = match engine_over(&memory, start) {
+        Some(mut engine) => goes_on(rt, &mut engine, direction, workers, states),
+        None => true,
+    };
+    if right {
+        Some(number < memory.requests())
+    } else {
+        None
+    }
+}
+
+/// The states after none to three tested steps in this direction.
+fn states_of(
+    alloc: Global,
+    start: &[u8],
+    direction: Direction,
+) -> Result<Vec<Option<Vec<u8>>>, AllocError> {
+    let mut states = Vec::new(alloc);
+    for steps in 0..4 {
+        let mut out = Collected::new(alloc);
+        let ran = run_bytes_checked(alloc, JOB, start, steps, direction, &mut out);
+        states.push(if ran.is_ok() {
+            Some(out.into_bytes())
+        } else {
+            None
+        })?;
+    }
+    Ok(states)
+}
+
+/// How many requests for memory three steps make, where an engine goes on as it should without each.
+fn requests_of<R: Threads + Sync + AllocGlobal>(
+    rt: &R,
+    direction: Direction,
+    workers: u32,
+    start: &[u8],
+    states: &[Option<Vec<u8>>],
+) -> Option<u64>
+    requires some { 0 < workers }
+    requires few { workers ≤ 64 }
+{
     for number in 0..REQUESTS {
-        if !steps_without(rt, direction, workers, &start, number)? {
-            assert!(rt; 0 < number);
-            return Ok(());
+        if !steps_without(rt, direction, workers, start, states, number)? {
+            return Some(number);
         }
     }
-    panic!(rt; "each number is a request's")
+    None
+}
+
+/// The same of one thread, and of four workers.
+fn requests_of_both<R: Threads + Sync + AllocGlobal>(
+    rt: &R,
+    direction: Direction,
+) -> Result<(Option<u64>, Option<u64>), AllocError> {
+    let start = layers(rt.alloc())?;
+    let states = states_of(rt.alloc(), &start, direction)?;
+    let one = requests_of(rt, direction, 1, &start, &states);
+    let four = requests_of(rt, direction, 4, &start, &states);
+    Ok((one, four))
 }
 
 #[test]
-fn each_request_of_one_thread(rt: HostRuntime) -> Result<(), AllocError> {
-    steps_without_each(&rt, Direction::Forward, Workers::Alone)?;
-    steps_without_each(&rt, Direction::Back, Workers::Alone)
+fn each_request_of_steps_forward(rt: HostRuntime) -> Result<(), AllocError> {
+    let (one, four) = requests_of_both(&rt, Direction::Forward)?;
+    assert!(rt;
+        one.unwrap_or(0) > 100 && four.unwrap_or(0) > 100,
+        "{one:?}, {four:?} requests"
+    );
+    Ok(())
 }
 
 #[test]
-fn each_request_of_four_workers(rt: HostRuntime) -> Result<(), AllocError> {
-    steps_without_each(&rt, Direction::Forward, Workers::Four)?;
-    steps_without_each(&rt, Direction::Back, Workers::Four)
+fn each_request_of_steps_back(rt: HostRuntime) -> Result<(), AllocError> {
+    let (one, four) = requests_of_both(&rt, Direction::Back)?;
+    assert!(rt;
+        one.unwrap_or(0) > 100 && four.unwrap_or(0) > 100,
+        "{one:?}, {four:?} requests"
+    );
+    Ok(())
 }

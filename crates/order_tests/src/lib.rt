@@ -1,14 +1,10 @@
-//! Tests. Cells and tiles of them; rounds and pools in which workers draw tiles.
+//! Tests. Cells and tiles of them; a round and pools in which workers draw tiles.
 #![tactic(auto)]
 
 #[cfg(test)]
 mod cells;
 #[cfg(test)]
-mod gates;
-#[cfg(test)]
 mod listed;
-#[cfg(test)]
-mod plain;
 #[cfg(test)]
 mod pools;
 #[cfg(test)]

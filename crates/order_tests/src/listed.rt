@@ -66,3 +66,27 @@ pub(crate) fn one_a_tile(
     }
     Ok(Listed { atoms, tiles })
 }
+
+// The sums of the two tiles.
+pub(crate) const TWO_TILES: [i64; 9] = [
+    -9223372036854775804,
+    -7,
+    0,
+    -5,
+    7,
+    0,
+    -9223372036854775807,
+    0,
+    0,
+];
+
+// Two tiles of a pair each.
+pub(crate) fn two_tiles(alloc: Global) -> Result<Listed, AllocError>
+    ensures { IfOk result (λ w. w.atoms ≡ 3) }
+{
+    one_a_tile(
+        alloc,
+        3,
+        &[add(0, 1, [5, -7, 0]), add(0, 2, [i64::MAX, 0, 0])],
+    )
+}

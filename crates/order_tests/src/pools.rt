@@ -1,64 +1,86 @@
-//! Pools of workers: their sums, and that they are at work at once.
+//! Pools of workers: their sums, that they ask for each pair once, and that they are at work at once.
 
-ghost use Rattle.std.specs.Prelude.{◌≡◌, ◌<◌, IfOk};
+ghost use Rattle.std.specs.Prelude.{◌≡◌, ◌<◌, ◌≤◌, IfOk};
 
-use crate::gates::{Open, Pair};
-use crate::listed::{Listed, add, one_a_tile};
-use crate::watched::{Calls, Meeting, Watched};
+use crate::listed::{Listed, TWO_TILES, add, one_a_tile, two_tiles};
+use crate::watched::Watched;
 use linked_list_allocator::LocalHeap;
 use std::alloc::{AllocError, Global};
-use std::sync::atomic::{AtomicU64, Ordering};
+use std::sync::atomic::Ordering;
 use std::test::Fail;
-use tile_pool::{forces, forces_alone};
+use std::thread::Threads;
+use tile_pool::{Gate, forces, forces_alone};
 use tile_round::{Memory, Work};
 
-// How often a test looks whether another thread has come, before it fails.
-pub(crate) const TURNS: u32 = 100_000_000;
+/// Lets each tile through.
+#[derive(Drop)]
+struct Open;
 
-#[test]
-fn sums_two_tiles(rt: HostRuntime) -> Result<(), Fail> {
-    let pairs = [add(0, 1, [5, -7, 0]), add(0, 2, [i64::MAX, 0, 0])];
-    let work = one_a_tile(rt.alloc(), 3, &pairs)?;
-    assert_eq!(rt; work.tiles(), 2);
-    let sums = [
-        -9223372036854775804,
-        -7,
-        0,
-        -5,
-        7,
-        0,
-        -9223372036854775807,
-        0,
-        0,
-    ];
-    let alone = forces_alone(rt.alloc(), &work, 3)?;
-    assert_eq!(rt; alone.as_slice(), sums.as_slice());
-    for workers in [1, 2, 3, 64] {
-        let together = forces(&rt, rt.alloc(), &work, 3, workers, &Open)?;
-        assert_eq!(rt; together.as_slice(), sums.as_slice());
+impl Gate for Open {
+    fn before_tile(&self, _worker: u32, _tile: u64) {}
+}
+
+/// Whether so many workers come to these sums.
+fn come_to<R: Threads + Sync + AllocGlobal, W: Work + Sync>(
+    rt: &R,
+    work: &W,
+    atoms: u32,
+    workers: u32,
+    sums: &[i64],
+) -> bool
+    requires atoms { W.atoms work.now ≤ atoms }
+    requires some { 0 < workers }
+{
+    if work.tiles() > 6 {
+        return false;
     }
-    Ok(())
+    match forces(rt, rt.alloc(), work, atoms, workers, &Open) {
+        Ok(together) => together.as_slice() == sums,
+        Err(Memory) => false,
+    }
+}
+
+/// Whether one thread comes to these sums.
+fn comes_to<W: Work>(alloc: Global, work: &W, atoms: u32, sums: &[i64]) -> bool
+    requires { W.atoms work.now ≤ atoms }
+{
+    match forces_alone(alloc, work, atoms) {
+        Ok(alone) => alone.as_slice() == sums,
+        Err(Memory) => false,
+    }
 }
 
 #[test]
+fn sums_two_tiles(rt: HostRuntime) -> Result<(), Fail> {
+    let work = two_tiles(rt.alloc())?;
+    let mut same = comes_to(rt.alloc(), &work, 3, &TWO_TILES);
+    for workers in [1, 2, 3, 64] {
+        same = same && come_to(&rt, &work, 3, workers, &TWO_TILES);
+    }
+    assert!(rt; same);
+    Ok(())
+}
+
+const HALF: i64 = 4611686018427387904;
+
+#[test]
 fn sums_wrap_on_the_way(rt: HostRuntime) -> Result<(), Fail> {
-    const HALF: i64 = 4611686018427387904;
     let pairs = [
         add(0, 1, [HALF, 0, 0]),
         add(0, 1, [HALF, 0, 0]),
         add(0, 1, [-HALF, 0, 0]),
     ];
     let work = one_a_tile(rt.alloc(), 2, &pairs)?;
-    assert_eq!(rt; work.tiles(), 3);
+    let mut same = true;
     for workers in [1, 2, 3, 64] {
-        let together = forces(&rt, rt.alloc(), &work, 2, workers, &Open)?;
-        assert_eq!(rt; together.as_slice(), [HALF, 0, 0, -HALF, 0, 0].as_slice());
+        same = same && come_to(&rt, &work, 2, workers, &[HALF, 0, 0, -HALF, 0, 0]);
     }
+    assert!(rt; same);
     Ok(())
 }
 
-// So many tiles of so many pairs, which push the atoms 0 and 1 apart.
-fn pushes(alloc: Global, tiles: usize, pairs: usize) -> Result<Listed, AllocError>
+/// So many tiles of so many pairs, which push the atoms 0 and 1 apart.
+fn pushes(alloc: Global, tiles: u32, pairs: usize) -> Result<Listed, AllocError>
     ensures { IfOk result (λ w. w.atoms ≡ 2) }
 {
     let mut all = Vec::new(alloc);
@@ -73,73 +95,100 @@ fn pushes(alloc: Global, tiles: usize, pairs: usize) -> Result<Listed, AllocErro
 
 #[test]
 fn asks_for_each_pair_once(rt: HostRuntime) -> Result<(), Fail> {
+    let work = Watched::new(pushes(rt.alloc(), 6, 188)?, 0);
+    let mut once = true;
     for workers in [1, 2, 3, 64] {
-        let work = Watched {
-            work: pushes(rt.alloc(), 6, 188)?,
-            watch: Calls(AtomicU64::new(0)),
-        };
-        assert_eq!(rt; work.tiles(), 6);
-        let together = forces(&rt, rt.alloc(), &work, 2, workers, &Open)?;
-        assert_eq!(rt; work.watch.0.load(Ordering::SeqCst), 1128);
-        assert_eq!(rt;
-            together.as_slice(),
-            [1128, 2256, 3384, -1128, -2256, -3384].as_slice()
+        let before = work.calls.load(Ordering::SeqCst);
+        let same = come_to(
+            &rt,
+            &work,
+            2,
+            workers,
+            &[1128, 2256, 3384, -1128, -2256, -3384],
         );
+        let calls = work.calls.load(Ordering::SeqCst).wrapping_sub(before);
+        once = once && same && calls == 1128;
     }
+    assert!(rt; once);
     Ok(())
+}
+
+/// Whether so many workers are in pairs of a tile each at once.
+fn meet<R: Threads + Sync + AllocGlobal>(rt: &R, workers: u32) -> Result<bool, AllocError>
+    requires some { 0 < workers }
+    requires few { workers < 64 }
+{
+    let work = Watched::new(pushes(rt.alloc(), workers, 1)?, workers);
+    let t = i64::from(workers);
+    let same = come_to(
+        rt,
+        &work,
+        2,
+        workers,
+        &[t, 2 * t, 3 * t, -t, -2 * t, -3 * t],
+    );
+    Ok(same && work.late.load(Ordering::SeqCst) == 0)
 }
 
 #[test]
 fn workers_are_in_pairs_at_once(rt: HostRuntime) -> Result<(), Fail> {
-    for workers in [2u32, 4] {
-        let work = Watched {
-            work: pushes(rt.alloc(), workers as usize, 1)?,
-            watch: Meeting::of(workers),
-        };
-        let tiles = work.tiles();
-        assert_eq!(rt; tiles, u64::from(workers));
-        let together = forces(&rt, rt.alloc(), &work, 2, workers, &Open)?;
-        assert_eq!(rt; work.watch.late.load(Ordering::SeqCst), 0);
-        let t = i64::from(workers);
-        assert_eq!(rt;
-            together.as_slice(),
-            [t, 2 * t, 3 * t, -t, -2 * t, -3 * t].as_slice()
-        );
-    }
+    let two = meet(&rt, 2)?;
+    let four = meet(&rt, 4)?;
+    assert!(rt; two && four);
     Ok(())
 }
 
-#[test]
-fn a_gate_meets_two_workers(rt: HostRuntime) -> Result<(), Fail> {
-    let work = pushes(rt.alloc(), 6, 10)?;
-    assert_eq!(rt; work.tiles(), 6);
-    let gate = Pair::new();
-    let together = forces(&rt, rt.alloc(), &work, 2, 2, &gate)?;
-    assert_eq!(rt; gate.late.load(Ordering::SeqCst), 0);
-    assert_eq!(rt; gate.tiles.load(Ordering::SeqCst), 6);
-    let alone = forces_alone(rt.alloc(), &work, 2)?;
-    assert_eq!(rt; together.as_slice(), alone.as_slice());
-    Ok(())
+/// What three workers come to in a heap of so many bytes.
+#[derive(Clone, Copy, PartialEq, Eq)]
+enum Outcome {
+    Summed,
+    Refused,
+    Wrong,
+}
+
+fn within<R: Threads + Sync + AllocGlobal>(
+    rt: &R,
+    work: &Listed,
+    size: usize,
+) -> Result<Outcome, AllocError>
+    requires { work.now.atoms ≤ 2 }
+{
+    if work.tiles() > 6 {
+        return Ok(Outcome::Wrong);
+    }
+    let heap = LocalHeap::new(rt.alloc(), size)?;
+    let outcome = match forces(rt, &heap, work, 2, 3, &Open) {
+        Ok(together) => {
+            if together.as_slice() == [1, 2, 3, -1, -2, -3].as_slice() {
+                Outcome::Summed
+            } else {
+                Outcome::Wrong
+            }
+        }
+        Err(Memory) => Outcome::Refused,
+    };
+    Ok(if heap.used() == 0 {
+        outcome
+    } else {
+        Outcome::Wrong
+    })
 }
 
 #[test]
 fn refuses_without_memory(rt: HostRuntime) -> Result<(), Fail> {
-    let work = one_a_tile(rt.alloc(), 2, &[add(0, 1, [1, 2, 3])])?;
-    assert_eq!(rt; work.tiles(), 1);
+    let work = pushes(rt.alloc(), 1, 1)?;
     let mut refused = 0u32;
+    let mut wrong = false;
     for size in 4..64 {
-        let heap = LocalHeap::new(rt.alloc(), 8 * size)?;
-        match forces(&rt, &heap, &work, 2, 3, &Open) {
-            Ok(together) => {
-                assert_eq!(rt; together.as_slice(), [1, 2, 3, -1, -2, -3].as_slice());
-            }
-            Err(fault) => {
-                assert_eq!(rt; fault, Memory);
-                refused = refused.wrapping_add(1);
-            }
+        match within(&rt, &work, 8 * size)? {
+            Outcome::Summed => {}
+            Outcome::Refused => refused = refused.wrapping_add(1),
+            Outcome::Wrong => wrong = true,
         }
-        assert_eq!(rt; heap.used(), 0);
     }
-    assert!(rt; 3 < refused && refused < 60, "{refused} were refused");
+    assert!(rt;
+        !wrong && 3 < refused && refused < 60,
+        "{refused} were refused"
+    );
     Ok(())
 }

@@ -10,8 +10,6 @@ mod places;
 mod ranges;
 mod searches;
 mod slices;
-#[cfg(test)]
-mod tests;
 mod verified;
 mod widening;
 

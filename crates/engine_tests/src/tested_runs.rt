@@ -1,0 +1,136 @@
+//! Runs with every operation tested, which no command makes.
+
+use crate::fixtures::{JOB, STATE, layers};
+use engine::run_bytes;
+use gro::Collected;
+use integrator::{Direction, run_bytes_checked};
+use std::alloc::{AllocError, Global};
+use std::test::*;
+use std::thread::Threads;
+
+/// What a tested run writes, or the line of its fault.
+fn tested(
+    alloc: Global,
+    job: &[u8],
+    state: &[u8],
+    direction: Direction,
+    steps: u64,
+) -> Result<Vec<u8>, AllocError> {
+    let mut out = Collected::new(alloc);
+    if let Err(fault) = run_bytes_checked(alloc, job, state, steps, direction, &mut out) {
+        let line = format!(in alloc; "{fault}")?;
+        return Vec::from_slice(alloc, line.as_bytes());
+    }
+    Ok(out.into_bytes())
+}
+
+/// A job with this energy.
+fn job_with(alloc: Global, energy: &str) -> Result<String, AllocError> {
+    format!(in alloc; "pairmd job 1\nenergy {energy}\ncore 0.2\ncutoff 0.9\ndt 2\ntype AR 1\n")
+}
+
+/// An energy, a direction, and the line of the fault that a step of two atoms 0.5 nm apart ends with.
+const STOPS: [(&str, Direction, &str); 5] = [
+    (
+        "1/(r-0.5)",
+        Direction::Forward,
+        "A5 KernelFault 0 1 2 12 F2 ZeroDivisor",
+    ),
+    (
+        "1/(r-0.5)",
+        Direction::Back,
+        "A5 KernelFault -1 1 2 12 F2 ZeroDivisor",
+    ),
+    (
+        "2147483647*(r+r)",
+        Direction::Forward,
+        "A5 KernelFault 0 1 2 4 F1 Overflow",
+    ),
+    (
+        "sqrt(r-0.6)",
+        Direction::Forward,
+        "A5 KernelFault 0 1 2 7 F3 NegativeRoot",
+    ),
+    (
+        "1/r^32",
+        Direction::Forward,
+        "A5 KernelFault 0 1 2 33 F2 ZeroDivisor",
+    ),
+];
+
+/// The first of these energies under which a step ends otherwise, or without a step the state is another.
+fn first_other<'a>(
+    alloc: Global,
+    stops: &[(&'a str, Direction, &str)],
+) -> Result<Option<&'a str>, AllocError> {
+    for (energy, direction, line) in stops {
+        let job = job_with(alloc, *energy)?;
+        let stopped = tested(alloc, job.as_bytes(), STATE, *direction, 1)?;
+        let unmoved = tested(alloc, job.as_bytes(), STATE, *direction, 0)?;
+        if stopped.as_slice() != line.as_bytes() || unmoved.as_slice() != STATE {
+            return Ok(Some(*energy));
+        }
+    }
+    Ok(None)
+}
+
+#[test]
+fn a_tested_run_stops_where_the_slope_has_no_value(rt: HostRuntime) -> Result<(), Fail> {
+    let other = first_other(rt.alloc(), &STOPS)?;
+    assert_eq!(rt; other, None);
+    Ok(())
+}
+
+// The atoms before the sixth are 0.5 nm from the first, or beyond the cutoff; the sixth is 0.7 nm from it.
+#[test]
+fn the_first_pair_without_a_slope(rt: HostRuntime) -> Result<(), Fail> {
+    let alloc = rt.alloc();
+    let lattice = layers(alloc)?;
+    let job = job_with(alloc, "sqrt(0.55-r)")?;
+    let stopped = tested(alloc, job.as_bytes(), &lattice, Direction::Forward, 1)?;
+    assert_eq!(rt;
+        stopped.as_slice(),
+        b"A5 KernelFault 0 1 6 7 F3 NegativeRoot".as_slice()
+    );
+    Ok(())
+}
+
+/// Whether a tested run writes what an engine's run does, and so many steps back lead to the state again.
+fn goes_as_an_engine<R: Threads + Sync + AllocGlobal>(
+    rt: &R,
+    job: &[u8],
+    state: &[u8],
+    steps: u64,
+) -> Result<bool, AllocError> {
+    let alloc = rt.alloc();
+    let there = tested(alloc, job, state, Direction::Forward, steps)?;
+    let again = tested(alloc, job, &there, Direction::Back, steps)?;
+    let mut out = Collected::new(alloc);
+    let ran = run_bytes(
+        rt,
+        alloc,
+        job,
+        state,
+        steps,
+        Direction::Forward,
+        1,
+        &mut out,
+    );
+    Ok(ran.is_ok() && out.bytes() == there.as_slice() && again.as_slice() == state)
+}
+
+/// An energy of every operation.
+const OPERATIONS: &str = "select(step(r-0.6), 1/r, sqrt(abs(-4))*r) + min(r^2, r)*max(r, 0.25) \
+    + floor(4*r)/r + ceil(r)*delta(r-0.5)*abs(-r) - r^-3";
+
+#[test]
+fn a_tested_run_goes_as_an_engine(rt: HostRuntime) -> Result<(), Fail> {
+    let alloc = rt.alloc();
+    let lattice = layers(alloc)?;
+    let job = job_with(alloc, OPERATIONS)?;
+    let long = goes_as_an_engine(&rt, JOB, STATE, 1000)?;
+    let many = goes_as_an_engine(&rt, JOB, &lattice, 3)?;
+    let all = goes_as_an_engine(&rt, job.as_bytes(), STATE, 1)?;
+    assert!(rt; long && many && all, "{long} {many} {all}");
+    Ok(())
+}

@@ -1,0 +1,18 @@
+//! Tests. What no command shows of single libraries: other numbers of fraction bits, spans on given ends, how often a pair asks for its
+//! slope, traps of the tested machine, runs and verdicts beside one another, and heaps that run out.
+#![tactic(auto)]
+
+#[cfg(test)]
+mod fractions;
+#[cfg(test)]
+mod machine;
+#[cfg(test)]
+mod ring;
+#[cfg(test)]
+mod shortages;
+#[cfg(test)]
+mod spans;
+#[cfg(test)]
+mod traps;
+#[cfg(test)]
+mod verdicts;

@@ -1,0 +1,119 @@
+//! How often a pair asks for its slope, distances and forces with other bits behind the point, and cells.
+
+// Worked examples, with numbers from outside.
+ghost use Rattle.std.specs.Prelude.{ℤ, true, ◌<◌, ◌≤◌, ◌^◌, unsigned_abs};
+
+use fixed::{Frac, Fx};
+use ring_box::{BoxFault, PairForce, RingBox, Side};
+use std::test::Fail;
+
+// The same force at each distance. It counts how often it is asked, which is no part of what it holds.
+#[derive(Drop)]
+struct ConstantForce {
+    force: i64,
+    asked: u64,
+    ghost in_range: { unsigned_abs force < 2 ^ 63 },
+}
+
+impl PairForce for ConstantForce {
+    ghost Held = { ℤ };
+
+    ghost held = { λ f. f.force };
+
+    ghost takes = { λ g a b r. true };
+
+    ghost slope = { λ g a b r. g };
+
+    fn minus_slope(&mut self, _a: u32, _b: u32, _r: Fx) -> Fx {
+        self.asked = self.asked.wrapping_add(1);
+        Fx::from_raw(self.force)
+    }
+}
+
+fn constant(force: i64) -> ConstantForce
+    requires { unsigned_abs force < 2 ^ 63 }
+{
+    ConstantForce { force, asked: 0 }
+}
+
+fn box_of_two() -> Result<RingBox, BoxFault> {
+    RingBox::new([200_000, 200_000, 200_000])
+}
+
+// Core 0.2 nm, cutoff 0.9 nm.
+fn force(f: &mut ConstantForce, x: [u32; 3], y: [u32; 3]) -> Result<Option<[i64; 3]>, BoxFault> {
+    Ok(box_of_two()?.pair_force(
+        Frac::F32,
+        f,
+        Fx::from_raw(858_993_459),
+        Fx::from_raw(3_865_470_566),
+        0,
+        0,
+        x,
+        y,
+    ))
+}
+
+fn coarse_force(
+    f: &mut ConstantForce,
+    x: [u32; 3],
+    y: [u32; 3],
+) -> Result<Option<[i64; 3]>, BoxFault> {
+    Ok(box_of_two()?.pair_force(
+        Frac::F24,
+        f,
+        Fx::from_raw(3_355_443),
+        Fx::from_raw(15_099_494),
+        0,
+        0,
+        x,
+        y,
+    ))
+}
+
+// How often pairs at one place, 0.5 nm apart, and 1 nm apart ask, of which the last are too far from each other.
+fn asked() -> Result<u64, BoxFault> {
+    let mut f = constant(1);
+    for y in [0, 1_073_741_824, 2_147_483_648] {
+        force(&mut f, [0, 0, 0], [y, 0, 0])?;
+    }
+    Ok(f.asked)
+}
+
+// The numbers of bits of the cells of three boxes.
+fn bits() -> [[u32; 3]; 3] {
+    let cutoff = Fx::from_raw(3_865_470_566);
+    let two = RingBox {
+        x: Side::new(200_000),
+        y: Side::new(200_000),
+        z: Side::new(200_000),
+    };
+    let longer = RingBox {
+        x: Side::new(200_000),
+        y: Side::new(400_000),
+        z: Side::new(1_600_000),
+    };
+    let large = RingBox {
+        x: Side::new(1_600_000),
+        y: Side::new(1_600_000),
+        z: Side::new(1_600_000),
+    };
+    [
+        two.cell_bits(Frac::F32, cutoff),
+        longer.cell_bits(Frac::F32, cutoff),
+        large.cell_bits(Frac::F32, cutoff),
+    ]
+}
+
+#[test]
+fn asks_measures_and_cuts(rt: HostRuntime) -> Result<(), Fail> {
+    assert_eq!(rt; asked()?, 1);
+    assert_eq!(rt; bits(), [[1, 1, 1], [1, 2, 4], [4, 4, 4]]);
+    let b = box_of_two()?;
+    let (x, y) = ([1_073_741_824, 0, 0], [2_147_483_648, 0, 0]);
+    assert_eq!(rt; b.distance(Frac::F24, x, y).raw(), 8_388_608);
+    assert_eq!(rt; b.distance(Frac::F40, x, y).raw(), 549_755_813_888);
+    let mut f = constant(67_108_864);
+    assert_eq!(rt; coarse_force(&mut f, x, y)?, Some([-67_108_864, 0, 0]));
+    Ok(())
+}

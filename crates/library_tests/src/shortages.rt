@@ -1,0 +1,45 @@
+//! Memory that runs out while an energy is read, and its slope and its code are made.
+
+use derivative::derive;
+use energy_program::{ExprFault, Names, Program};
+use expr::parse;
+use fixed::Frac;
+use kernel_compiler::compile;
+use linked_list_allocator::LocalHeap;
+use std::test::Fail;
+
+/// The largest heap has this many times 64 bytes.
+const SIZES: usize = 1024;
+
+fn make_code<'a>(
+    heap: &'a LocalHeap,
+    program: &Program<&'a LocalHeap>,
+) -> Result<(), ExprFault<&'a LocalHeap>> {
+    let slope = derive(heap, Frac::F32, program)?;
+    compile(heap, Frac::F32, &slope)?;
+    Ok(())
+}
+
+#[tactic(auto, unfolding(line_text::specs::Identifiers::is_identifier))]
+fn make<'a>(heap: &'a LocalHeap, text: &[u8]) -> Result<(), ExprFault<&'a LocalHeap>> {
+    let names = Names::new(heap, &[b"q"], &[b"k"])?;
+    let program = parse(heap, Frac::F32, text, &names)?;
+    make_code(heap, &program)
+}
+
+/// Whether nothing is left on the heap, and the largest one was enough.
+fn is_empty(heap: &LocalHeap, size: usize) -> bool {
+    let text =
+        b"select(step(r-k), a^-3, min(b, q1)) + max(abs(b), floor(r)/2); b=-a*2; a=sqrt(r+q2)";
+    let is_made = make(heap, text).is_ok();
+    heap.used() == 0 && (is_made || size < SIZES)
+}
+
+#[test]
+fn nothing_is_left_behind(rt: HostRuntime) -> Result<(), Fail> {
+    for size in 1..=SIZES {
+        let heap = LocalHeap::new(rt.alloc(), 64 * size)?;
+        assert!(rt; is_empty(&heap, size));
+    }
+    Ok(())
+}

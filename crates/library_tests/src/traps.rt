@@ -1,0 +1,52 @@
+//! What the tested machine stops at, and prints of it.
+
+use fixed::{Frac, Fx};
+use kernel_code::{CodeFault, Trap, TypeTable, read, run_checked};
+use std::alloc::Global;
+use std::test::*;
+
+/// The outcome of this listing on two types of no parameter, with a global, at the distance `r`.
+fn outcome(alloc: Global, lines: &str, r: i64) -> Result<Result<Fx, Trap>, CodeFault> {
+    let text = format!(in alloc; "pairmd code 1\n{lines}")?;
+    let code = read(alloc, text.as_bytes())?;
+    let rows = Vec::from_array(alloc, [Vec::new(alloc), Vec::new(alloc)])?;
+    let globals = vec![in alloc; Fx::from_raw(5)]?;
+    let table = TypeTable::new(Frac::F32, 0, rows, globals);
+    Ok(run_checked(&code, &table, 0, 1, Fx::from_raw(r)))
+}
+
+/// Whether the machine stops on this listing, at the distance 2^-32 nm, and prints this line of it.
+fn stops(alloc: Global, lines: &str, line: &str) -> Result<bool, Fail> {
+    let trap = outcome(alloc, lines, 1)?.err().ok_or("a value")?;
+    Ok(format!(in alloc; "{trap}")?.as_str() == line)
+}
+
+/// The same of a listing that fills the stack, and then has this line.
+fn stops_full(alloc: Global, last: &str, line: &str) -> Result<bool, Fail> {
+    let mut lines = String::new(alloc);
+    for _ in 0..64 {
+        lines.push_str("push 0\n")?;
+    }
+    lines.push_str(last)?;
+    stops(alloc, lines.as_str(), line)
+}
+
+#[test]
+fn stops_at_a_place(rt: HostRuntime) -> Result<(), Fail> {
+    for (lines, line) in [
+        ("push 0\nadd\n", "pc 1 M1 MissingOperand"),
+        ("push 0\nget 3\n", "pc 1 M2 MissingLocal"),
+        ("input 2\n", "pc 0 M3 MissingInput"),
+        ("push 0\npush 0\n", "pc 2 M5 BadEnd"),
+        ("input 0\npush 0\ndiv\n", "pc 2 F2 ZeroDivisor"),
+    ] {
+        assert!(rt; stops(rt.alloc(), lines, line)?, "{line}");
+    }
+    for (last, line) in [
+        ("input 0\n", "pc 64 M4 StackFull"),
+        ("get 0\n", "pc 64 M2 MissingLocal"),
+    ] {
+        assert!(rt; stops_full(rt.alloc(), last, line)?, "{line}");
+    }
+    Ok(())
+}

@@ -1,0 +1,400 @@
+# The command line
+
+Help goes to standard output, and ends with status 0.
+
+  $ pairmd --help
+  Reversible molecular dynamics on whole numbers
+  
+  Usage: pairmd <COMMAND>
+  
+  Commands:
+    start   Prints the state that begins at a frame of a GRO file
+    run     Prints the state after so many steps
+    back    Prints the state so many steps back
+    frame   Prints the current frame of a state as a GRO file
+    energy  Prints the energy of a state
+    check   Judges the code of a job's slope, or other code under the job
+    code    Prints the code of a job's slope
+    help    Print this message or the help of the given subcommand(s)
+  
+  Options:
+    -h, --help  Print help
+  $ pairmd help
+  Reversible molecular dynamics on whole numbers
+  
+  Usage: pairmd <COMMAND>
+  
+  Commands:
+    start   Prints the state that begins at a frame of a GRO file
+    run     Prints the state after so many steps
+    back    Prints the state so many steps back
+    frame   Prints the current frame of a state as a GRO file
+    energy  Prints the energy of a state
+    check   Judges the code of a job's slope, or other code under the job
+    code    Prints the code of a job's slope
+    help    Print this message or the help of the given subcommand(s)
+  
+  Options:
+    -h, --help  Print help
+  $ pairmd run --help
+  Prints the state after so many steps
+  
+  Usage: pairmd run [OPTIONS] --steps <n> <JOB> <STATE>
+  
+  Arguments:
+    <JOB>    The file of the job
+    <STATE>  The file of the state
+  
+  Options:
+        --steps <n>    How many steps, from 0 to 1000000000000
+        --workers <w>  How many workers, from 1 to 64 [default: 1]
+    -h, --help         Print help
+  $ pairmd help run
+  Prints the state after so many steps
+  
+  Usage: pairmd run [OPTIONS] --steps <n> <JOB> <STATE>
+  
+  Arguments:
+    <JOB>    The file of the job
+    <STATE>  The file of the state
+  
+  Options:
+        --steps <n>    How many steps, from 0 to 1000000000000
+        --workers <w>  How many workers, from 1 to 64 [default: 1]
+    -h, --help         Print help
+  $ pairmd help start
+  Prints the state that begins at a frame of a GRO file
+  
+  Usage: pairmd start [OPTIONS] <JOB> <GRO>
+  
+  Arguments:
+    <JOB>  The file of the job
+    <GRO>  The GRO file
+  
+  Options:
+        --frame <k>  Which frame of the GRO file, from 1 [default: 1]
+    -h, --help       Print help
+  $ pairmd frame --help
+  Prints the current frame of a state as a GRO file
+  
+  Usage: pairmd frame <STATE>
+  
+  Arguments:
+    <STATE>  The file of the state
+  
+  Options:
+    -h, --help  Print help
+  $ pairmd help check
+  Judges the code of a job's slope, or other code under the job
+  
+  Usage: pairmd check [OPTIONS] <JOB>
+  
+  Arguments:
+    <JOB>  The file of the job
+  
+  Options:
+        --code <LISTING>  The listing to judge in place of the job's own code
+    -h, --help            Print help
+  $ pairmd help code
+  Prints the code of a job's slope
+  
+  Usage: pairmd code <JOB>
+  
+  Arguments:
+    <JOB>  The file of the job
+  
+  Options:
+    -h, --help  Print help
+
+Words that name no command, and options that no command has. Standard output stays empty, and the status is 2.
+
+  $ pairmd
+  error: 'pairmd' requires a subcommand but one was not provided
+    [subcommands: start, run, back, frame, energy, check, code, help]
+  
+  Usage: pairmd <COMMAND>
+  
+  For more information, try '--help'.
+  [2]
+  $ pairmd walk
+  error: unrecognized subcommand 'walk'
+  
+  Usage: pairmd <COMMAND>
+  
+  For more information, try '--help'.
+  [2]
+  $ pairmd start job gro --steps 1
+  error: unexpected argument '--steps' found
+  
+    tip: to pass '--steps' as a value, use '-- --steps'
+  
+  Usage: pairmd start <JOB> <GRO>
+  
+  For more information, try '--help'.
+  [2]
+  $ pairmd energy job state --workers 1
+  error: unexpected argument '--workers' found
+  
+    tip: to pass '--workers' as a value, use '-- --workers'
+  
+  Usage: pairmd energy <JOB> <STATE>
+  
+  For more information, try '--help'.
+  [2]
+
+Words that are missing, one too many, and an option twice.
+
+  $ pairmd run
+  error: the following required arguments were not provided:
+    --steps <n>
+    <JOB>
+    <STATE>
+  
+  Usage: pairmd run --steps <n> <JOB> <STATE>
+  
+  For more information, try '--help'.
+  [2]
+  $ pairmd run job state
+  error: the following required arguments were not provided:
+    --steps <n>
+  
+  Usage: pairmd run --steps <n> <JOB> <STATE>
+  
+  For more information, try '--help'.
+  [2]
+  $ pairmd run job --steps 1
+  error: the following required arguments were not provided:
+    <STATE>
+  
+  Usage: pairmd run --steps <n> <JOB> <STATE>
+  
+  For more information, try '--help'.
+  [2]
+  $ pairmd start job
+  error: the following required arguments were not provided:
+    <GRO>
+  
+  Usage: pairmd start <JOB> <GRO>
+  
+  For more information, try '--help'.
+  [2]
+  $ pairmd frame
+  error: the following required arguments were not provided:
+    <STATE>
+  
+  Usage: pairmd frame <STATE>
+  
+  For more information, try '--help'.
+  [2]
+  $ pairmd energy job
+  error: the following required arguments were not provided:
+    <STATE>
+  
+  Usage: pairmd energy <JOB> <STATE>
+  
+  For more information, try '--help'.
+  [2]
+  $ pairmd back job state more --steps 1
+  error: unexpected argument 'more' found
+  
+  Usage: pairmd back [OPTIONS] --steps <n> <JOB> <STATE>
+  
+  For more information, try '--help'.
+  [2]
+  $ pairmd check job listing
+  error: unexpected argument 'listing' found
+  
+  Usage: pairmd check [OPTIONS] <JOB>
+  
+  For more information, try '--help'.
+  [2]
+  $ pairmd run job state --steps 1 --steps 2
+  error: the argument '--steps <n>' cannot be used multiple times
+  
+  Usage: pairmd run [OPTIONS] --steps <n> <JOB> <STATE>
+  
+  For more information, try '--help'.
+  [2]
+
+Numbers that are none, or out of their range.
+
+  $ pairmd run job state --steps x
+  error: invalid value 'x' for '--steps <n>': invalid digit found in string
+  
+  For more information, try '--help'.
+  [2]
+  $ pairmd run job state --steps -1
+  error: unexpected argument '-1' found
+  
+    tip: to pass '-1' as a value, use '-- -1'
+  
+  Usage: pairmd run [OPTIONS] --steps <n> <JOB> <STATE>
+  
+  For more information, try '--help'.
+  [2]
+  $ pairmd run job state --steps=-1
+  error: invalid value '-1' for '--steps <n>': invalid digit found in string
+  
+  For more information, try '--help'.
+  [2]
+  $ pairmd run job state --steps 1000000000001
+  error: invalid value '1000000000001' for '--steps <n>': 1000000000001 is not in 0..=1000000000000
+  
+  For more information, try '--help'.
+  [2]
+  $ pairmd run job state --steps 1 --workers 0
+  error: invalid value '0' for '--workers <w>': 0 is not in 1..=64
+  
+  For more information, try '--help'.
+  [2]
+  $ pairmd back job state --steps 1 --workers 65
+  error: invalid value '65' for '--workers <w>': 65 is not in 1..=64
+  
+  For more information, try '--help'.
+  [2]
+  $ pairmd run job state --steps 1 --workers two
+  error: invalid value 'two' for '--workers <w>': invalid digit found in string
+  
+  For more information, try '--help'.
+  [2]
+  $ pairmd start job gro --frame 0
+  error: invalid value '0' for '--frame <k>': 0 is not in 1..18446744073709551615
+  
+  For more information, try '--help'.
+  [2]
+  $ pairmd start job gro --frame 18446744073709551616
+  error: invalid value '18446744073709551616' for '--frame <k>': number too large to fit in target type
+  
+  For more information, try '--help'.
+  [2]
+
+Options stand before, between and behind the files, and files are named as the words name them.
+
+  $ cat job > 'a job'
+  $ cat state > 'a state'
+  $ cat gro > 'a file'
+  $ printf 'pairmd code 1\npush 7\n' > 'a listing'
+  $ pairmd run --steps 0 'a job' 'a state'
+  pairmd state 1
+  title two atoms
+  step 0
+  atoms 2
+  box 200000 200000 200000
+      1AR      AR 1073741824 0 0 1073741824 0 0
+      1AR      AR 2147483648 0 0 2147483648 0 0
+  $ pairmd back --steps 0 'a job' 'a state'
+  pairmd state 1
+  title two atoms
+  step 0
+  atoms 2
+  box 200000 200000 200000
+      1AR      AR 1073741824 0 0 1073741824 0 0
+      1AR      AR 2147483648 0 0 2147483648 0 0
+  $ pairmd start job 'a file'
+  pairmd state 1
+  title two atoms
+  step 0
+  atoms 2
+  box 200000 200000 200000
+      1AR      AR 1073741824 0 0 1073741824 0 0
+      1AR      AR 2147483648 0 0 2147483648 0 0
+  $ pairmd frame 'a state'
+  two atoms
+      2
+      1AR      AR    1   0.500   0.000   0.000
+      1AR      AR    2   1.000   0.000   0.000
+     2.00000   2.00000   2.00000
+  $ pairmd energy 'a job' 'a state'
+  energy 8589934592
+  $ pairmd check 'a job'
+  accepted: steps 9, bound 107374182926
+  $ pairmd check --code 'a listing' 'a job'
+  accepted: steps 1, bound 7
+  $ pairmd check 'a job' '--code=a listing'
+  accepted: steps 1, bound 7
+  $ pairmd code 'a job'
+  pairmd code 1
+  push 4294967296
+  push 4294967296
+  mul
+  neg
+  input 0
+  keep 0
+  get 0
+  sq
+  div
+
+Workers are one, or as many as the words say.
+
+  $ pairmd run job --workers 1 state --steps 1
+  pairmd state 1
+  title two atoms
+  step 1
+  atoms 2
+  box 200000 200000 200000
+      1AR      AR 1073741824 0 0 1073707464 0 0
+      1AR      AR 2147483648 0 0 2147518008 0 0
+  $ pairmd run job --workers 2 state --steps 1
+  pairmd state 1
+  title two atoms
+  step 1
+  atoms 2
+  box 200000 200000 200000
+      1AR      AR 1073741824 0 0 1073707464 0 0
+      1AR      AR 2147483648 0 0 2147518008 0 0
+  $ pairmd run job --workers 64 state --steps 1
+  pairmd state 1
+  title two atoms
+  step 1
+  atoms 2
+  box 200000 200000 200000
+      1AR      AR 1073741824 0 0 1073707464 0 0
+      1AR      AR 2147483648 0 0 2147518008 0 0
+
+The greatest number of steps would lead just past the end of the counter.
+
+  $ with state 3 'step 9223371036854775808' pairmd run job --steps 1000000000000 state
+  pairmd: A4 StepRange
+  [1]
+  $ with state 3 'step -9223371036854775809' pairmd back job --steps 1000000000000 state
+  pairmd: A4 StepRange
+  [1]
+
+Frame 1 is the first; the words may say another. There are seven here, each with another title.
+
+  $ sed '1c frame 1' gro > frame_1
+  $ sed '1c frame 2' gro > frame_2
+  $ sed '1c frame 3' gro > frame_3
+  $ sed '1c frame 4' gro > frame_4
+  $ sed '1c frame 5' gro > frame_5
+  $ sed '1c frame 6' gro > frame_6
+  $ sed '1c frame 7' gro > frame_7
+  $ cat frame_1 frame_2 frame_3 frame_4 frame_5 frame_6 frame_7 > 'a file'
+  $ pairmd start job 'a file'
+  pairmd state 1
+  title frame 1
+  step 0
+  atoms 2
+  box 200000 200000 200000
+      1AR      AR 1073741824 0 0 1073741824 0 0
+      1AR      AR 2147483648 0 0 2147483648 0 0
+  $ pairmd start job --frame 7 'a file'
+  pairmd state 1
+  title frame 7
+  step 0
+  atoms 2
+  box 200000 200000 200000
+      1AR      AR 1073741824 0 0 1073741824 0 0
+      1AR      AR 2147483648 0 0 2147483648 0 0
+  $ pairmd start --frame=8 job 'a file'
+  pairmd: G8 NoSuchFrame
+  [1]
+  $ pairmd start --frame=18446744073709551615 job 'a file'
+  pairmd: G8 NoSuchFrame
+  [1]
+
+A word that is no text.
+
+  $ pairmd $'\xff'
+  error: a word of the command line is not UTF-8 text
+  [2]

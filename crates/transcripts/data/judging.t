@@ -1,0 +1,162 @@
+# Judging code: slices, types, and what stays undecided
+
+Code is judged under a job: for its types, and at every distance from its core to its cutoff, slice by slice. The stored job has one
+type, and distances of 0.2 to 0.9 nm, of which the raw numbers are 858993459 to 3865470565. What is told of accepted code is the number
+of instructions on the longest path, and the greatest magnitude of the ends of its values' spans.
+
+  $ listing 'push -3' pairmd check job --code listing
+  accepted: steps 1, bound 3
+
+## Operations without a value
+
+Here 1/r^32 is a listing whose power is 0 at the core. A run is refused as well.
+
+  $ listing 'push 4294967296, input 0, sq, sq, sq, sq, sq, div' pairmd check job --code listing
+  pairmd: V2 Fault AR AR r 858993459 pc 7 F2 ZeroDivisor
+  [3]
+  $ with job 2 'energy 1/r^32' workers pairmd run job state --steps 1
+  pairmd: V2 Fault AR AR r 858993459 pc 33 F2 ZeroDivisor
+  [3]
+
+The square of r - 0.5 is 0 near 0.5. A slice of distances on which an operation may have no value is cut in two again and again, so
+the least distance is found at which there is a fault: there the square is 1, and the quotient is too large.
+
+  $ with job 6 'slices 256' listing 'push -4294967296, input 0, push 2147483648, sub, sq, div' pairmd check job --code listing
+  pairmd: V2 Fault AR AR r 2147390967 pc 5 F1 Overflow
+  [3]
+
+## Branches
+
+The root of r - 0.4 is taken from 0.5 on alone. That is seen on each of 64 slices, or where the one slice is cut. The greatest value is
+the root of 0.5, at the last distance.
+
+  $ with job 6 'slices 64' listing 'input 0, push 2147483648, sub, step, jumpifzero 10, input 0, push 1717986918, sub, sqrt, jump 11, push 0' pairmd check job --code listing
+  accepted: steps 10, bound 3037000499
+  $ with job 6 'slices 1' listing 'input 0, push 2147483648, sub, step, jumpifzero 10, input 0, push 1717986918, sub, sqrt, jump 11, push 0' pairmd check job --code listing
+  accepted: steps 10, bound 3037000499
+
+## Code that stays undecided
+
+A slice is cut at most 24 times deep. Here r - r + 1 has always the value 1, but on two distances and more its span has a 0 in it. So
+the first distances that are left are told: of one slice 180 of them, of two slices 90, of 64 slices 3.
+
+  $ with job 6 'slices 1' listing 'push 1, input 0, input 0, sub, push 1, add, div' pairmd check job --code listing
+  pairmd: V3 Undecided AR AR 858993459 858993638 pc 6 F2 ZeroDivisor
+  [3]
+  $ with job 6 'slices 2' listing 'push 1, input 0, input 0, sub, push 1, add, div' pairmd check job --code listing
+  pairmd: V3 Undecided AR AR 858993459 858993548 pc 6 F2 ZeroDivisor
+  [3]
+  $ with job 6 'slices 64' listing 'push 1, input 0, input 0, sub, push 1, add, div' pairmd check job --code listing
+  pairmd: V3 Undecided AR AR 858993459 858993461 pc 6 F2 ZeroDivisor
+  [3]
+
+## Types
+
+Types are told in the order of the job, and the first of the two is that of the first particle. With the parameters 5, 8 and 11 and
+the globals 3 and -6 there is a 0 in p1 - p2 - 3 first for the second type with the first, and in p1 - p2 + 6 for the first with the third;
+and p1 + p2 - 22 has a root for the third with itself alone.
+
+  $ cat > three << END
+  > pairmd job 1
+  > energy 1/r
+  > core 0.2
+  > cutoff 0.9
+  > dt 2
+  > parameter p
+  > global a 3
+  > global b -6
+  > type A 1 5
+  > type B 1 8
+  > type C 1 11
+  > END
+  $ listing 'push 1, input 1, input 2, sub, input 3, sub, div' pairmd check three --code listing
+  pairmd: V2 Fault B A r 858993459 pc 6 F2 ZeroDivisor
+  [3]
+  $ listing 'push 1, input 1, input 2, sub, input 4, sub, div' pairmd check three --code listing
+  pairmd: V2 Fault A C r 858993459 pc 6 F2 ZeroDivisor
+  [3]
+  $ listing 'input 1, input 2, add, push 94489280512, sub, sqrt' pairmd check three --code listing
+  pairmd: V2 Fault A A r 858993459 pc 5 F3 NegativeRoot
+  [3]
+
+The slope of Lennard and Jones' energy by hand, for argon and for atoms without depth: the mean of two sigmas is local 0, the root of two
+epsilons local 1, sigma/r local 2, its square local 3 and its sixth power local 4. The slope is (24 epsilon x^6 - 48 epsilon x^12) / r.
+
+  $ cat > two << END
+  > pairmd job 1
+  > energy 4*epsilon*((sigma/r)^12-(sigma/r)^6); sigma=0.5*(sigma1+sigma2); epsilon=sqrt(epsilon1*epsilon2)
+  > core 0.2
+  > cutoff 0.9
+  > dt 2
+  > slices 64
+  > parameter sigma
+  > parameter epsilon
+  > type AR 39.948 0.34 0.996
+  > type X 1 0.3 0
+  > END
+  $ cat > slope << END
+  > pairmd code 1
+  > input 1
+  > input 3
+  > add
+  > push 2147483648
+  > mul
+  > keep 0
+  > input 2
+  > input 4
+  > mul
+  > sqrt
+  > keep 1
+  > get 0
+  > input 0
+  > div
+  > keep 2
+  > get 2
+  > sq
+  > keep 3
+  > get 3
+  > get 3
+  > sq
+  > mul
+  > keep 4
+  > push 103079215104
+  > get 1
+  > mul
+  > get 4
+  > mul
+  > push 206158430208
+  > get 1
+  > mul
+  > get 4
+  > sq
+  > mul
+  > sub
+  > input 0
+  > div
+  > END
+  $ pairmd check two --code slope
+  accepted: steps 37, bound 589157929488805
+
+## Want of memory
+
+Where a request for memory is refused the answer is that alone, or else what it is with all of them granted. That is so of a verdict on
+code that is accepted, refused, or undecided.
+
+  $ with two 6 'slices 3' requests pairmd check two --code slope
+  pairmd: Memory [4]
+  all
+  $ with job 6 'slices 1' listing 'push -4294967296, input 0, push 2147483648, sub, sq, div' requests pairmd check job --code listing
+  pairmd: Memory [4]
+  all
+  $ with job 6 'slices 1' listing 'push 1, input 0, input 0, sub, push 1, add, div' requests pairmd check job --code listing
+  pairmd: Memory [4]
+  all
+  $ with job 6 'slices 1' listing 'input 0, push 2147483648, sub, step, jumpifzero 10, input 0, push 1717986918, sub, sqrt, jump 11, push 0' requests pairmd check job --code listing
+  pairmd: Memory [4]
+  all
+  $ listing 'input 0, jumpifzero 3, push 1' requests pairmd check job --code listing
+  pairmd: Memory [4]
+  all
+  $ with job 2 'energy 2*epsilon' requests pairmd energy job state
+  pairmd: Memory [4]
+  all

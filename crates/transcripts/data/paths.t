@@ -1,0 +1,152 @@
+# Paths of code: the longest, and what none may miss
+
+A path takes each conditional jump either way, whatever the values. Under this job there is one input, the distance.
+
+## The longest path
+
+The steps of accepted code are the instructions on its longest path. The bound is that of the values, and the distance is never 0 here.
+
+  $ listing 'push 0' pairmd check job --code listing
+  accepted: steps 1, bound 0
+  $ listing 'push 3, keep 255, get 255, get 255, add' pairmd check job --code listing
+  accepted: steps 5, bound 6
+  $ listing 'push -4294967296, input 0, sq, div' pairmd check job --code listing
+  accepted: steps 4, bound 107374182926
+
+The branch of 4 instructions, not that of 3; then the branch that jumps is the longer.
+
+  $ listing 'input 0, jumpifzero 4, push 1, jump 5, push 2' pairmd check job --code listing
+  accepted: steps 4, bound 1
+  $ listing 'input 0, jumpifzero 4, push 1, jump 7, push 2, neg, neg' pairmd check job --code listing
+  accepted: steps 5, bound 1
+
+Instructions that no path comes to, where they would lack operands or a local; a jump to the next place; a local that both branches set.
+
+  $ listing 'jump 2, add, push 7' pairmd check job --code listing
+  accepted: steps 2, bound 7
+  $ listing 'push 7, jump 4, add, get 3' pairmd check job --code listing
+  accepted: steps 2, bound 7
+  $ listing 'push 5, input 0, jumpifzero 3' pairmd check job --code listing
+  accepted: steps 3, bound 5
+  $ listing 'input 0, jumpifzero 5, push 1, keep 0, jump 7, push 2, keep 0, get 0' pairmd check job --code listing
+  accepted: steps 6, bound 1
+
+The longest code.
+
+  $ printf 'pairmd code 1\n' > head
+  $ printf 'push 0\n' > push
+  $ yes 'neg' | head -n 16383 > negatives
+  $ cat head push negatives > longest
+  $ pairmd check job --code longest
+  accepted: steps 16384, bound 0
+
+## What is missing
+
+Code of no instructions ends without a value.
+
+  $ pairmd check job --code head
+  pairmd: V1 Malformed 0
+  [3]
+
+An operand, a local or an input that isn't there.
+
+  $ listing 'add' pairmd check job --code listing
+  pairmd: V1 Malformed 0
+  [3]
+  $ listing 'push 0, add' pairmd check job --code listing
+  pairmd: V1 Malformed 1
+  [3]
+  $ listing 'neg' pairmd check job --code listing
+  pairmd: V1 Malformed 0
+  [3]
+  $ listing 'keep 0' pairmd check job --code listing
+  pairmd: V1 Malformed 0
+  [3]
+  $ listing 'jumpifzero 1' pairmd check job --code listing
+  pairmd: V1 Malformed 0
+  [3]
+  $ listing 'get 0' pairmd check job --code listing
+  pairmd: V1 Malformed 0
+  [3]
+  $ listing 'push 0, get 3' pairmd check job --code listing
+  pairmd: V1 Malformed 1
+  [3]
+  $ listing 'push 0, keep 1, get 0' pairmd check job --code listing
+  pairmd: V1 Malformed 2
+  [3]
+  $ listing 'input 1' pairmd check job --code listing
+  pairmd: V1 Malformed 0
+  [3]
+  $ listing 'input 2' pairmd check job --code listing
+  pairmd: V1 Malformed 0
+  [3]
+
+Two values at the end, and none.
+
+  $ listing 'push 0, push 0' pairmd check job --code listing
+  pairmd: V1 Malformed 2
+  [3]
+  $ listing 'push 0, keep 0' pairmd check job --code listing
+  pairmd: V1 Malformed 2
+  [3]
+
+A local that is set on one branch alone.
+
+  $ listing 'input 0, jumpifzero 4, push 1, keep 0, get 0' pairmd check job --code listing
+  pairmd: V1 Malformed 4
+  [3]
+
+Branches that meet at the end with one value and with none; and further up with stacks of different heights, where nothing is missing
+below.
+
+  $ listing 'input 0, jumpifzero 3, push 1' pairmd check job --code listing
+  pairmd: V1 Malformed 3
+  [3]
+  $ listing 'input 0, jumpifzero 4, push 1, neg, push 2' pairmd check job --code listing
+  pairmd: V1 Malformed 4
+  [3]
+
+The lowest place decides, and it does before any operation goes wrong.
+
+  $ listing 'input 0, jumpifzero 3, push 1, add, get 5' pairmd check job --code listing
+  pairmd: V1 Malformed 3
+  [3]
+  $ listing 'input 0, jumpifzero 4, push 1, get 5, add' pairmd check job --code listing
+  pairmd: V1 Malformed 3
+  [3]
+  $ listing 'input 0, push 0, div, add' pairmd check job --code listing
+  pairmd: V1 Malformed 3
+  [3]
+  $ listing 'input 0, push 0, div' pairmd check job --code listing
+  pairmd: V2 Fault AR AR r 858993459 pc 2 F2 ZeroDivisor
+  [3]
+
+## Depth
+
+A stack holds 64 values. Sixty-four of them can be added up; the 65th is refused at its place, but for a local or an input that is
+missing there.
+
+  $ yes 'push 0' | head -n 64 > pushes
+  $ yes 'add' | head -n 63 > sums
+  $ cat head pushes sums > full
+  $ pairmd check job --code full
+  accepted: steps 127, bound 0
+  $ cat head pushes push > deep
+  $ pairmd check job --code deep
+  pairmd: V4 DepthOver64 64
+  [3]
+  $ printf 'input 0\n' > distance
+  $ cat head pushes distance > deeper
+  $ pairmd check job --code deeper
+  pairmd: V4 DepthOver64 64
+  [3]
+  $ printf 'input 1\n' > parameter
+  $ cat head pushes parameter > deeper
+  $ pairmd check job --code deeper
+  pairmd: V1 Malformed 64
+  [3]
+  $ printf 'get 0\n' > local
+  $ cat head pushes local > deeper
+  $ pairmd check job --code deeper
+  pairmd: V1 Malformed 64
+  [3]

@@ -1,0 +1,79 @@
+# Outputs that fail, and memory that is refused
+
+An output that takes so many bytes, one at a time, and then fails is left with a beginning of what a command prints; one that
+takes all gets all.
+
+  $ outputs pairmd start job gro
+  0-162: a beginning, pairmd: O2 CannotWrite [5]
+  163: all
+  $ outputs pairmd run job state --steps 2
+  0-162: a beginning, pairmd: O2 CannotWrite [5]
+  163: all
+  $ outputs pairmd run job state --steps 3 --workers 4
+  0-162: a beginning, pairmd: O2 CannotWrite [5]
+  163: all
+  $ outputs pairmd back job state --steps 2 --workers 2
+  0-163: a beginning, pairmd: O2 CannotWrite [5]
+  164: all
+  $ outputs pairmd frame state
+  0-136: a beginning, pairmd: O2 CannotWrite [5]
+  137: all
+  $ outputs pairmd energy job state
+  0-17: a beginning, pairmd: O2 CannotWrite [5]
+  18: all
+  $ outputs pairmd check job
+  0-37: a beginning, pairmd: O2 CannotWrite [5]
+  38: all
+  $ outputs pairmd code job
+  0-81: a beginning, pairmd: O2 CannotWrite [5]
+  82: all
+
+Help goes to the same output.
+
+  $ outputs pairmd --help
+  0-556: a beginning, pairmd: O2 CannotWrite [5]
+  557: all
+
+Each request for memory is refused in turn: a command gives its whole answer, or says that it wants memory and prints nothing.
+Where the request is one of a step of a run, the line says how many whole steps were done.
+
+  $ requests pairmd start job gro
+  pairmd: Memory [4]
+  all
+  $ requests pairmd run job state --steps 2
+  pairmd: Memory [4]
+  all
+  pairmd: Memory after 0 steps [4]
+  pairmd: Memory after 1 steps [4]
+  $ requests pairmd run job state --steps 3 --workers 4
+  pairmd: Memory [4]
+  all
+  pairmd: Memory after 0 steps [4]
+  pairmd: Memory after 1 steps [4]
+  pairmd: Memory after 2 steps [4]
+  $ requests pairmd back job state --steps 2 --workers 2
+  pairmd: Memory [4]
+  all
+  pairmd: Memory after 0 steps [4]
+  pairmd: Memory after 1 steps [4]
+  $ requests pairmd frame state
+  pairmd: Memory [4]
+  all
+  $ requests pairmd energy job state
+  pairmd: Memory [4]
+  all
+  $ requests pairmd check job
+  pairmd: Memory [4]
+  all
+  $ requests pairmd code job
+  pairmd: Memory [4]
+  all
+
+Memory may be wanted for the line of a refusal too.
+
+  $ requests pairmd frame 'a path of no file'
+  pairmd: Memory [4]
+  all
+  $ requests pairmd check job --code 'a path of no file'
+  pairmd: Memory [4]
+  all

@@ -1,0 +1,77 @@
+//! Files by name: those that a transcript writes are kept in memory, and all others are the system's.
+
+ghost use Rattle.std.specs.Prelude.{None};
+
+use cli::{Files, HostFiles, ReadFault};
+use indexmap::IndexMap;
+use std::alloc::{AllocError, Allocator, Global};
+use std::fs;
+
+/// The files that a transcript sees.
+#[derive(Drop)]
+pub(crate) struct Memory<'a, R: fs::Files> {
+    written: IndexMap<String, Vec<u8>>,
+    system: HostFiles<'a, R>,
+}
+
+impl<'a, R: fs::Files> Memory<'a, R> {
+    /// The files of the system, with none written.
+    pub(crate) fn new(alloc: Global, rt: &'a R) -> Self {
+        Memory {
+            written: IndexMap::new(alloc),
+            system: HostFiles::new(rt),
+        }
+    }
+
+    /// Writes the file of this name anew.
+    pub(crate) fn write(
+        &mut self,
+        alloc: Global,
+        name: &str,
+        bytes: Vec<u8>,
+    ) -> Result<(), AllocError> {
+        let name = String::from_str(alloc, name)?;
+        self.written.insert(name, bytes)?;
+        Ok(())
+    }
+
+    /// Appends to the file of this name.
+    pub(crate) fn append(
+        &mut self,
+        alloc: Global,
+        name: &str,
+        bytes: &[u8],
+    ) -> Result<(), AllocError> {
+        let mut file = self.bytes(alloc, name)?.unwrap_or(Vec::new(alloc));
+        file.extend_from_slice(bytes)?;
+        self.write(alloc, name, file)
+    }
+
+    /// The bytes of the file of this name, if it can be read.
+    pub(crate) fn bytes(
+        &mut self,
+        alloc: Global,
+        name: &str,
+    ) -> Result<Option<Vec<u8>>, AllocError> {
+        match self.read(alloc, name) {
+            Ok(bytes) => Ok(Some(bytes)),
+            Err(ReadFault::CannotRead) => Ok(None),
+            Err(ReadFault::Memory) => Err(AllocError),
+        }
+    }
+}
+
+impl<'a, R: fs::Files> Files for Memory<'a, R> {
+    ghost asked = { λ _. None };
+
+    fn read<A: Allocator + Copy>(&mut self, alloc: A, path: &str) -> Result<Vec<u8, A>, ReadFault> {
+        let Some(written) = self.written.get(path) else {
+            return self.system.read(alloc, path);
+        };
+        let mut bytes = Vec::new(alloc);
+        match bytes.extend_from_slice(written) {
+            Ok(()) => Ok(bytes),
+            Err(_) => Err(ReadFault::Memory),
+        }
+    }
+}

@@ -1,0 +1,54 @@
+//! Plays transcripts: files of commands and of what they must print, in the layout of cram.
+//!
+//! Each word of the command line names a transcript. Where all commands print what stands below them, a line says how many
+//! there were; else it names the first line that is not as written. Behind the word `--print` each transcript is printed with what
+//! its commands do print.
+#![tactic(auto)]
+
+mod files;
+mod lines;
+mod outcomes;
+mod players;
+mod programs;
+mod shell;
+mod sweeps;
+
+use crate::lines::first_difference;
+use crate::players::Player;
+use std::fs::Files;
+use std::thread::Threads;
+use std::{env, fs, io};
+
+fn main(rt: HostRuntime) -> io::Result<()> {
+    let mut prints = false;
+    for name in env::args(&rt)?.skip(1) {
+        match name.as_str() {
+            "--help" => println!(rt; "transcripts [--print] FILE ..")?,
+            "--print" => prints = true,
+            file => play(&rt, file, prints)?,
+        }
+    }
+    Ok(())
+}
+
+/// Plays the transcript in this file, and tells how it went.
+fn play<R: Files + Threads + Sync + AllocGlobal + Print>(
+    rt: &R,
+    file: &str,
+    prints: bool,
+) -> io::Result<()> {
+    let text = fs::read_to_string(rt, file)?;
+    let mut player = Player::new(rt);
+    for line in text.lines() {
+        player.take(line)?;
+    }
+    let played = player.transcript();
+    let commands = player.commands();
+    if prints {
+        rt.print(String::from_utf8_lossy(rt.alloc(), played)?)
+    } else if let Some(line) = first_difference(text.as_bytes(), played) {
+        println!(rt; "{file}: line {line} is not as written")
+    } else {
+        println!(rt; "{file}: {commands} commands, as written")
+    }
+}

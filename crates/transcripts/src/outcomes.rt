@@ -1,0 +1,137 @@
+//! What a command comes to, and the outputs that it prints to.
+
+ghost use Rattle.std.specs.Prelude.{◌≡◌, None};
+
+use crate::files::Memory;
+use crate::lines::{put_line, put_printed};
+use cli::execute;
+use gro::{Collected, Out, OutFault};
+use std::alloc::{AllocError, Allocator, Global};
+use std::convert::AsStr;
+use std::fs::Files;
+use std::thread::Threads;
+
+/// What a command printed, and the status that it ended with.
+#[derive(PartialEq, Eq, Drop)]
+pub(crate) struct Outcome {
+    pub(crate) out: Vec<u8>,
+    pub(crate) err: Vec<u8>,
+    pub(crate) status: u8,
+}
+
+impl Outcome {
+    /// Prints these bytes and ends well.
+    pub(crate) fn printing(alloc: Global, out: Vec<u8>) -> Outcome {
+        Outcome {
+            out,
+            err: Vec::new(alloc),
+            status: 0,
+        }
+    }
+
+    /// Complains in one line, and ends with status 1.
+    pub(crate) fn complaining(alloc: Global, line: &str) -> Result<Outcome, AllocError> {
+        let mut err = Vec::new(alloc);
+        put_line(&mut err, line.as_bytes())?;
+        Ok(Outcome {
+            out: Vec::new(alloc),
+            err,
+            status: 1,
+        })
+    }
+
+    /// Appends what was printed, and the status if it isn't 0, to a transcript.
+    pub(crate) fn put(&self, alloc: Global, transcript: &mut Vec<u8>) -> Result<(), AllocError> {
+        put_printed(transcript, &self.out)?;
+        put_printed(transcript, &self.err)?;
+        if self.status == 0 {
+            return Ok(());
+        }
+        let status = self.status;
+        let ended = format!(in alloc; "  [{status}]")?;
+        put_line(transcript, ended.as_bytes())
+    }
+
+    /// What was printed, without its last end of a line, and behind it the status if it isn't 0.
+    pub(crate) fn summary(&self, alloc: Global) -> Result<Vec<u8>, AllocError> {
+        let mut text = Vec::new(alloc);
+        text.extend_from_slice(&self.out)?;
+        text.extend_from_slice(&self.err)?;
+        if text.last() == Some(&b'\n') {
+            text.pop();
+        }
+        if self.status != 0 {
+            let status = self.status;
+            let ended = format!(in alloc; " [{status}]")?;
+            text.extend_from_slice(ended.as_bytes())?;
+        }
+        Ok(text)
+    }
+}
+
+/// What the program comes to on these words, where all but the words takes its memory of `short`.
+pub(crate) fn outcome_of<
+    R: Files + Threads + Sync + AllocGlobal,
+    A: Allocator + Copy + Sync,
+    S: AsStr,
+>(rt: &R, short: A, words: &[S], files: &mut Memory<'_, R>) -> Outcome {
+    let mut out = Collected::new(rt.alloc());
+    let mut err = Collected::new(rt.alloc());
+    let status = execute(rt, rt.alloc(), short, words, files, &mut out, &mut err);
+    Outcome {
+        out: out.into_bytes(),
+        err: err.into_bytes(),
+        status,
+    }
+}
+
+/// What the program comes to on these words, on an output that takes so many bytes, one at a time, and then fails.
+pub(crate) fn outcome_onto<R: Files + Threads + Sync + AllocGlobal>(
+    rt: &R,
+    left: usize,
+    words: &[&str],
+    files: &mut Memory<'_, R>,
+) -> Outcome {
+    let mut out = Limited {
+        bytes: Vec::new(rt.alloc()),
+        left,
+        failures: 0,
+    };
+    let mut err = Collected::new(rt.alloc());
+    let status = execute(rt, rt.alloc(), rt.alloc(), words, files, &mut out, &mut err);
+    Outcome {
+        out: out.bytes,
+        err: err.into_bytes(),
+        status,
+    }
+}
+
+/// Takes one byte at a time, and fails at each write once it has taken as many as it may.
+#[derive(Drop)]
+struct Limited {
+    bytes: Vec<u8>,
+    left: usize,
+    failures: u64,
+}
+
+impl Out for Limited {
+    ghost taken = { λ _. None };
+
+    ghost failed = { λ s. s.failures };
+
+    fn write(&mut self, bytes: &[u8]) -> Result<usize, OutFault> {
+        let Some(first) = bytes.first() else {
+            return Ok(0);
+        };
+        if self.left > 0 && self.bytes.push(*first).is_ok() {
+            self.left -= 1;
+            return Ok(1);
+        }
+        self.failures += 1;
+        Err(OutFault)
+    }
+
+    fn failures(&self) -> u64 {
+        self.failures
+    }
+}

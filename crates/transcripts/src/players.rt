@@ -1,0 +1,99 @@
+//! Playing a transcript: its lines as they stand, and below each command what it prints.
+
+use crate::lines::{Line, line_of, put_line};
+use crate::outcomes::Outcome;
+use crate::programs::Shell;
+use crate::shell::words_of;
+use std::alloc::AllocError;
+use std::fs::Files;
+use std::thread::Threads;
+
+/// A transcript that is being played.
+#[derive(Drop)]
+pub(crate) struct Player<'a, R: Files> {
+    shell: Shell<'a, R>,
+    /// The file that lines below a command go to.
+    writing: Option<String>,
+    transcript: Vec<u8>,
+    commands: u64,
+}
+
+impl<'a, R: Files + Threads + Sync + AllocGlobal> Player<'a, R> {
+    /// No line is played yet.
+    pub(crate) fn new(rt: &'a R) -> Self {
+        Player {
+            shell: Shell::new(rt),
+            writing: None,
+            transcript: Vec::new(rt.alloc()),
+            commands: 0,
+        }
+    }
+
+    /// The lines played so far, with what their commands did print.
+    pub(crate) fn transcript(&self) -> &[u8] {
+        &self.transcript
+    }
+
+    /// How many commands were done.
+    pub(crate) fn commands(&self) -> u64 {
+        self.commands
+    }
+
+    /// Plays one line.
+    pub(crate) fn take(&mut self, line: &str) -> Result<(), AllocError> {
+        let kind = line_of(line);
+        if !matches!(kind, Line::Printed) {
+            put_line(&mut self.transcript, line.as_bytes())?;
+        }
+        match kind {
+            Line::Prose | Line::Printed => Ok(()),
+            Line::Text(text) => self.write_line(text),
+            Line::Command(command) => self.run(command),
+        }
+    }
+
+    /// Appends a line to the file that is being written, or ends it.
+    fn write_line(&mut self, text: &str) -> Result<(), AllocError> {
+        let Some(name) = self.writing.take() else {
+            return Ok(());
+        };
+        if text == "END" {
+            return Ok(());
+        }
+        let alloc = self.shell.rt.alloc();
+        let mut line = Vec::new(alloc);
+        put_line(&mut line, text.as_bytes())?;
+        self.shell.files.append(alloc, name.as_str(), &line)?;
+        self.writing = Some(name);
+        Ok(())
+    }
+
+    /// Does a command, and puts down what it prints.
+    fn run(&mut self, command: &str) -> Result<(), AllocError> {
+        let alloc = self.shell.rt.alloc();
+        self.commands = self.commands.saturating_add(1);
+        let words = words_of(alloc, command)?;
+        match words.as_slice() {
+            ["cat", ">", name, "<<", "END"] => {
+                self.shell.files.write(alloc, name, Vec::new(alloc))?;
+                self.writing = Some(String::from_str(alloc, name)?);
+                Ok(())
+            }
+            [words @ .., ">", name] => {
+                let outcome = self.shell.call(words)?;
+                let Outcome { out, err, status } = outcome;
+                self.shell.files.write(alloc, name, out)?;
+                let rest = Outcome {
+                    out: Vec::new(alloc),
+                    err,
+                    status,
+                };
+                rest.put(alloc, &mut self.transcript)
+            }
+            words => {
+                let outcome = self.shell.call(words)?;
+                outcome.put(alloc, &mut self.transcript)
+            }
+        }
+    }
+}

@@ -1,0 +1,117 @@
+//! Words of a command, and what the small programs make of files.
+
+use std::alloc::{AllocError, Global};
+
+/// The words of a command: what stands between blanks, and what stands between two quotation marks.
+pub(crate) fn words_of(alloc: Global, command: &str) -> Result<Vec<&str>, AllocError> {
+    let mut words = Vec::new(alloc);
+    let mut is_quoted = false;
+    for part in command.split('\'') {
+        if is_quoted {
+            words.push(part)?;
+        } else {
+            words.extend(part.split_whitespace())?;
+        }
+        is_quoted = !is_quoted;
+    }
+    Ok(words)
+}
+
+/// The text with the byte of each escape: `\n`, `\r`, `\t`, and `\xHH` with two hexadecimal digits.
+pub(crate) fn unescaped(alloc: Global, text: &str) -> Result<Vec<u8>, AllocError> {
+    let mut bytes = Vec::new(alloc);
+    let mut is_first = true;
+    for part in text.split('\\') {
+        if is_first {
+            bytes.extend_from_slice(part.as_bytes())?;
+        } else {
+            put_escape(&mut bytes, part.as_bytes())?;
+        }
+        is_first = false;
+    }
+    Ok(bytes)
+}
+
+/// Appends the byte of an escape, of which this is the part behind the backslash, and what follows it.
+fn put_escape(bytes: &mut Vec<u8>, part: &[u8]) -> Result<(), AllocError> {
+    let (byte, others) = match part {
+        [b'n', others @ ..] => (b'\n', others),
+        [b'r', others @ ..] => (b'\r', others),
+        [b't', others @ ..] => (b'\t', others),
+        [b'x', high, low, others @ ..] => (hexadecimal(*high, *low), others),
+        _ => (b'\\', part),
+    };
+    bytes.push(byte)?;
+    bytes.extend_from_slice(others)?;
+    Ok(())
+}
+
+fn hexadecimal(high: u8, low: u8) -> u8 {
+    digit(high).wrapping_mul(16).wrapping_add(digit(low))
+}
+
+fn digit(byte: u8) -> u8 {
+    match byte {
+        b'0'..=b'9' => byte - b'0',
+        b'a'..=b'f' => byte - b'a' + 10,
+        _ => 0,
+    }
+}
+
+/// One change of a line of a file, as `sed` writes it.
+#[derive(Clone, Copy)]
+pub(crate) struct Change<'a> {
+    line: usize,
+    /// What stands in the place of the line, if anything does.
+    text: Option<&'a str>,
+}
+
+impl<'a> Change<'a> {
+    /// This text in the place of this line.
+    pub(crate) fn put(line: usize, text: &'a str) -> Change<'a> {
+        Change {
+            line,
+            text: Some(text),
+        }
+    }
+
+    /// Reads `Nc TEXT`, the text in place of line N, and `Nd`, line N taken out. Lines count from 1.
+    pub(crate) fn read(script: &'a str) -> Option<Change<'a>> {
+        if let Some(number) = script.strip_suffix("d") {
+            let line = number.parse::<usize>().ok()?;
+            return Some(Change { line, text: None });
+        }
+        let (number, text) = script.split_once("c ")?;
+        let line = number.parse::<usize>().ok()?;
+        Some(Change {
+            line,
+            text: Some(text),
+        })
+    }
+
+    /// The file with the change made.
+    pub(crate) fn of(&self, alloc: Global, file: &[u8]) -> Result<Vec<u8>, AllocError> {
+        let mut changed = Vec::new(alloc);
+        let mut left = self.line;
+        for line in file.split_inclusive(|byte| *byte == b'\n') {
+            if left != 1 {
+                changed.extend_from_slice(line)?;
+            } else if let Some(text) = self.text {
+                changed.append(&mut unescaped(alloc, text)?)?;
+                changed.push(b'\n')?;
+            }
+            left = left.saturating_sub(1);
+        }
+        Ok(changed)
+    }
+}
+
+/// The listing whose lines behind the first stand between commas.
+pub(crate) fn listing_of(alloc: Global, lines: &str) -> Result<Vec<u8>, AllocError> {
+    let mut listing = Vec::from_slice(alloc, b"pairmd code 1\n")?;
+    for line in lines.split(',') {
+        listing.extend_from_slice(line.trim().as_bytes())?;
+        listing.push(b'\n')?;
+    }
+    Ok(listing)
+}

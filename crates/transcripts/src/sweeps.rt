@@ -1,0 +1,221 @@
+//! One command many times: by numbers of workers, there and back, over beginnings of a file, onto outputs that fail, and
+//! with each request for memory refused in turn.
+
+use crate::lines::put_line;
+use crate::outcomes::{Outcome, outcome_of, outcome_onto};
+use crate::programs::Shell;
+use refusing_memory::RefusingAllocator;
+use std::alloc::{AllocError, Global};
+use std::convert::AsStr;
+use std::fs::Files;
+use std::thread::Threads;
+
+const WORKERS: [&str; 4] = ["1", "2", "3", "64"];
+
+/// No command makes so many requests for memory.
+const REQUESTS: u64 = 1_000_000;
+
+impl<'a, R: Files + Threads + Sync + AllocGlobal> Shell<'a, R> {
+    /// What a command comes to, where it is the same by 1, 2, 3 and 64 workers.
+    pub(crate) fn with_workers<S: AsStr>(&mut self, words: &[S]) -> Result<Outcome, AllocError> {
+        let alloc = self.rt.alloc();
+        let alone = self.pairmd(words);
+        for workers in WORKERS {
+            let words = by_workers(alloc, words, workers)?;
+            if self.pairmd(words.as_slice()) != alone {
+                let line = format!(in alloc; "another outcome by {workers} workers")?;
+                return Outcome::complaining(alloc, line.as_str());
+            }
+        }
+        Ok(alone)
+    }
+
+    /// What `run` or `back` comes to, by 1, 2, 3 and 64 workers, where as many steps the other way lead to the state's bytes.
+    pub(crate) fn returning(&mut self, words: &[&str]) -> Result<Outcome, AllocError> {
+        let alloc = self.rt.alloc();
+        let there = self.with_workers(words)?;
+        self.files.write(alloc, "there", there.out.clone()?)?;
+        let back = words_back(alloc, words)?;
+        let again = self.with_workers(back.as_slice())?;
+        let state = words.get(2).copied().unwrap_or("");
+        if again.status == 0 && Some(again.out) == self.files.bytes(alloc, state)? {
+            return Ok(there);
+        }
+        Outcome::complaining(alloc, "it does not return")
+    }
+
+    /// What a command comes to where this file is cut off after each of its bytes, from none to all.
+    pub(crate) fn beginnings(&mut self, name: &str, words: &[&str]) -> Result<Outcome, AllocError> {
+        let alloc = self.rt.alloc();
+        let Some(whole) = self.files.bytes(alloc, name)? else {
+            return Outcome::complaining(alloc, "no such file");
+        };
+        let mut beginning = Vec::new(alloc);
+        let mut ranges = Ranges::new(alloc);
+        for byte in &whole {
+            self.files.write(alloc, name, beginning.clone()?)?;
+            ranges.note(alloc, self.pairmd(words).summary(alloc)?)?;
+            beginning.push(*byte)?;
+        }
+        self.files.write(alloc, name, beginning)?;
+        ranges.note(alloc, self.pairmd(words).summary(alloc)?)?;
+        Ok(Outcome::printing(alloc, ranges.told(alloc)?))
+    }
+
+    /// What a command comes to on an output that takes so many bytes and then fails, from none to all.
+    pub(crate) fn failing_outputs(&mut self, words: &[&str]) -> Result<Outcome, AllocError> {
+        let alloc = self.rt.alloc();
+        let whole = self.pairmd(words);
+        let mut ranges = Ranges::new(alloc);
+        for left in 0..=whole.out.len() {
+            let outcome = outcome_onto(self.rt, left, words, &mut self.files);
+            ranges.note(alloc, beginning_of(alloc, outcome, left, &whole)?)?;
+        }
+        Ok(Outcome::printing(alloc, ranges.told(alloc)?))
+    }
+
+    /// What a command comes to where one of its requests for memory is refused, for each request: every outcome once, in the
+    /// order in which they come, and `all` for the outcome with none refused.
+    pub(crate) fn refused_requests(&mut self, words: &[&str]) -> Result<Outcome, AllocError> {
+        let alloc = self.rt.alloc();
+        let whole = self.pairmd(words);
+        let mut told: Vec<Vec<u8>> = Vec::new(alloc);
+        for number in 0..REQUESTS {
+            let memory = RefusingAllocator::new(alloc, number);
+            let outcome = outcome_of(self.rt, &memory, words, &mut self.files);
+            let summary = summary_beside(alloc, outcome, &whole)?;
+            if !told.contains(&summary) {
+                told.push(summary)?;
+            }
+            if memory.requests() <= number {
+                break;
+            }
+        }
+        let mut text = Vec::new(alloc);
+        for summary in &told {
+            put_line(&mut text, summary)?;
+        }
+        Ok(Outcome::printing(alloc, text))
+    }
+}
+
+/// The words with so many workers.
+fn by_workers<S: AsStr>(
+    alloc: Global,
+    words: &[S],
+    workers: &str,
+) -> Result<Vec<String>, AllocError> {
+    let mut all = Vec::new(alloc);
+    for word in words {
+        all.push(String::from_str(alloc, word.as_str())?)?;
+    }
+    all.push(String::from_str(alloc, "--workers")?)?;
+    all.push(String::from_str(alloc, workers)?)?;
+    Ok(all)
+}
+
+/// The words of as many steps the other way, over the state in the file `there`.
+fn words_back(alloc: Global, words: &[&str]) -> Result<Vec<String>, AllocError> {
+    let mut back = Vec::new(alloc);
+    for (place, word) in words.iter().enumerate() {
+        let turned = match (place, *word) {
+            (0, "run") => "back",
+            (0, _) => "run",
+            (2, _) => "there",
+            (_, word) => word,
+        };
+        back.push(String::from_str(alloc, turned)?)?;
+    }
+    Ok(back)
+}
+
+/// The outcome's summary, and `all` where it is the whole outcome.
+fn summary_beside(alloc: Global, outcome: Outcome, whole: &Outcome) -> Result<Vec<u8>, AllocError> {
+    if outcome == *whole {
+        return Vec::from_slice(alloc, b"all");
+    }
+    outcome.summary(alloc)
+}
+
+/// Which part of the whole output stands on an output that takes so many bytes, and the line of the refusal.
+fn beginning_of(
+    alloc: Global,
+    outcome: Outcome,
+    left: usize,
+    whole: &Outcome,
+) -> Result<Vec<u8>, AllocError> {
+    let Outcome { out, err, status } = outcome;
+    let part = if out == whole.out {
+        "all"
+    } else if out.len() == left && whole.out.starts_with(&out) {
+        "a beginning"
+    } else {
+        "something else"
+    };
+    let mut text = Vec::from_slice(alloc, part.as_bytes())?;
+    let refusal = Outcome {
+        out: Vec::new(alloc),
+        err,
+        status,
+    };
+    if refusal.status != 0 {
+        text.extend_from_slice(b", ")?;
+        text.extend_from_slice(&refusal.summary(alloc)?)?;
+    }
+    Ok(text)
+}
+
+/// What commands came to that have the numbers from 0 on; those that follow one another and came to the same are told once.
+#[derive(Drop)]
+struct Ranges {
+    text: Vec<u8>,
+    first: usize,
+    next: usize,
+    summary: Vec<u8>,
+}
+
+impl Ranges {
+    fn new(alloc: Global) -> Ranges {
+        Ranges {
+            text: Vec::new(alloc),
+            first: 0,
+            next: 0,
+            summary: Vec::new(alloc),
+        }
+    }
+
+    /// The next command came to this.
+    fn note(&mut self, alloc: Global, summary: Vec<u8>) -> Result<(), AllocError> {
+        if summary != self.summary {
+            self.tell(alloc)?;
+            self.first = self.next;
+            self.summary = summary;
+        }
+        self.next = self.next.saturating_add(1);
+        Ok(())
+    }
+
+    /// Puts down what the last commands came to.
+    fn tell(&mut self, alloc: Global) -> Result<(), AllocError> {
+        if self.first == self.next {
+            return Ok(());
+        }
+        let first = self.first;
+        let last = self.next.saturating_sub(1);
+        let numbers = if first == last {
+            format!(in alloc; "{first}: ")?
+        } else {
+            format!(in alloc; "{first}-{last}: ")?
+        };
+        self.text.extend_from_slice(numbers.as_bytes())?;
+        put_line(&mut self.text, &self.summary)
+    }
+
+    /// All that was told.
+    fn told(self, alloc: Global) -> Result<Vec<u8>, AllocError> {
+        let mut ranges = self;
+        ranges.tell(alloc)?;
+        let Ranges { text, .. } = ranges;
+        Ok(text)
+    }
+}
