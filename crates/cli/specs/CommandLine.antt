@@ -25,6 +25,10 @@ use Rattle.cli.specs.declared.commands.Start.{Start}
 abbrev pub path_rule : Text → Rule
 path_rule name = record (new_rule name) { required = true }
 
+-- an argument that is given after its name
+abbrev pub option_rule : Text → Rule
+option_rule name = record (new_rule name) { long = Some name; value_names = 1 }
+
 -- `--frame k`, from 1; 1 where it isn't given
 abbrev pub frame_rule : Rule
 frame_rule = record (new_rule (codes "frame")) {

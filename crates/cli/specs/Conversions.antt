@@ -1,5 +1,6 @@
 -- States made of GRO files, GRO files made of states, and listings made of jobs: from the bytes that are read to those that are printed.
 use Rattle.std.specs.Prelude.{◌≡◌, ℕ, ◌-◌, ◌<◌, ◌≤◌, List, length, Option, Ok, slice_index_or}
+use Rattle.fixed.specs.declared.frac.Frac.{Frac}
 use Rattle.gro.specs.Frames.{FrameView}
 use Rattle.gro.specs.GroReading.{frames_of}
 use Rattle.gro.specs.GroWriting.{frame_text}
@@ -20,16 +21,20 @@ pub record IsFrameOf (frames : List FrameView) (number : ℕ) (frame : FrameView
   pub within : number ≤ length frames
   pub there : frame ≡ slice_index_or frames (number - 1) frame
 
+-- the state of so many fraction bits that begins, with this time step, at the frame of this number of this text
+pub record IsStartOf (frac : Frac) (time_step : ℕ) (gro : List ℕ) (number : ℕ) (state : StateView) : Type 0 where
+  pub frames : List FrameView
+  pub frame : FrameView
+  pub gro_read : frames_of gro ≡ Ok frames
+  pub picked : IsFrameOf frames number frame
+  pub started : start_of frac time_step frame ≡ Ok state
+
 -- the text of the state that begins at a frame of these texts was written
 pub record IsStartText (job gro : List ℕ) (number : ℕ) (before after : Option (List ℕ)) : Type 0 where
   pub said : JobValue
-  pub frames : List FrameView
-  pub frame : FrameView
   pub state : StateView
   pub job_read : reading_of limits job ≡ Ok said
-  pub gro_read : frames_of gro ≡ Ok frames
-  pub picked : IsFrameOf frames number frame
-  pub started : start_of said.time_step frame ≡ Ok state
+  pub started : IsStartOf said.frac said.time_step gro number state
   pub written : after ≡ appended before (state_text state)
 
 -- the text of the frame of this state was written

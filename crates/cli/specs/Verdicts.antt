@@ -32,7 +32,7 @@ pub record IsListingVerdict (job listing : List ℕ) (before after : Option (Lis
   pub accepted : IsKernel kernel
   pub written : after ≡ appended before (verdict_line kernel.steps kernel.bound)
 
--- the line of an energy, in units of 2^-32 kJ/mol
+-- the line of an energy, in units of 2^-bits kJ/mol
 abbrev pub energy_line : ℤ → List ℕ
 energy_line energy = codes "energy " ++ signed_decimal energy ++ 10 ∷ []
 

@@ -3,7 +3,7 @@
 ghost use Rattle.std.specs.Prelude.{◌≡◌, ◌≤◌, ◌<◌, ◌^◌, ◌⊎◌, ℕ, IfOk, IfErr, MatchOption, codes, option_map, map, false};
 ghost use Rattle.clap.specs.Words.{App, HasKind, Rule, Shape, app_of, first_of, found_of, kind_of, new_app, rows_of, rule_of, subcommand_rows_of, with_rule, with_subcommand};
 ghost use Rattle.clap.specs.declared.error.kind.ErrorKind.TheVariants.{OutOfMemory};
-ghost use Rattle.cli.specs.CommandLine.{IsBuilt, IsCheck, IsCommand, IsEnergy, IsFrame, IsFrameNumber, IsListing, IsNamed, IsNamedOf, IsRun, IsShaped, IsStart, IsSteps, IsWorkers, bare, checking, code_rule, command_name, faults_of, frame_rule, framing, listing, path_rule, program, starting, steps_rule, stepping, weighing, workers_rule};
+ghost use Rattle.cli.specs.CommandLine.{IsBuilt, IsCheck, IsCommand, IsEnergy, IsFrame, IsFrameNumber, IsListing, IsNamed, IsNamedOf, IsRun, IsShaped, IsStart, IsSteps, IsWorkers, bare, checking, code_rule, command_name, faults_of, forward, frame_rule, framing, judging, listing, option_rule, path_rule, program, returning, starting, steps_rule, stepping, weighing, workers_rule};
 ghost use Rattle.cli.specs.declared.commands.Start.{Start};
 ghost use Rattle.cli.specs.declared.commands.Frame.{Frame};
 ghost use Rattle.cli.specs.declared.commands.Listing.{Listing};
@@ -27,11 +27,25 @@ pub fn parse<'a, S: AsStr>(alloc: Global, words: &'a [S]) -> Result<Command<'a>,
     ensures kind { IfErr result (HasKind (faults_of (map S.text words.entry.now))) }
 {
     let mut program = program(alloc)?;
-    let matches = program.try_get_matches_from_mut(words)?;
-    match command_of(&matches) {
+    parse_by(&mut program, words)
+}
+
+/// The command that the words name to this program.
+fn parse_by<'a, S: AsStr>(
+    parser: &mut clap::Command<'a>,
+    words: &'a [S],
+) -> Result<Command<'a>, Error>
+    requires { app_of parser.old ≡ program }
+    ensures command { IfOk result (IsCommand (map S.text words.entry.now)) }
+    ensures none { IfErr result (λ e. (kind_of e ≡ OutOfMemory)
+        ⊎ ((c : Command) → IsCommand (map S.text words.entry.now) c → ⊥)) }
+    ensures kind { IfErr result (HasKind (faults_of (map S.text words.entry.now))) }
+{
+    let command = command_of(&parser.try_get_matches_from_mut(words)?);
+    match command {
         Some(command) => Ok(command),
         // The parser has met the arguments that it requires, and numbers in their ranges.
-        None => Err(program.error(ErrorKind::MissingRequiredArgument, "incomplete command")?),
+        None => Err(parser.error(ErrorKind::MissingRequiredArgument, "incomplete command")?),
     }
 }
 
@@ -50,81 +64,81 @@ fn command_by<'a>(name: &str, matches: &ArgMatches<'a>) -> Option<Command<'a>>
         (IsNamed name.now (rows_of (found_of matches.now))) }
 {
     match name {
-        "start" => Some(Command::Start(start_of(matches)?)),
-        "frame" => Some(Command::Frame(frame_of(matches)?)),
-        "energy" => Some(Command::Energy(energy_of(matches)?)),
-        "check" => Some(Command::Check(check_of(matches)?)),
-        "code" => Some(Command::Code(listing_of(matches)?)),
-        _ => Some(Command::Run(run_by(name, matches)?)),
+        "start" => start_of(matches),
+        "frame" => frame_of(matches),
+        "energy" => energy_of(matches),
+        "check" => check_of(matches),
+        "code" => listing_of(matches),
+        _ => run_by(name, matches),
     }
 }
 
 /// The start that these matches say.
-fn start_of<'a>(matches: &ArgMatches<'a>) -> Option<Start<'a>>
+fn start_of<'a>(matches: &ArgMatches<'a>) -> Option<Command<'a>>
     ensures { MatchOption result ((s : Start) → IsStart (rows_of (found_of matches.now)) s → ⊥)
-        (IsStart (rows_of (found_of matches.now))) }
+        (λ c. (s : Start) × (c ≡ Command.Start s) × IsStart (rows_of (found_of matches.now)) s) }
 {
     let job = path_of(matches, "JOB")?;
     let gro = path_of(matches, "GRO")?;
     let frame = frame_number_of(matches)?;
-    Some(Start { job, gro, frame })
+    Some(Command::Start(Start { job, gro, frame }))
 }
 
 /// The run of the command with this name and these matches.
-fn run_by<'a>(name: &str, matches: &ArgMatches<'a>) -> Option<Run<'a>>
+fn run_by<'a>(name: &str, matches: &ArgMatches<'a>) -> Option<Command<'a>>
     ensures { MatchOption result ((r : Run) → IsRun name.now (rows_of (found_of matches.now)) r → ⊥)
-        (IsRun name.now (rows_of (found_of matches.now))) }
+        (λ c. (r : Run) × (c ≡ Command.Run r) × IsRun name.now (rows_of (found_of matches.now)) r) }
 {
     let direction = direction_of(name)?;
     let job = path_of(matches, "JOB")?;
     let state = path_of(matches, "STATE")?;
     let steps = steps_of(matches)?;
     let workers = workers_of(matches)?;
-    Some(Run {
+    Some(Command::Run(Run {
         direction,
         job,
         state,
         steps,
         workers,
-    })
+    }))
 }
 
 /// The frame to print that these matches say.
-fn frame_of<'a>(matches: &ArgMatches<'a>) -> Option<Frame<'a>>
+fn frame_of<'a>(matches: &ArgMatches<'a>) -> Option<Command<'a>>
     ensures { MatchOption result ((f : Frame) → IsFrame (rows_of (found_of matches.now)) f → ⊥)
-        (IsFrame (rows_of (found_of matches.now))) }
+        (λ c. (f : Frame) × (c ≡ Command.Frame f) × IsFrame (rows_of (found_of matches.now)) f) }
 {
     let state = path_of(matches, "STATE")?;
-    Some(Frame { state })
+    Some(Command::Frame(Frame { state }))
 }
 
 /// The state to weigh that these matches say.
-fn energy_of<'a>(matches: &ArgMatches<'a>) -> Option<Energy<'a>>
+fn energy_of<'a>(matches: &ArgMatches<'a>) -> Option<Command<'a>>
     ensures { MatchOption result ((e : Energy) → IsEnergy (rows_of (found_of matches.now)) e → ⊥)
-        (IsEnergy (rows_of (found_of matches.now))) }
+        (λ c. (e : Energy) × (c ≡ Command.Energy e) × IsEnergy (rows_of (found_of matches.now)) e) }
 {
     let job = path_of(matches, "JOB")?;
     let state = path_of(matches, "STATE")?;
-    Some(Energy { job, state })
+    Some(Command::Energy(Energy { job, state }))
 }
 
 /// The code to judge that these matches say.
-fn check_of<'a>(matches: &ArgMatches<'a>) -> Option<Check<'a>>
+fn check_of<'a>(matches: &ArgMatches<'a>) -> Option<Command<'a>>
     ensures { MatchOption result ((c : Check) → IsCheck (rows_of (found_of matches.now)) c → ⊥)
-        (IsCheck (rows_of (found_of matches.now))) }
+        (λ c. (k : Check) × (c ≡ Command.Check k) × IsCheck (rows_of (found_of matches.now)) k) }
 {
     let job = path_of(matches, "JOB")?;
     let listing = path_of(matches, "code");
-    Some(Check { job, listing })
+    Some(Command::Check(Check { job, listing }))
 }
 
 /// The listing to print that these matches say.
-fn listing_of<'a>(matches: &ArgMatches<'a>) -> Option<Listing<'a>>
+fn listing_of<'a>(matches: &ArgMatches<'a>) -> Option<Command<'a>>
     ensures { MatchOption result ((l : Listing) → IsListing (rows_of (found_of matches.now)) l → ⊥)
-        (IsListing (rows_of (found_of matches.now))) }
+        (λ c. (l : Listing) × (c ≡ Command.Code l) × IsListing (rows_of (found_of matches.now)) l) }
 {
     let job = path_of(matches, "JOB")?;
-    Some(Listing { job })
+    Some(Command::Code(Listing { job }))
 }
 
 fn path_of<'a>(matches: &ArgMatches<'a>, name: &str) -> Option<&'a str>
@@ -180,12 +194,33 @@ type Built<'a> = Result<clap::Command<'a>, AllocError>;
 fn program<'a>(alloc: Global) -> Built<'a>
     ensures { IfOk result (λ c. app_of c ≡ program) }
 {
+    with_command(judging(alloc), listing(alloc))
+}
+
+/// The program that starts states, and runs them forwards.
+fn forward<'a>(alloc: Global) -> Built<'a>
+    ensures { IsBuilt result forward }
+{
     let run = stepping(alloc, "run", "Prints the state after so many steps");
-    let forward = with_command(with_command(bare(alloc), starting(alloc)), run);
+    with_command(with_command(bare(alloc), starting(alloc)), run)
+}
+
+/// The program that runs states back too, and prints their frames.
+fn returning<'a>(alloc: Global) -> Built<'a>
+    ensures { IsBuilt result returning }
+{
     let back = stepping(alloc, "back", "Prints the state so many steps back");
-    let returning = with_command(with_command(forward, back), framing(alloc));
-    let judging = with_command(with_command(returning, weighing(alloc)), checking(alloc));
-    with_command(judging, listing(alloc))
+    with_command(with_command(forward(alloc), back), framing(alloc))
+}
+
+/// The program that weighs states too, and judges code.
+fn judging<'a>(alloc: Global) -> Built<'a>
+    ensures { IsBuilt result judging }
+{
+    with_command(
+        with_command(returning(alloc), weighing(alloc)),
+        checking(alloc),
+    )
 }
 
 /// The program without its commands.
@@ -279,7 +314,10 @@ fn with_arg<'a>(command: Built<'a>, arg: Arg<'a>) -> Built<'a>
     ensures { (app : App) (rule : Rule) → IsBuilt command.entry app → rule_of arg.entry ≡ rule → arg.entry.global ≡ false
         → IsBuilt result (with_rule app rule) }
 {
-    command?.arg(arg)
+    match command {
+        Ok(command) => command.arg(arg),
+        Err(fault) => Err(fault),
+    }
 }
 
 /// A program with one command more.
@@ -287,8 +325,14 @@ fn with_command<'a>(program: Built<'a>, command: Built<'a>) -> Built<'a>
     ensures { (app : App) (shape : Shape) → IsBuilt program.entry app → IsShaped command.entry shape
         → IsBuilt result (with_subcommand app shape) }
 {
-    let program = program?;
-    program.subcommand(command?)
+    let command = match command {
+        Ok(command) => command,
+        Err(fault) => return Err(fault),
+    };
+    match program {
+        Ok(program) => program.subcommand(command),
+        Err(fault) => Err(fault),
+    }
 }
 
 fn path<'a>(alloc: Global, name: &'a str, help: &'a str) -> Arg<'a>
@@ -298,13 +342,19 @@ fn path<'a>(alloc: Global, name: &'a str, help: &'a str) -> Arg<'a>
     Arg::new(alloc, name).required(true).help(help)
 }
 
+/// An argument that is given after its name.
+fn option<'a>(alloc: Global, name: &'a str, value: &'a str) -> Arg<'a>
+    ensures rule { rule_of result ≡ option_rule name.entry.now }
+    ensures local { result.global ≡ false }
+{
+    Arg::new(alloc, name).long(name).value_name(value)
+}
+
 fn frame_number<'a>(alloc: Global) -> Arg<'a>
     ensures rule { rule_of result ≡ frame_rule }
     ensures local { result.global ≡ false }
 {
-    Arg::new(alloc, "frame")
-        .long("frame")
-        .value_name("k")
+    option(alloc, "frame", "k")
         .default_value("1")
         .value_parser(value_parser!(u64).range(1..))
         .help("Which frame of the GRO file, from 1")
@@ -314,19 +364,14 @@ fn code<'a>(alloc: Global) -> Arg<'a>
     ensures rule { rule_of result ≡ code_rule }
     ensures local { result.global ≡ false }
 {
-    Arg::new(alloc, "code")
-        .long("code")
-        .value_name("LISTING")
-        .help("The listing to judge in place of the job's own code")
+    option(alloc, "code", "LISTING").help("The listing to judge in place of the job's own code")
 }
 
 fn steps<'a>(alloc: Global) -> Arg<'a>
     ensures rule { rule_of result ≡ steps_rule }
     ensures local { result.global ≡ false }
 {
-    Arg::new(alloc, "steps")
-        .long("steps")
-        .value_name("n")
+    option(alloc, "steps", "n")
         .required(true)
         .value_parser(value_parser!(u64).range(0..=MAX_STEPS as i64))
         .help("How many steps, from 0 to 1000000000000")
@@ -336,9 +381,7 @@ fn workers<'a>(alloc: Global) -> Arg<'a>
     ensures rule { rule_of result ≡ workers_rule }
     ensures local { result.global ≡ false }
 {
-    Arg::new(alloc, "workers")
-        .long("workers")
-        .value_name("w")
+    option(alloc, "workers", "w")
         .default_value("1")
         .value_parser(value_parser!(u64).range(1..=MAX_WORKERS as i64))
         .help("How many workers, from 1 to 64")

@@ -11,7 +11,7 @@ pub const MAX_STEPS: u64 = 1_000_000_000_000;
 pub const MAX_WORKERS: u64 = 64;
 
 /// What the words ask for.
-#[derive(Clone, Copy, Debug)]
+#[derive(Clone, Copy)]
 pub enum Command<'a> {
     /// `start`: the state that begins at a frame of a GRO file.
     Start(Start<'a>),
@@ -28,7 +28,7 @@ pub enum Command<'a> {
 }
 
 /// A state to start.
-#[derive(Clone, Copy, Debug)]
+#[derive(Clone, Copy)]
 pub struct Start<'a> {
     /// The path of the job.
     pub job: &'a str,
@@ -41,7 +41,7 @@ pub struct Start<'a> {
 }
 
 /// A run of a state, forwards or back.
-#[derive(Clone, Copy, Debug)]
+#[derive(Clone, Copy)]
 pub struct Run<'a> {
     /// Which way the run goes.
     pub direction: Direction,
@@ -59,14 +59,14 @@ pub struct Run<'a> {
 }
 
 /// A frame to print.
-#[derive(Clone, Copy, Debug)]
+#[derive(Clone, Copy)]
 pub struct Frame<'a> {
     /// The path of the state.
     pub state: &'a str,
 }
 
 /// A state whose energy is asked for.
-#[derive(Clone, Copy, Debug)]
+#[derive(Clone, Copy)]
 pub struct Energy<'a> {
     /// The path of the job.
     pub job: &'a str,
@@ -75,7 +75,7 @@ pub struct Energy<'a> {
 }
 
 /// Code to judge.
-#[derive(Clone, Copy, Debug)]
+#[derive(Clone, Copy)]
 pub struct Check<'a> {
     /// The path of the job.
     pub job: &'a str,
@@ -84,7 +84,7 @@ pub struct Check<'a> {
 }
 
 /// A listing to print.
-#[derive(Clone, Copy, Debug)]
+#[derive(Clone, Copy)]
 pub struct Listing<'a> {
     /// The path of the job.
     pub job: &'a str,

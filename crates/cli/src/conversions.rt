@@ -1,12 +1,22 @@
 //! From GRO files to states and back, and from jobs to listings.
 
-ghost use Rattle.std.specs.Prelude.{◌≡◌, ◌≢◌, ◌⊎◌, ◌-◌, ◌<◌, ◌^◌, IfErr, OnErr, OnOk};
-ghost use Rattle.cli.specs.Conversions.{IsCodeText, IsFrameText, IsStartText};
+ghost use Rattle.std.specs.Prelude.{◌≡◌, ◌≢◌, ◌⊎◌, ◌-◌, ◌<◌, ◌^◌, List, Ok, IfErr, IfOk, OnErr, OnOk};
+ghost use Rattle.gro.specs.Frames.{frame_view};
+ghost use Rattle.integrator.specs.Starts.{slope_code_of};
+ghost use Rattle.job.specs.JobText.{limits, reading_of};
+ghost use Rattle.job.specs.Values.{JobValue};
+ghost use Rattle.kernel_code.specs.Listing.{listing_of};
+ghost use Rattle.kernel_code.specs.declared.instructions.Instr.{Instr};
+ghost use Rattle.state.specs.StateFrames.{frame_of};
+ghost use Rattle.state.specs.StateReading.{state_of};
+ghost use Rattle.state.specs.StateText.{StateView};
+ghost use Rattle.state.specs.StateViews.{state_view};
+ghost use Rattle.cli.specs.Conversions.{IsCodeText, IsFrameText, IsStartOf, IsStartText};
 ghost use Rattle.cli.specs.Statuses.{status_of};
 ghost use Rattle.cli.specs.declared.faults.Status.{Status};
 
 use crate::faults::CommandFault;
-use gro::{Out, pick, read_frames, write_all};
+use gro::{GroFrame, Out, pick, read_frames, write_all};
 use integrator::slope_code;
 use job::Job;
 use kernel_code::print;
@@ -28,12 +38,39 @@ pub(crate) fn start_bytes<'a, A: Allocator + Copy, O: Out>(
     ensures fault { IfErr result (λ f. status_of f ≢ Status.CommandLine) }
     ensures kept { OnErr result ((O.taken out.new ≡ O.taken out.old) ⊎ (O.failed out.old < O.failed out.new)) }
 {
-    let job = Job::read(alloc, job)?;
-    let frames = read_frames(alloc, gro)?;
-    let frame = pick(&frames, frame)?;
-    let state = State::start(alloc, &job, frame)?;
+    let state = started(alloc, job, gro, frame)?;
     state.write(out)?;
     Ok(())
+}
+
+/// The state that begins at the frame with this number of a GRO text, under a job's text.
+fn started<'a, A: Allocator + Copy>(
+    alloc: A,
+    job: &[u8],
+    gro: &[u8],
+    frame: u64,
+) -> Result<State<A>, CommandFault<'a, A>>
+    ensures is { IfOk result (λ s. (said : JobValue) × (reading_of limits job.now ≡ Ok said)
+        × IsStartOf said.frac said.time_step gro.now frame (state_view s)) }
+    ensures fault { IfErr result (λ f. status_of f ≢ Status.CommandLine) }
+{
+    let job = Job::read(alloc, job)?;
+    started_under(alloc, &job, gro, frame)
+}
+
+/// The state that begins at the frame with this number of a GRO text, under a job.
+fn started_under<'a, A: Allocator + Copy>(
+    alloc: A,
+    job: &Job<A>,
+    gro: &[u8],
+    frame: u64,
+) -> Result<State<A>, CommandFault<'a, A>>
+    ensures is { IfOk result (λ s. IsStartOf job.now.frac job.now.time_step gro.now frame (state_view s)) }
+    ensures fault { IfErr result (λ f. status_of f ≢ Status.CommandLine) }
+{
+    let frames = read_frames(alloc, gro)?;
+    let frame = pick(&frames, frame)?;
+    Ok(State::start(alloc, job, frame)?)
 }
 
 /// Writes the current frame of a state as a GRO text. A refusal writes nothing, unless a write failed.
@@ -47,10 +84,21 @@ pub(crate) fn frame_bytes<'a, A: Allocator + Copy, O: Out>(
     ensures fault { IfErr result (λ f. status_of f ≢ Status.CommandLine) }
     ensures kept { OnErr result ((O.taken out.new ≡ O.taken out.old) ⊎ (O.failed out.old < O.failed out.new)) }
 {
-    let state = State::read(alloc, state)?;
-    let frame = state.frame()?;
+    let frame = frame_read(alloc, state)?;
     gro::write(&frame, out)?;
     Ok(())
+}
+
+/// The current frame of a state's text.
+fn frame_read<'a, A: Allocator + Copy>(
+    alloc: A,
+    state: &[u8],
+) -> Result<GroFrame<A>, CommandFault<'a, A>>
+    ensures is { IfOk result (λ f. (said : StateView) × (state_of state.now ≡ Ok said) × (frame_view f ≡ frame_of said)) }
+    ensures fault { IfErr result (λ f. status_of f ≢ Status.CommandLine) }
+{
+    let state = State::read(alloc, state)?;
+    Ok(state.frame()?)
 }
 
 /// Writes the listing of the code of a job's slope. A refusal, of the job or its energy, writes nothing, unless a write failed.
@@ -64,8 +112,19 @@ pub(crate) fn code_bytes<'a, A: Allocator + Copy, O: Out>(
     ensures fault { IfErr result (λ f. status_of f ≢ Status.CommandLine) }
     ensures kept { OnErr result ((O.taken out.new ≡ O.taken out.old) ⊎ (O.failed out.old < O.failed out.new)) }
 {
-    let code = slope_code(alloc, job)?;
-    let listing = print(alloc, &code)?;
+    let listing = slope_listing(alloc, job)?;
     write_all(out, &listing)?;
     Ok(())
+}
+
+/// The listing of the code of a job's slope.
+fn slope_listing<'a, A: Allocator + Copy>(
+    alloc: A,
+    job: &[u8],
+) -> Result<Vec<u8, A>, CommandFault<'a, A>>
+    ensures is { IfOk result (λ v. (code : List Instr) × (slope_code_of job.now ≡ Ok code) × (v.items ≡ listing_of code)) }
+    ensures fault { IfErr result (λ f. status_of f ≢ Status.CommandLine) }
+{
+    let code = slope_code(alloc, job)?;
+    Ok(print(alloc, &code)?)
 }

@@ -119,8 +119,7 @@ fn perform_start<'a, A: Allocator + Copy, F: Files, O: Out>(
     ensures kept { OnErr result ((O.taken out.new ≡ O.taken out.old) ⊎ (O.failed out.old < O.failed out.new)) }
     ensures fault { IfErr result (λ f. status_of f ≢ Status.CommandLine) }
 {
-    let job = read(alloc, start.job, files)?;
-    let gro = read(alloc, start.gro, files)?;
+    let (job, gro) = read_two(alloc, start.job, start.gro, files)?;
     start_bytes(alloc, job.as_slice(), gro.as_slice(), start.frame, out)
 }
 
@@ -154,8 +153,7 @@ fn perform_energy<'a, A: Allocator + Copy, F: Files, O: Out>(
     ensures kept { OnErr result ((O.taken out.new ≡ O.taken out.old) ⊎ (O.failed out.old < O.failed out.new)) }
     ensures fault { IfErr result (λ f. status_of f ≢ Status.CommandLine) }
 {
-    let job = read(alloc, energy.job, files)?;
-    let state = read(alloc, energy.state, files)?;
+    let (job, state) = read_two(alloc, energy.job, energy.state, files)?;
     energy_bytes(alloc, job.as_slice(), state.as_slice(), out)
 }
 
@@ -213,19 +211,51 @@ fn perform_run<'a, R: Threads + Sync, A: Allocator + Copy + Sync, F: Files, O: O
     ensures kept { OnErr result ((O.taken out.new ≡ O.taken out.old) ⊎ (O.failed out.old < O.failed out.new)) }
     ensures fault { IfErr result (λ f. status_of f ≢ Status.CommandLine) }
 {
-    let job = read(alloc, run.job, files)?;
-    let state = read(alloc, run.state, files)?;
+    let (job, state) = read_two(alloc, run.job, run.state, files)?;
+    run_texts(rt, alloc, job.as_slice(), state.as_slice(), &run, out)
+}
+
+/// Runs a state under a job.
+fn run_texts<'a, R: Threads + Sync, A: Allocator + Copy + Sync, O: Out>(
+    rt: &R,
+    alloc: A,
+    job: &[u8],
+    state: &[u8],
+    run: &Run<'a>,
+    out: &mut O,
+) -> Result<(), CommandFault<'a, A>>
+    requires { O.failed out.old < 2 ^ 64 - 1 }
+    ensures kept { OnErr result ((O.taken out.new ≡ O.taken out.old) ⊎ (O.failed out.old < O.failed out.new)) }
+    ensures fault { IfErr result (λ f. status_of f ≢ Status.CommandLine) }
+{
     run_bytes(
         rt,
         alloc,
-        job.as_slice(),
-        state.as_slice(),
+        job,
+        state,
         run.steps,
         run.direction,
         run.workers,
         out,
     )?;
     Ok(())
+}
+
+/// Reads one file and then another.
+fn read_two<'a, A: Allocator + Copy, F: Files>(
+    alloc: A,
+    first: &'a str,
+    second: &'a str,
+    files: &mut F,
+) -> Result<(Vec<u8, A>, Vec<u8, A>), CommandFault<'a, A>>
+    ensures done { OnOk result (F.asked files.new ≡ also_asked (also_asked (F.asked files.old) first.entry.now) second.entry.now) }
+    ensures reads { (F.asked files.new ≡ also_asked (F.asked files.old) first.entry.now)
+        ⊎ (F.asked files.new ≡ also_asked (also_asked (F.asked files.old) first.entry.now) second.entry.now) }
+    ensures fault { IfErr result (λ f. status_of f ≢ Status.CommandLine) }
+{
+    let first = read(alloc, first, files)?;
+    let second = read(alloc, second, files)?;
+    Ok((first, second))
 }
 
 fn read<'a, A: Allocator + Copy, F: Files>(

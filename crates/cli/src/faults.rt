@@ -11,6 +11,7 @@ use job::JobFault;
 use kernel_code::CodeFault;
 use state::{StartFault, StateFault};
 use std::alloc::{AllocError, AllocFailed, Allocator};
+use std::fmt;
 use thiserror::Error;
 
 /// How the program ended.
@@ -50,7 +51,7 @@ impl Status {
 }
 
 /// Why a command was not done.
-#[derive(Debug, Drop, Error)]
+#[derive(Drop, Error)]
 pub enum CommandFault<'a, A: Allocator> {
     /// The words name no command. It prints the command line parser's own text.
     #[error("{0}")]
@@ -85,6 +86,13 @@ pub enum CommandFault<'a, A: Allocator> {
     /// A growth was refused.
     #[error("Memory")]
     Memory,
+}
+
+/// A fault prints the same either way.
+impl<'a, A: Allocator> fmt::Debug for CommandFault<'a, A> {
+    fn fmt<W: fmt::Write>(&self, f: &mut fmt::Formatter<W>) -> fmt::Result {
+        fmt::Display::fmt(self, f)
+    }
 }
 
 impl<'a, A: Allocator> From<AllocError> for CommandFault<'a, A> {
@@ -246,7 +254,8 @@ fn status_of_run<A: Allocator>(fault: &RunFault<A>) -> Status
         RunFault::State(fault) => status_of_state(fault),
         RunFault::Energy(fault) => status_of_energy(fault),
         RunFault::Kernel(_) => Status::RefusedKernel,
-        RunFault::UnknownType { .. }
+        RunFault::BitsDiffer
+        | RunFault::UnknownType { .. }
         | RunFault::CutoffTooLong
         | RunFault::ForceRange
         | RunFault::StepRange

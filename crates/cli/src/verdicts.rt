@@ -1,7 +1,12 @@
 //! What is printed of a job's code, of other code under a job, and of a state's energy.
 
-ghost use Rattle.std.specs.Prelude.{◌≡◌, ◌≢◌, ◌⊎◌, ◌-◌, ◌<◌, ◌^◌, IfErr, IfOk, OnErr, OnOk, string_bytes};
+ghost use Rattle.std.specs.Prelude.{◌≡◌, ◌≢◌, ◌⊎◌, ◌-◌, ◌<◌, ◌^◌, IfErr, IfOk, Ok, OnErr, OnOk, string_bytes};
+ghost use Rattle.engine.specs.Verdicts.{IsSlopeKernel, IsUnder};
 ghost use Rattle.gro.specs.Out.{appended};
+ghost use Rattle.job.specs.JobText.{limits, reading_of};
+ghost use Rattle.job.specs.Values.{JobValue};
+ghost use Rattle.kernel_code.specs.ListingReading.{code_of};
+ghost use Rattle.verifier.specs.Kernels.{IsKernel, Kernel};
 ghost use Rattle.cli.specs.Statuses.{status_of};
 ghost use Rattle.cli.specs.Verdicts.{IsEnergyText, IsListingVerdict, IsSlopeVerdict, energy_line, verdict_line};
 ghost use Rattle.cli.specs.declared.faults.Status.{Status};
@@ -25,7 +30,7 @@ fn verdict_line<A: Allocator + Copy>(
     format!(in alloc; "accepted: steps {steps}, bound {bound}\n")
 }
 
-/// The line of an energy, in units of 2^-32 kJ/mol.
+/// The line of an energy, in units of 2^-bits kJ/mol.
 fn energy_line<A: Allocator + Copy>(alloc: A, energy: i128) -> Result<String<A>, AllocError>
     ensures { IfOk result (λ s. string_bytes s ≡ energy_line energy) }
 {
@@ -61,9 +66,22 @@ pub(crate) fn slope_verdict_bytes<'a, A: Allocator + Copy, O: Out>(
     ensures fault { IfErr result (λ f. status_of f ≢ Status.CommandLine) }
     ensures kept { OnErr result ((O.taken out.new ≡ O.taken out.old) ⊎ (O.failed out.old < O.failed out.new)) }
 {
+    let known = slope_known(alloc, job)?;
+    write_verdict(alloc, known.0, known.1, out)
+}
+
+/// The steps and the bound of the code of the slope of a job's text, as accepted.
+fn slope_known<'a, A: Allocator + Copy>(
+    alloc: A,
+    job: &[u8],
+) -> Result<(u32, u64), CommandFault<'a, A>>
+    ensures is { IfOk result (λ known. (said : JobValue) × (k : Kernel) × (reading_of limits job.now ≡ Ok said)
+        × IsSlopeKernel said k × IsKernel k × (known.0 ≡ k.steps) × (known.1 ≡ k.bound)) }
+    ensures fault { IfErr result (λ f. status_of f ≢ Status.CommandLine) }
+{
     let job = Job::read(alloc, job)?;
     let kernel = verified_slope(alloc, &job)?;
-    write_verdict(alloc, kernel.steps(), kernel.bound(), out)
+    Ok((kernel.steps(), kernel.bound()))
 }
 
 /// Writes what is known of the code of a listing under a job. A refusal, of the job, the listing or its code, writes nothing, unless a
@@ -79,10 +97,24 @@ pub(crate) fn listing_verdict_bytes<'a, A: Allocator + Copy, O: Out>(
     ensures fault { IfErr result (λ f. status_of f ≢ Status.CommandLine) }
     ensures kept { OnErr result ((O.taken out.new ≡ O.taken out.old) ⊎ (O.failed out.old < O.failed out.new)) }
 {
+    let known = listing_known(alloc, job, listing)?;
+    write_verdict(alloc, known.0, known.1, out)
+}
+
+/// The steps and the bound of the code of a listing, as accepted under a job's text.
+fn listing_known<'a, A: Allocator + Copy>(
+    alloc: A,
+    job: &[u8],
+    listing: &[u8],
+) -> Result<(u32, u64), CommandFault<'a, A>>
+    ensures is { IfOk result (λ known. (said : JobValue) × (k : Kernel) × (reading_of limits job.now ≡ Ok said)
+        × (code_of listing.now ≡ Ok k.code) × IsUnder said k × IsKernel k × (known.0 ≡ k.steps) × (known.1 ≡ k.bound)) }
+    ensures fault { IfErr result (λ f. status_of f ≢ Status.CommandLine) }
+{
     let job = Job::read(alloc, job)?;
     let code = read(alloc, listing)?;
     let kernel = verdict(alloc, &job, code)?;
-    write_verdict(alloc, kernel.steps(), kernel.bound(), out)
+    Ok((kernel.steps(), kernel.bound()))
 }
 
 /// Writes the energy of a state under a job. A refusal, of the job, the state, their engine or the energy's own code, writes nothing,

@@ -33,7 +33,7 @@ use Rattle.integrator.specs.declared.systems.System.{System}
 
 -- code of the energy, under the job's table, gives the energy's value
 pub energy_gives : {A : Type 0} (j : Job A) (t : Table) (p : Program A) (code : List Instr) → t ≡ table_of (job_value j) → p.parameters ≡ length j.parameters.items → p.globals ≡ length j.globals.items
-    → ((inputs : List ℤ) → trees.inputs_of p.parameters p.globals ≤ length inputs → Computes 32 (trees_of p).0 (trees_of p).1 code inputs)
+    → ((inputs : List ℤ) → trees.inputs_of p.parameters p.globals ≤ length inputs → Computes (bits_of j.frac) (trees_of p).0 (trees_of p).1 code inputs)
     → (a b : ℕ) (r : ℤ) (n : ℕ) (v : ℤ) → a < length t.rows → b < length t.rows → Ends (bits_of t.frac) code (inputs_of t a b r) n (Ok v)
     → value_of (bits_of t.frac) (inputs_of t a b r) (program_tree p) ≡ Some v
 energy_gives j t p code same parameters globals h =
@@ -59,14 +59,15 @@ refused_at None read h = tt
 refused_at (Some r) read h = rw h refl
 
 -- code that would be too large
-pub too_large : {A : Type 0} (e : EngineView) (p : Program A) (f : ExprFault A) → program_tree p ≡ job_tree e.job → energy.Fails f (compiled 32 (trees_of p).0 (trees_of p).1) → HasNoEnergy {A = A} e (run.Energy f)
-too_large e p f same h = record { program = trees_of p; its = same; it = refused_at (energy.refusal_of f) (compiled 32 (trees_of p).0 (trees_of p).1) h }
+pub too_large : {A : Type 0} (e : EngineView) (p : Program A) (f : ExprFault A) → program_tree p ≡ job_tree e.job → energy.Fails f (compiled (bits_of e.job.frac) (trees_of p).0 (trees_of p).1) → HasNoEnergy {A = A} e (run.Energy f)
+too_large e p f same h = record { program = trees_of p; its = same; it = refused_at (energy.refusal_of f) (compiled (bits_of e.job.frac) (trees_of p).0 (trees_of p).1) h }
 
 -- code that the verifier refuses
-pub not_accepted : {A : Type 0} (e : EngineView) (p : Program A) (code : List Instr) (f : RunFault A) → program_tree p ≡ job_tree e.job → compiled 32 (trees_of p).0 (trees_of p).1 ≡ Ok code → IsVerdict e.job code f → HasNoEnergy e f
+pub not_accepted : {A : Type 0} (e : EngineView) (p : Program A) (code : List Instr) (f : RunFault A) → program_tree p ≡ job_tree e.job → compiled (bits_of e.job.frac) (trees_of p).0 (trees_of p).1 ≡ Ok code → IsVerdict e.job code f → HasNoEnergy e f
 not_accepted e p code (run.Kernel r) same c h = record { program = trees_of p; its = same; it = record { code = code; is = c; why = h } }
 not_accepted e p code run.Memory same c h = tt
 not_accepted e p code (run.Energy f) same c h = absurd h
+not_accepted e p code run.BitsDiffer same c h = absurd h
 not_accepted e p code (run.UnknownType k) same c h = absurd h
 not_accepted e p code run.CutoffTooLong same c h = absurd h
 not_accepted e p code run.ForceRange same c h = absurd h

@@ -5,7 +5,8 @@ use Rattle.std.proofs.lemmas.Int.{ints}
 use Rattle.std.proofs.lemmas.Bool.{and_parts, leb-true, lt-ltb, ltb-false, ltb-true}
 use Rattle.std.proofs.lemmas.List.{ext_get_or, get_or-map}
 use Rattle.fixed.specs.Arithmetic.{in_range}
-use Rattle.fixed.specs.declared.frac.Frac.TheVariants.{F32}
+use Rattle.fixed.specs.Fractions.{bits_of}
+use Rattle.fixed.specs.declared.frac.Frac.{Frac}
 use Rattle.ring_box.specs.Cells.{HasCells}
 use Rattle.ring_box.specs.declared.boxes.RingBox.{RingBox}
 use Rattle.job.specs.Faults as jobfaults
@@ -127,7 +128,7 @@ engine_start job state w n e counter t h =
     let tree = job_tree_is t.j t.it.system.0 parts.energy_read in
     rw (t.it.is, tree)
     (start_from plain job state w n t.j t.s t.job_read t.state_read
-    ∙ started plain w n t.j t.s t.it.system.0 t.it.system.1 counter parts.energy_read parts.typed parts.room k)
+    ∙ started plain w n t.j t.s t.it.system.0 t.it.system.1 counter parts.energy_read parts.typed parts.alike parts.room k)
 
 pub engine_ran : (job state : List ℕ) (w : Direction) (n : ℕ) (e f : EngineView) → IsEngineOfTexts job state e → Went w n e f → IsAfter plain job state w n f.state
 engine_ran job state w n e f t h = record {
@@ -161,6 +162,7 @@ pub no_engine_refuses : {A : Type 0} (job state : List ℕ) (w : Direction) (n :
 no_engine_refuses job state w n (run.Job f) h = h w n
 no_engine_refuses job state w n (run.State f) h = h w n
 no_engine_refuses job state w n (run.Energy f) h = h w n
+no_engine_refuses job state w n run.BitsDiffer h = h w n
 no_engine_refuses job state w n (run.UnknownType k) h = h w n
 no_engine_refuses job state w n run.CutoffTooLong h = h w n
 no_engine_refuses job state w n (run.Kernel r) h = h
@@ -175,6 +177,7 @@ pub no_engine_unwritten : {A : Type 0} (job state : List ℕ) (f : RunFault A) �
 no_engine_unwritten job state (run.Job f) h = refl
 no_engine_unwritten job state (run.State f) h = refl
 no_engine_unwritten job state (run.Energy f) h = refl
+no_engine_unwritten job state run.BitsDiffer h = refl
 no_engine_unwritten job state (run.UnknownType k) h = refl
 no_engine_unwritten job state run.CutoffTooLong h = refl
 no_engine_unwritten job state (run.Kernel r) h = refl
@@ -188,6 +191,7 @@ no_engine_unwritten job state (run.Out f) h = absurd h
 -- texts that are read, of which there is no engine
 pub texts_refused : {A : Type 0} (job state : List ℕ) (j : JobValue) (s : StateView) (f : RunFault A) → reading_of limits job ≡ Ok j → state_of state ≡ Ok s → HasNoEngine j s f → HasNoEngineOfTexts job state f
 texts_refused {A} job state j s (run.Energy f) p q h = λ w n. start_refused plain job state w n j s (run.Energy f) p q h
+texts_refused {A} job state j s run.BitsDiffer p q h = λ w n. start_refused {A = A} plain job state w n j s run.BitsDiffer p q h
 texts_refused {A} job state j s (run.UnknownType k) p q h = λ w n. start_refused {A = A} plain job state w n j s (run.UnknownType k) p q h
 texts_refused {A} job state j s run.CutoffTooLong p q h = λ w n. start_refused {A = A} plain job state w n j s run.CutoffTooLong p q h
 texts_refused job state j s (run.Kernel r) p q h = record { j = j; s = s; job_read = p; state_read = q; it = h }
@@ -209,6 +213,7 @@ verdict_refuses j s system run.Memory e h = tt
 verdict_refuses j s system (run.Job g) e h = absurd h
 verdict_refuses j s system (run.State g) e h = absurd h
 verdict_refuses j s system (run.Energy g) e h = absurd h
+verdict_refuses j s system run.BitsDiffer e h = absurd h
 verdict_refuses j s system (run.UnknownType n) e h = absurd h
 verdict_refuses j s system run.CutoffTooLong e h = absurd h
 verdict_refuses j s system run.ForceRange e h = absurd h
@@ -220,6 +225,7 @@ verdict_refuses j s system (run.Out g) e h = absurd h
 -- what has no system has no engine
 pub system_refuses : {A : Type 0} (j : JobValue) (s : StateView) (f : RunFault A) → is_of_system f ≡ true → Refuses f (system_of j s) → HasNoEngine j s f
 system_refuses j s (run.Energy g) o h = h
+system_refuses j s run.BitsDiffer o h = h
 system_refuses j s (run.UnknownType n) o h = h
 system_refuses j s run.CutoffTooLong o h = h
 system_refuses j s run.Memory o h = tt
@@ -260,13 +266,13 @@ passes j code k r c m n h a b d e t p q failed = record {
 -- ---- room for cells
 
 -- a box with room for two cutoffs along each side can be cut into cells
-pub room_for_cells : (cutoff : ℤ) (ring : RingBox) → has_room cutoff ring ≡ true → HasCells F32 ring cutoff
-room_for_cells cutoff ring h =
-    let p = and_parts (holds_two cutoff ring.x) (holds_two cutoff ring.y && holds_two cutoff ring.z) h in
-    let q = and_parts (holds_two cutoff ring.y) (holds_two cutoff ring.z) p.1 in
-    let x = leb-true (200000 * unsigned_abs cutoff) (ring.x * 2 ^ 32) p.0 in
-    let y = leb-true (200000 * unsigned_abs cutoff) (ring.y * 2 ^ 32) q.0 in
-    let z = leb-true (200000 * unsigned_abs cutoff) (ring.z * 2 ^ 32) q.1 in
+pub room_for_cells : (frac : Frac) (cutoff : ℤ) (ring : RingBox) → has_room frac cutoff ring ≡ true → HasCells frac ring cutoff
+room_for_cells frac cutoff ring h =
+    let p = and_parts (holds_two frac cutoff ring.x) (holds_two frac cutoff ring.y && holds_two frac cutoff ring.z) h in
+    let q = and_parts (holds_two frac cutoff ring.y) (holds_two frac cutoff ring.z) p.1 in
+    let x = leb-true (200000 * unsigned_abs cutoff) (ring.x * 2 ^ bits_of frac) p.0 in
+    let y = leb-true (200000 * unsigned_abs cutoff) (ring.y * 2 ^ bits_of frac) q.0 in
+    let z = leb-true (200000 * unsigned_abs cutoff) (ring.z * 2 ^ bits_of frac) q.1 in
     (omega arith, omega arith, omega arith)
 
 -- ---- texts that aren't read

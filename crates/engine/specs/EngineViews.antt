@@ -1,6 +1,5 @@
 -- An engine of the program as what a contract sees of it.
 use Rattle.std.specs.Prelude.{◌≡◌, length}
-use Rattle.fixed.specs.declared.frac.Frac.TheVariants.{F32}
 use Rattle.energy_program.specs.Programs.{program_tree}
 use Rattle.job.specs.Views.{job_value}
 use Rattle.job.specs.declared.jobs.Job.{Job}
@@ -24,6 +23,6 @@ pub record IsEngine {A : Type 0} (j : Job A) (s : State A) (y : System (SafeKern
   pub table : y.kernel.verified.table ≡ table_of (job_value j)
   pub parameters : y.kernel.energy.parameters ≡ length j.parameters.items
   pub globals : y.kernel.energy.globals ≡ length j.globals.items
-  pub frac : y.frac ≡ F32
+  pub frac : y.frac ≡ j.frac
   pub core : y.core ≡ j.core
   pub cutoff : y.cutoff ≡ j.cutoff

@@ -45,6 +45,7 @@ pub record OfSlope (j : JobValue) (s : StateView) (holds : List Instr → Type 0
 -- why they have none; want of memory says nothing
 abbrev pub HasNoEngine : {A : Type 0} → JobValue → StateView → RunFault A → Type 0
 HasNoEngine {A} j s (run.Energy f) = Refuses {A = A} (run.Energy f) (system_of j s)
+HasNoEngine {A} j s run.BitsDiffer = Refuses {A = A} run.BitsDiffer (system_of j s)
 HasNoEngine {A} j s (run.UnknownType n) = Refuses {A = A} (run.UnknownType n) (system_of j s)
 HasNoEngine {A} j s run.CutoffTooLong = Refuses {A = A} run.CutoffTooLong (system_of j s)
 HasNoEngine j s (run.Kernel r) = OfSlope j s (λ code. IsRefused j code r)
@@ -95,6 +96,7 @@ abbrev pub HasNoEngineOfTexts : {A : Type 0} → List ℕ → List ℕ → RunFa
 HasNoEngineOfTexts {A} job state (run.Job f) = (direction : Direction) (steps : ℕ) → Refuses {A = A} (run.Job f) (start_of plain job state direction steps)
 HasNoEngineOfTexts {A} job state (run.State f) = (direction : Direction) (steps : ℕ) → Refuses {A = A} (run.State f) (start_of plain job state direction steps)
 HasNoEngineOfTexts {A} job state (run.Energy f) = (direction : Direction) (steps : ℕ) → Refuses {A = A} (run.Energy f) (start_of plain job state direction steps)
+HasNoEngineOfTexts {A} job state run.BitsDiffer = (direction : Direction) (steps : ℕ) → Refuses {A = A} run.BitsDiffer (start_of plain job state direction steps)
 HasNoEngineOfTexts {A} job state (run.UnknownType n) = (direction : Direction) (steps : ℕ) → Refuses {A = A} (run.UnknownType n) (start_of plain job state direction steps)
 HasNoEngineOfTexts {A} job state run.CutoffTooLong = (direction : Direction) (steps : ℕ) → Refuses {A = A} run.CutoffTooLong (start_of plain job state direction steps)
 HasNoEngineOfTexts {A} job state (run.Kernel r) = OfTexts job state (λ j s. HasNoEngine {A = A} j s (run.Kernel r))
@@ -110,6 +112,7 @@ abbrev pub IsEngineRefusal : {A : Type 0} → List ℕ → List ℕ → Directio
 IsEngineRefusal {A} job state direction steps (run.Job f) = Refuses {A = A} (run.Job f) (start_of plain job state direction steps)
 IsEngineRefusal {A} job state direction steps (run.State f) = Refuses {A = A} (run.State f) (start_of plain job state direction steps)
 IsEngineRefusal {A} job state direction steps (run.Energy f) = Refuses {A = A} (run.Energy f) (start_of plain job state direction steps)
+IsEngineRefusal {A} job state direction steps run.BitsDiffer = Refuses {A = A} run.BitsDiffer (start_of plain job state direction steps)
 IsEngineRefusal {A} job state direction steps (run.UnknownType n) = Refuses {A = A} (run.UnknownType n) (start_of plain job state direction steps)
 IsEngineRefusal {A} job state direction steps run.CutoffTooLong = Refuses {A = A} run.CutoffTooLong (start_of plain job state direction steps)
 IsEngineRefusal {A} job state direction steps run.StepRange = Refuses {A = A} run.StepRange (start_of plain job state direction steps) × AreSafe job state

@@ -1,5 +1,6 @@
 -- The energy of a frame: the exact sum over all pairs that act, also where both atoms are at one place.
 use Rattle.std.specs.Prelude.{◌≡◌, ℕ, ℤ, pos, ◌+ℤ◌, List, [], ◌∷◌, length, Option, Some, None, Result, Ok, option_map, ◌⊎◌}
+use Rattle.fixed.specs.Fractions.{bits_of}
 use Rattle.energy_program.specs.Programs.{Trees}
 use Rattle.energy_program.specs.Tree.{substituted}
 use Rattle.energy_program.specs.Value.{value_of}
@@ -42,9 +43,9 @@ energy_sum energy (p ∷ ps) = plus_energy (energy p) (energy_sum energy ps)
 
 -- the energy of two of its atoms at a distance
 abbrev pub engine_value : EngineView → ℕ × ℕ → ℤ → Option ℤ
-engine_value e p r = value_of 32 (pair_inputs e.job e.types p r) (job_tree e.job)
+engine_value e p r = value_of (bits_of e.job.frac) (pair_inputs e.job e.types p r) (job_tree e.job)
 
--- the energy of its current frame, in 2^-32 kJ/mol
+-- the energy of its current frame, in 2^-bits kJ/mol
 abbrev pub IsEnergy : EngineView → ℤ → Type 0
 IsEnergy e z = energy_sum (pair_energy (engine_dynamics e) (engine_value e) (current_frame e.state.atoms)) (pairs_of (length e.state.atoms)) ≡ Some z
 
@@ -52,7 +53,7 @@ IsEnergy e z = energy_sum (pair_energy (engine_dynamics e) (engine_value e) (cur
 pub record OfEnergy (e : EngineView) (holds : Result (List Instr) energy.Refusal → Type 0) : Type 0 where
   pub program : Trees
   pub its : substituted program.0 program.1 ≡ job_tree e.job
-  pub it : holds (compiled 32 program.0 program.1)
+  pub it : holds (compiled (bits_of e.job.frac) program.0 program.1)
 
 -- the code is refused so
 pub record IsCodeRefused (e : EngineView) (compiled' : Result (List Instr) energy.Refusal) (r : KernelRefusal) : Type 0 where

@@ -1,6 +1,7 @@
 //! Runs from bytes to bytes on an engine.
 
 ghost use Rattle.std.specs.Prelude.{◌≡◌, ◌<◌, ◌≤◌, ◌-◌, ◌^◌, true, false, IfOk, OnOk, IfErr, OnErr, ℕ, List, ◌⊎◌};
+ghost use Rattle.state.specs.StateViews.{state_view};
 ghost use Rattle.engine.specs.Engines.{AreSafe, HasNoEngineOfTexts, IsEngineOfTexts, IsEngineRefusal};
 ghost use Rattle.integrator.specs.Frames.{opposite};
 ghost use Rattle.engine.specs.PairEnergies.{HasNoEnergyOfTexts, IsEnergyOfTexts};
@@ -25,11 +26,10 @@ fn open<A: Allocator + Copy>(alloc: A, job: &[u8], state: &[u8]) -> Result<Engin
     Engine::new(alloc, job, state)
 }
 
-/// The energy of the current frame of a state in 2^-32 kJ/mol, as `Engine::energy`.
+/// The energy of the current frame of a state in 2^-bits kJ/mol, as `Engine::energy`.
 ///
 /// `job` and `state` are the bytes of a job and a state file. The refusals are those of the job, of the state, of `Engine::new` and of
 /// `Engine::energy`, in this order.
-#[tactic(auto, using(crate::proofs::EnergyOfTexts::energy_told, crate::proofs::EnergyOfTexts::energy_refused))]
 pub fn state_energy<A: Allocator + Copy>(
     alloc: A,
     job: &[u8],
@@ -38,18 +38,12 @@ pub fn state_energy<A: Allocator + Copy>(
     ensures value { IfOk result (IsEnergyOfTexts job.now state.now) }
     ensures refused { IfErr result (HasNoEnergyOfTexts job.now state.now) }
 {
-    let engine = match open(alloc, job, state) {
-        Ok(engine) => engine,
-        Err(fault) => return Err(fault),
-    };
-    match engine.energy() {
-        Ok(energy) => Ok(energy),
-        Err(fault) => Err(fault),
-    }
+    let engine = open(alloc, job, state)?;
+    engine.energy()
 }
 
-/// The engine of these texts after so many steps.
-fn engine_after<R: Threads + Sync, A: Allocator + Copy + Sync>(
+/// The state that an engine of these texts leads to.
+fn state_after<R: Threads + Sync, A: Allocator + Copy + Sync>(
     rt: &R,
     alloc: A,
     job: &[u8],
@@ -57,17 +51,17 @@ fn engine_after<R: Threads + Sync, A: Allocator + Copy + Sync>(
     steps: u64,
     direction: Direction,
     workers: u32,
-) -> Result<Engine<A>, RunFault<A>>
+) -> Result<State<A>, RunFault<A>>
     requires some { 0 < workers }
     requires few { workers ≤ 64 }
-    ensures value { IfOk result (λ e. IsAfter plain job.now state.now direction steps e.state) }
+    ensures value { IfOk result (λ s. IsAfter plain job.now state.now direction steps (state_view s)) }
     ensures safe { IfOk result (λ _. AreSafe job.now state.now) }
     ensures refused { IfErr result (IsEngineRefusal job.now state.now direction steps) }
     ensures unwritten { IfErr result (λ f. is_out f ≡ false) }
 {
     let mut engine = open(alloc, job, state)?;
     engine.turns_ungated(rt, direction, steps, workers)?;
-    Ok(engine)
+    Ok(engine.into_state())
 }
 
 /// Runs a state so many steps in a direction, by so many workers, and writes the new state.
@@ -110,7 +104,7 @@ pub fn run_bytes<R: Threads + Sync, A: Allocator + Copy + Sync, O: Out>(
     // So many steps the other way over the written text give the starting text.
     ensures returns { (text : List ℕ) → IsRun plain job.now state.now direction steps text → IsRun plain job.now text (opposite direction) steps state.now }
 {
-    let engine = engine_after(rt, alloc, job, state, steps, direction, workers)?;
-    engine.state().write(out)?;
+    let after = state_after(rt, alloc, job, state, steps, direction, workers)?;
+    after.write(out)?;
     Ok(())
 }

@@ -5,11 +5,10 @@ ghost use Rattle.std.specs.List.{All};
 ghost use Rattle.energy_program.specs.Programs.{program_tree};
 ghost use Rattle.job.specs.Views.{job_value, type_value};
 ghost use Rattle.integrator.specs.Energies.{job_tree};
-ghost use Rattle.fixed.specs.declared.frac.Frac.TheVariants.{F32};
 ghost use Rattle.ring_box.specs.Cells.{HasCells};
 ghost use Rattle.state.specs.StateViews.{state_view};
 ghost use Rattle.engine.specs.Engines.{engine_dynamics, HasNoEngine, IsEngineOf, Stopped, Went};
-ghost use Rattle.engine.specs.EngineViews.{IsEngine};
+ghost use Rattle.engine.specs.EngineViews.{IsEngine, engine_view};
 ghost use Rattle.engine.specs.PairEnergies.{HasNoEnergy, IsEnergy};
 ghost use Rattle.engine.specs.Tilings.{frames_along};
 ghost use Rattle.integrator.specs.Frames.{turns};
@@ -23,7 +22,6 @@ use crate::safe_energies::SafeEnergy;
 use crate::safe_kernels::SafeKernel;
 use crate::safe_systems::SafeSystem;
 use crate::verdicts::{safe_kernel, verdict};
-use fixed::Frac;
 use integrator::{
     Direction, RunFault, StepFault, System, TypedAtoms, advance, counter_after, current_frame,
     ready,
@@ -83,13 +81,13 @@ fn motion<A: Allocator>(
     requires masses { atoms.masses.items ≡ map (mass_of (map type_value job.now.types.items)) atoms.types.items }
     requires count { length atoms.types.items ≡ length state.now.atoms.items }
     requires fits { kernel.verified.bound * (length state.now.atoms.items - 1) < 2 ^ 63 }
-    requires room { HasCells F32 state.now.ring job.now.cutoff }
+    requires room { HasCells job.now.frac state.now.ring job.now.cutoff }
     ensures kernel { result.system.kernel ≡ kernel }
     ensures types { result.system.types.items ≡ atoms.types.items }
     ensures engine { IsEngine job.now state.now result.system }
 {
     let system = System {
-        frac: Frac::F32,
+        frac: job.frac,
         ring: state.ring,
         core: job.core,
         cutoff: job.cutoff,
@@ -101,23 +99,37 @@ fn motion<A: Allocator>(
     SafeSystem { system }
 }
 
+/// What moves the atoms of a state under a job, where no force on one of them can pass 64 bits.
+fn job_motion<A: Allocator + Copy>(
+    alloc: A,
+    job: &Job<A>,
+    state: &State<A>,
+) -> Result<SafeSystem<A>, RunFault<A>>
+    ensures engine { IfOk result (λ m. IsEngine job.now state.now m.system) }
+    ensures of { IfOk result (λ m. IsEngineOf (job_value job.now) (state_view state.now) (engine_view job.now state.now m.system)) }
+    ensures refused { IfErr result (HasNoEngine (job_value job.now) (state_view state.now)) }
+{
+    let ready = ready(alloc, job, state)?;
+    let kernel = safe_kernel(alloc, job, ready.parts)?;
+    if !fits(kernel.verified.bound(), state.atoms.len()) {
+        return Err(RunFault::ForceRange);
+    }
+    Ok(motion(job, state, kernel, ready.atoms))
+}
+
 impl<A: Allocator + Copy> Engine<A> {
     /// The engine of a job and a state.
     ///
-    /// The refusals come in this order: those of the energy, of its slope and of its code; `UnknownType` for the lowest
-    /// atom whose name no type has; `CutoffTooLong` where some side is shorter than two cutoffs; `Kernel` where the
+    /// The refusals come in this order: those of the energy, of its slope and of its code; `BitsDiffer` where the
+    /// job's numbers and the state's have not as many bits behind the point; `UnknownType` for the lowest atom whose name
+    /// no type has; `CutoffTooLong` where some side is shorter than two cutoffs; `Kernel` where the
     /// verifier refuses the code of the slope; `ForceRange` where the greatest slope that it found, times one less than
     /// the number of atoms, is 2^63 or more. `Memory` wherever a growth is refused.
     pub fn new(alloc: A, job: Job<A>, state: State<A>) -> Result<Engine<A>, RunFault<A>>
         ensures engine { IfOk result (IsEngineOf (job_value job) (state_view state)) }
         ensures refused { IfErr result (HasNoEngine (job_value job) (state_view state)) }
     {
-        let ready = ready(alloc, &job, &state)?;
-        let kernel = safe_kernel(alloc, &job, ready.parts)?;
-        if !fits(kernel.verified.bound(), state.atoms.len()) {
-            return Err(RunFault::ForceRange);
-        }
-        let motion = motion(&job, &state, kernel, ready.atoms);
+        let motion = job_motion(alloc, &job, &state)?;
         Ok(Engine {
             alloc,
             job,
@@ -133,7 +145,15 @@ impl<A: Allocator + Copy> Engine<A> {
         &self.state
     }
 
-    /// The energy of the current frame in 2^-32 kJ/mol: the exact sum, over all pairs of atoms that act, of the job's
+    /// That state, of an engine that isn't wanted any more.
+    pub(crate) fn into_state(self) -> State<A>
+        ensures { state_view result ≡ self.state }
+    {
+        let Engine { state, .. } = self;
+        state
+    }
+
+    /// The energy of the current frame in 2^-bits kJ/mol: the exact sum, over all pairs of atoms that act, of the job's
     /// energy at their distance, or at the core where that is more; also where both are at one place.
     ///
     /// `Energy` where the code of the energy itself would be too large, `Kernel` where the verifier refuses it, though
@@ -142,7 +162,7 @@ impl<A: Allocator + Copy> Engine<A> {
         ensures value { IfOk result (IsEnergy self.now) }
         ensures refused { IfErr result (HasNoEnergy self.now) }
     {
-        let code = compile(self.alloc, Frac::F32, &self.motion.system.kernel.energy)?;
+        let code = compile(self.alloc, self.job.frac, &self.motion.system.kernel.energy)?;
         let verified = verdict(self.alloc, &self.job, code)?;
         let frame = current_frame(self.alloc, &self.state.atoms)?;
         let energy = SafeEnergy {

@@ -82,7 +82,7 @@ impl<'a, A: Allocator> SafeEnergy<'a, A> {
         sum
     }
 
-    /// The energy of the frame, in 2^-32 kJ/mol.
+    /// The energy of the frame, in 2^-bits kJ/mol.
     pub(crate) fn of_frame(&self, frame: &[[u32; 3]]) -> i128
         requires { length frame.now ≡ length self.now.motion.now.system.types.items }
         ensures { energy_sum (pair_energy (safe_dynamics self.now.motion.now.system) (safe_value self.now.motion.now.system) frame.now) (pairs_of (length frame.now)) ≡ Some result }

@@ -1,13 +1,15 @@
 -- What each level reads, as the code takes it apart.
 use Rattle.std.proofs.Common.{◌≡◌, ℕ, zero, suc, ◌-◌, ◌<◌, List, length, Option, Some, None, Result, Ok, Err, refl, ap, ◌∙◌, arith}
+use Rattle.std.specs.Borrow.{Bor}
 use Rattle.energy_program.specs.declared.faults.ExprFault.{ExprFault}
+use Rattle.expr.specs.declared.tokens.Token.{Token}
 use Rattle.energy_program.specs.declared.trees.Operator.{Operator}
 use Rattle.line_text.specs.Steps.{◌>>=◌}
 use Rattle.energy_program.specs.Faults.{Refusal, Fails, FailsBy, Gives, refusal_of}
-use Rattle.expr.specs.Tokens.{Placed}
+use Rattle.expr.specs.Tokens.{Placed, placed}
 use Rattle.expr.specs.Syntax.{Syntax, Arguments, One, with_argument}
 use Rattle.expr.specs.Syntax as tree
-use Rattle.expr.specs.Parsing.{ReadingOf, power_at, call_at, list_at, listed, comma_sign, Reading, Beginning, Word, Group, start, misplaced, sum_sign, product_sign, minus_sign, open_sign, chain, chained, atom_by, unary_by, name_by, unary_at, term_at, expr_at, closed_at, atom_at}
+use Rattle.expr.specs.Parsing.{arguments_at, arguments_by, beside, close, close_sign, closed, rest_seen, ReadingOf, power_at, call_at, list_at, listed, comma_sign, Reading, Beginning, Word, Group, start, misplaced, sum_sign, product_sign, minus_sign, open_sign, chain, chained, atom_by, unary_by, name_by, unary_at, term_at, expr_at, closed_at, atom_at}
 use Rattle.energy_program.proofs.FaultLaws.{fails_same, fails_then}
 use Rattle.expr.proofs.Chain.{turn, turn_fails, turn_ends, sum_signs, product_signs, comma_signs, unary_takes, term_takes, expr_takes}
 
@@ -120,7 +122,21 @@ pub atom_call : (end n : ℕ) (ts : List Placed) (w : List ℕ) (rest inside : L
 unfolding call_at
 atom_call end n ts w rest inside f o = atom_start end n ts _ f ∙ ap (name_by end (expr_at end n) w rest) o
 
+pub group_closes : (end n : ℕ) (ts : List Placed) (x : Syntax) (rest : List Placed) → expr_at end n ts ≡ Ok (x, rest) → closed_at end n ts ≡ (close end rest >>= λ after. Ok (x, after))
+unfolding closed_at closed
+group_closes end n ts x rest e = rw e refl
+
+-- what closes behind a value
+pub closes : {C X V : Type 0} (of : X → V) (x : X) (r : Result (Bor (List Token)) (ExprFault C)) (s : Result (List Placed) Refusal) (result : Result (X × Bor (List Token)) (ExprFault C)) (whole : Result (V × List Placed) Refusal)
+    → result ≡ beside x r → Gives rest_seen r s → whole ≡ (s >>= λ after. Ok (of x, after)) → Gives {Y = V × List Placed} (λ (p : X × Bor (List Token)). (of p.0, placed p.1.now)) result whole
+closes of x (Ok y) s result whole m h e = rw (m, e, h) refl
+closes of x (Err f) s result whole m h e = rw (m, e) (fails_then f s (λ after. Ok (of x, after)) h)
+
 -- ---- arguments
+
+pub arguments_close : (end n : ℕ) (ts : List Placed) (xs : Arguments) (rest : List Placed) → close_sign ts ≡ None → list_at end n ts ≡ Ok (xs, rest) → arguments_at end n ts ≡ (close end rest >>= λ after. Ok (xs, after))
+unfolding arguments_at list_at closed
+arguments_close end n ts xs rest none e = ap (arguments_by end (expr_at end n) ts) none ∙ rw e refl
 
 abbrev pub list_reading : Arguments → List Placed → ReadingOf Arguments
 list_reading xs rest = Ok (xs, rest)

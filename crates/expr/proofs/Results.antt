@@ -1,5 +1,6 @@
 -- Results and options: what equal ones hold.
-use Rattle.std.proofs.Common.{◌≡◌, Some, Result, Ok, Err, ap}
+use Rattle.std.proofs.Common.{◌≡◌, Some, Result, Ok, Err, refl, sym, ap}
+use Rattle.expr.specs.Parsing.{beside}
 
 pub some_is : {A : Type 0} (x y : A) → Some x ≡ Some y → x ≡ y
 some_is x y e = cc
@@ -16,3 +17,13 @@ err_as {A} {B} {E} f k e = ap failed (err_is f k e)
   where
     failed : E → Result B E
     failed z = Err z
+
+-- ---- a value, and what is read behind it
+
+pub beside_ok : {X Y E : Type 0} (x p : X) (r : Result Y E) (y : Y) → Ok (p, y) ≡ beside x r → (p ≡ x) × (r ≡ Ok y)
+beside_ok x p (Ok z) y e = let h = ok_is (p, y) (x, z) e in let k : z ≡ y = sym (ap (λ q. q.1) h) in (ap (λ q. q.0) h, rw k refl)
+beside_ok x p (Err f) y e = absurd cc
+
+pub beside_err : {X Y E : Type 0} (x : X) (r : Result Y E) (f : E) → Err f ≡ beside x r → r ≡ Err f
+beside_err x (Ok z) f e = absurd cc
+beside_err x (Err k) f e = cc

@@ -1,5 +1,5 @@
 -- Texts of energies.
-use Rattle.std.specs.Prelude.{◌≡◌, ℕ, suc, ◌<◌, ◌≤◌, nat_lt, ◌⊎◌, Bool, true, false, List, [], ◌∷◌, ◌++◌, length, map, Result, Ok, Err}
+use Rattle.std.specs.Prelude.{◌≡◌, ℕ, suc, ◌<◌, ◌≤◌, nat_lt, ◌⊎◌, Bool, true, false, List, [], ◌∷◌, ◌++◌, length, Result, Ok, Err}
 use Rattle.energy_program.specs.declared.faults.ExprFault.{ExprFault}
 use Rattle.energy_program.specs.declared.faults.ExprFault.TheVariants as fault
 use Rattle.energy_program.specs.declared.programs.Program.{Program}
@@ -14,7 +14,7 @@ use Rattle.expr.specs.Syntax.{Syntax, Definition, names_in}
 use Rattle.expr.specs.Text.{IsText, IsWrongAt, BeginsBadly, BeginsMalformed, BeginsTooGreat}
 use Rattle.expr.specs.Tokens.{Placed}
 use Rattle.energy_program.specs.Programs.{program_tree, Trees}
-use Rattle.energy_program.specs.Tree.{Tree, tree_of}
+use Rattle.energy_program.specs.Tree.{Tree}
 use Rattle.expr.specs.Uses.{in_place, meaning, trees}
 
 -- The text says the tree, where these are the variables, with at most n parentheses and minus signs open around a token.

@@ -36,6 +36,15 @@ arguments_seen x = (arguments_of x.0, placed x.1.now)
 abbrev pub exponent_seen : Exponent × Bor (List Token) → ℤ × List Placed
 exponent_seen x = (x.0.value, placed x.1.now)
 
+-- a value, and what is read behind it
+abbrev pub beside : {X Y E : Type 0} → X → Result Y E → Result (X × Y) E
+beside x (Ok y) = Ok (x, y)
+beside x (Err e) = Err e
+
+-- what is made, in front of these tokens
+abbrev pub followed : {X : Type 0} → Result X Refusal → List Placed → ReadingOf X
+followed made rest = made >>= λ x. Ok (x, rest)
+
 abbrev pub rest_seen : Bor (List Token) → List Placed
 rest_seen rest = placed rest.now
 

@@ -1,11 +1,11 @@
 // From tokens to a tree, by recursive descent.
-ghost use Rattle.std.specs.Prelude.{◌≡◌};
+ghost use Rattle.std.specs.Prelude.{◌≡◌, Ok};
 ghost use Rattle.expr.specs.Tokens.{lexeme, placed};
 ghost use Rattle.energy_program.specs.Faults.{Gives, IsOrMemory, Says};
 ghost use Rattle.expr.specs.Calls.{called};
 ghost use Rattle.expr.specs.Syntax.{arguments_of, syntax_of};
 ghost use Rattle.expr.specs.Syntax as s;
-ghost use Rattle.expr.specs.Parsing.{ShowsBeginning, ShowsStart, Shows, ShowsCaret, ShowsRest, arguments_seen, exponent_seen, seen, rest_seen, offset, begins_operand, misplaced, beginning_of, start, sum_sign, product_sign, minus_sign, open_sign, close_sign, comma_sign, close, expr_at, term_at, unary_at, power_at, raised_at, exponent_at, grouped_at, atom_at, call_at, arguments_at, list_at, closed_at};
+ghost use Rattle.expr.specs.Parsing.{beside, followed, ShowsBeginning, ShowsStart, Shows, ShowsCaret, ShowsRest, arguments_seen, exponent_seen, seen, rest_seen, offset, begins_operand, misplaced, beginning_of, start, sum_sign, product_sign, minus_sign, open_sign, close_sign, comma_sign, close, expr_at, term_at, unary_at, power_at, raised_at, exponent_at, grouped_at, atom_at, call_at, arguments_at, list_at, closed_at};
 
 use crate::calls::Arguments;
 use crate::exponents::{awaits_operand, caret_sign, signed_sign};
@@ -183,6 +183,16 @@ fn read_start<'a>(tokens: &'a [Token<'a>]) -> Option<(Start<'a>, &'a [Token<'a>]
     }
 }
 
+// A value, and what is read behind it.
+fn beside<T: Drop, U, E>(value: T, read: Result<U, E>) -> Result<(T, U), E>
+    ensures { result ≡ beside value read }
+{
+    match read {
+        Ok(next) => Ok((value, next)),
+        Err(fault) => Err(fault),
+    }
+}
+
 impl<A: Allocator + Copy> Parser<A> {
     // Where the tokens begin, or the text ends.
     pub fn offset(&self, tokens: &[Token]) -> usize
@@ -243,7 +253,7 @@ impl<A: Allocator + Copy> Parser<A> {
         match minus_sign(tokens) {
             Some(rest) => {
                 let (inner, rest) = self.unary(rest, levels - 1)?;
-                Ok((Box::new(self.alloc, Syntax::Negated(inner))?, rest))
+                self.put(Syntax::Negated(inner), rest)
             }
             None => self.power(tokens, levels - 1),
         }
@@ -267,8 +277,8 @@ impl<A: Allocator + Copy> Parser<A> {
         match caret_sign(tokens) {
             None => Ok((base, tokens)),
             Some((at, after)) => {
-                let (exponent, rest) = self.exponent(after, levels, at)?;
-                Ok((Box::new(self.alloc, Syntax::Power(base, exponent))?, rest))
+                let (base, (exponent, rest)) = beside(base, self.exponent(after, levels, at))?;
+                self.put(Syntax::Power(base, exponent), rest)
             }
         }
     }
@@ -320,12 +330,9 @@ impl<A: Allocator + Copy> Parser<A> {
             None => Err(ExprFault::UnexpectedToken {
                 at: self.offset(tokens),
             }),
-            Some((Start::Number(raw), rest)) => Ok((
-                Box::new(self.alloc, Syntax::Number(Fx::from_raw(raw)))?,
-                rest,
-            )),
+            Some((Start::Number(raw), rest)) => self.put(Syntax::Number(Fx::from_raw(raw)), rest),
             Some((Start::Name(name), rest)) => match open_sign(rest) {
-                None => Ok((Box::new(self.alloc, Syntax::Name(name))?, rest)),
+                None => self.put(Syntax::Name(name), rest),
                 Some(inside) => self.call(name, inside, levels),
             },
             Some((Start::Open, rest)) => self.closed(rest, levels),
@@ -342,7 +349,7 @@ impl<A: Allocator + Copy> Parser<A> {
             None => Err(ExprFault::no_function(self.alloc, name)),
             Some(callee) => {
                 let (arguments, rest) = self.arguments(tokens, levels)?;
-                Ok((self.called(name, callee, arguments)?, rest))
+                self.called(name, callee, arguments, rest)
             }
         }
     }
@@ -357,7 +364,7 @@ impl<A: Allocator + Copy> Parser<A> {
             Some(rest) => Ok((Arguments::Empty, rest)),
             None => {
                 let (arguments, rest) = self.list(tokens, levels)?;
-                Ok((arguments, self.close(rest)?))
+                beside(arguments, self.close(rest))
             }
         }
     }
@@ -370,31 +377,32 @@ impl<A: Allocator + Copy> Parser<A> {
         let (first, mut rest) = self.expr(tokens, levels)?;
         let mut arguments = Arguments::One(first);
         while let Some((_, after)) = comma_sign(rest) {
-            let (next, beyond) = self.expr(after, levels)?;
-            arguments = arguments.with(next);
+            let (others, (next, beyond)) = beside(arguments, self.expr(after, levels))?;
+            arguments = others.with(next);
             rest = beyond;
         }
         Ok((arguments, rest))
     }
 
-    // The function with this name, of these arguments.
+    // The function with this name, of these arguments, in front of tokens.
     fn called<'a>(
         &self,
         name: &'a [u8],
         callee: Callee,
         arguments: Arguments<'a, A>,
-    ) -> Result<Boxed<'a, A>, ExprFault<A>>
-        ensures { Gives (λ part. syntax_of part.value) result (called name.now callee (arguments_of arguments.entry)) }
+        tokens: &'a [Token<'a>],
+    ) -> Read<'a, A>
+        ensures { Gives seen result (followed (called name.now callee (arguments_of arguments.entry)) (placed tokens.now)) }
     {
         match (callee, arguments) {
             (Callee::One(function), Arguments::One(part)) => {
-                Ok(Box::new(self.alloc, Syntax::Applied(function, part))?)
+                self.put(Syntax::Applied(function, part), tokens)
             }
             (Callee::Two(operator), Arguments::Two(left, right)) => {
-                self.binary(operator, left, right)
+                self.put(Syntax::Binary(operator, left, right), tokens)
             }
             (Callee::Three, Arguments::Three(condition, chosen, otherwise)) => {
-                self.select(condition, chosen, otherwise)
+                self.put(Syntax::Select(condition, chosen, otherwise), tokens)
             }
             _ => Err(ExprFault::wrong_argument_count(self.alloc, name)),
         }
@@ -407,7 +415,7 @@ impl<A: Allocator + Copy> Parser<A> {
         ensures { Gives seen result (closed_at self.now.end levels (placed tokens.now)) }
     {
         let (inner, rest) = self.expr(tokens, levels)?;
-        Ok((inner, self.close(rest)?))
+        beside(inner, self.close(rest))
     }
 
     // The tokens after a closing parenthesis.
@@ -440,15 +448,10 @@ impl<A: Allocator + Copy> Parser<A> {
         Ok(Box::new(self.alloc, Syntax::Binary(operator, left, right))?)
     }
 
-    // A choice between two parts by a third.
-    fn select<'a>(
-        &self,
-        condition: Boxed<'a, A>,
-        chosen: Boxed<'a, A>,
-        otherwise: Boxed<'a, A>,
-    ) -> Result<Boxed<'a, A>, ExprFault<A>>
-        ensures { IsOrMemory (λ e. syntax_of e.value ≡ s.Select (syntax_of condition.entry.value) (syntax_of chosen.entry.value) (syntax_of otherwise.entry.value)) result }
+    // A part in a block of its own, in front of tokens.
+    fn put<'a>(&self, part: Syntax<'a, A>, tokens: &'a [Token<'a>]) -> Read<'a, A>
+        ensures { Gives seen result (Ok (syntax_of part.entry, placed tokens.now)) }
     {
-        Ok(Box::new(self.alloc, Syntax::Select(condition, chosen, otherwise))?)
+        Ok((Box::new(self.alloc, part)?, tokens))
     }
 }

@@ -3,6 +3,7 @@ ghost use Rattle.std.specs.Prelude.{◌≡◌};
 ghost use Rattle.energy_program.specs.Faults.{IsOrMemory};
 ghost use Rattle.energy_program.specs.Tree.{tree_of};
 ghost use Rattle.energy_program.specs.Tree as t;
+ghost use Rattle.expr.specs.Uses.{Grows};
 
 use energy_program::{Exponent, Expr, ExprFault, Function, Operator};
 use std::alloc::Allocator;
@@ -17,46 +18,44 @@ pub fn leaf<A: Allocator + Copy>(alloc: A, tree: Expr<A>) -> Part<A>
     Ok(Box::new(alloc, tree)?)
 }
 
-pub fn negative<A: Allocator + Copy>(alloc: A, part: Box<Expr<A>, A>) -> Part<A>
-    ensures { IsOrMemory (λ e. tree_of e.value ≡ t.Negated (tree_of part.value)) result }
+pub fn negative<A: Allocator + Copy>(alloc: A, part: Part<A>) -> Part<A>
+    ensures { Grows t.Negated part result }
 {
-    Ok(Box::new(alloc, Expr::Negated(part))?)
+    leaf(alloc, Expr::Negated(part?))
 }
 
 pub fn operation<A: Allocator + Copy>(
     alloc: A,
     operator: Operator,
     left: Box<Expr<A>, A>,
-    right: Box<Expr<A>, A>,
+    right: Part<A>,
 ) -> Part<A>
-    ensures { IsOrMemory (λ e. tree_of e.value ≡ t.Binary operator (tree_of left.value) (tree_of right.value)) result }
+    ensures { Grows (t.Binary operator (tree_of left.value)) right result }
 {
-    Ok(Box::new(alloc, Expr::Binary(operator, left, right))?)
+    let right = right?;
+    leaf(alloc, Expr::Binary(operator, left, right))
 }
 
-pub fn application<A: Allocator + Copy>(
-    alloc: A,
-    function: Function,
-    part: Box<Expr<A>, A>,
-) -> Part<A>
-    ensures { IsOrMemory (λ e. tree_of e.value ≡ t.Applied function (tree_of part.value)) result }
+pub fn application<A: Allocator + Copy>(alloc: A, function: Function, part: Part<A>) -> Part<A>
+    ensures { Grows (t.Applied function) part result }
 {
-    Ok(Box::new(alloc, Expr::Applied(function, part))?)
+    leaf(alloc, Expr::Applied(function, part?))
 }
 
-pub fn raised<A: Allocator + Copy>(alloc: A, base: Box<Expr<A>, A>, exponent: Exponent) -> Part<A>
-    ensures { IsOrMemory (λ e. tree_of e.value ≡ t.Power (tree_of base.value) exponent.value) result }
+pub fn raised<A: Allocator + Copy>(alloc: A, base: Part<A>, exponent: Exponent) -> Part<A>
+    ensures { Grows (λ x. t.Power x exponent.value) base result }
 {
-    Ok(Box::new(alloc, Expr::Power(base, exponent.value))?)
+    leaf(alloc, Expr::Power(base?, exponent.value))
 }
 
 pub fn choice<A: Allocator + Copy>(
     alloc: A,
     condition: Box<Expr<A>, A>,
     chosen: Box<Expr<A>, A>,
-    otherwise: Box<Expr<A>, A>,
+    otherwise: Part<A>,
 ) -> Part<A>
-    ensures { IsOrMemory (λ e. tree_of e.value ≡ t.Select (tree_of condition.value) (tree_of chosen.value) (tree_of otherwise.value)) result }
+    ensures { Grows (t.Select (tree_of condition.value) (tree_of chosen.value)) otherwise result }
 {
-    Ok(Box::new(alloc, Expr::Select(condition, chosen, otherwise))?)
+    let otherwise = otherwise?;
+    leaf(alloc, Expr::Select(condition, chosen, otherwise))
 }

@@ -47,19 +47,19 @@ pub fn resolve<A: Allocator + Copy>(alloc: A, scope: &Scope<A>, syntax: &Syntax<
     match syntax {
         Syntax::Number(value) => leaf(alloc, Expr::Number(*value)),
         Syntax::Name(name) => used(alloc, scope, name),
-        Syntax::Negated(part) => negative(alloc, resolve(alloc, scope, part)?),
+        Syntax::Negated(part) => negative(alloc, resolve(alloc, scope, part)),
         Syntax::Binary(operator, left, right) => {
             let left = resolve(alloc, scope, left)?;
-            operation(alloc, *operator, left, resolve(alloc, scope, right)?)
+            operation(alloc, *operator, left, resolve(alloc, scope, right))
         }
         Syntax::Applied(function, part) => {
-            application(alloc, *function, resolve(alloc, scope, part)?)
+            application(alloc, *function, resolve(alloc, scope, part))
         }
-        Syntax::Power(base, exponent) => raised(alloc, resolve(alloc, scope, base)?, *exponent),
+        Syntax::Power(base, exponent) => raised(alloc, resolve(alloc, scope, base), *exponent),
         Syntax::Select(condition, chosen, otherwise) => {
             let condition = resolve(alloc, scope, condition)?;
             let chosen = resolve(alloc, scope, chosen)?;
-            choice(alloc, condition, chosen, resolve(alloc, scope, otherwise)?)
+            choice(alloc, condition, chosen, resolve(alloc, scope, otherwise))
         }
     }
 }

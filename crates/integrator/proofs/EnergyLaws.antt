@@ -70,11 +70,11 @@ enough_of_job j a b r first second =
     omega (arith, enough t a b r whole first second, length-globals j.globals.items, length-map j.parameters.items (λ p. p.items))
 
 -- the kernel of a job gives its energy's slope
-pub kernel_gives : {A : Type 0} (j : Job A) (t : Table) (e : Energy) → t ≡ table_of (job_value j) → IsCompiled 32 (length j.parameters.items) (length j.globals.items) e
+pub kernel_gives : {A : Type 0} (j : Job A) (t : Table) (e : Energy) → t ≡ table_of (job_value j) → IsCompiled (bits_of j.frac) (length j.parameters.items) (length j.globals.items) e
     → (a b : ℕ) (r : ℤ) → a < length t.rows → b < length t.rows → GivesSlope (bits_of t.frac) e.tree e.code (inputs_of t a b r)
 kernel_gives j t e same h =
     let u = table_of (job_value j) in
-    rw same (λ a b r first second. gives 32 e.tree e.slope e.code (inputs_of u a b r) (h (inputs_of u a b r) (enough_of_job j a b r first second)))
+    rw same (λ a b r first second. gives (bits_of j.frac) e.tree e.slope e.code (inputs_of u a b r) (h (inputs_of u a b r) (enough_of_job j a b r first second)))
 
-pub compiled_for : {A : Type 0} (j : Job A) (e : Energy) → IsCompiled 32 (length j.parameters.items) (length j.globals.items) e → IsCompiled 32 (length (job_value j).parameters) (length (job_value j).globals) e
+pub compiled_for : {A : Type 0} (j : Job A) (e : Energy) → IsCompiled (bits_of j.frac) (length j.parameters.items) (length j.globals.items) e → IsCompiled (bits_of j.frac) (length (job_value j).parameters) (length (job_value j).globals) e
 compiled_for j e h = rw (length-map j.parameters.items (λ p. p.items), length-map j.globals.items global_value) h

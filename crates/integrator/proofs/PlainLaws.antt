@@ -8,6 +8,7 @@ use Rattle.job.specs.Values.{JobValue}
 use Rattle.ring_box.specs.declared.boxes.RingBox.{RingBox}
 use Rattle.ring_box.specs.Distances.{square_of}
 use Rattle.ring_box.specs.Forces.{acting_distance_of, force_along_of}
+use Rattle.fixed.specs.Fractions.{bits_of}
 use Rattle.derivative.specs.Slope.{slope_of}
 use Rattle.integrator.proofs.Constructors.{none_is_no_some}
 use Rattle.integrator.specs.Energies.{Energy}
@@ -146,13 +147,13 @@ plain_run job state w n text run =
       start = start;
       starts =
           start_from plain job state w n p.j p.s p.job_read p.state_read
-          ∙ started plain w n p.j p.s p.energy p.types p.counter p.energy_read p.typed p.room p.counted;
+          ∙ started plain w n p.j p.s p.energy p.types p.counter p.energy_read p.typed p.alike p.room p.counted;
       after = run.after;
       ran = record {
         frames' = run.ran.frames';
         turned =
             turns_kept (tested p.j p.s.sides p.energy p.types).slope (plain p.j p.s.sides p.energy p.types).slope (tested p.j p.s.sides p.energy p.types).fault (λ q r. None) p.j p.s.sides p.types
-            (λ q r. given_kept (pair_outcome p.j p.energy p.types q r) (slope_of 32 (pair_inputs p.j p.types q r) p.energy.tree))
+            (λ q r. given_kept (pair_outcome p.j p.energy p.types q r) (slope_of (bits_of p.j.frac) (pair_inputs p.j p.types q r) p.energy.tree))
             w n (frames_of p.s) run.ran.frames' turned;
         moved = rw p.start_is at run.ran.moved;
       };

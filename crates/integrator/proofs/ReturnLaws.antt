@@ -19,7 +19,7 @@ use Rattle.integrator.proofs.Constructors.{err_is_no_ok, none_is_no_some, some_s
 use Rattle.integrator.specs.Frames.{AreFrames, ArePlaces, Frames, frames, opposite, places_of, turns}
 use Rattle.integrator.specs.States.{counter_after, counter_at, current_frame, frames_of, moved_state, nobody, placed, placed_atoms, previous_frame}
 use Rattle.integrator.specs.Energies.{Energy, energy_of}
-use Rattle.integrator.specs.Starts.{Refusal, Start, atom_types, Law, cutoff_too_long, energy_refused, has_room, in_counter, job_refused, known, or_refused, require, ring_of, state_refused, step_range, type_with, start_at, start_of, start_with, system_of, types_of}
+use Rattle.integrator.specs.Starts.{Refusal, Start, are_alike, atom_types, bits_differ, Law, cutoff_too_long, energy_refused, has_room, in_counter, job_refused, known, or_refused, require, ring_of, state_refused, step_range, type_with, start_at, start_of, start_with, system_of, types_of}
 use Rattle.integrator.specs.Runs.{IsRun}
 use Rattle.state.proofs.StateReadsAgain.{one_text}
 use Rattle.integrator.proofs.StartLaws.{started}
@@ -188,7 +188,8 @@ pub record Parts (law : Law) (job state : List ℕ) (w : Direction) (n : ℕ) (s
   pub state_read : state_of state ≡ Ok s
   pub energy_read : energy_of j ≡ Ok energy
   pub typed : atom_types j.types 1 s.atoms ≡ Ok types
-  pub room : has_room j.cutoff (ring_of s.sides) ≡ true
+  pub alike : are_alike j.frac s.frac ≡ true
+  pub room : has_room j.frac j.cutoff (ring_of s.sides) ≡ true
   pub counted : counter_after w s.step n ≡ Some counter
   pub start_is : start ≡ start_at law j s (energy, types) counter
 
@@ -214,14 +215,16 @@ counted_ok None k e = absurd (err_is_no_ok step_range k e)
 pub record SystemParts (j : JobValue) (s : StateView) (system : Energy × List ℕ) : Type 0 where
   pub energy_read : energy_of j ≡ Ok system.0
   pub typed : atom_types j.types 1 s.atoms ≡ Ok system.1
-  pub room : has_room j.cutoff (ring_of s.sides) ≡ true
+  pub alike : are_alike j.frac s.frac ≡ true
+  pub room : has_room j.frac j.cutoff (ring_of s.sides) ≡ true
 
 pub system_parts : (j : JobValue) (s : StateView) (system : Energy × List ℕ) → system_of j s ≡ Ok system → SystemParts j s system
 unfolding system_of types_of
 system_parts j s system e =
     let a = bind_ok _ _ system e in
     let b = bind_ok _ _ system a.2 in
-    let c = bind_ok _ _ b.0 b.1 in
+    let f = bind_ok _ _ b.0 b.1 in
+    let c = bind_ok _ _ b.0 f.2 in
     let d = bind_ok _ _ b.0 c.2 in
     let types : c.0 ≡ b.0 = list_same c.0 b.0 d.2 in
     let same : (a.0, b.0) ≡ system = pair_same (a.0, b.0) system b.2 in
@@ -229,7 +232,8 @@ system_parts j s system e =
     (record {
       energy_read = refused_ok energy_refused (energy_of j) a.0 a.1;
       typed = c.1 ∙ ap Ok types;
-      room = required (has_room j.cutoff (ring_of s.sides)) cutoff_too_long d.0 d.1;
+      alike = required (are_alike j.frac s.frac) bits_differ f.0 f.1;
+      room = required (has_room j.frac j.cutoff (ring_of s.sides)) cutoff_too_long d.0 d.1;
     })
 
 pub parts_of : (law : Law) (job state : List ℕ) (w : Direction) (n : ℕ) (start : Start) → start_of law job state w n ≡ Ok start → Parts law job state w n start
@@ -250,6 +254,7 @@ parts_of law job state w n start e =
       state_read = refused_ok state_refused (state_of state) b.0 b.1;
       energy_read = parts.energy_read;
       typed = parts.typed;
+      alike = parts.alike;
       room = parts.room;
       counted = counted_ok (counter_after w b.0.step n) k.0 k.1;
       start_is = ok_same start _ k.2;
@@ -288,7 +293,7 @@ run_back law job state w n text r =
       start = start;
       starts =
           start_from law job text (opposite w) n p.j after p.job_read again
-          ∙ started law (opposite w) n p.j after p.energy p.types s.step p.energy_read (types-placed p.j.types 1 s.atoms f ∙ p.typed) p.room
+          ∙ started law (opposite w) n p.j after p.energy p.types s.step p.energy_read (types-placed p.j.types 1 s.atoms f ∙ p.typed) p.alike p.room
           (counter_returns w s.step p.counter n (in_range_is s.step read.0.step) p.counted);
       after = s;
       ran = record {

@@ -11,7 +11,7 @@ use Rattle.integrator.proofs.Constructors.{err_is_no_ok, none_is_no_some, ok_sam
 use Rattle.integrator.specs.Forces.{first_without_force}
 use Rattle.integrator.specs.Frames.{Dynamics, Frames, StopsAt, frames, middle, moved_frame, next_frame, pair_force, turn, turns}
 use Rattle.integrator.specs.States.{frames_of, moved_state}
-use Rattle.integrator.specs.Starts.{Law, Refusal, Start, cutoff_too_long, energy_refused, job_refused, start_of, step_range, unknown_type}
+use Rattle.integrator.specs.Starts.{Law, Refusal, Start, bits_differ, cutoff_too_long, energy_refused, job_refused, start_of, step_range, unknown_type}
 use Rattle.integrator.specs.StartViews.{state_refusal}
 use Rattle.integrator.specs.Runs.{is_out, IsRefusal, IsRun, IsStop, Lacks, Ran, Stopped}
 use Rattle.integrator.specs.declared.direction.Direction.{Direction}
@@ -72,6 +72,7 @@ pub only_lacks : {A : Type 0} → (law : Law) (job state : List ℕ) (w : Direct
 only_lacks law job state w n text (fault.Job f) r h = lacks_at (jobs.refusal_of f) job_refused (start_of law job state w n) r.start r.starts h
 only_lacks law job state w n text (fault.State f) r h = lacks_at (state_refusal f) (λ x. x) (start_of law job state w n) r.start r.starts h
 only_lacks law job state w n text (fault.Energy f) r h = lacks_at (energies.refusal_of f) energy_refused (start_of law job state w n) r.start r.starts h
+only_lacks law job state w n text fault.BitsDiffer r h = err_is_no_ok bits_differ r.start (sym h ∙ r.starts)
 only_lacks law job state w n text (fault.UnknownType k) r h = err_is_no_ok (unknown_type k) r.start (sym h ∙ r.starts)
 only_lacks law job state w n text fault.CutoffTooLong r h = err_is_no_ok cutoff_too_long r.start (sym h ∙ r.starts)
 only_lacks law job state w n text fault.StepRange r h = err_is_no_ok step_range r.start (sym h ∙ r.starts)
@@ -92,6 +93,7 @@ stop_refuses law job state w n start fault.Memory e h = tt
 stop_refuses law job state w n start (fault.Job f) e h = absurd h
 stop_refuses law job state w n start (fault.State f) e h = absurd h
 stop_refuses law job state w n start (fault.Energy f) e h = absurd h
+stop_refuses law job state w n start fault.BitsDiffer e h = absurd h
 stop_refuses law job state w n start (fault.UnknownType k) e h = absurd h
 stop_refuses law job state w n start fault.CutoffTooLong e h = absurd h
 stop_refuses law job state w n start fault.StepRange e h = absurd h
@@ -106,6 +108,7 @@ stop_unwritten w n start fault.Memory h = refl
 stop_unwritten w n start (fault.Job f) h = refl
 stop_unwritten w n start (fault.State f) h = refl
 stop_unwritten w n start (fault.Energy f) h = refl
+stop_unwritten w n start fault.BitsDiffer h = refl
 stop_unwritten w n start (fault.UnknownType k) h = refl
 stop_unwritten w n start fault.CutoffTooLong h = refl
 stop_unwritten w n start fault.StepRange h = refl

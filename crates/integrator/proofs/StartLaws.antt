@@ -20,7 +20,7 @@ use Rattle.integrator.specs.declared.faults.RunFault.{RunFault}
 use Rattle.integrator.specs.declared.faults.RunFault.TheVariants as fault
 use Rattle.integrator.specs.StartViews.{Refuses, state_refusal}
 use Rattle.integrator.specs.Energies.{Energy, energy_of}
-use Rattle.integrator.specs.Starts.{Law, Refusal, cutoff_too_long, energy_refused, in_counter, job_energy, job_refused, start_at, start_of, step_range, atom_types, has_room, ring_of, start_with, system_of, types_of, type_with, unknown_type}
+use Rattle.integrator.specs.Starts.{Law, Refusal, are_alike, bits_differ, cutoff_too_long, energy_refused, in_counter, job_energy, job_refused, start_at, start_of, step_range, atom_types, has_room, ring_of, start_with, system_of, types_of, type_with, unknown_type}
 use Rattle.integrator.specs.States.{counter_after}
 use Rattle.integrator.specs.declared.direction.Direction.{Direction}
 
@@ -72,10 +72,10 @@ found_type types name bytes r e h =
 
 -- a start whose parts are known
 pub started : (law : Law) (direction : Direction) (steps : ℕ) (j : JobValue) (s : StateView) (energy : Energy) (types : List ℕ) (counter : ℤ)
-    → energy_of j ≡ Ok energy → atom_types j.types 1 s.atoms ≡ Ok types → has_room j.cutoff (ring_of s.sides) ≡ true → counter_after direction s.step steps ≡ Some counter
+    → energy_of j ≡ Ok energy → atom_types j.types 1 s.atoms ≡ Ok types → are_alike j.frac s.frac ≡ true → has_room j.frac j.cutoff (ring_of s.sides) ≡ true → counter_after direction s.step steps ≡ Some counter
     → start_with law direction steps j s ≡ Ok (start_at law j s (energy, types) counter)
 unfolding start_with system_of types_of
-started law direction steps j s energy types counter e t h k = rw (e, t, h, k) refl
+started law direction steps j s energy types counter e t a h k = rw (e, a, t, h, k) refl
 
 -- ---- refusals on the way
 
@@ -87,6 +87,7 @@ pub refuses_on : {A X Y : Type 0} → (e : RunFault A) (r : Result X Refusal) (f
 refuses_on (fault.Job g) r f h = some_refused (jobs.refusal_of g) job_refused r f h
 refuses_on (fault.State g) r f h = some_refused (state_refusal g) (λ x. x) r f h
 refuses_on (fault.Energy g) r f h = some_refused (energies.refusal_of g) energy_refused r f h
+refuses_on fault.BitsDiffer r f h = bind_err r f bits_differ h
 refuses_on (fault.UnknownType n) r f h = bind_err r f (unknown_type n) h
 refuses_on fault.CutoffTooLong r f h = bind_err r f cutoff_too_long h
 refuses_on fault.StepRange r f h = bind_err r f step_range h
@@ -101,6 +102,11 @@ refuses_on (fault.Out g) r f h = absurd h
 pub system_refused : {A : Type 0} → (j : JobValue) (s : StateView) (energy : Energy) (e : RunFault A) → energy_of j ≡ Ok energy → Refuses e (types_of j s) → Refuses e (system_of j s)
 unfolding system_of
 system_refused j s energy e r h = rw r (refuses_on e (types_of j s) (λ types. Ok (energy, types)) h)
+
+-- a job and a state that have no system
+pub start_with_refused : {A : Type 0} → (law : Law) (w : Direction) (n : ℕ) (j : JobValue) (s : StateView) (e : RunFault A) → Refuses e (system_of j s) → Refuses e (start_with law w n j s)
+unfolding start_with
+start_with_refused law w n j s e h = refuses_on e (system_of j s) (λ system. in_counter (counter_after w s.step n) >>= λ counter. Ok (start_at law j s system counter)) h
 
 -- texts that have no system
 pub start_refused : {A : Type 0} → (law : Law) (job state : List ℕ) (w : Direction) (n : ℕ) (j : JobValue) (s : StateView) (e : RunFault A)

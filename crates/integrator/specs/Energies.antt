@@ -1,5 +1,6 @@
 -- The energy of a job, and the code of its slope.
 use Rattle.std.specs.Prelude.{ℕ, ◌≤◌, ℤ, pos, List, length, map, Result, Ok, Err}
+use Rattle.fixed.specs.Fractions.{bits_of}
 use Rattle.derivative.specs.Derive.{slope_program}
 use Rattle.line_text.specs.Steps.{◌>>=◌}
 use Rattle.energy_program.specs.Faults.{Refusal}
@@ -32,13 +33,13 @@ energy_from bits program = do
 unfoldable pub job_program : JobValue → Result Trees Refusal
 job_program j = do
   variables ← names_from j.parameters (global_names j.globals)
-  trees_in 32 variables j.energy
+  trees_in (bits_of j.frac) variables j.energy
 
 -- The energy of a job: first its program is judged, then the size of its slope's program, then that of the code.
 unfoldable pub energy_of : JobValue → Result Energy Refusal
 energy_of j = do
   program ← job_program j
-  energy_from 32 program
+  energy_from (bits_of j.frac) program
 
 abbrev pub tree_or_zero : Result Energy Refusal → Tree
 tree_or_zero (Ok energy) = energy.tree

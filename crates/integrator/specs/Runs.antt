@@ -44,6 +44,7 @@ IsStop direction steps start fault.Memory = Unit {0}
 IsStop direction steps start (fault.Job f) = ⊥
 IsStop direction steps start (fault.State f) = ⊥
 IsStop direction steps start (fault.Energy f) = ⊥
+IsStop direction steps start fault.BitsDiffer = ⊥
 IsStop direction steps start (fault.UnknownType n) = ⊥
 IsStop direction steps start fault.CutoffTooLong = ⊥
 IsStop direction steps start fault.StepRange = ⊥
@@ -69,6 +70,7 @@ IsRefusal law job state direction steps (fault.MemoryAfter done) = ⊥
 IsRefusal {A} law job state direction steps (fault.Job f) = Refuses {A = A} (fault.Job f) (start_of law job state direction steps)
 IsRefusal {A} law job state direction steps (fault.State f) = Refuses {A = A} (fault.State f) (start_of law job state direction steps)
 IsRefusal {A} law job state direction steps (fault.Energy f) = Refuses {A = A} (fault.Energy f) (start_of law job state direction steps)
+IsRefusal {A} law job state direction steps fault.BitsDiffer = Refuses {A = A} fault.BitsDiffer (start_of law job state direction steps)
 IsRefusal {A} law job state direction steps (fault.UnknownType n) = Refuses {A = A} (fault.UnknownType n) (start_of law job state direction steps)
 IsRefusal {A} law job state direction steps fault.CutoffTooLong = Refuses {A = A} fault.CutoffTooLong (start_of law job state direction steps)
 IsRefusal {A} law job state direction steps fault.StepRange = Refuses {A = A} fault.StepRange (start_of law job state direction steps)
@@ -105,6 +107,7 @@ abbrev pub Lacks : {A : Type 0} → RunFault A → Type 0
 Lacks (fault.Job f) = jobs.refusal_of f ≡ None
 Lacks (fault.State f) = state_refusal f ≡ None
 Lacks (fault.Energy f) = energies.refusal_of f ≡ None
+Lacks fault.BitsDiffer = ⊥
 Lacks (fault.UnknownType n) = ⊥
 Lacks fault.CutoffTooLong = ⊥
 Lacks fault.StepRange = ⊥

@@ -18,7 +18,7 @@ use Rattle.integrator.specs.declared.slope_faults.SlopeFault.{SlopeFault}
 use Rattle.integrator.specs.declared.slope_parts.SlopeParts.{SlopeParts}
 use Rattle.integrator.specs.declared.prepared.Prepared.{Prepared}
 use Rattle.integrator.specs.declared.prepared.Ready.{Ready}
-use Rattle.integrator.specs.Starts.{Refusal, Start, job_refused, state_refused, energy_refused, unknown_type, cutoff_too_long, step_range}
+use Rattle.integrator.specs.Starts.{Refusal, Start, job_refused, state_refused, energy_refused, bits_differ, unknown_type, cutoff_too_long, step_range}
 use Rattle.integrator.specs.declared.faults.RunFault.{RunFault}
 use Rattle.integrator.specs.declared.faults.RunFault.TheVariants as fault
 
@@ -34,6 +34,7 @@ abbrev pub Refuses : {A Y : Type 0} → RunFault A → Result Y Refusal → Type
 Refuses (fault.Job f) start = IfSome (job.refusal_of f) (λ r. start ≡ Err (job_refused r))
 Refuses (fault.State f) start = IfSome (state_refusal f) (λ r. start ≡ Err r)
 Refuses (fault.Energy f) start = IfSome (energy.refusal_of f) (λ r. start ≡ Err (energy_refused r))
+Refuses fault.BitsDiffer start = start ≡ Err bits_differ
 Refuses (fault.UnknownType n) start = start ≡ Err (unknown_type n)
 Refuses fault.CutoffTooLong start = start ≡ Err cutoff_too_long
 Refuses fault.StepRange start = start ≡ Err step_range
@@ -47,6 +48,7 @@ Refuses (fault.Out f) start = ⊥
 -- a fault that a system may be refused by
 abbrev pub is_of_system : {A : Type 0} → RunFault A → Bool
 is_of_system (fault.Energy f) = true
+is_of_system fault.BitsDiffer = true
 is_of_system (fault.UnknownType n) = true
 is_of_system fault.CutoffTooLong = true
 is_of_system fault.Memory = true

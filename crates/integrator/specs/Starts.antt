@@ -1,7 +1,8 @@
 -- What a run starts from: a job's text, a state's text, a number of steps and a direction give the state and what moves its atoms, or the first refusal.
-use Rattle.std.specs.Prelude.{◌≡◌, ℕ, suc, ℤ, ◌*◌, ◌^◌, nat_le, ◌&&◌, Bool, true, false, List, [], ◌∷◌, length, map, Option, Some, None, Result, Ok, Err, slice_index, slice_index_or, unsigned_abs, bytes_eq}
+use Rattle.std.specs.Prelude.{◌≡◌, ℕ, suc, ℤ, ◌*◌, ◌^◌, nat_le, ◌==◌, ◌&&◌, Bool, true, false, List, [], ◌∷◌, length, map, Option, Some, None, Result, Ok, Err, slice_index, slice_index_or, unsigned_abs, bytes_eq}
 use Rattle.std.specs.List.{position}
-use Rattle.fixed.specs.declared.frac.Frac.TheVariants.{F32}
+use Rattle.fixed.specs.Fractions.{bits_of}
+use Rattle.fixed.specs.declared.frac.Frac.{Frac}
 use Rattle.derivative.specs.Slope.{slope_of}
 use Rattle.energy_program.specs.Faults as energy
 use Rattle.energy_program.specs.Tree.{Tree}
@@ -28,6 +29,7 @@ pub data Refusal : Type 0 where
   job_refused : job.Refusal → Refusal
   state_refused : StateFault → Refusal
   energy_refused : energy.Refusal → Refusal
+  bits_differ : Refusal
   unknown_type : ℕ → Refusal
   cutoff_too_long : Refusal
   step_range : Refusal
@@ -62,12 +64,12 @@ mass_of types t = (slice_index_or types t no_type).mass
 
 -- ---- the range of the forces
 
--- a side holds two cutoffs, the cutoff in 2^-32 nm and the side in 10^-5 nm
-abbrev pub holds_two : ℤ → ℕ → Bool
-holds_two cutoff side = nat_le (200000 * unsigned_abs cutoff) (side * 2 ^ 32)
+-- a side holds two cutoffs, the cutoff in 2^-bits nm and the side in 10^-5 nm
+abbrev pub holds_two : Frac → ℤ → ℕ → Bool
+holds_two frac cutoff side = nat_le (200000 * unsigned_abs cutoff) (side * 2 ^ bits_of frac)
 
-abbrev pub has_room : ℤ → RingBox → Bool
-has_room cutoff ring = holds_two cutoff ring.x && (holds_two cutoff ring.y && holds_two cutoff ring.z)
+abbrev pub has_room : Frac → ℤ → RingBox → Bool
+has_room frac cutoff ring = holds_two frac cutoff ring.x && (holds_two frac cutoff ring.y && holds_two frac cutoff ring.z)
 
 abbrev pub require : Bool → Refusal → Result (Unit {0}) Refusal
 require true refusal = Ok tt
@@ -87,7 +89,7 @@ global_values globals = map (λ g. g.value) globals
 
 -- what the energy's variables stand for
 abbrev pub table_of : JobValue → Table
-table_of j = record { frac = F32; parameters = length j.parameters; rows = type_rows j.types; globals = global_values j.globals }
+table_of j = record { frac = j.frac; parameters = length j.parameters; rows = type_rows j.types; globals = global_values j.globals }
 
 -- the inputs of the energy for a pair of atoms of these types at a distance
 abbrev pub pair_inputs : JobValue → List ℕ → ℕ × ℕ → ℤ → List ℤ
@@ -95,12 +97,12 @@ pair_inputs j types p r = inputs_of (table_of j) (slice_index types p.0) (slice_
 
 -- how the run of the slope's code ends there
 abbrev pub pair_outcome : JobValue → Energy → List ℕ → ℕ × ℕ → ℤ → Option (Result ℤ Trap)
-pair_outcome j energy types p r = outcome_of 32 energy.code (pair_inputs j types p r)
+pair_outcome j energy types p r = outcome_of (bits_of j.frac) energy.code (pair_inputs j types p r)
 
 -- what moves the atoms of these types by these slopes, in a box with these sides
 abbrev pub dynamics_by : (ℕ × ℕ → ℤ → Option ℤ) → (ℕ × ℕ → ℤ → Option SlopeFault) → JobValue → (sides types : List ℕ) → Dynamics
 dynamics_by slope fault j sides types = record {
-  frac = F32;
+  frac = j.frac;
   ring = ring_of sides;
   core = j.core;
   cutoff = j.cutoff;
@@ -116,7 +118,7 @@ Law = JobValue → List ℕ → Energy → List ℕ → Dynamics
 
 -- by the slope of a tree as it is written
 abbrev pub as_written : JobValue → (sides : List ℕ) → Tree → (types : List ℕ) → Dynamics
-as_written j sides tree types = dynamics_by (λ p r. slope_of 32 (pair_inputs j types p r) tree) (λ p r. None) j sides types
+as_written j sides tree types = dynamics_by (λ p r. slope_of (bits_of j.frac) (pair_inputs j types p r) tree) (λ p r. None) j sides types
 
 abbrev pub plain : Law
 plain j sides energy types = as_written j sides energy.tree types
@@ -124,7 +126,7 @@ plain j sides energy types = as_written j sides energy.tree types
 -- The same where the run of the slope's code gives a value. Else the fault is that of the run.
 abbrev pub tested : Law
 tested j sides energy types =
-    dynamics_by (λ p r. where_given (pair_outcome j energy types p r) (slope_of 32 (pair_inputs j types p r) energy.tree)) (λ p r. fault_of (pair_outcome j energy types p r)) j sides types
+    dynamics_by (λ p r. where_given (pair_outcome j energy types p r) (slope_of (bits_of j.frac) (pair_inputs j types p r) energy.tree)) (λ p r. fault_of (pair_outcome j energy types p r)) j sides types
 
 abbrev pub in_counter : Option ℤ → Result ℤ Refusal
 in_counter (Some z) = Ok z
@@ -136,11 +138,16 @@ pub record Start : Type 0 where
   pub dynamics : Dynamics
   pub counter : ℤ
 
+-- a job's numbers and a state's have as many bits behind the point
+abbrev pub are_alike : Frac → Frac → Bool
+are_alike f g = bits_of f == bits_of g
+
 -- the types of a state's atoms, in a box that has room for the forces
 unfoldable pub types_of : JobValue → StateView → Result (List ℕ) Refusal
 types_of j s = do
+  alike ← require (are_alike j.frac s.frac) bits_differ
   types ← atom_types j.types 1 s.atoms
-  room ← require (has_room j.cutoff (ring_of s.sides)) cutoff_too_long
+  room ← require (has_room j.frac j.cutoff (ring_of s.sides)) cutoff_too_long
   Ok types
 
 -- a job's energy, and the types of a state's atoms
@@ -183,4 +190,4 @@ pub record IsSlopeCode (job : List ℕ) (code : List Instr) : Type 0 where
   pub said : JobValue × Energy
   pub says : job_energy job ≡ Ok said
   pub its : code ≡ said.1.code
-  pub compiled : IsCompiled 32 (length said.0.parameters) (length said.0.globals) said.1
+  pub compiled : IsCompiled (bits_of said.0.frac) (length said.0.parameters) (length said.0.globals) said.1

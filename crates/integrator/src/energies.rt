@@ -1,6 +1,7 @@
 //! From a job to its energy and the code of its slope.
 
 ghost use Rattle.std.specs.Prelude.{◌≡◌, length, map, IfOk};
+ghost use Rattle.fixed.specs.Fractions.{bits_of};
 ghost use Rattle.energy_program.specs.Faults.{Gives};
 ghost use Rattle.energy_program.specs.Names.{names_from};
 ghost use Rattle.energy_program.specs.Variables.{names_of};
@@ -60,21 +61,22 @@ fn program<A: Allocator + Copy>(alloc: A, job: &Job<A>) -> Result<Program<A>, Ex
     ensures globals { IfOk result (λ p. p.globals ≡ length job.now.globals.items) }
 {
     let names = names(alloc, job)?;
-    parse(alloc, Frac::F32, &job.energy, &names)
+    parse(alloc, job.frac, &job.energy, &names)
 }
 
 /// An energy with the code of its slope.
 #[tactic(auto, unfolding(crate::specs::Energies::energy_from))]
 fn with_slope<A: Allocator + Copy>(
     alloc: A,
+    frac: Frac,
     energy: Program<A>,
 ) -> Result<SlopeParts<A>, ExprFault<A>>
-    ensures value { Gives energy_view result (energy_from 32 (trees_of energy)) }
-    ensures compiled { IfOk result (λ p. IsCompiled 32 energy.parameters energy.globals (energy_view p)) }
+    ensures value { Gives energy_view result (energy_from (bits_of frac) (trees_of energy)) }
+    ensures compiled { IfOk result (λ p. IsCompiled (bits_of frac) energy.parameters energy.globals (energy_view p)) }
     ensures energy { IfOk result (λ p. p.energy ≡ energy) }
 {
-    let slope = derive(alloc, Frac::F32, &energy)?;
-    let code = compile(alloc, Frac::F32, &slope)?;
+    let slope = derive(alloc, frac, &energy)?;
+    let code = compile(alloc, frac, &slope)?;
     prove!(code.as_slice().len() <= 16_384);
     Ok(SlopeParts {
         energy,
@@ -90,10 +92,10 @@ fn with_slope<A: Allocator + Copy>(
 #[tactic(auto, unfolding(crate::specs::Energies::energy_of))]
 pub fn job_slope<A: Allocator + Copy>(alloc: A, job: &Job<A>) -> Result<SlopeParts<A>, ExprFault<A>>
     ensures value { Gives energy_view result (energy_of (job_value job.now)) }
-    ensures compiled { IfOk result (λ p. IsCompiled 32 (length job.now.parameters.items) (length job.now.globals.items) (energy_view p)) }
+    ensures compiled { IfOk result (λ p. IsCompiled (bits_of job.now.frac) (length job.now.parameters.items) (length job.now.globals.items) (energy_view p)) }
     ensures parameters { IfOk result (λ p. p.energy.parameters ≡ length job.now.parameters.items) }
     ensures globals { IfOk result (λ p. p.energy.globals ≡ length job.now.globals.items) }
 {
     let program = program(alloc, job)?;
-    with_slope(alloc, program)
+    with_slope(alloc, job.frac, program)
 }

@@ -25,6 +25,9 @@ pub enum RunFault<A: Allocator> {
     /// The energy's text is refused.
     #[error("{0}")]
     Energy(ExprFault<A>),
+    /// The job's numbers and the state's have not as many bits behind the point.
+    #[error("A6 BitsDiffer")]
+    BitsDiffer,
     /// The job has no type with the name of this atom, the lowest such, counted from 1.
     #[error("A1 UnknownType {atom}")]
     UnknownType {

@@ -10,7 +10,7 @@ ghost use Rattle.integrator.specs.StartViews.{start_view};
 ghost use Rattle.integrator.specs.Starts.{plain, tested};
 ghost use Rattle.integrator.specs.declared.faults.RunFault.TheVariants.{KernelFault};
 ghost use Rattle.integrator.specs.Halts.{IsHalt};
-ghost use Rattle.integrator.specs.States.{counter_at, current_frame, forced_counter, moved_state, previous_frame};
+ghost use Rattle.integrator.specs.States.{counter_at, current_frame, forced_counter, frames_of, moved_state, previous_frame};
 ghost use Rattle.integrator.specs.Frames.{frames, opposite, turns, StopsAt};
 ghost use Rattle.integrator.specs.Systems.{dynamics_of};
 
@@ -147,6 +147,42 @@ fn kernel_fault<A: Allocator>(
     }
 }
 
+/// The frames that a run comes to.
+fn run_frames<A: Allocator + Copy>(
+    alloc: A,
+    direction: Direction,
+    steps: u64,
+    prepared: &Prepared<A>,
+) -> Result<Turned<A>, RunFault<A>>
+    requires { in_range (counter_at direction prepared.now.state.step steps) ≡ true }
+    ensures value { IfOk result (λ t. turns direction (start_view prepared.now).dynamics steps (frames_of (start_view prepared.now).state) ≡ Some (frames t.previous.items t.current.items)) }
+    ensures previous { IfOk result (λ t. length t.previous.items ≡ length prepared.now.state.atoms.items) }
+    ensures current { IfOk result (λ t. length t.current.items ≡ length prepared.now.state.atoms.items) }
+    ensures stop { IfErr result (IsStop direction steps (start_view prepared.now)) }
+{
+    let Prepared { state, system, .. } = prepared;
+    match frames_after(alloc, system, direction, steps, &state.atoms) {
+        Ok(turned) => Ok(turned),
+        Err(Halt::Memory) => Err(RunFault::Memory),
+        Err(Halt::Stop(stop)) => Err(kernel_fault(direction, state, steps, stop)),
+    }
+}
+
+/// The state at the end of a run whose frames have come to these.
+fn arrived<A: Allocator>(prepared: Prepared<A>, turned: &Turned<A>) -> State<A>
+    requires previous { length turned.now.previous.items ≡ length prepared.state.atoms.items }
+    requires current { length turned.now.current.items ≡ length prepared.state.atoms.items }
+    ensures { state_view result ≡ moved_state (state_view prepared.state) (frames turned.now.previous.items turned.now.current.items) prepared.counter }
+{
+    let Prepared {
+        mut state,
+        counter,
+        ..
+    } = prepared;
+    advance(&mut state, turned, counter);
+    state
+}
+
 /// Runs so many steps in a direction.
 fn run<A: Allocator + Copy>(
     alloc: A,
@@ -158,19 +194,8 @@ fn run<A: Allocator + Copy>(
     ensures value { IfOk result (λ s. Ran direction steps (start_view prepared) (state_view s)) }
     ensures stop { IfErr result (IsStop direction steps (start_view prepared)) }
 {
-    let Prepared {
-        mut state,
-        system,
-        counter,
-    } = prepared;
-    match frames_after(alloc, &system, direction, steps, &state.atoms) {
-        Ok(turned) => {
-            advance(&mut state, &turned, counter);
-            Ok(state)
-        }
-        Err(Halt::Memory) => Err(RunFault::Memory),
-        Err(Halt::Stop(stop)) => Err(kernel_fault(direction, &state, steps, stop)),
-    }
+    let turned = run_frames(alloc, direction, steps, &prepared)?;
+    Ok(arrived(prepared, &turned))
 }
 
 /// The state that these texts lead to.
@@ -196,8 +221,8 @@ fn state_after<A: Allocator + Copy>(
 /// pairs. The slope comes from its code, each instruction tested: where a run of the code gives no value, there is no
 /// force. The same number of steps the other way over the written bytes gives the starting bytes again.
 ///
-/// The refusals come in this order: those of the job, of the state, of the energy; `UnknownType` for the lowest atom
-/// whose name no type has; `CutoffTooLong` where some side is shorter than two cutoffs; `StepRange` where the counter
+/// The refusals come in this order: those of the job, of the state, of the energy; `BitsDiffer` where the job's
+/// numbers and the state's have not as many bits behind the point; `UnknownType` for the lowest atom whose name no type has; `CutoffTooLong` where some side is shorter than two cutoffs; `StepRange` where the counter
 /// would leave an i64; `KernelFault` for the first pair without a force in the first frame that has one; `Memory`
 /// wherever a growth is refused. Nothing is written then. `Out` comes only where a write failed, after a beginning of
 /// the new state's text.

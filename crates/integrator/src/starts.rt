@@ -5,8 +5,9 @@ ghost use Rattle.std.specs.List.{All};
 ghost use Rattle.job.specs.Views.{job_value, type_value};
 ghost use Rattle.state.specs.StateViews.{atom_view, state_view};
 ghost use Rattle.integrator.specs.Energies.{IsCompiled};
-ghost use Rattle.integrator.specs.Starts.{atom_types, has_room, holds_two, mass_of, start_at, system_of, types_of, IsSlopeCode, slope_code_of, start_of, table_of, tested};
+ghost use Rattle.integrator.specs.Starts.{atom_types, has_room, holds_two, mass_of, start_at, start_with, system_of, types_of, IsSlopeCode, slope_code_of, start_of, table_of, tested};
 ghost use Rattle.fixed.specs.Arithmetic.{in_range};
+ghost use Rattle.fixed.specs.Fractions.{bits_of};
 ghost use Rattle.integrator.specs.States.{counter_at};
 ghost use Rattle.integrator.specs.StartViews.{Gives, is_of_system, energy_view, ready_view, start_view};
 
@@ -73,17 +74,19 @@ fn atom_masses<A: Allocator + Copy>(
     Ok(masses)
 }
 
-fn holds_two(cutoff: Fx, side: Side) -> bool
-    ensures { result ≡ holds_two cutoff side }
+fn holds_two(frac: Frac, cutoff: Fx, side: Side) -> bool
+    ensures { result ≡ holds_two frac cutoff side }
 {
     let two = 200_000 * u128::from(cutoff.raw().unsigned_abs());
-    two <= u128::from(side.get()) * 4_294_967_296
+    two <= u128::from(side.get()) << frac.bits()
 }
 
-fn has_room(cutoff: Fx, ring: &RingBox) -> bool
-    ensures { result ≡ has_room cutoff ring.now }
+fn has_room(frac: Frac, cutoff: Fx, ring: &RingBox) -> bool
+    ensures { result ≡ has_room frac cutoff ring.now }
 {
-    holds_two(cutoff, ring.x) && holds_two(cutoff, ring.y) && holds_two(cutoff, ring.z)
+    holds_two(frac, cutoff, ring.x)
+        && holds_two(frac, cutoff, ring.y)
+        && holds_two(frac, cutoff, ring.z)
 }
 
 /// The kernel of a job with this energy.
@@ -92,7 +95,7 @@ fn kernel<A: Allocator + Copy>(
     job: &Job<A>,
     parts: SlopeParts<A>,
 ) -> Result<CodeKernel<A>, AllocError>
-    requires { IsCompiled 32 (length job.now.parameters.items) (length job.now.globals.items) (energy_view parts) }
+    requires { IsCompiled (bits_of job.now.frac) (length job.now.parameters.items) (length job.now.globals.items) (energy_view parts) }
     ensures parts { IfOk result (λ k. k.parts ≡ parts) }
     ensures table { IfOk result (λ k. k.table ≡ table_of (job_value job.now)) }
 {
@@ -113,8 +116,11 @@ fn typed_atoms<A: Allocator + Copy>(
     ensures count { IfOk result (λ t. length t.types.items ≡ length state.now.atoms.items) }
     ensures only { IfErr result (λ f. is_of_system f ≡ true) }
 {
+    if job.frac.bits() != state.frac.bits() {
+        return Err(RunFault::BitsDiffer);
+    }
     let types = atom_types(alloc, job, &state.atoms)?;
-    if !has_room(job.cutoff, &state.ring) {
+    if !has_room(job.frac, job.cutoff, &state.ring) {
         return Err(RunFault::CutoffTooLong);
     }
     let masses = atom_masses(alloc, &job.types, &types)?;
@@ -123,7 +129,8 @@ fn typed_atoms<A: Allocator + Copy>(
 
 /// The energy of this job, and the atoms of a state that can be run under it.
 ///
-/// The refusals come in this order: those of the energy, of its slope and of its code; `UnknownType` for the lowest atom whose name no
+/// The refusals come in this order: those of the energy, of its slope and of its code; `BitsDiffer` where the job's numbers and the state's
+/// have not as many bits behind the point; `UnknownType` for the lowest atom whose name no
 /// type has, counted from 1; `CutoffTooLong` where some side is shorter than two cutoffs. `Memory` wherever a growth is refused.
 #[tactic(auto, unfolding(crate::specs::Starts::system_of))]
 pub fn ready<A: Allocator + Copy>(
@@ -132,7 +139,7 @@ pub fn ready<A: Allocator + Copy>(
     state: &State<A>,
 ) -> Result<Ready<A>, RunFault<A>>
     ensures value { Gives ready_view result (system_of (job_value job.now) (state_view state.now)) }
-    ensures compiled { IfOk result (λ r. IsCompiled 32 (length job.now.parameters.items) (length job.now.globals.items) (energy_view r.parts)) }
+    ensures compiled { IfOk result (λ r. IsCompiled (bits_of job.now.frac) (length job.now.parameters.items) (length job.now.globals.items) (energy_view r.parts)) }
     ensures parameters { IfOk result (λ r. r.parts.energy.parameters ≡ length job.now.parameters.items) }
     ensures globals { IfOk result (λ r. r.parts.energy.globals ≡ length job.now.globals.items) }
     ensures known { IfOk result (λ r. All (λ k. k < length job.now.types.items) r.atoms.types.items) }
@@ -161,7 +168,7 @@ fn prepare<A: Allocator + Copy>(
     ensures step { result.state.step ≡ state.step }
 {
     let system = System {
-        frac: Frac::F32,
+        frac: job.frac,
         ring: state.ring,
         core: job.core,
         cutoff: job.cutoff,
@@ -177,8 +184,28 @@ fn prepare<A: Allocator + Copy>(
     }
 }
 
+/// What a tested run of this job and state starts from.
+#[tactic(auto, unfolding(crate::specs::Starts::start_with))]
+fn started<A: Allocator + Copy>(
+    alloc: A,
+    direction: Direction,
+    steps: u64,
+    job: &Job<A>,
+    state: State<A>,
+) -> Result<Prepared<A>, RunFault<A>>
+    ensures value { Gives start_view result (start_with tested direction steps (job_value job.now) (state_view state)) }
+    ensures fits { IfOk result (λ p. in_range (counter_at direction p.state.step steps) ≡ true) }
+{
+    let ready = ready(alloc, job, &state)?;
+    let Some(counter) = counter_after(direction, &state, steps) else {
+        return Err(RunFault::StepRange);
+    };
+    let kernel = kernel(alloc, job, ready.parts)?;
+    Ok(prepare(job, state, kernel, ready.atoms, counter))
+}
+
 /// What a tested run of these texts starts from.
-#[tactic(auto, unfolding(crate::specs::Starts::start_of, crate::specs::Starts::start_with))]
+#[tactic(auto, unfolding(crate::specs::Starts::start_of))]
 pub(crate) fn start<A: Allocator + Copy>(
     alloc: A,
     direction: Direction,
@@ -191,12 +218,7 @@ pub(crate) fn start<A: Allocator + Copy>(
 {
     let job = Job::read(alloc, job)?;
     let state = State::read(alloc, state)?;
-    let ready = ready(alloc, &job, &state)?;
-    let Some(counter) = counter_after(direction, &state, steps) else {
-        return Err(RunFault::StepRange);
-    };
-    let kernel = kernel(alloc, &job, ready.parts)?;
-    Ok(prepare(&job, state, kernel, ready.atoms, counter))
+    started(alloc, direction, steps, &job, state)
 }
 
 /// The code of the slope of a job's energy, as a run of the job has it. Whether it would give a value anywhere isn't asked.

@@ -25,7 +25,7 @@ impl<K: Drop, A: Allocator> System<K, A> {
     }
 
     /// The places that follow `before` and `middle` of an atom of this mass, in 10^-5 u, that feels this force at `middle`,
-    /// in 2^-32 kJ/mol/nm: twice the middle place less the one before, plus the displacement, round the ring.
+    /// in 2^-bits kJ/mol/nm: twice the middle place less the one before, plus the displacement, round the ring.
     pub fn next_places(
         &self,
         mass: u32,

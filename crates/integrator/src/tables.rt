@@ -5,7 +5,7 @@ ghost use Rattle.std.specs.List.{All};
 ghost use Rattle.job.specs.Views.{global_value, job_value, type_value};
 ghost use Rattle.integrator.specs.Starts.{global_values, table_of, type_rows};
 
-use fixed::{Frac, Fx};
+use fixed::Fx;
 use job::{AtomType, Global, Job};
 use kernel_code::TypeTable;
 use std::alloc::{AllocError, Allocator};
@@ -42,5 +42,5 @@ pub fn type_table<A: Allocator + Copy>(alloc: A, job: &Job<A>) -> Result<TypeTab
 {
     let rows = rows(alloc, &job.types)?;
     let globals = global_values(alloc, &job.globals)?;
-    Ok(TypeTable::new(Frac::F32, job.parameters.len(), rows, globals))
+    Ok(TypeTable::new(job.frac, job.parameters.len(), rows, globals))
 }

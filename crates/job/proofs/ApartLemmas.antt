@@ -4,6 +4,7 @@ use Rattle.std.proofs.lemmas.Bool.{or_parts}
 use Rattle.std.proofs.lemmas.List.{map-append}
 use Rattle.std.proofs.lemmas.List.Quantifiers.{all_pairs_push}
 use Rattle.std.proofs.lemmas.Slice.Eq.{bytes_eq-Decides}
+use Rattle.fixed.specs.declared.frac.Frac.{Frac}
 use Rattle.job.specs.declared.faults.Key.{Key}
 use Rattle.job.specs.declared.jobs.Job.{Job}
 use Rattle.job.specs.declared.faults.JobFault.{JobFault}
@@ -38,16 +39,16 @@ pub record GivesNames (most : Counts) (names : Said → List (List ℕ)) (name_i
   pub more : (n : ℕ) (s : Said) (o : Option Statement) → names (joined n s o) ≡ and_one (names s) (name_in o)
   pub fresh : (n : ℕ) (s : Said) (o : Option Statement) (name : List ℕ) → entry_fault most n s o ≡ None → name_in o ≡ Some name → knows (names s) name ≡ false
 
-apart_below : (most : Counts) (names : Said → List (List ℕ)) (name_in : Option Statement → Option (List ℕ)) → GivesNames most names name_in → (above lines : List (List ℕ))
-    → ((front below : List (List ℕ)) (line : List ℕ) → lines ≡ front ++ line ∷ below → line_fault most (above ++ front) line ≡ None) → AreApart (names (summary above)) → AreApart (names (summary (above ++ lines)))
+apart_below : (most : Counts) (frac : Frac) (names : Said → List (List ℕ)) (name_in : Option Statement → Option (List ℕ)) → GivesNames most names name_in → (above lines : List (List ℕ))
+    → ((front below : List (List ℕ)) (line : List ℕ) → lines ≡ front ++ line ∷ below → line_fault most frac (above ++ front) line ≡ None) → AreApart (names (summary frac above)) → AreApart (names (summary frac (above ++ lines)))
 unfolding line_fault
-apart_below most names name_in g above [] h a = subst (λ (z : List (List ℕ)). AreApart (names (summary z))) (sym (append-nil above)) a
-apart_below most names name_in g above (line ∷ lines) h a =
-    let good : line_fault most above line ≡ None = ap (λ (z : List (List ℕ)). line_fault most z line) (sym (append-nil above)) ∙ h [] lines line refl in
-    let one : AreApart (and_one (names (summary above)) (name_in (entry_of line))) = apart_one (names (summary above)) (name_in (entry_of line)) (λ name e. g.fresh (length above + 2) (summary above) (entry_of line) name good e) a in
-    let more : AreApart (names (summary (above ++ line ∷ []))) = subst AreApart (sym (ap names (summary_more above line) ∙ g.more (length above + 2) (summary above) (entry_of line))) one in
-    subst (λ (z : List (List ℕ)). AreApart (names (summary z))) (append_assoc above (line ∷ []) lines)
-    (apart_below most names name_in g (above ++ line ∷ []) lines (λ front below l e. ap (λ (z : List (List ℕ)). line_fault most z l) (append_assoc above (line ∷ []) front) ∙ h (line ∷ front) below l (ap (λ zs. line ∷ zs) e)) more)
+apart_below most frac names name_in g above [] h a = subst (λ (z : List (List ℕ)). AreApart (names (summary frac z))) (sym (append-nil above)) a
+apart_below most frac names name_in g above (line ∷ lines) h a =
+    let good : line_fault most frac above line ≡ None = ap (λ (z : List (List ℕ)). line_fault most frac z line) (sym (append-nil above)) ∙ h [] lines line refl in
+    let one : AreApart (and_one (names (summary frac above)) (name_in (entry_of frac line))) = apart_one (names (summary frac above)) (name_in (entry_of frac line)) (λ name e. g.fresh (length above + 2) (summary frac above) (entry_of frac line) name good e) a in
+    let more : AreApart (names (summary frac (above ++ line ∷ []))) = subst AreApart (sym (ap names (summary_more frac above line) ∙ g.more (length above + 2) (summary frac above) (entry_of frac line))) one in
+    subst (λ (z : List (List ℕ)). AreApart (names (summary frac z))) (append_assoc above (line ∷ []) lines)
+    (apart_below most frac names name_in g (above ++ line ∷ []) lines (λ front below l e. ap (λ (z : List (List ℕ)). line_fault most frac z l) (append_assoc above (line ∷ []) front) ∙ h (line ∷ front) below l (ap (λ zs. line ∷ zs) e)) more)
 
 map_one : {X Y : Type 0} (f : X → Y) (xs : List X) (o : Option X) → map f (and_one xs o) ≡ and_one (map f xs) (option_map f o)
 map_one f xs None = refl
@@ -108,15 +109,15 @@ line_names : (ts : List TypeLine) → map (λ t. t.name) (map (λ t. t.value) ts
 line_names [] = refl
 line_names (t ∷ ts) = ap (λ ns. t.value.name ∷ ns) (line_names ts)
 
-names_once : (most : Counts) (lines : List (List ℕ)) (job : JobValue) → IsFaultless most lines → Tells (summary lines) job → HasNamesOnce job
+names_once : (most : Counts) (frac : Frac) (lines : List (List ℕ)) (job : JobValue) → IsFaultless most frac lines → Tells (summary frac lines) job → HasNamesOnce job
 unfolding summary
-names_once most lines job h t =
+names_once most frac lines job h t =
     record {
-      parameters = subst AreApart t.parameters (apart_below most (λ s. s.parameters) parameter_name (parameter_names most) [] lines h apart_none);
-      globals = subst (λ (gs : List GlobalValue). AreApart (map (λ g. g.name) gs)) t.globals (apart_below most (λ s. map (λ g. g.name) s.globals) global_name (global_names most) [] lines h apart_none);
-      types = subst (λ (ts : List TypeValue). AreApart (map (λ u. u.name) ts)) t.types (subst AreApart (sym (line_names (summary lines).types)) (apart_below most (λ s. map (λ u. u.value.name) s.types) type_name (type_names most) [] lines h apart_none));
+      parameters = subst AreApart t.parameters (apart_below most frac (λ s. s.parameters) parameter_name (parameter_names most) [] lines h apart_none);
+      globals = subst (λ (gs : List GlobalValue). AreApart (map (λ g. g.name) gs)) t.globals (apart_below most frac (λ s. map (λ g. g.name) s.globals) global_name (global_names most) [] lines h apart_none);
+      types = subst (λ (ts : List TypeValue). AreApart (map (λ u. u.name) ts)) t.types (subst AreApart (sym (line_names (summary frac lines).types)) (apart_below most frac (λ s. map (λ u. u.value.name) s.types) type_name (type_names most) [] lines h apart_none));
     }
 
 pub given_apart : {A : Type 0} (most : Counts) (text : List ℕ) (result : Result (Job A) (JobFault A)) → IfOk result (λ job. IsJobText most text (job_value job)) → IfOk result (λ job. HasNamesOnce (job_value job))
 given_apart most text (Err e) h = tt
-given_apart most text (Ok job) h = names_once most h.lines (job_value job) h.faultless h.tells
+given_apart most text (Ok job) h = names_once most job.frac h.lines (job_value job) h.faultless h.tells

@@ -1,10 +1,14 @@
 -- What the next line of a key that many lines may have adds.
-use Rattle.std.proofs.Common.{◌≡◌, ℕ, ◌<◌, ◌≤◌, ℤ, true, false, List, [], ◌∷◌, ◌++◌, length, map, Option, Some, None, Result, Ok, Err, IfSome, refl, sym, ap, ◌∙◌, lt-ltb, le-ltb}
+use Rattle.std.proofs.Common.{◌≡◌, ℕ, ◌<◌, ◌≤◌, ℤ, true, false, List, [], ◌∷◌, ◌++◌, length, map, Option, Some, None, Result, Ok, Err, IfSome, ok_or, refl, sym, ap, ◌∙◌, lt-ltb, le-ltb}
 use Rattle.std.proofs.lemmas.List.{map-append}
 use Rattle.job.specs.declared.faults.Key.TheVariants as keys
+use Rattle.line_text.specs.Identifiers.{is_identifier}
+use Rattle.job.specs.Words.{two}
+use Rattle.job.specs.Numbers.{Reading, signed_of}
+use Rattle.job.specs.Statements.{well_formed}
 use Rattle.job.specs.Values.{GlobalValue, Counts}
-use Rattle.job.specs.Faults.{Refusal, repeated_name, repeated_type, out_of_range, TypeLine, Said, knows}
-use Rattle.job.specs.Drafts.{parameter_new, global_new, type_new}
+use Rattle.job.specs.Faults.{Refusal, bad_line, repeated_name, repeated_type, out_of_range, TypeLine, Said, knows}
+use Rattle.job.specs.Drafts.{parameter_new, global_new, global_by, global_into, type_new}
 
 -- a refusal of this fault
 pub refused : {X : Type 0} (o : Option Refusal) (fault : Refusal) (r : Result X Refusal) → IfSome o (λ f. f ≡ fault) → r ≡ Err fault → IfSome o (λ f. r ≡ Err f)
@@ -40,6 +44,22 @@ pub global_added : (most : Counts) (s : Said) (name : List ℕ) (v : ℤ) (gs : 
     → gs ≡ s.globals ++ record { name = name; value = v } ∷ [] → global_new most s name (Some v) ≡ Ok (record s { globals = gs })
 unfolding global_new
 global_added most s name v gs k lt e = rw (k, lt-ltb (length s.globals) most.globals lt, e) refl
+
+by_value : (most : Counts) (n : ℕ) (s : Said) (name : List ℕ) (o : Option (Option ℤ)) (v : Option ℤ) → ok_or o (bad_line n) ≡ Ok v → global_by most n s name o ≡ global_new most s name v
+by_value most n s name None v e = absurd cc
+by_value most n s name (Some u) v e = let same : u ≡ v = cc in ap (global_new most s name) same
+
+-- what is well formed has a new name, or not
+pub global_by_value : (most : Counts) (n : ℕ) (s : Said) (ws : List (List ℕ)) (name word : List ℕ) (r : Reading ℤ) (v : Option ℤ) → two ws ≡ Some (name, word) → is_identifier name ≡ true → r ≡ signed_of s.frac word
+    → ok_or (well_formed r) (bad_line n) ≡ Ok v → global_into most n s ws ≡ global_new most s name v
+global_by_value most n s [] name word r v e is read ok = absurd cc
+global_by_value most n s (w ∷ []) name word r v e is read ok = absurd cc
+global_by_value most n s (w ∷ x ∷ y ∷ ws) name word r v e is read ok = absurd cc
+global_by_value most n s (w ∷ x ∷ []) name word r v e is read ok =
+    let pair : ◌≡◌ {A = List ℕ × List ℕ} (w, x) (name, word) = cc in
+    let first : w ≡ name = ap (λ (p : List ℕ × List ℕ). p.0) pair in
+    let second : x ≡ word = ap (λ (p : List ℕ × List ℕ). p.1) pair in
+    rw (first, second, is, ← read) (by_value most n s name (well_formed r) v ok)
 
 pub type_known : (most : Counts) (n : ℕ) (s : Said) (name : List ℕ) (v : Option (ℕ × List ℤ)) → knows (map (λ t. t.value.name) s.types) name ≡ true → type_new most n s name v ≡ Err (repeated_type name)
 unfolding type_new

@@ -2,18 +2,19 @@
 use Rattle.std.proofs.Common.{◌≡◌, ℕ, ℤ, ◌+◌, Bool, true, false, List, [], ◌∷◌, ◌++◌, length, Option, Some, None, Result, Ok, Err, filter_map, option_and_then, nat_lt, slice_index, ◌==◌, refl, sym, ap, subst, ◌∙◌, arith, append_assoc, append-nil, length-append, zero-add, option_map, map, if◌then◌else◌}
 use Rattle.std.specs.List.{cons_option}
 use Rattle.std.proofs.lemmas.List.Elements.{filter_map-append}
+use Rattle.fixed.specs.declared.frac.Frac.{Frac}
 use Rattle.fixed.specs.declared.faults.NumFault.TheVariants.{BadNumber, NumberRange}
 use Rattle.job.specs.declared.faults.Key.{Key}
 use Rattle.job.specs.declared.faults.Key.TheVariants as keys
 use Rattle.line_text.specs.Identifiers.{is_identifier}
 use Rattle.job.specs.Forms.{is_type_name}
 use Rattle.line_text.specs.Words.{words, without_blanks, after_word}
-use Rattle.job.specs.Numbers.{Reading, both, only, alone, numeral_of, signed_of, values_of, cutoff_of, whole_of, mass_of}
+use Rattle.job.specs.Numbers.{Reading, both, only, alone, numeral_of, signed_of, values_of, cutoff_of, whole_of, frac_of, mass_of}
 use Rattle.job.specs.Values.{Counts}
-use Rattle.job.specs.Statements.{Statement, skipped, core_is, cutoff_is, time_step_is, slices_is, parameter_is, global_is, type_is, well_formed, energy_statement, parameter_statement, global_statement, type_statement, key_of, key_statement, words_statement, entry_of}
-use Rattle.job.specs.Faults.{Refusal, bad_line, repeated_name, out_of_range, repeated_type, Said, energy_in, core_in, cutoff_in, time_step_in, slices_in, parameter_in, global_in, type_in, first, type_lines, summary, once, knows, listed, entry_fault, line_fault, or_else, first_fault}
+use Rattle.job.specs.Statements.{Statement, skipped, core_is, cutoff_is, time_step_is, slices_is, parameter_is, global_is, type_is, bits_is, well_formed, energy_statement, parameter_statement, global_statement, type_statement, key_of, key_statement, words_statement, entry_of}
+use Rattle.job.specs.Faults.{Refusal, bad_line, repeated_name, out_of_range, repeated_type, Said, energy_in, core_in, cutoff_in, time_step_in, slices_in, parameter_in, global_in, type_in, bits_in, first, type_lines, summary, once, knows, listed, entry_fault, line_fault, or_else, first_fault}
 use Rattle.line_text.specs.Steps.{◌>>=◌}
-use Rattle.job.specs.Drafts.{number_of, energy_new, energy_into, core_into, cutoff_into, time_step_into, slices_into, parameter_new, parameter_into, global_new, global_by, global_into, type_new, type_by, type_into, key_into, words_into, line_into, lines_into}
+use Rattle.job.specs.Drafts.{number_of, energy_new, energy_into, core_into, cutoff_into, time_step_into, slices_into, bits_into, parameter_new, parameter_into, global_new, global_by, global_into, type_new, type_by, type_into, key_into, words_into, line_into, lines_into}
 
 -- ---- one more line
 
@@ -32,6 +33,7 @@ and_one xs (Some x) = xs ++ x ∷ []
 -- what lines have said, and one more
 abbrev pub joined : ℕ → Said → Option Statement → Said
 joined n s e = record {
+  frac = s.frac;
   energy = or_first s.energy (option_and_then energy_in e);
   core = or_first s.core (option_and_then core_in e);
   cutoff = or_first s.cutoff (option_and_then cutoff_in e);
@@ -40,6 +42,7 @@ joined n s e = record {
   parameters = and_one s.parameters (option_and_then parameter_in e);
   globals = and_one s.globals (option_and_then global_in e);
   types = and_one s.types (type_in n e);
+  bits = or_first s.bits (option_and_then bits_in e);
 }
 
 cons_one : {X Y : Type 0} (h : X → Option Y) (xs : List Y) (e : Option X) → xs ++ filter_map h (cons_option e []) ≡ and_one xs (option_and_then h e)
@@ -50,21 +53,21 @@ cons_one {Y = Y} h xs (Some x) = at (h x)
     at None = append-nil xs
     at (Some y) = refl
 
-pub said_more : {Y : Type 0} (h : Statement → Option Y) (lines : List (List ℕ)) (line : List ℕ)
-    → filter_map h (filter_map entry_of (lines ++ line ∷ [])) ≡ and_one (filter_map h (filter_map entry_of lines)) (option_and_then h (entry_of line))
-said_more h lines line =
-    ap (filter_map h) (filter_map-append entry_of lines (line ∷ []))
-    ∙ filter_map-append h (filter_map entry_of lines) (cons_option (entry_of line) [])
-    ∙ cons_one h (filter_map h (filter_map entry_of lines)) (entry_of line)
+pub said_more : {Y : Type 0} (frac : Frac) (h : Statement → Option Y) (lines : List (List ℕ)) (line : List ℕ)
+    → filter_map h (filter_map (entry_of frac) (lines ++ line ∷ [])) ≡ and_one (filter_map h (filter_map (entry_of frac) lines)) (option_and_then h (entry_of frac line))
+said_more frac h lines line =
+    ap (filter_map h) (filter_map-append (entry_of frac) lines (line ∷ []))
+    ∙ filter_map-append h (filter_map (entry_of frac) lines) (cons_option (entry_of frac line) [])
+    ∙ cons_one h (filter_map h (filter_map (entry_of frac) lines)) (entry_of frac line)
 
 first_more : {X : Type 0} (xs : List X) (o : Option X) → first (and_one xs o) ≡ or_first (first xs) o
 first_more xs None = refl
 first_more [] (Some x) = refl
 first_more (y ∷ ys) (Some x) = refl
 
-first_said : {Y : Type 0} (h : Statement → Option Y) (lines : List (List ℕ)) (line : List ℕ)
-    → first (filter_map h (filter_map entry_of (lines ++ line ∷ []))) ≡ or_first (first (filter_map h (filter_map entry_of lines))) (option_and_then h (entry_of line))
-first_said h lines line = ap first (said_more h lines line) ∙ first_more (filter_map h (filter_map entry_of lines)) (option_and_then h (entry_of line))
+first_said : {Y : Type 0} (frac : Frac) (h : Statement → Option Y) (lines : List (List ℕ)) (line : List ℕ)
+    → first (filter_map h (filter_map (entry_of frac) (lines ++ line ∷ []))) ≡ or_first (first (filter_map h (filter_map (entry_of frac) lines))) (option_and_then h (entry_of frac line))
+first_said frac h lines line = ap first (said_more frac h lines line) ∙ first_more (filter_map h (filter_map (entry_of frac) lines)) (option_and_then h (entry_of frac line))
 
 one_only : {X : Type 0} (o : Option X) → cons_option o [] ≡ and_one [] o
 one_only None = refl
@@ -76,15 +79,27 @@ cons_and None (Some y) xs = refl
 cons_and (Some x) None xs = refl
 cons_and (Some x) (Some y) xs = refl
 
-types_more : (n m : ℕ) (lines : List (List ℕ)) (line : List ℕ) → m ≡ length lines + n → type_lines n (lines ++ line ∷ []) ≡ and_one (type_lines n lines) (type_in m (entry_of line))
-types_more n m [] line e =
-    subst (λ k. cons_option (type_in n (entry_of line)) [] ≡ and_one [] (type_in k (entry_of line))) (sym (e ∙ zero-add n)) (one_only (type_in n (entry_of line)))
-types_more n m (l ∷ lines) line e =
-    ap (cons_option (type_in n (entry_of l))) (types_more (n + 1) m lines line (omega arith)) ∙ cons_and (type_in n (entry_of l)) (type_in m (entry_of line)) (type_lines (n + 1) lines)
+types_more : (frac : Frac) (n m : ℕ) (lines : List (List ℕ)) (line : List ℕ) → m ≡ length lines + n
+    → type_lines frac n (lines ++ line ∷ []) ≡ and_one (type_lines frac n lines) (type_in m (entry_of frac line))
+types_more frac n m [] line e =
+    subst (λ k. cons_option (type_in n (entry_of frac line)) [] ≡ and_one [] (type_in k (entry_of frac line))) (sym (e ∙ zero-add n)) (one_only (type_in n (entry_of frac line)))
+types_more frac n m (l ∷ lines) line e =
+    ap (cons_option (type_in n (entry_of frac l))) (types_more frac (n + 1) m lines line (omega arith)) ∙ cons_and (type_in n (entry_of frac l)) (type_in m (entry_of frac line)) (type_lines frac (n + 1) lines)
 
-pub summary_more : (lines : List (List ℕ)) (line : List ℕ) → summary (lines ++ line ∷ []) ≡ joined (length lines + 2) (summary lines) (entry_of line)
+pub summary_more : (frac : Frac) (lines : List (List ℕ)) (line : List ℕ) → summary frac (lines ++ line ∷ []) ≡ joined (length lines + 2) (summary frac lines) (entry_of frac line)
 unfolding summary
-summary_more lines line = rw (first_said energy_in lines line, first_said core_in lines line, first_said cutoff_in lines line, first_said time_step_in lines line, first_said slices_in lines line, said_more parameter_in lines line, said_more global_in lines line, types_more 2 (length lines + 2) lines line refl) refl
+summary_more frac lines line =
+    rw (
+      first_said frac energy_in lines line,
+      first_said frac core_in lines line,
+      first_said frac cutoff_in lines line,
+      first_said frac time_step_in lines line,
+      first_said frac slices_in lines line,
+      said_more frac parameter_in lines line,
+      said_more frac global_in lines line,
+      types_more frac 2 (length lines + 2) lines line refl,
+      first_said frac bits_in lines line,
+    ) refl
 
 -- ---- the outcome of a line
 
@@ -142,6 +157,11 @@ slices_case most n s (Err BadNumber) = refl
 slices_case most n s (Err NumberRange) = single_out n keys.Slices s.slices (λ v. record s { slices = Some v }) _
 slices_case most n s (Ok v) = single_in n keys.Slices s.slices v (λ o. record s { slices = o })
 
+bits_case : (most : Counts) (n : ℕ) (s : Said) (r : Reading Frac) → bits_into n s r ≡ result_of most n s (option_map bits_is (well_formed r))
+bits_case most n s (Err BadNumber) = refl
+bits_case most n s (Err NumberRange) = single_out n keys.Bits s.bits (λ v. record s { bits = Some v }) _
+bits_case most n s (Ok v) = single_in n keys.Bits s.bits v (λ o. record s { bits = o })
+
 parameter_case : (most : Counts) (n : ℕ) (s : Said) (ws : List (List ℕ)) → parameter_into most n s (only ws) ≡ result_of most n s (parameter_statement ws)
 parameter_case most n s [] = refl
 parameter_case most n s (name ∷ w ∷ ws) = refl
@@ -151,12 +171,12 @@ parameter_case most n s (name ∷ []) = at (is_identifier name)
     at false = refl
     at true = listed_is (knows s.parameters name) (nat_lt (length s.parameters) most.parameters) (repeated_name name) keys.Parameter _
 
-global_case : (most : Counts) (n : ℕ) (s : Said) (ws : List (List ℕ)) → global_into most n s ws ≡ result_of most n s (global_statement ws)
+global_case : (most : Counts) (n : ℕ) (s : Said) (ws : List (List ℕ)) → global_into most n s ws ≡ result_of most n s (global_statement s.frac ws)
 unfolding global_new
 global_case most n s [] = refl
 global_case most n s (name ∷ []) = refl
 global_case most n s (name ∷ x ∷ w ∷ ws) = refl
-global_case most n s (name ∷ x ∷ []) = at (is_identifier name) (well_formed (signed_of x))
+global_case most n s (name ∷ x ∷ []) = at (is_identifier name) (well_formed (signed_of s.frac x))
   where
     at : (b : Bool) (o : Option (Option ℤ)) → (if b then global_by most n s name o else Err (bad_line n)) ≡ result_of most n s (if b then option_map (global_is name) o else None)
     at false o = refl
@@ -164,11 +184,11 @@ global_case most n s (name ∷ x ∷ []) = at (is_identifier name) (well_formed 
     at true (Some None) = listed_out (knows (map (λ g. g.name) s.globals) name) (repeated_name name) keys.Global _
     at true (Some (Some v)) = listed_is (knows (map (λ g. g.name) s.globals) name) (nat_lt (length s.globals) most.globals) (repeated_name name) keys.Global _
 
-type_case : (most : Counts) (n : ℕ) (s : Said) (ws : List (List ℕ)) → type_into most n s ws ≡ result_of most n s (type_statement ws)
+type_case : (most : Counts) (n : ℕ) (s : Said) (ws : List (List ℕ)) → type_into most n s ws ≡ result_of most n s (type_statement s.frac ws)
 unfolding type_new
 type_case most n s [] = refl
 type_case most n s (name ∷ []) = refl
-type_case most n s (name ∷ mass ∷ values) = at (is_type_name name) (well_formed (both (mass_of mass) (values_of values)))
+type_case most n s (name ∷ mass ∷ values) = at (is_type_name name) (well_formed (both (mass_of mass) (values_of s.frac values)))
   where
     at : (b : Bool) (o : Option (Option (ℕ × List ℤ))) → (if b then type_by most n s name o else Err (bad_line n)) ≡ result_of most n s (if b then option_map (type_is name) o else None)
     at false o = refl
@@ -176,44 +196,46 @@ type_case most n s (name ∷ mass ∷ values) = at (is_type_name name) (well_for
     at true (Some None) = listed_out (knows (map (λ t. t.value.name) s.types) name) (repeated_type name) keys.Types _
     at true (Some (Some v)) = listed_is (knows (map (λ t. t.value.name) s.types) name) (nat_lt (length s.types) most.types) (repeated_type name) keys.Types _
 
-key_case : (most : Counts) (n : ℕ) (s : Said) (key : Option Key) (text : List ℕ) → key_into most n s key text ≡ result_of most n s (key_statement key text)
+key_case : (most : Counts) (n : ℕ) (s : Said) (key : Option Key) (text : List ℕ) → key_into most n s key text ≡ result_of most n s (key_statement s.frac key text)
 unfolding key_into
 key_case most n s None text = refl
 key_case most n s (Some keys.Energy) text = energy_case most n s (without_blanks text)
-key_case most n s (Some keys.Core) text = core_case most n s (alone numeral_of (words text))
-key_case most n s (Some keys.Cutoff) text = cutoff_case most n s (alone cutoff_of (words text))
+key_case most n s (Some keys.Core) text = core_case most n s (alone (numeral_of s.frac) (words text))
+key_case most n s (Some keys.Cutoff) text = cutoff_case most n s (alone (cutoff_of s.frac) (words text))
 key_case most n s (Some keys.TimeStep) text = time_step_case most n s (alone (whole_of 1 1000) (words text))
 key_case most n s (Some keys.Slices) text = slices_case most n s (alone (whole_of 1 65536) (words text))
 key_case most n s (Some keys.Parameter) text = parameter_case most n s (words text)
 key_case most n s (Some keys.Global) text = global_case most n s (words text)
 key_case most n s (Some keys.Types) text = type_case most n s (words text)
+key_case most n s (Some keys.Bits) text = bits_case most n s (alone frac_of (words text))
 
-words_case : (most : Counts) (n : ℕ) (s : Said) (ws : List (List ℕ)) (text : List ℕ) → words_into most n s ws text ≡ result_of most n s (words_statement ws text)
+words_case : (most : Counts) (n : ℕ) (s : Said) (ws : List (List ℕ)) (text : List ℕ) → words_into most n s ws text ≡ result_of most n s (words_statement s.frac ws text)
 words_case most n s [] text = refl
 words_case most n s (word ∷ ws) text = key_case most n s (key_of word) text
 
-line_is : (most : Counts) (n : ℕ) (s : Said) (line : List ℕ) → line_into most n s line ≡ result_of most n s (entry_of line)
+line_is : (most : Counts) (n : ℕ) (s : Said) (line : List ℕ) → line_into most n s line ≡ result_of most n s (entry_of s.frac line)
 unfolding line_into entry_of
 line_is most n s line = at (slice_index line 0 == 35)
   where
-    at : (b : Bool) → (if b then Ok s else words_into most n s (words line) (after_word line)) ≡ result_of most n s (if b then Some skipped else words_statement (words line) (after_word line))
+    at : (b : Bool) → (if b then Ok s else words_into most n s (words line) (after_word line)) ≡ result_of most n s (if b then Some skipped else words_statement s.frac (words line) (after_word line))
     at true = refl
     at false = words_case most n s (words line) (after_word line)
 
 -- ---- all lines
 
-line_below : (most : Counts) (above : List (List ℕ)) (line : List ℕ) → line_into most (length above + 2) (summary above) line ≡ outcome (line_fault most above line) (summary (above ++ line ∷ []))
-unfolding line_fault
-line_below most above line = line_is most (length above + 2) (summary above) line ∙ ap (outcome (entry_fault most (length above + 2) (summary above) (entry_of line))) (sym (summary_more above line))
+line_below : (most : Counts) (frac : Frac) (above : List (List ℕ)) (line : List ℕ) → line_into most (length above + 2) (summary frac above) line ≡ outcome (line_fault most frac above line) (summary frac (above ++ line ∷ []))
+unfolding line_fault summary
+line_below most frac above line =
+    line_is most (length above + 2) (summary frac above) line ∙ ap (outcome (entry_fault most (length above + 2) (summary frac above) (entry_of frac line))) (sym (summary_more frac above line))
 
-pub lines_below : (most : Counts) (above lines : List (List ℕ)) (n : ℕ) → n ≡ length above + 2 → lines_into most n (summary above) lines ≡ outcome (first_fault most above lines) (summary (above ++ lines))
+pub lines_below : (most : Counts) (frac : Frac) (above lines : List (List ℕ)) (n : ℕ) → n ≡ length above + 2 → lines_into most n (summary frac above) lines ≡ outcome (first_fault most frac above lines) (summary frac (above ++ lines))
 unfolding lines_into first_fault
-lines_below most above [] n e = ap (λ (ls : List (List ℕ)). Ok (summary ls)) (sym (append-nil above))
-lines_below most above (line ∷ lines) n e =
-    ap (λ k. line_into most k (summary above) line >>= λ t. lines_into most (n + 1) t lines) e ∙ ap (λ r. r >>= λ t. lines_into most (n + 1) t lines) (line_below most above line)
-    ∙ at (line_fault most above line) (lines_below most (above ++ line ∷ []) lines (n + 1) (omega (arith, length-append above (line ∷ []))))
+lines_below most frac above [] n e = ap (λ (ls : List (List ℕ)). Ok (summary frac ls)) (sym (append-nil above))
+lines_below most frac above (line ∷ lines) n e =
+    ap (λ k. line_into most k (summary frac above) line >>= λ t. lines_into most (n + 1) t lines) e ∙ ap (λ r. r >>= λ t. lines_into most (n + 1) t lines) (line_below most frac above line)
+    ∙ at (line_fault most frac above line) (lines_below most frac (above ++ line ∷ []) lines (n + 1) (omega (arith, length-append above (line ∷ []))))
   where
-    at : (fault : Option Refusal) → lines_into most (n + 1) (summary (above ++ line ∷ [])) lines ≡ outcome (first_fault most (above ++ line ∷ []) lines) (summary ((above ++ line ∷ []) ++ lines))
-        → (outcome fault (summary (above ++ line ∷ [])) >>= λ t. lines_into most (n + 1) t lines) ≡ outcome (or_else fault (first_fault most (above ++ line ∷ []) lines)) (summary (above ++ line ∷ lines))
+    at : (fault : Option Refusal) → lines_into most (n + 1) (summary frac (above ++ line ∷ [])) lines ≡ outcome (first_fault most frac (above ++ line ∷ []) lines) (summary frac ((above ++ line ∷ []) ++ lines))
+        → (outcome fault (summary frac (above ++ line ∷ [])) >>= λ t. lines_into most (n + 1) t lines) ≡ outcome (or_else fault (first_fault most frac (above ++ line ∷ []) lines)) (summary frac (above ++ line ∷ lines))
     at (Some f) h = refl
-    at None h = h ∙ ap (λ (ls : List (List ℕ)). outcome (first_fault most (above ++ line ∷ []) lines) (summary ls)) (append_assoc above (line ∷ []) lines)
+    at None h = h ∙ ap (λ (ls : List (List ℕ)). outcome (first_fault most frac (above ++ line ∷ []) lines) (summary frac ls)) (append_assoc above (line ∷ []) lines)

@@ -5,6 +5,7 @@ pub mod LineLemmas
 pub mod CountLemmas
 pub mod ViewLemmas
 pub mod FaultLemmas
+pub mod BitsLemmas
 pub mod TextLemmas
 pub mod OnceLemmas
 pub mod ApartLemmas

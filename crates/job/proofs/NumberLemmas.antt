@@ -4,6 +4,8 @@ use Rattle.std.specs.Str.{all_ascii_digits}
 use Rattle.std.specs.Str.Parse.{digits_value}
 use Rattle.std.proofs.lemmas.Bool.{cases_lt, le-leb, lt-leb, lt-ltb}
 use Rattle.std.proofs.lemmas.Int.{ints}
+use Rattle.fixed.specs.declared.frac.Frac.{Frac}
+use Rattle.fixed.specs.Fractions.{bits_of}
 use Rattle.fixed.specs.declared.faults.NumFault.{NumFault}
 use Rattle.fixed.specs.declared.faults.NumFault.TheVariants.{BadNumber, NumberRange}
 use Rattle.fixed.specs.Numerals.{IsReading, fixed_of}
@@ -20,11 +22,11 @@ joined : {D : Type 0} (f : D → Reading ℤ) (o : Option D) (r : Reading ℤ) �
 joined f None r some none = none refl
 joined f (Some d) r some none = some d refl
 
-pub reading_is : (text : List ℕ) (r : Reading ℤ) → IsReading 32 text r → r ≡ numeral_of text
+pub reading_is : (frac : Frac) (text : List ℕ) (r : Reading ℤ) → IsReading (bits_of frac) text r → r ≡ numeral_of frac text
 unfolding numeral_of
-reading_is text r h = joined (λ d. fixed_of 32 d.mantissa d.power) (decimal_of text) r
+reading_is frac text r h = joined (λ d. fixed_of (bits_of frac) d.mantissa d.power) (decimal_of text) r
     (λ d e. let s = sound text d e in
-    h.value s.0 s.1 s.2 ∙ ap (λ o. or_malformed (option_map (λ x. fixed_of 32 x.mantissa x.power) o)) (sym (complete s.0 s.1) ∙ ap decimal_of s.2 ∙ e))
+    h.value s.0 s.1 s.2 ∙ ap (λ o. or_malformed (option_map (λ x. fixed_of (bits_of frac) x.mantissa x.power) o)) (sym (complete s.0 s.1) ∙ ap decimal_of s.2 ∙ e))
     (λ e. h.bad (λ n is t. let c = sym (complete n is) ∙ ap decimal_of t ∙ e in cc))
 
 ok_least : (b : Bool) (n : ℕ) → IfOk {E = NumFault} (cond b (Ok (pos n)) (Err NumberRange)) (λ v. pos 0 ≤ℤ v)
@@ -39,9 +41,9 @@ each_least : {D : Type 0} (f : D → Reading ℤ) → ((d : D) → IfOk (f d) (�
 each_least f h None = tt
 each_least f h (Some d) = h d
 
-pub numeral_least : (text : List ℕ) → IfOk (numeral_of text) (λ v. pos 0 ≤ℤ v)
+pub numeral_least : (frac : Frac) (text : List ℕ) → IfOk (numeral_of frac text) (λ v. pos 0 ≤ℤ v)
 unfolding numeral_of
-numeral_least text = each_least (λ d. fixed_of 32 d.mantissa d.power) (λ d. fixed_least 32 d.mantissa d.power) (decimal_of text)
+numeral_least frac text = each_least (λ d. fixed_of (bits_of frac) d.mantissa d.power) (λ d. fixed_least (bits_of frac) d.mantissa d.power) (decimal_of text)
 
 -- ---- values
 
@@ -71,38 +73,38 @@ value_out false values (Ok vs) = refl
 value_out false values (Err BadNumber) = refl
 value_out false values (Err NumberRange) = refl
 
-values_more : (b : Bool) (values : List ℤ) (v : ℤ) (ws : List (List ℕ)) (w : List ℕ) → signed_of w ≡ Ok v → and_then (so_far b (values ++ v ∷ [])) (values_of ws) ≡ and_then (so_far b values) (values_of (w ∷ ws))
+values_more : (frac : Frac) (b : Bool) (values : List ℤ) (v : ℤ) (ws : List (List ℕ)) (w : List ℕ) → signed_of frac w ≡ Ok v → and_then (so_far b (values ++ v ∷ [])) (values_of frac ws) ≡ and_then (so_far b values) (values_of frac (w ∷ ws))
 unfolding values_of
-values_more b values v ws w e = rw e (value_more b values v (values_of ws))
+values_more frac b values v ws w e = rw e (value_more b values v (values_of frac ws))
 
-values_out : (b : Bool) (values : List ℤ) (ws : List (List ℕ)) (w : List ℕ) → signed_of w ≡ Err NumberRange → and_then (so_far false values) (values_of ws) ≡ and_then (so_far b values) (values_of (w ∷ ws))
+values_out : (frac : Frac) (b : Bool) (values : List ℤ) (ws : List (List ℕ)) (w : List ℕ) → signed_of frac w ≡ Err NumberRange → and_then (so_far false values) (values_of frac ws) ≡ and_then (so_far b values) (values_of frac (w ∷ ws))
 unfolding values_of
-values_out b values ws w e = rw e (value_out b values (values_of ws))
+values_out frac b values ws w e = rw e (value_out b values (values_of frac ws))
 
-values_bad : (b : Bool) (values : List ℤ) (ws : List (List ℕ)) (w : List ℕ) → signed_of w ≡ Err BadNumber → and_then (so_far b values) (values_of (w ∷ ws)) ≡ Err BadNumber
+values_bad : (frac : Frac) (b : Bool) (values : List ℤ) (ws : List (List ℕ)) (w : List ℕ) → signed_of frac w ≡ Err BadNumber → and_then (so_far b values) (values_of frac (w ∷ ws)) ≡ Err BadNumber
 unfolding values_of
-values_bad true values ws w e = rw e refl
-values_bad false values ws w e = rw e refl
+values_bad frac true values ws w e = rw e refl
+values_bad frac false values ws w e = rw e refl
 
-values_none : values_of [] ≡ Ok []
+values_none : (frac : Frac) → values_of frac [] ≡ Ok []
 unfolding values_of
-values_none = refl
+values_none frac = refl
 
-pub values_push : (b : Bool) (values more : List ℤ) (v : ℤ) (rest ws : List (List ℕ)) (w : List ℕ) (total : Reading (List ℤ)) → rest ≡ w ∷ ws → signed_of w ≡ Ok v → more ≡ values ++ v ∷ []
-    → and_then (so_far b values) (values_of rest) ≡ total → and_then (so_far b more) (values_of ws) ≡ total
-values_push b values more v rest ws w total e s m h =
-    ap (λ (l : List ℤ). and_then (so_far b l) (values_of ws)) m ∙ values_more b values v ws w s ∙ ap (λ (l : List (List ℕ)). and_then (so_far b values) (values_of l)) (sym e) ∙ h
+pub values_push : (frac : Frac) (b : Bool) (values more : List ℤ) (v : ℤ) (rest ws : List (List ℕ)) (w : List ℕ) (total : Reading (List ℤ)) → rest ≡ w ∷ ws → signed_of frac w ≡ Ok v → more ≡ values ++ v ∷ []
+    → and_then (so_far b values) (values_of frac rest) ≡ total → and_then (so_far b more) (values_of frac ws) ≡ total
+values_push frac b values more v rest ws w total e s m h =
+    ap (λ (l : List ℤ). and_then (so_far b l) (values_of frac ws)) m ∙ values_more frac b values v ws w s ∙ ap (λ (l : List (List ℕ)). and_then (so_far b values) (values_of frac l)) (sym e) ∙ h
 
-pub values_skip : (b : Bool) (values : List ℤ) (rest ws : List (List ℕ)) (w : List ℕ) (total : Reading (List ℤ)) → rest ≡ w ∷ ws → signed_of w ≡ Err NumberRange
-    → and_then (so_far b values) (values_of rest) ≡ total → and_then (so_far false values) (values_of ws) ≡ total
-values_skip b values rest ws w total e s h = values_out b values ws w s ∙ ap (λ (l : List (List ℕ)). and_then (so_far b values) (values_of l)) (sym e) ∙ h
+pub values_skip : (frac : Frac) (b : Bool) (values : List ℤ) (rest ws : List (List ℕ)) (w : List ℕ) (total : Reading (List ℤ)) → rest ≡ w ∷ ws → signed_of frac w ≡ Err NumberRange
+    → and_then (so_far b values) (values_of frac rest) ≡ total → and_then (so_far false values) (values_of frac ws) ≡ total
+values_skip frac b values rest ws w total e s h = values_out frac b values ws w s ∙ ap (λ (l : List (List ℕ)). and_then (so_far b values) (values_of frac l)) (sym e) ∙ h
 
-pub values_stop : (b : Bool) (values : List ℤ) (rest ws : List (List ℕ)) (w : List ℕ) (total : Reading (List ℤ)) → rest ≡ w ∷ ws → signed_of w ≡ Err BadNumber
-    → and_then (so_far b values) (values_of rest) ≡ total → Err BadNumber ≡ total
-values_stop b values rest ws w total e s h = sym (values_bad b values ws w s) ∙ ap (λ (l : List (List ℕ)). and_then (so_far b values) (values_of l)) (sym e) ∙ h
+pub values_stop : (frac : Frac) (b : Bool) (values : List ℤ) (rest ws : List (List ℕ)) (w : List ℕ) (total : Reading (List ℤ)) → rest ≡ w ∷ ws → signed_of frac w ≡ Err BadNumber
+    → and_then (so_far b values) (values_of frac rest) ≡ total → Err BadNumber ≡ total
+values_stop frac b values rest ws w total e s h = sym (values_bad frac b values ws w s) ∙ ap (λ (l : List (List ℕ)). and_then (so_far b values) (values_of frac l)) (sym e) ∙ h
 
-pub values_all : (b : Bool) (values : List ℤ) (rest : List (List ℕ)) (total : Reading (List ℤ)) → rest ≡ [] → and_then (so_far b values) (values_of rest) ≡ total → so_far b values ≡ total
-values_all b values rest total e h = sym (values_end b values) ∙ ap (and_then (so_far b values)) (sym (ap values_of e ∙ values_none)) ∙ h
+pub values_all : (frac : Frac) (b : Bool) (values : List ℤ) (rest : List (List ℕ)) (total : Reading (List ℤ)) → rest ≡ [] → and_then (so_far b values) (values_of frac rest) ≡ total → so_far b values ≡ total
+values_all frac b values rest total e h = sym (values_end b values) ∙ ap (and_then (so_far b values)) (sym (ap (values_of frac) e ∙ values_none frac)) ∙ h
 
 -- ---- whole numbers and masses
 

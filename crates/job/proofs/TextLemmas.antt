@@ -3,33 +3,37 @@ use Rattle.std.proofs.Common.{◌≡◌, ℕ, ℤ, int_lt, Bool, true, false, T,
 use Rattle.std.specs.Option.{unwrap_or}
 use Rattle.std.proofs.lemmas.List.Elements.{All-nil, All-cons, All-head, All-tail}
 use Rattle.std.proofs.lemmas.Slice.Eq.{bytes_eq-Decides}
+use Rattle.fixed.specs.declared.frac.Frac.{Frac}
+use Rattle.fixed.specs.declared.frac.Frac.TheVariants.{F32}
 use Rattle.job.specs.declared.faults.Key.{Key}
 use Rattle.job.specs.declared.faults.Key.TheVariants as keys
 use Rattle.job.specs.Words.{lines_of}
 use Rattle.job.specs.Faults.{Refusal, bad_line, out_of_range, TypeLine, Said, summary, line_fault, or_else, first_fault}
+use Rattle.job.specs.Bits.{frac_in}
 use Rattle.line_text.specs.Steps.{◌>>=◌}
 use Rattle.line_text.proofs.StepLaws.{bind_ok}
-use Rattle.job.specs.JobText.{header, IsJobText, Tells, needed, ordered, whole_types, job_from, unless, lines_reading, reading_of}
+use Rattle.job.specs.JobText.{header, IsFaultless, IsJobText, Tells, needed, ordered, whole_types, job_from, unless, reading_at, lines_reading, reading_of}
 use Rattle.job.specs.Values.{TypeValue, JobValue, Counts}
 use Rattle.job.specs.declared.jobs.Job.{Job}
 use Rattle.job.specs.declared.faults.JobFault.{JobFault}
 use Rattle.job.specs.Views.{job_value, refusal_of, Gives, AnswersJob}
 use Rattle.job.specs.Drafts.{nothing, lines_into, lines_job}
 use Rattle.job.proofs.FaultLemmas.{outcome, lines_below}
+use Rattle.job.proofs.BitsLemmas.{frac_said}
 
 -- ---- the reader, line by line
 
-job_after : (most : Counts) (lines : List (List ℕ)) → (lines_into most 2 nothing lines >>= job_from) ≡ unless (first_fault most [] lines) (job_from (summary lines))
+job_after : (most : Counts) (frac : Frac) (lines : List (List ℕ)) → (lines_into most 2 (nothing frac) lines >>= job_from) ≡ reading_at most frac lines
 unfolding summary
-job_after most lines = ap (λ r. r >>= job_from) (lines_below most [] lines 2 refl) ∙ at (first_fault most [] lines)
+job_after most frac lines = ap (λ r. r >>= job_from) (lines_below most frac [] lines 2 refl) ∙ at (first_fault most frac [] lines)
   where
-    at : (fault : Option Refusal) → (outcome fault (summary lines) >>= job_from) ≡ unless fault (job_from (summary lines))
+    at : (fault : Option Refusal) → (outcome fault (summary frac lines) >>= job_from) ≡ unless fault (job_from (summary frac lines))
     at None = refl
     at (Some f) = refl
 
 pub lines_job_is : (most : Counts) (lines : List (List ℕ)) → lines_job most lines ≡ lines_reading most lines
 lines_job_is most [] = refl
-lines_job_is most (line ∷ lines) = ap (λ r. if bytes_eq line header then r else Err (bad_line 1)) (job_after most lines)
+lines_job_is most (line ∷ lines) = ap (λ r. if bytes_eq line header then r else Err (bad_line 1)) (job_after most (frac_in lines) lines)
 
 -- ---- lines without faults
 
@@ -37,30 +41,30 @@ or_none : (a b : Option Refusal) → or_else a b ≡ None → (a ≡ None) × (b
 or_none None b e = (refl, e)
 or_none (Some f) b e = absurd cc
 
-faultless_from : (most : Counts) (above lines : List (List ℕ)) → first_fault most above lines ≡ None
-    → (front below : List (List ℕ)) (line : List ℕ) → lines ≡ front ++ line ∷ below → line_fault most (above ++ front) line ≡ None
+faultless_from : (most : Counts) (frac : Frac) (above lines : List (List ℕ)) → first_fault most frac above lines ≡ None
+    → (front below : List (List ℕ)) (line : List ℕ) → lines ≡ front ++ line ∷ below → line_fault most frac (above ++ front) line ≡ None
 unfolding first_fault
-faultless_from most above [] h [] below line e = absurd cc
-faultless_from most above [] h (x ∷ front) below line e = absurd cc
-faultless_from most above (l ∷ ls) h [] below line e =
+faultless_from most frac above [] h [] below line e = absurd cc
+faultless_from most frac above [] h (x ∷ front) below line e = absurd cc
+faultless_from most frac above (l ∷ ls) h [] below line e =
     let same : l ≡ line = cc in
-    let p = or_none (line_fault most above l) (first_fault most (above ++ l ∷ []) ls) h in
-    ap (λ (z : List (List ℕ)). line_fault most z line) (append-nil above) ∙ ap (line_fault most above) (sym same) ∙ p.0
-faultless_from most above (l ∷ ls) h (x ∷ front) below line e =
+    let p = or_none (line_fault most frac above l) (first_fault most frac (above ++ l ∷ []) ls) h in
+    ap (λ (z : List (List ℕ)). line_fault most frac z line) (append-nil above) ∙ ap (line_fault most frac above) (sym same) ∙ p.0
+faultless_from most frac above (l ∷ ls) h (x ∷ front) below line e =
     let same : l ≡ x = cc in
     let rest : ls ≡ front ++ line ∷ below = cc in
-    let p = or_none (line_fault most above l) (first_fault most (above ++ l ∷ []) ls) h in
-    ap (λ (z : List ℕ). line_fault most (above ++ z ∷ front) line) (sym same) ∙ ap (λ (z : List (List ℕ)). line_fault most z line) (sym (append_assoc above (l ∷ []) front))
-    ∙ faultless_from most (above ++ l ∷ []) ls p.1 front below line rest
+    let p = or_none (line_fault most frac above l) (first_fault most frac (above ++ l ∷ []) ls) h in
+    ap (λ (z : List ℕ). line_fault most frac (above ++ z ∷ front) line) (sym same) ∙ ap (λ (z : List (List ℕ)). line_fault most frac z line) (sym (append_assoc above (l ∷ []) front))
+    ∙ faultless_from most frac (above ++ l ∷ []) ls p.1 front below line rest
 
-faultless_again : (most : Counts) (above lines : List (List ℕ)) → ((front below : List (List ℕ)) (line : List ℕ) → lines ≡ front ++ line ∷ below → line_fault most (above ++ front) line ≡ None)
-    → first_fault most above lines ≡ None
+faultless_again : (most : Counts) (frac : Frac) (above lines : List (List ℕ)) → ((front below : List (List ℕ)) (line : List ℕ) → lines ≡ front ++ line ∷ below → line_fault most frac (above ++ front) line ≡ None)
+    → first_fault most frac above lines ≡ None
 unfolding first_fault
-faultless_again most above [] h = refl
-faultless_again most above (l ∷ ls) h =
-    let first : line_fault most above l ≡ None = ap (λ (z : List (List ℕ)). line_fault most z l) (sym (append-nil above)) ∙ h [] ls l refl in
-    let rest : first_fault most (above ++ l ∷ []) ls ≡ None = faultless_again most (above ++ l ∷ []) ls
-    (λ front below line e. ap (λ (z : List (List ℕ)). line_fault most z line) (append_assoc above (l ∷ []) front) ∙ h (l ∷ front) below line (ap (λ zs. l ∷ zs) e)) in
+faultless_again most frac above [] h = refl
+faultless_again most frac above (l ∷ ls) h =
+    let first : line_fault most frac above l ≡ None = ap (λ (z : List (List ℕ)). line_fault most frac z l) (sym (append-nil above)) ∙ h [] ls l refl in
+    let rest : first_fault most frac (above ++ l ∷ []) ls ≡ None = faultless_again most frac (above ++ l ∷ []) ls
+    (λ front below line e. ap (λ (z : List (List ℕ)). line_fault most frac z line) (append_assoc above (l ∷ []) front) ∙ h (l ∷ front) below line (ap (λ zs. l ∷ zs) e)) in
     rw (first, rest) refl
 
 -- ---- the whole
@@ -107,6 +111,7 @@ whole_again k (t ∷ ts) h =
 
 abbrev made : Said → List ℕ → ℤ → ℤ → ℕ → List TypeValue → JobValue
 made s energy core cutoff time_step types = record {
+  frac = s.frac;
   energy = energy;
   core = core;
   cutoff = cutoff;
@@ -117,15 +122,16 @@ made s energy core cutoff time_step types = record {
   types = types;
 }
 
-tells_made : (s : Said) (energy : List ℕ) (core longest : ℤ) (time_step : ℕ) (job : JobValue) → s.energy ≡ Some energy → s.core ≡ Some core → s.cutoff ≡ Some longest → s.time_step ≡ Some time_step
+tells_made : (s : Said) (energy : List ℕ) (core longest : ℤ) (time_step : ℕ) (job : JobValue) → unwrap_or s.bits F32 ≡ s.frac → s.energy ≡ Some energy → s.core ≡ Some core → s.cutoff ≡ Some longest → s.time_step ≡ Some time_step
     → (ordered core longest >>= λ cutoff. whole_types (length s.parameters) s.types >>= λ types. Ok (made s energy core cutoff time_step types)) ≡ Ok job → Tells s job
-tells_made s energy core longest time_step job e1 e2 e3 e4 h =
+tells_made s energy core longest time_step job f e1 e2 e3 e4 h =
     let o = bind_ok (ordered core longest) (λ cutoff. whole_types (length s.parameters) s.types >>= λ types. Ok (made s energy core cutoff time_step types)) job h in
     let w = bind_ok (whole_types (length s.parameters) s.types) (λ types. Ok (made s energy core o.0 time_step types)) job o.2 in
     let below = ordered_ok core longest o.0 o.1 in
     let types = whole_ok (length s.parameters) s.types w.0 w.1 in
     let same : made s energy core o.0 time_step w.0 ≡ job = let last = w.2 in cc in
     subst (λ (j : JobValue). Tells s j) same (record {
+      frac = f;
       energy = e1;
       core = e2;
       cutoff = e3 ∙ ap (λ (z : ℤ). Some z) below.0;
@@ -138,39 +144,55 @@ tells_made s energy core longest time_step job e1 e2 e3 e4 h =
       whole = types.1;
     })
 
-tells : (s : Said) (job : JobValue) → job_from s ≡ Ok job → Tells s job
+tells : (s : Said) (job : JobValue) → unwrap_or s.bits F32 ≡ s.frac → job_from s ≡ Ok job → Tells s job
 unfolding job_from
-tells s job e =
+tells s job f e =
     let a = bind_ok (needed keys.Energy s.energy) _ job e in
     let b = bind_ok (needed keys.Core s.core) _ job a.2 in
     let c = bind_ok (needed keys.Cutoff s.cutoff) _ job b.2 in
     let d = bind_ok (needed keys.TimeStep s.time_step) _ job c.2 in
-    tells_made s a.0 b.0 c.0 d.0 job (needed_ok keys.Energy s.energy a.0 a.1) (needed_ok keys.Core s.core b.0 b.1) (needed_ok keys.Cutoff s.cutoff c.0 c.1) (needed_ok keys.TimeStep s.time_step d.0 d.1) d.2
+    tells_made s a.0 b.0 c.0 d.0 job f (needed_ok keys.Energy s.energy a.0 a.1) (needed_ok keys.Core s.core b.0 b.1) (needed_ok keys.Cutoff s.cutoff c.0 c.1) (needed_ok keys.TimeStep s.time_step d.0 d.1) d.2
 
-tells_again : (s : Said) (job : JobValue) → Tells s job → job_from s ≡ Ok job
+tells_again : (s : Said) (job : JobValue) → s.frac ≡ job.frac → Tells s job → job_from s ≡ Ok job
 unfolding job_from
-tells_again s job m =
+tells_again s job f m =
     let whole : All (λ t. length t.values ≡ length s.parameters) (map (λ t. t.value) s.types) =
     subst (λ (us : List TypeValue). All (λ t. length t.values ≡ length s.parameters) us) (sym m.types) (subst (λ (ps : List (List ℕ)). All (λ t. length t.values ≡ length ps) job.types) (sym m.parameters) m.whole) in
-    rw (m.energy, m.core, m.cutoff, m.time_step, is_below (int_lt job.core job.cutoff) m.below_cutoff.lt, whole_again (length s.parameters) s.types whole, m.slices, m.parameters, m.globals, m.types) refl
+    rw (f, m.energy, m.core, m.cutoff, m.time_step, is_below (int_lt job.core job.cutoff) m.below_cutoff.lt, whole_again (length s.parameters) s.types whole, m.slices, m.parameters, m.globals, m.types) refl
 
-same_header : (line : List ℕ) (most : Counts) (lines : List (List ℕ)) (job : JobValue) → lines_reading most (line ∷ lines) ≡ Ok job → (line ≡ header) × (first_fault most [] lines ≡ None) × (job_from (summary lines) ≡ Ok job)
-same_header line most lines job e = at (bytes_eq line header) (bytes_eq-Decides line header).0 (first_fault most [] lines) e
+same_header : (line : List ℕ) (most : Counts) (lines : List (List ℕ)) (job : JobValue) → lines_reading most (line ∷ lines) ≡ Ok job
+    → (line ≡ header) × (first_fault most (frac_in lines) [] lines ≡ None) × (job_from (summary (frac_in lines) lines) ≡ Ok job)
+same_header line most lines job e = at (bytes_eq line header) (bytes_eq-Decides line header).0 (first_fault most (frac_in lines) [] lines) e
   where
-    at : (b : Bool) → (b ≡ true → line ≡ header) → (fault : Option Refusal) → (if b then unless fault (job_from (summary lines)) else Err (bad_line 1)) ≡ Ok job → (line ≡ header) × (fault ≡ None) × (job_from (summary lines) ≡ Ok job)
+    at : (b : Bool) → (b ≡ true → line ≡ header) → (fault : Option Refusal) → (if b then unless fault (job_from (summary (frac_in lines) lines)) else Err (bad_line 1)) ≡ Ok job
+        → (line ≡ header) × (fault ≡ None) × (job_from (summary (frac_in lines) lines) ≡ Ok job)
     at false is fault h = absurd cc
     at true is (Some f) h = absurd cc
     at true is None h = (is refl, refl, h)
+
+tells_below : (lines : List (List ℕ)) (job : JobValue) → job_from (summary (frac_in lines) lines) ≡ Ok job → Tells (summary (frac_in lines) lines) job
+unfolding summary
+tells_below lines job e = tells (summary (frac_in lines) lines) job (frac_said (frac_in lines) lines) e
+
+again_below : (frac : Frac) (lines : List (List ℕ)) (job : JobValue) → frac ≡ job.frac → Tells (summary frac lines) job → job_from (summary frac lines) ≡ Ok job
+unfolding summary
+again_below frac lines job f t = tells_again (summary frac lines) job f t
+
+-- the fraction bits of a job are those that its lines say
+frac_told : (frac : Frac) (lines : List (List ℕ)) (job : JobValue) → Tells (summary frac lines) job → frac_in lines ≡ job.frac
+frac_told frac lines job t = sym (frac_said frac lines) ∙ t.frac
 
 lines_ok : (most : Counts) (text : List ℕ) (job : JobValue) (all : List (List ℕ)) → lines_of text ≡ all → lines_reading most all ≡ Ok job → IsJobText most text job
 lines_ok most text job [] e h = absurd cc
 lines_ok most text job (line ∷ lines) e h =
     let p = same_header line most lines job h in
+    let t : Tells (summary (frac_in lines) lines) job = tells_below lines job p.2 in
+    let told : frac_in lines ≡ job.frac = frac_told (frac_in lines) lines job t in
     record {
       lines = lines;
       first_line = e ∙ ap (λ l. l ∷ lines) p.0;
-      faultless = faultless_from most [] lines p.1;
-      tells = tells (summary lines) job p.2;
+      faultless = subst (λ (frac : Frac). IsFaultless most frac lines) told (faultless_from most (frac_in lines) [] lines p.1);
+      tells = subst (λ (frac : Frac). Tells (summary frac lines) job) told t;
     }
 
 pub reading_ok : (most : Counts) (text : List ℕ) (job : JobValue) → reading_of most text ≡ Ok job → IsJobText most text job
@@ -180,16 +202,13 @@ reading_ok most text job e = lines_ok most text job (lines_of text) refl e
 pub reading_again : (most : Counts) (text : List ℕ) (job : JobValue) → IsJobText most text job → reading_of most text ≡ Ok job
 unfolding reading_of
 reading_again most text job r =
-    ap (lines_reading most) r.first_line ∙ ap (λ fault. unless fault (job_from (summary r.lines))) (faultless_again most [] r.lines r.faultless) ∙ tells_again (summary r.lines) job r.tells
+    ap (lines_reading most) r.first_line ∙ ap (λ (frac : Frac). reading_at most frac r.lines) (frac_told job.frac r.lines job r.tells)
+    ∙ ap (λ fault. unless fault (job_from (summary job.frac r.lines))) (faultless_again most job.frac [] r.lines r.faultless) ∙ again_below job.frac r.lines job refl r.tells
 
 -- what a call gave, as the reading of its text
-pub lines_job_from : (most : Counts) (all lines : List (List ℕ)) (line : List ℕ) (s : Said) → all ≡ line ∷ lines → bytes_eq line header ≡ true → lines_into most 2 nothing lines ≡ Ok s → lines_job most all ≡ job_from s
-lines_job_from most all lines line s e h l = rw (e, h, l) refl
-
-pub lines_job_fault : (most : Counts) (all lines : List (List ℕ)) (line : List ℕ) (o : Option Refusal) → all ≡ line ∷ lines → bytes_eq line header ≡ true → IfSome o (λ f. lines_into most 2 nothing lines ≡ Err f)
-    → IfSome o (λ f. lines_job most all ≡ Err f)
-lines_job_fault most all lines line None e h l = tt
-lines_job_fault most all lines line (Some f) e h l = rw (e, h, l) refl
+pub lines_job_from : (most : Counts) (all lines : List (List ℕ)) (line : List ℕ) (frac : Frac) (s : Said) → all ≡ line ∷ lines → bytes_eq line header ≡ true → frac ≡ frac_in lines
+    → lines_into most 2 (nothing frac) lines ≡ Ok s → lines_job most all ≡ job_from s
+lines_job_from most all lines line frac s e h f l = rw (e, h, ← f, l) refl
 
 pub given : {A : Type 0} (most : Counts) (text : List ℕ) (result : Result (Job A) (JobFault A)) → Gives job_value result (lines_job most (lines_of text)) → Gives job_value result (reading_of most text)
 unfolding reading_of

@@ -1,16 +1,18 @@
 -- Reading line by line: each line adds to what was said so far, or is the first fault.
 use Rattle.std.specs.Prelude.{ℕ, ℤ, List, [], ◌∷◌, ◌++◌, ◌+◌, length, map, Option, Some, None, Result, Ok, Err, ◌==◌, nat_lt, slice_index, bytes_eq, if◌then◌else◌}
 use Rattle.fixed.specs.declared.faults.NumFault.TheVariants.{BadNumber, NumberRange}
+use Rattle.fixed.specs.declared.frac.Frac.{Frac}
 use Rattle.job.specs.declared.faults.Key.{Key}
 use Rattle.job.specs.declared.faults.Key.TheVariants as keys
 use Rattle.line_text.specs.Identifiers.{is_identifier}
 use Rattle.job.specs.Forms.{is_type_name}
 use Rattle.line_text.specs.Words.{words, without_blanks, after_word}
-use Rattle.job.specs.Numbers.{Reading, both, only, alone, numeral_of, signed_of, values_of, cutoff_of, whole_of, mass_of}
+use Rattle.job.specs.Numbers.{Reading, both, only, alone, numeral_of, signed_of, values_of, cutoff_of, whole_of, frac_of, mass_of}
 use Rattle.job.specs.Statements.{well_formed, key_of}
 use Rattle.job.specs.Values.{JobValue, Counts}
 use Rattle.job.specs.Faults.{Refusal, bad_line, repeated, repeated_name, out_of_range, repeated_type, Said, knows}
 use Rattle.line_text.specs.Steps.{◌>>=◌}
+use Rattle.job.specs.Bits.{frac_in}
 use Rattle.job.specs.JobText.{header, job_from}
 
 -- the number of a key that one line may have
@@ -41,6 +43,9 @@ time_step_into n s r = number_of n keys.TimeStep s.time_step r >>= λ v. Ok (rec
 abbrev pub slices_into : ℕ → Said → Reading ℕ → Result Said Refusal
 slices_into n s r = number_of n keys.Slices s.slices r >>= λ v. Ok (record s { slices = Some v })
 
+abbrev pub bits_into : ℕ → Said → Reading Frac → Result Said Refusal
+bits_into n s r = number_of n keys.Bits s.bits r >>= λ v. Ok (record s { bits = Some v })
+
 abbrev pub parameter_new : Counts → Said → List ℕ → Result Said Refusal
 parameter_new most s name =
     if knows s.parameters name then Err (repeated_name name)
@@ -67,7 +72,7 @@ global_by most n s name (Some v) = global_new most s name v
 abbrev pub global_into : Counts → ℕ → Said → List (List ℕ) → Result Said Refusal
 global_into most n s [] = Err (bad_line n)
 global_into most n s (name ∷ []) = Err (bad_line n)
-global_into most n s (name ∷ x ∷ []) = if is_identifier name then global_by most n s name (well_formed (signed_of x)) else Err (bad_line n)
+global_into most n s (name ∷ x ∷ []) = if is_identifier name then global_by most n s name (well_formed (signed_of s.frac x)) else Err (bad_line n)
 global_into most n s (name ∷ x ∷ w ∷ ws) = Err (bad_line n)
 
 abbrev pub type_add : Counts → ℕ → Said → List ℕ → Option (ℕ × List ℤ) → Result Said Refusal
@@ -86,18 +91,19 @@ type_by most n s name (Some v) = type_new most n s name v
 abbrev pub type_into : Counts → ℕ → Said → List (List ℕ) → Result Said Refusal
 type_into most n s [] = Err (bad_line n)
 type_into most n s (name ∷ []) = Err (bad_line n)
-type_into most n s (name ∷ mass ∷ values) = if is_type_name name then type_by most n s name (well_formed (both (mass_of mass) (values_of values))) else Err (bad_line n)
+type_into most n s (name ∷ mass ∷ values) = if is_type_name name then type_by most n s name (well_formed (both (mass_of mass) (values_of s.frac values))) else Err (bad_line n)
 
 unfoldable pub key_into : Counts → ℕ → Said → Option Key → List ℕ → Result Said Refusal
 key_into most n s None text = Err (bad_line n)
 key_into most n s (Some keys.Energy) text = energy_into n s (without_blanks text)
-key_into most n s (Some keys.Core) text = core_into n s (alone numeral_of (words text))
-key_into most n s (Some keys.Cutoff) text = cutoff_into n s (alone cutoff_of (words text))
+key_into most n s (Some keys.Core) text = core_into n s (alone (numeral_of s.frac) (words text))
+key_into most n s (Some keys.Cutoff) text = cutoff_into n s (alone (cutoff_of s.frac) (words text))
 key_into most n s (Some keys.TimeStep) text = time_step_into n s (alone (whole_of 1 1000) (words text))
 key_into most n s (Some keys.Slices) text = slices_into n s (alone (whole_of 1 65536) (words text))
 key_into most n s (Some keys.Parameter) text = parameter_into most n s (only (words text))
 key_into most n s (Some keys.Global) text = global_into most n s (words text)
 key_into most n s (Some keys.Types) text = type_into most n s (words text)
+key_into most n s (Some keys.Bits) text = bits_into n s (alone frac_of (words text))
 
 abbrev pub words_into : Counts → ℕ → Said → List (List ℕ) → List ℕ → Result Said Refusal
 words_into most n s [] text = Ok s
@@ -111,9 +117,9 @@ lines_into most n s [] = Ok s
 lines_into most n s (line ∷ lines) = line_into most n s line >>= λ t. lines_into most (n + 1) t lines
 
 -- what no lines say
-abbrev pub nothing : Said
-nothing = record { energy = None; core = None; cutoff = None; time_step = None; slices = None; parameters = []; globals = []; types = [] }
+abbrev pub nothing : Frac → Said
+nothing frac = record { frac = frac; energy = None; core = None; cutoff = None; time_step = None; slices = None; parameters = []; globals = []; types = []; bits = None }
 
 abbrev pub lines_job : Counts → List (List ℕ) → Result JobValue Refusal
 lines_job most [] = Err (bad_line 1)
-lines_job most (line ∷ lines) = if bytes_eq line header then (lines_into most 2 nothing lines >>= job_from) else Err (bad_line 1)
+lines_job most (line ∷ lines) = if bytes_eq line header then (lines_into most 2 (nothing (frac_in lines)) lines >>= job_from) else Err (bad_line 1)

@@ -1,9 +1,10 @@
 -- Why a text is no job: the fault of a line, given the lines above it, and the first of all.
 use Rattle.std.specs.Prelude.{ℕ, ℤ, Bool, ◌&&◌, List, [], ◌∷◌, ◌++◌, ◌+◌, length, map, Option, Some, None, is_some, filter_map, nat_lt, bytes_eq, if◌then◌else◌}
 use Rattle.std.specs.List.{list_any, cons_option}
+use Rattle.fixed.specs.declared.frac.Frac.{Frac}
 use Rattle.job.specs.declared.faults.Key.{Key}
 use Rattle.job.specs.declared.faults.Key.TheVariants as keys
-use Rattle.job.specs.Statements.{Statement, skipped, energy_is, core_is, cutoff_is, time_step_is, slices_is, parameter_is, global_is, type_is, entry_of}
+use Rattle.job.specs.Statements.{Statement, skipped, energy_is, core_is, cutoff_is, time_step_is, slices_is, parameter_is, global_is, type_is, bits_is, entry_of}
 use Rattle.job.specs.Values.{GlobalValue, TypeValue, Counts}
 
 pub data Refusal : Type 0 where
@@ -21,7 +22,9 @@ pub record TypeLine : Type 0 where
   pub line : ℕ
   pub value : TypeValue
 
+-- numerals are read at the fraction bits of `frac`; `bits` is what the lines say of them
 pub record Said : Type 0 where
+  pub frac : Frac
   pub energy : Option (List ℕ)
   pub core : Option ℤ
   pub cutoff : Option ℤ
@@ -30,6 +33,7 @@ pub record Said : Type 0 where
   pub parameters : List (List ℕ)
   pub globals : List GlobalValue
   pub types : List TypeLine
+  pub bits : Option Frac
 
 abbrev pub energy_in : Statement → Option (List ℕ)
 energy_in (energy_is text) = Some text
@@ -63,17 +67,22 @@ abbrev pub type_in : ℕ → Option Statement → Option TypeLine
 type_in n (Some (type_is name (Some v))) = Some (record { line = n; value = record { name = name; mass = v.0; values = v.1 } })
 type_in n _ = None
 
+abbrev pub bits_in : Statement → Option Frac
+bits_in (bits_is v) = v
+bits_in _ = None
+
 abbrev pub first : {X : Type 0} → List X → Option X
 first [] = None
 first (x ∷ xs) = Some x
 
 -- the types of these lines, the first of which has the number n
-abbrev pub type_lines : ℕ → List (List ℕ) → List TypeLine
-type_lines n [] = []
-type_lines n (line ∷ lines) = cons_option (type_in n (entry_of line)) (type_lines (n + 1) lines)
+abbrev pub type_lines : Frac → ℕ → List (List ℕ) → List TypeLine
+type_lines frac n [] = []
+type_lines frac n (line ∷ lines) = cons_option (type_in n (entry_of frac line)) (type_lines frac (n + 1) lines)
 
-abbrev pub summary_of : List Statement → List TypeLine → Said
-summary_of statements types = record {
+abbrev pub summary_of : Frac → List Statement → List TypeLine → Said
+summary_of frac statements types = record {
+  frac = frac;
   energy = first (filter_map energy_in statements);
   core = first (filter_map core_in statements);
   cutoff = first (filter_map cutoff_in statements);
@@ -82,11 +91,12 @@ summary_of statements types = record {
   parameters = filter_map parameter_in statements;
   globals = filter_map global_in statements;
   types = types;
+  bits = first (filter_map bits_in statements);
 }
 
--- what lines say that stand below the first line of a text
-unfoldable pub summary : List (List ℕ) → Said
-summary lines = summary_of (filter_map entry_of lines) (type_lines 2 lines)
+-- what lines say that stand below the first line of a text, their numerals read at these fraction bits
+unfoldable pub summary : Frac → List (List ℕ) → Said
+summary frac lines = summary_of frac (filter_map (entry_of frac) lines) (type_lines frac 2 lines)
 
 -- ---- the fault of a line
 
@@ -113,6 +123,7 @@ statement_fault most s (slices_is v) = once keys.Slices s.slices v
 statement_fault most s (parameter_is name) = listed (knows s.parameters name) (repeated_name name) (nat_lt (length s.parameters) most.parameters) keys.Parameter
 statement_fault most s (global_is name v) = listed (knows (map (λ g. g.name) s.globals) name) (repeated_name name) (is_some v && nat_lt (length s.globals) most.globals) keys.Global
 statement_fault most s (type_is name v) = listed (knows (map (λ t. t.value.name) s.types) name) (repeated_type name) (is_some v && nat_lt (length s.types) most.types) keys.Types
+statement_fault most s (bits_is v) = once keys.Bits s.bits v
 
 -- with the line's number: that it is malformed, or else the fault of what it says
 abbrev pub entry_fault : Counts → ℕ → Said → Option Statement → Option Refusal
@@ -120,14 +131,14 @@ entry_fault most n s None = Some (bad_line n)
 entry_fault most n s (Some statement) = statement_fault most s statement
 
 -- the line below the first line and these
-unfoldable pub line_fault : Counts → List (List ℕ) → List ℕ → Option Refusal
-line_fault most above line = entry_fault most (length above + 2) (summary above) (entry_of line)
+unfoldable pub line_fault : Counts → Frac → List (List ℕ) → List ℕ → Option Refusal
+line_fault most frac above line = entry_fault most (length above + 2) (summary frac above) (entry_of frac line)
 
 abbrev pub or_else : Option Refusal → Option Refusal → Option Refusal
 or_else (Some fault) later = Some fault
 or_else None later = later
 
 -- the first fault of these lines, from the top
-unfoldable pub first_fault : Counts → List (List ℕ) → List (List ℕ) → Option Refusal
-first_fault most above [] = None
-first_fault most above (line ∷ lines) = or_else (line_fault most above line) (first_fault most (above ++ line ∷ []) lines)
+unfoldable pub first_fault : Counts → Frac → List (List ℕ) → List (List ℕ) → Option Refusal
+first_fault most frac above [] = None
+first_fault most frac above (line ∷ lines) = or_else (line_fault most frac above line) (first_fault most frac (above ++ line ∷ []) lines)

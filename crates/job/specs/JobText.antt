@@ -2,11 +2,14 @@
 use Rattle.std.specs.Prelude.{◌≡◌, ℕ, ℤ, List, [], ◌∷◌, ◌++◌, length, map, filter_map, ◌≤◌, AllPairs, Option, Some, None, Result, Ok, Err, ◌==◌, ◌<ℤ◌, int_lt, codes, bytes_eq, All, if◌then◌else◌}
 use Rattle.std.specs.Option.{unwrap_or}
 use Rattle.line_text.specs.Steps.{◌>>=◌}
+use Rattle.fixed.specs.declared.frac.Frac.{Frac}
+use Rattle.fixed.specs.declared.frac.Frac.TheVariants.{F32}
 use Rattle.job.specs.declared.faults.Key.{Key}
 use Rattle.job.specs.declared.faults.Key.TheVariants as keys
 use Rattle.job.specs.Words.{lines_of}
 use Rattle.job.specs.Statements.{Statement, entry_of}
-use Rattle.job.specs.Faults.{Refusal, bad_line, missing, out_of_range, TypeLine, Said, energy_in, core_in, cutoff_in, time_step_in, slices_in, summary, line_fault, first_fault}
+use Rattle.job.specs.Faults.{Refusal, bad_line, missing, out_of_range, TypeLine, Said, energy_in, core_in, cutoff_in, time_step_in, slices_in, bits_in, summary, line_fault, first_fault}
+use Rattle.job.specs.Bits.{frac_in}
 use Rattle.job.specs.Values.{TypeValue, JobValue, Counts}
 
 abbrev pub header : List ℕ
@@ -15,11 +18,13 @@ header = codes "pairmd job 1"
 -- ---- the relation
 
 -- each line below these is without a fault
-abbrev pub IsFaultless : Counts → List (List ℕ) → Type 0
-IsFaultless most lines = (above below : List (List ℕ)) (line : List ℕ) → lines ≡ above ++ line ∷ below → line_fault most above line ≡ None
+abbrev pub IsFaultless : Counts → Frac → List (List ℕ) → Type 0
+IsFaultless most frac lines = (above below : List (List ℕ)) (line : List ℕ) → lines ≡ above ++ line ∷ below → line_fault most frac above line ≡ None
 
--- the lines have said this job: each value is what the line of its key says, and each type has a value for each parameter
+-- the lines have said this job: each value is what the line of its key says, the fraction bits are 32 where no line says them, and each type has a
+-- value for each parameter
 pub record Tells (s : Said) (job : JobValue) : Type 0 where
+  pub frac : unwrap_or s.bits F32 ≡ job.frac
   pub energy : s.energy ≡ Some job.energy
   pub core : s.core ≡ Some job.core
   pub cutoff : s.cutoff ≡ Some job.cutoff
@@ -31,30 +36,31 @@ pub record Tells (s : Said) (job : JobValue) : Type 0 where
   pub types : map (λ t. t.value) s.types ≡ job.types
   pub whole : All (λ t. length t.values ≡ length job.parameters) job.types
 
--- the text is the job's: behind the first line no line has a fault, and together they say the job
+-- the text is the job's: behind the first line no line has a fault, and together they say the job, all numerals read at the fraction bits of the job
 pub record IsJobText (most : Counts) (text : List ℕ) (job : JobValue) : Type 0 where
   pub lines : List (List ℕ)
   pub first_line : lines_of text ≡ header ∷ lines
-  pub faultless : IsFaultless most lines
-  pub tells : Tells (summary lines) job
+  pub faultless : IsFaultless most job.frac lines
+  pub tells : Tells (summary job.frac lines) job
 
 -- ---- each key once
 
 -- how many lines say this
-abbrev pub times_said : {X : Type 0} → (Statement → Option X) → List (List ℕ) → ℕ
-times_said part lines = length (filter_map part (filter_map entry_of lines))
+abbrev pub times_said : {X : Type 0} → Frac → (Statement → Option X) → List (List ℕ) → ℕ
+times_said frac part lines = length (filter_map part (filter_map (entry_of frac) lines))
 
 abbrev pub below_first : List (List ℕ) → List (List ℕ)
 below_first [] = []
 below_first (line ∷ lines) = lines
 
--- the lines below the first have each key that a job needs once, and `slices` at most once
-pub record HasKeysOnce (lines : List (List ℕ)) : Type 0 where
-  pub energy : times_said energy_in lines ≡ 1
-  pub core : times_said core_in lines ≡ 1
-  pub cutoff : times_said cutoff_in lines ≡ 1
-  pub time_step : times_said time_step_in lines ≡ 1
-  pub slices : times_said slices_in lines ≤ 1
+-- the lines below the first have each key that a job needs once, and `slices` and `bits` at most once
+pub record HasKeysOnce (frac : Frac) (lines : List (List ℕ)) : Type 0 where
+  pub energy : times_said frac energy_in lines ≡ 1
+  pub core : times_said frac core_in lines ≡ 1
+  pub cutoff : times_said frac cutoff_in lines ≡ 1
+  pub time_step : times_said frac time_step_in lines ≡ 1
+  pub slices : times_said frac slices_in lines ≤ 1
+  pub bits : times_said frac bits_in lines ≤ 1
 
 -- no two names are equal
 abbrev pub AreApart : List (List ℕ) → Type 0
@@ -90,6 +96,7 @@ job_from s = do
   cutoff ← ordered core longest
   types ← whole_types (length s.parameters) s.types
   Ok (record {
+    frac = s.frac;
     energy = energy;
     core = core;
     cutoff = cutoff;
@@ -104,9 +111,13 @@ abbrev pub unless : Option Refusal → Result JobValue Refusal → Result JobVal
 unless (Some fault) job = Err fault
 unless None job = job
 
+-- the lines below the first, their numerals read at these fraction bits
+abbrev pub reading_at : Counts → Frac → List (List ℕ) → Result JobValue Refusal
+reading_at most frac lines = unless (first_fault most frac [] lines) (job_from (summary frac lines))
+
 abbrev pub lines_reading : Counts → List (List ℕ) → Result JobValue Refusal
 lines_reading most [] = Err (bad_line 1)
-lines_reading most (line ∷ lines) = if bytes_eq line header then unless (first_fault most [] lines) (job_from (summary lines)) else Err (bad_line 1)
+lines_reading most (line ∷ lines) = if bytes_eq line header then reading_at most (frac_in lines) lines else Err (bad_line 1)
 
 -- the job whose text this is, or the first fault
 unfoldable pub reading_of : Counts → List ℕ → Result JobValue Refusal

@@ -4,6 +4,7 @@ pub mod Numbers
 pub mod Values
 pub mod Statements
 pub mod Faults
+pub mod Bits
 pub mod JobText
 pub mod Drafts
 pub mod Views

@@ -4,6 +4,9 @@ use Rattle.std.specs.Prelude.{◌≡◌, ℕ, ℤ, pos, neg_ℤ, Bool, ◌&&◌,
 use Rattle.std.specs.Option.{option_map}
 use Rattle.std.specs.Str.{all_ascii_digits}
 use Rattle.std.specs.Str.Parse.{digits_value}
+use Rattle.fixed.specs.declared.frac.Frac.{Frac}
+use Rattle.fixed.specs.declared.frac.Frac.TheVariants.{F24, F32, F40}
+use Rattle.fixed.specs.Fractions.{bits_of}
 use Rattle.fixed.specs.Numerals.{fixed_of}
 use Rattle.fixed.specs.NumeralParts.{decimal_of}
 use Rattle.fixed.specs.declared.faults.NumFault.{NumFault}
@@ -36,30 +39,30 @@ only (w ∷ v ∷ ws) = Err BadNumber
 abbrev pub alone : {X : Type 0} → (List ℕ → Reading X) → List (List ℕ) → Reading X
 alone read ws = only ws >>= read
 
--- a numeral, to the nearest number of 32 fraction bits
+-- a numeral, to the nearest number of these fraction bits
 abbrev pub or_malformed : Option (Reading ℤ) → Reading ℤ
 or_malformed None = Err BadNumber
 or_malformed (Some r) = r
 
-unfoldable pub numeral_of : List ℕ → Reading ℤ
-numeral_of word = or_malformed (option_map (λ d. fixed_of 32 d.mantissa d.power) (decimal_of word))
+unfoldable pub numeral_of : Frac → List ℕ → Reading ℤ
+numeral_of frac word = or_malformed (option_map (λ d. fixed_of (bits_of frac) d.mantissa d.power) (decimal_of word))
 
 -- a numeral with or without a minus
-unfoldable pub signed_of : List ℕ → Reading ℤ
-signed_of [] = numeral_of []
-signed_of (b ∷ bs) = if b == 45 then mapped neg_ℤ (numeral_of bs) else numeral_of (b ∷ bs)
+unfoldable pub signed_of : Frac → List ℕ → Reading ℤ
+signed_of frac [] = numeral_of frac []
+signed_of frac (b ∷ bs) = if b == 45 then mapped neg_ℤ (numeral_of frac bs) else numeral_of frac (b ∷ bs)
 
 -- signed numerals
-unfoldable pub values_of : List (List ℕ) → Reading (List ℤ)
-values_of [] = Ok []
-values_of (w ∷ ws) = both (signed_of w) (values_of ws) >>= λ x. Ok (x.0 ∷ x.1)
+unfoldable pub values_of : Frac → List (List ℕ) → Reading (List ℤ)
+values_of frac [] = Ok []
+values_of frac (w ∷ ws) = both (signed_of frac w) (values_of frac ws) >>= λ x. Ok (x.0 ∷ x.1)
 
 -- a cutoff: more than 0, and at most 80 nm
-abbrev pub cutoff_range : ℤ → Reading ℤ
-cutoff_range z = if int_le (pos 1) z && int_le z (pos 343597383680) then Ok z else Err NumberRange
+abbrev pub cutoff_range : Frac → ℤ → Reading ℤ
+cutoff_range frac z = if int_le (pos 1) z && int_le z (pos (80 * 2 ^ bits_of frac)) then Ok z else Err NumberRange
 
-unfoldable pub cutoff_of : List ℕ → Reading ℤ
-cutoff_of word = numeral_of word >>= cutoff_range
+unfoldable pub cutoff_of : Frac → List ℕ → Reading ℤ
+cutoff_of frac word = numeral_of frac word >>= cutoff_range frac
 
 -- one digit at least
 abbrev pub is_whole : List ℕ → Bool
@@ -71,6 +74,13 @@ within least most n = if nat_le least n && nat_le n most then Ok n else Err Numb
 -- a whole number
 unfoldable pub whole_of : ℕ → ℕ → List ℕ → Reading ℕ
 whole_of least most word = if is_whole word then within least most (digits_value 10 word) else Err BadNumber
+
+-- how many bits stand behind the point: 24, 32 or 40
+abbrev pub frac_with : ℕ → Reading Frac
+frac_with n = if n == 24 then Ok F24 else if n == 32 then Ok F32 else if n == 40 then Ok F40 else Err NumberRange
+
+unfoldable pub frac_of : List ℕ → Reading Frac
+frac_of word = whole_of 24 40 word >>= frac_with
 
 -- a mass in u, 0.00001 to 1000, in units of 10^-5 u: digits, and behind a point one to five more
 abbrev pub mass_from : List ℕ → List ℕ → Reading ℕ

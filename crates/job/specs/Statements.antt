@@ -1,12 +1,13 @@
 -- What a line of a job says, by its words.
 use Rattle.std.specs.Prelude.{ℕ, ℤ, List, [], ◌∷◌, Option, Some, None, Ok, Err, option_map, ◌==◌, slice_index, codes, bytes_eq, if◌then◌else◌}
+use Rattle.fixed.specs.declared.frac.Frac.{Frac}
 use Rattle.fixed.specs.declared.faults.NumFault.TheVariants.{BadNumber, NumberRange}
 use Rattle.job.specs.declared.faults.Key.{Key}
 use Rattle.job.specs.declared.faults.Key.TheVariants as keys
 use Rattle.line_text.specs.Identifiers.{is_identifier}
 use Rattle.job.specs.Forms.{is_type_name}
 use Rattle.line_text.specs.Words.{words, without_blanks, after_word}
-use Rattle.job.specs.Numbers.{Reading, both, alone, numeral_of, signed_of, values_of, cutoff_of, whole_of, mass_of}
+use Rattle.job.specs.Numbers.{Reading, both, alone, numeral_of, signed_of, values_of, cutoff_of, whole_of, frac_of, mass_of}
 
 -- a number that is out of its range is None
 pub data Statement : Type 0 where
@@ -19,6 +20,7 @@ pub data Statement : Type 0 where
   parameter_is : List ℕ → Statement
   global_is : List ℕ → Option ℤ → Statement
   type_is : List ℕ → Option (ℕ × List ℤ) → Statement
+  bits_is : Option Frac → Statement
 
 -- nothing is said by what is malformed
 abbrev pub well_formed : {X : Type 0} → Reading X → Option (Option X)
@@ -35,16 +37,16 @@ parameter_statement [] = None
 parameter_statement (name ∷ []) = if is_identifier name then Some (parameter_is name) else None
 parameter_statement (name ∷ w ∷ ws) = None
 
-abbrev pub global_statement : List (List ℕ) → Option Statement
-global_statement [] = None
-global_statement (name ∷ []) = None
-global_statement (name ∷ x ∷ []) = if is_identifier name then option_map (global_is name) (well_formed (signed_of x)) else None
-global_statement (name ∷ x ∷ w ∷ ws) = None
+abbrev pub global_statement : Frac → List (List ℕ) → Option Statement
+global_statement frac [] = None
+global_statement frac (name ∷ []) = None
+global_statement frac (name ∷ x ∷ []) = if is_identifier name then option_map (global_is name) (well_formed (signed_of frac x)) else None
+global_statement frac (name ∷ x ∷ w ∷ ws) = None
 
-abbrev pub type_statement : List (List ℕ) → Option Statement
-type_statement [] = None
-type_statement (name ∷ []) = None
-type_statement (name ∷ mass ∷ values) = if is_type_name name then option_map (type_is name) (well_formed (both (mass_of mass) (values_of values))) else None
+abbrev pub type_statement : Frac → List (List ℕ) → Option Statement
+type_statement frac [] = None
+type_statement frac (name ∷ []) = None
+type_statement frac (name ∷ mass ∷ values) = if is_type_name name then option_map (type_is name) (well_formed (both (mass_of mass) (values_of frac values))) else None
 
 unfoldable pub key_of : List ℕ → Option Key
 key_of word =
@@ -56,24 +58,26 @@ key_of word =
     else if bytes_eq word (codes "parameter") then Some keys.Parameter
     else if bytes_eq word (codes "global") then Some keys.Global
     else if bytes_eq word (codes "type") then Some keys.Types
+    else if bytes_eq word (codes "bits") then Some keys.Bits
     else None
 
--- the line of this key, with this text behind the key
-abbrev pub key_statement : Option Key → List ℕ → Option Statement
-key_statement None text = None
-key_statement (Some keys.Energy) text = energy_statement (without_blanks text)
-key_statement (Some keys.Core) text = option_map core_is (well_formed (alone numeral_of (words text)))
-key_statement (Some keys.Cutoff) text = option_map cutoff_is (well_formed (alone cutoff_of (words text)))
-key_statement (Some keys.TimeStep) text = option_map time_step_is (well_formed (alone (whole_of 1 1000) (words text)))
-key_statement (Some keys.Slices) text = option_map slices_is (well_formed (alone (whole_of 1 65536) (words text)))
-key_statement (Some keys.Parameter) text = parameter_statement (words text)
-key_statement (Some keys.Global) text = global_statement (words text)
-key_statement (Some keys.Types) text = type_statement (words text)
+-- the line of this key, with this text behind the key, its numerals read at these fraction bits
+abbrev pub key_statement : Frac → Option Key → List ℕ → Option Statement
+key_statement frac None text = None
+key_statement frac (Some keys.Energy) text = energy_statement (without_blanks text)
+key_statement frac (Some keys.Core) text = option_map core_is (well_formed (alone (numeral_of frac) (words text)))
+key_statement frac (Some keys.Cutoff) text = option_map cutoff_is (well_formed (alone (cutoff_of frac) (words text)))
+key_statement frac (Some keys.TimeStep) text = option_map time_step_is (well_formed (alone (whole_of 1 1000) (words text)))
+key_statement frac (Some keys.Slices) text = option_map slices_is (well_formed (alone (whole_of 1 65536) (words text)))
+key_statement frac (Some keys.Parameter) text = parameter_statement (words text)
+key_statement frac (Some keys.Global) text = global_statement frac (words text)
+key_statement frac (Some keys.Types) text = type_statement frac (words text)
+key_statement frac (Some keys.Bits) text = option_map bits_is (well_formed (alone frac_of (words text)))
 
-abbrev pub words_statement : List (List ℕ) → List ℕ → Option Statement
-words_statement [] text = Some skipped
-words_statement (word ∷ ws) text = key_statement (key_of word) text
+abbrev pub words_statement : Frac → List (List ℕ) → List ℕ → Option Statement
+words_statement frac [] text = Some skipped
+words_statement frac (word ∷ ws) text = key_statement frac (key_of word) text
 
 -- what a line says, None where it is malformed; a line that begins with `#` and one of blanks alone are skipped
-unfoldable pub entry_of : List ℕ → Option Statement
-entry_of line = if slice_index line 0 == 35 then Some skipped else words_statement (words line) (after_word line)
+unfoldable pub entry_of : Frac → List ℕ → Option Statement
+entry_of frac line = if slice_index line 0 == 35 then Some skipped else words_statement frac (words line) (after_word line)

@@ -1,5 +1,6 @@
 -- A job as plain values, without memory.
 use Rattle.std.specs.Prelude.{ℕ, ℤ, List}
+use Rattle.fixed.specs.declared.frac.Frac.{Frac}
 
 pub record GlobalValue : Type 0 where
   pub name : List ℕ
@@ -11,7 +12,9 @@ pub record TypeValue : Type 0 where
   pub mass : ℕ
   pub values : List ℤ
 
+-- a job, whose numbers have as many bits behind the point as `frac` says
 pub record JobValue : Type 0 where
+  pub frac : Frac
   pub energy : List ℕ
   pub core : ℤ
   pub cutoff : ℤ

@@ -21,6 +21,7 @@ type_value t = record { name = name_text t.name; mass = t.mass; values = t.value
 
 abbrev pub job_value : {A : Type 0} → Job A → JobValue
 job_value j = record {
+  frac = j.frac;
   energy = j.energy.items;
   core = j.core;
   cutoff = j.cutoff;
@@ -39,6 +40,7 @@ type_numbers_of t = (t.mass, t.values.items)
 
 abbrev pub said_of : {A : Type 0} → Draft A → plain.Said
 said_of d = record {
+  frac = d.frac;
   energy = option_map (λ v. v.items) d.energy;
   core = d.core;
   cutoff = d.cutoff;
@@ -47,6 +49,7 @@ said_of d = record {
   parameters = map (λ p. p.items) d.parameters.items;
   globals = map global_value d.globals.items;
   types = map type_line d.types.items;
+  bits = d.bits;
 }
 
 -- want of memory is no refusal of the text

@@ -1,12 +1,13 @@
 //! What the lines so far have said.
 
-ghost use Rattle.std.specs.Prelude.{◌≡◌, ◌≤◌, ◌≤ℤ◌, pos, length, IfSome, IsTrue};
+ghost use Rattle.std.specs.Prelude.{◌≡◌, ◌≤◌, ◌≤ℤ◌, ◌*◌, ◌^◌, pos, length, IfSome, IsTrue};
 ghost use Rattle.std.specs.List.{All};
 ghost use Rattle.std.proofs.Props.{props};
+ghost use Rattle.fixed.specs.Fractions.{bits_of};
 ghost use Rattle.line_text.specs.Identifiers.{is_identifier};
 
 use crate::jobs::{AtomType, Global};
-use fixed::Fx;
+use fixed::{Frac, Fx};
 use std::alloc::Allocator;
 
 /// What a type's line says behind its name.
@@ -32,6 +33,8 @@ pub struct TypeLine<A: Allocator> {
 /// What the lines so far have said, each value as in the job; `None` where no line has its key.
 #[derive(Drop)]
 pub struct Draft<A: Allocator> {
+    /// At how many fraction bits numerals are read, which a line still to come may say.
+    pub frac: Frac,
     /// The energy's text.
     pub energy: Option<Vec<u8, A>>,
     /// The core in nm, at least 0.
@@ -48,8 +51,10 @@ pub struct Draft<A: Allocator> {
     pub globals: Vec<Global<A>, A>,
     /// The types, at most 64.
     pub types: Vec<TypeLine<A>, A>,
+    /// How many bits stand behind the point of the job's numbers.
+    pub bits: Option<Frac>,
     ghost least_core: { IfSome core (λ v. pos 0 ≤ℤ v) } by { Prim.hlevel props },
-    ghost most_cutoff: { IfSome cutoff (λ v. v ≤ℤ pos 343597383680) } by { Prim.hlevel props },
+    ghost most_cutoff: { IfSome cutoff (λ v. v ≤ℤ pos (80 * 2 ^ bits_of frac)) } by { Prim.hlevel props },
     ghost some_time_step: { IfSome time_step (λ n. 1 ≤ n) } by { Prim.hlevel props },
     ghost most_time_step: { IfSome time_step (λ n. n ≤ 1000) } by { Prim.hlevel props },
     ghost some_slices: { IfSome slices (λ n. 1 ≤ n) } by { Prim.hlevel props },
@@ -65,10 +70,11 @@ impl<A: Allocator + Copy> Draft<A> {
     ghost use Rattle.job.specs.Views.{said_of};
 
     /// What no lines say.
-    pub fn new(alloc: A) -> Draft<A>
-        ensures { said_of result ≡ nothing }
+    pub fn new(alloc: A, frac: Frac) -> Draft<A>
+        ensures { said_of result ≡ nothing frac }
     {
         Draft {
+            frac,
             energy: None,
             core: None,
             cutoff: None,
@@ -77,6 +83,7 @@ impl<A: Allocator + Copy> Draft<A> {
             parameters: Vec::new(alloc),
             globals: Vec::new(alloc),
             types: Vec::new(alloc),
+            bits: None,
         }
     }
 }

@@ -26,6 +26,8 @@ pub enum Key {
     Global,
     /// `type`, of which a job has up to 64 lines.
     Types,
+    /// `bits`, of which a job has one line or none.
+    Bits,
 }
 
 impl fmt::Display for Key {
@@ -39,6 +41,7 @@ impl fmt::Display for Key {
             Key::Parameter => "parameter",
             Key::Global => "global",
             Key::Types => "type",
+            Key::Bits => "bits",
         })
     }
 }

@@ -42,6 +42,8 @@ pub fn key_of(word: &[u8]) -> Option<Key>
         Some(Key::Global)
     } else if word == b"type".as_slice() {
         Some(Key::Types)
+    } else if word == b"bits".as_slice() {
+        Some(Key::Bits)
     } else {
         None
     }

@@ -1,12 +1,13 @@
 //! What a job says.
 
-ghost use Rattle.std.specs.Prelude.{◌≡◌, ◌≤◌, ◌≤ℤ◌, ◌<ℤ◌, pos, length, IsTrue};
+ghost use Rattle.std.specs.Prelude.{◌≡◌, ◌≤◌, ◌≤ℤ◌, ◌<ℤ◌, ◌*◌, ◌^◌, pos, length, IsTrue};
 ghost use Rattle.std.specs.List.{All};
+ghost use Rattle.fixed.specs.Fractions.{bits_of};
 ghost use Rattle.line_text.specs.Names.{name_text};
 ghost use Rattle.line_text.specs.Identifiers.{is_identifier};
 ghost use Rattle.job.specs.Forms.{is_type_name};
 
-use fixed::Fx;
+use fixed::{Frac, Fx};
 use line_text::Name;
 use std::alloc::Allocator;
 
@@ -15,7 +16,7 @@ use std::alloc::Allocator;
 pub struct Global<A: Allocator> {
     /// A letter or `_`, then letters, digits and `_`.
     pub name: Vec<u8, A>,
-    /// Its value, of 32 fraction bits.
+    /// Its value, of the job's fraction bits.
     pub value: Fx,
     pub ghost named: { IsTrue (is_identifier name.items) },
 }
@@ -37,6 +38,8 @@ pub struct AtomType<A: Allocator> {
 /// A job: the energy between two atoms and what a run with it needs.
 #[derive(Drop)]
 pub struct Job<A: Allocator> {
+    /// How many bits stand behind the point of the job's numbers.
+    pub frac: Frac,
     /// The energy's text, in kJ/mol as a function of the distance `r` in nm. It isn't judged here.
     pub energy: Vec<u8, A>,
     /// The distance in nm at which closer pairs are taken to be, at least 0.
@@ -55,7 +58,7 @@ pub struct Job<A: Allocator> {
     pub types: Vec<AtomType<A>, A>,
     pub ghost least_core: { pos 0 ≤ℤ core },
     pub ghost below_cutoff: { core <ℤ cutoff },
-    pub ghost most_cutoff: { cutoff ≤ℤ pos 343597383680 },
+    pub ghost most_cutoff: { cutoff ≤ℤ pos (80 * 2 ^ bits_of frac) },
     pub ghost some_time_step: { 1 ≤ time_step },
     pub ghost most_time_step: { time_step ≤ 1000 },
     pub ghost some_slices: { 1 ≤ slices },

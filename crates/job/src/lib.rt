@@ -1,6 +1,7 @@
 //! Reads a job: the lines of text that name a run's energy, core, cutoff, time step and types of atoms.
 #![tactic(auto)]
 
+mod bits;
 mod drafts;
 mod faults;
 mod forms;

@@ -1,25 +1,27 @@
 //! What one line adds to what the lines above it have said.
 
-ghost use Rattle.std.specs.Prelude.{◌≡◌, ◌≤◌, ◌≤ℤ◌, pos, map, true, length, option_map, IfOk, IfSome, IsTrue, IsAscii, string_bytes, bytes_eq, ok_or};
+ghost use Rattle.std.specs.Prelude.{◌≡◌, ◌≤◌, ◌≤ℤ◌, ◌*◌, ◌^◌, pos, map, true, length, option_map, IfOk, IfSome, IsTrue, IsAscii, string_bytes, bytes_eq, ok_or};
 ghost use Rattle.std.specs.List.{list_any};
+ghost use Rattle.fixed.specs.Fractions.{bits_of};
 ghost use Rattle.line_text.specs.Names.{name_text};
 ghost use Rattle.line_text.specs.Identifiers.{is_identifier};
 ghost use Rattle.job.specs.Forms.{is_type_name};
 ghost use Rattle.line_text.specs.Words.{words, without_blanks};
-ghost use Rattle.job.specs.Numbers.{alone, only, both, numeral_of, cutoff_of, whole_of, mass_of, values_of, mapped, HasRead};
+ghost use Rattle.job.specs.Numbers.{alone, only, both, numeral_of, cutoff_of, whole_of, frac_of, mass_of, values_of, mapped, HasRead};
 ghost use Rattle.job.specs.Statements.{well_formed};
 ghost use Rattle.job.specs.Faults.{bad_line, repeated_name, repeated_type, knows};
-ghost use Rattle.job.specs.Drafts.{number_of, energy_into, core_into, cutoff_into, time_step_into, slices_into, parameter_new, parameter_into, global_add, global_new, global_by, global_into, type_add, type_new, type_into, key_into, words_into, line_into};
+ghost use Rattle.job.specs.Drafts.{number_of, energy_into, core_into, cutoff_into, time_step_into, slices_into, bits_into, parameter_new, parameter_into, global_add, global_new, global_by, global_into, type_add, type_new, type_into, key_into, words_into, line_into};
 ghost use Rattle.job.specs.JobText.{limits};
 ghost use Rattle.job.specs.Views.{said_of, global_value, type_line, refusal_of, type_numbers_of, Gives};
 
+use crate::bits::bits_in;
 use crate::drafts::{Draft, TypeLine, TypeNumbers};
 use crate::faults::{JobFault, Key};
 use crate::forms::{is_type_name, key_of};
 use crate::jobs::{AtomType, Global};
 use crate::numbers::{cutoff, mass, numeral, signed_numeral, values, whole};
 use crate::words::{only_word, two_words};
-use fixed::{Fx, NumFault};
+use fixed::{Frac, Fx, NumFault};
 use line_text::{Name, is_identifier, next_word, skip_blanks};
 use std::alloc::{AllocError, Allocator};
 
@@ -30,18 +32,18 @@ const MOST_GLOBALS: usize = 16;
 
 const MOST_TYPES: usize = 64;
 
-fn core_in(text: &[u8]) -> Result<Fx, NumFault>
-    ensures value { result ≡ alone numeral_of (words text.now) }
+fn core_in(frac: Frac, text: &[u8]) -> Result<Fx, NumFault>
+    ensures value { result ≡ alone (numeral_of frac) (words text.now) }
     ensures least { IfOk result (λ v. pos 0 ≤ℤ v) }
 {
-    numeral(only_word(text)?)
+    numeral(frac, only_word(text)?)
 }
 
-fn cutoff_in(text: &[u8]) -> Result<Fx, NumFault>
-    ensures value { result ≡ alone cutoff_of (words text.now) }
-    ensures most { IfOk result (λ v. v ≤ℤ pos 343597383680) }
+fn cutoff_in(frac: Frac, text: &[u8]) -> Result<Fx, NumFault>
+    ensures value { result ≡ alone (cutoff_of frac) (words text.now) }
+    ensures most { IfOk result (λ v. v ≤ℤ pos (80 * 2 ^ bits_of frac)) }
 {
-    cutoff(only_word(text)?)
+    cutoff(frac, only_word(text)?)
 }
 
 fn whole_in(most: u32, text: &[u8]) -> Result<u32, NumFault>
@@ -94,9 +96,9 @@ fn take_core<A: Allocator>(
     number: u64,
     text: &[u8],
 ) -> Result<Draft<A>, JobFault<A>>
-    ensures { Gives said_of result (core_into number (said_of draft) (alone numeral_of (words text.now))) }
+    ensures { Gives said_of result (core_into number (said_of draft) (alone (numeral_of draft.frac) (words text.now))) }
 {
-    let value = number_of(number, Key::Core, draft.core, core_in(text))?;
+    let value = number_of(number, Key::Core, draft.core, core_in(draft.frac, text))?;
     draft.core = Some(value);
     Ok(draft)
 }
@@ -106,9 +108,14 @@ fn take_cutoff<A: Allocator>(
     number: u64,
     text: &[u8],
 ) -> Result<Draft<A>, JobFault<A>>
-    ensures { Gives said_of result (cutoff_into number (said_of draft) (alone cutoff_of (words text.now))) }
+    ensures { Gives said_of result (cutoff_into number (said_of draft) (alone (cutoff_of draft.frac) (words text.now))) }
 {
-    let value = number_of(number, Key::Cutoff, draft.cutoff, cutoff_in(text))?;
+    let value = number_of(
+        number,
+        Key::Cutoff,
+        draft.cutoff,
+        cutoff_in(draft.frac, text),
+    )?;
     draft.cutoff = Some(value);
     Ok(draft)
 }
@@ -134,6 +141,18 @@ fn take_slices<A: Allocator>(
 {
     let value = number_of(number, Key::Slices, draft.slices, whole_in(65536, text))?;
     draft.slices = Some(value);
+    Ok(draft)
+}
+
+fn take_bits<A: Allocator>(
+    mut draft: Draft<A>,
+    number: u64,
+    text: &[u8],
+) -> Result<Draft<A>, JobFault<A>>
+    ensures { Gives said_of result (bits_into number (said_of draft) (alone frac_of (words text.now))) }
+{
+    let value = number_of(number, Key::Bits, draft.bits, bits_in(text))?;
+    draft.bits = Some(value);
     Ok(draft)
 }
 
@@ -269,7 +288,7 @@ fn take_global<A: Allocator + Copy>(
 {
     match two_words(text) {
         Some((name, value)) if is_identifier(name) => {
-            let value = well_formed(number, signed_numeral(value))?;
+            let value = well_formed(number, signed_numeral(draft.frac, value))?;
             add_global(alloc, draft, name, value)
         }
         _ => Err(JobFault::BadLine { line: number }),
@@ -278,12 +297,13 @@ fn take_global<A: Allocator + Copy>(
 
 fn type_numbers<A: Allocator>(
     alloc: A,
+    frac: Frac,
     mass_word: &[u8],
     text: &[u8],
 ) -> Result<Result<TypeNumbers<A>, NumFault>, AllocError>
-    ensures { HasRead type_numbers_of result (both (mass_of mass_word.now) (values_of (words text.now))) }
+    ensures { HasRead type_numbers_of result (both (mass_of mass_word.now) (values_of frac (words text.now))) }
 {
-    Ok(match (mass(mass_word), values(alloc, text)?) {
+    Ok(match (mass(mass_word), values(alloc, frac, text)?) {
         (Err(NumFault::BadNumber), _) => Err(NumFault::BadNumber),
         (_, Err(NumFault::BadNumber)) => Err(NumFault::BadNumber),
         (Ok(mass), Ok(values)) => Ok(TypeNumbers { mass, values }),
@@ -350,7 +370,7 @@ fn take_type<A: Allocator + Copy>(
     if !is_type_name(name) {
         return Err(JobFault::BadLine { line: number });
     }
-    let numbers = well_formed(number, type_numbers(alloc, mass, rest)?)?;
+    let numbers = well_formed(number, type_numbers(alloc, draft.frac, mass, rest)?)?;
     add_type(alloc, draft, number, name, numbers)
 }
 
@@ -374,6 +394,7 @@ fn take_key<A: Allocator + Copy>(
         Some(Key::Parameter) => take_parameter(alloc, draft, number, text),
         Some(Key::Global) => take_global(alloc, draft, number, text),
         Some(Key::Types) => take_type(alloc, draft, number, text),
+        Some(Key::Bits) => take_bits(draft, number, text),
     }
 }
 

@@ -1,44 +1,50 @@
 //! The numbers of a job. A word is malformed (`BadNumber`), or its number is out of its range (`NumberRange`).
 
-ghost use Rattle.std.specs.Prelude.{◌≡◌, ◌≤◌, ◌≤ℤ◌, pos, IfOk};
+ghost use Rattle.std.specs.Prelude.{◌≡◌, ◌≤◌, ◌≤ℤ◌, ◌*◌, ◌^◌, pos, IfOk};
+ghost use Rattle.fixed.specs.Fractions.{bits_of};
 ghost use Rattle.line_text.specs.Words.{words};
-ghost use Rattle.job.specs.Numbers.{numeral_of, signed_of, cutoff_of, within, whole_of, mass_from, mass_of, values_of, HasRead};
+ghost use Rattle.job.specs.Numbers.{numeral_of, signed_of, cutoff_of, within, whole_of, frac_of, mass_from, mass_of, values_of, HasRead};
 
 use fixed::{Frac, Fx, NumFault};
 use line_text::{cut, digits, digits_up_to, next_word, power_of_ten};
 use std::alloc::{AllocError, Allocator};
 
-const MOST_CUTOFF: i64 = 343_597_383_680;
-
-/// A numeral, rounded to the nearest number of 32 fraction bits.
-pub fn numeral(word: &[u8]) -> Result<Fx, NumFault>
-    ensures value { result ≡ numeral_of word.now }
+/// A numeral, rounded to the nearest number of these fraction bits.
+pub fn numeral(frac: Frac, word: &[u8]) -> Result<Fx, NumFault>
+    ensures value { result ≡ numeral_of frac word.now }
     ensures least { IfOk result (λ v. pos 0 ≤ℤ v) }
 {
-    fixed::numeral(Frac::F32, word)
+    fixed::numeral(frac, word)
 }
 
 /// A numeral with or without a minus, judged without it.
 #[tactic(auto, unfolding(crate::specs::Numbers::signed_of))]
-pub fn signed_numeral(word: &[u8]) -> Result<Fx, NumFault>
-    ensures { result ≡ signed_of word.now }
+pub fn signed_numeral(frac: Frac, word: &[u8]) -> Result<Fx, NumFault>
+    ensures { result ≡ signed_of frac word.now }
 {
     if let [b'-', digits @ ..] = word {
-        let value = numeral(digits)?;
+        let value = numeral(frac, digits)?;
         Ok(Fx::from_raw(-value.raw()))
     } else {
-        numeral(word)
+        numeral(frac, word)
     }
+}
+
+// 80 nm, as a raw value.
+fn most_cutoff(frac: Frac) -> i64
+    ensures { result ≡ pos (80 * 2 ^ bits_of frac) }
+{
+    80 * frac.one()
 }
 
 /// A cutoff in nm: a numeral more than 0 and at most 80.
 #[tactic(auto, unfolding(crate::specs::Numbers::cutoff_of))]
-pub fn cutoff(word: &[u8]) -> Result<Fx, NumFault>
-    ensures value { result ≡ cutoff_of word.now }
-    ensures most { IfOk result (λ v. v ≤ℤ pos 343597383680) }
+pub fn cutoff(frac: Frac, word: &[u8]) -> Result<Fx, NumFault>
+    ensures value { result ≡ cutoff_of frac word.now }
+    ensures most { IfOk result (λ v. v ≤ℤ pos (80 * 2 ^ bits_of frac)) }
 {
-    let value = numeral(word)?;
-    if 1 <= value.raw() && value.raw() <= MOST_CUTOFF {
+    let value = numeral(frac, word)?;
+    if 1 <= value.raw() && value.raw() <= most_cutoff(frac) {
         Ok(value)
     } else {
         Err(NumFault::NumberRange)
@@ -69,6 +75,19 @@ pub fn whole(least: u32, most: u32, word: &[u8]) -> Result<u32, NumFault>
         return Err(NumFault::BadNumber);
     };
     within(least, most, value)
+}
+
+/// How many fraction bits: a whole number that is 24, 32 or 40.
+#[tactic(auto, unfolding(crate::specs::Numbers::frac_of))]
+pub fn frac(word: &[u8]) -> Result<Frac, NumFault>
+    ensures { result ≡ frac_of word.now }
+{
+    match whole(24, 40, word)? {
+        24 => Ok(Frac::F24),
+        32 => Ok(Frac::F32),
+        40 => Ok(Frac::F40),
+        _ => Err(NumFault::NumberRange),
+    }
 }
 
 fn decimal_mass(whole: &[u8], part: &[u8]) -> Result<u32, NumFault>
@@ -104,15 +123,16 @@ pub fn mass(word: &[u8]) -> Result<u32, NumFault>
 /// The text's words, each a numeral with or without a minus; a malformed one comes before one that is out of range.
 pub fn values<A: Allocator>(
     alloc: A,
+    frac: Frac,
     text: &[u8],
 ) -> Result<Result<Vec<Fx, A>, NumFault>, AllocError>
-    ensures { HasRead (λ v. v.items) result (values_of (words text.now)) }
+    ensures { HasRead (λ v. v.items) result (values_of frac (words text.now)) }
 {
     let mut values = Vec::new(alloc);
     let mut in_range = true;
     let mut rest = text;
     while let Some((word, after)) = next_word(rest) {
-        match signed_numeral(word) {
+        match signed_numeral(frac, word) {
             Ok(value) => values.push(value)?,
             Err(NumFault::NumberRange) => in_range = false,
             Err(NumFault::BadNumber) => return Ok(Err(NumFault::BadNumber)),

@@ -9,22 +9,27 @@ ghost use Rattle.job.specs.Drafts.{nothing, lines_into, lines_job};
 ghost use Rattle.job.specs.JobText.{header, needed, ordered, whole_types, job_from, limits};
 ghost use Rattle.job.specs.Views.{said_of, type_line, type_value, job_value, Gives};
 
+use crate::bits::frac_in;
 use crate::drafts::{Draft, TypeLine};
 use crate::faults::{JobFault, Key};
 use crate::jobs::{AtomType, Job};
 use crate::lines::take_line;
 use crate::words::next_line;
-use fixed::Fx;
+use fixed::{Frac, Fx};
 use std::alloc::{AllocError, Allocator};
 
 /// The number of slices of a job that names none.
 const SLICES: u32 = 64;
 
-fn take_lines<A: Allocator + Copy>(alloc: A, text: Option<&[u8]>) -> Result<Draft<A>, JobFault<A>>
+fn take_lines<A: Allocator + Copy>(
+    alloc: A,
+    frac: Frac,
+    text: Option<&[u8]>,
+) -> Result<Draft<A>, JobFault<A>>
     requires { IfSome text (λ t. length t.now + 3 < 2 ^ 64) }
-    ensures { Gives said_of result (lines_into limits 2 nothing (more_lines (option_map (λ x. x.now) text.entry))) }
+    ensures { Gives said_of result (lines_into limits 2 (nothing frac) (more_lines (option_map (λ x. x.now) text.entry))) }
 {
-    let mut draft = Draft::new(alloc);
+    let mut draft = Draft::new(alloc, frac);
     let mut number = 2;
     let mut rest = text;
     while let Some(lines) = rest {
@@ -109,6 +114,7 @@ fn finish<A: Allocator + Copy>(alloc: A, draft: Draft<A>) -> Result<Job<A>, JobF
     ensures { Gives job_value result (job_from (said_of draft)) }
 {
     let Draft {
+        frac,
         energy,
         core,
         cutoff,
@@ -117,6 +123,7 @@ fn finish<A: Allocator + Copy>(alloc: A, draft: Draft<A>) -> Result<Job<A>, JobF
         parameters,
         globals,
         types,
+        bits: _,
     } = draft;
     let energy = needed(Key::Energy, energy)?;
     let core = needed(Key::Core, core)?;
@@ -125,6 +132,7 @@ fn finish<A: Allocator + Copy>(alloc: A, draft: Draft<A>) -> Result<Job<A>, JobF
     let cutoff = ordered(core, longest)?;
     let types = atom_types(alloc, parameters.as_slice().len(), types)?;
     Ok(Job {
+        frac,
         energy,
         core,
         cutoff,
@@ -156,7 +164,8 @@ fn read_lines<A: Allocator + Copy>(alloc: A, bytes: &[u8]) -> Result<Job<A>, Job
     if !is_header(first) {
         return Err(JobFault::BadLine { line: 1 });
     }
-    let draft = take_lines(alloc, rest)?;
+    let frac = frac_in(rest);
+    let draft = take_lines(alloc, frac, rest)?;
     finish(alloc, draft)
 }
 
@@ -168,10 +177,13 @@ impl<A: Allocator + Copy> Job<A> {
     /// Reads a job's text.
     ///
     /// The first line is `pairmd job 1`. Below it, lines that are blank or begin with `#` are skipped, and the others
-    /// begin with a key, in any order: `energy TEXT`, `core X`, `cutoff X` and `dt N` once, `slices N` at most once,
-    /// and `parameter NAME`, `global NAME X` and `type NAME MASS X..`, of which a job may have at most 8, 16 and 64.
-    /// Words are separated by spaces or tabs, and lines end with a line feed, before which one carriage return may
-    /// stand.
+    /// begin with a key, in any order: `energy TEXT`, `core X`, `cutoff X` and `dt N` once, `slices N` and `bits N` at
+    /// most once, and `parameter NAME`, `global NAME X` and `type NAME MASS X..`, of which a job may have at most 8, 16
+    /// and 64. Words are separated by spaces or tabs, and lines end with a line feed, before which one carriage return
+    /// may stand.
+    ///
+    /// `bits N` says how many bits stand behind the point of the job's numbers: 24, 32 or 40. All numerals, those above
+    /// the line too, are read at what the first line says whose N is one of these, and at 32 where no line is such.
     ///
     /// The first fault is the answer. Lines are judged from the top, and on each `BadLine` where it is malformed,
     /// `Repeated` or `RepeatedName` where a line above has its key or its name, `RepeatedType` where a type above has
@@ -182,7 +194,7 @@ impl<A: Allocator + Copy> Job<A> {
     pub fn read(alloc: A, bytes: &[u8]) -> Result<Job<A>, JobFault<A>>
         ensures exact { Gives job_value result (reading_of limits bytes.now) }
         ensures job { IfOk result (λ job. IsJobText limits bytes.now (job_value job)) }
-        ensures once { IfOk result (λ _. HasKeysOnce (below_first (lines_of bytes.now))) }
+        ensures once { IfOk result (λ job. HasKeysOnce job.frac (below_first (lines_of bytes.now))) }
         ensures apart { IfOk result (λ job. HasNamesOnce (job_value job)) }
         ensures only { (job : JobValue) → IsJobText limits bytes.now job → AnswersJob result job }
     {

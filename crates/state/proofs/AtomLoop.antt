@@ -15,38 +15,38 @@ regroup : (front : List AtomView) (a : AtomView) (read : Result (List AtomView �
 regroup front a (Ok x) = ap (λ (xs : List AtomView). Ok (xs, x.1)) (simp append_assoc)
 regroup front a (Err f) = refl
 
-pub goes_on : (front : List AtomView) (count i : ℕ) (bytes : List ℕ) (a : AtomView) (after : List ℕ) (total : Result (List AtomView × List ℕ) StateFault)
-    → i < count → atom_at (6 + i) bytes ≡ Ok (a, after)
-    → with_front front (atoms_at (6 + i) (count - i) bytes) ≡ total
-    → with_front (front ++ a ∷ []) (atoms_at (6 + (i + 1)) (count - (i + 1)) after) ≡ total
+pub goes_on : (front : List AtomView) (n count i : ℕ) (bytes : List ℕ) (a : AtomView) (after : List ℕ) (total : Result (List AtomView × List ℕ) StateFault)
+    → i < count → atom_at (n + i) bytes ≡ Ok (a, after)
+    → with_front front (atoms_at (n + i) (count - i) bytes) ≡ total
+    → with_front (front ++ a ∷ []) (atoms_at (n + (i + 1)) (count - (i + 1)) after) ≡ total
 unfolding atoms_at
-goes_on front count i bytes a after total lt h so_far =
+goes_on front n count i bytes a after total lt h so_far =
     let k : count - i ≡ suc (count - (i + 1)) = omega arith in
-    let n : 6 + i + 1 ≡ 6 + (i + 1) = omega arith in
-    let one : with_front front (atoms_at (6 + i) (count - i) bytes) ≡ with_front (front ++ a ∷ []) (atoms_at (6 + (i + 1)) (count - (i + 1)) after) = rw (k, h, n) (regroup front a (atoms_at (6 + (i + 1)) (count - (i + 1)) after)) in
+    let m : n + i + 1 ≡ n + (i + 1) = omega arith in
+    let one : with_front front (atoms_at (n + i) (count - i) bytes) ≡ with_front (front ++ a ∷ []) (atoms_at (n + (i + 1)) (count - (i + 1)) after) = rw (k, h, m) (regroup front a (atoms_at (n + (i + 1)) (count - (i + 1)) after)) in
     sym one ∙ so_far
 
-stops : (fault : StateFault) (front : List AtomView) (count i : ℕ) (bytes : List ℕ) (total : Result (List AtomView × List ℕ) StateFault)
-    → i < count → atom_at (6 + i) bytes ≡ Err fault
-    → with_front front (atoms_at (6 + i) (count - i) bytes) ≡ total → total ≡ Err fault
+stops : (fault : StateFault) (front : List AtomView) (n count i : ℕ) (bytes : List ℕ) (total : Result (List AtomView × List ℕ) StateFault)
+    → i < count → atom_at (n + i) bytes ≡ Err fault
+    → with_front front (atoms_at (n + i) (count - i) bytes) ≡ total → total ≡ Err fault
 unfolding atoms_at
-stops fault front count i bytes total lt h so_far =
+stops fault front n count i bytes total lt h so_far =
     let k : count - i ≡ suc (count - (i + 1)) = omega arith in
-    let one : with_front front (atoms_at (6 + i) (count - i) bytes) ≡ Err fault = rw (k, h) refl in
+    let one : with_front front (atoms_at (n + i) (count - i) bytes) ≡ Err fault = rw (k, h) refl in
     sym so_far ∙ one
 
-pub ends : (fault : StateFault) (front : List AtomView) (count i : ℕ) (bytes : List ℕ) (total : Result (List AtomView × List ℕ) StateFault)
-    → i < count → Fails fault (atom_at (6 + i) bytes)
-    → with_front front (atoms_at (6 + i) (count - i) bytes) ≡ total → Fails fault total
-ends Memory front count i bytes total lt h so_far = tt
-ends (BadLine n) front count i bytes total lt h so_far = stops (BadLine n) front count i bytes total lt h so_far
-ends Truncated front count i bytes total lt h so_far = stops Truncated front count i bytes total lt h so_far
-ends Trailing front count i bytes total lt h so_far = stops Trailing front count i bytes total lt h so_far
+pub ends : (fault : StateFault) (front : List AtomView) (n count i : ℕ) (bytes : List ℕ) (total : Result (List AtomView × List ℕ) StateFault)
+    → i < count → Fails fault (atom_at (n + i) bytes)
+    → with_front front (atoms_at (n + i) (count - i) bytes) ≡ total → Fails fault total
+ends Memory front n count i bytes total lt h so_far = tt
+ends (BadLine line) front n count i bytes total lt h so_far = stops (BadLine line) front n count i bytes total lt h so_far
+ends Truncated front n count i bytes total lt h so_far = stops Truncated front n count i bytes total lt h so_far
+ends Trailing front n count i bytes total lt h so_far = stops Trailing front n count i bytes total lt h so_far
 
-pub is_done : (front : List AtomView) (count i : ℕ) (bytes : List ℕ) (total : Result (List AtomView × List ℕ) StateFault)
-    → count ≤ i → with_front front (atoms_at (6 + i) (count - i) bytes) ≡ total → total ≡ Ok (front, bytes)
+pub is_done : (front : List AtomView) (n count i : ℕ) (bytes : List ℕ) (total : Result (List AtomView × List ℕ) StateFault)
+    → count ≤ i → with_front front (atoms_at (n + i) (count - i) bytes) ≡ total → total ≡ Ok (front, bytes)
 unfolding atoms_at
-is_done front count i bytes total le so_far =
+is_done front n count i bytes total le so_far =
     let k : count - i ≡ 0 = omega arith in
-    let one : with_front front (atoms_at (6 + i) (count - i) bytes) ≡ Ok (front, bytes) = rw k (ap (λ (xs : List AtomView). Ok (xs, bytes)) (append-nil front)) in
+    let one : with_front front (atoms_at (n + i) (count - i) bytes) ≡ Ok (front, bytes) = rw k (ap (λ (xs : List AtomView). Ok (xs, bytes)) (append-nil front)) in
     sym so_far ∙ one

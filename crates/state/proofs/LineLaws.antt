@@ -8,10 +8,15 @@ use lib.Signed.{mag}
 use Rattle.line_text.specs.Parts.{◌>>=◌ as ◌|>◌, word, ended, AreThree, lacks, is_title, cut_at, after, natural_of, integer_of, three_at}
 use Rattle.line_text.proofs.PartLaws.{some_of, none_of, same_bytes, natural_found, natural_again, integer_found, integer_again}
 use Rattle.line_text.proofs.LineLaws.{bind_some, lacks_append, lacks_rest, decimal_lacks, signed_lacks, cut_found, line_cut, ended_then, after_found, after_again, three_found, three_again, words_lack}
-use Rattle.state.specs.StateText.{head_line, title_line, step_line, count_line, box_line, IsSide}
+use Rattle.fixed.specs.Fractions.{bits_of}
+use Rattle.fixed.specs.declared.frac.Frac.{Frac}
+use Rattle.fixed.specs.declared.frac.Frac.TheVariants.{F24, F32, F40}
+use Rattle.state.specs.declared.versions.Version.{Version}
+use Rattle.state.specs.declared.versions.Version.TheVariants.{First, Second}
+use Rattle.state.specs.StateText.{version_of, head_line, title_line, step_line, bits_line, bits_in, count_line, box_line, IsSide}
 use Rattle.line_text.specs.Steps.{◌>>=◌}
 use Rattle.line_text.proofs.StepLaws.{bind_ok}
-use Rattle.state.specs.StateReading.{head_of, title_of, step_of, count_of, sides_of, line_at, needed, said, field_at}
+use Rattle.state.specs.StateReading.{head_of, title_of, step_of, named_frac, frac_of, count_of, sides_of, line_at, needed, said, field_at, frac_at}
 
 -- ---- any line
 
@@ -52,12 +57,21 @@ field_again n read line x rest l e = rw (line_again line rest l, e) refl
 
 -- ---- the first line
 
-pub head_found : Spells head_of (λ _. head_line) (λ _. Unit {0})
-head_found line u l e = at (bytes_eq line head_line) refl e
+pub head_found : Spells head_of head_line (λ _. Unit {0})
+head_found line v l e = at (bytes_eq line (head_line First)) (bytes_eq line (head_line Second)) refl refl e
   where
-    at : (b : Bool) → bytes_eq line head_line ≡ b → cond b (Some tt) None ≡ Some u → (line ≡ head_line) × Unit {0}
-    at true c d = (same_bytes line head_line c, tt)
-    at false c d = absurd cc
+    at : (s t : Bool) → bytes_eq line (head_line First) ≡ s → bytes_eq line (head_line Second) ≡ t → cond s (Some First) (cond t (Some Second) None) ≡ Some v → (line ≡ head_line v) × Unit {0}
+    at true t f g h = let same : First ≡ v = cc in (same_bytes line (head_line First) f ∙ ap head_line same, tt)
+    at false true f g h = let same : Second ≡ v = cc in (same_bytes line (head_line Second) g ∙ ap head_line same, tt)
+    at false false f g h = absurd cc
+
+pub head_again : (v : Version) → head_of (head_line v) ≡ Some v
+head_again First = refl
+head_again Second = refl
+
+pub head_lacks : (v : Version) → lacks 10 (head_line v) ≡ true
+head_lacks First = refl
+head_lacks Second = refl
 
 -- ---- the title
 
@@ -94,6 +108,44 @@ step_again z h = rw (after_again (codes "step ") (signed_decimal z)) (integer_ag
 
 pub step_lacks : (z : ℤ) → mag z < 2 ^ 63 → lacks 10 (step_line z) ≡ true
 step_lacks z h = lacks_append 10 (codes "step ") (signed_decimal z) refl (signed_lacks 10 z (lit< tt) h)
+
+-- ---- the bits
+
+named_found : (n : ℕ) (f : Frac) → named_frac n ≡ Some f → (n ≡ bits_of f) × (version_of f ≡ Second)
+named_found n f e = at (eqb n 24) (eqb n 40) refl refl e
+  where
+    at : (s t : Bool) → eqb n 24 ≡ s → eqb n 40 ≡ t → cond s (Some F24) (cond t (Some F40) None) ≡ Some f → (n ≡ bits_of f) × (version_of f ≡ Second)
+    at true t p q h = let same : F24 ≡ f = cc in (eqb-true n 24 p ∙ ap bits_of same, sym (ap version_of same))
+    at false true p q h = let same : F40 ≡ f = cc in (eqb-true n 40 q ∙ ap bits_of same, sym (ap version_of same))
+    at false false p q h = absurd cc
+
+frac_found : Spells frac_of bits_line (λ f. version_of f ≡ Second)
+unfolding frac_of
+frac_found line f l e =
+    let n = bind_some (after (codes "bits ") line |> natural_of 41) named_frac f e in
+    let a = bind_some (after (codes "bits ") line) (natural_of 41) n.0 n.1 in
+    let m = named_found n.0 f n.2 in
+    let whole : line ≡ codes "bits " ++ decimal n.0 = after_found (codes "bits ") line a.0 a.1 ∙ ap (λ (u : List ℕ). codes "bits " ++ u) (natural_found 41 a.0 n.0 a.2).0 in
+    (whole ∙ ap (λ (k : ℕ). codes "bits " ++ decimal k) m.0, m.1)
+
+-- of a fraction that a line names
+frac_again : (f : Frac) → bits_of f < 41 → named_frac (bits_of f) ≡ Some f → frac_of (bits_line f) ≡ Some f
+unfolding frac_of
+frac_again f small named = rw (after_again (codes "bits ") (decimal (bits_of f)), natural_again 41 (bits_of f) small (omega arith)) named
+
+frac_lacks : (f : Frac) → bits_of f < 41 → lacks 10 (bits_line f) ≡ true
+frac_lacks f small = lacks_append 10 (codes "bits ") (decimal (bits_of f)) refl (decimal_lacks 10 (bits_of f) (lit< tt) (omega arith))
+
+pub bits_found : (v : Version) (bytes : List ℕ) (p : Frac × List ℕ) → frac_at v bytes ≡ Ok p → (bytes ≡ bits_in v p.0 ++ p.1) × (version_of p.0 ≡ v)
+bits_found First bytes p e =
+    let same : (F32, bytes) ≡ p = cc in
+    subst (λ (q : Frac × List ℕ). (bytes ≡ bits_in First q.0 ++ q.1) × (version_of q.0 ≡ First)) same (refl, refl)
+bits_found Second bytes p e = field_found 4 frac_of bits_line (λ f. version_of f ≡ Second) frac_found bytes p e
+
+pub bits_again : (f : Frac) (rest : List ℕ) → frac_at (version_of f) (bits_in (version_of f) f ++ rest) ≡ Ok (f, rest)
+bits_again F24 rest = field_again 4 frac_of (bits_line F24) F24 rest (frac_lacks F24 (lit< tt)) (frac_again F24 (lit< tt) refl)
+bits_again F32 rest = refl
+bits_again F40 rest = field_again 4 frac_of (bits_line F40) F40 rest (frac_lacks F40 (lit< tt)) (frac_again F40 (lit< tt) refl)
 
 -- ---- the number of atoms
 

@@ -3,17 +3,18 @@ use Rattle.std.proofs.Common.{◌≡◌, ℕ, List, [], ◌∷◌, ◌++◌, len
 use Rattle.std.specs.Fmt.{signed_decimal}
 use Rattle.std.specs.List.{flat_map}
 use Rattle.line_text.specs.Parts.{word}
-use Rattle.state.specs.StateText.{StateView, atom_lines, state_text}
-use Rattle.state.specs.Middle.{middle}
+use Rattle.state.specs.StateText.{StateView, version_of, head_line, bits_in, atom_lines, state_text}
+use Rattle.state.specs.Middle.{front, middle}
 
-pub in_pieces : (s : StateView) → state_text s ≡ codes "pairmd state 1\ntitle " ++ s.title ++ middle s.step (length s.atoms) s.sides ++ atom_lines s.atoms
+pub in_pieces : (s : StateView) → state_text s ≡ front s.frac ++ s.title ++ middle s.step s.frac (length s.atoms) s.sides ++ atom_lines s.atoms
 unfolding state_text
 in_pieces s =
-    plain (10 ∷ []) (codes "pairmd state 1") (codes "title ") s.title (codes "step ") (signed_decimal s.step) (codes "atoms") (word (length s.atoms)) (codes "box") (flat_map word s.sides) (atom_lines s.atoms)
+    plain (10 ∷ []) (head_line (version_of s.frac)) (codes "title ") s.title (codes "step ") (signed_decimal s.step) (bits_in (version_of s.frac) s.frac) (codes "atoms") (word (length s.atoms)) (codes "box") (flat_map word s.sides)
+    (atom_lines s.atoms)
   where
-    plain : (lf h k t s n m c b w a : List ℕ) → (h ++ lf) ++ ((k ++ t) ++ lf) ++ ((s ++ n) ++ lf) ++ ((m ++ c) ++ lf) ++ ((b ++ w) ++ lf) ++ a
-        ≡ (h ++ (lf ++ k)) ++ t ++ ((lf ++ s) ++ n ++ (lf ++ m) ++ c ++ (lf ++ b) ++ w ++ lf) ++ a
-    plain lf h k t s n m c b w a = simp append_assoc
+    plain : (lf h k t s n d m c b w a : List ℕ) → (h ++ lf) ++ ((k ++ t) ++ lf) ++ ((s ++ n) ++ lf) ++ d ++ ((m ++ c) ++ lf) ++ ((b ++ w) ++ lf) ++ a
+        ≡ ((h ++ lf) ++ k) ++ t ++ ((lf ++ s) ++ n ++ lf ++ d ++ m ++ c ++ (lf ++ b) ++ w ++ lf) ++ a
+    plain lf h k t s n d m c b w a = simp append_assoc
 
 -- five pieces, put one after another
 pub in_five : (l0 l1 l2 l3 l4 l5 a b c d e : List ℕ) → l1 ≡ l0 ++ a → l2 ≡ l1 ++ b → l3 ≡ l2 ++ c → l4 ≡ l3 ++ d → l5 ≡ l4 ++ e → l5 ≡ l0 ++ (a ++ b ++ c ++ d ++ e)

@@ -5,6 +5,7 @@ use Rattle.std.specs.List.{AllZip}
 use Rattle.std.proofs.lemmas.Bool.{and_parts}
 use Rattle.std.proofs.lemmas.Bool.Decides.{nat_tests}
 use Rattle.std.proofs.lemmas.Int.{ints}
+use Rattle.fixed.specs.declared.frac.Frac.{Frac}
 use Rattle.fixed.specs.Rounding.{nearest_of}
 use Rattle.fixed.proofs.FloorLemmas.{nearest_is}
 use Rattle.gro.specs.Frames as gro
@@ -90,21 +91,22 @@ all_start dt ring (g ∷ gs) p q r =
 
 -- ---- the state
 
-pub begins_at : (dt : ℕ) (f : gro.FrameView) (s : StateView) → start_of dt f ≡ Ok s → BeginsAt dt f s
-begins_at dt f s e =
-    let b = box_found (box_of f.sides) (start_in dt f) s e in
+pub begins_at : (frac : Frac) (dt : ℕ) (f : gro.FrameView) (s : StateView) → start_of frac dt f ≡ Ok s → BeginsAt frac dt f s
+begins_at frac dt f s e =
+    let b = box_found (box_of f.sides) (start_in frac dt f) s e in
     let ring = b.0 in
     let l = sides_from f.sides ring b.1 in
-    let it : BeginsAt dt f (start_in dt f ring) = record {
+    let it : BeginsAt frac dt f (start_in frac dt f ring) = record {
       title = refl;
       counter = refl;
+      bits = refl;
       x_side = l.0.0;
       y_side = l.1.0;
       z_side = l.2.0;
       atoms = all_start dt ring f.atoms l.0.1 l.1.1 l.2.1;
     } in
-    subst (λ (t : StateView). BeginsAt dt f t) b.2 it
+    subst (λ (t : StateView). BeginsAt frac dt f t) b.2 it
 
-pub start_begins : {A : Type 0} (dt : ℕ) (f : gro.FrameView) (r : Result (State A) StartFault) → Gives state_view r (start_of dt f) → IfOk r (λ s. BeginsAt dt f (state_view s))
-start_begins dt f (Ok s) h = begins_at dt f (state_view s) h
-start_begins dt f (Err e) h = tt
+pub start_begins : {A : Type 0} (frac : Frac) (dt : ℕ) (f : gro.FrameView) (r : Result (State A) StartFault) → Gives state_view r (start_of frac dt f) → IfOk r (λ s. BeginsAt frac dt f (state_view s))
+start_begins frac dt f (Ok s) h = begins_at frac dt f (state_view s) h
+start_begins frac dt f (Err e) h = tt

@@ -1,9 +1,17 @@
--- The part of a state's text that is written at once.
+-- The parts of a state's text that are written at once.
 use Rattle.std.specs.Prelude.{List, ℕ, ℤ, ◌++◌, codes}
 use Rattle.std.specs.Fmt.{signed_decimal}
 use Rattle.std.specs.List.{flat_map}
-use Rattle.line_text.specs.Parts.{word}
+use Rattle.fixed.specs.declared.frac.Frac.{Frac}
+use Rattle.line_text.specs.Parts.{ended, word}
+use Rattle.state.specs.StateText.{bits_in, head_line, version_of}
+
+-- what stands before the title
+abbrev pub front : Frac → List ℕ
+front frac = ended (head_line (version_of frac)) ++ codes "title "
 
 -- what stands between the title and the atoms
-abbrev pub middle : ℤ → ℕ → List ℕ → List ℕ
-middle step count sides = codes "\nstep " ++ signed_decimal step ++ codes "\natoms" ++ word count ++ codes "\nbox" ++ flat_map word sides ++ codes "\n"
+abbrev pub middle : ℤ → Frac → ℕ → List ℕ → List ℕ
+middle step frac count sides =
+    codes "\nstep " ++ signed_decimal step ++ codes "\n" ++ bits_in (version_of frac) frac
+    ++ codes "atoms" ++ word count ++ codes "\nbox" ++ flat_map word sides ++ codes "\n"

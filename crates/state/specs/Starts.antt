@@ -1,6 +1,7 @@
 -- The state that begins at a frame of a GRO file: the frame's atoms at their places in the box, and where they were one time step before.
 use Rattle.std.specs.Prelude.{◌≡◌, ℕ, ℤ, pos, List, [], ◌∷◌, map, slice_index, slice_index_or, Result, Ok, Err}
 use Rattle.std.specs.List.{AllZip}
+use Rattle.fixed.specs.declared.frac.Frac.{Frac}
 use Rattle.gro.specs.Frames as gro
 use Rattle.ring_box.specs.Places.{IsPlaceOfPm, place_of_pm}
 use Rattle.ring_box.specs.Boxes.{box_of}
@@ -33,16 +34,16 @@ started_atom dt ring a = record {
 }
 
 -- in a box
-abbrev pub start_in : ℕ → gro.FrameView → RingBox → StateView
-start_in dt f ring = record { title = f.title; step = pos 0; sides = sides_view ring; atoms = map (started_atom dt ring) f.atoms }
+abbrev pub start_in : Frac → ℕ → gro.FrameView → RingBox → StateView
+start_in frac dt f ring = record { title = f.title; step = pos 0; frac = frac; sides = sides_view ring; atoms = map (started_atom dt ring) f.atoms }
 
 abbrev pub on_box : Result RingBox BoxFault → (RingBox → StateView) → Result StateView BoxFault
 on_box (Ok ring) start = Ok (start ring)
 on_box (Err fault) start = Err fault
 
--- the state that begins at a frame with a time step of dt fs, or why its sides are no box's
-abbrev pub start_of : ℕ → gro.FrameView → Result StateView BoxFault
-start_of dt f = on_box (box_of f.sides) (start_in dt f)
+-- the state of so many fraction bits that begins at a frame with a time step of dt fs, or why its sides are no box's
+abbrev pub start_of : Frac → ℕ → gro.FrameView → Result StateView BoxFault
+start_of frac dt f = on_box (box_of f.sides) (start_in frac dt f)
 
 -- What a call returned, seen by view, is what the definition answers. Want of memory says nothing.
 abbrev pub Gives : {X : Type 0} → (X → StateView) → Result X StartFault → Result StateView BoxFault → Type 0
@@ -66,10 +67,11 @@ pub record IsStartOfAtom (dt : ℕ) (sides : List ℕ) (g : gro.AtomView) (a : A
   pub y : IsStartOnSide dt (slice_index sides 1) (slice_index_or g.at 1 (pos 0)) (slice_index_or g.velocity 1 (pos 0)) (slice_index a.previous 1) (slice_index a.current 1)
   pub z : IsStartOnSide dt (slice_index sides 2) (slice_index_or g.at 2 (pos 0)) (slice_index_or g.velocity 2 (pos 0)) (slice_index a.previous 2) (slice_index a.current 2)
 
--- the state s begins at the frame f
-pub record BeginsAt (dt : ℕ) (f : gro.FrameView) (s : StateView) : Type 0 where
+-- the state s of so many fraction bits begins at the frame f
+pub record BeginsAt (frac : Frac) (dt : ℕ) (f : gro.FrameView) (s : StateView) : Type 0 where
   pub title : s.title ≡ f.title
   pub counter : s.step ≡ pos 0
+  pub bits : s.frac ≡ frac
   pub x_side : pos (slice_index s.sides 0) ≡ slice_index_or f.sides 0 (pos 0)
   pub y_side : pos (slice_index s.sides 1) ≡ slice_index_or f.sides 1 (pos 0)
   pub z_side : pos (slice_index s.sides 2) ≡ slice_index_or f.sides 2 (pos 0)

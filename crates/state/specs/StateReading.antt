@@ -1,10 +1,14 @@
 -- Reading a state from the top, to the state or to the first fault that is met.
 use Rattle.std.specs.Prelude.{◌≡◌, ◌↔◌, ℕ, zero, suc, ◌+◌, ◌-◌, ◌^◌, ◌&&◌, List, [], ◌∷◌, length, take, drop, codes, Option, Some, None, Result, Ok, Err, nat_lt, ◌==◌, slice_index, bytes_eq, if◌then◌else◌, ℤ}
 use Rattle.std.specs.List.{list_all}
+use Rattle.fixed.specs.declared.frac.Frac.{Frac}
+use Rattle.fixed.specs.declared.frac.Frac.TheVariants.{F24, F32, F40}
 use Rattle.line_text.specs.Parts.{◌>>=◌ as ◌|>◌, cut_at, after, natural_of, integer_of, three_at, name_of, without_spaces, without_end_spaces}
 use Rattle.line_text.specs.Columns.{is_residue_number}
 use Rattle.line_text.specs.Steps.{◌>>=◌}
 use Rattle.state.specs.StateText.{AtomView, StateView, head_line, atom_line, IsState, state_text}
+use Rattle.state.specs.declared.versions.Version.{Version}
+use Rattle.state.specs.declared.versions.Version.TheVariants.{First, Second}
 use Rattle.state.specs.declared.faults.StateFault.{StateFault}
 use Rattle.state.specs.declared.faults.StateFault.TheVariants.{BadLine, Truncated, Trailing, Memory}
 
@@ -19,14 +23,21 @@ Gives view (Err fault) answer = Fails fault answer
 
 -- ---- what each line says, without its LF
 
-abbrev pub head_of : List ℕ → Option (Unit {0})
-head_of line = if bytes_eq line head_line then Some tt else None
+abbrev pub head_of : List ℕ → Option Version
+head_of line = if bytes_eq line (head_line First) then Some First else if bytes_eq line (head_line Second) then Some Second else None
 
 unfoldable pub title_of : List ℕ → Option (List ℕ)
 title_of line = after (codes "title ") line |> λ t. if slice_index t (length t - 1) == 13 then None else Some t
 
 unfoldable pub step_of : List ℕ → Option ℤ
 step_of line = after (codes "step ") line |> integer_of
+
+-- No line says 32.
+abbrev pub named_frac : ℕ → Option Frac
+named_frac bits = if bits == 24 then Some F24 else if bits == 40 then Some F40 else None
+
+unfoldable pub frac_of : List ℕ → Option Frac
+frac_of line = after (codes "bits ") line |> natural_of 41 |> named_frac
 
 unfoldable pub count_of : List ℕ → Option ℕ
 count_of line = after (codes "atoms ") line |> natural_of 65537
@@ -82,36 +93,51 @@ atoms_at n (suc k) bytes = do
   others ← atoms_at (n + 1) k first.1
   Ok (first.0 ∷ others.0, others.1)
 
+-- the bits, which only the second version has a line for
+abbrev pub frac_at : Version → List ℕ → Result (Frac × List ℕ) StateFault
+frac_at First bytes = Ok (F32, bytes)
+frac_at Second bytes = field_at 4 frac_of bytes
+
+-- the number of the line with the count, which is n below
+abbrev pub count_number : Version → ℕ
+count_number First = 4
+count_number Second = 5
+
 -- the atoms, and then nothing
-abbrev pub from_atoms : List ℕ → ℤ → ℕ → List ℕ → List ℕ → Result StateView StateFault
-from_atoms title step count sides bytes = do
-  atoms ← atoms_at 6 count bytes
-  if length atoms.1 == 0 then Ok (record { title = title; step = step; sides = sides; atoms = atoms.0 }) else Err Trailing
+abbrev pub from_atoms : List ℕ → ℤ → Frac → ℕ → ℕ → List ℕ → List ℕ → Result StateView StateFault
+from_atoms title step frac n count sides bytes = do
+  atoms ← atoms_at (n + 2) count bytes
+  if length atoms.1 == 0 then Ok (record { title = title; step = step; frac = frac; sides = sides; atoms = atoms.0 }) else Err Trailing
 
-abbrev pub from_sides : List ℕ → ℤ → ℕ → List ℕ → Result StateView StateFault
-from_sides title step count bytes = do
-  sides ← field_at 5 sides_of bytes
-  from_atoms title step count sides.0 sides.1
+abbrev pub from_sides : List ℕ → ℤ → Frac → ℕ → ℕ → List ℕ → Result StateView StateFault
+from_sides title step frac n count bytes = do
+  sides ← field_at (n + 1) sides_of bytes
+  from_atoms title step frac n count sides.0 sides.1
 
-abbrev pub from_count : List ℕ → ℤ → List ℕ → Result StateView StateFault
-from_count title step bytes = do
-  count ← field_at 4 count_of bytes
-  from_sides title step count.0 count.1
+abbrev pub from_count : List ℕ → ℤ → Frac → ℕ → List ℕ → Result StateView StateFault
+from_count title step frac n bytes = do
+  count ← field_at n count_of bytes
+  from_sides title step frac n count.0 count.1
 
-abbrev pub from_step : List ℕ → List ℕ → Result StateView StateFault
-from_step title bytes = do
+abbrev pub from_frac : Version → List ℕ → ℤ → List ℕ → Result StateView StateFault
+from_frac version title step bytes = do
+  frac ← frac_at version bytes
+  from_count title step frac.0 (count_number version) frac.1
+
+abbrev pub from_step : Version → List ℕ → List ℕ → Result StateView StateFault
+from_step version title bytes = do
   step ← field_at 3 step_of bytes
-  from_count title step.0 step.1
+  from_frac version title step.0 step.1
 
-abbrev pub from_title : List ℕ → Result StateView StateFault
-from_title bytes = do
+abbrev pub from_title : Version → List ℕ → Result StateView StateFault
+from_title version bytes = do
   title ← field_at 2 title_of bytes
-  from_step title.0 title.1
+  from_step version title.0 title.1
 
 unfoldable pub state_of : List ℕ → Result StateView StateFault
 state_of bytes = do
   head ← field_at 1 head_of bytes
-  from_title head.1
+  from_title head.0 head.1
 
 -- ---- what reading is
 

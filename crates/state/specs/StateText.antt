@@ -1,8 +1,13 @@
 -- What a state is, without where it lies in memory, and the one text of each state.
-use Rattle.std.specs.Prelude.{ℕ, ◌<◌, ◌≤◌, ◌^◌, List, ◌++◌, length, codes, ℤ, pos, negsuc, ◌≤ℤ◌, IsTrue}
+use Rattle.std.specs.Prelude.{ℕ, ◌<◌, ◌≤◌, ◌^◌, List, [], ◌++◌, length, codes, ℤ, pos, negsuc, ◌≤ℤ◌, IsTrue}
 use Rattle.std.specs.Fmt.{signed_decimal}
 use Rattle.std.specs.List.{flat_map, AllByRecursion}
+use Rattle.fixed.specs.Fractions.{bits_of}
+use Rattle.fixed.specs.declared.frac.Frac.{Frac}
+use Rattle.fixed.specs.declared.frac.Frac.TheVariants.{F24, F32, F40}
 use Rattle.line_text.specs.Parts.{word, ended, AreThree, right_in, left_in, is_name, is_title}
+use Rattle.state.specs.declared.versions.Version.{Version}
+use Rattle.state.specs.declared.versions.Version.TheVariants.{First, Second}
 use lib.Signed.{mag}
 
 -- an atom; its two places are three numbers each, x, y and z
@@ -13,23 +18,34 @@ pub record AtomView : Type 0 where
   pub previous : List ℕ
   pub current : List ℕ
 
--- a state; its sides are three numbers, x, y and z
+-- a state; its numbers have so many bits behind the point, and its sides are three numbers, x, y and z
 pub record StateView : Type 0 where
   pub title : List ℕ
   pub step : ℤ
+  pub frac : Frac
   pub sides : List ℕ
   pub atoms : List AtomView
 
 -- ---- the lines of a state, without their LF
 
-abbrev pub head_line : List ℕ
-head_line = codes "pairmd state 1"
+-- Of 32 bits a state says nothing, and so it has the first version.
+abbrev pub version_of : Frac → Version
+version_of F24 = Second
+version_of F32 = First
+version_of F40 = Second
+
+abbrev pub head_line : Version → List ℕ
+head_line First = codes "pairmd state 1"
+head_line Second = codes "pairmd state 2"
 
 abbrev pub title_line : List ℕ → List ℕ
 title_line title = codes "title " ++ title
 
 abbrev pub step_line : ℤ → List ℕ
 step_line step = codes "step " ++ signed_decimal step
+
+abbrev pub bits_line : Frac → List ℕ
+bits_line frac = codes "bits" ++ word (bits_of frac)
 
 abbrev pub count_line : ℕ → List ℕ
 count_line count = codes "atoms" ++ word count
@@ -48,11 +64,17 @@ atom_lines atoms = flat_map (λ a. ended (atom_line a)) atoms
 
 -- ---- the text
 
+-- the line of the bits with its LF, which only the second version has
+abbrev pub bits_in : Version → Frac → List ℕ
+bits_in First frac = []
+bits_in Second frac = ended (bits_line frac)
+
 unfoldable pub state_text : StateView → List ℕ
 state_text s =
-    ended head_line
+    ended (head_line (version_of s.frac))
     ++ ended (title_line s.title)
     ++ ended (step_line s.step)
+    ++ bits_in (version_of s.frac) s.frac
     ++ ended (count_line (length s.atoms))
     ++ ended (box_line s.sides)
     ++ atom_lines s.atoms

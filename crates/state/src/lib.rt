@@ -8,6 +8,7 @@ mod reading;
 mod starts;
 mod states;
 mod velocities;
+mod versions;
 mod writing;
 
 pub use faults::{StartFault, StateFault};

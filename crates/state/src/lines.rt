@@ -4,17 +4,32 @@ ghost use Rattle.std.specs.Prelude.{◌≡◌, ◌≤◌, ◌+◌, ◌++◌, opt
 ghost use Rattle.std.specs.List.{flat_map};
 ghost use Rattle.arrayvec.specs.ArrayVec.{array_vec_len};
 ghost use Rattle.line_text.specs.Parts.{AreThree, is_title, lacks, word};
-ghost use Rattle.state.specs.StateText.{IsAtom, IsPlace, IsSide, atom_line};
+ghost use Rattle.state.specs.StateText.{IsAtom, IsPlace, IsSide, atom_line, bits_in, version_of};
 ghost use Rattle.state.specs.StateViews.{atom_view, sides_view};
-ghost use Rattle.state.specs.StateReading.{title_of, step_of, count_of, sides_of, atom_of};
+ghost use Rattle.state.specs.StateReading.{head_of, title_of, step_of, frac_of, count_of, sides_of, atom_of};
 
 use crate::states::Atom;
+use crate::versions::Version;
+use fixed::Frac;
 use itoa::Buffer;
 use line_text::{
-    Line, Name, integer, natural, put_left, put_right, put_word, strip, three_words, trim_end,
+    Line, Name, integer, natural, put, put_left, put_right, put_word, strip, three_words, trim_end,
     trim_front,
 };
 use ring_box::{RingBox, Side};
+
+/// The version, of which the first line alone tells.
+pub fn head(line: &[u8]) -> Option<Version>
+    ensures { result ≡ head_of line.now }
+{
+    if line == b"pairmd state 1".as_slice() {
+        Some(Version::First)
+    } else if line == b"pairmd state 2".as_slice() {
+        Some(Version::Second)
+    } else {
+        None
+    }
+}
 
 /// The title, any bytes but LF that don't end in CR.
 #[tactic(auto, unfolding(crate::specs::StateReading::title_of))]
@@ -36,6 +51,18 @@ pub fn step(line: &[u8]) -> Option<i64>
     ensures { result ≡ step_of line.now }
 {
     integer(strip(b"step ", line)?)
+}
+
+/// The fraction bits, 24 or 40: a state of 32 bits has no such line.
+#[tactic(auto, unfolding(crate::specs::StateReading::frac_of))]
+pub fn frac(line: &[u8]) -> Option<Frac>
+    ensures { result ≡ frac_of line.now }
+{
+    match natural(41, strip(b"bits ", line)?)? {
+        24 => Some(Frac::F24),
+        40 => Some(Frac::F40),
+        _ => None,
+    }
 }
 
 /// The number of atoms, at most 65,536.
@@ -107,6 +134,22 @@ fn is_spelled(atom: &Atom, line: &[u8]) -> bool
     let mut spelled = Line::new();
     put_atom(&mut spelled, atom);
     line == spelled.as_slice()
+}
+
+/// Appends the line of the fraction bits with its LF, where a state of so many has one.
+pub fn put_bits(line: &mut Line, frac: Frac)
+    requires { array_vec_len line.old + 26 ≤ 160 }
+    ensures items { line.new.items ≡ line.old.items ++ bits_in (version_of frac) frac }
+    ensures len { array_vec_len line.new ≤ array_vec_len line.old + 26 }
+{
+    match Version::of(frac) {
+        Version::First => {}
+        Version::Second => {
+            put(line, b"bits");
+            put_word(line, u64::from(frac.bits()));
+            put(line, b"\n");
+        }
+    }
 }
 
 /// Appends an atom's line, without its LF.

@@ -1,13 +1,15 @@
 //! Reading a state.
 
-ghost use Rattle.std.specs.Prelude.{◌≡◌, ◌≤◌, length, map, IfOk, IsTrue};
+ghost use Rattle.std.specs.Prelude.{◌≡◌, ◌≤◌, ◌+◌, length, map, IfOk, IsTrue};
 ghost use Rattle.line_text.specs.Parts.{is_title, lacks};
 ghost use Rattle.state.specs.StateViews.{atom_view, state_view};
-ghost use Rattle.state.specs.StateReading.{Gives, line_at, atom_at, atoms_at, head_of, from_count, state_of};
+ghost use Rattle.state.specs.StateReading.{Gives, line_at, frac_at, atom_at, atoms_at, from_count, state_of};
 
 use crate::faults::StateFault;
 use crate::lines;
 use crate::states::{Atom, State};
+use crate::versions::Version;
+use fixed::Frac;
 use line_text::cut;
 use std::alloc::Allocator;
 
@@ -22,6 +24,8 @@ impl<A: Allocator + Copy> State<A> {
     /// Lines are judged from the top, and the first fault is the answer: `Truncated` where the
     /// bytes end before the LF of a needed line, else `BadLine` where the line differs from its
     /// form or is out of range; after the last atom's line `Trailing`, where anything is left.
+    /// A text whose first line is `pairmd state 2` says `bits 24` or `bits 40` on its fourth line,
+    /// and its other lines follow; one whose first line is `pairmd state 1` has no such line.
     /// `Memory` comes only where a growth was refused.
     pub fn read(alloc: A, bytes: &[u8]) -> Result<State<A>, StateFault>
         // What is read has these bytes as its text.
@@ -42,29 +46,47 @@ fn state<A: Allocator + Copy>(alloc: A, bytes: &[u8]) -> Result<State<A>, StateF
     ensures { Gives state_view result (state_of bytes.now) }
 {
     let (text, rest) = line(bytes)?;
-    first_line(text).ok_or(bad(1))?;
+    let version = lines::head(text).ok_or(bad(1))?;
     let (text, rest) = line(rest)?;
     let title = lines::title(text).ok_or(bad(2))?;
     let (text, rest) = line(rest)?;
     let step = lines::step(text).ok_or(bad(3))?;
-    from_count(alloc, title, step, rest)
+    let (frac, rest) = frac(version, rest)?;
+    from_count(alloc, title, step, frac, version.count_number(), rest)
 }
 
-/// The state of this title and step whose count, box and atoms the bytes are.
+/// The fraction bits, which only the second version has a line for, and what stands after that line.
+fn frac(version: Version, bytes: &[u8]) -> Result<(Frac, &[u8]), StateFault>
+    ensures { Gives (λ x. (x.0, x.1.now)) result (frac_at version bytes.now) }
+{
+    match version {
+        Version::First => Ok((Frac::F32, bytes)),
+        Version::Second => {
+            let (text, rest) = line(bytes)?;
+            let frac = lines::frac(text).ok_or(bad(4))?;
+            Ok((frac, rest))
+        }
+    }
+}
+
+/// The state of this title, step and fraction bits whose count, box and atoms the bytes are. The count is on the line with this number.
 fn from_count<A: Allocator + Copy>(
     alloc: A,
     title: &[u8],
     step: i64,
+    frac: Frac,
+    number: u64,
     bytes: &[u8],
 ) -> Result<State<A>, StateFault>
-    requires { IsTrue (is_title title.now) }
-    ensures { Gives state_view result (from_count title.now step bytes.now) }
+    requires title { IsTrue (is_title title.now) }
+    requires number { number ≤ 5 }
+    ensures { Gives state_view result (from_count title.now step frac number bytes.now) }
 {
     let (text, rest) = line(bytes)?;
-    let count = lines::count(text).ok_or(bad(4))?;
+    let count = lines::count(text).ok_or(bad(number))?;
     let (text, rest) = line(rest)?;
-    let ring = lines::sides(text).ok_or(bad(5))?;
-    let (atoms, rest) = atoms(alloc, count, rest)?;
+    let ring = lines::sides(text).ok_or(bad(number + 1))?;
+    let (atoms, rest) = atoms(alloc, number + 2, count, rest)?;
     if !rest.is_empty() {
         return Err(StateFault::Trailing);
     }
@@ -72,6 +94,7 @@ fn from_count<A: Allocator + Copy>(
     Ok(State {
         title,
         step,
+        frac,
         ring,
         atoms,
     })
@@ -91,30 +114,22 @@ fn bad(line: u64) -> StateFault
     StateFault::BadLine { line }
 }
 
-fn first_line(line: &[u8]) -> Option<()>
-    ensures { result ≡ head_of line.now }
-{
-    if line == b"pairmd state 1".as_slice() {
-        Some(())
-    } else {
-        None
-    }
-}
-
-/// So many atoms, the first on line 6, and what stands after them.
+/// So many atoms, the first on the line with this number, and what stands after them.
 fn atoms<A: Allocator + Copy>(
     alloc: A,
+    first: u64,
     count: u64,
     bytes: &[u8],
 ) -> Result<(Vec<Atom, A>, &[u8]), StateFault>
-    requires { count ≤ 65536 }
-    ensures exact { Gives (λ x. (map atom_view x.0.items, x.1.now)) result (atoms_at 6 count bytes.now) }
+    requires first { first ≤ 7 }
+    requires count { count ≤ 65536 }
+    ensures exact { Gives (λ x. (map atom_view x.0.items, x.1.now)) result (atoms_at first count bytes.now) }
     ensures len { IfOk result (λ x. length x.0.items ≡ count) }
 {
     let mut atoms = Vec::new(alloc);
     let mut rest = bytes;
     for i in 0..count {
-        let (atom, after) = atom(6 + i, rest)?;
+        let (atom, after) = atom(first + i, rest)?;
         atoms.push(atom)?;
         rest = after;
     }

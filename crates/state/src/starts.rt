@@ -8,6 +8,7 @@ ghost use Rattle.state.specs.StateViews.{atom_view, state_view};
 use crate::faults::StartFault;
 use crate::states::{Atom, State};
 use crate::velocities::place_before;
+use fixed::Frac;
 use gro::{GroAtom, GroFrame};
 use job::Job;
 use ring_box::{RingBox, place_of_pm};
@@ -18,7 +19,7 @@ impl<A: Allocator + Copy> State<A> {
     ghost use Rattle.state.specs.StateViews.{state_view};
     ghost use Rattle.state.specs.Starts.{BeginsAt, Gives, start_of};
 
-    /// The state that begins at a frame: its counter is 0, and title, residue numbers, names and sides are the frame's. Each coordinate's current place is the one nearest to its position, and its previous place is as many places before that as its velocity leads in the job's time step.
+    /// The state that begins at a frame: its counter is 0, its fraction bits are the job's, and title, residue numbers, names and sides are the frame's. Each coordinate's current place is the one nearest to its position, and its previous place is as many places before that as its velocity leads in the job's time step.
     ///
     /// `Box` where the frame's sides are no box's: `NoBox` where all three are 0, else `SideRange` where some side is below 1 or above 16,000,000. `Memory` comes only where a growth was refused.
     pub fn start<J: Allocator, F: Allocator>(
@@ -27,21 +28,22 @@ impl<A: Allocator + Copy> State<A> {
         frame: &GroFrame<F>,
     ) -> Result<State<A>, StartFault>
         // The state, or the fault of the sides.
-        ensures exact { Gives state_view result (start_of job.now.time_step (frame_view frame.now)) }
+        ensures exact { Gives state_view result (start_of job.now.frac job.now.time_step (frame_view frame.now)) }
         // Each place is nearest to where the frame, or the velocity one time step before it, has the atom.
-        ensures begins { IfOk result (λ s. BeginsAt job.now.time_step (frame_view frame.now) (state_view s)) }
+        ensures begins { IfOk result (λ s. BeginsAt job.now.frac job.now.time_step (frame_view frame.now) (state_view s)) }
     {
-        started(alloc, job.time_step, frame)
+        started(alloc, job.frac, job.time_step, frame)
     }
 }
 
 fn started<A: Allocator + Copy, F: Allocator>(
     alloc: A,
+    frac: Frac,
     time_step: u32,
     frame: &GroFrame<F>,
 ) -> Result<State<A>, StartFault>
     requires { time_step ≤ 1000 }
-    ensures { Gives state_view result (start_of time_step (gro.frame_view frame.now)) }
+    ensures { Gives state_view result (start_of frac time_step (gro.frame_view frame.now)) }
 {
     let ring = RingBox::new(frame.sides)?;
     let title = Vec::from_slice(alloc, &frame.title)?;
@@ -49,6 +51,7 @@ fn started<A: Allocator + Copy, F: Allocator>(
     Ok(State {
         title,
         step: 0,
+        frac,
         ring,
         atoms,
     })

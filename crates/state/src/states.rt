@@ -3,6 +3,7 @@
 ghost use Rattle.std.specs.Prelude.{pos, negsuc, ◌≤ℤ◌, ◌≤◌, length, IsTrue};
 ghost use Rattle.line_text.specs.Parts.{is_title};
 
+use fixed::Frac;
 use line_text::Name;
 use ring_box::RingBox;
 use std::alloc::Allocator;
@@ -32,6 +33,8 @@ pub struct State<A: Allocator> {
     pub title: Vec<u8, A>,
     /// The number of the current frame.
     pub step: i64,
+    /// How many bits stand behind the point of the run's numbers. The text says it unless it is 32.
+    pub frac: Frac,
     /// The periodic box.
     pub ring: RingBox,
     /// At most 65,536 atoms.

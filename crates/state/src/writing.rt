@@ -7,10 +7,12 @@ ghost use lib.Signed.{mag};
 ghost use Rattle.line_text.specs.Parts.{AreThree, ended};
 ghost use Rattle.state.specs.StateText.{IsAtom, IsSide, atom_line, atom_lines};
 ghost use Rattle.state.specs.StateViews.{atom_view, sides_view};
-ghost use Rattle.state.specs.Middle.{middle};
+ghost use Rattle.state.specs.Middle.{front, middle};
 
-use crate::lines::{put_atom, put_sides};
+use crate::lines::{put_atom, put_bits, put_sides};
 use crate::states::{Atom, State};
+use crate::versions::Version;
+use fixed::Frac;
 use gro::{Out, OutFault, write_all};
 use line_text::{Line, put, put_integer, put_word};
 use std::alloc::Allocator;
@@ -34,7 +36,7 @@ impl<A: Allocator> State<A> {
         // What was written reads as this state again.
         ensures again { IfOk result (λ _. IsState (state_view self.now) × (state_of (state_text (state_view self.now)) ≡ Ok (state_view self.now))) }
     {
-        write_all(out, b"pairmd state 1\ntitle ")?;
+        write_all(out, front(self.frac))?;
         write_all(out, &self.title)?;
         let line = middle_line(self);
         write_all(out, line.as_slice())?;
@@ -58,16 +60,28 @@ fn write_atoms<O: Out>(atoms: &[Atom], out: &mut O) -> Result<(), OutFault>
     Ok(())
 }
 
+/// What stands before the title.
+fn front(frac: Frac) -> &'static [u8]
+    ensures { result.now ≡ front frac }
+{
+    match Version::of(frac) {
+        Version::First => b"pairmd state 1\ntitle ",
+        Version::Second => b"pairmd state 2\ntitle ",
+    }
+}
+
 /// What stands between the title and the atoms.
 fn middle_line<A: Allocator>(state: &State<A>) -> Line
-    ensures items { result.items ≡ middle state.now.step (length state.now.atoms.items) (sides_view state.now.ring) }
+    ensures items { result.items ≡ middle state.now.step state.now.frac (length state.now.atoms.items) (sides_view state.now.ring) }
     ensures step { mag state.now.step < 2 ^ 63 }
     ensures sides { AreThree IsSide (sides_view state.now.ring) }
 {
     let mut line = Line::new();
     put(&mut line, b"\nstep ");
     put_integer(&mut line, state.step);
-    put(&mut line, b"\natoms");
+    put(&mut line, b"\n");
+    put_bits(&mut line, state.frac);
+    put(&mut line, b"atoms");
     put_word(&mut line, state.atoms.as_slice().len() as u64);
     put(&mut line, b"\nbox");
     put_sides(&mut line, state.ring);

@@ -122,7 +122,7 @@ A state that is cut off, or goes on.
 
 A line of a state that differs from its form.
 
-  $ with state 1 'pairmd state 2' workers pairmd run job state --steps 1
+  $ with state 1 'pairmd state 3' workers pairmd run job state --steps 1
   pairmd: S1 BadLine 1
   [1]
   $ with state 3 'step 01' workers pairmd run job state --steps 1

@@ -12,7 +12,7 @@ A state that is cut off is no state, wherever it is.
 
 The first line, and the title.
 
-  $ with state 1 'pairmd state 2' pairmd frame state
+  $ with state 1 'pairmd state 3' pairmd frame state
   pairmd: S1 BadLine 1
   [1]
   $ with state 1 'pairmd state 1\r' pairmd frame state

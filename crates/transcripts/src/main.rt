@@ -15,6 +15,7 @@ mod sweeps;
 
 use crate::lines::first_difference;
 use crate::players::Player;
+use std::alloc::AllocError;
 use std::fs::Files;
 use std::thread::Threads;
 use std::{env, fs, io};
@@ -38,17 +39,43 @@ fn play<R: Files + Threads + Sync + AllocGlobal + Print>(
     prints: bool,
 ) -> io::Result<()> {
     let text = fs::read_to_string(rt, file)?;
+    let player = played(rt, &text)?;
+    tell(
+        rt,
+        file,
+        &text,
+        player.transcript(),
+        player.commands(),
+        prints,
+    )
+}
+
+/// Plays a transcript to its end.
+fn played<'a, R: Files + Threads + Sync + AllocGlobal>(
+    rt: &'a R,
+    text: &str,
+) -> Result<Player<'a, R>, AllocError> {
     let mut player = Player::new(rt);
     for line in text.lines() {
         player.take(line)?;
     }
-    let played = player.transcript();
-    let commands = player.commands();
+    Ok(player)
+}
+
+/// Prints what was played, or tells whether it is as the transcript has it.
+fn tell<R: AllocGlobal + Print>(
+    rt: &R,
+    file: &str,
+    text: &str,
+    played: &[u8],
+    commands: u64,
+    prints: bool,
+) -> io::Result<()> {
     if prints {
-        rt.print(String::from_utf8_lossy(rt.alloc(), played)?)
-    } else if let Some(line) = first_difference(text.as_bytes(), played) {
-        println!(rt; "{file}: line {line} is not as written")
-    } else {
-        println!(rt; "{file}: {commands} commands, as written")
+        return rt.print(String::from_utf8_lossy(rt.alloc(), played)?);
+    }
+    match first_difference(text.as_bytes(), played) {
+        Some(line) => println!(rt; "{file}: line {line} is not as written"),
+        None => println!(rt; "{file}: {commands} commands, as written"),
     }
 }

@@ -70,30 +70,42 @@ impl<'a, R: Files + Threads + Sync + AllocGlobal> Player<'a, R> {
 
     /// Does a command, and puts down what it prints.
     fn run(&mut self, command: &str) -> Result<(), AllocError> {
-        let alloc = self.shell.rt.alloc();
         self.commands = self.commands.saturating_add(1);
-        let words = words_of(alloc, command)?;
-        match words.as_slice() {
-            ["cat", ">", name, "<<", "END"] => {
-                self.shell.files.write(alloc, name, Vec::new(alloc))?;
-                self.writing = Some(String::from_str(alloc, name)?);
-                Ok(())
-            }
-            [words @ .., ">", name] => {
-                let outcome = self.shell.call(words)?;
-                let Outcome { out, err, status } = outcome;
-                self.shell.files.write(alloc, name, out)?;
-                let rest = Outcome {
-                    out: Vec::new(alloc),
-                    err,
-                    status,
-                };
-                rest.put(alloc, &mut self.transcript)
-            }
-            words => {
-                let outcome = self.shell.call(words)?;
-                outcome.put(alloc, &mut self.transcript)
-            }
+        let words = words_of(self.shell.rt.alloc(), command)?;
+        self.run_words(&words)
+    }
+
+    /// Does the command of these words, and puts down what it prints.
+    fn run_words(&mut self, words: &[&str]) -> Result<(), AllocError> {
+        match words {
+            ["cat", ">", name, "<<", "END"] => self.begin_file(name),
+            [words @ .., ">", name] => self.run_onto(words, name),
+            words => self
+                .shell
+                .call(words)?
+                .put(self.shell.rt.alloc(), &mut self.transcript),
         }
+    }
+
+    /// Lines below go to this file, which is empty now.
+    fn begin_file(&mut self, name: &str) -> Result<(), AllocError> {
+        let alloc = self.shell.rt.alloc();
+        self.shell.files.write(alloc, name, Vec::new(alloc))?;
+        self.writing = Some(String::from_str(alloc, name)?);
+        Ok(())
+    }
+
+    /// Does the command of these words, writes what it prints to a file, and puts down what it complains of.
+    fn run_onto(&mut self, words: &[&str], name: &str) -> Result<(), AllocError> {
+        let alloc = self.shell.rt.alloc();
+        let Outcome { out, err, status } = self.shell.call(words)?;
+        let written = self.shell.files.write(alloc, name, out);
+        let rest = Outcome {
+            out: Vec::new(alloc),
+            err,
+            status,
+        };
+        written?;
+        rest.put(alloc, &mut self.transcript)
     }
 }

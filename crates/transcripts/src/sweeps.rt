@@ -18,30 +18,46 @@ const REQUESTS: u64 = 1_000_000;
 impl<'a, R: Files + Threads + Sync + AllocGlobal> Shell<'a, R> {
     /// What a command comes to, where it is the same by 1, 2, 3 and 64 workers.
     pub(crate) fn with_workers<S: AsStr>(&mut self, words: &[S]) -> Result<Outcome, AllocError> {
-        let alloc = self.rt.alloc();
         let alone = self.pairmd(words);
         for workers in WORKERS {
-            let words = by_workers(alloc, words, workers)?;
-            if self.pairmd(words.as_slice()) != alone {
-                let line = format!(in alloc; "another outcome by {workers} workers")?;
-                return Outcome::complaining(alloc, line.as_str());
+            if !self.is_same_by(workers, words, &alone)? {
+                return self.another_by(workers);
             }
         }
         Ok(alone)
     }
 
+    fn is_same_by<S: AsStr>(
+        &mut self,
+        workers: &str,
+        words: &[S],
+        alone: &Outcome,
+    ) -> Result<bool, AllocError> {
+        let words = by_workers(self.rt.alloc(), words, workers)?;
+        Ok(self.pairmd(words.as_slice()) == *alone)
+    }
+
+    fn another_by(&self, workers: &str) -> Result<Outcome, AllocError> {
+        let line = format!(in self.rt.alloc(); "another outcome by {workers} workers")?;
+        Outcome::complaining(self.rt.alloc(), line.as_str())
+    }
+
     /// What `run` or `back` comes to, by 1, 2, 3 and 64 workers, where as many steps the other way lead to the state's bytes.
     pub(crate) fn returning(&mut self, words: &[&str]) -> Result<Outcome, AllocError> {
-        let alloc = self.rt.alloc();
         let there = self.with_workers(words)?;
-        self.files.write(alloc, "there", there.out.clone()?)?;
-        let back = words_back(alloc, words)?;
-        let again = self.with_workers(back.as_slice())?;
-        let state = words.get(2).copied().unwrap_or("");
-        if again.status == 0 && Some(again.out) == self.files.bytes(alloc, state)? {
+        if self.comes_back(&there, words)? {
             return Ok(there);
         }
-        Outcome::complaining(alloc, "it does not return")
+        Outcome::complaining(self.rt.alloc(), "it does not return")
+    }
+
+    fn comes_back(&mut self, there: &Outcome, words: &[&str]) -> Result<bool, AllocError> {
+        let alloc = self.rt.alloc();
+        self.files.write(alloc, "there", there.out.clone()?)?;
+        let back = words_back(alloc, words)?;
+        let again = self.with_workers(&back)?;
+        let state = words.get(2).copied().unwrap_or("");
+        Ok(again.status == 0 && Some(again.out) == self.files.bytes(alloc, state)?)
     }
 
     /// What a command comes to where this file is cut off after each of its bytes, from none to all.
@@ -50,28 +66,56 @@ impl<'a, R: Files + Threads + Sync + AllocGlobal> Shell<'a, R> {
         let Some(whole) = self.files.bytes(alloc, name)? else {
             return Outcome::complaining(alloc, "no such file");
         };
-        let mut beginning = Vec::new(alloc);
-        let mut ranges = Ranges::new(alloc);
-        for byte in &whole {
-            self.files.write(alloc, name, beginning.clone()?)?;
-            ranges.note(alloc, self.pairmd(words).summary(alloc)?)?;
-            beginning.push(*byte)?;
-        }
-        self.files.write(alloc, name, beginning)?;
-        ranges.note(alloc, self.pairmd(words).summary(alloc)?)?;
+        let ranges = self.over_beginnings(name, &whole, words)?;
         Ok(Outcome::printing(alloc, ranges.told(alloc)?))
+    }
+
+    /// What it comes to over each beginning of these bytes; the file has all of them in the end.
+    fn over_beginnings(
+        &mut self,
+        name: &str,
+        whole: &[u8],
+        words: &[&str],
+    ) -> Result<Ranges, AllocError> {
+        let mut ranges = Ranges::new(self.rt.alloc());
+        for count in 0..=whole.len() {
+            let beginning = whole.get(..count).unwrap_or(whole);
+            let summary = self.summary_over(name, beginning, words);
+            ranges.note(self.rt.alloc(), summary?)?;
+        }
+        Ok(ranges)
+    }
+
+    /// The summary of what a command comes to where a file has these bytes.
+    fn summary_over(
+        &mut self,
+        name: &str,
+        bytes: &[u8],
+        words: &[&str],
+    ) -> Result<Vec<u8>, AllocError> {
+        let alloc = self.rt.alloc();
+        self.files
+            .write(alloc, name, Vec::from_slice(alloc, bytes)?)?;
+        self.pairmd(words).summary(alloc)
     }
 
     /// What a command comes to on an output that takes so many bytes and then fails, from none to all.
     pub(crate) fn failing_outputs(&mut self, words: &[&str]) -> Result<Outcome, AllocError> {
-        let alloc = self.rt.alloc();
         let whole = self.pairmd(words);
+        let ranges = self.over_outputs(words, &whole)?;
+        let alloc = self.rt.alloc();
+        Ok(Outcome::printing(alloc, ranges.told(alloc)?))
+    }
+
+    fn over_outputs(&mut self, words: &[&str], whole: &Outcome) -> Result<Ranges, AllocError> {
+        let alloc = self.rt.alloc();
         let mut ranges = Ranges::new(alloc);
         for left in 0..=whole.out.len() {
             let outcome = outcome_onto(self.rt, left, words, &mut self.files);
-            ranges.note(alloc, beginning_of(alloc, outcome, left, &whole)?)?;
+            let part = beginning_of(alloc, outcome, left, whole);
+            ranges.note(alloc, part?)?;
         }
-        Ok(Outcome::printing(alloc, ranges.told(alloc)?))
+        Ok(ranges)
     }
 
     /// What a command comes to where one of its requests for memory is refused, for each request: every outcome once, in the
@@ -79,23 +123,44 @@ impl<'a, R: Files + Threads + Sync + AllocGlobal> Shell<'a, R> {
     pub(crate) fn refused_requests(&mut self, words: &[&str]) -> Result<Outcome, AllocError> {
         let alloc = self.rt.alloc();
         let whole = self.pairmd(words);
-        let mut told: Vec<Vec<u8>> = Vec::new(alloc);
-        for number in 0..REQUESTS {
-            let memory = RefusingAllocator::new(alloc, number);
-            let outcome = outcome_of(self.rt, &memory, words, &mut self.files);
-            let summary = summary_beside(alloc, outcome, &whole)?;
-            if !told.contains(&summary) {
-                told.push(summary)?;
-            }
-            if memory.requests() <= number {
-                break;
-            }
-        }
+        let told = self.over_requests(words, &whole)?;
         let mut text = Vec::new(alloc);
         for summary in &told {
             put_line(&mut text, summary)?;
         }
         Ok(Outcome::printing(alloc, text))
+    }
+
+    fn over_requests(
+        &mut self,
+        words: &[&str],
+        whole: &Outcome,
+    ) -> Result<Vec<Vec<u8>>, AllocError> {
+        let mut told: Vec<Vec<u8>> = Vec::new(self.rt.alloc());
+        for number in 0..REQUESTS {
+            if !self.without_request(number, words, whole, &mut told)? {
+                break;
+            }
+        }
+        Ok(told)
+    }
+
+    /// Adds what a command comes to where the request of this number is refused, and tells whether there was such a request.
+    fn without_request(
+        &mut self,
+        number: u64,
+        words: &[&str],
+        whole: &Outcome,
+        told: &mut Vec<Vec<u8>>,
+    ) -> Result<bool, AllocError> {
+        let alloc = self.rt.alloc();
+        let memory = RefusingAllocator::new(alloc, number);
+        let outcome = outcome_of(self.rt, &memory, words, &mut self.files);
+        let summary = summary_beside(alloc, outcome, whole)?;
+        if !told.contains(&summary) {
+            told.push(summary)?;
+        }
+        Ok(memory.requests() > number)
     }
 }
 

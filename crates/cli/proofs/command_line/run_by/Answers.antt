@@ -1,3 +1,4 @@
+use Rattle.std.proofs.Common.{refl, rules}
 use Rattle.cli.proofs.command_line.run_by.Goals as goal
 
 pub returns-in_err-steps : goal.returns-in_err-steps
@@ -5,3 +6,6 @@ returns-in_err-steps c = rw c.from_residual-in_err-steps.ensures (λ r is. c.in_
 
 pub returns-in_err-workers : goal.returns-in_err-workers
 returns-in_err-workers c = rw c.from_residual-in_err-workers.ensures (λ r is. c.in_err-workers.ensures r.workers r.some r.few is.workers)
+
+pub returns : goal.returns
+returns c = (_, refl, search rules)

@@ -1,8 +1,9 @@
 -- where the line was written, it is that of the kernel that was accepted
-use Rattle.std.proofs.Common.{arith}
 use Rattle.std.proofs.lemmas.Result.{on_ok_weaker}
 use Rattle.cli.proofs.VerdictLaws.{listing_verdict}
 use Rattle.cli.proofs.verdicts.listing_verdict_bytes.Goals as goal
 
 pub returns-clause-written : goal.returns-clause-written
-returns-clause-written g c = on_ok_weaker c.write_verdict.result (λ written. grind (arith, listing_verdict, written)) c.write_verdict.ensures.written
+returns-clause-written g c =
+    let is = c.in_ok-known.ensures.is in
+    on_ok_weaker c.write_verdict.result (λ written. listing_verdict _ _ _ _ is.0 is.1 is.2 is.3 is.4.table is.4.core is.4.cutoff is.5 _ _ is.6 is.7 written) c.write_verdict.ensures.written

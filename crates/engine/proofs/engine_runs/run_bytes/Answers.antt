@@ -1,6 +1,7 @@
 use Rattle.std.proofs.Common.{refl}
 use Rattle.std.proofs.lemmas.Result.{err_from_is_err_and}
 use Rattle.state.specs.StateText.{state_text}
+use Rattle.state.specs.StateViews.{state_view}
 use Rattle.integrator.specs.Starts.{plain}
 use Rattle.integrator.proofs.ReturnLaws.{run_back}
 use Rattle.engine.proofs.engine_runs.run_bytes.Goals as goal
@@ -8,23 +9,23 @@ use Rattle.engine.proofs.engine_runs.run_bytes.Goals as goal
 pub returns-in_err-write-clause-beginning : goal.returns-in_err-write-clause-beginning
 returns-in_err-write-clause-beginning g c =
     let p = err_from_is_err_and c.from_residual-in_err-write.result c.from_residual-in_err-write.ensures.1 in
-    let after = c.in_ok-engine.ensures.value in
+    let after = c.in_ok-after.ensures.value in
     rw p.1
     (λ is_out. record {
-      text = state_text c.in_ok-engine.engine.state;
-      run = record { start = after.start; starts = after.starts; after = c.in_ok-engine.engine.state; ran = after.ran; written = refl };
-      beginning = rw c.state.ensures at c.in_err-write.ensures.fault_taken;
+      text = state_text (state_view c.in_ok-after.after);
+      run = record { start = after.start; starts = after.starts; after = state_view c.in_ok-after.after; ran = after.ran; written = refl };
+      beginning = c.in_err-write.ensures.fault_taken;
     })
 
 -- texts whose state could not be written are safe
 pub returns-in_err-write-clause-refused : goal.returns-in_err-write-clause-refused
 returns-in_err-write-clause-refused g c =
     let p = err_from_is_err_and c.from_residual-in_err-write.result c.from_residual-in_err-write.ensures.1 in
-    rw (p.1, p.2) c.in_ok-engine.ensures.safe
+    rw (p.1, p.2) c.in_ok-after.ensures.safe
 
 -- the law of return, at each exit
-pub returns-in_err-engine-clause-returns : goal.returns-in_err-engine-clause-returns
-returns-in_err-engine-clause-returns g c = run_back plain c.args.job.now c.args.state.now c.args.direction c.args.steps
+pub returns-in_err-after-clause-returns : goal.returns-in_err-after-clause-returns
+returns-in_err-after-clause-returns g c = run_back plain c.args.job.now c.args.state.now c.args.direction c.args.steps
 
 pub returns-in_err-write-clause-returns : goal.returns-in_err-write-clause-returns
 returns-in_err-write-clause-returns g c = run_back plain c.args.job.now c.args.state.now c.args.direction c.args.steps

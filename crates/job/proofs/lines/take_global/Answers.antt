@@ -1,7 +1,19 @@
--- Without these answers the check searches for seconds, in vain, before `grind` closes the goals.
-use Rattle.std.proofs.Common.{arith}
+-- Without these answers the check searches for seconds, in vain, before `grind` closes the first goal.
+use Rattle.std.proofs.Common.{List, ℕ, Bor, Result, option_map, arith, sym, ap, subst, ◌∙◌}
 use Rattle.std.proofs.lemmas.Grind.{common_steps}
+use Rattle.line_text.specs.Words.{words}
+use Rattle.job.specs.Faults.{Refusal, Said}
+use Rattle.job.specs.JobText.{limits}
+use Rattle.job.specs.Views.{said_of, Gives}
+use Rattle.job.proofs.DraftLemmas.{global_by_value}
 use Rattle.job.proofs.lines.take_global.Goals as goal
 
 pub returns-in_default : goal.returns-in_default
 returns-in_default g c = grind (arith, common_steps)
+
+pub returns-in_ok-value-in-Some : goal.returns-in_ok-value-in-Some
+returns-in_ok-value-in-Some g c =
+    subst (λ (r : Result Said Refusal). Gives (said_of {A = g.row.A.Denot}) c.add_global.result r)
+    (sym (global_by_value limits c.args.number (said_of c.args.draft) (words c.args.text.now) _ _ c.signed_numeral.result c.in_ok-value-in-Some.value
+    (sym c.two_words.ensures ∙ ap (option_map (λ (x : Bor (List ℕ) × Bor (List ℕ)). (x.0.now, x.1.now))) c.in-Some.is)
+    (sym c.is_identifier.ensures ∙ c.if-is_identifier.true) c.signed_numeral.ensures c.in_ok-value-in-Some.ensures)) c.add_global.ensures

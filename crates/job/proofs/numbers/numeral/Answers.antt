@@ -5,8 +5,8 @@ use Rattle.std.proofs.Common.{ℤ}
 use Rattle.job.proofs.numbers.numeral.Goals as goal
 
 pub returns-clause-value : goal.returns-clause-value
-returns-clause-value c = reading_is c.args.word.now _ c.numeral.ensures
+returns-clause-value c = reading_is c.args.frac c.args.word.now _ c.numeral.ensures
 
 pub returns-clause-least : goal.returns-clause-least
 returns-clause-least c =
-    subst (λ (r : Reading ℤ). IfOk r (λ v. pos 0 ≤ℤ v)) (sym (reading_is c.args.word.now _ c.numeral.ensures)) (numeral_least c.args.word.now)
+    subst (λ (r : Reading ℤ). IfOk r (λ v. pos 0 ≤ℤ v)) (sym (reading_is c.args.frac c.args.word.now _ c.numeral.ensures)) (numeral_least c.args.frac c.args.word.now)

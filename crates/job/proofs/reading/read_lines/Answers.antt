@@ -10,4 +10,4 @@ use Rattle.job.proofs.reading.read_lines.Goals as goal
 pub returns : goal.returns
 returns g c =
     subst (λ (r : Result JobValue Refusal). Gives (job_value {A = g.row.A.Denot}) c.finish.result r)
-    (sym (lines_job_from limits (lines_of c.args.bytes.now) _ _ (said_of c.in_ok-draft.draft) c.next_line.ensures.lines (sym c.is_header.ensures ∙ c.if-not-is_header.false) c.in_ok-draft.ensures)) c.finish.ensures
+    (sym (lines_job_from limits (lines_of c.args.bytes.now) _ _ _ (said_of c.in_ok-draft.draft) c.next_line.ensures.lines (sym c.is_header.ensures ∙ c.if-not-is_header.false) c.frac_in-frac.ensures c.in_ok-draft.ensures)) c.finish.ensures

@@ -8,9 +8,9 @@ pub returns-in_err-text : goal.returns-in_err-text
 unfolding state_of
 returns-in_err-text g c = grind (arith, common_steps)
 
-pub returns-in_err-ok_or : goal.returns-in_err-ok_or
+pub returns-in_err-version : goal.returns-in_err-version
 unfolding state_of
-returns-in_err-ok_or g c = grind (arith, common_steps)
+returns-in_err-version g c = grind (arith, common_steps)
 
 pub returns-in_err-text-2 : goal.returns-in_err-text-2
 unfolding state_of
@@ -27,6 +27,10 @@ returns-in_err-text-3 g c = grind (arith, common_steps)
 pub returns-in_err-step : goal.returns-in_err-step
 unfolding state_of
 returns-in_err-step g c = grind (arith, common_steps)
+
+pub returns-in_err-frac : goal.returns-in_err-frac
+unfolding state_of
+returns-in_err-frac g c = grind (arith, common_steps)
 
 pub returns : goal.returns
 unfolding state_of

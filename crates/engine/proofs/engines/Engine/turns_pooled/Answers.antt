@@ -27,3 +27,6 @@ arrive-requires-clause-turned g c =
     rw (← c.self.view_is)
     (turned_along c.args.direction (safe_dynamics i.motion.system) (engine_dynamics (engine_view i.job i.state i.motion.system)) c.turns_pooled-done.result
     from.before.items from.middle.items to.before.items to.middle.items (frames_of (state_view i.state)) c.self.invariant.dynamics c.in_ok-course.ensures.frames c.turns_pooled-done.ensures.value)
+
+pub invariant_of-pool : goal.invariant_of-pool
+invariant_of-pool g c = record { some = c.requires.some; few = c.requires.few }

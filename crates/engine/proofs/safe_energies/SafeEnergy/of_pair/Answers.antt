@@ -33,3 +33,23 @@ returns-in-Some-clause-value g c =
     let wide : c.run-energy.result ≡ to_z w128 (of_z w128 c.from.result) = omega (arith, ints, c.from.ensures, c.raw.ensures) in
     given_at (safe_value s (c.args.low, c.args.high)) (acting_distance_of s.frac s.ring s.core s.cutoff (places_of c.args.frame.now c.args.low) (places_of c.args.frame.now c.args.high)) r _
     (sym c.acting_distance.ensures.value ∙ c.in-Some.is) (sym same ∙ given ∙ ap Some wide)
+
+pub run-energy-requires-clause-first : goal.run-energy-requires-clause-first
+run-energy-requires-clause-first g c =
+    let e = c.args.self.now in
+    let s = e.motion.now.system in
+    let low : c.args.low < length s.types.items = omega arith in
+    let first = get_or_read s.types.items c.args.low c.index.result.now low c.index.ensures 0 in
+    let rows = ap (λ (t : Table). length t.rows) e.table in
+    let one = e.motion.now.accepted.known c.args.low 0 low in
+    omega (arith, first, rows, one)
+
+pub run-energy-requires-clause-second : goal.run-energy-requires-clause-second
+run-energy-requires-clause-second g c =
+    let e = c.args.self.now in
+    let s = e.motion.now.system in
+    let high : c.args.high < length s.types.items = omega arith in
+    let second = get_or_read s.types.items c.args.high c.index-in-Some.result.now high c.index-in-Some.ensures 0 in
+    let rows = ap (λ (t : Table). length t.rows) e.table in
+    let two = e.motion.now.accepted.known c.args.high 0 high in
+    omega (arith, second, rows, two)

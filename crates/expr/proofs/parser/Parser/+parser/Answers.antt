@@ -2,11 +2,12 @@ use Rattle.std.proofs.Common.{◌≡◌, rules, length, ◌∙◌, sym, ap, arit
 use Rattle.std.proofs.lemmas.List.{length-map}
 use Rattle.std.proofs.lemmas.Result.{err_from_is_err_and}
 use Rattle.expr.specs.Tokens.{placed}
-use Rattle.expr.specs.Syntax.{syntax_of}
+use Rattle.expr.specs.Syntax.{arguments_of, syntax_of}
 use Rattle.expr.specs.Syntax as tree
 use Rattle.expr.specs.Parsing.{beginning, sum_sign, product_sign, comma_sign, listed, chain, expr_at, term_at, unary_at}
 use Rattle.energy_program.proofs.FaultLaws.{fails_says}
-use Rattle.expr.proofs.Levels.{unary_none_left, atom_group, atom_name, atom_call, minus_fails, minus_reads, gives_same, atom_start, unary_none, term_starts, expr_starts, term_fails, expr_fails, term_turn, expr_turn, term_turn_fails, expr_turn_fails, term_ends, expr_ends, term_less, expr_less, started, reading, list_starts, list_fails, list_turn, list_turn_fails, list_ends, list_less}
+use Rattle.expr.proofs.Levels.{group_closes, closes, arguments_close, unary_none_left, atom_group, atom_name, atom_call, minus_fails, minus_reads, gives_same, atom_start, unary_none, term_starts, expr_starts, term_fails, expr_fails, term_turn, expr_turn, term_turn_fails, expr_turn_fails, term_ends, expr_ends, term_less, expr_less, started, reading, list_starts, list_fails, list_turn, list_turn_fails, list_ends, list_less}
+use Rattle.expr.proofs.Results.{beside_ok, beside_err}
 use Rattle.expr.proofs.parser.Parser.+parser.Goals as goal
 
 pub expr-returns-in_err-left : goal.expr-returns-in_err-left
@@ -71,10 +72,8 @@ unary-returns-in_err-inner-in-Some g t c =
     let p = err_from_is_err_and c.from_residual.result c.from_residual.ensures.1 in
     rw (p.1, p.2) (minus_fails c.args.self.now.end c.args.levels (placed c.args.tokens.now) _ _ (omega arith) c.in-Some.ensures c.in_err-inner-in-Some.ensures)
 
-pub unary-returns-in_ok-new-in-Some : goal.unary-returns-in_ok-new-in-Some
-unary-returns-in_ok-new-in-Some g t c =
-    minus_reads c.args.self.now.end c.args.levels (placed c.args.tokens.now) _ _ _ (omega arith) c.in-Some.ensures c.in_ok-inner-in-Some.ensures
-    ∙ ap (λ e. reading (syntax_of e) (placed c.in_ok-inner-in-Some.rest.now)) (sym c.in_ok-new-in-Some.ensures.ok)
+pub unary-returns-in_ok-inner-in-Some : goal.unary-returns-in_ok-inner-in-Some
+unary-returns-in_ok-inner-in-Some g t c = gives_same _ c.put.result _ _ (minus_reads c.args.self.now.end c.args.levels (placed c.args.tokens.now) _ _ _ (omega arith) c.in-Some.ensures c.in_ok-inner-in-Some.ensures) c.put.ensures
 
 pub unary-returns-in-None : goal.unary-returns-in-None
 unary-returns-in-None g t c = gives_same _ c.power.result _ _ (unary_none c.args.self.now.end c.args.levels (placed c.args.tokens.now) (omega arith) c.in-None.ensures) c.power.ensures
@@ -82,19 +81,18 @@ unary-returns-in-None g t c = gives_same _ c.power.result _ _ (unary_none c.args
 pub atom-returns-in-None : goal.atom-returns-in-None
 atom-returns-in-None g t c = rw (c.offset.ensures) (atom_start c.args.self.now.end c.args.levels (placed c.args.tokens.now) _ c.in-None.ensures)
 
-pub atom-returns-in_ok-new-in-Some-Number-default : goal.atom-returns-in_ok-new-in-Some-Number-default
-atom-returns-in_ok-new-in-Some-Number-default g t c =
+pub atom-returns-in-Some-Number-default : goal.atom-returns-in-Some-Number-default
+atom-returns-in-Some-Number-default g t c =
     let a = c.in-Some-Number-default in
     let h : c.from_raw.result ≡ a.raw = search rules in
-    atom_start c.args.self.now.end c.args.levels (placed c.args.tokens.now) _ (started _ beginning _ _ _ a.ensures a.field-0-0-is)
-    ∙ ap (λ z. reading (tree.Number z) (placed a.rest.now)) (sym h)
-    ∙ ap (λ e. reading (syntax_of e) (placed a.rest.now)) (sym c.in_ok-new-in-Some-Number-default.ensures.ok)
+    gives_same _ c.put.result _ _
+    (atom_start c.args.self.now.end c.args.levels (placed c.args.tokens.now) _ (started _ beginning _ _ _ a.ensures a.field-0-0-is) ∙ ap (λ z. reading (tree.Number z) (placed a.rest.now)) (sym h))
+    c.put.ensures
 
-pub atom-returns-in_ok-new-in-None-open_sign : goal.atom-returns-in_ok-new-in-None-open_sign
-atom-returns-in_ok-new-in-None-open_sign g t c =
+pub atom-returns-in-None-open_sign : goal.atom-returns-in-None-open_sign
+atom-returns-in-None-open_sign g t c =
     let a = c.in-Some-Name-default in
-    atom_name c.args.self.now.end c.args.levels (placed c.args.tokens.now) _ _ (started _ beginning _ _ _ a.ensures a.field-0-0-is) c.in-None-open_sign.ensures
-    ∙ ap (λ e. reading (syntax_of e) (placed a.rest.now)) (sym c.in_ok-new-in-None-open_sign.ensures.ok)
+    gives_same _ c.put-in-None-open_sign.result _ _ (atom_name c.args.self.now.end c.args.levels (placed c.args.tokens.now) _ _ (started _ beginning _ _ _ a.ensures a.field-0-0-is) c.in-None-open_sign.ensures) c.put-in-None-open_sign.ensures
 
 pub atom-returns-in-Some : goal.atom-returns-in-Some
 atom-returns-in-Some g t c =
@@ -114,21 +112,33 @@ list-returns-in_err-first g t c =
 pub list-loop-after-init : goal.list-loop-after-init
 list-loop-after-init g t c = list_starts c.args.self.now.end c.args.levels (placed c.args.tokens.now) _ _ c.in_ok-first.ensures
 
-pub list-returns-in_err-next : goal.list-returns-in_err-next
-list-returns-in_err-next g t c =
-    let p = err_from_is_err_and c.from_residual-in_err-next.result c.from_residual-in_err-next.ensures.1 in
-    rw (p.1, p.2, c.loop-after.invariant) (list_turn_fails c.args.self.now.end c.args.levels _ (placed c.loop-after.rest.now) _ _ _ c.in-Some.ensures c.in_err-next.ensures)
+pub list-returns-in_err-others : goal.list-returns-in_err-others
+list-returns-in_err-others g t c =
+    let p = err_from_is_err_and c.from_residual-in_err-others.result c.from_residual-in_err-others.ensures.1 in
+    let read = beside_err _ _ _ c.in_err-others.ensures in
+    rw (p.1, p.2, c.loop-after.invariant) (list_turn_fails c.args.self.now.end c.args.levels _ (placed c.loop-after.rest.now) _ _ _ c.in-Some.ensures (rw read at c.expr-in-Some.ensures))
 
 pub list-loop-after-smaller : goal.list-loop-after-smaller
 list-loop-after-smaller g t c =
-    let h = list_less c.args.self.now.end c.args.levels (placed c.loop-after.rest.now) _ _ _ _ c.in-Some.ensures c.in_ok-next.ensures in
+    let read = beside_ok _ _ _ _ c.in_ok-others.ensures in
+    let h = list_less c.args.self.now.end c.args.levels (placed c.loop-after.rest.now) _ _ _ _ c.in-Some.ensures (rw read.1 at c.expr-in-Some.ensures) in
     omega (arith, simp length-map at h)
 
 pub list-loop-after-preserved : goal.list-loop-after-preserved
 list-loop-after-preserved g t c =
+    let read = beside_ok _ _ _ _ c.in_ok-others.ensures in
     c.loop-after.invariant
-    ∙ list_turn c.args.self.now.end c.args.levels _ (placed c.loop-after.rest.now) _ _ _ _ c.in-Some.ensures c.in_ok-next.ensures
-    ∙ ap (λ left. chain comma_sign (expr_at c.args.self.now.end c.args.levels) listed (length (placed c.in_ok-next.beyond.now)) left (placed c.in_ok-next.beyond.now)) (sym c.with-arguments.ensures)
+    ∙ list_turn c.args.self.now.end c.args.levels _ (placed c.loop-after.rest.now) _ _ _ _ c.in-Some.ensures (rw read.1 at c.expr-in-Some.ensures)
+    ∙ ap (λ left. chain comma_sign (expr_at c.args.self.now.end c.args.levels) listed (length (placed c.in_ok-others.beyond.now)) left (placed c.in_ok-others.beyond.now)) (sym (rw read.0 at c.with-arguments.ensures))
 
 pub list-returns : goal.list-returns
 list-returns g t c = c.loop-after.invariant ∙ list_ends c.args.self.now.end c.args.levels _ (placed c.loop-after.rest.now) c.in_default.ensures
+
+pub closed-returns : goal.closed-returns
+closed-returns g t c =
+    closes (λ part. syntax_of part.value) _ c.close.result _ c.beside.result _ c.beside.ensures c.close.ensures (group_closes c.args.self.now.end c.args.levels (placed c.args.tokens.now) _ _ c.in_ok-inner.ensures)
+
+pub arguments-returns-in_ok-arguments-in-None : goal.arguments-returns-in_ok-arguments-in-None
+arguments-returns-in_ok-arguments-in-None g t c =
+    closes arguments_of _ c.close.result _ c.beside.result _ c.beside.ensures c.close.ensures
+    (arguments_close c.args.self.now.end c.args.levels (placed c.args.tokens.now) _ _ c.in-None.ensures c.in_ok-arguments-in-None.ensures)

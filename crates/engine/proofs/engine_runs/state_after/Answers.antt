@@ -1,6 +1,6 @@
 use Rattle.std.proofs.lemmas.Result.{err_from_is_err_and}
 use Rattle.engine.proofs.EngineLaws.{engine_ran, engine_stops, safe_texts, step_unwritten}
-use Rattle.engine.proofs.engine_runs.engine_after.Goals as goal
+use Rattle.engine.proofs.engine_runs.state_after.Goals as goal
 
 pub returns-in_err-turns_ungated-clause-refused : goal.returns-in_err-turns_ungated-clause-refused
 returns-in_err-turns_ungated-clause-refused g c =
@@ -10,7 +10,8 @@ returns-in_err-turns_ungated-clause-refused g c =
 
 pub returns-clause-value : goal.returns-clause-value
 returns-clause-value g c =
-    engine_ran c.args.job.now c.args.state.now c.args.direction c.args.steps c.in_ok-engine.engine c.turns_ungated.new.self c.in_ok-engine.ensures.opens c.in_ok-turns_ungated.ensures.went
+    rw c.into_state.ensures
+    (engine_ran c.args.job.now c.args.state.now c.args.direction c.args.steps c.in_ok-engine.engine c.turns_ungated.new.self c.in_ok-engine.ensures.opens c.in_ok-turns_ungated.ensures.went)
 
 pub returns-clause-safe : goal.returns-clause-safe
 returns-clause-safe g c = safe_texts c.args.job.now c.args.state.now c.in_ok-engine.engine c.in_ok-engine.ensures.opens

@@ -1,0 +1,21 @@
+use Rattle.std.proofs.Common.{arith}
+use Rattle.std.proofs.lemmas.Grind.{common_steps}
+use Rattle.cli.proofs.execution.execute.Goals as goal
+
+pub returns-in-Ok-clause-said : goal.returns-in-Ok-clause-said
+returns-in-Ok-clause-said g c = grind (arith, common_steps)
+
+pub returns-in-Ok-clause-kept : goal.returns-in-Ok-clause-kept
+returns-in-Ok-clause-kept g c = grind (arith, common_steps)
+
+pub returns-in-Ok-clause-misuse : goal.returns-in-Ok-clause-misuse
+returns-in-Ok-clause-misuse g c = grind (arith, common_steps)
+
+pub returns-in-Err-clause-quiet : goal.returns-in-Err-clause-quiet
+returns-in-Err-clause-quiet g c = grind (arith, common_steps)
+
+pub returns-in-Err-clause-kept : goal.returns-in-Err-clause-kept
+returns-in-Err-clause-kept g c = grind (arith, common_steps)
+
+pub returns-in-Err-clause-done : goal.returns-in-Err-clause-done
+returns-in-Err-clause-done g c = grind (arith, common_steps)

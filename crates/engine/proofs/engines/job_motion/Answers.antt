@@ -1,0 +1,41 @@
+use Rattle.std.proofs.Common.{◌≡◌, ℕ, List, length, arith, ap, sym, ◌∙◌}
+use Rattle.std.specs.Prelude.{map}
+use Rattle.std.proofs.lemmas.List.{length-map}
+use Rattle.energy_program.specs.Programs.{program_tree}
+use Rattle.job.specs.Views.{job_value}
+use Rattle.state.specs.StateViews.{atom_view, state_view}
+use Rattle.integrator.specs.StartViews.{energy_view, ready_view}
+use Rattle.engine.proofs.EngineLaws.{is_safe, job_tree_is, passes, room_for_cells}
+use Rattle.integrator.proofs.ReturnLaws.{system_parts}
+use Rattle.engine.proofs.engines.job_motion.Goals as goal
+
+pub returns-then-not-fits-clause-refused : goal.returns-then-not-fits-clause-refused
+returns-then-not-fits-clause-refused g c =
+    let kernel = c.in_ok-kernel.ensures in
+    let count : c.len.result ≡ length (map atom_view c.args.state.now.atoms.items) = omega (arith, c.len.ensures, c.args.state.now.atoms.ok.0, length-map c.args.state.now.atoms.items atom_view) in
+    record {
+      system = ready_view c.in_ok-ready.ready;
+      made = c.in_ok-ready.ensures.value;
+      it = passes (job_value c.args.job.now) c.in_ok-ready.ready.parts.code c.in_ok-kernel.kernel.verified c.fits.result c.bound.result c.len.result _ kernel.certified kernel.code kernel.table kernel.core kernel.cutoff c.fits.ensures c.bound.ensures count c.if-not-fits.true;
+    }
+
+pub motion-requires-clause-energy : goal.motion-requires-clause-energy
+motion-requires-clause-energy g c =
+    let parts = system_parts (job_value c.args.job.now) (state_view c.args.state.now) (ready_view c.in_ok-ready.ready) c.in_ok-ready.ensures.value in
+    ap program_tree c.in_ok-kernel.ensures.energy ∙ sym (job_tree_is (job_value c.args.job.now) (energy_view c.in_ok-ready.ready.parts) parts.energy_read)
+
+pub motion-requires-clause-room : goal.motion-requires-clause-room
+motion-requires-clause-room g c =
+    let parts = system_parts (job_value c.args.job.now) (state_view c.args.state.now) (ready_view c.in_ok-ready.ready) c.in_ok-ready.ensures.value in
+    room_for_cells c.args.job.now.frac c.args.job.now.cutoff c.args.state.now.ring parts.room
+
+pub returns-clause-of : goal.returns-clause-of
+returns-clause-of g c =
+    let kernel = c.in_ok-kernel.ensures in
+    let count : c.len.result ≡ length (map atom_view c.args.state.now.atoms.items) = omega (arith, c.len.ensures, c.args.state.now.atoms.ok.0, length-map c.args.state.now.atoms.items atom_view) in
+    record {
+      system = ready_view c.in_ok-ready.ready;
+      made = c.in_ok-ready.ensures.value;
+      is = ap (λ (t : List ℕ). record { job = job_value c.args.job.now; types = t; state = state_view c.args.state.now }) c.motion.ensures.types;
+      safe = is_safe (job_value c.args.job.now) c.in_ok-ready.ready.parts.code c.in_ok-kernel.kernel.verified c.fits.result c.bound.result c.len.result _ kernel.certified kernel.code kernel.table kernel.core kernel.cutoff c.fits.ensures c.bound.ensures count c.if-not-fits.false;
+    }

@@ -1,0 +1,113 @@
+-- How many fraction bits lines say is the same at whatever fraction bits their numerals are read.
+use Rattle.std.proofs.Common.{◌≡◌, ℕ, Bool, true, false, List, [], ◌∷◌, Option, Some, None, Ok, Err, filter_map, option_map, option_and_then, slice_index, ◌==◌, refl, ap, ◌∙◌, if◌then◌else◌}
+use Rattle.std.specs.List.{cons_option}
+use Rattle.std.specs.Option.{unwrap_or}
+use Rattle.std.specs.Result.{result_ok}
+use Rattle.fixed.specs.declared.frac.Frac.{Frac}
+use Rattle.fixed.specs.declared.frac.Frac.TheVariants.{F32}
+use Rattle.fixed.specs.declared.faults.NumFault.TheVariants.{BadNumber, NumberRange}
+use Rattle.job.specs.declared.faults.Key.{Key}
+use Rattle.job.specs.declared.faults.Key.TheVariants as keys
+use Rattle.line_text.specs.Identifiers.{is_identifier}
+use Rattle.job.specs.Forms.{is_type_name}
+use Rattle.line_text.specs.Words.{words, without_blanks, after_word}
+use Rattle.job.specs.Numbers.{Reading, both, alone, numeral_of, signed_of, values_of, cutoff_of, whole_of, frac_of, mass_of}
+use Rattle.job.specs.Statements.{Statement, skipped, core_is, cutoff_is, time_step_is, slices_is, parameter_is, global_is, type_is, bits_is, well_formed, energy_statement, parameter_statement, global_statement, type_statement, key_of, key_statement, words_statement, entry_of}
+use Rattle.job.specs.Faults.{bits_in, first, summary}
+use Rattle.job.specs.Bits.{key_bits, words_bits, bits_said, frac_in}
+
+-- ---- one line
+
+bits_case : (r : Reading Frac) → option_and_then bits_in (option_map bits_is (well_formed r)) ≡ result_ok r
+bits_case (Ok v) = refl
+bits_case (Err NumberRange) = refl
+bits_case (Err BadNumber) = refl
+
+-- a line of another key
+no_bits : {X : Type 0} (statement : X → Statement) → ((x : X) → bits_in (statement x) ≡ None) → (o : Option X) → option_and_then bits_in (option_map statement o) ≡ None
+no_bits statement h None = refl
+no_bits statement h (Some x) = h x
+
+energy_case : (text : List ℕ) → option_and_then bits_in (energy_statement text) ≡ None
+energy_case [] = refl
+energy_case (b ∷ bs) = refl
+
+parameter_case : (ws : List (List ℕ)) → option_and_then bits_in (parameter_statement ws) ≡ None
+parameter_case [] = refl
+parameter_case (name ∷ w ∷ ws) = refl
+parameter_case (name ∷ []) = at (is_identifier name)
+  where
+    at : (b : Bool) → option_and_then bits_in (if b then Some (parameter_is name) else None) ≡ None
+    at false = refl
+    at true = refl
+
+if_no_bits : (b : Bool) (o : Option Statement) → option_and_then bits_in o ≡ None → option_and_then bits_in (if b then o else None) ≡ None
+if_no_bits false o h = refl
+if_no_bits true o h = h
+
+global_case : (frac : Frac) (ws : List (List ℕ)) → option_and_then bits_in (global_statement frac ws) ≡ None
+global_case frac [] = refl
+global_case frac (name ∷ []) = refl
+global_case frac (name ∷ x ∷ w ∷ ws) = refl
+global_case frac (name ∷ x ∷ []) = if_no_bits (is_identifier name) _ (no_bits (global_is name) (λ v. refl) (well_formed (signed_of frac x)))
+
+type_case : (frac : Frac) (ws : List (List ℕ)) → option_and_then bits_in (type_statement frac ws) ≡ None
+type_case frac [] = refl
+type_case frac (name ∷ []) = refl
+type_case frac (name ∷ mass ∷ values) = if_no_bits (is_type_name name) _ (no_bits (type_is name) (λ v. refl) (well_formed (both (mass_of mass) (values_of frac values))))
+
+key_case : (frac : Frac) (key : Option Key) (text : List ℕ) → option_and_then bits_in (key_statement frac key text) ≡ key_bits key text
+key_case frac None text = refl
+key_case frac (Some keys.Energy) text = energy_case (without_blanks text)
+key_case frac (Some keys.Core) text = no_bits core_is (λ v. refl) (well_formed (alone (numeral_of frac) (words text)))
+key_case frac (Some keys.Cutoff) text = no_bits cutoff_is (λ v. refl) (well_formed (alone (cutoff_of frac) (words text)))
+key_case frac (Some keys.TimeStep) text = no_bits time_step_is (λ v. refl) (well_formed (alone (whole_of 1 1000) (words text)))
+key_case frac (Some keys.Slices) text = no_bits slices_is (λ v. refl) (well_formed (alone (whole_of 1 65536) (words text)))
+key_case frac (Some keys.Parameter) text = parameter_case (words text)
+key_case frac (Some keys.Global) text = global_case frac (words text)
+key_case frac (Some keys.Types) text = type_case frac (words text)
+key_case frac (Some keys.Bits) text = bits_case (alone frac_of (words text))
+
+words_case : (frac : Frac) (ws : List (List ℕ)) (text : List ℕ) → option_and_then bits_in (words_statement frac ws text) ≡ words_bits ws text
+words_case frac [] text = refl
+words_case frac (word ∷ ws) text = key_case frac (key_of word) text
+
+line_case : (frac : Frac) (line : List ℕ) → option_and_then bits_in (entry_of frac line) ≡ bits_said line
+unfolding entry_of bits_said
+line_case frac line = at (slice_index line 0 == 35)
+  where
+    at : (b : Bool) → option_and_then bits_in (if b then Some skipped else words_statement frac (words line) (after_word line)) ≡ (if b then None else words_bits (words line) (after_word line))
+    at true = refl
+    at false = words_case frac (words line) (after_word line)
+
+-- ---- all lines
+
+said_in : {X Y : Type 0} (part : X → Option Y) (o : Option X) (xs : List X) → filter_map part (cons_option o xs) ≡ cons_option (option_and_then part o) (filter_map part xs)
+said_in part None xs = refl
+said_in part (Some x) xs = refl
+
+bits_by_line : (frac : Frac) (lines : List (List ℕ)) → filter_map bits_in (filter_map (entry_of frac) lines) ≡ filter_map bits_said lines
+bits_by_line frac [] = refl
+bits_by_line frac (line ∷ lines) =
+    said_in bits_in (entry_of frac line) (filter_map (entry_of frac) lines)
+    ∙ ap (λ o. cons_option o (filter_map bits_in (filter_map (entry_of frac) lines))) (line_case frac line)
+    ∙ ap (cons_option (bits_said line)) (bits_by_line frac lines)
+
+-- at whatever fraction bits numerals are read, the lines say those at which they are to be read
+pub frac_said : (frac : Frac) (lines : List (List ℕ)) → unwrap_or (summary frac lines).bits F32 ≡ frac_in lines
+unfolding summary frac_in
+frac_said frac lines = ap (λ (vs : List Frac). unwrap_or (first vs) F32) (bits_by_line frac lines)
+
+-- ---- line by line
+
+pub frac_found : (all lines : List (List ℕ)) (line : List ℕ) (frac : Frac) → all ≡ line ∷ lines → bits_said line ≡ Some frac → frac_in all ≡ frac
+unfolding frac_in
+frac_found all lines line frac a e = rw (a, e) refl
+
+pub frac_below : (all lines : List (List ℕ)) (line : List ℕ) → all ≡ line ∷ lines → bits_said line ≡ None → frac_in all ≡ frac_in lines
+unfolding frac_in
+frac_below all lines line a e = rw (a, e) refl
+
+pub frac_of_none : frac_in [] ≡ F32
+unfolding frac_in
+frac_of_none = refl

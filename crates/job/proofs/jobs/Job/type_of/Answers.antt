@@ -1,0 +1,13 @@
+-- What the call found is named here, one fact after the other: a search looks for it for seconds, in vain.
+use Rattle.std.proofs.Common.{position, bytes_eq, sym, ap, ◌∙◌}
+use Rattle.line_text.specs.Names.{name_text}
+use Rattle.job.specs.declared.jobs.AtomType.{AtomType}
+use Rattle.job.proofs.jobs.Job.type_of.Goals as goal
+
+pub returns-in-Some-clause-place : goal.returns-in-Some-clause-place
+returns-in-Some-clause-place g c =
+    sym c.in-Some.is ∙ c.place_of.ensures.place ∙ ap (position (λ (t : AtomType g.row.A.Denot). bytes_eq (name_text t.name) c.args.name.now)) c.as_slice.ensures.value
+
+pub returns-in-None-clause-place : goal.returns-in-None-clause-place
+returns-in-None-clause-place g c =
+    sym c.in-None.is ∙ c.place_of.ensures.place ∙ ap (position (λ (t : AtomType g.row.A.Denot). bytes_eq (name_text t.name) c.args.name.now)) c.as_slice.ensures.value

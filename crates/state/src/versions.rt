@@ -1,0 +1,39 @@
+//! The versions of a state's text.
+
+ghost use Rattle.std.specs.Prelude.{◌≡◌, ◌≤◌};
+ghost use Rattle.state.specs.StateText.{version_of};
+ghost use Rattle.state.specs.StateReading.{count_number};
+
+use fixed::Frac;
+
+/// A version of the text. The fraction bits of a state say which one it has.
+#[derive(Clone, Copy)]
+pub enum Version {
+    /// That of 32 bits, which no line names.
+    First,
+    /// That of 24 or 40 bits, as its fourth line says.
+    Second,
+}
+
+impl Version {
+    /// The version that a state of so many fraction bits has.
+    pub fn of(frac: Frac) -> Version
+        ensures { result ≡ version_of frac }
+    {
+        match frac {
+            Frac::F32 => Version::First,
+            Frac::F24 | Frac::F40 => Version::Second,
+        }
+    }
+
+    /// The number of the line with the count of atoms.
+    pub fn count_number(self) -> u64
+        ensures value { result ≡ count_number self }
+        ensures bound { result ≤ 5 }
+    {
+        match self {
+            Version::First => 4,
+            Version::Second => 5,
+        }
+    }
+}
