@@ -5,6 +5,7 @@ are left empty. Nothing is read from outside, and the same numbers give the same
 """
 
 import itertools
+import os
 import random
 from collections import Counter
 from fractions import Fraction
@@ -24,12 +25,25 @@ CUBES = {1000: (10, 10, 10), 4000: (16, 16, 16), 16000: (25, 25, 26), 65536: (40
 SHAPES = {"tight": TIGHT, "cubes": CUBES}
 
 
-def job(energy, cutoff):
-    """The text of a job of argon with this energy."""
+def job(energy, cutoff, bits=32):
+    """The text of a job of argon with this energy, and with so many bits behind the point."""
     return (
         f"pairmd job 1\nenergy {energy}\ncore {CORE}\ncutoff {cutoff}\ndt 2\n"
         "parameter sigma\nparameter epsilon\ntype AR 39.948 0.34 0.996\n"
+        + f"bits {bits}\n" * (bits != 32)
     )
+
+
+EXAMPLES = ("lennard-jones", "buckingham", "reaction-field", "soft-core", "square-shoulder", "switched")
+
+
+def example_job(name):
+    """The text of an example's job, at the core and the cutoff of the others."""
+    folder = os.path.join(os.path.dirname(os.path.dirname(os.path.realpath(__file__))), "examples")
+    with open(os.path.join(folder, f"{name}.job"), encoding="ascii") as file:
+        words = {"core": CORE, "cutoff": CUTOFF}
+        lines = [line.split() for line in file]
+    return "\n".join(" ".join([line[0], words[line[0]]] if line[:1] and line[0] in words else line) for line in lines) + "\n"
 
 
 def argon(atoms, grid, seed=1):
@@ -46,9 +60,11 @@ def argon(atoms, grid, seed=1):
     return sides, [places[k] for k in kept]
 
 
-def state(sides, places):
+def state(sides, places, bits=32):
     """The text of a state at rest."""
-    lines = ["pairmd state 1", "title liquid argon", "step 0", f"atoms {len(places)}", "box " + " ".join(map(str, sides))]
+    said = [] if bits == 32 else [f"bits {bits}"]
+    lines = [f"pairmd state {1 + len(said)}", "title liquid argon", "step 0", *said]
+    lines += [f"atoms {len(places)}", "box " + " ".join(map(str, sides))]
     for number, at in enumerate(places):
         x = " ".join(map(str, at))
         lines.append(f"{number % 100_000:5}{'AR':<5}{'AR':>5} {x} {x}")

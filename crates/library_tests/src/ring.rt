@@ -71,7 +71,7 @@ fn coarse_force(
     ))
 }
 
-// How often pairs at one place, 0.5 nm apart, and 1 nm apart ask, of which the last are too far from each other.
+// How often pairs at one place, 0.5 nm apart, and 1 nm apart ask: the last are too far from each other, and don't.
 fn asked() -> Result<u64, BoxFault> {
     let mut f = constant(1);
     for y in [0, 1_073_741_824, 2_147_483_648] {
@@ -107,7 +107,7 @@ fn bits() -> [[u32; 3]; 3] {
 
 #[test]
 fn asks_measures_and_cuts(rt: HostRuntime) -> Result<(), Fail> {
-    assert_eq!(rt; asked()?, 1);
+    assert_eq!(rt; asked()?, 2);
     assert_eq!(rt; bits(), [[1, 1, 1], [1, 2, 4], [4, 4, 4]]);
     let b = box_of_two()?;
     let (x, y) = ([1_073_741_824, 0, 0], [2_147_483_648, 0, 0]);

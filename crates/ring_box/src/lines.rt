@@ -1,5 +1,5 @@
-ghost use Rattle.std.specs.Prelude.{◌≡◌, ◌≤◌, ◌<◌, ◌+◌, ◌*◌, ◌^◌, List, [], ◌∷◌, pos, ◌*ℤ◌, unsigned_abs};
-ghost use Rattle.fixed.specs.Roots.{root};
+ghost use Rattle.std.specs.Prelude.{ℕ, ◌≡◌, ◌≤◌, ◌<◌, ◌+◌, ◌*◌, ◌^◌, List, [], ◌∷◌, pos, ◌*ℤ◌, unsigned_abs};
+ghost use Rattle.ring_box.specs.Acting.{length_of};
 ghost use Rattle.ring_box.specs.Distances.{square};
 ghost use Rattle.ring_box.specs.Forces.{IsWithin, component_of};
 
@@ -9,10 +9,10 @@ use fixed::{floor_div, floor_multiples, isqrt};
 /// The line through two atoms that are apart: its parts along the axes, and its length rounded down, which no part passes.
 #[derive(Clone, Copy)]
 pub(crate) struct Line {
-    x: i64,
-    y: i64,
-    z: i64,
-    length: u64,
+    pub x: i64,
+    pub y: i64,
+    pub z: i64,
+    pub length: u64,
 
     ghost positive: { 0 < length },
     ghost x_within: { unsigned_abs x ≤ length },
@@ -20,21 +20,30 @@ pub(crate) struct Line {
     ghost z_within: { unsigned_abs z ≤ length },
 }
 
+// Atoms at one place have no line: with a length of 1 their parts of 0 give no force.
+#[tactic(auto, using(crate::proofs::ForceLemmas::root_positive))]
+fn length_of(s: u128) -> u64
+    ensures value { result ≡ length_of s }
+    ensures positive { 0 < result }
+    ensures longest { (a : ℕ) → a * a ≤ s → a ≤ result }
+{
+    if s == 0 { 1 } else { isqrt(s) }
+}
+
 impl Separation {
-    /// The line of this separation, whose square is `s`.
+    /// The line of this separation, whose square is `s`; one of the length 1 where both atoms are at one place.
     pub(crate) fn line(self, s: u128) -> Line
         requires square { s ≡ square self.x + square self.y + square self.z }
-        requires positive { 0 < s }
         ensures x { result.x ≡ self.x }
         ensures y { result.y ≡ self.y }
         ensures z { result.z ≡ self.z }
-        ensures length { result.length ≡ root s }
+        ensures length { result.length ≡ length_of s }
     {
         Line {
             x: self.x,
             y: self.y,
             z: self.z,
-            length: isqrt(s),
+            length: length_of(s),
         }
     }
 }

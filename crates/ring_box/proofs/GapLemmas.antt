@@ -1,0 +1,61 @@
+-- How far a place is from the places of a cell.
+use Rattle.std.proofs.Common.{◌≡◌, ℕ, ◌+◌, ◌-◌, ◌*◌, ◌%◌, ◌^◌, ◌<◌, ◌≤◌, ℤ, pos, List, None, inl, inr, refl, sym, arith}
+use Rattle.std.specs.Prelude.{unsigned_abs, slice_index, ◌*ℤ◌}
+use Rattle.std.proofs.lemmas.Nat.{mul-le, pow_pos}
+use Rattle.std.proofs.lemmas.Int.{unsigned_abs-mul}
+use Rattle.std.proofs.lemmas.Bool.{cases_lt}
+use Rattle.std.proofs.lemmas.Bool.Decides.{nat_tests}
+use Rattle.std.proofs.Math.Nat.{div-mul-le_self, lt-mul-div-succ}
+use Rattle.ring_box.specs.Acting.{IsInCell, IsReach, Reach, acting_of, limit_of}
+use Rattle.ring_box.specs.Distances.{square, square_of}
+use Rattle.ring_box.specs.Places.{difference, signed}
+use Rattle.ring_box.specs.declared.boxes.RingBox.{RingBox}
+use Rattle.ring_box.proofs.ActingLemmas.{idle}
+
+signed_far : (m r : ℕ) → m < 2 ^ 32 → r ≤ m → r + m ≤ 2 ^ 32 → r ≤ unsigned_abs (signed m)
+signed_far m r p q h = grind (arith, nat_tests)
+
+-- from the first of the places on round the ring, x comes behind the last of them
+gap_below : (x y first width r : ℕ) → x < 2 ^ 32 → y < 2 ^ 32 → first ≤ y → y < first + width → width ≤ (x + (2 ^ 32 - first)) % 2 ^ 32 →
+    r + (width - 1) ≤ (x + (2 ^ 32 - first)) % 2 ^ 32 → r + (x + (2 ^ 32 - first)) % 2 ^ 32 ≤ 2 ^ 32 → r ≤ unsigned_abs (difference x y)
+gap_below x y first width r p q low high out after before =
+    elim (cases_lt x first) [
+      | inl l ↦
+          let e : (x + (2 ^ 32 - first)) % 2 ^ 32 ≡ x + (2 ^ 32 - first) = omega arith in
+          let f : (x + (2 ^ 32 - y)) % 2 ^ 32 ≡ x + (2 ^ 32 - y) = omega arith in
+          signed_far ((x + (2 ^ 32 - y)) % 2 ^ 32) r (omega arith) (omega arith) (omega arith)
+      | inr g ↦
+          let e : (x + (2 ^ 32 - first)) % 2 ^ 32 ≡ x - first = omega arith in
+          let f : (x + (2 ^ 32 - y)) % 2 ^ 32 ≡ x - y = omega arith in
+          signed_far ((x + (2 ^ 32 - y)) % 2 ^ 32) r (omega arith) (omega arith) (omega arith)
+    ]
+
+-- no place of the cell is nearer than r
+pub gap_is : (x b cell r : ℕ) → x < 2 ^ 32 → 2 ^ (32 - b) ≤ (x + (2 ^ 32 - cell * 2 ^ (32 - b))) % 2 ^ 32 →
+    r + (2 ^ (32 - b) - 1) ≤ (x + (2 ^ 32 - cell * 2 ^ (32 - b))) % 2 ^ 32 → r + (x + (2 ^ 32 - cell * 2 ^ (32 - b))) % 2 ^ 32 ≤ 2 ^ 32 →
+    (y : ℕ) → IsInCell b cell y → r ≤ unsigned_abs (difference x y)
+gap_is x b cell r p out after before y h =
+    let k : 0 < 2 ^ (32 - b) = pow_pos (32 - b) in
+    let low : cell * 2 ^ (32 - b) ≤ y = rw h.1 at (div-mul-le_self y (2 ^ (32 - b))) in
+    let high : y < cell * 2 ^ (32 - b) + 2 ^ (32 - b) = let u = rw h.1 at (lt-mul-div-succ y k) in omega (arith, u) in
+    gap_below x y (cell * 2 ^ (32 - b)) (2 ^ (32 - b)) r p h.0 low high out after before
+
+-- ---- from gaps to squares
+
+side_square : (g L : ℕ) (d : ℤ) → g ≤ unsigned_abs d → g * L * (g * L) ≤ square (d *ℤ pos L)
+side_square g L d h =
+    let e : unsigned_abs (d *ℤ pos L) ≡ unsigned_abs d * L = unsigned_abs-mul d (pos L) in
+    let l : g * L ≤ unsigned_abs d * L = mul-le g L (unsigned_abs d) L h (omega arith) in
+    rw e (mul-le (g * L) (g * L) (unsigned_abs d * L) (unsigned_abs d * L) l l)
+
+-- an atom whose places are no nearer than these along the axes doesn't act where their squares come to the limit
+pub beyond : (d : Reach) (b : RingBox) (x y : List ℕ) (p q r : ℕ) → IsReach d →
+    p ≤ unsigned_abs (difference (slice_index x 0) (slice_index y 0)) → q ≤ unsigned_abs (difference (slice_index x 1) (slice_index y 1)) →
+    r ≤ unsigned_abs (difference (slice_index x 2) (slice_index y 2)) →
+    limit_of d.frac d.cutoff ≤ p * b.x * (p * b.x) + q * b.y * (q * b.y) + r * b.z * (r * b.z) → acting_of d b x y ≡ None
+beyond d b x y p q r a e f g h =
+    let i = side_square p b.x (difference (slice_index x 0) (slice_index y 0)) e in
+    let j = side_square q b.y (difference (slice_index x 1) (slice_index y 1)) f in
+    let k = side_square r b.z (difference (slice_index x 2) (slice_index y 2)) g in
+    let l : limit_of d.frac d.cutoff ≤ square_of b x y = omega (arith, h, i, j, k) in
+    sym (idle d b x y (square_of b x y) a refl l)

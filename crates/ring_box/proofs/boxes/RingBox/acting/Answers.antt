@@ -1,0 +1,37 @@
+use Rattle.std.proofs.Common.{rules, ◌∙◌, ◌≡◌, ◌<◌, ◌≤◌, ◌+◌, refl, to_z, of_z, w64}
+use Rattle.std.specs.Prelude.{unsigned_abs}
+use Rattle.ring_box.specs.Acting.{limit_of}
+use Rattle.ring_box.specs.Distances.{square}
+use Rattle.ring_box.proofs.ActingLemmas.{acts, idle}
+use Rattle.ring_box.proofs.boxes.RingBox.acting.Goals as goal
+
+pub returns-then-far-clause-value : goal.returns-then-far-clause-value
+returns-then-far-clause-value c =
+    let d = c.args.reach.now in
+    let s = c.separation-separation.result in
+    let p = c.separation-separation.ensures in
+    let ux : c.unsigned_abs.result ≡ unsigned_abs s.x = search rules in
+    let uy : c.unsigned_abs-2.result ≡ unsigned_abs s.y = search rules in
+    let uz : c.unsigned_abs-3.result ≡ unsigned_abs s.z = search rules in
+    let far : limit_of d.frac d.cutoff ≤ square s.x + square s.y + square s.z = rw (c.limit.ensures.value, ux, uy, uz) at (c.are_far-far.ensures c.if-far.true) in
+    idle d c.args.self.now c.args.x c.args.y (square s.x + square s.y + square s.z) c.limit.ensures.reach (rw (p.x, p.y, p.z) refl) far
+
+pub returns-then-s-limit-clause-value : goal.returns-then-s-limit-clause-value
+returns-then-s-limit-clause-value c =
+    let d = c.args.reach.now in
+    let p = c.separation-separation.ensures in
+    let beyond : limit_of d.frac d.cutoff ≤ c.square-s.result = search rules in
+    idle d c.args.self.now c.args.x c.args.y c.square-s.result c.limit.ensures.reach (rw (p.x, p.y, p.z) at c.square-s.ensures.value) beyond
+
+pub returns-clause-value : goal.returns-clause-value
+returns-clause-value c =
+    let d = c.args.reach.now in
+    let s = c.separation-separation.result in
+    let p = c.separation-separation.ensures in
+    let ex : to_z w64 (of_z w64 s.x) ≡ s.x = search rules in
+    let ey : to_z w64 (of_z w64 s.y) ≡ s.y = search rules in
+    let ez : to_z w64 (of_z w64 s.z) ≡ s.z = search rules in
+    let near : c.square-s.result < limit_of d.frac d.cutoff = search rules in
+    acts d c.args.self.now c.args.x c.args.y c.square-s.result c.length.result (to_z w64 (of_z w64 s.x)) (to_z w64 (of_z w64 s.y)) (to_z w64 (of_z w64 s.z)) c.distance.result
+    c.limit.ensures.reach (ex ∙ p.x) (ey ∙ p.y) (ez ∙ p.z) (rw (ex, ey, ez) c.square-s.ensures.value) near
+    (c.length.ensures ∙ c.line-line.ensures.length) c.distance.ensures.value

@@ -1,0 +1,92 @@
+-- The force of a pair in two halves, so that one step can be made for many pairs before the next is: what two atoms that act have between them,
+-- and the force that a slope gives them along it.
+use Rattle.std.specs.Prelude.{ℕ, ℤ, pos, ◌≡◌, ◌+◌, ◌-◌, ◌*◌, ◌/◌, ◌^◌, ◌==◌, ◌≤◌, ◌<◌, ◌≤ℤ◌, ◌<ℤ◌, unsigned_abs, List, [], ◌∷◌, slice_index, if◌then◌else◌, Option, None, option_map}
+use Rattle.fixed.specs.Fractions.{bits_of}
+use Rattle.fixed.specs.Roots.{root}
+use Rattle.fixed.specs.declared.frac.Frac.{Frac}
+use Rattle.ring_box.specs.Cells.{cell_of}
+use Rattle.ring_box.specs.Distances.{square_of, unit_of, widening_of, x_separation, y_separation, z_separation}
+use Rattle.ring_box.specs.Forces.{acting_distance_of, component_of, pair_force_of}
+use Rattle.ring_box.specs.declared.boxes.RingBox.{RingBox}
+
+-- ---- how far forces reach
+
+-- forces are taken at the distances from the core to before the cutoff
+pub record Reach : Type 0 where
+  pub frac : Frac
+  pub core : ℤ
+  pub cutoff : ℤ
+
+pub record IsReach (d : Reach) : Type 0 where
+  pub core : pos 0 ≤ℤ d.core
+  pub order : d.core <ℤ d.cutoff
+  pub cutoff : d.cutoff ≤ℤ pos (80 * 2 ^ bits_of d.frac)
+
+-- the squares of the distances that are below the cutoff are those below this
+abbrev pub limit_of : Frac → ℤ → ℕ
+limit_of frac cutoff = (unit_of frac * unsigned_abs cutoff * (unit_of frac * unsigned_abs cutoff) + (widening_of frac - 1)) / widening_of frac
+
+-- ---- what two atoms have between them
+
+-- the parts of the line from the second atom to the first along the axes, its length rounded down, and the distance at which their force is taken
+pub record ActingPair : Type 0 where
+  pub x : ℤ
+  pub y : ℤ
+  pub z : ℤ
+  pub length : ℕ
+  pub distance : ℤ
+
+-- no part is longer than the line
+pub record IsActingPair (p : ActingPair) : Type 0 where
+  pub positive : 0 < p.length
+  pub x_within : unsigned_abs p.x ≤ p.length
+  pub y_within : unsigned_abs p.y ≤ p.length
+  pub z_within : unsigned_abs p.z ≤ p.length
+
+-- the length of the line whose square is s; atoms at one place have none, and with a length of 1 and parts of 0 no force comes out
+abbrev pub length_of : ℕ → ℕ
+length_of s = if s == 0 then 1 else root s
+
+abbrev pub between : RingBox → List ℕ → List ℕ → ℤ → ActingPair
+between b x y r =
+    record { x = x_separation b x y; y = y_separation b x y; z = z_separation b x y; length = length_of (square_of b x y); distance = r }
+
+abbrev pub acting_of : Reach → RingBox → List ℕ → List ℕ → Option ActingPair
+acting_of d b x y = option_map (between b x y) (acting_distance_of d.frac b d.core d.cutoff x y)
+
+-- ---- the force along it
+
+abbrev pub force_of : ActingPair → ℤ → List ℤ
+force_of p g = component_of g p.x p.length ∷ component_of g p.y p.length ∷ component_of g p.z p.length ∷ []
+
+-- both halves are the force of the pair, where `minus_slope` is minus the slope of the energy at a distance
+abbrev pub HalvesAreWhole : Reach → RingBox → (ℤ → ℤ) → List ℕ → List ℕ → Type 0
+HalvesAreWhole d b minus_slope x y =
+    option_map (λ p. force_of p (minus_slope p.distance)) (acting_of d b x y) ≡ pair_force_of d.frac b minus_slope d.core d.cutoff x y
+
+-- ---- cells out of reach
+
+-- the place lies in the cell with this number, of the 2^b of a side
+abbrev pub IsInCell : ℕ → ℕ → ℕ → Type 0
+IsInCell b cell y = (y < 2 ^ 32) × (cell_of y b ≡ cell)
+
+-- these are the numbers of a cell along the sides, each cut into 2^b cells
+abbrev pub IsCellNumber : ℕ → ℕ → Type 0
+IsCellNumber b cell = (1 ≤ b) × (b ≤ 4) × (cell < 2 ^ b)
+
+abbrev pub AreCellNumbers : List ℕ → List ℕ → Type 0
+AreCellNumbers bits cell =
+    IsCellNumber (slice_index bits 0) (slice_index cell 0)
+    × IsCellNumber (slice_index bits 1) (slice_index cell 1)
+    × IsCellNumber (slice_index bits 2) (slice_index cell 2)
+
+-- so does an atom along each axis
+abbrev pub AreInCell : List ℕ → List ℕ → List ℕ → Type 0
+AreInCell bits cell y =
+    IsInCell (slice_index bits 0) (slice_index cell 0) (slice_index y 0)
+    × IsInCell (slice_index bits 1) (slice_index cell 1) (slice_index y 1)
+    × IsInCell (slice_index bits 2) (slice_index cell 2) (slice_index y 2)
+
+-- no atom of the cell acts with one at the places x
+abbrev pub IsOutOfReach : Reach → RingBox → List ℕ → List ℕ → List ℕ → Type 0
+IsOutOfReach r b bits cell x = (y : List ℕ) → AreInCell bits cell y → acting_of r b x y ≡ None

@@ -1,0 +1,171 @@
+//! The force of a pair in two halves, so that one step can be made for many pairs before the next.
+
+ghost use Rattle.std.specs.Prelude.{ℕ, ◌≡◌, ◌≤◌, ◌<◌, ◌+◌, ◌*◌, ◌/◌, ◌^◌, ℤ, List, IsTrue, unsigned_abs};
+ghost use Rattle.ring_box.specs.Places.{difference};
+ghost use Rattle.ring_box.specs.Acting.{IsInCell, IsReach, Reach, HalvesAreWhole, acting_of, force_of, length_of};
+ghost use Rattle.ring_box.specs.Distances.{square};
+ghost use Rattle.ring_box.specs.Forces.{IsWithin};
+ghost use Rattle.ring_box.specs.declared.boxes.RingBox.{RingBox};
+
+use crate::boxes::RingBox;
+use crate::distances::distance_by_root;
+use crate::forces::outside_core;
+use crate::lines::Line;
+use crate::reaches::Reach;
+use crate::sides::Side;
+use fixed::Fx;
+use std::marker::Model;
+
+/// Two atoms that act: the line through them, and the distance at which their force is taken.
+#[derive(Clone, Copy)]
+pub struct ActingPair {
+    x: i64,
+    y: i64,
+    z: i64,
+    length: u64,
+    distance: Fx,
+}
+
+impl Model for ActingPair {
+    ghost use Rattle.ring_box.specs.Acting.{ActingPair, IsActingPair};
+
+    ghost Value = { ActingPair };
+
+    ghost view = { λ p. record { x = p.x; y = p.y; z = p.z; length = p.length; distance = p.distance } };
+
+    ghost inverse = { λ p. record { x = p.x; y = p.y; z = p.z; length = p.length; distance = p.distance } };
+
+    ghost invariant = { λ p. IsActingPair (record { x = p.x; y = p.y; z = p.z; length = p.length; distance = p.distance }) };
+}
+
+impl ActingPair {
+    ghost use Rattle.std.specs.Prelude.{◌≡◌, ◌<◌, ◌^◌, unsigned_abs};
+    ghost use Rattle.ring_box.specs.Acting.{force_of};
+    ghost use Rattle.ring_box.specs.Forces.{IsWithin};
+
+    /// The distance in nm at which the force is taken.
+    pub fn distance(self) -> Fx
+        ensures { result ≡ self.distance }
+    {
+        self.distance
+    }
+
+    /// The force on the first atom in kJ/mol/nm, where this is minus the slope of the energy at that distance; the second has its negative.
+    pub fn force(self, minus_slope: Fx) -> [i64; 3]
+        requires { unsigned_abs minus_slope < 2 ^ 63 }
+        ensures value { result ≡ force_of self minus_slope }
+        ensures bound { IsWithin minus_slope result }
+    {
+        let line = Line {
+            x: self.x,
+            y: self.y,
+            z: self.z,
+            length: self.length,
+        };
+        line.small_force(minus_slope.raw())
+    }
+}
+
+fn coarse_square(a: u64) -> u64
+    requires { a ≤ 2 ^ 31 * 16000000 }
+    ensures value { result ≡ (a / 2 ^ 24) * (a / 2 ^ 24) }
+    ensures bound { result < 2 ^ 62 }
+{
+    let c = a >> 24;
+    c * c
+}
+
+/// Whether the sum of the squares is at least the limit, as far as the upper bits of the three tell.
+#[tactic(auto, using(crate::proofs::DistanceLemmas::far_is))]
+fn are_far(x: u64, y: u64, z: u64, limit: u128) -> bool
+    requires x { x ≤ 2 ^ 31 * 16000000 }
+    requires y { y ≤ 2 ^ 31 * 16000000 }
+    requires z { z ≤ 2 ^ 31 * 16000000 }
+    ensures { IsTrue result → limit ≤ x * x + y * y + z * z }
+{
+    u128::from(coarse_square(x) + coarse_square(y) + coarse_square(z)) > limit >> 48
+}
+
+impl RingBox {
+    ghost use Rattle.std.specs.Prelude.{◌≡◌, ◌≤ℤ◌, ◌<ℤ◌, IfSome};
+    ghost use Rattle.ring_box.specs.Acting.{acting_of};
+
+    /// What two atoms at the places `x` and `y` have between them; `None` where their distance isn't below the cutoff: they don't act.
+    pub fn acting(&self, reach: &Reach, x: [u32; 3], y: [u32; 3]) -> Option<ActingPair>
+        ensures value { result ≡ acting_of reach.now self.now x y }
+        ensures low { IfSome result (λ p. reach.now.core ≤ℤ p.distance) }
+        ensures high { IfSome result (λ p. p.distance <ℤ reach.now.cutoff) }
+    {
+        let separation = self.separation(x, y);
+        let far = are_far(
+            separation.x.unsigned_abs(),
+            separation.y.unsigned_abs(),
+            separation.z.unsigned_abs(),
+            reach.limit(),
+        );
+        if far {
+            return None;
+        }
+        let s = separation.square();
+        if s >= reach.limit() {
+            return None;
+        }
+        let line = separation.line(s);
+        Some(ActingPair {
+            x: separation.x,
+            y: separation.y,
+            z: separation.z,
+            length: line.length(),
+            distance: reach.distance(s, line.length()),
+        })
+    }
+}
+
+/// How many places lie at least between `x` and any place of a cell of its axis; 0 where it lies in the cell.
+#[tactic(auto, using(crate::proofs::GapLemmas::gap_is))]
+fn gap(x: u32, b: u32, cell: u32) -> u32
+    requires positive { 1 ≤ b }
+    requires bound { b ≤ 4 }
+    requires cell { cell < 2 ^ b }
+    ensures between { (y : ℕ) → IsInCell b cell y → result ≤ unsigned_abs (difference x y) }
+    ensures half { result ≤ 2 ^ 31 }
+{
+    let width = 1u32 << (32 - b);
+    let behind = x.wrapping_sub(cell << (32 - b));
+    if behind < width {
+        return 0;
+    }
+    (behind - (width - 1)).min(behind.wrapping_neg())
+}
+
+fn length(places: u32, side: Side) -> u64
+    requires { places ≤ 2 ^ 31 }
+    ensures value { result ≡ places * side }
+    ensures bound { result ≤ 2 ^ 31 * 16000000 }
+{
+    u64::from(places) * u64::from(side.get())
+}
+
+impl RingBox {
+    ghost use Rattle.std.specs.Prelude.{IsTrue};
+    ghost use Rattle.ring_box.specs.Acting.{AreCellNumbers, IsOutOfReach};
+
+    /// Whether no atom of a cell acts with one at the places `x`, as far as the ends of the cell tell. The sides are cut into 2^bits
+    /// cells, 1 to 4 bits each, and the cell is given by its numbers along them.
+    pub fn is_cell_far(&self, reach: &Reach, x: [u32; 3], bits: [u32; 3], cell: [u32; 3]) -> bool
+        requires { AreCellNumbers bits cell }
+        ensures { IsTrue result → IsOutOfReach reach.now self.now bits cell x }
+    {
+        are_far(
+            length(gap(x[0], bits[0], cell[0]), self.x),
+            length(gap(x[1], bits[1], cell[1]), self.y),
+            length(gap(x[2], bits[2], cell[2]), self.z),
+            reach.limit(),
+        )
+    }
+}
+
+/// Both halves of a pair's force are the force that `RingBox::pair_force` answers.
+pub fn halves_are_whole()
+    ensures { (d : Reach) (b : RingBox) (minus_slope : ℤ → ℤ) (x y : List ℕ) → HalvesAreWhole d b minus_slope x y }
+{}

@@ -1,0 +1,99 @@
+//! How far forces reach.
+
+ghost use Rattle.std.specs.Prelude.{◌≡◌, ◌*◌, ◌^◌, ◌<◌, ◌≤ℤ◌, ◌<ℤ◌, pos, unsigned_abs};
+ghost use Rattle.fixed.specs.Fractions.{bits_of};
+ghost use Rattle.ring_box.specs.Acting.{IsReach, limit_of};
+
+use crate::distances::{distance_by_root, edge};
+use crate::forces::outside_core;
+use fixed::{Frac, Fx};
+use std::marker::Model;
+
+/// The distances at which forces are taken: from a core to before a cutoff. Squares are compared with a limit that is found once.
+#[derive(Clone, Copy)]
+pub struct Reach {
+    frac: Frac,
+    core: Fx,
+    cutoff: Fx,
+    limit: u128,
+}
+
+impl Model for Reach {
+    ghost use Rattle.std.specs.Prelude.{◌≡◌};
+    ghost use Rattle.ring_box.specs.Acting.{IsReach, Reach, limit_of};
+
+    ghost Value = { Reach };
+
+    ghost view = { λ r. record { frac = r.frac; core = r.core; cutoff = r.cutoff } };
+
+    ghost inverse = { λ d. record { frac = d.frac; core = d.core; cutoff = d.cutoff; limit = limit_of d.frac d.cutoff } };
+
+    ghost invariant = { λ r. IsReach (record { frac = r.frac; core = r.core; cutoff = r.cutoff }) × (r.limit ≡ limit_of r.frac r.cutoff) };
+}
+
+fn square(a: u128) -> u128
+    requires { a < 2 ^ 64 }
+    ensures { result ≡ a * a }
+{
+    a * a
+}
+
+fn limit(frac: Frac, cutoff: Fx) -> u128
+    requires positive { pos 0 <ℤ cutoff }
+    requires bound { cutoff ≤ℤ pos (80 * 2 ^ bits_of frac) }
+    ensures { result ≡ limit_of frac cutoff }
+{
+    let square = square(edge(frac, cutoff));
+    match frac {
+        Frac::F24 | Frac::F32 => square,
+        Frac::F40 => square / 65_536 + u128::from(square % 65_536 != 0),
+    }
+}
+
+impl Reach {
+    ghost use Rattle.std.specs.Prelude.{◌≡◌, ◌*◌, ◌^◌, ◌<◌, ◌≤ℤ◌, ◌<ℤ◌, pos};
+    ghost use Rattle.std.specs.Int.{int_max};
+    ghost use Rattle.fixed.specs.Fractions.{bits_of};
+    ghost use Rattle.ring_box.specs.Acting.{IsReach, length_of, limit_of};
+    ghost use Rattle.ring_box.specs.Distances.{distance_at};
+
+    /// The distances from `core` to before `cutoff`, both in nm. The caller sees that `core` is from 0 to below `cutoff`, and `cutoff` at most
+    /// 80 nm.
+    pub fn new(frac: Frac, core: Fx, cutoff: Fx) -> Reach
+        requires core { pos 0 ≤ℤ core }
+        requires order { core <ℤ cutoff }
+        requires cutoff { cutoff ≤ℤ pos (80 * 2 ^ bits_of frac) }
+        ensures { result ≡ record { frac = frac; core = core; cutoff = cutoff } }
+    {
+        Reach {
+            frac,
+            core,
+            cutoff,
+            limit: limit(frac, cutoff),
+        }
+    }
+
+    /// The least square that is out of reach.
+    pub(crate) fn limit(&self) -> u128
+        ensures value { result ≡ limit_of self.now.frac self.now.cutoff }
+        ensures reach { IsReach self.now }
+    {
+        self.limit
+    }
+
+    /// The distance at which the force of two atoms is taken whose square is `s`: the core where their own is less.
+    pub(crate) fn distance(&self, s: u128, length: u64) -> Fx
+        requires near { s < limit_of self.now.frac self.now.cutoff }
+        requires bound { s < 2 ^ 112 }
+        requires length { length ≡ length_of s }
+        ensures value { result ≡ int_max (pos (distance_at self.now.frac s)) self.now.core }
+        ensures low { self.now.core ≤ℤ result }
+        ensures high { result <ℤ self.now.cutoff }
+    {
+        outside_core(
+            distance_by_root(self.frac, s, length),
+            self.core,
+            self.cutoff,
+        )
+    }
+}
