@@ -90,10 +90,10 @@ def libraries_below(named):
 def build(rtlib, named, lanes):
     """Proves and builds the libraries below a crate that aren't built as they stand, and returns whether all are."""
     wanted = [it for it in libraries_below(named) if not it.is_built()]
+    os.makedirs(f"{named.folder}/out", exist_ok=True)
     if not wanted:
         return True
     held = rtlib.lock([*named.below(), named])
-    os.makedirs(f"{named.folder}/out", exist_ok=True)
     log = log_of(named)
     open(log, "w", encoding="utf-8").close()
     print(f"{len(wanted)} of {len(named.below())} libraries are to be proved, {lanes} at a time; the prover's words are in {os.path.relpath(log)}", flush=True)

@@ -226,7 +226,7 @@ impl<A: Allocator + Copy> SafeSystem<A> {
     {
         self.fill(tiling, frame)?;
         let work = self.work(tiling, frame);
-        forces_alone(alloc, &work, frame.len() as u32)
+        forces_alone(alloc, &work, &mut (), frame.len() as u32)
     }
 
     /// One step by these sums: the frames `before` and `middle` become `middle` and the frame after it.
@@ -301,12 +301,13 @@ impl<A: Allocator + Copy + Sync> SafeSystem<A> {
     {
         self.fill(tiling, frame)?;
         let work = self.work(tiling, frame);
+        let mut scratches = [(); 64];
         forces(
             pool.rt,
             alloc,
             &work,
+            &mut scratches[..pool.workers as usize],
             frame.len() as u32,
-            pool.workers,
             pool.gate,
         )
     }

@@ -11,7 +11,7 @@ ghost use Rattle.engine.specs.Rounds.{grid_of, plan_of};
 use crate::safe_systems::SafeSystem;
 use cell_tiles::{AtomPair, Cells, Tile, Tiles};
 use std::alloc::Allocator;
-use tile_round::{PairAdd, Work};
+use tile_round::{PairAdd, RowWork, Work};
 
 /// A frame whose atoms stand in cells: the pairs that lie in one cell or in neighbouring cells are asked for.
 #[derive(Drop)]
@@ -73,3 +73,6 @@ impl<'a, A: Allocator + Copy> Work for FrameWork<'a, A> {
         None
     }
 }
+
+// A worker keeps nothing at hand: each pair is asked for by itself.
+impl<'a, A: Allocator + Copy> RowWork<()> for FrameWork<'a, A> {}

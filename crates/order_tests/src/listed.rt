@@ -5,7 +5,7 @@ ghost use Rattle.std.specs.Option.{option_and_then};
 ghost use Rattle.tile_round.specs.Tiles.{IsPairOf};
 
 use std::alloc::{AllocError, Global};
-use tile_round::{PairAdd, Work};
+use tile_round::{PairAdd, RowWork, Work};
 
 // Tiles that are given as lists. What is no pair of the atoms does not act.
 #[derive(Drop)]
@@ -90,3 +90,5 @@ pub(crate) fn two_tiles(alloc: Global) -> Result<Listed, AllocError>
         &[add(0, 1, [5, -7, 0]), add(0, 2, [i64::MAX, 0, 0])],
     )
 }
+
+impl RowWork<()> for Listed {}

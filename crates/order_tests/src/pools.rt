@@ -10,7 +10,7 @@ use std::sync::atomic::Ordering;
 use std::test::Fail;
 use std::thread::Threads;
 use tile_pool::{Gate, forces, forces_alone};
-use tile_round::{Memory, Work};
+use tile_round::{Memory, RowWork, Work};
 
 /// Lets each tile through.
 #[derive(Drop)]
@@ -21,7 +21,7 @@ impl Gate for Open {
 }
 
 /// Whether so many workers come to these sums.
-fn come_to<R: Threads + Sync + AllocGlobal, W: Work + Sync>(
+fn come_to<R: Threads + Sync + AllocGlobal, W: RowWork<()> + Sync>(
     rt: &R,
     work: &W,
     atoms: u32,
@@ -31,20 +31,22 @@ fn come_to<R: Threads + Sync + AllocGlobal, W: Work + Sync>(
     requires atoms { W.atoms work.now ≤ atoms }
     requires some { 0 < workers }
 {
-    if work.tiles() > 6 {
+    if work.tiles() > 6 || workers > 64 {
         return false;
     }
-    match forces(rt, rt.alloc(), work, atoms, workers, &Open) {
+    let mut scratches = [(); 64];
+    let scratches = &mut scratches[..workers as usize];
+    match forces(rt, rt.alloc(), work, scratches, atoms, &Open) {
         Ok(together) => together.as_slice() == sums,
         Err(Memory) => false,
     }
 }
 
 /// Whether one thread comes to these sums.
-fn comes_to<W: Work>(alloc: Global, work: &W, atoms: u32, sums: &[i64]) -> bool
+fn comes_to<W: RowWork<()>>(alloc: Global, work: &W, atoms: u32, sums: &[i64]) -> bool
     requires { W.atoms work.now ≤ atoms }
 {
-    match forces_alone(alloc, work, atoms) {
+    match forces_alone(alloc, work, &mut (), atoms) {
         Ok(alone) => alone.as_slice() == sums,
         Err(Memory) => false,
     }
@@ -157,7 +159,7 @@ fn within<R: Threads + Sync + AllocGlobal>(
         return Ok(Outcome::Wrong);
     }
     let heap = LocalHeap::new(rt.alloc(), size)?;
-    let outcome = match forces(rt, &heap, work, 2, 3, &Open) {
+    let outcome = match forces(rt, &heap, work, &mut [(); 3], 2, &Open) {
         Ok(together) => {
             if together.as_slice() == [1, 2, 3, -1, -2, -3].as_slice() {
                 Outcome::Summed

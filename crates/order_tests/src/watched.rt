@@ -3,7 +3,7 @@
 ghost use Rattle.std.specs.Prelude.{◌<◌};
 
 use std::sync::atomic::{AtomicU64, Ordering};
-use tile_round::{PairAdd, Work};
+use tile_round::{PairAdd, RowWork, Work};
 
 /// How often a worker that is held looks for the others.
 const TURNS: u32 = 100_000_000;
@@ -67,3 +67,5 @@ impl<W: Work + Drop> Work for Watched<W> {
         self.work.pair(tile, k)
     }
 }
+
+impl<W: Work + Drop> RowWork<()> for Watched<W> {}

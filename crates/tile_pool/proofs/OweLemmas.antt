@@ -2,14 +2,15 @@
 use Rattle.std.proofs.Common.{◌≡◌, ℕ, suc, ◌+◌, ◌<◌, ◌≤◌, List, [], ◌∷◌, ◌++◌, length, take, drop, Option, Some, slice_get, refl, sym, ap, subst, ◌∙◌, append-nil, append_assoc}
 use Rattle.std.proofs.lemmas.Grind.{flat_map-append}
 use Rattle.std.proofs.lemmas.List.{get_or_past}
-use Rattle.tile_round.specs.Tiles.{Addition, tile_at, additions_of, tile_of, tiles_of, pairs_at, AreIdle, ActsFirst}
+use Rattle.tile_round.specs.Tiles.{Addition, tile_at, additions_of, additions_of_all, tile_of, tiles_of, pairs_at, AreNextActing}
 use Rattle.tile_round.specs.declared.work.PairAdd.{PairAdd}
 use Rattle.tile_round.proofs.PlaceLemmas.{tile_at-tiles_of}
 use Rattle.tile_pool.specs.declared.rule.Worker.{Worker}
 use Rattle.tile_pool.specs.Workers.{Each, Owes, IsReady, HasDrawn, HasStopped, additions, fresh, drew, added}
 use Rattle.tile_pool.specs.Rule.{Seen, first_of, alone}
 use Rattle.tile_pool.proofs.CountLemmas.{each_append, each_last}
-use Rattle.tile_pool.proofs.TakeLemmas.{take_next, split_at, tile_split, idle_adds, acting_adds}
+use Rattle.tile_round.proofs.ActingLemmas.{take_next}
+use Rattle.tile_pool.proofs.TakeLemmas.{split_at, row_adds, row_split, adds_next, adds_split}
 
 added_twice : (h : Worker) (xs ys : List Addition) → added (added h xs) ys ≡ added h (xs ++ ys)
 added_twice h xs ys = ap (λ (ds : List Addition). let k : Worker = record { number = h.number; tickets = h.tickets; deposits = ds } in k) (append_assoc h.deposits xs ys)
@@ -108,32 +109,42 @@ module _ (p : PairAdd) (me : Seen) where
   part_adds now next k a at e f =
       added_on me now next (take k (additions_of (Some p))) (a ∷ []) e f ∙ ap (λ (xs : List Addition). alone (added (first_of me.0) xs)) (sym (take_next (additions_of (Some p)) k a at))
 
+-- the loop over pairs that act, which began at `me`
+module _ (adds : List PairAdd) (me : Seen) where
+  pub pair_owes : (tiles : List (List Addition)) (now : Seen) (k : ℕ) (add : PairAdd) (rest : List Addition) → Owes tiles (first_of me.0) (additions_of_all adds ++ rest) → slice_get adds k ≡ Some add
+      → now ≡ alone (added (first_of me.0) (additions_of_all (take k adds))) → Owes tiles (first_of now.0) (additions_of (Some add) ++ (additions_of_all (drop (suc k) adds) ++ rest))
+  pair_owes tiles now k add rest o at e =
+      let behind = additions_of_all (drop (suc k) adds) in
+      subst
+      (λ xs. Owes tiles (first_of now.0) xs)
+      (append_assoc (additions_of (Some add)) behind rest)
+      (owes tiles me now (additions_of_all adds) (additions_of_all (take k adds)) (additions_of (Some add) ++ behind) rest o (adds_split adds k add at) e)
+
+  pub pair_adds : (now next : Seen) (k : ℕ) (add : PairAdd) → slice_get adds k ≡ Some add → now ≡ alone (added (first_of me.0) (additions_of_all (take k adds))) → next ≡ alone (added (first_of now.0) (additions_of (Some add)))
+      → next ≡ alone (added (first_of me.0) (additions_of_all (take (k + 1) adds)))
+  pair_adds now next k add at e f =
+      added_on me now next (additions_of_all (take k adds)) (additions_of (Some add)) e f ∙ ap (λ (xs : List Addition). alone (added (first_of me.0) xs)) (sym (adds_next adds k add at))
+
 -- the loop over the pairs of a tile, which began at `me`
 module _ (plan : List (List (Option PairAdd))) (t : ℕ) (me : Seen) where
   abbrev Pairs : List (Option PairAdd)
   Pairs = pairs_at plan t
 
-  -- the first pair that acts from k on
-  pub acting_owes : (now : Seen) (k n : ℕ) (add : PairAdd) → HasDrawn (tiles_of plan) (first_of me.0) t → ActsFirst Pairs k n add → now ≡ alone (added (first_of me.0) (tile_of (take k Pairs)))
-      → (rest : List Addition) × Owes (tiles_of plan) (first_of now.0) (additions_of (Some add) ++ rest)
-  acting_owes now k n add d first e =
+  -- the next pairs that act
+  pub row_owes : (now : Seen) (k n : ℕ) (adds : List PairAdd) → HasDrawn (tiles_of plan) (first_of me.0) t → AreNextActing Pairs k adds n → now ≡ alone (added (first_of me.0) (tile_of (take k Pairs)))
+      → (rest : List Addition) × Owes (tiles_of plan) (first_of now.0) (additions_of_all adds ++ rest)
+  row_owes now k n adds d row e =
       let whole : tile_at (tiles_of plan) t ≡ tile_of Pairs ++ [] = tile_at-tiles_of plan t ∙ sym (append-nil (tile_of Pairs)) in
       let o : Owes (tiles_of plan) (first_of me.0) (tile_of Pairs ++ []) = subst (λ xs. Owes (tiles_of plan) (first_of me.0) xs) whole (drawn_owes (tiles_of plan) (first_of me.0) t d) in
-      let rest = tile_of (drop (suc n) Pairs) in
-      let before = e ∙ ap (λ (xs : List Addition). alone (added (first_of me.0) xs)) (sym (idle_adds Pairs k n first.from first.idle)) in
-      let left = owes (tiles_of plan) me now (tile_of Pairs) (tile_of (take n Pairs)) (additions_of (Some add) ++ rest) [] o (tile_split Pairs n (Some add) first.acts) before in
-      (rest, subst (λ xs. Owes (tiles_of plan) (first_of now.0) xs) (append-nil (additions_of (Some add) ++ rest)) left)
+      let rest = tile_of (drop n Pairs) in
+      let left = owes (tiles_of plan) me now (tile_of Pairs) (tile_of (take k Pairs)) (additions_of_all adds ++ rest) [] o (row_split Pairs k n adds row) e in
+      (rest, subst (λ xs. Owes (tiles_of plan) (first_of now.0) xs) (append-nil (additions_of_all adds ++ rest)) left)
 
-  pub acting_leads : (now next : Seen) (k n after : ℕ) (add : PairAdd) → after ≡ n + 1 → ActsFirst Pairs k n add → now ≡ alone (added (first_of me.0) (tile_of (take k Pairs))) → next ≡ alone (added (first_of now.0) (additions_of (Some add)))
-      → next ≡ alone (added (first_of me.0) (tile_of (take after Pairs)))
-  acting_leads now next k n after add s first e f =
-      added_on me now next (tile_of (take k Pairs)) (additions_of (Some add)) e f
-      ∙ ap (λ (xs : List Addition). alone (added (first_of me.0) xs)) (sym (ap (λ m. tile_of (take m Pairs)) s ∙ acting_adds Pairs k n add first))
-
-  -- where none that is left acts
-  pub idle_leads : (now : Seen) (k n : ℕ) → n ≡ length Pairs → k ≤ length Pairs → AreIdle Pairs k (length Pairs) → now ≡ alone (added (first_of me.0) (tile_of (take k Pairs))) → now ≡ alone (added (first_of me.0) (tile_of (take n Pairs)))
-  idle_leads now k n s le idle e =
-      e ∙ ap (λ (xs : List Addition). alone (added (first_of me.0) xs)) (sym (ap (λ m. tile_of (take m Pairs)) s ∙ idle_adds Pairs k (length Pairs) le idle))
+  pub row_leads : (now next : Seen) (k n : ℕ) (adds : List PairAdd) → AreNextActing Pairs k adds n → now ≡ alone (added (first_of me.0) (tile_of (take k Pairs))) → next ≡ alone (added (first_of now.0) (additions_of_all adds))
+      → next ≡ alone (added (first_of me.0) (tile_of (take n Pairs)))
+  row_leads now next k n adds row e f =
+      added_on me now next (tile_of (take k Pairs)) (additions_of_all adds) e f
+      ∙ ap (λ (xs : List Addition). alone (added (first_of me.0) xs)) (sym (row_adds Pairs k n adds row))
 
   -- all of the tile, as its ticket names it
   pub tile_added : (next : Seen) → next ≡ alone (added (first_of me.0) (tile_of Pairs)) → next ≡ alone (added (first_of me.0) (tile_at (tiles_of plan) t))

@@ -1,48 +1,50 @@
 -- The first elements of a list, and the next.
-use Rattle.std.proofs.Common.{◌≡◌, ℕ, zero, suc, ◌+◌, ◌<◌, List, [], ◌∷◌, ◌++◌, length, take, drop, ◌-◌, ◌≤◌, Option, Some, None, slice_get, ap, subst, ◌∙◌, append-nil, add-one, arith}
+use Rattle.std.proofs.Common.{◌≡◌, ℕ, zero, suc, ◌+◌, ◌<◌, List, [], ◌∷◌, ◌++◌, length, take, drop, Option, Some, None, slice_get, slice_index_or, refl, arith, ap, sym, ◌∙◌, append-nil, append_assoc}
 use Rattle.std.specs.List.{flat_map}
 use Rattle.std.proofs.lemmas.Grind.{flat_map-append}
 use Rattle.std.proofs.lemmas.List.{take_more}
-use Rattle.tile_round.specs.Tiles.{additions_of, tile_of, pairs_at, AreIdle, ActsFirst}
+use Rattle.tile_round.specs.Tiles.{acting, additions_of, additions_of_all, tile_of, pairs_at, AreNextActing}
+use Rattle.tile_round.proofs.ActingLemmas.{take_next, tile_of_acting}
+use lib.ListN.{take-append-drop}
 use Rattle.tile_round.specs.declared.work.PairAdd.{PairAdd}
-
-take_suc : {A : Type 0} (xs : List A) (k : ℕ) (x : A) → slice_get xs k ≡ Some x → take (suc k) xs ≡ take k xs ++ x ∷ []
-take_suc [] k x at = absurd (cc at)
-take_suc (y ∷ ys) zero x at = ap (λ z. z ∷ []) (let s : y ≡ x = cc in s)
-take_suc (y ∷ ys) (suc k) x at = ap (λ zs. y ∷ zs) (take_suc ys k x at)
-
-pub take_next : {A : Type 0} (xs : List A) (k : ℕ) (x : A) → slice_get xs k ≡ Some x → take (k + 1) xs ≡ take k xs ++ x ∷ []
-take_next xs k x at = rw add-one (take_suc xs k x at)
 
 pub split_at : {A : Type 0} (xs : List A) (k : ℕ) (x : A) → slice_get xs k ≡ Some x → xs ≡ take k xs ++ x ∷ drop (suc k) xs
 split_at [] k x at = absurd (cc at)
 split_at (y ∷ ys) zero x at = ap (λ z. z ∷ ys) (let s : y ≡ x = cc in s)
 split_at (y ∷ ys) (suc k) x at = ap (λ zs. y ∷ zs) (split_at ys k x at)
 
--- the additions of the first pairs and of the pair after them
-tile_next : (ps : List (Option PairAdd)) (k : ℕ) (p : Option PairAdd) → slice_get ps k ≡ Some p → tile_of (take (k + 1) ps) ≡ tile_of (take k ps) ++ additions_of p
-tile_next ps k p at =
-    ap tile_of (take_next ps k p at) ∙ (flat_map-append additions_of (take k ps) (p ∷ []) ∙ ap (λ xs. tile_of (take k ps) ++ xs) (append-nil (additions_of p)))
+-- ---- the next pairs of a tile that act
 
-pub tile_split : (ps : List (Option PairAdd)) (k : ℕ) (p : Option PairAdd) → slice_get ps k ≡ Some p → tile_of ps ≡ tile_of (take k ps) ++ (additions_of p ++ tile_of (drop (suc k) ps))
-tile_split ps k p at = ap tile_of (split_at ps k p at) ∙ flat_map-append additions_of (take k ps) (p ∷ drop (suc k) ps)
+-- they add their additions
+pub row_adds : (ps : List (Option PairAdd)) (k n : ℕ) (adds : List PairAdd) → AreNextActing ps k adds n → tile_of (take n ps) ≡ tile_of (take k ps) ++ additions_of_all adds
+row_adds ps k n adds row =
+    tile_of_acting (take n ps)
+    ∙ (ap additions_of_all row.acting
+    ∙ (flat_map-append (λ add. additions_of (Some add)) (acting (take k ps)) adds ∙ ap (λ xs. xs ++ additions_of_all adds) (sym (tile_of_acting (take k ps)))))
 
--- pairs that don't act add nothing
-idle_more : (ps : List (Option PairAdd)) (k d : ℕ) → AreIdle ps k (k + d) → tile_of (take (k + d) ps) ≡ tile_of (take k ps)
-idle_more ps k zero idle = ap (λ n. tile_of (take n ps)) (let e : k + zero ≡ k = omega arith in e)
-idle_more ps k (suc d) idle =
-    let last : slice_get ps (k + d) ≡ Some None = idle (k + d) (omega arith) (omega arith) in
-    let e : k + suc d ≡ k + d + 1 = omega arith in
-    ap (λ n. tile_of (take n ps)) e ∙ (tile_next ps (k + d) None last ∙ (append-nil (tile_of (take (k + d) ps)) ∙ idle_more ps k d (λ i low high. idle i low (omega arith))))
+-- before those of the pairs behind them
+pub row_split : (ps : List (Option PairAdd)) (k n : ℕ) (adds : List PairAdd) → AreNextActing ps k adds n → tile_of ps ≡ tile_of (take k ps) ++ (additions_of_all adds ++ tile_of (drop n ps))
+row_split ps k n adds row =
+    ap tile_of (sym (take-append-drop n ps))
+    ∙ (flat_map-append additions_of (take n ps) (drop n ps)
+    ∙ (ap (λ xs. xs ++ tile_of (drop n ps)) (row_adds ps k n adds row) ∙ append_assoc (tile_of (take k ps)) (additions_of_all adds) (tile_of (drop n ps))))
 
-pub idle_adds : (ps : List (Option PairAdd)) (k n : ℕ) → k ≤ n → AreIdle ps k n → tile_of (take n ps) ≡ tile_of (take k ps)
-idle_adds ps k n le idle =
-    let e : n ≡ k + (n - k) = omega arith in
-    ap (λ m. tile_of (take m ps)) e ∙ idle_more ps k (n - k) (subst (AreIdle ps k) e idle)
+-- ---- pairs that act, one after the other
 
--- the first pair that acts adds its additions
-pub acting_adds : (ps : List (Option PairAdd)) (k n : ℕ) (add : PairAdd) → ActsFirst ps k n add → tile_of (take (n + 1) ps) ≡ tile_of (take k ps) ++ additions_of (Some add)
-acting_adds ps k n add first = tile_next ps n (Some add) first.acts ∙ ap (λ xs. xs ++ additions_of (Some add)) (idle_adds ps k n first.from first.idle)
+-- an element below the length is there
+pub is_there : {A : Type 0} (xs : List A) (k : ℕ) (d : A) → k < length xs → slice_get xs k ≡ Some (slice_index_or xs k d)
+is_there [] k d lt = absurd (omega arith)
+is_there (x ∷ xs) zero d lt = refl
+is_there (x ∷ xs) (suc k) d lt = is_there xs k d (omega arith)
+
+pub adds_next : (adds : List PairAdd) (k : ℕ) (add : PairAdd) → slice_get adds k ≡ Some add → additions_of_all (take (k + 1) adds) ≡ additions_of_all (take k adds) ++ additions_of (Some add)
+adds_next adds k add at =
+    ap additions_of_all (take_next adds k add at)
+    ∙ (flat_map-append (λ a. additions_of (Some a)) (take k adds) (add ∷ []) ∙ ap (λ xs. additions_of_all (take k adds) ++ xs) (append-nil (additions_of (Some add))))
+
+pub adds_split : (adds : List PairAdd) (k : ℕ) (add : PairAdd) → slice_get adds k ≡ Some add
+    → additions_of_all adds ≡ additions_of_all (take k adds) ++ (additions_of (Some add) ++ additions_of_all (drop (suc k) adds))
+adds_split adds k add at = ap additions_of_all (split_at adds k add at) ∙ flat_map-append (λ a. additions_of (Some a)) (take k adds) (add ∷ drop (suc k) adds)
 
 -- the additions of the first tiles and of the tile after them
 pub tiles_next : (plan : List (List (Option PairAdd))) (t : ℕ) → t < length plan → flat_map tile_of (take (t + 1) plan) ≡ flat_map tile_of (take t plan) ++ tile_of (pairs_at plan t)

@@ -1,12 +1,13 @@
 //! The sums without workers.
 ghost use Rattle.std.specs.Prelude.{◌≡◌, ◌*◌, ◌/◌, ◌<◌, ◌≤◌, length, Some, IfOk};
-ghost use Rattle.std.specs.List.{flat_map};
-ghost use Rattle.tile_round.specs.Tiles.{additions_of, tile_of, tiles_of, pairs_at, IsPairOf};
+ghost use Rattle.std.specs.List.{All, flat_map};
+ghost use Rattle.tile_round.specs.Tiles.{additions_of, additions_of_all, tile_of, tiles_of, pairs_at, IsPairOf};
 ghost use Rattle.tile_pool.specs.Totals.{AreTotals, GoesOn};
 
 use crate::sums::Forces;
+use arrayvec::ArrayVec;
 use std::alloc::Allocator;
-use tile_round::{Memory, PairAdd, Work};
+use tile_round::{Memory, PairAdd, RowWork};
 
 // Makes the additions of a pair.
 fn add_pair(sums: &mut [i64], add: &PairAdd)
@@ -20,46 +21,53 @@ fn add_pair(sums: &mut [i64], add: &PairAdd)
     }
 }
 
+// Makes those of pairs, one after the other.
+fn add_pairs(sums: &mut [i64], adds: &[PairAdd])
+    requires { All (IsPairOf (length sums.old / 3)) adds.now }
+    ensures { GoesOn sums.old (additions_of_all adds.now) sums.new }
+{
+    for k in 0..adds.len() {
+        add_pair(sums, &adds[k]);
+    }
+}
+
 // Makes those of all pairs of a tile.
-fn add_tile<W: Work>(sums: &mut [i64], work: &W, tile: u64)
+fn add_tile<S, W: RowWork<S>>(sums: &mut [i64], work: &W, scratch: &mut S, tile: u64)
     requires tile { tile < length (W.plan work.now) }
     requires atoms { W.atoms work.now ≤ length sums.old / 3 }
     ensures { GoesOn sums.old (tile_of (pairs_at (W.plan work.now) tile)) sums.new }
 {
     let pairs = work.pairs(tile);
+    let mut adds = ArrayVec::new();
     let mut k = 0;
     while k < pairs {
-        k = match work.next_acting(tile, k) {
-            Some((add, next)) => {
-                add_pair(sums, &add);
-                next
-            }
-            None => pairs,
-        };
+        k = work.next_adds(scratch, tile, k, &mut adds);
+        add_pairs(sums, adds.as_slice());
     }
 }
 
 // Makes those of all tiles.
-fn add_tiles<W: Work>(sums: &mut [i64], work: &W)
+fn add_tiles<S, W: RowWork<S>>(sums: &mut [i64], work: &W, scratch: &mut S)
     requires { W.atoms work.now ≤ length sums.old / 3 }
     ensures { GoesOn sums.old (flat_map tile_of (W.plan work.now)) sums.new }
 {
     for tile in 0..work.tiles() {
-        add_tile(sums, work, tile);
+        add_tile(sums, work, scratch, tile);
     }
 }
 
 /// The same sums on the caller's thread alone, which waits for nobody. It answers `Memory` where
 /// memory is refused. The caller's condition: the work has no more than this many atoms.
-pub fn forces_alone<A: Allocator + Copy, W: Work>(
+pub fn forces_alone<A: Allocator + Copy, S, W: RowWork<S>>(
     alloc: A,
     work: &W,
+    scratch: &mut S,
     atoms: u32,
 ) -> Result<Forces<A>, Memory>
     requires atoms { W.atoms work.now ≤ atoms }
     ensures totals { IfOk result (AreTotals (tiles_of (W.plan work.now)) atoms) }
 {
     let mut sums = vec![in alloc; 0i64; 3 * atoms as usize]?;
-    add_tiles(sums.as_mut_slice(), work);
+    add_tiles(sums.as_mut_slice(), work, scratch);
     Ok(Forces { sums })
 }

@@ -5,8 +5,9 @@ ghost use Rattle.tile_pool.specs.Workers.{HasDrawn, HasStopped, fresh, added};
 ghost use Rattle.tile_pool.specs.Rule.{alone, first_of, IsFor};
 
 use crate::rule::{PoolSeat, PoolTable};
-use crate::steps::{claim, deposit_pair};
-use tile_round::Work;
+use crate::steps::{claim, deposit_pairs};
+use arrayvec::ArrayVec;
+use tile_round::RowWork;
 
 /// What a worker passes before each tile that it has drawn.
 pub trait Gate {
@@ -16,7 +17,13 @@ pub trait Gate {
 }
 
 // Makes all additions of the tile that was drawn.
-fn deposit_tile<W: Work>(table: &PoolTable<W>, seat: &mut PoolSeat, work: &W, tile: u64)
+fn deposit_tile<S, W: RowWork<S>>(
+    table: &PoolTable<W>,
+    seat: &mut PoolSeat,
+    scratch: &mut S,
+    work: &W,
+    tile: u64,
+)
     requires table { seat.old.table_id ≡ table.now.table_id }
     requires made { IsFor W.plan W.atoms table.now.table_id table.now.key.work.value
         table.now.key.atoms table.now.key.workers work.now }
@@ -28,15 +35,11 @@ fn deposit_tile<W: Work>(table: &PoolTable<W>, seat: &mut PoolSeat, work: &W, ti
         ≡ alone (added (first_of seat.old.me.0) (tile_of (pairs_at (W.plan work.now) tile))) }
 {
     let pairs = work.pairs(tile);
+    let mut adds = ArrayVec::new();
     let mut k = 0;
     while k < pairs {
-        k = match work.next_acting(tile, k) {
-            Some((add, next)) => {
-                deposit_pair(table, seat, &add);
-                next
-            }
-            None => pairs,
-        };
+        k = work.next_adds(scratch, tile, k, &mut adds);
+        deposit_pairs(table, seat, adds.as_slice());
     }
 }
 
@@ -46,9 +49,10 @@ fn deposit_tile<W: Work>(table: &PoolTable<W>, seat: &mut PoolSeat, work: &W, ti
 ///
 /// The caller's conditions: the table is made for this work and for enough atoms, and the seat is
 /// the table's and stands for this worker alone, which has drawn nothing yet.
-pub fn drive<W: Work, G: Gate>(
+pub fn drive<S, W: RowWork<S>, G: Gate>(
     table: &PoolTable<W>,
     mut seat: PoolSeat,
+    scratch: &mut S,
     worker: u32,
     work: &W,
     gate: &G,
@@ -66,7 +70,7 @@ pub fn drive<W: Work, G: Gate>(
     let mut tile = claim(table, &mut seat);
     while tile < tiles {
         gate.before_tile(worker, tile);
-        deposit_tile(table, &mut seat, work, tile);
+        deposit_tile(table, &mut seat, scratch, work, tile);
         tile = claim(table, &mut seat);
     }
     seat

@@ -1,7 +1,7 @@
 //! The whole pool: its threads, its table, and what it answers.
 ghost use Rattle.std.specs.Prelude.{◌≡◌, ℕ, ◌+◌, ◌*◌, ◌%◌, ◌^◌, ◌<◌, ◌≤◌, [], length, IfOk, vec_len, vec_capacity, slice_index};
 ghost use Rattle.std.specs.Mem.Slots.{slots_items, slots_len, IsFull};
-ghost use denote.Param.Send.{IsSync};
+ghost use denote.Param.Send.{IsSend, IsSync};
 ghost use Rattle.tile_round.specs.Tiles.{tiles_of};
 ghost use Rattle.tile_pool.specs.Workers.{Each, HasStopped, fresh};
 ghost use Rattle.tile_pool.specs.Rule.{alone, first_of, fresh_workers, IsFor};
@@ -14,14 +14,15 @@ use atomic_table::{Closed, Table};
 use std::alloc::Allocator;
 use std::snapshot::Snapshot;
 use std::thread::{Threads, join};
-use tile_round::{Memory, Work};
+use tile_round::{Memory, RowWork};
 
-// Runs the workers below `count`, the last in a thread of its own where one can be made, and the
+// Runs a worker for each scratch, the last in a thread of its own where one can be made, and the
 // others here. Where none can be made, the last runs here after the others.
-fn run_all<R: Threads + Sync, W: Work + Sync, G: Gate + Sync>(
+fn run_all<R: Threads + Sync, S: Send, W: RowWork<S> + Sync, G: Gate + Sync>(
     rt: &R,
     table: &PoolTable<W>,
     mut seat: PoolSeat,
+    scratches: &mut [S],
     count: u32,
     work: &W,
     gate: &G,
@@ -30,37 +31,41 @@ fn run_all<R: Threads + Sync, W: Work + Sync, G: Gate + Sync>(
     requires made { IsFor W.plan W.atoms table.now.table_id table.now.key.work.value
         table.now.key.atoms table.now.key.workers work.now }
     requires count { 0 < count }
+    requires scratches { length scratches.old ≡ count }
     requires fresh { seat.me ≡ (fresh_workers count, []) }
     ensures table { result.table_id ≡ seat.table_id }
     ensures count { (result.me.1 ≡ []) × (length result.me.0 ≡ count) }
     ensures stopped { Each (HasStopped (tiles_of (W.plan work.now))) result.me.0 }
 {
     if count == 1 {
-        return drive(table, seat, 0, work, gate);
+        return drive(table, seat, &mut scratches[0], 0, work, gate);
     }
     let last = count - 1;
+    let (scratches, own) = scratches.split_at_mut(last as usize);
     let other = table.split_seat::<FirstWorker>(&mut seat);
     let (other, mut seat) = join(
         rt,
         move || -> PoolSeat
-            requires { (other.table_id ≡ table.now.table_id)
+            requires { IsSend S.row × (other.table_id ≡ table.now.table_id)
                 × IsFor W.plan W.atoms table.now.table_id table.now.key.work.value
                 table.now.key.atoms table.now.key.workers work.now
-                × (other.me ≡ alone (fresh last)) }
+                × (other.me ≡ alone (fresh last))
+                × (length own.now ≡ 1) }
             ensures { (result.table_id ≡ other.table_id)
                 × (result.me ≡ alone (first_of result.me.0))
                 × HasStopped (tiles_of (W.plan work.entry.now)) (first_of result.me.0) }
-        { drive(table, other, last, work, gate) },
+        { drive(table, other, &mut own[0], last, work, gate) },
         move || -> PoolSeat
-            requires { IsSync R.row × IsSync W.row × IsSync G.row
+            requires { IsSync R.row × IsSend S.row × IsSync W.row × IsSync G.row
                 × (seat.table_id ≡ table.now.table_id)
                 × IsFor W.plan W.atoms table.now.table_id table.now.key.work.value
                 table.now.key.atoms table.now.key.workers work.now
-                × (0 < last) × (seat.me ≡ (fresh_workers last, [])) }
+                × (0 < last) × (seat.me ≡ (fresh_workers last, []))
+                × (length scratches.now ≡ last) }
             ensures { (result.table_id ≡ seat.table_id)
                 × (result.me.1 ≡ []) × (length result.me.0 ≡ last)
                 × Each (HasStopped (tiles_of (W.plan work.entry.now))) result.me.0 }
-        { run_all(rt, table, seat, last, work, gate) },
+        { run_all(rt, table, seat, scratches, last, work, gate) },
     );
     table.join_seat::<FirstWorker>(&mut seat, other);
     seat
@@ -85,28 +90,36 @@ fn read_words<A: Allocator + Copy>(
 
 /// The sum of all forces on each component of each atom: what all tiles come to on it, modulo
 /// 2^64 and read as a signed number, whatever the number of workers and the order of their steps.
-/// It answers `Memory` where memory is refused. The caller's thread is worker 0, and each other
+/// Each worker has one of the scratches. It answers `Memory` where memory is refused. The caller's thread is worker 0, and each other
 /// worker has a thread, which is joined. A worker whose thread can't be started is run by the
 /// caller's thread after the others, so each pair is asked for once. Memory is taken before the
 /// first worker starts. Each worker takes a thread and a frame of the caller's stack: a program
 /// bounds their number.
 ///
-/// The caller's conditions: there is a worker, the work has no more than this many atoms, and
+/// The caller's conditions: there is a scratch, and fewer than 2^32, the work has no more than this many atoms, and
 /// tiles and workers together are fewer than 2^64.
-pub fn forces<R: Threads + Sync, A: Allocator + Copy, W: Work + Sync, G: Gate + Sync>(
+pub fn forces<
+    R: Threads + Sync,
+    A: Allocator + Copy,
+    S: Send,
+    W: RowWork<S> + Sync,
+    G: Gate + Sync,
+>(
     rt: &R,
     alloc: A,
     work: &W,
+    scratches: &mut [S],
     atoms: u32,
-    workers: u32,
     gate: &G,
 ) -> Result<Forces<A>, Memory>
-    requires workers { 0 < workers }
+    requires workers { 0 < length scratches.old }
+    requires few { length scratches.old < 2 ^ 32 }
     requires atoms { W.atoms work.now ≤ atoms }
-    requires tiles { length (W.plan work.now) + workers < 2 ^ 64 }
+    requires tiles { length (W.plan work.now) + length scratches.old < 2 ^ 64 }
     ensures totals { IfOk result (AreTotals (tiles_of (W.plan work.now)) atoms) }
 {
     let count = 3 * atoms as usize;
+    let workers = scratches.len() as u32;
     let sums = Vec::with_capacity(alloc, count)?;
     let words = vec![in alloc; 0u64; count + 1]?;
     let setting = Setting {
@@ -116,7 +129,7 @@ pub fn forces<R: Threads + Sync, A: Allocator + Copy, W: Work + Sync, G: Gate + 
     };
     let (table, seat) = Table::of_words(alloc, words.as_slice(), &setting)?;
     drop(words);
-    let seat = run_all(rt, &table.shared, seat, workers, work, gate);
+    let seat = run_all(rt, &table.shared, seat, scratches, workers, work, gate);
     let closed = table.close_with(seat);
     let sums = read_words(&closed, sums, count);
     closed.free();

@@ -1,6 +1,7 @@
 //! The two steps on the table.
 ghost use Rattle.std.specs.Prelude.{◌≡◌, ◌+◌, ◌*◌, ◌<◌, List, [], ◌∷◌, ◌++◌, length, take, Some};
-ghost use Rattle.tile_round.specs.Tiles.{Addition, tiles_of, additions_of, IsPairOf};
+ghost use Rattle.std.specs.List.{All};
+ghost use Rattle.tile_round.specs.Tiles.{Addition, tiles_of, additions_of, additions_of_all, IsPairOf};
 ghost use Rattle.tile_pool.specs.Workers.{Each, IsReady, Owes, drew, added};
 ghost use Rattle.tile_pool.specs.Rule.{alone, first_of, IsSized};
 
@@ -51,5 +52,22 @@ pub(crate) fn deposit_pair<W: Work>(table: &PoolTable<W>, seat: &mut PoolSeat, a
     for part in 0..PairAdd::PARTS {
         let (entry, amount) = add.addition(part);
         deposit(table, seat, entry, amount);
+    }
+}
+
+// Makes those of pairs, one after the other.
+pub(crate) fn deposit_pairs<W: Work>(table: &PoolTable<W>, seat: &mut PoolSeat, adds: &[PairAdd])
+    requires table { seat.old.table_id ≡ table.now.table_id }
+    requires sized { IsSized table.now.table_id table.now.key.atoms table.now.key.workers
+        (length (W.plan table.now.key.work.value)) }
+    requires atoms { All (IsPairOf table.now.key.atoms) adds.now }
+    requires alone { seat.old.me ≡ alone (first_of seat.old.me.0) }
+    requires next { (rest : List Addition) × Owes (tiles_of (W.plan table.now.key.work.value))
+        (first_of seat.old.me.0) (additions_of_all adds.now ++ rest) }
+    ensures table { seat.new.table_id ≡ seat.old.table_id }
+    ensures added { seat.new.me ≡ alone (added (first_of seat.old.me.0) (additions_of_all adds.now)) }
+{
+    for k in 0..adds.len() {
+        deposit_pair(table, seat, &adds[k]);
     }
 }

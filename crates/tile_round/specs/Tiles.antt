@@ -1,5 +1,5 @@
 -- Tiles, each a list of additions, and what they come to.
-use Rattle.std.specs.Prelude.{◌≡◌, ◌<◌, ◌≤◌, ℕ, length, slice_get, ◌+◌, ◌*◌, List, [], ◌∷◌, ◌++◌, map, slice_index_or, sum_by, if◌then◌else◌, ◌==◌, Option, Some, None, ℤ, pos}
+use Rattle.std.specs.Prelude.{◌≡◌, ◌<◌, ◌≤◌, ℕ, length, slice_get, ◌+◌, ◌*◌, List, [], ◌∷◌, ◌++◌, map, slice_index_or, sum_by, take, if◌then◌else◌, ◌==◌, Option, Some, None, ℤ, pos}
 use Rattle.std.specs.List.{flat_map}
 use Rattle.std.specs.Int.{w64, cast_unsigned, int_wrapping_neg}
 use Rattle.tile_round.specs.declared.work.PairAdd.{PairAdd}
@@ -69,6 +69,22 @@ pub record ActsFirst (pairs : List (Option PairAdd)) (k n : ℕ) (add : PairAdd)
 abbrev pub IsNextActing : List (Option PairAdd) → ℕ → Option (PairAdd × ℕ) → Type 0
 IsNextActing pairs k None = AreIdle pairs k (length pairs)
 IsNextActing pairs k (Some found) = (n : ℕ) × (found.1 ≡ n + 1) × ActsFirst pairs k n found.0
+
+-- the pairs that act, in order, whatever is told of them
+abbrev pub acting : {A : Type 0} → List (Option A) → List A
+acting [] = []
+acting (None ∷ pairs) = acting pairs
+acting (Some pair ∷ pairs) = pair ∷ acting pairs
+
+-- what they add, one after the other
+abbrev pub additions_of_all : List PairAdd → List Addition
+additions_of_all adds = flat_map (λ add. additions_of (Some add)) adds
+
+-- the pairs that act before the number n are those before k, and then these
+pub record AreNextActing (pairs : List (Option PairAdd)) (k : ℕ) (adds : List PairAdd) (n : ℕ) : Type 0 where
+  pub onward : k < n
+  pub within : n ≤ length pairs
+  pub acting : acting (take n pairs) ≡ acting (take k pairs) ++ adds
 
 -- a pair of these atoms, the lower first
 pub record IsPairOf (atoms : ℕ) (p : PairAdd) : Type 0 where

@@ -1,10 +1,13 @@
 ghost use Rattle.std.specs.Prelude.{◌≡◌, ◌+◌, ◌<◌, ◌≤◌, ℕ, List, length, slice_get, Option, Some, IfSome};
+ghost use Rattle.std.specs.List.{All};
 ghost use Rattle.tile_round.specs.declared.work.PairAdd.{PairAdd};
-ghost use Rattle.tile_round.specs.Tiles.{additions_of, along, against, pairs_at, IsNextActing, IsPairOf};
+ghost use Rattle.tile_round.specs.Tiles.{additions_of, along, against, pairs_at, AreNextActing, IsNextActing, IsPairOf};
+
+use arrayvec::ArrayVec;
 
 /// What a pair of atoms that acts adds: the force to the atom `low`, and its negative to the atom
 /// `high`, each along the axes x, y and z.
-#[derive(Clone, Copy, PartialEq, Eq, Debug)]
+#[derive(Clone, Copy, PartialEq, Eq, Default, Debug)]
 pub struct PairAdd {
     pub low: u32,
     pub high: u32,
@@ -90,5 +93,52 @@ pub trait Work {
             }
         }
         None
+    }
+}
+
+/// What the pairs from the number `k` on that act add, each asked for by itself, as `RowWork::next_adds`.
+pub fn next_adds_by_pair<W: Work>(
+    work: &W,
+    tile: u64,
+    k: u64,
+    adds: &mut ArrayVec<PairAdd, 64>,
+) -> u64
+    requires tile { tile < length (W.plan work.now) }
+    requires start { k < length (pairs_at (W.plan work.now) tile) }
+    ensures next { AreNextActing (pairs_at (W.plan work.now) tile) k adds.new.items result }
+    ensures atoms { All (IsPairOf (W.atoms work.now)) adds.new.items }
+{
+    adds.clear();
+    let mut next = k;
+    while !adds.is_full() {
+        next = match work.next_acting(tile, next) {
+            Some((add, after)) => {
+                adds.push(add);
+                after
+            }
+            None => return work.pairs(tile),
+        };
+    }
+    next
+}
+
+/// Work that hands out what its pairs add row by row. A worker keeps an `S` at hand for it, which changes no answer.
+pub trait RowWork<S>: Work {
+    /// What the pairs from the number `k` on that act add, in order: at most 64 of them in place of what `adds`
+    /// held. The answer is the number of the pair with which the next call goes on. Work that finds the forces of many pairs
+    /// together has a body of its own. The caller's condition: there is such a tile, and it has more than `k` pairs.
+    fn next_adds(
+        &self,
+        _scratch: &mut S,
+        tile: u64,
+        k: u64,
+        adds: &mut ArrayVec<PairAdd, 64>,
+    ) -> u64
+        requires tile { tile < length (Self.plan self.now) }
+        requires start { k < length (pairs_at (Self.plan self.now) tile) }
+        ensures next { AreNextActing (pairs_at (Self.plan self.now) tile) k adds.new.items result }
+        ensures atoms { All (IsPairOf (Self.atoms self.now)) adds.new.items }
+    {
+        next_adds_by_pair(self, tile, k, adds)
     }
 }

@@ -25,14 +25,14 @@ returns g c =
     let plan = g.W.Work.plan in
     let work_is : key.work.value ≡ c.args.work.now = ap (λ k. k.work.value) key_is ∙ c.of.ensures in
     let atoms_is : key.atoms ≡ c.args.atoms = ap (λ k. k.atoms) key_is ∙ c.from.ensures in
-    let workers_is : key.workers ≡ c.args.workers = ap (λ k. k.workers) key_is ∙ c.from-2.ensures in
+    let workers_is : key.workers ≡ length c.args.scratches.now = omega (arith, ap (λ k. k.workers) key_is, c.from-2.ensures, c.requires.few) in
     let seat = c.run_all-seat.result in
     let last = c.close_with-closed.ensures.values.2 in
     let words = slots_items c.close_with-closed.result.words in
     let stopped : Each (HasStopped (tiles_of (plan key.work.value))) seat.me.0 = subst (λ w. Each (HasStopped (tiles_of (plan w))) seat.me.0) (sym work_is) c.run_all-seat.ensures.stopped in
-    let all : length seat.me.0 ≡ key.workers = c.run_all-seat.ensures.count.1 ∙ sym workers_is in
+    let all : length seat.me.0 ≡ key.workers = omega (arith, c.run_all-seat.ensures.count.1, workers_is, c.requires.few) in
     let same : (k : ℕ) → k < 3 * c.args.atoms → slice_index words (1 + k) % 2 ^ 64 ≡ total (tiles_of (plan c.args.work.now)) k % 2 ^ 64 = λ k lt.
     let sum : slice_index last.0.words (1 + k) ≡ total (tiles_of (plan key.work.value)) k % 2 ^ 64 =
-    ends (tiles_of (plan key.work.value)) key.atoms key.workers last.0.words last.0.views seat.id seat.me.0 last.1.0.rule last.1.1 (omega (arith, c.requires.workers)) all stopped k (omega arith) in
+    ends (tiles_of (plan key.work.value)) key.atoms key.workers last.0.words last.0.views seat.id seat.me.0 last.1.0.rule last.1.1 (omega (arith, c.requires.workers, workers_is)) all stopped k (omega arith) in
     ap (λ ws. slice_index ws (1 + k) % 2 ^ 64) (sym last.2) ∙ (ap (λ n. n % 2 ^ 64) sum ∙ (mod-mod (total (tiles_of (plan key.work.value)) k) (2 ^ 64) ∙ ap (λ w. total (tiles_of (plan w)) k % 2 ^ 64) work_is)) in
     record { totals = words_told (λ k. slice_index words (1 + k)) (total (tiles_of (plan c.args.work.now))) _ (3 * c.args.atoms) c.read_words-sums.result.items c.read_words-sums.ensures (omega arith) same }
