@@ -29,7 +29,7 @@ use std::thread::Threads;
 /// Does what the words ask for, and answers the status to end with, from 0 to 5.
 ///
 /// Workers are started by `rt`. The words begin after the program's own name. What a command prints, and help, goes to `out`; the line of a refusal goes to `err`, and so does the parser's text on words that name no command. The command line's parser takes its memory of `words_alloc`, all else of `alloc`.
-pub fn execute<R: Threads + Sync, A: Allocator + Copy + Sync, S: AsStr, F: Files, O: Out, E: Out>(
+pub fn execute<R: Threads + Sync, A: Allocator + Copy + Send + Sync, S: AsStr, F: Files, O: Out, E: Out>(
     rt: &R,
     words_alloc: Global,
     alloc: A,
@@ -58,7 +58,7 @@ pub fn execute<R: Threads + Sync, A: Allocator + Copy + Sync, S: AsStr, F: Files
 }
 
 /// Does what the words ask for.
-fn respond<'a, R: Threads + Sync, A: Allocator + Copy + Sync, S: AsStr, F: Files, O: Out>(
+fn respond<'a, R: Threads + Sync, A: Allocator + Copy + Send + Sync, S: AsStr, F: Files, O: Out>(
     rt: &R,
     words_alloc: Global,
     alloc: A,
@@ -83,7 +83,7 @@ fn respond<'a, R: Threads + Sync, A: Allocator + Copy + Sync, S: AsStr, F: Files
 }
 
 /// Does what a command says.
-fn perform<'a, R: Threads + Sync, A: Allocator + Copy + Sync, F: Files, O: Out>(
+fn perform<'a, R: Threads + Sync, A: Allocator + Copy + Send + Sync, F: Files, O: Out>(
     rt: &R,
     alloc: A,
     command: Command<'a>,
@@ -198,7 +198,7 @@ fn perform_code<'a, A: Allocator + Copy, F: Files, O: Out>(
 }
 
 /// Reads the job and then the state, and runs it.
-fn perform_run<'a, R: Threads + Sync, A: Allocator + Copy + Sync, F: Files, O: Out>(
+fn perform_run<'a, R: Threads + Sync, A: Allocator + Copy + Send + Sync, F: Files, O: Out>(
     rt: &R,
     alloc: A,
     run: Run<'a>,
@@ -216,7 +216,7 @@ fn perform_run<'a, R: Threads + Sync, A: Allocator + Copy + Sync, F: Files, O: O
 }
 
 /// Runs a state under a job.
-fn run_texts<'a, R: Threads + Sync, A: Allocator + Copy + Sync, O: Out>(
+fn run_texts<'a, R: Threads + Sync, A: Allocator + Copy + Send + Sync, O: Out>(
     rt: &R,
     alloc: A,
     job: &[u8],

@@ -1,5 +1,6 @@
 pub mod SafeLaws
 pub mod RoundLaws
+pub mod RowLaws
 pub mod TileLaws
 pub mod CourseLaws
 pub mod VerdictLaws

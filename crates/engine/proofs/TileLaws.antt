@@ -1,10 +1,11 @@
 -- The pairs of a frame: all of them, each once; and those that the tiles leave out, which add nothing.
-use Rattle.std.proofs.Common.{◌≡◌, ◌≢◌, ℕ, zero, suc, ◌+◌, ◌<◌, ◌≤◌, Bool, true, false, cond, List, [], ◌∷◌, length, ℤ, Option, Some, None, inl, inr, arith, refl, ap, subst, sym, ◌∙◌}
+use Rattle.std.proofs.Common.{◌≡◌, ◌≢◌, ℕ, zero, suc, ◌+◌, ◌^◌, ◌<◌, ◌≤◌, Bool, true, false, cond, List, [], ◌∷◌, length, get_or, ℤ, Option, Some, None, inl, inr, arith, refl, ap, subst, sym, ◌∙◌}
 use Rattle.std.specs.Prelude.{IfSome, map, slice_get, option_map, nat_lt, ◌&&◌, if◌then◌else◌, slice_index, slice_index_or}
 use Rattle.std.specs.List.{All}
 use Rattle.std.proofs.lemmas.Bool.{and_parts, cases_eq, cases_lt, ltb-true}
 use Rattle.std.proofs.lemmas.Bool.Decides.{nat_tests}
 use Rattle.std.proofs.lemmas.List.{get_or_past, length-map}
+use Rattle.std.proofs.lemmas.Option.{slice_get-get_or}
 use Rattle.std.proofs.lemmas.List.Sums.{sum_by-append, sum_by-cons}
 use Rattle.cell_tiles.specs.Cells.{IsGrid, members_of}
 use Rattle.cell_tiles.specs.Cover.{ArePairs, Covers, SumsAsAll, are_close, is_pair, is_same, times, times_in_all}
@@ -24,7 +25,7 @@ use Rattle.integrator.specs.Forces.{pairs_from, pairs_of, pairs_with}
 use Rattle.integrator.specs.Frames.{pair_force, places_of}
 use Rattle.integrator.specs.declared.systems.System.{System}
 use Rattle.engine.proofs.RoundLaws.{AddsForce, round_forces, weight}
-use Rattle.engine.proofs.SafeLaws.{forced, has_force, slopes}
+use Rattle.engine.proofs.SafeLaws.{bound_fits, forced, has_force, slopes}
 use Rattle.engine.specs.Rounds.{AreForces, acting_force, add_of, grid_of, plan_of}
 use Rattle.engine.specs.SafeKernels.{IsAccepted, minus, potential_of, safe_dynamics, slope_at}
 use Rattle.engine.specs.declared.safe_kernels.SafeKernel.{SafeKernel}
@@ -204,6 +205,19 @@ tile_planned s frame t tile e =
 pub tile_length : {A : Type 0} (s : System (SafeKernel A) A) (frame : List (List ℕ)) (t : ℕ) (tile : ℕ × ℕ) → slice_get (tiles_of (grid_of s)) t ≡ Some tile
     → length (pairs_at (plan_of s frame) t) ≡ length (pairs_in (members_of (grid_of s) frame) tile)
 tile_length s frame t tile e = ap length (tile_planned s frame t tile e) ∙ length-map (pairs_in (members_of (grid_of s) frame) tile) (add_of s frame)
+
+-- where a tile has a pair there are two atoms, so that the negative of no slope passes 64 bits
+pub bound_by_pair : {A : Type 0} (s : System (SafeKernel A) A) (frame : List (List ℕ)) (t k : ℕ) → IsAccepted s → Covers (grid_of s) frame → length frame ≡ length s.types.items → t < length (plan_of s frame)
+    → k < length (pairs_at (plan_of s frame) t) → s.kernel.verified.bound < 2 ^ 63
+bound_by_pair s frame t k accepted covers atoms at_tile at_pair =
+    let m = members_of (grid_of s) frame in
+    let inside : t < length (tiles_of (grid_of s)) = omega (arith, length-map (tile_pairs (grid_of s) frame) (λ ps. map (add_of s frame) ps), length-map (tiles_of (grid_of s)) (pairs_in m)) in
+    let tile = get_or (tiles_of (grid_of s)) t (0, 0) in
+    let there = slice_get-get_or (tiles_of (grid_of s)) t (0, 0) inside in
+    let listed : k < length (pairs_in m tile) = omega (arith, tile_length s frame t tile there) in
+    let p = get_or (pairs_in m tile) k (0, 0) in
+    let pair = is_listed_pair (grid_of s) frame t k tile p covers there (slice_get-get_or (pairs_in m tile) k (0, 0) listed) in
+    bound_fits s accepted p.0 p.1 pair.0 (omega (arith, pair.1, atoms))
 
 -- what a pair adds is a pair of atoms
 some_pair_of : (n : ℕ) (p : ℕ × ℕ) (o : Option (List ℤ)) → p.0 < p.1 → p.1 < n → IfSome (option_map {U = PairAdd} (λ v. record { low = p.0; high = p.1; force = v }) o) (IsPairOf n)

@@ -5,4 +5,5 @@ pub mod EngineViews
 pub mod PairEnergies
 pub mod SafeEnergies
 pub mod Rounds
+pub mod Rows
 pub mod Tilings

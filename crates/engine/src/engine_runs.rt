@@ -43,7 +43,7 @@ pub fn state_energy<A: Allocator + Copy>(
 }
 
 /// The state that an engine of these texts leads to.
-fn state_after<R: Threads + Sync, A: Allocator + Copy + Sync>(
+fn state_after<R: Threads + Sync, A: Allocator + Copy + Send + Sync>(
     rt: &R,
     alloc: A,
     job: &[u8],
@@ -76,7 +76,7 @@ fn state_after<R: Threads + Sync, A: Allocator + Copy + Sync>(
 /// The refusals come in this order: those of the job, of the state, of `Engine::new`; `StepRange` where the counter
 /// would leave an i64; `Memory` or `MemoryAfter` wherever a growth is refused. Nothing is written then. `Out` comes
 /// only where a write failed, after a beginning of the new state's text.
-pub fn run_bytes<R: Threads + Sync, A: Allocator + Copy + Sync, O: Out>(
+pub fn run_bytes<R: Threads + Sync, A: Allocator + Copy + Send + Sync, O: Out>(
     rt: &R,
     alloc: A,
     job: &[u8],

@@ -1,6 +1,6 @@
 //! Engines: a job and a state, with a slope that the verifier accepts.
 
-ghost use Rattle.std.specs.Prelude.{◌≡◌, ◌<◌, ◌≤◌, ◌-◌, ◌*◌, ◌^◌, nat_lt, length, map, Some, is_none, false, IfOk, IfErr};
+ghost use Rattle.std.specs.Prelude.{◌≡◌, ◌<◌, ◌≤◌, ◌-◌, ◌*◌, ◌^◌, nat_lt, length, map, Ok, Some, is_none, false, IfOk, IfErr};
 ghost use Rattle.std.specs.List.{All};
 ghost use Rattle.energy_program.specs.Programs.{program_tree};
 ghost use Rattle.job.specs.Views.{job_value, type_value};
@@ -15,9 +15,11 @@ ghost use Rattle.integrator.specs.Frames.{turns};
 ghost use Rattle.integrator.specs.Starts.{mass_of, table_of};
 ghost use Rattle.integrator.specs.States.{counter_after, frames_of};
 ghost use Rattle.integrator.specs.declared.direction.Direction.TheVariants.{Back, Forward};
+ghost use Rattle.integrator.specs.declared.faults.StepFault.TheVariants.{Memory};
 
 use crate::frame_steps::Course;
 use crate::pools::{NoGate, Pool};
+use crate::rows::{Scratch, scratches};
 use crate::safe_energies::SafeEnergy;
 use crate::safe_kernels::SafeKernel;
 use crate::safe_systems::SafeSystem;
@@ -29,7 +31,7 @@ use integrator::{
 use job::Job;
 use kernel_compiler::compile;
 use state::State;
-use std::alloc::Allocator;
+use std::alloc::{AllocError, Allocator};
 use std::marker::Model;
 use std::thread::Threads;
 use tile_pool::Gate;
@@ -115,6 +117,17 @@ fn job_motion<A: Allocator + Copy>(
         return Err(RunFault::ForceRange);
     }
     Ok(motion(job, state, kernel, ready.atoms))
+}
+
+/// What steps want before the first: `Memory` after no step where a growth was refused.
+fn at_start<T: Drop>(made: Result<T, AllocError>) -> Result<T, StepFault>
+    ensures ok { IfOk result (λ wanted. made ≡ Ok wanted) }
+    ensures refused { IfErr result (λ fault. fault ≡ Memory 0) }
+{
+    match made {
+        Ok(wanted) => Ok(wanted),
+        Err(_) => Err(StepFault::Memory { done: 0 }),
+    }
 }
 
 impl<A: Allocator + Copy> Engine<A> {
@@ -206,7 +219,10 @@ impl<A: Allocator + Copy> Engine<A> {
         let mut course = self
             .motion
             .course(self.alloc, direction, &self.state, steps)?;
-        let done = self.motion.turns_alone(self.alloc, steps, &mut course);
+        let mut scratch = at_start(Scratch::new(self.alloc))?;
+        let done = self
+            .motion
+            .turns_alone(self.alloc, steps, &mut course, &mut scratch);
         self.arrive(direction, steps, done, course)
     }
 
@@ -231,7 +247,7 @@ impl<A: Allocator + Copy> Engine<A> {
     }
 }
 
-impl<A: Allocator + Copy + Sync> Engine<A> {
+impl<A: Allocator + Copy + Send + Sync> Engine<A> {
     ghost use Rattle.std.specs.Prelude.{◌<◌, ◌≤◌, IfOk, IfErr};
     ghost use Rattle.engine.specs.Engines.{Stopped, Went};
     ghost use Rattle.integrator.specs.declared.direction.Direction.TheVariants.{Back, Forward};
@@ -253,10 +269,15 @@ impl<A: Allocator + Copy + Sync> Engine<A> {
         let mut course = self
             .motion
             .course(self.alloc, direction, &self.state, steps)?;
-        let pool = Pool { rt, workers, gate };
-        let done = self
-            .motion
-            .turns_pooled(self.alloc, &pool, steps, &mut course);
+        let mut scratches = at_start(scratches(self.alloc, workers))?;
+        let pool = Pool { rt, gate };
+        let done = self.motion.turns_pooled(
+            self.alloc,
+            &pool,
+            steps,
+            &mut course,
+            scratches.as_mut_slice(),
+        );
         self.arrive(direction, steps, done, course)
     }
 

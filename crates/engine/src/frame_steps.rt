@@ -6,6 +6,7 @@ ghost use Rattle.engine.specs.Rounds.{forces_in};
 
 use crate::frame_works::FrameWork;
 use crate::pools::Pool;
+use crate::rows::Scratch;
 use crate::safe_systems::SafeSystem;
 use cell_tiles::{Cells, Grid, Tiles};
 use integrator::{Direction, StepFault, Turned, counter_after, current_frame, previous_frame};
@@ -218,6 +219,7 @@ impl<A: Allocator + Copy> SafeSystem<A> {
         alloc: A,
         tiling: &mut Tiling<A>,
         frame: &[[u32; 3]],
+        scratch: &mut Scratch<A>,
     ) -> Result<Forces<A>, Memory>
         requires atoms { length frame.now ≡ length self.now.system.masses.items }
         requires tiling { IsTilingOf self.now.system tiling.old }
@@ -226,7 +228,7 @@ impl<A: Allocator + Copy> SafeSystem<A> {
     {
         self.fill(tiling, frame)?;
         let work = self.work(tiling, frame);
-        forces_alone(alloc, &work, &mut (), frame.len() as u32)
+        forces_alone(alloc, &work, scratch, frame.len() as u32)
     }
 
     /// One step by these sums: the frames `before` and `middle` become `middle` and the frame after it.
@@ -243,81 +245,11 @@ impl<A: Allocator + Copy> SafeSystem<A> {
     }
 
     /// One step on the caller's thread: the frames become the middle one and the next, or stay where memory is wanted.
-    fn turn_alone(&self, alloc: A, course: &mut Course<A>) -> Result<(), Memory>
-        requires before { length course.old.before.items ≡ length self.now.system.masses.items }
-        requires middle { length course.old.middle.items ≡ length self.now.system.masses.items }
-        requires tiling { IsTilingOf self.now.system course.old.tiling }
-        ensures value { OnOk result (step (safe_dynamics self.now.system) (frames course.old.before.items course.old.middle.items) ≡ Some (frames course.new.before.items course.new.middle.items)) }
-        ensures left { OnErr result (frames course.new.before.items course.new.middle.items ≡ frames course.old.before.items course.old.middle.items) }
-        ensures before { length course.new.before.items ≡ length course.old.before.items }
-        ensures middle { length course.new.middle.items ≡ length course.old.middle.items }
-        ensures tiling { IsTilingOf self.now.system course.new.tiling }
-    {
-        let sums = self.forces_alone(alloc, &mut course.tiling, &course.middle)?;
-        self.follow(&mut course.before, &mut course.middle, sums.as_slice());
-        Ok(())
-    }
-
-    /// So many steps on the caller's thread. It answers how many were made: fewer only where memory is wanted.
-    pub(crate) fn turns_alone(&self, alloc: A, steps: u64, course: &mut Course<A>) -> u64
-        requires before { length course.old.before.items ≡ length self.now.system.masses.items }
-        requires middle { length course.old.middle.items ≡ length self.now.system.masses.items }
-        requires tiling { IsTilingOf self.now.system course.old.tiling }
-        ensures value { turns Forward (safe_dynamics self.now.system) result (frames course.old.before.items course.old.middle.items) ≡ Some (frames course.new.before.items course.new.middle.items) }
-        ensures few { result ≤ steps }
-        ensures before { length course.new.before.items ≡ length course.old.before.items }
-        ensures middle { length course.new.middle.items ≡ length course.old.middle.items }
-    {
-        for done in 0..steps {
-            match self.turn_alone(alloc, course) {
-                Ok(()) => {}
-                Err(_) => return done,
-            }
-        }
-        steps
-    }
-}
-
-impl<A: Allocator + Copy + Sync> SafeSystem<A> {
-    ghost use Rattle.std.specs.Prelude.{◌≡◌, ◌≤◌, length, IfOk, OnOk, OnErr, Some};
-    ghost use Rattle.integrator.specs.Frames.{frames, step, turns};
-    ghost use Rattle.integrator.specs.declared.direction.Direction.TheVariants.{Forward};
-    ghost use Rattle.engine.specs.Rounds.{AreForces};
-    ghost use Rattle.engine.specs.SafeKernels.{safe_dynamics};
-    ghost use Rattle.engine.specs.Tilings.{IsTilingOf};
-
-    /// The sums of the forces on the atoms of a frame, by a pool's workers.
-    fn forces_pooled<R: Threads + Sync, G: Gate + Sync>(
+    fn turn_alone(
         &self,
         alloc: A,
-        pool: &Pool<R, G>,
-        tiling: &mut Tiling<A>,
-        frame: &[[u32; 3]],
-    ) -> Result<Forces<A>, Memory>
-        requires atoms { length frame.now ≡ length self.now.system.masses.items }
-        requires tiling { IsTilingOf self.now.system tiling.old }
-        ensures forces { IfOk result (AreForces self.now.system frame.now) }
-        ensures tiling { IsTilingOf self.now.system tiling.new }
-    {
-        self.fill(tiling, frame)?;
-        let work = self.work(tiling, frame);
-        let mut scratches = [(); 64];
-        forces(
-            pool.rt,
-            alloc,
-            &work,
-            &mut scratches[..pool.workers as usize],
-            frame.len() as u32,
-            pool.gate,
-        )
-    }
-
-    /// One step by a pool's workers: the frames become the middle one and the next, or stay where memory is wanted.
-    fn turn_pooled<R: Threads + Sync, G: Gate + Sync>(
-        &self,
-        alloc: A,
-        pool: &Pool<R, G>,
         course: &mut Course<A>,
+        scratch: &mut Scratch<A>,
     ) -> Result<(), Memory>
         requires before { length course.old.before.items ≡ length self.now.system.masses.items }
         requires middle { length course.old.middle.items ≡ length self.now.system.masses.items }
@@ -328,18 +260,18 @@ impl<A: Allocator + Copy + Sync> SafeSystem<A> {
         ensures middle { length course.new.middle.items ≡ length course.old.middle.items }
         ensures tiling { IsTilingOf self.now.system course.new.tiling }
     {
-        let sums = self.forces_pooled(alloc, pool, &mut course.tiling, &course.middle)?;
+        let sums = self.forces_alone(alloc, &mut course.tiling, &course.middle, scratch)?;
         self.follow(&mut course.before, &mut course.middle, sums.as_slice());
         Ok(())
     }
 
-    /// So many steps by a pool's workers. It answers how many were made: fewer only where memory is wanted.
-    pub(crate) fn turns_pooled<R: Threads + Sync, G: Gate + Sync>(
+    /// So many steps on the caller's thread. It answers how many were made: fewer only where memory is wanted.
+    pub(crate) fn turns_alone(
         &self,
         alloc: A,
-        pool: &Pool<R, G>,
         steps: u64,
         course: &mut Course<A>,
+        scratch: &mut Scratch<A>,
     ) -> u64
         requires before { length course.old.before.items ≡ length self.now.system.masses.items }
         requires middle { length course.old.middle.items ≡ length self.now.system.masses.items }
@@ -350,7 +282,96 @@ impl<A: Allocator + Copy + Sync> SafeSystem<A> {
         ensures middle { length course.new.middle.items ≡ length course.old.middle.items }
     {
         for done in 0..steps {
-            match self.turn_pooled(alloc, pool, course) {
+            match self.turn_alone(alloc, course, scratch) {
+                Ok(()) => {}
+                Err(_) => return done,
+            }
+        }
+        steps
+    }
+}
+
+impl<A: Allocator + Copy + Sync> SafeSystem<A> {
+    ghost use Rattle.std.specs.Prelude.{◌≡◌, ◌<◌, ◌≤◌, length, IfOk, OnOk, OnErr, Some};
+    ghost use Rattle.integrator.specs.Frames.{frames, step, turns};
+    ghost use Rattle.integrator.specs.declared.direction.Direction.TheVariants.{Forward};
+    ghost use Rattle.engine.specs.Rounds.{AreForces};
+    ghost use Rattle.engine.specs.SafeKernels.{safe_dynamics};
+    ghost use Rattle.engine.specs.Tilings.{IsTilingOf};
+
+    /// The sums of the forces on the atoms of a frame, by a pool's workers, 1 to 64, one for each scratch.
+    fn forces_pooled<R: Threads + Sync, G: Gate + Sync, B: Allocator + Send>(
+        &self,
+        alloc: A,
+        pool: &Pool<R, G>,
+        tiling: &mut Tiling<A>,
+        frame: &[[u32; 3]],
+        scratches: &mut [Scratch<B>],
+    ) -> Result<Forces<A>, Memory>
+        requires atoms { length frame.now ≡ length self.now.system.masses.items }
+        requires tiling { IsTilingOf self.now.system tiling.old }
+        requires some { 0 < length scratches.old }
+        requires few { length scratches.old ≤ 64 }
+        ensures forces { IfOk result (AreForces self.now.system frame.now) }
+        ensures tiling { IsTilingOf self.now.system tiling.new }
+    {
+        self.fill(tiling, frame)?;
+        let work = self.work(tiling, frame);
+        forces(
+            pool.rt,
+            alloc,
+            &work,
+            scratches,
+            frame.len() as u32,
+            pool.gate,
+        )
+    }
+
+    /// One step by a pool's workers: the frames become the middle one and the next, or stay where memory is wanted.
+    fn turn_pooled<R: Threads + Sync, G: Gate + Sync, B: Allocator + Send>(
+        &self,
+        alloc: A,
+        pool: &Pool<R, G>,
+        course: &mut Course<A>,
+        scratches: &mut [Scratch<B>],
+    ) -> Result<(), Memory>
+        requires some { 0 < length scratches.old }
+        requires few { length scratches.old ≤ 64 }
+        requires before { length course.old.before.items ≡ length self.now.system.masses.items }
+        requires middle { length course.old.middle.items ≡ length self.now.system.masses.items }
+        requires tiling { IsTilingOf self.now.system course.old.tiling }
+        ensures value { OnOk result (step (safe_dynamics self.now.system) (frames course.old.before.items course.old.middle.items) ≡ Some (frames course.new.before.items course.new.middle.items)) }
+        ensures left { OnErr result (frames course.new.before.items course.new.middle.items ≡ frames course.old.before.items course.old.middle.items) }
+        ensures before { length course.new.before.items ≡ length course.old.before.items }
+        ensures middle { length course.new.middle.items ≡ length course.old.middle.items }
+        ensures tiling { IsTilingOf self.now.system course.new.tiling }
+    {
+        let sums = self.forces_pooled(alloc, pool, &mut course.tiling, &course.middle, scratches)?;
+        self.follow(&mut course.before, &mut course.middle, sums.as_slice());
+        Ok(())
+    }
+
+    /// So many steps by a pool's workers. It answers how many were made: fewer only where memory is wanted.
+    pub(crate) fn turns_pooled<R: Threads + Sync, G: Gate + Sync, B: Allocator + Send>(
+        &self,
+        alloc: A,
+        pool: &Pool<R, G>,
+        steps: u64,
+        course: &mut Course<A>,
+        scratches: &mut [Scratch<B>],
+    ) -> u64
+        requires some { 0 < length scratches.old }
+        requires few { length scratches.old ≤ 64 }
+        requires before { length course.old.before.items ≡ length self.now.system.masses.items }
+        requires middle { length course.old.middle.items ≡ length self.now.system.masses.items }
+        requires tiling { IsTilingOf self.now.system course.old.tiling }
+        ensures value { turns Forward (safe_dynamics self.now.system) result (frames course.old.before.items course.old.middle.items) ≡ Some (frames course.new.before.items course.new.middle.items) }
+        ensures few { result ≤ steps }
+        ensures before { length course.new.before.items ≡ length course.old.before.items }
+        ensures middle { length course.new.middle.items ≡ length course.old.middle.items }
+    {
+        for done in 0..steps {
+            match self.turn_pooled(alloc, pool, course, scratches) {
                 Ok(()) => {}
                 Err(_) => return done,
             }

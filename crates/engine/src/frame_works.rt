@@ -1,15 +1,19 @@
 //! The pairs of a frame, tile by tile, as the work of a round.
 
-ghost use Rattle.std.specs.Prelude.{◌≡◌, length, slice_get, Some, IfSome};
+ghost use Rattle.std.specs.Prelude.{◌≡◌, ◌<◌, length, map, option_map, slice_get, Some, IfSome};
 ghost use Rattle.std.specs.List.{All};
 ghost use Rattle.cell_tiles.specs.Cells.{members_of};
 ghost use Rattle.cell_tiles.specs.Tiles.{pairs_in, tiles_of};
 ghost use Rattle.ring_box.specs.Cells.{ArePlaces};
-ghost use Rattle.tile_round.specs.Tiles.{pairs_at, IsPairOf};
+ghost use Rattle.tile_round.specs.Tiles.{pairs_at, AreNextActing, IsPairOf};
 ghost use Rattle.engine.specs.Rounds.{grid_of, plan_of};
+ghost use Rattle.engine.specs.Rows.{IsFound, add_found, reach_of};
 
+use crate::rows::{FoundPair, Scratch};
 use crate::safe_systems::SafeSystem;
+use arrayvec::ArrayVec;
 use cell_tiles::{AtomPair, Cells, Tile, Tiles};
+use ring_box::Reach;
 use std::alloc::Allocator;
 use tile_round::{PairAdd, RowWork, Work};
 
@@ -56,23 +60,67 @@ impl<'a, A: Allocator + Copy> Work for FrameWork<'a, A> {
         let pair = self.cells.pair(cells, k);
         self.add_of(tile, cells, k, pair)
     }
+}
 
-    // A walk over the pairs in order finds the next one with no division.
-    fn next_acting(&self, tile: u64, k: u64) -> Option<(PairAdd, u64)> {
+impl<'a, A: Allocator + Copy> FrameWork<'a, A> {
+    // The pair that has this number in the tile of these cells, with what its atoms have between them.
+    fn found_at(
+        &self,
+        reach: &Reach,
+        tile: u64,
+        cells: Tile,
+        k: u64,
+        pair: AtomPair,
+    ) -> Option<FoundPair>
+        requires reach { reach.now ≡ reach_of self.now.motion.now.system }
+        requires tile { slice_get (tiles_of self.now.tiles.now.grid.bits) tile ≡ Some (cells.first, cells.second) }
+        requires pair { slice_get (pairs_in self.now.cells.now.members (cells.first, cells.second)) k ≡ Some (pair.low, pair.high) }
+        ensures planned { slice_get (pairs_at (plan_of self.now.motion.now.system self.now.frame.now) tile) k
+            ≡ Some (option_map (add_found self.now.motion.now.system) result) }
+        ensures found { IfSome result (IsFound self.now.motion.now.system (length self.now.frame.now)) }
+    {
+        self.motion.found(reach, self.frame, pair.low, pair.high)
+    }
+
+    // The next pairs that act, at most 64 of them, and the number of the pair with which to go on.
+    fn find(&self, tile: u64, k: u64, found: &mut ArrayVec<FoundPair, 64>) -> u64
+        requires tile { tile < length (plan_of self.now.motion.now.system self.now.frame.now) }
+        requires start { k < length (pairs_at (plan_of self.now.motion.now.system self.now.frame.now) tile) }
+        ensures next { AreNextActing (pairs_at (plan_of self.now.motion.now.system self.now.frame.now) tile) k (map (add_found self.now.motion.now.system) found.new.items) result }
+        ensures found { All (IsFound self.now.motion.now.system (length self.now.frame.now)) found.new.items }
+    {
+        let reach = self.motion.reach();
         let cells = self.tiles.get(tile);
         let mut pairs = self.cells.pairs_from(cells, k);
+        found.clear();
         for number in k..self.pairs(tile) {
+            if found.is_full() {
+                return number;
+            }
             let Some(pair) = pairs.next() else {
                 unreachable!()
             };
-            match self.add_of(tile, cells, number, pair) {
-                Some(add) => return Some((add, number + 1)),
+            match self.found_at(&reach, tile, cells, number, pair) {
+                Some(pair) => found.push(pair),
                 None => {}
             }
         }
-        None
+        self.pairs(tile)
     }
 }
 
-// A worker keeps nothing at hand: each pair is asked for by itself.
-impl<'a, A: Allocator + Copy> RowWork<()> for FrameWork<'a, A> {}
+// The allocators are two, so that the one of the work has only to be shared by threads, and that of what a worker keeps only to go to one.
+impl<'a, A: Allocator + Copy, B: Allocator> RowWork<Scratch<B>> for FrameWork<'a, A> {
+    // What the atoms have between them is found for a row of pairs, then their slopes, then their forces.
+    fn next_adds(
+        &self,
+        scratch: &mut Scratch<B>,
+        tile: u64,
+        k: u64,
+        adds: &mut ArrayVec<PairAdd, 64>,
+    ) -> u64 {
+        let next = self.find(tile, k, &mut scratch.found);
+        self.motion.adds(scratch, adds);
+        next
+    }
+}

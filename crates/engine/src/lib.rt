@@ -6,9 +6,9 @@ mod engines;
 mod frame_steps;
 mod frame_works;
 mod pools;
+mod rows;
 mod safe_energies;
 mod safe_kernels;
-mod safe_slopes;
 mod safe_systems;
 mod verdicts;
 

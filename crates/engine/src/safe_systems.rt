@@ -1,10 +1,17 @@
 //! Systems whose slope is accepted, and what each pair of their atoms adds to the forces.
 
+ghost use Rattle.std.specs.Prelude.{◌≡◌, length};
+ghost use Rattle.std.specs.List.{All};
 ghost use Rattle.engine.specs.SafeKernels.{IsAccepted};
 
+use crate::rows::{FoundPair, Scratch};
 use crate::safe_kernels::SafeKernel;
-use crate::safe_slopes::SafeSlope;
+use arrayvec::ArrayVec;
+use fixed::Fx;
 use integrator::System;
+use kernel_lanes::{Ask, Flat, Rows, run_lanes};
+use kernel_machine::{Stack, run_prepared};
+use ring_box::Reach;
 use std::alloc::Allocator;
 use tile_round::PairAdd;
 
@@ -15,31 +22,160 @@ pub(crate) struct SafeSystem<A: Allocator> {
     pub ghost accepted: { IsAccepted system },
 }
 
-impl<A: Allocator> SafeSystem<A> {
-    ghost use Rattle.std.specs.Prelude.{◌≡◌, ◌<◌, length};
-    ghost use Rattle.engine.specs.Rounds.{acting_force, add_of};
+// ---- what two atoms have between them
 
-    /// The force on the lower atom of a pair; `None` where the pair doesn't act.
-    fn acting_force(&self, frame: &[[u32; 3]], low: usize, high: usize) -> Option<[i64; 3]>
-        requires apart { low < high }
-        requires high { high < length frame.now }
-        requires atoms { length frame.now ≡ length self.now.system.types.items }
-        ensures { result ≡ acting_force self.now.system frame.now (low, high) }
+impl<A: Allocator> SafeSystem<A> {
+    ghost use Rattle.std.specs.Prelude.{◌≡◌, ◌<◌, length, IfSome};
+    ghost use Rattle.engine.specs.Rows.{IsFound, found_of, reach_of};
+
+    /// How far the forces of the system reach.
+    pub(crate) fn reach(&self) -> Reach
+        ensures { result ≡ reach_of self.now.system }
     {
         let system = &self.system;
-        let mut slope = SafeSlope {
-            kernel: &system.kernel,
-        };
-        system.ring.pair_force(
-            system.frac,
-            &mut slope,
-            system.core,
-            system.cutoff,
-            system.types[low],
-            system.types[high],
-            frame[low],
-            frame[high],
-        )
+        Reach::new(system.frac, system.core, system.cutoff)
+    }
+
+    /// A pair with what its atoms have between them; `None` where it doesn't act.
+    pub(crate) fn found(
+        &self,
+        reach: &Reach,
+        frame: &[[u32; 3]],
+        low: u32,
+        high: u32,
+    ) -> Option<FoundPair>
+        requires reach { reach.now ≡ reach_of self.now.system }
+        requires apart { low < high }
+        requires high { high < length frame.now }
+        ensures value { result ≡ found_of self.now.system frame.now (low, high) }
+        ensures found { IfSome result (IsFound self.now.system (length frame.now)) }
+    {
+        let x = frame[low as usize];
+        let y = frame[high as usize];
+        match self.system.ring.acting(reach, x, y) {
+            Some(acting) => Some(FoundPair { low, high, acting }),
+            None => None,
+        }
+    }
+}
+
+// ---- slopes
+
+impl<A: Allocator> SafeSystem<A> {
+    ghost use Rattle.std.specs.Prelude.{◌≡◌, ◌<◌, ◌≤◌, ◌^◌, map, length};
+    ghost use Rattle.kernel_lanes.specs.Flats.{IsFlatOf};
+    ghost use Rattle.kernel_lanes.specs.Lanes.{IsServed};
+    ghost use Rattle.engine.specs.Rows.{AreSlopes, IsFound, IsSlope, ask_of};
+
+    /// What is asked for a pair.
+    fn ask(&self, pair: &FoundPair) -> Ask
+        requires { IsFound self.now.system (length self.now.system.types.items) pair.now }
+        ensures value { result ≡ ask_of self.now.system pair.now }
+        ensures served { IsServed self.now.system.kernel.verified result }
+    {
+        Ask {
+            a: self.system.types[pair.low as usize],
+            b: self.system.types[pair.high as usize],
+            r: pair.acting.distance(),
+        }
+    }
+
+    /// What is asked for these pairs.
+    fn ask_all(&self, found: &[FoundPair], asks: &mut ArrayVec<Ask, 64>)
+        requires few { length found.now ≤ 64 }
+        requires found { All (IsFound self.now.system (length self.now.system.types.items)) found.now }
+        ensures value { asks.new.items ≡ map (ask_of self.now.system) found.now }
+        ensures served { All (IsServed self.now.system.kernel.verified) asks.new.items }
+    {
+        asks.clear();
+        for l in 0..found.len() {
+            asks.push(self.ask(&found[l]));
+        }
+    }
+
+    /// The slope that is asked for.
+    fn slope(&self, ask: Ask, stack: &mut Stack) -> Fx
+        requires served { IsServed self.now.system.kernel.verified ask }
+        requires bound { self.now.system.kernel.verified.bound < 2 ^ 63 }
+        ensures { IsSlope self.now.system ask result }
+    {
+        let SafeKernel {
+            verified,
+            prepared,
+            ..
+        } = &self.system.kernel;
+        run_prepared(verified, prepared, stack, ask.a, ask.b, ask.r)
+    }
+
+    /// The slopes that are asked for, one after the other.
+    fn slopes_in_turn(&self, asks: &[Ask], stack: &mut Stack, slopes: &mut [Fx])
+        requires room { length asks.now ≤ length slopes.old }
+        requires served { All (IsServed self.now.system.kernel.verified) asks.now }
+        requires bound { self.now.system.kernel.verified.bound < 2 ^ 63 }
+        ensures slopes { AreSlopes self.now.system asks.now slopes.new }
+        ensures len { length slopes.new ≡ length slopes.old }
+    {
+        for l in 0..asks.len() {
+            slopes[l] = self.slope(asks[l], stack);
+        }
+    }
+
+    /// The same by flat code of the system's, in lanes.
+    fn slopes_in_lanes<B: Allocator>(
+        &self,
+        flat: &Flat<A>,
+        asks: &[Ask],
+        lanes: &mut Rows<B>,
+        slopes: &mut [Fx],
+    )
+        requires flat { ∥ IsFlatOf self.now.system.kernel.verified.code flat.now.steps flat.now.out ∥₁ }
+        requires few { length asks.now ≤ 64 }
+        requires room { length asks.now ≤ length slopes.old }
+        requires served { All (IsServed self.now.system.kernel.verified) asks.now }
+        requires bound { self.now.system.kernel.verified.bound < 2 ^ 63 }
+        ensures slopes { AreSlopes self.now.system asks.now slopes.new }
+        ensures len { length slopes.new ≡ length slopes.old }
+    {
+        run_lanes(&self.system.kernel.verified, flat, lanes, asks, slopes);
+    }
+
+    /// The same, in lanes where the code of the slope is flat.
+    fn slopes<B: Allocator>(
+        &self,
+        asks: &[Ask],
+        lanes: &mut Rows<B>,
+        stack: &mut Stack,
+        slopes: &mut [Fx],
+    )
+        requires few { length asks.now ≤ 64 }
+        requires room { length asks.now ≤ length slopes.old }
+        requires served { All (IsServed self.now.system.kernel.verified) asks.now }
+        requires bound { self.now.system.kernel.verified.bound < 2 ^ 63 }
+        ensures slopes { AreSlopes self.now.system asks.now slopes.new }
+        ensures len { length slopes.new ≡ length slopes.old }
+    {
+        match &self.system.kernel.flat {
+            Some(flat) => self.slopes_in_lanes(flat, asks, lanes, slopes),
+            None => self.slopes_in_turn(asks, stack, slopes),
+        }
+    }
+}
+
+// ---- what pairs add
+
+impl<A: Allocator> SafeSystem<A> {
+    ghost use Rattle.std.specs.Prelude.{◌≡◌, ◌<◌, ◌≤◌, ◌^◌, map, length};
+    ghost use Rattle.engine.specs.Rounds.{add_of};
+    ghost use Rattle.engine.specs.Rows.{AreSlopes, IsFound, add_found, ask_of};
+
+    /// What a pair adds that was found.
+    fn add(&self, pair: &FoundPair) -> PairAdd
+        requires found { IsFound self.now.system (length self.now.system.types.items) pair.now }
+        requires bound { self.now.system.kernel.verified.bound < 2 ^ 63 }
+        ensures { result ≡ add_found self.now.system pair.now }
+    {
+        let slope = self.slope(self.ask(pair), &mut Stack::new());
+        pair.add(slope)
     }
 
     /// What a pair adds to the forces; `None` where it doesn't act.
@@ -49,9 +185,44 @@ impl<A: Allocator> SafeSystem<A> {
         requires atoms { length frame.now ≡ length self.now.system.types.items }
         ensures { result ≡ add_of self.now.system frame.now (low, high) }
     {
-        match self.acting_force(frame, low as usize, high as usize) {
-            Some(force) => Some(PairAdd { low, high, force }),
+        match self.found(&self.reach(), frame, low, high) {
+            Some(pair) => Some(self.add(&pair)),
             None => None,
         }
+    }
+
+    /// What pairs of these slopes add.
+    fn add_all(&self, found: &[FoundPair], slopes: &[Fx], adds: &mut ArrayVec<PairAdd, 64>)
+        requires few { length found.now ≤ 64 }
+        requires room { length found.now ≤ length slopes.now }
+        requires slopes { AreSlopes self.now.system (map (ask_of self.now.system) found.now) slopes.now }
+        ensures { adds.new.items ≡ map (add_found self.now.system) found.now }
+    {
+        adds.clear();
+        for l in 0..found.len() {
+            adds.push(found[l].add(slopes[l]));
+        }
+    }
+
+    /// What the pairs found add.
+    pub(crate) fn adds<B: Allocator>(
+        &self,
+        scratch: &mut Scratch<B>,
+        adds: &mut ArrayVec<PairAdd, 64>,
+    )
+        requires found { All (IsFound self.now.system (length self.now.system.types.items)) scratch.old.found.items }
+        requires bound { self.now.system.kernel.verified.bound < 2 ^ 63 }
+        ensures { adds.new.items ≡ map (add_found self.now.system) scratch.old.found.items }
+    {
+        let Scratch {
+            found,
+            asks,
+            lanes,
+            stack,
+        } = scratch;
+        self.ask_all(found.as_slice(), asks);
+        let mut slopes = [Fx::from_raw(0); 64];
+        self.slopes(asks.as_slice(), lanes, stack, &mut slopes);
+        self.add_all(found.as_slice(), &slopes, adds);
     }
 }

@@ -38,6 +38,23 @@ impl Model for ActingPair {
     ghost invariant = { λ p. IsActingPair (record { x = p.x; y = p.y; z = p.z; length = p.length; distance = p.distance }) };
 }
 
+impl Default for ActingPair {
+    ghost use Rattle.std.specs.Prelude.{◌≡◌, pos};
+
+    ghost is_default = { λ p. p ≡ record { x = pos 0; y = pos 0; z = pos 0; length = 1; distance = pos 0 } };
+
+    /// Two atoms at one place.
+    fn default() -> ActingPair {
+        ActingPair {
+            x: 0,
+            y: 0,
+            z: 0,
+            length: 1,
+            distance: Fx::from_raw(0),
+        }
+    }
+}
+
 impl ActingPair {
     ghost use Rattle.std.specs.Prelude.{◌≡◌, ◌<◌, ◌^◌, unsigned_abs};
     ghost use Rattle.ring_box.specs.Acting.{force_of};

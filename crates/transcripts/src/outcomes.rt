@@ -72,7 +72,7 @@ impl Outcome {
 /// What the program comes to on these words, where all but the words takes its memory of `short`.
 pub(crate) fn outcome_of<
     R: Files + Threads + Sync + AllocGlobal,
-    A: Allocator + Copy + Sync,
+    A: Allocator + Copy + Send + Sync,
     S: AsStr,
 >(rt: &R, short: A, words: &[S], files: &mut Memory<'_, R>) -> Outcome {
     let mut out = Collected::new(rt.alloc());

@@ -1,4 +1,4 @@
-use Rattle.std.proofs.Common.{rules, w64}
+use Rattle.std.proofs.Common.{refl, rules, subst, sym, w64}
 use mir.Val.{SFits}
 use Rattle.std.proofs.lemmas.Result.{err_from_is_err_and}
 use Rattle.state.specs.StateViews.{state_view}
@@ -7,6 +7,7 @@ use Rattle.engine.specs.Engines.{engine_dynamics}
 use Rattle.engine.specs.SafeKernels.{safe_dynamics}
 use Rattle.integrator.specs.States.{frames_of}
 use Rattle.integrator.proofs.ReturnLaws.{in_range_is}
+use Rattle.engine.specs.Tilings.{IsUnstarted}
 use Rattle.engine.proofs.EngineLaws.{unstarted}
 use Rattle.engine.proofs.CourseLaws.{turned_along}
 use Rattle.engine.proofs.engines.Engine.turns_pooled.Goals as goal
@@ -28,5 +29,11 @@ arrive-requires-clause-turned g c =
     (turned_along c.args.direction (safe_dynamics i.motion.system) (engine_dynamics (engine_view i.job i.state i.motion.system)) c.turns_pooled-done.result
     from.before.items from.middle.items to.before.items to.middle.items (frames_of (state_view i.state)) c.self.invariant.dynamics c.in_ok-course.ensures.frames c.turns_pooled-done.ensures.value)
 
-pub invariant_of-pool : goal.invariant_of-pool
-invariant_of-pool g c = record { some = c.requires.some; few = c.requires.few }
+pub returns-in_err-scratches-clause-stopped : goal.returns-in_err-scratches-clause-stopped
+returns-in_err-scratches-clause-stopped g c =
+    let p = err_from_is_err_and c.from_residual-in_err-scratches.result c.from_residual-in_err-scratches.ensures.1 in
+    let i = c.self.inside in
+    let signed : SFits w64 i.state.step = search rules in
+    rw (p.1, p.2, ← c.self.view_is)
+    (unstarted c.args.direction c.args.steps (engine_view i.job i.state i.motion.system) c.in_err-scratches.field-0.0 (in_range_is i.state.step signed.sfits)
+    (subst (IsUnstarted c.args.direction c.args.steps i.state.step) (sym c.in_err-scratches.ensures.refused) refl))

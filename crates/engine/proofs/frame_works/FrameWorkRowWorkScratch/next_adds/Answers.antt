@@ -1,0 +1,23 @@
+use Rattle.std.proofs.Common.{length}
+use Rattle.std.specs.List.{All}
+use Rattle.std.proofs.lemmas.List.Elements.{All-map}
+use Rattle.cell_tiles.proofs.CoverLemmas.{covers}
+use Rattle.tile_round.specs.Tiles.{IsPairOf}
+use Rattle.engine.proofs.RowLaws.{found_is_pair}
+use Rattle.engine.proofs.TileLaws.{bound_by_pair}
+use Rattle.engine.specs.Rounds.{grid_of}
+use Rattle.engine.specs.Rows.{add_found}
+use Rattle.engine.proofs.frame_works.FrameWorkRowWorkScratch.next_adds.Goals as goal
+
+pub adds-requires-clause-bound : goal.adds-requires-clause-bound
+adds-requires-clause-bound g c =
+    let w = c.args.self.now in
+    let s = w.motion.now.system in
+    bound_by_pair s w.frame.now c.args.tile c.args.k w.motion.now.accepted (covers (grid_of s) w.frame.now (rw w.grid at w.tiles.now.grid.in_range) w.places) w.atoms c.requires.tile c.requires.start
+
+pub returns-clause-atoms : goal.returns-clause-atoms
+returns-clause-atoms g c =
+    let w = c.args.self.now in
+    let s = w.motion.now.system in
+    let n = length w.frame.now in
+    rw c.adds.ensures (All-map (IsPairOf n) (add_found s) c.find-next.new.found.items (λ k d lt. found_is_pair s n _ (c.find-next.ensures.found k d lt)))

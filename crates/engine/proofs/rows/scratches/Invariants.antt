@@ -1,0 +1,5 @@
+use Rattle.std.proofs.Common.{◌≡◌, length}
+use Rattle.engine.proofs.rows.scratches.Given as goal
+
+abbrev pub invariant-loop : goal.invariant-loop
+invariant-loop g l = length l.scratches.items ≡ l.counter

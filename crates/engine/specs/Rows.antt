@@ -1,0 +1,48 @@
+-- Pairs that act, in rows: first what their atoms have between them, then the slopes of their energies, then what they add.
+use Rattle.std.specs.Prelude.{ℕ, ◌<◌, ℤ, ◌≤ℤ◌, ◌<ℤ◌, ◌≡◌, ◌^◌, List, length, neg_ℤ, pos, unsigned_abs, Option, option_map, slice_index, slice_index_or}
+use Rattle.kernel_lanes.specs.declared.asks.Ask.{Ask}
+use Rattle.kernel_lanes.specs.Flats.{ask_at}
+use Rattle.ring_box.specs.Acting.{Reach, acting_of, force_of}
+use Rattle.tile_round.specs.declared.work.PairAdd.{PairAdd}
+use Rattle.integrator.specs.Frames.{places_of}
+use Rattle.integrator.specs.declared.systems.System.{System}
+use Rattle.engine.specs.SafeKernels.{minus, potential_of, slope_at}
+use Rattle.engine.specs.declared.rows.FoundPair.{FoundPair}
+use Rattle.engine.specs.declared.safe_kernels.SafeKernel.{SafeKernel}
+
+module _ {A : Type 0} (s : System (SafeKernel A) A) where
+  -- forces are taken at these distances
+  abbrev pub reach_of : Reach
+  reach_of = record { frac = s.frac; core = s.core; cutoff = s.cutoff }
+
+  -- a pair with what its atoms have between them; none where it doesn't act
+  abbrev pub found_of : List (List ℕ) → ℕ × ℕ → Option FoundPair
+  found_of frame p = option_map (λ a. record { low = p.0; high = p.1; acting = a }) (acting_of reach_of s.ring (places_of frame p.0) (places_of frame p.1))
+
+  -- its atoms are two of so many, the lower first, and its force is taken within reach
+  pub record IsFound (atoms : ℕ) (f : FoundPair) : Type 0 where
+    pub ordered : f.low < f.high
+    pub inside : f.high < atoms
+    pub core : s.core ≤ℤ f.acting.distance
+    pub cutoff : f.acting.distance <ℤ s.cutoff
+
+  -- what is asked for it
+  abbrev pub ask_of : FoundPair → Ask
+  ask_of f = record { a = slice_index s.types.items f.low; b = slice_index s.types.items f.high; r = f.acting.distance }
+
+  -- minus the slope of the energy for what is asked
+  abbrev pub minus_slope_for : Ask → ℤ
+  minus_slope_for ask = minus (slope_at (potential_of s.kernel) ask.a ask.b ask.r)
+
+  -- v is that slope, and its negative fits 64 bits
+  pub record IsSlope (ask : Ask) (v : ℤ) : Type 0 where
+    pub value : neg_ℤ v ≡ minus_slope_for ask
+    pub fits : unsigned_abs v < 2 ^ 63
+
+  -- the slopes begin with those for what is asked
+  abbrev pub AreSlopes : List Ask → List ℤ → Type 0
+  AreSlopes asks slopes = (l : ℕ) → l < length asks → IsSlope (ask_at asks l) (slice_index_or slopes l (pos 0))
+
+  -- what a pair adds
+  abbrev pub add_found : FoundPair → PairAdd
+  add_found f = record { low = f.low; high = f.high; force = force_of f.acting (minus_slope_for (ask_of f)) }

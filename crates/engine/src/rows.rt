@@ -1,0 +1,78 @@
+//! Pairs that act, in rows of at most 64.
+
+ghost use Rattle.std.specs.Prelude.{◌≡◌, ◌<◌, ◌^◌, length, neg_ℤ, unsigned_abs, IfOk};
+ghost use Rattle.ring_box.specs.Acting.{force_of};
+
+use arrayvec::ArrayVec;
+use fixed::Fx;
+use kernel_lanes::{Ask, Rows};
+use kernel_machine::Stack;
+use ring_box::ActingPair;
+use std::alloc::{AllocError, Allocator};
+use tile_round::PairAdd;
+
+/// Two atoms that act, the lower first, and what they have between them.
+#[derive(Clone, Copy, Default)]
+pub(crate) struct FoundPair {
+    pub low: u32,
+    pub high: u32,
+    pub acting: ActingPair,
+}
+
+impl FoundPair {
+    /// What the pair adds, where this is the slope of its energy.
+    pub(crate) fn add(&self, slope: Fx) -> PairAdd
+        requires { unsigned_abs slope < 2 ^ 63 }
+        ensures { result ≡ record { low = self.now.low; high = self.now.high; force = force_of self.now.acting (neg_ℤ slope) } }
+    {
+        PairAdd {
+            low: self.low,
+            high: self.high,
+            force: self.acting.force(opposite(slope)),
+        }
+    }
+}
+
+fn opposite(slope: Fx) -> Fx
+    requires { unsigned_abs slope < 2 ^ 63 }
+    ensures value { result ≡ neg_ℤ slope }
+    ensures bound { unsigned_abs result < 2 ^ 63 }
+{
+    Fx::from_raw(-slope.raw())
+}
+
+/// What a worker keeps at hand for a row: the pairs found, what is asked for them, and room for runs, in lanes or one after the other.
+#[derive(Drop)]
+pub(crate) struct Scratch<A: Allocator> {
+    pub found: ArrayVec<FoundPair, 64>,
+    pub asks: ArrayVec<Ask, 64>,
+    pub lanes: Rows<A>,
+    pub stack: Stack,
+}
+
+impl<A: Allocator> Scratch<A> {
+    /// Room for any code. `AllocError` only where memory is refused.
+    pub(crate) fn new(alloc: A) -> Result<Scratch<A>, AllocError> {
+        let lanes = Rows::new(alloc)?;
+        Ok(Scratch {
+            found: ArrayVec::new(),
+            asks: ArrayVec::new(),
+            lanes,
+            stack: Stack::new(),
+        })
+    }
+}
+
+/// One for each of so many workers. `AllocError` only where memory is refused.
+pub(crate) fn scratches<A: Allocator + Copy>(
+    alloc: A,
+    count: u32,
+) -> Result<Vec<Scratch<A>, A>, AllocError>
+    ensures { IfOk result (λ scratches. length scratches.items ≡ count) }
+{
+    let mut scratches = Vec::with_capacity(alloc, count as usize)?;
+    for _ in 0..count {
+        scratches.push(Scratch::new(alloc)?)?;
+    }
+    Ok(scratches)
+}
