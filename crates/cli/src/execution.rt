@@ -29,15 +29,14 @@ use std::thread::Threads;
 /// Does what the words ask for, and answers the status to end with, from 0 to 5.
 ///
 /// Workers are started by `rt`. The words begin after the program's own name. What a command prints, and help, goes to `out`; the line of a refusal goes to `err`, and so does the parser's text on words that name no command. The command line's parser takes its memory of `words_alloc`, all else of `alloc`.
-pub fn execute<R: Threads + Sync, A: Allocator + Copy + Send + Sync, S: AsStr, F: Files, O: Out, E: Out>(
-    rt: &R,
-    words_alloc: Global,
-    alloc: A,
-    words: &[S],
-    files: &mut F,
-    out: &mut O,
-    err: &mut E,
-) -> u8
+pub fn execute<
+    R: Threads + Sync,
+    A: Allocator + Copy + Send + Sync,
+    S: AsStr,
+    F: Files,
+    O: Out,
+    E: Out,
+>(rt: &R, words_alloc: Global, alloc: A, words: &[S], files: &mut F, out: &mut O, err: &mut E) -> u8
     requires out { O.failed out.old < 2 ^ 64 - 1 }
     requires err { E.failed err.old < 2 ^ 64 - 1 }
     ensures most { result ≤ 5 }
