@@ -13,15 +13,14 @@ import hashlib
 import os
 import shutil
 import sys
-import tempfile
 import threading
-import types
 from concurrent.futures import ThreadPoolExecutor
 
 import build
 import kit
 
 PARTS = ("edits", "specs", "src")
+FLAGS = ["--jobs", "1"]
 
 
 def edits_of(crate):
@@ -55,39 +54,43 @@ def stamp_of(crate):
 class Trial:
     """Tries the edits of crates side by side, and counts."""
 
-    def __init__(self, rt, over_gate):
-        self.rt, self.over_gate = rt, over_gate
+    def __init__(self, rt, over_gate, pool):
+        self.rt, self.over_gate, self.pool = rt, over_gate, pool
         self.passed, self.failed, self.printing = 0, 0, threading.Lock()
 
-    def kept(self, crate, room):
-        """Returns the folder over which edits are tried: what a check has kept of the crate, or a new one."""
+    def seed(self, crate):
+        """Returns a folder with what a check of the crate has proved, begun with what an earlier one kept; None where the crate isn't proved."""
         own = f"{crate.folder}/out/incremental"
-        return own if os.path.isdir(own) and not self.over_gate else room
+        return self.rt.seeded(crate, FLAGS, own if os.path.isdir(own) and not self.over_gate else None)
 
-    def run(self, crate):
-        flags = ["--jobs", "1"]
-        edits = edits_of(crate)
-        with tempfile.TemporaryDirectory(prefix="edits-") as room:
-            kept = self.kept(crate, room)
-            ran = self.rt.checked(crate, {}, flags, kept)
-            if ran.returncode:
-                self.tell(crate, [(False, f"{crate.name} itself is not proved: {ran.stdout[-600:]}")])
-                return
-            tried = []
-            for edit in edits:
-                refused, said = self.rt.must_fail(crate, edit, flags, kept)
-                tried.append((refused, said.replace("must-fail ", "edits/", 1)))
-                self.tell(crate, tried[-1:])
-            self.rt.checked(crate, {}, flags, kept)
-        if all(refused for refused, _ in tried) and not self.over_gate:
+    def one(self, crate, room, edit):
+        """Returns whether the edit was refused, tried over a copy of the seed."""
+        over = f"{room}/{os.path.basename(edit)}"
+        self.rt.linked(f"{room}/seed", over)
+        kind, said = self.rt.must_fail(crate, edit, FLAGS, over)
+        shutil.rmtree(over, ignore_errors=True)
+        self.tell(kind in (self.rt.REFUSED, self.rt.AT_LIMIT), said.replace("must-fail ", "edits/", 1))
+        return kind in (self.rt.REFUSED, self.rt.AT_LIMIT)
+
+    def begin(self, crate):
+        """Returns what ends the trial of a crate, whose edits then go to the pool."""
+        room = self.seed(crate)
+        if room is None:
+            self.tell(False, f"{crate.name} itself is not proved")
+            return lambda: None
+        tried = [self.pool.submit(self.one, crate, room, edit) for edit in edits_of(crate)]
+        return lambda: self.end(crate, room, [it.result() for it in tried])
+
+    def end(self, crate, room, refused):
+        shutil.rmtree(room, ignore_errors=True)
+        if all(refused) and not self.over_gate:
             with open(f"{crate.folder}/edits/stamp", "w", encoding="ascii") as it:
                 it.write(f"{sum_of(crate)}\n")
 
-    def tell(self, crate, tried):
+    def tell(self, refused, said):
         with self.printing:
-            for refused, said in tried:
-                self.passed, self.failed = self.passed + refused, self.failed + (not refused)
-                print(said[:400], flush=True)
+            self.passed, self.failed = self.passed + refused, self.failed + (not refused)
+            print(said[:400], flush=True)
 
 
 def main():
@@ -109,10 +112,11 @@ def main():
     if not crates:
         print("the edits of all crates were refused as they stand, by their stamps")
         return 0
-    trial = Trial(rt, told.stale)
     with ThreadPoolExecutor(told.jobs) as pool:
-        for it in [pool.submit(trial.run, crate) for crate in sorted(crates, key=lambda it: -len(edits_of(it)))]:
-            it.result()
+        trial = Trial(rt, told.stale, pool)
+        seeds = [pool.submit(trial.begin, crate) for crate in sorted(crates, key=lambda it: -len(edits_of(it)))]
+        for it in seeds:
+            it.result()()
     print(f"edits: {trial.passed} passed, {trial.failed} failed")
     return 1 if trial.failed else 0
 

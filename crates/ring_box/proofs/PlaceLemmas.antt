@@ -1,6 +1,6 @@
 -- Places and minimum images.
-use Rattle.std.proofs.Common.{◌≡◌, ℕ, ◌+◌, ◌-◌, ◌*◌, ◌/◌, ◌%◌, ◌^◌, ◌<◌, ◌≤◌, inl, inr, ℤ, pos, negsuc, arith, ap}
-use Rattle.std.specs.Prelude.{◌+ℤ◌, ◌-ℤ◌, ◌*ℤ◌, ◌≤ℤ◌, ◌<ℤ◌}
+use Rattle.std.proofs.Common.{◌≡◌, ℕ, ◌+◌, ◌-◌, ◌*◌, ◌/◌, ◌%◌, ◌^◌, ◌<◌, ◌≤◌, inl, inr, ℤ, pos, negsuc, arith, ap, refl}
+use Rattle.std.specs.Prelude.{unsigned_abs, ◌+ℤ◌, ◌-ℤ◌, ◌*ℤ◌, ◌≤ℤ◌, ◌<ℤ◌}
 use Rattle.std.proofs.lemmas.Int.{ints}
 use Rattle.std.proofs.lemmas.Bool.{cases_lt}
 use Rattle.std.proofs.lemmas.Bool.Decides.{nat_tests}
@@ -61,3 +61,32 @@ minimum_image x y d p q e =
       high = s.1;
       turned = (r.0 +ℤ t.0, sum_of_turns (pos x -ℤ pos y) (pos ((x + (2 ^ 32 - y)) % 2 ^ 32)) (difference x y) r.0 t.0 r.1 t.1);
     })
+
+-- ---- the other way round
+
+whole_turn : (m n : ℕ) → 0 < m → 0 < n → m + n ≡ 2 ^ 32 → unsigned_abs (signed m) ≡ unsigned_abs (signed n)
+whole_turn m n p q e =
+    elim (cases_lt m (2 ^ 31)) [
+      | inl l ↦ grind (arith, nat_tests)
+      | inr g ↦ grind (arith, nat_tests)
+    ]
+
+-- a difference is as long the other way round
+pub difference_turned : (x y : ℕ) → x < 2 ^ 32 → y < 2 ^ 32 → unsigned_abs (difference x y) ≡ unsigned_abs (difference y x)
+difference_turned x y p q =
+    elim (cases_lt x y) [
+      | inl l ↦
+          let e : (x + (2 ^ 32 - y)) % 2 ^ 32 ≡ x + (2 ^ 32 - y) = omega arith in
+          let f : (y + (2 ^ 32 - x)) % 2 ^ 32 ≡ y - x = omega arith in
+          whole_turn ((x + (2 ^ 32 - y)) % 2 ^ 32) ((y + (2 ^ 32 - x)) % 2 ^ 32) (omega arith) (omega arith) (omega arith)
+      | inr g ↦
+          elim (cases_lt y x) [
+            | inl l ↦
+                let e : (x + (2 ^ 32 - y)) % 2 ^ 32 ≡ x - y = omega arith in
+                let f : (y + (2 ^ 32 - x)) % 2 ^ 32 ≡ y + (2 ^ 32 - x) = omega arith in
+                whole_turn ((x + (2 ^ 32 - y)) % 2 ^ 32) ((y + (2 ^ 32 - x)) % 2 ^ 32) (omega arith) (omega arith) (omega arith)
+            | inr h ↦
+                let e : x ≡ y = omega arith in
+                rw e refl
+          ]
+    ]

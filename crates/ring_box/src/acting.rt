@@ -104,8 +104,22 @@ fn are_far(x: u64, y: u64, z: u64, limit: u128) -> bool
 }
 
 impl RingBox {
-    ghost use Rattle.std.specs.Prelude.{◌≡◌, ◌≤ℤ◌, ◌<ℤ◌, IfSome};
+    ghost use Rattle.std.specs.Prelude.{◌≡◌, ◌≤ℤ◌, ◌<ℤ◌, IfSome, IsTrue, None};
     ghost use Rattle.ring_box.specs.Acting.{acting_of};
+
+    /// Whether two atoms at the places `x` and `y` don't act, as far as the upper bits of their separation tell. A no says nothing.
+    #[inline(always)]
+    pub fn is_far(&self, reach: &Reach, x: [u32; 3], y: [u32; 3]) -> bool
+        ensures { IsTrue result → acting_of reach.now self.now x y ≡ None }
+    {
+        let separation = self.separation(x, y);
+        are_far(
+            separation.x.unsigned_abs(),
+            separation.y.unsigned_abs(),
+            separation.z.unsigned_abs(),
+            reach.limit(),
+        )
+    }
 
     /// What two atoms at the places `x` and `y` have between them; `None` where their distance isn't below the cutoff: they don't act.
     pub fn acting(&self, reach: &Reach, x: [u32; 3], y: [u32; 3]) -> Option<ActingPair>
@@ -114,15 +128,6 @@ impl RingBox {
         ensures high { IfSome result (λ p. p.distance <ℤ reach.now.cutoff) }
     {
         let separation = self.separation(x, y);
-        let far = are_far(
-            separation.x.unsigned_abs(),
-            separation.y.unsigned_abs(),
-            separation.z.unsigned_abs(),
-            reach.limit(),
-        );
-        if far {
-            return None;
-        }
         let s = separation.square();
         if s >= reach.limit() {
             return None;
