@@ -8,3 +8,4 @@ pub mod TileLemmas
 pub mod CoverLemmas
 pub mod SumLemmas
 pub mod WalkLemmas
+pub mod NearLemmas

@@ -1,10 +1,11 @@
 -- A step of a walk over the pairs of a tile.
-use Rattle.std.proofs.Common.{◌≡◌, ℕ, ◌+◌, ◌*◌, ◌-◌, ◌/◌, ◌%◌, ◌<◌, ◌≤◌, Bool, true, false, List, ◌∷◌, length, get_or, drop, refl, sym, ap, ◌∙◌, ⊎_elim, arith}
+use Rattle.std.proofs.Common.{◌≡◌, ℕ, ◌+◌, ◌*◌, ◌-◌, ◌/◌, ◌%◌, ◌<◌, ◌≤◌, Bool, true, false, List, ◌++◌, length, length-drop, get_or, drop, take, refl, sym, ap, ◌∙◌, ⊎_elim, arith}
 use Rattle.std.proofs.lemmas.Bool.{cases_lt}
-use Rattle.std.proofs.lemmas.List.{drop_more}
+use Rattle.std.proofs.lemmas.List.{get_or-drop, get_or-map, get_or-take, length-map, length-take-le}
+use Rattle.std.proofs.lemmas.List.Prefix.{at_from_reads}
 use Rattle.std.proofs.lemmas.Nat.{div-add-mod', mod_below, mul-le}
-use Rattle.cell_tiles.specs.Tiles.{pair_of, pairs_among, pairs_between}
-use Rattle.cell_tiles.specs.Walks.{IsPlaceOf, IsWalk, last_of, pairs_over}
+use Rattle.cell_tiles.specs.Tiles.{pair_of, pairs_among, pairs_between, pairs_with}
+use Rattle.cell_tiles.specs.Walks.{IsPlaceOf, IsWalk, last_of, pairs_over, width_of}
 use Rattle.cell_tiles.proofs.NumberLemmas.{among_row, get_among, get_between, length_among, length_between}
 
 -- ---- where a pair stands
@@ -37,20 +38,109 @@ walk_row {one} {xs} {ys} {row} {column} {width} {left} w h =
     let l : left ≤ length (pairs_over one xs ys) = w.within in
     place_row one xs ys row column (length (pairs_over one xs ys) - left) (w.place h) (omega arith)
 
-pub walk_column : {one : Bool} {xs ys : List ℕ} {row column width left : ℕ} → IsWalk one xs ys row column width left → 0 < left → column < length ys
-walk_column {one} {xs} {ys} {row} {column} {width} {left} w h =
-    let l : left ≤ length (pairs_over one xs ys) = w.within in
-    place_column one xs ys row column (length (pairs_over one xs ys) - left) (w.place h) (omega arith)
+-- the columns of a row are those of some of the other atoms
+row_columns : (one : Bool) (xs ys : List ℕ) (row column k : ℕ) → IsPlaceOf one xs ys row column k → k < length (pairs_over one xs ys) → (column < width_of one ys row) × (width_of one ys row ≤ length ys)
+row_columns true xs ys row column k p h =
+    let r : row < length xs = place_row true xs ys row column k p h in
+    let e : length ys ≡ length xs = ap length p.0 in
+    (p.1.0, omega arith)
+row_columns false xs ys row column k p h = (p.0, omega arith)
 
--- the first pair of what is left, and the others
-pub walk_step : {one : Bool} {xs ys : List ℕ} {row column width left : ℕ} → IsWalk one xs ys row column width left → 0 < left
-    → last_of left (pairs_over one xs ys) ≡ pair_of (get_or xs row 0) (get_or ys column 0) ∷ last_of (left - 1) (pairs_over one xs ys)
-walk_step {one} {xs} {ys} {row} {column} {width} {left} w h =
+-- what is left of a row isn't more than what is left of the pairs
+row_within : (one : Bool) (xs ys : List ℕ) (row column k : ℕ) → IsPlaceOf one xs ys row column k → k < length (pairs_over one xs ys) → k + (width_of one ys row - column) ≤ length (pairs_over one xs ys)
+row_within true xs ys row column k p h =
+    let r : row < length xs = place_row true xs ys row column k p h in
+    let c : column < row = p.1.0 in
+    let e : 2 * k + row ≡ row * row + 2 * column = p.1.1 in
+    let l = length_among xs (length xs) (omega arith) in
+    let m = length xs - 1 in
+    let f : length xs ≡ m + 1 = omega arith in
+    let g : (row + 1) * row ≤ (m + 1) * m = mul-le (row + 1) row (m + 1) m (omega arith) (omega arith) in
+    let n : 2 * length (pairs_over true xs ys) + (m + 1) ≡ (m + 1) * (m + 1) = rw (← f) l in
+    omega (arith, g, n, e, c)
+row_within false xs ys row column k p h =
+    let r : row < length xs = place_row false xs ys row column k p h in
+    let l = length_between xs ys in
+    let e : k ≡ row * length ys + column = p.1 in
+    let g : (row + 1) * length ys ≤ length xs * length ys = mul-le (row + 1) (length ys) (length xs) (length ys) (omega arith) (omega arith) in
+    omega (arith, g, l, e, p.0)
+
+-- the places of a row follow one another
+along_row : (one : Bool) (xs ys : List ℕ) (row column k j : ℕ) → IsPlaceOf one xs ys row column k → column + j < width_of one ys row → IsPlaceOf one xs ys row (column + j) (k + j)
+along_row true xs ys row column k j p h = let e : 2 * k + row ≡ row * row + 2 * column = p.1.1 in (p.0, (omega arith, omega (arith, e)))
+along_row false xs ys row column k j p h = let e : k ≡ row * length ys + column = p.1 in (omega arith, omega (arith, e))
+
+-- behind a row the next begins
+next_place : (one : Bool) (xs ys : List ℕ) (row column k : ℕ) → IsPlaceOf one xs ys row column k → IsPlaceOf one xs ys (row + 1) 0 (k + (width_of one ys row - column))
+next_place true xs ys row column k p =
+    let c : column < row = p.1.0 in
+    let e : 2 * k + row ≡ row * row + 2 * column = p.1.1 in
+    (p.0, (omega arith, omega (arith, e, c)))
+next_place false xs ys row column k p = let e : k ≡ row * length ys + column = p.1 in (omega (arith, p.0), omega (arith, e, p.0))
+
+-- the pairs of what is left of a row stand where the walk is
+row_pairs : (one : Bool) (xs ys : List ℕ) (row column k : ℕ) → IsPlaceOf one xs ys row column k → k < length (pairs_over one xs ys)
+    → drop k (pairs_over one xs ys) ≡ pairs_with (get_or xs row 0) (take (width_of one ys row - column) (drop column ys)) ++ drop (k + (width_of one ys row - column)) (pairs_over one xs ys)
+row_pairs one xs ys row column k p h =
+    let n = width_of one ys row - column in
+    let zs = take n (drop column ys) in
+    let ps = pairs_with (get_or xs row 0) zs in
+    let columns = row_columns one xs ys row column k p h in
+    let within = row_within one xs ys row column k p h in
+    let some : length zs ≡ n = length-take-le n (drop column ys) (omega (arith, length-drop column ys, columns.0, columns.1)) in
+    let many : length ps ≡ n = length-map zs (pair_of (get_or xs row 0)) ∙ some in
+    let cut = at_from_reads (0, 0) (pairs_over one xs ys) ps k (omega (arith, many, within))
+    (λ j lt.
+    let below : j < n = omega (arith, many, lt) in
+    let inside : column + j < width_of one ys row = omega (arith, columns.0, below) in
+    let here = along_row one xs ys row column k j p inside in
+    let other : get_or zs j 0 ≡ get_or ys (column + j) 0 = get_or-take n (drop column ys) j 0 below ∙ get_or-drop column ys j 0 in
+    place_pair one xs ys row (column + j) (k + j) here (omega (arith, within, below))
+    ∙ sym (get_or-map (pair_of (get_or xs row 0)) zs j 0 (0, 0) (omega (arith, some, below)) ∙ ap (pair_of (get_or xs row 0)) other)) in
+    cut ∙ ap (λ m. ps ++ drop (k + m) (pairs_over one xs ys)) many
+
+-- ---- a row of a walk
+
+pub walk_columns : {one : Bool} {xs ys : List ℕ} {row column width left : ℕ} → IsWalk one xs ys row column width left → 0 < left → (column < width) × (width ≤ length ys)
+walk_columns {one} {xs} {ys} {row} {column} {width} {left} w h =
     let l : left ≤ length (pairs_over one xs ys) = w.within in
-    let e : length (pairs_over one xs ys) - left + 1 ≡ length (pairs_over one xs ys) - (left - 1) = omega arith in
-    drop_more (pairs_over one xs ys) (length (pairs_over one xs ys) - left) (0, 0) (omega arith)
-    ∙ (ap (λ p. p ∷ drop (length (pairs_over one xs ys) - left + 1) (pairs_over one xs ys)) (place_pair one xs ys row column (length (pairs_over one xs ys) - left) (w.place h) (omega arith))
-    ∙ ap (λ n. pair_of (get_or xs row 0) (get_or ys column 0) ∷ drop n (pairs_over one xs ys)) e)
+    rw w.width_is (row_columns one xs ys row column (length (pairs_over one xs ys) - left) (w.place h) (omega arith))
+
+-- what is left of the row isn't more than what is left of the walk
+pub walk_within : {one : Bool} {xs ys : List ℕ} {row column width left : ℕ} → IsWalk one xs ys row column width left → 0 < left → width - column ≤ left
+walk_within {one} {xs} {ys} {row} {column} {width} {left} w h =
+    let l : left ≤ length (pairs_over one xs ys) = w.within in
+    let r = row_within one xs ys row column (length (pairs_over one xs ys) - left) (w.place h) (omega arith) in
+    let s : length (pairs_over one xs ys) - left + (width - column) ≤ length (pairs_over one xs ys) = rw w.width_is r in
+    omega (arith, s, l)
+
+-- the pairs of what is left of the row, and those of the other rows
+pub walk_pairs : {one : Bool} {xs ys : List ℕ} {row column width left : ℕ} → IsWalk one xs ys row column width left → 0 < left
+    → last_of left (pairs_over one xs ys) ≡ pairs_with (get_or xs row 0) (take (width - column) (drop column ys)) ++ last_of (left - (width - column)) (pairs_over one xs ys)
+walk_pairs {one} {xs} {ys} {row} {column} {width} {left} w h =
+    let ps = pairs_over one xs ys in
+    let l : left ≤ length ps = w.within in
+    let t = walk_within w h in
+    let e : length ps - left + (width - column) ≡ length ps - (left - (width - column)) = omega (arith, l, t) in
+    let r = row_pairs one xs ys row column (length ps - left) (w.place h) (omega arith) in
+    let q : last_of left ps ≡ pairs_with (get_or xs row 0) (take (width - column) (drop column ys)) ++ drop (length ps - left + (width - column)) ps = rw w.width_is r in
+    q ∙ ap (λ n. pairs_with (get_or xs row 0) (take (width - column) (drop column ys)) ++ drop n ps) e
+
+-- the walk that goes on with the next row
+pub walk_on : {one : Bool} {xs ys : List ℕ} {row column width left : ℕ} (r c n : ℕ) → IsWalk one xs ys row column width left → 0 < left → r ≡ row + 1 → c ≡ 0 → n ≡ width_of one ys (row + 1) → IsWalk one xs ys r c n (left - (width - column))
+walk_on {one} {xs} {ys} {row} {column} {width} {left} r c n w h e f g =
+    let ps = pairs_over one xs ys in
+    let l : left ≤ length ps = w.within in
+    let t = walk_within w h in
+    let next = next_place one xs ys row column (length ps - left) (w.place h) in
+    let k : length ps - left + (width - column) ≡ length ps - (left - (width - column)) = omega (arith, l, t) in
+    let at : IsPlaceOf one xs ys (row + 1) 0 (length ps - left + (width - column)) = rw w.width_is next in
+    record {
+      few = w.few;
+      within = omega (arith, l);
+      width_is = rw e g;
+      place = λ some. rw (e, f, ← k) at;
+    }
 
 -- ---- the start of a walk
 

@@ -1,4 +1,5 @@
 pub mod Cells
 pub mod Cover
+pub mod Near
 pub mod Tiles
 pub mod Walks

@@ -7,9 +7,10 @@ ghost use Rattle.cell_tiles.specs.Tiles.{members_at, pairs_in};
 ghost use Rattle.ring_box.specs.Cells.{ArePlaces};
 
 use crate::grids::Grid;
+use crate::near::{FrameInBox, NearPairs};
 use crate::pairs::{AtomPair, count_among, count_between, pair_among, pair_between};
 use crate::tiles::Tile;
-use crate::walks::{TilePairs, walk_among, walk_between};
+use crate::walks::{TileRows, walk_among, walk_between};
 use std::alloc::{AllocError, Allocator};
 use std::marker::Model;
 
@@ -149,11 +150,11 @@ impl<A: Allocator + Copy> Cells<A> {
         }
     }
 
-    /// The pairs of a tile in order, from that with the number `k` on. The caller's condition: `k` is at most their
-    /// number.
-    pub fn pairs_from(&self, tile: Tile, k: u64) -> TilePairs<'_>
+    // The rows of a tile in order, from the pair with the number `k` on.
+    fn rows_from(&self, tile: Tile, k: u64) -> TileRows<'_>
         requires { k ≤ length (pairs_in self.now.members (tile.first, tile.second)) }
-        ensures { result ≡ drop k (pairs_in self.now.members (tile.first, tile.second)) }
+        ensures pairs { result.pairs ≡ drop k (pairs_in self.now.members (tile.first, tile.second)) }
+        ensures others { result.others ≡ members_at self.now.members tile.second }
     {
         let atoms = self.atoms(tile.first);
         if tile.first == tile.second {
@@ -161,5 +162,74 @@ impl<A: Allocator + Copy> Cells<A> {
         } else {
             walk_between(atoms, self.atoms(tile.second), k)
         }
+    }
+}
+
+// ---- pairs that act
+
+impl<A: Allocator + Copy> Cells<A> {
+    ghost use Rattle.std.specs.Prelude.{ℕ, ◌≡◌, ◌+◌, ◌<◌, ◌≤◌, ◌++◌, length, take, IsTrue, None};
+    ghost use Rattle.ring_box.specs.Acting.{acting_of};
+    ghost use Rattle.cell_tiles.specs.Cells.{cell_number, places_of};
+    ghost use Rattle.cell_tiles.specs.Near.{AreNear, IsPairOf, those_acting};
+    ghost use Rattle.cell_tiles.specs.Tiles.{pairs_with};
+
+    // Whether no atom of a cell acts with this one, as far as the ends of the cell tell.
+    fn is_cell_far(&self, frame: &FrameInBox, atom: u32, cell: u32) -> bool
+        requires cell { cell < cells_of self.now.bits }
+        requires atom { atom < length frame.now.places.now }
+        ensures { (b : ℕ) → IsTrue result → ArePlaces (places_of frame.now.places.now b) → cell_number self.now.bits (places_of frame.now.places.now b) ≡ cell
+            → acting_of frame.now.reach.now frame.now.ring.now (places_of frame.now.places.now atom) (places_of frame.now.places.now b) ≡ None }
+    {
+        let numbers = self.grid.numbers(cell);
+        frame.ring.is_cell_far(frame.reach, frame.places[atom as usize], self.grid.bits, numbers)
+    }
+
+    // Lists the pairs of an atom with others of a cell that may act, until there is no room, and answers how many of the pairs it has come past.
+    fn list_row(&self, frame: &FrameInBox, cell: u32, atom: u32, others: &[u32], near: &mut NearPairs) -> usize
+        requires cell { cell < cells_of self.now.bits }
+        requires there { 0 < length others.now }
+        requires places { All ArePlaces frame.now.places.now }
+        requires others { All (λ b. cell_number self.now.bits (places_of frame.now.places.now b) ≡ cell) others.now }
+        requires pairs { All (IsPairOf (length frame.now.places.now)) (pairs_with atom others.now) }
+        ensures acting { those_acting frame.now.reach.now frame.now.ring.now frame.now.places.now near.new
+            ≡ those_acting frame.now.reach.now frame.now.ring.now frame.now.places.now near.old ++ those_acting frame.now.reach.now frame.now.ring.now frame.now.places.now (take result (pairs_with atom others.now)) }
+        ensures listed { All (IsPairOf (length frame.now.places.now)) near.old → All (IsPairOf (length frame.now.places.now)) near.new }
+        ensures within { result ≤ length others.now }
+        ensures onward { length near.old < 64 → 0 < result }
+        ensures few { length near.new ≤ length near.old + result }
+    {
+        if self.is_cell_far(frame, atom, cell) {
+            others.len()
+        } else {
+            near.list(frame, atom, others)
+        }
+    }
+
+    /// Lists the pairs of a tile that act, from that with the number `k` on, in place of what `near` held: at most 64 of them, in order, with some that
+    /// may not act. It answers the number of the pair with which to go on. The caller's condition: the cells hold the atoms of the frame, and there is such
+    /// a pair.
+    pub fn near_from(&self, frame: &FrameInBox, tile: Tile, k: u64, near: &mut NearPairs) -> u64
+        requires k { k < length (pairs_in self.now.members (tile.first, tile.second)) }
+        requires cell { tile.second < cells_of self.now.bits }
+        requires members { self.now.members ≡ members_of self.now.bits frame.now.places.now }
+        requires places { All ArePlaces frame.now.places.now }
+        requires pairs { All (IsPairOf (length frame.now.places.now)) (pairs_in self.now.members (tile.first, tile.second)) }
+        ensures near { AreNear frame.now.reach.now frame.now.ring.now frame.now.places.now (pairs_in self.now.members (tile.first, tile.second)) k near.new result }
+        ensures listed { All (IsPairOf (length frame.now.places.now)) near.new }
+    {
+        // it isn't wanted but as what numbers of pairs are seen to fit by
+        let _pairs = self.pairs(tile);
+        near.clear();
+        let mut rows = self.rows_from(tile, k);
+        let mut next = k;
+        while let Some(row) = rows.next() {
+            let seen = self.list_row(frame, tile.second, row.atom, row.others, near);
+            next += seen as u64;
+            if seen < row.others.len() {
+                return next;
+            }
+        }
+        next
     }
 }

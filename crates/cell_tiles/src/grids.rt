@@ -53,7 +53,7 @@ impl Grid {
     }
 
     // The numbers of a cell along the sides.
-    fn numbers(&self, c: u32) -> [u32; 3]
+    pub(crate) fn numbers(&self, c: u32) -> [u32; 3]
         requires { c < cells_of self.now.bits }
         ensures value { result ≡ x_number self.now.bits c ∷ y_number self.now.bits c ∷ z_number self.now.bits c ∷ [] }
         ensures x { x_number self.now.bits c < 2 ^ slice_index self.now.bits 0 }

@@ -5,6 +5,7 @@
 mod cells;
 mod grids;
 mod laws;
+mod near;
 mod pairs;
 mod tiles;
 mod walks;
@@ -12,6 +13,6 @@ mod walks;
 pub use cells::Cells;
 pub use grids::Grid;
 pub use laws::{each_pair_once, sums_as_all};
+pub use near::{FrameInBox, NearPairs};
 pub use pairs::AtomPair;
 pub use tiles::{Tile, Tiles};
-pub use walks::TilePairs;

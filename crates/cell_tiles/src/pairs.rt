@@ -12,20 +12,25 @@ pub struct AtomPair {
     pub high: u32,
 }
 
-/// The pair of an atom of the one list with one of the other.
+/// The pair of two atoms.
 #[inline]
-pub(crate) fn pair_at(atoms: &[u32], i: u64, others: &[u32], j: u64) -> AtomPair
-    requires i { i < length atoms.now }
-    requires j { j < length others.now }
-    ensures { (result.low, result.high) ≡ pair_of (slice_index atoms.now i) (slice_index others.now j) }
+pub(crate) fn in_order(a: u32, b: u32) -> AtomPair
+    ensures { (result.low, result.high) ≡ pair_of a b }
 {
-    let a = atoms[i as usize];
-    let b = others[j as usize];
     if a < b {
         AtomPair { low: a, high: b }
     } else {
         AtomPair { low: b, high: a }
     }
+}
+
+/// The pair of an atom of the one list with one of the other.
+pub(crate) fn pair_at(atoms: &[u32], i: u64, others: &[u32], j: u64) -> AtomPair
+    requires i { i < length atoms.now }
+    requires j { j < length others.now }
+    ensures { (result.low, result.high) ≡ pair_of (slice_index atoms.now i) (slice_index others.now j) }
+{
+    in_order(atoms[i as usize], others[j as usize])
 }
 
 /// How many pairs these atoms make.

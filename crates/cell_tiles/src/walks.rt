@@ -1,10 +1,10 @@
-//! A walk over the pairs of a tile, in order.
+//! A walk over the rows of a tile, in order.
 
-ghost use Rattle.std.specs.Prelude.{◌≡◌, ℕ, ◌+◌, ◌<◌, ◌≤◌, List, [], ◌∷◌, length, drop, true, false, IfSome, IfNone};
-ghost use Rattle.cell_tiles.specs.Tiles.{pairs_among, pairs_between};
-ghost use Rattle.cell_tiles.specs.Walks.{IsPlaceOf, width_of};
+ghost use Rattle.std.specs.Prelude.{◌≡◌, ℕ, ◌+◌, ◌<◌, ◌≤◌, List, [], ◌++◌, ◌-◌, length, drop, take, IfSome, IfNone};
+ghost use Rattle.cell_tiles.specs.Tiles.{pairs_among, pairs_between, pairs_with};
+ghost use Rattle.cell_tiles.specs.Walks.{IsPartOf, width_of};
 
-use crate::pairs::{AtomPair, count_among, count_between, pair_at, places_of_pair};
+use crate::pairs::{count_among, count_between, places_of_pair};
 use std::marker::Model;
 
 // Where a pair stands: its row and column, and how many columns the row has.
@@ -15,19 +15,13 @@ struct Place {
     width: u64,
 }
 
-// The place after this one. Each row of one cell has a column more than the row before it.
-#[inline]
-fn after(place: Place, one_cell: bool) -> Place
-    requires row { place.row < 65536 }
-    requires column { place.column < place.width }
-    ensures place { (xs ys : List ℕ) (k : ℕ) → place.width ≡ width_of one_cell ys place.row
-        → IsPlaceOf one_cell xs ys place.row place.column k → IsPlaceOf one_cell xs ys result.row result.column (k + 1) }
-    ensures width { (ys : List ℕ) → place.width ≡ width_of one_cell ys place.row → result.width ≡ width_of one_cell ys result.row }
+// The beginning of the next row. Each row of one cell has a column more than the row before it.
+fn next_row(place: Place, one_cell: bool) -> Place
+    requires { place.row < 65536 }
+    ensures row { result.row ≡ place.row + 1 }
+    ensures column { result.column ≡ 0 }
+    ensures width { (ys : List ℕ) → place.width ≡ width_of one_cell ys place.row → result.width ≡ width_of one_cell ys (place.row + 1) }
 {
-    let column = place.column + 1;
-    if column < place.width {
-        return Place { column, ..place };
-    }
     let row = place.row + 1;
     Place {
         row,
@@ -36,9 +30,25 @@ fn after(place: Place, one_cell: bool) -> Place
     }
 }
 
-/// The pairs of a tile that are still to come. A contract sees the list of them.
+// The columns from one on to before another.
+fn columns(others: &[u32], from: u64, to: u64) -> &[u32]
+    requires order { from ≤ to }
+    requires within { to ≤ length others.now }
+    ensures { result.now ≡ take (to - from) (drop from others.now) }
+{
+    &others[from as usize..to as usize]
+}
+
+/// A row of a tile, or what is left of one: an atom, and others with each of which it makes a pair.
+#[derive(Clone, Copy)]
+pub struct TileRow<'a> {
+    pub atom: u32,
+    pub others: &'a [u32],
+}
+
+/// The rows of a tile that are still to come. A contract sees the list of their pairs, and the atoms that the rows are cut from.
 #[derive(Drop)]
-pub struct TilePairs<'a> {
+pub struct TileRows<'a> {
     atoms: &'a [u32],
     others: &'a [u32],
     one_cell: bool,
@@ -46,25 +56,24 @@ pub struct TilePairs<'a> {
     left: u64,
 }
 
-impl<'a> Model for TilePairs<'a> {
-    ghost use Rattle.std.specs.Prelude.{ℕ, List};
-    ghost use Rattle.cell_tiles.specs.Walks.{IsWalk, last_of, pairs_over};
+impl<'a> Model for TileRows<'a> {
+    ghost use Rattle.cell_tiles.specs.Walks.{IsWalk, Walk, last_of, pairs_over};
 
-    ghost Value = { List (ℕ × ℕ) };
+    ghost Value = { Walk };
 
-    ghost view = { λ t. last_of t.left (pairs_over t.one_cell t.atoms.now t.others.now) };
+    ghost view = { λ t. record { pairs = last_of t.left (pairs_over t.one_cell t.atoms.now t.others.now); others = t.others.now } };
 
     ghost invariant = { λ t. IsWalk t.one_cell t.atoms.now t.others.now t.place.row t.place.column t.place.width t.left };
 }
 
-/// The pairs of these atoms, from that with the number `k` on.
-pub(crate) fn walk_among(atoms: &[u32], k: u64) -> TilePairs<'_>
+/// The rows of these atoms, from the pair with the number `k` on.
+pub(crate) fn walk_among(atoms: &[u32], k: u64) -> TileRows<'_>
     requires few { length atoms.now ≤ 65536 }
     requires within { k ≤ length (pairs_among atoms.now (length atoms.now)) }
-    ensures { result ≡ drop k (pairs_among atoms.now (length atoms.now)) }
+    ensures { result ≡ record { pairs = drop k (pairs_among atoms.now (length atoms.now)); others = atoms.now } }
 {
     let (column, row) = places_of_pair(k);
-    TilePairs {
+    TileRows {
         atoms,
         others: atoms,
         one_cell: true,
@@ -77,12 +86,12 @@ pub(crate) fn walk_among(atoms: &[u32], k: u64) -> TilePairs<'_>
     }
 }
 
-/// The pairs of one of these atoms with one of the others, from that with the number `k` on.
-pub(crate) fn walk_between<'a>(atoms: &'a [u32], others: &'a [u32], k: u64) -> TilePairs<'a>
+/// The rows of one of these atoms with the others, from the pair with the number `k` on.
+pub(crate) fn walk_between<'a>(atoms: &'a [u32], others: &'a [u32], k: u64) -> TileRows<'a>
     requires atoms { length atoms.now ≤ 65536 }
     requires others { length others.now ≤ 65536 }
     requires within { k ≤ length (pairs_between atoms.now others.now) }
-    ensures { result ≡ drop k (pairs_between atoms.now others.now) }
+    ensures { result ≡ record { pairs = drop k (pairs_between atoms.now others.now); others = others.now } }
 {
     let width = others.len() as u64;
     let (row, column) = if width == 0 {
@@ -90,7 +99,7 @@ pub(crate) fn walk_between<'a>(atoms: &'a [u32], others: &'a [u32], k: u64) -> T
     } else {
         (k / width, k % width)
     };
-    TilePairs {
+    TileRows {
         atoms,
         others,
         one_cell: false,
@@ -99,20 +108,25 @@ pub(crate) fn walk_between<'a>(atoms: &'a [u32], others: &'a [u32], k: u64) -> T
     }
 }
 
-impl<'a> TilePairs<'a> {
-    /// The next pair; `None` at the end.
-    #[inline]
-    pub fn next(&mut self) -> Option<AtomPair>
-        ensures some { IfSome result (λ pair. self.old ≡ (pair.low, pair.high) ∷ self.new) }
-        ensures none { IfNone result ((self.old ≡ []) × (self.new ≡ [])) }
+impl<'a> TileRows<'a> {
+    /// The next row, or what is left of it; `None` at the end.
+    pub fn next(&mut self) -> Option<TileRow<'a>>
+        ensures some { IfSome result (λ row. self.old.pairs ≡ pairs_with row.atom row.others.now ++ self.new.pairs) }
+        ensures there { IfSome result (λ row. 0 < length row.others.now) }
+        ensures part { IfSome result (λ row. IsPartOf row.others.now self.old.others) }
+        ensures others { self.new.others ≡ self.old.others }
+        ensures none { IfNone result (self.old.pairs ≡ []) }
     {
         if self.left == 0 {
             return None;
         }
         let place = self.place;
-        let pair = pair_at(self.atoms, place.row, self.others, place.column);
-        self.left -= 1;
-        self.place = after(place, self.one_cell);
-        Some(pair)
+        let row = TileRow {
+            atom: self.atoms[place.row as usize],
+            others: columns(self.others, place.column, place.width),
+        };
+        self.left -= place.width - place.column;
+        self.place = next_row(place, self.one_cell);
+        Some(row)
     }
 }

@@ -1,0 +1,140 @@
+-- The pairs of a tile that may act, as they are listed.
+use Rattle.std.proofs.Common.{◌≡◌, ℕ, zero, suc, ◌+◌, ◌^◌, ◌<◌, ◌≤◌, Bool, true, false, List, [], ◌∷◌, ◌++◌, length, get_or, set, take, drop, map, filter, None, inl, inr, refl, subst, sym, ap, ◌∙◌, arith, append-nil, eqb, eqb-true, length-append, length-drop}
+use Rattle.std.specs.Prelude.{is_some, nat_lt, slice_index}
+use Rattle.std.specs.List.{All}
+use Rattle.std.proofs.lemmas.Bool.{cases_Bool}
+use Rattle.std.proofs.lemmas.Bool.Decides.{nat_tests}
+use Rattle.std.proofs.lemmas.List.{append_assoc, drop-append-le, drop-drop, drop_all, get_or-map, get_or_append_left, length-map, map-append, take-append-drop, take-set, take_more, take_more_set}
+use Rattle.std.proofs.lemmas.List.Elements.{All-drop, All-from_get_or, All-get_or, All-push, All-take, All-weaker, filter-append, filter_passes}
+use Rattle.ring_box.specs.Acting.{AreInCell, Reach, acting_of}
+use Rattle.ring_box.specs.Cells.{ArePlaces, cell_of}
+use Rattle.ring_box.specs.declared.boxes.RingBox.{RingBox}
+use Rattle.ring_box.proofs.ActingLemmas.{idle_turned}
+use Rattle.ring_box.proofs.CellLemmas.{cell_below}
+use Rattle.cell_tiles.specs.Cells.{IsBits, IsGrid, cell_number, cells_of, members_of, numbers_below, places_of, x_number, y_number, z_number}
+use Rattle.cell_tiles.specs.Near.{IsPairOf, act}
+use Rattle.cell_tiles.specs.Tiles.{members_at, pair_of, pairs_with}
+use Rattle.cell_tiles.specs.Walks.{IsPartOf}
+use Rattle.cell_tiles.proofs.CellLemmas.{x_of_place, y_of_place, z_of_place}
+use Rattle.cell_tiles.proofs.MemberLemmas.{members_here}
+
+-- ---- the atoms of a pair
+
+both_inside : (n a b : ℕ) → IsPairOf n (pair_of a b) → (a < n) × (b < n)
+both_inside n a b p =
+    elim (cases_Bool (nat_lt a b)) [
+      | inl e ↦ let q : IsPairOf n (a, b) = rw e at p in (omega (arith, q.0, q.1), q.1)
+      | inr e ↦ let q : IsPairOf n (b, a) = rw e at p in (q.1, omega (arith, q.0, q.1))
+    ]
+
+pub pair_inside : (n a : ℕ) (bs : List ℕ) (j : ℕ) → All (IsPairOf n) (pairs_with a bs) → j < length bs → IsPairOf n (pair_of a (get_or bs j 0))
+pair_inside n a bs j all lt =
+    rw (get_or-map (pair_of a) bs j 0 (0, 0) lt) at (All-get_or (IsPairOf n) (pairs_with a bs) j (0, 0) (omega (arith, length-map bs (pair_of a), lt)) all)
+
+pub first_inside : (n a : ℕ) (bs : List ℕ) (j : ℕ) → All (IsPairOf n) (pairs_with a bs) → j < length bs → a < n
+first_inside n a bs j all lt = (both_inside n a (get_or bs j 0) (pair_inside n a bs j all lt)).0
+
+pub second_inside : (n a : ℕ) (bs : List ℕ) (j : ℕ) → All (IsPairOf n) (pairs_with a bs) → j < length bs → get_or bs j 0 < n
+second_inside n a bs j all lt = (both_inside n a (get_or bs j 0) (pair_inside n a bs j all lt)).1
+
+-- two atoms that don't act are a pair that doesn't
+pub pair_idle : (d : Reach) (b : RingBox) (frame : List (List ℕ)) (i j : ℕ) → ArePlaces (places_of frame i) → ArePlaces (places_of frame j) → acting_of d b (places_of frame i) (places_of frame j) ≡ None → act d b frame (pair_of i j) ≡ false
+pair_idle d b frame i j p q h =
+    elim (cases_Bool (nat_lt i j)) [
+      | inl e ↦ rw (e, h) refl
+      | inr e ↦ rw (e, idle_turned d b (places_of frame i) (places_of frame j) p q h) refl
+    ]
+
+-- ---- cells
+
+along : (x b : ℕ) → IsBits b → x < 2 ^ 32 → cell_of x b < 2 ^ b
+along x b h p = cell_below x b (omega (arith, h.1)) p
+
+-- an atom lies in the cell that has its number
+pub lies_in : (bits x : List ℕ) (c : ℕ) → IsGrid bits → ArePlaces x → cell_number bits x ≡ c → AreInCell bits (x_number bits c ∷ y_number bits c ∷ z_number bits c ∷ []) x
+lies_in bits x c g p e =
+    let j = along (slice_index x 1) (slice_index bits 1) g.1 p.1 in
+    let k = along (slice_index x 2) (slice_index bits 2) g.2 p.2 in
+    let i = cell_of (slice_index x 0) (slice_index bits 0) in
+    let m = cell_of (slice_index x 1) (slice_index bits 1) in
+    let n = cell_of (slice_index x 2) (slice_index bits 2) in
+    ((p.0, sym (x_of_place i m n (2 ^ slice_index bits 1) (2 ^ slice_index bits 2) j k) ∙ ap (x_number bits) e),
+    (p.1, sym (y_of_place i m n (2 ^ slice_index bits 1) (2 ^ slice_index bits 2) j k) ∙ ap (y_number bits) e),
+    (p.2, sym (z_of_place i m n (2 ^ slice_index bits 1) (2 ^ slice_index bits 2) k) ∙ ap (z_number bits) e))
+
+-- ---- lists of those that act
+
+module _ (acts : ℕ × ℕ → Bool) where
+  -- where none acts none is left
+  pub none_left : (n : ℕ) (ps : List (ℕ × ℕ)) → ((j : ℕ) → j < length ps → acts (get_or ps j (0, 0)) ≡ false) → filter acts (take n ps) ≡ []
+  none_left zero ps h = refl
+  none_left (suc n) [] h = refl
+  none_left (suc n) (p ∷ ps) h = rw (h 0 (omega arith)) (none_left n ps (λ j lt. h (suc j) (omega arith)))
+
+  -- the next pair is listed
+  pub listed_next : {X : Type 0} (pair : X → ℕ × ℕ) (xs : List X) (x : X) (count : ℕ) (old ps : List (ℕ × ℕ)) (j : ℕ) → count < length xs → j < length ps → pair x ≡ get_or ps j (0, 0)
+      → filter acts (map pair (take count xs)) ≡ filter acts old ++ filter acts (take j ps) → filter acts (map pair (take (count + 1) (set xs count x))) ≡ filter acts old ++ filter acts (take (j + 1) ps)
+  listed_next pair xs x count old ps j room lt is before =
+      ap (λ ys. filter acts (map pair ys)) (take_more_set xs count x room)
+      ∙ (ap (filter acts) (map-append pair (take count xs) (x ∷ []))
+      ∙ (filter-append acts (map pair (take count xs)) (pair x ∷ [])
+      ∙ (ap (λ ys. ys ++ filter acts (pair x ∷ [])) before
+      ∙ (append_assoc (filter acts old) (filter acts (take j ps)) (filter acts (pair x ∷ []))
+      ∙ ap (λ ys. filter acts old ++ ys)
+      (ap (λ p. filter acts (take j ps) ++ filter acts (p ∷ [])) is
+      ∙ (sym (filter-append acts (take j ps) (get_or ps j (0, 0) ∷ [])) ∙ ap (filter acts) (sym (take_more ps j (0, 0) lt))))))))
+
+  -- or doesn't act, and is passed over
+  pub passed_next : {X : Type 0} (pair : X → ℕ × ℕ) (xs : List X) (x : X) (count : ℕ) (old ps : List (ℕ × ℕ)) (j : ℕ) → j < length ps → acts (get_or ps j (0, 0)) ≡ false
+      → filter acts (map pair (take count xs)) ≡ filter acts old ++ filter acts (take j ps) → filter acts (map pair (take count (set xs count x))) ≡ filter acts old ++ filter acts (take (j + 1) ps)
+  passed_next pair xs x count old ps j lt idle before =
+      let none : filter acts (get_or ps j (0, 0) ∷ []) ≡ [] = rw idle refl in
+      ap (λ ys. filter acts (map pair ys)) (take-set xs count x)
+      ∙ (before
+      ∙ ap (λ ys. filter acts old ++ ys)
+      (sym (ap (filter acts) (take_more ps j (0, 0) lt)
+      ∙ (filter-append acts (take j ps) (get_or ps j (0, 0) ∷ []) ∙ (ap (λ ys. filter acts (take j ps) ++ ys) none ∙ append-nil (filter acts (take j ps)))))))
+
+  -- some of a row are come past
+  pub come_past : (ps near new row rest : List (ℕ × ℕ)) (k next seen : ℕ) → drop next ps ≡ row ++ rest → seen ≤ length row → filter acts new ≡ filter acts near ++ filter acts (take seen row)
+      → filter acts (drop k ps) ≡ filter acts near ++ filter acts (drop next ps) → filter acts (drop k ps) ≡ filter acts new ++ filter acts (drop (next + seen) ps)
+  come_past ps near new row rest k next seen here within listed before =
+      let behind : drop (next + seen) ps ≡ drop seen row ++ rest = sym (drop-drop seen next ps) ∙ (ap (drop seen) here ∙ drop-append-le seen row rest within) in
+      let split : row ++ rest ≡ take seen row ++ drop (next + seen) ps =
+      ap (λ ys. ys ++ rest) (sym (take-append-drop seen row)) ∙ (append_assoc (take seen row) (drop seen row) rest ∙ ap (λ ys. take seen row ++ ys) (sym behind)) in
+      before
+      ∙ (ap (λ ys. filter acts near ++ ys) (ap (filter acts) (here ∙ split) ∙ filter-append acts (take seen row) (drop (next + seen) ps))
+      ∙ (sym (append_assoc (filter acts near) (filter acts (take seen row)) (filter acts (drop (next + seen) ps))) ∙ ap (λ ys. ys ++ filter acts (drop (next + seen) ps)) (sym listed)))
+
+-- one pair more
+pub all_listed : {X : Type 0} (P : ℕ × ℕ → Type 0) (pair : X → ℕ × ℕ) (xs : List X) (x : X) (count : ℕ) → count < length xs → All P (map pair (take count xs)) → P (pair x) → All P (map pair (take (count + 1) (set xs count x)))
+all_listed P pair xs x count room all one =
+    rw (take_more_set xs count x room, map-append pair (take count xs) (x ∷ [])) (All-push P (map pair (take count xs)) (pair x) all one)
+
+-- ---- rows
+
+-- a row is no longer than what is left
+pub row_fits : (ps row rest : List (ℕ × ℕ)) (next : ℕ) → next ≤ length ps → drop next ps ≡ row ++ rest → next + length row ≤ length ps
+row_fits ps row rest next h here = omega (arith, length-drop next ps, ap length here, length-append row rest)
+
+-- behind a row the rest begins
+pub row_passed : (ps row rest : List (ℕ × ℕ)) (next seen : ℕ) → drop next ps ≡ row ++ rest → seen ≡ length row → rest ≡ drop (next + seen) ps
+row_passed ps row rest next seen here all =
+    sym (sym (drop-drop seen next ps) ∙ (ap (drop seen) here ∙ (drop-append-le seen row rest (omega arith) ∙ ap (λ ys. ys ++ rest) (drop_all seen row (omega arith)))))
+
+-- what holds of all pairs from a number on holds of a row there
+pub row_all : (P : ℕ × ℕ → Type 0) (ps row rest : List (ℕ × ℕ)) (next : ℕ) → All P ps → drop next ps ≡ row ++ rest → All P row
+row_all P ps row rest next all here =
+    let behind : All P (row ++ rest) = subst (All P) here (All-drop P next ps all) in
+    All-from_get_or P row (0, 0) (λ i lt. subst P (get_or_append_left row rest (0, 0) i lt) (All-get_or P (row ++ rest) i (0, 0) (omega (arith, length-append row rest, lt)) behind))
+
+-- the atoms of a cell have its number
+pub members_lie : (bits : List ℕ) (frame : List (List ℕ)) (c : ℕ) → c < cells_of bits → All (λ a. cell_number bits (places_of frame a) ≡ c) (members_at (members_of bits frame) c)
+members_lie bits frame c h =
+    let here = members_here bits frame (length frame) c h in
+    let passes = filter_passes (λ a. eqb (cell_number bits (places_of frame a)) c) (numbers_below (length frame)) in
+    rw here (All-weaker (λ a. eqb (cell_number bits (places_of frame a)) c ≡ true) (λ a. cell_number bits (places_of frame a) ≡ c) (λ a e. eqb-true _ _ e) _ passes)
+
+-- so has each of some of them
+pub part_lies : (P : ℕ → Type 0) (xs ys : List ℕ) → IsPartOf xs ys → All P ys → All P xs
+part_lies P xs ys part all = rw part.2 (All-take P part.1 (drop part.0 ys) (All-drop P part.0 ys all))

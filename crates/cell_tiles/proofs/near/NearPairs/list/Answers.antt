@@ -1,0 +1,59 @@
+use Rattle.std.proofs.Common.{rules, ◌≡◌, ℕ, ◌<◌, false, arith, ap, subst, sym, ◌∙◌, length, length-set, get_or}
+use Rattle.std.specs.Prelude.{IsTrue}
+use Rattle.std.specs.List.{All}
+use Rattle.std.proofs.lemmas.List.{get_or-map, length-map, take-set}
+use Rattle.std.proofs.lemmas.List.Elements.{All-get_or}
+use Rattle.ring_box.specs.Cells.{ArePlaces}
+use Rattle.cell_tiles.specs.declared.pairs.AtomPair.{AtomPair}
+use Rattle.cell_tiles.specs.Near.{IsPairOf, act}
+use Rattle.cell_tiles.specs.Tiles.{pair_of, pairs_with}
+use Rattle.cell_tiles.proofs.NearLemmas.{all_listed, first_inside, listed_next, pair_idle, pair_inside, passed_next, second_inside}
+use Rattle.cell_tiles.proofs.near.NearPairs.list.Goals as goal
+use Rattle.cell_tiles.proofs.near.NearPairs.list.Goals.{then-not-is_far, else-not-is_far}
+
+pub bounds-frame-atom : goal.bounds-frame-atom
+bounds-frame-atom c = first_inside (length c.args.frame.now.places.now) c.args.atom c.args.others.now 0 c.requires.pairs c.requires.there
+
+pub bounds-frame-other : goal.bounds-frame-other
+bounds-frame-other c = second_inside (length c.args.frame.now.places.now) c.args.atom c.args.others.now c.loop-j.j c.requires.pairs c.loop-j-test.true
+
+pub loop-j-preserved : goal.loop-j-preserved
+loop-j-preserved c =
+    let frame = c.args.frame.now.places.now in
+    let d = c.args.frame.now.reach.now in
+    let b = c.args.frame.now.ring.now in
+    let a = c.args.atom in
+    let others = c.args.others.now in
+    let j = c.loop-j.j in
+    let other = get_or others j 0 in
+    let ps = pairs_with a others in
+    let pair : AtomPair → ℕ × ℕ = λ p. (p.low, p.high) in
+    let xs = c.loop-j.self-inside.pairs in
+    let count = c.loop-j.count in
+    let x = c.in_order.result in
+    let kept = c.loop-j.invariant in
+    let here : get_or ps j (0, 0) ≡ pair_of a other = get_or-map (pair_of a) others j 0 (0, 0) c.loop-j-test.true in
+    let lt : j < length ps = omega (arith, length-map others (pair_of a), c.loop-j-test.true) in
+    let is : pair x ≡ get_or ps j (0, 0) = c.in_order.ensures ∙ sym here in
+    let room : count < length xs = omega (arith, kept.wide, kept.few, c.if-count-eq64.false) in
+    elim c.if-not-is_far.branch [
+      | then-not-is_far w ↦ record {
+        acting = rw w.count-is (listed_next (act d b frame) pair xs x count c.args.self.now ps j room lt is kept.acting);
+        listed = λ all. rw w.count-is (all_listed (IsPairOf (length frame)) pair xs x count room (kept.listed all) (subst (IsPairOf (length frame)) (sym c.in_order.ensures) (pair_inside (length frame) a others j c.requires.pairs c.loop-j-test.true)));
+        few = rw w.count-is (omega (arith, kept.few, room, kept.wide));
+        wide = length-set xs count x ∙ kept.wide;
+        grown = rw w.count-is (omega (arith, kept.grown));
+      }
+      | else-not-is_far w ↦
+          let told : IsTrue c.is_far.result = search rules in
+          let first : ArePlaces (get_or frame a _) = All-get_or ArePlaces frame a _ (first_inside (length frame) a others j c.requires.pairs c.loop-j-test.true) c.requires.places in
+          let second : ArePlaces (get_or frame other _) = All-get_or ArePlaces frame other _ (second_inside (length frame) a others j c.requires.pairs c.loop-j-test.true) c.requires.places in
+          let idle = ap (act d b frame) here ∙ pair_idle d b frame a other first second (c.is_far.ensures told) in
+          record {
+            acting = rw w.count-is (passed_next (act d b frame) pair xs x count c.args.self.now ps j lt idle kept.acting);
+            listed = λ all. rw (w.count-is, take-set xs count x) (kept.listed all);
+            few = rw w.count-is (omega (arith, kept.few));
+            wide = length-set xs count x ∙ kept.wide;
+            grown = rw w.count-is (omega (arith, kept.grown));
+          }
+    ]

@@ -1,0 +1,37 @@
+use Rattle.std.proofs.Common.{arith, ◌-◌, drop, length-drop}
+use Rattle.std.proofs.lemmas.List.{length-take-le}
+use Rattle.cell_tiles.proofs.WalkLemmas.{walk_columns, walk_on, walk_pairs, walk_row, walk_within}
+use Rattle.cell_tiles.proofs.walks.TileRows.next.Goals as goal
+
+pub offset_bounds-self-inside-place : goal.offset_bounds-self-inside-place
+offset_bounds-self-inside-place c = omega (arith, c.self.invariant.few, walk_row c.self.invariant (omega arith))
+
+pub bounds-self-inside-place : goal.bounds-self-inside-place
+bounds-self-inside-place c = walk_row c.self.invariant (omega arith)
+
+pub columns-requires-clause-within : goal.columns-requires-clause-within
+columns-requires-clause-within c = (walk_columns c.self.invariant (omega arith)).1
+
+pub overflow_sub-self-2 : goal.overflow_sub-self-2
+overflow_sub-self-2 c = walk_within c.self.invariant (omega arith)
+
+pub next_row-self-inside-requires : goal.next_row-self-inside-requires
+next_row-self-inside-requires c = omega (arith, c.self.invariant.few, walk_row c.self.invariant (omega arith))
+
+pub invariant_of-self : goal.invariant_of-self
+invariant_of-self c =
+    let next = c.next_row-self-inside.ensures in
+    walk_on c.next_row-self-inside.result.row c.next_row-self-inside.result.column c.next_row-self-inside.result.width c.self.invariant (omega arith) next.row next.column (next.width c.self.inside.others.now c.self.invariant.width_is)
+
+pub returns-clause-some : goal.returns-clause-some
+returns-clause-some c = rw (← c.self.view_is, c.columns.ensures) (walk_pairs c.self.invariant (omega arith))
+
+pub returns-clause-there : goal.returns-clause-there
+returns-clause-there c =
+    let place = c.self.inside.place in
+    let columns = walk_columns c.self.invariant (omega arith) in
+    let others = c.self.inside.others.now in
+    rw c.columns.ensures (omega (arith, columns.0, columns.1, length-drop place.column others, length-take-le (place.width - place.column) (drop place.column others) (omega (arith, length-drop place.column others, columns.1))))
+
+pub returns-clause-part : goal.returns-clause-part
+returns-clause-part c = rw (← c.self.view_is) (c.self.inside.place.column, c.self.inside.place.width - c.self.inside.place.column, c.columns.ensures)

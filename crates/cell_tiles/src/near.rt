@@ -1,0 +1,96 @@
+//! Pairs that may act.
+
+ghost use Rattle.std.specs.Prelude.{◌≡◌, ◌+◌, ◌<◌, ◌≤◌, ◌++◌, ℕ, length, map, take};
+ghost use Rattle.std.specs.List.{All};
+ghost use Rattle.ring_box.specs.Cells.{ArePlaces};
+ghost use Rattle.cell_tiles.specs.Near.{IsPairOf, those_acting};
+ghost use Rattle.cell_tiles.specs.Tiles.{pair_of, pairs_with};
+
+use crate::pairs::{AtomPair, in_order};
+use ring_box::{Reach, RingBox};
+use std::marker::Model;
+
+/// The atoms of a frame at their places in a box, and how far forces reach in it.
+#[derive(Clone, Copy)]
+pub struct FrameInBox<'a> {
+    pub ring: &'a RingBox,
+    pub reach: &'a Reach,
+    pub places: &'a [[u32; 3]],
+}
+
+/// At most 64 pairs of atoms, in order. A contract sees the list of them.
+#[derive(Drop)]
+pub struct NearPairs {
+    pairs: [AtomPair; 64],
+    count: usize,
+}
+
+impl Model for NearPairs {
+    ghost use Rattle.std.specs.Prelude.{ℕ, List, ◌≤◌, map, take};
+
+    ghost Value = { List (ℕ × ℕ) };
+
+    ghost view = { λ n. map (λ p. (p.low, p.high)) (take n.count n.pairs) };
+
+    ghost invariant = { λ n. n.count ≤ 64 };
+}
+
+impl NearPairs {
+    ghost use Rattle.std.specs.Prelude.{[]};
+
+    /// No pairs.
+    pub fn new() -> NearPairs
+        ensures { result ≡ [] }
+    {
+        NearPairs {
+            pairs: [AtomPair { low: 0, high: 0 }; 64],
+            count: 0,
+        }
+    }
+
+    /// The pairs.
+    pub fn as_slice(&self) -> &[AtomPair]
+        ensures value { map (λ p. (p.low, p.high)) result.now ≡ self.now }
+        ensures few { length result.now ≤ 64 }
+    {
+        &self.pairs[..self.count]
+    }
+
+    /// Lets go of all pairs.
+    pub(crate) fn clear(&mut self)
+        ensures { self.new ≡ [] }
+    {
+        self.count = 0;
+    }
+
+    /// Lists the pairs of an atom with others but for those that are far as the upper bits of their separation tell, until there is no room. It answers how many
+    /// of the pairs it has come past. Each pair is written, and counted where it isn't far, so that no branch has to be foreseen.
+    pub(crate) fn list(&mut self, frame: &FrameInBox, atom: u32, others: &[u32]) -> usize
+        requires there { 0 < length others.now }
+        requires places { All ArePlaces frame.now.places.now }
+        requires pairs { All (IsPairOf (length frame.now.places.now)) (pairs_with atom others.now) }
+        ensures acting { those_acting frame.now.reach.now frame.now.ring.now frame.now.places.now self.new
+            ≡ those_acting frame.now.reach.now frame.now.ring.now frame.now.places.now self.old ++ those_acting frame.now.reach.now frame.now.ring.now frame.now.places.now (take result (pairs_with atom others.now)) }
+        ensures listed { All (IsPairOf (length frame.now.places.now)) self.old → All (IsPairOf (length frame.now.places.now)) self.new }
+        ensures within { result ≤ length others.now }
+        ensures onward { length self.old < 64 → 0 < result }
+        ensures few { length self.new ≤ length self.old + result }
+    {
+        let (ring, reach) = (*frame.ring, *frame.reach);
+        let x = frame.places[atom as usize];
+        let mut count = self.count;
+        for j in 0..others.len() {
+            if count == 64 {
+                self.count = count;
+                return j;
+            }
+            let other = others[j];
+            self.pairs[count] = in_order(atom, other);
+            if !ring.is_far(&reach, x, frame.places[other as usize]) {
+                count += 1;
+            }
+        }
+        self.count = count;
+        others.len()
+    }
+}
