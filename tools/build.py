@@ -41,12 +41,12 @@ class Build:
         self.crates, self.log = crates, log
         self.began, self.done, self.printing = time.monotonic(), 0, threading.Lock()
 
-    def prove(self, crate):
-        """Returns whether the library was proved and built."""
+    def prove(self, crate, jobs):
+        """Returns whether the library was proved and built, by so many copies of the prover."""
         began = time.monotonic()
         crate.out = open(f"{self.log}.{crate.name}", "w+", encoding="utf-8", errors="replace")
         with crate.out:
-            status = crate.build_rlib(["--jobs", "1"], anew=False)
+            status = crate.build_rlib(["--jobs", str(jobs)], anew=False)
             crate.out.seek(0)
             said = crate.out.read()
         os.remove(f"{self.log}.{crate.name}")
@@ -65,20 +65,22 @@ class Build:
                 print("".join(line for line in said.splitlines(True) if ": error" in line)[:4000], end="", flush=True)
 
     def run(self, lanes):
-        """Proves each crate once those below it are proved, and returns whether all were."""
+        """Proves each crate once those below it are proved, and returns whether all were. Lanes that no other crate waits for go to those that can begin."""
         behind = longest_chains(self.crates)
         left, running = sorted(self.crates, key=lambda it: -behind[it]), {}
         proved = {dep for it in left for dep in it.below()} - set(left)
         with ThreadPoolExecutor(lanes) as pool:
             while left or running:
-                ready = [it for it in left if proved.issuperset(it.below())][: lanes - len(running)]
+                free = lanes - sum(jobs for _, jobs in running.values())
+                ready = [it for it in left if proved.issuperset(it.below())][:free]
                 for it in ready:
                     left.remove(it)
-                    running[pool.submit(self.prove, it)] = it
+                    jobs = free // len(ready)
+                    running[pool.submit(self.prove, it, jobs)] = it, jobs
                 if not running:
                     return False
                 for it in wait(running, return_when=FIRST_COMPLETED).done:
-                    crate = running.pop(it)
+                    crate, _ = running.pop(it)
                     proved |= {crate} if it.result() else set()
         return True
 

@@ -57,10 +57,11 @@ lies_in bits x c g p e =
     let k = along (slice_index x 2) (slice_index bits 2) g.2 p.2 in
     let i = cell_of (slice_index x 0) (slice_index bits 0) in
     let m = cell_of (slice_index x 1) (slice_index bits 1) in
-    let n = cell_of (slice_index x 2) (slice_index bits 2) in
-    ((p.0, sym (x_of_place i m n (2 ^ slice_index bits 1) (2 ^ slice_index bits 2) j k) ∙ ap (x_number bits) e),
-    (p.1, sym (y_of_place i m n (2 ^ slice_index bits 1) (2 ^ slice_index bits 2) j k) ∙ ap (y_number bits) e),
-    (p.2, sym (z_of_place i m n (2 ^ slice_index bits 1) (2 ^ slice_index bits 2) k) ∙ ap (z_number bits) e))
+    let n = cell_of (slice_index x 2) (slice_index bits 2) in (
+      (p.0, sym (x_of_place i m n (2 ^ slice_index bits 1) (2 ^ slice_index bits 2) j k) ∙ ap (x_number bits) e),
+      (p.1, sym (y_of_place i m n (2 ^ slice_index bits 1) (2 ^ slice_index bits 2) j k) ∙ ap (y_number bits) e),
+      (p.2, sym (z_of_place i m n (2 ^ slice_index bits 1) (2 ^ slice_index bits 2) k) ∙ ap (z_number bits) e),
+    )
 
 -- ---- lists of those that act
 

@@ -182,11 +182,23 @@ impl<A: Allocator + Copy> Cells<A> {
             → acting_of frame.now.reach.now frame.now.ring.now (places_of frame.now.places.now atom) (places_of frame.now.places.now b) ≡ None }
     {
         let numbers = self.grid.numbers(cell);
-        frame.ring.is_cell_far(frame.reach, frame.places[atom as usize], self.grid.bits, numbers)
+        frame.ring.is_cell_far(
+            frame.reach,
+            frame.places[atom as usize],
+            self.grid.bits,
+            numbers,
+        )
     }
 
     // Lists the pairs of an atom with others of a cell that may act, until there is no room, and answers how many of the pairs it has come past.
-    fn list_row(&self, frame: &FrameInBox, cell: u32, atom: u32, others: &[u32], near: &mut NearPairs) -> usize
+    fn list_row(
+        &self,
+        frame: &FrameInBox,
+        cell: u32,
+        atom: u32,
+        others: &[u32],
+        near: &mut NearPairs,
+    ) -> usize
         requires cell { cell < cells_of self.now.bits }
         requires there { 0 < length others.now }
         requires places { All ArePlaces frame.now.places.now }

@@ -8,4 +8,3 @@ pub mod EngineLaws
 pub mod EnergySumLaws
 pub mod EngineEnergyLaws
 pub mod EnergyOfTexts
-pub mod WalkLaws

@@ -1,8 +1,8 @@
 -- Pairs that act, in rows: what is found, asked and added is what each pair adds.
-use Rattle.std.proofs.Common.{◌≡◌, ℕ, ◌+◌, ◌^◌, ◌<◌, ◌≤◌, List, [], ◌∷◌, ◌++◌, length, map, take, ℤ, pos, Option, Some, None, Ok, inl, inr, arith, refl, ap, subst, sym, ◌∙◌, get_or}
-use Rattle.std.specs.Prelude.{IfSome, neg_ℤ, option_map, slice_get, slice_index, slice_index_or, slice_set, unsigned_abs}
+use Rattle.std.proofs.Common.{◌≡◌, ℕ, ◌+◌, ◌^◌, ◌<◌, ◌≤◌, cond, List, [], ◌∷◌, ◌++◌, length, map, filter, take, drop, ℤ, pos, Option, Some, None, Ok, inl, inr, arith, refl, ap, ap₂, subst, sym, ◌∙◌, get_or}
+use Rattle.std.specs.Prelude.{IfSome, is_some, neg_ℤ, option_map, slice_get, slice_index, slice_index_or, slice_set, unsigned_abs}
 use Rattle.std.specs.List.{All}
-use Rattle.std.proofs.lemmas.List.{append-nil, append_assoc, get_or-map, get_or-set_other, get_or-set_same, length-map, map-append}
+use Rattle.std.proofs.lemmas.List.{append_assoc, append_cancel_right, drop-map, get_or-map, get_or-set_other, get_or-set_same, length-map, map-append, take-append-drop}
 use Rattle.std.proofs.lemmas.Bool.{cases_eq}
 use Rattle.fixed.specs.Fractions.{bits_of}
 use Rattle.kernel_code.specs.Machine.{Ends}
@@ -12,8 +12,9 @@ use Rattle.kernel_lanes.specs.Lanes.{IsServed}
 use Rattle.kernel_lanes.specs.declared.asks.Ask.{Ask}
 use Rattle.ring_box.specs.Acting.{ActingPair, acting_of, force_of}
 use Rattle.ring_box.proofs.ActingLemmas.{halves}
-use Rattle.tile_round.proofs.ActingLemmas.{acting_next, take_next}
-use Rattle.tile_round.specs.Tiles.{IsPairOf, acting}
+use Rattle.cell_tiles.specs.Near.{AreNear, those_acting}
+use Rattle.tile_round.proofs.ActingLemmas.{acting_append, take_next}
+use Rattle.tile_round.specs.Tiles.{AreNextActing, IsPairOf, acting}
 use Rattle.tile_round.specs.declared.work.PairAdd.{PairAdd}
 use Rattle.integrator.specs.Frames.{places_of}
 use Rattle.integrator.specs.declared.systems.System.{System}
@@ -30,16 +31,35 @@ use Rattle.engine.specs.declared.safe_kernels.SafeKernel.{SafeKernel}
 pub mapped_next : {X Y : Type 0} (f : X → Y) (xs : List X) (k : ℕ) (x : X) → slice_get xs k ≡ Some x → map f (take (k + 1) xs) ≡ map f (take k xs) ++ f x ∷ []
 mapped_next f xs k x at = ap (map f) (take_next xs k x at) ∙ map-append f (take k xs) (x ∷ [])
 
--- of the pairs that act before the next, those from a place on were found, and now the next
-pub found_next : {X : Type 0} (add : X → PairAdd) (pairs : List (Option PairAdd)) (k n : ℕ) (found : List X) (x : X) → acting (take n pairs) ≡ acting (take k pairs) ++ map add found → slice_get pairs n ≡ Some (Some (add x))
-    → acting (take (n + 1) pairs) ≡ acting (take k pairs) ++ map add (found ++ x ∷ [])
-found_next add pairs k n found x before here =
-    acting_next pairs n (Some (add x)) here ∙ (ap (λ ys. ys ++ add x ∷ []) before ∙ (append_assoc (acting (take k pairs)) (map add found) (add x ∷ []) ∙ ap (λ ys. acting (take k pairs) ++ ys) (sym (map-append add found (x ∷ [])))))
+-- ---- those of a list that act
 
--- or the next doesn't act
-pub passed_next : {X : Type 0} (add : X → PairAdd) (pairs : List (Option PairAdd)) (k n : ℕ) (found : List X) → acting (take n pairs) ≡ acting (take k pairs) ++ map add found → slice_get pairs n ≡ Some None
-    → acting (take (n + 1) pairs) ≡ acting (take k pairs) ++ map add found
-passed_next add pairs k n found before here = acting_next pairs n None here ∙ (append-nil (acting (take n pairs)) ∙ before)
+sieve_one : {P X Y : Type 0} (f : P → Option X) (g : P → X → Y) (p : P) (ps qs : List P) → acting (map (λ q. option_map (g q) (f q)) ps) ≡ acting (map (λ q. option_map (g q) (f q)) qs) → (o : Option X) → f p ≡ o
+    → acting (map (λ q. option_map (g q) (f q)) (p ∷ ps)) ≡ acting (map (λ q. option_map (g q) (f q)) (cond (is_some o) (p ∷ qs) qs))
+sieve_one f g p ps qs same None e = rw e same
+sieve_one f g p ps qs same (Some x) e = rw e (ap (λ ys. g p x ∷ ys) same)
+
+-- what is there of all is what is there of those that have something
+sieve : {P X Y : Type 0} (f : P → Option X) (g : P → X → Y) (ps : List P) → acting (map (λ p. option_map (g p) (f p)) ps) ≡ acting (map (λ p. option_map (g p) (f p)) (filter (λ p. is_some (f p)) ps))
+sieve f g [] = refl
+sieve f g (p ∷ ps) = sieve_one f g p ps (filter (λ q. is_some (f q)) ps) (sieve f g ps) (f p) refl
+
+acting_mapped : {X Y : Type 0} (g : X → Y) (os : List (Option X)) → acting (map (option_map g) os) ≡ map g (acting os)
+acting_mapped g [] = refl
+acting_mapped g (None ∷ os) = acting_mapped g os
+acting_mapped g (Some x ∷ os) = ap (λ ys. g x ∷ ys) (acting_mapped g os)
+
+mapped_twice : {P X Y : Type 0} (f : P → Option X) (g : X → Y) (h : P → Option Y) → ((p : P) → option_map g (f p) ≡ h p) → (ps : List P) → map (option_map g) (map f ps) ≡ map h ps
+mapped_twice f g h same [] = refl
+mapped_twice f g h same (p ∷ ps) = ap₂ (λ y ys. y ∷ ys) (same p) (mapped_twice f g h same ps)
+
+-- those that act from k on are these and then those from n on: so those before n are those before k and then these
+from_either_end : {X : Type 0} (ps : List (Option X)) (k n : ℕ) (these : List X) → acting (drop k ps) ≡ these ++ acting (drop n ps) → acting (take n ps) ≡ acting (take k ps) ++ these
+from_either_end ps k n these e =
+    append_cancel_right (acting (take n ps)) (acting (take k ps) ++ these) (acting (drop n ps))
+    (sym (acting_append (take n ps) (drop n ps))
+    ∙ (ap acting (take-append-drop n ps ∙ sym (take-append-drop k ps))
+    ∙ (acting_append (take k ps) (drop k ps)
+    ∙ (ap (λ ys. acting (take k ps) ++ ys) e ∙ sym (append_assoc (acting (take k ps)) these (acting (drop n ps)))))))
 
 module _ {A : Type 0} (s : System (SafeKernel A) A) where
   -- ---- what is found
@@ -58,6 +78,38 @@ module _ {A : Type 0} (s : System (SafeKernel A) A) where
       let y = places_of frame p.1 in
       let slope = λ (r : ℤ). minus (slope_at (potential_of s.kernel) (slice_index s.types.items p.0) (slice_index s.types.items p.1) r) in
       twice (acting_of (reach_of s) s.ring x y) p ∙ ap (option_map {U = PairAdd} (λ v. record { low = p.0; high = p.1; force = v })) (halves (reach_of s) s.ring slope x y)
+
+  -- what pairs add is what is added for those of them that are found
+  pub all_found : (frame : List (List ℕ)) (ps : List (ℕ × ℕ)) → acting (map (add_of s frame) ps) ≡ map (add_found s) (acting (map (found_of s frame) ps))
+  all_found frame ps =
+      ap acting (sym (mapped_twice (found_of s frame) (add_found s) (add_of s frame) (found_adds frame) ps)) ∙ acting_mapped (add_found s) (map (found_of s frame) ps)
+
+  found_sieved : (frame : List (List ℕ)) (ps : List (ℕ × ℕ)) → acting (map (found_of s frame) ps) ≡ acting (map (found_of s frame) (those_acting (reach_of s) s.ring frame ps))
+  found_sieved frame ps = sieve (λ (p : ℕ × ℕ). acting_of (reach_of s) s.ring (places_of frame p.0) (places_of frame p.1)) (λ (p : ℕ × ℕ) (a : ActingPair). record { low = p.0; high = p.1; acting = a }) ps
+
+  -- the pairs found among those that are near add what the pairs from the number k to before n add
+  pub near_adds : (frame : List (List ℕ)) (ps near : List (ℕ × ℕ)) (k n : ℕ) (found : List FoundPair) → AreNear (reach_of s) s.ring frame ps k near n → found ≡ acting (map (found_of s frame) near)
+      → AreNextActing (map (add_of s frame) ps) k (map (add_found s) found) n
+  near_adds frame ps near k n found is here =
+      let F = found_of s frame in
+      let those = those_acting (reach_of s) s.ring frame in
+      let sieved : acting (map F (drop k ps)) ≡ acting (map F near) ++ acting (map F (drop n ps)) =
+      found_sieved frame (drop k ps)
+      ∙ (ap (λ qs. acting (map F qs)) is.acting
+      ∙ (ap acting (map-append F (those near) (those (drop n ps)))
+      ∙ (acting_append (map F (those near)) (map F (those (drop n ps)))
+      ∙ ap₂ (λ xs ys. xs ++ ys) (sym (found_sieved frame near)) (sym (found_sieved frame (drop n ps)))))) in
+      let added : acting (map (add_of s frame) (drop k ps)) ≡ map (add_found s) found ++ acting (map (add_of s frame) (drop n ps)) =
+      all_found frame (drop k ps)
+      ∙ (ap (map (add_found s)) sieved
+      ∙ (map-append (add_found s) (acting (map F near)) (acting (map F (drop n ps)))
+      ∙ ap₂ (λ xs ys. xs ++ ys) (ap (map (add_found s)) (sym here)) (sym (all_found frame (drop n ps))))) in
+      record {
+        onward = is.onward;
+        within = rw (length-map ps (add_of s frame)) is.within;
+        acting = from_either_end (map (add_of s frame) ps) k n (map (add_found s) found)
+            (ap acting (drop-map (add_of s frame) k ps) ∙ (added ∙ ap (λ ys. map (add_found s) found ++ acting ys) (sym (drop-map (add_of s frame) n ps))));
+      }
 
   pub found_is_pair : (n : ℕ) (f : FoundPair) → IsFound s n f → IsPairOf n (add_found s f)
   found_is_pair n f is = record { ordered = is.ordered; inside = is.inside }

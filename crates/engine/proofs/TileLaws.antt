@@ -5,10 +5,12 @@ use Rattle.std.specs.List.{All}
 use Rattle.std.proofs.lemmas.Bool.{and_parts, cases_eq, cases_lt, ltb-true}
 use Rattle.std.proofs.lemmas.Bool.Decides.{nat_tests}
 use Rattle.std.proofs.lemmas.List.{get_or_past, length-map}
+use Rattle.std.proofs.lemmas.List.Elements.{All-from_get_or}
 use Rattle.std.proofs.lemmas.Option.{slice_get-get_or}
 use Rattle.std.proofs.lemmas.List.Sums.{sum_by-append, sum_by-cons}
 use Rattle.cell_tiles.specs.Cells.{IsGrid, members_of}
 use Rattle.cell_tiles.specs.Cover.{ArePairs, Covers, SumsAsAll, are_close, is_pair, is_same, times, times_in_all}
+use Rattle.cell_tiles.specs.Near as near
 use Rattle.cell_tiles.specs.Tiles.{pairs_in, tile_pairs, tiles_of}
 use Rattle.cell_tiles.proofs.SumLemmas.{sums_as_all}
 use Rattle.ring_box.specs.Cells.{ArePlaces, NearAreNeighbours, are_neighbours}
@@ -194,6 +196,12 @@ is_listed_pair bits frame t k tile p covers at_tile at_pair =
     let both = and_parts (is_pair n p) (are_close bits frame p) (counted_is (times_in_all p (tile_pairs bits frame)) (is_pair n p && are_close bits frame p) (covers p) all) in
     let parts = and_parts (nat_lt p.0 p.1) (nat_lt p.1 n) both.0 in
     (ltb-true p.0 p.1 parts.0, ltb-true p.1 n parts.1)
+
+-- so is each of its pairs
+pub listed_pairs : (bits : List ℕ) (frame : List (List ℕ)) (t : ℕ) (tile : ℕ × ℕ) → Covers bits frame → slice_get (tiles_of bits) t ≡ Some tile → All (near.IsPairOf (length frame)) (pairs_in (members_of bits frame) tile)
+listed_pairs bits frame t tile covers e =
+    let ps = pairs_in (members_of bits frame) tile in
+    All-from_get_or (near.IsPairOf (length frame)) ps (0, 0) (λ k lt. is_listed_pair bits frame t k tile (get_or ps k (0, 0)) covers e (slice_get-get_or ps k (0, 0) lt))
 
 pub tile_planned : {A : Type 0} (s : System (SafeKernel A) A) (frame : List (List ℕ)) (t : ℕ) (tile : ℕ × ℕ) → slice_get (tiles_of (grid_of s)) t ≡ Some tile
     → pairs_at (plan_of s frame) t ≡ map (add_of s frame) (pairs_in (members_of (grid_of s) frame) tile)

@@ -1,6 +1,6 @@
 //! Steps of a system whose slope is accepted, which nothing stops but want of memory.
 
-ghost use Rattle.std.specs.Prelude.{◌≡◌, ◌+◌, ◌*◌, ◌<◌, ◌^◌, length};
+ghost use Rattle.std.specs.Prelude.{◌≡◌, ◌+◌, ◌*◌, ◌<◌, ◌≤◌, ◌^◌, length};
 ghost use Rattle.integrator.specs.Adding.{IsWithin};
 ghost use Rattle.engine.specs.Rounds.{forces_in};
 
@@ -59,6 +59,24 @@ impl<A: Allocator + Copy> Course<A> {
             },
         }
     }
+}
+
+/// How many tiles have pairs: at least one is told, and no more than `most`. It tells how many workers find something to do.
+fn busy_tiles<A: Allocator + Copy>(tiling: &Tiling<A>, most: usize) -> usize
+    requires { 0 < most }
+    ensures some { 0 < result }
+    ensures few { result ≤ most }
+{
+    let mut busy = 0;
+    for tile in 0..tiling.tiles.len() {
+        if busy == most {
+            return busy;
+        }
+        if tiling.cells.pairs(tiling.tiles.get(tile)) > 0 {
+            busy += 1;
+        }
+    }
+    busy.max(1)
 }
 
 /// A component in more bits.
@@ -299,7 +317,7 @@ impl<A: Allocator + Copy + Sync> SafeSystem<A> {
     ghost use Rattle.engine.specs.SafeKernels.{safe_dynamics};
     ghost use Rattle.engine.specs.Tilings.{IsTilingOf};
 
-    /// The sums of the forces on the atoms of a frame, by a pool's workers, 1 to 64, one for each scratch.
+    /// The sums of the forces on the atoms of a frame, by a pool's workers, 1 to 64: at most one for each scratch, and no more than there are tiles with pairs.
     fn forces_pooled<R: Threads + Sync, G: Gate + Sync, B: Allocator + Send>(
         &self,
         alloc: A,
@@ -316,12 +334,13 @@ impl<A: Allocator + Copy + Sync> SafeSystem<A> {
         ensures tiling { IsTilingOf self.now.system tiling.new }
     {
         self.fill(tiling, frame)?;
+        let busy = busy_tiles(tiling, scratches.len());
         let work = self.work(tiling, frame);
         forces(
             pool.rt,
             alloc,
             &work,
-            scratches,
+            &mut scratches[..busy],
             frame.len() as u32,
             pool.gate,
         )

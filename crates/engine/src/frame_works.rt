@@ -1,23 +1,22 @@
 //! The pairs of a frame, tile by tile, as the work of a round.
 
-ghost use Rattle.std.specs.Prelude.{◌≡◌, ◌<◌, length, map, option_map, slice_get, Some, IfSome};
+ghost use Rattle.std.specs.Prelude.{◌≡◌, ◌<◌, length, map, slice_get, Some, IfSome};
 ghost use Rattle.std.specs.List.{All};
 ghost use Rattle.cell_tiles.specs.Cells.{members_of};
 ghost use Rattle.cell_tiles.specs.Tiles.{pairs_in, tiles_of};
 ghost use Rattle.ring_box.specs.Cells.{ArePlaces};
 ghost use Rattle.tile_round.specs.Tiles.{pairs_at, AreNextActing, IsPairOf};
 ghost use Rattle.engine.specs.Rounds.{grid_of, plan_of};
-ghost use Rattle.engine.specs.Rows.{IsFound, add_found, reach_of};
+ghost use Rattle.engine.specs.Rows.{IsFound, add_found};
 
 use crate::rows::{FoundPair, Scratch};
 use crate::safe_systems::SafeSystem;
 use arrayvec::ArrayVec;
-use cell_tiles::{AtomPair, Cells, Tile, Tiles};
-use ring_box::Reach;
+use cell_tiles::{AtomPair, Cells, FrameInBox, NearPairs, Tile, Tiles};
 use std::alloc::Allocator;
 use tile_round::{PairAdd, RowWork, Work};
 
-/// A frame whose atoms stand in cells: the pairs that lie in one cell or in neighbouring cells are asked for.
+/// A frame whose atoms stand in cells: pairs that lie in one cell or in neighbouring cells are asked for.
 #[derive(Drop)]
 pub(crate) struct FrameWork<'a, A: Allocator + Copy> {
     pub motion: &'a SafeSystem<A>,
@@ -25,6 +24,7 @@ pub(crate) struct FrameWork<'a, A: Allocator + Copy> {
     pub tiles: &'a Tiles<A>,
     pub cells: &'a Cells<A>,
     pub ghost grid: { tiles.now.grid.bits ≡ grid_of motion.now.system },
+    pub ghost cut: { cells.now.bits ≡ tiles.now.grid.bits },
     pub ghost members: { cells.now.members ≡ members_of (grid_of motion.now.system) frame.now },
     pub ghost atoms: { length frame.now ≡ length motion.now.system.types.items },
     pub ghost places: { All ArePlaces frame.now },
@@ -63,49 +63,29 @@ impl<'a, A: Allocator + Copy> Work for FrameWork<'a, A> {
 }
 
 impl<'a, A: Allocator + Copy> FrameWork<'a, A> {
-    // The pair that has this number in the tile of these cells, with what its atoms have between them.
-    fn found_at(
-        &self,
-        reach: &Reach,
-        tile: u64,
-        cells: Tile,
-        k: u64,
-        pair: AtomPair,
-    ) -> Option<FoundPair>
-        requires reach { reach.now ≡ reach_of self.now.motion.now.system }
-        requires tile { slice_get (tiles_of self.now.tiles.now.grid.bits) tile ≡ Some (cells.first, cells.second) }
-        requires pair { slice_get (pairs_in self.now.cells.now.members (cells.first, cells.second)) k ≡ Some (pair.low, pair.high) }
-        ensures planned { slice_get (pairs_at (plan_of self.now.motion.now.system self.now.frame.now) tile) k
-            ≡ Some (option_map (add_found self.now.motion.now.system) result) }
-        ensures found { IfSome result (IsFound self.now.motion.now.system (length self.now.frame.now)) }
-    {
-        self.motion.found(reach, self.frame, pair.low, pair.high)
-    }
-
     // The next pairs that act, at most 64 of them, and the number of the pair with which to go on.
-    fn find(&self, tile: u64, k: u64, found: &mut ArrayVec<FoundPair, 64>) -> u64
+    fn find(
+        &self,
+        tile: u64,
+        k: u64,
+        near: &mut NearPairs,
+        found: &mut ArrayVec<FoundPair, 64>,
+    ) -> u64
         requires tile { tile < length (plan_of self.now.motion.now.system self.now.frame.now) }
         requires start { k < length (pairs_at (plan_of self.now.motion.now.system self.now.frame.now) tile) }
         ensures next { AreNextActing (pairs_at (plan_of self.now.motion.now.system self.now.frame.now) tile) k (map (add_found self.now.motion.now.system) found.new.items) result }
         ensures found { All (IsFound self.now.motion.now.system (length self.now.frame.now)) found.new.items }
     {
         let reach = self.motion.reach();
-        let cells = self.tiles.get(tile);
-        let mut pairs = self.cells.pairs_from(cells, k);
-        found.clear();
-        for number in k..self.pairs(tile) {
-            if found.is_full() {
-                return number;
-            }
-            let Some(pair) = pairs.next() else {
-                unreachable!()
-            };
-            match self.found_at(&reach, tile, cells, number, pair) {
-                Some(pair) => found.push(pair),
-                None => {}
-            }
-        }
-        self.pairs(tile)
+        let frame = FrameInBox {
+            ring: &self.motion.system.ring,
+            reach: &reach,
+            places: self.frame,
+        };
+        let next = self.cells.near_from(&frame, self.tiles.get(tile), k, near);
+        self.motion
+            .find_all(&reach, self.frame, near.as_slice(), found);
+        next
     }
 }
 
@@ -119,7 +99,7 @@ impl<'a, A: Allocator + Copy, B: Allocator> RowWork<Scratch<B>> for FrameWork<'a
         k: u64,
         adds: &mut ArrayVec<PairAdd, 64>,
     ) -> u64 {
-        let next = self.find(tile, k, &mut scratch.found);
+        let next = self.find(tile, k, &mut scratch.near, &mut scratch.found);
         self.motion.adds(scratch, adds);
         next
     }

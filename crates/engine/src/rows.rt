@@ -4,6 +4,7 @@ ghost use Rattle.std.specs.Prelude.{◌≡◌, ◌<◌, ◌^◌, length, neg_ℤ
 ghost use Rattle.ring_box.specs.Acting.{force_of};
 
 use arrayvec::ArrayVec;
+use cell_tiles::NearPairs;
 use fixed::Fx;
 use kernel_lanes::{Ask, Rows};
 use kernel_machine::Stack;
@@ -41,9 +42,11 @@ fn opposite(slope: Fx) -> Fx
     Fx::from_raw(-slope.raw())
 }
 
-/// What a worker keeps at hand for a row: the pairs found, what is asked for them, and room for runs, in lanes or one after the other.
+/// What a worker keeps at hand for a row: pairs that may act, those found that do, what is asked for them, and room for runs, in lanes or one after the
+/// other.
 #[derive(Drop)]
 pub(crate) struct Scratch<A: Allocator> {
+    pub near: NearPairs,
     pub found: ArrayVec<FoundPair, 64>,
     pub asks: ArrayVec<Ask, 64>,
     pub lanes: Rows<A>,
@@ -55,6 +58,7 @@ impl<A: Allocator> Scratch<A> {
     pub(crate) fn new(alloc: A) -> Result<Scratch<A>, AllocError> {
         let lanes = Rows::new(alloc)?;
         Ok(Scratch {
+            near: NearPairs::new(),
             found: ArrayVec::new(),
             asks: ArrayVec::new(),
             lanes,

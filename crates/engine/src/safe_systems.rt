@@ -7,6 +7,7 @@ ghost use Rattle.engine.specs.SafeKernels.{IsAccepted};
 use crate::rows::{FoundPair, Scratch};
 use crate::safe_kernels::SafeKernel;
 use arrayvec::ArrayVec;
+use cell_tiles::AtomPair;
 use fixed::Fx;
 use integrator::System;
 use kernel_lanes::{Ask, Flat, Rows, run_lanes};
@@ -25,7 +26,9 @@ pub(crate) struct SafeSystem<A: Allocator> {
 // ---- what two atoms have between them
 
 impl<A: Allocator> SafeSystem<A> {
-    ghost use Rattle.std.specs.Prelude.{◌≡◌, ◌<◌, length, IfSome};
+    ghost use Rattle.std.specs.Prelude.{◌≡◌, ◌<◌, ◌≤◌, length, map, IfSome};
+    ghost use Rattle.cell_tiles.specs.Near.{IsPairOf};
+    ghost use Rattle.tile_round.specs.Tiles.{acting};
     ghost use Rattle.engine.specs.Rows.{IsFound, found_of, reach_of};
 
     /// How far the forces of the system reach.
@@ -55,6 +58,29 @@ impl<A: Allocator> SafeSystem<A> {
         match self.system.ring.acting(reach, x, y) {
             Some(acting) => Some(FoundPair { low, high, acting }),
             None => None,
+        }
+    }
+
+    /// Those of at most 64 pairs that act, with what their atoms have between them.
+    pub(crate) fn find_all(
+        &self,
+        reach: &Reach,
+        frame: &[[u32; 3]],
+        near: &[AtomPair],
+        found: &mut ArrayVec<FoundPair, 64>,
+    )
+        requires reach { reach.now ≡ reach_of self.now.system }
+        requires few { length near.now ≤ 64 }
+        requires pairs { All (IsPairOf (length frame.now)) (map (λ p. (p.low, p.high)) near.now) }
+        ensures value { found.new.items ≡ acting (map (found_of self.now.system frame.now) (map (λ p. (p.low, p.high)) near.now)) }
+        ensures found { All (IsFound self.now.system (length frame.now)) found.new.items }
+    {
+        found.clear();
+        for l in 0..near.len() {
+            match self.found(reach, frame, near[l].low, near[l].high) {
+                Some(pair) => found.push(pair),
+                None => {}
+            }
         }
     }
 }
@@ -219,6 +245,7 @@ impl<A: Allocator> SafeSystem<A> {
             asks,
             lanes,
             stack,
+            ..
         } = scratch;
         self.ask_all(found.as_slice(), asks);
         let mut slopes = [Fx::from_raw(0); 64];

@@ -36,7 +36,8 @@ is_inside [] k x at = absurd (cc at)
 is_inside (y ∷ ys) zero x at = omega arith
 is_inside (y ∷ ys) (suc k) x at = let lt : k < length ys = is_inside ys k x at in omega arith
 
-acting_append : {A : Type 0} (xs ys : List (Option A)) → acting (xs ++ ys) ≡ acting xs ++ acting ys
+-- of two lists, one after the other
+pub acting_append : {A : Type 0} (xs ys : List (Option A)) → acting (xs ++ ys) ≡ acting xs ++ acting ys
 acting_append [] ys = refl
 acting_append (None ∷ xs) ys = acting_append xs ys
 acting_append (Some x ∷ xs) ys = ap (λ zs. x ∷ zs) (acting_append xs ys)
