@@ -1,9 +1,8 @@
 -- The pairs of a tile that may act, as they are listed.
 use Rattle.std.proofs.Common.{◌≡◌, ℕ, zero, suc, ◌+◌, ◌^◌, ◌<◌, ◌≤◌, Bool, true, false, List, [], ◌∷◌, ◌++◌, length, get_or, set, take, drop, map, filter, None, inl, inr, refl, subst, sym, ap, ◌∙◌, arith, append-nil, eqb, eqb-true, length-append, length-drop}
-use Rattle.std.specs.Prelude.{is_some, nat_lt, slice_index}
+use Rattle.std.specs.Prelude.{nat_lt, slice_index}
 use Rattle.std.specs.List.{All}
 use Rattle.std.proofs.lemmas.Bool.{cases_Bool}
-use Rattle.std.proofs.lemmas.Bool.Decides.{nat_tests}
 use Rattle.std.proofs.lemmas.List.{append_assoc, drop-append-le, drop-drop, drop_all, get_or-map, get_or_append_left, length-map, map-append, take-append-drop, take-set, take_more, take_more_set}
 use Rattle.std.proofs.lemmas.List.Elements.{All-drop, All-from_get_or, All-get_or, All-push, All-take, All-weaker, filter-append, filter_passes}
 use Rattle.ring_box.specs.Acting.{AreInCell, Reach, acting_of}

@@ -1,7 +1,6 @@
 -- Pairs that act, in rows: what is found, asked and added is what each pair adds.
-use Rattle.std.proofs.Common.{◌≡◌, ℕ, ◌+◌, ◌^◌, ◌<◌, ◌≤◌, cond, List, [], ◌∷◌, ◌++◌, length, map, filter, take, drop, ℤ, pos, Option, Some, None, Ok, inl, inr, arith, refl, ap, ap₂, subst, sym, ◌∙◌, get_or}
-use Rattle.std.specs.Prelude.{IfSome, is_some, neg_ℤ, option_map, slice_get, slice_index, slice_index_or, slice_set, unsigned_abs}
-use Rattle.std.specs.List.{All}
+use Rattle.std.proofs.Common.{◌≡◌, ℕ, ◌+◌, ◌^◌, ◌<◌, ◌≤◌, cond, List, [], ◌∷◌, ◌++◌, length, map, filter, take, drop, ℤ, pos, Option, Some, None, Ok, inl, inr, arith, refl, ap, ap₂, sym, ◌∙◌, get_or}
+use Rattle.std.specs.Prelude.{is_some, neg_ℤ, option_map, slice_get, slice_index, slice_index_or, slice_set, unsigned_abs}
 use Rattle.std.proofs.lemmas.List.{append_assoc, append_cancel_right, drop-map, get_or-map, get_or-set_other, get_or-set_same, length-map, map-append, take-append-drop}
 use Rattle.std.proofs.lemmas.Bool.{cases_eq}
 use Rattle.fixed.specs.Fractions.{bits_of}
@@ -19,7 +18,7 @@ use Rattle.tile_round.specs.declared.work.PairAdd.{PairAdd}
 use Rattle.integrator.specs.Frames.{places_of}
 use Rattle.integrator.specs.declared.systems.System.{System}
 use Rattle.engine.proofs.SafeLaws.{minus_is}
-use Rattle.engine.specs.Rounds.{acting_force, add_of}
+use Rattle.engine.specs.Rounds.{add_of}
 use Rattle.engine.specs.Rows.{IsFound, IsSlope, add_found, ask_of, found_of, reach_of}
 use Rattle.engine.specs.SafeKernels.{minus, potential_of, slope_at}
 use Rattle.engine.specs.declared.rows.FoundPair.{FoundPair}

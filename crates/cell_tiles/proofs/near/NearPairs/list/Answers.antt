@@ -1,6 +1,5 @@
-use Rattle.std.proofs.Common.{rules, ◌≡◌, ℕ, ◌<◌, false, arith, ap, subst, sym, ◌∙◌, length, length-set, get_or}
+use Rattle.std.proofs.Common.{rules, ◌≡◌, ℕ, ◌<◌, arith, ap, subst, sym, ◌∙◌, length, length-set, get_or}
 use Rattle.std.specs.Prelude.{IsTrue}
-use Rattle.std.specs.List.{All}
 use Rattle.std.proofs.lemmas.List.{get_or-map, length-map, take-set}
 use Rattle.std.proofs.lemmas.List.Elements.{All-get_or}
 use Rattle.ring_box.specs.Cells.{ArePlaces}

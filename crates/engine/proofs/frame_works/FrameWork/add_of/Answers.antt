@@ -1,5 +1,4 @@
-use Rattle.std.proofs.Common.{ℕ, ap, sym, ◌∙◌, length, arith}
-use Rattle.std.proofs.lemmas.List.{length-map}
+use Rattle.std.proofs.Common.{ℕ}
 use Rattle.cell_tiles.specs.Cells.{members_of}
 use Rattle.cell_tiles.specs.Tiles.{pairs_in}
 use Rattle.cell_tiles.proofs.CoverLemmas.{covers}

@@ -1,5 +1,4 @@
 use Rattle.std.proofs.Common.{length}
-use Rattle.std.specs.List.{All}
 use Rattle.std.proofs.lemmas.List.Elements.{All-map}
 use Rattle.cell_tiles.proofs.CoverLemmas.{covers}
 use Rattle.tile_round.specs.Tiles.{IsPairOf}

@@ -1,4 +1,3 @@
-use Rattle.std.proofs.Common.{refl}
 use Rattle.engine.proofs.RowLaws.{slope_adds}
 use Rattle.engine.proofs.safe_systems.SafeSystem.add.Goals as goal
 

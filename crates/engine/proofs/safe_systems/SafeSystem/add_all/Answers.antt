@@ -1,4 +1,4 @@
-use Rattle.std.proofs.Common.{◌≡◌, ◌<◌, ◌++◌, [], ◌∷◌, ℤ, length, map, take, refl, sym, ap, pos, arith, ◌∙◌, slice_index_or, subst}
+use Rattle.std.proofs.Common.{◌<◌, ◌++◌, [], ◌∷◌, ℤ, length, map, take, refl, sym, ap, pos, arith, ◌∙◌, subst}
 use Rattle.std.proofs.lemmas.List.{get_or_read, length-map}
 use Rattle.std.proofs.lemmas.Option.{slice_get_read}
 use Rattle.kernel_lanes.specs.Flats.{ask_at}

@@ -1,4 +1,4 @@
-use Rattle.std.proofs.Common.{◌≡◌, ℕ, ◌++◌, ◌∷◌, [], Some, None, Option, append-nil, ap, arith, length, map, sym, ◌∙◌}
+use Rattle.std.proofs.Common.{◌≡◌, ℕ, ◌++◌, ◌∷◌, [], Some, None, append-nil, ap, arith, length, map, sym, ◌∙◌}
 use Rattle.std.specs.Prelude.{slice_get, slice_index_or}
 use Rattle.std.proofs.lemmas.List.{get_or-map, length-map}
 use Rattle.std.proofs.lemmas.List.Elements.{All-get_or}
@@ -8,7 +8,6 @@ use Rattle.cell_tiles.specs.declared.pairs.AtomPair.{AtomPair}
 use Rattle.tile_round.proofs.ActingLemmas.{acting_next, all_push}
 use Rattle.engine.proofs.TileLaws.{mapped_at}
 use Rattle.engine.specs.Rows.{IsFound, found_of}
-use Rattle.engine.specs.declared.rows.FoundPair.{FoundPair}
 use Rattle.engine.proofs.safe_systems.SafeSystem.find_all.Goals as goal
 use Rattle.engine.proofs.safe_systems.SafeSystem.find_all.Goals.{in-Some, in-None}
 
