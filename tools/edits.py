@@ -56,39 +56,42 @@ class Trial:
 
     def __init__(self, rt, over_gate, pool):
         self.rt, self.over_gate, self.pool = rt, over_gate, pool
-        self.passed, self.failed, self.printing = 0, 0, threading.Lock()
+        self.passed, self.failed, self.guard = 0, 0, threading.Lock()
 
     def seed(self, crate):
         """Returns a folder with what a check of the crate has proved, begun with what an earlier one kept; None where the crate isn't proved."""
         own = f"{crate.folder}/out/incremental"
         return self.rt.seeded(crate, FLAGS, own if os.path.isdir(own) and not self.over_gate else None)
 
-    def one(self, crate, room, edit):
-        """Returns whether the edit was refused, tried over a copy of the seed."""
+    def begin(self, crate):
+        """Returns the trials of a crate's edits, which go to the pool."""
+        room = self.seed(crate)
+        if room is None:
+            self.tell(False, f"{crate.name} itself is not proved")
+            return []
+        edits = edits_of(crate)
+        left = {edit: None for edit in edits}
+        return [self.pool.submit(self.one, crate, room, edit, left) for edit in edits]
+
+    def one(self, crate, room, edit, left):
+        """Tries an edit over a copy of the seed. Behind the last of a crate's it writes the stamp, where all were refused."""
         over = f"{room}/{os.path.basename(edit)}"
         self.rt.linked(f"{room}/seed", over)
         kind, said = self.rt.must_fail(crate, edit, FLAGS, over)
         shutil.rmtree(over, ignore_errors=True)
-        self.tell(kind in (self.rt.REFUSED, self.rt.AT_LIMIT), said.replace("must-fail ", "edits/", 1))
-        return kind in (self.rt.REFUSED, self.rt.AT_LIMIT)
-
-    def begin(self, crate):
-        """Returns what ends the trial of a crate, whose edits then go to the pool."""
-        room = self.seed(crate)
-        if room is None:
-            self.tell(False, f"{crate.name} itself is not proved")
-            return lambda: None
-        tried = [self.pool.submit(self.one, crate, room, edit) for edit in edits_of(crate)]
-        return lambda: self.end(crate, room, [it.result() for it in tried])
-
-    def end(self, crate, room, refused):
-        shutil.rmtree(room, ignore_errors=True)
-        if all(refused) and not self.over_gate:
-            with open(f"{crate.folder}/edits/stamp", "w", encoding="ascii") as it:
-                it.write(f"{sum_of(crate)}\n")
+        refused = kind in (self.rt.REFUSED, self.rt.AT_LIMIT)
+        self.tell(refused, said.replace("must-fail ", "edits/", 1))
+        with self.guard:
+            left[edit] = refused
+            ended = None not in left.values()
+        if ended:
+            shutil.rmtree(room, ignore_errors=True)
+            if all(left.values()) and not self.over_gate:
+                with open(f"{crate.folder}/edits/stamp", "w", encoding="ascii") as it:
+                    it.write(f"{sum_of(crate)}\n")
 
     def tell(self, refused, said):
-        with self.printing:
+        with self.guard:
             self.passed, self.failed = self.passed + refused, self.failed + (not refused)
             print(said[:400], flush=True)
 
@@ -115,8 +118,8 @@ def main():
     with ThreadPoolExecutor(told.jobs) as pool:
         trial = Trial(rt, told.stale, pool)
         seeds = [pool.submit(trial.begin, crate) for crate in sorted(crates, key=lambda it: -len(edits_of(it)))]
-        for it in seeds:
-            it.result()()
+        for it in [trial for seed in seeds for trial in seed.result()]:
+            it.result()
     print(f"edits: {trial.passed} passed, {trial.failed} failed")
     return 1 if trial.failed else 0
 
