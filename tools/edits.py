@@ -20,7 +20,6 @@ import build
 import kit
 
 PARTS = ("edits", "specs", "src")
-FLAGS = ["--jobs", "1"]
 
 
 def edits_of(crate):
@@ -51,21 +50,17 @@ def stamp_of(crate):
         return None
 
 
-class Trial:
+class Edits:
     """Tries the edits of crates side by side, and counts."""
 
-    def __init__(self, rt, over_gate, pool):
-        self.rt, self.over_gate, self.pool = rt, over_gate, pool
+    def __init__(self, trial, over_gate, pool):
+        self.trial, self.over_gate, self.pool = trial, over_gate, pool
         self.passed, self.failed, self.guard = 0, 0, threading.Lock()
-
-    def seed(self, crate):
-        """Returns a folder with what a check of the crate has proved, begun with what an earlier one kept; None where the crate isn't proved."""
-        own = f"{crate.folder}/out/incremental"
-        return self.rt.seeded(crate, FLAGS, own if os.path.isdir(own) and not self.over_gate else None)
 
     def begin(self, crate):
         """Returns the trials of a crate's edits, which go to the pool."""
-        room = self.seed(crate)
+        own = f"{crate.folder}/out/incremental"
+        room = self.trial.seeded(crate, own if os.path.isdir(own) and not self.over_gate else None)
         if room is None:
             self.tell(False, f"{crate.name} itself is not proved")
             return []
@@ -74,12 +69,8 @@ class Trial:
         return [self.pool.submit(self.one, crate, room, edit, left) for edit in edits]
 
     def one(self, crate, room, edit, left):
-        """Tries an edit over a copy of the seed. Behind the last of a crate's it writes the stamp, where all were refused."""
-        over = f"{room}/{os.path.basename(edit)}"
-        self.rt.linked(f"{room}/seed", over)
-        kind, said = self.rt.must_fail(crate, edit, FLAGS, over)
-        shutil.rmtree(over, ignore_errors=True)
-        refused = kind in (self.rt.REFUSED, self.rt.AT_LIMIT)
+        """Tries an edit. Behind the last of a crate's it writes the stamp, where all were refused."""
+        refused, said = self.trial.refused(crate, edit, room)
         self.tell(refused, said.replace("must-fail ", "edits/", 1))
         with self.guard:
             left[edit] = refused
@@ -102,26 +93,26 @@ def main():
     parser.add_argument("--stale", action="store_true")
     parser.add_argument("--jobs", type=int, default=build.jobs())
     told = parser.parse_args()
-    rt = kit.module("rt")
-    rt.rtlib.guarded()
+    trial = kit.Trial()
+    rtlib = trial.rt.rtlib
     os.chdir(kit.ROOT)
-    crates = [it for it in rt.rtlib.crates_below(kit.ROOT) if edits_of(it) and (not told.names or it.name in told.names)]
+    crates = [it for it in rtlib.crates_below(kit.ROOT) if edits_of(it) and (not told.names or it.name in told.names)]
     if told.stale:
         crates = [it for it in crates if stamp_of(it) != sum_of(it)]
         # as the gate builds its libraries: those above load their statements
-        rt.rtlib.Crate.cuts_libraries = True
-    elif not all(build.build(rt.rtlib, it, told.jobs) for it in crates):
+        rtlib.Crate.cuts_libraries = True
+    elif not all(build.build(rtlib, it, told.jobs) for it in crates):
         return 1
     if not crates:
         print("the edits of all crates were refused as they stand, by their stamps")
         return 0
     with ThreadPoolExecutor(told.jobs) as pool:
-        trial = Trial(rt, told.stale, pool)
-        seeds = [pool.submit(trial.begin, crate) for crate in sorted(crates, key=lambda it: -len(edits_of(it)))]
-        for it in [trial for seed in seeds for trial in seed.result()]:
+        edits = Edits(trial, told.stale, pool)
+        seeds = [pool.submit(edits.begin, crate) for crate in sorted(crates, key=lambda it: -len(edits_of(it)))]
+        for it in [edit for seed in seeds for edit in seed.result()]:
             it.result()
-    print(f"edits: {trial.passed} passed, {trial.failed} failed")
-    return 1 if trial.failed else 0
+    print(f"edits: {edits.passed} passed, {edits.failed} failed")
+    return 1 if edits.failed else 0
 
 
 if __name__ == "__main__":
