@@ -42,13 +42,14 @@ fn opposite(slope: Fx) -> Fx
     Fx::from_raw(-slope.raw())
 }
 
-/// What a worker keeps at hand for a row: pairs that may act, those found that do, what is asked for them, and room for runs, in lanes or one after the
-/// other.
+/// What a worker keeps at hand for a row: pairs that may act, those found that do, what is asked for them, the slopes that are answered, and room for runs,
+/// in lanes or one after the other.
 #[derive(Drop)]
 pub(crate) struct Scratch<A: Allocator> {
     pub near: NearPairs,
     pub found: ArrayVec<FoundPair, 64>,
     pub asks: ArrayVec<Ask, 64>,
+    pub slopes: [Fx; 64],
     pub lanes: Rows<A>,
     pub stack: Stack,
 }
@@ -61,6 +62,7 @@ impl<A: Allocator> Scratch<A> {
             near: NearPairs::new(),
             found: ArrayVec::new(),
             asks: ArrayVec::new(),
+            slopes: [Fx::from_raw(0); 64],
             lanes,
             stack: Stack::new(),
         })

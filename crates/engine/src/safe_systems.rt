@@ -243,13 +243,13 @@ impl<A: Allocator> SafeSystem<A> {
         let Scratch {
             found,
             asks,
+            slopes,
             lanes,
             stack,
             ..
         } = scratch;
         self.ask_all(found.as_slice(), asks);
-        let mut slopes = [Fx::from_raw(0); 64];
-        self.slopes(asks.as_slice(), lanes, stack, &mut slopes);
-        self.add_all(found.as_slice(), &slopes, adds);
+        self.slopes(asks.as_slice(), lanes, stack, slopes);
+        self.add_all(found.as_slice(), slopes, adds);
     }
 }

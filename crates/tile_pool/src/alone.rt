@@ -31,17 +31,22 @@ fn add_pairs(sums: &mut [i64], adds: &[PairAdd])
     }
 }
 
-// Makes those of all pairs of a tile.
-fn add_tile<S, W: RowWork<S>>(sums: &mut [i64], work: &W, scratch: &mut S, tile: u64)
+// Makes those of all pairs of a tile. What `adds` held doesn't matter.
+fn add_tile<S, W: RowWork<S>>(
+    sums: &mut [i64],
+    work: &W,
+    scratch: &mut S,
+    adds: &mut ArrayVec<PairAdd, 64>,
+    tile: u64,
+)
     requires tile { tile < length (W.plan work.now) }
     requires atoms { W.atoms work.now ≤ length sums.old / 3 }
     ensures { GoesOn sums.old (tile_of (pairs_at (W.plan work.now) tile)) sums.new }
 {
     let pairs = work.pairs(tile);
-    let mut adds = ArrayVec::new();
     let mut k = 0;
     while k < pairs {
-        k = work.next_adds(scratch, tile, k, &mut adds);
+        k = work.next_adds(scratch, tile, k, adds);
         add_pairs(sums, adds.as_slice());
     }
 }
@@ -51,8 +56,9 @@ fn add_tiles<S, W: RowWork<S>>(sums: &mut [i64], work: &W, scratch: &mut S)
     requires { W.atoms work.now ≤ length sums.old / 3 }
     ensures { GoesOn sums.old (flat_map tile_of (W.plan work.now)) sums.new }
 {
+    let mut adds = ArrayVec::new();
     for tile in 0..work.tiles() {
-        add_tile(sums, work, scratch, tile);
+        add_tile(sums, work, scratch, &mut adds, tile);
     }
 }
 

@@ -7,7 +7,7 @@ ghost use Rattle.tile_pool.specs.Rule.{alone, first_of, IsFor};
 use crate::rule::{PoolSeat, PoolTable};
 use crate::steps::{claim, deposit_pairs};
 use arrayvec::ArrayVec;
-use tile_round::RowWork;
+use tile_round::{PairAdd, RowWork};
 
 /// What a worker passes before each tile that it has drawn.
 pub trait Gate {
@@ -16,11 +16,12 @@ pub trait Gate {
     fn before_tile(&self, worker: u32, tile: u64);
 }
 
-// Makes all additions of the tile that was drawn.
+// Makes all additions of the tile that was drawn. What `adds` held doesn't matter.
 fn deposit_tile<S, W: RowWork<S>>(
     table: &PoolTable<W>,
     seat: &mut PoolSeat,
     scratch: &mut S,
+    adds: &mut ArrayVec<PairAdd, 64>,
     work: &W,
     tile: u64,
 )
@@ -35,10 +36,9 @@ fn deposit_tile<S, W: RowWork<S>>(
         ≡ alone (added (first_of seat.old.me.0) (tile_of (pairs_at (W.plan work.now) tile))) }
 {
     let pairs = work.pairs(tile);
-    let mut adds = ArrayVec::new();
     let mut k = 0;
     while k < pairs {
-        k = work.next_adds(scratch, tile, k, &mut adds);
+        k = work.next_adds(scratch, tile, k, adds);
         deposit_pairs(table, seat, adds.as_slice());
     }
 }
@@ -66,11 +66,12 @@ pub fn drive<S, W: RowWork<S>, G: Gate>(
     ensures number { (first_of result.me.0).number ≡ worker }
     ensures stopped { HasStopped (tiles_of (W.plan work.now)) (first_of result.me.0) }
 {
+    let mut adds = ArrayVec::new();
     let tiles = work.tiles();
     let mut tile = claim(table, &mut seat);
     while tile < tiles {
         gate.before_tile(worker, tile);
-        deposit_tile(table, &mut seat, scratch, work, tile);
+        deposit_tile(table, &mut seat, scratch, &mut adds, work, tile);
         tile = claim(table, &mut seat);
     }
     seat
