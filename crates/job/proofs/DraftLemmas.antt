@@ -1,19 +1,30 @@
 -- What the next line of a key that many lines may have adds.
-use Rattle.std.proofs.Common.{◌≡◌, ℕ, ◌<◌, ◌≤◌, ℤ, true, false, List, [], ◌∷◌, ◌++◌, length, map, Option, Some, None, Result, Ok, Err, IfSome, ok_or, refl, sym, ap, ◌∙◌, lt-ltb, le-ltb}
+use Rattle.std.proofs.Common.{◌≡◌, ℕ, ◌<◌, ◌≤◌, ℤ, true, false, List, [], ◌∷◌, ◌++◌, length, map, Option, Some, None, Result, Ok, Err, IfSome, ok_or, option_map, refl, sym, ap, ◌∙◌, lt-ltb, le-ltb}
 use Rattle.std.proofs.lemmas.List.{map-append}
+use Rattle.std.specs.Prelude.{IsErr, IsErrAnd}
 use Rattle.job.specs.declared.faults.Key.TheVariants as keys
 use Rattle.line_text.specs.Identifiers.{is_identifier}
 use Rattle.job.specs.Words.{two}
-use Rattle.job.specs.Numbers.{Reading, signed_of}
+use Rattle.fixed.specs.declared.faults.NumFault.TheVariants.{BadNumber, NumberRange}
+use Rattle.job.specs.Numbers.{Reading, mapped, both, mass_of, values_of, signed_of}
 use Rattle.job.specs.Statements.{well_formed}
 use Rattle.job.specs.Values.{GlobalValue, Counts}
 use Rattle.job.specs.Faults.{Refusal, bad_line, repeated_name, repeated_type, out_of_range, TypeLine, Said, knows}
-use Rattle.job.specs.Drafts.{parameter_new, global_new, global_by, global_into, type_new}
+use Rattle.job.specs.Forms.{is_type_name}
+use Rattle.job.specs.declared.faults.JobFault.{JobFault}
+use Rattle.job.specs.Views.{refusal_of, Gives}
+use Rattle.job.specs.Drafts.{parameter_new, global_new, global_by, global_into, type_new, type_by, type_into}
 
 -- a refusal of this fault
 pub refused : {X : Type 0} (o : Option Refusal) (fault : Refusal) (r : Result X Refusal) → IfSome o (λ f. f ≡ fault) → r ≡ Err fault → IfSome o (λ f. r ≡ Err f)
 refused None fault r h e = tt
 refused (Some f) fault r h e = e ∙ ap (λ (x : Refusal). Err x) (sym h)
+
+-- a fault that is passed on
+pub passed_on : {X Y A : Type 0} (view : X → Y) (result : Result X (JobFault A)) (e : JobFault A) (r : Result Y Refusal) → IsErr result × IsErrAnd result (λ x. x ≡ e) → IfSome (refusal_of e) (λ f. r ≡ Err f)
+    → Gives view result r
+passed_on view (Ok x) e r p h = absurd p.1
+passed_on view (Err x) e r p h = rw p.1 h
 
 pub pushed : {X Y : Type 0} (view : X → Y) (xs ys : List X) (x : X) (y : Y) → ys ≡ xs ++ x ∷ [] → view x ≡ y → map view ys ≡ map view xs ++ y ∷ []
 pushed view xs ys x y e v = ap (map view) e ∙ map-append view xs (x ∷ []) ∙ ap (λ z. map view xs ++ z ∷ []) v
@@ -49,17 +60,31 @@ by_value : (most : Counts) (n : ℕ) (s : Said) (name : List ℕ) (o : Option (O
 by_value most n s name None v e = absurd cc
 by_value most n s name (Some u) v e = let same : u ≡ v = cc in ap (global_new most s name) same
 
--- what is well formed has a new name, or not
-pub global_by_value : (most : Counts) (n : ℕ) (s : Said) (ws : List (List ℕ)) (name word : List ℕ) (r : Reading ℤ) (v : Option ℤ) → two ws ≡ Some (name, word) → is_identifier name ≡ true → r ≡ signed_of s.frac word
-    → ok_or (well_formed r) (bad_line n) ≡ Ok v → global_into most n s ws ≡ global_new most s name v
-global_by_value most n s [] name word r v e is read ok = absurd cc
-global_by_value most n s (w ∷ []) name word r v e is read ok = absurd cc
-global_by_value most n s (w ∷ x ∷ y ∷ ws) name word r v e is read ok = absurd cc
-global_by_value most n s (w ∷ x ∷ []) name word r v e is read ok =
+by_fault : (most : Counts) (n : ℕ) (s : Said) (name : List ℕ) (o : Option (Option ℤ)) (e : Option Refusal) → IfSome e (λ f. ok_or o (bad_line n) ≡ Err f) → IfSome e (λ f. global_by most n s name o ≡ Err f)
+by_fault most n s name o None e = tt
+by_fault most n s name (Some u) (Some f) e = absurd cc
+by_fault most n s name None (Some f) e = let same : bad_line n ≡ f = cc in ap (λ (x : Refusal). Err x) same
+
+by_pair : (most : Counts) (n : ℕ) (s : Said) (ws : List (List ℕ)) (name word : List ℕ) (r : Reading ℤ) → two ws ≡ Some (name, word) → is_identifier name ≡ true → r ≡ signed_of s.frac word
+    → global_into most n s ws ≡ global_by most n s name (well_formed r)
+by_pair most n s [] name word r e is read = absurd cc
+by_pair most n s (w ∷ []) name word r e is read = absurd cc
+by_pair most n s (w ∷ x ∷ y ∷ ws) name word r e is read = absurd cc
+by_pair most n s (w ∷ x ∷ []) name word r e is read =
     let pair : ◌≡◌ {A = List ℕ × List ℕ} (w, x) (name, word) = cc in
     let first : w ≡ name = ap (λ (p : List ℕ × List ℕ). p.0) pair in
     let second : x ≡ word = ap (λ (p : List ℕ × List ℕ). p.1) pair in
-    rw (first, second, is, ← read) (by_value most n s name (well_formed r) v ok)
+    rw (first, second, is, ← read) refl
+
+-- what is well formed has a new name, or not
+pub global_by_value : (most : Counts) (n : ℕ) (s : Said) (ws : List (List ℕ)) (name word : List ℕ) (r : Reading ℤ) (v : Option ℤ) → two ws ≡ Some (name, word) → is_identifier name ≡ true → r ≡ signed_of s.frac word
+    → ok_or (well_formed r) (bad_line n) ≡ Ok v → global_into most n s ws ≡ global_new most s name v
+global_by_value most n s ws name word r v e is read ok = by_pair most n s ws name word r e is read ∙ by_value most n s name (well_formed r) v ok
+
+-- a malformed value is a fault
+pub global_malformed : (most : Counts) (n : ℕ) (s : Said) (ws : List (List ℕ)) (name word : List ℕ) (r : Reading ℤ) (o : Option Refusal) → two ws ≡ Some (name, word) → is_identifier name ≡ true
+    → r ≡ signed_of s.frac word → IfSome o (λ f. ok_or (well_formed r) (bad_line n) ≡ Err f) → IfSome o (λ f. global_into most n s ws ≡ Err f)
+global_malformed most n s ws name word r o e is read h = rw (by_pair most n s ws name word r e is read) (by_fault most n s name (well_formed r) o h)
 
 pub type_known : (most : Counts) (n : ℕ) (s : Said) (name : List ℕ) (v : Option (ℕ × List ℤ)) → knows (map (λ t. t.value.name) s.types) name ≡ true → type_new most n s name v ≡ Err (repeated_type name)
 unfolding type_new
@@ -78,3 +103,33 @@ pub type_added : (most : Counts) (n : ℕ) (s : Said) (name : List ℕ) (v : ℕ
     → ts ≡ s.types ++ record { line = n; value = record { name = name; mass = v.0; values = v.1 } } ∷ [] → type_new most n s name (Some v) ≡ Ok (record s { types = ts })
 unfolding type_new
 type_added most n s name v ts k lt e = rw (k, lt-ltb (length s.types) most.types lt, e) refl
+
+by_words : (most : Counts) (n : ℕ) (s : Said) (ws rest values : List (List ℕ)) (name mass : List ℕ) (r : Reading (ℕ × List ℤ)) → ws ≡ name ∷ rest → rest ≡ mass ∷ values → is_type_name name ≡ true
+    → r ≡ both (mass_of mass) (values_of s.frac values) → type_into most n s ws ≡ type_by most n s name (well_formed r)
+by_words most n s ws rest values name mass r first second is read = rw (first, second, is, ← read) refl
+
+by_numbers : {X : Type 0} (view : X → ℕ × List ℤ) (most : Counts) (n : ℕ) (s : Said) (name : List ℕ) (r : Reading X) (v : Option X) → ok_or (well_formed r) (bad_line n) ≡ Ok v
+    → type_by most n s name (well_formed (mapped view r)) ≡ type_new most n s name (option_map view v)
+by_numbers view most n s name (Ok x) v e = let same : Some x ≡ v = cc in ap (λ u. type_new most n s name (option_map view u)) same
+by_numbers {X = X} view most n s name (Err NumberRange) v e = let same : ◌≡◌ {A = Option X} None v = cc in ap (λ u. type_new most n s name (option_map view u)) same
+by_numbers view most n s name (Err BadNumber) v e = absurd cc
+
+malformed : {X : Type 0} (view : X → ℕ × List ℤ) (most : Counts) (n : ℕ) (s : Said) (name : List ℕ) (r : Reading X) (o : Option Refusal) → IfSome o (λ f. ok_or (well_formed r) (bad_line n) ≡ Err f)
+    → IfSome o (λ f. type_by most n s name (well_formed (mapped view r)) ≡ Err f)
+malformed view most n s name r None e = tt
+malformed view most n s name (Ok x) (Some f) e = absurd cc
+malformed view most n s name (Err NumberRange) (Some f) e = absurd cc
+malformed view most n s name (Err BadNumber) (Some f) e = let same : bad_line n ≡ f = cc in ap (λ (x : Refusal). Err x) same
+
+-- numbers that are well formed have a new type, or not
+pub type_by_numbers : {X : Type 0} (view : X → ℕ × List ℤ) (most : Counts) (n : ℕ) (s : Said) (ws rest values : List (List ℕ)) (name mass : List ℕ) (r : Reading X) (v : Option X) → ws ≡ name ∷ rest
+    → rest ≡ mass ∷ values → is_type_name name ≡ true → mapped view r ≡ both (mass_of mass) (values_of s.frac values) → ok_or (well_formed r) (bad_line n) ≡ Ok v
+    → type_into most n s ws ≡ type_new most n s name (option_map view v)
+type_by_numbers view most n s ws rest values name mass r v first second is read ok = by_words most n s ws rest values name mass (mapped view r) first second is read ∙ by_numbers view most n s name r v ok
+
+-- malformed numbers are a fault
+pub type_malformed : {X : Type 0} (view : X → ℕ × List ℤ) (most : Counts) (n : ℕ) (s : Said) (ws rest values : List (List ℕ)) (name mass : List ℕ) (r : Reading X) (o : Option Refusal) → ws ≡ name ∷ rest
+    → rest ≡ mass ∷ values → is_type_name name ≡ true → mapped view r ≡ both (mass_of mass) (values_of s.frac values) → IfSome o (λ f. ok_or (well_formed r) (bad_line n) ≡ Err f)
+    → IfSome o (λ f. type_into most n s ws ≡ Err f)
+type_malformed view most n s ws rest values name mass r o first second is read e =
+    rw (by_words most n s ws rest values name mass (mapped view r) first second is read) (malformed view most n s name r o e)

@@ -4,8 +4,8 @@ use Rattle.std.proofs.lemmas.Grind.{common_steps}
 use Rattle.line_text.specs.Words.{words}
 use Rattle.job.specs.Faults.{Refusal, Said}
 use Rattle.job.specs.JobText.{limits}
-use Rattle.job.specs.Views.{said_of, Gives}
-use Rattle.job.proofs.DraftLemmas.{global_by_value}
+use Rattle.job.specs.Views.{said_of, refusal_of, Gives}
+use Rattle.job.proofs.DraftLemmas.{passed_on, global_by_value, global_malformed}
 use Rattle.job.proofs.lines.take_global.Goals as goal
 
 pub returns-in_default : goal.returns-in_default
@@ -17,3 +17,10 @@ returns-in_ok-value-in-Some g c =
     (sym (global_by_value limits c.args.number (said_of c.args.draft) (words c.args.text.now) _ _ c.signed_numeral.result c.in_ok-value-in-Some.value
     (sym c.two_words.ensures ∙ ap (option_map (λ (x : Bor (List ℕ) × Bor (List ℕ)). (x.0.now, x.1.now))) c.in-Some.is)
     (sym c.is_identifier.ensures ∙ c.if-is_identifier.true) c.signed_numeral.ensures c.in_ok-value-in-Some.ensures)) c.add_global.ensures
+
+pub returns-in_err-value-in-Some : goal.returns-in_err-value-in-Some
+returns-in_err-value-in-Some g c =
+    passed_on (said_of {A = g.row.A.Denot}) c.from_residual.result c.in_err-value-in-Some.field-0.0 _ c.from_residual.ensures
+    (global_malformed limits c.args.number (said_of c.args.draft) (words c.args.text.now) _ _ c.signed_numeral.result (refusal_of c.in_err-value-in-Some.field-0.0)
+    (sym c.two_words.ensures ∙ ap (option_map (λ (x : Bor (List ℕ) × Bor (List ℕ)). (x.0.now, x.1.now))) c.in-Some.is)
+    (sym c.is_identifier.ensures ∙ c.if-is_identifier.true) c.signed_numeral.ensures c.in_err-value-in-Some.ensures)
