@@ -53,7 +53,8 @@ x_below c X Y Z p q h = div_below (c / Z) Y X p (div_below c Z (X * Y) q h)
 
 -- ---- cells of atoms
 
-along_below : (x b : ℕ) → IsBits b → x < 2 ^ 32 → cell_of x b < 2 ^ b
+-- the number of the cell along a side is below how many cells the side has
+pub along_below : (x b : ℕ) → IsBits b → x < 2 ^ 32 → cell_of x b < 2 ^ b
 along_below x b h p = cell_below x b (omega (arith, h.1)) p
 
 pub number_below : (bits x : List ℕ) → IsGrid bits → ArePlaces x → cell_number bits x < cells_of bits

@@ -9,12 +9,11 @@ use Rattle.ring_box.specs.Acting.{AreInCell, Reach, acting_of}
 use Rattle.ring_box.specs.Cells.{ArePlaces, cell_of}
 use Rattle.ring_box.specs.declared.boxes.RingBox.{RingBox}
 use Rattle.ring_box.proofs.ActingLemmas.{idle_turned}
-use Rattle.ring_box.proofs.CellLemmas.{cell_below}
-use Rattle.cell_tiles.specs.Cells.{IsBits, IsGrid, cell_number, cells_of, members_of, numbers_below, places_of, x_number, y_number, z_number}
+use Rattle.cell_tiles.specs.Cells.{IsGrid, cell_number, cells_of, members_of, numbers_below, places_of, x_number, y_number, z_number}
 use Rattle.cell_tiles.specs.Near.{IsPairOf, act}
 use Rattle.cell_tiles.specs.Tiles.{members_at, pair_of, pairs_with}
 use Rattle.cell_tiles.specs.Walks.{IsPartOf}
-use Rattle.cell_tiles.proofs.CellLemmas.{x_of_place, y_of_place, z_of_place}
+use Rattle.cell_tiles.proofs.CellLemmas.{along_below, x_of_place, y_of_place, z_of_place}
 use Rattle.cell_tiles.proofs.MemberLemmas.{members_here}
 
 -- ---- the atoms of a pair
@@ -46,14 +45,11 @@ pair_idle d b frame i j p q h =
 
 -- ---- cells
 
-along : (x b : ℕ) → IsBits b → x < 2 ^ 32 → cell_of x b < 2 ^ b
-along x b h p = cell_below x b (omega (arith, h.1)) p
-
 -- an atom lies in the cell that has its number
 pub lies_in : (bits x : List ℕ) (c : ℕ) → IsGrid bits → ArePlaces x → cell_number bits x ≡ c → AreInCell bits (x_number bits c ∷ y_number bits c ∷ z_number bits c ∷ []) x
 lies_in bits x c g p e =
-    let j = along (slice_index x 1) (slice_index bits 1) g.1 p.1 in
-    let k = along (slice_index x 2) (slice_index bits 2) g.2 p.2 in
+    let j = along_below (slice_index x 1) (slice_index bits 1) g.1 p.1 in
+    let k = along_below (slice_index x 2) (slice_index bits 2) g.2 p.2 in
     let i = cell_of (slice_index x 0) (slice_index bits 0) in
     let m = cell_of (slice_index x 1) (slice_index bits 1) in
     let n = cell_of (slice_index x 2) (slice_index bits 2) in (

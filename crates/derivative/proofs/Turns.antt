@@ -1,7 +1,7 @@
 -- The turns of the loop that keeps definitions.
-use Rattle.std.proofs.Common.{◌≡◌, ℕ, suc, ◌+◌, ◌<◌, Bool, true, false, List, [], ◌∷◌, ◌++◌, map, length, drop, get_or, refl, sym, ap, ◌∙◌, subst, append_assoc, add-one}
+use Rattle.std.proofs.Common.{◌≡◌, ℕ, suc, ◌+◌, ◌<◌, ◌≤◌, Bool, true, false, List, [], ◌∷◌, ◌++◌, map, length, drop, get_or, refl, sym, ap, ◌∙◌, subst, append_assoc, append-nil, add-one}
 use Rattle.std.proofs.Math.Seq.{drop-cons}
-use Rattle.std.proofs.lemmas.List.{map_push}
+use Rattle.std.proofs.lemmas.List.{drop_all, map_push}
 use Rattle.energy_program.specs.declared.trees.Expr.{Expr}
 use Rattle.energy_program.specs.Tree.{Tree, tree_of}
 use Rattle.energy_program.specs.Uses.{is_marked, marks_of}
@@ -35,6 +35,11 @@ module _ (t : List Bool) where
   skip_turn es w i d goal h is u so_far =
       let k : map tree_of w ++ kept_from t i (map tree_of (d ∷ drop (i + 1) es)) ≡ goal = subst (λ x. map tree_of w ++ kept_from t i (map tree_of x) ≡ goal) (cut es i d h is) so_far in
       ap (λ x. map tree_of w ++ x) (sym (not_here i (tree_of d) (map tree_of (drop (i + 1) es)) u)) ∙ k
+
+  pub kept_end : {A : Type 0} (es w : List (Expr A)) (i : ℕ) (goal : List Tree) → length es ≤ i
+      → map tree_of w ++ kept_from t i (map tree_of (drop i es)) ≡ goal → map tree_of w ≡ goal
+  kept_end es w i goal h so_far =
+      sym (append-nil (map tree_of w)) ∙ ap (λ x. map tree_of w ++ kept_from t i (map tree_of x)) (sym (drop_all i es h)) ∙ so_far
 
 -- what is left, in the words of the code
 pub left : {A : Type 0} (t1 t2 : List Bool) (body new_body : Expr A) (ds ds1 new_ds : List (Expr A))

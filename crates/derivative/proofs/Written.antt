@@ -19,6 +19,9 @@ module _ (free : ℕ → Bool) where
       → p ≡ is_free_given free u1 → q ≡ is_free_given free v1 → (p && q) ≡ is_free_given free e
   free_binary e o u v p q is d1 d2 hp hq = rw (is, hp, hq, d1, d2) refl
 
+  pub free_negated : (e u : Tree) (p : Bool) → e ≡ Negated u → {u1 : Tree} → u1 ≡ u → p ≡ is_free_given free u1 → p ≡ is_free_given free e
+  free_negated e u p is d1 hp = rw (is, hp, d1) refl
+
   pub free_applied : (e : Tree) (f : Function) (u : Tree) (p : Bool) → e ≡ Applied f u → {u1 : Tree} → u1 ≡ u → p ≡ is_free_given free u1 → p ≡ is_free_given free e
   free_applied e f u p is d1 hp = rw (is, hp, d1) refl
 

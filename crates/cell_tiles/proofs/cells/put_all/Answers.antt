@@ -1,4 +1,5 @@
 use Rattle.std.proofs.Common.{◌∙◌, ◌++◌, [], ◌∷◌, ap, arith, set, subst, inl, inr}
+use Rattle.std.proofs.lemmas.Result.{err_from_is_err_and}
 use Rattle.std.proofs.lemmas.Bool.{cases_eq}
 use Rattle.std.proofs.lemmas.List.{get_or_default}
 use Rattle.ring_box.specs.Cells.{ArePlaces}
@@ -59,3 +60,15 @@ returns-clause-cells g c =
     let bits = c.args.grid.now.bits in
     let frame = c.args.frame.now in
     length_seen (λ m. m.items) c.loop-atom.members.items (first_members bits frame c.loop-atom.atom) _ c.loop-atom.invariant.put (length_members bits frame c.loop-atom.atom)
+
+pub returns-in_err-put-clause-ok : goal.returns-in_err-put-clause-ok
+returns-in_err-put-clause-ok g c = let end = err_from_is_err_and c.from_residual.result c.from_residual.ensures.1 in rw end.1 tt
+
+pub returns-in_err-put-clause-on_ring : goal.returns-in_err-put-clause-on_ring
+returns-in_err-put-clause-on_ring g c = let end = err_from_is_err_and c.from_residual.result c.from_residual.ensures.1 in rw end.1 tt
+
+pub returns-clause-ok : goal.returns-clause-ok
+returns-clause-ok g c = c.loop-atom.invariant.put ∙ ap (first_members c.args.grid.now.bits c.args.frame.now) (omega arith)
+
+pub returns-clause-on_ring : goal.returns-clause-on_ring
+returns-clause-on_ring g c = λ k d lt. c.loop-atom.invariant.on_ring k d (omega arith)

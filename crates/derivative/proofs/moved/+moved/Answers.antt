@@ -1,8 +1,22 @@
 -- A choice has three parts, each behind a box: too many for a search.
 use Rattle.std.proofs.Common.{sym}
+use Rattle.std.proofs.lemmas.Result.{IfOk-from_err}
 use Rattle.derivative.proofs.moved.+moved.Goals as goal
 
 pub returns-in-Select : goal.returns-in-Select
 returns-in-Select g t c =
     rw (c.in-Select.is, sym c.deref-in-Select.ensures, sym c.deref-in-Select-2.ensures, sym c.deref-in-Select-3.ensures)
     (c.choice.ensures _ _ _ c.moved-condition.ensures c.moved-chosen.ensures c.moved-otherwise.ensures)
+
+pub returns-in_err-moved-in-Negated : goal.returns-in_err-moved-in-Negated
+returns-in_err-moved-in-Negated g t c = IfOk-from_err _ _ c.from_residual.ensures.0
+
+pub returns-in_err-moved-in-Applied : goal.returns-in_err-moved-in-Applied
+returns-in_err-moved-in-Applied g t c = IfOk-from_err _ _ c.from_residual-in_err-moved-in-Applied.ensures.0
+
+pub returns-in_err-moved-in-Power : goal.returns-in_err-moved-in-Power
+returns-in_err-moved-in-Power g t c = IfOk-from_err _ _ c.from_residual-in_err-moved-in-Power.ensures.0
+
+pub returns-in-Binary : goal.returns-in-Binary
+returns-in-Binary g t c =
+    rw (c.in-Binary.is, sym c.deref-in-Binary.ensures, sym c.deref-in-Binary-2.ensures) (c.both.ensures _ _ c.moved-left.ensures c.moved-right.ensures)

@@ -1,5 +1,6 @@
 use Rattle.std.proofs.Common.{[], ap, sym, subst, ◌∙◌, arith, get_or, true, map, length}
 use Rattle.std.specs.Bool.{IsTrue}
+use Rattle.std.proofs.lemmas.Result.{IfOk-from_err}
 use Rattle.fixed.specs.Fractions.{bits_of}
 use Rattle.energy_program.specs.Tree.{are_scoped, inputs_of, tree_of}
 use Rattle.derivative.specs.Written.{slope_tree, moved}
@@ -34,3 +35,24 @@ returns g c =
     all_pushed (slope_tree (bits_of c.args.frac) (λ j. get_or c.args.free.now j true)) moved c.args.by c.loop-definition.written.items c.loop-definition-2.written.items
     c.as_slice-definitions.result.now c.args.program.now.definitions.items c.loop-definition.definition-index c.loop-definition-2.definition-index
     c.requires c.as_slice-definitions.ensures.value c.loop-definition-test.false c.loop-definition-2-test.false c.loop-definition.invariant c.loop-definition-2.invariant
+
+pub returns-in_err-slope : goal.returns-in_err-slope
+returns-in_err-slope g c = IfOk-from_err _ _ c.from_residual.ensures.0
+
+pub returns-in_err-push : goal.returns-in_err-push
+returns-in_err-push g c = IfOk-from_err _ _ c.from_residual-in_err-push.ensures.0
+
+pub returns-in_err-moved : goal.returns-in_err-moved
+returns-in_err-moved g c = IfOk-from_err _ _ c.from_residual-in_err-moved.ensures.0
+
+pub returns-in_err-push-2 : goal.returns-in_err-push-2
+returns-in_err-push-2 g c = IfOk-from_err _ _ c.from_residual-in_err-push-2.ensures.0
+
+pub loop-definition-2-preserved : goal.loop-definition-2-preserved
+loop-definition-2-preserved g c =
+    pushed (map tree_of c.loop-definition.written.items) (moved c.args.by) c.loop-definition-2.written.items c.push-in-loop-definition-2.new.self.items
+    c.as_slice-definitions.result.now c.loop-definition-2.definition-index c.definition-item-in-loop-definition-2.result c.in_ok-moved.field-0
+    c.loop-definition-2-test.true c.definition-item-in-loop-definition-2.is c.loop-definition-2.invariant c.in_ok-push-2.ensures.items c.in_ok-moved.ensures
+
+pub loop-definition-init : goal.loop-definition-init
+loop-definition-init g c = ap (map tree_of) c.new-written.ensures.items

@@ -1,6 +1,6 @@
 use Rattle.std.proofs.Common.{◌≡◌, List, length, arith}
 use Rattle.std.proofs.lemmas.List.{length-map}
-use Rattle.std.proofs.lemmas.Result.{err_from_is_err_and}
+use Rattle.std.proofs.lemmas.Result.{err_from_is_err_and, IfOk-from_err}
 use Rattle.fixed.specs.Fractions.{bits_of}
 use Rattle.energy_program.specs.Variables.{names_of}
 use Rattle.expr.specs.declared.tokens.Token.{Token}
@@ -43,3 +43,27 @@ returns-clause-value g c =
     (named_is (bits_of c.args.frac) (names_of c.args.names.now) c.args.text.now _ (source_of c.in_ok-source.source) _ c.in_ok-tokens.ensures (omega (arith, few, count)) (rw c.deref.ensures.value at c.in_ok-source.ensures)
     (rw c.deref-2.ensures.value at c.in_ok-check_names.ensures))
     c.program.ensures.value
+
+pub returns-in_err-tokens-clause-parameters : goal.returns-in_err-tokens-clause-parameters
+returns-in_err-tokens-clause-parameters g c = IfOk-from_err _ _ c.from_residual.ensures.0
+
+pub returns-in_err-source-clause-parameters : goal.returns-in_err-source-clause-parameters
+returns-in_err-source-clause-parameters g c = IfOk-from_err _ _ c.from_residual-in_err-source.ensures.0
+
+pub returns-in_err-check_names-clause-parameters : goal.returns-in_err-check_names-clause-parameters
+returns-in_err-check_names-clause-parameters g c = IfOk-from_err _ _ c.from_residual-in_err-check_names.ensures.0
+
+pub returns-clause-parameters : goal.returns-clause-parameters
+returns-clause-parameters g c = c.program.ensures.parameters
+
+pub returns-in_err-tokens-clause-globals : goal.returns-in_err-tokens-clause-globals
+returns-in_err-tokens-clause-globals g c = IfOk-from_err _ _ c.from_residual.ensures.0
+
+pub returns-in_err-source-clause-globals : goal.returns-in_err-source-clause-globals
+returns-in_err-source-clause-globals g c = IfOk-from_err _ _ c.from_residual-in_err-source.ensures.0
+
+pub returns-in_err-check_names-clause-globals : goal.returns-in_err-check_names-clause-globals
+returns-in_err-check_names-clause-globals g c = IfOk-from_err _ _ c.from_residual-in_err-check_names.ensures.0
+
+pub returns-clause-globals : goal.returns-clause-globals
+returns-clause-globals g c = c.program.ensures.globals

@@ -1,4 +1,5 @@
-use Rattle.std.proofs.Common.{rules}
+use Rattle.std.proofs.Common.{arith, rules}
+use Rattle.std.proofs.lemmas.Grind.{common_steps}
 use Rattle.fixed.specs.Fractions.{bits_of}
 use Rattle.fixed.proofs.MultipleLemmas.{whole_is}
 use Rattle.fixed.proofs.whole.floor.Goals as goal
@@ -8,3 +9,6 @@ returns-clause-greatest c = whole_is (bits_of c.args.frac) c.args.a _ (search ru
 
 pub returns-clause-value : goal.returns-clause-value
 returns-clause-value c = search rules
+
+pub overflow_cast-whole : goal.overflow_cast-whole
+overflow_cast-whole c = grind (arith, common_steps)

@@ -1,4 +1,5 @@
 use Rattle.std.proofs.Common.{◌≡◌, List, ℕ, ◌++◌, ◌∷◌, ◌∙◌, ap, sym, length, arith}
+use Rattle.std.proofs.lemmas.Grind.{common_steps}
 use Rattle.std.specs.List.{AllByRecursion}
 use Rattle.std.proofs.lemmas.List.{length-map}
 use Rattle.std.proofs.lemmas.Result.{on_ok_weaker, on_err_weaker}
@@ -70,3 +71,24 @@ returns-clause-again g c =
     let forms : AllByRecursion HasForm f.atoms = rw c.as_slice-2.ensures.value at c.in_ok-write_atoms.ensures.forms in
     on_ok_weaker c.write_all-3.result
     (λ _ fits. written_again f c.args.frame.now.title_fits (omega (arith, c.args.frame.now.count_fits, length-map c.args.frame.now.atoms.items atom_view)) forms fits) c.write_all-3.ensures.count
+
+pub write_atoms-requires-clause-room : goal.write_atoms-requires-clause-room
+write_atoms-requires-clause-room g c = grind (arith, common_steps)
+
+pub write_atoms-requires-clause-few : goal.write_atoms-requires-clause-few
+write_atoms-requires-clause-few g c = grind (arith, common_steps)
+
+pub returns-in_err-write_all-clause-fault_count : goal.returns-in_err-write_all-clause-fault_count
+returns-in_err-write_all-clause-fault_count g c = grind (arith, common_steps)
+
+pub returns-in_err-write_all-2-clause-fault_count : goal.returns-in_err-write_all-2-clause-fault_count
+returns-in_err-write_all-2-clause-fault_count g c = grind (arith, common_steps)
+
+pub returns-in_err-write_atoms-clause-fault_count : goal.returns-in_err-write_atoms-clause-fault_count
+returns-in_err-write_atoms-clause-fault_count g c = grind (arith, common_steps)
+
+pub returns-clause-count : goal.returns-clause-count
+returns-clause-count g c = grind (arith, common_steps)
+
+pub returns-clause-fault_count : goal.returns-clause-fault_count
+returns-clause-fault_count g c = grind (arith, common_steps)

@@ -8,6 +8,7 @@ use Rattle.kernel_paths.specs.Misfits.{GoesWrongSo, IsFirst, IsJudged}
 use Rattle.kernel_paths.proofs.Refusals.{goes_wrong}
 use Rattle.kernel_paths.proofs.Judgements.{stands_first, judged_last, some_last, wrong_if}
 use Rattle.kernel_paths.proofs.OneJudgement.{one_judgement}
+use Rattle.std.proofs.lemmas.Grind.{common_steps}
 use Rattle.kernel_paths.proofs.following.longest_path.Goals as goal
 
 pub loop-here-init : goal.loop-here-init
@@ -60,3 +61,6 @@ returns-clause-refused g c =
     wrong_if c.args.code.now c.args.inputs c.judge_end.result c.as_slice-instructions.ensures.code
     (judged_last c.args.code.now c.as_slice-instructions.result.now c.args.inputs c.loop-here.here c.loop-here.meetings.items c.index.result.now c.judge_end.result c.as_slice-instructions.ensures.items
     c.as_slice-instructions.ensures.code c.loop-here.invariant last c.index.ensures c.judge_end.ensures)
+
+pub loop-here-preserved : goal.loop-here-preserved
+loop-here-preserved g c = grind (arith, common_steps)

@@ -1,6 +1,7 @@
 use Rattle.std.proofs.Common.{◌≡◌, arith, inl, inr, length, sym, ◌∙◌}
 use Rattle.std.proofs.lemmas.Bool.{cases_lt}
 use Rattle.std.proofs.lemmas.List.{length-map}
+use Rattle.std.proofs.lemmas.Grind.{common_steps}
 use Rattle.cell_tiles.specs.Cells.{cell_number, places_of}
 use Rattle.cell_tiles.specs.Near.{IsPairOf, act}
 use Rattle.cell_tiles.specs.Tiles.{members_at, pair_of, pairs_in, pairs_with}
@@ -63,3 +64,9 @@ loop-next-preserved g c =
       listed = seen.listed kept.listed;
       few = omega (arith, seen.few, kept.few, kept.from);
     }
+
+pub loop-next-smaller : goal.loop-next-smaller
+loop-next-smaller g c = grind (arith, common_steps)
+
+pub returns-clause-near : goal.returns-clause-near
+returns-clause-near g c = grind (arith, common_steps)

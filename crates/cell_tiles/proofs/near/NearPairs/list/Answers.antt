@@ -2,6 +2,7 @@ use Rattle.std.proofs.Common.{rules, ◌≡◌, ℕ, ◌<◌, arith, ap, subst, 
 use Rattle.std.specs.Prelude.{IsTrue}
 use Rattle.std.proofs.lemmas.List.{get_or-map, length-map, take-set}
 use Rattle.std.proofs.lemmas.List.Elements.{All-get_or}
+use Rattle.std.proofs.lemmas.Grind.{common_steps}
 use Rattle.ring_box.specs.Cells.{ArePlaces}
 use Rattle.cell_tiles.specs.declared.pairs.AtomPair.{AtomPair}
 use Rattle.cell_tiles.specs.Near.{IsPairOf, act}
@@ -56,3 +57,12 @@ loop-j-preserved c =
             grown = rw w.count-is (omega (arith, kept.grown));
           }
     ]
+
+pub loop-j-init : goal.loop-j-init
+loop-j-init c = grind (arith, common_steps)
+
+pub returns-then-count-eq64-clause-few : goal.returns-then-count-eq64-clause-few
+returns-then-count-eq64-clause-few c = grind (arith, common_steps)
+
+pub returns-clause-few : goal.returns-clause-few
+returns-clause-few c = grind (arith, common_steps)

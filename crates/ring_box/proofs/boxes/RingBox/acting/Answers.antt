@@ -1,6 +1,5 @@
-use Rattle.std.proofs.Common.{rules, ◌∙◌, ◌≡◌, ◌<◌, ◌≤◌, ◌+◌, refl, to_z, of_z, w64}
+use Rattle.std.proofs.Common.{rules, ◌∙◌, ◌≡◌, ◌<◌, ◌≤◌, to_z, of_z, w64}
 use Rattle.ring_box.specs.Acting.{limit_of}
-use Rattle.ring_box.specs.Distances.{square}
 use Rattle.ring_box.proofs.ActingLemmas.{acts, idle}
 use Rattle.ring_box.proofs.boxes.RingBox.acting.Goals as goal
 

@@ -6,6 +6,7 @@ use Rattle.ring_box.specs.Distances.{distance_at, square_of}
 use Rattle.ring_box.specs.Forces.{taken_distance_of}
 use Rattle.ring_box.proofs.ActingLemmas.{below_cutoff, taken, whole}
 use Rattle.ring_box.proofs.ForceLemmas.{max_high, max_low}
+use Rattle.std.proofs.lemmas.Grind.{common_steps}
 use Rattle.ring_box.proofs.boxes.RingBox.pair_force.Goals as goal
 
 pub minus_slope-minus_slope-requires : goal.minus_slope-minus_slope-requires
@@ -40,3 +41,6 @@ returns-clause-bound g c =
     let slope : c.minus_slope-minus_slope.result ≡ m (taken_distance_of c.args.frac c.args.self.now c.args.core c.args.x c.args.y) =
     rw (← t.1, ← c.distance.ensures) c.minus_slope-minus_slope.ensures.value in
     rw (← slope) c.force.ensures.bound
+
+pub returns-in_err-acting-clause-far : goal.returns-in_err-acting-clause-far
+returns-in_err-acting-clause-far g c = grind (arith, common_steps)
