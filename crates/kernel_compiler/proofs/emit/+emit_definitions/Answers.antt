@@ -29,15 +29,3 @@ returns-else-marks-number-clause-items g t c = grind (arith, common_steps)
 
 pub returns-else-marks-number-clause-len : goal.returns-else-marks-number-clause-len
 returns-else-marks-number-clause-len g t c = grind (arith, common_steps)
-
-pub emit_definitions-requires : goal.emit_definitions-requires
-emit_definitions-requires g t c κs within = grind (arith, common_steps)
-
-pub overflow_add-number : goal.overflow_add-number
-overflow_add-number g t c = grind (arith, common_steps)
-
-pub bounds-marks-number : goal.bounds-marks-number
-bounds-marks-number g t c = grind (arith, common_steps)
-
-pub overflow_add-number-then-marks-number : goal.overflow_add-number-then-marks-number
-overflow_add-number-then-marks-number g t c = grind (arith, common_steps)

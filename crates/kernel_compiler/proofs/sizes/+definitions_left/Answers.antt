@@ -17,15 +17,3 @@ returns-in_ok-measure g t c = grind (arith, common_steps)
 
 pub returns-else-marks-number : goal.returns-else-marks-number
 returns-else-marks-number g t c = grind (arith, common_steps)
-
-pub overflow_add-number : goal.overflow_add-number
-overflow_add-number g t c = grind (arith, common_steps)
-
-pub definitions_left-requires : goal.definitions_left-requires
-definitions_left-requires g t c κs within = grind (arith, common_steps)
-
-pub bounds-marks-number : goal.bounds-marks-number
-bounds-marks-number g t c = grind (arith, common_steps)
-
-pub measure-requires : goal.measure-requires
-measure-requires g t c = grind (arith, common_steps)
