@@ -1,4 +1,6 @@
-# run: builds the program and runs the stored example. test: the whole gate. pairmd: leaves the program at ./pairmd.
+# try: builds the program with nothing proved, at ./pairmd-unproved, and runs the stored example.
+# run: proves and builds the program, and runs the stored example. pairmd: leaves the proved program at ./pairmd. test: the whole gate.
+# install: puts the proved program and its man page below PREFIX. guide: runs every command of README and docs/GUIDE.md, and compares.
 # transcripts: plays the transcripts of crates/transcripts/data. edits: tries the edits that the gate doesn't try, NAMES=.. of some crates.
 #
 # A program is built only once every crate that it stands on is proved. What was proved is kept in crates/*/out, so the
@@ -6,8 +8,17 @@
 # of memory that is free, or JOBS=n of them.
 
 JOBS ?= $(shell tools/build.py --count)
+PREFIX ?= /usr/local
+SOURCES := $(shell find crates -path '*/src/*' -name '*.rt')
 
-.PHONY: run test edits transcripts pairmd
+.PHONY: try run test edits transcripts pairmd install guide
+
+try: pairmd-unproved
+	@cd crates/pairmd/data && ../../../pairmd-unproved $$(cat ../args)
+	@echo "./pairmd-unproved printed this. Nothing of it is proved: \`make run\` proves the program, and builds it at ./pairmd." >&2
+
+pairmd-unproved: $(SOURCES) crates.txt tools/try.py
+	tools/try.py $@
 
 run: pairmd
 	@cd crates/pairmd/data && ../../../pairmd $$(cat ../args)
@@ -26,3 +37,10 @@ transcripts:
 pairmd:
 	tools/build.py pairmd --jobs $(JOBS)
 	cp crates/pairmd/out/pairmd pairmd
+
+install: pairmd
+	install -D -m 755 pairmd $(DESTDIR)$(PREFIX)/bin/pairmd
+	install -D -m 644 docs/pairmd.1 $(DESTDIR)$(PREFIX)/share/man/man1/pairmd.1
+
+guide:
+	tools/guide.py

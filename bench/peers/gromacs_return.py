@@ -1,0 +1,108 @@
+#!/usr/bin/env python3
+"""GROMACS there and back: N steps of its velocity Verlet (md-vv), velocities turned round, N steps; and whether numbers of threads give the same
+positions under its leap-frog (md -reprod).
+
+  bench/peers/gromacs_return.py [--steps N ..] [--threads T ..] [--gro FILE]
+
+Debian: gromacs, of mixed precision. Plain Lennard-Jones, cut off at 0.9 nm. The end of the way there is handed over as 12 decimals, which hold a float exactly.
+"""
+
+import os
+import struct
+import subprocess
+import tempfile
+
+import peer
+
+RUN = """integrator = {integrator}
+dt = 0.002
+nsteps = {steps}
+cutoff-scheme = Verlet
+nstlist = 10
+verlet-buffer-tolerance = -1
+rlist = 1.0
+rcoulomb = 0.9
+rvdw = 0.9
+vdw-modifier = none
+continuation = yes
+comm-mode = none
+nstxout = {steps}
+nstvout = {steps}
+"""
+TOPOLOGY = """[ defaults ]
+1 2 no 1.0 1.0
+[ atomtypes ]
+AR 18 39.948 0.0 A 0.34 0.996
+[ moleculetype ]
+AR 1
+[ atoms ]
+1 AR 1 AR AR 1 0.0 39.948
+[ system ]
+argon
+[ molecules ]
+AR {count}
+"""
+
+
+def frames(path):
+    """The frames of a TRR file of mixed precision: sides, positions, velocities, as they are."""
+    with open(path, "rb") as it:
+        data = it.read()
+    at, found = 0, []
+    while at < len(data):
+        (length,) = struct.unpack_from(">i", data, at + 8)
+        at += 12 + (length + 3) // 4 * 4
+        sizes = struct.unpack_from(">13i", data, at)
+        at += 52 + 8
+        parts = []
+        for size in (sizes[2], sizes[7], sizes[8], sizes[9]):
+            floats = struct.unpack_from(f">{size // 4}f", data, at)
+            parts.append([floats[k : k + 3] for k in range(0, len(floats), 3)])
+            at += size
+        box, positions, velocities, _ = parts
+        found.append(([box[axis][axis] for axis in range(3)], positions, velocities))
+    return found
+
+
+def gro(sides, positions, velocities):
+    """A frame of 12 and 13 decimals."""
+    lines = ["argon", str(len(positions))]
+    for number, (at, velocity) in enumerate(zip(positions, velocities), 1):
+        lines.append(f"{number:5}{'AR':<5}{'AR':>5}{number:5}" + "".join(f"{x:17.12f}" for x in at) + "".join(f"{v:17.13f}" for v in velocity))
+    return "\n".join([*lines, " ".join(f"{side:.9f}" for side in sides)]) + "\n"
+
+
+def run(start, count, integrator, steps, threads, *more):
+    """The first and the last frame of a run from the text of a GRO file."""
+    with tempfile.TemporaryDirectory() as folder:
+        for name, text in (("start.gro", start), ("run.mdp", RUN.format(integrator=integrator, steps=steps)), ("argon.top", TOPOLOGY.format(count=count))):
+            with open(f"{folder}/{name}", "w", encoding="ascii") as it:
+                it.write(text)
+        how = {"cwd": folder, "check": True, "stdout": subprocess.DEVNULL, "stderr": subprocess.DEVNULL, "env": {**os.environ, "OMP_NUM_THREADS": str(threads)}}
+        subprocess.run("gmx grompp -f run.mdp -c start.gro -p argon.top -o run.tpr -maxwarn 5".split(), **how)
+        words = f"gmx mdrun -s run.tpr -deffnm run -ntmpi 1 -ntomp {threads} -nb cpu -pin off".split()
+        subprocess.run([*words, *more], **how)
+        found = frames(f"{folder}/run.trr")
+    return found[0], found[-1]
+
+
+def main():
+    told = peer.arguments(__doc__)
+    with open(told.gro, encoding="ascii") as it:
+        start = it.read()
+    count = int(start.splitlines()[1])
+    said = subprocess.run(["gmx", "--version"], stdout=subprocess.PIPE, stderr=subprocess.DEVNULL, text=True).stdout
+    version = next(line.split(":")[1].strip() for line in said.splitlines() if line.startswith("GROMACS version"))
+    print(f"GROMACS {version}, {count} atoms")
+    for steps in told.steps:
+        (sides, begun, _), (_, there, velocities) = run(start, count, "md-vv", steps, 1)
+        turned = gro(sides, there, [[-v for v in it] for it in velocities])
+        _, (_, back, _) = run(turned, count, "md-vv", steps, 1)
+        print(f"md-vv, {steps} steps and back: {peer.returned(begun, back, sides)}", flush=True)
+    for threads in told.threads:
+        _, (_, there, _) = run(start, count, "md", told.steps[0], threads, "-reprod")
+        print(f"md -reprod, {threads} threads, positions after {told.steps[0]} steps: {peer.digest(there)}", flush=True)
+
+
+if __name__ == "__main__":
+    main()

@@ -1,0 +1,55 @@
+#!/usr/bin/env python3
+"""Draws energies.svg: the total energy of 500 atoms of liquid argon over 20 ps, at time steps of 2, 5 and 10 fs, and prints how far it strays.
+
+  PAIRMD=./pairmd pictures/energies.py        runs the program, 36,000 steps, and draws
+  pictures/energies.py --draw                 draws the table of an earlier run
+
+The total at a step is the potential energy there (`pairmd energy`) and the mean of the kinetic energies half a step before and half a step
+after it, which the two frames of this state and of the next one give.
+"""
+
+import liquid
+
+TIME, SAMPLES = 20_000, 100  # fs
+STEPS = {1: None, 2: liquid.GREEN, 5: liquid.BLUE, 10: liquid.ORANGE}
+
+
+def total(path, step):
+    kinetic = (path.state.kinetic(step) + path.ahead(1).kinetic(step)) / 2
+    return kinetic + path.potential(), kinetic
+
+
+def run():
+    rows = []
+    for step in STEPS:
+        path = liquid.Path(step)
+        for sample in range(SAMPLES + 1):
+            if sample:
+                path.go(TIME // SAMPLES // step)
+            rows.append([step, sample * TIME // SAMPLES / 1000, *(f"{it:.6f}" for it in total(path, step))])
+    liquid.write_table("energies", ["fs", "ps", "total", "kinetic"], rows)
+
+
+def draw():
+    rows = liquid.read_table("energies")
+    made, axes = liquid.figure(7.2, 3.2)
+    for step, color in STEPS.items():
+        time, energy, kinetic = zip(*[[float(row[name]) for name in ("ps", "total", "kinetic")] for row in rows if int(row["fs"]) == step])
+        mean = sum(energy) / len(energy)
+        strays = (sum((it - mean) ** 2 for it in energy) / len(energy)) ** 0.5
+        warm = sum(kinetic) / len(kinetic)
+        print(f"{step} fs: {mean:.3f} kJ/mol in the mean, {strays:.3f} around it ({strays / warm:.1e} of the kinetic energy, {warm:.0f}), at the end {energy[-1] - energy[0]:+.3f}")
+        if color:
+            axes.plot(time, [it - mean for it in energy], color=color, linewidth=1.5, label=f"{step} fs", zorder=3 - step / 10)
+    axes.set_xlim(0, TIME / 1000)
+    axes.set_xticks(range(0, TIME // 1000 + 1, 5))
+    axes.set_xlabel("time, ps")
+    axes.set_ylabel("total energy, less\nits mean, kJ/mol")
+    axes.legend(frameon=False, ncol=3, loc="upper center", labelcolor="linecolor", bbox_to_anchor=(0.5, 1.12))
+    liquid.save(made, "energies.svg")
+
+
+if __name__ == "__main__":
+    if liquid.wants_run():
+        run()
+    draw()

@@ -1,0 +1,125 @@
+"""Running the program on liquid argon, reading states, and how the pictures look. The scripts beside it share it.
+
+PAIRMD names the program, ./pairmd where it isn't said. Drawing needs matplotlib, the leap-frog numpy: python3-matplotlib of Debian has both.
+"""
+
+import os
+import subprocess
+import sys
+import tempfile
+
+HERE = os.path.dirname(os.path.realpath(__file__))
+EXAMPLES = os.path.join(os.path.dirname(HERE), "examples")
+PROGRAM = os.environ.get("PAIRMD", "./pairmd")
+PLACES = 2**32
+MASS = 39.948  # u
+
+# Of the middle, so that they stand on a white page and on a black one.
+INK, BLUE, ORANGE, GREEN = "#808890", "#3b82f6", "#f0822d", "#22a565"
+
+
+def program(*words):
+    """What the program prints."""
+    return subprocess.run([PROGRAM, *words], check=True, stdout=subprocess.PIPE, text=True).stdout
+
+
+class State:
+    """A state that the program printed: sides in nm, and each atom's places in both frames."""
+
+    def __init__(self, text):
+        self.text = text
+        lines = text.splitlines()
+        self.step = int(lines[2].split()[1])
+        self.sides = [int(word) / 100_000 for word in lines[4].split()[1:]]
+        rows = [[int(word) for word in line[15:].split()] for line in lines[5:]]
+        self.before, self.places = [row[:3] for row in rows], [row[3:] for row in rows]
+
+    def moves(self):
+        """By how many places each coordinate moved in the last step, the shorter way round the ring."""
+        return moves(self.before, self.places)
+
+    def kinetic(self, step):
+        """The kinetic energy half a step of so many fs before the current frame, in kJ/mol: whole numbers up to the last division."""
+        squares = [sum(move[axis] ** 2 for move in self.moves()) for axis in range(3)]
+        return sum(MASS / 2 * it * (side / PLACES / (step / 1000)) ** 2 for it, side in zip(squares, self.sides))
+
+
+def moves(before, after):
+    half = PLACES // 2
+    return [[(now - was + half) % PLACES - half for was, now in zip(*both)] for both in zip(before, after)]
+
+
+class Path:
+    """A run in pieces: a state in a file, moved on by the program."""
+
+    def __init__(self, step):
+        self.folder = tempfile.TemporaryDirectory()
+        self.job, self.file = f"{self.folder.name}/job", f"{self.folder.name}/state"
+        with open(f"{EXAMPLES}/argon.job", encoding="ascii") as job, open(self.job, "w", encoding="ascii") as made:
+            made.write(job.read().replace("dt 2\n", f"dt {step}\n"))
+        self.put(program("start", self.job, f"{EXAMPLES}/argon.gro"))
+
+    def put(self, text):
+        with open(self.file, "w", encoding="ascii") as it:
+            it.write(text)
+        self.state = State(text)
+        return self.state
+
+    def ahead(self, steps, back=False):
+        """The state so many steps on, which the path doesn't go to."""
+        return State(program("back" if back else "run", self.job, self.file, "--steps", str(steps)))
+
+    def go(self, steps, back=False):
+        return self.put(self.ahead(steps, back).text)
+
+    def potential(self):
+        """The energy of the pairs, in kJ/mol."""
+        return int(program("energy", self.job, self.file).split()[1]) / 2**32
+
+
+def table(name):
+    return os.path.join(HERE, f"{name}.tsv")
+
+
+def write_table(name, head, rows):
+    with open(table(name), "w", encoding="ascii") as it:
+        for row in [head, *rows]:
+            print(*row, sep="\t", file=it)
+
+
+def read_table(name):
+    with open(table(name), encoding="ascii") as it:
+        head, *rows = [line.split() for line in it]
+    return [dict(zip(head, row)) for row in rows]
+
+
+def figure(width, height, **how):
+    """A picture and its axes, on no ground of their own."""
+    import matplotlib
+
+    matplotlib.use("Agg")
+    plain = {"font.size": 10, "font.family": "DejaVu Sans", "svg.hashsalt": "pairmd", "axes.spines.top": False, "axes.spines.right": False}
+    for part in ("text.color", "axes.labelcolor", "axes.edgecolor", "xtick.color", "ytick.color"):
+        plain[part] = INK
+    matplotlib.rcParams.update(plain)
+    from matplotlib import pyplot
+
+    return pyplot.subplots(figsize=(width, height), layout="constrained", **how)
+
+
+def save(made, name):
+    """Keeps a picture beside the script: as SVG, or where the name says so as PNG of 128 colours."""
+    to = os.path.join(HERE, name)
+    if name.endswith("svg"):
+        made.savefig(to, transparent=True, metadata={"Date": None})
+        return
+    from PIL import Image
+
+    made.savefig(to, transparent=True, dpi=140)
+    with Image.open(to) as it:
+        it.quantize(128, Image.Quantize.FASTOCTREE).save(to, optimize=True)
+
+
+def wants_run():
+    """Whether the program is to be run; --draw draws the table of an earlier run again."""
+    return "--draw" not in sys.argv[1:]
