@@ -3,9 +3,9 @@ use Rattle.std.proofs.Common.{◌≡◌, ℕ, ◌+◌, ◌<◌, ◌≤◌, ◌�
 use Rattle.std.specs.List.{All}
 use Rattle.std.proofs.lemmas.Bool.{cases_eq, eq-eqb, ne_eqb}
 use Rattle.std.proofs.lemmas.List.{ext_get_or, get_or-map, get_or-replicate, get_or-set_other, get_or-set_same, length-map, length-replicate, length-set}
-use Rattle.std.proofs.lemmas.List.Elements.{All-from_get_or, filter-append}
+use Rattle.std.proofs.lemmas.List.Elements.{All-filter, All-from_get_or, filter-append}
 use Rattle.std.proofs.lemmas.List.Sums.{count_by-le-length, length-filter}
-use Rattle.cell_tiles.specs.Cells.{cell_number, cells_of, first_members, members_among, numbers_below, places_of}
+use Rattle.cell_tiles.specs.Cells.{cell_number, cells_of, first_members, members_among, members_of, numbers_below, places_of}
 use Rattle.cell_tiles.specs.Tiles.{members_at}
 use Rattle.cell_tiles.proofs.CountLemmas.{below_more, below_zero, get_below, length_below}
 
@@ -65,6 +65,21 @@ next_member bits frame n k e h =
         ∙ (members_here bits frame n c lt
         ∙ (sym (append-nil (members_among bits frame n c))
         ∙ (sym (among_more bits frame n c false t) ∙ sym (members_here bits frame (n + 1) c lt))))
+
+-- the atoms of a cell are atoms of the frame
+pub members_inside : (bits : List ℕ) (frame : List (List ℕ)) → All (λ xs. All (λ a. a < length frame) xs) (members_of bits frame)
+members_inside bits frame =
+    let l = length_members bits frame (length frame) in
+    All-from_get_or (λ xs. All (λ a. a < length frame) xs) (members_of bits frame) [] (λ c lt. here c (omega arith))
+  where
+    below : All (λ a. a < length frame) (numbers_below (length frame))
+    below = All-from_get_or (λ a. a < length frame) (numbers_below (length frame)) 0
+        (λ i lt. let inside : i < length frame = omega (arith, length_below (length frame)) in rw (get_below (length frame) i 0 inside) inside)
+
+    here : (c : ℕ) → c < cells_of bits → All (λ a. a < length frame) (get_or (members_of bits frame) c [])
+    here c lt =
+        let p : ℕ → Bool = λ a. eqb (cell_number bits (places_of frame a)) c in
+        rw (members_here bits frame (length frame) c lt) (All-filter p (λ a. a < length frame) (numbers_below (length frame)) below)
 
 -- no cell has more atoms than there are
 pub few_members : (bits : List ℕ) (frame : List (List ℕ)) (n m : ℕ) → n ≤ m → All (λ xs. length xs ≤ m) (first_members bits frame n)

@@ -3,7 +3,7 @@ use Rattle.std.proofs.Common.{◌≡◌, ℕ, zero, suc, ◌+◌, ◌^◌, ◌<�
 use Rattle.std.specs.Prelude.{nat_lt, slice_index}
 use Rattle.std.specs.List.{All}
 use Rattle.std.proofs.lemmas.Bool.{cases_Bool}
-use Rattle.std.proofs.lemmas.List.{append_assoc, drop-append-le, drop-drop, drop_all, get_or-map, get_or_append_left, length-map, map-append, take-append-drop, take-set, take_more, take_more_set}
+use Rattle.std.proofs.lemmas.List.{append_assoc, drop-append-le, drop-drop, drop-map, drop_all, get_or-map, get_or_append_left, length-map, map-append, take-append-drop, take-set, take_more, take_more_set}
 use Rattle.std.proofs.lemmas.List.Elements.{All-drop, All-from_get_or, All-get_or, All-push, All-take, All-weaker, filter-append, filter_passes}
 use Rattle.ring_box.specs.Acting.{AreInCell, Reach, acting_of}
 use Rattle.ring_box.specs.Cells.{ArePlaces, cell_of}
@@ -12,7 +12,6 @@ use Rattle.ring_box.proofs.ActingLemmas.{idle_turned}
 use Rattle.cell_tiles.specs.Cells.{IsGrid, cell_number, cells_of, members_of, numbers_below, places_of, x_number, y_number, z_number}
 use Rattle.cell_tiles.specs.Near.{IsPairOf, act}
 use Rattle.cell_tiles.specs.Tiles.{members_at, pair_of, pairs_with}
-use Rattle.cell_tiles.specs.Walks.{IsPartOf}
 use Rattle.cell_tiles.proofs.CellLemmas.{along_below, x_of_place, y_of_place, z_of_place}
 use Rattle.cell_tiles.proofs.MemberLemmas.{members_here}
 
@@ -132,5 +131,22 @@ members_lie bits frame c h =
     rw here (All-weaker (λ a. eqb (cell_number bits (places_of frame a)) c ≡ true) (λ a. cell_number bits (places_of frame a) ≡ c) (λ a e. eqb-true _ _ e) _ passes)
 
 -- so has each of some of them
-pub part_lies : (P : ℕ → Type 0) (xs ys : List ℕ) → IsPartOf xs ys → All P ys → All P xs
-part_lies P xs ys part all = rw part.2 (All-take P part.1 (drop part.0 ys) (All-drop P part.0 ys all))
+pub part_lies : (P : ℕ → Type 0) (xs ys : List ℕ) (from count : ℕ) → xs ≡ take count (drop from ys) → All P ys → All P xs
+part_lies P xs ys from count part all = rw part (All-take P count (drop from ys) (All-drop P from ys all))
+
+-- ---- places beside atoms
+
+-- the places of the atoms of a cell
+pub places_at : (f : ℕ → List ℕ) (members : List (List ℕ)) (c : ℕ) → get_or (map (map f) members) c [] ≡ map f (members_at members c)
+places_at f [] c = refl
+places_at f (m ∷ members) zero = refl
+places_at f (m ∷ members) (suc c) = places_at f members c
+
+take_map : (f : ℕ → List ℕ) (n : ℕ) (xs : List ℕ) → take n (map f xs) ≡ map f (take n xs)
+take_map f zero xs = refl
+take_map f (suc n) [] = refl
+take_map f (suc n) (x ∷ xs) = ap (λ ys. f x ∷ ys) (take_map f n xs)
+
+-- those of some of them
+pub part_places : (f : ℕ → List ℕ) (xs ys : List ℕ) (from count : ℕ) → xs ≡ take count (drop from ys) → take count (drop from (map f ys)) ≡ map f xs
+part_places f xs ys from count part = ap (take count) (drop-map f from ys) ∙ (take_map f count (drop from ys) ∙ ap (map f) (sym part))

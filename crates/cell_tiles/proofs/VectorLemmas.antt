@@ -2,9 +2,27 @@
 use Rattle.std.proofs.Common.{◌≡◌, ℕ, ◌+◌, ◌<◌, ◌≤◌, List, [], ◌∷◌, ◌++◌, length, map, get_or, set, take, replicate, Result, Ok, Err, sym, ap, subst, ◌∙◌, arith}
 use Rattle.std.specs.Prelude.{OnErr}
 use Rattle.std.specs.List.{All}
-use Rattle.std.proofs.lemmas.List.{get_or-map, length-map, length-replicate, map-set, replicate_more, set-get_or, take_all, take_more_set}
+use Rattle.std.proofs.lemmas.List.{get_or-map, length-map, length-replicate, map-set, replicate_more, set-get_or, take_all, take_more, take_more_set}
 use Rattle.std.proofs.lemmas.List.Elements.{All-get_or, All-replicate, All-same}
 use Rattle.cell_tiles.specs.Tiles.{members_at}
+
+module _ {T E : Type 0} (view : T → List E) where
+  -- one list more is as wanted, behind those that are
+  pub laid_more : (xs : List T) (ws : List (List E)) (i : ℕ) (y : T) → i < length xs → i < length ws → view y ≡ get_or ws i [] → take i (map view xs) ≡ take i ws → take (i + 1) (map view (set xs i y)) ≡ take (i + 1) ws
+  laid_more xs ws i y lt inside e h =
+      let l : length (map view xs) ≡ length xs = length-map xs view in
+      ap (take (i + 1)) (map-set view xs i y)
+      ∙ (take_more_set (map view xs) i (view y) (omega arith)
+      ∙ (ap (λ z. take i (map view xs) ++ z ∷ []) e
+      ∙ (ap (λ zs. zs ++ get_or ws i [] ∷ []) h ∙ sym (take_more ws i [] inside))))
+
+  pub laid_all : (xs : List T) (ws : List (List E)) (i : ℕ) → length xs ≤ i → length ws ≤ i → take i (map view xs) ≡ take i ws → map view xs ≡ ws
+  laid_all xs ws i p q h =
+      let l : length (map view xs) ≡ length xs = length-map xs view in
+      sym (take_all i (map view xs) (omega arith)) ∙ (h ∙ take_all i ws q)
+
+  pub length_empty : (xs : List T) (n : ℕ) → map view xs ≡ replicate n [] → length xs ≡ n
+  length_empty xs n e = sym (length-map xs view) ∙ (ap length e ∙ length-replicate n [])
 
 module _ {T : Type 0} (view : T → List ℕ) where
   pub cleared_more : (xs : List T) (i : ℕ) (y : T) → view y ≡ [] → i < length xs → take i (map view xs) ≡ replicate i [] → take (i + 1) (map view (set xs i y)) ≡ replicate (i + 1) []
@@ -35,14 +53,14 @@ module _ {T : Type 0} (view : T → List ℕ) where
   pub length_seen : (xs : List T) (ms : List (List ℕ)) (n : ℕ) → map view xs ≡ ms → length ms ≡ n → length xs ≡ n
   length_seen xs ms n e l = sym (length-map xs view) ∙ (ap length e ∙ l)
 
-  pub few_seen : (xs : List T) (ms : List (List ℕ)) (n : ℕ) → map view xs ≡ ms → All (λ m. length m ≤ n) ms → All (λ x. length (view x) ≤ n) xs
-  few_seen xs ms n e all k d lt =
+  -- what holds of each list holds of what is seen as it
+  pub all_seen : (P : List ℕ → Type 0) (xs : List T) (ms : List (List ℕ)) → map view xs ≡ ms → All P ms → All (λ x. P (view x)) xs
+  all_seen P xs ms e all k d lt =
       let l : length (map view xs) ≡ length xs = length-map xs view in
-      let P : List ℕ → Type 0 = λ m. length m ≤ n in
       subst P (get_or-map view xs k d [] lt) (All-get_or P (map view xs) k [] (omega arith) (All-same P (map view xs) ms e all))
 
-  pub length_empty : (xs : List T) (n : ℕ) → map view xs ≡ replicate n [] → length xs ≡ n
-  length_empty xs n e = length_seen xs (replicate n []) n e (length-replicate n [])
+  pub few_seen : (xs : List T) (ms : List (List ℕ)) (n : ℕ) → map view xs ≡ ms → All (λ m. length m ≤ n) ms → All (λ x. length (view x) ≤ n) xs
+  few_seen xs ms n e all = all_seen (λ m. length m ≤ n) xs ms e all
 
   pub few_empty : (xs : List T) (n m : ℕ) → map view xs ≡ replicate n [] → All (λ x. length (view x) ≤ m) xs
   few_empty xs n m e = few_seen xs (replicate n []) m e (All-replicate (λ z. length z ≤ m) n [] (omega arith))

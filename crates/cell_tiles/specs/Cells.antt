@@ -60,7 +60,12 @@ first_members bits frame n = map (members_among bits frame n) (numbers_below (ce
 abbrev pub members_of : List ℕ → List (List ℕ) → List (List ℕ)
 members_of bits frame = first_members bits frame (length frame)
 
--- what cells hold: how the box is cut, and the atoms of each cell
+-- the places of the atoms of each cell, in their order
+abbrev pub member_places : List (List ℕ) → List (List ℕ) → List (List (List ℕ))
+member_places frame members = map (map (places_of frame)) members
+
+-- what cells hold: how the box is cut, the atoms of each cell, and beside each atom its places
 pub record CellAtoms : Type 0 where
   pub bits : List ℕ
   pub members : List (List ℕ)
+  pub places : List (List (List ℕ))

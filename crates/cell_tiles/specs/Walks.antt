@@ -1,5 +1,5 @@
 -- A walk over the pairs of a tile: what is left of it, and at which row and column it stands.
-use Rattle.std.specs.Prelude.{◌≡◌, ℕ, ◌+◌, ◌*◌, ◌-◌, ◌<◌, ◌≤◌, Bool, true, false, List, length, drop, take}
+use Rattle.std.specs.Prelude.{◌≡◌, ℕ, ◌+◌, ◌*◌, ◌-◌, ◌<◌, ◌≤◌, Bool, true, false, List, length, drop}
 use Rattle.cell_tiles.specs.Tiles.{pairs_among, pairs_between}
 
 -- the pairs of one cell, or of two
@@ -32,7 +32,3 @@ pub record IsWalk (one : Bool) (xs ys : List ℕ) (row column width left : ℕ) 
 pub record Walk : Type 0 where
   pub pairs : List (ℕ × ℕ)
   pub others : List ℕ
-
--- the first list is cut out of the second
-abbrev pub IsPartOf : List ℕ → List ℕ → Type 0
-IsPartOf xs ys = (from : ℕ) × (count : ℕ) × (xs ≡ take count (drop from ys))

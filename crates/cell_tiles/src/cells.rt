@@ -1,24 +1,26 @@
-//! The atoms of each cell.
+//! The atoms of each cell, and their places.
 
-ghost use Rattle.std.specs.Prelude.{◌≡◌, ◌+◌, ◌<◌, ◌≤◌, [], ◌∷◌, ◌++◌, drop, length, map, replicate, slice_get, slice_index_or, slice_set, Some, IfOk, OnOk, OnErr};
+ghost use Rattle.std.specs.Prelude.{◌≡◌, ◌+◌, ◌<◌, ◌≤◌, [], ◌∷◌, ◌++◌, drop, length, map, replicate, slice_get, slice_index_or, slice_set, take, Some, IfOk, OnOk, OnErr};
 ghost use Rattle.std.specs.List.{All};
-ghost use Rattle.cell_tiles.specs.Cells.{CellAtoms, cells_of, first_members, members_of};
+ghost use Rattle.cell_tiles.specs.Cells.{CellAtoms, cells_of, first_members, member_places, members_of};
 ghost use Rattle.cell_tiles.specs.Tiles.{members_at, pairs_in};
 ghost use Rattle.ring_box.specs.Cells.{ArePlaces};
 
+use crate::beside::lay_out_all;
 use crate::grids::Grid;
 use crate::near::{FrameInBox, NearPairs};
 use crate::pairs::{AtomPair, count_among, count_between, pair_among, pair_between};
 use crate::tiles::Tile;
-use crate::walks::{TileRows, walk_among, walk_between};
+use crate::walks::{TileRow, TileRows, walk_among, walk_between};
 use std::alloc::{AllocError, Allocator};
 use std::marker::Model;
 
-/// The atoms of each cell of a grid, ascending.
+/// The atoms of each cell of a grid, ascending, and beside each atom its places.
 #[derive(Drop)]
 pub struct Cells<A: Allocator + Copy> {
     grid: Grid,
     members: Vec<Vec<u32, A>, A>,
+    places: Vec<Vec<[u32; 3], A>, A>,
 }
 
 impl<A: Allocator + Copy> Model for Cells<A> {
@@ -28,9 +30,9 @@ impl<A: Allocator + Copy> Model for Cells<A> {
 
     ghost Value = { CellAtoms };
 
-    ghost view = { λ c. record { bits = c.grid.bits; members = map (λ m. m.items) c.members.items } };
+    ghost view = { λ c. record { bits = c.grid.bits; members = map (λ m. m.items) c.members.items; places = map (λ p. p.items) c.places.items } };
 
-    ghost invariant = { λ c. (length c.members.items ≡ cells_of c.grid.bits) × All (λ m. length m.items ≤ 65536) c.members.items };
+    ghost invariant = { λ c. (length c.members.items ≡ cells_of c.grid.bits) × All (λ m. length m.items ≤ 65536) c.members.items × (length c.places.items ≡ cells_of c.grid.bits) };
 }
 
 // Empties each cell, and keeps its memory.
@@ -77,10 +79,11 @@ fn put_all<A: Allocator + Copy>(
     Ok(())
 }
 
-fn empty_cells<A: Allocator + Copy>(
+// For each cell a list of nothing.
+fn empty_cells<T: Drop, A: Allocator + Copy>(
     alloc: A,
     grid: &Grid,
-) -> Result<Vec<Vec<u32, A>, A>, AllocError>
+) -> Result<Vec<Vec<T, A>, A>, AllocError>
     ensures { IfOk result (λ v. map (λ m. m.items) v.items ≡ replicate (cells_of grid.now.bits) []) }
 {
     let mut members = Vec::new(alloc);
@@ -97,21 +100,28 @@ impl<A: Allocator + Copy> Cells<A> {
         ensures empty { IfOk result (λ c. c.members ≡ replicate (cells_of grid.bits) []) }
     {
         let members = empty_cells(alloc, &grid)?;
-        Ok(Cells { grid, members })
+        let places = empty_cells(alloc, &grid)?;
+        Ok(Cells {
+            grid,
+            members,
+            places,
+        })
     }
 
-    /// Puts each atom of a frame, of at most 65,536, into its cell in place of what the cells held. It keeps the
-    /// memory that the cells have, and answers `AllocError` where more is refused: the cells then hold some of the
+    /// Puts each atom of a frame, of at most 65,536, into its cell in place of what the cells held, and its places beside it. It keeps
+    /// the memory that the cells have, and answers `AllocError` where more is refused: the cells then hold some of the
     /// atoms, and can be filled again.
     pub fn fill(&mut self, frame: &[[u32; 3]]) -> Result<(), AllocError>
         requires { length frame.now ≤ 65536 }
         ensures bits { self.new.bits ≡ self.old.bits }
         ensures ok { OnOk result (self.new.members ≡ members_of self.old.bits frame.now) }
+        ensures beside { OnOk result (self.new.places ≡ member_places frame.now self.new.members) }
         // What the frame's type says of each atom, at hand for all of them.
         ensures on_ring { OnOk result (All ArePlaces frame.now) }
     {
         clear_all(&mut self.members);
-        put_all(&mut self.members, &self.grid, frame)
+        put_all(&mut self.members, &self.grid, frame)?;
+        lay_out_all(&mut self.places, &self.members, frame)
     }
 
     // The atoms of a cell.
@@ -121,6 +131,16 @@ impl<A: Allocator + Copy> Cells<A> {
     {
         match self.members.get(cell as usize) {
             Some(members) => members.as_slice(),
+            None => &[],
+        }
+    }
+
+    // The places of the atoms of a cell, in their order.
+    fn places(&self, cell: u32) -> &[[u32; 3]]
+        ensures { result.now ≡ slice_index_or self.now.places cell [] }
+    {
+        match self.places.get(cell as usize) {
+            Some(places) => places.as_slice(),
             None => &[],
         }
     }
@@ -167,10 +187,19 @@ impl<A: Allocator + Copy> Cells<A> {
 
 // ---- pairs that act
 
+// The places of what is left of a row, of those of the atoms that it is cut from.
+fn places_beside<'a>(places: &'a [[u32; 3]], row: &TileRow<'_>) -> &'a [[u32; 3]]
+    requires { row.now.column + length row.now.others.now ≤ length places.now }
+    ensures { result.now ≡ take (length row.now.others.now) (drop row.now.column places.now) }
+{
+    let from = row.column as usize;
+    &places[from..from + row.others.len()]
+}
+
 impl<A: Allocator + Copy> Cells<A> {
     ghost use Rattle.std.specs.Prelude.{ℕ, ◌≡◌, ◌+◌, ◌<◌, ◌≤◌, ◌++◌, length, take, IsTrue, None};
     ghost use Rattle.ring_box.specs.Acting.{acting_of};
-    ghost use Rattle.cell_tiles.specs.Cells.{cell_number, places_of};
+    ghost use Rattle.cell_tiles.specs.Cells.{cell_number, member_places, places_of};
     ghost use Rattle.cell_tiles.specs.Near.{AreNear, IsPairOf, those_acting};
     ghost use Rattle.cell_tiles.specs.Tiles.{pairs_with};
 
@@ -197,10 +226,12 @@ impl<A: Allocator + Copy> Cells<A> {
         cell: u32,
         atom: u32,
         others: &[u32],
+        places: &[[u32; 3]],
         near: &mut NearPairs,
     ) -> usize
         requires cell { cell < cells_of self.now.bits }
         requires there { 0 < length others.now }
+        requires beside { places.now ≡ map (places_of frame.now.places.now) others.now }
         requires places { All ArePlaces frame.now.places.now }
         requires others { All (λ b. cell_number self.now.bits (places_of frame.now.places.now b) ≡ cell) others.now }
         requires pairs { All (IsPairOf (length frame.now.places.now)) (pairs_with atom others.now) }
@@ -214,7 +245,7 @@ impl<A: Allocator + Copy> Cells<A> {
         if self.is_cell_far(frame, atom, cell) {
             others.len()
         } else {
-            near.list(frame, atom, others)
+            near.list(frame, atom, others, places)
         }
     }
 
@@ -225,6 +256,7 @@ impl<A: Allocator + Copy> Cells<A> {
         requires k { k < length (pairs_in self.now.members (tile.first, tile.second)) }
         requires cell { tile.second < cells_of self.now.bits }
         requires members { self.now.members ≡ members_of self.now.bits frame.now.places.now }
+        requires beside { self.now.places ≡ member_places frame.now.places.now self.now.members }
         requires places { All ArePlaces frame.now.places.now }
         requires pairs { All (IsPairOf (length frame.now.places.now)) (pairs_in self.now.members (tile.first, tile.second)) }
         ensures near { AreNear frame.now.reach.now frame.now.ring.now frame.now.places.now (pairs_in self.now.members (tile.first, tile.second)) k near.new result }
@@ -233,10 +265,12 @@ impl<A: Allocator + Copy> Cells<A> {
         // it isn't wanted but as what numbers of pairs are seen to fit by
         let _pairs = self.pairs(tile);
         near.clear();
+        let places = self.places(tile.second);
         let mut rows = self.rows_from(tile, k);
         let mut next = k;
         while let Some(row) = rows.next() {
-            let seen = self.list_row(frame, tile.second, row.atom, row.others, near);
+            let beside = places_beside(places, &row);
+            let seen = self.list_row(frame, tile.second, row.atom, row.others, beside, near);
             next += seen as u64;
             if seen < row.others.len() {
                 return next;

@@ -2,6 +2,7 @@
 //! tile, once.
 #![tactic(auto)]
 
+mod beside;
 mod cells;
 mod grids;
 mod laws;

@@ -3,6 +3,7 @@
 ghost use Rattle.std.specs.Prelude.{◌≡◌, ◌+◌, ◌<◌, ◌≤◌, ◌++◌, ℕ, length, map, take};
 ghost use Rattle.std.specs.List.{All};
 ghost use Rattle.ring_box.specs.Cells.{ArePlaces};
+ghost use Rattle.cell_tiles.specs.Cells.{places_of};
 ghost use Rattle.cell_tiles.specs.Near.{IsPairOf, those_acting};
 ghost use Rattle.cell_tiles.specs.Tiles.{pair_of, pairs_with};
 
@@ -64,9 +65,16 @@ impl NearPairs {
     }
 
     /// Lists the pairs of an atom with others but for those that are far as the upper bits of their separation tell, until there is no room. It answers how many
-    /// of the pairs it has come past. Each pair is written, and counted where it isn't far, so that no branch has to be foreseen.
-    pub(crate) fn list(&mut self, frame: &FrameInBox, atom: u32, others: &[u32]) -> usize
+    /// of the pairs it has come past. The places of the others are read beside them, one after the other. Each pair is written, and counted where it isn't far, so that no branch has to be foreseen.
+    pub(crate) fn list(
+        &mut self,
+        frame: &FrameInBox,
+        atom: u32,
+        others: &[u32],
+        places: &[[u32; 3]],
+    ) -> usize
         requires there { 0 < length others.now }
+        requires beside { places.now ≡ map (places_of frame.now.places.now) others.now }
         requires places { All ArePlaces frame.now.places.now }
         requires pairs { All (IsPairOf (length frame.now.places.now)) (pairs_with atom others.now) }
         ensures acting { those_acting frame.now.reach.now frame.now.ring.now frame.now.places.now self.new
@@ -84,9 +92,8 @@ impl NearPairs {
                 self.count = count;
                 return j;
             }
-            let other = others[j];
-            self.pairs[count] = in_order(atom, other);
-            if !ring.is_far(&reach, x, frame.places[other as usize]) {
+            self.pairs[count] = in_order(atom, others[j]);
+            if !ring.is_far(&reach, x, places[j]) {
                 count += 1;
             }
         }

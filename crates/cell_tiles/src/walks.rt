@@ -2,7 +2,7 @@
 
 ghost use Rattle.std.specs.Prelude.{◌≡◌, ℕ, ◌+◌, ◌<◌, ◌≤◌, List, [], ◌++◌, ◌-◌, length, drop, take, IfSome, IfNone};
 ghost use Rattle.cell_tiles.specs.Tiles.{pairs_among, pairs_between, pairs_with};
-ghost use Rattle.cell_tiles.specs.Walks.{IsPartOf, width_of};
+ghost use Rattle.cell_tiles.specs.Walks.{width_of};
 
 use crate::pairs::{count_among, count_between, places_of_pair};
 use std::marker::Model;
@@ -39,10 +39,12 @@ fn columns(others: &[u32], from: u64, to: u64) -> &[u32]
     &others[from as usize..to as usize]
 }
 
-/// A row of a tile, or what is left of one: an atom, and others with each of which it makes a pair.
+/// A row of a tile, or what is left of one: an atom, and others with each of which it makes a pair. They are cut out of the atoms of a cell, from
+/// the column on.
 #[derive(Clone, Copy)]
 pub struct TileRow<'a> {
     pub atom: u32,
+    pub column: u64,
     pub others: &'a [u32],
 }
 
@@ -113,7 +115,8 @@ impl<'a> TileRows<'a> {
     pub fn next(&mut self) -> Option<TileRow<'a>>
         ensures some { IfSome result (λ row. self.old.pairs ≡ pairs_with row.atom row.others.now ++ self.new.pairs) }
         ensures there { IfSome result (λ row. 0 < length row.others.now) }
-        ensures part { IfSome result (λ row. IsPartOf row.others.now self.old.others) }
+        ensures part { IfSome result (λ row. row.others.now ≡ take (length row.others.now) (drop row.column self.old.others)) }
+        ensures within { IfSome result (λ row. row.column + length row.others.now ≤ length self.old.others) }
         ensures others { self.new.others ≡ self.old.others }
         ensures none { IfNone result (self.old.pairs ≡ []) }
     {
@@ -123,6 +126,7 @@ impl<'a> TileRows<'a> {
         let place = self.place;
         let row = TileRow {
             atom: self.atoms[place.row as usize],
+            column: place.column,
             others: columns(self.others, place.column, place.width),
         };
         self.left -= place.width - place.column;

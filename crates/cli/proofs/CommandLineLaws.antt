@@ -55,6 +55,14 @@ or_else_kind (k ∷ ks) next e has = has
 pub faulty_has_kind : (words : List Text) (e : Error) → HasKind (fault_of program words) e → HasKind (faults_of words) e
 faulty_has_kind words e has = or_else_kind (fault_of program words) (MissingRequiredArgument ∷ []) e has
 
+or_else_none : (kinds : Kinds) (k : ErrorKind) (e : Error) → kinds ≡ [] → kind_of e ≡ k → HasKind (or_else kinds (k ∷ [])) e
+or_else_none [] k e none is = inr (inl is)
+or_else_none (x ∷ xs) k e none is = cc
+
+-- the error that is made where words without a fault name no command
+pub faultless_has_kind : (words : List Text) (e : Error) → fault_of program words ≡ [] → kind_of e ≡ MissingRequiredArgument → HasKind (faults_of words) e
+faultless_has_kind words e none is = or_else_none (fault_of program words) MissingRequiredArgument e none is
+
 -- what the parser's clauses say of a command that is this program
 pub program_fails : (a : App) (words : List Text) (e : Error) → a ≡ program
     → (is_simple_and_free a ≡ true → HasKind (fault_of a words) e) → HasKind (fault_of program words) e

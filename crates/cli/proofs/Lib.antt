@@ -1,3 +1,4 @@
 pub mod CommandLineLaws
+pub mod KeptLaws
 pub mod Printing
 pub mod VerdictLaws

@@ -8,6 +8,7 @@ use Rattle.clap.specs.declared.builder.command.Command.TheViews.{out-Command}
 use Rattle.clap.specs.Kinds.{or_else}
 use Rattle.clap.specs.declared.error.kind.ErrorKind.{ErrorKind}
 use Rattle.clap.specs.declared.error.kind.ErrorKind.TheVariants.{DisplayHelp, MissingRequiredArgument}
+use Rattle.clap.specs.declared.builder.action.ArgAction.TheVariants.{SetTrue}
 use Rattle.clap.specs.declared.builder.value_parser.ValueParser.TheVariants.{Unsigned}
 use Rattle.integrator.specs.declared.direction.Direction.{Direction}
 use Rattle.integrator.specs.declared.direction.Direction.TheVariants.{Forward, Back}
@@ -19,6 +20,7 @@ use Rattle.cli.specs.declared.commands.Frame.{Frame}
 use Rattle.cli.specs.declared.commands.Listing.{Listing}
 use Rattle.cli.specs.declared.commands.Run.{Run}
 use Rattle.cli.specs.declared.commands.Start.{Start}
+use Rattle.cli.specs.declared.commands.Trajectory.{Trajectory}
 
 -- ---- what the program takes
 
@@ -56,6 +58,22 @@ workers_rule = record (new_rule (codes "workers")) {
   parser = Some (Unsigned 1 64);
 }
 
+-- `--every k`, from 1 to 1,000,000,000,000
+abbrev pub every_rule : Rule
+every_rule = record (new_rule (codes "every")) {
+  long = Some (codes "every");
+  required = true;
+  value_names = 1;
+  parser = Some (Unsigned 1 1000000000000);
+}
+
+-- `--back`, a flag
+abbrev pub back_rule : Rule
+back_rule = record (new_rule (codes "back")) {
+  long = Some (codes "back");
+  action = Some SetTrue;
+}
+
 -- `--code LISTING`, which need not be given
 abbrev pub code_rule : Rule
 code_rule = record (new_rule (codes "code")) {
@@ -68,8 +86,15 @@ abbrev pub starting : Shape
 starting = (with_rule (with_rule (with_rule (new_app (codes "start")) (path_rule (codes "JOB"))) (path_rule (codes "GRO"))) frame_rule).top
 
 -- a command that takes a job, a state, a number of steps and one of workers
+abbrev pub stepped : Text → App
+stepped name = with_rule (with_rule (with_rule (with_rule (new_app name) (path_rule (codes "JOB"))) (path_rule (codes "STATE"))) steps_rule) workers_rule
+
 abbrev pub stepping : Text → Shape
-stepping name = (with_rule (with_rule (with_rule (with_rule (new_app name) (path_rule (codes "JOB"))) (path_rule (codes "STATE"))) steps_rule) workers_rule).top
+stepping name = (stepped name).top
+
+-- the command that takes besides how many steps lie between frames, and whether the run goes back
+abbrev pub filming : Shape
+filming = (with_rule (with_rule (stepped (codes "trajectory")) every_rule) back_rule).top
 
 -- the command that takes a job and a state
 abbrev pub weighing : Shape
@@ -96,7 +121,7 @@ abbrev pub forward : App
 forward = with_subcommand (with_subcommand bare starting) (stepping (codes "run"))
 
 abbrev pub returning : App
-returning = with_subcommand (with_subcommand forward (stepping (codes "back"))) framing
+returning = with_subcommand (with_subcommand (with_subcommand forward (stepping (codes "back"))) filming) framing
 
 abbrev pub judging : App
 judging = with_subcommand (with_subcommand returning weighing) checking
@@ -134,6 +159,14 @@ IsSteps rows n = SaysNumber (codes "steps") rows n
 abbrev pub IsWorkers : List Row → ℕ → Type 0
 IsWorkers rows n = SaysNumber (codes "workers") rows n
 
+abbrev pub IsEvery : List Row → ℕ → Type 0
+IsEvery rows n = SaysNumber (codes "every") rows n
+
+-- back where `--back` is given, and else forward
+abbrev pub IsTurned : List Row → Direction → Type 0
+IsTurned rows Back = first_of (codes "back") rows ≡ Some (codes "true")
+IsTurned rows Forward = first_of (codes "back") rows ≢ Some (codes "true")
+
 abbrev pub IsFrameNumber : List Row → ℕ → Type 0
 IsFrameNumber rows n = SaysNumber (codes "frame") rows n
 
@@ -150,6 +183,15 @@ pub record IsRun (name : Text) (rows : List Row) (run : Run) : Type 0 where
   pub state : first_of (codes "STATE") rows ≡ Some run.state.now
   pub steps : IsSteps rows run.steps
   pub workers : IsWorkers rows run.workers
+
+-- the values of the arguments of `trajectory` say these frames
+pub record IsTrajectory (rows : List Row) (t : Trajectory) : Type 0 where
+  pub direction : IsTurned rows t.direction
+  pub job : first_of (codes "JOB") rows ≡ Some t.job.now
+  pub state : first_of (codes "STATE") rows ≡ Some t.state.now
+  pub steps : IsSteps rows t.steps
+  pub every : IsEvery rows t.every
+  pub workers : IsWorkers rows t.workers
 
 -- the values of the arguments of `frame` say this frame
 pub record IsFrame (rows : List Row) (frame : Frame) : Type 0 where
@@ -173,6 +215,7 @@ pub record IsListing (rows : List Row) (l : Listing) : Type 0 where
 abbrev pub IsNamed : Text → List Row → Command → Type 0
 IsNamed name rows (command.Start start) = (name ≡ codes "start") × IsStart rows start
 IsNamed name rows (command.Run run) = IsRun name rows run
+IsNamed name rows (command.Trajectory t) = (name ≡ codes "trajectory") × IsTrajectory rows t
 IsNamed name rows (command.Frame frame) = (name ≡ codes "frame") × IsFrame rows frame
 IsNamed name rows (command.Energy energy) = (name ≡ codes "energy") × IsEnergy rows energy
 IsNamed name rows (command.Check check) = (name ≡ codes "check") × IsCheck rows check
@@ -185,6 +228,10 @@ IsNamedOf (Some said) c = IsNamed said.0 said.1 c
 -- the words are without fault, and say this command
 abbrev pub IsCommand : List Text → Command → Type 0
 IsCommand words c = (fault_of program words ≡ []) × IsNamedOf (subcommand_of program words) c
+
+-- the words say a trajectory
+abbrev pub AsksForTrajectory : List Text → Type 0
+AsksForTrajectory words = (t : Trajectory) × IsCommand words (command.Trajectory t)
 
 -- the kinds of fault of words that say no command: those of the first step of the parse that fails
 abbrev pub faults_of : List Text → Kinds

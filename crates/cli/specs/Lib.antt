@@ -5,4 +5,5 @@ pub mod Host
 pub mod Reads
 pub mod Reports
 pub mod Statuses
+pub mod Kept
 pub mod Verdicts

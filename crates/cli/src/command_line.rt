@@ -3,16 +3,19 @@
 ghost use Rattle.std.specs.Prelude.{◌≡◌, ◌≤◌, ◌<◌, ◌^◌, ◌⊎◌, ℕ, IfOk, IfErr, MatchOption, codes, option_map, map, false};
 ghost use Rattle.clap.specs.Words.{App, HasKind, Rule, Shape, app_of, first_of, found_of, kind_of, new_app, rows_of, rule_of, subcommand_rows_of, with_rule, with_subcommand};
 ghost use Rattle.clap.specs.declared.error.kind.ErrorKind.TheVariants.{OutOfMemory};
-ghost use Rattle.cli.specs.CommandLine.{IsBuilt, IsCheck, IsCommand, IsEnergy, IsFrame, IsFrameNumber, IsListing, IsNamed, IsNamedOf, IsRun, IsShaped, IsStart, IsSteps, IsWorkers, bare, checking, code_rule, command_name, faults_of, forward, frame_rule, framing, judging, listing, option_rule, path_rule, program, returning, starting, steps_rule, stepping, weighing, workers_rule};
+ghost use Rattle.cli.specs.CommandLine.{IsBuilt, IsCheck, IsCommand, IsEnergy, IsEvery, IsFrame, IsFrameNumber, IsListing, IsNamed, IsNamedOf, IsRun, IsShaped, IsStart, IsSteps, IsTrajectory, IsTurned, IsWorkers, back_rule, bare, checking, code_rule, command_name, every_rule, faults_of, filming, forward, frame_rule, framing, judging, listing, option_rule, path_rule, program, returning, starting, stepped, steps_rule, stepping, weighing, workers_rule};
 ghost use Rattle.cli.specs.declared.commands.Start.{Start};
 ghost use Rattle.cli.specs.declared.commands.Frame.{Frame};
 ghost use Rattle.cli.specs.declared.commands.Listing.{Listing};
 ghost use Rattle.cli.specs.declared.commands.Energy.{Energy};
 ghost use Rattle.cli.specs.declared.commands.Check.{Check};
+ghost use Rattle.cli.specs.declared.commands.Trajectory.{Trajectory};
 
-use crate::commands::{Check, Command, Energy, Frame, Listing, MAX_STEPS, MAX_WORKERS, Run, Start};
+use crate::commands::{
+    Check, Command, Energy, Frame, Listing, MAX_STEPS, MAX_WORKERS, Run, Start, Trajectory,
+};
 use clap::error::ErrorKind;
-use clap::{Arg, ArgMatches, Error, value_parser};
+use clap::{Arg, ArgAction, ArgMatches, Error, value_parser};
 use integrator::Direction;
 use std::alloc::{AllocError, Global};
 use std::convert::AsStr;
@@ -65,6 +68,7 @@ fn command_by<'a>(name: &str, matches: &ArgMatches<'a>) -> Option<Command<'a>>
 {
     match name {
         "start" => start_of(matches),
+        "trajectory" => trajectory_of(matches),
         "frame" => frame_of(matches),
         "energy" => energy_of(matches),
         "check" => check_of(matches),
@@ -99,6 +103,27 @@ fn run_by<'a>(name: &str, matches: &ArgMatches<'a>) -> Option<Command<'a>>
         job,
         state,
         steps,
+        workers,
+    }))
+}
+
+/// The frames of a run that these matches say.
+fn trajectory_of<'a>(matches: &ArgMatches<'a>) -> Option<Command<'a>>
+    ensures { MatchOption result ((t : Trajectory) → IsTrajectory (rows_of (found_of matches.now)) t → ⊥)
+        (λ c. (t : Trajectory) × (c ≡ Command.Trajectory t) × IsTrajectory (rows_of (found_of matches.now)) t) }
+{
+    let direction = turned_of(matches);
+    let job = path_of(matches, "JOB")?;
+    let state = path_of(matches, "STATE")?;
+    let steps = steps_of(matches)?;
+    let every = every_of(matches)?;
+    let workers = workers_of(matches)?;
+    Some(Command::Trajectory(Trajectory {
+        direction,
+        job,
+        state,
+        steps,
+        every,
         workers,
     }))
 }
@@ -167,6 +192,16 @@ fn steps_of(matches: &ArgMatches<'_>) -> Option<u64>
     }
 }
 
+fn every_of(matches: &ArgMatches<'_>) -> Option<u64>
+    ensures { MatchOption result ((n : ℕ) → 1 ≤ n → n ≤ MAX_STEPS → IsEvery (rows_of (found_of matches.now)) n → ⊥)
+        (λ n. (1 ≤ n) × (n ≤ MAX_STEPS) × IsEvery (rows_of (found_of matches.now)) n) }
+{
+    match matches.get_one("every")? {
+        every @ 1..=MAX_STEPS => Some(every),
+        _ => None,
+    }
+}
+
 fn workers_of(matches: &ArgMatches<'_>) -> Option<u32>
     ensures { MatchOption result ((n : ℕ) → 1 ≤ n → n ≤ MAX_WORKERS → IsWorkers (rows_of (found_of matches.now)) n → ⊥)
         (λ n. (1 ≤ n) × (n ≤ MAX_WORKERS) × IsWorkers (rows_of (found_of matches.now)) n) }
@@ -174,6 +209,16 @@ fn workers_of(matches: &ArgMatches<'_>) -> Option<u32>
     match matches.get_one("workers")? {
         workers @ 1..=MAX_WORKERS => Some(workers as u32),
         _ => None,
+    }
+}
+
+/// Back where `--back` is given.
+fn turned_of(matches: &ArgMatches<'_>) -> Direction
+    ensures { IsTurned (rows_of (found_of matches.now)) result }
+{
+    match path_of(matches, "back") {
+        Some("true") => Direction::Back,
+        _ => Direction::Forward,
     }
 }
 
@@ -205,12 +250,13 @@ fn forward<'a>(alloc: Global) -> Built<'a>
     with_command(with_command(bare(alloc), starting(alloc)), run)
 }
 
-/// The program that runs states back too, and prints their frames.
+/// The program that runs states back too, and prints frames of runs and of states.
 fn returning<'a>(alloc: Global) -> Built<'a>
     ensures { IsBuilt result returning }
 {
     let back = stepping(alloc, "back", "Prints the state so many steps back");
-    with_command(with_command(forward(alloc), back), framing(alloc))
+    let program = with_command(with_command(forward(alloc), back), filming(alloc));
+    with_command(program, framing(alloc))
 }
 
 /// The program that weighs states too, and judges code.
@@ -251,8 +297,23 @@ fn starting<'a>(alloc: Global) -> Built<'a>
 fn stepping<'a>(alloc: Global, name: &'a str, about: &'a str) -> Built<'a>
     ensures { IsShaped result (stepping name.entry.now) }
 {
+    stepped(alloc, name, about)
+}
+
+/// Such a command, so far.
+fn stepped<'a>(alloc: Global, name: &'a str, about: &'a str) -> Built<'a>
+    ensures { IsBuilt result (stepped name.entry.now) }
+{
     let command = of_state(alloc, of_job(alloc, name, about));
     with_arg(with_arg(command, steps(alloc)), workers(alloc))
+}
+
+/// The command that takes besides how many steps lie between frames, and whether the run goes back.
+fn filming<'a>(alloc: Global) -> Built<'a>
+    ensures { IsShaped result filming }
+{
+    let command = stepped(alloc, "trajectory", "Prints frames of a run as a GRO file");
+    with_arg(with_arg(command, every(alloc)), back(alloc))
 }
 
 /// The command that takes a state alone.
@@ -375,6 +436,27 @@ fn steps<'a>(alloc: Global) -> Arg<'a>
         .required(true)
         .value_parser(value_parser!(u64).range(0..=MAX_STEPS as i64))
         .help("How many steps, from 0 to 1000000000000")
+}
+
+fn every<'a>(alloc: Global) -> Arg<'a>
+    ensures rule { rule_of result ≡ every_rule }
+    ensures local { result.global ≡ false }
+{
+    option(alloc, "every", "k")
+        .required(true)
+        .value_parser(value_parser!(u64).range(1..=MAX_STEPS as i64))
+        .help("How many steps from frame to frame, from 1 to 1000000000000")
+}
+
+/// A flag.
+fn back<'a>(alloc: Global) -> Arg<'a>
+    ensures rule { rule_of result ≡ back_rule }
+    ensures local { result.global ≡ false }
+{
+    Arg::new(alloc, "back")
+        .long("back")
+        .action(ArgAction::SetTrue)
+        .help("Goes back")
 }
 
 fn workers<'a>(alloc: Global) -> Arg<'a>

@@ -17,6 +17,8 @@ pub enum Command<'a> {
     Start(Start<'a>),
     /// `run` and `back`: the state after so many steps.
     Run(Run<'a>),
+    /// `trajectory`: frames of a run as a GRO file.
+    Trajectory(Trajectory<'a>),
     /// `frame`: the current frame of a state as a GRO file.
     Frame(Frame<'a>),
     /// `energy`: the energy of a state.
@@ -54,6 +56,28 @@ pub struct Run<'a> {
     /// How many workers, from 1.
     pub workers: u32,
     ghost within: { steps ≤ 1000000000000 },
+    ghost some: { 1 ≤ workers },
+    ghost few: { workers ≤ 64 },
+}
+
+/// Frames of a run to print: those after 0, k, 2k, .. of its steps.
+#[derive(Clone, Copy)]
+pub struct Trajectory<'a> {
+    /// Which way the run goes.
+    pub direction: Direction,
+    /// The path of the job.
+    pub job: &'a str,
+    /// The path of the state.
+    pub state: &'a str,
+    /// How many steps.
+    pub steps: u64,
+    /// How many steps from one frame to the next, from 1.
+    pub every: u64,
+    /// How many workers, from 1.
+    pub workers: u32,
+    ghost within: { steps ≤ 1000000000000 },
+    ghost apart: { 1 ≤ every },
+    ghost near: { every ≤ 1000000000000 },
     ghost some: { 1 ≤ workers },
     ghost few: { workers ≤ 64 },
 }

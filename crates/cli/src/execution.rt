@@ -3,7 +3,8 @@
 ghost use Rattle.std.specs.Prelude.{◌≡◌, ◌≢◌, ◌⊎◌, ◌≤◌, ◌<◌, ◌-◌, ◌^◌, ℕ, List, IfOk, OnOk, OnErr, IfErr, map, string_bytes};
 ghost use Rattle.clap.specs.Words.{kind_of};
 ghost use Rattle.clap.specs.declared.error.kind.ErrorKind.TheVariants.{OutOfMemory, DisplayHelp};
-ghost use Rattle.cli.specs.CommandLine.{AsksForHelp, IsCommand, IsMisuse};
+ghost use Rattle.cli.specs.CommandLine.{AsksForHelp, AsksForTrajectory, IsCommand, IsMisuse};
+ghost use Rattle.cli.specs.Kept.{IsKept, Keeps};
 ghost use Rattle.cli.specs.Reads.{AsksFor, asked_by, unread};
 ghost use Rattle.cli.specs.Asked.{also_asked};
 ghost use Rattle.cli.specs.declared.files.ReadFault.{ReadFault};
@@ -13,14 +14,14 @@ ghost use Rattle.cli.specs.declared.commands.Command.{Command};
 ghost use Rattle.cli.specs.declared.faults.Status.{Status};
 
 use crate::command_line::parse;
-use crate::commands::{Check, Command, Energy, Frame, Listing, Run, Start};
+use crate::commands::{Check, Command, Energy, Frame, Listing, Run, Start, Trajectory};
 use crate::conversions::{code_bytes, frame_bytes, start_bytes};
 use crate::faults::{CommandFault, Status};
 use crate::files::{Files, ReadFault};
 use crate::verdicts::{energy_bytes, listing_verdict_bytes, slope_verdict_bytes};
 use clap::Error;
 use clap::error::ErrorKind;
-use engine::run_bytes;
+use engine::{run_bytes, trajectory_bytes};
 use gro::{Out, write_all};
 use std::alloc::{AllocError, Allocator, Global};
 use std::convert::AsStr;
@@ -43,7 +44,8 @@ pub fn execute<
     ensures quiet { result ≡ 0 → (E.taken err.new ≡ E.taken err.old) × (E.failed err.new ≡ E.failed err.old) }
     ensures said { result ≢ 0 → (s : Status) × (text : List ℕ) × (result ≡ code_of s)
         × Prints (E.taken err.old, E.failed err.old) (E.taken err.new, E.failed err.new) (said s text) }
-    ensures kept { result ≢ 0 → (O.taken out.new ≡ O.taken out.old) ⊎ (O.failed out.old < O.failed out.new) }
+    ensures kept { result ≢ 0 → IsKept (O.taken out.old, O.failed out.old) (O.taken out.new, O.failed out.new)
+        ⊎ ((result ≡ 4) × AsksForTrajectory (map S.text words.now)) }
     ensures misuse { result ≡ 2 → IsMisuse (map S.text words.now) × (O.taken out.new ≡ O.taken out.old) }
     ensures done { result ≡ 0 → AsksForHelp (map S.text words.now) ⊎ ((c : Command) × IsCommand (map S.text words.now) c
         × (F.asked files.new ≡ asked_by (F.asked files.old) c)) }
@@ -68,7 +70,8 @@ fn respond<'a, R: Threads + Sync, A: Allocator + Copy + Send + Sync, S: AsStr, F
     requires { O.failed out.old < 2 ^ 64 - 1 }
     ensures misuse { IfErr result (λ f. status_of f ≡ Status.CommandLine → IsMisuse (map S.text words.entry.now)
         × (O.taken out.new ≡ O.taken out.old)) }
-    ensures kept { OnErr result ((O.taken out.new ≡ O.taken out.old) ⊎ (O.failed out.old < O.failed out.new)) }
+    ensures kept { IfErr result (λ f. IsKept (O.taken out.old, O.failed out.old) (O.taken out.new, O.failed out.new)
+        ⊎ ((status_of f ≡ Status.Memory) × AsksForTrajectory (map S.text words.entry.now))) }
     ensures fault { IfErr result (λ f. status_of f ≢ Status.Done) }
     ensures done { OnOk result (AsksForHelp (map S.text words.entry.now) ⊎ ((c : Command) × IsCommand (map S.text words.entry.now) c
         × (F.asked files.new ≡ asked_by (F.asked files.old) c))) }
@@ -92,12 +95,13 @@ fn perform<'a, R: Threads + Sync, A: Allocator + Copy + Send + Sync, F: Files, O
     requires { O.failed out.old < 2 ^ 64 - 1 }
     ensures done { OnOk result (F.asked files.new ≡ asked_by (F.asked files.old) command.entry) }
     ensures reads { AsksFor command.entry (F.asked files.old) (F.asked files.new) }
-    ensures kept { OnErr result ((O.taken out.new ≡ O.taken out.old) ⊎ (O.failed out.old < O.failed out.new)) }
+    ensures kept { IfErr result (Keeps command.entry (O.taken out.old, O.failed out.old) (O.taken out.new, O.failed out.new)) }
     ensures fault { IfErr result (λ f. status_of f ≢ Status.CommandLine) }
 {
     match command {
         Command::Start(start) => perform_start(alloc, start, files, out),
         Command::Run(run) => perform_run(rt, alloc, run, files, out),
+        Command::Trajectory(trajectory) => perform_trajectory(rt, alloc, trajectory, files, out),
         Command::Frame(frame) => perform_frame(alloc, frame, files, out),
         Command::Energy(energy) => perform_energy(alloc, energy, files, out),
         Command::Check(check) => perform_check(alloc, check, files, out),
@@ -235,6 +239,58 @@ fn run_texts<'a, R: Threads + Sync, A: Allocator + Copy + Send + Sync, O: Out>(
         run.steps,
         run.direction,
         run.workers,
+        out,
+    )?;
+    Ok(())
+}
+
+/// Reads the job and then the state, and prints frames of the run.
+fn perform_trajectory<'a, R: Threads + Sync, A: Allocator + Copy + Send + Sync, F: Files, O: Out>(
+    rt: &R,
+    alloc: A,
+    trajectory: Trajectory<'a>,
+    files: &mut F,
+    out: &mut O,
+) -> Result<(), CommandFault<'a, A>>
+    requires { O.failed out.old < 2 ^ 64 - 1 }
+    ensures done { OnOk result (F.asked files.new ≡ asked_by (F.asked files.old) (Command.Trajectory trajectory.entry)) }
+    ensures reads { AsksFor (Command.Trajectory trajectory.entry) (F.asked files.old) (F.asked files.new) }
+    ensures kept { IfErr result (Keeps (Command.Trajectory trajectory.entry) (O.taken out.old, O.failed out.old) (O.taken out.new, O.failed out.new)) }
+    ensures fault { IfErr result (λ f. status_of f ≢ Status.CommandLine) }
+{
+    let (job, state) = read_two(alloc, trajectory.job, trajectory.state, files)?;
+    trajectory_texts(
+        rt,
+        alloc,
+        job.as_slice(),
+        state.as_slice(),
+        &trajectory,
+        out,
+    )
+}
+
+/// Prints frames of the run of a state under a job.
+fn trajectory_texts<'a, R: Threads + Sync, A: Allocator + Copy + Send + Sync, O: Out>(
+    rt: &R,
+    alloc: A,
+    job: &[u8],
+    state: &[u8],
+    trajectory: &Trajectory<'a>,
+    out: &mut O,
+) -> Result<(), CommandFault<'a, A>>
+    requires { O.failed out.old < 2 ^ 64 - 1 }
+    ensures kept { IfErr result (λ f. IsKept (O.taken out.old, O.failed out.old) (O.taken out.new, O.failed out.new) ⊎ (status_of f ≡ Status.Memory)) }
+    ensures fault { IfErr result (λ f. status_of f ≢ Status.CommandLine) }
+{
+    trajectory_bytes(
+        rt,
+        alloc,
+        job,
+        state,
+        trajectory.steps,
+        trajectory.every,
+        trajectory.direction,
+        trajectory.workers,
         out,
     )?;
     Ok(())

@@ -12,7 +12,7 @@ mod host;
 mod verdicts;
 
 pub use command_line::parse;
-pub use commands::{Check, Command, Energy, Frame, Listing, MAX_STEPS, Run, Start};
+pub use commands::{Check, Command, Energy, Frame, Listing, MAX_STEPS, Run, Start, Trajectory};
 pub use execution::{execute, report};
 pub use faults::{CommandFault, Status};
 pub use files::{Files, ReadFault};

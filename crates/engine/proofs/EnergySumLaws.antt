@@ -1,88 +1,107 @@
--- Sums of energies, pair after pair.
-use Rattle.std.proofs.Common.{◌≡◌, ℕ, zero, suc, ◌+◌, ◌-◌, ◌<◌, ◌≤◌, List, [], ◌∷◌, ◌++◌, ℤ, pos, ◌+ℤ◌, Option, Some, None, arith, refl, ap, sym, ◌∙◌, add-one}
-use Rattle.std.specs.Prelude.{option_map}
+-- Sums of whole numbers: over a list in parts, over lists in which each element stands as often, and what they don't pass.
+use Rattle.std.proofs.Common.{◌≡◌, ℕ, suc, ◌+◌, ◌<◌, ◌≤◌, List, [], ◌∷◌, ◌++◌, length, take, get_or, sum_by, ℤ, pos, negsuc, ◌+ℤ◌, inl, inr, arith, refl, ap, ap₂, ◌∙◌}
+use Rattle.std.specs.Prelude.{slice_index_or, unsigned_abs}
+use Rattle.std.proofs.lemmas.Bool.{cases_lt}
+use Rattle.std.proofs.lemmas.Grind.{take_at_read}
 use Rattle.std.proofs.lemmas.Int.{ints}
-use Rattle.integrator.specs.Forces.{pairs_with, pairs_from, pairs_of}
-use Rattle.engine.specs.PairEnergies.{energy_at, energy_sum, plus_energy}
+use Rattle.std.proofs.lemmas.List.{get_or_past, take_all}
+use Rattle.std.proofs.lemmas.List.Sums.{get_or-le-sum_by, sum_by-cons, sum_by-le-sum_by, sum_by-take-le}
+use Rattle.engine.specs.EnergySums.{sum_over}
 
--- a number added to a sum, where there is one
-pub onto : ℤ → Option ℤ → Option ℤ
-onto z o = option_map (λ w. z +ℤ w) o
+-- ---- what a number has above and below 0
 
-onto_twice : (x y : ℤ) (o : Option ℤ) → onto (x +ℤ y) o ≡ onto x (option_map (λ z. y +ℤ z) o)
-unfolding onto
-onto_twice x y None = refl
-onto_twice x y (Some z) = ap Some (omega (arith, ints))
+above : ℤ → ℕ
+above (pos n) = n
+above (negsuc n) = 0
 
-pub onto_nothing : (o : Option ℤ) → onto (pos 0) o ≡ o
-unfolding onto
-onto_nothing None = refl
-onto_nothing (Some z) = ap Some (omega (arith, ints))
+below : ℤ → ℕ
+below (pos n) = 0
+below (negsuc n) = suc n
 
-sum-append_at : (v : Option ℤ) (xs ys : Option ℤ) → plus_energy v (plus_energy xs ys) ≡ plus_energy (plus_energy v xs) ys
-sum-append_at None xs ys = refl
-sum-append_at (Some v) None ys = refl
-sum-append_at (Some v) (Some x) None = refl
-sum-append_at (Some v) (Some x) (Some y) = ap Some (omega (arith, ints))
+parted : (z : ℤ) → z +ℤ pos (below z) ≡ pos (above z)
+unfolding above below
+parted (pos n) = omega (arith, ints)
+parted (negsuc n) = omega (arith, ints)
 
--- the energy of a pair that acts
-pub given_at : (value : ℤ → Option ℤ) (o : Option ℤ) (r v : ℤ) → o ≡ Some r → value r ≡ Some v → energy_at value o ≡ Some v
-given_at value o r v e h = rw (e, h) refl
+above_nothing : above (pos 0) ≡ 0
+unfolding above
+above_nothing = refl
 
-none_first : (o : Option ℤ) → o ≡ plus_energy (Some (pos 0)) o
-none_first None = refl
-none_first (Some z) = ap Some (omega (arith, ints))
+below_nothing : below (pos 0) ≡ 0
+unfolding below
+below_nothing = refl
 
-module _ (energy : ℕ × ℕ → Option ℤ) where
-  sum-append : (ps qs : List (ℕ × ℕ)) → energy_sum energy (ps ++ qs) ≡ plus_energy (energy_sum energy ps) (energy_sum energy qs)
-  unfolding energy_sum
-  sum-append [] qs = none_first (energy_sum energy qs)
-  sum-append (p ∷ ps) qs = ap (plus_energy (energy p)) (sum-append ps qs) ∙ sum-append_at (energy p) (energy_sum energy ps) (energy_sum energy qs)
+-- ---- sums
 
-  -- one pair more in a row
-  pub row_more : (i j n : ℕ) (sum v : ℤ) → j < n → energy (i, j) ≡ Some v
-      → onto sum (energy_sum energy (pairs_with i j (n - j))) ≡ onto (sum +ℤ v) (energy_sum energy (pairs_with i (j + 1) (n - (j + 1))))
-  unfolding energy_sum pairs_with onto
-  row_more i j n sum v h e =
-      let k : n - j ≡ suc (n - (j + 1)) = omega arith in
-      rw (k, e, add-one) (sym (onto_twice sum v (energy_sum energy (pairs_with i (suc j) (n - suc j)))))
+module _ {X : Type 0} (f : X → ℤ) where
+  pub over_append : (xs ys : List X) → sum_over f (xs ++ ys) ≡ sum_over f xs +ℤ sum_over f ys
+  over_append [] ys = omega (arith, ints)
+  over_append (x ∷ xs) ys = let rest : sum_over f (xs ++ ys) ≡ sum_over f xs +ℤ sum_over f ys = over_append xs ys in omega (arith, ints)
 
-  pub row_end : (i j n : ℕ) (sum : ℤ) → n ≤ j → onto sum (energy_sum energy (pairs_with i j (n - j))) ≡ Some sum
-  unfolding energy_sum pairs_with onto
-  row_end i j n sum h =
-      let k : n - j ≡ zero = omega arith in
-      rw k (ap Some (omega (arith, ints)))
+  pub over_same : (g : X → ℤ) (xs : List X) → ((x : X) → f x ≡ g x) → sum_over f xs ≡ sum_over g xs
+  over_same g [] h = refl
+  over_same g (x ∷ xs) h = ap₂ (λ a b. a +ℤ b) (h x) (over_same g xs h)
 
-  -- a row more
-  pub rows_more : (i n : ℕ) (sum row : ℤ) → i < n → energy_sum energy (pairs_with i (i + 1) (n - (i + 1))) ≡ Some row
-      → onto sum (energy_sum energy (pairs_from i (n - i))) ≡ onto (sum +ℤ row) (energy_sum energy (pairs_from (i + 1) (n - (i + 1))))
-  unfolding pairs_from onto
-  rows_more i n sum row h e =
-      let k : n - i ≡ suc (n - (i + 1)) = omega arith in
-      let split : energy_sum energy (pairs_from i (n - i)) ≡ plus_energy (Some row) (energy_sum energy (pairs_from (i + 1) (n - (i + 1)))) =
-      rw (k, ← add-one) (sum-append (pairs_with i (i + 1) (n - (i + 1))) (pairs_from (i + 1) (n - (i + 1))) ∙ ap (λ o. plus_energy o (energy_sum energy (pairs_from (i + 1) (n - (i + 1))))) e) in
-      ap (onto sum) split ∙ sym (onto_twice sum row (energy_sum energy (pairs_from (i + 1) (n - (i + 1)))))
+  -- a sum so far with the next element
+  pub over_next : (xs : List X) (i : ℕ) (d : X) (sum v new : ℤ) → i < length xs → sum ≡ sum_over f (take i xs) → v ≡ f (get_or xs i d) → new ≡ sum +ℤ v → new ≡ sum_over f (take (i + 1) xs)
+  over_next xs i d sum v new lt before is added =
+      let more : sum_over f (take (i + 1) xs) ≡ sum_over f (take i xs) +ℤ sum_over f (get_or xs i d ∷ []) =
+      ap (sum_over f) (take_at_read xs i d lt).1 ∙ over_append (take i xs) (get_or xs i d ∷ []) in
+      omega (arith, ints)
 
-  pub rows_end : (i n : ℕ) (sum : ℤ) → n ≤ i → onto sum (energy_sum energy (pairs_from i (n - i))) ≡ Some sum
-  unfolding energy_sum pairs_from onto
-  rows_end i n sum h =
-      let k : n - i ≡ zero = omega arith in
-      rw k (ap Some (omega (arith, ints)))
+  pub over_all : (xs : List X) (i : ℕ) (sum : ℤ) → length xs ≤ i → sum ≡ sum_over f (take i xs) → sum ≡ sum_over f xs
+  over_all xs i sum le is = is ∙ ap (sum_over f) (take_all i xs le)
 
-  -- with one pair more the sum is new
-  pub row_step : (i j n : ℕ) (all : Option ℤ) (sum v new : ℤ) → j < n → all ≡ onto sum (energy_sum energy (pairs_with i j (n - j))) → energy (i, j) ≡ Some v → new ≡ sum +ℤ v
-      → all ≡ onto new (energy_sum energy (pairs_with i (j + 1) (n - (j + 1))))
-  row_step i j n all sum v new h l e s = l ∙ row_more i j n sum v h e ∙ ap (λ z. onto z (energy_sum energy (pairs_with i (j + 1) (n - (j + 1))))) (sym s)
+  -- no sum passes that of the magnitudes
+  pub over_within : (xs : List X) → unsigned_abs (sum_over f xs) ≤ sum_by (λ x. unsigned_abs (f x)) xs
+  over_within [] = omega (arith, ints)
+  over_within (x ∷ xs) =
+      let rest : unsigned_abs (sum_over f xs) ≤ sum_by (λ y. unsigned_abs (f y)) xs = over_within xs in
+      omega (arith, ints, sum_by-cons (λ y. unsigned_abs (f y)) x xs)
 
-  pub row_done : (i j n : ℕ) (all : Option ℤ) (sum : ℤ) → n ≤ j → all ≡ onto sum (energy_sum energy (pairs_with i j (n - j))) → all ≡ Some sum
-  row_done i j n all sum h l = l ∙ row_end i j n sum h
+  pub over_first_within : (xs : List X) (i : ℕ) → unsigned_abs (sum_over f (take i xs)) ≤ sum_by (λ x. unsigned_abs (f x)) xs
+  over_first_within xs i =
+      let some : unsigned_abs (sum_over f (take i xs)) ≤ sum_by (λ x. unsigned_abs (f x)) (take i xs) = over_within (take i xs) in
+      let all : sum_by (λ x. unsigned_abs (f x)) (take i xs) ≤ sum_by (λ x. unsigned_abs (f x)) xs = sum_by-take-le (λ x. unsigned_abs (f x)) xs i in
+      omega arith
 
-  pub rows_step : (i n : ℕ) (all : Option ℤ) (sum row new : ℤ) → i < n → all ≡ onto sum (energy_sum energy (pairs_from i (n - i))) → energy_sum energy (pairs_with i (i + 1) (n - (i + 1))) ≡ Some row → new ≡ sum +ℤ row
-      → all ≡ onto new (energy_sum energy (pairs_from (i + 1) (n - (i + 1))))
-  rows_step i n all sum row new h l e s = l ∙ rows_more i n sum row h e ∙ ap (λ z. onto z (energy_sum energy (pairs_from (i + 1) (n - (i + 1))))) (sym s)
+  over_parts : (xs : List X) → sum_over f xs +ℤ pos (sum_by (λ x. below (f x)) xs) ≡ pos (sum_by (λ x. above (f x)) xs)
+  over_parts [] = omega (arith, ints)
+  over_parts (x ∷ xs) =
+      let rest : sum_over f xs +ℤ pos (sum_by (λ y. below (f y)) xs) ≡ pos (sum_by (λ y. above (f y)) xs) = over_parts xs in
+      let first : f x +ℤ pos (below (f x)) ≡ pos (above (f x)) = parted (f x) in
+      omega (arith, ints, sum_by-cons (λ y. below (f y)) x xs, sum_by-cons (λ y. above (f y)) x xs)
 
-  pub rows_done : (i n : ℕ) (all : Option ℤ) (sum : ℤ) → n ≤ i → all ≡ onto sum (energy_sum energy (pairs_from i (n - i))) → all ≡ Some sum
-  rows_done i n all sum h l = l ∙ rows_end i n sum h
+  tiles_parts : (tiles : List (List X)) → sum_over (λ xs. sum_over f xs) tiles +ℤ pos (sum_by (λ xs. sum_by (λ x. below (f x)) xs) tiles) ≡ pos (sum_by (λ xs. sum_by (λ x. above (f x)) xs) tiles)
+  tiles_parts [] = omega (arith, ints)
+  tiles_parts (xs ∷ tiles) =
+      let rest : sum_over (λ ys. sum_over f ys) tiles +ℤ pos (sum_by (λ ys. sum_by (λ y. below (f y)) ys) tiles) ≡ pos (sum_by (λ ys. sum_by (λ y. above (f y)) ys) tiles) = tiles_parts tiles in
+      let first : sum_over f xs +ℤ pos (sum_by (λ y. below (f y)) xs) ≡ pos (sum_by (λ y. above (f y)) xs) = over_parts xs in
+      omega (arith, ints, sum_by-cons (λ ys. sum_by (λ y. below (f y)) ys) xs tiles, sum_by-cons (λ ys. sum_by (λ y. above (f y)) ys) xs tiles)
 
-  pub rows_begin : (n : ℕ) → energy_sum energy (pairs_of n) ≡ onto (pos 0) (energy_sum energy (pairs_from 0 (n - 0)))
-  rows_begin n = let e : n - 0 ≡ n = omega arith in rw e (sym (onto_nothing (energy_sum energy (pairs_of n))))
+module _ {X : Type 0} (f : X → ℤ) (tiles : List (List X)) where
+  -- no tile's magnitudes pass those of all tiles
+  pub tile_within : (t : ℕ) → sum_by (λ x. unsigned_abs (f x)) (slice_index_or tiles t []) ≤ sum_by (λ xs. sum_by (λ x. unsigned_abs (f x)) xs) tiles
+  tile_within t =
+      elim (cases_lt t (length tiles)) [
+        | inl lt ↦ get_or-le-sum_by (λ xs. sum_by (λ x. unsigned_abs (f x)) xs) tiles t [] lt
+        | inr le ↦ rw (get_or_past tiles t [] (omega arith)) (omega arith)
+      ]
+
+  -- nor does what the first tiles come to
+  pub first_tiles_within : (t : ℕ) → unsigned_abs (sum_over (λ xs. sum_over f xs) (take t tiles)) ≤ sum_by (λ xs. sum_by (λ x. unsigned_abs (f x)) xs) tiles
+  first_tiles_within t =
+      let whole : unsigned_abs (sum_over (λ xs. sum_over f xs) (take t tiles)) ≤ sum_by (λ xs. unsigned_abs (sum_over f xs)) tiles = (over_first_within (λ xs. sum_over f xs) tiles t) in
+      let each : sum_by (λ xs. unsigned_abs (sum_over f xs)) tiles ≤ sum_by (λ xs. sum_by (λ x. unsigned_abs (f x)) xs) tiles =
+      sum_by-le-sum_by (λ xs. unsigned_abs (sum_over f xs)) (λ xs. sum_by (λ x. unsigned_abs (f x)) xs) tiles (over_within f) in
+      omega arith
+
+  -- where whatever the numbers weigh comes to the same over tiles and over another list, if 0 weighs nothing, they have one sum
+  pub over_tiles : (all : List X) → ((weight : ℤ → ℕ) → weight (pos 0) ≡ 0 → sum_by (λ xs. sum_by (λ x. weight (f x)) xs) tiles ≡ sum_by (λ x. weight (f x)) all)
+      → sum_over (λ xs. sum_over f xs) tiles ≡ sum_over f all
+  over_tiles all alike =
+      let up = alike above above_nothing in
+      let down = alike below below_nothing in
+      let these = tiles_parts f tiles in
+      let those = over_parts f all in
+      omega (arith, ints, up, down, these, those)

@@ -33,7 +33,7 @@ use Rattle.integrator.specs.StartViews.{Refuses, is_of_system}
 use Rattle.integrator.specs.States.{counter_after, counter_at, current_frame, frames_of, moved_state, nobody, placed, placed_atoms, previous_frame}
 use Rattle.integrator.specs.StepFaults.{run_fault_of}
 use Rattle.engine.specs.Tilings.{IsUnstarted, frames_along}
-use Rattle.engine.specs.Verdicts.{IsSafeFor, IsVerdict, PassesRange}
+use Rattle.engine.specs.Verdicts.{IsJudged, IsSafeFor, IsVerdict, PassesRange}
 use Rattle.integrator.specs.declared.direction.Direction.{Direction}
 use Rattle.integrator.specs.declared.direction.Direction.TheVariants.{Forward, Back}
 use Rattle.integrator.specs.declared.faults.RunFault.{RunFault}
@@ -246,8 +246,9 @@ test_is : (r : Bool) (b c n m : ℕ) → r ≡ nat_lt (c * (m - 1)) (2 ^ 63) →
 test_is r b c n m e p q = rw (← p, ← q) e
 
 pub is_safe : (j : JobValue) (code : List Instr) (k : Kernel) (r : Bool) (c m n : ℕ) → IsKernel k → k.code ≡ code → k.table ≡ table_of j → k.core ≡ j.core → k.cutoff ≡ j.cutoff
-    → r ≡ nat_lt (c * (m - 1)) (2 ^ 63) → c ≡ k.bound → m ≡ n → r ≡ true → IsSafeFor j code n
-is_safe j code k r c m n h a b d e t p q passed = record {
+    → r ≡ nat_lt (c * (m - 1)) (2 ^ 63) → c ≡ k.bound → m ≡ n → r ≡ true → IsJudged j code (Ok k.bound) → IsSafeFor j code n
+is_safe j code k r c m n h a b d e t p q passed judged = record {
+  judged = judged;
   steps = k.steps;
   bound = k.bound;
   certified = certified_for j code k h a b d e;
@@ -255,8 +256,9 @@ is_safe j code k r c m n h a b d e t p q passed = record {
 }
 
 pub passes : (j : JobValue) (code : List Instr) (k : Kernel) (r : Bool) (c m n : ℕ) → IsKernel k → k.code ≡ code → k.table ≡ table_of j → k.core ≡ j.core → k.cutoff ≡ j.cutoff
-    → r ≡ nat_lt (c * (m - 1)) (2 ^ 63) → c ≡ k.bound → m ≡ n → r ≡ false → PassesRange j code n
-passes j code k r c m n h a b d e t p q failed = record {
+    → r ≡ nat_lt (c * (m - 1)) (2 ^ 63) → c ≡ k.bound → m ≡ n → r ≡ false → IsJudged j code (Ok k.bound) → PassesRange j code n
+passes j code k r c m n h a b d e t p q failed judged = record {
+  judged = judged;
   steps = k.steps;
   bound = k.bound;
   certified = certified_for j code k h a b d e;

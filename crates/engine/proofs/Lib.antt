@@ -5,6 +5,14 @@ pub mod TileLaws
 pub mod CourseLaws
 pub mod VerdictLaws
 pub mod EngineLaws
+pub mod OneAnswer
+pub mod HeadlineSteps
+pub mod HeadlineTexts
+pub mod HeadlineLaws
+pub mod WentLaws
 pub mod EnergySumLaws
+pub mod EnergyTileLaws
 pub mod EngineEnergyLaws
 pub mod EnergyOfTexts
+pub mod FrameTitleLaws
+pub mod TrajectoryLaws

@@ -1,8 +1,7 @@
 -- Pairs that act, in rows: what is found, asked and added is what each pair adds.
-use Rattle.std.proofs.Common.{◌≡◌, ℕ, ◌+◌, ◌^◌, ◌<◌, ◌≤◌, cond, List, [], ◌∷◌, ◌++◌, length, map, filter, take, drop, ℤ, pos, Option, Some, None, Ok, inl, inr, arith, refl, ap, ap₂, sym, ◌∙◌, get_or}
-use Rattle.std.specs.Prelude.{is_some, neg_ℤ, option_map, slice_get, slice_index, slice_index_or, slice_set, unsigned_abs}
-use Rattle.std.proofs.lemmas.List.{append_assoc, append_cancel_right, drop-map, get_or-map, get_or-set_other, get_or-set_same, length-map, map-append, take-append-drop}
-use Rattle.std.proofs.lemmas.Bool.{cases_eq}
+use Rattle.std.proofs.Common.{◌≡◌, ℕ, ◌+◌, ◌^◌, ◌<◌, ◌≤◌, cond, List, [], ◌∷◌, ◌++◌, length, map, filter, take, drop, ℤ, pos, Option, Some, None, Ok, arith, refl, ap, ap₂, sym, ◌∙◌, get_or}
+use Rattle.std.specs.Prelude.{is_some, neg_ℤ, option_map, slice_get, slice_index, unsigned_abs}
+use Rattle.std.proofs.lemmas.List.{append_assoc, append_cancel_right, drop-map, get_or-map, length-map, map-append, take-append-drop, take-map}
 use Rattle.fixed.specs.Fractions.{bits_of}
 use Rattle.kernel_code.specs.Machine.{Ends}
 use Rattle.kernel_code.specs.Tables.{inputs_of}
@@ -19,7 +18,7 @@ use Rattle.integrator.specs.Frames.{places_of}
 use Rattle.integrator.specs.declared.systems.System.{System}
 use Rattle.engine.proofs.SafeLaws.{minus_is}
 use Rattle.engine.specs.Rounds.{add_of}
-use Rattle.engine.specs.Rows.{IsFound, IsSlope, add_found, ask_of, found_of, reach_of}
+use Rattle.engine.specs.Rows.{AreNextFound, IsFound, IsSlope, add_found, ask_of, found_of, reach_of}
 use Rattle.engine.specs.SafeKernels.{minus, potential_of, slope_at}
 use Rattle.engine.specs.declared.rows.FoundPair.{FoundPair}
 use Rattle.engine.specs.declared.safe_kernels.SafeKernel.{SafeKernel}
@@ -86,29 +85,40 @@ module _ {A : Type 0} (s : System (SafeKernel A) A) where
   found_sieved : (frame : List (List ℕ)) (ps : List (ℕ × ℕ)) → acting (map (found_of s frame) ps) ≡ acting (map (found_of s frame) (those_acting (reach_of s) s.ring frame ps))
   found_sieved frame ps = sieve (λ (p : ℕ × ℕ). acting_of (reach_of s) s.ring (places_of frame p.0) (places_of frame p.1)) (λ (p : ℕ × ℕ) (a : ActingPair). record { low = p.0; high = p.1; acting = a }) ps
 
-  -- the pairs found among those that are near add what the pairs from the number k to before n add
-  pub near_adds : (frame : List (List ℕ)) (ps near : List (ℕ × ℕ)) (k n : ℕ) (found : List FoundPair) → AreNear (reach_of s) s.ring frame ps k near n → found ≡ acting (map (found_of s frame) near)
-      → AreNextActing (map (add_of s frame) ps) k (map (add_found s) found) n
-  near_adds frame ps near k n found is here =
+  -- the pairs found among those that are near are those found from the number k to before n
+  pub near_found : (frame : List (List ℕ)) (ps near : List (ℕ × ℕ)) (k n : ℕ) (found : List FoundPair) → AreNear (reach_of s) s.ring frame ps k near n → found ≡ acting (map (found_of s frame) near)
+      → AreNextFound s frame ps k found n
+  near_found frame ps near k n found is here =
       let F = found_of s frame in
       let those = those_acting (reach_of s) s.ring frame in
-      let sieved : acting (map F (drop k ps)) ≡ acting (map F near) ++ acting (map F (drop n ps)) =
+      let sieved : acting (map F (drop k ps)) ≡ found ++ acting (map F (drop n ps)) =
       found_sieved frame (drop k ps)
       ∙ (ap (λ qs. acting (map F qs)) is.acting
       ∙ (ap acting (map-append F (those near) (those (drop n ps)))
       ∙ (acting_append (map F (those near)) (map F (those (drop n ps)))
-      ∙ ap₂ (λ xs ys. xs ++ ys) (sym (found_sieved frame near)) (sym (found_sieved frame (drop n ps)))))) in
-      let added : acting (map (add_of s frame) (drop k ps)) ≡ map (add_found s) found ++ acting (map (add_of s frame) (drop n ps)) =
-      all_found frame (drop k ps)
-      ∙ (ap (map (add_found s)) sieved
-      ∙ (map-append (add_found s) (acting (map F near)) (acting (map F (drop n ps)))
-      ∙ ap₂ (λ xs ys. xs ++ ys) (ap (map (add_found s)) (sym here)) (sym (all_found frame (drop n ps))))) in
+      ∙ ap₂ (λ xs ys. xs ++ ys) (sym (found_sieved frame near) ∙ sym here) (sym (found_sieved frame (drop n ps)))))) in
+      let before : acting (take n (map F ps)) ≡ acting (take k (map F ps)) ++ found =
+      from_either_end (map F ps) k n found (ap acting (drop-map F k ps) ∙ (sieved ∙ ap (λ ys. found ++ acting ys) (sym (drop-map F n ps)))) in
       record {
         onward = is.onward;
-        within = rw (length-map ps (add_of s frame)) is.within;
-        acting = from_either_end (map (add_of s frame) ps) k n (map (add_found s) found)
-            (ap acting (drop-map (add_of s frame) k ps) ∙ (added ∙ ap (λ ys. map (add_found s) found ++ acting ys) (sym (drop-map (add_of s frame) n ps))));
+        within = is.within;
+        acting = ap acting (sym (take-map F n ps)) ∙ (before ∙ ap (λ ys. acting ys ++ found) (take-map F k ps));
       }
+
+  -- the first pairs add what is added for those of them that are found
+  first_add : (frame : List (List ℕ)) (ps : List (ℕ × ℕ)) (m : ℕ) → acting (take m (map (add_of s frame) ps)) ≡ map (add_found s) (acting (map (found_of s frame) (take m ps)))
+  first_add frame ps m = ap acting (take-map (add_of s frame) m ps) ∙ all_found frame (take m ps)
+
+  -- the next pairs found add what the next pairs add
+  pub next_add : (frame : List (List ℕ)) (ps : List (ℕ × ℕ)) (k n : ℕ) (found : List FoundPair) → AreNextFound s frame ps k found n → AreNextActing (map (add_of s frame) ps) k (map (add_found s) found) n
+  next_add frame ps k n found is = record {
+    onward = is.onward;
+    within = rw (length-map ps (add_of s frame)) is.within;
+    acting =
+        first_add frame ps n
+        ∙ (ap (map (add_found s)) is.acting
+        ∙ (map-append (add_found s) (acting (map (found_of s frame) (take k ps))) found ∙ ap (λ ys. ys ++ map (add_found s) found) (sym (first_add frame ps k))));
+  }
 
   pub found_is_pair : (n : ℕ) (f : FoundPair) → IsFound s n f → IsPairOf n (add_found s f)
   found_is_pair n f is = record { ordered = is.ordered; inside = is.inside }
@@ -122,15 +132,6 @@ module _ {A : Type 0} (s : System (SafeKernel A) A) where
     value = minus_is (slope_at (potential_of s.kernel) ask.a ask.b ask.r) v ((s.kernel.gives ask.a ask.b ask.r served.first served.second).value n v ends);
     fits = omega arith;
   }
-
-  -- slopes that are written up to a place, and the next
-  pub slopes_next : (asks : List Ask) (slopes : List ℤ) (l : ℕ) (v : ℤ) → ((k : ℕ) → k < l → IsSlope s (ask_at asks k) (slice_index_or slopes k (pos 0))) → l < length slopes → IsSlope s (ask_at asks l) v
-      → (k : ℕ) → k < l + 1 → IsSlope s (ask_at asks k) (slice_index_or (slice_set slopes l v) k (pos 0))
-  slopes_next asks slopes l v before room here k lt =
-      elim (cases_eq k l) [
-        | inl e ↦ rw (e, get_or-set_same slopes l v (pos 0) room) here
-        | inr ne ↦ rw (get_or-set_other slopes l k v (pos 0) ne) (before k (omega (arith, ne)))
-      ]
 
   -- ---- what is added
 

@@ -66,16 +66,16 @@ taken_from k a b r t =
 
 -- ---- slopes
 
--- a slope, of at most this magnitude
-pub record HasSlope (bound : ℕ) (slope : Option ℤ) : Type 0 where
+-- a number, of at most this magnitude
+pub record HasNumber (bound : ℕ) (o : Option ℤ) : Type 0 where
   pub v : ℤ
-  pub has : slope ≡ Some v
+  pub has : o ≡ Some v
   pub small : unsigned_abs v ≤ bound
 
 false_is_not_true : ◌≡◌ {A = Bool} false true → ⊥
 false_is_not_true e = cc
 
-small_parts : (b : ℕ) (o : Option ℤ) → is_small b o ≡ true → HasSlope b o
+pub small_parts : (b : ℕ) (o : Option ℤ) → is_small b o ≡ true → HasNumber b o
 small_parts b None h = absurd (false_is_not_true h)
 small_parts b (Some v) h = record { v = v; has = refl; small = leb-true (unsigned_abs v) b h }
 
@@ -83,7 +83,7 @@ pub is_small_value : (b : ℕ) (o : Option ℤ) (v : ℤ) → o ≡ Some v → u
 is_small_value b o v e h = rw e (le-leb (unsigned_abs v) b h)
 
 pub has_slope : {A : Type 0} (k : SafeKernel A) (a b : ℕ) (r : ℤ) → a < length k.verified.table.rows → b < length k.verified.table.rows → k.verified.core ≤ℤ r → r <ℤ k.verified.cutoff
-    → HasSlope k.verified.bound (slope_at (potential_of k) a b r)
+    → HasNumber k.verified.bound (slope_at (potential_of k) a b r)
 has_slope k a b r first second low high = small_parts k.verified.bound (slope_at (potential_of k) a b r) (k.bounded a b r first second low high)
 
 pub minus_is : (slope : Option ℤ) (v : ℤ) → slope ≡ Some v → neg_ℤ v ≡ minus slope
@@ -114,13 +114,13 @@ forced_at ring slope r v x y e =
     same ∙ along ring x y v (square_of ring x y == 0) refl ∙ ap (λ g. Some (force_along_of ring g x y)) (minus_is (slope r) v e)
 
 -- where the pair has a slope it has a force
-pub forced : (b : ℕ) (ring : RingBox) (slope : ℤ → Option ℤ) (o : Option ℤ) (x y : List ℕ) → ((r : ℤ) → o ≡ Some r → HasSlope b (slope r))
+pub forced : (b : ℕ) (ring : RingBox) (slope : ℤ → Option ℤ) (o : Option ℤ) (x y : List ℕ) → ((r : ℤ) → o ≡ Some r → HasNumber b (slope r))
     → force_at ring slope o x y ≡ Some (unwrap_or (option_map (λ r. force_along_of ring (minus (slope r)) x y) o) none)
 forced b ring slope None x y h = refl
 forced b ring slope (Some r) x y h = let s = h r refl in forced_at ring slope r s.v x y s.has
 
 -- and no component of it passes the greatest slope
-pub forced_within : (b : ℕ) (ring : RingBox) (slope : ℤ → Option ℤ) (o : Option ℤ) (x y : List ℕ) → ((r : ℤ) → o ≡ Some r → HasSlope b (slope r))
+pub forced_within : (b : ℕ) (ring : RingBox) (slope : ℤ → Option ℤ) (o : Option ℤ) (x y : List ℕ) → ((r : ℤ) → o ≡ Some r → HasNumber b (slope r))
     → IfSome (option_map (λ r. force_along_of ring (minus (slope r)) x y) o) (IsWithin b)
 forced_within b ring slope None x y h = tt
 forced_within b ring slope (Some r) x y h =
@@ -153,7 +153,7 @@ module _ {A : Type 0} (s : System (SafeKernel A) A) (accepted : IsAccepted s) wh
       omega arith
 
   pub slopes : (i j : ℕ) → i < length s.types.items → j < length s.types.items → (x y : List ℕ) (r : ℤ) → acting_distance_of s.frac s.ring s.core s.cutoff x y ≡ Some r
-      → HasSlope s.kernel.verified.bound (slope_at (potential_of s.kernel) (slice_index s.types.items i) (slice_index s.types.items j) r)
+      → HasNumber s.kernel.verified.bound (slope_at (potential_of s.kernel) (slice_index s.types.items i) (slice_index s.types.items j) r)
   slopes i j first second x y r e =
       let range = in_range s.frac s.ring s.core s.cutoff x y r s.below_cutoff e in
       has_slope s.kernel (slice_index s.types.items i) (slice_index s.types.items j) r (accepted.known i 0 first) (accepted.known j 0 second) (rw accepted.core range.0) (rw accepted.cutoff range.1)

@@ -4,7 +4,7 @@ use Rattle.std.specs.Prelude.{IfSome, map, slice_get, option_map, nat_lt, ◌&&�
 use Rattle.std.specs.List.{All}
 use Rattle.std.proofs.lemmas.Bool.{and_parts, cases_eq, cases_lt, ltb-true}
 use Rattle.std.proofs.lemmas.Bool.Decides.{nat_tests}
-use Rattle.std.proofs.lemmas.List.{get_or_past, length-map}
+use Rattle.std.proofs.lemmas.List.{get_or-map, get_or_past, length-map}
 use Rattle.std.proofs.lemmas.List.Elements.{All-from_get_or}
 use Rattle.std.proofs.lemmas.Option.{slice_get-get_or}
 use Rattle.std.proofs.lemmas.List.Sums.{sum_by-append, sum_by-cons}
@@ -29,6 +29,7 @@ use Rattle.integrator.specs.declared.systems.System.{System}
 use Rattle.engine.proofs.RoundLaws.{AddsForce, round_forces, weight}
 use Rattle.engine.proofs.SafeLaws.{bound_fits, forced, has_force, slopes}
 use Rattle.engine.specs.Rounds.{AreForces, acting_force, add_of, grid_of, plan_of}
+use Rattle.engine.specs.Rows.{tile_at}
 use Rattle.engine.specs.SafeKernels.{IsAccepted, minus, potential_of, safe_dynamics, slope_at}
 use Rattle.engine.specs.declared.safe_kernels.SafeKernel.{SafeKernel}
 
@@ -203,6 +204,20 @@ listed_pairs bits frame t tile covers e =
     let ps = pairs_in (members_of bits frame) tile in
     All-from_get_or (near.IsPairOf (length frame)) ps (0, 0) (λ k lt. is_listed_pair bits frame t k tile (get_or ps k (0, 0)) covers e (slice_get-get_or ps k (0, 0) lt))
 
+-- the pairs that a tile lists
+pub tile_listed : {A : Type 0} (s : System (SafeKernel A) A) (frame : List (List ℕ)) (t : ℕ) (tile : ℕ × ℕ) → slice_get (tiles_of (grid_of s)) t ≡ Some tile
+    → tile_at s frame t ≡ pairs_in (members_of (grid_of s) frame) tile
+tile_listed s frame t tile e =
+    let m = members_of (grid_of s) frame in
+    found_at (tile_pairs (grid_of s) frame) t (pairs_in m tile) [] (mapped_at (pairs_in m) (tiles_of (grid_of s)) t tile e)
+
+-- what is planned for a tile is as long as its list
+pub tile_size : {A : Type 0} (s : System (SafeKernel A) A) (frame : List (List ℕ)) (t : ℕ) → t < length (plan_of s frame) → length (pairs_at (plan_of s frame) t) ≡ length (tile_at s frame t)
+tile_size s frame t lt =
+    let add = λ (ps : List (ℕ × ℕ)). map (add_of s frame) ps in
+    let inside : t < length (tile_pairs (grid_of s) frame) = omega (arith, length-map (tile_pairs (grid_of s) frame) add) in
+    ap length (get_or-map add (tile_pairs (grid_of s) frame) t [] [] inside) ∙ length-map (tile_at s frame t) (add_of s frame)
+
 pub tile_planned : {A : Type 0} (s : System (SafeKernel A) A) (frame : List (List ℕ)) (t : ℕ) (tile : ℕ × ℕ) → slice_get (tiles_of (grid_of s)) t ≡ Some tile
     → pairs_at (plan_of s frame) t ≡ map (add_of s frame) (pairs_in (members_of (grid_of s) frame) tile)
 tile_planned s frame t tile e =
@@ -249,6 +264,14 @@ far_is_apart true close h e = absurd (true_is_not_false (sym (h refl) ∙ e))
 far_is_apart false close h e = refl
 
 module _ {A : Type 0} (s : System (SafeKernel A) A) (frame : List (List ℕ)) where
+  -- atoms that aren't close aren't nearer than the cutoff
+  pub far_apart : (p : ℕ × ℕ) → NearAreNeighbours s.frac s.ring s.cutoff (grid_of s) → All ArePlaces frame → are_close (grid_of s) frame p ≡ false
+      → is_near s.frac (square_of s.ring (places_of frame p.0) (places_of frame p.1)) s.cutoff ≡ false
+  far_apart p law places far =
+      let x = places_of frame p.0 in
+      let y = places_of frame p.1 in
+      far_is_apart (is_near s.frac (square_of s.ring x y) s.cutoff) (are_neighbours (grid_of s) x y) (law x y (places_at frame p.0 places) (places_at frame p.1 places)) far
+
   adds_nothing : (p : ℕ × ℕ) (near : Bool) → near ≡ false
       → option_map {U = PairAdd} (λ v. record { low = p.0; high = p.1; force = v })
       (option_map (λ r. force_along_of s.ring (minus (slope_at (potential_of s.kernel) (slice_index s.types.items p.0) (slice_index s.types.items p.1) r)) (places_of frame p.0) (places_of frame p.1))
@@ -259,11 +282,8 @@ module _ {A : Type 0} (s : System (SafeKernel A) A) (frame : List (List ℕ)) wh
 
   far_adds_nothing : (e : ℕ) (p : ℕ × ℕ) → NearAreNeighbours s.frac s.ring s.cutoff (grid_of s) → All ArePlaces frame → are_close (grid_of s) frame p ≡ false → weight (add_of s frame) e p ≡ 0
   far_adds_nothing e p law places far =
-      let x = places_of frame p.0 in
-      let y = places_of frame p.1 in
-      let near = is_near s.frac (square_of s.ring x y) s.cutoff in
-      let apart : near ≡ false = far_is_apart near (are_neighbours (grid_of s) x y) (law x y (places_at frame p.0 places) (places_at frame p.1 places)) far in
-      let none : add_of s frame p ≡ None = adds_nothing p near apart in
+      let near = is_near s.frac (square_of s.ring (places_of frame p.0) (places_of frame p.1)) s.cutoff in
+      let none : add_of s frame p ≡ None = adds_nothing p near (far_apart p law places far) in
       ap (λ o. on_entry e (additions_of o)) none
 
   adds_force : IsAccepted s → (i j : ℕ) → i < j → j < length s.types.items → AddsForce (pair_force (safe_dynamics s) frame) (add_of s frame) (i, j)

@@ -1,6 +1,7 @@
 -- Engines: which jobs and states have one, and what its steps do.
 use Rattle.std.specs.Prelude.{◌≡◌, ℕ, ◌≤◌, ℤ, List, length, Some, None, Ok}
-use Rattle.job.specs.JobText.{reading_of, limits}
+use Rattle.energy_program.specs.Tree.{Tree}
+use Rattle.job.specs.JobText.{HasNamesOnce, reading_of, limits}
 use Rattle.job.specs.Values.{JobValue}
 use Rattle.kernel_code.specs.declared.instructions.Instr.{Instr}
 use Rattle.state.specs.StateReading.{state_of}
@@ -8,8 +9,10 @@ use Rattle.state.specs.StateText.{StateView}
 use Rattle.integrator.specs.Energies.{Energy, job_tree}
 use Rattle.integrator.specs.Frames.{Dynamics, Frames, turns}
 use Rattle.integrator.specs.Starts.{as_written, plain, start_of, system_of}
+use Rattle.integrator.specs.Runs.{Lacks}
 use Rattle.integrator.specs.StartViews.{Refuses}
 use Rattle.integrator.specs.States.{counter_after, frames_of, moved_state}
+use Rattle.engine.specs.Headline.{IsJobEnergy}
 use Rattle.engine.specs.Verdicts.{IsRefused, IsSafeFor, PassesRange}
 use Rattle.integrator.specs.declared.direction.Direction.{Direction}
 use Rattle.integrator.specs.declared.faults.RunFault.{RunFault}
@@ -91,6 +94,15 @@ IsEngineOfTexts job state e = OfTexts job state (λ j s. IsEngineOf j s e)
 abbrev pub AreSafe : List ℕ → List ℕ → Type 0
 AreSafe job state = OfTexts job state (λ j s. OfSlope j s (λ code. IsSafeFor j code (length s.atoms)))
 
+-- the energy's text of a job says this tree, and no other
+pub record SaysOnly (j : JobValue) (tree : Tree) : Type 0 where
+  pub says : IsJobEnergy j tree
+  pub only : (other : Tree) → IsJobEnergy j other → other ≡ tree
+
+-- both are read, no name stands twice in the job, and its energy is what the energy's text says
+abbrev pub AreReadOnce : List ℕ → List ℕ → Type 0
+AreReadOnce job state = OfTexts job state (λ j s. HasNamesOnce j × SaysOnly j (job_tree j))
+
 -- why texts have no engine; what is refused before the verifier is what a run is refused for, whatever its steps
 abbrev pub HasNoEngineOfTexts : {A : Type 0} → List ℕ → List ℕ → RunFault A → Type 0
 HasNoEngineOfTexts {A} job state (run.Job f) = (direction : Direction) (steps : ℕ) → Refuses {A = A} (run.Job f) (start_of plain job state direction steps)
@@ -106,6 +118,22 @@ HasNoEngineOfTexts job state run.StepRange = ⊥
 HasNoEngineOfTexts job state (run.KernelFault step low high pc why) = ⊥
 HasNoEngineOfTexts job state (run.MemoryAfter done) = ⊥
 HasNoEngineOfTexts job state (run.Out f) = ⊥
+
+-- want of memory, before the steps or after some of them, or a failed output
+abbrev pub Wants : {A : Type 0} → RunFault A → Type 0
+Wants (run.MemoryAfter done) = Unit {0}
+Wants run.Memory = Unit {0}
+Wants (run.Out f) = Unit {0}
+Wants {A} (run.Job f) = Lacks {A = A} (run.Job f)
+Wants {A} (run.State f) = Lacks {A = A} (run.State f)
+Wants {A} (run.Energy f) = Lacks {A = A} (run.Energy f)
+Wants run.BitsDiffer = ⊥
+Wants (run.UnknownType n) = ⊥
+Wants run.CutoffTooLong = ⊥
+Wants (run.Kernel r) = ⊥
+Wants run.ForceRange = ⊥
+Wants run.StepRange = ⊥
+Wants (run.KernelFault step low high pc why) = ⊥
 
 -- why texts give no text on an engine; want of memory before the steps says nothing of them, and where the counter, the memory of a step or the output ends a run they are safe
 abbrev pub IsEngineRefusal : {A : Type 0} → List ℕ → List ℕ → Direction → ℕ → RunFault A → Type 0

@@ -1,9 +1,14 @@
 pub mod SafeKernels
 pub mod Verdicts
 pub mod Engines
+pub mod Headline
+pub mod Turns
 pub mod EngineViews
 pub mod PairEnergies
+pub mod EnergySums
 pub mod SafeEnergies
 pub mod Rounds
 pub mod Rows
 pub mod Tilings
+pub mod FrameTitles
+pub mod Trajectories

@@ -1,11 +1,14 @@
 -- Pairs that act, in rows: first what their atoms have between them, then the slopes of their energies, then what they add.
-use Rattle.std.specs.Prelude.{ℕ, ◌<◌, ℤ, ◌≤ℤ◌, ◌<ℤ◌, ◌≡◌, ◌^◌, List, length, neg_ℤ, pos, unsigned_abs, Option, option_map, slice_index, slice_index_or}
+use Rattle.std.specs.Prelude.{ℕ, ◌<◌, ◌≤◌, ℤ, ◌≤ℤ◌, ◌<ℤ◌, ◌≡◌, ◌^◌, List, [], ◌++◌, length, map, neg_ℤ, pos, take, unsigned_abs, Option, option_map, slice_index, slice_index_or}
+use Rattle.cell_tiles.specs.Tiles.{tile_pairs}
 use Rattle.kernel_lanes.specs.declared.asks.Ask.{Ask}
 use Rattle.kernel_lanes.specs.Flats.{ask_at}
 use Rattle.ring_box.specs.Acting.{Reach, acting_of, force_of}
+use Rattle.tile_round.specs.Tiles.{acting}
 use Rattle.tile_round.specs.declared.work.PairAdd.{PairAdd}
 use Rattle.integrator.specs.Frames.{places_of}
 use Rattle.integrator.specs.declared.systems.System.{System}
+use Rattle.engine.specs.Rounds.{grid_of}
 use Rattle.engine.specs.SafeKernels.{minus, potential_of, slope_at}
 use Rattle.engine.specs.declared.rows.FoundPair.{FoundPair}
 use Rattle.engine.specs.declared.safe_kernels.SafeKernel.{SafeKernel}
@@ -25,6 +28,16 @@ module _ {A : Type 0} (s : System (SafeKernel A) A) where
     pub inside : f.high < atoms
     pub core : s.core ≤ℤ f.acting.distance
     pub cutoff : f.acting.distance <ℤ s.cutoff
+
+  -- the pairs of a tile of the frame
+  abbrev pub tile_at : List (List ℕ) → ℕ → List (ℕ × ℕ)
+  tile_at frame t = slice_index_or (tile_pairs (grid_of s) frame) t []
+
+  -- the pairs found before the number n are those before k, and then these
+  pub record AreNextFound (frame : List (List ℕ)) (pairs : List (ℕ × ℕ)) (k : ℕ) (found : List FoundPair) (n : ℕ) : Type 0 where
+    pub onward : k < n
+    pub within : n ≤ length pairs
+    pub acting : acting (map (found_of frame) (take n pairs)) ≡ acting (map (found_of frame) (take k pairs)) ++ found
 
   -- what is asked for it
   abbrev pub ask_of : FoundPair → Ask

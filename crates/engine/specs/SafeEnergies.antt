@@ -1,11 +1,42 @@
 -- The energy of two atoms of a system of the program.
-use Rattle.std.specs.Prelude.{ℕ, ℤ, Option, slice_index}
+use Rattle.std.specs.Prelude.{◌≡◌, ℕ, ◌<◌, ◌^◌, ℤ, pos, ◌≤ℤ◌, ◌<ℤ◌, true, List, length, Option, Some, slice_index, slice_index_or, unwrap_or}
 use Rattle.fixed.specs.Fractions.{bits_of}
 use Rattle.energy_program.specs.Programs.{program_tree}
 use Rattle.energy_program.specs.Value.{value_of}
 use Rattle.kernel_code.specs.Tables.{inputs_of}
+use Rattle.kernel_lanes.specs.Flats.{ask_at}
+use Rattle.kernel_lanes.specs.declared.asks.Ask.{Ask}
+use Rattle.integrator.specs.Kernels.{is_small}
+use Rattle.engine.specs.PairEnergies.{pair_energy}
+use Rattle.engine.specs.Rows.{ask_of}
+use Rattle.engine.specs.SafeKernels.{safe_dynamics}
+use Rattle.engine.specs.declared.rows.FoundPair.{FoundPair}
 use Rattle.engine.specs.declared.safe_kernels.SafeKernel.{SafeKernel}
 use Rattle.integrator.specs.declared.systems.System.{System}
 
-abbrev pub safe_value : {A : Type 0} → System (SafeKernel A) A → ℕ × ℕ → ℤ → Option ℤ
-safe_value s p r = value_of (bits_of s.kernel.verified.table.frac) (inputs_of s.kernel.verified.table (slice_index s.types.items p.0) (slice_index s.types.items p.1) r) (program_tree s.kernel.energy)
+module _ {A : Type 0} (s : System (SafeKernel A) A) where
+  abbrev pub energy_at_types : ℕ → ℕ → ℤ → Option ℤ
+  energy_at_types a b r = value_of (bits_of s.kernel.verified.table.frac) (inputs_of s.kernel.verified.table a b r) (program_tree s.kernel.energy)
+
+  abbrev pub safe_value : ℕ × ℕ → ℤ → Option ℤ
+  safe_value p r = energy_at_types (slice_index s.types.items p.0) (slice_index s.types.items p.1) r
+
+  -- any two types have an energy at each distance at which atoms act
+  abbrev pub HasEnergies : Type 0
+  HasEnergies = (a b : ℕ) (r : ℤ) → a < length s.kernel.verified.table.rows → b < length s.kernel.verified.table.rows → s.core ≤ℤ r → r <ℤ s.cutoff → is_small (2 ^ 64) (energy_at_types a b r) ≡ true
+
+  -- v is the energy that is asked for
+  abbrev pub IsEnergyFor : Ask → ℤ → Type 0
+  IsEnergyFor ask v = energy_at_types ask.a ask.b ask.r ≡ Some v
+
+  -- the energies begin with those that are asked for
+  abbrev pub AreEnergies : List Ask → List ℤ → Type 0
+  AreEnergies asks energies = (l : ℕ) → l < length asks → IsEnergyFor (ask_at asks l) (slice_index_or energies l (pos 0))
+
+  -- the energy of a pair that was found
+  abbrev pub found_energy : FoundPair → ℤ
+  found_energy f = unwrap_or (energy_at_types (ask_of s f).a (ask_of s f).b (ask_of s f).r) (pos 0)
+
+  -- the energy of a pair of a frame
+  abbrev pub energy_between : List (List ℕ) → ℕ × ℕ → ℤ
+  energy_between frame p = unwrap_or (pair_energy (safe_dynamics s) safe_value frame p) (pos 0)

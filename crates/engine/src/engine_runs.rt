@@ -2,11 +2,13 @@
 
 ghost use Rattle.std.specs.Prelude.{◌≡◌, ◌<◌, ◌≤◌, ◌-◌, ◌^◌, true, false, IfOk, OnOk, IfErr, OnErr, ℕ, List, ◌⊎◌};
 ghost use Rattle.state.specs.StateViews.{state_view};
-ghost use Rattle.engine.specs.Engines.{AreSafe, HasNoEngineOfTexts, IsEngineOfTexts, IsEngineRefusal};
+ghost use Rattle.engine.specs.Engines.{AreSafe, HasNoEngineOfTexts, IsEngineOfTexts, IsEngineRefusal, Wants};
 ghost use Rattle.integrator.specs.Frames.{opposite};
 ghost use Rattle.engine.specs.PairEnergies.{HasNoEnergyOfTexts, IsEnergyOfTexts};
 ghost use Rattle.integrator.specs.Runs.{is_out, IsAfter, IsRun, Wrote, WroteBeginning};
 ghost use Rattle.integrator.specs.Starts.{plain};
+ghost use Rattle.engine.specs.Engines.{AreReadOnce};
+ghost use Rattle.engine.specs.Headline.{IsLevesqueVerletRun, WroteLevesqueVerletRun};
 
 use crate::engines::Engine;
 use gro::Out;
@@ -19,6 +21,7 @@ use std::thread::Threads;
 /// The engine of these texts.
 fn open<A: Allocator + Copy>(alloc: A, job: &[u8], state: &[u8]) -> Result<Engine<A>, RunFault<A>>
     ensures opens { IfOk result (IsEngineOfTexts job.now state.now) }
+    ensures once { IfOk result (λ _. AreReadOnce job.now state.now) }
     ensures refused { IfErr result (HasNoEngineOfTexts job.now state.now) }
 {
     let job = Job::read(alloc, job)?;
@@ -56,6 +59,7 @@ fn state_after<R: Threads + Sync, A: Allocator + Copy + Send + Sync>(
     requires few { workers ≤ 64 }
     ensures value { IfOk result (λ s. IsAfter plain job.now state.now direction steps (state_view s)) }
     ensures safe { IfOk result (λ _. AreSafe job.now state.now) }
+    ensures once { IfOk result (λ _. AreReadOnce job.now state.now) }
     ensures refused { IfErr result (IsEngineRefusal job.now state.now direction steps) }
     ensures unwritten { IfErr result (λ f. is_out f ≡ false) }
 {
@@ -71,7 +75,7 @@ fn state_after<R: Threads + Sync, A: Allocator + Copy + Send + Sync>(
 /// the workers' claims and additions, the frames are those of so many Levesque-Verlet steps (J. Stat. Phys. 72, 519, 1993) with the
 /// energy's slope as written and exact sums over all pairs; and the same number of steps the other way over the written bytes gives
 /// the starting bytes again. The slope's code is accepted by the verifier (`Engine::new`), so that none of its instructions faults and
-/// each pair takes at most the certified steps (`kernel_machine::run_prepared`): a fault of a kernel is no refusal here.
+/// each pair takes at most the certified steps (`kernel_lanes::run_lanes`, `run_paths`): a fault of a kernel is no refusal here.
 ///
 /// The refusals come in this order: those of the job, of the state, of `Engine::new`; `StepRange` where the counter
 /// would leave an i64; `Memory` or `MemoryAfter` wherever a growth is refused. Nothing is written then. `Out` comes
@@ -91,7 +95,9 @@ pub fn run_bytes<R: Threads + Sync, A: Allocator + Copy + Send + Sync, O: Out>(
     requires count { O.failed out.old < 2 ^ 64 - 1 }
     // No instruction of the slope's code goes wrong, and no pair takes more of them than the certified number.
     ensures safe { OnOk result (AreSafe job.now state.now) }
-    // The text of the state after the steps is written.
+    // The text of the state after the steps is written: by relations between texts, on one page.
+    ensures told { OnOk result (WroteLevesqueVerletRun job.now state.now direction steps (O.taken out.old) (O.taken out.new)) }
+    // The same by the definitions that the readers and the steps are proved against.
     ensures ran { OnOk result (Wrote plain job.now state.now direction steps (O.taken out.old) (O.taken out.new)) }
     ensures kept { OnOk result (O.failed out.new ≡ O.failed out.old) }
     // Why there is none.
@@ -101,7 +107,10 @@ pub fn run_bytes<R: Threads + Sync, A: Allocator + Copy + Send + Sync, O: Out>(
     ensures beginning { IfErr result (λ f. is_out f ≡ true → WroteBeginning plain job.now state.now direction steps (O.taken out.old) (O.taken out.new)) }
     ensures failed { IfErr result (λ f. is_out f ≡ true → O.failed out.old < O.failed out.new) }
     ensures quiet { OnErr result ((O.taken out.new ≡ O.taken out.old) ⊎ (O.failed out.old < O.failed out.new)) }
+    // Where there is such a text and the code is accepted, no other refusal is left but want of memory and a failed output.
+    ensures only { (text : List ℕ) → IsRun plain job.now state.now direction steps text → AreSafe job.now state.now → IfErr result Wants }
     // So many steps the other way over the written text give the starting text.
+    ensures told_back { (text : List ℕ) → IsLevesqueVerletRun job.now state.now direction steps text → IsLevesqueVerletRun job.now text (opposite direction) steps state.now }
     ensures returns { (text : List ℕ) → IsRun plain job.now state.now direction steps text → IsRun plain job.now text (opposite direction) steps state.now }
 {
     let after = state_after(rt, alloc, job, state, steps, direction, workers)?;

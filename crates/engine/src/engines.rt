@@ -7,7 +7,7 @@ ghost use Rattle.job.specs.Views.{job_value, type_value};
 ghost use Rattle.integrator.specs.Energies.{job_tree};
 ghost use Rattle.ring_box.specs.Cells.{HasCells};
 ghost use Rattle.state.specs.StateViews.{state_view};
-ghost use Rattle.engine.specs.Engines.{engine_dynamics, HasNoEngine, IsEngineOf, Stopped, Went};
+ghost use Rattle.engine.specs.Engines.{engine_dynamics, HasNoEngine, IsEngineOf, SaysOnly, Stopped, Went};
 ghost use Rattle.engine.specs.EngineViews.{IsEngine, engine_view};
 ghost use Rattle.engine.specs.PairEnergies.{HasNoEnergy, IsEnergy};
 ghost use Rattle.engine.specs.Tilings.{frames_along};
@@ -17,7 +17,7 @@ ghost use Rattle.integrator.specs.States.{counter_after, frames_of};
 ghost use Rattle.integrator.specs.declared.direction.Direction.TheVariants.{Back, Forward};
 ghost use Rattle.integrator.specs.declared.faults.StepFault.TheVariants.{Memory};
 
-use crate::frame_steps::Course;
+use crate::frame_steps::{Course, LastFrames, Tiling};
 use crate::pools::{NoGate, Pool};
 use crate::rows::{Scratch, scratches};
 use crate::safe_energies::SafeEnergy;
@@ -39,15 +39,19 @@ use tile_pool::Gate;
 /// A job and a state that can be run with no fault but want of memory and the end of the step counter: for every two
 /// types of atoms, and at each distance at which two atoms act, the code of the energy's slope gives that slope.
 #[derive(Drop)]
-pub struct Engine<A: Allocator> {
+pub struct Engine<A: Allocator + Copy> {
     alloc: A,
     job: Job<A>,
     state: State<A>,
     motion: SafeSystem<A>,
+    /// Made at the first steps, and kept for those after them.
+    tiling: Option<Tiling<A>>,
 }
 
-impl<A: Allocator> Model for Engine<A> {
+impl<A: Allocator + Copy> Model for Engine<A> {
+    ghost use Rattle.std.specs.Prelude.{IfSome};
     ghost use Rattle.engine.specs.Engines.{EngineView};
+    ghost use Rattle.engine.specs.Tilings.{IsTilingOf};
 
     ghost Value = { EngineView };
 
@@ -55,7 +59,7 @@ impl<A: Allocator> Model for Engine<A> {
 
     ghost view = { λ e. engine_view e.job e.state e.motion.system };
 
-    ghost invariant = { λ e. IsEngine e.job e.state e.motion.system };
+    ghost invariant = { λ e. IsEngine e.job e.state e.motion.system × IfSome e.tiling (IsTilingOf e.motion.system) };
 }
 
 /// Whether no force on one of so many atoms can pass 64 bits, where no slope passes `bound`.
@@ -108,6 +112,7 @@ fn job_motion<A: Allocator + Copy>(
     state: &State<A>,
 ) -> Result<SafeSystem<A>, RunFault<A>>
     ensures engine { IfOk result (λ m. IsEngine job.now state.now m.system) }
+    ensures says { IfOk result (λ _. SaysOnly (job_value job.now) (job_tree (job_value job.now))) }
     ensures of { IfOk result (λ m. IsEngineOf (job_value job.now) (state_view state.now) (engine_view job.now state.now m.system)) }
     ensures refused { IfErr result (HasNoEngine (job_value job.now) (state_view state.now)) }
 {
@@ -140,6 +145,7 @@ impl<A: Allocator + Copy> Engine<A> {
     /// the number of atoms, is 2^63 or more. `Memory` wherever a growth is refused.
     pub fn new(alloc: A, job: Job<A>, state: State<A>) -> Result<Engine<A>, RunFault<A>>
         ensures engine { IfOk result (IsEngineOf (job_value job) (state_view state)) }
+        ensures says { IfOk result (λ _. SaysOnly (job_value job) (job_tree (job_value job))) }
         ensures refused { IfErr result (HasNoEngine (job_value job) (state_view state)) }
     {
         let motion = job_motion(alloc, &job, &state)?;
@@ -148,6 +154,7 @@ impl<A: Allocator + Copy> Engine<A> {
             job,
             state,
             motion,
+            tiling: None,
         })
     }
 
@@ -177,12 +184,10 @@ impl<A: Allocator + Copy> Engine<A> {
     {
         let code = compile(self.alloc, self.job.frac, &self.motion.system.kernel.energy)?;
         let verified = verdict(self.alloc, &self.job, code)?;
+        let energy = SafeEnergy::new(self.alloc, &self.motion, verified)?;
         let frame = current_frame(self.alloc, &self.state.atoms)?;
-        let energy = SafeEnergy {
-            motion: &self.motion,
-            verified,
-        };
-        Ok(energy.of_frame(&frame))
+        let sum = energy.of_frame(self.alloc, &frame)?;
+        Ok(sum)
     }
 
     /// Takes over the frames that so many steps came to, of all those that were asked for.
@@ -191,7 +196,7 @@ impl<A: Allocator + Copy> Engine<A> {
         direction: Direction,
         steps: u64,
         done: u64,
-        course: Course<A>,
+        course: LastFrames<A>,
     ) -> Result<(), StepFault>
         requires before { length course.before.items ≡ length self.old.state.atoms }
         requires middle { length course.middle.items ≡ length self.old.state.atoms }
@@ -216,14 +221,21 @@ impl<A: Allocator + Copy> Engine<A> {
         ensures went { IfOk result (λ _. Went direction steps self.old self.new) }
         ensures stopped { IfErr result (Stopped direction steps self.old self.new) }
     {
+        let kept = self.tiling.take();
         let mut course = self
             .motion
-            .course(self.alloc, direction, &self.state, steps)?;
+            .course(self.alloc, direction, &self.state, steps, kept)?;
         let mut scratch = at_start(Scratch::new(self.alloc))?;
         let done = self
             .motion
             .turns_alone(self.alloc, steps, &mut course, &mut scratch);
-        self.arrive(direction, steps, done, course)
+        let Course {
+            before,
+            middle,
+            tiling,
+        } = course;
+        self.tiling = Some(tiling);
+        self.arrive(direction, steps, done, LastFrames { before, middle })
     }
 
     /// So many steps forward, on one thread, at most 1,000,000,000,000: Levesque and Verlet's (J. Stat. Phys. 72, 519,
@@ -266,9 +278,10 @@ impl<A: Allocator + Copy + Send + Sync> Engine<A> {
         ensures went { IfOk result (λ _. Went direction steps self.old self.new) }
         ensures stopped { IfErr result (Stopped direction steps self.old self.new) }
     {
+        let kept = self.tiling.take();
         let mut course = self
             .motion
-            .course(self.alloc, direction, &self.state, steps)?;
+            .course(self.alloc, direction, &self.state, steps, kept)?;
         let mut scratches = at_start(scratches(self.alloc, workers))?;
         let pool = Pool { rt, gate };
         let done = self.motion.turns_pooled(
@@ -278,7 +291,13 @@ impl<A: Allocator + Copy + Send + Sync> Engine<A> {
             &mut course,
             scratches.as_mut_slice(),
         );
-        self.arrive(direction, steps, done, course)
+        let Course {
+            before,
+            middle,
+            tiling,
+        } = course;
+        self.tiling = Some(tiling);
+        self.arrive(direction, steps, done, LastFrames { before, middle })
     }
 
     /// So many steps in a direction by so many workers that pass no gate. One worker waits for nobody.

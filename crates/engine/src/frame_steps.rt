@@ -33,21 +33,23 @@ pub(crate) struct Course<A: Allocator + Copy> {
     pub tiling: Tiling<A>,
 }
 
-impl<A: Allocator + Copy> Course<A> {
+/// The two frames of a course that is over.
+#[derive(Drop)]
+pub(crate) struct LastFrames<A: Allocator + Copy> {
+    pub before: Vec<[u32; 3], A>,
+    pub middle: Vec<[u32; 3], A>,
+}
+
+impl<A: Allocator + Copy> LastFrames<A> {
     ghost use Rattle.std.specs.Prelude.{◌≡◌};
     ghost use Rattle.integrator.specs.Frames.{frames};
     ghost use Rattle.engine.specs.Tilings.{frames_along};
 
-    /// Its frames by their times.
+    /// The frames by their times.
     pub(crate) fn turned(self, direction: Direction) -> Turned<A>
         ensures { frames result.previous.items result.current.items ≡ frames_along direction self.before.items self.middle.items }
     {
-        let Course {
-            before,
-            middle,
-            tiling,
-        } = self;
-        drop(tiling);
+        let LastFrames { before, middle } = self;
         match direction {
             Direction::Forward => Turned {
                 previous: before,
@@ -125,10 +127,10 @@ impl<A: Allocator> SafeSystem<A> {
 }
 
 impl<A: Allocator + Copy> SafeSystem<A> {
-    ghost use Rattle.std.specs.Prelude.{◌≡◌, ◌≤◌, length, IfOk, IfErr, OnOk, OnErr, Some, is_none, false};
+    ghost use Rattle.std.specs.Prelude.{◌≡◌, ◌≤◌, length, IfOk, IfErr, IfSome, OnOk, OnErr, Some, is_none, false};
     ghost use Rattle.state.specs.StateViews.{state_view};
     ghost use Rattle.std.specs.List.{All};
-    ghost use Rattle.cell_tiles.specs.Cells.{members_of};
+    ghost use Rattle.cell_tiles.specs.Cells.{member_places, members_of};
     ghost use Rattle.ring_box.specs.Cells.{ArePlaces};
     ghost use Rattle.integrator.specs.Frames.{frames, step, turns};
     ghost use Rattle.integrator.specs.States.{counter_after, frames_of};
@@ -138,7 +140,7 @@ impl<A: Allocator + Copy> SafeSystem<A> {
     ghost use Rattle.engine.specs.Tilings.{frames_along, IsTilingOf, IsUnstarted};
 
     /// The cells of the system's box and their tiles.
-    fn tiling(&self, alloc: A) -> Result<Tiling<A>, AllocError>
+    pub(crate) fn tiling(&self, alloc: A) -> Result<Tiling<A>, AllocError>
         ensures { IfOk result (IsTilingOf self.now.system) }
     {
         let system = &self.system;
@@ -148,13 +150,26 @@ impl<A: Allocator + Copy> SafeSystem<A> {
         Ok(Tiling { tiles, cells })
     }
 
+    /// The same, or those that are kept.
+    fn kept_tiling(&self, alloc: A, kept: Option<Tiling<A>>) -> Result<Tiling<A>, AllocError>
+        requires { IfSome kept (IsTilingOf self.now.system) }
+        ensures { IfOk result (IsTilingOf self.now.system) }
+    {
+        match kept {
+            Some(tiling) => Ok(tiling),
+            None => self.tiling(alloc),
+        }
+    }
+
     /// The frames of a state in a direction, and the cells for its atoms.
     fn frames(
         &self,
         alloc: A,
         direction: Direction,
         state: &State<A>,
+        kept: Option<Tiling<A>>,
     ) -> Result<Course<A>, AllocError>
+        requires kept { IfSome kept (IsTilingOf self.now.system) }
         ensures frames { IfOk result (λ p. frames_along direction p.before.items p.middle.items ≡ frames_of (state_view state.now)) }
         ensures before { IfOk result (λ p. length p.before.items ≡ length state.now.atoms.items) }
         ensures middle { IfOk result (λ p. length p.middle.items ≡ length state.now.atoms.items) }
@@ -162,7 +177,7 @@ impl<A: Allocator + Copy> SafeSystem<A> {
     {
         let previous = previous_frame(alloc, &state.atoms)?;
         let current = current_frame(alloc, &state.atoms)?;
-        let tiling = self.tiling(alloc)?;
+        let tiling = self.kept_tiling(alloc, kept)?;
         match direction {
             Direction::Forward => Ok(Course {
                 before: previous,
@@ -177,15 +192,17 @@ impl<A: Allocator + Copy> SafeSystem<A> {
         }
     }
 
-    /// What so many steps in a direction start from: `StepRange` where the counter would leave an i64, `Memory` after no step where a
-    /// growth is refused.
+    /// What so many steps in a direction start from, in the cells that are kept or in new ones: `StepRange` where the counter would leave an i64,
+    /// `Memory` after no step where a growth is refused.
     pub(crate) fn course(
         &self,
         alloc: A,
         direction: Direction,
         state: &State<A>,
         steps: u64,
+        kept: Option<Tiling<A>>,
     ) -> Result<Course<A>, StepFault>
+        requires kept { IfSome kept (IsTilingOf self.now.system) }
         ensures frames { IfOk result (λ p. frames_along direction p.before.items p.middle.items ≡ frames_of (state_view state.now)) }
         ensures before { IfOk result (λ p. length p.before.items ≡ length state.now.atoms.items) }
         ensures middle { IfOk result (λ p. length p.middle.items ≡ length state.now.atoms.items) }
@@ -196,17 +213,18 @@ impl<A: Allocator + Copy> SafeSystem<A> {
         if counter_after(direction, state, steps).is_none() {
             return Err(StepFault::StepRange);
         }
-        match self.frames(alloc, direction, state) {
+        match self.frames(alloc, direction, state, kept) {
             Ok(course) => Ok(course),
             Err(_) => Err(StepFault::Memory { done: 0 }),
         }
     }
 
     /// Puts the atoms of a frame into their cells.
-    fn fill(&self, tiling: &mut Tiling<A>, frame: &[[u32; 3]]) -> Result<(), Memory>
+    pub(crate) fn fill(&self, tiling: &mut Tiling<A>, frame: &[[u32; 3]]) -> Result<(), AllocError>
         requires atoms { length frame.now ≡ length self.now.system.masses.items }
         requires tiling { IsTilingOf self.now.system tiling.old }
         ensures members { OnOk result (tiling.new.cells.members ≡ members_of (grid_of self.now.system) frame.now) }
+        ensures beside { OnOk result (tiling.new.cells.places ≡ member_places frame.now tiling.new.cells.members) }
         ensures places { OnOk result (All ArePlaces frame.now) }
         ensures tiling { IsTilingOf self.now.system tiling.new }
     {
@@ -215,11 +233,16 @@ impl<A: Allocator + Copy> SafeSystem<A> {
     }
 
     /// The pairs of a frame whose atoms stand in these cells.
-    fn work<'a>(&'a self, tiling: &'a Tiling<A>, frame: &'a [[u32; 3]]) -> FrameWork<'a, A>
+    pub(crate) fn work<'a>(
+        &'a self,
+        tiling: &'a Tiling<A>,
+        frame: &'a [[u32; 3]],
+    ) -> FrameWork<'a, A>
         requires atoms { length frame.now ≡ length self.now.system.masses.items }
         requires tiling { IsTilingOf self.now.system tiling.now }
         requires places { All ArePlaces frame.now }
         requires members { tiling.now.cells.members ≡ members_of (grid_of self.now.system) frame.now }
+        requires beside { tiling.now.cells.places ≡ member_places frame.now tiling.now.cells.members }
         ensures motion { result.motion.now ≡ self.now }
         ensures frame { result.frame.now ≡ frame.now }
     {
@@ -298,6 +321,7 @@ impl<A: Allocator + Copy> SafeSystem<A> {
         ensures few { result ≤ steps }
         ensures before { length course.new.before.items ≡ length course.old.before.items }
         ensures middle { length course.new.middle.items ≡ length course.old.middle.items }
+        ensures tiling { IsTilingOf self.now.system course.new.tiling }
     {
         for done in 0..steps {
             match self.turn_alone(alloc, course, scratch) {
@@ -388,6 +412,7 @@ impl<A: Allocator + Copy + Sync> SafeSystem<A> {
         ensures few { result ≤ steps }
         ensures before { length course.new.before.items ≡ length course.old.before.items }
         ensures middle { length course.new.middle.items ≡ length course.old.middle.items }
+        ensures tiling { IsTilingOf self.now.system course.new.tiling }
     {
         for done in 0..steps {
             match self.turn_pooled(alloc, pool, course, scratches) {

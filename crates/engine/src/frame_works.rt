@@ -2,12 +2,12 @@
 
 ghost use Rattle.std.specs.Prelude.{◌≡◌, ◌<◌, length, map, slice_get, Some, IfSome};
 ghost use Rattle.std.specs.List.{All};
-ghost use Rattle.cell_tiles.specs.Cells.{members_of};
+ghost use Rattle.cell_tiles.specs.Cells.{member_places, members_of};
 ghost use Rattle.cell_tiles.specs.Tiles.{pairs_in, tiles_of};
 ghost use Rattle.ring_box.specs.Cells.{ArePlaces};
 ghost use Rattle.tile_round.specs.Tiles.{pairs_at, AreNextActing, IsPairOf};
 ghost use Rattle.engine.specs.Rounds.{grid_of, plan_of};
-ghost use Rattle.engine.specs.Rows.{IsFound, add_found};
+ghost use Rattle.engine.specs.Rows.{AreNextFound, IsFound, add_found, tile_at};
 
 use crate::rows::{FoundPair, Scratch};
 use crate::safe_systems::SafeSystem;
@@ -26,6 +26,7 @@ pub(crate) struct FrameWork<'a, A: Allocator + Copy> {
     pub ghost grid: { tiles.now.grid.bits ≡ grid_of motion.now.system },
     pub ghost cut: { cells.now.bits ≡ tiles.now.grid.bits },
     pub ghost members: { cells.now.members ≡ members_of (grid_of motion.now.system) frame.now },
+    pub ghost beside: { cells.now.places ≡ member_places frame.now cells.now.members },
     pub ghost atoms: { length frame.now ≡ length motion.now.system.types.items },
     pub ghost places: { All ArePlaces frame.now },
 }
@@ -64,7 +65,7 @@ impl<'a, A: Allocator + Copy> Work for FrameWork<'a, A> {
 
 impl<'a, A: Allocator + Copy> FrameWork<'a, A> {
     // The next pairs that act, at most 64 of them, and the number of the pair with which to go on.
-    fn find(
+    pub(crate) fn find(
         &self,
         tile: u64,
         k: u64,
@@ -73,6 +74,7 @@ impl<'a, A: Allocator + Copy> FrameWork<'a, A> {
     ) -> u64
         requires tile { tile < length (plan_of self.now.motion.now.system self.now.frame.now) }
         requires start { k < length (pairs_at (plan_of self.now.motion.now.system self.now.frame.now) tile) }
+        ensures sieved { AreNextFound self.now.motion.now.system self.now.frame.now (tile_at self.now.motion.now.system self.now.frame.now tile) k found.new.items result }
         ensures next { AreNextActing (pairs_at (plan_of self.now.motion.now.system self.now.frame.now) tile) k (map (add_found self.now.motion.now.system) found.new.items) result }
         ensures found { All (IsFound self.now.motion.now.system (length self.now.frame.now)) found.new.items }
     {

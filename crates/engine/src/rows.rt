@@ -6,8 +6,7 @@ ghost use Rattle.ring_box.specs.Acting.{force_of};
 use arrayvec::ArrayVec;
 use cell_tiles::NearPairs;
 use fixed::Fx;
-use kernel_lanes::{Ask, Rows};
-use kernel_machine::Stack;
+use kernel_lanes::{Ask, PathRows, Rows};
 use ring_box::ActingPair;
 use std::alloc::{AllocError, Allocator};
 use tile_round::PairAdd;
@@ -42,8 +41,8 @@ fn opposite(slope: Fx) -> Fx
     Fx::from_raw(-slope.raw())
 }
 
-/// What a worker keeps at hand for a row: pairs that may act, those found that do, what is asked for them, the slopes that are answered, and room for runs,
-/// in lanes or one after the other.
+/// What a worker keeps at hand for a row: pairs that may act, those found that do, what is asked for them, the slopes that are answered, and room for runs
+/// in lanes, of flat code or of code that jumps.
 #[derive(Drop)]
 pub(crate) struct Scratch<A: Allocator> {
     pub near: NearPairs,
@@ -51,20 +50,21 @@ pub(crate) struct Scratch<A: Allocator> {
     pub asks: ArrayVec<Ask, 64>,
     pub slopes: [Fx; 64],
     pub lanes: Rows<A>,
-    pub stack: Stack,
+    pub paths: PathRows<A>,
 }
 
-impl<A: Allocator> Scratch<A> {
+impl<A: Allocator + Copy> Scratch<A> {
     /// Room for any code. `AllocError` only where memory is refused.
     pub(crate) fn new(alloc: A) -> Result<Scratch<A>, AllocError> {
         let lanes = Rows::new(alloc)?;
+        let paths = PathRows::new(alloc)?;
         Ok(Scratch {
             near: NearPairs::new(),
             found: ArrayVec::new(),
             asks: ArrayVec::new(),
             slopes: [Fx::from_raw(0); 64],
             lanes,
-            stack: Stack::new(),
+            paths,
         })
     }
 }

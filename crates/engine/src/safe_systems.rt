@@ -5,13 +5,13 @@ ghost use Rattle.std.specs.List.{All};
 ghost use Rattle.engine.specs.SafeKernels.{IsAccepted};
 
 use crate::rows::{FoundPair, Scratch};
-use crate::safe_kernels::SafeKernel;
+use crate::safe_kernels::{LaneCode, SafeKernel};
 use arrayvec::ArrayVec;
 use cell_tiles::AtomPair;
 use fixed::Fx;
 use integrator::System;
-use kernel_lanes::{Ask, Flat, Rows, run_lanes};
-use kernel_machine::{Stack, run_prepared};
+use kernel_lanes::{Ask, PathRows, Rows, run_lanes, run_paths};
+use kernel_machine::{Stack, run};
 use ring_box::Reach;
 use std::alloc::Allocator;
 use tile_round::PairAdd;
@@ -90,6 +90,7 @@ impl<A: Allocator> SafeSystem<A> {
 impl<A: Allocator> SafeSystem<A> {
     ghost use Rattle.std.specs.Prelude.{◌≡◌, ◌<◌, ◌≤◌, ◌^◌, map, length};
     ghost use Rattle.kernel_lanes.specs.Flats.{IsFlatOf};
+    ghost use Rattle.kernel_lanes.specs.FreeValues.{AreFreeValues};
     ghost use Rattle.kernel_lanes.specs.Lanes.{IsServed};
     ghost use Rattle.engine.specs.Rows.{AreSlopes, IsFound, IsSlope, ask_of};
 
@@ -107,7 +108,7 @@ impl<A: Allocator> SafeSystem<A> {
     }
 
     /// What is asked for these pairs.
-    fn ask_all(&self, found: &[FoundPair], asks: &mut ArrayVec<Ask, 64>)
+    pub(crate) fn ask_all(&self, found: &[FoundPair], asks: &mut ArrayVec<Ask, 64>)
         requires few { length found.now ≤ 64 }
         requires found { All (IsFound self.now.system (length self.now.system.types.items)) found.now }
         ensures value { asks.new.items ≡ map (ask_of self.now.system) found.now }
@@ -125,36 +126,36 @@ impl<A: Allocator> SafeSystem<A> {
         requires bound { self.now.system.kernel.verified.bound < 2 ^ 63 }
         ensures { IsSlope self.now.system ask result }
     {
-        let SafeKernel {
-            verified,
-            prepared,
-            ..
-        } = &self.system.kernel;
-        run_prepared(verified, prepared, stack, ask.a, ask.b, ask.r)
+        run(&self.system.kernel.verified, stack, ask.a, ask.b, ask.r)
     }
 
-    /// The slopes that are asked for, one after the other.
-    fn slopes_in_turn(&self, asks: &[Ask], stack: &mut Stack, slopes: &mut [Fx])
+    /// The slopes that are asked for, in lanes that each take the path of their own.
+    fn slopes_on_paths<B: Allocator>(
+        &self,
+        asks: &[Ask],
+        paths: &mut PathRows<B>,
+        slopes: &mut [Fx],
+    )
+        requires few { length asks.now ≤ 64 }
         requires room { length asks.now ≤ length slopes.old }
         requires served { All (IsServed self.now.system.kernel.verified) asks.now }
         requires bound { self.now.system.kernel.verified.bound < 2 ^ 63 }
         ensures slopes { AreSlopes self.now.system asks.now slopes.new }
         ensures len { length slopes.new ≡ length slopes.old }
     {
-        for l in 0..asks.len() {
-            slopes[l] = self.slope(asks[l], stack);
-        }
+        run_paths(&self.system.kernel.verified, paths, asks, slopes);
     }
 
     /// The same by flat code of the system's, in lanes.
     fn slopes_in_lanes<B: Allocator>(
         &self,
-        flat: &Flat<A>,
+        code: &LaneCode<A>,
         asks: &[Ask],
         lanes: &mut Rows<B>,
         slopes: &mut [Fx],
     )
-        requires flat { ∥ IsFlatOf self.now.system.kernel.verified.code flat.now.steps flat.now.out ∥₁ }
+        requires flat { ∥ IsFlatOf self.now.system.kernel.verified.code code.now.flat.steps code.now.flat.out ∥₁ }
+        requires free { ∥ AreFreeValues self.now.system.kernel.verified code.now.flat code.now.free ∥₁ }
         requires few { length asks.now ≤ 64 }
         requires room { length asks.now ≤ length slopes.old }
         requires served { All (IsServed self.now.system.kernel.verified) asks.now }
@@ -162,15 +163,16 @@ impl<A: Allocator> SafeSystem<A> {
         ensures slopes { AreSlopes self.now.system asks.now slopes.new }
         ensures len { length slopes.new ≡ length slopes.old }
     {
-        run_lanes(&self.system.kernel.verified, flat, lanes, asks, slopes);
+        let verified = &self.system.kernel.verified;
+        run_lanes(verified, &code.flat, &code.free, lanes, asks, slopes);
     }
 
-    /// The same, in lanes where the code of the slope is flat.
+    /// The same, by flat code where there is such.
     fn slopes<B: Allocator>(
         &self,
         asks: &[Ask],
         lanes: &mut Rows<B>,
-        stack: &mut Stack,
+        paths: &mut PathRows<B>,
         slopes: &mut [Fx],
     )
         requires few { length asks.now ≤ 64 }
@@ -180,9 +182,9 @@ impl<A: Allocator> SafeSystem<A> {
         ensures slopes { AreSlopes self.now.system asks.now slopes.new }
         ensures len { length slopes.new ≡ length slopes.old }
     {
-        match &self.system.kernel.flat {
-            Some(flat) => self.slopes_in_lanes(flat, asks, lanes, slopes),
-            None => self.slopes_in_turn(asks, stack, slopes),
+        match &self.system.kernel.lanes {
+            Some(code) => self.slopes_in_lanes(code, asks, lanes, slopes),
+            None => self.slopes_on_paths(asks, paths, slopes),
         }
     }
 }
@@ -245,11 +247,11 @@ impl<A: Allocator> SafeSystem<A> {
             asks,
             slopes,
             lanes,
-            stack,
+            paths,
             ..
         } = scratch;
         self.ask_all(found.as_slice(), asks);
-        self.slopes(asks.as_slice(), lanes, stack, slopes);
+        self.slopes(asks.as_slice(), lanes, paths, slopes);
         self.add_all(found.as_slice(), slopes, adds);
     }
 }

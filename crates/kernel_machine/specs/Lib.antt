@@ -1,4 +1,4 @@
-pub mod Groups
 pub mod Runs
 pub mod Stacks
 pub mod Storage
+pub mod Standing

@@ -2,20 +2,12 @@
 //! It gives the value that the machine of `kernel_code` gives, and counts its instructions.
 #![tactic(auto)]
 
-mod grouped_turns;
-mod grouping;
-mod groups;
-mod operands;
 mod operations;
-mod prepared;
-mod prepared_runs;
 mod running;
 mod slots;
 mod stacks;
 mod turns;
 
-pub use kernel_code::{Trap, TrapKind, run_checked};
-pub use prepared::Prepared;
-pub use prepared_runs::run_prepared;
+pub use operations::{binary, unary};
 pub use running::run;
 pub use stacks::Stack;

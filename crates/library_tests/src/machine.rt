@@ -1,10 +1,8 @@
-//! Three runs of the same code: tested, accepted, and accepted and made ready.
-
-ghost use Rattle.std.specs.Prelude.{◌≡◌};
+//! Two runs of the same code: tested, and accepted.
 
 use fixed::{Frac, Fx};
 use kernel_code::{CodeFault, TypeTable, read, run_checked};
-use kernel_machine::{Prepared, Stack, run, run_prepared};
+use kernel_machine::{Stack, run};
 use std::alloc::Global;
 use std::test::*;
 use verifier::{Verified, verify};
@@ -52,35 +50,15 @@ fn accepted(alloc: Global, lines: &str) -> Result<Verified<Global>, Fail> {
     Ok(verified.ok().ok_or("refused")?)
 }
 
-/// The value and the number of instructions of the run on a pair of types at a distance, if they are the kernel's.
-fn ran(kernel: &Verified<Global>, stack: &mut Stack, a: u32, b: u32, r: i64) -> Option<(i64, u32)> {
+/// The value of the run on a pair of types at a distance, if they are the kernel's.
+fn ran(kernel: &Verified<Global>, stack: &mut Stack, a: u32, b: u32, r: i64) -> Option<i64> {
     let types = kernel.table().types();
     let distance = Fx::from_raw(r);
     if a >= types || b >= types || distance < kernel.core() || distance >= kernel.cutoff() {
         return None;
     }
     let value = run(kernel, stack, a, b, distance);
-    Some((value.raw(), stack.turns()))
-}
-
-/// The same of the kernel's code, made ready.
-fn ran_prepared(
-    kernel: &Verified<Global>,
-    prepared: &Prepared<Global>,
-    stack: &mut Stack,
-    a: u32,
-    b: u32,
-    r: i64,
-) -> Option<(i64, u32)>
-    requires { prepared.now ≡ kernel.now.code }
-{
-    let types = kernel.table().types();
-    let distance = Fx::from_raw(r);
-    if a >= types || b >= types || distance < kernel.core() || distance >= kernel.cutoff() {
-        return None;
-    }
-    let value = run_prepared(kernel, prepared, stack, a, b, distance);
-    Some((value.raw(), stack.turns()))
+    Some(value.raw())
 }
 
 /// The value of the tested run, if there is one.
@@ -93,22 +71,18 @@ fn tested(kernel: &Verified<Global>, a: u32, b: u32, r: i64) -> Option<i64> {
     Some(value.raw())
 }
 
-/// Whether all three come to the same on some pairs, and the accepted ones in as many instructions.
+/// Whether both come to the same on some pairs.
 fn agree(alloc: Global, stack: &mut Stack, lines: &str) -> Result<bool, Fail> {
     let kernel = accepted(alloc, lines)?;
-    let prepared = Prepared::new(alloc, kernel.code().as_slice())?;
     for (a, b, r) in [
         (0, 0, 858_993_459),
         (0, 1, 1_000_000_007),
         (1, 0, 2_147_483_648),
         (1, 1, 3_865_470_565),
     ] {
-        let Some((value, turns)) = ran(&kernel, stack, a, b, r) else {
+        let Some(value) = ran(&kernel, stack, a, b, r) else {
             return Ok(false);
         };
-        if ran_prepared(&kernel, &prepared, stack, a, b, r) != Some((value, turns)) {
-            return Ok(false);
-        }
         if tested(&kernel, a, b, r) != Some(value) {
             return Ok(false);
         }
@@ -117,7 +91,7 @@ fn agree(alloc: Global, stack: &mut Stack, lines: &str) -> Result<bool, Fail> {
 }
 
 #[test]
-fn three_runs_agree(rt: HostRuntime) -> Result<(), Fail> {
+fn two_runs_agree(rt: HostRuntime) -> Result<(), Fail> {
     let mut stack = Stack::new();
     for lines in [PARAMETERS, JUMPS, OPERATIONS, KEPT_AT_ONCE] {
         assert!(rt; agree(rt.alloc(), &mut stack, lines)?, "{lines:?}");

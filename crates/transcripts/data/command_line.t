@@ -8,14 +8,15 @@ Help goes to standard output, and ends with status 0.
   Usage: pairmd <COMMAND>
   
   Commands:
-    start   Prints the state that begins at a frame of a GRO file
-    run     Prints the state after so many steps
-    back    Prints the state so many steps back
-    frame   Prints the current frame of a state as a GRO file
-    energy  Prints the energy of a state
-    check   Judges the code of a job's slope, or other code under the job
-    code    Prints the code of a job's slope
-    help    Print this message or the help of the given subcommand(s)
+    start       Prints the state that begins at a frame of a GRO file
+    run         Prints the state after so many steps
+    back        Prints the state so many steps back
+    trajectory  Prints frames of a run as a GRO file
+    frame       Prints the current frame of a state as a GRO file
+    energy      Prints the energy of a state
+    check       Judges the code of a job's slope, or other code under the job
+    code        Prints the code of a job's slope
+    help        Print this message or the help of the given subcommand(s)
   
   Options:
     -h, --help  Print help
@@ -25,14 +26,15 @@ Help goes to standard output, and ends with status 0.
   Usage: pairmd <COMMAND>
   
   Commands:
-    start   Prints the state that begins at a frame of a GRO file
-    run     Prints the state after so many steps
-    back    Prints the state so many steps back
-    frame   Prints the current frame of a state as a GRO file
-    energy  Prints the energy of a state
-    check   Judges the code of a job's slope, or other code under the job
-    code    Prints the code of a job's slope
-    help    Print this message or the help of the given subcommand(s)
+    start       Prints the state that begins at a frame of a GRO file
+    run         Prints the state after so many steps
+    back        Prints the state so many steps back
+    trajectory  Prints frames of a run as a GRO file
+    frame       Prints the current frame of a state as a GRO file
+    energy      Prints the energy of a state
+    check       Judges the code of a job's slope, or other code under the job
+    code        Prints the code of a job's slope
+    help        Print this message or the help of the given subcommand(s)
   
   Options:
     -h, --help  Print help
@@ -74,6 +76,21 @@ Help goes to standard output, and ends with status 0.
   Options:
         --frame <k>  Which frame of the GRO file, from 1 [default: 1]
     -h, --help       Print help
+  $ pairmd help trajectory
+  Prints frames of a run as a GRO file
+  
+  Usage: pairmd trajectory [OPTIONS] --steps <n> --every <k> <JOB> <STATE>
+  
+  Arguments:
+    <JOB>    The file of the job
+    <STATE>  The file of the state
+  
+  Options:
+        --steps <n>    How many steps, from 0 to 1000000000000
+        --workers <w>  How many workers, from 1 to 64 [default: 1]
+        --every <k>    How many steps from frame to frame, from 1 to 1000000000000
+        --back         Goes back
+    -h, --help         Print help
   $ pairmd frame --help
   Prints the current frame of a state as a GRO file
   
@@ -110,7 +127,7 @@ Words that name no command, and options that no command has. Standard output sta
 
   $ pairmd
   error: 'pairmd' requires a subcommand but one was not provided
-    [subcommands: start, run, back, frame, energy, check, code, help]
+    [subcommands: start, run, back, trajectory, frame, energy, check, code, help]
   
   Usage: pairmd <COMMAND>
   

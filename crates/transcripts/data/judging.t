@@ -79,6 +79,27 @@ and p1 + p2 - 22 has a root for the third with itself alone.
   pairmd: V2 Fault A A r 858993459 pc 5 F3 NegativeRoot
   [3]
 
+What stays undecided for two types is told of these two in their order: here the root is asked for where the first particle is an A and
+the second a B, and nowhere else. Its radicand is 4 at all distances, but on 6 distances and more its span reaches below 0.
+
+  $ cat > root << END
+  > pairmd job 1
+  > energy select(q1*(1-q2), sqrt(r-r+1e-9), 0)
+  > core 0.2
+  > cutoff 0.9
+  > dt 2
+  > slices 1
+  > parameter q
+  > type A 1 1
+  > type B 1 0
+  > END
+  $ pairmd check root
+  pairmd: V3 Undecided A B 858993459 858993638 pc 17 F3 NegativeRoot
+  [3]
+  $ with root 2 'energy select(q2*(1-q1), sqrt(r-r+1e-9), 0)' pairmd check root
+  pairmd: V3 Undecided B A 858993459 858993638 pc 17 F3 NegativeRoot
+  [3]
+
 The slope of Lennard and Jones' energy by hand, for argon and for atoms without depth: the mean of two sigmas is local 0, the root of two
 epsilons local 1, sigma/r local 2, its square local 3 and its sixth power local 4. The slope is (24 epsilon x^6 - 48 epsilon x^12) / r.
 

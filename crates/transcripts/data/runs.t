@@ -126,6 +126,15 @@ and 0.8 nm from each other across the edge of the box.
       1AR      AR 2147483648 3221225472 2577141506 2147483648 3221225472 2577302619
       1AR      AR 3221225472 3221225472 2577141506 3221225472 3221225472 2577302619
 
+Each request for memory of that run by four workers is refused in turn.
+
+  $ requests pairmd run job layers --steps 3 --workers 4
+  pairmd: Memory [4]
+  all
+  pairmd: Memory after 0 steps [4]
+  pairmd: Memory after 1 steps [4]
+  pairmd: Memory after 2 steps [4]
+
 One atom in each of 64 cells of 1 nm, so that each has a pair with those of the 26 cells around it: 832 tiles have pairs, more than there are workers, and
 all of them are started. Some of the pairs act.
 

@@ -257,7 +257,7 @@ branched code inputs steps locals here target frame old new d a x there (goes_on
     joins_attained code inputs steps locals (here + 1) rest old new d a (popped_on code locals here target (here + 1) s frame rest x there (inl refl) p) j
 branched code inputs steps locals here target frame old new d a x there (jumps {s = s} {rest = rest} p holds single j) =
     joins_attained code inputs steps locals target rest old new d a (popped_on code locals here target target s frame rest x there (inr refl) p) j
-branched code inputs steps locals here target frame old new d a x there (may_jump {s = s} {rest = rest} {between = between} p holds j k) =
+branched code inputs steps locals here target frame old new d a x there (may_jump {s = s} {rest = rest} {between = between} p holds two j k) =
     let b = joins_attained code inputs steps locals (here + 1) rest old between d a (popped_on code locals here target (here + 1) s frame rest x there (inl refl) p) j in
     joins_attained code inputs steps locals target rest between new d b (popped_on code locals here target target s frame rest x there (inr refl) p) k
 

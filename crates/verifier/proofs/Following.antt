@@ -12,6 +12,11 @@ use Rattle.kernel_code.specs.declared.instructions.UnaryOperation.{UnaryOperatio
 use Rattle.kernel_code.specs.declared.instructions.Instr.TheVariants.{Push, Input, Keep, Get, Binary, Unary}
 use Rattle.kernel_code.specs.declared.traps.TrapKind.TheVariants.{MissingInput, MissingLocal}
 use Rattle.kernel_code.specs.Machine.{pushed, pushed_if, kept, given, on_two, on_one, binary_of, unary_of}
+use Rattle.fixed.specs.declared.faults.Fault.{Fault}
+use Rattle.verifier.specs.declared.frames.Stop.{Stop}
+use Rattle.verifier.specs.declared.frames.Stop.TheVariants as stop
+use Rattle.verifier.specs.Places.{IsCause, KeepsTop, PushesNumber, StopsOnOne, StopsOnTwo}
+use Rattle.verifier.specs.Stopping.{IsStop}
 use Rattle.verifier.specs.Frames.{SpanFrame, AreMembers, IsLocalOf, AreLocalsOf, AreIn, HasSet, IsOfSize, Pushes, Pops, Keeps, AppliesBinary, AppliesUnary, Follows}
 
 -- what a call says at `Ok`, passed on
@@ -186,3 +191,37 @@ follows_unary bits op inputs old new f =
       size = record { height' = omega (arith, ap length f.taken, ap length f.given); locals' = ap length f.locals };
       set = λ set h. same_set old.locals new.locals set f.locals h;
     }
+
+-- ---- the frame behind it
+
+pub behind_push : (v : ℤ) (s : Span) (old new : SpanFrame) → s.lo ≡ v → s.hi ≡ v → Pushes s old new → PushesNumber v old new
+behind_push v s old new lo hi p = record { span = s; one = record { lo' = lo; hi' = hi }; pushes = p }
+
+pub behind_keep : (k : ℕ) (s : Span) (old between new : SpanFrame) → k < length old.locals → Pops s old between → Keeps k s between new → KeepsTop k old new
+behind_keep k s old between new within p n =
+    let within' : k < length between.locals = omega (arith, ap length p.locals, within) in
+    record {
+      span = s;
+      between = between;
+      pops = p;
+      sets = record {
+        stack = n.stack;
+        here = ap (λ (l : List (Option Span)). slice_index_or l k None) n.locals ∙ get_or-set_same between.locals k (Some s) None within';
+        others = λ j other. ap (λ (l : List (Option Span)). slice_index_or l j None) n.locals ∙ get_or-set_other between.locals k j (Some s) None other;
+      };
+    }
+
+-- ---- why it stops
+
+pub stops_on_two : (bits : ℕ) (op : BinaryOperation) (a b : Span) (old one two : SpanFrame) (fault : Fault) → Pops b old one → Pops a one two → IsCause (IsOutcomeOfTwo (binary_of bits op) a b) fault → StopsOnTwo bits op old fault
+stops_on_two bits op a b old one two fault pb pa cause = record { a = a; b = b; rest = two.stack; taken = pb.stack ∙ ap (λ t. b ∷ t) pa.stack; cause = cause }
+
+pub stops_on_one : (bits : ℕ) (op : UnaryOperation) (a : Span) (old one : SpanFrame) (fault : Fault) → Pops a old one → IsCause (IsOutcome (unary_of bits op) a) fault → StopsOnOne bits op old fault
+stops_on_one bits op a old one fault pa cause = record { a = a; rest = one.stack; taken = pa.stack; cause = cause }
+
+pub stop_weaker : (P Q : Fault → Type 0) (s : Stop) → ((f : Fault) → P f → Q f) → IsStop P s → IsStop Q s
+stop_weaker P Q (stop.Fault f) g h = g f h
+stop_weaker P Q stop.Memory g h = tt
+
+pub stop_memory : (P : Fault → Type 0) (s : Stop) → s ≡ stop.Memory → IsStop P s
+stop_memory P s e = rw e tt

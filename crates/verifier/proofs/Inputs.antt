@@ -17,6 +17,8 @@ use Rattle.kernel_code.specs.Tables.{Table, IsTable, row_of, inputs_of}
 use Rattle.verifier.specs.Frames.{AreInputsOf}
 use Rattle.verifier.specs.Safety.{input_count}
 use Rattle.verifier.specs.Searches.{HoldInputs}
+use Rattle.verifier.specs.Places.{IsOne}
+use Rattle.verifier.specs.Verdicts.{AreInputSpans, IsOneInput}
 
 -- ---- how many there are
 
@@ -94,9 +96,19 @@ inputs_more t a b r lo v k k' ss s h long one there same el eh =
 pub record HoldSome (t : Table) (a b k : ℕ) (distances : Span) (spans : List Span) : Type 0 where
   pub long : length spans ≡ k
   pub each : (r : ℤ) → IsMember r distances → AreInputsOf (inputs_of t a b r) spans
+  pub first : slice_get spans 0 ≡ Some distances
+  pub others : (j : ℕ) (s : Span) → 1 ≤ j → slice_get spans j ≡ Some s → IsOneInput t a b distances.lo j s
+
+none_later : (s t : Span) (j : ℕ) → 1 ≤ j → slice_get (s ∷ []) j ≡ Some t → ⊥
+none_later s t zero h e = omega (arith, h)
+none_later s t (suc j) h e = absurd cc
+
+get_first : (ss : List Span) (s t : Span) → slice_get ss 0 ≡ Some s → slice_get (ss ++ t ∷ []) 0 ≡ Some s
+get_first [] s t e = absurd cc
+get_first (x ∷ ss) s t e = e
 
 pub hold_first : (t : Table) (a b : ℕ) (distances : Span) (spans : List Span) → spans ≡ distances ∷ [] → HoldSome t a b 1 distances spans
-hold_first t a b distances spans e = rw e (record { long = refl; each = λ r m. inputs_first r _ distances m })
+hold_first t a b distances spans e = rw e (record { long = refl; each = λ r m. inputs_first r _ distances m; first = refl; others = λ j s one there. absurd (none_later distances s j one there) })
 
 pub hold_more : (t : Table) (a b : ℕ) (v : ℤ) (k k' : ℕ) (distances : Span) (old new : List Span) (s : Span) → HoldSome t a b k distances old → 1 ≤ k → Some v ≡ slice_get (inputs_of t a b distances.lo) k' → k' ≡ k → s.lo ≡ v → s.hi ≡ v → new ≡ old ++ s ∷ [] → HoldSome t a b (k + 1) distances new
 hold_more t a b v k k' distances old new s h one there same el eh e =
@@ -104,10 +116,21 @@ hold_more t a b v k k' distances old new s h one there same el eh e =
     (record {
       long = length-append old (s ∷ []) ∙ omega (arith, h.long);
       each = λ r m. inputs_more t a b r distances.lo v k k' old s (h.each r m) h.long one there same el eh;
+      first = get_first old distances s h.first;
+      others = λ j x le at.
+          ⊎_elim
+          (λ (before : slice_get old j ≡ Some x). h.others j x le before)
+          (λ (now : (j ≡ length old) × (x ≡ s)).
+          let here : slice_get (inputs_of t a b distances.lo) j ≡ Some v = ap (slice_get (inputs_of t a b distances.lo)) (now.0 ∙ h.long ∙ sym same) ∙ sym there in
+          record { value = v; there = here; one = subst (IsOne v) (sym now.1) (record { lo' = el; hi' = eh }) })
+          (get_push old s x j at);
     })
 
 pub hold_all : (t : Table) (a b k : ℕ) (distances : Span) (spans : List Span) → HoldSome t a b k distances spans → k ≡ input_count t → HoldInputs t a b distances spans
 hold_all t a b k distances spans h e = record { long = h.long ∙ e; each = h.each }
+
+pub input_spans : (t : Table) (a b k : ℕ) (distances : Span) (spans : List Span) → HoldSome t a b k distances spans → k ≡ input_count t → AreInputSpans t a b distances spans
+input_spans t a b k distances spans h e = record { long = h.long ∙ e; first = h.first; others = h.others }
 
 pub well_held : (code : List Instr) (t : Table) (a b : ℕ) (distances : Span) (spans : List Span) → HoldInputs t a b distances spans → (steps : ℕ) × DoesWell code (input_count t) steps → (steps : ℕ) × DoesWell code (length spans) steps
 well_held code t a b distances spans h well = rw h.long well

@@ -7,7 +7,7 @@ use Rattle.std.proofs.Math.ListN.{length-set}
 use mathlib.Core.List.{reverse_aux}
 use Rattle.interval_domain.specs.declared.span.Span.{Span}
 use Rattle.interval_domain.specs.Spans.{IsMember, IsWithin, IsHull}
-use Rattle.verifier.specs.Frames.{SpanFrame, AreMembers, IsLocalOf, IsOfSize, WidensSpans, WidensFirst, WidensLocal, WidensLocals, WidensFirstLocals, Widens}
+use Rattle.verifier.specs.Frames.{SpanFrame, AreMembers, AreWithin, IsLocalOf, IsLocalWithin, IsOfSize, local_of, WidensSpans, WidensFirst, WidensLocal, WidensLocals, WidensFirstLocals, Widens}
 
 -- ---- spans
 
@@ -31,33 +31,73 @@ get_set_other (s ∷ ss) (suc k) zero h n = refl
 get_set_other (s ∷ ss) (suc k) (suc j) h n = get_set_other ss k j h (λ e. n (ap suc e))
 
 pub spans_none : (old other : List Span) → length old ≡ length other → WidensFirst 0 old other old
-spans_none old other e = record { long = e; mine = λ xs m. m; first = λ j s t lt a b. absurd (omega (arith, lt)) }
+spans_none old other e = record { long = e; long' = refl; mine = λ xs m. m; first = λ j x y h lt p q r. absurd (omega (arith, lt)); rest = λ j le. refl }
+
+hull_same : (a b h a' b' h' : Span) → a' ≡ a → b' ≡ b → h' ≡ h → IsHull a b h → IsHull a' b' h'
+hull_same a b h a' b' h' p q r hull = rw (p, q, r) hull
 
 pub spans_more : (k : ℕ) (old other now : List Span) (a b h : Span) → WidensFirst k old other now → slice_get now k ≡ Some a → slice_get other k ≡ Some b → IsHull a b h → WidensFirst (k + 1) old other (slice_set now k h)
 spans_more k old other now a b h w ea eb hull =
+    let ea' : slice_get old k ≡ Some a = sym (w.rest k (omega arith)) ∙ ea in
     record {
       long = length-set now k h ∙ w.long;
+      long' = length-set now k h ∙ w.long';
       mine = λ xs m. members_set xs now k a h (w.mine xs m) ea hull.first;
       first =
-          λ j s t lt es et.
+          λ j x y z lt ex ey ez.
           ⊎_elim
           (λ (e : j ≡ k).
-          let at : slice_get other k ≡ Some s = subst (λ (i : ℕ). slice_get other i ≡ Some s) e es in
-          let same : b ≡ s = cc in
-          let new : t ≡ h = get_set_same now k h t (subst (λ (i : ℕ). slice_get (slice_set now k h) i ≡ Some t) e et) in
-          subst (λ (x : Span). IsWithin x t) same (subst (λ (x : Span). IsWithin b x) (sym new) hull.second))
-          (λ (n : j ≢ k). w.first j s t (omega (arith, lt, n)) es (sym (get_set_other now k j h n) ∙ et))
+          let atx : slice_get old k ≡ Some x = subst (λ (i : ℕ). slice_get old i ≡ Some x) e ex in
+          let aty : slice_get other k ≡ Some y = subst (λ (i : ℕ). slice_get other i ≡ Some y) e ey in
+          let sx : x ≡ a = cc in
+          let sy : y ≡ b = cc in
+          let sz : z ≡ h = get_set_same now k h z (subst (λ (i : ℕ). slice_get (slice_set now k h) i ≡ Some z) e ez) in
+          hull_same a b h x y z sx sy sz hull)
+          (λ (n : j ≢ k). w.first j x y z (omega (arith, lt, n)) ex ey (sym (get_set_other now k j h n) ∙ ez))
           (cases_eq j k);
+      rest = λ j le. get_set_other now k j h (omega (arith, le)) ∙ w.rest j (omega (arith, le));
     }
 
--- each span of one list within that of another
-all_within : (xs : List ℤ) (other now : List Span) → length now ≡ length other → ((j : ℕ) (s t : Span) → slice_get other j ≡ Some s → slice_get now j ≡ Some t → IsWithin s t) → AreMembers xs other → AreMembers xs now
-all_within [] [] [] e w m = tt
-all_within [] [] (t ∷ ts) e w m = absurd (omega (arith, e))
-all_within [] (s ∷ ss) now e w m = absurd m
-all_within (x ∷ xs) [] now e w m = absurd m
-all_within (x ∷ xs) (s ∷ ss) [] e w m = absurd (omega (arith, e))
-all_within (x ∷ xs) (s ∷ ss) (t ∷ ts) e w m = ((w 0 s t refl refl).members x m.0, all_within xs ss ts (omega (arith, e)) (λ j. w (suc j)) m.1)
+-- ---- spans within spans
+
+pub within_members : (xs : List ℤ) (ss ts : List Span) → AreMembers xs ss → AreWithin ss ts → AreMembers xs ts
+within_members [] [] [] m w = tt
+within_members [] [] (t ∷ ts) m w = absurd w
+within_members [] (s ∷ ss) ts m w = absurd m
+within_members (x ∷ xs) [] ts m w = absurd m
+within_members (x ∷ xs) (s ∷ ss) [] m w = absurd w
+within_members (x ∷ xs) (s ∷ ss) (t ∷ ts) m w = (w.0.members x m.0, within_members xs ss ts m.1 w.1)
+
+-- each of a third list is the hull of the two at its place
+pub record AreHulls (old other now : List Span) : Type 0 where
+  pub mine' : length now ≡ length old
+  pub other' : length now ≡ length other
+  pub each : (j : ℕ) (a b h : Span) → slice_get old j ≡ Some a → slice_get other j ≡ Some b → slice_get now j ≡ Some h → IsHull a b h
+
+hulls_later : (a b h : Span) (xs bs hs : List Span) → AreHulls (a ∷ xs) (b ∷ bs) (h ∷ hs) → AreHulls xs bs hs
+hulls_later a b h xs bs hs w = record { mine' = omega (arith, w.mine'); other' = omega (arith, w.other'); each = λ j. w.each (suc j) }
+
+hulls_first : (xs bs hs : List Span) → AreHulls xs bs hs → AreWithin xs hs
+hulls_first [] bs [] w = tt
+hulls_first [] bs (h ∷ hs) w = absurd (omega (arith, w.mine'))
+hulls_first (a ∷ xs) bs [] w = absurd (omega (arith, w.mine'))
+hulls_first (a ∷ xs) [] (h ∷ hs) w = absurd (omega (arith, w.other'))
+hulls_first (a ∷ xs) (b ∷ bs) (h ∷ hs) w = ((w.each 0 a b h refl refl refl).first, hulls_first xs bs hs (hulls_later a b h xs bs hs w))
+
+hulls_second : (xs bs hs : List Span) → AreHulls xs bs hs → AreWithin bs hs
+hulls_second xs [] [] w = tt
+hulls_second xs [] (h ∷ hs) w = absurd (omega (arith, w.other'))
+hulls_second xs (b ∷ bs) [] w = absurd (omega (arith, w.other'))
+hulls_second [] (b ∷ bs) (h ∷ hs) w = absurd (omega (arith, w.mine'))
+hulls_second (a ∷ xs) (b ∷ bs) (h ∷ hs) w = ((w.each 0 a b h refl refl refl).second, hulls_second xs bs hs (hulls_later a b h xs bs hs w))
+
+hulls_least : (xs bs hs ts : List Span) → AreHulls xs bs hs → AreWithin xs ts → AreWithin bs ts → AreWithin hs ts
+hulls_least [] bs [] ts w p q = p
+hulls_least [] bs (h ∷ hs) ts w p q = absurd (omega (arith, w.mine'))
+hulls_least (a ∷ xs) bs [] ts w p q = absurd (omega (arith, w.mine'))
+hulls_least (a ∷ xs) [] (h ∷ hs) ts w p q = absurd (omega (arith, w.other'))
+hulls_least (a ∷ xs) (b ∷ bs) (h ∷ hs) [] w p q = absurd p
+hulls_least (a ∷ xs) (b ∷ bs) (h ∷ hs) (t ∷ ts) w p q = ((w.each 0 a b h refl refl refl).least t p.0 q.0, hulls_least xs bs hs ts (hulls_later a b h xs bs hs w) p.1 q.1)
 
 slice_get_short : (l : List Span) (j : ℕ) (s : Span) → slice_get l j ≡ Some s → j < length l
 slice_get_short [] j s e = absurd cc
@@ -66,7 +106,19 @@ slice_get_short (x ∷ l) (suc j) s e = let h = slice_get_short l j s e in omega
 
 pub spans_all : (k : ℕ) (old other now : List Span) → WidensFirst k old other now → length other ≤ k → WidensSpans old other now
 spans_all k old other now w past =
-    record { mine = w.mine; others = λ xs m. all_within xs other now w.long (λ j s t es et. let lt = slice_get_short other j s es in w.first j s t (omega (arith, lt, past)) es et) m }
+    let hulls : AreHulls old other now = record {
+      mine' = w.long';
+      other' = w.long;
+      each = λ j a b h p q r. let lt = slice_get_short other j b q in w.first j a b h (omega (arith, lt, past)) p q r;
+    } in
+    let second = hulls_second old other now hulls in
+    record {
+      mine = w.mine;
+      others = λ xs m. within_members xs other now m second;
+      first = hulls_first old other now hulls;
+      second = second;
+      least = λ ts p q. hulls_least old other now ts hulls p q;
+    }
 
 -- ---- locals
 
@@ -74,9 +126,15 @@ and_none : (b : Bool) → (b && false) ≡ false
 and_none true = refl
 and_none false = refl
 
+none_least : (a b t : Option Span) → (is_some a && is_some b) ≡ false → IsLocalWithin a t → IsLocalWithin b t → IsLocalWithin None t
+none_least a b None e p q = tt
+none_least None b (Some t) e p q = p
+none_least (Some a) None (Some t) e p q = q
+none_least (Some a) (Some b) (Some t) e p q = absurd cc
+
 -- a local without a span on one side
 pub local_none : (a b : Option Span) → (is_some a && is_some b) ≡ false → WidensLocal a b None
-local_none a b e = record { mine = λ o m. tt; others = λ o m. tt; set = sym e }
+local_none a b e = record { mine = λ o m. tt; others = λ o m. tt; set = sym e; first = tt; second = tt; least = λ t p q. none_least a b t e p q }
 
 pub local_first_none : (b : Option Span) → WidensLocal None b None
 local_first_none b = local_none None b refl
@@ -85,8 +143,12 @@ pub local_second_none : (a : Option Span) → WidensLocal a None None
 local_second_none a = local_none a None (and_none (is_some a))
 
 pub local_hull : (a b h : Span) → IsHull a b h → WidensLocal (Some a) (Some b) (Some h)
-local_hull a b h hull = record { mine = mine; others = others; set = refl }
+local_hull a b h hull = record { mine = mine; others = others; set = refl; first = hull.first; second = hull.second; least = least }
   where
+    least : (t : Option Span) → IsLocalWithin (Some a) t → IsLocalWithin (Some b) t → IsLocalWithin (Some h) t
+    least None p q = tt
+    least (Some t) p q = hull.least t p q
+
     mine : (o : Option ℤ) → IsLocalOf o (Some a) → IsLocalOf o (Some h)
     mine None m = m
     mine (Some x) m = hull.first.members x m
@@ -141,6 +203,21 @@ turned_back ys old new w m =
     let down : AreMembers (reverse ys) old = subst (AreMembers (reverse ys)) (reverse-reverse old) (turned ys (reverse old) m) in
     subst (λ (l : List ℤ). AreMembers l (reverse new)) (reverse-reverse ys) (turned (reverse ys) new (w (reverse ys) down))
 
+within_onto : (ss ts us vs : List Span) → AreWithin ss ts → AreWithin us vs → AreWithin (reverse_aux ss us) (reverse_aux ts vs)
+within_onto [] [] us vs w v = v
+within_onto [] (t ∷ ts) us vs w v = absurd w
+within_onto (s ∷ ss) [] us vs w v = absurd w
+within_onto (s ∷ ss) (t ∷ ts) us vs w v = within_onto ss ts (s ∷ us) (t ∷ vs) w.1 (w.0, v)
+
+within_turned : (ss ts : List Span) → AreWithin ss ts → AreWithin (reverse ss) (reverse ts)
+within_turned ss ts w = within_onto ss ts [] [] w tt
+
+within_back : (ss ts : List Span) → AreWithin (reverse ss) ts → AreWithin ss (reverse ts)
+within_back ss ts w = subst (λ (l : List Span). AreWithin l (reverse ts)) (reverse-reverse ss) (within_turned (reverse ss) ts w)
+
+within_forth : (ss ts : List Span) → AreWithin ss (reverse ts) → AreWithin (reverse ss) ts
+within_forth ss ts w = subst (AreWithin (reverse ss)) (reverse-reverse ts) (within_turned ss (reverse ts) w)
+
 pub frame_widens : (s t n : List Span) (ls ms ns : List (Option Span)) → WidensSpans s t n → length n ≡ length t → WidensLocals ls ms ns → length ns ≡ length ms
     → Widens (record { stack = reverse s; locals = ls }) (record { stack = reverse t; locals = ms }) (record { stack = reverse n; locals = ns })
 frame_widens s t n ls ms ns w long l long' =
@@ -155,6 +232,12 @@ frame_widens s t n ls ms ns w long l long' =
       };
       size = record { height' = length-reverse n ∙ long ∙ sym (length-reverse t); locals' = long' };
       set = λ k. (l.each k).set;
+      first = record { stack' = within_turned s n w.first; locals' = λ k. (l.each k).first };
+      second = record { stack' = within_turned t n w.second; locals' = λ k. (l.each k).second };
+      least = λ g p q. record {
+        stack' = within_forth n g.stack (w.least (reverse g.stack) (within_back s g.stack p.stack') (within_back t g.stack q.stack'));
+        locals' = λ k. (l.each k).least (local_of g k) (p.locals' k) (q.locals' k);
+      };
     }
 
 same_height : (old other : SpanFrame) (s t : List Span) (ls ms : List (Option Span)) → old ≡ record { stack = reverse s; locals = ls } → other ≡ record { stack = reverse t; locals = ms } → IsOfSize (length other.stack) (length other.locals) old

@@ -1,8 +1,13 @@
 pub mod Following
 pub mod Joining
+pub mod Causes
+pub mod Standing
 pub mod Passing
 pub mod Attaining
 pub mod Inputs
 pub mod Judging
+pub mod Searching
+pub mod Determined
+pub mod OneVerdict
 pub mod Sweeping
 pub mod Certifying

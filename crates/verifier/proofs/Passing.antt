@@ -113,6 +113,9 @@ is_member b z s h e f = subst (λ (x : ℤ). IsMember x s) e (h.0 (subst IsTrue 
 pub same_ends : (x y : ℤ) → true ≡ int_eq x y → x ≡ y
 same_ends x y e = (Decides-int_eq x y).0 (sym e)
 
+pub other_ends : (x y : ℤ) → false ≡ int_eq x y → x ≡ y → ⊥
+other_ends x y e same = let t = (Decides-int_eq x y).1 same in absurd cc
+
 nonzero : (v : ℤ) (to next : ℕ) → v ≢ pos 0 → at_zero v to next ≡ next
 nonzero (pos zero) to next n = absurd (n refl)
 nonzero (pos (suc k)) to next n = refl
@@ -142,7 +145,7 @@ branches_mine next to frame old new (jumps {s = s} {rest = rest} p holds single 
     let z : t.0 ≡ pos 0 = only_zero t.0 s holds single t.3 in
     let h = joins_mine to rest old new j t.1 ls (rest_in s frame rest t.1 ls p t.4 m.set) in
     (t.0, t.1, t.2, subst (λ (v : ℤ). Holds new (at_zero v to next) t.1 ls) (sym z) h)
-branches_mine next to frame old new (may_jump {s = s} {rest = rest} {between = between} p holds j k) ys ls m =
+branches_mine next to frame old new (may_jump {s = s} {rest = rest} {between = between} p holds two j k) ys ls m =
     let t = popped s frame rest ys p m.on_stack in
     let i = rest_in s frame rest t.1 ls p t.4 m.set in
     let kept = joins_loses to rest between new k in
@@ -151,12 +154,12 @@ branches_mine next to frame old new (may_jump {s = s} {rest = rest} {between = b
 pub branches_loses : (next to : ℕ) (frame : SpanFrame) (old new : List (Option SpanFrame)) → Branches next to frame old new → Loses old new
 branches_loses next to frame old new (goes_on {s = s} {rest = rest} p without j) = joins_loses next rest old new j
 branches_loses next to frame old new (jumps {s = s} {rest = rest} p holds single j) = joins_loses to rest old new j
-branches_loses next to frame old new (may_jump {s = s} {rest = rest} {between = between} p holds j k) =
+branches_loses next to frame old new (may_jump {s = s} {rest = rest} {between = between} p holds two j k) =
     loses_both old between new (joins_loses next rest old between j) (joins_loses to rest between new k)
 
 -- a copy of the frame goes on, and the frame itself jumps
-pub may_jump_copied : (next to : ℕ) (s : Span) (frame rest copy : SpanFrame) (old between new : List (Option SpanFrame)) → Pops s frame rest → copy ≡ rest → IsMember (pos 0) s → Joins next copy old between → Joins to rest between new → Branches next to frame old new
-may_jump_copied next to s frame rest copy old between new p e holds j k = may_jump p holds (subst (λ (f : SpanFrame). Joins next f old between) e j) k
+pub may_jump_copied : (next to : ℕ) (s : Span) (frame rest copy : SpanFrame) (old between new : List (Option SpanFrame)) → Pops s frame rest → copy ≡ rest → IsMember (pos 0) s → (s.lo ≡ s.hi → ⊥) → Joins next copy old between → Joins to rest between new → Branches next to frame old new
+may_jump_copied next to s frame rest copy old between new p e holds two j k = may_jump p holds two (subst (λ (f : SpanFrame). Joins next f old between) e j) k
 
 -- ---- the first place
 

@@ -1,7 +1,7 @@
 -- Frames: spans that the stacks and locals of runs at one place lie in.
 use Rattle.std.specs.Prelude.{◌≡◌, ℕ, ◌+◌, ◌<◌, ◌≤◌, List, [], ◌∷◌, length, ℤ, Bool, false, ◌&&◌, Option, Some, None, is_some, IsSome, slice_index_or, slice_get, slice_set, replicate, Ok}
 use Rattle.interval_domain.specs.declared.span.Span.{Span}
-use Rattle.interval_domain.specs.Spans.{IsMember, IsWithin, IsLeastSpan, IsOutcome, IsOutcomeOfTwo}
+use Rattle.interval_domain.specs.Spans.{IsMember, IsWithin, IsHull, IsLeastSpan, IsOutcome, IsOutcomeOfTwo}
 use Rattle.kernel_code.specs.declared.instructions.Instr.{Instr}
 use Rattle.kernel_code.specs.declared.instructions.Instr.TheVariants.{Push, Input, Keep, Get, Binary, Unary, JumpIfZero, Jump}
 use Rattle.kernel_code.specs.declared.instructions.BinaryOperation.{BinaryOperation}
@@ -47,6 +47,28 @@ pub record IsUnset (count : ℕ) (frame : SpanFrame) : Type 0 where
   pub stack : frame.stack ≡ []
   pub locals : frame.locals ≡ replicate count None
 
+-- ---- frames within frames
+
+abbrev pub local_of : SpanFrame → ℕ → Option Span
+local_of frame k = slice_index_or frame.locals k None
+
+-- each span is within the one at its place
+abbrev pub AreWithin : List Span → List Span → Type 0
+AreWithin [] [] = Unit {0}
+AreWithin [] (t ∷ ts) = ⊥
+AreWithin (s ∷ ss) [] = ⊥
+AreWithin (s ∷ ss) (t ∷ ts) = IsWithin s t × AreWithin ss ts
+
+-- a local that has a span in the second has one within it in the first
+abbrev pub IsLocalWithin : Option Span → Option Span → Type 0
+IsLocalWithin s None = Unit {0}
+IsLocalWithin None (Some t) = ⊥
+IsLocalWithin (Some s) (Some t) = IsWithin s t
+
+pub record IsFrameWithin (f g : SpanFrame) : Type 0 where
+  pub stack' : AreWithin f.stack g.stack
+  pub locals' : (k : ℕ) → IsLocalWithin (local_of f k) (local_of g k)
+
 -- ---- heights and locals
 
 -- the set of all 256 locals has those that have a span
@@ -61,22 +83,30 @@ pub record IsOfSize (height locals : ℕ) (frame : SpanFrame) : Type 0 where
 
 -- ---- frames joined
 
--- whatever is in one of two lists of spans is in a third
+-- whatever is in one of two lists of spans is in a third, the least that holds both
 pub record WidensSpans (old other new : List Span) : Type 0 where
   pub mine : (xs : List ℤ) → AreMembers xs old → AreMembers xs new
   pub others : (xs : List ℤ) → AreMembers xs other → AreMembers xs new
+  pub first : AreWithin old new
+  pub second : AreWithin other new
+  pub least : (ts : List Span) → AreWithin old ts → AreWithin other ts → AreWithin new ts
 
--- the first k spans of now hold those of other too
+-- the first k spans of now are the hulls, and the others are those of old
 pub record WidensFirst (k : ℕ) (old other now : List Span) : Type 0 where
   pub long : length now ≡ length other
+  pub long' : length now ≡ length old
   pub mine : (xs : List ℤ) → AreMembers xs old → AreMembers xs now
-  pub first : (j : ℕ) (s t : Span) → j < k → slice_get other j ≡ Some s → slice_get now j ≡ Some t → IsWithin s t
+  pub first : (j : ℕ) (a b h : Span) → j < k → slice_get old j ≡ Some a → slice_get other j ≡ Some b → slice_get now j ≡ Some h → IsHull a b h
+  pub rest : (j : ℕ) → k ≤ j → slice_get now j ≡ slice_get old j
 
--- the same of locals, of which one has a span where it has one in both
+-- the same of locals, of which one has a span where it has one in both: the hull
 pub record WidensLocal (old other new : Option Span) : Type 0 where
   pub mine : (o : Option ℤ) → IsLocalOf o old → IsLocalOf o new
   pub others : (o : Option ℤ) → IsLocalOf o other → IsLocalOf o new
   pub set : is_some new ≡ (is_some old && is_some other)
+  pub first : IsLocalWithin old new
+  pub second : IsLocalWithin other new
+  pub least : (t : Option Span) → IsLocalWithin old t → IsLocalWithin other t → IsLocalWithin new t
 
 pub record WidensLocals (old other new : List (Option Span)) : Type 0 where
   pub each : (k : ℕ) → WidensLocal (slice_index_or old k None) (slice_index_or other k None) (slice_index_or new k None)
@@ -87,12 +117,16 @@ pub record WidensFirstLocals (k : ℕ) (old other now : List (Option Span)) : Ty
   pub first : (j : ℕ) → j < k → WidensLocal (slice_index_or old j None) (slice_index_or other j None) (slice_index_or now j None)
   pub rest : (j : ℕ) → k ≤ j → slice_index_or now j None ≡ slice_index_or old j None
 
--- whatever is in one of two frames of one size is in a third, where the locals have a span that have one in both
+-- whatever is in one of two frames of one size is in a third, where the locals have a span that have one in both; the
+-- third is the least frame that holds both
 pub record Widens (old other new : SpanFrame) : Type 0 where
   pub mine : (ys : List ℤ) (ls : List (Option ℤ)) → AreIn old ys ls → AreIn new ys ls
   pub others : (ys : List ℤ) (ls : List (Option ℤ)) → AreIn other ys ls → AreIn new ys ls
   pub size : IsOfSize (length other.stack) (length other.locals) new
   pub set : (k : ℕ) → is_some (slice_index_or new.locals k None) ≡ (is_some (slice_index_or old.locals k None) && is_some (slice_index_or other.locals k None))
+  pub first : IsFrameWithin old new
+  pub second : IsFrameWithin other new
+  pub least : (g : SpanFrame) → IsFrameWithin old g → IsFrameWithin other g → IsFrameWithin new g
 
 -- ---- changes of a frame
 

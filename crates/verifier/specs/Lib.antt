@@ -1,5 +1,8 @@
 pub mod Frames
+pub mod Places
+pub mod Stopping
 pub mod Slices
 pub mod Safety
+pub mod Verdicts
 pub mod Searches
 pub mod Kernels

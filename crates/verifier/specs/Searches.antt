@@ -8,6 +8,7 @@ use Rattle.interval_domain.specs.Spans.{IsMember}
 use Rattle.verifier.specs.Frames.{AreInputsOf}
 use Rattle.verifier.specs.Slices.{AreEnoughLocals}
 use Rattle.verifier.specs.Safety.{GivesWithin, input_count}
+use Rattle.verifier.specs.Verdicts.{Range}
 
 -- a code under a table, the distances from core to before cutoff in so many slices, how often one is cut, and how many
 -- locals are followed
@@ -19,6 +20,9 @@ pub record Searched : Type 0 where
   pub slices : ℕ
   pub depth : ℕ
   pub locals : ℕ
+
+abbrev pub range_of : Searched → Range
+range_of s = record { core = s.core; cutoff = s.cutoff; slices = s.slices; depth = s.depth }
 
 -- all paths of the code do well, and there are distances
 pub record IsSearch (s : Searched) : Type 0 where

@@ -7,6 +7,7 @@ use Rattle.kernel_code.specs.declared.instructions.Instr.TheVariants.{Keep}
 use Rattle.kernel_code.specs.Machine.{State, after, Ends}
 use Rattle.kernel_paths.specs.Attained.{IsAttained}
 use Rattle.verifier.specs.Frames.{SpanFrame, AreInputsOf, AreIn, HasSet, IsOfSize, Pops, Widens}
+use Rattle.verifier.specs.Places.{GoesOn, IsFrameOf, comes_from}
 
 -- ---- places, some with a frame
 
@@ -50,7 +51,7 @@ pub data Branches (next target : ℕ) (frame : SpanFrame) (old new : List (Optio
   goes_on : {s : Span} {rest : SpanFrame} → Pops s frame rest → (IsMember (pos 0) s → ⊥) → Joins next rest old new → Branches next target frame old new
   jumps : {s : Span} {rest : SpanFrame} → Pops s frame rest → IsMember (pos 0) s → s.lo ≡ s.hi → Joins target rest old new → Branches next target frame old new
   may_jump : {s : Span} {rest : SpanFrame} {between : List (Option SpanFrame)}
-      → Pops s frame rest → IsMember (pos 0) s → Joins next rest old between → Joins target rest between new → Branches next target frame old new
+      → Pops s frame rest → IsMember (pos 0) s → (s.lo ≡ s.hi → ⊥) → Joins next rest old between → Joins target rest between new → Branches next target frame old new
 
 -- ---- paths
 
@@ -74,6 +75,15 @@ pub record AreAttained (code : List Instr) (places : List (Option SpanFrame)) : 
   pub locals : ℕ
   pub enough : AreEnoughLocals code locals
   pub frames : AreAttainedFrames code locals places
+
+-- ---- the frames of all places
+
+-- the places below this one have their frames, and each other has that of what comes to it from there
+pub record Stands (bits : ℕ) (code : List Instr) (inputs : List Span) (here : ℕ) (places : List (Option SpanFrame)) : Type 0 where
+  pub frames : ℕ → Option SpanFrame
+  pub past : (at : ℕ) → at < here → IsFrameOf (comes_from bits code inputs frames at at) (frames at)
+  pub goes : (at : ℕ) (frame : SpanFrame) → at < here → frames at ≡ Some frame → GoesOn bits code inputs at frame
+  pub ahead : (at : ℕ) → here ≤ at → IsFrameOf (comes_from bits code inputs frames here at) (frame_at places at)
 
 -- ---- runs
 

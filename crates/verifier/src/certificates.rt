@@ -1,8 +1,11 @@
 //! Code judged whole.
 
-ghost use Rattle.std.specs.Prelude.{◌≡◌, ◌*◌, ◌^◌, ◌<◌, ◌≤ℤ◌, ◌<ℤ◌, pos, IfOk, IfErr};
+ghost use Rattle.std.specs.Prelude.{◌≡◌, ◌*◌, ◌^◌, ◌<◌, ◌≤ℤ◌, ◌<ℤ◌, ◌⊎◌, pos, Ok, Err, IfOk, IfErr};
+ghost use Rattle.kernel_code.specs.Code.{IsCode};
 ghost use Rattle.verifier.specs.Safety.{IsCertified, IsRefusal};
 ghost use Rattle.verifier.specs.Slices.{AreEnoughLocals};
+ghost use Rattle.verifier.specs.Verdicts.{IsVerdict, range};
+ghost use Rattle.verifier.specs.declared.faults.VerifyFault.TheVariants.{Memory};
 
 use crate::faults::VerifyFault;
 use crate::places::Places;
@@ -47,9 +50,13 @@ pub fn certify_to<A: Allocator + Copy, B: Allocator>(
     requires core { pos 0 ≤ℤ core }
     requires range { core <ℤ cutoff }
     requires slices { 0 < slices }
+    ensures code { IsCode code.now }
     ensures certified { IfOk result (λ c. IsCertified code.now table.now core cutoff c.steps c.bound) }
     ensures refused { IfErr result (IsRefusal code.now table.now core cutoff (slices * 2 ^ depth)) }
+    ensures bound { IfOk result (λ c. IsVerdict code.now table.now (range core cutoff slices depth) (Ok c.bound)) }
+    ensures verdict { IfErr result (λ fault. (fault ≡ Memory) ⊎ IsVerdict code.now table.now (range core cutoff slices depth) (Err fault)) }
 {
+    let instructions = code.as_slice();
     let inputs = 2 * table.parameters() + table.globals() + 1;
     let steps = match longest_path(alloc, code, inputs) {
         Ok(steps) => steps,
@@ -57,7 +64,6 @@ pub fn certify_to<A: Allocator + Copy, B: Allocator>(
         Err(Misfit::DepthOver64 { pc }) => return Err(VerifyFault::DepthOver64 { pc }),
         Err(Misfit::Memory) => return Err(VerifyFault::Memory),
     };
-    let instructions = code.as_slice();
     let locals = locals_of(instructions);
     let Ok(mut places) = Places::new(alloc, instructions.len()) else {
         return Err(VerifyFault::Memory);

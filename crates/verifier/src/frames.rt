@@ -1,7 +1,8 @@
 //! Where runs may stand at a place: spans on the stack and in the locals.
 
-ghost use Rattle.std.specs.Prelude.{◌≡◌, ◌<◌, ◌≤◌, None, length, slice_index_or, IfOk, OnOk};
+ghost use Rattle.std.specs.Prelude.{◌≡◌, ◌<◌, ◌≤◌, None, length, slice_index_or, IfOk, OnOk, IfErr};
 ghost use Rattle.verifier.specs.Frames.{IsOfSize, IsUnset, Keeps, Pops, Pushes, Widens};
+ghost use Rattle.verifier.specs.declared.frames.Stop.TheVariants.{Memory};
 
 use crate::widening::{widen_locals, widen_spans};
 use fixed::Fault;
@@ -19,12 +20,16 @@ pub enum Stop {
 }
 
 impl From<AllocError> for Stop {
+    ghost from_gives = { λ _ e. e ≡ Memory };
+
     fn from(_e: AllocError) -> Stop {
         Stop::Memory
     }
 }
 
 impl<T: Drop> From<AllocFailed<T>> for Stop {
+    ghost from_gives = { λ _ e. e ≡ Memory };
+
     fn from(_e: AllocFailed<T>) -> Stop {
         Stop::Memory
     }
@@ -89,7 +94,8 @@ impl<A: Allocator> Frame<A> {
     /// Puts a span on the stack. Only memory can stop it.
     pub fn push(&mut self, span: Span) -> Result<(), Stop>
         requires { length self.old.stack < 64 }
-        ensures { OnOk result (Pushes span self.old self.new) }
+        ensures pushes { OnOk result (Pushes span self.old self.new) }
+        ensures memory { IfErr result (λ stop. stop ≡ Memory) }
     {
         match self.stack.push(span) {
             Ok(()) => Ok(()),

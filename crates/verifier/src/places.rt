@@ -1,7 +1,8 @@
 //! The places that runs may still come to, each with its frame.
 
-ghost use Rattle.std.specs.Prelude.{◌≡◌, ◌+◌, ◌-◌, ◌<◌, ◌≤◌, ℕ, None, length, IfOk, OnOk};
+ghost use Rattle.std.specs.Prelude.{◌≡◌, ◌+◌, ◌-◌, ◌<◌, ◌≤◌, ℕ, None, length, IfOk, OnOk, IfErr};
 ghost use Rattle.verifier.specs.Slices.{Branches, CanMeet, Joins, Takes, frame_at};
+ghost use Rattle.verifier.specs.declared.frames.Stop.TheVariants.{Memory};
 
 use crate::frames::{Frame, Stop};
 use fixed::Fx;
@@ -75,6 +76,7 @@ pub fn branch<A: Allocator + Copy>(
     requires meet_next { CanMeet (frame_at places.old next) (length frame.stack - 1) (length frame.locals) }
     requires meet_target { CanMeet (frame_at places.old target) (length frame.stack - 1) (length frame.locals) }
     ensures branches { OnOk result (Branches next target frame places.old places.new) }
+    ensures memory { IfErr result (λ stop. stop ≡ Memory) }
     ensures long { length places.new ≡ length places.old }
 {
     let span = frame.pop();

@@ -1,10 +1,12 @@
 //! The search for values and faults: all pairs of types, all slices of the distances.
 
-ghost use Rattle.std.specs.Prelude.{◌≡◌, ◌+◌, ◌*◌, ◌<◌, ◌≤◌, ◌^◌, ◌<ℤ◌, ◌≤ℤ◌, pos, ◌-ℤ◌, ℕ, length, max, unsigned_abs, IfOk, IfErr};
+ghost use Rattle.std.specs.Prelude.{◌≡◌, ◌+◌, ◌*◌, ◌<◌, ◌≤◌, ◌^◌, ◌<ℤ◌, ◌≤ℤ◌, pos, ◌-ℤ◌, ℕ, length, max, unsigned_abs, Err, IfOk, IfErr};
 ghost use Rattle.kernel_paths.specs.Misfits.{DoesWell};
 ghost use Rattle.verifier.specs.Safety.{GivesWithin, IsFound, IsSafe, IsSafeFrom, IsSafeRow, input_count};
-ghost use Rattle.verifier.specs.Searches.{HoldInputs, IsSafeAt};
+ghost use Rattle.verifier.specs.Searches.{HoldInputs, IsSafeAt, range_of};
 ghost use Rattle.verifier.specs.Slices.{AreEnoughLocals};
+ghost use Rattle.verifier.specs.Stopping.{IsStopAt};
+ghost use Rattle.verifier.specs.Verdicts.{AreInputSpans, IsAtOne, IsBounded, IsFoundOf, IsPieceAnswer, IsStopped, UnlessMemory, pair_answer, row_answer};
 
 use crate::faults::VerifyFault;
 use crate::places::Places;
@@ -67,7 +69,8 @@ impl<'a, A: Allocator + Copy, B: Allocator> Search<'a, A, B> {
     fn input_spans(&self, pair: Pair, distances: &Span) -> Result<Vec<Span, A>, AllocError>
         requires first { pair.first < length self.now.table.rows }
         requires second { pair.second < length self.now.table.rows }
-        ensures { IfOk result (λ spans. HoldInputs self.now.table pair.first pair.second distances.now spans.items) }
+        ensures held { IfOk result (λ spans. HoldInputs self.now.table pair.first pair.second distances.now spans.items) }
+        ensures spans { IfOk result (λ spans. AreInputSpans self.now.table pair.first pair.second distances.now spans.items) }
     {
         let count = 2 * self.table.parameters() + self.table.globals() + 1;
         let mut spans = Vec::new(self.alloc);
@@ -97,6 +100,8 @@ impl<'a, A: Allocator + Copy, B: Allocator> Search<'a, A, B> {
         requires second { pair.second < length self.now.table.rows }
         requires long { length places.old ≡ length self.now.code + 1 }
         ensures safe { IfOk result (IsSafeAt self.now.code self.now.table pair.first pair.second distances.now) }
+        ensures bounded { IfOk result (IsBounded self.now.code self.now.table pair.first pair.second distances.now) }
+        ensures stopped { IfErr result (IsStopAt (IsStopped self.now.code self.now.table pair.first pair.second distances.now)) }
         ensures long { length places.new ≡ length self.now.code + 1 }
     {
         let Ok(inputs) = self.input_spans(pair, distances) else {
@@ -115,6 +120,7 @@ impl<'a, A: Allocator + Copy, B: Allocator> Search<'a, A, B> {
         requires second { pair.second < length self.now.table.rows }
         ensures safe { IfOk result (GivesWithin self.now.code self.now.table pair.first pair.second r) }
         ensures fault { (limit : ℕ) → IfErr result (IsFound self.now.code self.now.table r r limit) }
+        ensures answer { IsAtOne self.now.code self.now.table pair.first pair.second r result }
     {
         match run_checked(self.code, self.table, pair.first, pair.second, r) {
             Ok(value) => Ok(magnitude(value)),
@@ -138,6 +144,7 @@ impl<'a, A: Allocator + Copy, B: Allocator> Search<'a, A, B> {
         requires single { distances.now.hi ≤ℤ distances.now.lo }
         ensures safe { IfOk result (IsSafeAt self.now.code self.now.table pair.first pair.second distances.now) }
         ensures fault { (limit : ℕ) → IfErr result (IsFound self.now.code self.now.table distances.now.lo distances.now.hi limit) }
+        ensures answer { (depth : ℕ) → IsPieceAnswer self.now.code self.now.table pair.first pair.second depth distances.now result }
     {
         match self.judge_one(pair, distances.lo) {
             Ok(bound) => Ok(bound),
@@ -151,7 +158,9 @@ impl<'a, A: Allocator + Copy, B: Allocator> Search<'a, A, B> {
         requires first { pair.first < length self.now.table.rows }
         requires second { pair.second < length self.now.table.rows }
         requires two { distances.now.lo <ℤ distances.now.hi }
-        ensures { IsFound self.now.code self.now.table distances.now.lo distances.now.hi 1 result }
+        requires stopped { IsStopped self.now.code self.now.table pair.first pair.second distances.now pc fault }
+        ensures fault { IsFound self.now.code self.now.table distances.now.lo distances.now.hi 1 result }
+        ensures answer { IsPieceAnswer self.now.code self.now.table pair.first pair.second 0 distances.now (Err result) }
     {
         if let Err(found) = self.judge_one(pair, distances.lo) {
             return found;
@@ -186,6 +195,7 @@ impl<'a, A: Allocator + Copy, B: Allocator> Search<'a, A, B> {
         requires long { length places.old ≡ length self.now.code + 1 }
         ensures safe { IfOk result (IsSafeAt self.now.code self.now.table pair.first pair.second distances.now) }
         ensures fault { IfErr result (IsFound self.now.code self.now.table distances.now.lo distances.now.hi (2 ^ depth)) }
+        ensures answer { UnlessMemory (IsPieceAnswer self.now.code self.now.table pair.first pair.second depth distances.now) result }
         ensures long { length places.new ≡ length self.now.code + 1 }
     {
         if distances.lo.raw() >= distances.hi.raw() {
@@ -212,6 +222,7 @@ impl<'a, A: Allocator + Copy, B: Allocator> Search<'a, A, B> {
         requires long { length places.old ≡ length self.now.code + 1 }
         ensures safe { IfOk result (IsSafeFrom self.now.code self.now.table pair.first pair.second self.now.core self.now.cutoff) }
         ensures fault { IfErr result (IsFound self.now.code self.now.table self.now.core (self.now.cutoff -ℤ pos 1) (self.now.slices * 2 ^ self.now.depth)) }
+        ensures answer { UnlessMemory (pair_answer self.now.code self.now.table (range_of self.now) pair.first pair.second) result }
         ensures long { length places.new ≡ length self.now.code + 1 }
     {
         let width = width_of(self.core, self.cutoff);
@@ -237,6 +248,7 @@ impl<'a, A: Allocator + Copy, B: Allocator> Search<'a, A, B> {
         requires long { length places.old ≡ length self.now.code + 1 }
         ensures safe { IfOk result (IsSafeRow self.now.code self.now.table first (length self.now.table.rows) self.now.core self.now.cutoff) }
         ensures fault { IfErr result (IsFound self.now.code self.now.table self.now.core (self.now.cutoff -ℤ pos 1) (self.now.slices * 2 ^ self.now.depth)) }
+        ensures answer { UnlessMemory (row_answer self.now.code self.now.table (range_of self.now) first) result }
         ensures long { length places.new ≡ length self.now.code + 1 }
     {
         let mut bound = 0u64;
@@ -254,6 +266,7 @@ impl<'a, A: Allocator + Copy, B: Allocator> Search<'a, A, B> {
         requires long { length places.old ≡ length self.now.code + 1 }
         ensures safe { IfOk result (IsSafe self.now.code self.now.table (length self.now.table.rows) self.now.core self.now.cutoff) }
         ensures fault { IfErr result (IsFound self.now.code self.now.table self.now.core (self.now.cutoff -ℤ pos 1) (self.now.slices * 2 ^ self.now.depth)) }
+        ensures answer { UnlessMemory (IsFoundOf self.now.code self.now.table (range_of self.now)) result }
     {
         let mut bound = 0u64;
         for first in 0..self.table.types() {

@@ -1,10 +1,12 @@
 //! All runs on inputs in some spans, followed place by place.
 
-ghost use Rattle.std.specs.Prelude.{◌≡◌, ◌+◌, ◌<◌, ℕ, None, length, IfOk, OnOk};
+ghost use Rattle.std.specs.Prelude.{◌≡◌, ◌+◌, ◌<◌, ℕ, None, length, IfOk, OnOk, IfErr};
 ghost use Rattle.fixed.specs.Fractions.{bits_of};
 ghost use Rattle.kernel_code.specs.Code.{IsCode};
 ghost use Rattle.kernel_paths.specs.Misfits.{DoesWell};
-ghost use Rattle.verifier.specs.Slices.{AllGiveIn, AreAttained, AreEnoughLocals, Comes, frame_at};
+ghost use Rattle.verifier.specs.Places.{GivesSpan, StopsAt};
+ghost use Rattle.verifier.specs.Slices.{AllGiveIn, AreAttained, AreEnoughLocals, Comes, Stands, frame_at};
+ghost use Rattle.verifier.specs.Stopping.{IsStop, IsStopAt};
 
 use crate::frames::{Frame, Stop};
 use crate::instructions::follow;
@@ -49,8 +51,11 @@ fn pass<A: Allocator + Copy>(
     requires long { length places.old ≡ length code.now + 1 }
     requires attained { AreAttained code.now places.old }
     requires comes { Comes (bits_of frac) code.now inputs.now here places.old }
+    requires stands { Stands (bits_of frac) code.now inputs.now here places.old }
     ensures on { OnOk result (Comes (bits_of frac) code.now inputs.now (here + 1) places.new) }
     ensures attained { OnOk result (AreAttained code.now places.new) }
+    ensures stands { OnOk result (Stands (bits_of frac) code.now inputs.now (here + 1) places.new) }
+    ensures stops { IfErr result (IsStop (StopsAt (bits_of frac) code.now inputs.now here)) }
     ensures long { length places.new ≡ length code.now + 1 }
 {
     let Some(mut frame) = places.take(here) else {
@@ -77,7 +82,9 @@ fn answer<A: Allocator>(frac: Frac, code: &[Instr], inputs: &[Span], places: &mu
     requires long { length places.old ≡ length code.now + 1 }
     requires attained { AreAttained code.now places.old }
     requires comes { Comes (bits_of frac) code.now inputs.now (length code.now) places.old }
+    requires stands { Stands (bits_of frac) code.now inputs.now (length code.now) places.old }
     ensures span { AllGiveIn (bits_of frac) code.now inputs.now result }
+    ensures gives { GivesSpan (bits_of frac) code.now inputs.now result }
     ensures long { length places.new ≡ length code.now + 1 }
 {
     let Some(mut frame) = places.take(code.len()) else {
@@ -101,6 +108,8 @@ pub fn follow_slice<A: Allocator + Copy>(
     requires locals { AreEnoughLocals code.now locals }
     requires long { length places.old ≡ length code.now + 1 }
     ensures span { IfOk result (AllGiveIn (bits_of frac) code.now inputs.now) }
+    ensures gives { IfOk result (GivesSpan (bits_of frac) code.now inputs.now) }
+    ensures stops { IfErr result (IsStopAt (StopsAt (bits_of frac) code.now inputs.now)) }
     ensures long { length places.new ≡ length code.now + 1 }
 {
     let Ok(start) = Frame::start(alloc, locals) else {

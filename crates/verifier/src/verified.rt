@@ -1,7 +1,9 @@
 //! Accepted code.
 
-ghost use Rattle.std.specs.Prelude.{◌≡◌, ◌*◌, ◌^◌, ◌<◌, ◌≤ℤ◌, ◌<ℤ◌, pos, IfOk, IfErr};
+ghost use Rattle.std.specs.Prelude.{◌≡◌, ◌*◌, ◌^◌, ◌<◌, ◌≤ℤ◌, ◌<ℤ◌, ◌⊎◌, pos, Ok, Err, IfOk, IfErr};
 ghost use Rattle.verifier.specs.Safety.{IsRefusal};
+ghost use Rattle.verifier.specs.Verdicts.{Answer, IsVerdict, range};
+ghost use Rattle.verifier.specs.declared.faults.VerifyFault.TheVariants.{Memory};
 
 use crate::certificates::certify_to;
 use crate::faults::VerifyFault;
@@ -103,7 +105,14 @@ pub fn verify<A: Allocator, B: Allocator>(
     ensures table { IfOk result (λ v. v.table ≡ table) }
     ensures core { IfOk result (λ v. v.core ≡ core) }
     ensures cutoff { IfOk result (λ v. v.cutoff ≡ cutoff) }
+    // What a refusal says of the code's runs and paths.
     ensures refused { IfErr result (IsRefusal code table core cutoff (slices * 2 ^ 24)) }
+    // The bound, and the refusal: which there is, is the definition's.
+    ensures bound { IfOk result (λ v. IsVerdict code table (range core cutoff slices 24) (Ok v.bound)) }
+    ensures verdict { IfErr result (λ fault. (fault ≡ Memory) ⊎ IsVerdict code table (range core cutoff slices 24) (Err fault)) }
+    // There is no other.
+    ensures only_bound { (answer : Answer) → IsVerdict code table (range core cutoff slices 24) answer → IfOk result (λ v. answer ≡ Ok v.bound) }
+    ensures only_refusal { (answer : Answer) → IsVerdict code table (range core cutoff slices 24) answer → IfErr result (λ fault. (fault ≡ Memory) ⊎ (answer ≡ Err fault)) }
 {
     match certify_to(&alloc, &code, &table, core, cutoff, slices, 24) {
         Ok(certificate) => Ok(Verified {

@@ -2,7 +2,7 @@ use Rattle.std.proofs.Common.{inr, map, subst}
 use Rattle.std.proofs.lemmas.Result.{err_from_is_err_and}
 use Rattle.clap.specs.Words.{app_of}
 use Rattle.cli.specs.CommandLine.{IsNamedOf}
-use Rattle.cli.proofs.CommandLineLaws.{faulty_has_kind, faulty_names_none, program_fails, program_meets, program_passes, silent_names_none}
+use Rattle.cli.proofs.CommandLineLaws.{faultless_has_kind, faulty_has_kind, faulty_names_none, program_fails, program_meets, program_passes, silent_names_none}
 use Rattle.cli.proofs.command_line.parse_by.Goals as goal
 
 pub returns-in_err-try_get_matches_from_mut-clause-none : goal.returns-in_err-try_get_matches_from_mut-clause-none
@@ -34,3 +34,9 @@ returns-in_ok-error-in-None-clause-none g c =
     let words = map g.S.AsStr.text c.args.words.now in
     let meets = program_meets (app_of c.args.parser.now) words _ c.requires c.in_ok-try_get_matches_from_mut.ensures.ok.2 in
     inr (silent_names_none words _ meets c.in-None.ensures)
+
+pub returns-in_ok-error-in-None-clause-kind : goal.returns-in_ok-error-in-None-clause-kind
+returns-in_ok-error-in-None-clause-kind g c =
+    let words = map g.S.AsStr.text c.args.words.now in
+    let passes = program_passes (app_of c.args.parser.now) words c.requires c.in_ok-try_get_matches_from_mut.ensures.kinds in
+    faultless_has_kind words c.in_ok-error-in-None.field-0 passes c.in_ok-error-in-None.ensures.kind

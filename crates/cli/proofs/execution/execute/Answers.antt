@@ -1,5 +1,6 @@
 use Rattle.std.proofs.Common.{arith}
 use Rattle.std.proofs.lemmas.Grind.{common_steps}
+use Rattle.cli.proofs.KeptLaws.{kept_told, misuse_told}
 use Rattle.cli.proofs.execution.execute.Goals as goal
 
 pub returns-in-Ok-clause-said : goal.returns-in-Ok-clause-said
@@ -15,7 +16,10 @@ pub returns-in-Err-clause-quiet : goal.returns-in-Err-clause-quiet
 returns-in-Err-clause-quiet g c = grind (arith, common_steps)
 
 pub returns-in-Err-clause-kept : goal.returns-in-Err-clause-kept
-returns-in-Err-clause-kept g c = grind (arith, common_steps)
+returns-in-Err-clause-kept g c = λ some. kept_told _ _ _ c.report.ensures.0 _ c.report.ensures.2 c.report.ensures.3 c.in-Err.ensures.kept
+
+pub returns-in-Err-clause-misuse : goal.returns-in-Err-clause-misuse
+returns-in-Err-clause-misuse g c = misuse_told _ _ c.report.ensures.0 _ c.report.ensures.2 c.report.ensures.3 c.in-Err.ensures.misuse
 
 pub returns-in-Err-clause-done : goal.returns-in-Err-clause-done
 returns-in-Err-clause-done g c = grind (arith, common_steps)

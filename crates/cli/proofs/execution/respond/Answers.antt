@@ -1,6 +1,7 @@
 use Rattle.std.proofs.Common.{inr, map}
 use Rattle.std.proofs.lemmas.Result.{IfErr-weaker, IfOk-weaker}
 use Rattle.cli.proofs.CommandLineLaws.{is_misuse}
+use Rattle.cli.proofs.KeptLaws.{kept_anyway, kept_by_words}
 use Rattle.cli.proofs.execution.respond.Goals as goal
 
 pub returns-in-Ok-clause-done : goal.returns-in-Ok-clause-done
@@ -8,6 +9,12 @@ returns-in-Ok-clause-done g c = IfOk-weaker c.perform.result _ _ (λ u h. inr (c
 
 pub returns-in-Ok-clause-reads : goal.returns-in-Ok-clause-reads
 returns-in-Ok-clause-reads g c = inr (c.in-Ok.command, c.in-Ok.ensures.command, c.perform.ensures.reads)
+
+pub returns-in-Ok-clause-kept : goal.returns-in-Ok-clause-kept
+returns-in-Ok-clause-kept g c = kept_by_words (map g.S.AsStr.text c.args.words.now) c.in-Ok.command c.perform.result _ _ c.in-Ok.ensures.command c.perform.ensures.kept
+
+pub returns-in-Err-clause-kept : goal.returns-in-Err-clause-kept
+returns-in-Err-clause-kept g c = kept_anyway c.answer.result _ _ c.answer.ensures.kept
 
 pub returns-in-Err-clause-misuse : goal.returns-in-Err-clause-misuse
 returns-in-Err-clause-misuse g c =

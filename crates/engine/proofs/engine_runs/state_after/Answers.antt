@@ -20,3 +20,6 @@ pub returns-in_err-turns_ungated-clause-unwritten : goal.returns-in_err-turns_un
 returns-in_err-turns_ungated-clause-unwritten g c =
     let p = err_from_is_err_and c.from_residual-in_err-turns_ungated.result c.from_residual-in_err-turns_ungated.ensures.1 in
     rw (p.1, p.2) (step_unwritten g.row.A.Denot c.in_err-turns_ungated.field-0.0)
+
+pub returns-clause-once : goal.returns-clause-once
+returns-clause-once g c = c.in_ok-engine.ensures.once

@@ -1,11 +1,13 @@
-use Rattle.std.proofs.Common.{◌≡◌, ℕ, List, length, arith, ap, sym, ◌∙◌}
+use Rattle.std.proofs.Common.{◌≡◌, ℕ, List, length, arith, ap, refl, subst, sym, ◌∙◌}
 use Rattle.std.specs.Prelude.{map}
 use Rattle.std.proofs.lemmas.List.{length-map}
 use Rattle.energy_program.specs.Programs.{program_tree}
 use Rattle.job.specs.Views.{job_value}
 use Rattle.state.specs.StateViews.{atom_view, state_view}
 use Rattle.integrator.specs.StartViews.{energy_view, ready_view}
+use Rattle.engine.specs.Engines.{SaysOnly}
 use Rattle.engine.proofs.EngineLaws.{is_safe, job_tree_is, passes, room_for_cells}
+use Rattle.engine.proofs.HeadlineTexts.{says_energy}
 use Rattle.integrator.proofs.ReturnLaws.{system_parts}
 use Rattle.engine.proofs.engines.job_motion.Goals as goal
 
@@ -16,7 +18,7 @@ returns-then-not-fits-clause-refused g c =
     record {
       system = ready_view c.in_ok-ready.ready;
       made = c.in_ok-ready.ensures.value;
-      it = passes (job_value c.args.job.now) c.in_ok-ready.ready.parts.code c.in_ok-kernel.kernel.verified c.fits.result c.bound.result c.len.result _ kernel.certified kernel.code kernel.table kernel.core kernel.cutoff c.fits.ensures c.bound.ensures count c.if-not-fits.true;
+      it = passes (job_value c.args.job.now) c.in_ok-ready.ready.parts.code c.in_ok-kernel.kernel.verified c.fits.result c.bound.result c.len.result _ kernel.certified kernel.code kernel.table kernel.core kernel.cutoff c.fits.ensures c.bound.ensures count c.if-not-fits.true kernel.bound;
     }
 
 pub motion-requires-clause-energy : goal.motion-requires-clause-energy
@@ -37,5 +39,14 @@ returns-clause-of g c =
       system = ready_view c.in_ok-ready.ready;
       made = c.in_ok-ready.ensures.value;
       is = ap (λ (t : List ℕ). record { job = job_value c.args.job.now; types = t; state = state_view c.args.state.now }) c.motion.ensures.types;
-      safe = is_safe (job_value c.args.job.now) c.in_ok-ready.ready.parts.code c.in_ok-kernel.kernel.verified c.fits.result c.bound.result c.len.result _ kernel.certified kernel.code kernel.table kernel.core kernel.cutoff c.fits.ensures c.bound.ensures count c.if-not-fits.false;
+      safe = is_safe (job_value c.args.job.now) c.in_ok-ready.ready.parts.code c.in_ok-kernel.kernel.verified c.fits.result c.bound.result c.len.result _ kernel.certified kernel.code kernel.table kernel.core kernel.cutoff c.fits.ensures c.bound.ensures count c.if-not-fits.false kernel.bound;
     }
+
+-- the slope's parts hold the program of the energy's text
+pub returns-clause-says : goal.returns-clause-says
+returns-clause-says g c =
+    let j = job_value c.args.job.now in
+    let parts = c.in_ok-ready.ready.parts in
+    let energy = energy_view parts in
+    let read = (system_parts j (state_view c.args.state.now) (ready_view c.in_ok-ready.ready) c.in_ok-ready.ensures.value).energy_read in
+    subst (SaysOnly j) (sym (job_tree_is j energy read)) (says_energy j energy parts.energy read refl)

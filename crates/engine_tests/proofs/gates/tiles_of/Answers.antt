@@ -3,4 +3,4 @@ use Rattle.engine_tests.proofs.gates.tiles_of.Goals as goal
 pub invariant_of-alone-inside-2 : goal.invariant_of-alone-inside-2
 invariant_of-alone-inside-2 g c =
     let kernel = c.alone-2.inside.motion.system.kernel in
-    record { same_code = kernel.same_code; flattened = kernel.flattened; bounded = kernel.bounded; gives = kernel.gives }
+    record { flattened = kernel.flattened; free = kernel.free; bounded = kernel.bounded; gives = kernel.gives }

@@ -1,5 +1,5 @@
 use Rattle.verifier.specs.Slices.{goes_on, jumps}
-use Rattle.verifier.proofs.Passing.{same_ends, not_member, is_member, may_jump_copied}
+use Rattle.verifier.proofs.Passing.{same_ends, other_ends, not_member, is_member, may_jump_copied}
 use Rattle.verifier.proofs.places.branch.Goals as goal
 
 pub returns-then-not-contains-clause-branches : goal.returns-then-not-contains-clause-branches
@@ -11,4 +11,4 @@ returns-then-eq-clause-branches g c = jumps c.pop-span.ensures.pops (is_member _
 pub returns-in_ok-copy-clause-branches : goal.returns-in_ok-copy-clause-branches
 returns-in_ok-copy-clause-branches g c =
     may_jump_copied c.args.next c.args.target c.pop-span.result c.args.frame c.pop-span.new.self c.in_ok-copy.field-0 c.args.places.now c.join-else-eq.new.self c.join-else-eq-2.new.self c.pop-span.ensures.pops c.in_ok-copy.ensures
-    (is_member _ _ _ c.contains.ensures c.from_raw.ensures c.if-not-contains.false) c.join-else-eq.ensures c.join-else-eq-2.ensures
+    (is_member _ _ _ c.contains.ensures c.from_raw.ensures c.if-not-contains.false) (other_ends _ _ c.if-eq.ensures) c.join-else-eq.ensures c.join-else-eq-2.ensures

@@ -2,6 +2,7 @@ use Rattle.std.proofs.Common.{◌∙◌}
 use Rattle.fixed.specs.Fractions.{bits_of}
 use Rattle.verifier.proofs.Passing.{comes_first}
 use Rattle.verifier.proofs.Attaining.{first_attained, first_meets}
+use Rattle.verifier.proofs.Standing.{is_start, stands_first}
 use Rattle.verifier.proofs.slices.follow_slice.Goals as goal
 
 pub join-requires-clause-meet : goal.join-requires-clause-meet
@@ -11,5 +12,6 @@ pub loop-here-init : goal.loop-here-init
 loop-here-init g c = record {
   long = c.join.ensures.long ∙ c.clear.ensures.long;
   attained = first_attained c.args.code.now _ c.requires.well.0 c.args.locals c.in-Ok.start c.clear.new.places c.join.new.self c.requires.well.1 c.requires.locals c.clear.ensures.none c.in-Ok.ensures c.join.ensures;
+  stands = stands_first (bits_of c.args.frac) c.args.code.now c.args.inputs.now c.in-Ok.start c.clear.new.places c.join.new.self (is_start c.args.locals c.in-Ok.start c.in-Ok.ensures) c.clear.ensures.none c.join.ensures;
   comes = comes_first (bits_of c.args.frac) c.args.code.now c.args.inputs.now c.args.locals c.in-Ok.start c.clear.new.places c.join.new.self c.in-Ok.ensures c.join.ensures;
 }

@@ -2,7 +2,10 @@ use Rattle.std.proofs.Common.{arith, refl, length, ◌∙◌, ◌+◌, ap, inl, 
 use Rattle.std.proofs.lemmas.Option.{slice_get_read}
 use Rattle.fixed.specs.Fractions.{bits_of}
 use Rattle.kernel_code.specs.declared.instructions.Instr.TheVariants.{JumpIfZero, Jump}
-use Rattle.verifier.proofs.Following.{on_ok}
+use Rattle.std.proofs.lemmas.Result.{IfErr-weaker, err_from_is_err_and}
+use Rattle.verifier.specs.Places.{Stops, StopsAt}
+use Rattle.verifier.proofs.Following.{on_ok, stop_memory, stop_weaker}
+use Rattle.verifier.proofs.Standing.{stands_branch, stands_jump, stands_past, stands_plain, stops_at}
 use Rattle.verifier.proofs.Passing.{jump_within, branch_within, comes_on, passes_jump, passes_branch, passes_plain, joins_loses, branches_loses}
 use Rattle.verifier.proofs.Attaining.{past_attained, is_plain, at_hand, plain_meets, plain_attained, jump_meets, jump_attained, branch_meets, branch_attained}
 use Rattle.verifier.proofs.slices.pass.Goals as goal
@@ -12,7 +15,15 @@ use Rattle.verifier.proofs.slices.pass.Goals as goal
 pub returns-in_default-clause-attained : goal.returns-in_default-clause-attained
 returns-in_default-clause-attained g c = past_attained c.args.code.now c.args.here c.args.places.now c.take.new.self c.requires.attained c.in_default.ensures
 
+pub returns-in_default-clause-stands : goal.returns-in_default-clause-stands
+returns-in_default-clause-stands g c = stands_past (bits_of c.args.frac) c.args.code.now c.args.inputs.now c.args.here c.args.places.now c.take.new.self c.requires.stands c.in_default.ensures
+
 -- ---- a jump
+
+pub returns-in-Jump-clause-stands : goal.returns-in-Jump-clause-stands
+returns-in-Jump-clause-stands g c =
+    let there = slice_get_read c.args.code.now (length c.args.code.now) c.args.here c.index-code-here.result refl c.requires.within c.index-code-here.is in
+    stands_jump (bits_of c.args.frac) c.args.code.now c.args.inputs.now c.args.here c.in-Jump.target c.in-Some.frame c.args.places.now c.take.new.self c.join.new.self c.requires.stands c.in-Some.ensures (there ∙ ap Some c.in-Jump.is) c.join.ensures
 
 pub join-requires-clause-place : goal.join-requires-clause-place
 join-requires-clause-place g c =
@@ -72,7 +83,25 @@ returns-in-JumpIfZero-clause-attained g c =
     on_ok c.branch-alloc.result _ _ c.branch-alloc.ensures.branches (λ b.
     branch_attained c.args.code.now (length c.args.inputs.now) c.requires.well.0 c.args.here c.in-JumpIfZero.target c.in-Some.frame c.args.places.now c.take.new.self c.branch-alloc.new.places c.requires.well.1 c.requires.attained c.in-Some.ensures (there ∙ ap Some c.in-JumpIfZero.is) b)
 
+pub returns-in-JumpIfZero-clause-stands : goal.returns-in-JumpIfZero-clause-stands
+returns-in-JumpIfZero-clause-stands g c =
+    let there = slice_get_read c.args.code.now (length c.args.code.now) c.args.here c.index-code-here.result refl c.requires.within c.index-code-here.is in
+    on_ok c.branch-alloc.result _ _ c.branch-alloc.ensures.branches (λ b.
+    stands_branch (bits_of c.args.frac) c.args.code.now c.args.inputs.now c.args.here c.in-JumpIfZero.target c.in-Some.frame c.args.places.now c.take.new.self c.branch-alloc.new.places c.requires.stands c.in-Some.ensures (there ∙ ap Some c.in-JumpIfZero.is) b)
+
+pub returns-in-JumpIfZero-clause-stops : goal.returns-in-JumpIfZero-clause-stops
+returns-in-JumpIfZero-clause-stops g c = IfErr-weaker c.branch-alloc.result _ _ (λ e same. stop_memory _ e same) c.branch-alloc.ensures.memory
+
 -- ---- any other
+
+pub returns-in_err-follow-in_default-instr-clause-stops : goal.returns-in_err-follow-in_default-instr-clause-stops
+returns-in_err-follow-in_default-instr-clause-stops g c =
+    let there = slice_get_read c.args.code.now (length c.args.code.now) c.args.here c.index-code-here.result refl c.requires.within c.index-code-here.is in
+    let p = err_from_is_err_and c.from_residual.result c.from_residual.ensures.1 in
+    rw (p.1, p.2)
+    (stop_weaker (Stops (bits_of c.args.frac) c.index-code-here.result c.in-Some.frame) (StopsAt (bits_of c.args.frac) c.args.code.now c.args.inputs.now c.args.here) c.in_err-follow-in_default-instr.field-0.0
+    (λ f x. stops_at (bits_of c.args.frac) c.args.code.now c.args.inputs.now c.args.here c.index-code-here.result f c.in-Some.frame c.args.places.now c.take.new.self c.requires.stands c.in-Some.ensures there x)
+    c.in_err-follow-in_default-instr.ensures.stops)
 
 pub follow-requires-clause-at_hand : goal.follow-requires-clause-at_hand
 follow-requires-clause-at_hand g c =
@@ -83,7 +112,7 @@ pub join-requires-in_default-instr-clause-meet : goal.join-requires-in_default-i
 join-requires-in_default-instr-clause-meet g c =
     let there = slice_get_read c.args.code.now (length c.args.code.now) c.args.here c.index-code-here.result refl c.requires.within c.index-code-here.is in
     plain_meets (bits_of c.args.frac) c.args.code.now c.args.inputs.now c.requires.well.0 c.args.here c.index-code-here.result c.in-Some.frame c.follow.new.frame c.args.places.now c.take.new.self c.requires.well.1 c.requires.attained c.in-Some.ensures there
-    (is_plain _ c.in_default-instr.not-JumpIfZero c.in_default-instr.not-Jump) c.in_ok-follow-in_default-instr.ensures
+    (is_plain _ c.in_default-instr.not-JumpIfZero c.in_default-instr.not-Jump) c.in_ok-follow-in_default-instr.ensures.follows
 
 pub returns-in_ok-follow-in_default-instr : goal.returns-in_ok-follow-in_default-instr
 returns-in_ok-follow-in_default-instr g c =
@@ -91,8 +120,11 @@ returns-in_ok-follow-in_default-instr g c =
     let j = c.join-in_default-instr.ensures in
     record {
       on = comes_on (bits_of c.args.frac) c.args.code.now c.args.inputs.now c.args.here c.index-code-here.result c.in-Some.frame c.args.places.now c.take.new.self c.join-in_default-instr.new.self c.requires.code c.requires.comes there
-          c.in-Some.ensures (passes_plain _ _ _ _ _ c.follow.new.frame _ c.take.new.self _ c.in_ok-follow-in_default-instr.ensures j) (joins_loses _ _ _ _ j);
+          c.in-Some.ensures (passes_plain _ _ _ _ _ c.follow.new.frame _ c.take.new.self _ c.in_ok-follow-in_default-instr.ensures.follows j) (joins_loses _ _ _ _ j);
       attained = plain_attained (bits_of c.args.frac) c.args.code.now c.args.inputs.now c.requires.well.0 c.args.here c.index-code-here.result c.in-Some.frame c.follow.new.frame c.args.places.now c.take.new.self c.join-in_default-instr.new.self c.requires.well.1 c.requires.attained c.in-Some.ensures there
-          (is_plain _ c.in_default-instr.not-JumpIfZero c.in_default-instr.not-Jump) c.in_ok-follow-in_default-instr.ensures j;
+          (is_plain _ c.in_default-instr.not-JumpIfZero c.in_default-instr.not-Jump) c.in_ok-follow-in_default-instr.ensures.follows j;
+      stands = stands_plain (bits_of c.args.frac) c.args.code.now c.args.inputs.now c.args.here c.index-code-here.result c.in-Some.frame c.follow.new.frame c.args.places.now c.take.new.self c.join-in_default-instr.new.self c.requires.stands c.in-Some.ensures there
+          (is_plain _ c.in_default-instr.not-JumpIfZero c.in_default-instr.not-Jump) c.in_ok-follow-in_default-instr.ensures.behind j;
+      stops = tt;
       long = j.long ∙ c.take.ensures.long ∙ c.requires.long;
     }

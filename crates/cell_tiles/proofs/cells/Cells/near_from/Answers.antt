@@ -1,11 +1,11 @@
-use Rattle.std.proofs.Common.{◌≡◌, arith, inl, inr, length, sym, ◌∙◌}
+use Rattle.std.proofs.Common.{◌≡◌, [], ap, arith, drop, get_or, inl, inr, length, sym, take, ◌∙◌}
 use Rattle.std.proofs.lemmas.Bool.{cases_lt}
 use Rattle.std.proofs.lemmas.List.{length-map}
 use Rattle.std.proofs.lemmas.Grind.{common_steps}
 use Rattle.cell_tiles.specs.Cells.{cell_number, places_of}
 use Rattle.cell_tiles.specs.Near.{IsPairOf, act}
 use Rattle.cell_tiles.specs.Tiles.{members_at, pair_of, pairs_in, pairs_with}
-use Rattle.cell_tiles.proofs.NearLemmas.{come_past, members_lie, part_lies, row_all, row_fits, row_passed}
+use Rattle.cell_tiles.proofs.NearLemmas.{come_past, members_lie, part_lies, part_places, places_at, row_all, row_fits, row_passed}
 use Rattle.cell_tiles.proofs.cells.Cells.near_from.Goals as goal
 
 pub list_row-seen-requires-clause-others : goal.list_row-seen-requires-clause-others
@@ -13,7 +13,26 @@ list_row-seen-requires-clause-others g c =
     let cells = c.args.self.now in
     let frame = c.args.frame.now.places.now in
     let lie = rw (← c.requires.members) at (members_lie cells.bits frame c.args.tile.second c.requires.cell) in
-    part_lies (λ b. cell_number cells.bits (places_of frame b) ≡ c.args.tile.second) c.in-Some.row.others.now (members_at cells.members c.args.tile.second) (rw c.loop-next.invariant.others at c.in-Some.ensures.part) lie
+    let row = c.in-Some.row in
+    part_lies (λ b. cell_number cells.bits (places_of frame b) ≡ c.args.tile.second) row.others.now (members_at cells.members c.args.tile.second) row.column (length row.others.now) (rw c.loop-next.invariant.others at c.in-Some.ensures.part) lie
+
+pub places_beside-beside-requires : goal.places_beside-beside-requires
+places_beside-beside-requires g c =
+    let cells = c.args.self.now in
+    let frame = c.args.frame.now.places.now in
+    let there = c.places-places.ensures ∙ (ap (λ ps. get_or ps c.args.tile.second []) c.requires.beside ∙ places_at (places_of frame) cells.members c.args.tile.second) in
+    let within = rw c.loop-next.invariant.others at c.in-Some.ensures.within in
+    omega (arith, within, ap length there, length-map (members_at cells.members c.args.tile.second) (places_of frame))
+
+pub list_row-seen-requires-clause-beside : goal.list_row-seen-requires-clause-beside
+list_row-seen-requires-clause-beside g c =
+    let cells = c.args.self.now in
+    let frame = c.args.frame.now.places.now in
+    let row = c.in-Some.row in
+    let there = c.places-places.ensures ∙ (ap (λ ps. get_or ps c.args.tile.second []) c.requires.beside ∙ places_at (places_of frame) cells.members c.args.tile.second) in
+    c.places_beside-beside.ensures
+    ∙ (ap (λ ps. take (length row.others.now) (drop row.column ps)) there
+    ∙ part_places (places_of frame) row.others.now (members_at cells.members c.args.tile.second) row.column (length row.others.now) (rw c.loop-next.invariant.others at c.in-Some.ensures.part))
 
 pub list_row-seen-requires-clause-pairs : goal.list_row-seen-requires-clause-pairs
 list_row-seen-requires-clause-pairs g c =

@@ -1,9 +1,11 @@
-use Rattle.std.proofs.Common.{rules, ◌≡◌, ℕ, ◌<◌, arith, ap, subst, sym, ◌∙◌, length, length-set, get_or}
-use Rattle.std.specs.Prelude.{IsTrue}
+use Rattle.std.proofs.Common.{rules, ◌≡◌, ℕ, ◌<◌, [], arith, ap, subst, sym, ◌∙◌, length, length-set, get_or}
+use Rattle.std.specs.Prelude.{IsTrue, None}
 use Rattle.std.proofs.lemmas.List.{get_or-map, length-map, take-set}
 use Rattle.std.proofs.lemmas.List.Elements.{All-get_or}
 use Rattle.std.proofs.lemmas.Grind.{common_steps}
+use Rattle.ring_box.specs.Acting.{acting_of}
 use Rattle.ring_box.specs.Cells.{ArePlaces}
+use Rattle.cell_tiles.specs.Cells.{places_of}
 use Rattle.cell_tiles.specs.declared.pairs.AtomPair.{AtomPair}
 use Rattle.cell_tiles.specs.Near.{IsPairOf, act}
 use Rattle.cell_tiles.specs.Tiles.{pair_of, pairs_with}
@@ -14,8 +16,8 @@ use Rattle.cell_tiles.proofs.near.NearPairs.list.Goals.{then-not-is_far, else-no
 pub bounds-frame-atom : goal.bounds-frame-atom
 bounds-frame-atom c = first_inside (length c.args.frame.now.places.now) c.args.atom c.args.others.now 0 c.requires.pairs c.requires.there
 
-pub bounds-frame-other : goal.bounds-frame-other
-bounds-frame-other c = second_inside (length c.args.frame.now.places.now) c.args.atom c.args.others.now c.loop-j.j c.requires.pairs c.loop-j-test.true
+pub bounds-places-j : goal.bounds-places-j
+bounds-places-j c = omega (arith, ap length c.requires.beside, length-map c.args.others.now (places_of c.args.frame.now.places.now), c.loop-j-test.true)
 
 pub loop-j-preserved : goal.loop-j-preserved
 loop-j-preserved c =
@@ -48,7 +50,10 @@ loop-j-preserved c =
           let told : IsTrue c.is_far.result = search rules in
           let first : ArePlaces (get_or frame a _) = All-get_or ArePlaces frame a _ (first_inside (length frame) a others j c.requires.pairs c.loop-j-test.true) c.requires.places in
           let second : ArePlaces (get_or frame other _) = All-get_or ArePlaces frame other _ (second_inside (length frame) a others j c.requires.pairs c.loop-j-test.true) c.requires.places in
-          let idle = ap (act d b frame) here ∙ pair_idle d b frame a other first second (c.is_far.ensures told) in
+          let beside : get_or c.args.places.now j [] ≡ places_of frame other =
+          ap (λ zs. get_or zs j []) c.requires.beside ∙ get_or-map (places_of frame) others j 0 [] c.loop-j-test.true in
+          let apart : acting_of d b (places_of frame a) (places_of frame other) ≡ None = subst (λ y. acting_of d b (places_of frame a) y ≡ None) beside (c.is_far.ensures told) in
+          let idle = ap (act d b frame) here ∙ pair_idle d b frame a other first second apart in
           record {
             acting = rw w.count-is (passed_next (act d b frame) pair xs x count c.args.self.now ps j lt idle kept.acting);
             listed = λ all. rw (w.count-is, take-set xs count x) (kept.listed all);

@@ -25,9 +25,8 @@ arrive-requires-clause-turned g c =
     let i = c.self.inside in
     let from = c.in_ok-course.course in
     let to = c.turns_pooled-done.new.course in
-    rw (← c.self.view_is)
-    (turned_along c.args.direction (safe_dynamics i.motion.system) (engine_dynamics (engine_view i.job i.state i.motion.system)) c.turns_pooled-done.result
-    from.before.items from.middle.items to.before.items to.middle.items (frames_of (state_view i.state)) c.self.invariant.dynamics c.in_ok-course.ensures.frames c.turns_pooled-done.ensures.value)
+    turned_along c.args.direction (safe_dynamics i.motion.system) (engine_dynamics (engine_view i.job i.state i.motion.system)) c.turns_pooled-done.result
+    from.before.items from.middle.items to.before.items to.middle.items (frames_of (state_view i.state)) c.self.invariant.0.dynamics c.in_ok-course.ensures.frames c.turns_pooled-done.ensures.value
 
 pub returns-in_err-scratches-clause-stopped : goal.returns-in_err-scratches-clause-stopped
 returns-in_err-scratches-clause-stopped g c =
@@ -37,3 +36,9 @@ returns-in_err-scratches-clause-stopped g c =
     rw (p.1, p.2, ← c.self.view_is)
     (unstarted c.args.direction c.args.steps (engine_view i.job i.state i.motion.system) c.in_err-scratches.field-0.0 (in_range_is i.state.step signed.sfits)
     (subst (IsUnstarted c.args.direction c.args.steps i.state.step) (sym c.in_err-scratches.ensures.refused) refl))
+
+pub returns-clause-went : goal.returns-clause-went
+returns-clause-went g c = rw (← c.self.view_is) c.arrive.ensures.went
+
+pub returns-clause-stopped : goal.returns-clause-stopped
+returns-clause-stopped g c = rw (← c.self.view_is) c.arrive.ensures.stopped

@@ -2,8 +2,8 @@ use Rattle.std.proofs.Common.{ℕ, ap, sym, ◌∙◌, length, arith}
 use Rattle.cell_tiles.proofs.CoverLemmas.{covers}
 use Rattle.cell_tiles.specs.Cells.{members_of}
 use Rattle.cell_tiles.specs.Tiles.{pairs_in}
-use Rattle.engine.proofs.RowLaws.{near_adds}
-use Rattle.engine.proofs.TileLaws.{listed_pairs, tile_length, tile_planned}
+use Rattle.engine.proofs.RowLaws.{near_found, next_add}
+use Rattle.engine.proofs.TileLaws.{listed_pairs, tile_length, tile_listed, tile_planned}
 use Rattle.engine.specs.Rounds.{grid_of}
 use Rattle.engine.proofs.frame_works.FrameWork.find.Goals as goal
 
@@ -30,10 +30,23 @@ near_from-next-requires-clause-pairs g c =
 pub find_all-requires-clause-pairs : goal.find_all-requires-clause-pairs
 find_all-requires-clause-pairs g c = rw c.as_slice.ensures.value c.near_from-next.ensures.listed
 
+pub returns-clause-sieved : goal.returns-clause-sieved
+returns-clause-sieved g c =
+    let w = c.args.self.now in
+    let s = w.motion.now.system in
+    let tile : ℕ × ℕ = (c.get.result.first, c.get.result.second) in
+    let listed = tile_listed s w.frame.now c.args.tile tile (rw w.grid at c.get.ensures.value) in
+    rw listed
+    (near_found s w.frame.now (pairs_in (members_of (grid_of s) w.frame.now) tile) c.near_from-next.new.near c.args.k c.near_from-next.result c.find_all.new.found.items
+    (rw (w.members, c.reach-reach.ensures) at c.near_from-next.ensures.near) (rw c.as_slice.ensures.value at c.find_all.ensures.value))
+
 pub returns-clause-next : goal.returns-clause-next
 returns-clause-next g c =
     let w = c.args.self.now in
     let s = w.motion.now.system in
     let tile : ℕ × ℕ = (c.get.result.first, c.get.result.second) in
     let planned = tile_planned s w.frame.now c.args.tile tile (rw w.grid at c.get.ensures.value) in
-    rw planned (near_adds s w.frame.now (pairs_in (members_of (grid_of s) w.frame.now) tile) c.near_from-next.new.near c.args.k c.near_from-next.result c.find_all.new.found.items (rw (w.members, c.reach-reach.ensures) at c.near_from-next.ensures.near) (rw c.as_slice.ensures.value at c.find_all.ensures.value))
+    rw planned
+    (next_add s w.frame.now (pairs_in (members_of (grid_of s) w.frame.now) tile) c.args.k c.near_from-next.result c.find_all.new.found.items
+    (near_found s w.frame.now (pairs_in (members_of (grid_of s) w.frame.now) tile) c.near_from-next.new.near c.args.k c.near_from-next.result c.find_all.new.found.items
+    (rw (w.members, c.reach-reach.ensures) at c.near_from-next.ensures.near) (rw c.as_slice.ensures.value at c.find_all.ensures.value)))

@@ -2,8 +2,9 @@ use Rattle.std.proofs.Common.{◌≡◌, ◌<◌, List, [], ◌∷◌, ◌++◌,
 use Rattle.std.specs.Prelude.{slice_get}
 use Rattle.interval_domain.specs.declared.span.Span.{Span}
 use Rattle.kernel_code.specs.Tables.{Table, inputs_of}
+use Rattle.verifier.specs.Safety.{input_count}
 use Rattle.verifier.specs.Searches.{Searched}
-use Rattle.verifier.proofs.Inputs.{input_there, hold_first, hold_more, hold_all}
+use Rattle.verifier.proofs.Inputs.{input_there, hold_first, hold_more, hold_all, input_spans}
 use Rattle.verifier.proofs.searches.Search.input_spans.Goals as goal
 
 pub loop-number-init : goal.loop-number-init
@@ -30,5 +31,8 @@ returns g c =
     let table = ap (λ (s : Searched). s.table) c.self.view_is in
     let parameters = ap (λ (t : Table). t.parameters) table in
     let globals = ap (λ (t : Table). length t.globals) table in
-    hold_all c.args.self.now.table c.args.pair.first c.args.pair.second c.loop-number.number c.args.distances.now c.loop-number.spans.items c.loop-number.invariant
-    (omega (arith, c.loop-number-test.false, c.loop-number.auto.number-end, c.parameters.ensures.value, c.globals.ensures.value, parameters, globals))
+    let count : c.loop-number.number ≡ input_count c.args.self.now.table = omega (arith, c.loop-number-test.false, c.loop-number.auto.number-end, c.parameters.ensures.value, c.globals.ensures.value, parameters, globals) in
+    record {
+      held = hold_all c.args.self.now.table c.args.pair.first c.args.pair.second c.loop-number.number c.args.distances.now c.loop-number.spans.items c.loop-number.invariant count;
+      spans = input_spans c.args.self.now.table c.args.pair.first c.args.pair.second c.loop-number.number c.args.distances.now c.loop-number.spans.items c.loop-number.invariant count;
+    }

@@ -1,20 +1,46 @@
 use Rattle.std.proofs.Common.{sym, ap, subst}
 use Rattle.kernel_code.specs.Tables.{Table}
+use Rattle.std.proofs.lemmas.Result.{err_from_is_err_and}
+use Rattle.fixed.specs.Fractions.{bits_of}
+use Rattle.verifier.specs.Places.{StopsAt}
+use Rattle.verifier.specs.Verdicts.{AreInputSpans, IsBounded, IsStopped}
+use Rattle.verifier.specs.Stopping.{IsStopAt}
 use Rattle.verifier.specs.Searches.{Searched, HoldInputs, IsSafeAt}
 use Rattle.verifier.proofs.Inputs.{well_held}
-use Rattle.verifier.proofs.Judging.{safe_slice}
+use Rattle.verifier.proofs.Judging.{safe_slice, stop_at_weaker}
 use Rattle.verifier.proofs.searches.Search.try_slice.Goals as goal
 
 pub follow_slice-requires-clause-well : goal.follow_slice-requires-clause-well
 follow_slice-requires-clause-well g c =
     let table = ap (λ (s : Searched). s.table) c.self.view_is in
-    let held = subst (λ (t : Table). HoldInputs t c.args.pair.first c.args.pair.second c.args.distances.now c.in-Ok.inputs.items) (sym table) c.in-Ok.ensures in
+    let held = subst (λ (t : Table). HoldInputs t c.args.pair.first c.args.pair.second c.args.distances.now c.in-Ok.inputs.items) (sym table) c.in-Ok.ensures.held in
     rw (c.as_slice-code.ensures.items, c.as_slice-inputs.ensures.value) (well_held c.self.inside.code.now c.self.inside.table.now c.args.pair.first c.args.pair.second c.args.distances.now c.in-Ok.inputs.items held c.self.invariant.well)
 
 pub returns-clause-safe : goal.returns-clause-safe
 returns-clause-safe g c =
     let table = ap (λ (s : Searched). s.table) c.self.view_is in
-    let held = subst (λ (t : Table). HoldInputs t c.args.pair.first c.args.pair.second c.args.distances.now c.in-Ok.inputs.items) (sym table) c.in-Ok.ensures in
+    let held = subst (λ (t : Table). HoldInputs t c.args.pair.first c.args.pair.second c.args.distances.now c.in-Ok.inputs.items) (sym table) c.in-Ok.ensures.held in
     let given = rw (c.frac-frac.ensures, c.as_slice-code.ensures.items, c.as_slice-inputs.ensures.value) at c.in_ok-span.ensures.span in
     subst (λ (s : Searched). IsSafeAt s.code s.table c.args.pair.first c.args.pair.second c.args.distances.now c.greatest.result) c.self.view_is
     (safe_slice c.self.inside.code.now c.self.inside.table.now c.args.pair.first c.args.pair.second c.args.distances.now c.in-Ok.inputs.items c.in_ok-span.span c.greatest.result given held c.greatest.ensures)
+
+pub returns-clause-bounded : goal.returns-clause-bounded
+returns-clause-bounded g c =
+    let table = ap (λ (s : Searched). s.table) c.self.view_is in
+    let spans = subst (λ (t : Table). AreInputSpans t c.args.pair.first c.args.pair.second c.args.distances.now c.in-Ok.inputs.items) (sym table) c.in-Ok.ensures.spans in
+    let given = rw (c.frac-frac.ensures, c.as_slice-code.ensures.items, c.as_slice-inputs.ensures.value) at c.in_ok-span.ensures.gives in
+    subst (λ (s : Searched). IsBounded s.code s.table c.args.pair.first c.args.pair.second c.args.distances.now c.greatest.result) c.self.view_is
+    (record { spans = c.in-Ok.inputs.items; inputs = spans; result = c.in_ok-span.span; gives = given; bound' = c.greatest.ensures })
+
+pub returns-in_err-span-clause-stopped : goal.returns-in_err-span-clause-stopped
+returns-in_err-span-clause-stopped g c =
+    let table = ap (λ (s : Searched). s.table) c.self.view_is in
+    let spans = subst (λ (t : Table). AreInputSpans t c.args.pair.first c.args.pair.second c.args.distances.now c.in-Ok.inputs.items) (sym table) c.in-Ok.ensures.spans in
+    let code = c.self.inside.code.now in
+    let t = c.self.inside.table.now in
+    let stops = rw (c.frac-frac.ensures, c.as_slice-code.ensures.items, c.as_slice-inputs.ensures.value) at c.in_err-span.ensures.stops in
+    let p = err_from_is_err_and c.from_residual.result c.from_residual.ensures.1 in
+    rw (p.1, p.2)
+    (subst (λ (s : Searched). IsStopAt (IsStopped s.code s.table c.args.pair.first c.args.pair.second c.args.distances.now) c.in_err-span.field-0.0) c.self.view_is
+    (stop_at_weaker (StopsAt (bits_of t.frac) code c.in-Ok.inputs.items) (IsStopped code t c.args.pair.first c.args.pair.second c.args.distances.now) c.in_err-span.field-0.0
+    (λ pc f x. record { spans = c.in-Ok.inputs.items; inputs = spans; stops = x }) stops))

@@ -1,0 +1,195 @@
+-- The energy of a frame over its tiles is that over all pairs.
+use Rattle.std.proofs.Common.{◌≡◌, ℕ, zero, suc, ◌*◌, ◌^◌, ◌<◌, ◌≤◌, Bool, true, false, List, [], ◌∷◌, length, map, take, sum_by, ℤ, pos, ◌+ℤ◌, Option, Some, None, Ok, arith, refl, ap, ap₂, sym, ◌∙◌}
+use Rattle.std.specs.Prelude.{◌≤ℤ◌, ◌<ℤ◌, if◌then◌else◌, option_map, slice_index, unsigned_abs, unwrap_or}
+use Rattle.std.specs.List.{All}
+use Rattle.std.proofs.lemmas.Int.{ints}
+use Rattle.std.proofs.lemmas.List.{length-append}
+use Rattle.std.proofs.lemmas.List.Sums.{sum_by-cons}
+use Rattle.fixed.specs.Fractions.{bits_of}
+use Rattle.energy_program.specs.Programs.{program_tree}
+use Rattle.energy_program.specs.Tree.{Tree}
+use Rattle.energy_program.specs.Value.{value_of}
+use Rattle.kernel_code.specs.Machine.{Ends}
+use Rattle.kernel_code.specs.Tables.{Table, inputs_of}
+use Rattle.kernel_lanes.specs.Lanes.{IsServed}
+use Rattle.kernel_lanes.specs.declared.asks.Ask.{Ask}
+use Rattle.verifier.specs.Kernels.{IsKernel, Kernel}
+use Rattle.cell_tiles.specs.Cells.{IsGrid}
+use Rattle.cell_tiles.specs.Cover.{are_close}
+use Rattle.cell_tiles.specs.Tiles.{tile_pairs}
+use Rattle.cell_tiles.proofs.SumLemmas.{sums_as_all}
+use Rattle.ring_box.specs.Acting.{between}
+use Rattle.ring_box.specs.Cells.{ArePlaces, NearAreNeighbours}
+use Rattle.ring_box.specs.Distances.{is_near, square_of}
+use Rattle.ring_box.specs.Forces.{acting_distance_of, taken_distance_of}
+use Rattle.tile_round.specs.Tiles.{acting}
+use Rattle.integrator.proofs.ForceLaws.{ArePairsOf, frame_pairs, pairs_parts}
+use Rattle.integrator.specs.Forces.{pairs_from, pairs_of, pairs_with}
+use Rattle.integrator.specs.Frames.{places_of}
+use Rattle.integrator.specs.Kernels.{is_small}
+use Rattle.integrator.specs.declared.systems.System.{System}
+use Rattle.engine.proofs.EnergySumLaws.{over_append, over_tiles}
+use Rattle.engine.proofs.SafeLaws.{HasNumber, in_range, is_small_value, small_parts}
+use Rattle.engine.proofs.TileLaws.{are_pairs, far_apart}
+use Rattle.engine.specs.EnergySums.{sum_over}
+use Rattle.engine.specs.PairEnergies.{energy_at, energy_sum, pair_energy, plus_energy}
+use Rattle.engine.specs.Rounds.{grid_of}
+use Rattle.engine.specs.Rows.{AreNextFound, ask_of, found_of}
+use Rattle.engine.specs.SafeEnergies.{AreEnergies, HasEnergies, IsEnergyFor, energy_at_types, energy_between, found_energy, safe_value}
+use Rattle.engine.specs.SafeKernels.{IsAccepted, safe_dynamics}
+use Rattle.engine.specs.declared.rows.FoundPair.{FoundPair}
+use Rattle.engine.specs.declared.safe_kernels.SafeKernel.{SafeKernel}
+
+-- ---- how many pairs there are
+
+length_row : (i j m : ℕ) → length (pairs_with i j m) ≡ m
+unfolding pairs_with
+length_row i j zero = refl
+length_row i j (suc m) = let rest : length (pairs_with i (suc j) m) ≡ m = length_row i (suc j) m in omega arith
+
+few_pairs : (i m : ℕ) → m ≤ 65536 → length (pairs_from i m) ≤ m * 65536
+unfolding pairs_from
+few_pairs i zero h = omega arith
+few_pairs i (suc m) h =
+    let rest : length (pairs_from (suc i) m) ≤ m * 65536 = few_pairs (suc i) m (omega arith) in
+    omega (arith, length-append (pairs_with i (suc i) m) (pairs_from (suc i) m), length_row i (suc i) m)
+
+-- ---- accepted code of the energy
+
+-- it gives every two types an energy
+small_energies : (k : Kernel) (energy : Tree) → IsKernel k → k.bound < 2 ^ 64
+    → ((a b : ℕ) (r : ℤ) (n : ℕ) (v : ℤ) → a < length k.table.rows → b < length k.table.rows → Ends (bits_of k.table.frac) k.code (inputs_of k.table a b r) n (Ok v) → value_of (bits_of k.table.frac) (inputs_of k.table a b r) energy ≡ Some v)
+    → (a b : ℕ) (r : ℤ) → a < length k.table.rows → b < length k.table.rows → k.core ≤ℤ r → r <ℤ k.cutoff → is_small (2 ^ 64) (value_of (bits_of k.table.frac) (inputs_of k.table a b r) energy) ≡ true
+small_energies k energy certified few gives a b r first second low high =
+    let g = certified.each a b r first second low high in
+    is_small_value (2 ^ 64) (value_of (bits_of k.table.frac) (inputs_of k.table a b r) energy) g.value (gives a b r g.n g.value first second g.ends) (omega (arith, few, g.small))
+
+told : (o rest : Option ℤ) (v z : ℤ) → o ≡ Some v → rest ≡ Some z → plus_energy o rest ≡ Some (unwrap_or o (pos 0) +ℤ z)
+told o rest v z is are = rw (is, are) refl
+
+magnitude : (o : Option ℤ) (v : ℤ) (b : ℕ) → o ≡ Some v → unsigned_abs v ≤ b → unsigned_abs (unwrap_or o (pos 0)) ≤ b
+magnitude o v b is small = rw is small
+
+module _ {A : Type 0} (s : System (SafeKernel A) A) where
+  abbrev between_atoms : List (List ℕ) → ℕ × ℕ → Option ℤ
+  between_atoms frame p = pair_energy (safe_dynamics s) (safe_value s) frame p
+
+  pub has_energies : (k : Kernel) → IsKernel k → k.bound < 2 ^ 64 → k.table ≡ s.kernel.verified.table → k.core ≡ s.core → k.cutoff ≡ s.cutoff
+      → ((a b : ℕ) (r : ℤ) (n : ℕ) (v : ℤ) → a < length k.table.rows → b < length k.table.rows → Ends (bits_of k.table.frac) k.code (inputs_of k.table a b r) n (Ok v) → value_of (bits_of k.table.frac) (inputs_of k.table a b r) (program_tree s.kernel.energy) ≡ Some v)
+      → HasEnergies s
+  has_energies k certified few table core cutoff gives a b r first second low high =
+      rw (← table) (small_energies k (program_tree s.kernel.energy) certified few gives a b r (rw table first) (rw table second) (rw core low) (rw cutoff high))
+
+  -- what is served by the slope's code is served by the energy's
+  pub served_too : (k : Kernel) → IsAccepted s → k.table ≡ s.kernel.verified.table → k.core ≡ s.core → k.cutoff ≡ s.cutoff → (ask : Ask) → IsServed s.kernel.verified ask → IsServed k ask
+  served_too k accepted table core cutoff ask h = record {
+    first = rw table h.first;
+    second = rw table h.second;
+    low = rw (core ∙ sym accepted.core) h.low;
+    high = rw (cutoff ∙ sym accepted.cutoff) h.high;
+  }
+
+  -- the code's value is the energy that is asked for
+  pub energy_is : (t : Table) (ask : Ask) (v : ℤ) → t ≡ s.kernel.verified.table → value_of (bits_of t.frac) (inputs_of t ask.a ask.b ask.r) (program_tree s.kernel.energy) ≡ Some v → IsEnergyFor s ask v
+  energy_is t ask v same h = rw (← same) h
+
+  -- ---- pairs that are found
+
+  -- the energies of the pairs found come to their sum
+  pub energies_summed : (found : List FoundPair) (energies : List ℤ) → length found ≤ length energies → AreEnergies s (map (ask_of s) found) energies
+      → sum_over (λ v. v) (take (length found) energies) ≡ sum_over (found_energy s) found
+  energies_summed [] energies room are = refl
+  energies_summed (f ∷ fs) [] room are = absurd (omega arith)
+  energies_summed (f ∷ fs) (v ∷ vs) room are =
+      let first : v ≡ found_energy s f = value_given (energy_at_types s (ask_of s f).a (ask_of s f).b (ask_of s f).r) v (are 0 (omega arith)) in
+      ap₂ (λ a b. a +ℤ b) first (energies_summed fs vs (omega arith) (λ l lt. are (suc l) (omega arith)))
+    where
+      value_given : (o : Option ℤ) (v : ℤ) → o ≡ Some v → v ≡ unwrap_or o (pos 0)
+      value_given o v e = rw e refl
+
+  found_head : (x y : List ℕ) (p : ℕ × ℕ) (rest : List (Option FoundPair)) (o : Option ℤ)
+      → unwrap_or (energy_at (safe_value s p) o) (pos 0) +ℤ sum_over (found_energy s) (acting rest)
+      ≡ sum_over (found_energy s) (acting (option_map {U = FoundPair} (λ a. record { low = p.0; high = p.1; acting = a }) (option_map (between s.ring x y) o) ∷ rest))
+  found_head x y p rest None = omega (arith, ints)
+  found_head x y p rest (Some r) = refl
+
+  -- pairs have the energy of those of them that are found
+  found_all : (frame : List (List ℕ)) (ps : List (ℕ × ℕ)) → sum_over (energy_between s frame) ps ≡ sum_over (found_energy s) (acting (map (found_of s frame) ps))
+  found_all frame [] = refl
+  found_all frame (p ∷ ps) =
+      let x = places_of frame p.0 in
+      let y = places_of frame p.1 in
+      ap (λ z. energy_between s frame p +ℤ z) (found_all frame ps)
+      ∙ found_head x y p (map (found_of s frame) ps) (acting_distance_of s.frac s.ring s.core s.cutoff x y)
+
+  -- the pairs before the number n have the energy of those before k, and of those found between
+  pub found_next : (frame : List (List ℕ)) (ps : List (ℕ × ℕ)) (k n : ℕ) (found : List FoundPair) → AreNextFound s frame ps k found n
+      → sum_over (energy_between s frame) (take n ps) ≡ sum_over (energy_between s frame) (take k ps) +ℤ sum_over (found_energy s) found
+  found_next frame ps k n found is =
+      found_all frame (take n ps)
+      ∙ (ap (sum_over (found_energy s)) is.acting
+      ∙ (over_append (found_energy s) (acting (map (found_of s frame) (take k ps))) found ∙ ap (λ z. z +ℤ sum_over (found_energy s) found) (sym (found_all frame (take k ps)))))
+
+  -- ---- all pairs
+
+  module _ (accepted : IsAccepted s) (given : HasEnergies s) (frame : List (List ℕ)) where
+    number_at : (i j : ℕ) → i < length s.types.items → j < length s.types.items → (o : Option ℤ) → ((r : ℤ) → o ≡ Some r → (s.core ≤ℤ r) × (r <ℤ s.cutoff)) → HasNumber (2 ^ 64) (energy_at (safe_value s (i, j)) o)
+    number_at i j first second None range = record { v = pos 0; has = refl; small = omega (arith, ints) }
+    number_at i j first second (Some r) range =
+        let within = range r refl in
+        small_parts (2 ^ 64) (safe_value s (i, j) r) (given (slice_index s.types.items i) (slice_index s.types.items j) r (accepted.known i 0 first) (accepted.known j 0 second) within.0 within.1)
+
+    has_number : (i j : ℕ) → i < j → j < length s.types.items → HasNumber (2 ^ 64) (between_atoms frame (i, j))
+    has_number i j apart below =
+        let x = places_of frame i in
+        let y = places_of frame j in
+        number_at i j (omega arith) below (acting_distance_of s.frac s.ring s.core s.cutoff x y) (λ r e. in_range s.frac s.ring s.core s.cutoff x y r s.below_cutoff e)
+
+    all_told : (n : ℕ) (ps : List (ℕ × ℕ)) → n ≤ length s.types.items → ArePairsOf n ps → energy_sum (between_atoms frame) ps ≡ Some (sum_over (energy_between s frame) ps)
+    unfolding energy_sum
+    all_told n [] h are = refl
+    all_told n (p ∷ ps) h are =
+        let q = pairs_parts n p ps are in
+        let e = has_number p.0 p.1 q.0.apart (omega (arith, q.0.below)) in
+        told (between_atoms frame p) (energy_sum (between_atoms frame) ps) e.v (sum_over (energy_between s frame) ps) e.has (all_told n ps h q.1)
+
+    all_small : (n : ℕ) (ps : List (ℕ × ℕ)) → n ≤ length s.types.items → ArePairsOf n ps → sum_by (λ p. unsigned_abs (energy_between s frame p)) ps ≤ length ps * 2 ^ 64
+    all_small n [] h are = omega arith
+    all_small n (p ∷ ps) h are =
+        let q = pairs_parts n p ps are in
+        let e = has_number p.0 p.1 q.0.apart (omega (arith, q.0.below)) in
+        let first : unsigned_abs (energy_between s frame p) ≤ 2 ^ 64 = magnitude (between_atoms frame p) e.v (2 ^ 64) e.has e.small in
+        let rest : sum_by (λ q. unsigned_abs (energy_between s frame q)) ps ≤ length ps * 2 ^ 64 = all_small n ps h q.1 in
+        omega (arith, sum_by-cons (λ q. unsigned_abs (energy_between s frame q)) p ps)
+
+    -- ---- by tiles
+
+    module _ (law : NearAreNeighbours s.frac s.ring s.cutoff (grid_of s)) (grid : IsGrid (grid_of s)) (places : All ArePlaces frame) (atoms : length frame ≡ length s.types.items) where
+      nothing_far : (p : ℕ × ℕ) (near : Bool) → near ≡ false
+          → unwrap_or (energy_at (safe_value s p) (if near then Some (taken_distance_of s.frac s.ring s.core (places_of frame p.0) (places_of frame p.1)) else None)) (pos 0) ≡ pos 0
+      nothing_far p near e = rw e refl
+
+      far_nothing : (p : ℕ × ℕ) → are_close (grid_of s) frame p ≡ false → energy_between s frame p ≡ pos 0
+      far_nothing p far = nothing_far p (is_near s.frac (square_of s.ring (places_of frame p.0) (places_of frame p.1)) s.cutoff) (far_apart s frame p law places far)
+
+      alike : (weight : ℤ → ℕ) → weight (pos 0) ≡ 0
+          → sum_by (λ ps. sum_by (λ p. weight (energy_between s frame p)) ps) (tile_pairs (grid_of s) frame) ≡ sum_by (λ p. weight (energy_between s frame p)) (pairs_of (length frame))
+      alike weight nothing =
+          sums_as_all (grid_of s) frame grid places (λ p. weight (energy_between s frame p)) (pairs_of (length frame)) (are_pairs (length frame)) (λ p far. ap weight (far_nothing p far) ∙ nothing)
+
+      -- the sum over the tiles is the energy
+      pub tiles_told : energy_sum (between_atoms frame) (pairs_of (length frame)) ≡ Some (sum_over (λ ps. sum_over (energy_between s frame) ps) (tile_pairs (grid_of s) frame))
+      tiles_told =
+          all_told (length frame) (pairs_of (length frame)) (omega arith) (frame_pairs (length frame) 0 (length frame) (omega arith))
+          ∙ ap Some (sym (over_tiles (energy_between s frame) (tile_pairs (grid_of s) frame) (pairs_of (length frame)) alike))
+
+      -- and the magnitudes of all energies come to no more than this
+      pub tiles_small : sum_by (λ ps. sum_by (λ p. unsigned_abs (energy_between s frame p)) ps) (tile_pairs (grid_of s) frame) ≤ 2 ^ 99
+      tiles_small =
+          let n = length frame in
+          let same = alike unsigned_abs refl in
+          let small : sum_by (λ p. unsigned_abs (energy_between s frame p)) (pairs_of n) ≤ length (pairs_of n) * 2 ^ 64 = all_small n (pairs_of n) (omega arith) (frame_pairs n 0 n (omega arith)) in
+          let size : length s.types.items ≡ length s.masses.items = s.atoms in
+          let most : length s.masses.items ≤ 65536 = s.most_atoms in
+          let few : length (pairs_of n) ≤ n * 65536 = few_pairs 0 n (omega arith) in
+          omega (arith, same, small, few)

@@ -1,0 +1,255 @@
+-- What texts say by the headline's page is what they are read as.
+use Rattle.std.proofs.Common.{◌≡◌, ℕ, zero, suc, ◌<◌, ◌≤◌, ◌*◌, ◌^◌, Bool, true, false, ltb, List, [], ◌∷◌, ◌++◌, length, get_or, Option, Some, None, Result, Ok, Err, ℤ, arith, refl, ap, sym, subst, ◌∙◌, zero-add, append_assoc}
+use Rattle.std.specs.Prelude.{map, bytes_eq, unsigned_abs, codes, ◌&&◌, ◌||◌, if◌then◌else◌}
+use Rattle.std.specs.List.{All}
+use Rattle.std.proofs.lemmas.Bool.{and_parts, or_parts, eqb-true, leb-true, ltb-false, ltb-true}
+use Rattle.std.proofs.lemmas.List.{append-nil, ext_get_or, get_or-map, length-map}
+use Rattle.std.proofs.lemmas.List.Elements.{All-cons, All-head, All-nil, All-tail}
+use Rattle.std.proofs.lemmas.List.Quantifiers.{all_pairs_push, position-Some}
+use Rattle.std.proofs.lemmas.Slice.Eq.{bytes_eq-Decides}
+use Rattle.fixed.specs.Fractions.{bits_of}
+use Rattle.fixed.specs.declared.frac.Frac.{Frac}
+use Rattle.fixed.specs.declared.frac.Frac.TheVariants.{F24, F32, F40}
+use Rattle.line_text.proofs.StepLaws.{bind_ok}
+use Rattle.derivative.specs.Derive.{slope_program}
+use Rattle.kernel_compiler.specs.Code.{compiled}
+use Rattle.energy_program.specs.Faults.{Refusal, RepeatedDefinition, ReservedName, TooLarge}
+use Rattle.energy_program.specs.Names.{are_few, first_clash, first_repeated, is_among, is_reserved, names_from, parameters_and_globals, refused_for, variables_of}
+use Rattle.energy_program.specs.Programs.{program_tree}
+use Rattle.energy_program.specs.declared.programs.Program.{Program}
+use Rattle.expr.specs.Energy.{IsEnergy, program_of, trees_in}
+use Rattle.expr.specs.Uses.{in_place}
+use Rattle.expr.proofs.Parsing.{is_found, is_read}
+use Rattle.job.specs.JobText.{AreApart}
+use Rattle.job.specs.Values.{JobValue, TypeValue}
+use Rattle.state.specs.StateText.{AtomView, StateView}
+use Rattle.integrator.specs.Energies.{Energy, energy_from, energy_of, job_program}
+use Rattle.integrator.specs.Frames.{Frames, frames, places_of}
+use Rattle.integrator.specs.Starts.{are_alike, atom_types, has_room, holds_two, known, no_type, ring_of, type_with, unknown_type}
+use Rattle.integrator.specs.States.{frames_of, moved_state, nobody, placed, placed_atoms, previous_frame, current_frame}
+use Rattle.integrator.proofs.Constructors.{err_is_no_ok, ok_same}
+use Rattle.integrator.proofs.NumberLaws.{at_number, length-numbers}
+use Rattle.engine.specs.Engines.{SaysOnly}
+use Rattle.engine.specs.Headline.{AreTypes, HasRoom, box_of, global_names, who}
+
+-- ---- the names of an energy's variables
+
+differs : (a b : List ℕ) → bytes_eq a b ≡ false → b ≡ a → ⊥
+differs a b e h = let t = (bytes_eq-Decides a b).1 (sym h) in absurd cc
+
+all_differ : (names : List (List ℕ)) (name : List ℕ) → is_among names name ≡ false → (k : ℕ) (d : List ℕ) → k < length names → get_or names k d ≡ name → ⊥
+all_differ [] name e k d l = absurd (omega arith)
+all_differ (n ∷ ns) name e zero d l = differs name n (or_parts (bytes_eq name n) (is_among ns name) e).0
+all_differ (n ∷ ns) name e (suc k) d l = all_differ ns name (or_parts (bytes_eq name n) (is_among ns name) e).1 k d (omega arith)
+
+clear_of : (b : Bool) (v : List ℕ) (o : Option (List ℕ)) → (if b then Some v else o) ≡ None → (b ≡ false) × (o ≡ None)
+clear_of true v o e = absurd cc
+clear_of false v o e = (refl, e)
+
+clear : (names vs : List (List ℕ)) → first_clash names vs ≡ None → AreApart names → AreApart (names ++ vs) × All (λ v. is_reserved v ≡ false) vs
+clear names [] e apart = (subst AreApart (sym (append-nil names)) apart, All-nil (λ v. is_reserved v ≡ false))
+clear names (v ∷ vs) e apart =
+    let c = clear_of (is_reserved v || is_among names v) v (first_clash (names ++ v ∷ []) vs) e in
+    let b = or_parts (is_reserved v) (is_among names v) c.0 in
+    let rest = clear (names ++ v ∷ []) vs c.1 (all_pairs_push (λ a b. a ≡ b → ⊥) names v apart (all_differ names v b.1)) in
+    (subst AreApart (append_assoc names (v ∷ []) vs) rest.0, All-cons (λ v. is_reserved v ≡ false) v vs b.0 rest.1)
+
+one_name : (name : List ℕ) → AreApart (name ∷ [])
+one_name name i j d l below = absurd (omega arith)
+
+passed : (why : List ℕ → Refusal) (o : Option (List ℕ)) (r : Result (List (List ℕ)) Refusal) (vs : List (List ℕ)) → refused_for why o r ≡ Ok vs → (o ≡ None) × (r ≡ Ok vs)
+passed why None r vs e = (refl, e)
+passed why (Some n) r vs e = absurd (err_is_no_ok (why n) vs e)
+
+few : (b : Bool) (r : Result (List (List ℕ)) Refusal) (vs : List (List ℕ)) → (if b then r else Err TooLarge) ≡ Ok vs → r ≡ Ok vs
+few true r vs e = e
+few false r vs e = absurd (err_is_no_ok TooLarge vs e)
+
+-- names that are taken as a program's variables
+names_clear : (ps gs vs : List (List ℕ)) → names_from ps gs ≡ Ok vs → (first_clash (codes "r" ∷ []) (parameters_and_globals ps gs) ≡ None) × (variables_of ps gs ≡ vs)
+unfolding names_from
+names_clear ps gs vs e =
+    let clash = refused_for ReservedName (first_clash (codes "r" ∷ []) (parameters_and_globals ps gs)) (Ok (variables_of ps gs)) in
+    let globals = refused_for RepeatedDefinition (first_repeated gs) clash in
+    let a = few (are_few ps gs) (refused_for RepeatedDefinition (first_repeated ps) globals) vs e in
+    let b = passed RepeatedDefinition (first_repeated ps) globals vs a in
+    let c = passed RepeatedDefinition (first_repeated gs) clash vs b.1 in
+    let d = passed ReservedName (first_clash (codes "r" ∷ []) (parameters_and_globals ps gs)) (Ok (variables_of ps gs)) vs c.1 in
+    (d.0, ok_same (variables_of ps gs) vs d.1)
+
+-- ---- the energy
+
+-- what the energy of a job was made of
+record Made (j : JobValue) (energy : Energy) : Type 0 where
+  names : List (List ℕ)
+  named : names_from j.parameters (global_names j) ≡ Ok names
+  tree : program_of (bits_of j.frac) names j.energy ≡ Ok energy.tree
+
+made : (j : JobValue) (energy : Energy) → energy_of j ≡ Ok energy → Made j energy
+unfolding energy_of job_program energy_from program_of
+made j energy e =
+    let bits = bits_of j.frac in
+    let a = bind_ok (job_program j) (energy_from bits) energy e in
+    let v = bind_ok (names_from j.parameters (global_names j)) (λ names. trees_in bits names j.energy) a.0 a.1 in
+    let s = bind_ok (slope_program bits a.0) _ energy a.2 in
+    let c = bind_ok (compiled bits s.0.0 s.0.1) _ energy s.2 in
+    record { names = v.0; named = v.1; tree = ap in_place v.2 ∙ ap Ok (ap (λ (e : Energy). e.tree) (ok_same _ energy c.2)) }
+
+-- the energy's text says the energy's tree, and no other, where some program has that tree
+pub says_energy : {A : Type 0} (j : JobValue) (energy : Energy) (p : Program A) → energy_of j ≡ Ok energy → program_tree p ≡ energy.tree → SaysOnly j energy.tree
+says_energy j energy p e same =
+    let bits = bits_of j.frac in
+    let m = made j energy e in
+    let n = names_clear j.parameters (global_names j) m.names m.named in
+    let c = clear (codes "r" ∷ []) (parameters_and_globals j.parameters (global_names j)) n.0 (one_name (codes "r")) in
+    let read : program_of bits (variables_of j.parameters (global_names j)) j.energy ≡ Ok (program_tree p) = ap (λ vs. program_of bits vs j.energy) n.1 ∙ m.tree ∙ ap Ok (sym same) in
+    record {
+      says = record { apart = c.0; free = c.1; says = subst (IsEnergy bits (variables_of j.parameters (global_names j)) j.energy 64) same (is_found bits (variables_of j.parameters (global_names j)) j.energy (Ok p) read) };
+      only = λ tree says. sym (is_read bits (variables_of j.parameters (global_names j)) j.energy (Ok p) read 64 tree says.says) ∙ same;
+    }
+
+-- ---- the types of atoms
+
+known_is : (k : ℕ) (o : Option ℕ) (t : ℕ) → known k o ≡ Ok t → o ≡ Some t
+known_is k None t e = absurd (err_is_no_ok (unknown_type k) t e)
+known_is k (Some u) t e = ap Some (ok_same u t e)
+
+module _ (j : JobValue) where
+  abbrev type_name : ℕ → List ℕ
+  type_name t = (get_or j.types t no_type).name
+
+  -- the types that are found by the atoms' names are those that have them
+  pub types_are : (k : ℕ) (atoms : List AtomView) (types : List ℕ) → atom_types j.types k atoms ≡ Ok types → AreTypes j atoms types
+  unfolding atom_types
+  types_are k [] types e =
+      let same : [] ≡ types = ok_same [] types e in
+      subst (AreTypes j []) same (record { known = All-nil (λ t. t < length j.types); named = refl })
+  types_are k (a ∷ atoms) types e =
+      let t = bind_ok (known k (type_with j.types a.name)) _ types e in
+      let r = bind_ok (atom_types j.types (suc k) atoms) _ types t.2 in
+      let at = position-Some (λ (u : TypeValue). bytes_eq u.name a.name) j.types t.0 no_type (known_is k (type_with j.types a.name) t.0 t.1) in
+      let name : type_name t.0 ≡ a.name = (bytes_eq-Decides (type_name t.0) a.name).0 at.1 in
+      let rest = types_are (suc k) atoms r.0 r.1 in
+      subst (AreTypes j (a ∷ atoms)) (ok_same (t.0 ∷ r.0) types r.2)
+      (record {
+        known = All-cons (λ t. t < length j.types) t.0 r.0 at.0 rest.known;
+        named = ap (λ n. n ∷ map type_name r.0) name ∙ ap (λ ns. a.name ∷ ns) rest.named;
+      })
+
+  below_or : (a b : ℕ) (c d : Bool) → ltb a b ≡ c → ltb b a ≡ d → (a < b → ⊥) → (b < a → ⊥) → a ≡ b
+  below_or a b true d p q h k = absurd (h (ltb-true a b p))
+  below_or a b false true p q h k = absurd (k (ltb-true b a q))
+  below_or a b false false p q h k = let x : b ≤ a = ltb-false a b p in let y : a ≤ b = ltb-false b a q in omega (arith, x, y)
+
+  -- no two types have one name
+  one_type : AreApart (map (λ t. t.name) j.types) → (a b : ℕ) → a < length j.types → b < length j.types → type_name a ≡ type_name b → a ≡ b
+  one_type apart a b la lb e =
+      let at = λ (t : ℕ) (l : t < length j.types). get_or-map (λ (t : TypeValue). t.name) j.types t no_type [] l in
+      let size = length-map j.types (λ (t : TypeValue). t.name) in
+      below_or a b (ltb a b) (ltb b a) refl refl
+      (λ l. apart a b [] l (omega (arith, size, lb)) (at a la ∙ e ∙ sym (at b lb)))
+      (λ l. apart b a [] l (omega (arith, size, la)) (at b lb ∙ sym e ∙ sym (at a la)))
+
+  parts_same : {X : Type 0} (x y : X) (xs ys : List X) → x ∷ xs ≡ y ∷ ys → (x ≡ y) × (xs ≡ ys)
+  parts_same x y xs ys e = (cc, cc)
+
+  types_same : AreApart (map (λ t. t.name) j.types) → (us ts : List ℕ) → All (λ t. t < length j.types) us → All (λ t. t < length j.types) ts → map type_name us ≡ map type_name ts → us ≡ ts
+  types_same apart [] [] h k e = refl
+  types_same apart [] (t ∷ ts) h k e = absurd cc
+  types_same apart (u ∷ us) [] h k e = absurd cc
+  types_same apart (u ∷ us) (t ∷ ts) h k e =
+      let e' = parts_same (type_name u) (type_name t) (map type_name us) (map type_name ts) e in
+      let P = λ (t : ℕ). t < length j.types in
+      let one : u ≡ t = one_type apart u t (All-head P u us h) (All-head P t ts k) e'.0 in
+      ap (λ x. x ∷ us) one ∙ ap (λ xs. t ∷ xs) (types_same apart us ts (All-tail P u us h) (All-tail P t ts k) e'.1)
+
+-- atoms have these types and no others
+pub only_types : (j : JobValue) (k : ℕ) (atoms : List AtomView) (types others : List ℕ) → AreApart (map (λ t. t.name) j.types) → atom_types j.types k atoms ≡ Ok types → AreTypes j atoms others → others ≡ types
+only_types j k atoms types others apart e h =
+    let t = types_are j k atoms types e in
+    types_same j apart others types h.known t.known (h.named ∙ sym t.named)
+
+-- ---- bits and room
+
+same_bits : (f g : Frac) → bits_of f ≡ bits_of g → g ≡ f
+same_bits F24 F24 e = refl
+same_bits F24 F32 e = absurd (omega arith)
+same_bits F24 F40 e = absurd (omega arith)
+same_bits F32 F24 e = absurd (omega arith)
+same_bits F32 F32 e = refl
+same_bits F32 F40 e = absurd (omega arith)
+same_bits F40 F24 e = absurd (omega arith)
+same_bits F40 F32 e = absurd (omega arith)
+same_bits F40 F40 e = refl
+
+-- numbers with as many bits behind the point
+pub alike_is : (f g : Frac) → are_alike f g ≡ true → g ≡ f
+alike_is f g e = same_bits f g (eqb-true (bits_of f) (bits_of g) e)
+
+-- a box that has room for two cutoffs has it on each side
+pub room_is : (j : JobValue) (sides : List ℕ) → has_room j.frac j.cutoff (ring_of sides) ≡ true → HasRoom j (box_of sides).x × HasRoom j (box_of sides).y × HasRoom j (box_of sides).z
+room_is j sides h =
+    let ring = ring_of sides in
+    let p = and_parts (holds_two j.frac j.cutoff ring.x) (holds_two j.frac j.cutoff ring.y && holds_two j.frac j.cutoff ring.z) h in
+    let q = and_parts (holds_two j.frac j.cutoff ring.y) (holds_two j.frac j.cutoff ring.z) p.1 in (
+      leb-true (200000 * unsigned_abs j.cutoff) (ring.x * 2 ^ bits_of j.frac) p.0,
+      leb-true (200000 * unsigned_abs j.cutoff) (ring.y * 2 ^ bits_of j.frac) q.0,
+      leb-true (200000 * unsigned_abs j.cutoff) (ring.z * 2 ^ bits_of j.frac) q.1,
+    )
+
+-- ---- atoms at other places
+
+module _ (atoms : List AtomView) (f : Frames) where
+  abbrev placed_at : ℕ → AtomView
+  placed_at a = placed (get_or atoms a nobody) (places_of f.previous a) (places_of f.current a)
+
+  -- they are as many
+  pub length-placed : length (placed_atoms atoms f) ≡ length atoms
+  length-placed = length-numbers placed_at 0 (length atoms)
+
+  -- and each is the atom of that number, placed
+  pub get_or-placed : (k : ℕ) → k < length atoms → get_or (placed_atoms atoms f) k nobody ≡ placed_at k
+  get_or-placed k l = at_number placed_at nobody 0 (length atoms) k l ∙ ap placed_at (zero-add k)
+
+  -- a part of each atom, where that of the placed atom is known
+  part_placed : {X : Type 0} (part : AtomView → X) (d : X) (xs : List X) → length xs ≡ length atoms → ((k : ℕ) → k < length atoms → part (placed_at k) ≡ get_or xs k d) → map part (placed_atoms atoms f) ≡ xs
+  part_placed part d xs size each =
+      ext_get_or d (map part (placed_atoms atoms f)) xs (length-map (placed_atoms atoms f) part ∙ length-placed ∙ sym size) (λ k h.
+      let l : k < length atoms = omega (arith, length-map (placed_atoms atoms f) part, length-placed) in
+      get_or-map part (placed_atoms atoms f) k nobody d (omega (arith, length-placed)) ∙ ap part (get_or-placed k l) ∙ each k l)
+
+  -- they stay who they are
+  pub who_placed : map who (placed_atoms atoms f) ≡ map who atoms
+  who_placed = part_placed who (who nobody) (map who atoms) (length-map atoms who) (λ k l. sym (get_or-map who atoms k nobody (who nobody) l))
+
+  previous_placed : length f.previous ≡ length atoms → previous_frame (placed_atoms atoms f) ≡ f.previous
+  previous_placed size = part_placed (λ a. a.previous) [] f.previous size (λ k l. refl)
+
+  current_placed : length f.current ≡ length atoms → current_frame (placed_atoms atoms f) ≡ f.current
+  current_placed size = part_placed (λ a. a.current) [] f.current size (λ k l. refl)
+
+-- the frames of the state that is at these frames
+pub frames_moved : (s : StateView) (f : Frames) (k : ℤ) → length f.previous ≡ length s.atoms → length f.current ≡ length s.atoms → frames_of (moved_state s f k) ≡ f
+frames_moved s f k p c = ap (λ q. frames q (current_frame (placed_atoms s.atoms f))) (previous_placed s.atoms f p) ∙ ap (frames f.previous) (current_placed s.atoms f c)
+
+-- an atom is who it is and where it is
+atom_is : (a b : AtomView) → who a ≡ who b → a ≡ placed b a.previous a.current
+atom_is a b e = ap (λ (w : ℤ × List ℕ × List ℕ). record a { residue_number = w.0; residue = w.1; name = w.2 }) e
+
+-- the same atoms at other places are these atoms, placed there
+placed_again : (atoms others : List AtomView) → map who others ≡ map who atoms → others ≡ placed_atoms atoms (frames (previous_frame others) (current_frame others))
+placed_again atoms others e =
+    let f = frames (previous_frame others) (current_frame others) in
+    let size : length others ≡ length atoms = sym (length-map others who) ∙ ap length e ∙ length-map atoms who in
+    ext_get_or nobody others (placed_atoms atoms f) (size ∙ sym (length-placed atoms f)) (λ k h.
+    let l : k < length atoms = omega (arith, size) in
+    let same : who (get_or others k nobody) ≡ who (get_or atoms k nobody) =
+    sym (get_or-map who others k nobody (who nobody) h) ∙ ap (λ (ws : List (ℤ × List ℕ × List ℕ)). get_or ws k (who nobody)) e ∙ get_or-map who atoms k nobody (who nobody) l in
+    atom_is (get_or others k nobody) (get_or atoms k nobody) same
+    ∙ ap (λ p. placed (get_or atoms k nobody) p (get_or others k nobody).current) (sym (get_or-map (λ (a : AtomView). a.previous) others k nobody [] h))
+    ∙ ap (λ c. placed (get_or atoms k nobody) (places_of f.previous k) c) (sym (get_or-map (λ (a : AtomView). a.current) others k nobody [] h))
+    ∙ sym (get_or-placed atoms f k l))
+
+-- a state that differs in its counter and its atoms' places alone
+pub moved_again : (s t : StateView) → t ≡ record s { step = t.step; atoms = t.atoms } → map who t.atoms ≡ map who s.atoms → t ≡ moved_state s (frames_of t) t.step
+moved_again s t same kept = same ∙ ap (λ (atoms : List AtomView). record s { step = t.step; atoms = atoms }) (placed_again s.atoms t.atoms kept)

@@ -1,0 +1,69 @@
+-- Where texts have a run and the code of the slope is accepted, no other answer is left but want of memory and a failed output.
+use Rattle.std.proofs.Common.{◌≡◌, ℕ, ◌-◌, ◌*◌, ◌^◌, ◌≤◌, List, length, Ok, Err, arith, subst, sym, ◌∙◌}
+use Rattle.job.specs.Values.{JobValue}
+use Rattle.kernel_code.specs.declared.instructions.Instr.{Instr}
+use Rattle.state.specs.StateText.{StateView}
+use Rattle.verifier.specs.Verdicts.{range}
+use Rattle.verifier.proofs.OneVerdict.{accepted_alone}
+use Rattle.integrator.proofs.Constructors.{err_is_no_ok, ok_same}
+use Rattle.integrator.proofs.RunLaws.{only_lacks}
+use Rattle.integrator.specs.Energies.{Energy}
+use Rattle.integrator.specs.Runs.{IsRun}
+use Rattle.integrator.specs.Starts.{plain, table_of}
+use Rattle.integrator.specs.declared.direction.Direction.{Direction}
+use Rattle.integrator.specs.declared.faults.RunFault.{RunFault}
+use Rattle.integrator.specs.declared.faults.RunFault.TheVariants as run
+use Rattle.integrator.specs.declared.kernel_refusals.KernelRefusal.{KernelRefusal}
+use Rattle.engine.specs.Engines.{AreSafe, IsEngineRefusal, OfSlope, OfTexts, Wants}
+use Rattle.engine.specs.Verdicts.{IsJudged, IsRefused, IsSafeFor, PassesRange}
+
+-- ---- of one code
+
+judged_alone : (j : JobValue) (code : List Instr) (bound : ℕ) (r : KernelRefusal) → IsJudged j code (Ok bound) → IsJudged j code (Err r.fault) → ⊥
+judged_alone j code bound r p q = err_is_no_ok r.fault bound (accepted_alone code (table_of j) (range j.core j.cutoff j.slices 24) bound (Err r.fault) p q)
+
+one_bound : (j : JobValue) (code : List Instr) (bound bound' : ℕ) → IsJudged j code (Ok bound) → IsJudged j code (Ok bound') → bound' ≡ bound
+one_bound j code bound bound' p q = ok_same bound' bound (accepted_alone code (table_of j) (range j.core j.cutoff j.slices 24) bound (Ok bound') p q)
+
+-- ---- of one job and one state
+
+same_slope : (j : JobValue) (s : StateView) (holds : List Instr → Type 0) (a : OfSlope j s (λ code. IsSafeFor j code (length s.atoms))) → OfSlope j s holds → holds a.system.0.code
+same_slope j s holds a b =
+    let same : b.system ≡ a.system = ok_same b.system a.system (sym b.made ∙ a.made) in
+    subst (λ (x : Energy × List ℕ). holds x.0.code) same b.it
+
+not_refused : (j : JobValue) (s : StateView) (r : KernelRefusal) → OfSlope j s (λ code. IsSafeFor j code (length s.atoms)) → OfSlope j s (λ code. IsRefused j code r) → ⊥
+not_refused j s r a b =
+    let refused : IsRefused j a.system.0.code r = same_slope j s (λ code. IsRefused j code r) a b in
+    judged_alone j a.system.0.code a.it.bound r a.it.judged refused.judged
+
+not_passed : (j : JobValue) (s : StateView) → OfSlope j s (λ code. IsSafeFor j code (length s.atoms)) → OfSlope j s (λ code. PassesRange j code (length s.atoms)) → ⊥
+not_passed j s a b =
+    let passes : PassesRange j a.system.0.code (length s.atoms) = same_slope j s (λ code. PassesRange j code (length s.atoms)) a b in
+    let same : passes.bound ≡ a.it.bound = one_bound j a.system.0.code a.it.bound passes.bound a.it.judged passes.judged in
+    let far : 2 ^ 63 ≤ a.it.bound * (length s.atoms - 1) = subst (λ (n : ℕ). 2 ^ 63 ≤ n * (length s.atoms - 1)) same passes.far in
+    let fits = a.it.fits in
+    absurd (omega (arith, far, fits))
+
+-- ---- of one pair of texts
+
+same_texts : (job state : List ℕ) (holds : JobValue → StateView → Type 0) (a : AreSafe job state) → OfTexts job state holds → holds a.j a.s
+same_texts job state holds a b =
+    let j : b.j ≡ a.j = ok_same b.j a.j (sym b.job_read ∙ a.job_read) in
+    let s : b.s ≡ a.s = ok_same b.s a.s (sym b.state_read ∙ a.state_read) in
+    subst (holds a.j) s (subst (λ (x : JobValue). holds x b.s) j b.it)
+
+pub only_wants : {A : Type 0} (job state : List ℕ) (w : Direction) (n : ℕ) (text : List ℕ) (f : RunFault A) → IsRun plain job state w n text → AreSafe job state → IsEngineRefusal job state w n f → Wants f
+only_wants {A} job state w n text (run.Job f) r a h = only_lacks {A = A} plain job state w n text (run.Job f) r h
+only_wants {A} job state w n text (run.State f) r a h = only_lacks {A = A} plain job state w n text (run.State f) r h
+only_wants {A} job state w n text (run.Energy f) r a h = only_lacks {A = A} plain job state w n text (run.Energy f) r h
+only_wants {A} job state w n text run.BitsDiffer r a h = only_lacks {A = A} plain job state w n text run.BitsDiffer r h
+only_wants {A} job state w n text (run.UnknownType k) r a h = only_lacks {A = A} plain job state w n text (run.UnknownType k) r h
+only_wants {A} job state w n text run.CutoffTooLong r a h = only_lacks {A = A} plain job state w n text run.CutoffTooLong r h
+only_wants {A} job state w n text run.StepRange r a h = only_lacks {A = A} plain job state w n text run.StepRange r h.0
+only_wants job state w n text (run.Kernel k) r a h = not_refused a.j a.s k a.it (same_texts job state (λ j s. OfSlope j s (λ code. IsRefused j code k)) a h)
+only_wants job state w n text run.ForceRange r a h = not_passed a.j a.s a.it (same_texts job state (λ j s. OfSlope j s (λ code. PassesRange j code (length s.atoms))) a h)
+only_wants job state w n text (run.KernelFault b c d e f) r a h = h
+only_wants job state w n text (run.MemoryAfter done) r a h = tt
+only_wants job state w n text run.Memory r a h = tt
+only_wants job state w n text (run.Out f) r a h = tt

@@ -1,0 +1,131 @@
+-- Steps of an engine, one after the other and back.
+use Rattle.std.proofs.Common.{◌≡◌, ℕ, zero, suc, ◌+◌, ◌<◌, List, length, get_or, Option, Some, None, ℤ, arith, refl, ap, sym, subst, ◌∙◌, zero-add}
+use Rattle.std.specs.Prelude.{option_map, slice_index, if◌then◌else◌}
+use Rattle.std.specs.Option.{option_and_then}
+use Rattle.std.proofs.lemmas.Int.{ints}
+use Rattle.std.proofs.lemmas.List.{ext_get_or, length-map}
+use Rattle.state.specs.StateText.{AtomView, StateView}
+use Rattle.integrator.specs.Frames.{Dynamics, Frames, frame_forces, frames, moved_frame, next_frame, next_places, opposite, places_of, turn, turns}
+use Rattle.integrator.specs.Forces.{none}
+use Rattle.fixed.specs.Arithmetic.{in_range}
+use Rattle.integrator.specs.States.{counter_at, frames_of, moved_state, nobody, placed, placed_atoms}
+use Rattle.integrator.specs.declared.direction.Direction.{Direction}
+use Rattle.integrator.specs.declared.direction.Direction.TheVariants.{Back, Forward}
+use Rattle.integrator.proofs.Constructors.{none_is_no_some, some_same}
+use Rattle.integrator.proofs.ReturnLaws.{frames_are, in_range_is}
+use Rattle.integrator.proofs.NumberLaws.{length-numbers}
+use Rattle.integrator.proofs.TurnLaws.{returned}
+use Rattle.engine.specs.Engines.{EngineView, Went, engine_dynamics}
+use Rattle.engine.specs.Turns.{StepsAdd, StepsReturn}
+use Rattle.engine.proofs.HeadlineLaws.{counter_back, counter_is}
+use Rattle.engine.proofs.HeadlineTexts.{frames_moved, get_or-placed, length-placed, moved_again}
+
+-- ---- how many atoms
+
+abbrev Sized : ℕ → Frames → Type 0
+Sized n f = (length f.previous ≡ n) × (length f.current ≡ n)
+
+moved_size : (d : Dynamics) (p c m : List (List ℕ)) (o : Option (List (List ℤ))) → option_map (moved_frame d p c) o ≡ Some m → length m ≡ length c
+moved_size d p c m None h = absurd (none_is_no_some m h)
+moved_size d p c m (Some forces) h =
+    ap length (sym (some_same (moved_frame d p c forces) m h))
+    ∙ length-numbers (λ a. next_places d (slice_index d.masses a) (places_of p a) (places_of c a) (get_or forces a none)) 0 (length c)
+
+step_sized : (d : Dynamics) (p c : List (List ℕ)) (g : Frames) (n : ℕ) (o : Option (List (List ℕ))) → length c ≡ n → next_frame d p c ≡ o → option_map (frames c) o ≡ Some g → Sized n g
+step_sized d p c g n None b e h = absurd (none_is_no_some g h)
+step_sized d p c g n (Some m) b e h = subst (Sized n) (some_same (frames c m) g h) (b, moved_size d p c m (frame_forces d c) e ∙ b)
+
+back_sized : (d : Dynamics) (p c : List (List ℕ)) (g : Frames) (n : ℕ) (o : Option (List (List ℕ))) → length p ≡ n → next_frame d c p ≡ o → option_map (λ n. frames n p) o ≡ Some g → Sized n g
+back_sized d p c g n None a e h = absurd (none_is_no_some g h)
+back_sized d p c g n (Some m) a e h = subst (Sized n) (some_same (frames m p) g h) (moved_size d c p m (frame_forces d p) e ∙ a, a)
+
+turn_sized : (w : Direction) (d : Dynamics) (f g : Frames) (n : ℕ) → Sized n f → turn w d f ≡ Some g → Sized n g
+turn_sized Forward d f g n s h = step_sized d f.previous f.current g n (next_frame d f.previous f.current) s.1 refl h
+turn_sized Back d f g n s h = back_sized d f.previous f.current g n (next_frame d f.current f.previous) s.0 refl h
+
+turns_sized_at : (w : Direction) (d : Dynamics) (k : ℕ) (f g : Frames) (n : ℕ) (o : Option Frames) → Sized n f → turn w d f ≡ o → option_and_then (turns w d k) o ≡ Some g
+    → ((e : Frames) → Sized n e → turns w d k e ≡ Some g → Sized n g) → Sized n g
+turns_sized_at w d k f g n None s e h more = absurd (none_is_no_some g h)
+turns_sized_at w d k f g n (Some m) s e h more = more m (turn_sized w d f m n s e) h
+
+-- steps keep the number of atoms
+turns_sized : (w : Direction) (d : Dynamics) (k : ℕ) (f g : Frames) (n : ℕ) → Sized n f → turns w d k f ≡ Some g → Sized n g
+unfolding turns
+turns_sized w d zero f g n s h = subst (Sized n) (some_same f g h) s
+turns_sized w d (suc k) f g n s h = turns_sized_at w d k f g n (turn w d f) s refl h (λ e t i. turns_sized w d k e g n t i)
+
+-- ---- steps and more steps
+
+turns_add_at : (w : Direction) (d : Dynamics) (k m : ℕ) (o : Option Frames) → ((f : Frames) → turns w d (k + m) f ≡ option_and_then (turns w d m) (turns w d k f))
+    → option_and_then (turns w d (k + m)) o ≡ option_and_then (turns w d m) (option_and_then (turns w d k) o)
+turns_add_at w d k m None more = refl
+turns_add_at w d k m (Some f) more = more f
+
+turns_add : (w : Direction) (d : Dynamics) (k m : ℕ) (f : Frames) → turns w d (k + m) f ≡ option_and_then (turns w d m) (turns w d k f)
+unfolding turns
+turns_add w d zero m f = ap (λ i. turns w d i f) (zero-add m)
+turns_add w d (suc k) m f =
+    let e : suc k + m ≡ suc (k + m) = omega arith in
+    ap (λ i. turns w d i f) e ∙ turns_add_at w d k m (turn w d f) (turns_add w d k m)
+
+counters_add : (w : Direction) (z : ℤ) (k m : ℕ) → counter_at w (counter_at w z k) m ≡ counter_at w z (k + m)
+counters_add Forward z k m = omega (arith, ints)
+counters_add Back z k m = omega (arith, ints)
+
+-- atoms that were placed, placed again
+placed_twice : (atoms : List AtomView) (f g : Frames) → placed_atoms (placed_atoms atoms f) g ≡ placed_atoms atoms g
+placed_twice atoms f g =
+    let size = length-placed atoms f in
+    ext_get_or nobody (placed_atoms (placed_atoms atoms f) g) (placed_atoms atoms g) (length-placed (placed_atoms atoms f) g ∙ size ∙ sym (length-placed atoms g)) (λ k h.
+    let l : k < length atoms = omega (arith, size, length-placed (placed_atoms atoms f) g) in
+    get_or-placed (placed_atoms atoms f) g k (omega (arith, size)) ∙ ap (λ a. placed a (places_of g.previous k) (places_of g.current k)) (get_or-placed atoms f k l) ∙ sym (get_or-placed atoms g k l))
+
+-- ---- engines
+
+module _ (w : Direction) (n : ℕ) (a b : EngineView) (g : Went w n a b) where
+  same_motion : engine_dynamics b ≡ engine_dynamics a
+  same_motion = ap engine_dynamics g.moved
+
+  step_is : b.state.step ≡ counter_at w a.state.step n
+  step_is = ap (λ (e : EngineView). e.state.step) g.moved ∙ (counter_is w a.state.step g.counter n g.counted).0
+
+  arrived : frames_of b.state ≡ g.frames'
+  arrived =
+      let s = a.state in
+      let sized = turns_sized w (engine_dynamics a) n (frames_of s) g.frames' (length s.atoms) (length-map s.atoms (λ (x : AtomView). x.previous), length-map s.atoms (λ (x : AtomView). x.current)) g.turned in
+      ap (λ (e : EngineView). frames_of e.state) g.moved ∙ frames_moved s g.frames' g.counter sized.0 sized.1
+
+-- k steps and m more are k + m
+pub steps_add : StepsAdd
+steps_add w k m a b c g h =
+    let d = engine_dynamics a in
+    let fits = λ (z : ℤ). if in_range z then Some z else None in
+    record {
+      frames' = h.frames';
+      turned =
+          turns_add w d k m (frames_of a.state) ∙ ap (option_and_then (turns w d m)) g.turned
+          ∙ ap (turns w d m) (sym (arrived w k a b g)) ∙ ap (λ (e : Dynamics). turns w e m (frames_of b.state)) (sym (same_motion w k a b g)) ∙ h.turned;
+      counter = h.counter;
+      counted = ap fits (sym (counters_add w a.state.step k m) ∙ ap (λ z. counter_at w z m) (sym (step_is w k a b g))) ∙ h.counted;
+      moved =
+          h.moved ∙ ap (λ (e : EngineView). record e { state = moved_state e.state h.frames' h.counter }) g.moved
+          ∙ ap (λ (atoms : List AtomView). record a { state = record a.state { step = h.counter; atoms = atoms } }) (placed_twice a.state.atoms g.frames' h.frames');
+    }
+
+-- n steps and n back lead to the engine of the start
+pub steps_return : StepsReturn
+steps_return w n a b fits g =
+    let s = a.state in
+    let d = engine_dynamics a in
+    let back = returned w d n (frames_of s) g.frames' (frames_are s fits) g.turned in
+    let whole : counter_at (opposite w) b.state.step n ≡ s.step = sym (counter_back w s.step b.state.step n (step_is w n a b g)) in
+    record {
+      frames' = frames_of s;
+      turned = ap (turns (opposite w) (engine_dynamics b) n) (arrived w n a b g) ∙ ap (λ (e : Dynamics). turns (opposite w) e n g.frames') (same_motion w n a b g) ∙ back.back;
+      counter = s.step;
+      counted = rw (whole, in_range_is s.step fits.step) refl;
+      moved =
+          sym (ap (λ (e : EngineView). record e { state = moved_state e.state (frames_of s) s.step }) g.moved
+          ∙ ap (λ (atoms : List AtomView). record a { state = record s { atoms = atoms } }) (placed_twice s.atoms g.frames' (frames_of s))
+          ∙ ap (λ (t : StateView). record a { state = t }) (sym (moved_again s s refl refl)));
+    }

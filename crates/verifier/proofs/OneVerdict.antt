@@ -1,0 +1,351 @@
+-- Two verdicts on one code are the same.
+use Rattle.std.proofs.Common.{◌≡◌, ℕ, zero, suc, ◌+◌, ◌*◌, ◌/◌, ◌<◌, ◌≤◌, List, [], ◌∷◌, length, Some, Result, Ok, Err, refl, sym, ap, ◌∙◌, subst, arith, ⊎_elim, ℤ, pos, ◌+ℤ◌, ◌-ℤ◌, ◌<ℤ◌, max}
+use Rattle.std.specs.Prelude.{◌⊎◌, slice_get, unsigned_abs}
+use Rattle.std.proofs.lemmas.Int.{ints}
+use Rattle.std.proofs.lemmas.Bool.{cases_lt}
+use Rattle.fixed.specs.Fractions.{bits_of}
+use Rattle.fixed.specs.declared.faults.Fault.{Fault}
+use Rattle.interval_domain.specs.declared.span.Span.{Span}
+use Rattle.interval_domain.specs.Spans.{IsWithin, AreHalves}
+use Rattle.kernel_code.specs.declared.instructions.Instr.{Instr}
+use Rattle.kernel_code.specs.declared.traps.Trap.{Trap}
+use Rattle.kernel_code.specs.declared.traps.TrapKind.TheVariants.{Operation}
+use Rattle.kernel_code.specs.Code.{JumpsForward}
+use Rattle.kernel_code.specs.Tables.{Table, inputs_of}
+use Rattle.kernel_code.proofs.Runs.{one_end}
+use Rattle.kernel_paths.specs.declared.faults.Misfit.{Misfit}
+use Rattle.kernel_paths.specs.declared.faults.Misfit.TheVariants as misfit
+use Rattle.kernel_paths.specs.Misfits.{EndsBadly, IsFirst, Lacks}
+use Rattle.kernel_paths.proofs.OneJudgement.{one_judgement}
+use Rattle.kernel_paths.proofs.Refusals.{goes_wrong}
+use Rattle.kernel_code.specs.Paths.{MissesNothing}
+use Rattle.verifier.specs.declared.faults.VerifyFault.{VerifyFault}
+use Rattle.verifier.specs.declared.faults.VerifyFault.TheVariants as fault
+use Rattle.verifier.specs.Safety.{input_count}
+use Rattle.verifier.specs.Verdicts.{Answer, AreInputSpans, HasFault, HasMagnitude, IsAtOne, IsBounded, IsEmptySlice, IsFoundOf, IsGreatest, IsJoint, IsOneInput, IsPieceAnswer, IsSearched, IsSlice, IsSliceAnswer, IsStopped, IsVerdict, Range, both, bounded, empty, full, highest, lower, lowest, magnitude_of, neither, pair_answer, row_answer, single, upper}
+use Rattle.verifier.proofs.Standing.{AreInputsWithin, ones_within}
+use Rattle.verifier.proofs.Determined.{gives_no_stop, gives_within, stops_same}
+
+-- ---- spans of the same ends
+
+ends_within : (s t : Span) → s.lo ≡ t.lo → s.hi ≡ t.hi → IsWithin s t
+ends_within s t e f = record { members = λ x m. record { at_least = omega (arith, ints, e, m.at_least); at_most = omega (arith, ints, f, m.at_most) } }
+
+same_magnitude : (s t : Span) → IsWithin s t → IsWithin t s → magnitude_of s ≡ magnitude_of t
+same_magnitude s t p q =
+    let sl = p.members s.lo (record { at_least = omega (arith, ints); at_most = s.ordered }) in
+    let sh = p.members s.hi (record { at_least = s.ordered; at_most = omega (arith, ints) }) in
+    let tl = q.members t.lo (record { at_least = omega (arith, ints); at_most = t.ordered }) in
+    let th = q.members t.hi (record { at_least = t.ordered; at_most = omega (arith, ints) }) in
+    let e : s.lo ≡ t.lo = omega (arith, ints, sl.at_least, tl.at_least) in
+    let f : s.hi ≡ t.hi = omega (arith, ints, sh.at_most, th.at_most) in
+    rw (e, f) refl
+
+get_there : (l : List Span) (k : ℕ) → k < length l → (t : Span) × (slice_get l k ≡ Some t)
+get_there [] k lt = absurd (omega (arith, lt))
+get_there (t ∷ l) zero lt = (t, refl)
+get_there (t ∷ l) (suc k) lt = get_there l k (omega (arith, lt))
+
+get_short : (l : List Span) (k : ℕ) (s : Span) → slice_get l k ≡ Some s → k < length l
+get_short [] k s e = absurd cc
+get_short (x ∷ l) zero s e = omega arith
+get_short (x ∷ l) (suc k) s e = let h = get_short l k s e in omega (arith, h)
+
+module _ (t : Table) (a b : ℕ) where
+  one_input : (r r' : ℤ) (k : ℕ) (s s' : Span) → r ≡ r' → IsOneInput t a b r k s → IsOneInput t a b r' k s' → IsWithin s s'
+  one_input r r' k s s' e p q =
+      let there : slice_get (inputs_of t a b r') k ≡ Some p.value = subst (λ (x : ℤ). slice_get (inputs_of t a b x) k ≡ Some p.value) e p.there in
+      let there' = q.there in
+      let same : p.value ≡ q.value = cc in
+      ones_within p.value q.value s s' same p.one q.one
+
+  inputs_same : (d d' : Span) (xs ys : List Span) → d.lo ≡ d'.lo → d.hi ≡ d'.hi → AreInputSpans t a b d xs → AreInputSpans t a b d' ys → AreInputsWithin xs ys
+  inputs_same d d' xs ys e f p q = record { each = each }
+    where
+      each : (k : ℕ) (s : Span) → slice_get xs k ≡ Some s → (u : Span) × (slice_get ys k ≡ Some u) × IsWithin s u
+      each zero s at =
+          let first = p.first in
+          let same : d ≡ s = cc in
+          (d', q.first, subst (λ (x : Span). IsWithin x d') same (ends_within d d' e f))
+      each (suc k) s at =
+          let short = get_short xs (suc k) s at in
+          let g = get_there ys (suc k) (omega (arith, short, p.long, q.long)) in
+          (g.0, g.1, one_input d.lo d'.lo (suc k) s g.0 e (p.others (suc k) s (omega arith) at) (q.others (suc k) g.0 (omega arith) g.1))
+
+-- ---- one distance
+
+same_kind : (k l : Fault) → Operation k ≡ Operation l → k ≡ l
+same_kind k l e = cc
+
+trap_of : (p q : Trap) → (let r : Result ℤ Trap = Err p in r) ≡ Err q → p ≡ q
+trap_of p q e = cc
+
+same_trap : (m n : ℕ) (k l : Fault) → (let r : Result ℤ Trap = Err (record { pc = m; kind = Operation k }) in r) ≡ Err (record { pc = n; kind = Operation l }) → (m ≡ n) × (k ≡ l)
+same_trap m n k l e =
+    let p : Trap = record { pc = m; kind = Operation k } in
+    let q : Trap = record { pc = n; kind = Operation l } in
+    let same : p ≡ q = trap_of p q e in
+    (ap (λ (t : Trap). t.pc) same, same_kind k l (ap (λ (t : Trap). t.kind) same))
+
+module _ (code : List Instr) (t : Table) (a b : ℕ) where
+  at_one_same : (r r' : ℤ) (x y : Answer) → r ≡ r' → IsAtOne code t a b r x → IsAtOne code t a b r' y → x ≡ y
+  at_one_same r r' (Ok x) (Ok y) e p q =
+      let p' : HasMagnitude code t a b r' x = subst (λ (z : ℤ). HasMagnitude code t a b z x) e p in
+      let same = (one_end (bits_of t.frac) code (inputs_of t a b r') p'.n q.n (Ok p'.value) (Ok q.value) p'.ends q.ends).1 in
+      let v : p'.value ≡ q.value = cc in
+      ap Ok (p'.bound' ∙ ap unsigned_abs v ∙ sym q.bound')
+  at_one_same r r' (Ok x) (Err g) e p q =
+      let p' : HasMagnitude code t a b r' x = subst (λ (z : ℤ). HasMagnitude code t a b z x) e p in
+      let same = (one_end (bits_of t.frac) code (inputs_of t a b r') p'.n q.n (Ok p'.value) (Err (record { pc = q.pc; kind = Operation q.kind })) p'.ends q.ends).1 in
+      absurd cc
+  at_one_same r r' (Err f) (Ok y) e p q =
+      let p' : HasFault code t a b r' f = subst (λ (z : ℤ). HasFault code t a b z f) e p in
+      let same = (one_end (bits_of t.frac) code (inputs_of t a b r') p'.n q.n (Err (record { pc = p'.pc; kind = Operation p'.kind })) (Ok q.value) p'.ends q.ends).1 in
+      absurd cc
+  at_one_same r r' (Err f) (Err g) e p q =
+      let p' : HasFault code t a b r' f = subst (λ (z : ℤ). HasFault code t a b z f) e p in
+      let same = (one_end (bits_of t.frac) code (inputs_of t a b r') p'.n q.n (Err (record { pc = p'.pc; kind = Operation p'.kind })) (Err (record { pc = q.pc; kind = Operation q.kind })) p'.ends q.ends).1 in
+      let trap = same_trap p'.pc q.pc p'.kind q.kind same in
+      ap Err (p'.told ∙ ap (λ (k : ℕ). fault.Fault a b r' k p'.kind) trap.0 ∙ ap (λ (k : Fault). fault.Fault a b r' q.pc k) trap.1 ∙ sym q.told)
+
+  -- ---- pieces
+
+  bounded_same : (s s' : Span) (x y : ℕ) → s.lo ≡ s'.lo → s.hi ≡ s'.hi → IsBounded code t a b s x → IsBounded code t a b s' y → x ≡ y
+  bounded_same s s' x y e f p q =
+      let w = inputs_same t a b s s' p.spans q.spans e f p.inputs q.inputs in
+      let v = inputs_same t a b s' s q.spans p.spans (sym e) (sym f) q.inputs p.inputs in
+      p.bound' ∙ same_magnitude p.result q.result (gives_within (bits_of t.frac) code p.spans q.spans p.result q.result w p.gives q.gives) (gives_within (bits_of t.frac) code q.spans p.spans q.result p.result v q.gives p.gives) ∙ sym q.bound'
+
+  bounded_stopped : (s s' : Span) (x pc : ℕ) (kind : Fault) → s.lo ≡ s'.lo → s.hi ≡ s'.hi → IsBounded code t a b s x → IsStopped code t a b s' pc kind → ⊥
+  bounded_stopped s s' x pc kind e f p q =
+      gives_no_stop (bits_of t.frac) code q.spans p.spans p.result pc kind (inputs_same t a b s' s q.spans p.spans (sym e) (sym f) q.inputs p.inputs) q.stops p.gives
+
+  stopped_same : (s s' : Span) (pc pc' : ℕ) (kind kind' : Fault) → s.lo ≡ s'.lo → s.hi ≡ s'.hi → IsStopped code t a b s pc kind → IsStopped code t a b s' pc' kind' → (pc ≡ pc') × (kind ≡ kind')
+  stopped_same s s' pc pc' kind kind' e f p q =
+      stops_same (bits_of t.frac) code p.spans q.spans pc pc' kind kind' (inputs_same t a b s s' p.spans q.spans e f p.inputs q.inputs) (inputs_same t a b s' s q.spans p.spans (sym e) (sym f) q.inputs p.inputs) p.stops q.stops
+
+  -- the first's refusal, else the second's, else what both magnitudes make
+  data InTurn (A B : Answer → Type 0) (g : ℕ → ℕ → Answer) : Answer → Type 0 where
+    at_first : {f : VerifyFault} → A (Err f) → InTurn A B g (Err f)
+    at_second : (x : ℕ) {f : VerifyFault} → A (Ok x) → B (Err f) → InTurn A B g (Err f)
+    at_neither : (x y : ℕ) → A (Ok x) → B (Ok y) → InTurn A B g (g x y)
+
+  no_refusal : (x : ℕ) (f : VerifyFault) → (let r : Answer = Ok x in r) ≡ Err f → ⊥
+  no_refusal x f e = absurd cc
+
+  same_number : (x y : ℕ) → (let r : Answer = Ok x in r) ≡ Ok y → x ≡ y
+  same_number x y e = cc
+
+  in_turn : (A A' B B' : Answer → Type 0) (g g' : ℕ → ℕ → Answer) (x y : Answer) → ((x y : Answer) → A x → A' y → x ≡ y) → ((x y : Answer) → B x → B' y → x ≡ y) → ((x y : ℕ) → g x y ≡ g' x y) → InTurn A B g x → InTurn A' B' g' y → x ≡ y
+  in_turn A A' B B' g g' x y da db dg (at_first {f = f} p) (at_first {f = f'} q) = da (Err f) (Err f') p q
+  in_turn A A' B B' g g' x y da db dg (at_first {f = f} p) (at_second m q r) = absurd (no_refusal m f (sym (da (Err f) (Ok m) p q)))
+  in_turn A A' B B' g g' x y da db dg (at_first {f = f} p) (at_neither m k q r) = absurd (no_refusal m f (sym (da (Err f) (Ok m) p q)))
+  in_turn A A' B B' g g' x y da db dg (at_second m p r) (at_first {f = f} q) = absurd (no_refusal m f (da (Ok m) (Err f) p q))
+  in_turn A A' B B' g g' x y da db dg (at_second m' {f = f} p r) (at_second k' {f = f'} q s) = db (Err f) (Err f') r s
+  in_turn A A' B B' g g' x y da db dg (at_second m' {f = f} p r) (at_neither k m q s) = absurd (no_refusal m f (sym (db (Err f) (Ok m) r s)))
+  in_turn A A' B B' g g' x y da db dg (at_neither m k p r) (at_first {f = f} q) = absurd (no_refusal m f (da (Ok m) (Err f) p q))
+  in_turn A A' B B' g g' x y da db dg (at_neither k m p r) (at_second m' {f = f} q s) = absurd (no_refusal m f (db (Ok m) (Err f) r s))
+  in_turn A A' B B' g g' x y da db dg (at_neither m n p r) (at_neither m' n' q s) =
+      let e : m ≡ m' = same_number m m' (da (Ok m) (Ok m') p q) in
+      let h : n ≡ n' = same_number n n' (db (Ok n) (Ok n') r s) in
+      ap (λ (k : ℕ). g k n) e ∙ ap (g m') h ∙ dg m' n'
+
+  -- what distances that stop come to
+  abbrev rest : ℕ → Span → ℕ → Fault → Answer → Type 0
+  rest zero s pc kind answer = InTurn (IsAtOne code t a b s.lo) (IsAtOne code t a b s.hi) (λ x y. Err (fault.Undecided a b s.lo s.hi pc kind)) answer
+  rest (suc d) s pc kind answer = (l : Span) × (u : Span) × AreHalves s l u × InTurn (IsPieceAnswer code t a b d l) (IsPieceAnswer code t a b d u) (λ x y. Ok (max x y)) answer
+
+  data View (depth : ℕ) (s : Span) : Answer → Type 0 where
+    alone : {x : Answer} → s.lo ≡ s.hi → IsAtOne code t a b s.lo x → View depth s x
+    whole : {x : ℕ} → s.lo <ℤ s.hi → IsBounded code t a b s x → View depth s (Ok x)
+    cut : {pc : ℕ} {kind : Fault} {x : Answer} → s.lo <ℤ s.hi → IsStopped code t a b s pc kind → rest depth s pc kind x → View depth s x
+
+  view : (depth : ℕ) (s : Span) (x : Answer) → IsPieceAnswer code t a b depth s x → View depth s x
+  view depth s x (single e p) = alone e p
+  view depth s x (bounded lt p) = whole lt p
+  view depth s x (lowest lt p q) = cut lt p (at_first q)
+  view depth s x (highest {x = m} lt p q r) = cut lt p (at_second m q r)
+  view depth s x (neither {x = m} {y = n} lt p q r) = cut lt p (at_neither m n q r)
+  view depth s x (lower {l = l} {u = u} lt p h q) = cut lt p (l, u, h, at_first q)
+  view depth s x (upper {l = l} {u = u} {x = m} lt p h q r) = cut lt p (l, u, h, at_second m q r)
+  view depth s x (both {l = l} {u = u} {x = m} {y = n} lt p h q r) = cut lt p (l, u, h, at_neither m n q r)
+
+  halves_same : (s s' l l' u u' : Span) → s.lo ≡ s'.lo → s.hi ≡ s'.hi → AreHalves s l u → AreHalves s' l' u' → (l.lo ≡ l'.lo) × (l.hi ≡ l'.hi) × (u.lo ≡ u'.lo) × (u.hi ≡ u'.hi)
+  halves_same s s' l l' u u' e f p q =
+      let middle : l.hi ≡ l'.hi = p.middle ∙ rw (e, f) refl ∙ sym q.middle in
+      (p.from ∙ e ∙ sym q.from, middle, p.next ∙ ap (λ (z : ℤ). z +ℤ pos 1) middle ∙ sym q.next, p.to ∙ f ∙ sym q.to)
+
+  -- what distances of these ends that stop so come to is determined
+  abbrev IsRestSame : ℕ → Type 0
+  IsRestSame depth = (s s' : Span) (pc : ℕ) (kind : Fault) (x y : Answer) → s.lo ≡ s'.lo → s.hi ≡ s'.hi → rest depth s pc kind x → rest depth s' pc kind y → x ≡ y
+
+  abbrev IsPieceSame : ℕ → Type 0
+  IsPieceSame depth = (s s' : Span) (x y : Answer) → s.lo ≡ s'.lo → s.hi ≡ s'.hi → IsPieceAnswer code t a b depth s x → IsPieceAnswer code t a b depth s' y → x ≡ y
+
+  rest_last : IsRestSame 0
+  rest_last s s' pc kind x y e f p q =
+      in_turn (IsAtOne code t a b s.lo) (IsAtOne code t a b s'.lo) (IsAtOne code t a b s.hi) (IsAtOne code t a b s'.hi) (λ m n. Err (fault.Undecided a b s.lo s.hi pc kind)) (λ m n. Err (fault.Undecided a b s'.lo s'.hi pc kind)) x y
+      (λ m n i j. at_one_same s.lo s'.lo m n e i j)
+      (λ m n i j. at_one_same s.hi s'.hi m n f i j)
+      (λ m n. ap (λ (z : ℤ). Err (fault.Undecided a b z s.hi pc kind)) e ∙ ap (λ (z : ℤ). Err (fault.Undecided a b s'.lo z pc kind)) f)
+      p q
+
+  rest_more : (d : ℕ) → IsPieceSame d → IsRestSame (suc d)
+  rest_more d same s s' pc kind x y e f p q =
+      let h = halves_same s s' p.0 q.0 p.1 q.1 e f p.2 q.2 in
+      in_turn (IsPieceAnswer code t a b d p.0) (IsPieceAnswer code t a b d q.0) (IsPieceAnswer code t a b d p.1) (IsPieceAnswer code t a b d q.1) (λ m n. Ok (max m n)) (λ m n. Ok (max m n)) x y
+      (λ m n i j. same p.0 q.0 m n h.0 h.1 i j)
+      (λ m n i j. same p.1 q.1 m n h.2 h.3 i j)
+      (λ m n. refl)
+      p.3 q.3
+
+  view_same : (depth : ℕ) (s s' : Span) (x y : Answer) → IsRestSame depth → s.lo ≡ s'.lo → s.hi ≡ s'.hi → View depth s x → View depth s' y → x ≡ y
+  view_same depth s s' x y same e f (alone one p) (alone one' q) = at_one_same s.lo s'.lo x y e p q
+  view_same depth s s' x y same e f (alone one p) (whole lt q) = absurd (omega (arith, ints, e, f, one, lt))
+  view_same depth s s' x y same e f (alone one p) (cut lt q r) = absurd (omega (arith, ints, e, f, one, lt))
+  view_same depth s s' x y same e f (whole lt p) (alone one q) = absurd (omega (arith, ints, e, f, one, lt))
+  view_same depth s s' x y same e f (whole {x = m} lt p) (whole {x = n} lt' q) = ap Ok (bounded_same s s' m n e f p q)
+  view_same depth s s' x y same e f (whole {x = m} lt p) (cut {pc = pc} {kind = kind} lt' q r) = absurd (bounded_stopped s s' m pc kind e f p q)
+  view_same depth s s' x y same e f (cut lt p r) (alone one q) = absurd (omega (arith, ints, e, f, one, lt))
+  view_same depth s s' x y same e f (cut {pc = pc} {kind = kind} lt p r) (whole {x = n} lt' q) = absurd (bounded_stopped s' s n pc kind (sym e) (sym f) q p)
+  view_same depth s s' x y same e f (cut {pc = pc} {kind = kind} lt p r) (cut {pc = pc'} {kind = kind'} lt' p' r') =
+      let h = stopped_same s s' pc pc' kind kind' e f p p' in
+      let r'' : rest depth s' pc kind y = subst (λ (k : ℕ). rest depth s' k kind y) (sym h.0) (subst (λ (k : Fault). rest depth s' pc' k y) (sym h.1) r') in
+      same s s' pc kind x y e f r r''
+
+  pub piece_same : (depth : ℕ) (s s' : Span) (x y : Answer) → s.lo ≡ s'.lo → s.hi ≡ s'.hi → IsPieceAnswer code t a b depth s x → IsPieceAnswer code t a b depth s' y → x ≡ y
+  piece_same zero s s' x y e f p q = view_same 0 s s' x y rest_last e f (view 0 s x p) (view 0 s' y q)
+  piece_same (suc d) s s' x y e f p q = view_same (suc d) s s' x y (rest_more d (piece_same d)) e f (view (suc d) s x p) (view (suc d) s' y q)
+
+-- ---- answers in their order
+
+pub joint_same : (A : ℕ → Answer → Type 0) (n : ℕ) (x y : Answer) → ((i : ℕ) (x y : Answer) → A i x → A i y → x ≡ y) → IsJoint A n x → IsJoint A n y → x ≡ y
+joint_same A n (Ok x) (Ok y) d p q =
+    let le : x ≤ y = at x y p q in
+    let ge : y ≤ x = at y x q p in
+    let e : x ≡ y = omega (arith, le, ge) in
+    ap Ok e
+  where
+    at : (x y : ℕ) → IsGreatest A n x → IsGreatest A n y → x ≤ y
+    at x y p q =
+        ⊎_elim
+        (λ (none : x ≡ 0). omega (arith, none))
+        (λ (b : (i : ℕ) × (i < n) × A i (Ok x)).
+        let h = q.each b.0 b.1 in
+        let same = d b.0 (Ok x) (Ok h.0) b.2 h.1 in
+        let e : x ≡ h.0 = cc in
+        let le = h.2 in
+        omega (arith, e, le))
+        p.attained
+joint_same A n (Ok x) (Err f) d p q =
+    let h = p.each q.at q.within in
+    let same = d q.at (Ok h.0) (Err f) h.1 q.refuses in
+    absurd cc
+joint_same A n (Err f) (Ok y) d p q =
+    let h = q.each p.at p.within in
+    let same = d p.at (Err f) (Ok h.0) p.refuses h.1 in
+    absurd cc
+joint_same A n (Err f) (Err g) d p q =
+    ⊎_elim
+    (λ (lt : p.at < q.at). let h = q.before p.at lt in let same = d p.at (Err f) (Ok h.0) p.refuses h.1 in absurd cc)
+    (λ (le : q.at ≤ p.at).
+    ⊎_elim
+    (λ (lt : q.at < p.at). let h = p.before q.at lt in let same = d q.at (Ok h.0) (Err g) h.1 q.refuses in absurd cc)
+    (λ (ge : p.at ≤ q.at). let e : p.at ≡ q.at = omega (arith, le, ge) in d q.at (Err f) (Err g) (subst (λ (i : ℕ). A i (Err f)) e p.refuses) q.refuses)
+    (cases_lt q.at p.at))
+    (cases_lt p.at q.at)
+
+module _ (code : List Instr) (t : Table) (g : Range) where
+  same_width : (v w : ℕ) → (g.core +ℤ pos v) ≡ g.cutoff → (g.core +ℤ pos w) ≡ g.cutoff → v ≡ w
+  same_width v w e f = omega (arith, ints, e, f)
+
+  not_empty : (i : ℕ) (s : Span) → IsEmptySlice g i → IsSlice g i s → ⊥
+  not_empty i s p q =
+      let w : p.width ≡ q.width = same_width p.width q.width p.wide q.wide in
+      let none : q.width * (i + 1) / g.slices ≤ q.width * i / g.slices = subst (λ (k : ℕ). k * (i + 1) / g.slices ≤ k * i / g.slices) w p.none in
+      let low = q.low in
+      let high = q.high in
+      let o = s.ordered in
+      omega (arith, ints, none, low, high, o)
+
+  slice_same : (a b i : ℕ) (x y : Answer) → IsSliceAnswer code t g a b i x → IsSliceAnswer code t g a b i y → x ≡ y
+  slice_same a b i x y (empty p) (empty q) = refl
+  slice_same a b i x y (empty p) (full {s = s} q r) = absurd (not_empty i s p q)
+  slice_same a b i x y (full {s = s} p r) (empty q) = absurd (not_empty i s q p)
+  slice_same a b i x y (full {s = s} p r) (full {s = s'} q r') =
+      let w : p.width ≡ q.width = same_width p.width q.width p.wide q.wide in
+      let lo : s.lo ≡ s'.lo = p.low ∙ ap (λ (k : ℕ). g.core +ℤ pos (k * i / g.slices)) w ∙ sym q.low in
+      let hi : s.hi ≡ s'.hi = p.high ∙ ap (λ (k : ℕ). g.core +ℤ pos (k * (i + 1) / g.slices) -ℤ pos 1) w ∙ sym q.high in
+      piece_same code t a b g.depth s s' x y lo hi r r'
+
+  found_same : (x y : Answer) → IsFoundOf code t g x → IsFoundOf code t g y → x ≡ y
+  found_same x y p q =
+      joint_same (row_answer code t g) (length t.rows) x y
+      (λ a m n r s.
+      joint_same (pair_answer code t g a) (length t.rows) m n
+      (λ b m' n' r' s'. joint_same (IsSliceAnswer code t g a b) g.slices m' n' (λ i u v h k. slice_same a b i u v h k) r' s')
+      r s)
+      p q
+
+-- ---- misfits
+
+told : Misfit → VerifyFault
+told (misfit.Malformed pc) = fault.Malformed pc
+told (misfit.DepthOver64 pc) = fault.DepthOver64 pc
+told misfit.Memory = fault.Memory
+
+-- code with a misfit misses something
+misses_not : (code : List Instr) (n : ℕ) (m : Misfit) → JumpsForward code → MissesNothing code n → (m ≡ misfit.Memory → ⊥) → IsFirst code n m → ⊥
+misses_not code n (misfit.Malformed pc) forward misses some first =
+    ⊎_elim
+    (λ (w : (pc : ℕ) × Lacks code n pc). let l = w.1 in l.lacks (misses.acts l.n w.0 l.height l.set l.instr l.path l.there).supplied)
+    (λ (w : EndsBadly code (length code)). w.other (misses.ends w.n w.height w.set w.path))
+    (goes_wrong code n (misfit.Malformed pc) forward first)
+misses_not code n (misfit.DepthOver64 pc) forward misses some first =
+    let o = first.overfills in
+    o.full (misses.acts o.n pc o.height o.set o.instr o.path o.there).room
+misses_not code n misfit.Memory forward misses some first = some refl
+
+same_misfit : (m m' : Misfit) → (let r : Result ℕ Misfit = Err m in r) ≡ Err m' → m ≡ m'
+same_misfit m m' e = cc
+
+one_misfit : (code : List Instr) (n : ℕ) (m m' : Misfit) → JumpsForward code → (m ≡ misfit.Memory → ⊥) → (m' ≡ misfit.Memory → ⊥) → IsFirst code n m → IsFirst code n m' → m ≡ m'
+one_misfit code n m m' forward some some' first first' =
+    ⊎_elim
+    (λ (e : (let r : Result ℕ Misfit = Err m' in r) ≡ Err m). sym (same_misfit m' m e))
+    (λ (o : ((let r : Result ℕ Misfit = Err m in r) ≡ Err misfit.Memory) ⊎ ((let r : Result ℕ Misfit = Err m' in r) ≡ Err misfit.Memory)).
+    ⊎_elim
+    (λ (e : (let r : Result ℕ Misfit = Err m in r) ≡ Err misfit.Memory). absurd (some (same_misfit m misfit.Memory e)))
+    (λ (e : (let r : Result ℕ Misfit = Err m' in r) ≡ Err misfit.Memory). absurd (some' (same_misfit m' misfit.Memory e)))
+    o)
+    (one_judgement code n (Err m) (Err m') forward first first')
+
+-- ---- verdicts
+
+module _ (code : List Instr) (t : Table) (g : Range) where
+  data Kind (x : Answer) : Type 0 where
+    searched : IsSearched code t g x → Kind x
+    misfit' : (m : Misfit) → (m ≡ misfit.Memory → ⊥) → IsFirst code (input_count t) m → x ≡ Err (told m) → Kind x
+
+  kind_of : (x : Answer) → IsVerdict code t g x → Kind x
+  unfolding told
+  kind_of (Ok bound) v = searched v
+  kind_of (Err (fault.Malformed pc)) v = misfit' (misfit.Malformed pc) (λ e. absurd cc) v refl
+  kind_of (Err (fault.DepthOver64 pc)) v = misfit' (misfit.DepthOver64 pc) (λ e. absurd cc) v refl
+  kind_of (Err (fault.Fault a b r pc kind)) v = searched v
+  kind_of (Err (fault.Undecided a b lo hi pc kind)) v = searched v
+  kind_of (Err fault.Memory) v = absurd v
+
+  kind_same : (x y : Answer) → JumpsForward code → Kind x → Kind y → x ≡ y
+  kind_same x y forward (searched p) (searched q) = found_same code t g x y p.found q.found
+  kind_same x y forward (searched p) (misfit' m some first e) = absurd (misses_not code (input_count t) m forward p.misses some first)
+  kind_same x y forward (misfit' m some first e) (searched p) = absurd (misses_not code (input_count t) m forward p.misses some first)
+  kind_same x y forward (misfit' m some first e) (misfit' m' some' first' e') =
+      e ∙ ap (λ (k : Misfit). Err (told k)) (one_misfit code (input_count t) m m' forward some some' first first') ∙ sym e'
+
+  pub verdict_same : (x y : Answer) → JumpsForward code → IsVerdict code t g x → IsVerdict code t g y → x ≡ y
+  verdict_same x y forward p q = kind_same x y forward (kind_of x p) (kind_of y q)
+
+  -- accepted code has no other verdict
+  pub accepted_alone : (bound : ℕ) (answer : Answer) → IsVerdict code t g (Ok bound) → IsVerdict code t g answer → answer ≡ Ok bound
+  accepted_alone bound answer p q = verdict_same answer (Ok bound) p.is_code.forward q p

@@ -1,0 +1,152 @@
+-- What is found of pieces, of slices and of pairs, one after another.
+use Rattle.std.proofs.Common.{◌≡◌, ◌≢◌, ℕ, zero, suc, ◌+◌, ◌-◌, ◌*◌, ◌/◌, ◌<◌, ◌≤◌, List, Ok, Err, refl, sym, ap, ◌∙◌, subst, arith, ⊎_elim, inl, inr, ℤ, pos, ◌+ℤ◌, ◌-ℤ◌, ◌≤ℤ◌, ◌<ℤ◌, max}
+use Rattle.std.specs.Prelude.{◌⊎◌}
+use Rattle.std.proofs.lemmas.Int.{ints}
+use Rattle.std.proofs.lemmas.Bool.{cases_eq, cases_lt}
+use Rattle.fixed.specs.Fractions.{bits_of}
+use Rattle.fixed.specs.declared.faults.Fault.{Fault}
+use Rattle.interval_domain.specs.declared.span.Span.{Span}
+use Rattle.interval_domain.specs.Spans.{AreHalves}
+use Rattle.kernel_code.specs.declared.instructions.Instr.{Instr}
+use Rattle.kernel_code.specs.declared.traps.Trap.{Trap}
+use Rattle.kernel_code.specs.declared.traps.TrapKind.{TrapKind}
+use Rattle.kernel_code.specs.declared.traps.TrapKind.TheVariants.{Operation}
+use Rattle.kernel_code.specs.Code.{IsCode}
+use Rattle.kernel_code.specs.Machine.{Ends}
+use Rattle.kernel_code.specs.Paths.{MissesNothing}
+use Rattle.kernel_code.specs.Tables.{Table, inputs_of}
+use Rattle.kernel_paths.specs.Misfits.{DoesWell, IsFirstMalformed, IsFirstOverfull}
+use Rattle.verifier.specs.declared.faults.VerifyFault.{VerifyFault}
+use Rattle.verifier.specs.declared.faults.VerifyFault.TheVariants as fault
+use Rattle.verifier.specs.Safety.{IsFound, input_count}
+use Rattle.verifier.specs.Verdicts.{Answer, HasFault, IsAtOne, IsFirstRefused, IsFoundOf, IsGreatest, IsPieceAnswer, IsSliceAnswer, IsStopped, IsVerdict, Range, UnlessMemory, both, empty, full, lower, single, upper}
+
+-- ---- want of memory
+
+pub unless_ok : (P : Answer → Type 0) (x : ℕ) → UnlessMemory P (Ok x) → P (Ok x)
+unless_ok P x h = ⊎_elim (λ (e : (let r : Answer = Ok x in r) ≡ Err fault.Memory). absurd cc) (λ (p : P (Ok x)). p) h
+
+pub unless_err : (P Q : Answer → Type 0) (f : VerifyFault) → (P (Err f) → Q (Err f)) → UnlessMemory P (Err f) → UnlessMemory Q (Err f)
+unless_err P Q f g h = ⊎_elim (λ (e : (let r : Answer = Err f in r) ≡ Err fault.Memory). inl e) (λ (p : P (Err f)). inr (g p)) h
+
+-- ---- answers in their order
+
+pub greatest_none : (A : ℕ → Answer → Type 0) → IsGreatest A 0 0
+greatest_none A = record { each = λ i lt. absurd (omega (arith, lt)); attained = inl refl }
+
+pub greatest_more : (A : ℕ → Answer → Type 0) (n x y z : ℕ) → IsGreatest A n x → A n (Ok y) → z ≡ max x y → IsGreatest A (n + 1) z
+greatest_more A n x y z g h e = record { each = each; attained = attained }
+  where
+    each : (i : ℕ) → i < n + 1 → (w : ℕ) × A i (Ok w) × (w ≤ z)
+    each i lt =
+        ⊎_elim
+        (λ (same : i ≡ n). (y, subst (λ (k : ℕ). A k (Ok y)) (sym same) h, (omega (arith, e))))
+        (λ (other : i ≢ n).
+        let b = g.each i (omega (arith, lt, other)) in
+        let le = b.2 in
+        (b.0, b.1, (omega (arith, e, le))))
+        (cases_eq i n)
+
+    attained : (z ≡ 0) ⊎ ((i : ℕ) × (i < n + 1) × A i (Ok z))
+    attained =
+        ⊎_elim
+        (λ (lt : x < y).
+        let same : y ≡ z = omega (arith, e, lt) in
+        inr (n, (omega arith), subst (λ (w : ℕ). A n (Ok w)) same h))
+        (λ (le : y ≤ x).
+        let same : x ≡ z = omega (arith, e, le) in
+        ⊎_elim
+        (λ (none : x ≡ 0). inl (sym same ∙ none))
+        (λ (b : (i : ℕ) × (i < n) × A i (Ok x)). let lt = b.1 in inr (b.0, (omega (arith, lt)), subst (λ (w : ℕ). A b.0 (Ok w)) same b.2))
+        g.attained)
+        (cases_lt x y)
+
+pub greatest_all : (A : ℕ → Answer → Type 0) (n m x : ℕ) → IsGreatest A n x → n ≡ m → IsGreatest A m x
+greatest_all A n m x g e = subst (λ (k : ℕ). IsGreatest A k x) e g
+
+pub first_refused : (A : ℕ → Answer → Type 0) (i n x : ℕ) (f : VerifyFault) → IsGreatest A i x → i < n → A i (Err f) → IsFirstRefused A n f
+first_refused A i n x f g lt h = record { at = i; within = lt; refuses = h; before = λ j below. let b = g.each j below in (b.0, b.1) }
+
+-- ---- one distance
+
+pub has_fault : (code : List Instr) (t : Table) (a b : ℕ) (r : ℤ) (n : ℕ) (trap : Trap) (kind : Fault) → Ends (bits_of t.frac) code (inputs_of t a b r) n (Err trap) → trap.kind ≡ Operation kind → HasFault code t a b r (fault.Fault a b r trap.pc kind)
+has_fault code t a b r n trap kind ends e =
+    let ends' : Ends (bits_of t.frac) code (inputs_of t a b r) n (Err (record { pc = trap.pc; kind = Operation kind })) =
+    subst (λ (k : TrapKind). Ends (bits_of t.frac) code (inputs_of t a b r) n (Err (record { pc = trap.pc; kind = k }))) e ends in
+    record { pc = trap.pc; kind = kind; n = n; ends = ends'; told = refl }
+
+-- ---- pieces
+
+module _ (code : List Instr) (t : Table) (a b : ℕ) where
+  pub one_single : (s : Span) (answer : Answer) → s.hi ≤ℤ s.lo → IsAtOne code t a b s.lo answer → (depth : ℕ) → IsPieceAnswer code t a b depth s answer
+  one_single s answer le h depth = single (let o = s.ordered in omega (arith, ints, le, o)) h
+
+  -- as many cuts as are left
+  pub at_depth : (depth : ℕ) (s : Span) (f : VerifyFault) → depth ≡ 0 → IsPieceAnswer code t a b 0 s (Err f) → IsPieceAnswer code t a b depth s (Err f)
+  at_depth depth s f e h = rw e h
+
+  pub judged_lower : (depth : ℕ) (s l u : Span) (pc : ℕ) (kind : Fault) (f : VerifyFault) → depth ≢ 0 → s.lo <ℤ s.hi → IsStopped code t a b s pc kind → AreHalves s l u → UnlessMemory (IsPieceAnswer code t a b (depth - 1) l) (Err f) → UnlessMemory (IsPieceAnswer code t a b depth s) (Err f)
+  judged_lower zero s l u pc kind f n two stop cut h = absurd (n refl)
+  judged_lower (suc d) s l u pc kind f n two stop cut h =
+      let e : suc d - 1 ≡ d = omega arith in
+      let h' : UnlessMemory (IsPieceAnswer code t a b d l) (Err f) = rw e at h in
+      unless_err (IsPieceAnswer code t a b d l) (IsPieceAnswer code t a b (suc d) s) f (λ p. lower two stop cut p) h'
+
+  pub judged_upper : (depth : ℕ) (s l u : Span) (pc : ℕ) (kind : Fault) (x : ℕ) (f : VerifyFault) → depth ≢ 0 → s.lo <ℤ s.hi → IsStopped code t a b s pc kind → AreHalves s l u → UnlessMemory (IsPieceAnswer code t a b (depth - 1) l) (Ok x) → UnlessMemory (IsPieceAnswer code t a b (depth - 1) u) (Err f)
+      → UnlessMemory (IsPieceAnswer code t a b depth s) (Err f)
+  judged_upper zero s l u pc kind x f n two stop cut g h = absurd (n refl)
+  judged_upper (suc d) s l u pc kind x f n two stop cut g h =
+      let e : suc d - 1 ≡ d = omega arith in
+      let g' : UnlessMemory (IsPieceAnswer code t a b d l) (Ok x) = rw e at g in
+      let h' : UnlessMemory (IsPieceAnswer code t a b d u) (Err f) = rw e at h in
+      unless_err (IsPieceAnswer code t a b d u) (IsPieceAnswer code t a b (suc d) s) f (λ p. upper two stop cut (unless_ok (IsPieceAnswer code t a b d l) x g') p) h'
+
+  pub judged_both : (depth : ℕ) (s l u : Span) (pc : ℕ) (kind : Fault) (x y z : ℕ) → depth ≢ 0 → s.lo <ℤ s.hi → IsStopped code t a b s pc kind → AreHalves s l u → UnlessMemory (IsPieceAnswer code t a b (depth - 1) l) (Ok x) → UnlessMemory (IsPieceAnswer code t a b (depth - 1) u) (Ok y)
+      → z ≡ max x y → UnlessMemory (IsPieceAnswer code t a b depth s) (Ok z)
+  judged_both zero s l u pc kind x y z n two stop cut g h m = absurd (n refl)
+  judged_both (suc d) s l u pc kind x y z n two stop cut g h m =
+      let e : suc d - 1 ≡ d = omega arith in
+      let g' : UnlessMemory (IsPieceAnswer code t a b d l) (Ok x) = rw e at g in
+      let h' : UnlessMemory (IsPieceAnswer code t a b d u) (Ok y) = rw e at h in
+      inr (subst (λ (w : ℕ). IsPieceAnswer code t a b (suc d) s (Ok w)) (sym m) (both two stop cut (unless_ok (IsPieceAnswer code t a b d l) x g') (unless_ok (IsPieceAnswer code t a b d u) y h')))
+
+-- ---- slices
+
+pub empty_slice : (code : List Instr) (t : Table) (g : Range) (a b i width : ℕ) → (g.core +ℤ pos width) ≡ g.cutoff → width * (i + 1) / g.slices ≤ width * i / g.slices → IsSliceAnswer code t g a b i (Ok 0)
+empty_slice code t g a b i width wide none = empty (record { width = width; wide = wide; none = none })
+
+pub full_slice : (code : List Instr) (t : Table) (g : Range) (a b i width from end : ℕ) (s : Span) (answer : Answer) → (g.core +ℤ pos width) ≡ g.cutoff → from ≡ width * i / g.slices → end ≡ width * (i + 1) / g.slices → s.lo ≡ (g.core +ℤ pos from) → s.hi ≡ (g.core +ℤ pos end -ℤ pos 1)
+    → IsPieceAnswer code t a b g.depth s answer → IsSliceAnswer code t g a b i answer
+full_slice code t g a b i width from end s answer wide ef ee lo hi h =
+    full
+    (record {
+      width = width;
+      wide = wide;
+      low = lo ∙ ap (λ (n : ℕ). g.core +ℤ pos n) ef;
+      high = hi ∙ ap (λ (n : ℕ). g.core +ℤ pos n -ℤ pos 1) ee;
+    })
+    h
+
+-- ---- the verdict
+
+-- a search tells no misfit
+found_verdict : (code : List Instr) (t : Table) (g : Range) (from last : ℤ) (limit : ℕ) (f : VerifyFault) → IsCode code → MissesNothing code (input_count t) → IsFound code t from last limit f → UnlessMemory (IsFoundOf code t g) (Err f) → (f ≡ fault.Memory) ⊎ IsVerdict code t g (Err f)
+found_verdict code t g from last limit (fault.Malformed pc) is m found h = absurd found
+found_verdict code t g from last limit (fault.DepthOver64 pc) is m found h = absurd found
+found_verdict code t g from last limit (fault.Fault a b r pc kind) is m found h =
+    ⊎_elim (λ (e : (let r : Answer = Err (fault.Fault a b r pc kind) in r) ≡ Err fault.Memory). absurd cc) (λ (p : IsFoundOf code t g (Err (fault.Fault a b r pc kind))). inr (record { is_code = is; misses = m; found = p })) h
+found_verdict code t g from last limit (fault.Undecided a b lo hi pc kind) is m found h =
+    ⊎_elim (λ (e : (let r : Answer = Err (fault.Undecided a b lo hi pc kind) in r) ≡ Err fault.Memory). absurd cc) (λ (p : IsFoundOf code t g (Err (fault.Undecided a b lo hi pc kind))). inr (record { is_code = is; misses = m; found = p })) h
+found_verdict code t g from last limit fault.Memory is m found h = inl refl
+
+pub accepted_verdict : (code : List Instr) (t : Table) (g : Range) (inputs steps bound : ℕ) → IsCode code → DoesWell code inputs steps → inputs ≡ input_count t → UnlessMemory (IsFoundOf code t g) (Ok bound) → IsVerdict code t g (Ok bound)
+accepted_verdict code t g inputs steps bound is d e h = record { is_code = is; misses = subst (λ (n : ℕ). MissesNothing code n) e d.misses; found = unless_ok (IsFoundOf code t g) bound h }
+
+pub refused_verdict : (code : List Instr) (t : Table) (g : Range) (from last : ℤ) (limit inputs steps : ℕ) (f : VerifyFault) → IsCode code → DoesWell code inputs steps → inputs ≡ input_count t → IsFound code t from last limit f → UnlessMemory (IsFoundOf code t g) (Err f) → (f ≡ fault.Memory) ⊎ IsVerdict code t g (Err f)
+refused_verdict code t g from last limit inputs steps f is d e found h = found_verdict code t g from last limit f is (subst (λ (n : ℕ). MissesNothing code n) e d.misses) found h
+
+pub first_malformed : (code : List Instr) (t : Table) (g : Range) (inputs pc : ℕ) → IsFirstMalformed code inputs pc → inputs ≡ input_count t → (fault.Malformed pc ≡ fault.Memory) ⊎ IsVerdict code t g (Err (fault.Malformed pc))
+first_malformed code t g inputs pc first e = inr (subst (λ (n : ℕ). IsFirstMalformed code n pc) e first)
+
+pub first_overfull : (code : List Instr) (t : Table) (g : Range) (inputs pc : ℕ) → IsFirstOverfull code inputs pc → inputs ≡ input_count t → (fault.DepthOver64 pc ≡ fault.Memory) ⊎ IsVerdict code t g (Err (fault.DepthOver64 pc))
+first_overfull code t g inputs pc first e = inr (subst (λ (n : ℕ). IsFirstOverfull code n pc) e first)

@@ -1,0 +1,563 @@
+-- The frames of all places, one place after another.
+use Rattle.std.proofs.Common.{◌≡◌, ◌≢◌, ℕ, zero, suc, ◌+◌, ◌<◌, ◌≤◌, List, [], ◌∷◌, length, Option, Some, None, Result, Ok, refl, sym, ap, ◌∙◌, subst, arith, ⊎_elim, inl, inr, if◌then◌else◌, ℤ, pos, negsuc, true, false, replicate}
+use Rattle.std.specs.Prelude.{◌⊎◌, slice_get, slice_index_or, nat_lt}
+use Rattle.std.proofs.lemmas.Bool.{cases_eq, cases_lt, lt-ltb, le-ltb}
+use Rattle.std.proofs.lemmas.Int.{ints}
+use Rattle.fixed.specs.declared.faults.Fault.{Fault}
+use Rattle.interval_domain.specs.declared.span.Span.{Span}
+use Rattle.interval_domain.specs.Spans.{IsMember, IsWithin, IsLeastSpan, IsOutcome, IsOutcomeOfTwo}
+use Rattle.kernel_code.specs.declared.instructions.Instr.{Instr}
+use Rattle.kernel_code.specs.declared.instructions.Instr.TheVariants.{Push, Input, Keep, Get, Binary, Unary, JumpIfZero, Jump}
+use Rattle.kernel_code.specs.declared.instructions.BinaryOperation.{BinaryOperation}
+use Rattle.kernel_code.specs.declared.instructions.UnaryOperation.{UnaryOperation}
+use Rattle.kernel_code.specs.Machine.{binary_of, unary_of}
+use Rattle.verifier.specs.Frames.{SpanFrame, AreWithin, IsLocalWithin, IsFrameWithin, local_of, IsPlain, IsUnset, Pushes, Pops, AppliesBinary, AppliesUnary}
+use Rattle.verifier.specs.Places.{IsOne, Sets, IsBehind, HasOther, HasZero, HasTop, MayCome, IsStart, IsLed, comes_from, IsLeastFrame, IsFrameOf, GoesOn, AreFrames, GivesSpan, StopsAt, Stops}
+use Rattle.verifier.specs.Slices.{frame_at, Takes, IsJoined, Joins, Branches, goes_on, jumps, may_jump, Stands}
+
+-- ---- spans within spans
+
+pub span_refl : (s : Span) → IsWithin s s
+span_refl s = record { members = λ x m. m }
+
+pub span_trans : (s t u : Span) → IsWithin s t → IsWithin t u → IsWithin s u
+span_trans s t u p q = record { members = λ x m. q.members x (p.members x m) }
+
+pub stack_refl : (ss : List Span) → AreWithin ss ss
+stack_refl [] = tt
+stack_refl (s ∷ ss) = (span_refl s, stack_refl ss)
+
+stack_trans : (ss ts us : List Span) → AreWithin ss ts → AreWithin ts us → AreWithin ss us
+stack_trans [] [] us p q = q
+stack_trans [] (t ∷ ts) us p q = absurd p
+stack_trans (s ∷ ss) [] us p q = absurd p
+stack_trans (s ∷ ss) (t ∷ ts) [] p q = absurd q
+stack_trans (s ∷ ss) (t ∷ ts) (u ∷ us) p q = (span_trans s t u p.0 q.0, stack_trans ss ts us p.1 q.1)
+
+local_refl : (o : Option Span) → IsLocalWithin o o
+local_refl None = tt
+local_refl (Some s) = span_refl s
+
+local_trans : (o p q : Option Span) → IsLocalWithin o p → IsLocalWithin p q → IsLocalWithin o q
+local_trans o p None h k = tt
+local_trans o None (Some t) h k = absurd k
+local_trans None (Some s) (Some t) h k = absurd h
+local_trans (Some r) (Some s) (Some t) h k = span_trans r s t h k
+
+pub frame_refl : (f : SpanFrame) → IsFrameWithin f f
+frame_refl f = record { stack' = stack_refl f.stack; locals' = λ k. local_refl (local_of f k) }
+
+pub frame_trans : (f g h : SpanFrame) → IsFrameWithin f g → IsFrameWithin g h → IsFrameWithin f h
+frame_trans f g h p q = record { stack' = stack_trans f.stack g.stack h.stack p.stack' q.stack'; locals' = λ k. local_trans (local_of f k) (local_of g k) (local_of h k) (p.locals' k) (q.locals' k) }
+
+-- ---- an instruction on a frame within another
+
+-- each input's span is within that of its number
+pub record AreInputsWithin (xs ys : List Span) : Type 0 where
+  pub each : (k : ℕ) (s : Span) → slice_get xs k ≡ Some s → (t : Span) × (slice_get ys k ≡ Some t) × IsWithin s t
+
+pub inputs_refl : (xs : List Span) → AreInputsWithin xs xs
+inputs_refl xs = record { each = λ k s e. (s, e, span_refl s) }
+
+pub ones_within : (v w : ℤ) (s t : Span) → v ≡ w → IsOne v s → IsOne w t → IsWithin s t
+ones_within v w s t e p q = record { members = λ x m. record { at_least = omega (arith, ints, e, p.lo', q.lo', m.at_least); at_most = omega (arith, ints, e, p.hi', q.hi', m.at_most) } }
+
+pub same_stacks : (f g : SpanFrame) (ss ts : List Span) → f.stack ≡ ss → g.stack ≡ ts → AreWithin f.stack g.stack → AreWithin ss ts
+same_stacks f g ss ts p q w = subst (λ (l : List Span). AreWithin l ts) p (subst (AreWithin f.stack) q w)
+
+from_stacks : (f g : SpanFrame) (ss ts : List Span) → f.stack ≡ ss → g.stack ≡ ts → AreWithin ss ts → AreWithin f.stack g.stack
+from_stacks f g ss ts p q w = subst (λ (l : List Span). AreWithin l g.stack) (sym p) (subst (AreWithin ss) (sym q) w)
+
+same_local : (f g f' g' : SpanFrame) (k : ℕ) → local_of f' k ≡ local_of f k → local_of g' k ≡ local_of g k → IsLocalWithin (local_of f k) (local_of g k) → IsLocalWithin (local_of f' k) (local_of g' k)
+same_local f g f' g' k p q w = subst (λ (o : Option Span). IsLocalWithin o (local_of g' k)) (sym p) (subst (IsLocalWithin (local_of f k)) (sym q) w)
+
+same_locals_of : (f g : SpanFrame) (k : ℕ) → g.locals ≡ f.locals → local_of g k ≡ local_of f k
+same_locals_of f g k e = ap (λ (l : List (Option Span)). slice_index_or l k None) e
+
+pushes_within : (s t : Span) (f f' g g' : SpanFrame) → IsFrameWithin f f' → IsWithin s t → Pushes s f g → Pushes t f' g' → IsFrameWithin g g'
+pushes_within s t f f' g g' w i p q =
+    record {
+      stack' = from_stacks g g' (s ∷ f.stack) (t ∷ f'.stack) p.stack q.stack (i, w.stack');
+      locals' = λ k. same_local f f' g g' k (same_locals_of f g k p.locals) (same_locals_of f' g' k q.locals) (w.locals' k);
+    }
+
+-- a span on top, and the rest
+pub tops_within : (s t : Span) (ss ts : List Span) (f f' : SpanFrame) → IsFrameWithin f f' → f.stack ≡ s ∷ ss → f'.stack ≡ t ∷ ts → IsWithin s t × AreWithin ss ts
+tops_within s t ss ts f f' w p q = same_stacks f f' (s ∷ ss) (t ∷ ts) p q w.stack'
+
+pops_within : (s t : Span) (f f' g g' : SpanFrame) → IsFrameWithin f f' → Pops s f g → Pops t f' g' → IsWithin s t × IsFrameWithin g g'
+pops_within s t f f' g g' w p q =
+    let tops = tops_within s t g.stack g'.stack f f' w p.stack q.stack in
+    (tops.0, record { stack' = tops.1; locals' = λ k. same_local f f' g g' k (same_locals_of f g k p.locals) (same_locals_of f' g' k q.locals) (w.locals' k) })
+
+some_within : (s t : Span) (o p : Option Span) → o ≡ Some s → p ≡ Some t → IsLocalWithin o p → IsWithin s t
+some_within s t o p e f w = let h : IsLocalWithin (Some s) (Some t) = subst (λ (x : Option Span). IsLocalWithin x (Some t)) e (subst (IsLocalWithin o) f w) in h
+
+within_some : (s t : Span) (o p : Option Span) → o ≡ Some s → p ≡ Some t → IsWithin s t → IsLocalWithin o p
+within_some s t o p e f w = subst (λ (x : Option Span). IsLocalWithin x p) (sym e) (subst (IsLocalWithin (Some s)) (sym f) w)
+
+sets_within : (k : ℕ) (s t : Span) (f f' g g' : SpanFrame) → IsFrameWithin f f' → IsWithin s t → Sets k s f g → Sets k t f' g' → IsFrameWithin g g'
+sets_within k s t f f' g g' w i p q =
+    record {
+      stack' = from_stacks g g' f.stack f'.stack p.stack q.stack w.stack';
+      locals' = λ j.
+          ⊎_elim
+          (λ (e : j ≡ k). subst (λ (n : ℕ). IsLocalWithin (local_of g n) (local_of g' n)) (sym e) (within_some s t (local_of g k) (local_of g' k) p.here q.here i))
+          (λ (n : j ≢ k). same_local f f' g g' j (p.others j n) (q.others j n) (w.locals' j))
+          (cases_eq j k);
+    }
+
+-- an operation's least span on members of smaller spans
+pub outcome_of_two : (op : ℤ → ℤ → Result ℤ Fault) (a b a' b' : Span) (r : Result ℤ Fault) → IsWithin a a' → IsWithin b b' → IsOutcomeOfTwo op a b r → IsOutcomeOfTwo op a' b' r
+outcome_of_two op a b a' b' r p q o = record { first = o.first; second = o.second; first_member = p.members o.first o.first_member; second_member = q.members o.second o.second_member; outcome = o.outcome }
+
+pub outcome_of_one : (op : ℤ → Result ℤ Fault) (a a' : Span) (r : Result ℤ Fault) → IsWithin a a' → IsOutcome op a r → IsOutcome op a' r
+outcome_of_one op a a' r p o = record { argument = o.argument; member = p.members o.argument o.member; outcome = o.outcome }
+
+held_end : (z x : ℤ) (s : Span) → Ok x ≡ (let r : Result ℤ Fault = Ok z in r) → IsMember z s → IsMember x s
+held_end z x s e m = let same : x ≡ z = cc in subst (λ (y : ℤ). IsMember y s) (sym same) m
+
+least_within : (P Q : Result ℤ Fault → Type 0) (s t : Span) → ((r : Result ℤ Fault) → P r → Q r) → IsLeastSpan P s → IsLeastSpan Q t → IsWithin s t
+least_within P Q s t f p q =
+    let lo = q.holds (Ok s.lo) (f (Ok s.lo) p.low) in
+    let hi = q.holds (Ok s.hi) (f (Ok s.hi) p.high) in
+    let at_lo : IsMember s.lo t = held_end lo.0 s.lo t lo.1 lo.2 in
+    let at_hi : IsMember s.hi t = held_end hi.0 s.hi t hi.1 hi.2 in
+    record { members = λ x m. record { at_least = omega (arith, ints, at_lo.at_least, m.at_least); at_most = omega (arith, ints, at_hi.at_most, m.at_most) } }
+
+binary_within : (bits : ℕ) (op : BinaryOperation) (f f' g g' : SpanFrame) → IsFrameWithin f f' → AppliesBinary bits op f g → AppliesBinary bits op f' g' → IsFrameWithin g g'
+binary_within bits op f f' g g' w p q =
+    let top = tops_within p.b q.b (p.a ∷ p.rest) (q.a ∷ q.rest) f f' w p.taken q.taken in
+    let i : IsWithin p.s q.s = least_within (IsOutcomeOfTwo (binary_of bits op) p.a p.b) (IsOutcomeOfTwo (binary_of bits op) q.a q.b) p.s q.s (λ r o. outcome_of_two (binary_of bits op) p.a p.b q.a q.b r top.1.0 top.0 o) p.least q.least in
+    record {
+      stack' = from_stacks g g' (p.s ∷ p.rest) (q.s ∷ q.rest) p.given q.given (i, top.1.1);
+      locals' = λ k. same_local f f' g g' k (same_locals_of f g k p.locals) (same_locals_of f' g' k q.locals) (w.locals' k);
+    }
+
+unary_within : (bits : ℕ) (op : UnaryOperation) (f f' g g' : SpanFrame) → IsFrameWithin f f' → AppliesUnary bits op f g → AppliesUnary bits op f' g' → IsFrameWithin g g'
+unary_within bits op f f' g g' w p q =
+    let top = tops_within p.a q.a p.rest q.rest f f' w p.taken q.taken in
+    let i : IsWithin p.s q.s = least_within (IsOutcome (unary_of bits op) p.a) (IsOutcome (unary_of bits op) q.a) p.s q.s (λ r o. outcome_of_one (unary_of bits op) p.a q.a r top.0 o) p.least q.least in
+    record {
+      stack' = from_stacks g g' (p.s ∷ p.rest) (q.s ∷ q.rest) p.given q.given (i, top.1);
+      locals' = λ k. same_local f f' g g' k (same_locals_of f g k p.locals) (same_locals_of f' g' k q.locals) (w.locals' k);
+    }
+
+-- a smaller frame leads to a smaller one
+pub behind_within : (bits : ℕ) (i : Instr) (xs ys : List Span) (f f' g g' : SpanFrame) → AreInputsWithin xs ys → IsFrameWithin f f' → IsBehind bits i xs f g → IsBehind bits i ys f' g' → IsFrameWithin g g'
+behind_within bits (Push v) xs ys f f' g g' n w p q = pushes_within p.span q.span f f' g g' w (ones_within v v p.span q.span refl p.one q.one) p.pushes q.pushes
+behind_within bits (Input k) xs ys f f' g g' n w p q =
+    let h = n.each k p.span p.there in
+    let there = q.there in
+    let at = h.1 in
+    let same : h.0 ≡ q.span = cc in
+    pushes_within p.span q.span f f' g g' w (subst (IsWithin p.span) same h.2) p.pushes q.pushes
+behind_within bits (Keep k) xs ys f f' g g' n w p q =
+    let t = pops_within p.span q.span f f' p.between q.between w p.pops q.pops in
+    sets_within k p.span q.span p.between q.between g g' t.1 t.0 p.sets q.sets
+behind_within bits (Get k) xs ys f f' g g' n w p q = pushes_within p.span q.span f f' g g' w (some_within p.span q.span (local_of f k) (local_of f' k) p.there q.there (w.locals' k)) p.pushes q.pushes
+behind_within bits (Binary op) xs ys f f' g g' n w p q = binary_within bits op f f' g g' w p q
+behind_within bits (Unary op) xs ys f f' g g' n w p q = unary_within bits op f f' g g' w p q
+behind_within bits (JumpIfZero to) xs ys f f' g g' n w p q = (pops_within p.span q.span f f' g g' w p.pops q.pops).1
+behind_within bits (Jump to) xs ys f f' g g' n w p q = subst (λ (x : SpanFrame). IsFrameWithin x g') (sym p) (subst (IsFrameWithin f) (sym q) w)
+
+-- ---- joins
+
+-- what comes to a place, and one frame more
+pub joined_place : (led led' : SpanFrame → Type 0) (g : SpanFrame) (o o' : Option SpanFrame) → ((f : SpanFrame) → led f → led' f) → ((f : SpanFrame) → led' f → led f ⊎ IsFrameWithin f g) → led' g → IsFrameOf led o → IsJoined o g o' → IsFrameOf led' o'
+joined_place led led' g None None up down mine before j = absurd j
+joined_place led led' g None (Some new) up down mine before j =
+    subst (IsLeastFrame led') (sym j)
+    (record {
+      some = (g, mine);
+      holds = λ f l. ⊎_elim (λ (x : led f). absurd (before f x)) (λ (x : IsFrameWithin f g). x) (down f l);
+      least = λ h all. all g mine;
+    })
+joined_place led led' g (Some e) None up down mine before j = absurd j
+joined_place led led' g (Some e) (Some new) up down mine before j =
+    record {
+      some = (g, mine);
+      holds = λ f l. ⊎_elim (λ (x : led f). frame_trans f e new (before.holds f x) j.first) (λ (x : IsFrameWithin f g). frame_trans f g new x j.second) (down f l);
+      least = λ h all. j.least h (before.least h (λ f x. all f (up f x))) (all g mine);
+    }
+
+pub same_place : (led led' : SpanFrame → Type 0) (o : Option SpanFrame) → ((f : SpanFrame) → led f → led' f) → ((f : SpanFrame) → led' f → led f) → IsFrameOf led o → IsFrameOf led' o
+same_place led led' None up down before = λ f l. before f (down f l)
+same_place led led' (Some e) up down before =
+    record {
+      some = (before.some.0, up before.some.0 before.some.1);
+      holds = λ f l. before.holds f (down f l);
+      least = λ h all. before.least h (λ f x. all f (up f x));
+    }
+
+-- ---- one place more
+
+-- the frames so far, and one from a place on
+put : (ℕ → Option SpanFrame) → ℕ → Option SpanFrame → ℕ → Option SpanFrame
+put frames here o k = if nat_lt k here then frames k else o
+
+put_below : (frames : ℕ → Option SpanFrame) (here k : ℕ) (o : Option SpanFrame) → k < here → put frames here o k ≡ frames k
+unfolding put
+put_below frames here k o lt = let t : nat_lt k here ≡ true = lt-ltb k here lt in rw t refl
+
+put_here : (frames : ℕ → Option SpanFrame) (here : ℕ) (o : Option SpanFrame) → put frames here o here ≡ o
+unfolding put
+put_here frames here o = let t : nat_lt here here ≡ false = le-ltb here here (omega arith) in rw t refl
+
+-- what the instruction at a place with this frame leads to another
+pub record IsLedHere (bits : ℕ) (code : List Instr) (inputs : List Span) (here to : ℕ) (o : Option SpanFrame) (led : SpanFrame) : Type 0 where
+  pub frame : SpanFrame
+  pub there : o ≡ Some frame
+  pub instr : Instr
+  pub at : slice_get code here ≡ Some instr
+  pub comes : MayCome instr here to frame
+  pub behind : IsBehind bits instr inputs frame led
+
+module _ (bits : ℕ) (code : List Instr) (inputs : List Span) where
+  led_up : (F G : ℕ → Option SpanFrame) (bound bound' to : ℕ) (f : SpanFrame) → bound ≤ bound' → ((k : ℕ) → k < bound → G k ≡ F k) → comes_from bits code inputs F bound to f → comes_from bits code inputs G bound' to f
+  led_up F G bound bound' to f le same (inl s) = inl s
+  led_up F G bound bound' to f le same (inr l) =
+      inr (record { from = l.from; lower = omega (arith, l.lower, le); frame = l.frame; there = same l.from l.lower ∙ l.there; instr = l.instr; at = l.at; comes = l.comes; behind = l.behind })
+
+  led_more : (F : ℕ → Option SpanFrame) (here to : ℕ) (o : Option SpanFrame) (f : SpanFrame) → comes_from bits code inputs F here to f → comes_from bits code inputs (put F here o) (here + 1) to f
+  led_more F here to o f l = led_up F (put F here o) here (here + 1) to f (omega arith) (λ k lt. put_below F here k o lt) l
+
+  led_less : (F : ℕ → Option SpanFrame) (here to : ℕ) (o : Option SpanFrame) (f : SpanFrame) → comes_from bits code inputs (put F here o) (here + 1) to f → comes_from bits code inputs F here to f ⊎ IsLedHere bits code inputs here to o f
+  led_less F here to o f (inl s) = inl (inl s)
+  led_less F here to o f (inr l) =
+      ⊎_elim
+      (λ (lt : l.from < here).
+      inl (inr (record { from = l.from; lower = lt; frame = l.frame; there = sym (put_below F here l.from o lt) ∙ l.there; instr = l.instr; at = l.at; comes = l.comes; behind = l.behind })))
+      (λ (le : here ≤ l.from).
+      let e : l.from ≡ here = omega (arith, le, l.lower) in
+      inr (record {
+        frame = l.frame;
+        there = sym (put_here F here o) ∙ ap (put F here o) (sym e) ∙ l.there;
+        instr = l.instr;
+        at = ap (slice_get code) (sym e) ∙ l.at;
+        comes = subst (λ (k : ℕ). MayCome l.instr k to l.frame) e l.comes;
+        behind = l.behind;
+      }))
+      (cases_lt l.from here)
+
+  led_here : (F : ℕ → Option SpanFrame) (here to : ℕ) (o : Option SpanFrame) (f : SpanFrame) → IsLedHere bits code inputs here to o f → comes_from bits code inputs (put F here o) (here + 1) to f
+  led_here F here to o f l = inr (record { from = here; lower = omega arith; frame = l.frame; there = put_here F here o ∙ l.there; instr = l.instr; at = l.at; comes = l.comes; behind = l.behind })
+
+  -- the frames so far, and the one that was taken here
+  past_more : (F : ℕ → Option SpanFrame) (here at : ℕ) (o : Option SpanFrame) → ((k : ℕ) → k < here → IsFrameOf (comes_from bits code inputs F k k) (F k)) → IsFrameOf (comes_from bits code inputs F here here) o → at ≤ here
+      → IsFrameOf (comes_from bits code inputs (put F here o) at at) (put F here o at)
+  past_more F here at o past now le =
+      let up = λ (f : SpanFrame). led_up F (put F here o) at at at f (omega arith) (λ k lt. put_below F here k o (omega (arith, lt, le))) in
+      let down = λ (f : SpanFrame). led_up (put F here o) F at at at f (omega arith) (λ k lt. sym (put_below F here k o (omega (arith, lt, le)))) in
+      ⊎_elim
+      (λ (lt : at < here).
+      subst (IsFrameOf (comes_from bits code inputs (put F here o) at at)) (sym (put_below F here at o lt)) (same_place (comes_from bits code inputs F at at) (comes_from bits code inputs (put F here o) at at) (F at) up down (past at lt)))
+      (λ (ge : here ≤ at).
+      let e : here ≡ at = omega (arith, ge, le) in
+      let is : put F here o at ≡ o = ap (put F here o) (sym e) ∙ put_here F here o in
+      subst (IsFrameOf (comes_from bits code inputs (put F here o) at at)) (sym is)
+      (same_place (comes_from bits code inputs F at at) (comes_from bits code inputs (put F here o) at at) o up down (subst (λ (k : ℕ). IsFrameOf (comes_from bits code inputs F k k) o) e now)))
+      (cases_lt at here)
+
+  goes_more : (F : ℕ → Option SpanFrame) (here at : ℕ) (o : Option SpanFrame) (frame : SpanFrame) → ((k : ℕ) (f : SpanFrame) → k < here → F k ≡ Some f → GoesOn bits code inputs k f) → ((f : SpanFrame) → o ≡ Some f → GoesOn bits code inputs here f) → at < here + 1
+      → put F here o at ≡ Some frame → GoesOn bits code inputs at frame
+  goes_more F here at o frame goes now lt e =
+      ⊎_elim
+      (λ (below : at < here). goes at frame below (sym (put_below F here at o below) ∙ e))
+      (λ (ge : here ≤ at).
+      let same : here ≡ at = omega (arith, ge, lt) in
+      let is : o ≡ Some frame = sym (put_here F here o) ∙ ap (put F here o) same ∙ e in
+      subst (λ (k : ℕ). GoesOn bits code inputs k frame) same (now frame is))
+      (cases_lt at here)
+
+  -- ---- the first place
+
+  no_led : (F : ℕ → Option SpanFrame) (to : ℕ) (f : SpanFrame) → IsLed bits code inputs F 0 to f → ⊥
+  no_led F to f l = absurd (omega (arith, l.lower))
+
+  start_within : (f g : SpanFrame) → IsStart f → IsStart g → IsFrameWithin f g
+  start_within f g s t =
+      record {
+        stack' = from_stacks f g [] [] s.stack t.stack tt;
+        locals' = λ k. subst (IsLocalWithin (local_of f k)) (sym (t.unset k)) tt;
+      }
+
+  pub stands_first : (frame : SpanFrame) (old new : List (Option SpanFrame)) → IsStart frame → ((at : ℕ) → frame_at old at ≡ None) → Joins 0 frame old new → Stands bits code inputs 0 new
+  stands_first frame old new start none j =
+      let F : ℕ → Option SpanFrame = λ k. None in
+      record {
+        frames = F;
+        past = λ at lt. absurd (omega (arith, lt));
+        goes = λ at f lt e. absurd (omega (arith, lt));
+        ahead = λ at le.
+            ⊎_elim
+            (λ (e : at ≡ 0).
+            subst (λ (k : ℕ). IsFrameOf (comes_from bits code inputs F 0 k) (frame_at new k)) (sym e)
+            (joined_place (λ f. ⊥) (comes_from bits code inputs F 0 0) frame (frame_at old 0) (frame_at new 0)
+            (λ f x. absurd x)
+            (λ f l. ⊎_elim (λ (x : (0 ≡ 0) × IsStart f). inr (start_within f frame x.1 start)) (λ (x : IsLed bits code inputs F 0 0 f). absurd (no_led F 0 f x)) l)
+            (inl (refl, start))
+            (subst (IsFrameOf (λ f. ⊥)) (sym (none 0)) (λ f x. x))
+            j.there))
+            (λ (n : at ≢ 0).
+            subst (IsFrameOf (comes_from bits code inputs F 0 at)) (sym (j.others at n ∙ none at))
+            (λ f l. ⊎_elim (λ (x : (at ≡ 0) × IsStart f). n x.0) (λ (x : IsLed bits code inputs F 0 at f). no_led F at f x) l))
+            (cases_eq at 0);
+      }
+
+  -- ---- a place is passed
+
+  pub stands_past : (here : ℕ) (old new : List (Option SpanFrame)) → Stands bits code inputs here old → Takes here None old new → Stands bits code inputs (here + 1) new
+  stands_past here old new s t =
+      let now : IsFrameOf (comes_from bits code inputs s.frames here here) None = subst (IsFrameOf (comes_from bits code inputs s.frames here here)) t.taken (s.ahead here (omega arith)) in
+      let F = put s.frames here None in
+      record {
+        frames = F;
+        past = λ at lt. past_more s.frames here at None s.past now (omega (arith, lt));
+        goes = λ at f lt e. goes_more s.frames here at None f s.goes (λ g h. absurd cc) lt e;
+        ahead = λ at le.
+            subst (IsFrameOf (comes_from bits code inputs F (here + 1) at)) (sym (t.others at (omega (arith, le))))
+            (same_place (comes_from bits code inputs s.frames here at) (comes_from bits code inputs F (here + 1) at) (frame_at old at)
+            (λ f l. led_more s.frames here at None f l)
+            (λ f l. ⊎_elim (λ (x : comes_from bits code inputs s.frames here at f). x) (λ (x : IsLedHere bits code inputs here at None f). let h = x.there in absurd cc) (led_less s.frames here at None f l))
+            (s.ahead at (omega (arith, le))));
+      }
+
+  -- to each place ahead the frame is led where the instruction may come to it, and to no other
+  pub data IsSpread (i : Instr) (here at : ℕ) (frame led : SpanFrame) (old new : Option SpanFrame) : Type 0 where
+    not : (MayCome i here at frame → ⊥) → new ≡ old → IsSpread i here at frame led old new
+    once : MayCome i here at frame → IsJoined old led new → IsSpread i here at frame led old new
+    twice : (between : Option SpanFrame) → MayCome i here at frame → IsJoined old led between → IsJoined between led new → IsSpread i here at frame led old new
+
+  spread_place : (F : ℕ → Option SpanFrame) (here at : ℕ) (i : Instr) (frame led : SpanFrame) (o o' : Option SpanFrame) → slice_get code here ≡ Some i → IsBehind bits i inputs frame led → IsFrameOf (comes_from bits code inputs F here at) o
+      → IsSpread i here at frame led o o' → IsFrameOf (comes_from bits code inputs (put F here (Some frame)) (here + 1) at) o'
+  spread_place F here at i frame led o o' there behind before spread = by spread
+    where
+      G : ℕ → Option SpanFrame
+      G = put F here (Some frame)
+
+      old : SpanFrame → Type 0
+      old = comes_from bits code inputs F here at
+
+      new : SpanFrame → Type 0
+      new = comes_from bits code inputs (put F here (Some frame)) (here + 1) at
+
+      up : (f : SpanFrame) → old f → new f
+      up f l = led_more F here at (Some frame) f l
+
+      -- what is led from here is the one frame
+      only : (f : SpanFrame) → IsLedHere bits code inputs here at (Some frame) f → MayCome i here at frame × IsFrameWithin f led
+      only f x =
+          let at' = x.at in
+          let there' = x.there in
+          let same : x.instr ≡ i = cc in
+          let frame' : x.frame ≡ frame = cc in
+          let comes = subst (λ (j : Instr). MayCome j here at frame) same (subst (λ (g : SpanFrame). MayCome x.instr here at g) frame' x.comes) in
+          let b = subst (λ (j : Instr). IsBehind bits j inputs frame f) same (subst (λ (g : SpanFrame). IsBehind bits x.instr inputs g f) frame' x.behind) in
+          (comes, behind_within bits i inputs inputs frame frame f led (inputs_refl inputs) (frame_refl frame) b behind)
+
+      down : (f : SpanFrame) → new f → old f ⊎ IsFrameWithin f led
+      down f l = ⊎_elim (λ (x : old f). inl x) (λ (x : IsLedHere bits code inputs here at (Some frame) f). inr (only f x).1) (led_less F here at (Some frame) f l)
+
+      mine : MayCome i here at frame → new led
+      mine comes = led_here F here at (Some frame) led (record { frame = frame; there = refl; instr = i; at = there; comes = comes; behind = behind })
+
+      by : IsSpread i here at frame led o o' → IsFrameOf new o'
+      by (not none same) =
+          subst (IsFrameOf new) (sym same)
+          (same_place old new o up
+          (λ f l. ⊎_elim (λ (x : old f). x) (λ (x : IsLedHere bits code inputs here at (Some frame) f). absurd (none (only f x).0)) (led_less F here at (Some frame) f l))
+          before)
+      by (once comes j) = joined_place old new led o o' up down (mine comes) before j
+      by (twice between comes j k) =
+          let first = joined_place old new led o between up down (mine comes) before j in
+          joined_place new new led between o' (λ f l. l) (λ f l. inl l) (mine comes) first k
+
+  pub stands_on : (here : ℕ) (i : Instr) (frame led : SpanFrame) (old between new : List (Option SpanFrame)) → Stands bits code inputs here old → Takes here (Some frame) old between → slice_get code here ≡ Some i → IsBehind bits i inputs frame led
+      → ((at : ℕ) → here < at → IsSpread i here at frame led (frame_at between at) (frame_at new at)) → Stands bits code inputs (here + 1) new
+  stands_on here i frame led old between new s t there behind spread =
+      let now : IsFrameOf (comes_from bits code inputs s.frames here here) (Some frame) = subst (IsFrameOf (comes_from bits code inputs s.frames here here)) t.taken (s.ahead here (omega arith)) in
+      record {
+        frames = put s.frames here (Some frame);
+        past = λ at lt. past_more s.frames here at (Some frame) s.past now (omega (arith, lt));
+        goes = λ at f lt e.
+            goes_more s.frames here at (Some frame) f s.goes
+            (λ g h. let same : frame ≡ g = cc in record { instr = i; at = there; new = led; behind = subst (λ (x : SpanFrame). IsBehind bits i inputs x led) same behind })
+            lt e;
+        ahead = λ at le.
+            let before : IsFrameOf (comes_from bits code inputs s.frames here at) (frame_at between at) =
+            subst (IsFrameOf (comes_from bits code inputs s.frames here at)) (sym (t.others at (omega (arith, le)))) (s.ahead at (omega (arith, le))) in
+            spread_place s.frames here at i frame led (frame_at between at) (frame_at new at) there behind before (spread at (omega (arith, le)));
+      }
+
+  -- one that doesn't jump
+
+  plain_comes : (i : Instr) (here to : ℕ) (frame : SpanFrame) → IsPlain i → to ≡ here + 1 → MayCome i here to frame
+  plain_comes (Push v) here to frame p e = e
+  plain_comes (Input k) here to frame p e = e
+  plain_comes (Keep k) here to frame p e = e
+  plain_comes (Get k) here to frame p e = e
+  plain_comes (Binary op) here to frame p e = e
+  plain_comes (Unary op) here to frame p e = e
+  plain_comes (JumpIfZero target) here to frame p e = absurd p
+  plain_comes (Jump target) here to frame p e = absurd p
+
+  plain_only : (i : Instr) (here to : ℕ) (frame : SpanFrame) → IsPlain i → MayCome i here to frame → to ≡ here + 1
+  plain_only (Push v) here to frame p e = e
+  plain_only (Input k) here to frame p e = e
+  plain_only (Keep k) here to frame p e = e
+  plain_only (Get k) here to frame p e = e
+  plain_only (Binary op) here to frame p e = e
+  plain_only (Unary op) here to frame p e = e
+  plain_only (JumpIfZero target) here to frame p e = absurd p
+  plain_only (Jump target) here to frame p e = absurd p
+
+  spread_by : (i : Instr) (here to at : ℕ) (frame led : SpanFrame) (old new : List (Option SpanFrame)) → (at ≡ to → MayCome i here at frame) → (MayCome i here at frame → at ≡ to) → Joins to led old new → IsSpread i here at frame led (frame_at old at) (frame_at new at)
+  spread_by i here to at frame led old new f g j =
+      ⊎_elim
+      (λ (e : at ≡ to). once (f e) (subst (λ (k : ℕ). IsJoined (frame_at old k) led (frame_at new k)) (sym e) j.there))
+      (λ (n : at ≢ to). not (λ m. n (g m)) (j.others at n))
+      (cases_eq at to)
+
+  pub stands_plain : (here : ℕ) (i : Instr) (frame led : SpanFrame) (old between new : List (Option SpanFrame)) → Stands bits code inputs here old → Takes here (Some frame) old between → slice_get code here ≡ Some i → IsPlain i → IsBehind bits i inputs frame led → Joins (here + 1) led between new
+      → Stands bits code inputs (here + 1) new
+  stands_plain here i frame led old between new s t there p b j =
+      stands_on here i frame led old between new s t there b (λ at lt. spread_by i here (here + 1) at frame led between new (λ e. plain_comes i here at frame p e) (λ m. plain_only i here at frame p m) j)
+
+  pub stands_jump : (here to : ℕ) (frame : SpanFrame) (old between new : List (Option SpanFrame)) → Stands bits code inputs here old → Takes here (Some frame) old between → slice_get code here ≡ Some (Jump to) → Joins to frame between new → Stands bits code inputs (here + 1) new
+  stands_jump here to frame old between new s t there j = stands_on here (Jump to) frame frame old between new s t there refl (λ at lt. spread_by (Jump to) here to at frame frame between new (λ e. e) (λ m. m) j)
+
+  -- a jump at 0
+
+  top_of : (P Q : Span → Type 0) (s : Span) (frame rest : SpanFrame) → Pops s frame rest → HasTop P frame → P s
+  top_of P Q s frame rest p h =
+      let stack = p.stack in
+      let top = h.top in
+      let same : h.span ≡ s = cc in
+      subst P same h.it
+
+  has_top : (P : Span → Type 0) (s : Span) (frame rest : SpanFrame) → Pops s frame rest → P s → HasTop P frame
+  has_top P s frame rest p h = record { span = s; rest = rest.stack; top = p.stack; it = h }
+
+  -- a member that isn't 0
+  lo_other : (s : Span) → (HasZero s → ⊥) → HasOther s
+  lo_other s none =
+      record {
+        number = s.lo;
+        member = record { at_least = omega (arith, ints); at_most = s.ordered };
+        other = λ e. none (record { at_least = omega (arith, ints, e); at_most = let o = s.ordered in omega (arith, ints, e, o) });
+      }
+
+  two_other : (s : Span) → (s.lo ≡ s.hi → ⊥) → HasOther s
+  two_other s two =
+      ⊎_elim
+      (λ (e : s.lo ≡ pos 0).
+      record {
+        number = s.hi;
+        member = record { at_least = s.ordered; at_most = omega (arith, ints) };
+        other = λ f. two (e ∙ sym f);
+      })
+      (λ (n : s.lo ≡ pos 0 → ⊥). record { number = s.lo; member = record { at_least = omega (arith, ints); at_most = s.ordered }; other = n })
+      (cases_int s.lo)
+    where
+      cases_int : (z : ℤ) → (z ≡ pos 0) ⊎ (z ≡ pos 0 → ⊥)
+      cases_int (pos zero) = inl refl
+      cases_int (pos (suc n)) = inr (λ e. absurd cc)
+      cases_int (negsuc n) = inr (λ e. absurd cc)
+
+  one_none : (s : Span) → HasZero s → s.lo ≡ s.hi → HasOther s → ⊥
+  one_none s z e h =
+      let m = h.member in
+      h.other (omega (arith, ints, z.at_least, z.at_most, e, m.at_least, m.at_most))
+
+  -- both ways
+  spread_both : (here target at : ℕ) (frame rest : SpanFrame) (old between new : List (Option SpanFrame)) → HasTop HasOther frame → HasTop HasZero frame → Joins (here + 1) rest old between → Joins target rest between new
+      → IsSpread (JumpIfZero target) here at frame rest (frame_at old at) (frame_at new at)
+  spread_both here target at frame rest old between new away here' j k =
+      ⊎_elim
+      (λ (e : at ≡ here + 1).
+      let first : IsJoined (frame_at old at) rest (frame_at between at) = subst (λ (n : ℕ). IsJoined (frame_at old n) rest (frame_at between n)) (sym e) j.there in
+      ⊎_elim
+      (λ (f : at ≡ target).
+      twice (frame_at between at) (inl (e, away)) first (subst (λ (n : ℕ). IsJoined (frame_at between n) rest (frame_at new n)) (sym f) k.there))
+      (λ (n : at ≢ target). once (inl (e, away)) (subst (IsJoined (frame_at old at) rest) (sym (k.others at n)) first))
+      (cases_eq at target))
+      (λ (m : at ≢ here + 1).
+      ⊎_elim
+      (λ (f : at ≡ target).
+      let second : IsJoined (frame_at between at) rest (frame_at new at) = subst (λ (n : ℕ). IsJoined (frame_at between n) rest (frame_at new n)) (sym f) k.there in
+      once (inr (f, here')) (subst (λ (o : Option SpanFrame). IsJoined o rest (frame_at new at)) (j.others at m) second))
+      (λ (n : at ≢ target). not (λ c. ⊎_elim (λ (x : (at ≡ here + 1) × HasTop HasOther frame). m x.0) (λ (x : (at ≡ target) × HasTop HasZero frame). n x.0) c) (k.others at n ∙ j.others at m))
+      (cases_eq at target))
+      (cases_eq at (here + 1))
+
+  spread_branch : (here target at : ℕ) (frame : SpanFrame) (old new : List (Option SpanFrame)) → Branches (here + 1) target frame old new → (led : SpanFrame) × IsBehind bits (JumpIfZero target) inputs frame led × ((at : ℕ) → here < at → IsSpread (JumpIfZero target) here at frame led (frame_at old at) (frame_at new at))
+  spread_branch here target at frame old new (goes_on {s = s} {rest = rest} p without j) = (
+    rest,
+    record { span = s; pops = p },
+    λ at lt.
+        spread_by (JumpIfZero target) here (here + 1) at frame rest old new
+        (λ e. inl (e, has_top HasOther s frame rest p (lo_other s without)))
+        (λ c. ⊎_elim (λ (x : (at ≡ here + 1) × HasTop HasOther frame). x.0) (λ (x : (at ≡ target) × HasTop HasZero frame). absurd (without (top_of HasZero HasZero s frame rest p x.1))) c)
+        j,
+  )
+  spread_branch here target at frame old new (jumps {s = s} {rest = rest} p holds single j) = (
+    rest,
+    record { span = s; pops = p },
+    λ at lt.
+        spread_by (JumpIfZero target) here target at frame rest old new
+        (λ e. inr (e, has_top HasZero s frame rest p holds))
+        (λ c. ⊎_elim (λ (x : (at ≡ here + 1) × HasTop HasOther frame). absurd (one_none s holds single (top_of HasOther HasOther s frame rest p x.1))) (λ (x : (at ≡ target) × HasTop HasZero frame). x.0) c)
+        j,
+  )
+  spread_branch here target at frame old new (may_jump {s = s} {rest = rest} {between = between} p holds two j k) = (
+    rest,
+    record { span = s; pops = p },
+    λ at lt. spread_both here target at frame rest old between new (has_top HasOther s frame rest p (two_other s two)) (has_top HasZero s frame rest p holds) j k,
+  )
+
+  pub stands_branch : (here target : ℕ) (frame : SpanFrame) (old between new : List (Option SpanFrame)) → Stands bits code inputs here old → Takes here (Some frame) old between → slice_get code here ≡ Some (JumpIfZero target) → Branches (here + 1) target frame between new
+      → Stands bits code inputs (here + 1) new
+  stands_branch here target frame old between new s t there b =
+      let spread = spread_branch here target here frame between new b in
+      stands_on here (JumpIfZero target) frame spread.0 old between new s t there spread.1 spread.2
+
+  -- ---- what is found
+
+  no_spans : (l : List Span) → length l ≡ 0 → l ≡ []
+  no_spans [] e = refl
+  no_spans (x ∷ l) e = absurd (omega (arith, e))
+
+  -- the frames up to a place whose frame was taken
+  frames_to : (here : ℕ) (frame : SpanFrame) (old new : List (Option SpanFrame)) → Stands bits code inputs here old → Takes here (Some frame) old new
+      → (F : ℕ → Option SpanFrame) × AreFrames bits code inputs here F × (F here ≡ Some frame)
+  frames_to here frame old new s t =
+      let now : IsFrameOf (comes_from bits code inputs s.frames here here) (Some frame) = subst (IsFrameOf (comes_from bits code inputs s.frames here here)) t.taken (s.ahead here (omega arith)) in (
+        put s.frames here (Some frame),
+        record {
+          each = λ at le. past_more s.frames here at (Some frame) s.past now le;
+          goes = λ at f lt e. s.goes at f lt (sym (put_below s.frames here at (Some frame) lt) ∙ e);
+        },
+        put_here s.frames here (Some frame),
+      )
+
+  pub gives_span : (s : Span) (frame rest : SpanFrame) (old new : List (Option SpanFrame)) → Stands bits code inputs (length code) old → Takes (length code) (Some frame) old new → Pops s frame rest → length frame.stack ≡ 1 → GivesSpan bits code inputs s
+  gives_span s frame rest old new st t p one =
+      let f = frames_to (length code) frame old new st t in
+      let none : length rest.stack ≡ 0 = omega (arith, ap length p.stack, one) in
+      record { frames = f.0; are = f.1; frame = frame; there = f.2; alone = p.stack ∙ ap (λ (l : List Span). s ∷ l) (no_spans rest.stack none) }
+
+  pub stops_at : (here : ℕ) (i : Instr) (fault : Fault) (frame : SpanFrame) (old new : List (Option SpanFrame)) → Stands bits code inputs here old → Takes here (Some frame) old new → slice_get code here ≡ Some i → Stops bits i frame fault → StopsAt bits code inputs here fault
+  stops_at here i fault frame old new st t there stop =
+      let f = frames_to here frame old new st t in
+      record { frames = f.0; are = f.1; frame = frame; there = f.2; instr = i; at = there; stops = stop }
+
+-- ---- the start
+
+unset_none : (n k : ℕ) → slice_index_or (replicate n (let o : Option Span = None in o)) k None ≡ None
+unset_none zero k = refl
+unset_none (suc n) zero = refl
+unset_none (suc n) (suc k) = unset_none n k
+
+pub is_start : (count : ℕ) (frame : SpanFrame) → IsUnset count frame → IsStart frame
+is_start count frame u = record { stack = u.stack; unset = λ k. ap (λ (l : List (Option Span)). slice_index_or l k None) u.locals ∙ unset_none count k }

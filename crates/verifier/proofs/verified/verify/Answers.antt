@@ -1,0 +1,17 @@
+use Rattle.std.proofs.Common.{◌≡◌, Err, Ok, inl, inr, ⊎_elim}
+use Rattle.verifier.specs.Verdicts.{IsVerdict, range}
+use Rattle.verifier.specs.declared.faults.VerifyFault.TheVariants as fault
+use Rattle.verifier.proofs.OneVerdict.{verdict_same}
+use Rattle.verifier.proofs.verified.verify.Goals as goal
+
+pub returns-in-Ok-clause-only_bound : goal.returns-in-Ok-clause-only_bound
+returns-in-Ok-clause-only_bound g c = λ answer v.
+    verdict_same c.args.code c.args.table (range c.args.core c.args.cutoff c.args.slices 24) answer (Ok c.in-Ok.certificate.bound) c.certify_to.ensures.code.forward v c.in-Ok.ensures.bound
+
+pub returns-clause-only_refusal : goal.returns-clause-only_refusal
+returns-clause-only_refusal g c = λ answer v.
+    let within = range c.args.core c.args.cutoff c.args.slices 24 in
+    ⊎_elim
+    (λ (e : c.in-Err.fault ≡ fault.Memory). inl e)
+    (λ (w : IsVerdict c.args.code c.args.table within (Err c.in-Err.fault)). inr (verdict_same c.args.code c.args.table within answer (Err c.in-Err.fault) c.certify_to.ensures.code.forward v w))
+    c.in-Err.ensures.verdict

@@ -1,0 +1,188 @@
+-- The verdict on code: the greatest magnitude of its values by their spans, or the first refusal. There is one for each
+-- code, table, range of distances, number of slices and depth.
+use Rattle.std.specs.Prelude.{◌≡◌, ℕ, suc, ◌+◌, ◌*◌, ◌/◌, ◌<◌, ◌≤◌, ◌⊎◌, max, List, length, ℤ, pos, ◌+ℤ◌, ◌-ℤ◌, ◌<ℤ◌, Result, Ok, Err, Some, slice_get, unsigned_abs}
+use Rattle.fixed.specs.Fractions.{bits_of}
+use Rattle.fixed.specs.declared.faults.Fault.{Fault}
+use Rattle.interval_domain.specs.declared.span.Span.{Span}
+use Rattle.interval_domain.specs.Spans.{AreHalves}
+use Rattle.kernel_code.specs.declared.instructions.Instr.{Instr}
+use Rattle.kernel_code.specs.declared.traps.TrapKind.TheVariants.{Operation}
+use Rattle.kernel_code.specs.Code.{IsCode}
+use Rattle.kernel_code.specs.Machine.{Ends}
+use Rattle.kernel_code.specs.Paths.{MissesNothing}
+use Rattle.kernel_code.specs.Tables.{Table, inputs_of}
+use Rattle.kernel_paths.specs.Misfits.{IsFirstMalformed, IsFirstOverfull}
+use Rattle.verifier.specs.declared.faults.VerifyFault.{VerifyFault}
+use Rattle.verifier.specs.declared.faults.VerifyFault.TheVariants as fault
+use Rattle.verifier.specs.Safety.{input_count}
+use Rattle.verifier.specs.Places.{IsOne, GivesSpan, StopsAt}
+
+-- what is found: the greatest magnitude, or why there is none
+abbrev pub Answer : Type 0
+Answer = Result ℕ VerifyFault
+
+-- ---- some distances, by the spans
+
+-- the one value of an input, the same at any distance
+pub record IsOneInput (t : Table) (a b : ℕ) (r : ℤ) (k : ℕ) (s : Span) : Type 0 where
+  pub value : ℤ
+  pub there : slice_get (inputs_of t a b r) k ≡ Some value
+  pub one : IsOne value s
+
+-- input 0 has the distances, each other its value
+pub record AreInputSpans (t : Table) (a b : ℕ) (distances : Span) (spans : List Span) : Type 0 where
+  pub long : length spans ≡ input_count t
+  pub first : slice_get spans 0 ≡ Some distances
+  pub others : (k : ℕ) (s : Span) → 1 ≤ k → slice_get spans k ≡ Some s → IsOneInput t a b distances.lo k s
+
+abbrev pub magnitude_of : Span → ℕ
+magnitude_of s = max (unsigned_abs s.lo) (unsigned_abs s.hi)
+
+-- by the span of the value at the end
+pub record IsBounded (code : List Instr) (t : Table) (a b : ℕ) (distances : Span) (bound : ℕ) : Type 0 where
+  pub spans : List Span
+  pub inputs : AreInputSpans t a b distances spans
+  pub result : Span
+  pub gives : GivesSpan (bits_of t.frac) code spans result
+  pub bound' : bound ≡ magnitude_of result
+
+-- an operation may have no value
+pub record IsStopped (code : List Instr) (t : Table) (a b : ℕ) (distances : Span) (pc : ℕ) (fault : Fault) : Type 0 where
+  pub spans : List Span
+  pub inputs : AreInputSpans t a b distances spans
+  pub stops : StopsAt (bits_of t.frac) code spans pc fault
+
+-- ---- one distance, by the machine
+
+pub record HasMagnitude (code : List Instr) (t : Table) (a b : ℕ) (r : ℤ) (bound : ℕ) : Type 0 where
+  pub value : ℤ
+  pub n : ℕ
+  pub ends : Ends (bits_of t.frac) code (inputs_of t a b r) n (Ok value)
+  pub bound' : bound ≡ unsigned_abs value
+
+pub record HasFault (code : List Instr) (t : Table) (a b : ℕ) (r : ℤ) (f : VerifyFault) : Type 0 where
+  pub pc : ℕ
+  pub kind : Fault
+  pub n : ℕ
+  pub ends : Ends (bits_of t.frac) code (inputs_of t a b r) n (Err (record { pc = pc; kind = Operation kind }))
+  pub told : f ≡ fault.Fault a b r pc kind
+
+abbrev pub IsAtOne : List Instr → Table → (a b : ℕ) → ℤ → Answer → Type 0
+IsAtOne code t a b r (Ok bound) = HasMagnitude code t a b r bound
+IsAtOne code t a b r (Err f) = HasFault code t a b r f
+
+-- ---- some distances, cut in two so many times where they stop
+
+pub data IsPieceAnswer (code : List Instr) (t : Table) (a b : ℕ) : (depth : ℕ) → Span → Answer → Type 0 where
+  -- one distance
+  single : {depth : ℕ} {s : Span} {answer : Answer}
+      → s.lo ≡ s.hi → IsAtOne code t a b s.lo answer
+      → IsPieceAnswer code t a b depth s answer
+  -- several, of which none may fault
+  bounded : {depth : ℕ} {s : Span} {bound : ℕ}
+      → s.lo <ℤ s.hi → IsBounded code t a b s bound
+      → IsPieceAnswer code t a b depth s (Ok bound)
+  -- they stop, and are cut no more: the fault at the least, or at the greatest, or neither
+  lowest : {s : Span} {pc : ℕ} {kind : Fault} {f : VerifyFault}
+      → s.lo <ℤ s.hi → IsStopped code t a b s pc kind → IsAtOne code t a b s.lo (Err f)
+      → IsPieceAnswer code t a b 0 s (Err f)
+  highest : {s : Span} {pc : ℕ} {kind : Fault} {x : ℕ} {f : VerifyFault}
+      → s.lo <ℤ s.hi → IsStopped code t a b s pc kind → IsAtOne code t a b s.lo (Ok x) → IsAtOne code t a b s.hi (Err f)
+      → IsPieceAnswer code t a b 0 s (Err f)
+  neither : {s : Span} {pc : ℕ} {kind : Fault} {x y : ℕ}
+      → s.lo <ℤ s.hi → IsStopped code t a b s pc kind → IsAtOne code t a b s.lo (Ok x) → IsAtOne code t a b s.hi (Ok y)
+      → IsPieceAnswer code t a b 0 s (Err (fault.Undecided a b s.lo s.hi pc kind))
+  -- they stop, and are cut, the lower half first
+  lower : {depth : ℕ} {s l u : Span} {pc : ℕ} {kind : Fault} {f : VerifyFault}
+      → s.lo <ℤ s.hi → IsStopped code t a b s pc kind → AreHalves s l u
+      → IsPieceAnswer code t a b depth l (Err f)
+      → IsPieceAnswer code t a b (suc depth) s (Err f)
+  upper : {depth : ℕ} {s l u : Span} {pc : ℕ} {kind : Fault} {x : ℕ} {f : VerifyFault}
+      → s.lo <ℤ s.hi → IsStopped code t a b s pc kind → AreHalves s l u
+      → IsPieceAnswer code t a b depth l (Ok x) → IsPieceAnswer code t a b depth u (Err f)
+      → IsPieceAnswer code t a b (suc depth) s (Err f)
+  both : {depth : ℕ} {s l u : Span} {pc : ℕ} {kind : Fault} {x y : ℕ}
+      → s.lo <ℤ s.hi → IsStopped code t a b s pc kind → AreHalves s l u
+      → IsPieceAnswer code t a b depth l (Ok x) → IsPieceAnswer code t a b depth u (Ok y)
+      → IsPieceAnswer code t a b (suc depth) s (Ok (max x y))
+
+-- ---- answers in their order
+
+-- the first so many have none but magnitudes, of which this is the greatest; 0 where there are none
+pub record IsGreatest (answers : ℕ → Answer → Type 0) (count bound : ℕ) : Type 0 where
+  pub each : (i : ℕ) → i < count → (x : ℕ) × answers i (Ok x) × (x ≤ bound)
+  pub attained : (bound ≡ 0) ⊎ ((i : ℕ) × (i < count) × answers i (Ok bound))
+
+-- one of them refuses so, and each before it has a magnitude
+pub record IsFirstRefused (answers : ℕ → Answer → Type 0) (count : ℕ) (f : VerifyFault) : Type 0 where
+  pub at : ℕ
+  pub within : at < count
+  pub refuses : answers at (Err f)
+  pub before : (i : ℕ) → i < at → (x : ℕ) × answers i (Ok x)
+
+abbrev pub IsJoint : (ℕ → Answer → Type 0) → ℕ → Answer → Type 0
+IsJoint answers count (Ok bound) = IsGreatest answers count bound
+IsJoint answers count (Err f) = IsFirstRefused answers count f
+
+-- ---- slices, pairs of types
+
+-- the distances that are searched: how many slices, and how often one is cut
+pub record Range : Type 0 where
+  pub core : ℤ
+  pub cutoff : ℤ
+  pub slices : ℕ
+  pub depth : ℕ
+
+abbrev pub range : (core cutoff : ℤ) → (slices depth : ℕ) → Range
+range core cutoff slices depth = record { core = core; cutoff = cutoff; slices = slices; depth = depth }
+
+-- of so many distances, those of the slice i
+pub record IsSlice (g : Range) (i : ℕ) (s : Span) : Type 0 where
+  pub width : ℕ
+  pub wide : (g.core +ℤ pos width) ≡ g.cutoff
+  pub low : s.lo ≡ (g.core +ℤ pos (width * i / g.slices))
+  pub high : s.hi ≡ (g.core +ℤ pos (width * (i + 1) / g.slices) -ℤ pos 1)
+
+pub record IsEmptySlice (g : Range) (i : ℕ) : Type 0 where
+  pub width : ℕ
+  pub wide : (g.core +ℤ pos width) ≡ g.cutoff
+  pub none : width * (i + 1) / g.slices ≤ width * i / g.slices
+
+pub data IsSliceAnswer (code : List Instr) (t : Table) (g : Range) (a b i : ℕ) : Answer → Type 0 where
+  empty : IsEmptySlice g i → IsSliceAnswer code t g a b i (Ok 0)
+  full : {s : Span} {answer : Answer} → IsSlice g i s → IsPieceAnswer code t a b g.depth s answer → IsSliceAnswer code t g a b i answer
+
+-- all slices of a pair, in ascending order
+abbrev pub pair_answer : List Instr → Table → Range → (a b : ℕ) → Answer → Type 0
+pair_answer code t g a b answer = IsJoint (IsSliceAnswer code t g a b) g.slices answer
+
+-- all second types with a first one
+abbrev pub row_answer : List Instr → Table → Range → (a : ℕ) → Answer → Type 0
+row_answer code t g a answer = IsJoint (pair_answer code t g a) (length t.rows) answer
+
+-- all pairs, the first type slowest
+abbrev pub IsFoundOf : List Instr → Table → Range → Answer → Type 0
+IsFoundOf code t g answer = IsJoint (row_answer code t g) (length t.rows) answer
+
+-- ---- the verdict
+
+-- found of code of which no path misses anything
+pub record IsSearched (code : List Instr) (t : Table) (g : Range) (answer : Answer) : Type 0 where
+  pub is_code : IsCode code
+  pub misses : MissesNothing code (input_count t)
+  pub found : IsFoundOf code t g answer
+
+-- the bound of accepted code, or why it is refused: its lowest misfit, or else the first refusal that is found
+abbrev pub IsVerdict : List Instr → Table → Range → Answer → Type 0
+IsVerdict code t g (Ok bound) = IsSearched code t g (Ok bound)
+IsVerdict code t g (Err (fault.Malformed pc)) = IsFirstMalformed code (input_count t) pc
+IsVerdict code t g (Err (fault.DepthOver64 pc)) = IsFirstOverfull code (input_count t) pc
+IsVerdict code t g (Err (fault.Fault a b r pc kind)) = IsSearched code t g (Err (fault.Fault a b r pc kind))
+IsVerdict code t g (Err (fault.Undecided a b lo hi pc kind)) = IsSearched code t g (Err (fault.Undecided a b lo hi pc kind))
+IsVerdict code t g (Err fault.Memory) = ⊥
+
+-- ---- want of memory
+
+-- the answer is so, or memory ran out
+abbrev pub UnlessMemory : (Answer → Type 0) → Answer → Type 0
+UnlessMemory holds answer = (answer ≡ Err fault.Memory) ⊎ holds answer
