@@ -12,10 +12,11 @@ use Rattle.energy_program.specs.Faults.{TooLarge}
 use Rattle.energy_program.specs.Tree.{Tree, tree_of, is_scoped, are_scoped, substituted}
 use Rattle.energy_program.specs.Value.{value_of}
 use Rattle.energy_program.specs.Programs.{Trees}
-use Rattle.derivative.specs.Slope.{slope_of}
+use Rattle.derivative.specs.Slope.{fixed_point, slope_of}
 use Rattle.derivative.specs.Used.{AllNeeded}
 use Rattle.derivative.specs.Derive.{with_all, pruned, slope_program}
 use Rattle.derivative.proofs.Left.{same_tree, left_body_scoped, left_definitions_scoped}
+use Rattle.derivative.proofs.Readings.{fixed_reads}
 use Rattle.derivative.proofs.Shared.{with_all_value}
 use Rattle.derivative.proofs.Sources.{all_needed}
 use Rattle.derivative.proofs.Uses.{body_scoped, definitions_scoped}
@@ -41,7 +42,7 @@ slope_is f count body ds hb hd =
     let wb : IsTrue (is_scoped count 0 (length whole_ds) whole_body) = body_scoped count (bits_of f) body ds hb in
     let wd : IsTrue (are_scoped count 0 whole_ds) = definitions_scoped count (bits_of f) body ds hd in
     record {
-      value = λ inputs. ap (value_of (bits_of f) inputs) (same_tree count whole_body whole_ds wb wd) ∙ with_all_value (bits_of f) (one_fits f) inputs count body ds hb hd;
+      value = λ inputs. ap (value_of (bits_of f) inputs) (same_tree count whole_body whole_ds wb wd) ∙ with_all_value (bits_of f) (fixed_point (bits_of f)) (value_of (bits_of f) inputs) (fixed_reads (bits_of f) (one_fits f) inputs) count body ds hb hd;
       needed = all_needed count whole_body whole_ds wb wd;
       body_in = left_body_scoped count whole_body whole_ds wb wd;
       definitions_in = left_definitions_scoped count whole_body whole_ds wb wd;

@@ -5,6 +5,7 @@ pub mod Ranges
 pub mod Table
 pub mod Written
 pub mod Powers
+pub mod Readings
 pub mod Derives
 pub mod Shared
 pub mod Uses
@@ -15,3 +16,13 @@ pub mod Turns
 pub mod Left
 pub mod Sources
 pub mod Final
+pub mod RingLaws
+pub mod ExactLaws
+pub mod DualRows
+pub mod DualParts
+pub mod DualSound
+pub mod DualComplete
+pub mod DualRing
+pub mod ExactReads
+pub mod DualPrograms
+pub mod WholeNumbers

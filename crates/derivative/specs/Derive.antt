@@ -1,9 +1,8 @@
 -- The program of a slope.
-use Rattle.std.specs.Prelude.{ℕ, nat_lt, if◌then◌else◌, List, map, length, Result, Ok, Err}
-use Rattle.energy_program.specs.declared.programs.Program.{Program}
+use Rattle.std.specs.Prelude.{ℕ, nat_lt, if◌then◌else◌, map, length, Result, Ok, Err}
 use Rattle.derivative.specs.declared.parts.Parts.{Parts}
 use Rattle.energy_program.specs.Faults.{Refusal, TooLarge}
-use Rattle.energy_program.specs.Tree.{Tree, tree_of}
+use Rattle.energy_program.specs.Tree.{tree_of}
 use Rattle.derivative.specs.Written.{slope_tree, free_among, all_slopes}
 use Rattle.energy_program.specs.Uses.{marks_of}
 use Rattle.energy_program.specs.Programs.{Trees}

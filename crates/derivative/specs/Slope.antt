@@ -1,6 +1,7 @@
 -- Slopes of energy expressions along the distance: the table of derivatives, as a partial function of values. It builds no
 -- tree. Of a tree with all definitions put in place it is asked; the first row that fits is the one that holds. A tree that
--- is free of the distance has slope 0, whether or not it has a value.
+-- is free of the distance has slope 0, whether or not it has a value. The table is told once, of any numbers with its
+-- operations: `slope_of` is the slope of fixed-point numbers, and `exact_slope` of specs/Exact that of exact ones.
 use Rattle.std.specs.Prelude.{ℕ, ◌+◌, ◌*◌, ◌^◌, ◌-◌, ℤ, pos, negsuc, Bool, true, false, ◌==◌, ◌&&◌, if◌then◌else◌, List, Option, Some}
 use Rattle.fixed.specs.Arithmetic.{one}
 use Rattle.energy_program.specs.declared.trees.Operator.{Operator}
@@ -10,59 +11,120 @@ use Rattle.energy_program.specs.declared.trees.Function.TheVariants as f
 use Rattle.energy_program.specs.Tree.{Tree, Number, Input, Definition, Negated, Binary, Applied, Power, Select, is_free_of_distance}
 use Rattle.energy_program.specs.Value.{negative, sum, difference, product, square, quotient, square_root, step, power, selected, value_of}
 
+-- the operations of the table, on values that may be missing
+pub record Operations (V : Type 0) : Type 0 where
+  pub zero : V
+  pub one : V
+  pub whole : ℕ → Option V
+  pub negative : Option V → Option V
+  pub sum : Option V → Option V → Option V
+  pub difference : Option V → Option V → Option V
+  pub product : Option V → Option V → Option V
+  pub quotient : Option V → Option V → Option V
+  pub square : Option V → Option V
+  pub square_root : Option V → Option V
+  pub step : Option V → Option V
+  pub power : Option V → ℤ → Option V
+  pub selected : Option V → Option V → Option V → Option V
+
+-- ---- the table
+
 -- `u` and `v` are the values of the parts, `du` and `dv` their slopes. Each row of a product and of a quotient is asked for
 -- by which part is free of the distance, the left and the right one; both never are, since then the whole is.
-abbrev pub product_slope : ℕ → Bool → Bool → Option ℤ → Option ℤ → Option ℤ → Option ℤ → Option ℤ
-product_slope bits true free_v u v du dv = product bits u dv
-product_slope bits false true u v du dv = product bits du v
-product_slope bits false false u v du dv = sum (product bits du v) (product bits u dv)
+abbrev pub product_row : {V : Type 0} → Operations V → Bool → Bool → Option V → Option V → Option V → Option V → Option V
+product_row on true free_v u v du dv = on.product u dv
+product_row on false true u v du dv = on.product du v
+product_row on false false u v du dv = on.sum (on.product du v) (on.product u dv)
 
-abbrev pub quotient_slope : ℕ → Bool → Bool → Option ℤ → Option ℤ → Option ℤ → Option ℤ → Option ℤ
-quotient_slope bits free_u true u v du dv = quotient bits du v
-quotient_slope bits true false u v du dv = quotient bits (negative (product bits u dv)) (square bits v)
-quotient_slope bits false false u v du dv = quotient bits (difference (product bits du v) (product bits u dv)) (square bits v)
+abbrev pub quotient_row : {V : Type 0} → Operations V → Bool → Bool → Option V → Option V → Option V → Option V → Option V
+quotient_row on free_u true u v du dv = on.quotient du v
+quotient_row on true false u v du dv = on.quotient (on.negative (on.product u dv)) (on.square v)
+quotient_row on false false u v du dv = on.quotient (on.difference (on.product du v) (on.product u dv)) (on.square v)
 
-abbrev pub operation_slope : ℕ → Operator → Bool → Bool → Option ℤ → Option ℤ → Option ℤ → Option ℤ → Option ℤ
-operation_slope bits op.Add free_u free_v u v du dv = sum du dv
-operation_slope bits op.Subtract free_u free_v u v du dv = difference du dv
-operation_slope bits op.Multiply free_u free_v u v du dv = product_slope bits free_u free_v u v du dv
-operation_slope bits op.Divide free_u free_v u v du dv = quotient_slope bits free_u free_v u v du dv
-operation_slope bits op.Minimum free_u free_v u v du dv = selected (step bits (difference v u)) du dv
-operation_slope bits op.Maximum free_u free_v u v du dv = selected (step bits (difference u v)) du dv
+abbrev pub operation_row : {V : Type 0} → Operations V → Operator → Bool → Bool → Option V → Option V → Option V → Option V → Option V
+operation_row on op.Add free_u free_v u v du dv = on.sum du dv
+operation_row on op.Subtract free_u free_v u v du dv = on.difference du dv
+operation_row on op.Multiply free_u free_v u v du dv = product_row on free_u free_v u v du dv
+operation_row on op.Divide free_u free_v u v du dv = quotient_row on free_u free_v u v du dv
+operation_row on op.Minimum free_u free_v u v du dv = on.selected (on.step (on.difference v u)) du dv
+operation_row on op.Maximum free_u free_v u v du dv = on.selected (on.step (on.difference u v)) du dv
+
+-- a function that is flat but for its jumps has slope 0, and its part needs no value
+abbrev pub applied_row : {V : Type 0} → Operations V → Function → Option V → Option V → Option V
+applied_row on f.SquareRoot u du = on.quotient du (on.product (on.whole 2) (on.square_root u))
+applied_row on f.Absolute u du = on.selected (on.step u) du (on.negative du)
+applied_row on f.Step u du = Some on.zero
+applied_row on f.Delta u du = Some on.zero
+applied_row on f.Floor u du = Some on.zero
+applied_row on f.Ceiling u du = Some on.zero
+
+-- negsuc m is -(m + 1)
+abbrev pub power_row : {V : Type 0} → Operations V → Option V → ℤ → Option V → Option V
+power_row on u (pos n) du = if n == 1 then du else on.product (on.product (on.whole n) (on.power u (pos (n - 1)))) du
+power_row on u (negsuc m) du = on.negative (on.quotient (on.product (on.whole (m + 1)) du) (on.power u (pos (m + 2))))
+
+-- zero for what is free of the distance, whatever else would be
+abbrev pub unless_constant : {V : Type 0} → V → Bool → Option V → Option V
+unless_constant zero true slope = Some zero
+unless_constant zero false slope = slope
+
+-- the slope, where trees have these values
+abbrev pub slope_by : {V : Type 0} → Operations V → (Tree → Option V) → Tree → Option V
+slope_by on value (Number z) = Some on.zero
+slope_by on value (Input i) = Some (if i == 0 then on.one else on.zero)
+slope_by on value (Definition j) = Some on.zero
+slope_by on value (Negated a) = unless_constant on.zero (is_free_of_distance a) (on.negative (slope_by on value a))
+slope_by on value (Binary o a b) =
+    unless_constant on.zero (is_free_of_distance a && is_free_of_distance b)
+    (operation_row on o (is_free_of_distance a) (is_free_of_distance b) (value a) (value b) (slope_by on value a) (slope_by on value b))
+slope_by on value (Applied g a) = unless_constant on.zero (is_free_of_distance a) (applied_row on g (value a) (slope_by on value a))
+slope_by on value (Power a n) = unless_constant on.zero (is_free_of_distance a) (power_row on (value a) n (slope_by on value a))
+slope_by on value (Select x a b) =
+    unless_constant on.zero (is_free_of_distance x && (is_free_of_distance a && is_free_of_distance b))
+    (on.selected (value x) (slope_by on value a) (slope_by on value b))
+
+-- ---- its fixed-point reading
 
 -- the whole number n as a value
 abbrev pub whole : ℕ → ℕ → Option ℤ
 whole bits n = Some (pos (n * 2 ^ bits))
 
--- a function that is flat but for its jumps has slope 0, and its part needs no value
+abbrev pub fixed_point : ℕ → Operations ℤ
+fixed_point bits =
+    record {
+      zero = pos 0;
+      one = one bits;
+      whole = whole bits;
+      negative = negative;
+      sum = sum;
+      difference = difference;
+      product = product bits;
+      quotient = quotient bits;
+      square = square bits;
+      square_root = square_root bits;
+      step = step bits;
+      power = power bits;
+      selected = selected;
+    }
+
+abbrev pub product_slope : ℕ → Bool → Bool → Option ℤ → Option ℤ → Option ℤ → Option ℤ → Option ℤ
+product_slope bits free_u free_v u v du dv = product_row (fixed_point bits) free_u free_v u v du dv
+
+abbrev pub quotient_slope : ℕ → Bool → Bool → Option ℤ → Option ℤ → Option ℤ → Option ℤ → Option ℤ
+quotient_slope bits free_u free_v u v du dv = quotient_row (fixed_point bits) free_u free_v u v du dv
+
+abbrev pub operation_slope : ℕ → Operator → Bool → Bool → Option ℤ → Option ℤ → Option ℤ → Option ℤ → Option ℤ
+operation_slope bits o free_u free_v u v du dv = operation_row (fixed_point bits) o free_u free_v u v du dv
+
 abbrev pub applied_slope : ℕ → Function → Option ℤ → Option ℤ → Option ℤ
-applied_slope bits f.SquareRoot u du = quotient bits du (product bits (whole bits 2) (square_root bits u))
-applied_slope bits f.Absolute u du = selected (step bits u) du (negative du)
-applied_slope bits f.Step u du = Some (pos 0)
-applied_slope bits f.Delta u du = Some (pos 0)
-applied_slope bits f.Floor u du = Some (pos 0)
-applied_slope bits f.Ceiling u du = Some (pos 0)
+applied_slope bits g u du = applied_row (fixed_point bits) g u du
 
--- negsuc m is -(m + 1)
 abbrev pub power_slope : ℕ → Option ℤ → ℤ → Option ℤ → Option ℤ
-power_slope bits u (pos n) du = if n == 1 then du else product bits (product bits (whole bits n) (power bits u (pos (n - 1)))) du
-power_slope bits u (negsuc m) du = negative (quotient bits (product bits (whole bits (m + 1)) du) (power bits u (pos (m + 2))))
+power_slope bits u n du = power_row (fixed_point bits) u n du
 
--- zero for what is free of the distance, whatever else would be
 abbrev pub zero_or : Bool → Option ℤ → Option ℤ
-zero_or true slope = Some (pos 0)
-zero_or false slope = slope
+zero_or free slope = unless_constant (pos 0) free slope
 
+-- the slope of a tree, with so many bits behind the point, where these are the inputs: the distance, then the others
 abbrev pub slope_of : ℕ → List ℤ → Tree → Option ℤ
-slope_of bits inputs (Number z) = Some (pos 0)
-slope_of bits inputs (Input i) = Some (if i == 0 then one bits else pos 0)
-slope_of bits inputs (Definition j) = Some (pos 0)
-slope_of bits inputs (Negated a) = zero_or (is_free_of_distance a) (negative (slope_of bits inputs a))
-slope_of bits inputs (Binary o a b) =
-    zero_or (is_free_of_distance a && is_free_of_distance b)
-    (operation_slope bits o (is_free_of_distance a) (is_free_of_distance b) (value_of bits inputs a) (value_of bits inputs b) (slope_of bits inputs a) (slope_of bits inputs b))
-slope_of bits inputs (Applied g a) = zero_or (is_free_of_distance a) (applied_slope bits g (value_of bits inputs a) (slope_of bits inputs a))
-slope_of bits inputs (Power a n) = zero_or (is_free_of_distance a) (power_slope bits (value_of bits inputs a) n (slope_of bits inputs a))
-slope_of bits inputs (Select x a b) =
-    zero_or (is_free_of_distance x && (is_free_of_distance a && is_free_of_distance b))
-    (selected (value_of bits inputs x) (slope_of bits inputs a) (slope_of bits inputs b))
+slope_of bits inputs tree = slope_by (fixed_point bits) (value_of bits inputs) tree

@@ -3,6 +3,7 @@
 
 mod derivative;
 mod joined;
+mod laws;
 mod moved;
 mod parts;
 mod prune;
@@ -10,3 +11,4 @@ mod rows;
 mod slopes;
 
 pub use derivative::derive;
+pub use laws::slopes_are_derivatives;

@@ -13,3 +13,4 @@ pub mod ReturnLaws
 pub mod RunLaws
 pub mod KernelLaws
 pub mod EnergyLaws
+pub mod InputLaws

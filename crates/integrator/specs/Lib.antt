@@ -12,3 +12,4 @@ pub mod StartViews
 pub mod Runs
 pub mod Halts
 pub mod StepFaults
+pub mod InputNames

@@ -1,0 +1,183 @@
+-- Trees read over exact numbers, where no operation rounds or overflows.
+use Rattle.std.specs.Prelude.{◌≡◌, ◌≢◌, ℕ, zero, suc, ℤ, pos, negsuc, neg_ℤ, ◌*◌, ◌^◌, ◌==◌, ◌+ℤ◌, ◌-ℤ◌, ◌*ℤ◌, Bool, true, false, if◌then◌else◌, List, Option, Some, None, slice_get}
+use Rattle.fixed.specs.Arithmetic.{floor_of, is_zero}
+use Rattle.fixed.specs.Roots.{root}
+use Rattle.energy_program.specs.declared.trees.Operator.{Operator}
+use Rattle.energy_program.specs.declared.trees.Operator.TheVariants as op
+use Rattle.energy_program.specs.declared.trees.Function.{Function}
+use Rattle.energy_program.specs.declared.trees.Function.TheVariants as f
+use Rattle.energy_program.specs.Tree.{Tree, Number, Input, Definition, Negated, Binary, Applied, Power, Select}
+use Rattle.derivative.specs.Slope.{Operations, slope_by}
+
+-- what adds and multiplies
+pub record Ring (V : Type 0) : Type 0 where
+  pub zero : V
+  pub one : V
+  pub plus : V → V → V
+  pub negative : V → V
+  pub times : V → V → V
+
+-- a commutative ring
+pub record IsRing {V : Type 0} (r : Ring V) : Type 0 where
+  pub plus_assoc : (x y z : V) → r.plus (r.plus x y) z ≡ r.plus x (r.plus y z)
+  pub plus_comm : (x y : V) → r.plus x y ≡ r.plus y x
+  pub plus_zero : (x : V) → r.plus x r.zero ≡ x
+  pub plus_negative : (x : V) → r.plus x (r.negative x) ≡ r.zero
+  pub times_assoc : (x y z : V) → r.times (r.times x y) z ≡ r.times x (r.times y z)
+  pub times_comm : (x y : V) → r.times x y ≡ r.times y x
+  pub times_one : (x : V) → r.times x r.one ≡ x
+  pub times_plus : (x y z : V) → r.times x (r.plus y z) ≡ r.plus (r.times x y) (r.times x z)
+
+abbrev pub minus : {V : Type 0} → Ring V → V → V → V
+minus r x y = r.plus x (r.negative y)
+
+-- the whole number n
+abbrev pub whole : {V : Type 0} → Ring V → ℕ → V
+whole r zero = r.zero
+whole r (suc n) = r.plus (whole r n) r.one
+
+-- the whole number z, also below 0
+abbrev pub integer : {V : Type 0} → Ring V → ℤ → V
+integer r (pos n) = whole r n
+integer r (negsuc n) = r.negative (whole r (suc n))
+
+-- the product of n factors x
+abbrev pub power : {V : Type 0} → Ring V → V → ℕ → V
+power r x zero = r.one
+power r x (suc n) = r.times (power r x n) x
+
+-- Numbers with the operations of energies. Quotients and roots are there or not; `number` is what a number of a tree stands for.
+pub record Numbers (V : Type 0) : Type 0 where
+  pub ring : Ring V
+  pub quotient : V → V → Option V
+  pub root : V → Option V
+  pub is_zero : V → Bool
+  pub is_at_most : V → V → Bool
+  pub floor : V → V
+  pub ceiling : V → V
+  pub number : ℤ → V
+
+-- What is asked of them, as it holds of fractions and of real numbers: a commutative ring without zero divisors, in which 2 is
+-- not 0 and sums keep the order. A quotient is the number that times the divisor is the dividend; the square of a root is
+-- the number that it is the root of. No more is asked of roots, of the order, and of floors and ceilings.
+pub record AreExact {V : Type 0} (k : Numbers V) : Type 0 where
+  pub is_ring : IsRing k.ring
+  pub no_zero_divisors : (x y : V) → k.ring.times x y ≡ k.ring.zero → y ≢ k.ring.zero → x ≡ k.ring.zero
+  pub two : k.ring.plus k.ring.one k.ring.one ≢ k.ring.zero
+  pub zero_found : k.is_zero k.ring.zero ≡ true
+  pub zero_alone : (x : V) → k.is_zero x ≡ true → x ≡ k.ring.zero
+  pub divisor : (n d q : V) → k.quotient n d ≡ Some q → d ≢ k.ring.zero
+  pub quotient_times : (n d q : V) → k.quotient n d ≡ Some q → k.ring.times q d ≡ n
+  pub quotient_there : (n d q : V) → d ≢ k.ring.zero → k.ring.times q d ≡ n → k.quotient n d ≡ Some q
+  pub root_square : (x y : V) → k.root x ≡ Some y → k.ring.times y y ≡ x
+  pub order_kept : (x y z : V) → k.is_at_most (k.ring.plus x z) (k.ring.plus y z) ≡ k.is_at_most x y
+
+-- ---- the whole numbers, with those quotients and roots that are whole
+
+abbrev pub exact_quotient : ℤ → ℤ → Option ℤ
+exact_quotient n d = if is_zero d then None else (if is_zero (floor_of n d *ℤ d -ℤ n) then Some (floor_of n d) else None)
+
+abbrev pub exact_root : ℤ → Option ℤ
+exact_root (pos n) = if root n * root n == n then Some (pos (root n)) else None
+exact_root (negsuc n) = None
+
+abbrev pub is_from_zero : ℤ → Bool
+is_from_zero (pos n) = true
+is_from_zero (negsuc n) = false
+
+abbrev pub whole_numbers : Numbers ℤ
+whole_numbers =
+    record {
+      ring = record { zero = pos 0; one = pos 1; plus = λ x y. x +ℤ y; negative = neg_ℤ; times = λ x y. x *ℤ y };
+      quotient = exact_quotient;
+      root = exact_root;
+      is_zero = is_zero;
+      is_at_most = λ x y. is_from_zero (y -ℤ x);
+      floor = λ x. x;
+      ceiling = λ x. x;
+      number = λ z. z;
+    }
+
+-- a number of a tree, with so many bits behind the point, stands for its raw value over 2^bits
+abbrev pub StandsForFraction : {V : Type 0} → Numbers V → ℕ → ℤ → Type 0
+StandsForFraction k bits z = k.ring.times (k.number z) (whole k.ring (2 ^ bits)) ≡ integer k.ring z
+
+-- ---- values
+
+-- an operation on values, each of which may be missing
+abbrev pub on_one : {V : Type 0} → (V → Option V) → Option V → Option V
+on_one f None = None
+on_one f (Some x) = f x
+
+abbrev pub on_two : {V : Type 0} → (V → V → Option V) → Option V → Option V → Option V
+on_two f None y = None
+on_two f (Some x) y = on_one (f x) y
+
+abbrev pub step_of : {V : Type 0} → Numbers V → V → V
+step_of k x = if k.is_at_most k.ring.zero x then k.ring.one else k.ring.zero
+
+abbrev pub absolute_of : {V : Type 0} → Numbers V → V → V
+absolute_of k x = if k.is_at_most k.ring.zero x then x else k.ring.negative x
+
+abbrev pub delta_of : {V : Type 0} → Numbers V → V → V
+delta_of k x = if k.is_zero x then k.ring.one else k.ring.zero
+
+-- a power below 0 is the quotient of one and the power: negsuc m is -(m + 1)
+abbrev pub power_of : {V : Type 0} → Numbers V → ℤ → V → Option V
+power_of k (pos n) x = Some (power k.ring x n)
+power_of k (negsuc m) x = k.quotient k.ring.one (power k.ring x (suc m))
+
+-- the second where the first is not zero, else the third
+abbrev pub selected : {V : Type 0} → Numbers V → Option V → Option V → Option V → Option V
+selected k None y z = None
+selected k (Some x) y z = if k.is_zero x then z else y
+
+-- the operations of the table of slopes
+abbrev pub exact : {V : Type 0} → Numbers V → Operations V
+exact k =
+    record {
+      zero = k.ring.zero;
+      one = k.ring.one;
+      whole = λ n. Some (whole k.ring n);
+      negative = on_one (λ x. Some (k.ring.negative x));
+      sum = on_two (λ x y. Some (k.ring.plus x y));
+      difference = on_two (λ x y. Some (minus k.ring x y));
+      product = on_two (λ x y. Some (k.ring.times x y));
+      quotient = on_two k.quotient;
+      square = on_one (λ x. Some (k.ring.times x x));
+      square_root = on_one k.root;
+      step = on_one (λ x. Some (step_of k x));
+      power = λ x n. on_one (power_of k n) x;
+      selected = selected k;
+    }
+
+abbrev pub operation : {V : Type 0} → Numbers V → Operator → Option V → Option V → Option V
+operation k op.Add x y = (exact k).sum x y
+operation k op.Subtract x y = (exact k).difference x y
+operation k op.Multiply x y = (exact k).product x y
+operation k op.Divide x y = (exact k).quotient x y
+operation k op.Minimum x y = on_two (λ a b. Some (if k.is_at_most a b then a else b)) x y
+operation k op.Maximum x y = on_two (λ a b. Some (if k.is_at_most b a then a else b)) x y
+
+abbrev pub applied : {V : Type 0} → Numbers V → Function → Option V → Option V
+applied k f.SquareRoot x = (exact k).square_root x
+applied k f.Absolute x = on_one (λ a. Some (absolute_of k a)) x
+applied k f.Step x = (exact k).step x
+applied k f.Delta x = on_one (λ a. Some (delta_of k a)) x
+applied k f.Floor x = on_one (λ a. Some (k.floor a)) x
+applied k f.Ceiling x = on_one (λ a. Some (k.ceiling a)) x
+
+-- The exact value of a tree with all definitions put in place, where these are the inputs: the distance, then the others.
+abbrev pub exact_value : {V : Type 0} → Numbers V → List V → Tree → Option V
+exact_value k inputs (Number z) = Some (k.number z)
+exact_value k inputs (Input i) = slice_get inputs i
+exact_value k inputs (Definition j) = None
+exact_value k inputs (Negated a) = (exact k).negative (exact_value k inputs a)
+exact_value k inputs (Binary o a b) = operation k o (exact_value k inputs a) (exact_value k inputs b)
+exact_value k inputs (Applied g a) = applied k g (exact_value k inputs a)
+exact_value k inputs (Power a n) = (exact k).power (exact_value k inputs a) n
+exact_value k inputs (Select x a b) = selected k (exact_value k inputs x) (exact_value k inputs a) (exact_value k inputs b)
+
+-- the slope of the table, over the same numbers
+abbrev pub exact_slope : {V : Type 0} → Numbers V → List V → Tree → Option V
+exact_slope k inputs tree = slope_by (exact k) (exact_value k inputs) tree
