@@ -1,11 +1,11 @@
 -- What is left of an output where a command was not done, and what its status tells.
 use Rattle.std.proofs.Common.{◌≡◌, ◌⊎◌, ◌∙◌, ℕ, List, ap, arith, inl, inr, refl, sym}
 use Rattle.std.specs.Prelude.{IfErr, OnErr, Result, Ok, Err}
-use Rattle.cli.specs.CommandLine.{AsksForTrajectory, IsCommand}
+use Rattle.command_line.specs.CommandLine.{AsksForTrajectory, IsCommand}
 use Rattle.cli.specs.Kept.{IsKept, Keeps, Output}
 use Rattle.cli.specs.Statuses.{code_of, status_of}
-use Rattle.cli.specs.declared.commands.Command.{Command}
-use Rattle.cli.specs.declared.commands.Command.TheVariants as command
+use Rattle.command_line.specs.declared.commands.Command.{Command}
+use Rattle.command_line.specs.declared.commands.Command.TheVariants as command
 use Rattle.cli.specs.declared.faults.CommandFault.{CommandFault}
 use Rattle.cli.specs.declared.faults.Status.{Status}
 use Rattle.cli.specs.declared.faults.Status.TheVariants as status

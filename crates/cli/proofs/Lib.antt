@@ -1,4 +1,4 @@
-pub mod CommandLineLaws
 pub mod KeptLaws
 pub mod Printing
+pub mod ProgressLaws
 pub mod VerdictLaws

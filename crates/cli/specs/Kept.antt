@@ -1,8 +1,8 @@
 -- What of an output is left where a command was not done.
 use Rattle.std.specs.Prelude.{◌≡◌, ◌⊎◌, ◌<◌, ℕ, List, Option}
 use Rattle.cli.specs.Statuses.{status_of}
-use Rattle.cli.specs.declared.commands.Command.{Command}
-use Rattle.cli.specs.declared.commands.Command.TheVariants as command
+use Rattle.command_line.specs.declared.commands.Command.{Command}
+use Rattle.command_line.specs.declared.commands.Command.TheVariants as command
 use Rattle.cli.specs.declared.faults.CommandFault.{CommandFault}
 use Rattle.cli.specs.declared.faults.Status.TheVariants as status
 

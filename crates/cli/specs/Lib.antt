@@ -1,7 +1,8 @@
 pub mod Asked
-pub mod CommandLine
 pub mod Conversions
 pub mod Host
+pub mod Printed
+pub mod Progress
 pub mod Reads
 pub mod Reports
 pub mod Statuses

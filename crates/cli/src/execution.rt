@@ -1,35 +1,40 @@
 //! Doing what the words ask for.
 
-ghost use Rattle.std.specs.Prelude.{◌≡◌, ◌≢◌, ◌⊎◌, ◌≤◌, ◌<◌, ◌-◌, ◌^◌, ℕ, List, IfOk, OnOk, OnErr, IfErr, map, string_bytes};
+ghost use Rattle.std.specs.Prelude.{◌≡◌, ◌≢◌, ◌⊎◌, ◌≤◌, ◌<◌, ◌-◌, ◌/◌, ◌^◌, ℕ, suc, List, IfOk, OnOk, OnErr, IfErr, map, string_bytes};
 ghost use Rattle.clap.specs.Words.{kind_of};
-ghost use Rattle.clap.specs.declared.error.kind.ErrorKind.TheVariants.{OutOfMemory, DisplayHelp};
-ghost use Rattle.cli.specs.CommandLine.{AsksForHelp, AsksForTrajectory, IsCommand, IsMisuse};
+ghost use Rattle.clap.specs.declared.error.kind.ErrorKind.TheVariants.{OutOfMemory, DisplayHelp, DisplayVersion};
+ghost use Rattle.command_line.specs.CommandLine.{AsksForHelp, AsksForTrajectory, AsksForVersion, IsCommand, IsMisuse};
 ghost use Rattle.cli.specs.Kept.{IsKept, Keeps};
+ghost use Rattle.engine.specs.Headline.{WroteLevesqueVerletRun};
+ghost use Rattle.trajectory.specs.Trajectories.{IsFrameOfRun, WroteFrames};
+ghost use Rattle.cli.specs.Printed.{HasPrinted};
+ghost use Rattle.cli.specs.Progress.{IsBegun, IsQuiet, PrintsIfCounted, Says, TellsAll, TellsSome, told_of};
 ghost use Rattle.cli.specs.Reads.{AsksFor, asked_by, unread};
 ghost use Rattle.cli.specs.Asked.{also_asked};
 ghost use Rattle.cli.specs.declared.files.ReadFault.{ReadFault};
 ghost use Rattle.cli.specs.Reports.{Prints, line, said};
 ghost use Rattle.cli.specs.Statuses.{code_of, status_of};
-ghost use Rattle.cli.specs.declared.commands.Command.{Command};
+ghost use Rattle.command_line.specs.declared.commands.Command.{Command};
 ghost use Rattle.cli.specs.declared.faults.Status.{Status};
 
-use crate::command_line::parse;
-use crate::commands::{Check, Command, Energy, Frame, Listing, Run, Start, Trajectory};
 use crate::conversions::{code_bytes, frame_bytes, start_bytes};
 use crate::faults::{CommandFault, Status};
 use crate::files::{Files, ReadFault};
+use crate::progress::{run_watched, trajectory_watched};
 use crate::verdicts::{energy_bytes, listing_verdict_bytes, slope_verdict_bytes};
 use clap::Error;
 use clap::error::ErrorKind;
-use engine::{run_bytes, trajectory_bytes};
+use command_line::{Check, Command, Energy, Frame, Listing, Run, Start, Trajectory, parse};
+use engine::run_bytes;
 use gro::{Out, write_all};
 use std::alloc::{AllocError, Allocator, Global};
 use std::convert::AsStr;
 use std::thread::Threads;
+use trajectory::trajectory_bytes;
 
 /// Does what the words ask for, and answers the status to end with, from 0 to 5.
 ///
-/// Workers are started by `rt`. The words begin after the program's own name. What a command prints, and help, goes to `out`; the line of a refusal goes to `err`, and so does the parser's text on words that name no command. The command line's parser takes its memory of `words_alloc`, all else of `alloc`.
+/// Workers are started by `rt`. The words begin after the program's own name. What a command prints, help and the version go to `out`; the line of a refusal goes to `err`, and so do the parser's text on words that name no command and, with `--progress`, the lines that tell how far a run has come. The command line's parser takes its memory of `words_alloc`, all else of `alloc`.
 pub fn execute<
     R: Threads + Sync,
     A: Allocator + Copy + Send + Sync,
@@ -41,31 +46,40 @@ pub fn execute<
     requires out { O.failed out.old < 2 ^ 64 - 1 }
     requires err { E.failed err.old < 2 ^ 64 - 1 }
     ensures most { result ≤ 5 }
-    ensures quiet { result ≡ 0 → (E.taken err.new ≡ E.taken err.old) × (E.failed err.new ≡ E.failed err.old) }
+    ensures quiet { result ≡ 0 → IsQuiet (map S.text words.now) (E.taken err.old, E.failed err.old) (E.taken err.new, E.failed err.new) }
     ensures said { result ≢ 0 → (s : Status) × (text : List ℕ) × (result ≡ code_of s)
-        × Prints (E.taken err.old, E.failed err.old) (E.taken err.new, E.failed err.new) (said s text) }
+        × Says (map S.text words.now) (E.taken err.old, E.failed err.old) (E.taken err.new, E.failed err.new) (said s text) }
     ensures kept { result ≢ 0 → IsKept (O.taken out.old, O.failed out.old) (O.taken out.new, O.failed out.new)
         ⊎ ((result ≡ 4) × AsksForTrajectory (map S.text words.now)) }
     ensures misuse { result ≡ 2 → IsMisuse (map S.text words.now) × (O.taken out.new ≡ O.taken out.old) }
-    ensures done { result ≡ 0 → AsksForHelp (map S.text words.now) ⊎ ((c : Command) × IsCommand (map S.text words.now) c
-        × (F.asked files.new ≡ asked_by (F.asked files.old) c)) }
+    ensures done { result ≡ 0 → AsksForHelp (map S.text words.now) ⊎ AsksForVersion (map S.text words.now) ⊎ ((c : Command) × IsCommand (map S.text words.now) c
+        × (F.asked files.new ≡ asked_by (F.asked files.old) c) × HasPrinted c (O.taken out.old) (O.taken out.new)) }
     ensures reads { (F.asked files.new ≡ F.asked files.old)
         ⊎ ((c : Command) × IsCommand (map S.text words.now) c × AsksFor c (F.asked files.old) (F.asked files.new)) }
 {
-    match respond(rt, words_alloc, alloc, words, files, out) {
+    match respond(rt, words_alloc, alloc, words, files, out, err) {
         Ok(()) => Status::Done.code(),
-        Err(fault) => report(alloc, &fault, err),
+        Err(fault) => report_if_counted(alloc, &fault, err),
     }
 }
 
 /// Does what the words ask for.
-fn respond<'a, R: Threads + Sync, A: Allocator + Copy + Send + Sync, S: AsStr, F: Files, O: Out>(
+fn respond<
+    'a,
+    R: Threads + Sync,
+    A: Allocator + Copy + Send + Sync,
+    S: AsStr,
+    F: Files,
+    O: Out,
+    E: Out,
+>(
     rt: &R,
     words_alloc: Global,
     alloc: A,
     words: &'a [S],
     files: &mut F,
     out: &mut O,
+    err: &mut E,
 ) -> Result<(), CommandFault<'a, A>>
     requires { O.failed out.old < 2 ^ 64 - 1 }
     ensures misuse { IfErr result (λ f. status_of f ≡ Status.CommandLine → IsMisuse (map S.text words.entry.now)
@@ -73,35 +87,43 @@ fn respond<'a, R: Threads + Sync, A: Allocator + Copy + Send + Sync, S: AsStr, F
     ensures kept { IfErr result (λ f. IsKept (O.taken out.old, O.failed out.old) (O.taken out.new, O.failed out.new)
         ⊎ ((status_of f ≡ Status.Memory) × AsksForTrajectory (map S.text words.entry.now))) }
     ensures fault { IfErr result (λ f. status_of f ≢ Status.Done) }
-    ensures done { OnOk result (AsksForHelp (map S.text words.entry.now) ⊎ ((c : Command) × IsCommand (map S.text words.entry.now) c
-        × (F.asked files.new ≡ asked_by (F.asked files.old) c))) }
+    ensures quiet { OnOk result (IsQuiet (map S.text words.entry.now) (E.taken err.old, E.failed err.old) (E.taken err.new, E.failed err.new)) }
+    ensures begun { OnErr result (IsBegun (map S.text words.entry.now) (E.taken err.old, E.failed err.old) (E.taken err.new, E.failed err.new)) }
+    ensures done { OnOk result (AsksForHelp (map S.text words.entry.now) ⊎ AsksForVersion (map S.text words.entry.now) ⊎ ((c : Command) × IsCommand (map S.text words.entry.now) c
+        × (F.asked files.new ≡ asked_by (F.asked files.old) c) × HasPrinted c (O.taken out.old) (O.taken out.new))) }
     ensures reads { (F.asked files.new ≡ F.asked files.old)
         ⊎ ((c : Command) × IsCommand (map S.text words.entry.now) c × AsksFor c (F.asked files.old) (F.asked files.new)) }
 {
     match parse(words_alloc, words) {
-        Ok(command) => perform(rt, alloc, command, files, out),
+        Ok(command) => perform(rt, alloc, command, files, out, err),
         Err(error) => answer(alloc, error, out),
     }
 }
 
 /// Does what a command says.
-fn perform<'a, R: Threads + Sync, A: Allocator + Copy + Send + Sync, F: Files, O: Out>(
+fn perform<'a, R: Threads + Sync, A: Allocator + Copy + Send + Sync, F: Files, O: Out, E: Out>(
     rt: &R,
     alloc: A,
     command: Command<'a>,
     files: &mut F,
     out: &mut O,
+    err: &mut E,
 ) -> Result<(), CommandFault<'a, A>>
     requires { O.failed out.old < 2 ^ 64 - 1 }
     ensures done { OnOk result (F.asked files.new ≡ asked_by (F.asked files.old) command.entry) }
     ensures reads { AsksFor command.entry (F.asked files.old) (F.asked files.new) }
+    ensures printed { OnOk result (HasPrinted command.entry (O.taken out.old) (O.taken out.new)) }
+    ensures told { OnOk result (TellsAll (told_of command.entry) (E.taken err.old, E.failed err.old) (E.taken err.new, E.failed err.new)) }
+    ensures told_some { OnErr result (TellsSome (told_of command.entry) (E.taken err.old, E.failed err.old) (E.taken err.new, E.failed err.new)) }
     ensures kept { IfErr result (Keeps command.entry (O.taken out.old, O.failed out.old) (O.taken out.new, O.failed out.new)) }
     ensures fault { IfErr result (λ f. status_of f ≢ Status.CommandLine) }
 {
     match command {
         Command::Start(start) => perform_start(alloc, start, files, out),
-        Command::Run(run) => perform_run(rt, alloc, run, files, out),
-        Command::Trajectory(trajectory) => perform_trajectory(rt, alloc, trajectory, files, out),
+        Command::Run(run) => perform_run(rt, alloc, run, files, out, err),
+        Command::Trajectory(trajectory) => perform_trajectory(
+            rt, alloc, trajectory, files, out, err,
+        ),
         Command::Frame(frame) => perform_frame(alloc, frame, files, out),
         Command::Energy(energy) => perform_energy(alloc, energy, files, out),
         Command::Check(check) => perform_check(alloc, check, files, out),
@@ -201,21 +223,29 @@ fn perform_code<'a, A: Allocator + Copy, F: Files, O: Out>(
 }
 
 /// Reads the job and then the state, and runs it.
-fn perform_run<'a, R: Threads + Sync, A: Allocator + Copy + Send + Sync, F: Files, O: Out>(
+fn perform_run<'a, R: Threads + Sync, A: Allocator + Copy + Send + Sync, F: Files, O: Out, E: Out>(
     rt: &R,
     alloc: A,
     run: Run<'a>,
     files: &mut F,
     out: &mut O,
+    err: &mut E,
 ) -> Result<(), CommandFault<'a, A>>
     requires { O.failed out.old < 2 ^ 64 - 1 }
     ensures done { OnOk result (F.asked files.new ≡ asked_by (F.asked files.old) (Command.Run run.entry)) }
     ensures reads { AsksFor (Command.Run run.entry) (F.asked files.old) (F.asked files.new) }
+    ensures printed { OnOk result (HasPrinted (Command.Run run.entry) (O.taken out.old) (O.taken out.new)) }
+    ensures told { OnOk result (TellsAll (told_of (Command.Run run.entry)) (E.taken err.old, E.failed err.old) (E.taken err.new, E.failed err.new)) }
+    ensures told_some { OnErr result (TellsSome (told_of (Command.Run run.entry)) (E.taken err.old, E.failed err.old) (E.taken err.new, E.failed err.new)) }
     ensures kept { OnErr result ((O.taken out.new ≡ O.taken out.old) ⊎ (O.failed out.old < O.failed out.new)) }
     ensures fault { IfErr result (λ f. status_of f ≢ Status.CommandLine) }
 {
     let (job, state) = read_two(alloc, run.job, run.state, files)?;
-    run_texts(rt, alloc, job.as_slice(), state.as_slice(), &run, out)
+    if run.progress {
+        run_watched(rt, alloc, &job, &state, &run, out, err)
+    } else {
+        run_texts(rt, alloc, &job, &state, &run, out)
+    }
 }
 
 /// Runs a state under a job.
@@ -228,6 +258,7 @@ fn run_texts<'a, R: Threads + Sync, A: Allocator + Copy + Send + Sync, O: Out>(
     out: &mut O,
 ) -> Result<(), CommandFault<'a, A>>
     requires { O.failed out.old < 2 ^ 64 - 1 }
+    ensures wrote { OnOk result (WroteLevesqueVerletRun job.now state.now run.now.direction run.now.steps (O.taken out.old) (O.taken out.new)) }
     ensures kept { OnErr result ((O.taken out.new ≡ O.taken out.old) ⊎ (O.failed out.old < O.failed out.new)) }
     ensures fault { IfErr result (λ f. status_of f ≢ Status.CommandLine) }
 {
@@ -245,28 +276,36 @@ fn run_texts<'a, R: Threads + Sync, A: Allocator + Copy + Send + Sync, O: Out>(
 }
 
 /// Reads the job and then the state, and prints frames of the run.
-fn perform_trajectory<'a, R: Threads + Sync, A: Allocator + Copy + Send + Sync, F: Files, O: Out>(
+fn perform_trajectory<
+    'a,
+    R: Threads + Sync,
+    A: Allocator + Copy + Send + Sync,
+    F: Files,
+    O: Out,
+    E: Out,
+>(
     rt: &R,
     alloc: A,
     trajectory: Trajectory<'a>,
     files: &mut F,
     out: &mut O,
+    err: &mut E,
 ) -> Result<(), CommandFault<'a, A>>
     requires { O.failed out.old < 2 ^ 64 - 1 }
     ensures done { OnOk result (F.asked files.new ≡ asked_by (F.asked files.old) (Command.Trajectory trajectory.entry)) }
     ensures reads { AsksFor (Command.Trajectory trajectory.entry) (F.asked files.old) (F.asked files.new) }
+    ensures printed { OnOk result (HasPrinted (Command.Trajectory trajectory.entry) (O.taken out.old) (O.taken out.new)) }
+    ensures told { OnOk result (TellsAll (told_of (Command.Trajectory trajectory.entry)) (E.taken err.old, E.failed err.old) (E.taken err.new, E.failed err.new)) }
+    ensures told_some { OnErr result (TellsSome (told_of (Command.Trajectory trajectory.entry)) (E.taken err.old, E.failed err.old) (E.taken err.new, E.failed err.new)) }
     ensures kept { IfErr result (Keeps (Command.Trajectory trajectory.entry) (O.taken out.old, O.failed out.old) (O.taken out.new, O.failed out.new)) }
     ensures fault { IfErr result (λ f. status_of f ≢ Status.CommandLine) }
 {
     let (job, state) = read_two(alloc, trajectory.job, trajectory.state, files)?;
-    trajectory_texts(
-        rt,
-        alloc,
-        job.as_slice(),
-        state.as_slice(),
-        &trajectory,
-        out,
-    )
+    if trajectory.progress {
+        trajectory_watched(rt, alloc, &job, &state, &trajectory, out, err)
+    } else {
+        trajectory_texts(rt, alloc, &job, &state, &trajectory, out)
+    }
 }
 
 /// Prints frames of the run of a state under a job.
@@ -279,6 +318,8 @@ fn trajectory_texts<'a, R: Threads + Sync, A: Allocator + Copy + Send + Sync, O:
     out: &mut O,
 ) -> Result<(), CommandFault<'a, A>>
     requires { O.failed out.old < 2 ^ 64 - 1 }
+    ensures wrote { OnOk result (WroteFrames (IsFrameOfRun job.now state.now trajectory.now.direction trajectory.now.every)
+        (suc (trajectory.now.steps / trajectory.now.every)) (O.taken out.old) (O.taken out.new)) }
     ensures kept { IfErr result (λ f. IsKept (O.taken out.old, O.failed out.old) (O.taken out.new, O.failed out.new) ⊎ (status_of f ≡ Status.Memory)) }
     ensures fault { IfErr result (λ f. status_of f ≢ Status.CommandLine) }
 {
@@ -337,7 +378,7 @@ fn unread<'a, A: Allocator>(fault: ReadFault, path: &'a str) -> CommandFault<'a,
     }
 }
 
-/// Prints help where the words ask for it; any other answer of the parser is a fault.
+/// Prints help or the version where the words ask for it; any other answer of the parser is a fault.
 fn answer<'a, A: Allocator + Copy, O: Out>(
     alloc: A,
     error: Error,
@@ -345,18 +386,34 @@ fn answer<'a, A: Allocator + Copy, O: Out>(
 ) -> Result<(), CommandFault<'a, A>>
     requires { O.failed out.old < 2 ^ 64 - 1 }
     ensures kept { OnErr result ((O.taken out.new ≡ O.taken out.old) ⊎ (O.failed out.old < O.failed out.new)) }
-    ensures help { OnOk result (kind_of error ≡ DisplayHelp) }
+    ensures help { OnOk result ((kind_of error ≡ DisplayHelp) ⊎ (kind_of error ≡ DisplayVersion)) }
     ensures misuse { IfErr result (λ f. status_of f ≡ Status.CommandLine → (kind_of error ≢ OutOfMemory)
-        × (kind_of error ≢ DisplayHelp) × (O.taken out.new ≡ O.taken out.old)) }
+        × (kind_of error ≢ DisplayHelp) × (kind_of error ≢ DisplayVersion) × (O.taken out.new ≡ O.taken out.old)) }
 {
     match error.kind() {
         ErrorKind::OutOfMemory => Err(CommandFault::Memory),
-        ErrorKind::DisplayHelp => {
+        ErrorKind::DisplayHelp | ErrorKind::DisplayVersion => {
             let text = error.to_string(alloc)?;
             write_all(out, text.as_bytes())?;
             Ok(())
         }
         _ => Err(CommandFault::CommandLine(error)),
+    }
+}
+
+/// Prints what a fault says, unless no more failed writes of the output can be counted, and answers its status.
+fn report_if_counted<A: Allocator + Copy, E: Out>(
+    alloc: A,
+    fault: &CommandFault<'_, A>,
+    err: &mut E,
+) -> u8
+    ensures { (s : Status) × (text : List ℕ) × ((s ≡ status_of fault.now) ⊎ (s ≡ Status.Memory)) × (result ≡ code_of s)
+        × PrintsIfCounted (E.taken err.old, E.failed err.old) (E.taken err.new, E.failed err.new) (said s text) }
+{
+    if err.failures() < u64::MAX {
+        report(alloc, fault, err)
+    } else {
+        fault.status().code()
     }
 }
 

@@ -14,5 +14,3 @@ pub mod EnergySumLaws
 pub mod EnergyTileLaws
 pub mod EngineEnergyLaws
 pub mod EnergyOfTexts
-pub mod FrameTitleLaws
-pub mod TrajectoryLaws

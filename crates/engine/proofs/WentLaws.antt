@@ -68,7 +68,8 @@ turns_add w d (suc k) m f =
     let e : suc k + m ≡ suc (k + m) = omega arith in
     ap (λ i. turns w d i f) e ∙ turns_add_at w d k m (turn w d f) (turns_add w d k m)
 
-counters_add : (w : Direction) (z : ℤ) (k m : ℕ) → counter_at w (counter_at w z k) m ≡ counter_at w z (k + m)
+-- a counter that many steps further, and then more
+pub counters_add : (w : Direction) (z : ℤ) (k m : ℕ) → counter_at w (counter_at w z k) m ≡ counter_at w z (k + m)
 counters_add Forward z k m = omega (arith, ints)
 counters_add Back z k m = omega (arith, ints)
 

@@ -1,5 +1,5 @@
 -- Engines: which jobs and states have one, and what its steps do.
-use Rattle.std.specs.Prelude.{◌≡◌, ℕ, ◌≤◌, ℤ, List, length, Some, None, Ok}
+use Rattle.std.specs.Prelude.{◌≡◌, ℕ, ◌-◌, ◌≤◌, ℤ, List, length, Some, None, Ok}
 use Rattle.energy_program.specs.Tree.{Tree}
 use Rattle.job.specs.JobText.{HasNamesOnce, reading_of, limits}
 use Rattle.job.specs.Values.{JobValue}
@@ -71,10 +71,10 @@ pub record Went (direction : Direction) (n : ℕ) (before after : EngineView) : 
   pub counted : counter_after direction before.state.step n ≡ Some counter
   pub moved : after ≡ record before { state = moved_state before.state frames' counter }
 
--- where the counter would leave 64 bits nothing is done; where memory is wanted, so many steps are
+-- where the counter would leave 64 bits nothing is done; where memory is wanted, so many steps are, and not the last (none of none)
 abbrev pub Stopped : Direction → ℕ → EngineView → EngineView → StepFault → Type 0
 Stopped direction n before after step.StepRange = (counter_after direction before.state.step n ≡ None) × (after ≡ before)
-Stopped direction n before after (step.Memory done) = (done ≤ n) × Went direction done before after
+Stopped direction n before after (step.Memory done) = (done ≤ n - 1) × Went direction done before after
 
 -- ---- from bytes to bytes
 
@@ -148,5 +148,5 @@ IsEngineRefusal {A} job state direction steps (run.Kernel r) = OfTexts job state
 IsEngineRefusal {A} job state direction steps run.ForceRange = OfTexts job state (λ j s. HasNoEngine {A = A} j s run.ForceRange)
 IsEngineRefusal job state direction steps (run.KernelFault step low high pc why) = ⊥
 IsEngineRefusal job state direction steps run.Memory = Unit {0}
-IsEngineRefusal job state direction steps (run.MemoryAfter done) = (done ≤ steps) × AreSafe job state
+IsEngineRefusal job state direction steps (run.MemoryAfter done) = (done ≤ steps - 1) × AreSafe job state
 IsEngineRefusal job state direction steps (run.Out f) = AreSafe job state

@@ -10,5 +10,3 @@ pub mod SafeEnergies
 pub mod Rounds
 pub mod Rows
 pub mod Tilings
-pub mod FrameTitles
-pub mod Trajectories

@@ -18,8 +18,14 @@ use state::State;
 use std::alloc::Allocator;
 use std::thread::Threads;
 
-/// The engine of these texts.
-fn open<A: Allocator + Copy>(alloc: A, job: &[u8], state: &[u8]) -> Result<Engine<A>, RunFault<A>>
+/// The engine of the bytes of a job and a state file.
+///
+/// The refusals are those of the job, of the state and of `Engine::new`, in this order.
+pub fn open<A: Allocator + Copy>(
+    alloc: A,
+    job: &[u8],
+    state: &[u8],
+) -> Result<Engine<A>, RunFault<A>>
     ensures opens { IfOk result (IsEngineOfTexts job.now state.now) }
     ensures once { IfOk result (λ _. AreReadOnce job.now state.now) }
     ensures refused { IfErr result (HasNoEngineOfTexts job.now state.now) }

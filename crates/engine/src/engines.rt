@@ -165,8 +165,17 @@ impl<A: Allocator + Copy> Engine<A> {
         &self.state
     }
 
+    /// The time step of the engine's job in fs, 1 to 1000.
+    pub fn time_step(&self) -> u32
+        ensures exact { result ≡ self.now.job.time_step }
+        ensures some { 1 ≤ result }
+        ensures most { result ≤ 1000 }
+    {
+        self.job.time_step
+    }
+
     /// That state, of an engine that isn't wanted any more.
-    pub(crate) fn into_state(self) -> State<A>
+    pub fn into_state(self) -> State<A>
         ensures { state_view result ≡ self.state }
     {
         let Engine { state, .. } = self;
@@ -300,8 +309,9 @@ impl<A: Allocator + Copy + Send + Sync> Engine<A> {
         self.arrive(direction, steps, done, LastFrames { before, middle })
     }
 
-    /// So many steps in a direction by so many workers that pass no gate. One worker waits for nobody.
-    pub(crate) fn turns_ungated<R: Threads + Sync>(
+    /// So many steps in a direction by so many workers, 1 to 64, of which the caller's thread is the first: as `forward` and `back`, but that
+    /// workers pass no gate. One worker waits for nobody.
+    pub fn turns_ungated<R: Threads + Sync>(
         &mut self,
         rt: &R,
         direction: Direction,

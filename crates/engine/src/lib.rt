@@ -4,7 +4,6 @@
 mod engine_runs;
 mod engines;
 mod frame_steps;
-mod frame_titles;
 mod frame_works;
 mod laws;
 mod pools;
@@ -12,11 +11,9 @@ mod rows;
 mod safe_energies;
 mod safe_kernels;
 mod safe_systems;
-mod trajectories;
 mod verdicts;
 
-pub use engine_runs::{run_bytes, state_energy};
+pub use engine_runs::{open, run_bytes, state_energy};
 pub use engines::Engine;
 pub use laws::{steps_add, steps_return};
-pub use trajectories::trajectory_bytes;
 pub use verdicts::{verdict, verified_slope};

@@ -6,6 +6,8 @@ mod cells;
 #[cfg(test)]
 mod listed;
 #[cfg(test)]
+mod noted;
+#[cfg(test)]
 mod pools;
 #[cfg(test)]
 mod rounds;

@@ -3,6 +3,7 @@
 ghost use Rattle.std.specs.Prelude.{◌≡◌, ◌<◌, ◌≤◌, IfOk};
 
 use crate::listed::{Listed, TWO_TILES, add, one_a_tile, two_tiles};
+use crate::noted::{Gated, Noting};
 use crate::watched::Watched;
 use linked_list_allocator::LocalHeap;
 use std::alloc::{AllocError, Global};
@@ -137,6 +138,30 @@ fn workers_are_in_pairs_at_once(rt: HostRuntime) -> Result<(), Fail> {
     let two = meet(&rt, 2)?;
     let four = meet(&rt, 4)?;
     assert!(rt; two && four);
+    Ok(())
+}
+
+/// Whether so many workers pass the gate once for each of six tiles, before they ask for a pair of it.
+fn pass<R: Threads + Sync + AllocGlobal>(rt: &R, workers: u32) -> Result<bool, AllocError>
+    requires some { 0 < workers }
+    requires few { workers ≤ 64 }
+{
+    let gate = Noting::new();
+    let work = Gated::new(pushes(rt.alloc(), 6, 188)?, &gate);
+    let mut scratches = [(); 64];
+    let scratches = &mut scratches[..workers as usize];
+    let summed = forces(rt, rt.alloc(), &work, scratches, 2, &gate).is_ok();
+    let early = work.early.load(Ordering::SeqCst);
+    Ok(summed && early == 0 && gate.passed.load(Ordering::SeqCst) == 6)
+}
+
+#[test]
+fn passes_the_gate_before_each_tile(rt: HostRuntime) -> Result<(), Fail> {
+    let mut passed = true;
+    for workers in [1, 2, 3, 64] {
+        passed = passed && pass(&rt, workers)?;
+    }
+    assert!(rt; passed);
     Ok(())
 }
 

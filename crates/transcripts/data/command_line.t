@@ -19,7 +19,8 @@ Help goes to standard output, and ends with status 0.
     help        Print this message or the help of the given subcommand(s)
   
   Options:
-    -h, --help  Print help
+    -h, --help     Print help
+    -V, --version  Print version
   $ pairmd help
   Reversible molecular dynamics on whole numbers
   
@@ -37,7 +38,8 @@ Help goes to standard output, and ends with status 0.
     help        Print this message or the help of the given subcommand(s)
   
   Options:
-    -h, --help  Print help
+    -h, --help     Print help
+    -V, --version  Print version
   $ pairmd run --help
   Prints the state after so many steps
   
@@ -50,6 +52,7 @@ Help goes to standard output, and ends with status 0.
   Options:
         --steps <n>    How many steps, from 0 to 1000000000000
         --workers <w>  How many workers, from 1 to 64 [default: 1]
+        --progress     Tells how far the run has come, at each hundredth of its steps
     -h, --help         Print help
   $ pairmd help run
   Prints the state after so many steps
@@ -63,6 +66,7 @@ Help goes to standard output, and ends with status 0.
   Options:
         --steps <n>    How many steps, from 0 to 1000000000000
         --workers <w>  How many workers, from 1 to 64 [default: 1]
+        --progress     Tells how far the run has come, at each hundredth of its steps
     -h, --help         Print help
   $ pairmd help start
   Prints the state that begins at a frame of a GRO file
@@ -88,6 +92,7 @@ Help goes to standard output, and ends with status 0.
   Options:
         --steps <n>    How many steps, from 0 to 1000000000000
         --workers <w>  How many workers, from 1 to 64 [default: 1]
+        --progress     Tells how far the run has come, at each hundredth of its steps
         --every <k>    How many steps from frame to frame, from 1 to 1000000000000
         --back         Goes back
     -h, --help         Print help
@@ -122,6 +127,37 @@ Help goes to standard output, and ends with status 0.
   
   Options:
     -h, --help  Print help
+
+So does the version. It is the program's and not a command's.
+
+  $ pairmd --version
+  pairmd 1.0.0
+  $ pairmd -V
+  pairmd 1.0.0
+  $ pairmd --version run job
+  pairmd 1.0.0
+  $ outputs pairmd --version
+  0-12: a beginning, pairmd: O2 CannotWrite [5]
+  13: all
+  $ requests pairmd --version
+  pairmd: Memory [4]
+  all
+  $ pairmd run --version
+  error: unexpected argument '--version' found
+  
+    tip: to pass '--version' as a value, use '-- --version'
+  
+  Usage: pairmd run [OPTIONS] --steps <n> <JOB> <STATE>
+  
+  For more information, try '--help'.
+  [2]
+  $ pairmd version
+  error: unrecognized subcommand 'version'
+  
+  Usage: pairmd <COMMAND>
+  
+  For more information, try '--help'.
+  [2]
 
 Words that name no command, and options that no command has. Standard output stays empty, and the status is 2.
 

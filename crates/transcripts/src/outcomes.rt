@@ -92,11 +92,7 @@ pub(crate) fn outcome_onto<R: Files + Threads + Sync + AllocGlobal>(
     words: &[&str],
     files: &mut Memory<'_, R>,
 ) -> Outcome {
-    let mut out = Limited {
-        bytes: Vec::new(rt.alloc()),
-        left,
-        failures: 0,
-    };
+    let mut out = Limited::new(rt.alloc(), left, false);
     let mut err = Collected::new(rt.alloc());
     let status = execute(rt, rt.alloc(), rt.alloc(), words, files, &mut out, &mut err);
     Outcome {
@@ -106,12 +102,45 @@ pub(crate) fn outcome_onto<R: Files + Threads + Sync + AllocGlobal>(
     }
 }
 
-/// Takes one byte at a time, and fails at each write once it has taken as many as it may.
+/// What the program comes to on these words, with an error output that takes so many bytes, one at a time, and then fails: once or for good.
+pub(crate) fn outcome_beside<R: Files + Threads + Sync + AllocGlobal>(
+    rt: &R,
+    left: usize,
+    fails_once: bool,
+    words: &[&str],
+    files: &mut Memory<'_, R>,
+) -> Outcome {
+    let mut out = Collected::new(rt.alloc());
+    let mut err = Limited::new(rt.alloc(), left, fails_once);
+    let status = execute(rt, rt.alloc(), rt.alloc(), words, files, &mut out, &mut err);
+    Outcome {
+        out: out.into_bytes(),
+        err: err.bytes,
+        status,
+    }
+}
+
+/// Takes one byte at a time, and fails once it has taken as many as it may: at each write from then on, or at one.
 #[derive(Drop)]
 struct Limited {
     bytes: Vec<u8>,
     left: usize,
+    fails_once: bool,
     failures: u64,
+}
+
+impl Limited {
+    /// An output that has taken nothing.
+    fn new(alloc: Global, left: usize, fails_once: bool) -> Limited
+        ensures { result.failures ≡ 0 }
+    {
+        Limited {
+            bytes: Vec::new(alloc),
+            left,
+            fails_once,
+            failures: 0,
+        }
+    }
 }
 
 impl Out for Limited {
@@ -126,6 +155,9 @@ impl Out for Limited {
         if self.left > 0 && self.bytes.push(*first).is_ok() {
             self.left -= 1;
             return Ok(1);
+        }
+        if self.fails_once {
+            self.left = usize::MAX;
         }
         self.failures += 1;
         Err(OutFault)

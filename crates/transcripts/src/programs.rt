@@ -102,6 +102,7 @@ impl<'a, R: Files + Threads + Sync + AllocGlobal> Shell<'a, R> {
             ["returns", "pairmd", words @ ..] => self.returning(words),
             ["beginnings", name, "pairmd", words @ ..] => self.beginnings(name, words),
             ["outputs", "pairmd", words @ ..] => self.failing_outputs(words),
+            ["errors", "pairmd", words @ ..] => self.failing_errors(words),
             ["requests", "pairmd", words @ ..] => self.refused_requests(words),
             words => self.make(words),
         }

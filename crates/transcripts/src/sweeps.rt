@@ -1,8 +1,8 @@
-//! One command many times: by numbers of workers, there and back, over beginnings of a file, onto outputs that fail, and
-//! with each request for memory refused in turn.
+//! One command many times: by numbers of workers, there and back, over beginnings of a file, onto outputs that fail, beside
+//! error outputs that fail, and with each request for memory refused in turn.
 
 use crate::lines::put_line;
-use crate::outcomes::{Outcome, outcome_of, outcome_onto};
+use crate::outcomes::{Outcome, outcome_beside, outcome_of, outcome_onto};
 use crate::programs::Shell;
 use refusing_memory::RefusingAllocator;
 use std::alloc::{AllocError, Global};
@@ -118,6 +118,19 @@ impl<'a, R: Files + Threads + Sync + AllocGlobal> Shell<'a, R> {
         Ok(ranges)
     }
 
+    /// What a command comes to beside an error output that takes so many bytes and then fails, once and for good, from none to all.
+    pub(crate) fn failing_errors(&mut self, words: &[&str]) -> Result<Outcome, AllocError> {
+        let alloc = self.rt.alloc();
+        let whole = self.pairmd(words);
+        let mut ranges = Ranges::new(alloc);
+        for left in 0..=whole.err.len() {
+            let once = outcome_beside(self.rt, left, true, words, &mut self.files);
+            let ever = outcome_beside(self.rt, left, false, words, &mut self.files);
+            ranges.note(alloc, told_beside(alloc, &once, &ever, left, &whole)?)?;
+        }
+        Ok(Outcome::printing(alloc, ranges.told(alloc)?))
+    }
+
     /// What a command comes to where one of its requests for memory is refused, for each request: every outcome once, in the
     /// order in which they come, and `all` for the outcome with none refused.
     pub(crate) fn refused_requests(&mut self, words: &[&str]) -> Result<Outcome, AllocError> {
@@ -228,6 +241,35 @@ fn beginning_of(
         text.extend_from_slice(&refusal.summary(alloc)?)?;
     }
     Ok(text)
+}
+
+/// What was told to an error output that took so many bytes and then failed, once and for good: all that the whole outcome tells up to there, and
+/// where it failed once the lines behind that of the failure as well. All else is as in the whole outcome.
+fn told_beside(
+    alloc: Global,
+    once: &Outcome,
+    ever: &Outcome,
+    left: usize,
+    whole: &Outcome,
+) -> Result<Vec<u8>, AllocError> {
+    let is_same = once.out == whole.out
+        && ever.out == whole.out
+        && once.status == whole.status
+        && ever.status == whole.status;
+    let taken = whole.err.get(..left).unwrap_or(&whole.err);
+    let rest = whole.err.get(left..).unwrap_or(&[]);
+    let mut lines = Vec::from_slice(alloc, taken)?;
+    if let Some(end) = rest.iter().position(|byte| *byte == b'\n') {
+        lines.extend_from_slice(rest.get(end.saturating_add(1)..).unwrap_or(&[]))?;
+    }
+    let told: &[u8] = if !is_same || ever.err.as_slice() != taken || once.err != lines {
+        b"something else"
+    } else if rest.is_empty() {
+        b"all"
+    } else {
+        b"each line as far as it is taken"
+    };
+    Vec::from_slice(alloc, told)
 }
 
 /// What commands came to that have the numbers from 0 on; those that follow one another and came to the same are told once.

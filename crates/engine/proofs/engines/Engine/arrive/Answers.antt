@@ -44,7 +44,7 @@ returns-then-done-steps-clause-stopped g c =
     let counter : to_z w64 (of_z w64 k) ≡ k = search rules in
     let moved : state_view c.advance.new.state ≡ moved_state (state_view i.state) (frames turned.previous.items turned.current.items) k = rw counter at c.advance.ensures.value in
     rw (← c.self.view_is) (
-      c.requires.few,
+      omega (arith, c.if-done-steps.true),
       went_on c.args.direction c.args.done e _ course.before.items course.middle.items turned.previous.items turned.current.items k (rw (← c.self.view_is) at c.requires.turned) c.turned.ensures (sym c.in-Some.ensures.value)
           (ap (λ (s : StateView). record e { state = s }) moved),
     )

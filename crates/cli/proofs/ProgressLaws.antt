@@ -1,0 +1,66 @@
+-- What was printed of how far a run has come, and what is printed in all.
+use Rattle.std.proofs.Common.{◌≡◌, ◌≢◌, ◌⊎◌, ◌∙◌, ◌<◌, ◌-◌, ◌^◌, ℕ, List, Option, Some, None, arith, inl, inr, refl, subst, sym}
+use Rattle.std.specs.Prelude.{OnErr, OnOk, Result, Ok, Err}
+use Rattle.integrator.specs.Forces.{numbers_from}
+use Rattle.command_line.specs.CommandLine.{IsCommand}
+use Rattle.command_line.specs.declared.commands.Command.{Command}
+use Rattle.cli.specs.Kept.{Output}
+use Rattle.cli.specs.Progress.{IsBegun, IsQuiet, PrintsIfCounted, Says, TellsAll, TellsSome, told_of}
+use Rattle.cli.specs.Reports.{Prints}
+use Rattle.cli.specs.Statuses.{code_of}
+use Rattle.cli.specs.declared.faults.Status.{Status}
+use Rattle.cli.specs.declared.faults.Status.TheVariants as status
+
+-- before the first step nothing is told
+nothing_told : (steps : Option ℕ) (o : Output) → TellsSome steps o o
+unfolding numbers_from
+nothing_told None o = refl
+nothing_told (Some steps) o = (0, omega arith, refl)
+
+-- the same of a command that was not done
+pub nothing_told_yet : {T E : Type 0} (r : Result T E) (steps : Option ℕ) (o : Output) → OnErr r (TellsSome steps o o)
+nothing_told_yet (Ok x) steps o = tt
+nothing_told_yet (Err e) steps o = nothing_told steps o
+
+begun : (words : List (List ℕ)) (c : Command) (steps : Option ℕ) (before after : Output) → told_of c ≡ steps → IsCommand words c
+    → TellsSome steps before after → IsBegun words before after
+begun words c None before after e is told = inl told
+begun words c (Some steps) before after e is told = inr (c, steps, is, e, told)
+
+-- what a command has told that was not done is what its words begin with
+pub begun_by_words : {T E : Type 0} (r : Result T E) (words : List (List ℕ)) (c : Command) (before after : Output) → IsCommand words c
+    → OnErr r (TellsSome (told_of c) before after) → OnErr r (IsBegun words before after)
+begun_by_words (Ok x) words c before after is told = tt
+begun_by_words (Err e) words c before after is told = begun words c (told_of c) before after refl is told
+
+pub on_ok_both : {T E : Type 0} (r : Result T E) (P Q : Type 0) → OnOk r P → OnOk r Q → OnOk r (P × Q)
+on_ok_both (Ok x) P Q p q = (p, q)
+on_ok_both (Err e) P Q p q = tt
+
+-- what a command has told that was done is all that its words print
+pub quiet_by_words : {T E : Type 0} (r : Result T E) (words : List (List ℕ)) (c : Command) (before after : Output) → IsCommand words c
+    → OnOk r (TellsAll (told_of c) before after) → OnOk r (IsQuiet words before after)
+quiet_by_words (Ok x) words c before after is told = inr (c, is, told)
+quiet_by_words (Err e) words c before after is told = tt
+
+-- a text behind what was told
+pub says : (words : List (List ℕ)) (before between after : Output) (text : List ℕ) → before.1 < 2 ^ 64 - 1 → IsBegun words before between
+    → PrintsIfCounted between after text → Says words before after text
+says words before between after text room (inl same) (inl prints) = inl (subst (λ o. Prints o after text) same prints)
+says words before between after text room (inl same) (inr left) =
+    let few : between.1 < 2 ^ 64 - 1 = subst (λ (o : Output). o.1 < 2 ^ 64 - 1) (sym same) room in
+    let bad : ⊥ = omega (arith, few, left.1) in absurd bad
+says words before between after text room (inr told) prints = inr (told.0, told.1, between, told.2, told.3, told.4, prints)
+
+code_zero : (s : Status) → code_of s ≡ 0 → s ≡ status.Done
+code_zero status.Done e = refl
+code_zero status.RefusedData e = let bad : ⊥ = omega (arith, e) in absurd bad
+code_zero status.CommandLine e = let bad : ⊥ = omega (arith, e) in absurd bad
+code_zero status.RefusedKernel e = let bad : ⊥ = omega (arith, e) in absurd bad
+code_zero status.Memory e = let bad : ⊥ = omega (arith, e) in absurd bad
+code_zero status.File e = let bad : ⊥ = omega (arith, e) in absurd bad
+
+-- a fault is reported by another status than 0
+pub fault_told : (was s : Status) (result : ℕ) → (s ≡ was) ⊎ (s ≡ status.Memory) → result ≡ code_of s → was ≢ status.Done → result ≢ 0
+fault_told was s result (inl e) is fault zero = fault (sym e ∙ code_zero s (sym is ∙ zero))
+fault_told was s result (inr e) is fault zero = let bad : status.Memory ≡ status.Done = sym e ∙ code_zero s (sym is ∙ zero) in cc

@@ -1,8 +1,0 @@
-use Rattle.std.proofs.Common.{codes, ap, ◌∙◌}
-use Rattle.clap.specs.Simple.{app_of_fields}
-use Rattle.clap.specs.Words.{new_app}
-use Rattle.cli.proofs.CommandLineLaws.{shaped}
-use Rattle.cli.proofs.command_line.framing.Goals as goal
-
-pub returns : goal.returns
-returns c = shaped _ _ (c.of_state.ensures (new_app (codes "frame")) (ap app_of_fields c.about-command.ensures ∙ c.new.ensures.app, ap (λ f. f.has_globals) c.about-command.ensures ∙ c.new.ensures.local))

@@ -1,5 +1,0 @@
-use Rattle.cli.proofs.CommandLineLaws.{shaped}
-use Rattle.cli.proofs.command_line.listing.Goals as goal
-
-pub returns : goal.returns
-returns c = shaped _ _ c.of_job.ensures

@@ -1,7 +1,0 @@
-use Rattle.cli.proofs.CommandLineLaws.{shaped}
-use Rattle.cli.proofs.command_line.starting.Goals as goal
-
-pub returns : goal.returns
-returns c =
-    let taken = c.with_arg-command.ensures _ _ c.of_job-command.ensures c.path.ensures.rule c.path.ensures.local in
-    shaped _ _ (c.with_arg.ensures _ _ taken c.frame_number.ensures.rule c.frame_number.ensures.local)

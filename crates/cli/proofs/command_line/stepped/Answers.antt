@@ -1,7 +1,0 @@
-use Rattle.cli.proofs.command_line.stepped.Goals as goal
-
-pub returns : goal.returns
-returns c =
-    let taken = c.of_state-command.ensures _ c.of_job.ensures in
-    let with_steps = c.with_arg.ensures _ _ taken c.steps.ensures.rule c.steps.ensures.local in
-    c.with_arg-2.ensures _ _ with_steps c.workers.ensures.rule c.workers.ensures.local

@@ -1,0 +1,13 @@
+-- no step was made where a file gave no bytes; where both did, what was printed is a run of them
+use Rattle.std.proofs.lemmas.Result.{on_ok_weaker}
+use Rattle.cli.proofs.ProgressLaws.{nothing_told_yet}
+use Rattle.cli.proofs.execution.perform_run.Goals as goal
+
+pub returns-in_err-job-clause-told_some : goal.returns-in_err-job-clause-told_some
+returns-in_err-job-clause-told_some g c = nothing_told_yet c.from_residual.result _ _
+
+pub returns-then-run-clause-printed : goal.returns-then-run-clause-printed
+returns-then-run-clause-printed g c = on_ok_weaker c.run_watched.result (λ wrote. (_, _, wrote)) c.run_watched.ensures.wrote
+
+pub returns-clause-printed : goal.returns-clause-printed
+returns-clause-printed g c = on_ok_weaker c.run_texts.result (λ wrote. (_, _, wrote)) c.run_texts.ensures.wrote

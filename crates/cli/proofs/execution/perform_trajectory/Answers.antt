@@ -1,0 +1,13 @@
+-- no step was made where a file gave no bytes; where both did, what was printed is a run of them
+use Rattle.std.proofs.lemmas.Result.{on_ok_weaker}
+use Rattle.cli.proofs.ProgressLaws.{nothing_told_yet}
+use Rattle.cli.proofs.execution.perform_trajectory.Goals as goal
+
+pub returns-in_err-job-clause-told_some : goal.returns-in_err-job-clause-told_some
+returns-in_err-job-clause-told_some g c = nothing_told_yet c.from_residual.result _ _
+
+pub returns-then-trajectory-clause-printed : goal.returns-then-trajectory-clause-printed
+returns-then-trajectory-clause-printed g c = on_ok_weaker c.trajectory_watched.result (λ wrote. (_, _, wrote)) c.trajectory_watched.ensures.wrote
+
+pub returns-clause-printed : goal.returns-clause-printed
+returns-clause-printed g c = on_ok_weaker c.trajectory_texts.result (λ wrote. (_, _, wrote)) c.trajectory_texts.ensures.wrote

@@ -1,0 +1,75 @@
+-- What is printed of how far a run has come.
+use Rattle.std.specs.Prelude.{◌≡◌, ◌⊎◌, ◌≤◌, ◌-◌, ◌*◌, ◌/◌, ◌^◌, ℕ, List, [], ◌∷◌, ◌++◌, Bool, true, false, Option, Some, None, map, codes, decimal}
+use Rattle.std.proofs.Common.{subst}
+use Rattle.command_line.specs.CommandLine.{AsksForHelp, AsksForVersion, IsCommand}
+use Rattle.command_line.specs.declared.commands.Command.{Command}
+use Rattle.command_line.specs.declared.commands.Command.TheVariants as command
+use Rattle.trajectory.specs.Watching.{SomeHundredths, hundredths}
+use Rattle.cli.specs.Kept.{Output}
+use Rattle.cli.specs.Reports.{Prints}
+
+-- the line that tells that so many of the steps are made
+abbrev pub progress_line : (steps made : ℕ) → List ℕ
+progress_line steps made = codes "pairmd: " ++ decimal made ++ codes " of " ++ decimal steps ++ codes " steps\n"
+
+abbrev pub told_if : Bool → ℕ → Option ℕ
+told_if true steps = Some steps
+told_if false steps = None
+
+-- of how many steps a command tells how far it has come, if it does: those that it makes, which end with a trajectory's last frame
+abbrev pub told_of : Command → Option ℕ
+told_of (command.Run run) = told_if run.progress run.steps
+told_of (command.Trajectory t) = told_if t.progress (t.steps / t.every * t.every)
+told_of _ = None
+
+-- A text was printed, as far as the output took it. An output of which no more failed writes can be counted is left as it is.
+abbrev pub PrintsIfCounted : Output → Output → List ℕ → Type 0
+PrintsIfCounted before after text = Prints before after text ⊎ ((after ≡ before) × (2 ^ 64 - 1 ≤ before.1))
+
+-- texts were printed, one after the other
+abbrev pub PrintsEach : List (List ℕ) → Output → Output → Type 0
+PrintsEach [] before after = after ≡ before
+PrintsEach (text ∷ texts) before after = (between : Output) × PrintsIfCounted before between text × PrintsEach texts between after
+
+-- for each of these numbers the line that tells that so many of the steps are made
+abbrev pub PrintsProgress : (steps : ℕ) → Output → Output → List ℕ → Type 0
+PrintsProgress steps before after counts = PrintsEach (map (progress_line steps) counts) before after
+
+-- how far a run of so many steps has come was told at each hundredth; nothing where it isn't to be told
+abbrev pub TellsAll : Option ℕ → Output → Output → Type 0
+TellsAll None before after = after ≡ before
+TellsAll (Some steps) before after = PrintsProgress steps before after (hundredths steps)
+
+-- the same of a run that ended early, at each hundredth that it reached
+abbrev pub TellsSome : Option ℕ → Output → Output → Type 0
+TellsSome None before after = after ≡ before
+TellsSome (Some steps) before after = SomeHundredths steps (PrintsProgress steps before after)
+
+-- what is printed where all is done: of a command how far it has come, if it has `--progress`; else nothing
+abbrev pub IsQuiet : List (List ℕ) → Output → Output → Type 0
+IsQuiet words before after = ((AsksForHelp words ⊎ AsksForVersion words) × (after ≡ before))
+    ⊎ ((c : Command) × IsCommand words c × TellsAll (told_of c) before after)
+
+-- what is printed before a fault's text: of a command with `--progress` how far it had come, else nothing
+abbrev pub IsBegun : List (List ℕ) → Output → Output → Type 0
+IsBegun words before after = (after ≡ before)
+    ⊎ ((c : Command) × (steps : ℕ) × IsCommand words c × (told_of c ≡ Some steps) × SomeHundredths steps (PrintsProgress steps before after))
+
+-- what is printed where something was not done: a text, and of a command with `--progress` maybe before it how far it had come
+abbrev pub Says : List (List ℕ) → Output → Output → List ℕ → Type 0
+Says words before after text = Prints before after text
+    ⊎ ((c : Command) × (steps : ℕ) × (between : Output) × IsCommand words c × (told_of c ≡ Some steps)
+    × SomeHundredths steps (PrintsProgress steps before between) × PrintsIfCounted between after text)
+
+-- what was printed and then was printed
+pub prints_more : (steps : ℕ) (first more : List ℕ) (before between after : Output) → PrintsProgress steps before between first
+    → PrintsProgress steps between after more → PrintsProgress steps before after (first ++ more)
+prints_more steps [] more before between after begun ended = subst (λ o. PrintsProgress steps o after more) begun ended
+prints_more steps (count ∷ counts) more before between after begun ended =
+    (begun.0, begun.1, prints_more steps counts more begun.0 between after begun.2 ended)
+
+-- the same where both are of as many steps
+pub prints_also : (steps later : ℕ) (first more : List ℕ) (before between after : Output) → later ≡ steps → PrintsProgress steps before between first
+    → PrintsProgress later between after more → PrintsProgress steps before after (first ++ more)
+prints_also steps later first more before between after same begun ended =
+    prints_more steps first more before between after begun (subst (λ n. PrintsProgress n between after more) same ended)

@@ -1,0 +1,134 @@
+//! Telling how far a run has come.
+
+ghost use Rattle.std.specs.Prelude.{◌≡◌, ◌≢◌, ◌⊎◌, ◌<◌, ◌*◌, ◌/◌, ◌-◌, ◌^◌, ℕ, suc, Some, OnOk, OnErr, IfErr, refl};
+ghost use Rattle.std.proofs.Common.{◌∙◌};
+ghost use Rattle.engine.specs.Headline.{WroteLevesqueVerletRun};
+ghost use Rattle.trajectory.specs.Trajectories.{IsFrameOfRun, WroteFrames};
+ghost use Rattle.cli.specs.Kept.{IsKept};
+ghost use Rattle.cli.specs.Progress.{PrintsProgress, TellsAll, TellsSome, prints_also};
+ghost use Rattle.cli.specs.Statuses.{status_of};
+ghost use Rattle.cli.specs.declared.faults.Status.{Status};
+
+use crate::faults::CommandFault;
+use command_line::{Run, Trajectory};
+use gro::{Out, write_all};
+use line_text::{Line, put, put_natural};
+use std::alloc::Allocator;
+use std::thread::Threads;
+use trajectory::{Watch, watched_run_bytes, watched_trajectory_bytes};
+
+/// Tells an output how far a run of so many steps has come, in a line each time: `pairmd: 1200 of 10000 steps`.
+///
+/// It takes no memory. A write that fails is passed over.
+#[derive(Drop)]
+struct ProgressLines<'a, E: Out> {
+    err: &'a mut E,
+    steps: u64,
+}
+
+/// It is another one's later value where it has that one's output and its number of steps.
+impl<'a, E: Out> Watch for ProgressLines<'a, E> {
+    ghost told = { λ before after counts. (after.err.ghost_name ≡ before.err.ghost_name) × (after.steps ≡ before.steps)
+        × PrintsProgress before.steps (E.taken before.err.now, E.failed before.err.now) (E.taken after.err.now, E.failed after.err.now) counts };
+
+    ghost told_nothing = { λ w. (refl, refl, refl) };
+
+    ghost told_more = { λ u v w first more begun ended. (
+      ended.0 ∙ begun.0,
+      ended.1 ∙ begun.1,
+      prints_also u.steps v.steps first more _ _ _ begun.1 begun.2 ended.2,
+    ) };
+
+    fn watches(&self) -> bool {
+        true
+    }
+
+    fn tell(&mut self, done: u64) {
+        let mut line = Line::new();
+        put(&mut line, b"pairmd: ");
+        put_natural(&mut line, done);
+        put(&mut line, b" of ");
+        put_natural(&mut line, self.steps);
+        put(&mut line, b" steps\n");
+        // Else there is no room to count a failed write.
+        if self.err.failures() < u64::MAX {
+            let _ = write_all(self.err, line.as_slice());
+        }
+    }
+}
+
+/// Runs a state under a job, and tells how far the run has come.
+pub(crate) fn run_watched<'a, R: Threads + Sync, A: Allocator + Copy + Send + Sync, O: Out, E: Out>(
+    rt: &R,
+    alloc: A,
+    job: &[u8],
+    state: &[u8],
+    run: &Run<'a>,
+    out: &mut O,
+    err: &mut E,
+) -> Result<(), CommandFault<'a, A>>
+    requires { O.failed out.old < 2 ^ 64 - 1 }
+    ensures wrote { OnOk result (WroteLevesqueVerletRun job.now state.now run.now.direction run.now.steps (O.taken out.old) (O.taken out.new)) }
+    ensures kept { OnErr result (IsKept (O.taken out.old, O.failed out.old) (O.taken out.new, O.failed out.new)) }
+    ensures told { OnOk result (TellsAll (Some run.now.steps) (E.taken err.old, E.failed err.old) (E.taken err.new, E.failed err.new)) }
+    ensures told_some { OnErr result (TellsSome (Some run.now.steps) (E.taken err.old, E.failed err.old) (E.taken err.new, E.failed err.new)) }
+    ensures fault { IfErr result (λ f. status_of f ≢ Status.CommandLine) }
+{
+    let steps = run.steps;
+    let mut watch = ProgressLines { err, steps };
+    watched_run_bytes(
+        rt,
+        alloc,
+        job,
+        state,
+        steps,
+        run.direction,
+        run.workers,
+        &mut watch,
+        out,
+    )?;
+    Ok(())
+}
+
+/// Prints frames of the run of a state under a job, and tells how far the run has come, of the steps up to the last frame.
+pub(crate) fn trajectory_watched<
+    'a,
+    R: Threads + Sync,
+    A: Allocator + Copy + Send + Sync,
+    O: Out,
+    E: Out,
+>(
+    rt: &R,
+    alloc: A,
+    job: &[u8],
+    state: &[u8],
+    trajectory: &Trajectory<'a>,
+    out: &mut O,
+    err: &mut E,
+) -> Result<(), CommandFault<'a, A>>
+    requires { O.failed out.old < 2 ^ 64 - 1 }
+    ensures wrote { OnOk result (WroteFrames (IsFrameOfRun job.now state.now trajectory.now.direction trajectory.now.every)
+        (suc (trajectory.now.steps / trajectory.now.every)) (O.taken out.old) (O.taken out.new)) }
+    ensures kept { IfErr result (λ f. IsKept (O.taken out.old, O.failed out.old) (O.taken out.new, O.failed out.new) ⊎ (status_of f ≡ Status.Memory)) }
+    ensures told { OnOk result (TellsAll (Some (trajectory.now.steps / trajectory.now.every * trajectory.now.every))
+        (E.taken err.old, E.failed err.old) (E.taken err.new, E.failed err.new)) }
+    ensures told_some { OnErr result (TellsSome (Some (trajectory.now.steps / trajectory.now.every * trajectory.now.every))
+        (E.taken err.old, E.failed err.old) (E.taken err.new, E.failed err.new)) }
+    ensures fault { IfErr result (λ f. status_of f ≢ Status.CommandLine) }
+{
+    let steps = trajectory.steps / trajectory.every * trajectory.every;
+    let mut watch = ProgressLines { err, steps };
+    watched_trajectory_bytes(
+        rt,
+        alloc,
+        job,
+        state,
+        trajectory.steps,
+        trajectory.every,
+        trajectory.direction,
+        trajectory.workers,
+        &mut watch,
+        out,
+    )?;
+    Ok(())
+}

@@ -1,0 +1,5 @@
+use Rattle.command_line.proofs.CommandLineLaws.{shaped}
+use Rattle.command_line.proofs.parsing.checking.Goals as goal
+
+pub returns : goal.returns
+returns c = shaped _ _ (c.with_arg.ensures _ _ c.of_job-command.ensures c.code.ensures.rule c.code.ensures.local)

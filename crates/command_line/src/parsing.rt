@@ -1,0 +1,497 @@
+//! Which command the words name.
+
+ghost use Rattle.std.specs.Prelude.{◌≡◌, ◌≤◌, ◌<◌, ◌^◌, ◌⊎◌, ℕ, IfOk, IfErr, MatchOption, codes, option_map, map, false};
+ghost use Rattle.clap.specs.Words.{App, HasKind, Rule, Shape, app_of, first_of, found_of, kind_of, new_app, rows_of, rule_of, subcommand_rows_of, with_rule, with_subcommand};
+ghost use Rattle.clap.specs.declared.error.kind.ErrorKind.TheVariants.{OutOfMemory};
+ghost use Rattle.command_line.specs.CommandLine.{IsBuilt, IsCheck, IsCommand, IsEnergy, IsEvery, IsFrame, IsFrameNumber, IsGiven, IsListing, IsNamed, IsNamedOf, IsRun, IsShaped, IsStart, IsSteps, IsTrajectory, IsTurned, IsWorkers, back_rule, bare, checking, code_rule, command_name, every_rule, faults_of, filming, flag_rule, forward, frame_rule, framing, judging, listing, option_rule, path_rule, program, progress_rule, returning, starting, stepped, steps_rule, stepping, weighing, workers_rule};
+ghost use Rattle.command_line.specs.declared.commands.Start.{Start};
+ghost use Rattle.command_line.specs.declared.commands.Frame.{Frame};
+ghost use Rattle.command_line.specs.declared.commands.Listing.{Listing};
+ghost use Rattle.command_line.specs.declared.commands.Energy.{Energy};
+ghost use Rattle.command_line.specs.declared.commands.Check.{Check};
+ghost use Rattle.command_line.specs.declared.commands.Trajectory.{Trajectory};
+
+use crate::commands::{
+    Check, Command, Energy, Frame, Listing, MAX_STEPS, MAX_WORKERS, Run, Start, Trajectory, VERSION,
+};
+use clap::error::ErrorKind;
+use clap::{Arg, ArgAction, ArgMatches, Error, value_parser};
+use integrator::Direction;
+use std::alloc::{AllocError, Global};
+use std::convert::AsStr;
+
+/// The command that the words name. They begin after the program's own name.
+///
+/// Where they name none, the answer is the parser's own error, and of the kind `DisplayHelp` where they ask for help, `DisplayVersion` where they ask for the version. Want of memory is the kind `OutOfMemory`.
+pub fn parse<'a, S: AsStr>(alloc: Global, words: &'a [S]) -> Result<Command<'a>, Error>
+    ensures command { IfOk result (IsCommand (map S.text words.entry.now)) }
+    ensures none { IfErr result (λ e. (kind_of e ≡ OutOfMemory)
+        ⊎ ((c : Command) → IsCommand (map S.text words.entry.now) c → ⊥)) }
+    ensures kind { IfErr result (HasKind (faults_of (map S.text words.entry.now))) }
+{
+    let mut program = program(alloc)?;
+    parse_by(&mut program, words)
+}
+
+/// The command that the words name to this program.
+fn parse_by<'a, S: AsStr>(
+    parser: &mut clap::Command<'a>,
+    words: &'a [S],
+) -> Result<Command<'a>, Error>
+    requires { app_of parser.old ≡ program }
+    ensures command { IfOk result (IsCommand (map S.text words.entry.now)) }
+    ensures none { IfErr result (λ e. (kind_of e ≡ OutOfMemory)
+        ⊎ ((c : Command) → IsCommand (map S.text words.entry.now) c → ⊥)) }
+    ensures kind { IfErr result (HasKind (faults_of (map S.text words.entry.now))) }
+{
+    let command = command_of(&parser.try_get_matches_from_mut(words)?);
+    match command {
+        Some(command) => Ok(command),
+        // The parser has met the arguments that it requires, and numbers in their ranges.
+        None => Err(parser.error(ErrorKind::MissingRequiredArgument, "incomplete command")?),
+    }
+}
+
+/// The command that the matches say, if they say one.
+fn command_of<'a>(matches: &ArgMatches<'a>) -> Option<Command<'a>>
+    ensures { MatchOption result ((c : Command) → IsNamedOf (subcommand_rows_of matches.now) c → ⊥)
+        (IsNamedOf (subcommand_rows_of matches.now)) }
+{
+    let (name, matches) = matches.subcommand()?;
+    command_by(name, matches)
+}
+
+/// The command with this name and these matches.
+fn command_by<'a>(name: &str, matches: &ArgMatches<'a>) -> Option<Command<'a>>
+    ensures { MatchOption result ((c : Command) → IsNamed name.now (rows_of (found_of matches.now)) c → ⊥)
+        (IsNamed name.now (rows_of (found_of matches.now))) }
+{
+    match name {
+        "start" => start_of(matches),
+        "trajectory" => trajectory_of(matches),
+        "frame" => frame_of(matches),
+        "energy" => energy_of(matches),
+        "check" => check_of(matches),
+        "code" => listing_of(matches),
+        _ => run_by(name, matches),
+    }
+}
+
+/// The start that these matches say.
+fn start_of<'a>(matches: &ArgMatches<'a>) -> Option<Command<'a>>
+    ensures { MatchOption result ((s : Start) → IsStart (rows_of (found_of matches.now)) s → ⊥)
+        (λ c. (s : Start) × (c ≡ Command.Start s) × IsStart (rows_of (found_of matches.now)) s) }
+{
+    let job = path_of(matches, "JOB")?;
+    let gro = path_of(matches, "GRO")?;
+    let frame = frame_number_of(matches)?;
+    Some(Command::Start(Start { job, gro, frame }))
+}
+
+/// The run of the command with this name and these matches.
+fn run_by<'a>(name: &str, matches: &ArgMatches<'a>) -> Option<Command<'a>>
+    ensures { MatchOption result ((r : Run) → IsRun name.now (rows_of (found_of matches.now)) r → ⊥)
+        (λ c. (r : Run) × (c ≡ Command.Run r) × IsRun name.now (rows_of (found_of matches.now)) r) }
+{
+    let direction = direction_of(name)?;
+    let job = path_of(matches, "JOB")?;
+    let state = path_of(matches, "STATE")?;
+    let steps = steps_of(matches)?;
+    let workers = workers_of(matches)?;
+    let progress = is_given(matches, "progress");
+    Some(Command::Run(Run {
+        direction,
+        job,
+        state,
+        steps,
+        workers,
+        progress,
+    }))
+}
+
+/// The frames of a run that these matches say.
+fn trajectory_of<'a>(matches: &ArgMatches<'a>) -> Option<Command<'a>>
+    ensures { MatchOption result ((t : Trajectory) → IsTrajectory (rows_of (found_of matches.now)) t → ⊥)
+        (λ c. (t : Trajectory) × (c ≡ Command.Trajectory t) × IsTrajectory (rows_of (found_of matches.now)) t) }
+{
+    let direction = turned_of(matches);
+    let job = path_of(matches, "JOB")?;
+    let state = path_of(matches, "STATE")?;
+    let steps = steps_of(matches)?;
+    let every = every_of(matches)?;
+    let workers = workers_of(matches)?;
+    let progress = is_given(matches, "progress");
+    Some(Command::Trajectory(Trajectory {
+        direction,
+        job,
+        state,
+        steps,
+        every,
+        workers,
+        progress,
+    }))
+}
+
+/// The frame to print that these matches say.
+fn frame_of<'a>(matches: &ArgMatches<'a>) -> Option<Command<'a>>
+    ensures { MatchOption result ((f : Frame) → IsFrame (rows_of (found_of matches.now)) f → ⊥)
+        (λ c. (f : Frame) × (c ≡ Command.Frame f) × IsFrame (rows_of (found_of matches.now)) f) }
+{
+    let state = path_of(matches, "STATE")?;
+    Some(Command::Frame(Frame { state }))
+}
+
+/// The state to weigh that these matches say.
+fn energy_of<'a>(matches: &ArgMatches<'a>) -> Option<Command<'a>>
+    ensures { MatchOption result ((e : Energy) → IsEnergy (rows_of (found_of matches.now)) e → ⊥)
+        (λ c. (e : Energy) × (c ≡ Command.Energy e) × IsEnergy (rows_of (found_of matches.now)) e) }
+{
+    let job = path_of(matches, "JOB")?;
+    let state = path_of(matches, "STATE")?;
+    Some(Command::Energy(Energy { job, state }))
+}
+
+/// The code to judge that these matches say.
+fn check_of<'a>(matches: &ArgMatches<'a>) -> Option<Command<'a>>
+    ensures { MatchOption result ((c : Check) → IsCheck (rows_of (found_of matches.now)) c → ⊥)
+        (λ c. (k : Check) × (c ≡ Command.Check k) × IsCheck (rows_of (found_of matches.now)) k) }
+{
+    let job = path_of(matches, "JOB")?;
+    let listing = path_of(matches, "code");
+    Some(Command::Check(Check { job, listing }))
+}
+
+/// The listing to print that these matches say.
+fn listing_of<'a>(matches: &ArgMatches<'a>) -> Option<Command<'a>>
+    ensures { MatchOption result ((l : Listing) → IsListing (rows_of (found_of matches.now)) l → ⊥)
+        (λ c. (l : Listing) × (c ≡ Command.Code l) × IsListing (rows_of (found_of matches.now)) l) }
+{
+    let job = path_of(matches, "JOB")?;
+    Some(Command::Code(Listing { job }))
+}
+
+fn path_of<'a>(matches: &ArgMatches<'a>, name: &str) -> Option<&'a str>
+    ensures { option_map (λ s. s.now) result ≡ first_of name.now (rows_of (found_of matches.now)) }
+{
+    matches.get_str(name)
+}
+
+fn frame_number_of(matches: &ArgMatches<'_>) -> Option<u64>
+    ensures { MatchOption result ((n : ℕ) → 1 ≤ n → n < 2 ^ 64 → IsFrameNumber (rows_of (found_of matches.now)) n → ⊥)
+        (λ n. (1 ≤ n) × IsFrameNumber (rows_of (found_of matches.now)) n) }
+{
+    let frame = matches.get_one("frame")?;
+    if frame >= 1 { Some(frame) } else { None }
+}
+
+fn steps_of(matches: &ArgMatches<'_>) -> Option<u64>
+    ensures { MatchOption result ((n : ℕ) → n ≤ MAX_STEPS → IsSteps (rows_of (found_of matches.now)) n → ⊥)
+        (λ n. (n ≤ MAX_STEPS) × IsSteps (rows_of (found_of matches.now)) n) }
+{
+    let steps = matches.get_one("steps")?;
+    if steps <= MAX_STEPS {
+        Some(steps)
+    } else {
+        None
+    }
+}
+
+fn every_of(matches: &ArgMatches<'_>) -> Option<u64>
+    ensures { MatchOption result ((n : ℕ) → 1 ≤ n → n ≤ MAX_STEPS → IsEvery (rows_of (found_of matches.now)) n → ⊥)
+        (λ n. (1 ≤ n) × (n ≤ MAX_STEPS) × IsEvery (rows_of (found_of matches.now)) n) }
+{
+    match matches.get_one("every")? {
+        every @ 1..=MAX_STEPS => Some(every),
+        _ => None,
+    }
+}
+
+fn workers_of(matches: &ArgMatches<'_>) -> Option<u32>
+    ensures { MatchOption result ((n : ℕ) → 1 ≤ n → n ≤ MAX_WORKERS → IsWorkers (rows_of (found_of matches.now)) n → ⊥)
+        (λ n. (1 ≤ n) × (n ≤ MAX_WORKERS) × IsWorkers (rows_of (found_of matches.now)) n) }
+{
+    match matches.get_one("workers")? {
+        workers @ 1..=MAX_WORKERS => Some(workers as u32),
+        _ => None,
+    }
+}
+
+/// Back where `--back` is given.
+fn turned_of(matches: &ArgMatches<'_>) -> Direction
+    ensures { IsTurned (rows_of (found_of matches.now)) result }
+{
+    match is_given(matches, "back") {
+        true => Direction::Back,
+        false => Direction::Forward,
+    }
+}
+
+/// Whether a flag is given.
+fn is_given(matches: &ArgMatches<'_>, flag: &str) -> bool
+    ensures { IsGiven flag.now (rows_of (found_of matches.now)) result }
+{
+    match path_of(matches, flag) {
+        Some("true") => true,
+        _ => false,
+    }
+}
+
+fn direction_of(name: &str) -> Option<Direction>
+    ensures { MatchOption result ((d : Direction) → name.now ≡ command_name d → ⊥)
+        (λ d. name.now ≡ command_name d) }
+{
+    match name {
+        "run" => Some(Direction::Forward),
+        "back" => Some(Direction::Back),
+        _ => None,
+    }
+}
+
+/// A command, unless memory runs out. What builds on one takes it as it is, so that no command waits while another is built.
+type Built<'a> = Result<clap::Command<'a>, AllocError>;
+
+fn program<'a>(alloc: Global) -> Built<'a>
+    ensures { IfOk result (λ c. app_of c ≡ program) }
+{
+    with_command(judging(alloc), listing(alloc))
+}
+
+/// The program that starts states, and runs them forwards.
+fn forward<'a>(alloc: Global) -> Built<'a>
+    ensures { IsBuilt result forward }
+{
+    let run = stepping(alloc, "run", "Prints the state after so many steps");
+    with_command(with_command(bare(alloc), starting(alloc)), run)
+}
+
+/// The program that runs states back too, and prints frames of runs and of states.
+fn returning<'a>(alloc: Global) -> Built<'a>
+    ensures { IsBuilt result returning }
+{
+    let back = stepping(alloc, "back", "Prints the state so many steps back");
+    let program = with_command(with_command(forward(alloc), back), filming(alloc));
+    with_command(program, framing(alloc))
+}
+
+/// The program that weighs states too, and judges code.
+fn judging<'a>(alloc: Global) -> Built<'a>
+    ensures { IsBuilt result judging }
+{
+    with_command(
+        with_command(returning(alloc), weighing(alloc)),
+        checking(alloc),
+    )
+}
+
+/// The program without its commands.
+fn bare<'a>(alloc: Global) -> Built<'a>
+    ensures { IsBuilt result bare }
+{
+    clap::Command::new(alloc, "pairmd")
+        .about("Reversible molecular dynamics on whole numbers")
+        .version(VERSION)
+        .no_binary_name(true)
+        .subcommand_required(true)
+        .bin_name("pairmd")
+}
+
+/// The command that takes a job, a GRO file and the number of a frame.
+fn starting<'a>(alloc: Global) -> Built<'a>
+    ensures { IsShaped result starting }
+{
+    let command = of_job(
+        alloc,
+        "start",
+        "Prints the state that begins at a frame of a GRO file",
+    );
+    let command = with_arg(command, path(alloc, "GRO", "The GRO file"));
+    with_arg(command, frame_number(alloc))
+}
+
+/// A command that takes a job, a state, a number of steps, one of workers, and whether it tells how far it has come.
+fn stepping<'a>(alloc: Global, name: &'a str, about: &'a str) -> Built<'a>
+    ensures { IsShaped result (stepping name.entry.now) }
+{
+    stepped(alloc, name, about)
+}
+
+/// Such a command, so far.
+fn stepped<'a>(alloc: Global, name: &'a str, about: &'a str) -> Built<'a>
+    ensures { IsBuilt result (stepped name.entry.now) }
+{
+    let command = of_state(alloc, of_job(alloc, name, about));
+    let command = with_arg(with_arg(command, steps(alloc)), workers(alloc));
+    with_arg(command, progress(alloc))
+}
+
+/// The command that takes besides how many steps lie between frames, and whether the run goes back.
+fn filming<'a>(alloc: Global) -> Built<'a>
+    ensures { IsShaped result filming }
+{
+    let command = stepped(alloc, "trajectory", "Prints frames of a run as a GRO file");
+    with_arg(with_arg(command, every(alloc)), back(alloc))
+}
+
+/// The command that takes a state alone.
+fn framing<'a>(alloc: Global) -> Built<'a>
+    ensures { IsShaped result framing }
+{
+    let command = clap::Command::new(alloc, "frame").about(
+        "Prints the current frame of a state as a GRO file",
+    );
+    of_state(alloc, Ok(command))
+}
+
+/// The command that takes a job and a state.
+fn weighing<'a>(alloc: Global) -> Built<'a>
+    ensures { IsShaped result weighing }
+{
+    of_state(
+        alloc,
+        of_job(alloc, "energy", "Prints the energy of a state"),
+    )
+}
+
+/// The command that takes a job and may take a listing.
+fn checking<'a>(alloc: Global) -> Built<'a>
+    ensures { IsShaped result checking }
+{
+    let command = of_job(
+        alloc,
+        "check",
+        "Judges the code of a job's slope, or other code under the job",
+    );
+    with_arg(command, code(alloc))
+}
+
+/// The command that takes a job alone.
+fn listing<'a>(alloc: Global) -> Built<'a>
+    ensures { IsShaped result listing }
+{
+    of_job(alloc, "code", "Prints the code of a job's slope")
+}
+
+/// A command that takes a job, so far.
+fn of_job<'a>(alloc: Global, name: &'a str, about: &'a str) -> Built<'a>
+    ensures { IsBuilt result (with_rule (new_app name.entry.now) (path_rule (codes "JOB"))) }
+{
+    let command = clap::Command::new(alloc, name).about(about);
+    command.arg(path(alloc, "JOB", "The file of the job"))
+}
+
+/// A command that takes a state besides what it takes.
+fn of_state<'a>(alloc: Global, command: Built<'a>) -> Built<'a>
+    ensures { (app : App) → IsBuilt command.entry app → IsBuilt result (with_rule app (path_rule (codes "STATE"))) }
+{
+    with_arg(command, path(alloc, "STATE", "The file of the state"))
+}
+
+/// A command with one argument more.
+fn with_arg<'a>(command: Built<'a>, arg: Arg<'a>) -> Built<'a>
+    ensures { (app : App) (rule : Rule) → IsBuilt command.entry app → rule_of arg.entry ≡ rule → arg.entry.global ≡ false
+        → IsBuilt result (with_rule app rule) }
+{
+    match command {
+        Ok(command) => command.arg(arg),
+        Err(fault) => Err(fault),
+    }
+}
+
+/// A program with one command more.
+fn with_command<'a>(program: Built<'a>, command: Built<'a>) -> Built<'a>
+    ensures { (app : App) (shape : Shape) → IsBuilt program.entry app → IsShaped command.entry shape
+        → IsBuilt result (with_subcommand app shape) }
+{
+    let command = match command {
+        Ok(command) => command,
+        Err(fault) => return Err(fault),
+    };
+    match program {
+        Ok(program) => program.subcommand(command),
+        Err(fault) => Err(fault),
+    }
+}
+
+fn path<'a>(alloc: Global, name: &'a str, help: &'a str) -> Arg<'a>
+    ensures rule { rule_of result ≡ path_rule name.entry.now }
+    ensures local { result.global ≡ false }
+{
+    Arg::new(alloc, name).required(true).help(help)
+}
+
+/// An argument that is given after its name.
+fn option<'a>(alloc: Global, name: &'a str, value: &'a str) -> Arg<'a>
+    ensures rule { rule_of result ≡ option_rule name.entry.now }
+    ensures local { result.global ≡ false }
+{
+    Arg::new(alloc, name).long(name).value_name(value)
+}
+
+fn frame_number<'a>(alloc: Global) -> Arg<'a>
+    ensures rule { rule_of result ≡ frame_rule }
+    ensures local { result.global ≡ false }
+{
+    option(alloc, "frame", "k")
+        .default_value("1")
+        .value_parser(value_parser!(u64).range(1..))
+        .help("Which frame of the GRO file, from 1")
+}
+
+fn code<'a>(alloc: Global) -> Arg<'a>
+    ensures rule { rule_of result ≡ code_rule }
+    ensures local { result.global ≡ false }
+{
+    option(alloc, "code", "LISTING").help("The listing to judge in place of the job's own code")
+}
+
+fn steps<'a>(alloc: Global) -> Arg<'a>
+    ensures rule { rule_of result ≡ steps_rule }
+    ensures local { result.global ≡ false }
+{
+    option(alloc, "steps", "n")
+        .required(true)
+        .value_parser(value_parser!(u64).range(0..=MAX_STEPS as i64))
+        .help("How many steps, from 0 to 1000000000000")
+}
+
+fn every<'a>(alloc: Global) -> Arg<'a>
+    ensures rule { rule_of result ≡ every_rule }
+    ensures local { result.global ≡ false }
+{
+    option(alloc, "every", "k")
+        .required(true)
+        .value_parser(value_parser!(u64).range(1..=MAX_STEPS as i64))
+        .help("How many steps from frame to frame, from 1 to 1000000000000")
+}
+
+/// An argument that says something by standing there.
+fn flag<'a>(alloc: Global, name: &'a str) -> Arg<'a>
+    ensures rule { rule_of result ≡ flag_rule name.entry.now }
+    ensures local { result.global ≡ false }
+{
+    Arg::new(alloc, name).long(name).action(ArgAction::SetTrue)
+}
+
+fn back<'a>(alloc: Global) -> Arg<'a>
+    ensures rule { rule_of result ≡ back_rule }
+    ensures local { result.global ≡ false }
+{
+    flag(alloc, "back").help("Goes back")
+}
+
+fn progress<'a>(alloc: Global) -> Arg<'a>
+    ensures rule { rule_of result ≡ progress_rule }
+    ensures local { result.global ≡ false }
+{
+    flag(alloc, "progress").help("Tells how far the run has come, at each hundredth of its steps")
+}
+
+fn workers<'a>(alloc: Global) -> Arg<'a>
+    ensures rule { rule_of result ≡ workers_rule }
+    ensures local { result.global ≡ false }
+{
+    option(alloc, "workers", "w")
+        .default_value("1")
+        .value_parser(value_parser!(u64).range(1..=MAX_WORKERS as i64))
+        .help("How many workers, from 1 to 64")
+}

@@ -1,0 +1,3 @@
+pub mod FrameTitleLaws
+pub mod HundredthLaws
+pub mod TrajectoryLaws

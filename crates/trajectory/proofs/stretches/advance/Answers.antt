@@ -1,0 +1,50 @@
+use Rattle.std.proofs.Common.{◌≡◌, ◌+◌, ◌<◌, arith, rules, sym, subst}
+use Rattle.std.proofs.lemmas.Result.{err_from_is_err_and}
+use Rattle.engine.proofs.EngineLaws.{went_nowhere}
+use Rattle.engine.proofs.WentLaws.{steps_add}
+use Rattle.trajectory.proofs.HundredthLaws.{hundredths-zero, no_more_hundredth, one_more_hundredth}
+use Rattle.trajectory.proofs.TrajectoryLaws.{fits_further, fits_now, stopped_later}
+use Rattle.trajectory.proofs.stretches.advance.Goals as goal
+
+pub loop-made-init : goal.loop-made-init
+loop-made-init g c = record {
+  within = omega arith;
+  went = went_nowhere c.args.direction c.args.engine.now (fits_now c.args.direction c.args.engine.now.state.step (c.requires.fits 0 (omega arith)));
+  told = subst (g.W.Watch.told c.args.watch.now c.args.watch.now) (sym (hundredths-zero c.args.of c.args.before)) (g.met.W.Watch.told_nothing c.args.watch.now);
+}
+
+pub loop-made-preserved-then-more-next : goal.loop-made-preserved-then-more-next
+loop-made-preserved-then-more-next g c =
+    let made = c.loop-made.made in
+    let more = c.min-more.result in
+    let same : more ≡ c.until_hundredth-next.result = search rules in
+    record {
+      within = omega (arith, c.min-more.ensures);
+      went = steps_add _ made more _ _ _ c.loop-made.invariant.went c.in_ok-go_on.ensures.went;
+      told = subst (g.W.Watch.told c.args.watch.now c.tell.new.self) (sym (one_more_hundredth c.args.of c.args.before made more (rw same c.until_hundredth-next.ensures)))
+          (g.met.W.Watch.told_more _ _ _ _ _ c.loop-made.invariant.told c.tell.ensures);
+    }
+
+pub loop-made-preserved : goal.loop-made-preserved
+loop-made-preserved g c =
+    let made = c.loop-made.made in
+    let more = c.min-more.result in
+    let few : more < c.until_hundredth-next.result = search rules in
+    record {
+      within = omega (arith, c.min-more.ensures);
+      went = steps_add _ made more _ _ _ c.loop-made.invariant.went c.in_ok-go_on.ensures.went;
+      told = subst (g.W.Watch.told c.args.watch.now c.loop-made.watch) (sym (no_more_hundredth c.args.of c.args.before made c.until_hundredth-next.result more c.until_hundredth-next.ensures few)) c.loop-made.invariant.told;
+    }
+
+pub go_on-requires-in-loop-made-clause-fits : goal.go_on-requires-in-loop-made-clause-fits
+go_on-requires-in-loop-made-clause-fits g c =
+    let made = c.loop-made.made in
+    let more = c.min-more.result in
+    λ _ _. fits_further c.args.direction made more c.args.engine.now c.loop-made.engine c.loop-made.invariant.went (c.requires.fits (made + more) (omega (arith, c.min-more.ensures, c.loop-made.invariant.within)))
+
+pub returns-in_err-go_on-clause-stopped : goal.returns-in_err-go_on-clause-stopped
+returns-in_err-go_on-clause-stopped g c =
+    let p = err_from_is_err_and c.from_residual.result c.from_residual.ensures.1 in
+    let stopped = c.in_err-go_on.ensures.stopped in
+    let made = c.loop-made.made in
+    rw (p.1, p.2) (stopped_later c.args.before made c.args.steps c.min-more.result c.in_err-go_on.field-0.0 (omega (arith, c.min-more.ensures, c.until_hundredth-next.ensures.some, c.loop-made-test.true)) (omega (arith, c.min-more.ensures, c.loop-made.invariant.within)) stopped)

@@ -1,0 +1,91 @@
+use Rattle.std.proofs.Common.{◌≡◌, ◌+◌, ◌*◌, ◌∙◌, arith, subst, sym}
+use Rattle.std.proofs.lemmas.Result.{err_from_is_err_and}
+use Rattle.state.specs.StateViews.{state_view}
+use Rattle.trajectory.specs.Trajectories.{IsFrameOnWay}
+use Rattle.trajectory.specs.Watching.{hundredths_behind}
+use Rattle.trajectory.proofs.HundredthLaws.{hundredths-zero, more_told, nothing_told}
+use Rattle.trajectory.proofs.TrajectoryLaws.{first_left, first_written, fits_further, fits_now, next_left, next_written, steps_left, within}
+use Rattle.trajectory.proofs.trajectories.write_frames.Goals as goal
+
+pub returns-in_err-write_frame-clause-left : goal.returns-in_err-write_frame-clause-left
+returns-in_err-write_frame-clause-left g c =
+    let p = err_from_is_err_and c.from_residual.result c.from_residual.ensures.1 in
+    let state = c.state.result.now in
+    let fits = fits_now c.args.direction c.args.engine.now.state.step (c.requires.fits 0 (omega arith)) in
+    rw (p.1, p.2)
+    (first_left c.args.direction c.args.every c.args.most c.args.engine.now (state_view state) c.time_step-time_step.result _ _ c.in_err-write_frame.field-0.0 fits c.state.ensures c.time_step-time_step.ensures.exact c.in_err-write_frame.ensures.unwritten)
+
+pub loop-number-init : goal.loop-number-init
+loop-number-init g c =
+    let all = c.args.most * c.args.every in
+    let none : 0 * c.args.every ≡ 0 = omega arith in
+    let told_first = subst (λ k. g.W.Watch.told c.args.watch.now c.args.watch.now (hundredths_behind all 0 k)) (sym none) (subst (g.W.Watch.told c.args.watch.now c.args.watch.now) (sym (hundredths-zero all 0)) (g.met.W.Watch.told_nothing c.args.watch.now)) in
+    let state = c.state.result.now in
+    let fits = fits_now c.args.direction c.args.engine.now.state.step (c.requires.fits 0 (omega arith)) in
+    let first = first_written c.args.direction c.args.every c.args.engine.now (state_view state) c.time_step-time_step.result _ _ fits c.state.ensures c.time_step-time_step.ensures.exact c.in_ok-write_frame.ensures.wrote in
+    record { went = first.0; wrote = first.1; failed = c.in_ok-write_frame.ensures.kept; told = told_first }
+
+pub advance-requires-clause-fits : goal.advance-requires-clause-fits
+advance-requires-clause-fits g c =
+    let number = c.loop-number.number in
+    λ _ _ k few. fits_further c.args.direction (number * c.args.every) k c.args.engine.now c.loop-number.engine c.loop-number.invariant.went
+    (c.requires.fits (number * c.args.every + k) (omega (arith, few, within c.args.every c.args.most number c.loop-number-test.true)))
+
+pub advance-requires-clause-within : goal.advance-requires-clause-within
+advance-requires-clause-within g c = λ _ _. within c.args.every c.args.most c.loop-number.number c.loop-number-test.true
+
+pub returns-in_err-advance-clause-left : goal.returns-in_err-advance-clause-left
+returns-in_err-advance-clause-left g c =
+    let p = err_from_is_err_and c.from_residual-in_err-advance.result c.from_residual-in_err-advance.ensures.1 in
+    rw (p.1, p.2)
+    (steps_left (IsFrameOnWay c.args.direction c.args.every c.args.engine.now) c.args.every c.args.most c.loop-number.number _ _ c.in_err-advance.field-0.0 c.loop-number-test.true c.loop-number.invariant.wrote c.in_err-advance.ensures.stopped)
+
+pub returns-in_err-write_frame-2-clause-left : goal.returns-in_err-write_frame-2-clause-left
+returns-in_err-write_frame-2-clause-left g c =
+    let p = err_from_is_err_and c.from_residual-in_err-write_frame-2.result c.from_residual-in_err-write_frame-2.ensures.1 in
+    rw (p.1, p.2)
+    (next_left c.args.direction c.args.every c.args.most c.loop-number.number c.args.engine.now c.loop-number.engine c.advance.new.engine (state_view c.state-in-loop-number.result.now) c.time_step-time_step.result _ _ _ c.in_err-write_frame-2.field-0.0
+    c.loop-number-test.true c.loop-number.invariant.went c.in_ok-advance.ensures.went c.state-in-loop-number.ensures c.time_step-time_step.ensures.exact c.loop-number.invariant.wrote c.in_err-write_frame-2.ensures.unwritten)
+
+pub loop-number-preserved : goal.loop-number-preserved
+loop-number-preserved g c =
+    let next = next_written c.args.direction c.args.every c.loop-number.number c.args.engine.now c.loop-number.engine c.advance.new.engine (state_view c.state-in-loop-number.result.now) c.time_step-time_step.result _ _ _
+    c.loop-number.invariant.went c.in_ok-advance.ensures.went c.state-in-loop-number.ensures c.time_step-time_step.ensures.exact c.loop-number.invariant.wrote c.in_ok-write_frame-2.ensures.wrote in
+    let number = c.loop-number.number in
+    let every = c.args.every in
+    let steps : (number + 1) * every ≡ number * every + every = omega arith in
+    record {
+      went = next.0;
+      wrote = next.1;
+      failed = c.in_ok-write_frame-2.ensures.kept ∙ c.loop-number.invariant.failed;
+      told = subst (λ k. g.W.Watch.told c.args.watch.now c.advance.new.watch (hundredths_behind (c.args.most * every) 0 k)) (sym steps)
+          (more_told g.W.Watch.told g.met.W.Watch.told_more (c.args.most * every) (number * every) every _ _ _ c.loop-number.invariant.told c.in_ok-advance.ensures.told);
+    }
+
+-- what the watcher was told where no more frame comes
+
+pub returns-in_err-write_frame-clause-told_some : goal.returns-in_err-write_frame-clause-told_some
+returns-in_err-write_frame-clause-told_some g c =
+    let p = err_from_is_err_and c.from_residual.result c.from_residual.ensures.1 in
+    rw p.1 (nothing_told (c.args.most * c.args.every) (g.W.Watch.told c.args.watch.now c.args.watch.now) (g.met.W.Watch.told_nothing c.args.watch.now))
+
+pub returns-in_err-advance-clause-told_some : goal.returns-in_err-advance-clause-told_some
+returns-in_err-advance-clause-told_some g c =
+    let p = err_from_is_err_and c.from_residual-in_err-advance.result c.from_residual-in_err-advance.ensures.1 in
+    let before = c.loop-number.number * c.args.every in
+    let some = c.in_err-advance.ensures.told_some in
+    rw p.1 (
+      before + some.0,
+      omega (arith, some.1, within c.args.every c.args.most c.loop-number.number c.loop-number-test.true),
+      more_told g.W.Watch.told g.met.W.Watch.told_more (c.args.most * c.args.every) before some.0 _ _ _ c.loop-number.invariant.told some.2,
+    )
+
+pub returns-in_err-write_frame-2-clause-told_some : goal.returns-in_err-write_frame-2-clause-told_some
+returns-in_err-write_frame-2-clause-told_some g c =
+    let p = err_from_is_err_and c.from_residual-in_err-write_frame-2.result c.from_residual-in_err-write_frame-2.ensures.1 in
+    let before = c.loop-number.number * c.args.every in
+    rw p.1 (
+      before + c.args.every,
+      within c.args.every c.args.most c.loop-number.number c.loop-number-test.true,
+      more_told g.W.Watch.told g.met.W.Watch.told_more (c.args.most * c.args.every) before c.args.every _ _ _ c.loop-number.invariant.told c.in_ok-advance.ensures.told,
+    )

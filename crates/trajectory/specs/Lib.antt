@@ -1,0 +1,3 @@
+pub mod FrameTitles
+pub mod Trajectories
+pub mod Watching

@@ -1,0 +1,90 @@
+//! Titles of the frames of a trajectory.
+
+ghost use Rattle.std.specs.Prelude.{◌≡◌, ◌+◌, ◌≤◌, ◌<◌, ◌++◌, ◌∷◌, decimal, length, IfOk, IsTrue};
+ghost use Rattle.arrayvec.specs.ArrayVec.{array_vec_len};
+ghost use Rattle.line_text.specs.Columns.{decimals_text, zeros_in};
+ghost use Rattle.line_text.specs.Parts.{is_title};
+ghost use Rattle.trajectory.specs.FrameTitles.{IsOwnEnd, IsTimedTitle, time_and_step, time_of};
+
+use line_text::{Line, put, put_decimals, put_integer, put_natural, put_right};
+use std::alloc::{AllocError, Allocator};
+
+/// Where the title of its own ends: before the first ` t= `, or at the end.
+fn own_end(title: &[u8]) -> usize
+    ensures most { result ≤ length title.now }
+    ensures ends { IsOwnEnd title.now result }
+{
+    let mut at = 0;
+    while title.len() - at >= 4 {
+        if &title[at..at + 4] == b" t= ".as_slice() {
+            return at;
+        }
+        at += 1;
+    }
+    title.len()
+}
+
+/// Appends a point and five decimals.
+fn put_part(line: &mut Line, part: u32)
+    requires room { array_vec_len line.old ≤ 30 }
+    requires below { part < 100000 }
+    ensures items { line.new.items ≡ line.old.items ++ 46 ∷ zeros_in 5 (decimal part) }
+    ensures len { array_vec_len line.new ≤ array_vec_len line.old + 32 }
+{
+    let mut text = Line::new();
+    put_decimals(&mut text, 5, i64::from(part));
+    put(line, &text.as_slice()[1..]);
+}
+
+/// The time of a step in ps, with five decimals: it is a whole number of fs.
+fn time(time_step: u32, step: i64) -> Line
+    requires some { 1 ≤ time_step }
+    requires most { time_step ≤ 1000 }
+    ensures items { result.items ≡ decimals_text 5 (time_of time_step step) }
+    ensures len { array_vec_len result ≤ 60 }
+{
+    let femtoseconds = u128::from(step.unsigned_abs()) * u128::from(time_step);
+    let mut line = Line::new();
+    if step < 0 {
+        put(&mut line, b"-");
+    }
+    put_natural(&mut line, (femtoseconds / 1000) as u64);
+    put_part(&mut line, (femtoseconds % 1000) as u32 * 100);
+    line
+}
+
+/// The end of a frame's title: ` t= %9.5f step= %d`.
+fn time_and_step(time_step: u32, step: i64) -> Line
+    requires some { 1 ≤ time_step }
+    requires most { time_step ≤ 1000 }
+    ensures { result.items ≡ time_and_step time_step step }
+{
+    let time = time(time_step, step);
+    let mut line = Line::new();
+    put(&mut line, b" t= ");
+    put_right(&mut line, time.len().max(9), time.as_slice());
+    put(&mut line, b" step= ");
+    put_integer(&mut line, step);
+    line
+}
+
+/// The title of a state's frame: its own up to the first ` t= ` in it, and then time and step as
+/// ` t= %9.5f step= %d`. The time step is in fs, the time in ps.
+///
+/// `AllocError` only where memory is refused.
+pub(crate) fn timed_title<A: Allocator>(
+    mut title: Vec<u8, A>,
+    time_step: u32,
+    step: i64,
+) -> Result<Vec<u8, A>, AllocError>
+    requires some { 1 ≤ time_step }
+    requires most { time_step ≤ 1000 }
+    requires fits { IsTrue (is_title title.items) }
+    ensures timed { IfOk result (λ t. IsTimedTitle time_step step title.items t.items) }
+    ensures fits { IfOk result (λ t. IsTrue (is_title t.items)) }
+{
+    let end = own_end(&title);
+    title.truncate(end);
+    title.extend_from_slice(time_and_step(time_step, step).as_slice())?;
+    Ok(title)
+}

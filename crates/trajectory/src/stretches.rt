@@ -1,0 +1,84 @@
+//! Steps of a run, stretch by stretch.
+
+ghost use Rattle.std.specs.Prelude.{◌≡◌, ◌≤◌, ◌<◌, ◌+◌, ◌*◌, ◌^◌, ℕ, is_none, true, false, OnOk, IfErr};
+ghost use Rattle.engine.specs.Engines.{Went};
+ghost use Rattle.integrator.specs.States.{counter_after};
+ghost use Rattle.trajectory.specs.Trajectories.{IsStopped};
+ghost use Rattle.trajectory.specs.Watching.{IsNextHundredth, hundredths_behind};
+
+use crate::watching::Watch;
+use engine::Engine;
+use integrator::{Direction, RunFault, StepFault};
+use std::alloc::Allocator;
+use std::thread::Threads;
+
+/// Makes so many steps, after those that were made before.
+fn go_on<R: Threads + Sync, A: Allocator + Copy + Send + Sync>(
+    rt: &R,
+    engine: &mut Engine<A>,
+    direction: Direction,
+    steps: u64,
+    workers: u32,
+    before: u64,
+) -> Result<(), RunFault<A>>
+    requires some { 0 < workers }
+    requires few { workers ≤ 64 }
+    requires fits { is_none (counter_after direction engine.old.state.step steps) ≡ false }
+    requires range { before + steps < 2 ^ 64 }
+    ensures went { OnOk result (Went direction steps engine.old engine.new) }
+    ensures stopped { IfErr result (IsStopped before steps) }
+{
+    match engine.turns_ungated(rt, direction, steps, workers) {
+        Ok(()) => Ok(()),
+        Err(StepFault::Memory { done }) => Err(RunFault::MemoryAfter {
+            done: before + done,
+        }),
+        Err(StepFault::StepRange) => unreachable!(),
+    }
+}
+
+/// How many steps more complete the next hundredth of `of` steps, `done` of which are made.
+fn until_hundredth(done: u64, of: u64) -> u64
+    requires { done < of }
+    ensures { IsNextHundredth of done result }
+{
+    let next = u128::from(done) * 100 / u128::from(of) + 1;
+    (next * u128::from(of)).div_ceil(100) as u64 - done
+}
+
+/// Makes so many steps of a run of `of` steps, after those that were made before, and tells the watcher of each hundredth.
+pub(crate) fn advance<R: Threads + Sync, A: Allocator + Copy + Send + Sync, W: Watch>(
+    rt: &R,
+    engine: &mut Engine<A>,
+    direction: Direction,
+    steps: u64,
+    workers: u32,
+    before: u64,
+    of: u64,
+    watch: &mut W,
+) -> Result<(), RunFault<A>>
+    requires some { 0 < workers }
+    requires few { workers ≤ 64 }
+    requires fits { (k : ℕ) → k ≤ steps → is_none (counter_after direction engine.old.state.step k) ≡ false }
+    requires within { before + steps ≤ of }
+    ensures went { OnOk result (Went direction steps engine.old engine.new) }
+    ensures stopped { IfErr result (IsStopped before steps) }
+    ensures told { OnOk result (W.told watch.old watch.new (hundredths_behind of before steps)) }
+    ensures told_some { IfErr result (λ _. (made : ℕ) × (made ≤ steps) × W.told watch.old watch.new (hundredths_behind of before made)) }
+{
+    if !watch.watches() {
+        return go_on(rt, engine, direction, steps, workers, before);
+    }
+    let mut made = 0;
+    while made < steps {
+        let done = before + made;
+        let next = until_hundredth(done, of);
+        let more = next.min(steps - made);
+        go_on(rt, engine, direction, more, workers, done)?;
+        made += more;
+        if more == next {
+            watch.tell(done + more);
+        }
+    }
+    Ok(())
+}

@@ -1,0 +1,202 @@
+//! Trajectories from bytes to bytes: the frames of a run, every so many steps.
+
+ghost use Rattle.std.specs.Prelude.{◌≡◌, ◌<◌, ◌≤◌, ◌+◌, ◌-◌, ◌*◌, ◌/◌, ◌^◌, ℕ, suc, is_none, true, false, IfOk, OnOk, IfErr};
+ghost use Rattle.gro.specs.Frames.{frame_view};
+ghost use Rattle.state.specs.StateViews.{state_view};
+ghost use Rattle.engine.specs.Engines.{AreSafe};
+ghost use Rattle.trajectory.specs.Trajectories.{Halts, IsFrameOfRun, IsFrameOnWay, IsTimedFrame, IsTrajectoryRefusal, IsUnwritten, Leaves, WroteFrame, WroteFrames};
+ghost use Rattle.trajectory.specs.Watching.{SomeHundredths, hundredths};
+ghost use Rattle.integrator.specs.Runs.{is_out};
+ghost use Rattle.integrator.specs.States.{counter_after};
+
+use crate::frame_titles::timed_title;
+use crate::stretches::advance;
+use crate::watching::{Unwatched, Watch};
+use engine::{Engine, open};
+use gro::{GroFrame, Out, write};
+use integrator::{Direction, RunFault, counter_after};
+use state::State;
+use std::alloc::{AllocError, Allocator};
+use std::thread::Threads;
+
+/// The frame of a state, its title with time and step.
+fn timed_frame<A: Allocator + Copy>(
+    state: &State<A>,
+    time_step: u32,
+) -> Result<GroFrame<A>, AllocError>
+    requires some { 1 ≤ time_step }
+    requires most { time_step ≤ 1000 }
+    ensures { IfOk result (λ f. IsTimedFrame time_step (state_view state.now) (frame_view f)) }
+{
+    let GroFrame {
+        title,
+        atoms,
+        sides,
+    } = state.frame()?;
+    let title = timed_title(title, time_step, state.step)?;
+    Ok(GroFrame {
+        title,
+        atoms,
+        sides,
+    })
+}
+
+/// Writes the frame of a state that so many steps have led to.
+fn write_frame<A: Allocator + Copy, O: Out>(
+    state: &State<A>,
+    time_step: u32,
+    steps: u64,
+    out: &mut O,
+) -> Result<(), RunFault<A>>
+    requires some { 1 ≤ time_step }
+    requires most { time_step ≤ 1000 }
+    requires room { O.failed out.old < 2 ^ 64 - 1 }
+    ensures wrote { OnOk result (WroteFrame time_step (state_view state.now) (O.taken out.old) (O.taken out.new)) }
+    ensures kept { OnOk result (O.failed out.new ≡ O.failed out.old) }
+    ensures unwritten { IfErr result (IsUnwritten time_step (state_view state.now) steps (O.taken out.old) (O.taken out.new)) }
+    ensures failed { IfErr result (λ f. is_out f ≡ true → O.failed out.old < O.failed out.new) }
+{
+    let Ok(frame) = timed_frame(state, time_step) else {
+        return Err(RunFault::MemoryAfter { done: steps });
+    };
+    write(&frame, out)?;
+    Ok(())
+}
+
+/// Writes the frame of an engine, and then so many times the frame after `every` more steps.
+fn write_frames<R: Threads + Sync, A: Allocator + Copy + Send + Sync, W: Watch, O: Out>(
+    rt: &R,
+    engine: &mut Engine<A>,
+    every: u64,
+    most: u64,
+    direction: Direction,
+    workers: u32,
+    watch: &mut W,
+    out: &mut O,
+) -> Result<(), RunFault<A>>
+    requires some { 0 < workers }
+    requires few { workers ≤ 64 }
+    requires fits { (k : ℕ) → k ≤ most * every → is_none (counter_after direction engine.old.state.step k) ≡ false }
+    requires range { most * every < 2 ^ 64 }
+    requires room { O.failed out.old < 2 ^ 64 - 1 }
+    ensures wrote { OnOk result (WroteFrames (IsFrameOnWay direction every engine.old) (suc most) (O.taken out.old) (O.taken out.new)) }
+    ensures kept { OnOk result (O.failed out.new ≡ O.failed out.old) }
+    ensures left { IfErr result (Halts (IsFrameOnWay direction every engine.old) every most (O.taken out.old) (O.taken out.new)) }
+    ensures failed { IfErr result (λ f. is_out f ≡ true → O.failed out.old < O.failed out.new) }
+    ensures told { OnOk result (W.told watch.old watch.new (hundredths (most * every))) }
+    ensures told_some { IfErr result (λ _. SomeHundredths (most * every) (W.told watch.old watch.new)) }
+{
+    let time_step = engine.time_step();
+    let all = most * every;
+    write_frame(engine.state(), time_step, 0, out)?;
+    for number in 0..most {
+        let before = number * every;
+        advance(rt, engine, direction, every, workers, before, all, watch)?;
+        write_frame(engine.state(), time_step, before + every, out)?;
+    }
+    Ok(())
+}
+
+/// Runs a state so many steps in a direction, by so many workers, and writes the frames after 0, k, 2k, .. of the steps, for k = `every`,
+/// as frames of a GRO file, one after the other.
+///
+/// `job` and `state` are the bytes of a job and a state file, `steps` at most 1,000,000,000,000, `every` at least 1, `workers` 1 to 64, the
+/// first of them the caller's thread. For every job and state that are accepted, all numbers of steps and of workers and every order of the
+/// workers' claims and additions, each frame is that of `State::frame` of the state after so many Levesque-Verlet steps, as `run_bytes`
+/// writes it; its title is the state's own up to the first ` t= ` in it, and then ` t= %9.5f step= %d`: the time in ps and the step counter
+/// (GROMACS manual, gro file format). Steps behind the last frame are not made.
+///
+/// The refusals come in this order: those of the job, of the state, of `Engine::new`; `StepRange` where the counter would leave an i64
+/// within the steps; nothing is written then. `MemoryAfter` where a growth is refused after so many steps: the frames up to there are
+/// written whole, maybe without that after just so many. `Out` comes only where a write failed, after a beginning of the frames.
+pub fn trajectory_bytes<R: Threads + Sync, A: Allocator + Copy + Send + Sync, O: Out>(
+    rt: &R,
+    alloc: A,
+    job: &[u8],
+    state: &[u8],
+    steps: u64,
+    every: u64,
+    direction: Direction,
+    workers: u32,
+    out: &mut O,
+) -> Result<(), RunFault<A>>
+    requires some { 0 < workers }
+    requires few { workers ≤ 64 }
+    requires every { 0 < every }
+    requires count { O.failed out.old < 2 ^ 64 - 1 }
+    // No instruction of the slope's code goes wrong, and no pair takes more of them than the certified number.
+    ensures safe { OnOk result (AreSafe job.now state.now) }
+    // The frames after 0, k, 2k, .. steps are written.
+    ensures wrote { OnOk result (WroteFrames (IsFrameOfRun job.now state.now direction every) (suc (steps / every)) (O.taken out.old) (O.taken out.new)) }
+    ensures kept { OnOk result (O.failed out.new ≡ O.failed out.old) }
+    // Why they are not.
+    ensures refused { IfErr result (IsTrajectoryRefusal job.now state.now direction steps) }
+    // What is written then: nothing before the first step, whole frames where memory is wanted, a beginning of them where the output failed.
+    ensures left { IfErr result (Leaves (IsFrameOfRun job.now state.now direction every) every (steps / every) (O.taken out.old) (O.taken out.new)) }
+    ensures failed { IfErr result (λ f. is_out f ≡ true → O.failed out.old < O.failed out.new) }
+{
+    watched_trajectory_bytes(
+        rt,
+        alloc,
+        job,
+        state,
+        steps,
+        every,
+        direction,
+        workers,
+        &mut Unwatched,
+        out,
+    )
+}
+
+/// As `trajectory_bytes`, and tells a watcher after each hundredth of the steps up to the last frame. What is written is the same whoever watches.
+pub fn watched_trajectory_bytes<
+    R: Threads + Sync,
+    A: Allocator + Copy + Send + Sync,
+    W: Watch,
+    O: Out,
+>(
+    rt: &R,
+    alloc: A,
+    job: &[u8],
+    state: &[u8],
+    steps: u64,
+    every: u64,
+    direction: Direction,
+    workers: u32,
+    watch: &mut W,
+    out: &mut O,
+) -> Result<(), RunFault<A>>
+    requires some { 0 < workers }
+    requires few { workers ≤ 64 }
+    requires every { 0 < every }
+    requires count { O.failed out.old < 2 ^ 64 - 1 }
+    // No instruction of the slope's code goes wrong, and no pair takes more of them than the certified number.
+    ensures safe { OnOk result (AreSafe job.now state.now) }
+    // The frames after 0, k, 2k, .. steps are written.
+    ensures wrote { OnOk result (WroteFrames (IsFrameOfRun job.now state.now direction every) (suc (steps / every)) (O.taken out.old) (O.taken out.new)) }
+    ensures kept { OnOk result (O.failed out.new ≡ O.failed out.old) }
+    // Why they are not.
+    ensures refused { IfErr result (IsTrajectoryRefusal job.now state.now direction steps) }
+    // What is written then: nothing before the first step, whole frames where memory is wanted, a beginning of them where the output failed.
+    ensures left { IfErr result (Leaves (IsFrameOfRun job.now state.now direction every) every (steps / every) (O.taken out.old) (O.taken out.new)) }
+    ensures failed { IfErr result (λ f. is_out f ≡ true → O.failed out.old < O.failed out.new) }
+    // The watcher is told of each hundredth of the steps up to the last frame, or of those among the first steps.
+    ensures told { OnOk result (W.told watch.old watch.new (hundredths (steps / every * every))) }
+    ensures told_some { IfErr result (λ _. SomeHundredths (steps / every * every) (W.told watch.old watch.new)) }
+{
+    let mut engine = open(alloc, job, state)?;
+    if counter_after(direction, engine.state(), steps).is_none() {
+        return Err(RunFault::StepRange);
+    }
+    write_frames(
+        rt,
+        &mut engine,
+        every,
+        steps / every,
+        direction,
+        workers,
+        watch,
+        out,
+    )
+}
