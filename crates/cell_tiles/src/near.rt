@@ -36,6 +36,15 @@ impl Model for NearPairs {
     ghost invariant = { λ n. n.count ≤ 64 };
 }
 
+/// How many atoms of a row are looked at together.
+fn together(count: usize) -> usize
+    ensures within { result ≤ count }
+    ensures few { result ≤ 128 }
+    ensures some { 0 < count → 0 < result }
+{
+    count.min(128)
+}
+
 impl NearPairs {
     ghost use Rattle.std.specs.Prelude.{[]};
 
@@ -64,8 +73,9 @@ impl NearPairs {
         self.count = 0;
     }
 
-    /// Lists the pairs of an atom with others but for those that are far as the upper bits of their separation tell, until there is no room. It answers how many
-    /// of the pairs it has come past. The places of the others are read beside them, one after the other. Each pair is written, and counted where it isn't far, so that no branch has to be foreseen.
+    /// Lists the pairs of an atom with others but for those that are far as the upper bits of their separation tell, until there is no room, or of the first 128
+    /// others alone. It answers how many of the pairs it has come past. The places of the others are read beside them, one after the other, and those that are near
+    /// are marked for all before the first pair is listed. Each pair is written, and counted where it's near, so that no branch has to be foreseen.
     pub(crate) fn list(
         &mut self,
         frame: &FrameInBox,
@@ -84,20 +94,24 @@ impl NearPairs {
         ensures onward { length self.old < 64 → 0 < result }
         ensures few { length self.new ≤ length self.old + result }
     {
-        let (ring, reach) = (*frame.ring, *frame.reach);
+        let row = together(others.len());
+        let mut marks = [false; 128];
         let x = frame.places[atom as usize];
+        frame
+            .ring
+            .mark_near(frame.reach, x, &places[..row], &mut marks);
         let mut count = self.count;
-        for j in 0..others.len() {
+        for j in 0..row {
             if count == 64 {
                 self.count = count;
                 return j;
             }
             self.pairs[count] = in_order(atom, others[j]);
-            if !ring.is_far(&reach, x, places[j]) {
+            if marks[j] {
                 count += 1;
             }
         }
         self.count = count;
-        others.len()
+        row
     }
 }

@@ -1,20 +1,9 @@
--- What definitions stand for.
+-- What definitions stand for that come after others, or with moved numbers.
 use Rattle.std.proofs.Common.{◌≡◌, ℕ, ◌+◌, ◌≤◌, ◌==◌, pos, Bool, true, false, List, [], ◌∷◌, ◌++◌, map, length, refl, ap, ◌∙◌, arith}
 use Rattle.std.proofs.lemmas.Bool.{eqb-true, eqb-false, ne_eqb, eq-eqb}
 use Rattle.energy_program.specs.Tree.{Tree, Number, Input, Definition, Negated, Binary, Applied, Power, Select, put, meaning}
+use Rattle.energy_program.proofs.Meaning.{skip}
 use Rattle.derivative.specs.Written.{moved}
-
--- a later definition is not this one
-pub skip : (i j : ℕ) (d : Tree) (ds : List Tree) → i + 1 ≤ j → meaning i (d ∷ ds) j ≡ meaning (i + 1) ds j
-skip i j d ds h = let e : (j == i) ≡ false = ne_eqb j i (λ w. omega arith) in rw e refl
-
-pub here : (i j : ℕ) (d : Tree) (ds : List Tree) → j ≡ i → meaning i (d ∷ ds) j ≡ put (meaning (i + 1) ds) d
-here i j d ds h = let e : (j == i) ≡ true = eq-eqb j i h in rw e refl
-
--- past the definitions there is 0
-pub past : (i : ℕ) (ds : List Tree) (j : ℕ) → i + length ds ≤ j → meaning i ds j ≡ Number (pos 0)
-past i [] j h = refl
-past i (d ∷ ds) j h = skip i j d ds (omega arith) ∙ past (i + 1) ds j (omega arith)
 
 -- past the definitions of a list come those of the next
 pub skip_all : (xs ys : List Tree) (i j m : ℕ) → i + length xs ≡ m → m ≤ j → meaning i (xs ++ ys) j ≡ meaning m ys j

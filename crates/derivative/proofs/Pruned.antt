@@ -7,7 +7,7 @@ use Rattle.energy_program.specs.Uses.{Uses, is_marked}
 use Rattle.energy_program.proofs.MarkLaws.{AreMarked}
 use Rattle.derivative.specs.Used.{rank, renumbered, kept_from}
 use Rattle.derivative.proofs.Bool.{left_of, right_of, both}
-use Rattle.derivative.proofs.Meaning.{skip, here}
+use Rattle.energy_program.proofs.Meaning.{skip, here}
 use Rattle.derivative.proofs.Scoped.{scoped_below}
 
 -- each use in the tree is marked

@@ -10,7 +10,8 @@ use Rattle.derivative.specs.Derive.{with_all}
 use Rattle.derivative.proofs.Bool.{left_of, right_of}
 use Rattle.derivative.proofs.Derives.{Follows, slope_value}
 use Rattle.derivative.proofs.Readings.{Reads}
-use Rattle.derivative.proofs.Meaning.{skip, skip_all, moved_meaning}
+use Rattle.energy_program.proofs.Meaning.{skip}
+use Rattle.derivative.proofs.Meaning.{skip_all, moved_meaning}
 use Rattle.derivative.proofs.Scoped.{scoped_below, to_below}
 
 module _ {V : Type 0} (bits : ℕ) (on : Operations V) (value : Tree → Option V) (reads : Reads bits on value) (free : ℕ → Bool) (count n : ℕ) (olds : List Tree) where

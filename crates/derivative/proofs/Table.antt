@@ -9,7 +9,7 @@ use Rattle.energy_program.specs.declared.trees.Expr.{Expr}
 use Rattle.energy_program.specs.Tree.{Tree, Number, Input, Definition, Negated, Binary, Applied, Power, Select, tree_of, is_exponent, is_scoped, are_scoped, is_free_of_distance, put, meaning}
 use Rattle.derivative.specs.Written.{is_free_given, free_among, IsFreeTable}
 use Rattle.derivative.proofs.Bool.{left_of, right_of}
-use Rattle.derivative.proofs.Meaning.{skip, here, past}
+use Rattle.energy_program.proofs.Meaning.{skip, here, past}
 use Rattle.derivative.proofs.Scoped.{scoped_below, to_below, scoped_at}
 
 pub from_uses : (P : Type 0) (first n j : ℕ) → IsTrue (nat_le first j && nat_lt j n) → (first ≤ j → j < n → P) → P

@@ -1,5 +1,4 @@
-pub mod Substitution
-pub mod ValueLemmas
+pub mod Meaning
 pub mod FaultLaws
 pub mod NameLemmas
 pub mod Scopes

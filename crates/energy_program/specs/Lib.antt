@@ -3,6 +3,5 @@ pub mod Names
 pub mod Tree
 pub mod Value
 pub mod Programs
-pub mod Evaluation
 pub mod Variables
 pub mod Uses

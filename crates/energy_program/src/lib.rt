@@ -5,7 +5,6 @@
 
 mod build;
 mod callees;
-mod evaluation;
 mod faults;
 mod inputs;
 mod names;

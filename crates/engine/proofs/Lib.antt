@@ -10,6 +10,7 @@ pub mod HeadlineSteps
 pub mod HeadlineTexts
 pub mod HeadlineLaws
 pub mod WentLaws
+pub mod SafeRuns
 pub mod EnergySumLaws
 pub mod EnergyTileLaws
 pub mod EngineEnergyLaws

@@ -12,8 +12,7 @@ use Rattle.tile_round.specs.ExactSums.{PlanHasWords, TileHasWords, TotalsComeOut
 use Rattle.tile_round.specs.Tiles.{additions_of, amount_on, on_entry, tile_of, tiles_of, total}
 use Rattle.tile_round.specs.declared.work.PairAdd.{PairAdd}
 use Rattle.tile_pool.specs.Totals.{AreTotals}
-use Rattle.integrator.specs.Adding.{IsWithin}
-use Rattle.integrator.specs.Forces.{component, force_or_none, forces_of, negative, none, numbers_from, pairs_of, plus, share_of, sum_of_shares}
+use Rattle.integrator.specs.Forces.{component, force_or_none, forces_of, negative, none, numbers_from, pairs_of, plus, share_of, sum_of_shares, IsWithin}
 use Rattle.integrator.proofs.BoundLaws.{forces_within}
 use Rattle.integrator.proofs.Constructors.{some_same}
 use Rattle.integrator.proofs.ForceLaws.{ArePairsOf, frame_pairs, pairs_parts, shares-three, three, three_parts}

@@ -12,8 +12,7 @@ use Rattle.ring_box.proofs.ForceLemmas.{max_high, max_low}
 use Rattle.integrator.proofs.BoundLaws.{along_within}
 use Rattle.integrator.proofs.Constructors.{none_is_no_some, some_same}
 use Rattle.integrator.proofs.SumLemmas.{within-weaker}
-use Rattle.integrator.specs.Adding.{IsWithin}
-use Rattle.integrator.specs.Forces.{none}
+use Rattle.integrator.specs.Forces.{none, IsWithin}
 use Rattle.integrator.specs.Frames.{force_at, pair_force, places_of}
 use Rattle.integrator.specs.Kernels.{is_small}
 use Rattle.engine.specs.SafeKernels.{IsAccepted, Potential, is_taken, minus, potential_of, safe_dynamics, slope_at}

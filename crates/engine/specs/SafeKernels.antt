@@ -1,5 +1,5 @@
 -- Slopes whose code is accepted: the code gives the slope for every two types at each distance from the core to before the cutoff.
-use Rattle.std.specs.Prelude.{◌≡◌, ℕ, ◌-◌, ◌*◌, ◌^◌, ◌<◌, ℤ, pos, neg_ℤ, Bool, nat_lt, int_lt, not, ◌&&◌, length, Option, None, unwrap_or}
+use Rattle.std.specs.Prelude.{◌≡◌, ℕ, ◌-◌, ◌*◌, ◌^◌, ◌<◌, ℤ, pos, neg_ℤ, Bool, nat_lt, int_lt, not, ◌&&◌, length, Option, unwrap_or}
 use Rattle.std.specs.List.{All}
 use Rattle.fixed.specs.Fractions.{bits_of}
 use Rattle.derivative.specs.Slope.{slope_of}
@@ -42,7 +42,7 @@ potential_of k = record { table = k.verified.table; energy = program_tree k.ener
 
 -- what moves the atoms of a system whose slope is accepted: it always has a slope where it is asked
 abbrev pub safe_dynamics : {A : Type 0} → System (SafeKernel A) A → Dynamics
-safe_dynamics s = dynamics_of (λ k a b r. slope_at (potential_of k) a b r) (λ k a b r. None) s
+safe_dynamics s = dynamics_of (λ k a b r. slope_at (potential_of k) a b r) s
 
 -- the slope is accepted for the atoms and distances of the system, no force on an atom can pass 64 bits, and each side has room for two cutoffs
 pub record IsAccepted {A : Type 0} (s : System (SafeKernel A) A) : Type 0 where

@@ -1,9 +1,10 @@
--- Steps of an engine, one after the other and back.
-use Rattle.std.specs.Prelude.{ℕ, ◌+◌}
+-- Steps of an engine, one after the other and back; runs from safe texts.
+use Rattle.std.specs.Prelude.{ℕ, List, ◌+◌}
 use Rattle.state.specs.StateText.{IsState}
 use Rattle.integrator.specs.Frames.{opposite}
 use Rattle.integrator.specs.declared.direction.Direction.{Direction}
-use Rattle.engine.specs.Engines.{EngineView, Went}
+use Rattle.engine.specs.Engines.{AreSafe, EngineView, Went}
+use Rattle.engine.specs.Headline.{IsLevesqueVerletRun}
 
 -- k steps, and then m more the same way, are k + m steps
 abbrev pub StepsAdd : Type 0
@@ -12,3 +13,7 @@ StepsAdd = (direction : Direction) (k m : ℕ) (before between after : EngineVie
 -- n steps, and then n the other way, lead back to the engine of the start
 abbrev pub StepsReturn : Type 0
 StepsReturn = (direction : Direction) (n : ℕ) (before after : EngineView) → IsState before.state → Went direction n before after → Went (opposite direction) n after before
+
+-- what a run writes is safe under its job where what it began with is: the code is certified for the way on, and for the way back
+abbrev pub RunsStaySafe : Type 0
+RunsStaySafe = (job state : List ℕ) (direction : Direction) (n : ℕ) (text : List ℕ) → IsLevesqueVerletRun job state direction n text → AreSafe job state → AreSafe job text

@@ -81,7 +81,7 @@ fn state_after<R: Threads + Sync, A: Allocator + Copy + Send + Sync>(
 /// the workers' claims and additions, the frames are those of so many Levesque-Verlet steps (J. Stat. Phys. 72, 519, 1993) with the
 /// energy's slope as written and exact sums over all pairs; and the same number of steps the other way over the written bytes gives
 /// the starting bytes again. The slope's code is accepted by the verifier (`Engine::new`), so that none of its instructions faults and
-/// each pair takes at most the certified steps (`kernel_lanes::run_lanes`, `run_paths`): a fault of a kernel is no refusal here.
+/// each pair takes at most the certified steps (`kernel_lanes::run_lanes`, `lane_paths::run_paths`): a fault of a kernel is no refusal here.
 ///
 /// The refusals come in this order: those of the job, of the state, of `Engine::new`; `StepRange` where the counter
 /// would leave an i64; `Memory` or `MemoryAfter` wherever a growth is refused. Nothing is written then. `Out` comes

@@ -1,7 +1,7 @@
 //! Steps of a system whose slope is accepted, which nothing stops but want of memory.
 
 ghost use Rattle.std.specs.Prelude.{◌≡◌, ◌+◌, ◌*◌, ◌<◌, ◌≤◌, ◌^◌, length};
-ghost use Rattle.integrator.specs.Adding.{IsWithin};
+ghost use Rattle.integrator.specs.Forces.{IsWithin};
 ghost use Rattle.engine.specs.Rounds.{forces_in};
 
 use crate::frame_works::FrameWork;

@@ -15,5 +15,5 @@ mod verdicts;
 
 pub use engine_runs::{open, run_bytes, state_energy};
 pub use engines::Engine;
-pub use laws::{steps_add, steps_return};
+pub use laws::{runs_stay_safe, steps_add, steps_return};
 pub use verdicts::{verdict, verified_slope};

@@ -5,11 +5,12 @@ ghost use Rattle.std.specs.Prelude.{◌<◌, ◌≤◌};
 use crate::fixtures::{AFTER_TWO, JOB, STATE, engine_over, layers, text_of};
 use engine::Engine;
 use gro::Collected;
-use integrator::{Direction, RunFault, StepFault, run_bytes_checked};
+use integrator::{Direction, RunFault, StepFault};
 use refusing_memory::RefusingAllocator;
 use std::alloc::{AllocError, Allocator, Global};
 use std::test::*;
 use std::thread::Threads;
+use tested_run::run_bytes_checked;
 use tile_pool::Gate;
 
 /// No run of a test makes so many requests for memory.

@@ -3,10 +3,11 @@
 use crate::fixtures::{JOB, STATE, layers};
 use engine::run_bytes;
 use gro::Collected;
-use integrator::{Direction, run_bytes_checked};
+use integrator::Direction;
 use std::alloc::{AllocError, Global};
 use std::test::*;
 use std::thread::Threads;
+use tested_run::run_bytes_checked;
 
 /// What a tested run writes, or the line of its fault.
 fn tested(

@@ -13,7 +13,7 @@ use line_text::{digits_up_to, trim};
 use std::alloc::Allocator;
 
 /// The most atoms that a frame may have.
-const MOST_ATOMS: u64 = 65_536;
+const MAX_ATOMS: u64 = 65_536;
 
 /// The frames of a GRO file (GROMACS manual, gro file format), with three decimals in positions and
 /// four in velocities.
@@ -119,8 +119,8 @@ fn line_count(number: u64, text: &[u8]) -> Result<u64, GroFault>
     if digits.is_empty() {
         return Err(GroFault::BadCount { line: number });
     }
-    let count = digits_up_to(MOST_ATOMS + 1, digits).ok_or(GroFault::BadCount { line: number })?;
-    if count > MOST_ATOMS {
+    let count = digits_up_to(MAX_ATOMS + 1, digits).ok_or(GroFault::BadCount { line: number })?;
+    if count > MAX_ATOMS {
         return Err(GroFault::TooManyAtoms { line: number });
     }
     Ok(count)

@@ -1,11 +1,9 @@
 pub mod Constructors
 pub mod StepLemmas
 pub mod SumLemmas
-pub mod PairLemmas
 pub mod ForceLaws
 pub mod BoundLaws
 pub mod NumberLaws
-pub mod PlainLaws
 pub mod TurnLaws
 pub mod StateLaws
 pub mod StartLaws

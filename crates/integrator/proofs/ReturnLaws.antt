@@ -93,6 +93,11 @@ types-placed : (types : List TypeValue) (k : ℕ) (atoms : List AtomView) (f : F
 types-placed types k atoms f =
     by_names types k (placed_atoms atoms f) ∙ ap (named_types types k) (names-placed atoms f) ∙ sym (by_names types k atoms)
 
+-- atoms at other places are of the same types, and so is the system that a job and a state are made into
+pub system-placed : (j : JobValue) (s : StateView) (f : Frames) (k : ℤ) → system_of j (moved_state s f k) ≡ system_of j s
+unfolding system_of types_of
+system-placed j s f k = rw (types-placed j.types 1 s.atoms f) refl
+
 -- ---- a state's frames are frames, and at frames it is a state
 
 places_are : (p : List ℕ) → AreThree IsPlace p → ArePlaces p

@@ -1,15 +1,11 @@
--- Bounds of sums, and the pairs of a frame in order.
+-- Bounds of forces.
 use Rattle.std.proofs.Common.{ℕ, ◌<◌, ◌≤◌, List, length, ℤ, pos, arith}
 use Rattle.std.specs.Prelude.{unsigned_abs}
 use Rattle.std.specs.List.{All}
-use Rattle.std.proofs.lemmas.List.Elements.{All-weaker}
-use Rattle.integrator.specs.Adding.{IsWithin}
+use Rattle.integrator.specs.Forces.{IsWithin}
 
 pub within-weaker : (b c : ℕ) → b ≤ c → (v : List ℤ) → IsWithin b v → IsWithin c v
 within-weaker b c h v w = record { x = omega (arith, w.x); y = omega (arith, w.y); z = omega (arith, w.z) }
-
-pub all_within-weaker : (b c : ℕ) (sums : List (List ℤ)) → b ≤ c → All (IsWithin b) sums → All (IsWithin c) sums
-all_within-weaker b c sums h = All-weaker (IsWithin b) (IsWithin c) (within-weaker b c h) sums
 
 pub within-from_all : (b m : ℕ) (v : List ℤ) → 2 < length v → m ≤ b → All (λ w. unsigned_abs w ≤ m) v → IsWithin b v
 within-from_all b m v three h bound = record {

@@ -3,8 +3,7 @@ use Rattle.std.proofs.Common.{◌≡◌, ℕ, zero, suc, ◌+◌, ◌<◌, ◌^�
 use Rattle.std.specs.Prelude.{option_map, slice_index}
 use Rattle.std.specs.Option.{option_and_then}
 use Rattle.integrator.proofs.Constructors.{none_is_no_some, some_same}
-use Rattle.integrator.specs.Frames.{AreFrames, ArePlaces, Dynamics, Frames, frame_forces, frames, moved_frame, next_frame, next_places, places_of, step, turn, turns, exchanged, opposite, StopsAt}
-use Rattle.integrator.specs.declared.slope_faults.SlopeFault.{SlopeFault}
+use Rattle.integrator.specs.Frames.{AreFrames, ArePlaces, Dynamics, Frames, frame_forces, frames, moved_frame, next_frame, next_places, places_of, turn, turns, exchanged, opposite}
 use Rattle.integrator.specs.Displacement.{displacement_of}
 use Rattle.integrator.specs.Forces.{component, none, numbers_from}
 use Rattle.integrator.proofs.NumberLaws.{length-numbers, at_number}
@@ -15,9 +14,6 @@ use Rattle.std.proofs.lemmas.List.{ext_get_or}
 use Rattle.std.proofs.lemmas.List.Elements.{All-map}
 use Rattle.integrator.specs.declared.direction.Direction.{Direction}
 use Rattle.integrator.specs.declared.direction.Direction.TheVariants.{Forward, Back}
-
-pub step_from : (d : Dynamics) (p c n : List (List ℕ)) → next_frame d p c ≡ Some n → step d (frames p c) ≡ Some (frames c n)
-step_from d p c n e = ap (option_map (frames c)) e
 
 -- n steps and one more
 more_after : (w : Direction) (d : Dynamics) (n : ℕ) (o : Option Frames)
@@ -189,13 +185,3 @@ exchanged_turns d (suc n) f =
 -- frames that were reached, exchanged
 pub back_from_forward : (d : Dynamics) (n : ℕ) (p c q e : List (List ℕ)) → turns Forward d n (frames c p) ≡ Some (frames e q) → turns Back d n (frames p c) ≡ Some (frames q e)
 back_from_forward d n p c q e h = exchanged_turns d n (frames c p) ∙ ap (option_map exchanged) h
-
-pub stops_exchanged : (d : Dynamics) (n : ℕ) (p c : List (List ℕ)) (done : ℕ) (pair : ℕ × ℕ) (why : SlopeFault) → StopsAt Forward d n (frames c p) done pair why → StopsAt Back d n (frames p c) done pair why
-stops_exchanged d n p c done pair why h =
-    record {
-      reached = exchanged h.reached;
-      steps = exchanged_turns d done (frames c p) ∙ ap (option_map exchanged) h.steps;
-      early = h.early;
-      first = h.first;
-      why = h.why;
-    }

@@ -1,6 +1,6 @@
 -- The exact force on each atom of a frame: the sum over all pairs of atoms, in whole numbers of any size.
-use Rattle.std.specs.Prelude.{ℕ, zero, suc, ℤ, pos, neg_ℤ, ◌+ℤ◌, ◌==◌, List, [], ◌∷◌, ◌++◌, map, Option, Some, None, is_some, is_none, unwrap_or, slice_index_or, if◌then◌else◌}
-use Rattle.std.specs.List.{find, list_all}
+use Rattle.std.specs.Prelude.{ℕ, zero, suc, ℤ, pos, neg_ℤ, ◌+ℤ◌, ◌==◌, ◌≤◌, unsigned_abs, List, [], ◌∷◌, ◌++◌, map, Option, Some, None, is_some, unwrap_or, slice_index_or, if◌then◌else◌}
+use Rattle.std.specs.List.{list_all}
 
 -- a force is a list of three components
 abbrev pub none : List ℤ
@@ -55,6 +55,8 @@ forces_of force n =
     then Some (map (sum_of_shares (force_or_none force) (pairs_of n)) (numbers_from 0 n))
     else None
 
--- the first pair without a force, by the lower index, then by the higher
-abbrev pub first_without_force : (ℕ × ℕ → Option (List ℤ)) → ℕ → Option (ℕ × ℕ)
-first_without_force force n = find (λ p. is_none (force p)) (pairs_of n)
+-- no component has a greater magnitude
+pub record IsWithin (b : ℕ) (v : List ℤ) : Type 0 where
+  pub x : unsigned_abs (component v 0) ≤ b
+  pub y : unsigned_abs (component v 1) ≤ b
+  pub z : unsigned_abs (component v 2) ≤ b

@@ -8,12 +8,11 @@ use Rattle.ring_box.specs.declared.boxes.RingBox.{RingBox}
 use Rattle.ring_box.specs.Distances.{square_of}
 use Rattle.ring_box.specs.Forces.{acting_distance_of, force_along_of}
 use Rattle.integrator.specs.Displacement.{displacement_of, next_place_of}
-use Rattle.integrator.specs.Forces.{component, first_without_force, forces_of, none, numbers_from}
-use Rattle.integrator.specs.declared.slope_faults.SlopeFault.{SlopeFault}
+use Rattle.integrator.specs.Forces.{component, forces_of, none, numbers_from}
 use Rattle.integrator.specs.declared.direction.Direction.{Direction}
 use Rattle.integrator.specs.declared.direction.Direction.TheVariants.{Forward, Back}
 
--- what moves the atoms: the box, the pair potential by its slope at a pair of atoms and a distance, or why it has none there, and each atom's mass in 10^-5 u
+-- what moves the atoms: the box, the pair potential by its slope at a pair of atoms and a distance, where it has one, and each atom's mass in 10^-5 u
 pub record Dynamics : Type 0 where
   pub frac : Frac
   pub ring : RingBox
@@ -22,7 +21,6 @@ pub record Dynamics : Type 0 where
   pub time_step : ℕ
   pub masses : List ℕ
   pub slope : ℕ × ℕ → ℤ → Option ℤ
-  pub fault : ℕ × ℕ → ℤ → Option SlopeFault
 
 -- the places of an atom
 abbrev pub places_of : List (List ℕ) → ℕ → List ℕ
@@ -38,11 +36,6 @@ force_at ring slope (Some r) x y =
 abbrev pub pair_force : Dynamics → List (List ℕ) → ℕ × ℕ → Option (List ℤ)
 pair_force dynamics frame p =
     force_at dynamics.ring (dynamics.slope p) (acting_distance_of dynamics.frac dynamics.ring dynamics.core dynamics.cutoff (places_of frame p.0) (places_of frame p.1)) (places_of frame p.0) (places_of frame p.1)
-
--- why a pair has no force
-abbrev pub pair_fault : Dynamics → List (List ℕ) → ℕ × ℕ → Option SlopeFault
-pair_fault dynamics frame p =
-    option_and_then (dynamics.fault p) (acting_distance_of dynamics.frac dynamics.ring dynamics.core dynamics.cutoff (places_of frame p.0) (places_of frame p.1))
 
 -- the force on each atom of a frame, where every pair has one
 abbrev pub frame_forces : Dynamics → List (List ℕ) → Option (List (List ℤ))
@@ -95,19 +88,6 @@ exchanged f = frames f.current f.previous
 abbrev pub opposite : Direction → Direction
 opposite Forward = Back
 opposite Back = Forward
-
--- the frame whose forces a step in a direction wants
-abbrev pub middle : Direction → Frames → List (List ℕ)
-middle Forward f = f.current
-middle Back f = f.previous
-
--- of n steps from the frames f, `done` can be made, and in the frame whose forces the next one wants `pair` is the first pair without a force, because of this fault
-pub record StopsAt (direction : Direction) (dynamics : Dynamics) (n : ℕ) (f : Frames) (done : ℕ) (pair : ℕ × ℕ) (fault : SlopeFault) : Type 0 where
-  pub reached : Frames
-  pub steps : turns direction dynamics done f ≡ Some reached
-  pub early : done < n
-  pub first : first_without_force (pair_force dynamics (middle direction reached)) (length (middle direction reached)) ≡ Some pair
-  pub why : pair_fault dynamics (middle direction reached) pair ≡ Some fault
 
 -- three places, each on the ring
 abbrev pub ArePlaces : List ℕ → Type 0

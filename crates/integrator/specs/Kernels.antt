@@ -1,6 +1,5 @@
--- What a kernel's code gives on the tested machine, and what that says of the slope that it was compiled from.
-use Rattle.std.specs.Prelude.{◌≡◌, ℕ, zero, suc, ◌+◌, ◌⊎◌, ℤ, unsigned_abs, nat_le, Bool, true, false, List, length, Option, Some, None, IsSome, Result, Ok, Err}
-use Rattle.std.specs.Option.{option_and_then}
+-- Code of slopes: each value that it gives is the slope of the energy that it was compiled from, and each trap is an operation's.
+use Rattle.std.specs.Prelude.{◌≡◌, ℕ, ◌⊎◌, ℤ, unsigned_abs, nat_le, Bool, true, false, List, Option, Some, None, IsSome, Result, Ok, Err}
 use Rattle.derivative.specs.Slope.{slope_of}
 use Rattle.energy_program.specs.Tree.{Tree, meaning}
 use Rattle.energy_program.specs.Value.{value_of}
@@ -9,53 +8,10 @@ use Rattle.kernel_code.specs.declared.traps.Trap.{Trap}
 use Rattle.kernel_code.specs.declared.traps.TrapKind.{TrapKind}
 use Rattle.kernel_code.specs.declared.traps.TrapKind.TheVariants.{Operation, MissingOperand, MissingLocal, MissingInput, StackFull, BadEnd}
 use Rattle.kernel_code.specs.Code.{JumpsForward}
-use Rattle.kernel_code.specs.Machine.{after, end_of, turn_at, Ends, IsOperation}
+use Rattle.kernel_code.specs.Machine.{Ends, IsOperation}
 use Rattle.kernel_compiler.specs.Compiled.{LacksDefinition}
 use Rattle.energy_program.specs.Uses.{Needs}
 use Rattle.energy_program.specs.Programs.{Trees}
-use Rattle.integrator.specs.declared.slope_faults.SlopeFault.{SlopeFault}
-
--- ---- the end of a run
-
--- how the run of the code on these inputs ends after n instructions, if it does
-abbrev pub end_after : ℕ → List Instr → List ℤ → ℕ → Option (Result ℤ Trap)
-end_after bits code inputs n = option_and_then (λ s. end_of s (turn_at bits code inputs s)) (after bits code inputs n)
-
-abbrev pub or_else : {X : Type 0} → Option X → Option X → Option X
-or_else (Some x) other = Some x
-or_else None other = other
-
--- the first value among f n, f (n + 1), .., so many
-unfoldable pub first_from : {X : Type 0} → (ℕ → Option X) → (count n : ℕ) → Option X
-first_from f zero n = None
-first_from f (suc count) n = or_else (f n) (first_from f count (suc n))
-
--- How the run ends: with a value or a trap. As each instruction leads forward, a run has at most as many as the code.
-unfoldable pub outcome_of : ℕ → List Instr → List ℤ → Option (Result ℤ Trap)
-outcome_of bits code inputs = first_from (end_after bits code inputs) (length code + 1) 0
-
--- ---- slopes
-
--- a slope where the run ends with a value, and none where it traps
-abbrev pub where_given : Option (Result ℤ Trap) → Option ℤ → Option ℤ
-where_given None slope = None
-where_given (Some (Ok v)) slope = slope
-where_given (Some (Err trap)) slope = None
-
--- the place and the fault of a trap by an operation
-abbrev pub operation_fault : ℕ → TrapKind → Option SlopeFault
-operation_fault pc (Operation fault) = Some (record { pc = pc; fault = fault })
-operation_fault pc MissingOperand = None
-operation_fault pc MissingLocal = None
-operation_fault pc MissingInput = None
-operation_fault pc StackFull = None
-operation_fault pc BadEnd = None
-
--- why the run ends with no value
-abbrev pub fault_of : Option (Result ℤ Trap) → Option SlopeFault
-fault_of None = None
-fault_of (Some (Ok v)) = None
-fault_of (Some (Err trap)) = operation_fault trap.pc trap.kind
 
 -- there is a number, of at most this magnitude
 abbrev pub is_small : ℕ → Option ℤ → Bool

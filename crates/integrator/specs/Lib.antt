@@ -1,15 +1,12 @@
 pub mod Displacement
 pub mod Forces
-pub mod Adding
 pub mod Frames
 pub mod Systems
 pub mod Kernels
-pub mod SlopeBounds
 pub mod Energies
 pub mod States
 pub mod Starts
 pub mod StartViews
 pub mod Runs
-pub mod Halts
 pub mod StepFaults
 pub mod InputNames

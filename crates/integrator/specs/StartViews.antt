@@ -1,24 +1,14 @@
 -- What a call that may want memory answers, as what a run starts from.
-use Rattle.std.specs.Prelude.{◌≡◌, ℕ, ℤ, Bool, true, false, List, Option, Some, None, Result, Ok, Err, IfSome}
-use Rattle.fixed.specs.Fractions.{bits_of}
-use Rattle.derivative.specs.Slope.{slope_of}
+use Rattle.std.specs.Prelude.{◌≡◌, ℕ, Bool, true, false, List, Option, Some, None, Result, Ok, Err, IfSome}
 use Rattle.energy_program.specs.Programs.{program_tree, trees_of}
 use Rattle.energy_program.specs.Faults as energy
 use Rattle.job.specs.Views as job
 use Rattle.state.specs.declared.faults.StateFault.{StateFault}
 use Rattle.state.specs.declared.faults.StateFault.TheVariants as state
-use Rattle.state.specs.StateViews.{state_view}
-use Rattle.kernel_code.specs.Tables.{inputs_of}
-use Rattle.kernel_code.specs.declared.traps.Trap.{Trap}
 use Rattle.integrator.specs.Energies.{Energy}
-use Rattle.integrator.specs.Kernels.{fault_of, outcome_of, where_given}
-use Rattle.integrator.specs.Systems.{dynamics_of}
-use Rattle.integrator.specs.declared.kernels.CodeKernel.{CodeKernel}
-use Rattle.integrator.specs.declared.slope_faults.SlopeFault.{SlopeFault}
 use Rattle.integrator.specs.declared.slope_parts.SlopeParts.{SlopeParts}
-use Rattle.integrator.specs.declared.prepared.Prepared.{Prepared}
 use Rattle.integrator.specs.declared.prepared.Ready.{Ready}
-use Rattle.integrator.specs.Starts.{Refusal, Start, job_refused, state_refused, energy_refused, bits_differ, unknown_type, cutoff_too_long, step_range}
+use Rattle.integrator.specs.Starts.{Refusal, job_refused, state_refused, energy_refused, bits_differ, unknown_type, cutoff_too_long, step_range}
 use Rattle.integrator.specs.declared.faults.RunFault.{RunFault}
 use Rattle.integrator.specs.declared.faults.RunFault.TheVariants as fault
 
@@ -64,18 +54,5 @@ Gives view (Err f) start = Refuses f start
 abbrev pub energy_view : {A : Type 0} → SlopeParts A → Energy
 energy_view p = record { tree = program_tree p.energy; slope = trees_of p.slope; code = p.code }
 
--- a kernel's slope is the energy's, as it is written, where the run of its code gives a value
-abbrev pub kernel_outcome : {A : Type 0} → CodeKernel A → ℕ → ℕ → ℤ → Option (Result ℤ Trap)
-kernel_outcome k a b r = outcome_of (bits_of k.table.frac) k.parts.code (inputs_of k.table a b r)
-
-abbrev pub kernel_slope : {A : Type 0} → CodeKernel A → ℕ → ℕ → ℤ → Option ℤ
-kernel_slope k a b r = where_given (kernel_outcome k a b r) (slope_of (bits_of k.table.frac) (inputs_of k.table a b r) (program_tree k.parts.energy))
-
-abbrev pub kernel_fault : {A : Type 0} → CodeKernel A → ℕ → ℕ → ℤ → Option SlopeFault
-kernel_fault k a b r = fault_of (kernel_outcome k a b r)
-
 abbrev pub ready_view : {A : Type 0} → Ready A → Energy × List ℕ
 ready_view r = (energy_view r.parts, r.atoms.types.items)
-
-abbrev pub start_view : {A : Type 0} → Prepared A → Start
-start_view p = record { state = state_view p.state; dynamics = dynamics_of kernel_slope kernel_fault p.system; counter = p.counter }

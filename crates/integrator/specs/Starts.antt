@@ -12,17 +12,14 @@ use Rattle.job.specs.Values.{GlobalValue, JobValue, TypeValue}
 use Rattle.line_text.specs.Steps.{◌>>=◌}
 use Rattle.kernel_code.specs.Tables.{Table, inputs_of}
 use Rattle.kernel_code.specs.declared.instructions.Instr.{Instr}
-use Rattle.kernel_code.specs.declared.traps.Trap.{Trap}
 use Rattle.ring_box.specs.declared.boxes.RingBox.{RingBox}
 use Rattle.state.specs.StateReading.{state_of}
 use Rattle.state.specs.StateText.{AtomView, StateView}
 use Rattle.state.specs.declared.faults.StateFault.{StateFault}
 use Rattle.integrator.specs.Energies.{Energy, IsCompiled, energy_of}
 use Rattle.integrator.specs.Frames.{Dynamics}
-use Rattle.integrator.specs.Kernels.{fault_of, outcome_of, where_given}
 use Rattle.integrator.specs.States.{counter_after}
 use Rattle.integrator.specs.declared.direction.Direction.{Direction}
-use Rattle.integrator.specs.declared.slope_faults.SlopeFault.{SlopeFault}
 
 -- why there is no start; an atom counts from 1
 pub data Refusal : Type 0 where
@@ -95,13 +92,9 @@ table_of j = record { frac = j.frac; parameters = length j.parameters; rows = ty
 abbrev pub pair_inputs : JobValue → List ℕ → ℕ × ℕ → ℤ → List ℤ
 pair_inputs j types p r = inputs_of (table_of j) (slice_index types p.0) (slice_index types p.1) r
 
--- how the run of the slope's code ends there
-abbrev pub pair_outcome : JobValue → Energy → List ℕ → ℕ × ℕ → ℤ → Option (Result ℤ Trap)
-pair_outcome j energy types p r = outcome_of (bits_of j.frac) energy.code (pair_inputs j types p r)
-
 -- what moves the atoms of these types by these slopes, in a box with these sides
-abbrev pub dynamics_by : (ℕ × ℕ → ℤ → Option ℤ) → (ℕ × ℕ → ℤ → Option SlopeFault) → JobValue → (sides types : List ℕ) → Dynamics
-dynamics_by slope fault j sides types = record {
+abbrev pub dynamics_by : (ℕ × ℕ → ℤ → Option ℤ) → JobValue → (sides types : List ℕ) → Dynamics
+dynamics_by slope j sides types = record {
   frac = j.frac;
   ring = ring_of sides;
   core = j.core;
@@ -109,7 +102,6 @@ dynamics_by slope fault j sides types = record {
   time_step = j.time_step;
   masses = map (mass_of j.types) types;
   slope = slope;
-  fault = fault;
 }
 
 -- how what moves the atoms follows from a job, the box's sides, the energy and the atoms' types
@@ -118,15 +110,10 @@ Law = JobValue → List ℕ → Energy → List ℕ → Dynamics
 
 -- by the slope of a tree as it is written
 abbrev pub as_written : JobValue → (sides : List ℕ) → Tree → (types : List ℕ) → Dynamics
-as_written j sides tree types = dynamics_by (λ p r. slope_of (bits_of j.frac) (pair_inputs j types p r) tree) (λ p r. None) j sides types
+as_written j sides tree types = dynamics_by (λ p r. slope_of (bits_of j.frac) (pair_inputs j types p r) tree) j sides types
 
 abbrev pub plain : Law
 plain j sides energy types = as_written j sides energy.tree types
-
--- The same where the run of the slope's code gives a value. Else the fault is that of the run.
-abbrev pub tested : Law
-tested j sides energy types =
-    dynamics_by (λ p r. where_given (pair_outcome j energy types p r) (slope_of (bits_of j.frac) (pair_inputs j types p r) energy.tree)) (λ p r. fault_of (pair_outcome j energy types p r)) j sides types
 
 abbrev pub in_counter : Option ℤ → Result ℤ Refusal
 in_counter (Some z) = Ok z

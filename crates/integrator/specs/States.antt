@@ -25,11 +25,6 @@ counter_at Back step n = step -ℤ pos n
 abbrev pub counter_after : Direction → ℤ → ℕ → Option ℤ
 counter_after direction step n = if in_range (counter_at direction step n) then Some (counter_at direction step n) else None
 
--- the counter of the frame whose forces the step after these wants: a state's counter is that of its current frame
-abbrev pub forced_counter : Direction → ℤ → ℕ → ℤ
-forced_counter Forward step done = step +ℤ pos done
-forced_counter Back step done = step -ℤ pos done -ℤ pos 1
-
 -- an atom at other places
 abbrev pub placed : AtomView → List ℕ → List ℕ → AtomView
 placed a previous current = record a { previous = previous; current = current }

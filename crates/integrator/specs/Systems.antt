@@ -1,12 +1,11 @@
 -- A system of the program as the dynamics that it stands for.
 use Rattle.std.specs.Prelude.{ℕ, ℤ, Option, None, slice_index}
 use Rattle.integrator.specs.Frames.{Dynamics}
-use Rattle.integrator.specs.declared.slope_faults.SlopeFault.{SlopeFault}
 use Rattle.integrator.specs.declared.systems.System.{System}
 
--- `slope` is what the kernel gives for two types of atoms, and `fault` why it gives nothing
-abbrev pub dynamics_of : {K A : Type 0} → (K → ℕ → ℕ → ℤ → Option ℤ) → (K → ℕ → ℕ → ℤ → Option SlopeFault) → System K A → Dynamics
-dynamics_of slope fault s = record {
+-- `slope` is what the kernel gives for two types of atoms at a distance
+abbrev pub dynamics_of : {K A : Type 0} → (K → ℕ → ℕ → ℤ → Option ℤ) → System K A → Dynamics
+dynamics_of slope s = record {
   frac = s.frac;
   ring = s.ring;
   core = s.core;
@@ -14,9 +13,8 @@ dynamics_of slope fault s = record {
   time_step = s.time_step;
   masses = s.masses.items;
   slope = λ p r. slope s.kernel (slice_index s.types.items p.0) (slice_index s.types.items p.1) r;
-  fault = λ p r. fault s.kernel (slice_index s.types.items p.0) (slice_index s.types.items p.1) r;
 }
 
 -- the same without a pair potential: places are all that it tells
 abbrev pub forceless : {K A : Type 0} → System K A → Dynamics
-forceless s = dynamics_of (λ k a b r. None) (λ k a b r. None) s
+forceless s = dynamics_of (λ k a b r. None) s

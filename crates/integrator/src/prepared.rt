@@ -1,12 +1,9 @@
 //! All that a run starts from.
 
-ghost use Rattle.std.specs.Prelude.{◌≡◌, ◌<◌, ◌≤◌, length};
+ghost use Rattle.std.specs.Prelude.{◌<◌, ◌≤◌};
 ghost use Rattle.std.specs.List.{All};
 
-use crate::kernels::CodeKernel;
 use crate::slope_parts::SlopeParts;
-use crate::systems::System;
-use state::State;
 use std::alloc::Allocator;
 
 /// The types and masses of a state's atoms.
@@ -27,14 +24,4 @@ pub struct Ready<A: Allocator> {
     pub parts: SlopeParts<A>,
     /// The type and the mass of each atom.
     pub atoms: TypedAtoms<A>,
-}
-
-/// A state, what moves its atoms, and the counter at the end of the run.
-#[derive(Drop)]
-pub(crate) struct Prepared<A: Allocator> {
-    pub state: State<A>,
-    pub system: System<CodeKernel<A>, A>,
-    pub counter: i64,
-    pub ghost known: { All (λ t. t < length system.kernel.table.rows) system.types.items },
-    pub ghost atoms: { length state.atoms.items ≡ length system.masses.items },
 }

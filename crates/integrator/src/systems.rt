@@ -4,7 +4,6 @@ ghost use Rattle.std.specs.Prelude.{◌≡◌, ◌*◌, ◌<◌, ◌≤◌, ◌^
 ghost use Rattle.std.specs.List.{All};
 ghost use Rattle.fixed.specs.Fractions.{bits_of};
 
-use crate::slope_faults::SlopeFault;
 use fixed::{Frac, Fx};
 use ring_box::RingBox;
 use std::alloc::Allocator;
@@ -33,21 +32,4 @@ pub struct System<K: Drop, A: Allocator> {
     pub ghost most_masses: { All (λ m. m ≤ 100000000) masses.items },
     pub ghost atoms: { length types.items ≡ length masses.items },
     pub ghost most_atoms: { length masses.items ≤ 65536 },
-}
-
-/// A pair of atoms, by index from 0, for which there is no slope, and why.
-#[derive(Clone, Copy)]
-pub(crate) struct PairFault {
-    pub low: usize,
-    pub high: usize,
-    pub fault: SlopeFault,
-    pub ghost apart: { low < high },
-    pub ghost few: { high < 65536 },
-}
-
-/// A run that stopped after some whole steps, since a pair had no slope.
-#[derive(Clone, Copy)]
-pub(crate) struct Stop {
-    pub done: u64,
-    pub pair: PairFault,
 }

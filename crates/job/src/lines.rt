@@ -26,11 +26,11 @@ use line_text::{Name, is_identifier, next_word, skip_blanks};
 use std::alloc::{AllocError, Allocator};
 
 // How many parameters, globals and types a job may have.
-const MOST_PARAMETERS: usize = 8;
+const MAX_PARAMETERS: usize = 8;
 
-const MOST_GLOBALS: usize = 16;
+const MAX_GLOBALS: usize = 16;
 
-const MOST_TYPES: usize = 64;
+const MAX_TYPES: usize = 64;
 
 fn core_in(frac: Frac, text: &[u8]) -> Result<Fx, NumFault>
     ensures value { result ≡ alone (numeral_of frac) (words text.now) }
@@ -217,7 +217,7 @@ fn add_parameter<A: Allocator + Copy>(
     if knows_parameter(draft.parameters.as_slice(), name) {
         return Err(repeated_name(alloc, name));
     }
-    if draft.parameters.as_slice().len() >= MOST_PARAMETERS {
+    if draft.parameters.as_slice().len() >= MAX_PARAMETERS {
         return Err(JobFault::Range {
             key: Key::Parameter,
         });
@@ -256,7 +256,7 @@ fn add_global<A: Allocator + Copy>(
     let Some(value) = value else {
         return Err(JobFault::Range { key: Key::Global });
     };
-    if draft.globals.as_slice().len() >= MOST_GLOBALS {
+    if draft.globals.as_slice().len() >= MAX_GLOBALS {
         return Err(JobFault::Range { key: Key::Global });
     }
     let name = Vec::from_slice(alloc, name)?;
@@ -327,7 +327,7 @@ fn add_type<A: Allocator + Copy>(
     let Some(numbers) = numbers else {
         return Err(JobFault::Range { key: Key::Types });
     };
-    if draft.types.as_slice().len() >= MOST_TYPES {
+    if draft.types.as_slice().len() >= MAX_TYPES {
         return Err(JobFault::Range { key: Key::Types });
     }
     let name = type_name(word);

@@ -30,7 +30,7 @@ impl<A: Allocator> Model for Code<A> {
 }
 
 /// The most instructions that code has.
-const MOST: usize = 16_384;
+const MAX_INSTRUCTIONS: usize = 16_384;
 
 impl<A: Allocator> Code<A> {
     /// The code of these instructions.
@@ -59,7 +59,7 @@ impl<A: Allocator> Code<A> {
 fn check(instructions: &[Instr]) -> Result<(), CodeFault>
     ensures { code_if instructions.now result ≡ code_from instructions.now }
 {
-    if instructions.len() > MOST {
+    if instructions.len() > MAX_INSTRUCTIONS {
         return Err(CodeFault::TooLong);
     }
     check_targets(instructions)

@@ -20,17 +20,10 @@ use Rattle.kernel_compiler.proofs.Runs.{IsFine, Holds, Comes, Faults, Gives, com
 use Rattle.kernel_code.proofs.EveryPath.{Well, well_end, well_at, keep_well, misses_nothing}
 use Rattle.kernel_compiler.proofs.Well.{Keeps, tree_well}
 use Rattle.kernel_compiler.proofs.Scopes.{HaveLocals}
+use Rattle.energy_program.proofs.Meaning.{here as first_here, skip}
 use Rattle.energy_program.proofs.MarkLaws.{marked_within, marked_needed, length-marks}
 use Rattle.kernel_compiler.proofs.Fine.{AreFine}
 use Rattle.kernel_compiler.proofs.Shallow.{need_if, definitions_need}
-
--- ---- what definitions stand for
-
-meaning_here : (j : ℕ) (d : Tree) (ds : List Tree) → meaning j (d ∷ ds) j ≡ put (meaning (j + 1) ds) d
-meaning_here j d ds = let test : (j == j) ≡ true = grind arith in rw test refl
-
-meaning_later : (j k : ℕ) (d : Tree) (ds : List Tree) → j + 1 ≤ k → meaning j (d ∷ ds) k ≡ meaning (j + 1) ds k
-meaning_later j k d ds h = let test : (k == j) ≡ false = grind arith in rw test refl
 
 -- ---- the code of definitions
 
@@ -59,7 +52,7 @@ module _ (bits : ℕ) (code : List Instr) (xs : List ℤ) (ms : List Bool) where
         (λ (ne : k ≢ j).
         let above : j + 1 ≤ k = omega arith in
         let a = h.each k above e in
-        (a.0, ap (value_of bits xs) (meaning_later j k d ds above) ∙ a.1, a.2))
+        (a.0, ap (value_of bits xs) (skip j k d ds above) ∙ a.1, a.2))
         (cases_eq k j);
   }
 
@@ -72,24 +65,24 @@ module _ (bits : ℕ) (code : List Instr) (xs : List ℤ) (ms : List Bool) where
         (λ (same : k ≡ j).
         let size = h.size in
         let within : local_of j < length ls = omega arith in
-        (v, ap (λ q. value_of bits xs (meaning j (d ∷ ds) q)) same ∙ ap (value_of bits xs) (meaning_here j d ds) ∙ is, ap (λ q. slice_index_or (slice_set ls (local_of j) (Some v)) (local_of q) None) same ∙ get_or-set_same ls (local_of j) (Some v) None within))
+        (v, ap (λ q. value_of bits xs (meaning j (d ∷ ds) q)) same ∙ ap (value_of bits xs) (first_here j j d ds refl) ∙ is, ap (λ q. slice_index_or (slice_set ls (local_of j) (Some v)) (local_of q) None) same ∙ get_or-set_same ls (local_of j) (Some v) None within))
         (λ (ne : k ≢ j).
         let above : j + 1 ≤ k = omega arith in
         let a = h.each k above e in
         let ne' : local_of k ≢ local_of j = omega arith in
-        (a.0, ap (value_of bits xs) (meaning_later j k d ds above) ∙ a.1, get_or-set_other ls (local_of j) (local_of k) (Some v) None ne' ∙ a.2))
+        (a.0, ap (value_of bits xs) (skip j k d ds above) ∙ a.1, get_or-set_other ls (local_of j) (local_of k) (Some v) None ne' ∙ a.2))
         (cases_eq k j);
   }
 
   lacks_before : (j : ℕ) (d : Tree) (ds : List Tree) → Lacks (j + 1) ds → Lacks j (d ∷ ds)
   lacks_before j d ds l =
       let above = l.above in
-      record { number = l.number; above = omega arith; marked = l.marked; empty = ap (value_of bits xs) (meaning_later j l.number d ds l.above) ∙ l.empty; faults = l.faults }
+      record { number = l.number; above = omega arith; marked = l.marked; empty = ap (value_of bits xs) (skip j l.number d ds l.above) ∙ l.empty; faults = l.faults }
 
   -- one definition
   kept_runs : (j : ℕ) (d : Tree) (ds : List Tree) (pc : ℕ) (o : Option ℤ) → j < 254 → is_marked ms j ≡ true → value_of bits xs (put (meaning (j + 1) ds) d) ≡ o → slice_get code pc ≡ Some (Keep (local_of j)) → Gives bits code xs (meaning (j + 1) ds) ms (j + 1) pc [] o → Ready j (d ∷ ds) (pc + 1) ⊎ Lacks j (d ∷ ds)
   kept_runs j d ds pc None lt on is here g =
-      inr (record { number = j; above = omega arith; marked = on; empty = ap (value_of bits xs) (meaning_here j d ds) ∙ is; faults = g })
+      inr (record { number = j; above = omega arith; marked = on; empty = ap (value_of bits xs) (first_here j j d ds refl) ∙ is; faults = g })
   kept_runs j d ds pc (Some v) lt on is here g =
       inl (record {
         locals = slice_set g.locals (local_of j) (Some v);

@@ -17,14 +17,14 @@ use kernel_code::{Code, Instr};
 use std::alloc::{AllocError, Allocator};
 
 /// The most instructions that code has.
-const MOST_INSTRUCTIONS: usize = 16_384;
+const MAX_INSTRUCTIONS: usize = 16_384;
 
 /// Whether the code of the program is within the limits. A program has fewer definitions than there are locals.
 fn is_within_limits<A: Allocator>(program: &Program<A>, marks: &[bool]) -> bool
     requires { marks.now ≡ marks_of (body_of program.now) (definitions_of program.now) }
     ensures { (bits : ℕ) → is_within_limits (program_code bits (body_of program.now) (definitions_of program.now)) ≡ result }
 {
-    match definitions_left(marks, 0, &program.definitions, MOST_INSTRUCTIONS) {
+    match definitions_left(marks, 0, &program.definitions, MAX_INSTRUCTIONS) {
         Some(rest) => measure(&program.body, rest).is_some(),
         None => false,
     }

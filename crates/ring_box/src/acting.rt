@@ -11,6 +11,7 @@ use crate::boxes::RingBox;
 use crate::distances::distance_by_root;
 use crate::forces::outside_core;
 use crate::lines::Line;
+use crate::places::diff;
 use crate::reaches::Reach;
 use crate::sides::Side;
 use fixed::Fx;
@@ -83,42 +84,70 @@ impl ActingPair {
     }
 }
 
-fn coarse_square(a: u64) -> u64
-    requires { a ≤ 2 ^ 31 * 16000000 }
-    ensures value { result ≡ (a / 2 ^ 24) * (a / 2 ^ 24) }
-    ensures bound { result < 2 ^ 62 }
+/// A length along an axis in 2^40 of its units, some 0.0026 nm, rounded down: where so many places lie between two on a ring of this side.
+fn coarse_length(places: u32, side: Side) -> u32
+    requires { places ≤ 2 ^ 31 }
+    ensures below { result * 2 ^ 40 ≤ places * side }
+    ensures bound { result ≤ 31250 }
 {
-    let c = a >> 24;
-    c * c
+    ((places >> 16) * (side.get() >> 9)) >> 15
 }
 
-/// Whether the sum of the squares is at least the limit, as far as the upper bits of the three tell.
-#[tactic(auto, using(crate::proofs::DistanceLemmas::far_is))]
-fn are_far(x: u64, y: u64, z: u64, limit: u128) -> bool
-    requires x { x ≤ 2 ^ 31 * 16000000 }
-    requires y { y ≤ 2 ^ 31 * 16000000 }
-    requires z { z ≤ 2 ^ 31 * 16000000 }
-    ensures { IsTrue result → limit ≤ x * x + y * y + z * z }
+/// A limit of squares in the square of 2^40 units, rounded down; the greatest number of 32 bits where it's more.
+fn coarse_limit(limit: u128) -> u32
+    ensures { (square : ℕ) → square < 2 ^ 32 → result < square → limit / 2 ^ 80 < square }
 {
-    u128::from(coarse_square(x) + coarse_square(y) + coarse_square(z)) > limit >> 48
+    match u32::try_from(limit >> 80) {
+        Ok(limit) => limit,
+        Err(_) => u32::MAX,
+    }
+}
+
+/// Whether the sum of the squares of three lengths is at least the limit, as far as 2^40 units of each tell.
+#[tactic(auto, using(crate::proofs::DistanceLemmas::far_is))]
+fn are_far(x: u32, y: u32, z: u32, limit: u128) -> bool
+    requires x { x ≤ 31250 }
+    requires y { y ≤ 31250 }
+    requires z { z ≤ 31250 }
+    ensures { (a b c : ℕ) → IsTrue result → x * 2 ^ 40 ≤ a → y * 2 ^ 40 ≤ b → z * 2 ^ 40 ≤ c → limit ≤ a * a + b * b + c * c }
+{
+    x * x + y * y + z * z > coarse_limit(limit)
+}
+
+/// How many places lie between two, the shorter way round the ring.
+fn apart(x: u32, y: u32) -> u32
+    ensures value { result ≡ unsigned_abs (difference x y) }
+    ensures half { result ≤ 2 ^ 31 }
+{
+    diff(x, y).unsigned_abs()
 }
 
 impl RingBox {
-    ghost use Rattle.std.specs.Prelude.{◌≡◌, ◌≤ℤ◌, ◌<ℤ◌, IfSome, IsTrue, None};
+    ghost use Rattle.std.specs.Prelude.{◌≡◌, ℕ, ◌<◌, ◌≤◌, ◌≤ℤ◌, ◌<ℤ◌, [], length, slice_index_or, true, false, IfSome, IsTrue, None};
     ghost use Rattle.ring_box.specs.Acting.{acting_of};
 
-    /// Whether two atoms at the places `x` and `y` don't act, as far as the upper bits of their separation tell. A no says nothing.
+    /// Whether two atoms at the places `x` and `y` don't act, as far as 2^40 units of their separation tell. A no says nothing.
     #[inline(always)]
     pub fn is_far(&self, reach: &Reach, x: [u32; 3], y: [u32; 3]) -> bool
         ensures { IsTrue result → acting_of reach.now self.now x y ≡ None }
     {
-        let separation = self.separation(x, y);
         are_far(
-            separation.x.unsigned_abs(),
-            separation.y.unsigned_abs(),
-            separation.z.unsigned_abs(),
+            coarse_length(apart(x[0], y[0]), self.x),
+            coarse_length(apart(x[1], y[1]), self.y),
+            coarse_length(apart(x[2], y[2]), self.z),
             reach.limit(),
         )
+    }
+
+    /// Marks the atoms, at most 128 at the places `ys`, which may act with one at the places `x`: one that isn't marked doesn't. What stands behind their marks
+    /// is of no meaning.
+    pub fn mark_near(&self, reach: &Reach, x: [u32; 3], ys: &[[u32; 3]], near: &mut [bool; 128])
+        requires { length ys.now ≤ 128 }
+        ensures { (j : ℕ) → j < length ys.now → slice_index_or near.new j true ≡ false → acting_of reach.now self.now x (slice_index_or ys.now j []) ≡ None }
+    {
+        for j in 0..ys.len() {
+            near[j] = !self.is_far(reach, x, ys[j]);
+        }
     }
 
     /// What two atoms at the places `x` and `y` have between them; `None` where their distance isn't below the cutoff: they don't act.
@@ -132,7 +161,7 @@ impl RingBox {
         if s >= reach.limit() {
             return None;
         }
-        let line = separation.line(s);
+        let line = separation.line_near(s, self.root_estimate(x, y));
         Some(ActingPair {
             x: separation.x,
             y: separation.y,
@@ -160,14 +189,6 @@ fn gap(x: u32, b: u32, cell: u32) -> u32
     (behind - (width - 1)).min(behind.wrapping_neg())
 }
 
-fn length(places: u32, side: Side) -> u64
-    requires { places ≤ 2 ^ 31 }
-    ensures value { result ≡ places * side }
-    ensures bound { result ≤ 2 ^ 31 * 16000000 }
-{
-    u64::from(places) * u64::from(side.get())
-}
-
 impl RingBox {
     ghost use Rattle.std.specs.Prelude.{IsTrue};
     ghost use Rattle.ring_box.specs.Acting.{AreCellNumbers, IsOutOfReach};
@@ -179,9 +200,9 @@ impl RingBox {
         ensures { IsTrue result → IsOutOfReach reach.now self.now bits cell x }
     {
         are_far(
-            length(gap(x[0], bits[0], cell[0]), self.x),
-            length(gap(x[1], bits[1], cell[1]), self.y),
-            length(gap(x[2], bits[2], cell[2]), self.z),
+            coarse_length(gap(x[0], bits[0], cell[0]), self.x),
+            coarse_length(gap(x[1], bits[1], cell[1]), self.y),
+            coarse_length(gap(x[2], bits[2], cell[2]), self.z),
             reach.limit(),
         )
     }

@@ -1,10 +1,12 @@
-ghost use Rattle.std.specs.Prelude.{ℕ, ◌≡◌, ◌≤◌, ◌<◌, ◌+◌, ◌*◌, ◌^◌, List, [], ◌∷◌, pos, ◌*ℤ◌, unsigned_abs};
+ghost use Rattle.std.specs.Prelude.{ℕ, ◌≡◌, ◌≤◌, ◌<◌, ◌+◌, ◌*◌, ◌^◌, List, [], ◌∷◌, pos, ◌*ℤ◌, unsigned_abs, IsTrue};
 ghost use Rattle.ring_box.specs.Acting.{length_of};
 ghost use Rattle.ring_box.specs.Distances.{square};
 ghost use Rattle.ring_box.specs.Forces.{IsWithin, component_of};
 
+use crate::estimates::{floor_estimate, near_float};
+use crate::floors::{floor_product, is_floor_over};
 use crate::separations::Separation;
-use fixed::{floor_div, floor_multiples, isqrt};
+use fixed::{floor_div, isqrt};
 
 /// The line through two atoms that are apart: its parts along the axes, and its length rounded down, which no part passes.
 #[derive(Clone, Copy)]
@@ -30,6 +32,41 @@ fn length_of(s: u128) -> u64
     if s == 0 { 1 } else { isqrt(s) }
 }
 
+/// Whether `q` is the root of `s`.
+#[inline(always)]
+fn is_root(s: u128, q: u64) -> bool
+    ensures low { IsTrue result → q * q ≤ s }
+    ensures high { IsTrue result → s < (q + 1) * (q + 1) }
+{
+    let square = u128::from(q) * u128::from(q);
+    square <= s && s - square <= 2 * u128::from(q)
+}
+
+/// The length, which isn't the estimate that was taken.
+#[cold]
+#[inline(never)]
+fn length_elsewhere(s: u128) -> u64
+    ensures value { result ≡ length_of s }
+    ensures positive { 0 < result }
+    ensures longest { (a : ℕ) → a * a ≤ s → a ≤ result }
+{
+    length_of(s)
+}
+
+/// The same from an estimate, which mostly is the length.
+#[inline(always)]
+fn length_near(s: u128, estimate: u64) -> u64
+    ensures value { result ≡ length_of s }
+    ensures positive { 0 < result }
+    ensures longest { (a : ℕ) → a * a ≤ s → a ≤ result }
+{
+    if 0 < estimate && is_root(s, estimate) {
+        estimate
+    } else {
+        length_elsewhere(s)
+    }
+}
+
 impl Separation {
     /// The line of this separation, whose square is `s`; one of the length 1 where both atoms are at one place.
     pub(crate) fn line(self, s: u128) -> Line
@@ -44,6 +81,23 @@ impl Separation {
             y: self.y,
             z: self.z,
             length: length_of(s),
+        }
+    }
+
+    /// The same where the root of the square is estimated.
+    #[inline(always)]
+    pub(crate) fn line_near(self, s: u128, estimate: u64) -> Line
+        requires square { s ≡ square self.x + square self.y + square self.z }
+        ensures x { result.x ≡ self.x }
+        ensures y { result.y ≡ self.y }
+        ensures z { result.z ≡ self.z }
+        ensures length { result.length ≡ length_of s }
+    {
+        Line {
+            x: self.x,
+            y: self.y,
+            z: self.z,
+            length: length_near(s, estimate),
         }
     }
 }
@@ -86,13 +140,24 @@ impl Line {
         ]
     }
 
+    /// About the same.
+    #[inline(always)]
+    fn force_estimate(self, g: i64) -> [i64; 3] {
+        let ratio = near_float(g) / near_float(self.length.cast_signed());
+        [
+            floor_estimate(ratio * near_float(self.x)),
+            floor_estimate(ratio * near_float(self.y)),
+            floor_estimate(ratio * near_float(self.z)),
+        ]
+    }
+
     /// The same where the least number of 64 bits is left out.
     pub(crate) fn small_force(self, g: i64) -> [i64; 3]
         requires { unsigned_abs g < 2 ^ 63 }
         ensures value { result ≡ component_of g self.x self.length ∷ component_of g self.y self.length ∷ component_of g self.z self.length ∷ [] }
         ensures bound { IsWithin g result }
     {
-        let [x, y, z] = floor_multiples(g, self.x, self.y, self.z, self.length);
+        let [x, y, z] = self.force_estimate(g);
         [
             small_component(g, self.x, self.length, x),
             small_component(g, self.y, self.length, y),
@@ -108,15 +173,39 @@ fn narrowed(value: i128) -> i64
     value as i64
 }
 
-// What is known to be a component, in 64 bits.
-#[tactic(auto, using(crate::proofs::ForceLemmas::result_within))]
-fn small_component(g: i64, a: i64, d: u64, value: i128) -> i64
+/// The component, which isn't the estimate that was taken.
+#[cold]
+#[inline(never)]
+fn component_elsewhere(g: i64, a: i64, d: u64) -> i64
     requires size { unsigned_abs g < 2 ^ 63 }
     requires positive { 0 < d }
     requires within { unsigned_abs a ≤ d }
-    requires value { value ≡ component_of g a d }
+    ensures { result ≡ component_of g a d }
+{
+    narrowed(component(i128::from(g), a, d))
+}
+
+/// Whether a number is the component.
+#[inline(always)]
+fn is_component(g: i64, a: i64, d: u64, q: i64) -> bool
+    ensures { IsTrue result → q ≡ component_of g a d }
+{
+    is_floor_over(floor_product(g, a), d, q)
+}
+
+/// The same from an estimate, which mostly is the component.
+#[inline(always)]
+#[tactic(auto, using(crate::proofs::ForceLemmas::result_within))]
+fn small_component(g: i64, a: i64, d: u64, estimate: i64) -> i64
+    requires size { unsigned_abs g < 2 ^ 63 }
+    requires positive { 0 < d }
+    requires within { unsigned_abs a ≤ d }
     ensures value { result ≡ component_of g a d }
     ensures bound { unsigned_abs result ≤ unsigned_abs g }
 {
-    narrowed(value)
+    if is_component(g, a, d, estimate) {
+        estimate
+    } else {
+        component_elsewhere(g, a, d)
+    }
 }

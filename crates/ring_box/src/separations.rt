@@ -2,6 +2,7 @@ ghost use Rattle.std.specs.Prelude.{◌≡◌, ◌≤◌, ◌<◌, ◌+◌, ◌*
 ghost use Rattle.ring_box.specs.Distances.{axis_separation, square, x_separation, y_separation, z_separation};
 
 use crate::boxes::RingBox;
+use crate::estimates::floor_estimate;
 use crate::places::diff;
 use crate::sides::Side;
 
@@ -28,8 +29,8 @@ fn axis_separation(side: Side, x: u32, y: u32) -> i64
 fn square(a: i64) -> u128
     ensures { result ≡ square a }
 {
-    let length = u128::from(a.unsigned_abs());
-    length * length
+    let length = i128::from(a);
+    (length * length) as u128
 }
 
 impl RingBox {
@@ -43,6 +44,17 @@ impl RingBox {
             y: axis_separation(self.y, x[1], y[1]),
             z: axis_separation(self.z, x[2], y[2]),
         }
+    }
+}
+
+impl RingBox {
+    /// About the root of the square of the separation.
+    #[inline(always)]
+    pub(crate) fn root_estimate(&self, x: [u32; 3], y: [u32; 3]) -> u64 {
+        let a = diff(x[0], y[0]) as f64 * self.x.get() as f64;
+        let b = diff(x[1], y[1]) as f64 * self.y.get() as f64;
+        let c = diff(x[2], y[2]) as f64 * self.z.get() as f64;
+        floor_estimate((a * a + b * b + c * c).sqrt()).cast_unsigned()
     }
 }
 

@@ -20,12 +20,12 @@ returns-in_default g c =
     ∙ global_out limits (said_of c.args.draft) c.args.name.now
     (known_through (global_value {A = g.row.A.Denot}) (λ (v : GlobalValue). v.name) c.args.draft.globals.items _ _ _ _ c.as_slice.ensures.value c.knows_global.ensures c.if-knows_global.false)
 
-pub returns-then-as_slice-ge-MOST_GLOBALS : goal.returns-then-as_slice-ge-MOST_GLOBALS
-returns-then-as_slice-ge-MOST_GLOBALS g c =
+pub returns-then-as_slice-ge-MAX_GLOBALS : goal.returns-then-as_slice-ge-MAX_GLOBALS
+returns-then-as_slice-ge-MAX_GLOBALS g c =
     ap (global_new limits (said_of c.args.draft) c.args.name.now) c.in-Some.is
     ∙ global_full limits (said_of c.args.draft) c.args.name.now _
     (known_through (global_value {A = g.row.A.Denot}) (λ (v : GlobalValue). v.name) c.args.draft.globals.items _ _ _ _ c.as_slice.ensures.value c.knows_global.ensures c.if-knows_global.false)
-    (omega (arith, length-map c.args.draft.globals.items (global_value {A = g.row.A.Denot}), ap length c.as_slice-2.ensures.value, c.if-as_slice-ge-MOST_GLOBALS.true))
+    (omega (arith, length-map c.args.draft.globals.items (global_value {A = g.row.A.Denot}), ap length c.as_slice-2.ensures.value, c.if-as_slice-ge-MAX_GLOBALS.true))
 
 pub invariant_of-draft-clause-few_globals : goal.invariant_of-draft-clause-few_globals
 invariant_of-draft-clause-few_globals g c = omega (arith, ap length c.in_err-push.ensures.items, c.args.draft.few_globals)
@@ -35,5 +35,5 @@ returns g c =
     ap (global_new limits (said_of c.args.draft) c.args.name.now) c.in-Some.is
     ∙ global_added limits (said_of c.args.draft) c.args.name.now _ _
     (known_through (global_value {A = g.row.A.Denot}) (λ (v : GlobalValue). v.name) c.args.draft.globals.items _ _ _ _ c.as_slice.ensures.value c.knows_global.ensures c.if-knows_global.false)
-    (omega (arith, length-map c.args.draft.globals.items (global_value {A = g.row.A.Denot}), ap length c.as_slice-2.ensures.value, c.if-as_slice-ge-MOST_GLOBALS.false))
+    (omega (arith, length-map c.args.draft.globals.items (global_value {A = g.row.A.Denot}), ap length c.as_slice-2.ensures.value, c.if-as_slice-ge-MAX_GLOBALS.false))
     (pushed (global_value {A = g.row.A.Denot}) c.args.draft.globals.items _ _ _ c.in_ok-push.ensures.items (ap (λ (n : List ℕ). record { name = n; value = c.in-Some.value }) c.in_ok-name.ensures.items))

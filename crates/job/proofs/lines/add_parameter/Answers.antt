@@ -14,11 +14,11 @@ returns-then-knows_parameter g c =
     (parameter_known limits (said_of c.args.draft) c.args.name.now
     (known_is (λ (p : Vec ℕ g.row.A.Denot). p.items) c.args.draft.parameters.items _ _ _ _ c.as_slice.ensures.value c.knows_parameter.ensures c.if-knows_parameter.true))
 
-pub returns-then-as_slice-ge-MOST_PARAMETERS : goal.returns-then-as_slice-ge-MOST_PARAMETERS
-returns-then-as_slice-ge-MOST_PARAMETERS g c =
+pub returns-then-as_slice-ge-MAX_PARAMETERS : goal.returns-then-as_slice-ge-MAX_PARAMETERS
+returns-then-as_slice-ge-MAX_PARAMETERS g c =
     parameter_full limits (said_of c.args.draft) c.args.name.now
     (known_is (λ (p : Vec ℕ g.row.A.Denot). p.items) c.args.draft.parameters.items _ _ _ _ c.as_slice.ensures.value c.knows_parameter.ensures c.if-knows_parameter.false)
-    (omega (arith, length-map c.args.draft.parameters.items (λ (p : Vec ℕ g.row.A.Denot). p.items), ap length c.as_slice-2.ensures.value, c.if-as_slice-ge-MOST_PARAMETERS.true))
+    (omega (arith, length-map c.args.draft.parameters.items (λ (p : Vec ℕ g.row.A.Denot). p.items), ap length c.as_slice-2.ensures.value, c.if-as_slice-ge-MAX_PARAMETERS.true))
 
 pub invariant_of-draft-clause-named : goal.invariant_of-draft-clause-named
 invariant_of-draft-clause-named g c = All-same (λ (p : Vec ℕ g.row.A.Denot). IsTrue (is_identifier p.items)) c.push.new.self.items c.args.draft.parameters.items c.in_err-push.ensures.items c.args.draft.named
@@ -33,11 +33,11 @@ invariant_of-draft-2-clause-named g c =
 
 pub invariant_of-draft-2-clause-few_parameters : goal.invariant_of-draft-2-clause-few_parameters
 invariant_of-draft-2-clause-few_parameters g c =
-    omega (arith, ap length c.in_ok-push.ensures.items, length-append c.args.draft.parameters.items (c.in_ok-name.name ∷ []), ap length c.as_slice-2.ensures.value, c.if-as_slice-ge-MOST_PARAMETERS.false)
+    omega (arith, ap length c.in_ok-push.ensures.items, length-append c.args.draft.parameters.items (c.in_ok-name.name ∷ []), ap length c.as_slice-2.ensures.value, c.if-as_slice-ge-MAX_PARAMETERS.false)
 
 pub returns : goal.returns
 returns g c =
     parameter_added limits (said_of c.args.draft) c.args.name.now _
     (known_is (λ (p : Vec ℕ g.row.A.Denot). p.items) c.args.draft.parameters.items _ _ _ _ c.as_slice.ensures.value c.knows_parameter.ensures c.if-knows_parameter.false)
-    (omega (arith, length-map c.args.draft.parameters.items (λ (p : Vec ℕ g.row.A.Denot). p.items), ap length c.as_slice-2.ensures.value, c.if-as_slice-ge-MOST_PARAMETERS.false))
+    (omega (arith, length-map c.args.draft.parameters.items (λ (p : Vec ℕ g.row.A.Denot). p.items), ap length c.as_slice-2.ensures.value, c.if-as_slice-ge-MAX_PARAMETERS.false))
     (pushed (λ (p : Vec ℕ g.row.A.Denot). p.items) c.args.draft.parameters.items _ _ _ c.in_ok-push.ensures.items c.in_ok-name.ensures.items)

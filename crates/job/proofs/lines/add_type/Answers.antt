@@ -20,12 +20,12 @@ returns-in_default g c =
     ∙ type_out limits c.args.number (said_of c.args.draft) c.args.word.now
     (known_through (type_line {A = g.row.A.Denot}) (λ (t : TypeLine). t.value.name) c.args.draft.types.items _ _ _ _ c.as_slice.ensures.value c.knows_type.ensures c.if-knows_type.false)
 
-pub returns-then-as_slice-ge-MOST_TYPES : goal.returns-then-as_slice-ge-MOST_TYPES
-returns-then-as_slice-ge-MOST_TYPES g c =
+pub returns-then-as_slice-ge-MAX_TYPES : goal.returns-then-as_slice-ge-MAX_TYPES
+returns-then-as_slice-ge-MAX_TYPES g c =
     ap (λ o. type_new limits c.args.number (said_of c.args.draft) c.args.word.now (option_map (type_numbers_of {A = g.row.A.Denot}) o)) c.in-Some.is
     ∙ type_full limits c.args.number (said_of c.args.draft) c.args.word.now _
     (known_through (type_line {A = g.row.A.Denot}) (λ (t : TypeLine). t.value.name) c.args.draft.types.items _ _ _ _ c.as_slice.ensures.value c.knows_type.ensures c.if-knows_type.false)
-    (omega (arith, length-map c.args.draft.types.items (type_line {A = g.row.A.Denot}), ap length c.as_slice-2.ensures.value, c.if-as_slice-ge-MOST_TYPES.true))
+    (omega (arith, length-map c.args.draft.types.items (type_line {A = g.row.A.Denot}), ap length c.as_slice-2.ensures.value, c.if-as_slice-ge-MAX_TYPES.true))
 
 pub invariant_of-draft-clause-few_types : goal.invariant_of-draft-clause-few_types
 invariant_of-draft-clause-few_types g c = omega (arith, ap length c.in_err-push.ensures.items, c.args.draft.few_types)
@@ -35,6 +35,6 @@ returns g c =
     ap (λ o. type_new limits c.args.number (said_of c.args.draft) c.args.word.now (option_map (type_numbers_of {A = g.row.A.Denot}) o)) c.in-Some.is
     ∙ type_added limits c.args.number (said_of c.args.draft) c.args.word.now _ _
     (known_through (type_line {A = g.row.A.Denot}) (λ (t : TypeLine). t.value.name) c.args.draft.types.items _ _ _ _ c.as_slice.ensures.value c.knows_type.ensures c.if-knows_type.false)
-    (omega (arith, length-map c.args.draft.types.items (type_line {A = g.row.A.Denot}), ap length c.as_slice-2.ensures.value, c.if-as_slice-ge-MOST_TYPES.false))
+    (omega (arith, length-map c.args.draft.types.items (type_line {A = g.row.A.Denot}), ap length c.as_slice-2.ensures.value, c.if-as_slice-ge-MAX_TYPES.false))
     (pushed (type_line {A = g.row.A.Denot}) c.args.draft.types.items _ _ _ c.in_ok-push.ensures.items
     (ap (λ (n : List ℕ). record { line = c.args.number; value = record { name = n; mass = c.in-Some.numbers.mass; values = c.in-Some.numbers.values.items } }) c.type_name-name.ensures))

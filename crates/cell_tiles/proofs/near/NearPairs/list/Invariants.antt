@@ -9,7 +9,7 @@ invariant-loop-j l =
     let near = map (λ p. (p.low, p.high)) (take l.count l.self-inside.pairs) in
     let frame = l.frame.places.now in
     record {
-      acting : those_acting l.reach l.ring frame near ≡ those_acting l.reach l.ring frame l.fn.self ++ those_acting l.reach l.ring frame (take l.j (pairs_with l.atom l.others));
+      acting : those_acting l.frame.reach.now l.frame.ring.now frame near ≡ those_acting l.frame.reach.now l.frame.ring.now frame l.fn.self ++ those_acting l.frame.reach.now l.frame.ring.now frame (take l.j (pairs_with l.atom l.others));
       listed : All (IsPairOf (length frame)) l.fn.self → All (IsPairOf (length frame)) near;
       few : l.count ≤ 64;
       wide : length l.self-inside.pairs ≡ 64;

@@ -21,4 +21,4 @@ returns-clause-value c =
     let near : c.square-s.result < limit_of d.frac d.cutoff = search rules in
     acts d c.args.self.now c.args.x c.args.y c.square-s.result c.length.result (to_z w64 (of_z w64 s.x)) (to_z w64 (of_z w64 s.y)) (to_z w64 (of_z w64 s.z)) c.distance.result
     c.limit.ensures.reach (ex ∙ p.x) (ey ∙ p.y) (ez ∙ p.z) (rw (ex, ey, ez) c.square-s.ensures.value) near
-    (c.length.ensures ∙ c.line-line.ensures.length) c.distance.ensures.value
+    (c.length.ensures ∙ c.line_near-line.ensures.length) c.distance.ensures.value

@@ -12,5 +12,5 @@ returns c told y h =
     let q = c.gap-2.result in
     let r = c.gap-3.result in
     let far : limit_of d.frac d.cutoff ≤ p * b.x * (p * b.x) + q * b.y * (q * b.y) + r * b.z * (r * b.z) =
-    rw (c.limit.ensures.value, c.length.ensures.value, c.length-2.ensures.value, c.length-3.ensures.value) at (c.are_far.ensures told) in
+    rw c.limit.ensures.value at (c.are_far.ensures (p * b.x) (q * b.y) (r * b.z) told c.coarse_length.ensures.below c.coarse_length-2.ensures.below c.coarse_length-3.ensures.below) in
     beyond d b c.args.x y p q r c.limit.ensures.reach (c.gap.ensures.between (slice_index y 0) h.0) (c.gap-2.ensures.between (slice_index y 1) h.1) (c.gap-3.ensures.between (slice_index y 2) h.2) far

@@ -1,17 +1,15 @@
-use Rattle.std.proofs.Common.{rules, ◌≡◌, ◌≤◌, ◌+◌, refl, sym}
-use Rattle.std.specs.Prelude.{unsigned_abs}
+use Rattle.std.proofs.Common.{◌≤◌, ◌+◌, ◌*◌, arith}
 use Rattle.ring_box.specs.Acting.{limit_of}
-use Rattle.ring_box.specs.Distances.{square}
-use Rattle.ring_box.proofs.ActingLemmas.{idle}
+use Rattle.ring_box.proofs.GapLemmas.{beyond}
 use Rattle.ring_box.proofs.boxes.RingBox.is_far.Goals as goal
 
 pub returns : goal.returns
 returns c told =
     let d = c.args.reach.now in
-    let s = c.separation-separation.result in
-    let p = c.separation-separation.ensures in
-    let ux : c.unsigned_abs.result ≡ unsigned_abs s.x = search rules in
-    let uy : c.unsigned_abs-2.result ≡ unsigned_abs s.y = search rules in
-    let uz : c.unsigned_abs-3.result ≡ unsigned_abs s.z = search rules in
-    let far : limit_of d.frac d.cutoff ≤ square s.x + square s.y + square s.z = rw (c.limit.ensures.value, ux, uy, uz) at (c.are_far.ensures told) in
-    sym (idle d c.args.self.now c.args.x c.args.y (square s.x + square s.y + square s.z) c.limit.ensures.reach (rw (p.x, p.y, p.z) refl) far)
+    let b = c.args.self.now in
+    let p = c.apart.result in
+    let q = c.apart-2.result in
+    let r = c.apart-3.result in
+    let far : limit_of d.frac d.cutoff ≤ p * b.x * (p * b.x) + q * b.y * (q * b.y) + r * b.z * (r * b.z) =
+    rw c.limit.ensures.value at (c.are_far.ensures (p * b.x) (q * b.y) (r * b.z) told c.coarse_length.ensures.below c.coarse_length-2.ensures.below c.coarse_length-3.ensures.below) in
+    beyond d b c.args.x c.args.y p q r c.limit.ensures.reach (omega (arith, c.apart.ensures.value)) (omega (arith, c.apart-2.ensures.value)) (omega (arith, c.apart-3.ensures.value)) far

@@ -1,0 +1,36 @@
+-- A run leads from safe texts to safe texts: the same code is certified for as many atoms.
+use Rattle.std.proofs.Common.{◌≡◌, ℕ, List, length, ap, sym, subst, ◌∙◌}
+use Rattle.std.proofs.lemmas.List.{length-map}
+use Rattle.state.specs.StateText.{StateView}
+use Rattle.state.proofs.StateReadsAgain.{one_text}
+use Rattle.integrator.specs.Starts.{system_of}
+use Rattle.integrator.specs.States.{frames_of, moved_state}
+use Rattle.integrator.specs.declared.direction.Direction.{Direction}
+use Rattle.integrator.proofs.Constructors.{ok_same}
+use Rattle.integrator.proofs.ReturnLaws.{system-placed}
+use Rattle.engine.specs.Engines.{AreSafe}
+use Rattle.engine.specs.Headline.{IsLevesqueVerletRun, who}
+use Rattle.engine.specs.Turns.{RunsStaySafe}
+use Rattle.engine.specs.Verdicts.{IsSafeFor}
+use Rattle.engine.proofs.HeadlineTexts.{moved_again}
+
+-- the text that a run writes is that of a state of the same system, with as many atoms
+pub runs_stay_safe : RunsStaySafe
+runs_stay_safe job state w n text r a =
+    let s = r.before in
+    let t = r.after in
+    let same : s ≡ a.s = ok_same s a.s (sym ((one_text state s).1 (r.state_text'.fits, r.state_text'.is)) ∙ a.state_read) in
+    let moved : t ≡ moved_state s (frames_of t) t.step = moved_again s t r.same r.kept in
+    let system : system_of a.j t ≡ system_of a.j a.s = ap (system_of a.j) moved ∙ system-placed a.j s (frames_of t) t.step ∙ ap (system_of a.j) same in
+    let atoms : length t.atoms ≡ length a.s.atoms = sym (length-map t.atoms who) ∙ ap length r.kept ∙ length-map s.atoms who ∙ ap (λ (b : StateView). length b.atoms) same in
+    record {
+      j = a.j;
+      s = t;
+      job_read = a.job_read;
+      state_read = (one_text text t).1 (r.after_text.fits, r.after_text.is);
+      it = record {
+        system = a.it.system;
+        made = system ∙ a.it.made;
+        it = subst (λ (count : ℕ). IsSafeFor a.j a.it.system.0.code count) (sym atoms) a.it.it;
+      };
+    }

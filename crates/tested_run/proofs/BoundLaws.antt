@@ -1,0 +1,45 @@
+-- Sums of a frame's forces are bounded, as each slope is.
+use Rattle.std.proofs.Common.{ℕ, ◌<◌, ◌≤◌, List, ℤ, ◌≡◌, ◌-◌, ◌*◌, Option, Some, None, refl, get_or, true, false, Bool}
+use Rattle.std.specs.Prelude.{unsigned_abs, neg_ℤ, option_map, is_some, map, ◌==◌, if◌then◌else◌}
+use Rattle.std.specs.List.{All, list_all}
+use Rattle.std.proofs.lemmas.List.Elements.{All-weaker, All-map}
+use Rattle.ring_box.specs.declared.boxes.RingBox.{RingBox}
+use Rattle.ring_box.specs.Distances.{square_of}
+use Rattle.ring_box.specs.Forces.{force_along_of}
+use Rattle.integrator.specs.Forces.{IsWithin, none, sum_of_shares, pairs_of, force_or_none, forces_of, numbers_from}
+use Rattle.integrator.proofs.Constructors.{none_is_no_some, some_same}
+use Rattle.integrator.specs.Frames.{force_at}
+use Rattle.integrator.proofs.SumLemmas.{within-weaker}
+use Rattle.integrator.proofs.BoundLaws.{along_within, forces_within, none_within}
+
+pub all_within-weaker : (b c : ℕ) (sums : List (List ℤ)) → b ≤ c → All (IsWithin b) sums → All (IsWithin c) sums
+all_within-weaker b c sums h = All-weaker (IsWithin b) (IsWithin c) (within-weaker b c h) sums
+
+mapped_within : (b : ℕ) (ring : RingBox) (o : Option ℤ) (x y : List ℕ) (v : List ℤ) → ((g : ℤ) → o ≡ Some g → unsigned_abs g ≤ b)
+    → option_map (λ g. force_along_of ring (neg_ℤ g) x y) o ≡ Some v → IsWithin b v
+mapped_within b ring None x y v h e = absurd (none_is_no_some v e)
+mapped_within b ring (Some g) x y v h e = rw (← some_same (force_along_of ring (neg_ℤ g) x y) v e) (along_within b ring g x y (h g refl))
+
+apart_within : (b : ℕ) (ring : RingBox) (together : Bool) (o : Option ℤ) (x y : List ℕ) (v : List ℤ) → ((g : ℤ) → o ≡ Some g → unsigned_abs g ≤ b)
+    → (if together then Some none else option_map (λ g. force_along_of ring (neg_ℤ g) x y) o) ≡ Some v → IsWithin b v
+apart_within b ring true o x y v h e = rw (← some_same none v e) (none_within b)
+apart_within b ring false o x y v h e = mapped_within b ring o x y v h e
+
+-- a pair's force is at most the greatest slope
+pub force_at_within : (b : ℕ) (ring : RingBox) (slope : ℤ → Option ℤ) (r : Option ℤ) (x y : List ℕ) (v : List ℤ) → ((r g : ℤ) → slope r ≡ Some g → unsigned_abs g ≤ b)
+    → force_at ring slope r x y ≡ Some v → IsWithin b v
+force_at_within b ring slope None x y v h e = rw (← some_same none v e) (none_within b)
+force_at_within b ring slope (Some r) x y v h e = apart_within b ring (square_of ring x y == 0) (slope r) x y v (h r) e
+
+-- ---- the forces of a frame
+
+chosen_is : (c : Bool) (x y : List (List ℤ)) → ◌≡◌ {A = Option (List (List ℤ))} (if c then Some x else None) (Some y) → x ≡ y
+chosen_is true x y e = cc
+chosen_is false x y e = cc
+
+pub found_within : (b : ℕ) (force : ℕ × ℕ → Option (List ℤ)) (n : ℕ) (out : List (List ℤ)) → ((i j : ℕ) (v : List ℤ) → i < j → j < n → force (i, j) ≡ Some v → IsWithin b v)
+    → forces_of force n ≡ Some out → All (IsWithin (b * (n - 1))) out
+found_within b force n out h e =
+    let g = sum_of_shares (force_or_none force) (pairs_of n) in
+    let same : map g (numbers_from 0 n) ≡ out = chosen_is (list_all (λ p. is_some (force p)) (pairs_of n)) (map g (numbers_from 0 n)) out e in
+    rw (← same) (All-map (IsWithin (b * (n - 1))) g (numbers_from 0 n) (λ k d l. forces_within b force n h (get_or (numbers_from 0 n) k d)))

@@ -1,0 +1,6 @@
+pub mod PairLemmas
+pub mod AddingLaws
+pub mod BoundLaws
+pub mod OutcomeLaws
+pub mod PlainLaws
+pub mod StopLaws

@@ -1,0 +1,16 @@
+use Rattle.std.proofs.Common.{◌≡◌, ◌^◌, ◌-◌, ◌*◌, length}
+use Rattle.std.specs.List.{All}
+use Rattle.integrator.specs.Forces.{IsWithin, pairs_from, pairs_of}
+use Rattle.tested_run.specs.Adding.{with_pairs}
+use Rattle.integrator.specs.Frames.{pair_force}
+use Rattle.integrator.specs.Systems.{dynamics_of}
+use Rattle.tested_run.proofs.forces.add_rows.Given as goal
+
+-- what is left of the pairs makes of these sums what all pairs make of the first
+abbrev pub invariant-loop-low : goal.invariant-loop-low
+invariant-loop-low g l =
+    let force = pair_force (dynamics_of g.K.TestedSlope.slope l.system) l.frame in
+    record {
+      left : with_pairs force l.sums (pairs_from l.low (length l.frame - l.low)) ≡ with_pairs force l.fn.sums (pairs_of (length l.frame));
+      within : All (IsWithin (2 ^ 64 * (l.low * length l.frame))) l.sums;
+    }

@@ -1,0 +1,46 @@
+use Rattle.std.proofs.Common.{refl}
+use Rattle.std.proofs.lemmas.Result.{err_from_is_err_and}
+use Rattle.state.specs.StateText.{state_text}
+use Rattle.state.specs.StateViews.{state_view}
+use Rattle.tested_run.specs.TestedStarts.{tested}
+use Rattle.integrator.proofs.ReturnLaws.{run_back}
+use Rattle.tested_run.proofs.PlainLaws.{plain_run}
+use Rattle.tested_run.proofs.StopLaws.{tested_lacks}
+use Rattle.tested_run.proofs.runs.run_bytes_checked.Goals as goal
+
+pub returns-in_err-write-clause-beginning : goal.returns-in_err-write-clause-beginning
+returns-in_err-write-clause-beginning g c =
+    let p = err_from_is_err_and c.from_residual-in_err-write.result c.from_residual-in_err-write.ensures.1 in
+    let after = c.in_ok-after.ensures.value in
+    rw p.1
+    (λ is_out. record {
+      text = state_text (state_view c.in_ok-after.after);
+      run = record { start = after.start; starts = after.starts; after = state_view c.in_ok-after.after; ran = after.ran; written = refl };
+      beginning = c.in_err-write.ensures.fault_taken;
+    })
+
+pub returns-in_err-after-clause-only : goal.returns-in_err-after-clause-only
+returns-in_err-after-clause-only g c =
+    let p = err_from_is_err_and c.from_residual.result c.from_residual.ensures.1 in
+    λ text run. rw (p.1, p.2)
+    (tested_lacks c.args.job.now c.args.state.now c.args.direction c.args.steps text c.in_err-after.field-0.0 run c.in_err-after.ensures.refused)
+
+-- the law of return, at each exit
+pub returns-in_err-after-clause-returns : goal.returns-in_err-after-clause-returns
+returns-in_err-after-clause-returns g c = run_back tested c.args.job.now c.args.state.now c.args.direction c.args.steps
+
+pub returns-in_err-write-clause-returns : goal.returns-in_err-write-clause-returns
+returns-in_err-write-clause-returns g c = run_back tested c.args.job.now c.args.state.now c.args.direction c.args.steps
+
+pub returns-clause-returns : goal.returns-clause-returns
+returns-clause-returns g c = run_back tested c.args.job.now c.args.state.now c.args.direction c.args.steps
+
+-- the plain slope, at each exit
+pub returns-in_err-after-clause-same : goal.returns-in_err-after-clause-same
+returns-in_err-after-clause-same g c = plain_run c.args.job.now c.args.state.now c.args.direction c.args.steps
+
+pub returns-in_err-write-clause-same : goal.returns-in_err-write-clause-same
+returns-in_err-write-clause-same g c = plain_run c.args.job.now c.args.state.now c.args.direction c.args.steps
+
+pub returns-clause-same : goal.returns-clause-same
+returns-clause-same g c = plain_run c.args.job.now c.args.state.now c.args.direction c.args.steps

@@ -1,0 +1,7 @@
+pub mod Outcomes
+pub mod SlopeBounds
+pub mod Adding
+pub mod Stops
+pub mod TestedStarts
+pub mod Refusals
+pub mod Halts

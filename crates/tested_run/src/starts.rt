@@ -1,0 +1,108 @@
+//! What a tested run starts from.
+
+ghost use Rattle.std.specs.Prelude.{◌≡◌, ◌<◌, length, map, true, IfOk};
+ghost use Rattle.std.specs.List.{All};
+ghost use Rattle.fixed.specs.Arithmetic.{in_range};
+ghost use Rattle.fixed.specs.Fractions.{bits_of};
+ghost use Rattle.job.specs.Views.{job_value, type_value};
+ghost use Rattle.state.specs.StateViews.{state_view};
+ghost use Rattle.integrator.specs.Energies.{IsCompiled};
+ghost use Rattle.integrator.specs.Starts.{mass_of, start_at, start_of, start_with, table_of};
+ghost use Rattle.integrator.specs.States.{counter_at};
+ghost use Rattle.integrator.specs.StartViews.{Gives, energy_view};
+ghost use Rattle.tested_run.specs.TestedStarts.{faults_view, start_view, tested, tested_faults, HasFaults, HaveFaults};
+
+use crate::kernels::CodeKernel;
+use crate::prepared::Prepared;
+use integrator::{
+    Direction, RunFault, SlopeParts, System, TypedAtoms, counter_after, ready, type_table,
+};
+use job::Job;
+use state::State;
+use std::alloc::{AllocError, Allocator};
+
+/// The kernel of a job with this energy.
+fn kernel<A: Allocator + Copy>(
+    alloc: A,
+    job: &Job<A>,
+    parts: SlopeParts<A>,
+) -> Result<CodeKernel<A>, AllocError>
+    requires { IsCompiled (bits_of job.now.frac) (length job.now.parameters.items) (length job.now.globals.items) (energy_view parts) }
+    ensures parts { IfOk result (λ k. k.parts ≡ parts) }
+    ensures table { IfOk result (λ k. k.table ≡ table_of (job_value job.now)) }
+{
+    let table = type_table(alloc, job)?;
+    Ok(CodeKernel { parts, table })
+}
+
+/// What the run of this job starts from, with its kernel.
+fn prepare<A: Allocator + Copy>(
+    job: &Job<A>,
+    state: State<A>,
+    kernel: CodeKernel<A>,
+    atoms: TypedAtoms<A>,
+    counter: i64,
+) -> Prepared<A>
+    requires table { kernel.table ≡ table_of (job_value job.now) }
+    requires known { All (λ k. k < length job.now.types.items) atoms.types.items }
+    requires masses { atoms.masses.items ≡ map (mass_of (map type_value job.now.types.items)) atoms.types.items }
+    requires count { length atoms.types.items ≡ length state.atoms.items }
+    ensures value { start_view result ≡ start_at tested (job_value job.now) (state_view state) (energy_view kernel.parts, atoms.types.items) counter }
+    ensures faults { faults_view result ≡ tested_faults (job_value job.now) (energy_view kernel.parts) atoms.types.items }
+    ensures step { result.state.step ≡ state.step }
+{
+    let system = System {
+        frac: job.frac,
+        ring: state.ring,
+        core: job.core,
+        cutoff: job.cutoff,
+        time_step: job.time_step,
+        types: atoms.types,
+        masses: atoms.masses,
+        kernel,
+    };
+    Prepared {
+        state,
+        system,
+        counter,
+    }
+}
+
+/// What a tested run of this job and state starts from.
+#[tactic(auto, unfolding(integrator::specs::Starts::start_with))]
+fn started<A: Allocator + Copy>(
+    alloc: A,
+    direction: Direction,
+    steps: u64,
+    job: &Job<A>,
+    state: State<A>,
+) -> Result<Prepared<A>, RunFault<A>>
+    ensures value { Gives start_view result (start_with tested direction steps (job_value job.now) (state_view state)) }
+    ensures faults { IfOk result (λ p. HasFaults (job_value job.now) (state_view state) (faults_view p)) }
+    ensures fits { IfOk result (λ p. in_range (counter_at direction p.state.step steps) ≡ true) }
+{
+    let ready = ready(alloc, job, &state)?;
+    let Some(counter) = counter_after(direction, &state, steps) else {
+        return Err(RunFault::StepRange);
+    };
+    let kernel = kernel(alloc, job, ready.parts)?;
+    Ok(prepare(job, state, kernel, ready.atoms, counter))
+}
+
+/// What a tested run of these texts starts from.
+#[tactic(auto, unfolding(integrator::specs::Starts::start_of))]
+pub(crate) fn start<A: Allocator + Copy>(
+    alloc: A,
+    direction: Direction,
+    steps: u64,
+    job: &[u8],
+    state: &[u8],
+) -> Result<Prepared<A>, RunFault<A>>
+    ensures value { Gives start_view result (start_of tested job.now state.now direction steps) }
+    ensures faults { IfOk result (λ p. HaveFaults job.now state.now (faults_view p)) }
+    ensures fits { IfOk result (λ p. in_range (counter_at direction p.state.step steps) ≡ true) }
+{
+    let job = Job::read(alloc, job)?;
+    let state = State::read(alloc, state)?;
+    started(alloc, direction, steps, &job, state)
+}
