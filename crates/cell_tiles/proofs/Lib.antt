@@ -9,3 +9,4 @@ pub mod CoverLemmas
 pub mod SumLemmas
 pub mod WalkLemmas
 pub mod NearLemmas
+pub mod MarkedLemmas

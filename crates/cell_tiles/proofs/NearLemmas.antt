@@ -1,9 +1,9 @@
 -- The pairs of a tile that may act, as they are listed.
-use Rattle.std.proofs.Common.{◌≡◌, ℕ, zero, suc, ◌+◌, ◌^◌, ◌<◌, ◌≤◌, Bool, true, false, List, [], ◌∷◌, ◌++◌, length, get_or, set, take, drop, map, filter, None, inl, inr, refl, subst, sym, ap, ◌∙◌, arith, append-nil, eqb, eqb-true, length-append, length-drop}
+use Rattle.std.proofs.Common.{◌≡◌, ℕ, zero, suc, ◌+◌, ◌^◌, ◌<◌, ◌≤◌, Bool, true, false, List, [], ◌∷◌, ◌++◌, length, get_or, set, take, drop, map, filter, None, inl, inr, refl, subst, sym, ap, ◌∙◌, arith, eqb, eqb-true, length-append, length-drop}
 use Rattle.std.specs.Prelude.{nat_lt, slice_index}
 use Rattle.std.specs.List.{All}
 use Rattle.std.proofs.lemmas.Bool.{cases_Bool}
-use Rattle.std.proofs.lemmas.List.{append_assoc, drop-append-le, drop-drop, drop-map, drop_all, get_or-map, get_or_append_left, length-map, map-append, take-append-drop, take-set, take_more, take_more_set}
+use Rattle.std.proofs.lemmas.List.{append_assoc, drop-append-le, drop-drop, drop-map, drop_all, get_or-map, get_or_append_left, length-map, map-append, take-append-drop, take_more, take_more_set}
 use Rattle.std.proofs.lemmas.List.Elements.{All-drop, All-from_get_or, All-get_or, All-push, All-take, All-weaker, filter-append, filter_passes}
 use Rattle.ring_box.specs.Acting.{AreInCell, Reach, acting_of}
 use Rattle.ring_box.specs.Cells.{ArePlaces, cell_of}
@@ -78,17 +78,6 @@ module _ (acts : ℕ × ℕ → Bool) where
       ∙ ap (λ ys. filter acts old ++ ys)
       (ap (λ p. filter acts (take j ps) ++ filter acts (p ∷ [])) is
       ∙ (sym (filter-append acts (take j ps) (get_or ps j (0, 0) ∷ [])) ∙ ap (filter acts) (sym (take_more ps j (0, 0) lt))))))))
-
-  -- or doesn't act, and is passed over
-  pub passed_next : {X : Type 0} (pair : X → ℕ × ℕ) (xs : List X) (x : X) (count : ℕ) (old ps : List (ℕ × ℕ)) (j : ℕ) → j < length ps → acts (get_or ps j (0, 0)) ≡ false
-      → filter acts (map pair (take count xs)) ≡ filter acts old ++ filter acts (take j ps) → filter acts (map pair (take count (set xs count x))) ≡ filter acts old ++ filter acts (take (j + 1) ps)
-  passed_next pair xs x count old ps j lt idle before =
-      let none : filter acts (get_or ps j (0, 0) ∷ []) ≡ [] = rw idle refl in
-      ap (λ ys. filter acts (map pair ys)) (take-set xs count x)
-      ∙ (before
-      ∙ ap (λ ys. filter acts old ++ ys)
-      (sym (ap (filter acts) (take_more ps j (0, 0) lt)
-      ∙ (filter-append acts (take j ps) (get_or ps j (0, 0) ∷ []) ∙ (ap (λ ys. filter acts (take j ps) ++ ys) none ∙ append-nil (filter acts (take j ps)))))))
 
   -- some of a row are come past
   pub come_past : (ps near new row rest : List (ℕ × ℕ)) (k next seen : ℕ) → drop next ps ≡ row ++ rest → seen ≤ length row → filter acts new ≡ filter acts near ++ filter acts (take seen row)

@@ -1,5 +1,5 @@
 -- The pairs of a tile that act, listed in order with some that may not.
-use Rattle.std.specs.Prelude.{◌≡◌, ◌<◌, ◌≤◌, ◌++◌, ℕ, Bool, is_some, List, filter, length, drop}
+use Rattle.std.specs.Prelude.{◌≡◌, ◌<◌, ◌≤◌, ◌++◌, ℕ, zero, suc, Bool, false, is_some, if◌then◌else◌, List, [], ◌∷◌, filter, length, drop, slice_index_or}
 use Rattle.ring_box.specs.Acting.{Reach, acting_of}
 use Rattle.ring_box.specs.declared.boxes.RingBox.{RingBox}
 use Rattle.cell_tiles.specs.Cells.{places_of}
@@ -21,3 +21,8 @@ pub record AreNear (d : Reach) (b : RingBox) (frame : List (List ℕ)) (pairs : 
   pub onward : k < n
   pub within : n ≤ length pairs
   pub acting : those_acting d b frame (drop k pairs) ≡ those_acting d b frame near ++ those_acting d b frame (drop n pairs)
+
+-- the numbers of those that are marked, of the first so many
+unfoldable pub marked : List Bool → ℕ → List ℕ
+marked marks zero = []
+marked marks (suc j) = if slice_index_or marks j false then marked marks j ++ (j ∷ []) else marked marks j

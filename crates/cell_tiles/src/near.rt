@@ -4,7 +4,7 @@ ghost use Rattle.std.specs.Prelude.{◌≡◌, ◌+◌, ◌<◌, ◌≤◌, ◌+
 ghost use Rattle.std.specs.List.{All};
 ghost use Rattle.ring_box.specs.Cells.{ArePlaces};
 ghost use Rattle.cell_tiles.specs.Cells.{places_of};
-ghost use Rattle.cell_tiles.specs.Near.{IsPairOf, those_acting};
+ghost use Rattle.cell_tiles.specs.Near.{IsPairOf, marked, those_acting};
 ghost use Rattle.cell_tiles.specs.Tiles.{pair_of, pairs_with};
 
 use crate::pairs::{AtomPair, in_order};
@@ -45,6 +45,23 @@ fn together(count: usize) -> usize
     count.min(128)
 }
 
+/// Writes the numbers of those that are marked, of the first so many, one behind the other, and tells how many they are. Each number is written, and counted where
+/// it's marked, so that no branch has to be foreseen.
+fn near_numbers(marks: &[bool; 128], row: usize, numbers: &mut [u8; 128]) -> usize
+    requires { row ≤ 128 }
+    ensures numbers { take result numbers.new ≡ marked marks.now row }
+    ensures few { result ≤ row }
+{
+    let mut count = 0;
+    for j in 0..row {
+        numbers[count] = j as u8;
+        if marks[j] {
+            count += 1;
+        }
+    }
+    count
+}
+
 impl NearPairs {
     ghost use Rattle.std.specs.Prelude.{[]};
 
@@ -74,8 +91,8 @@ impl NearPairs {
     }
 
     /// Lists the pairs of an atom with others but for those that are far as the upper bits of their separation tell, until there is no room, or of the first 128
-    /// others alone. It answers how many of the pairs it has come past. The places of the others are read beside them, one after the other, and those that are near
-    /// are marked for all before the first pair is listed. Each pair is written, and counted where it's near, so that no branch has to be foreseen.
+    /// others alone. It answers how many of the pairs it has come past. The places of the others are read beside them, one after the other; those that are near
+    /// are marked for all, then numbered, and then listed, each in a loop of its own.
     pub(crate) fn list(
         &mut self,
         frame: &FrameInBox,
@@ -100,18 +117,18 @@ impl NearPairs {
         frame
             .ring
             .mark_near(frame.reach, x, &places[..row], &mut marks);
-        let mut count = self.count;
-        for j in 0..row {
-            if count == 64 {
-                self.count = count;
-                return j;
-            }
-            self.pairs[count] = in_order(atom, others[j]);
-            if marks[j] {
-                count += 1;
-            }
+        let mut numbers = [0; 128];
+        let near = near_numbers(&marks, row, &mut numbers);
+        let count = self.count;
+        let taken = near.min(64 - count);
+        for e in 0..taken {
+            self.pairs[count + e] = in_order(atom, others[numbers[e] as usize]);
         }
-        self.count = count;
-        row
+        self.count = count + taken;
+        if taken == near {
+            row
+        } else {
+            numbers[taken] as usize
+        }
     }
 }

@@ -14,7 +14,7 @@ use Rattle.kernel_code.proofs.Runs.{one_end, turn_leads}
 use Rattle.integrator.proofs.Constructors.{none_is_no_some, some_same}
 use Rattle.integrator.specs.Kernels.{GivesSlope, is_operation}
 use Rattle.tested_run.specs.declared.slope_faults.SlopeFault.{SlopeFault}
-use Rattle.tested_run.specs.Outcomes.{end_after, fault_of, first_from, operation_fault, or_else, outcome_of, where_given}
+use Rattle.tested_run.specs.Outcomes.{OutcomesAreEnds, end_after, fault_of, first_from, operation_fault, or_else, outcome_of, where_given}
 
 -- ---- the first value
 
@@ -78,6 +78,25 @@ outcome_is bits code inputs n o forward e =
     first_is (end_after bits code inputs) o n (length code + 1) 0 (end_is bits code inputs n o e)
     (λ k p h. (one_end bits code inputs k n p o (is_end bits code inputs k p (after bits code inputs k) refl h) e).1)
     (omega arith) (omega (arith, within.0, within.1))
+
+found_first : {X : Type 0} → (f : ℕ → Option X) (x : X) (n : ℕ) (here rest : Option X) → f n ≡ here → or_else here rest ≡ Some x → (rest ≡ Some x → (m : ℕ) × (f m ≡ Some x)) → (m : ℕ) × (f m ≡ Some x)
+found_first f x n (Some y) rest e h later = (n, e ∙ h)
+found_first f x n None rest e h later = later h
+
+-- a first value is one of them
+found_at : {X : Type 0} → (f : ℕ → Option X) (x : X) (count n : ℕ) → first_from f count n ≡ Some x → (m : ℕ) × (f m ≡ Some x)
+unfolding first_from
+found_at f x zero n h = absurd (none_is_no_some x h)
+found_at f x (suc count) n h = found_first f x n (f n) (first_from f count (suc n)) refl h (found_at f x count (suc n))
+
+pub outcome_ends : (bits : ℕ) (code : List Instr) (inputs : List ℤ) (o : Result ℤ Trap) → outcome_of bits code inputs ≡ Some o → (n : ℕ) × Ends bits code inputs n o
+unfolding outcome_of
+outcome_ends bits code inputs o h =
+    let found = found_at (end_after bits code inputs) o (length code + 1) 0 h in
+    (found.0, is_end bits code inputs found.0 o (after bits code inputs found.0) refl found.1)
+
+pub outcomes_are_ends : OutcomesAreEnds
+outcomes_are_ends bits code inputs o forward = (outcome_ends bits code inputs o, λ n e. outcome_is bits code inputs n o forward e)
 
 -- ---- what the tested machine says
 

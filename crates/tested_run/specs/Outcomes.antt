@@ -1,11 +1,12 @@
 -- How a run of code on the tested machine ends, and what that says of the slope that the code was compiled from.
-use Rattle.std.specs.Prelude.{ℕ, zero, suc, ◌+◌, ℤ, List, length, Option, Some, None, Result, Ok, Err}
+use Rattle.std.specs.Prelude.{◌≡◌, ℕ, zero, suc, ◌+◌, ℤ, List, length, Option, Some, None, Result, Ok, Err}
 use Rattle.std.specs.Option.{option_and_then}
 use Rattle.kernel_code.specs.declared.instructions.Instr.{Instr}
 use Rattle.kernel_code.specs.declared.traps.Trap.{Trap}
 use Rattle.kernel_code.specs.declared.traps.TrapKind.{TrapKind}
 use Rattle.kernel_code.specs.declared.traps.TrapKind.TheVariants.{Operation, MissingOperand, MissingLocal, MissingInput, StackFull, BadEnd}
-use Rattle.kernel_code.specs.Machine.{after, end_of, turn_at}
+use Rattle.kernel_code.specs.Code.{JumpsForward}
+use Rattle.kernel_code.specs.Machine.{Ends, after, end_of, turn_at}
 use Rattle.tested_run.specs.declared.slope_faults.SlopeFault.{SlopeFault}
 
 -- ---- the end of a run
@@ -26,6 +27,11 @@ first_from f (suc count) n = or_else (f n) (first_from f count (suc n))
 -- How the run ends: with a value or a trap. As each instruction leads forward, a run has at most as many as the code.
 unfoldable pub outcome_of : ℕ → List Instr → List ℤ → Option (Result ℤ Trap)
 outcome_of bits code inputs = first_from (end_after bits code inputs) (length code + 1) 0
+
+-- Code whose jumps go forward has the outcome with which its run ends after some number of instructions, and no other.
+abbrev pub OutcomesAreEnds : Type 0
+OutcomesAreEnds = (bits : ℕ) (code : List Instr) (inputs : List ℤ) (outcome : Result ℤ Trap) → JumpsForward code
+    → (outcome_of bits code inputs ≡ Some outcome → (n : ℕ) × Ends bits code inputs n outcome) × ((n : ℕ) → Ends bits code inputs n outcome → outcome_of bits code inputs ≡ Some outcome)
 
 -- ---- slopes
 

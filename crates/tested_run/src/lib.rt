@@ -5,6 +5,7 @@
 mod code_slopes;
 mod forces;
 mod kernels;
+mod laws;
 mod prepared;
 mod runs;
 mod slope_faults;
@@ -14,4 +15,5 @@ mod steps;
 mod stops;
 mod sums;
 
+pub use laws::outcomes_are_ends;
 pub use runs::run_bytes_checked;

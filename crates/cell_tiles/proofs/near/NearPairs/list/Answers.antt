@@ -1,6 +1,7 @@
-use Rattle.std.proofs.Common.{◌≡◌, ℕ, zero, suc, ◌<◌, Bool, true, false, List, [], ◌∷◌, refl, take, get_or-take, length-take, arith, ap, subst, sym, ◌∙◌, length, length-set, get_or}
+use Rattle.std.proofs.Common.{◌≡◌, ℕ, zero, suc, ◌+◌, ◌<◌, ◌≤◌, ◌++◌, Bool, true, false, List, [], ◌∷◌, refl, take, map, filter, get_or-take, length-take, arith, ap, subst, sym, ◌∙◌, length, length-set, get_or}
 use Rattle.std.specs.Prelude.{None}
-use Rattle.std.proofs.lemmas.List.{get_or-map, length-map, take-set}
+use Rattle.std.specs.List.{All}
+use Rattle.std.proofs.lemmas.List.{get_or-map, length-map, length-take-le, take-map}
 use Rattle.std.proofs.lemmas.List.Elements.{All-get_or}
 use Rattle.std.proofs.lemmas.Grind.{common_steps}
 use Rattle.ring_box.specs.Acting.{acting_of}
@@ -9,9 +10,10 @@ use Rattle.cell_tiles.specs.Cells.{places_of}
 use Rattle.cell_tiles.specs.declared.pairs.AtomPair.{AtomPair}
 use Rattle.cell_tiles.specs.Near.{IsPairOf, act}
 use Rattle.cell_tiles.specs.Tiles.{pair_of, pairs_with}
-use Rattle.cell_tiles.proofs.NearLemmas.{all_listed, first_inside, listed_next, pair_idle, pair_inside, passed_next, second_inside}
+use Rattle.cell_tiles.proofs.MarkedLemmas.{IsReached, marked_act, number_below, pairs_at, reached_all, reached_some}
+use Rattle.cell_tiles.proofs.NearLemmas.{all_listed, first_inside, listed_next, pair_idle, pair_inside, second_inside}
 use Rattle.cell_tiles.proofs.near.NearPairs.list.Goals as goal
-use Rattle.cell_tiles.proofs.near.NearPairs.list.Goals.{then-marks-j, else-marks-j}
+use Rattle.cell_tiles.proofs.near.NearPairs.list.Goals.{then-taken-near, else-taken-near}
 
 -- a mark that is there is read with any default
 same_mark : (l : List Bool) (j : ℕ) → j < length l → get_or l j true ≡ get_or l j false
@@ -22,60 +24,143 @@ same_mark (x ∷ l) (suc j) h = same_mark l j (omega arith)
 pub bounds-frame-atom : goal.bounds-frame-atom
 bounds-frame-atom c = first_inside (length c.args.frame.now.places.now) c.args.atom c.args.others.now 0 c.requires.pairs c.requires.there
 
-pub loop-j-preserved : goal.loop-j-preserved
-loop-j-preserved c =
+pub bounds-others-numbers : goal.bounds-others-numbers
+bounds-others-numbers c =
+    let near = c.near_numbers-near in
+    let below = number_below c.mark_near.new.near near.new.numbers near.result c.together-row.result near.ensures.numbers (omega (arith, near.array_long, near.ensures.few, c.together-row.ensures.few)) c.loop-e.e (omega (arith, c.loop-e-test.true, c.min-taken.ensures)) in
+    omega (arith, below, c.together-row.ensures.within)
+
+pub loop-e-preserved : goal.loop-e-preserved
+loop-e-preserved c =
     let frame = c.args.frame.now.places.now in
     let d = c.args.frame.now.reach.now in
     let b = c.args.frame.now.ring.now in
     let a = c.args.atom in
     let others = c.args.others.now in
-    let j = c.loop-j.j in
-    let inside : j < length others = omega (arith, c.loop-j-test.true, c.together-row.ensures.within) in
-    let other = get_or others j 0 in
+    let near = c.near_numbers-near in
+    let numbers = near.new.numbers in
+    let e = c.loop-e.e in
+    let lt : e < near.result = omega (arith, c.loop-e-test.true, c.min-taken.ensures) in
+    let long : near.result ≤ length numbers = omega (arith, near.array_long, near.ensures.few, c.together-row.ensures.few) in
+    let below = number_below c.mark_near.new.near numbers near.result c.together-row.result near.ensures.numbers long e lt in
+    let j = get_or numbers e 0 in
+    let inside : j < length others = omega (arith, below, c.together-row.ensures.within) in
     let ps = pairs_with a others in
+    let at : ℕ → ℕ × ℕ = λ k. get_or ps k (0, 0) in
+    let qs = pairs_at a others (take near.result numbers) in
     let pair : AtomPair → ℕ × ℕ = λ p. (p.low, p.high) in
-    let xs = c.loop-j.self-inside.pairs in
-    let count = c.loop-j.count in
+    let xs = c.loop-e.self-inside.pairs in
+    let place = c.self.inside.count + e in
     let x = c.in_order.result in
-    let kept = c.loop-j.invariant in
+    let kept = c.loop-e.invariant in
+    let size : length (take near.result numbers) ≡ near.result = length-take-le near.result numbers long in
+    let here : get_or qs e (0, 0) ≡ pair_of a (get_or others j 0) =
+    get_or-map at (take near.result numbers) e 0 (0, 0) (omega arith) ∙ ap at (get_or-take near.result numbers e 0 lt) ∙ get_or-map (pair_of a) others j 0 (0, 0) inside in
+    let room : place < length xs = omega (arith, kept.wide, c.loop-e-test.true, c.min-taken.ensures, c.self.invariant) in
+    let next : place + 1 ≡ c.self.inside.count + (e + 1) = omega arith in
+    record {
+      acting = rw (← next) (listed_next (act d b frame) pair xs x place c.args.self.now qs e room (omega (arith, size, length-map (take near.result numbers) at)) (c.in_order.ensures ∙ sym here) kept.acting);
+      listed = λ all. rw (← next) (all_listed (IsPairOf (length frame)) pair xs x place room (kept.listed all) (subst (IsPairOf (length frame)) (sym c.in_order.ensures) (pair_inside (length frame) a others j c.requires.pairs inside)));
+      wide = length-set xs place x ∙ kept.wide;
+    }
+
+pub returns-clause-acting : goal.returns-clause-acting
+returns-clause-acting c =
+    let frame = c.args.frame.now.places.now in
+    let d = c.args.frame.now.reach.now in
+    let b = c.args.frame.now.ring.now in
+    let a = c.args.atom in
+    let others = c.args.others.now in
+    let near = c.near_numbers-near in
+    let marks = c.mark_near.new.near in
+    let numbers = near.new.numbers in
+    let row = c.together-row.result in
+    let taken = c.min-taken.result in
+    let r = c.if-taken-near.result in
+    let ps = pairs_with a others in
+    let acts = act d b frame in
+    let at : ℕ → ℕ × ℕ = λ k. get_or ps k (0, 0) in
+    let long : near.result ≤ length numbers = omega (arith, near.array_long, near.ensures.few, c.together-row.ensures.few) in
+    let reached : IsReached marks numbers near.result row near.ensures.numbers long taken r =
+    elim c.if-taken-near.branch [
+      | then-taken-near w ↦ reached_all marks numbers near.result row near.ensures.numbers long taken r (omega (arith, w.if-taken-near.true)) w.result-is
+      | else-taken-near w ↦ reached_some marks numbers near.result row near.ensures.numbers long taken r (omega (arith, w.if-taken-near.false, c.min-taken.ensures)) w.result-is
+    ] in
+    let idle : (j : ℕ) → j < row → get_or marks j false ≡ false → acts (get_or ps j (0, 0)) ≡ false = λ j lt unmarked.
+    let inside : j < length others = omega (arith, c.together-row.ensures.within, lt) in
+    let other = get_or others j 0 in
     let here : get_or ps j (0, 0) ≡ pair_of a other = get_or-map (pair_of a) others j 0 (0, 0) inside in
-    let lt : j < length ps = omega (arith, length-map others (pair_of a), inside) in
-    let is : pair x ≡ get_or ps j (0, 0) = c.in_order.ensures ∙ sym here in
-    let room : count < length xs = omega (arith, kept.wide, kept.few, c.if-count-eq64.false) in
-    elim c.if-marks-j.branch [
-      | then-marks-j w ↦ record {
-        acting = rw w.count-is (listed_next (act d b frame) pair xs x count c.args.self.now ps j room lt is kept.acting);
-        listed = λ all. rw w.count-is (all_listed (IsPairOf (length frame)) pair xs x count room (kept.listed all) (subst (IsPairOf (length frame)) (sym c.in_order.ensures) (pair_inside (length frame) a others j c.requires.pairs inside)));
-        few = rw w.count-is (omega (arith, kept.few, room, kept.wide));
-        wide = length-set xs count x ∙ kept.wide;
-        grown = rw w.count-is (omega (arith, kept.grown));
-      }
-      | else-marks-j w ↦
-          let marked : get_or c.mark_near.new.near j true ≡ false = same_mark c.mark_near.new.near j (omega (arith, c.type_inv.marks, c.loop-j-test.true, c.together-row.ensures.few)) ∙ w.if-marks-j.false in
-          let first : ArePlaces (get_or frame a _) = All-get_or ArePlaces frame a _ (first_inside (length frame) a others j c.requires.pairs inside) c.requires.places in
-          let second : ArePlaces (get_or frame other _) = All-get_or ArePlaces frame other _ (second_inside (length frame) a others j c.requires.pairs inside) c.requires.places in
-          let wide : length c.args.places.now ≡ length others = ap length c.requires.beside ∙ length-map others (places_of frame) in
-          let row = c.together-row.result in
-          let cut : get_or (take row c.args.places.now) j [] ≡ get_or c.args.places.now j [] = get_or-take row c.args.places.now j [] c.loop-j-test.true in
-          let beside : get_or c.args.places.now j [] ≡ places_of frame other =
-          ap (λ zs. get_or zs j []) c.requires.beside ∙ get_or-map (places_of frame) others j 0 [] inside in
-          let apart : acting_of d b (places_of frame a) (places_of frame other) ≡ None =
-          subst (λ y. acting_of d b (places_of frame a) y ≡ None) (cut ∙ beside) (c.mark_near.ensures j (omega (arith, length-take row c.args.places.now, wide, inside, c.loop-j-test.true, c.together-row.ensures.within)) marked) in
-          let idle = ap (act d b frame) here ∙ pair_idle d b frame a other first second apart in
-          record {
-            acting = rw w.count-is (passed_next (act d b frame) pair xs x count c.args.self.now ps j lt idle kept.acting);
-            listed = λ all. rw (w.count-is, take-set xs count x) (kept.listed all);
-            few = rw w.count-is (omega (arith, kept.few));
-            wide = length-set xs count x ∙ kept.wide;
-            grown = rw w.count-is (omega (arith, kept.grown));
-          }
-    ]
+    let marked' : get_or marks j true ≡ false = same_mark marks j (omega (arith, c.mark_near.array_long, lt, c.together-row.ensures.few)) ∙ unmarked in
+    let first : ArePlaces (get_or frame a _) = All-get_or ArePlaces frame a _ (first_inside (length frame) a others j c.requires.pairs inside) c.requires.places in
+    let second : ArePlaces (get_or frame other _) = All-get_or ArePlaces frame other _ (second_inside (length frame) a others j c.requires.pairs inside) c.requires.places in
+    let wide : length c.args.places.now ≡ length others = ap length c.requires.beside ∙ length-map others (places_of frame) in
+    let cut : get_or (take row c.args.places.now) j [] ≡ get_or c.args.places.now j [] = get_or-take row c.args.places.now j [] lt in
+    let beside : get_or c.args.places.now j [] ≡ places_of frame other = ap (λ zs. get_or zs j []) c.requires.beside ∙ get_or-map (places_of frame) others j 0 [] inside in
+    let apart : acting_of d b (places_of frame a) (places_of frame other) ≡ None =
+    subst (λ y. acting_of d b (places_of frame a) y ≡ None) (cut ∙ beside) (c.mark_near.ensures j (omega (arith, length-take row c.args.places.now, wide, inside, lt)) marked') in
+    ap acts here ∙ pair_idle d b frame a other first second apart
+    in
+    let within : row ≤ length ps = omega (arith, length-map others (pair_of a), c.together-row.ensures.within) in
+    let done : c.loop-e.e ≡ taken = omega (arith, c.loop-e-test.false, c.loop-e.auto.e-end) in
+    let those : filter acts (take taken (pairs_at a others (take near.result numbers))) ≡ filter acts (take r ps) =
+    ap (filter acts) (take-map at taken (take near.result numbers) ∙ ap (map at) reached.before) ∙ sym (marked_act acts ps marks row within idle r reached.within) in
+    subst (λ n. filter acts (map (λ (p : AtomPair). (p.low, p.high)) (take (c.self.inside.count + n) c.loop-e.self-inside.pairs)) ≡ filter acts c.args.self.now ++ filter acts (take n (pairs_at a others (take near.result numbers)))) done c.loop-e.invariant.acting
+    ∙ ap (λ ys. filter acts c.args.self.now ++ ys) those
 
-pub loop-j-init : goal.loop-j-init
-loop-j-init c = grind (arith, common_steps)
+pub returns-clause-listed : goal.returns-clause-listed
+returns-clause-listed c all =
+    let done : c.loop-e.e ≡ c.min-taken.result = omega (arith, c.loop-e-test.false, c.loop-e.auto.e-end) in
+    subst (λ n. All (IsPairOf (length c.args.frame.now.places.now)) (map (λ (p : AtomPair). (p.low, p.high)) (take (c.self.inside.count + n) c.loop-e.self-inside.pairs))) done (c.loop-e.invariant.listed all)
 
-pub returns-then-count-eq64-clause-few : goal.returns-then-count-eq64-clause-few
-returns-then-count-eq64-clause-few c = grind (arith, common_steps)
+pub returns-clause-within : goal.returns-clause-within
+returns-clause-within c =
+    let near = c.near_numbers-near in
+    let marks = c.mark_near.new.near in
+    let numbers = near.new.numbers in
+    let row = c.together-row.result in
+    let taken = c.min-taken.result in
+    let r = c.if-taken-near.result in
+    let long : near.result ≤ length numbers = omega (arith, near.array_long, near.ensures.few, c.together-row.ensures.few) in
+    let reached : IsReached marks numbers near.result row near.ensures.numbers long taken r =
+    elim c.if-taken-near.branch [
+      | then-taken-near w ↦ reached_all marks numbers near.result row near.ensures.numbers long taken r (omega (arith, w.if-taken-near.true)) w.result-is
+      | else-taken-near w ↦ reached_some marks numbers near.result row near.ensures.numbers long taken r (omega (arith, w.if-taken-near.false, c.min-taken.ensures)) w.result-is
+    ] in
+    let past = reached.within in
+    omega (arith, past, c.together-row.ensures.within)
 
 pub returns-clause-few : goal.returns-clause-few
-returns-clause-few c = grind (arith, common_steps)
+returns-clause-few c =
+    let near = c.near_numbers-near in
+    let marks = c.mark_near.new.near in
+    let numbers = near.new.numbers in
+    let row = c.together-row.result in
+    let taken = c.min-taken.result in
+    let r = c.if-taken-near.result in
+    let long : near.result ≤ length numbers = omega (arith, near.array_long, near.ensures.few, c.together-row.ensures.few) in
+    let reached : IsReached marks numbers near.result row near.ensures.numbers long taken r =
+    elim c.if-taken-near.branch [
+      | then-taken-near w ↦ reached_all marks numbers near.result row near.ensures.numbers long taken r (omega (arith, w.if-taken-near.true)) w.result-is
+      | else-taken-near w ↦ reached_some marks numbers near.result row near.ensures.numbers long taken r (omega (arith, w.if-taken-near.false, c.min-taken.ensures)) w.result-is
+    ] in
+    let past = reached.past in
+    grind (arith, common_steps)
+
+pub returns-clause-onward : goal.returns-clause-onward
+returns-clause-onward c =
+    let near = c.near_numbers-near in
+    let marks = c.mark_near.new.near in
+    let numbers = near.new.numbers in
+    let row = c.together-row.result in
+    let taken = c.min-taken.result in
+    let r = c.if-taken-near.result in
+    let long : near.result ≤ length numbers = omega (arith, near.array_long, near.ensures.few, c.together-row.ensures.few) in
+    let some = c.together-row.ensures.some c.requires.there in
+    elim c.if-taken-near.branch [
+      | then-taken-near w ↦ λ room. omega (arith, some, w.result-is)
+      | else-taken-near w ↦
+          let less : taken < near.result = omega (arith, w.if-taken-near.false, c.min-taken.ensures) in
+          let reached : IsReached marks numbers near.result row near.ensures.numbers long taken r = reached_some marks numbers near.result row near.ensures.numbers long taken r less w.result-is in
+          let past = reached.past in
+          grind (arith, common_steps)
+    ]
