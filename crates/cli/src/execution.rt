@@ -3,11 +3,12 @@
 ghost use Rattle.std.specs.Prelude.{◌≡◌, ◌≢◌, ◌⊎◌, ◌≤◌, ◌<◌, ◌-◌, ◌/◌, ◌^◌, ℕ, suc, List, IfOk, OnOk, OnErr, IfErr, map, string_bytes};
 ghost use Rattle.clap.specs.Words.{kind_of};
 ghost use Rattle.clap.specs.declared.error.kind.ErrorKind.TheVariants.{OutOfMemory, DisplayHelp, DisplayVersion};
-ghost use Rattle.command_line.specs.CommandLine.{AsksForHelp, AsksForTrajectory, AsksForVersion, IsCommand, IsMisuse};
+ghost use Rattle.command_line.specs.CommandLine.{AsksForTrajectory, IsCommand, IsMisuse};
+ghost use Rattle.cli.specs.Held.{IsHeld};
 ghost use Rattle.cli.specs.Kept.{IsKept, Keeps};
 ghost use Rattle.engine.specs.Headline.{WroteLevesqueVerletRun};
 ghost use Rattle.trajectory.specs.Trajectories.{IsFrameOfRun, WroteFrames};
-ghost use Rattle.cli.specs.Printed.{HasPrinted};
+ghost use Rattle.cli.specs.Printed.{HasPrinted, IsDone};
 ghost use Rattle.cli.specs.Progress.{IsBegun, IsQuiet, PrintsIfCounted, Says, TellsAll, TellsSome, told_of};
 ghost use Rattle.cli.specs.Reads.{AsksFor, asked_by, unread};
 ghost use Rattle.cli.specs.Asked.{also_asked};
@@ -52,8 +53,7 @@ pub fn execute<
     ensures kept { result ≢ 0 → IsKept (O.taken out.old, O.failed out.old) (O.taken out.new, O.failed out.new)
         ⊎ ((result ≡ 4) × AsksForTrajectory (map S.text words.now)) }
     ensures misuse { result ≡ 2 → IsMisuse (map S.text words.now) × (O.taken out.new ≡ O.taken out.old) }
-    ensures done { result ≡ 0 → AsksForHelp (map S.text words.now) ⊎ AsksForVersion (map S.text words.now) ⊎ ((c : Command) × IsCommand (map S.text words.now) c
-        × (F.asked files.new ≡ asked_by (F.asked files.old) c) × HasPrinted c (O.taken out.old) (O.taken out.new)) }
+    ensures done { result ≡ 0 → IsDone (map S.text words.now) (F.held files.old) (F.asked files.old) (F.asked files.new) (O.taken out.old) (O.taken out.new) }
     ensures reads { (F.asked files.new ≡ F.asked files.old)
         ⊎ ((c : Command) × IsCommand (map S.text words.now) c × AsksFor c (F.asked files.old) (F.asked files.new)) }
 {
@@ -89,8 +89,7 @@ fn respond<
     ensures fault { IfErr result (λ f. status_of f ≢ Status.Done) }
     ensures quiet { OnOk result (IsQuiet (map S.text words.entry.now) (E.taken err.old, E.failed err.old) (E.taken err.new, E.failed err.new)) }
     ensures begun { OnErr result (IsBegun (map S.text words.entry.now) (E.taken err.old, E.failed err.old) (E.taken err.new, E.failed err.new)) }
-    ensures done { OnOk result (AsksForHelp (map S.text words.entry.now) ⊎ AsksForVersion (map S.text words.entry.now) ⊎ ((c : Command) × IsCommand (map S.text words.entry.now) c
-        × (F.asked files.new ≡ asked_by (F.asked files.old) c) × HasPrinted c (O.taken out.old) (O.taken out.new))) }
+    ensures done { OnOk result (IsDone (map S.text words.entry.now) (F.held files.old) (F.asked files.old) (F.asked files.new) (O.taken out.old) (O.taken out.new)) }
     ensures reads { (F.asked files.new ≡ F.asked files.old)
         ⊎ ((c : Command) × IsCommand (map S.text words.entry.now) c × AsksFor c (F.asked files.old) (F.asked files.new)) }
 {
@@ -112,7 +111,7 @@ fn perform<'a, R: Threads + Sync, A: Allocator + Copy + Send + Sync, F: Files, O
     requires { O.failed out.old < 2 ^ 64 - 1 }
     ensures done { OnOk result (F.asked files.new ≡ asked_by (F.asked files.old) command.entry) }
     ensures reads { AsksFor command.entry (F.asked files.old) (F.asked files.new) }
-    ensures printed { OnOk result (HasPrinted command.entry (O.taken out.old) (O.taken out.new)) }
+    ensures printed { OnOk result (HasPrinted (F.held files.old) command.entry (O.taken out.old) (O.taken out.new)) }
     ensures told { OnOk result (TellsAll (told_of command.entry) (E.taken err.old, E.failed err.old) (E.taken err.new, E.failed err.new)) }
     ensures told_some { OnErr result (TellsSome (told_of command.entry) (E.taken err.old, E.failed err.old) (E.taken err.new, E.failed err.new)) }
     ensures kept { IfErr result (Keeps command.entry (O.taken out.old, O.failed out.old) (O.taken out.new, O.failed out.new)) }
@@ -141,6 +140,7 @@ fn perform_start<'a, A: Allocator + Copy, F: Files, O: Out>(
     requires { O.failed out.old < 2 ^ 64 - 1 }
     ensures done { OnOk result (F.asked files.new ≡ asked_by (F.asked files.old) (Command.Start start.entry)) }
     ensures reads { AsksFor (Command.Start start.entry) (F.asked files.old) (F.asked files.new) }
+    ensures printed { OnOk result (HasPrinted (F.held files.old) (Command.Start start.entry) (O.taken out.old) (O.taken out.new)) }
     ensures kept { OnErr result ((O.taken out.new ≡ O.taken out.old) ⊎ (O.failed out.old < O.failed out.new)) }
     ensures fault { IfErr result (λ f. status_of f ≢ Status.CommandLine) }
 {
@@ -158,6 +158,7 @@ fn perform_frame<'a, A: Allocator + Copy, F: Files, O: Out>(
     requires { O.failed out.old < 2 ^ 64 - 1 }
     ensures done { OnOk result (F.asked files.new ≡ asked_by (F.asked files.old) (Command.Frame frame.entry)) }
     ensures reads { AsksFor (Command.Frame frame.entry) (F.asked files.old) (F.asked files.new) }
+    ensures printed { OnOk result (HasPrinted (F.held files.old) (Command.Frame frame.entry) (O.taken out.old) (O.taken out.new)) }
     ensures kept { OnErr result ((O.taken out.new ≡ O.taken out.old) ⊎ (O.failed out.old < O.failed out.new)) }
     ensures fault { IfErr result (λ f. status_of f ≢ Status.CommandLine) }
 {
@@ -175,6 +176,7 @@ fn perform_energy<'a, A: Allocator + Copy, F: Files, O: Out>(
     requires { O.failed out.old < 2 ^ 64 - 1 }
     ensures done { OnOk result (F.asked files.new ≡ asked_by (F.asked files.old) (Command.Energy energy.entry)) }
     ensures reads { AsksFor (Command.Energy energy.entry) (F.asked files.old) (F.asked files.new) }
+    ensures printed { OnOk result (HasPrinted (F.held files.old) (Command.Energy energy.entry) (O.taken out.old) (O.taken out.new)) }
     ensures kept { OnErr result ((O.taken out.new ≡ O.taken out.old) ⊎ (O.failed out.old < O.failed out.new)) }
     ensures fault { IfErr result (λ f. status_of f ≢ Status.CommandLine) }
 {
@@ -192,6 +194,7 @@ fn perform_check<'a, A: Allocator + Copy, F: Files, O: Out>(
     requires { O.failed out.old < 2 ^ 64 - 1 }
     ensures done { OnOk result (F.asked files.new ≡ asked_by (F.asked files.old) (Command.Check check.entry)) }
     ensures reads { AsksFor (Command.Check check.entry) (F.asked files.old) (F.asked files.new) }
+    ensures printed { OnOk result (HasPrinted (F.held files.old) (Command.Check check.entry) (O.taken out.old) (O.taken out.new)) }
     ensures kept { OnErr result ((O.taken out.new ≡ O.taken out.old) ⊎ (O.failed out.old < O.failed out.new)) }
     ensures fault { IfErr result (λ f. status_of f ≢ Status.CommandLine) }
 {
@@ -215,6 +218,7 @@ fn perform_code<'a, A: Allocator + Copy, F: Files, O: Out>(
     requires { O.failed out.old < 2 ^ 64 - 1 }
     ensures done { OnOk result (F.asked files.new ≡ asked_by (F.asked files.old) (Command.Code listing.entry)) }
     ensures reads { AsksFor (Command.Code listing.entry) (F.asked files.old) (F.asked files.new) }
+    ensures printed { OnOk result (HasPrinted (F.held files.old) (Command.Code listing.entry) (O.taken out.old) (O.taken out.new)) }
     ensures kept { OnErr result ((O.taken out.new ≡ O.taken out.old) ⊎ (O.failed out.old < O.failed out.new)) }
     ensures fault { IfErr result (λ f. status_of f ≢ Status.CommandLine) }
 {
@@ -234,7 +238,7 @@ fn perform_run<'a, R: Threads + Sync, A: Allocator + Copy + Send + Sync, F: File
     requires { O.failed out.old < 2 ^ 64 - 1 }
     ensures done { OnOk result (F.asked files.new ≡ asked_by (F.asked files.old) (Command.Run run.entry)) }
     ensures reads { AsksFor (Command.Run run.entry) (F.asked files.old) (F.asked files.new) }
-    ensures printed { OnOk result (HasPrinted (Command.Run run.entry) (O.taken out.old) (O.taken out.new)) }
+    ensures printed { OnOk result (HasPrinted (F.held files.old) (Command.Run run.entry) (O.taken out.old) (O.taken out.new)) }
     ensures told { OnOk result (TellsAll (told_of (Command.Run run.entry)) (E.taken err.old, E.failed err.old) (E.taken err.new, E.failed err.new)) }
     ensures told_some { OnErr result (TellsSome (told_of (Command.Run run.entry)) (E.taken err.old, E.failed err.old) (E.taken err.new, E.failed err.new)) }
     ensures kept { OnErr result ((O.taken out.new ≡ O.taken out.old) ⊎ (O.failed out.old < O.failed out.new)) }
@@ -294,7 +298,7 @@ fn perform_trajectory<
     requires { O.failed out.old < 2 ^ 64 - 1 }
     ensures done { OnOk result (F.asked files.new ≡ asked_by (F.asked files.old) (Command.Trajectory trajectory.entry)) }
     ensures reads { AsksFor (Command.Trajectory trajectory.entry) (F.asked files.old) (F.asked files.new) }
-    ensures printed { OnOk result (HasPrinted (Command.Trajectory trajectory.entry) (O.taken out.old) (O.taken out.new)) }
+    ensures printed { OnOk result (HasPrinted (F.held files.old) (Command.Trajectory trajectory.entry) (O.taken out.old) (O.taken out.new)) }
     ensures told { OnOk result (TellsAll (told_of (Command.Trajectory trajectory.entry)) (E.taken err.old, E.failed err.old) (E.taken err.new, E.failed err.new)) }
     ensures told_some { OnErr result (TellsSome (told_of (Command.Trajectory trajectory.entry)) (E.taken err.old, E.failed err.old) (E.taken err.new, E.failed err.new)) }
     ensures kept { IfErr result (Keeps (Command.Trajectory trajectory.entry) (O.taken out.old, O.failed out.old) (O.taken out.new, O.failed out.new)) }
@@ -347,6 +351,7 @@ fn read_two<'a, A: Allocator + Copy, F: Files>(
     ensures done { OnOk result (F.asked files.new ≡ also_asked (also_asked (F.asked files.old) first.entry.now) second.entry.now) }
     ensures reads { (F.asked files.new ≡ also_asked (F.asked files.old) first.entry.now)
         ⊎ (F.asked files.new ≡ also_asked (also_asked (F.asked files.old) first.entry.now) second.entry.now) }
+    ensures gives { IfOk result (λ both. IsHeld (F.held files.old) first.entry.now both.0.items × IsHeld (F.held files.old) second.entry.now both.1.items) }
     ensures fault { IfErr result (λ f. status_of f ≢ Status.CommandLine) }
 {
     let first = read(alloc, first, files)?;
@@ -360,6 +365,8 @@ fn read<'a, A: Allocator + Copy, F: Files>(
     files: &mut F,
 ) -> Result<Vec<u8, A>, CommandFault<'a, A>>
     ensures asked { F.asked files.new ≡ also_asked (F.asked files.old) path.entry.now }
+    ensures gives { IfOk result (λ v. IsHeld (F.held files.old) path.entry.now v.items) }
+    ensures still { F.held files.new ≡ F.held files.old }
     ensures fault { IfErr result (λ e. (fault : ReadFault) × (e ≡ unread fault path.entry)) }
 {
     match files.read(alloc, path) {

@@ -1,7 +1,8 @@
 //! Files, as commands read them.
 
-ghost use Rattle.std.specs.Prelude.{◌≡◌, ℕ, List, Option};
+ghost use Rattle.std.specs.Prelude.{◌≡◌, ℕ, List, Option, IfOk};
 ghost use Rattle.cli.specs.Asked.{also_asked};
+ghost use Rattle.cli.specs.Held.{IsHeld};
 
 use std::alloc::Allocator;
 
@@ -19,7 +20,12 @@ pub trait Files {
     /// The paths that were asked for so far, in order. The system's own files tell none.
     ghost asked: { Self → Option (List (List ℕ)) };
 
-    /// All bytes of the file at this path.
+    /// The bytes of the file at a path, where they are told. The system's own files tell none.
+    ghost held: { Self → List ℕ → Option (List ℕ) };
+
+    /// All bytes of the file at this path. Reading changes no file.
     fn read<A: Allocator + Copy>(&mut self, alloc: A, path: &str) -> Result<Vec<u8, A>, ReadFault>
-        ensures { asked self.new ≡ also_asked (asked self.old) path.now };
+        ensures asked { asked self.new ≡ also_asked (asked self.old) path.now }
+        ensures gives { IfOk result (λ v. IsHeld (held self.old) path.now v.items) }
+        ensures still { held self.new ≡ held self.old };
 }

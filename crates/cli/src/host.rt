@@ -1,7 +1,7 @@
 //! The system's own files, streams and words.
 
-ghost use Rattle.std.specs.Prelude.{◌≡◌, ◌⊎◌, IfErr, IfOk, IfSome, None, OnOk};
-ghost use Rattle.std.specs.Io.KnownBytes.{IsAtEnd};
+ghost use Rattle.std.specs.Prelude.{◌≡◌, ◌⊎◌, ◌+◌, ◌-◌, ◌^◌, ◌<◌, ◌≤◌, IfErr, IfOk, IfSome, None, OnErr, OnOk, length};
+ghost use Rattle.std.specs.Io.KnownBytes.{IsAtEnd, WriteAppends};
 ghost use Rattle.std.specs.IoError.{error_kind};
 ghost use Rattle.cli.specs.Host.{read_fault_of, words_fault_of};
 ghost use Rattle.cli.specs.declared.faults.CommandFault.TheVariants.{Memory, NotText};
@@ -31,6 +31,8 @@ impl<'a, R: fs::Files> HostFiles<'a, R> {
 
 impl<'a, R: fs::Files> Files for HostFiles<'a, R> {
     ghost asked = { λ _. None };
+
+    ghost held = { λ _ _. None };
 
     fn read<A: Allocator + Copy>(&mut self, alloc: A, path: &str) -> Result<Vec<u8, A>, ReadFault> {
         match fs::open(self.system, path) {
@@ -62,7 +64,7 @@ fn read_fault(error: &io::Error) -> ReadFault
     }
 }
 
-/// An output over a writer of the system, as standard output is. It tells no bytes.
+/// An output over a writer of the system, as standard output is. As an output it tells no bytes; what its writer holds goes by `take`.
 #[derive(Drop)]
 pub struct Stream<W: Write> {
     writer: W,
@@ -79,15 +81,15 @@ impl<W: Write> Stream<W> {
             failures: 0,
         }
     }
-}
 
-impl<W: Write> Out for Stream<W> {
-    ghost taken = { λ _. None };
-
-    ghost failed = { λ s. s.failures };
-
-    /// A writer that takes nothing of some bytes has failed.
-    fn write(&mut self, bytes: &[u8]) -> Result<usize, OutFault> {
+    /// Hands the bytes on to the writer, and answers how many of them it took: at least one where there is one. A writer that takes nothing of some bytes has failed.
+    fn take(&mut self, bytes: &[u8]) -> Result<usize, OutFault>
+        requires { self.old.failures < 2 ^ 64 - 1 }
+        ensures held { WriteAppends (W.contents self.old.writer) (W.contents self.new.writer) result bytes.now }
+        ensures within { IfOk result (λ n. (n ≤ length bytes.now) × (0 < length bytes.now → 0 < n)) }
+        ensures count { IfOk result (λ _. self.new.failures ≡ self.old.failures) }
+        ensures fault_count { OnErr result (self.new.failures ≡ self.old.failures + 1) }
+    {
         match self.writer.write(bytes) {
             Ok(taken) if taken > 0 || bytes.is_empty() => Ok(taken),
             _ => {
@@ -95,6 +97,16 @@ impl<W: Write> Out for Stream<W> {
                 Err(OutFault)
             }
         }
+    }
+}
+
+impl<W: Write> Out for Stream<W> {
+    ghost taken = { λ _. None };
+
+    ghost failed = { λ s. s.failures };
+
+    fn write(&mut self, bytes: &[u8]) -> Result<usize, OutFault> {
+        self.take(bytes)
     }
 
     fn failures(&self) -> u64 {

@@ -7,6 +7,7 @@ mod execution;
 mod faults;
 mod files;
 mod host;
+mod processes;
 mod progress;
 mod verdicts;
 
@@ -14,3 +15,4 @@ pub use execution::{execute, report};
 pub use faults::{CommandFault, Status};
 pub use files::{Files, ReadFault};
 pub use host::{HostFiles, Stream, read_all, words};
+pub use processes::{execute_words, run_process};

@@ -64,6 +64,8 @@ impl<'a, R: fs::Files> Memory<'a, R> {
 impl<'a, R: fs::Files> Files for Memory<'a, R> {
     ghost asked = { λ _. None };
 
+    ghost held = { λ _ _. None };
+
     fn read<A: Allocator + Copy>(&mut self, alloc: A, path: &str) -> Result<Vec<u8, A>, ReadFault> {
         let Some(written) = self.written.get(path) else {
             return self.system.read(alloc, path);

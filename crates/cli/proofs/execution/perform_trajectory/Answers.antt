@@ -7,7 +7,7 @@ pub returns-in_err-job-clause-told_some : goal.returns-in_err-job-clause-told_so
 returns-in_err-job-clause-told_some g c = nothing_told_yet c.from_residual.result _ _
 
 pub returns-then-trajectory-clause-printed : goal.returns-then-trajectory-clause-printed
-returns-then-trajectory-clause-printed g c = on_ok_weaker c.trajectory_watched.result (λ wrote. (_, _, wrote)) c.trajectory_watched.ensures.wrote
+returns-then-trajectory-clause-printed g c = on_ok_weaker c.trajectory_watched.result (λ wrote. (_, _, rw c.deref.ensures.value c.in_ok-job.ensures.gives.0, rw c.deref-then-trajectory.ensures.value c.in_ok-job.ensures.gives.1, wrote)) c.trajectory_watched.ensures.wrote
 
 pub returns-clause-printed : goal.returns-clause-printed
-returns-clause-printed g c = on_ok_weaker c.trajectory_texts.result (λ wrote. (_, _, wrote)) c.trajectory_texts.ensures.wrote
+returns-clause-printed g c = on_ok_weaker c.trajectory_texts.result (λ wrote. (_, _, rw c.deref-else-trajectory.ensures.value c.in_ok-job.ensures.gives.0, rw c.deref-else-trajectory-2.ensures.value c.in_ok-job.ensures.gives.1, wrote)) c.trajectory_texts.ensures.wrote

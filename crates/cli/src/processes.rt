@@ -1,0 +1,63 @@
+//! The program as a process of the system.
+
+ghost use Rattle.std.specs.Prelude.{◌≡◌, ◌≢◌, ◌⊎◌, ◌-◌, ◌<◌, ◌≤◌, ◌^◌, IfErr, IfOk, map, string_bytes};
+ghost use Rattle.command_line.specs.CommandLine.{AsksForTrajectory, IsMisuse};
+ghost use Rattle.cli.specs.Kept.{IsKept};
+ghost use Rattle.cli.specs.Printed.{IsDone};
+ghost use Rattle.cli.specs.Statuses.{code_of, status_of};
+ghost use Rattle.cli.specs.declared.faults.Status.{Status};
+
+use crate::execution::{execute, report};
+use crate::faults::CommandFault;
+use crate::files::Files;
+use crate::host::{HostFiles, Stream, words};
+use gro::Out;
+use std::alloc::Global;
+use std::fs;
+use std::io::Write;
+use std::process::ExitCode;
+use std::rt::Env;
+use std::thread::Threads;
+
+/// Does what the words of a process ask for, and answers the status to end with, from 0 to 5: what [`execute`] does and says, where the words can be had; else it reports why not.
+pub fn execute_words<'a, R: Threads + Sync + AllocGlobal, F: Files, O: Out, E: Out>(
+    rt: &R,
+    words: Result<Vec<String>, CommandFault<'a, Global>>,
+    files: &mut F,
+    out: &mut O,
+    err: &mut E,
+) -> u8
+    requires out { O.failed out.old < 2 ^ 64 - 1 }
+    requires err { E.failed err.old < 2 ^ 64 - 1 }
+    ensures most { result ≤ 5 }
+    ensures done { IfOk words.entry (λ ws. result ≡ 0 → IsDone (map string_bytes ws.items) (F.held files.old) (F.asked files.old) (F.asked files.new) (O.taken out.old) (O.taken out.new)) }
+    ensures misuse { IfOk words.entry (λ ws. result ≡ 2 → IsMisuse (map string_bytes ws.items) × (O.taken out.new ≡ O.taken out.old)) }
+    ensures kept { IfOk words.entry (λ ws. result ≢ 0 → IsKept (O.taken out.old, O.failed out.old) (O.taken out.new, O.failed out.new)
+        ⊎ ((result ≡ 4) × AsksForTrajectory (map string_bytes ws.items))) }
+    ensures refused { IfErr words.entry (λ f. (s : Status) × ((s ≡ status_of f) ⊎ (s ≡ Status.Memory)) × (result ≡ code_of s) × (O.taken out.new ≡ O.taken out.old)) }
+{
+    match words {
+        Ok(words) => execute(
+            rt,
+            rt.alloc(),
+            rt.alloc(),
+            words.as_slice(),
+            files,
+            out,
+            err,
+        ),
+        Err(fault) => report(rt.alloc(), &fault, err),
+    }
+}
+
+/// Runs the program: the words are the process's own, files are the system's, and what is printed goes to the two writers, as standard output and standard error are. It answers the status to end with.
+pub fn run_process<
+    R: Env + fs::Files + Threads + Sync + AllocGlobal,
+    O: Write + Drop,
+    E: Write + Drop,
+>(rt: &R, out: O, err: E) -> ExitCode {
+    let mut out = Stream::new(out);
+    let mut err = Stream::new(err);
+    let mut files = HostFiles::new(rt);
+    ExitCode::from(execute_words(rt, words(rt), &mut files, &mut out, &mut err))
+}
