@@ -12,4 +12,6 @@ mod pools;
 #[cfg(test)]
 mod rounds;
 #[cfg(test)]
+mod rowed;
+#[cfg(test)]
 mod watched;

@@ -4,6 +4,7 @@ ghost use Rattle.std.specs.Prelude.{◌≡◌, ◌<◌, ◌≤◌, IfOk};
 
 use crate::listed::{Listed, TWO_TILES, add, one_a_tile, two_tiles};
 use crate::noted::{Gated, Noting};
+use crate::rowed::Rowed;
 use crate::watched::Watched;
 use linked_list_allocator::LocalHeap;
 use std::alloc::{AllocError, Global};
@@ -113,6 +114,18 @@ fn asks_for_each_pair_once(rt: HostRuntime) -> Result<(), Fail> {
         once = once && same && calls == 1128;
     }
     assert!(rt; once);
+    Ok(())
+}
+
+#[test]
+fn asks_for_rows_alone(rt: HostRuntime) -> Result<(), Fail> {
+    let work = Rowed::new(pushes(rt.alloc(), 6, 188)?);
+    let sums = [1128, 2256, 3384, -1128, -2256, -3384];
+    let mut same = comes_to(rt.alloc(), &work, 2, &sums);
+    for workers in [1, 2, 3, 64] {
+        same = same && come_to(&rt, &work, 2, workers, &sums);
+    }
+    assert!(rt; same && work.alone.load(Ordering::SeqCst) == 0);
     Ok(())
 }
 

@@ -1,0 +1,57 @@
+//! Work that hands out rows, and counts what is asked of it pair by pair.
+
+use arrayvec::ArrayVec;
+use std::sync::atomic::{AtomicU64, Ordering};
+use tile_round::{PairAdd, RowWork, Work, next_adds_by_pair};
+
+/// The same work, with rows of its own; the pairs are counted that are asked for by themselves.
+#[derive(Drop)]
+pub(crate) struct Rowed<W: Work + Drop> {
+    work: W,
+    pub(crate) alone: AtomicU64,
+}
+
+impl<W: Work + Drop> Rowed<W> {
+    ghost use Rattle.std.specs.Prelude.{◌≡◌};
+
+    /// No pair was asked for.
+    pub(crate) fn new(work: W) -> Rowed<W>
+        ensures { result.work ≡ work }
+    {
+        Rowed {
+            work,
+            alone: AtomicU64::new(0),
+        }
+    }
+}
+
+impl<W: Work + Drop> Work for Rowed<W> {
+    ghost plan = { λ w. W.plan w.work };
+
+    ghost atoms = { λ w. W.atoms w.work };
+
+    fn tiles(&self) -> u64 {
+        self.work.tiles()
+    }
+
+    fn pairs(&self, tile: u64) -> u64 {
+        self.work.pairs(tile)
+    }
+
+    fn pair(&self, tile: u64, k: u64) -> Option<PairAdd> {
+        self.alone.fetch_add(1, Ordering::SeqCst);
+        self.work.pair(tile, k)
+    }
+}
+
+impl<W: Work + Drop> RowWork<()> for Rowed<W> {
+    fn next_adds(
+        &self,
+        _scratch: &mut (),
+        tile: u64,
+        k: u64,
+        adds: &mut ArrayVec<PairAdd, 64>,
+    ) -> u64 {
+        next_adds_by_pair(&self.work, tile, k, adds)
+    }
+}
