@@ -1,4 +1,6 @@
-pub mod KeptLaws
 pub mod Printing
 pub mod ProgressLaws
+pub mod RefusalLaws
+pub mod StartLaws
+pub mod StatusLaws
 pub mod VerdictLaws

@@ -51,16 +51,3 @@ says words before between after text room (inl same) (inr left) =
     let few : between.1 < 2 ^ 64 - 1 = subst (λ (o : Output). o.1 < 2 ^ 64 - 1) (sym same) room in
     let bad : ⊥ = omega (arith, few, left.1) in absurd bad
 says words before between after text room (inr told) prints = inr (told.0, told.1, between, told.2, told.3, told.4, prints)
-
-code_zero : (s : Status) → code_of s ≡ 0 → s ≡ status.Done
-code_zero status.Done e = refl
-code_zero status.RefusedData e = let bad : ⊥ = omega (arith, e) in absurd bad
-code_zero status.CommandLine e = let bad : ⊥ = omega (arith, e) in absurd bad
-code_zero status.RefusedKernel e = let bad : ⊥ = omega (arith, e) in absurd bad
-code_zero status.Memory e = let bad : ⊥ = omega (arith, e) in absurd bad
-code_zero status.File e = let bad : ⊥ = omega (arith, e) in absurd bad
-
--- a fault is reported by another status than 0
-pub fault_told : (was s : Status) (result : ℕ) → (s ≡ was) ⊎ (s ≡ status.Memory) → result ≡ code_of s → was ≢ status.Done → result ≢ 0
-fault_told was s result (inl e) is fault zero = fault (sym e ∙ code_zero s (sym is ∙ zero))
-fault_told was s result (inr e) is fault zero = let bad : status.Memory ≡ status.Done = sym e ∙ code_zero s (sym is ∙ zero) in cc

@@ -1,10 +1,9 @@
--- States made of GRO files, GRO files made of states, and listings made of jobs: from the bytes that are read to those that are printed.
-use Rattle.std.specs.Prelude.{◌≡◌, ℕ, ◌-◌, ◌<◌, ◌≤◌, List, length, Option, Ok, slice_index_or}
+-- States made of GRO files, GRO files made of states, and listings made of jobs: from the bytes that are read to those that are printed. How a text went to an output is told by what it is asked to meet.
+use Rattle.std.specs.Prelude.{◌≡◌, ℕ, ◌-◌, ◌<◌, ◌≤◌, List, length, Ok, slice_index_or}
 use Rattle.fixed.specs.declared.frac.Frac.{Frac}
 use Rattle.gro.specs.Frames.{FrameView}
 use Rattle.gro.specs.GroReading.{frames_of}
 use Rattle.gro.specs.GroWriting.{frame_text}
-use Rattle.gro.specs.Out.{appended}
 use Rattle.integrator.specs.Starts.{slope_code_of}
 use Rattle.job.specs.JobText.{reading_of, limits}
 use Rattle.job.specs.Values.{JobValue}
@@ -30,21 +29,21 @@ pub record IsStartOf (frac : Frac) (time_step : ℕ) (gro : List ℕ) (number : 
   pub started : start_of frac time_step frame ≡ Ok state
 
 -- the text of the state that begins at a frame of these texts was written
-pub record IsStartText (job gro : List ℕ) (number : ℕ) (before after : Option (List ℕ)) : Type 0 where
+pub record IsStartText (job gro : List ℕ) (number : ℕ) (Wrote : List ℕ → Type 0) : Type 0 where
   pub said : JobValue
   pub state : StateView
   pub job_read : reading_of limits job ≡ Ok said
   pub started : IsStartOf said.frac said.time_step gro number state
-  pub written : after ≡ appended before (state_text state)
+  pub written : Wrote (state_text state)
 
 -- the text of the frame of this state was written
-pub record IsFrameText (state : List ℕ) (before after : Option (List ℕ)) : Type 0 where
+pub record IsFrameText (state : List ℕ) (Wrote : List ℕ → Type 0) : Type 0 where
   pub said : StateView
   pub state_read : state_of state ≡ Ok said
-  pub written : after ≡ appended before (frame_text (frame_of said))
+  pub written : Wrote (frame_text (frame_of said))
 
 -- the listing of the code of this job's slope was written
-pub record IsCodeText (job : List ℕ) (before after : Option (List ℕ)) : Type 0 where
+pub record IsCodeText (job : List ℕ) (Wrote : List ℕ → Type 0) : Type 0 where
   pub code : List Instr
   pub compiled : slope_code_of job ≡ Ok code
-  pub written : after ≡ appended before (listing_of code)
+  pub written : Wrote (listing_of code)

@@ -5,6 +5,7 @@ pub mod Host
 pub mod Printed
 pub mod Progress
 pub mod Reads
+pub mod Refusals
 pub mod Reports
 pub mod Statuses
 pub mod Kept

@@ -7,35 +7,28 @@ use Rattle.command_line.specs.CommandLine.{AsksForHelp, AsksForVersion, IsComman
 use Rattle.command_line.specs.declared.commands.Command.{Command}
 use Rattle.command_line.specs.declared.commands.Command.TheVariants as command
 use Rattle.cli.specs.Conversions.{IsCodeText, IsFrameText, IsStartText}
-use Rattle.cli.specs.Held.{IsHeld}
+use Rattle.cli.specs.Held.{OfOne, OfTwo}
+use Rattle.cli.specs.Kept.{Appends}
 use Rattle.cli.specs.Reads.{asked_by}
 use Rattle.cli.specs.Verdicts.{IsEnergyText, IsListingVerdict, IsSlopeVerdict}
 
--- of the bytes of the file at this path an output took what they say
-abbrev pub OfOne : (List ℕ → Option (List ℕ)) → List ℕ → (List ℕ → Option (List ℕ) → Option (List ℕ) → Type 0) → Option (List ℕ) → Option (List ℕ) → Type 0
-OfOne held path Says before after = (bytes : List ℕ) × IsHeld held path bytes × Says bytes before after
-
--- the same of two files
-abbrev pub OfTwo : (List ℕ → Option (List ℕ)) → List ℕ → List ℕ → (List ℕ → List ℕ → Option (List ℕ) → Option (List ℕ) → Type 0) → Option (List ℕ) → Option (List ℕ) → Type 0
-OfTwo held first second Says before after = (a : List ℕ) × (b : List ℕ) × IsHeld held first a × IsHeld held second b × Says a b before after
-
 -- the verdict on the code of a job's slope, or on that of a listing
-abbrev pub HasVerdict : (List ℕ → Option (List ℕ)) → List ℕ → Option (Bor (List ℕ)) → Option (List ℕ) → Option (List ℕ) → Type 0
-HasVerdict held job None before after = OfOne held job IsSlopeVerdict before after
-HasVerdict held job (Some listing) before after = OfTwo held job listing.now IsListingVerdict before after
+abbrev pub HasVerdict : (List ℕ → Option (List ℕ)) → List ℕ → Option (Bor (List ℕ)) → (List ℕ → Type 0) → Type 0
+HasVerdict held job None Wrote = OfOne held job (λ j. IsSlopeVerdict j Wrote)
+HasVerdict held job (Some listing) Wrote = OfTwo held job listing.now (λ j l. IsListingVerdict j l Wrote)
 
 -- A command has printed what it is for, of the bytes of its files: a started state, the text of a state that so many steps lead to, frames on the way (with `--progress` as without), a
 -- state's frame or energy, a verdict, or a listing.
 abbrev pub HasPrinted : (List ℕ → Option (List ℕ)) → Command → Option (List ℕ) → Option (List ℕ) → Type 0
-HasPrinted held (command.Start start) before after = OfTwo held start.job.now start.gro.now (λ job gro. IsStartText job gro start.frame) before after
-HasPrinted held (command.Run run) before after = OfTwo held run.job.now run.state.now (λ job state. WroteLevesqueVerletRun job state run.direction run.steps) before after
-HasPrinted held (command.Trajectory t) before after = OfTwo held t.job.now t.state.now (λ job state. WroteFrames (IsFrameOfRun job state t.direction t.every) (suc (t.steps / t.every))) before after
-HasPrinted held (command.Frame frame) before after = OfOne held frame.state.now IsFrameText before after
-HasPrinted held (command.Energy energy) before after = OfTwo held energy.job.now energy.state.now IsEnergyText before after
-HasPrinted held (command.Check check) before after = HasVerdict held check.job.now check.listing before after
-HasPrinted held (command.Code l) before after = OfOne held l.job.now IsCodeText before after
+HasPrinted held (command.Start start) before after = OfTwo held start.job.now start.gro.now (λ job gro. IsStartText job gro start.frame (Appends before after))
+HasPrinted held (command.Run run) before after = OfTwo held run.job.now run.state.now (λ job state. WroteLevesqueVerletRun job state run.direction run.steps before after)
+HasPrinted held (command.Trajectory t) before after = OfTwo held t.job.now t.state.now (λ job state. WroteFrames (IsFrameOfRun job state t.direction t.every) (suc (t.steps / t.every)) before after)
+HasPrinted held (command.Frame frame) before after = OfOne held frame.state.now (λ state. IsFrameText state (Appends before after))
+HasPrinted held (command.Energy energy) before after = OfTwo held energy.job.now energy.state.now (λ job state. IsEnergyText job state (Appends before after))
+HasPrinted held (command.Check check) before after = HasVerdict held check.job.now check.listing (Appends before after)
+HasPrinted held (command.Code l) before after = OfOne held l.job.now (λ job. IsCodeText job (Appends before after))
 
--- What the words ask for was done: help, the version, or a command, which asked for its files and printed what they say.
+-- What the words ask for was done: help or the version, and no file was asked for; or a command, which asked for its files and printed what they say.
 abbrev pub IsDone : List (List ℕ) → (List ℕ → Option (List ℕ)) → (asked_before asked_after : Option (List (List ℕ))) → (before after : Option (List ℕ)) → Type 0
-IsDone words held asked_before asked_after before after = AsksForHelp words ⊎ AsksForVersion words
+IsDone words held asked_before asked_after before after = ((AsksForHelp words ⊎ AsksForVersion words) × (asked_after ≡ asked_before))
     ⊎ ((c : Command) × IsCommand words c × (asked_after ≡ asked_by asked_before c) × HasPrinted held c before after)

@@ -6,7 +6,8 @@ use Rattle.command_line.specs.declared.commands.Command.{Command}
 use Rattle.command_line.specs.declared.commands.Command.TheVariants as command
 use Rattle.trajectory.specs.Watching.{SomeHundredths, hundredths}
 use Rattle.cli.specs.Kept.{Output}
-use Rattle.cli.specs.Reports.{Prints}
+use Rattle.cli.specs.Reports.{IsReported, Prints}
+use Rattle.cli.specs.declared.faults.CommandFault.{CommandFault}
 
 -- the line that tells that so many of the steps are made
 abbrev pub progress_line : (steps made : ℕ) → List ℕ
@@ -60,6 +61,10 @@ abbrev pub Says : List (List ℕ) → Output → Output → List ℕ → Type 0
 Says words before after text = Prints before after text
     ⊎ ((c : Command) × (steps : ℕ) × (between : Output) × IsCommand words c × (told_of c ≡ Some steps)
     × SomeHundredths steps (PrintsProgress steps before between) × PrintsIfCounted between after text)
+
+-- a fault was told by a status and a text
+abbrev pub IsTold : {A : Type 0} → List (List ℕ) → CommandFault A → ℕ → Output → Output → Type 0
+IsTold words f result before after = IsReported f result (Says words before after)
 
 -- what was printed and then was printed
 pub prints_more : (steps : ℕ) (first more : List ℕ) (before between after : Output) → PrintsProgress steps before between first

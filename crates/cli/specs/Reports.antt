@@ -1,6 +1,8 @@
 -- What is printed of a fault.
 use Rattle.std.specs.Prelude.{◌≡◌, ◌⊎◌, ℕ, ◌<◌, List, [], ◌∷◌, ◌++◌, Option, codes}
 use Rattle.gro.specs.Out.{appended, AppendsBeginning}
+use Rattle.cli.specs.Statuses.{code_of, status_of}
+use Rattle.cli.specs.declared.faults.CommandFault.{CommandFault}
 use Rattle.cli.specs.declared.faults.Status.{Status}
 use Rattle.cli.specs.declared.faults.Status.TheVariants as status
 
@@ -17,3 +19,8 @@ said _ text = line text
 abbrev pub Prints : Option (List ℕ) × ℕ → Option (List ℕ) × ℕ → List ℕ → Type 0
 Prints before after text = ((after.0 ≡ appended before.0 text) × (after.1 ≡ before.1))
     ⊎ (AppendsBeginning before.0 after.0 text × (before.1 < after.1))
+
+-- a fault was reported: by its status, with a text as its status has it printed; or memory for the text was refused, and want of memory was reported in place of it
+abbrev pub IsReported : {A : Type 0} → CommandFault A → ℕ → (List ℕ → Type 0) → Type 0
+IsReported f result Printed = ((result ≡ code_of (status_of f)) × ((text : List ℕ) × Printed (said (status_of f) text)))
+    ⊎ ((result ≡ code_of status.Memory) × Printed (line (codes "Memory")))

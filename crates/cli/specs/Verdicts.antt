@@ -1,7 +1,6 @@
--- What is printed of code that is judged, and of energies: from the bytes that are read to those that are printed.
-use Rattle.std.specs.Prelude.{◌≡◌, ℕ, ℤ, List, ◌++◌, [], ◌∷◌, Option, Ok, codes, decimal}
+-- What is printed of code that is judged, and of energies: from the bytes that are read to those that are printed. How a text went to an output is told by what it is asked to meet.
+use Rattle.std.specs.Prelude.{◌≡◌, ℕ, ℤ, List, ◌++◌, [], ◌∷◌, Ok, codes, decimal}
 use Rattle.std.specs.Fmt.{signed_decimal}
-use Rattle.gro.specs.Out.{appended}
 use Rattle.engine.specs.PairEnergies.{IsEnergyOfTexts}
 use Rattle.engine.specs.Verdicts.{IsSlopeKernel, IsUnder}
 use Rattle.job.specs.JobText.{reading_of, limits}
@@ -14,30 +13,30 @@ unfoldable pub verdict_line : (steps bound : ℕ) → List ℕ
 verdict_line steps bound = codes "accepted: steps " ++ (decimal steps ++ (codes ", bound " ++ (decimal bound ++ 10 ∷ [])))
 
 -- the code of the slope of the job's energy is accepted, and what is known of it was written
-pub record IsSlopeVerdict (job : List ℕ) (before after : Option (List ℕ)) : Type 0 where
+pub record IsSlopeVerdict (job : List ℕ) (Wrote : List ℕ → Type 0) : Type 0 where
   pub said : JobValue
   pub kernel : Kernel
   pub job_read : reading_of limits job ≡ Ok said
   pub slope : IsSlopeKernel said kernel
   pub accepted : IsKernel kernel
-  pub written : after ≡ appended before (verdict_line kernel.steps kernel.bound)
+  pub written : Wrote (verdict_line kernel.steps kernel.bound)
 
 -- the same of the code of a listing, under the job
-pub record IsListingVerdict (job listing : List ℕ) (before after : Option (List ℕ)) : Type 0 where
+pub record IsListingVerdict (job listing : List ℕ) (Wrote : List ℕ → Type 0) : Type 0 where
   pub said : JobValue
   pub kernel : Kernel
   pub job_read : reading_of limits job ≡ Ok said
   pub listing_read : code_of listing ≡ Ok kernel.code
   pub under : IsUnder said kernel
   pub accepted : IsKernel kernel
-  pub written : after ≡ appended before (verdict_line kernel.steps kernel.bound)
+  pub written : Wrote (verdict_line kernel.steps kernel.bound)
 
 -- the line of an energy, in units of 2^-bits kJ/mol
 abbrev pub energy_line : ℤ → List ℕ
 energy_line energy = codes "energy " ++ signed_decimal energy ++ 10 ∷ []
 
 -- the energy of a state was written
-pub record IsEnergyText (job state : List ℕ) (before after : Option (List ℕ)) : Type 0 where
+pub record IsEnergyText (job state : List ℕ) (Wrote : List ℕ → Type 0) : Type 0 where
   pub energy : ℤ
   pub is : IsEnergyOfTexts job state energy
-  pub written : after ≡ appended before (energy_line energy)
+  pub written : Wrote (energy_line energy)

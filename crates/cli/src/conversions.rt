@@ -1,6 +1,6 @@
 //! From GRO files to states and back, and from jobs to listings.
 
-ghost use Rattle.std.specs.Prelude.{◌≡◌, ◌≢◌, ◌⊎◌, ◌-◌, ◌<◌, ◌^◌, List, Ok, IfErr, IfOk, OnErr, OnOk};
+ghost use Rattle.std.specs.Prelude.{◌≡◌, ◌-◌, ◌<◌, ◌^◌, List, Ok, IfErr, IfOk, OnOk};
 ghost use Rattle.gro.specs.Frames.{frame_view};
 ghost use Rattle.integrator.specs.Starts.{slope_code_of};
 ghost use Rattle.job.specs.JobText.{limits, reading_of};
@@ -11,9 +11,10 @@ ghost use Rattle.state.specs.StateFrames.{frame_of};
 ghost use Rattle.state.specs.StateReading.{state_of};
 ghost use Rattle.state.specs.StateText.{StateView};
 ghost use Rattle.state.specs.StateViews.{state_view};
+ghost use Rattle.job.specs.Views.{job_value};
 ghost use Rattle.cli.specs.Conversions.{IsCodeText, IsFrameText, IsStartOf, IsStartText};
-ghost use Rattle.cli.specs.Statuses.{status_of};
-ghost use Rattle.cli.specs.declared.faults.Status.{Status};
+ghost use Rattle.cli.specs.Kept.{Appends};
+ghost use Rattle.cli.specs.Refusals.{IsCodeFault, IsFrameFault, IsStartFault, RefusesCode, RefusesFrame, RefusesState, RefusesUnder};
 
 use crate::faults::CommandFault;
 use gro::{GroFrame, Out, pick, read_frames, write_all};
@@ -34,9 +35,8 @@ pub(crate) fn start_bytes<'a, A: Allocator + Copy, O: Out>(
     out: &mut O,
 ) -> Result<(), CommandFault<'a, A>>
     requires { O.failed out.old < 2 ^ 64 - 1 }
-    ensures written { OnOk result (IsStartText job.now gro.now frame (O.taken out.old) (O.taken out.new)) }
-    ensures fault { IfErr result (λ f. status_of f ≢ Status.CommandLine) }
-    ensures kept { OnErr result ((O.taken out.new ≡ O.taken out.old) ⊎ (O.failed out.old < O.failed out.new)) }
+    ensures written { OnOk result (IsStartText job.now gro.now frame (Appends (O.taken out.old) (O.taken out.new))) }
+    ensures refused { IfErr result (IsStartFault job.now gro.now frame (O.taken out.old, O.failed out.old) (O.taken out.new, O.failed out.new)) }
 {
     let state = started(alloc, job, gro, frame)?;
     state.write(out)?;
@@ -52,7 +52,7 @@ fn started<'a, A: Allocator + Copy>(
 ) -> Result<State<A>, CommandFault<'a, A>>
     ensures is { IfOk result (λ s. (said : JobValue) × (reading_of limits job.now ≡ Ok said)
         × IsStartOf said.frac said.time_step gro.now frame (state_view s)) }
-    ensures fault { IfErr result (λ f. status_of f ≢ Status.CommandLine) }
+    ensures refused { IfErr result (RefusesUnder job.now (RefusesFrame gro.now frame)) }
 {
     let job = Job::read(alloc, job)?;
     started_under(alloc, &job, gro, frame)
@@ -66,7 +66,7 @@ fn started_under<'a, A: Allocator + Copy>(
     frame: u64,
 ) -> Result<State<A>, CommandFault<'a, A>>
     ensures is { IfOk result (λ s. IsStartOf job.now.frac job.now.time_step gro.now frame (state_view s)) }
-    ensures fault { IfErr result (λ f. status_of f ≢ Status.CommandLine) }
+    ensures refused { IfErr result (RefusesFrame gro.now frame (job_value job.now)) }
 {
     let frames = read_frames(alloc, gro)?;
     let frame = pick(&frames, frame)?;
@@ -80,9 +80,8 @@ pub(crate) fn frame_bytes<'a, A: Allocator + Copy, O: Out>(
     out: &mut O,
 ) -> Result<(), CommandFault<'a, A>>
     requires { O.failed out.old < 2 ^ 64 - 1 }
-    ensures written { OnOk result (IsFrameText state.now (O.taken out.old) (O.taken out.new)) }
-    ensures fault { IfErr result (λ f. status_of f ≢ Status.CommandLine) }
-    ensures kept { OnErr result ((O.taken out.new ≡ O.taken out.old) ⊎ (O.failed out.old < O.failed out.new)) }
+    ensures written { OnOk result (IsFrameText state.now (Appends (O.taken out.old) (O.taken out.new))) }
+    ensures refused { IfErr result (IsFrameFault state.now (O.taken out.old, O.failed out.old) (O.taken out.new, O.failed out.new)) }
 {
     let frame = frame_read(alloc, state)?;
     gro::write(&frame, out)?;
@@ -95,7 +94,7 @@ fn frame_read<'a, A: Allocator + Copy>(
     state: &[u8],
 ) -> Result<GroFrame<A>, CommandFault<'a, A>>
     ensures is { IfOk result (λ f. (said : StateView) × (state_of state.now ≡ Ok said) × (frame_view f ≡ frame_of said)) }
-    ensures fault { IfErr result (λ f. status_of f ≢ Status.CommandLine) }
+    ensures refused { IfErr result (RefusesState state.now) }
 {
     let state = State::read(alloc, state)?;
     Ok(state.frame()?)
@@ -108,9 +107,8 @@ pub(crate) fn code_bytes<'a, A: Allocator + Copy, O: Out>(
     out: &mut O,
 ) -> Result<(), CommandFault<'a, A>>
     requires { O.failed out.old < 2 ^ 64 - 1 }
-    ensures written { OnOk result (IsCodeText job.now (O.taken out.old) (O.taken out.new)) }
-    ensures fault { IfErr result (λ f. status_of f ≢ Status.CommandLine) }
-    ensures kept { OnErr result ((O.taken out.new ≡ O.taken out.old) ⊎ (O.failed out.old < O.failed out.new)) }
+    ensures written { OnOk result (IsCodeText job.now (Appends (O.taken out.old) (O.taken out.new))) }
+    ensures refused { IfErr result (IsCodeFault job.now (O.taken out.old, O.failed out.old) (O.taken out.new, O.failed out.new)) }
 {
     let listing = slope_listing(alloc, job)?;
     write_all(out, &listing)?;
@@ -123,7 +121,7 @@ fn slope_listing<'a, A: Allocator + Copy>(
     job: &[u8],
 ) -> Result<Vec<u8, A>, CommandFault<'a, A>>
     ensures is { IfOk result (λ v. (code : List Instr) × (slope_code_of job.now ≡ Ok code) × (v.items ≡ listing_of code)) }
-    ensures fault { IfErr result (λ f. status_of f ≢ Status.CommandLine) }
+    ensures refused { IfErr result (RefusesCode job.now) }
 {
     let code = slope_code(alloc, job)?;
     Ok(print(alloc, &code)?)

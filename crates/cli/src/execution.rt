@@ -2,21 +2,22 @@
 
 ghost use Rattle.std.specs.Prelude.{◌≡◌, ◌≢◌, ◌⊎◌, ◌≤◌, ◌<◌, ◌-◌, ◌/◌, ◌^◌, ℕ, suc, List, IfOk, OnOk, OnErr, IfErr, map, string_bytes};
 ghost use Rattle.clap.specs.Words.{kind_of};
-ghost use Rattle.clap.specs.declared.error.kind.ErrorKind.TheVariants.{OutOfMemory, DisplayHelp, DisplayVersion};
+ghost use Rattle.clap.specs.declared.error.kind.ErrorKind.TheVariants.{DisplayHelp, DisplayVersion};
 ghost use Rattle.command_line.specs.CommandLine.{AsksForTrajectory, IsCommand, IsMisuse};
-ghost use Rattle.cli.specs.Held.{IsHeld};
-ghost use Rattle.cli.specs.Kept.{IsKept, Keeps};
+ghost use Rattle.command_line.specs.declared.commands.Command.{Command};
 ghost use Rattle.engine.specs.Headline.{WroteLevesqueVerletRun};
 ghost use Rattle.trajectory.specs.Trajectories.{IsFrameOfRun, WroteFrames};
-ghost use Rattle.cli.specs.Printed.{HasPrinted, IsDone};
-ghost use Rattle.cli.specs.Progress.{IsBegun, IsQuiet, PrintsIfCounted, Says, TellsAll, TellsSome, told_of};
-ghost use Rattle.cli.specs.Reads.{AsksFor, asked_by, unread};
 ghost use Rattle.cli.specs.Asked.{also_asked};
+ghost use Rattle.cli.specs.Held.{IsHeld};
+ghost use Rattle.cli.specs.Kept.{IsKept};
+ghost use Rattle.cli.specs.Printed.{HasPrinted, IsDone};
+ghost use Rattle.cli.specs.Progress.{IsBegun, IsQuiet, IsTold, PrintsIfCounted, TellsAll, TellsSome, told_of};
+ghost use Rattle.cli.specs.Reads.{AsksFor, asked_by, unread};
+ghost use Rattle.cli.specs.Refusals.{IsFaultOf, IsNoAnswer, IsRunFault, IsTrajectoryFault, IsUndone, IsUnreadOfTwo};
+ghost use Rattle.cli.specs.Reports.{IsReported, Prints, line, said};
+ghost use Rattle.cli.specs.Statuses.{status_of};
+ghost use Rattle.cli.specs.declared.faults.CommandFault.{CommandFault};
 ghost use Rattle.cli.specs.declared.files.ReadFault.{ReadFault};
-ghost use Rattle.cli.specs.Reports.{Prints, line, said};
-ghost use Rattle.cli.specs.Statuses.{code_of, status_of};
-ghost use Rattle.command_line.specs.declared.commands.Command.{Command};
-ghost use Rattle.cli.specs.declared.faults.Status.{Status};
 
 use crate::conversions::{code_bytes, frame_bytes, start_bytes};
 use crate::faults::{CommandFault, Status};
@@ -48,8 +49,8 @@ pub fn execute<
     requires err { E.failed err.old < 2 ^ 64 - 1 }
     ensures most { result ≤ 5 }
     ensures quiet { result ≡ 0 → IsQuiet (map S.text words.now) (E.taken err.old, E.failed err.old) (E.taken err.new, E.failed err.new) }
-    ensures said { result ≢ 0 → (s : Status) × (text : List ℕ) × (result ≡ code_of s)
-        × Says (map S.text words.now) (E.taken err.old, E.failed err.old) (E.taken err.new, E.failed err.new) (said s text) }
+    ensures undone { result ≢ 0 → (f : CommandFault A) × IsFaultOf (map S.text words.now) (F.held files.old) (F.asked files.old) (F.asked files.new) (O.taken out.old, O.failed out.old) (O.taken out.new, O.failed out.new) f
+        × IsTold (map S.text words.now) f result (E.taken err.old, E.failed err.old) (E.taken err.new, E.failed err.new) }
     ensures kept { result ≢ 0 → IsKept (O.taken out.old, O.failed out.old) (O.taken out.new, O.failed out.new)
         ⊎ ((result ≡ 4) × AsksForTrajectory (map S.text words.now)) }
     ensures misuse { result ≡ 2 → IsMisuse (map S.text words.now) × (O.taken out.new ≡ O.taken out.old) }
@@ -82,16 +83,10 @@ fn respond<
     err: &mut E,
 ) -> Result<(), CommandFault<'a, A>>
     requires { O.failed out.old < 2 ^ 64 - 1 }
-    ensures misuse { IfErr result (λ f. status_of f ≡ Status.CommandLine → IsMisuse (map S.text words.entry.now)
-        × (O.taken out.new ≡ O.taken out.old)) }
-    ensures kept { IfErr result (λ f. IsKept (O.taken out.old, O.failed out.old) (O.taken out.new, O.failed out.new)
-        ⊎ ((status_of f ≡ Status.Memory) × AsksForTrajectory (map S.text words.entry.now))) }
-    ensures fault { IfErr result (λ f. status_of f ≢ Status.Done) }
+    ensures undone { IfErr result (IsFaultOf (map S.text words.entry.now) (F.held files.old) (F.asked files.old) (F.asked files.new) (O.taken out.old, O.failed out.old) (O.taken out.new, O.failed out.new)) }
     ensures quiet { OnOk result (IsQuiet (map S.text words.entry.now) (E.taken err.old, E.failed err.old) (E.taken err.new, E.failed err.new)) }
     ensures begun { OnErr result (IsBegun (map S.text words.entry.now) (E.taken err.old, E.failed err.old) (E.taken err.new, E.failed err.new)) }
     ensures done { OnOk result (IsDone (map S.text words.entry.now) (F.held files.old) (F.asked files.old) (F.asked files.new) (O.taken out.old) (O.taken out.new)) }
-    ensures reads { (F.asked files.new ≡ F.asked files.old)
-        ⊎ ((c : Command) × IsCommand (map S.text words.entry.now) c × AsksFor c (F.asked files.old) (F.asked files.new)) }
 {
     match parse(words_alloc, words) {
         Ok(command) => perform(rt, alloc, command, files, out, err),
@@ -110,12 +105,10 @@ fn perform<'a, R: Threads + Sync, A: Allocator + Copy + Send + Sync, F: Files, O
 ) -> Result<(), CommandFault<'a, A>>
     requires { O.failed out.old < 2 ^ 64 - 1 }
     ensures done { OnOk result (F.asked files.new ≡ asked_by (F.asked files.old) command.entry) }
-    ensures reads { AsksFor command.entry (F.asked files.old) (F.asked files.new) }
     ensures printed { OnOk result (HasPrinted (F.held files.old) command.entry (O.taken out.old) (O.taken out.new)) }
     ensures told { OnOk result (TellsAll (told_of command.entry) (E.taken err.old, E.failed err.old) (E.taken err.new, E.failed err.new)) }
     ensures told_some { OnErr result (TellsSome (told_of command.entry) (E.taken err.old, E.failed err.old) (E.taken err.new, E.failed err.new)) }
-    ensures kept { IfErr result (Keeps command.entry (O.taken out.old, O.failed out.old) (O.taken out.new, O.failed out.new)) }
-    ensures fault { IfErr result (λ f. status_of f ≢ Status.CommandLine) }
+    ensures undone { IfErr result (IsUndone (F.held files.old) (F.asked files.old) (F.asked files.new) command.entry (O.taken out.old, O.failed out.old) (O.taken out.new, O.failed out.new)) }
 {
     match command {
         Command::Start(start) => perform_start(alloc, start, files, out),
@@ -139,10 +132,8 @@ fn perform_start<'a, A: Allocator + Copy, F: Files, O: Out>(
 ) -> Result<(), CommandFault<'a, A>>
     requires { O.failed out.old < 2 ^ 64 - 1 }
     ensures done { OnOk result (F.asked files.new ≡ asked_by (F.asked files.old) (Command.Start start.entry)) }
-    ensures reads { AsksFor (Command.Start start.entry) (F.asked files.old) (F.asked files.new) }
     ensures printed { OnOk result (HasPrinted (F.held files.old) (Command.Start start.entry) (O.taken out.old) (O.taken out.new)) }
-    ensures kept { OnErr result ((O.taken out.new ≡ O.taken out.old) ⊎ (O.failed out.old < O.failed out.new)) }
-    ensures fault { IfErr result (λ f. status_of f ≢ Status.CommandLine) }
+    ensures undone { IfErr result (IsUndone (F.held files.old) (F.asked files.old) (F.asked files.new) (Command.Start start.entry) (O.taken out.old, O.failed out.old) (O.taken out.new, O.failed out.new)) }
 {
     let (job, gro) = read_two(alloc, start.job, start.gro, files)?;
     start_bytes(alloc, job.as_slice(), gro.as_slice(), start.frame, out)
@@ -157,10 +148,8 @@ fn perform_frame<'a, A: Allocator + Copy, F: Files, O: Out>(
 ) -> Result<(), CommandFault<'a, A>>
     requires { O.failed out.old < 2 ^ 64 - 1 }
     ensures done { OnOk result (F.asked files.new ≡ asked_by (F.asked files.old) (Command.Frame frame.entry)) }
-    ensures reads { AsksFor (Command.Frame frame.entry) (F.asked files.old) (F.asked files.new) }
     ensures printed { OnOk result (HasPrinted (F.held files.old) (Command.Frame frame.entry) (O.taken out.old) (O.taken out.new)) }
-    ensures kept { OnErr result ((O.taken out.new ≡ O.taken out.old) ⊎ (O.failed out.old < O.failed out.new)) }
-    ensures fault { IfErr result (λ f. status_of f ≢ Status.CommandLine) }
+    ensures undone { IfErr result (IsUndone (F.held files.old) (F.asked files.old) (F.asked files.new) (Command.Frame frame.entry) (O.taken out.old, O.failed out.old) (O.taken out.new, O.failed out.new)) }
 {
     let state = read(alloc, frame.state, files)?;
     frame_bytes(alloc, state.as_slice(), out)
@@ -175,10 +164,8 @@ fn perform_energy<'a, A: Allocator + Copy, F: Files, O: Out>(
 ) -> Result<(), CommandFault<'a, A>>
     requires { O.failed out.old < 2 ^ 64 - 1 }
     ensures done { OnOk result (F.asked files.new ≡ asked_by (F.asked files.old) (Command.Energy energy.entry)) }
-    ensures reads { AsksFor (Command.Energy energy.entry) (F.asked files.old) (F.asked files.new) }
     ensures printed { OnOk result (HasPrinted (F.held files.old) (Command.Energy energy.entry) (O.taken out.old) (O.taken out.new)) }
-    ensures kept { OnErr result ((O.taken out.new ≡ O.taken out.old) ⊎ (O.failed out.old < O.failed out.new)) }
-    ensures fault { IfErr result (λ f. status_of f ≢ Status.CommandLine) }
+    ensures undone { IfErr result (IsUndone (F.held files.old) (F.asked files.old) (F.asked files.new) (Command.Energy energy.entry) (O.taken out.old, O.failed out.old) (O.taken out.new, O.failed out.new)) }
 {
     let (job, state) = read_two(alloc, energy.job, energy.state, files)?;
     energy_bytes(alloc, job.as_slice(), state.as_slice(), out)
@@ -193,10 +180,8 @@ fn perform_check<'a, A: Allocator + Copy, F: Files, O: Out>(
 ) -> Result<(), CommandFault<'a, A>>
     requires { O.failed out.old < 2 ^ 64 - 1 }
     ensures done { OnOk result (F.asked files.new ≡ asked_by (F.asked files.old) (Command.Check check.entry)) }
-    ensures reads { AsksFor (Command.Check check.entry) (F.asked files.old) (F.asked files.new) }
     ensures printed { OnOk result (HasPrinted (F.held files.old) (Command.Check check.entry) (O.taken out.old) (O.taken out.new)) }
-    ensures kept { OnErr result ((O.taken out.new ≡ O.taken out.old) ⊎ (O.failed out.old < O.failed out.new)) }
-    ensures fault { IfErr result (λ f. status_of f ≢ Status.CommandLine) }
+    ensures undone { IfErr result (IsUndone (F.held files.old) (F.asked files.old) (F.asked files.new) (Command.Check check.entry) (O.taken out.old, O.failed out.old) (O.taken out.new, O.failed out.new)) }
 {
     let job = read(alloc, check.job, files)?;
     match check.listing {
@@ -217,10 +202,8 @@ fn perform_code<'a, A: Allocator + Copy, F: Files, O: Out>(
 ) -> Result<(), CommandFault<'a, A>>
     requires { O.failed out.old < 2 ^ 64 - 1 }
     ensures done { OnOk result (F.asked files.new ≡ asked_by (F.asked files.old) (Command.Code listing.entry)) }
-    ensures reads { AsksFor (Command.Code listing.entry) (F.asked files.old) (F.asked files.new) }
     ensures printed { OnOk result (HasPrinted (F.held files.old) (Command.Code listing.entry) (O.taken out.old) (O.taken out.new)) }
-    ensures kept { OnErr result ((O.taken out.new ≡ O.taken out.old) ⊎ (O.failed out.old < O.failed out.new)) }
-    ensures fault { IfErr result (λ f. status_of f ≢ Status.CommandLine) }
+    ensures undone { IfErr result (IsUndone (F.held files.old) (F.asked files.old) (F.asked files.new) (Command.Code listing.entry) (O.taken out.old, O.failed out.old) (O.taken out.new, O.failed out.new)) }
 {
     let job = read(alloc, listing.job, files)?;
     code_bytes(alloc, job.as_slice(), out)
@@ -237,12 +220,10 @@ fn perform_run<'a, R: Threads + Sync, A: Allocator + Copy + Send + Sync, F: File
 ) -> Result<(), CommandFault<'a, A>>
     requires { O.failed out.old < 2 ^ 64 - 1 }
     ensures done { OnOk result (F.asked files.new ≡ asked_by (F.asked files.old) (Command.Run run.entry)) }
-    ensures reads { AsksFor (Command.Run run.entry) (F.asked files.old) (F.asked files.new) }
     ensures printed { OnOk result (HasPrinted (F.held files.old) (Command.Run run.entry) (O.taken out.old) (O.taken out.new)) }
     ensures told { OnOk result (TellsAll (told_of (Command.Run run.entry)) (E.taken err.old, E.failed err.old) (E.taken err.new, E.failed err.new)) }
     ensures told_some { OnErr result (TellsSome (told_of (Command.Run run.entry)) (E.taken err.old, E.failed err.old) (E.taken err.new, E.failed err.new)) }
-    ensures kept { OnErr result ((O.taken out.new ≡ O.taken out.old) ⊎ (O.failed out.old < O.failed out.new)) }
-    ensures fault { IfErr result (λ f. status_of f ≢ Status.CommandLine) }
+    ensures undone { IfErr result (IsUndone (F.held files.old) (F.asked files.old) (F.asked files.new) (Command.Run run.entry) (O.taken out.old, O.failed out.old) (O.taken out.new, O.failed out.new)) }
 {
     let (job, state) = read_two(alloc, run.job, run.state, files)?;
     if run.progress {
@@ -263,8 +244,7 @@ fn run_texts<'a, R: Threads + Sync, A: Allocator + Copy + Send + Sync, O: Out>(
 ) -> Result<(), CommandFault<'a, A>>
     requires { O.failed out.old < 2 ^ 64 - 1 }
     ensures wrote { OnOk result (WroteLevesqueVerletRun job.now state.now run.now.direction run.now.steps (O.taken out.old) (O.taken out.new)) }
-    ensures kept { OnErr result ((O.taken out.new ≡ O.taken out.old) ⊎ (O.failed out.old < O.failed out.new)) }
-    ensures fault { IfErr result (λ f. status_of f ≢ Status.CommandLine) }
+    ensures refused { IfErr result (IsRunFault job.now state.now run.now (O.taken out.old, O.failed out.old) (O.taken out.new, O.failed out.new)) }
 {
     run_bytes(
         rt,
@@ -297,12 +277,10 @@ fn perform_trajectory<
 ) -> Result<(), CommandFault<'a, A>>
     requires { O.failed out.old < 2 ^ 64 - 1 }
     ensures done { OnOk result (F.asked files.new ≡ asked_by (F.asked files.old) (Command.Trajectory trajectory.entry)) }
-    ensures reads { AsksFor (Command.Trajectory trajectory.entry) (F.asked files.old) (F.asked files.new) }
     ensures printed { OnOk result (HasPrinted (F.held files.old) (Command.Trajectory trajectory.entry) (O.taken out.old) (O.taken out.new)) }
     ensures told { OnOk result (TellsAll (told_of (Command.Trajectory trajectory.entry)) (E.taken err.old, E.failed err.old) (E.taken err.new, E.failed err.new)) }
     ensures told_some { OnErr result (TellsSome (told_of (Command.Trajectory trajectory.entry)) (E.taken err.old, E.failed err.old) (E.taken err.new, E.failed err.new)) }
-    ensures kept { IfErr result (Keeps (Command.Trajectory trajectory.entry) (O.taken out.old, O.failed out.old) (O.taken out.new, O.failed out.new)) }
-    ensures fault { IfErr result (λ f. status_of f ≢ Status.CommandLine) }
+    ensures undone { IfErr result (IsUndone (F.held files.old) (F.asked files.old) (F.asked files.new) (Command.Trajectory trajectory.entry) (O.taken out.old, O.failed out.old) (O.taken out.new, O.failed out.new)) }
 {
     let (job, state) = read_two(alloc, trajectory.job, trajectory.state, files)?;
     if trajectory.progress {
@@ -324,8 +302,7 @@ fn trajectory_texts<'a, R: Threads + Sync, A: Allocator + Copy + Send + Sync, O:
     requires { O.failed out.old < 2 ^ 64 - 1 }
     ensures wrote { OnOk result (WroteFrames (IsFrameOfRun job.now state.now trajectory.now.direction trajectory.now.every)
         (suc (trajectory.now.steps / trajectory.now.every)) (O.taken out.old) (O.taken out.new)) }
-    ensures kept { IfErr result (λ f. IsKept (O.taken out.old, O.failed out.old) (O.taken out.new, O.failed out.new) ⊎ (status_of f ≡ Status.Memory)) }
-    ensures fault { IfErr result (λ f. status_of f ≢ Status.CommandLine) }
+    ensures refused { IfErr result (IsTrajectoryFault job.now state.now trajectory.now (O.taken out.old, O.failed out.old) (O.taken out.new, O.failed out.new)) }
 {
     trajectory_bytes(
         rt,
@@ -349,10 +326,8 @@ fn read_two<'a, A: Allocator + Copy, F: Files>(
     files: &mut F,
 ) -> Result<(Vec<u8, A>, Vec<u8, A>), CommandFault<'a, A>>
     ensures done { OnOk result (F.asked files.new ≡ also_asked (also_asked (F.asked files.old) first.entry.now) second.entry.now) }
-    ensures reads { (F.asked files.new ≡ also_asked (F.asked files.old) first.entry.now)
-        ⊎ (F.asked files.new ≡ also_asked (also_asked (F.asked files.old) first.entry.now) second.entry.now) }
     ensures gives { IfOk result (λ both. IsHeld (F.held files.old) first.entry.now both.0.items × IsHeld (F.held files.old) second.entry.now both.1.items) }
-    ensures fault { IfErr result (λ f. status_of f ≢ Status.CommandLine) }
+    ensures unread { IfErr result (IsUnreadOfTwo first.entry.now second.entry.now (F.asked files.old) (F.asked files.new)) }
 {
     let first = read(alloc, first, files)?;
     let second = read(alloc, second, files)?;
@@ -392,10 +367,8 @@ fn answer<'a, A: Allocator + Copy, O: Out>(
     out: &mut O,
 ) -> Result<(), CommandFault<'a, A>>
     requires { O.failed out.old < 2 ^ 64 - 1 }
-    ensures kept { OnErr result ((O.taken out.new ≡ O.taken out.old) ⊎ (O.failed out.old < O.failed out.new)) }
     ensures help { OnOk result ((kind_of error ≡ DisplayHelp) ⊎ (kind_of error ≡ DisplayVersion)) }
-    ensures misuse { IfErr result (λ f. status_of f ≡ Status.CommandLine → (kind_of error ≢ OutOfMemory)
-        × (kind_of error ≢ DisplayHelp) × (kind_of error ≢ DisplayVersion) × (O.taken out.new ≡ O.taken out.old)) }
+    ensures unanswered { IfErr result (IsNoAnswer (kind_of error) (O.taken out.old, O.failed out.old) (O.taken out.new, O.failed out.new)) }
 {
     match error.kind() {
         ErrorKind::OutOfMemory => Err(CommandFault::Memory),
@@ -414,8 +387,7 @@ fn report_if_counted<A: Allocator + Copy, E: Out>(
     fault: &CommandFault<'_, A>,
     err: &mut E,
 ) -> u8
-    ensures { (s : Status) × (text : List ℕ) × ((s ≡ status_of fault.now) ⊎ (s ≡ Status.Memory)) × (result ≡ code_of s)
-        × PrintsIfCounted (E.taken err.old, E.failed err.old) (E.taken err.new, E.failed err.new) (said s text) }
+    ensures { IsReported fault.now result (PrintsIfCounted (E.taken err.old, E.failed err.old) (E.taken err.new, E.failed err.new)) }
 {
     if err.failures() < u64::MAX {
         report(alloc, fault, err)
@@ -429,8 +401,7 @@ fn report_if_counted<A: Allocator + Copy, E: Out>(
 /// Where memory for the text is refused, the fault is want of memory. An output that fails is left with a beginning of the text.
 pub fn report<A: Allocator + Copy, E: Out>(alloc: A, fault: &CommandFault<'_, A>, err: &mut E) -> u8
     requires { E.failed err.old < 2 ^ 64 - 1 }
-    ensures { (s : Status) × (text : List ℕ) × ((s ≡ status_of fault.now) ⊎ (s ≡ Status.Memory)) × (result ≡ code_of s)
-        × Prints (E.taken err.old, E.failed err.old) (E.taken err.new, E.failed err.new) (said s text) }
+    ensures { IsReported fault.now result (Prints (E.taken err.old, E.failed err.old) (E.taken err.new, E.failed err.new)) }
 {
     match text_of(alloc, fault) {
         Ok(text) => {

@@ -1,11 +1,14 @@
 //! The program as a process of the system.
 
 ghost use Rattle.std.specs.Prelude.{◌≡◌, ◌≢◌, ◌⊎◌, ◌-◌, ◌<◌, ◌≤◌, ◌^◌, IfErr, IfOk, map, string_bytes};
+ghost use Rattle.std.specs.Global.{Global};
 ghost use Rattle.command_line.specs.CommandLine.{AsksForTrajectory, IsMisuse};
 ghost use Rattle.cli.specs.Kept.{IsKept};
 ghost use Rattle.cli.specs.Printed.{IsDone};
-ghost use Rattle.cli.specs.Statuses.{code_of, status_of};
-ghost use Rattle.cli.specs.declared.faults.Status.{Status};
+ghost use Rattle.cli.specs.Progress.{IsTold};
+ghost use Rattle.cli.specs.Refusals.{IsFaultOf};
+ghost use Rattle.cli.specs.Reports.{IsReported, Prints};
+ghost use Rattle.cli.specs.declared.faults.CommandFault.{CommandFault};
 
 use crate::execution::{execute, report};
 use crate::faults::CommandFault;
@@ -34,7 +37,9 @@ pub fn execute_words<'a, R: Threads + Sync + AllocGlobal, F: Files, O: Out, E: O
     ensures misuse { IfOk words.entry (λ ws. result ≡ 2 → IsMisuse (map string_bytes ws.items) × (O.taken out.new ≡ O.taken out.old)) }
     ensures kept { IfOk words.entry (λ ws. result ≢ 0 → IsKept (O.taken out.old, O.failed out.old) (O.taken out.new, O.failed out.new)
         ⊎ ((result ≡ 4) × AsksForTrajectory (map string_bytes ws.items))) }
-    ensures refused { IfErr words.entry (λ f. (s : Status) × ((s ≡ status_of f) ⊎ (s ≡ Status.Memory)) × (result ≡ code_of s) × (O.taken out.new ≡ O.taken out.old)) }
+    ensures undone { IfOk words.entry (λ ws. result ≢ 0 → (f : CommandFault Global) × IsFaultOf (map string_bytes ws.items) (F.held files.old) (F.asked files.old) (F.asked files.new) (O.taken out.old, O.failed out.old) (O.taken out.new, O.failed out.new) f
+        × IsTold (map string_bytes ws.items) f result (E.taken err.old, E.failed err.old) (E.taken err.new, E.failed err.new)) }
+    ensures refused { IfErr words.entry (λ f. IsReported f result (Prints (E.taken err.old, E.failed err.old) (E.taken err.new, E.failed err.new)) × (O.taken out.new ≡ O.taken out.old)) }
 {
     match words {
         Ok(words) => execute(

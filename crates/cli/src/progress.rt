@@ -1,13 +1,11 @@
 //! Telling how far a run has come.
 
-ghost use Rattle.std.specs.Prelude.{◌≡◌, ◌≢◌, ◌⊎◌, ◌<◌, ◌*◌, ◌/◌, ◌-◌, ◌^◌, ℕ, suc, Some, OnOk, OnErr, IfErr, refl};
+ghost use Rattle.std.specs.Prelude.{◌≡◌, ◌<◌, ◌*◌, ◌/◌, ◌-◌, ◌^◌, ℕ, suc, Some, OnOk, OnErr, IfErr, refl};
 ghost use Rattle.std.proofs.Common.{◌∙◌};
 ghost use Rattle.engine.specs.Headline.{WroteLevesqueVerletRun};
 ghost use Rattle.trajectory.specs.Trajectories.{IsFrameOfRun, WroteFrames};
-ghost use Rattle.cli.specs.Kept.{IsKept};
 ghost use Rattle.cli.specs.Progress.{PrintsProgress, TellsAll, TellsSome, prints_also};
-ghost use Rattle.cli.specs.Statuses.{status_of};
-ghost use Rattle.cli.specs.declared.faults.Status.{Status};
+ghost use Rattle.cli.specs.Refusals.{IsRunFault, IsTrajectoryFault};
 
 use crate::faults::CommandFault;
 use command_line::{Run, Trajectory};
@@ -69,10 +67,9 @@ pub(crate) fn run_watched<'a, R: Threads + Sync, A: Allocator + Copy + Send + Sy
 ) -> Result<(), CommandFault<'a, A>>
     requires { O.failed out.old < 2 ^ 64 - 1 }
     ensures wrote { OnOk result (WroteLevesqueVerletRun job.now state.now run.now.direction run.now.steps (O.taken out.old) (O.taken out.new)) }
-    ensures kept { OnErr result (IsKept (O.taken out.old, O.failed out.old) (O.taken out.new, O.failed out.new)) }
     ensures told { OnOk result (TellsAll (Some run.now.steps) (E.taken err.old, E.failed err.old) (E.taken err.new, E.failed err.new)) }
     ensures told_some { OnErr result (TellsSome (Some run.now.steps) (E.taken err.old, E.failed err.old) (E.taken err.new, E.failed err.new)) }
-    ensures fault { IfErr result (λ f. status_of f ≢ Status.CommandLine) }
+    ensures refused { IfErr result (IsRunFault job.now state.now run.now (O.taken out.old, O.failed out.old) (O.taken out.new, O.failed out.new)) }
 {
     let steps = run.steps;
     let mut watch = ProgressLines { err, steps };
@@ -109,12 +106,11 @@ pub(crate) fn trajectory_watched<
     requires { O.failed out.old < 2 ^ 64 - 1 }
     ensures wrote { OnOk result (WroteFrames (IsFrameOfRun job.now state.now trajectory.now.direction trajectory.now.every)
         (suc (trajectory.now.steps / trajectory.now.every)) (O.taken out.old) (O.taken out.new)) }
-    ensures kept { IfErr result (λ f. IsKept (O.taken out.old, O.failed out.old) (O.taken out.new, O.failed out.new) ⊎ (status_of f ≡ Status.Memory)) }
     ensures told { OnOk result (TellsAll (Some (trajectory.now.steps / trajectory.now.every * trajectory.now.every))
         (E.taken err.old, E.failed err.old) (E.taken err.new, E.failed err.new)) }
     ensures told_some { OnErr result (TellsSome (Some (trajectory.now.steps / trajectory.now.every * trajectory.now.every))
         (E.taken err.old, E.failed err.old) (E.taken err.new, E.failed err.new)) }
-    ensures fault { IfErr result (λ f. status_of f ≢ Status.CommandLine) }
+    ensures refused { IfErr result (IsTrajectoryFault job.now state.now trajectory.now (O.taken out.old, O.failed out.old) (O.taken out.new, O.failed out.new)) }
 {
     let steps = trajectory.steps / trajectory.every * trajectory.every;
     let mut watch = ProgressLines { err, steps };

@@ -1,15 +1,15 @@
 //! What is printed of a job's code, of other code under a job, and of a state's energy.
 
-ghost use Rattle.std.specs.Prelude.{◌≡◌, ◌≢◌, ◌⊎◌, ◌-◌, ◌<◌, ◌^◌, IfErr, IfOk, Ok, OnErr, OnOk, string_bytes};
+ghost use Rattle.std.specs.Prelude.{◌≡◌, ◌-◌, ◌<◌, ◌^◌, IfErr, IfOk, Ok, OnOk, string_bytes};
 ghost use Rattle.engine.specs.Verdicts.{IsSlopeKernel, IsUnder};
 ghost use Rattle.gro.specs.Out.{appended};
 ghost use Rattle.job.specs.JobText.{limits, reading_of};
 ghost use Rattle.job.specs.Values.{JobValue};
 ghost use Rattle.kernel_code.specs.ListingReading.{code_of};
 ghost use Rattle.verifier.specs.Kernels.{IsKernel, Kernel};
-ghost use Rattle.cli.specs.Statuses.{status_of};
+ghost use Rattle.cli.specs.Kept.{Appends};
+ghost use Rattle.cli.specs.Refusals.{IsEnergyFault, IsLineFault, IsListingFault, IsSlopeFault, RefusesListing, RefusesSlope, RefusesUnder};
 ghost use Rattle.cli.specs.Verdicts.{IsEnergyText, IsListingVerdict, IsSlopeVerdict, energy_line, verdict_line};
-ghost use Rattle.cli.specs.declared.faults.Status.{Status};
 
 use crate::faults::CommandFault;
 use engine::{state_energy, verdict, verified_slope};
@@ -46,8 +46,7 @@ fn write_verdict<'a, A: Allocator + Copy, O: Out>(
 ) -> Result<(), CommandFault<'a, A>>
     requires { O.failed out.old < 2 ^ 64 - 1 }
     ensures written { OnOk result (O.taken out.new ≡ appended (O.taken out.old) (verdict_line steps bound)) }
-    ensures fault { IfErr result (λ f. status_of f ≢ Status.CommandLine) }
-    ensures kept { OnErr result ((O.taken out.new ≡ O.taken out.old) ⊎ (O.failed out.old < O.failed out.new)) }
+    ensures refused { IfErr result (IsLineFault (verdict_line steps bound) (O.taken out.old, O.failed out.old) (O.taken out.new, O.failed out.new)) }
 {
     let line = verdict_line(alloc, steps, bound)?;
     write_all(out, line.as_bytes())?;
@@ -62,9 +61,8 @@ pub(crate) fn slope_verdict_bytes<'a, A: Allocator + Copy, O: Out>(
     out: &mut O,
 ) -> Result<(), CommandFault<'a, A>>
     requires { O.failed out.old < 2 ^ 64 - 1 }
-    ensures written { OnOk result (IsSlopeVerdict job.now (O.taken out.old) (O.taken out.new)) }
-    ensures fault { IfErr result (λ f. status_of f ≢ Status.CommandLine) }
-    ensures kept { OnErr result ((O.taken out.new ≡ O.taken out.old) ⊎ (O.failed out.old < O.failed out.new)) }
+    ensures written { OnOk result (IsSlopeVerdict job.now (Appends (O.taken out.old) (O.taken out.new))) }
+    ensures refused { IfErr result (IsSlopeFault job.now (O.taken out.old, O.failed out.old) (O.taken out.new, O.failed out.new)) }
 {
     let known = slope_known(alloc, job)?;
     write_verdict(alloc, known.0, known.1, out)
@@ -77,7 +75,7 @@ fn slope_known<'a, A: Allocator + Copy>(
 ) -> Result<(u32, u64), CommandFault<'a, A>>
     ensures is { IfOk result (λ known. (said : JobValue) × (k : Kernel) × (reading_of limits job.now ≡ Ok said)
         × IsSlopeKernel said k × IsKernel k × (known.0 ≡ k.steps) × (known.1 ≡ k.bound)) }
-    ensures fault { IfErr result (λ f. status_of f ≢ Status.CommandLine) }
+    ensures refused { IfErr result (RefusesUnder job.now RefusesSlope) }
 {
     let job = Job::read(alloc, job)?;
     let kernel = verified_slope(alloc, &job)?;
@@ -93,9 +91,8 @@ pub(crate) fn listing_verdict_bytes<'a, A: Allocator + Copy, O: Out>(
     out: &mut O,
 ) -> Result<(), CommandFault<'a, A>>
     requires { O.failed out.old < 2 ^ 64 - 1 }
-    ensures written { OnOk result (IsListingVerdict job.now listing.now (O.taken out.old) (O.taken out.new)) }
-    ensures fault { IfErr result (λ f. status_of f ≢ Status.CommandLine) }
-    ensures kept { OnErr result ((O.taken out.new ≡ O.taken out.old) ⊎ (O.failed out.old < O.failed out.new)) }
+    ensures written { OnOk result (IsListingVerdict job.now listing.now (Appends (O.taken out.old) (O.taken out.new))) }
+    ensures refused { IfErr result (IsListingFault job.now listing.now (O.taken out.old, O.failed out.old) (O.taken out.new, O.failed out.new)) }
 {
     let known = listing_known(alloc, job, listing)?;
     write_verdict(alloc, known.0, known.1, out)
@@ -109,7 +106,7 @@ fn listing_known<'a, A: Allocator + Copy>(
 ) -> Result<(u32, u64), CommandFault<'a, A>>
     ensures is { IfOk result (λ known. (said : JobValue) × (k : Kernel) × (reading_of limits job.now ≡ Ok said)
         × (code_of listing.now ≡ Ok k.code) × IsUnder said k × IsKernel k × (known.0 ≡ k.steps) × (known.1 ≡ k.bound)) }
-    ensures fault { IfErr result (λ f. status_of f ≢ Status.CommandLine) }
+    ensures refused { IfErr result (RefusesUnder job.now (RefusesListing listing.now)) }
 {
     let job = Job::read(alloc, job)?;
     let code = read(alloc, listing)?;
@@ -126,9 +123,8 @@ pub(crate) fn energy_bytes<'a, A: Allocator + Copy, O: Out>(
     out: &mut O,
 ) -> Result<(), CommandFault<'a, A>>
     requires { O.failed out.old < 2 ^ 64 - 1 }
-    ensures written { OnOk result (IsEnergyText job.now state.now (O.taken out.old) (O.taken out.new)) }
-    ensures fault { IfErr result (λ f. status_of f ≢ Status.CommandLine) }
-    ensures kept { OnErr result ((O.taken out.new ≡ O.taken out.old) ⊎ (O.failed out.old < O.failed out.new)) }
+    ensures written { OnOk result (IsEnergyText job.now state.now (Appends (O.taken out.old) (O.taken out.new))) }
+    ensures refused { IfErr result (IsEnergyFault job.now state.now (O.taken out.old, O.failed out.old) (O.taken out.new, O.failed out.new)) }
 {
     let energy = state_energy(alloc, job, state)?;
     let line = energy_line(alloc, energy)?;

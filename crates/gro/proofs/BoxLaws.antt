@@ -99,7 +99,7 @@ value_read : (word : List ℕ) (v : ℤ) → WritesSigned WritesLength word v �
 unfolding value_of
 value_read word v h = signed_read WritesLength length_of length_read length_first word v h
 
-values_written : (ws : List (List ℕ)) (vs : List ℤ) → values_of ws ≡ Some vs → AreValues ws vs
+pub values_written : (ws : List (List ℕ)) (vs : List ℤ) → values_of ws ≡ Some vs → AreValues ws vs
 unfolding values_of
 values_written [] [] e = tt
 values_written [] (v ∷ vs) e = absurd cc
@@ -108,7 +108,7 @@ values_written (w ∷ ws) vs e =
     let b = bind_some (values_of ws) (λ us. Some (a.0 ∷ us)) vs a.2 in
     subst (λ (us : List ℤ). AreValues (w ∷ ws) us) (some_is b.2) (value_written w a.0 a.1, values_written ws b.0 b.1)
 
-values_read : (ws : List (List ℕ)) (vs : List ℤ) → AreValues ws vs → values_of ws ≡ Some vs
+pub values_read : (ws : List (List ℕ)) (vs : List ℤ) → AreValues ws vs → values_of ws ≡ Some vs
 unfolding values_of
 values_read [] [] h = refl
 values_read [] (v ∷ vs) h = absurd h
@@ -116,7 +116,7 @@ values_read (w ∷ ws) [] h = absurd h
 values_read (w ∷ ws) (v ∷ vs) h =
     ap (λ (o : Option ℤ). o >>= λ a. values_of ws >>= λ us. Some (a ∷ us)) (value_read w v h.0) ∙ ap (λ (o : Option (List ℤ)). o >>= λ us. Some (v ∷ us)) (values_read ws vs h.1)
 
-values_length : (ws : List (List ℕ)) (vs : List ℤ) → AreValues ws vs → length ws ≡ length vs
+pub values_length : (ws : List (List ℕ)) (vs : List ℤ) → AreValues ws vs → length ws ≡ length vs
 values_length [] [] h = refl
 values_length [] (v ∷ vs) h = absurd h
 values_length (w ∷ ws) [] h = absurd h
@@ -131,7 +131,7 @@ zeros_are (pos n ∷ vs) e =
     ap (λ (m : ℕ). pos m ∷ vs) (eqb-true n 0 p.0) ∙ ap (λ (us : List ℤ). pos 0 ∷ us) (zeros_are vs p.1)
 zeros_are (negsuc n ∷ vs) e = absurd cc
 
-all_zero : (k : ℕ) → list_all is_zero (replicate k (pos 0)) ≡ true
+pub all_zero : (k : ℕ) → list_all is_zero (replicate k (pos 0)) ≡ true
 all_zero zero = refl
 all_zero (suc k) = all_zero k
 

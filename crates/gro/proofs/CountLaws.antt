@@ -4,7 +4,7 @@ use Rattle.std.specs.Int.{IsInRange}
 use Rattle.std.proofs.lemmas.Bool.{eqb-false, ne_eqb, leb-true, le-leb}
 use Rattle.line_text.specs.Parts.{trimmed}
 use Rattle.line_text.specs.Columns.{digits_of}
-use Rattle.line_text.specs.Written.{WritesWhole}
+use Rattle.line_text.specs.Written.{IsPadded, WritesWhole}
 use Rattle.line_text.proofs.PartLaws.{none_or}
 use Rattle.line_text.proofs.WrittenLaws.{digits_written, digits_read, digit_in, padded_found, padded_read}
 use Rattle.gro.specs.declared.faults.GroFault.{GroFault}
@@ -33,6 +33,12 @@ first_digit text n h = digit_in text 0 h.form.some h.form.digits
 pub last_digit : (text : List ℕ) (n : ℕ) → WritesWhole text n → IsInRange 48 57 (get_or text (length text - 1) 0)
 last_digit text n h = digit_in text (length text - 1) (omega (arith, h.form.some)) h.form.digits
 
+-- a padded number is read, whatever its size
+pub number_read : (text digits : List ℕ) (count : ℕ) → IsPadded text digits → WritesWhole digits count → whole_of (trimmed text) ≡ Some count
+number_read text digits count padded number =
+    let bare : trimmed text ≡ digits = padded_read text digits padded (λ e. let d = first_digit digits count number in omega (arith, d)) (λ e. let d = last_digit digits count number in omega (arith, d)) in
+    ap whole_of bare ∙ whole_read digits count number
+
 pub count_written : (n : ℕ) (text : List ℕ) (count : ℕ) → count_in n text ≡ Ok count → IsCount text count
 unfolding count_in
 count_written n text count e = at (whole_of (trimmed text)) refl e
@@ -46,6 +52,4 @@ count_written n text count e = at (whole_of (trimmed text)) refl e
 
 pub count_read : (n : ℕ) (text : List ℕ) (count : ℕ) → IsCount text count → count_in n text ≡ Ok count
 unfolding count_in
-count_read n text count h =
-    let bare : trimmed text ≡ h.digits = padded_read text h.digits h.padded (λ e. let d = first_digit h.digits count h.number in omega (arith, d)) (λ e. let d = last_digit h.digits count h.number in omega (arith, d)) in
-    ap (λ (t : List ℕ). counted n (whole_of t)) bare ∙ ap (counted n) (whole_read h.digits count h.number) ∙ rw (le-leb count 65536 h.few) refl
+count_read n text count h = ap (counted n) (number_read text h.digits count h.padded h.number) ∙ rw (le-leb count 65536 h.few) refl

@@ -14,7 +14,7 @@ use Rattle.gro.proofs.BoxLaws.{sides_written, sides_read}
 use Rattle.line_text.proofs.StepLaws.{bind_ok}
 use Rattle.gro.proofs.FrameLoops.{frame_shorter}
 
-ok_is : {A : Type 0} {x y : A} → ◌≡◌ {A = Result A GroFault} (Ok x) (Ok y) → x ≡ y
+pub ok_is : {A : Type 0} {x y : A} → ◌≡◌ {A = Result A GroFault} (Ok x) (Ok y) → x ≡ y
 ok_is e = cc
 
 -- what a line says, and what is left after it
@@ -23,7 +23,7 @@ with_rest rest r = r >>= λ x. Ok (x, rest)
 
 -- ---- atoms
 
-atoms_written : (n k : ℕ) (bytes : List ℕ) (p : List AtomView × List ℕ) → atoms_at n k bytes ≡ Ok p → AreAtoms bytes p.0 p.1 × (length p.0 ≡ k)
+pub atoms_written : (n k : ℕ) (bytes : List ℕ) (p : List AtomView × List ℕ) → atoms_at n k bytes ≡ Ok p → AreAtoms bytes p.0 p.1 × (length p.0 ≡ k)
 unfolding atoms_at atom_at
 atoms_written n zero bytes p e = subst (λ (q : List AtomView × List ℕ). AreAtoms bytes q.0 q.1 × (length q.0 ≡ 0)) (ok_is e) (refl, refl)
 atoms_written n (suc k) bytes p e =
@@ -49,7 +49,7 @@ atoms_read n bytes (a ∷ atoms) rest h =
 
 -- ---- a frame
 
-frame_written : (n : ℕ) (bytes : List ℕ) (p : FrameView × List ℕ) → frame_at n bytes ≡ Ok p → IsFrame bytes p.0 p.1
+pub frame_written : (n : ℕ) (bytes : List ℕ) (p : FrameView × List ℕ) → frame_at n bytes ≡ Ok p → IsFrame bytes p.0 p.1
 unfolding frame_at count_at sides_at
 frame_written n bytes p e =
     let t = bind_ok (line_at bytes) (λ title. from_title (n + 1) title.0.text title.1) p e in

@@ -7,3 +7,4 @@ pub mod BoxLaws
 pub mod FrameLoops
 pub mod FrameLaws
 pub mod WrittenFrames
+pub mod FaultLaws

@@ -4,3 +4,4 @@ pub mod GroText
 pub mod GroWriting
 pub mod InputLines
 pub mod Out
+pub mod GroFaults

@@ -1,7 +1,8 @@
 //! Reading the frames of a GRO file.
 
-ghost use Rattle.std.specs.Prelude.{◌≡◌, ◌≤◌, ◌<◌, ◌+◌, ◌^◌, ℕ, List, length, map, IfOk, IfSome};
+ghost use Rattle.std.specs.Prelude.{◌≡◌, ◌≤◌, ◌<◌, ◌+◌, ◌^◌, ℕ, List, length, map, IfErr, IfOk, IfSome};
 ghost use Rattle.gro.specs.Frames.{atom_view, frame_view, FrameView};
+ghost use Rattle.gro.specs.GroFaults.{IsCause};
 ghost use Rattle.gro.specs.GroText.{is_blank, IsGroText};
 ghost use Rattle.gro.specs.GroReading.{Gives, count_in, count_at, atom_at, atoms_at, sides_at, frame_at, frames_of, ReadsGroTexts, Picks};
 
@@ -38,6 +39,8 @@ pub fn read_frames<A: Allocator + Copy>(
     ensures found { IfOk result (λ v. IsGroText bytes.now (map frame_view v.items)) }
     // What the text says is read, unless memory runs out.
     ensures only { (frames : List FrameView) → IsGroText bytes.now frames → Gives (λ v. map frame_view v.items) result (Ok frames) }
+    // Why the text stands for no frames: by its lines and what they say.
+    ensures cause { IfErr result (IsCause bytes.now) }
     // The definition reads exactly the texts that stand for frames.
     ensures texts { ReadsGroTexts }
 {

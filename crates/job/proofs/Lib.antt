@@ -9,3 +9,4 @@ pub mod BitsLemmas
 pub mod TextLemmas
 pub mod OnceLemmas
 pub mod ApartLemmas
+pub mod CauseLemmas

@@ -41,7 +41,7 @@ or_none : (a b : Option Refusal) → or_else a b ≡ None → (a ≡ None) × (b
 or_none None b e = (refl, e)
 or_none (Some f) b e = absurd cc
 
-faultless_from : (most : Counts) (frac : Frac) (above lines : List (List ℕ)) → first_fault most frac above lines ≡ None
+pub faultless_from : (most : Counts) (frac : Frac) (above lines : List (List ℕ)) → first_fault most frac above lines ≡ None
     → (front below : List (List ℕ)) (line : List ℕ) → lines ≡ front ++ line ∷ below → line_fault most frac (above ++ front) line ≡ None
 unfolding first_fault
 faultless_from most frac above [] h [] below line e = absurd cc
@@ -69,19 +69,19 @@ faultless_again most frac above (l ∷ ls) h =
 
 -- ---- the whole
 
-needed_ok : {X : Type 0} (key : Key) (o : Option X) (x : X) → needed key o ≡ Ok x → o ≡ Some x
+pub needed_ok : {X : Type 0} (key : Key) (o : Option X) (x : X) → needed key o ≡ Ok x → o ≡ Some x
 needed_ok key None x e = absurd cc
 needed_ok key (Some y) x e = cc
 
-below_is : (b : Bool) → b ≡ true → T b
+pub below_is : (b : Bool) → b ≡ true → T b
 below_is true e = tt
 below_is false e = absurd cc
 
-is_below : (b : Bool) → T b → b ≡ true
+pub is_below : (b : Bool) → T b → b ≡ true
 is_below true t = refl
 is_below false t = absurd t
 
-ordered_ok : (core cutoff z : ℤ) → ordered core cutoff ≡ Ok z → (cutoff ≡ z) × (int_lt core cutoff ≡ true)
+pub ordered_ok : (core cutoff z : ℤ) → ordered core cutoff ≡ Ok z → (cutoff ≡ z) × (int_lt core cutoff ≡ true)
 ordered_ok core cutoff z e = at (int_lt core cutoff) e
   where
     at : (b : Bool) → (if b then Ok cutoff else Err (out_of_range keys.Cutoff)) ≡ Ok z → (cutoff ≡ z) × (b ≡ true)

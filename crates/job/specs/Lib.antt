@@ -8,3 +8,4 @@ pub mod Bits
 pub mod JobText
 pub mod Drafts
 pub mod Views
+pub mod JobFaults

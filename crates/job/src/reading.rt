@@ -172,7 +172,9 @@ fn read_lines<A: Allocator + Copy>(alloc: A, bytes: &[u8]) -> Result<Job<A>, Job
 impl<A: Allocator + Copy> Job<A> {
     ghost use Rattle.job.specs.JobText.{IsJobText, HasKeysOnce, HasNamesOnce, below_first, reading_of};
     ghost use Rattle.job.specs.Values.{JobValue};
-    ghost use Rattle.job.specs.Views.{job_value, Gives, AnswersJob};
+    ghost use Rattle.std.specs.Prelude.{IfErr, IfOk, IfSome};
+    ghost use Rattle.job.specs.JobFaults.{IsCause};
+    ghost use Rattle.job.specs.Views.{job_value, Gives, AnswersJob, refusal_of};
 
     /// Reads a job's text.
     ///
@@ -193,6 +195,7 @@ impl<A: Allocator + Copy> Job<A> {
     /// a growth was refused.
     pub fn read(alloc: A, bytes: &[u8]) -> Result<Job<A>, JobFault<A>>
         ensures exact { Gives job_value result (reading_of limits bytes.now) }
+        ensures cause { IfErr result (λ f. IfSome (refusal_of f) (IsCause limits bytes.now)) }
         ensures job { IfOk result (λ job. IsJobText limits bytes.now (job_value job)) }
         ensures once { IfOk result (λ job. HasKeysOnce job.frac (below_first (lines_of bytes.now))) }
         ensures apart { IfOk result (λ job. HasNamesOnce (job_value job)) }

@@ -19,7 +19,8 @@ indexed_is {Y = Y} f n xs i x lt is =
 pub indexed_within : {X Y : Type 0} (f : X → Y) (n : ℕ) (xs : List X) (i : ℕ) → i < length xs → i < length (enumerate_from n (map f xs))
 indexed_within f n xs i lt = omega (arith, length-enumerate_from n (map f xs), length-map xs f)
 
-all_push : {X : Type 0} (P : X → Type 0) (xs : List X) (x : X) → AllByRecursion P xs → P x → AllByRecursion P (xs ++ x ∷ [])
+-- what holds of each item, and of one more
+pub all_push : {X : Type 0} (P : X → Type 0) (xs : List X) (x : X) → AllByRecursion P xs → P x → AllByRecursion P (xs ++ x ∷ [])
 all_push P [] x h p = (p, tt)
 all_push P (y ∷ ys) x h p = (h.0, all_push P ys x h.1 p)
 

@@ -8,3 +8,4 @@ pub mod CallLaws
 pub mod Pieces
 pub mod StartLaws
 pub mod FrameLaws
+pub mod FaultLaws

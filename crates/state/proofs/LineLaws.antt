@@ -30,7 +30,7 @@ line_found bytes p e = at (cut_at 10 bytes) refl e
         let f = cut_found 10 bytes p.0 p.1 (c ∙ ap (λ (x : List ℕ × List ℕ). Some x) same) in
         (f.0 ∙ sym (ended_then p.0 p.1), f.1)
 
-line_again : (line rest : List ℕ) → lacks 10 line ≡ true → line_at (ended line ++ rest) ≡ Ok (line, rest)
+pub line_again : (line rest : List ℕ) → lacks 10 line ≡ true → line_at (ended line ++ rest) ≡ Ok (line, rest)
 line_again line rest l = ap needed (line_cut line rest l)
 
 said_found : {X : Type 0} (n : ℕ) (o : Option X) (x : X) → said n o ≡ Ok x → o ≡ Some x
@@ -119,7 +119,7 @@ named_found n f e = at (eqb n 24) (eqb n 40) refl refl e
     at false true p q h = let same : F40 ≡ f = cc in (eqb-true n 40 q ∙ ap bits_of same, sym (ap version_of same))
     at false false p q h = absurd cc
 
-frac_found : Spells frac_of bits_line (λ f. version_of f ≡ Second)
+pub frac_found : Spells frac_of bits_line (λ f. version_of f ≡ Second)
 unfolding frac_of
 frac_found line f l e =
     let n = bind_some (after (codes "bits ") line |> natural_of 41) named_frac f e in
@@ -129,11 +129,11 @@ frac_found line f l e =
     (whole ∙ ap (λ (k : ℕ). codes "bits " ++ decimal k) m.0, m.1)
 
 -- of a fraction that a line names
-frac_again : (f : Frac) → bits_of f < 41 → named_frac (bits_of f) ≡ Some f → frac_of (bits_line f) ≡ Some f
+pub frac_again : (f : Frac) → bits_of f < 41 → named_frac (bits_of f) ≡ Some f → frac_of (bits_line f) ≡ Some f
 unfolding frac_of
 frac_again f small named = rw (after_again (codes "bits ") (decimal (bits_of f)), natural_again 41 (bits_of f) small (omega arith)) named
 
-frac_lacks : (f : Frac) → bits_of f < 41 → lacks 10 (bits_line f) ≡ true
+pub frac_lacks : (f : Frac) → bits_of f < 41 → lacks 10 (bits_line f) ≡ true
 frac_lacks f small = lacks_append 10 (codes "bits ") (decimal (bits_of f)) refl (decimal_lacks 10 (bits_of f) (lit< tt) (omega arith))
 
 pub bits_found : (v : Version) (bytes : List ℕ) (p : Frac × List ℕ) → frac_at v bytes ≡ Ok p → (bytes ≡ bits_in v p.0 ++ p.1) × (version_of p.0 ≡ v)

@@ -5,3 +5,4 @@ pub mod Middle
 pub mod Velocities
 pub mod Starts
 pub mod StateFrames
+pub mod StateFaults

@@ -14,7 +14,8 @@ use line_text::cut;
 use std::alloc::Allocator;
 
 impl<A: Allocator + Copy> State<A> {
-    ghost use Rattle.std.specs.Prelude.{◌≡◌, Ok, IfOk};
+    ghost use Rattle.std.specs.Prelude.{◌≡◌, Ok, IfErr, IfOk};
+    ghost use Rattle.state.specs.StateFaults.{IsCause};
     ghost use Rattle.state.specs.StateText.{StateView, IsState, state_text};
     ghost use Rattle.state.specs.StateViews.{state_view};
     ghost use Rattle.state.specs.StateReading.{Gives, OneText, state_of};
@@ -34,6 +35,8 @@ impl<A: Allocator + Copy> State<A> {
         ensures only { (s : StateView) → IsState s → bytes.now ≡ state_text s → Gives state_view result (Ok s) }
         // The state, or the first fault.
         ensures exact { Gives state_view result (state_of bytes.now) }
+        // Why the bytes are no state's text: by the texts of states.
+        ensures cause { IfErr result (IsCause bytes.now) }
         // The definition reads exactly the texts of states.
         ensures one_text { OneText }
     {

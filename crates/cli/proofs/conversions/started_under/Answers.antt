@@ -1,9 +1,30 @@
-use Rattle.std.proofs.Common.{arith}
-use Rattle.std.proofs.lemmas.Grind.{common_steps}
+-- the frame that was picked is told by what it says
+use Rattle.std.proofs.Common.{subst, sym}
+use Rattle.std.proofs.lemmas.Result.{IfErr-weaker}
+use Rattle.gro.specs.Frames.{frame_view}
+use Rattle.job.specs.Views.{job_value}
+use Rattle.cli.specs.Refusals.{RefusesFrame}
+use Rattle.cli.proofs.StartLaws.{if_err, picked}
 use Rattle.cli.proofs.conversions.started_under.Goals as goal
 
-pub returns-in_err-frames-clause-fault : goal.returns-in_err-frames-clause-fault
-returns-in_err-frames-clause-fault g c = grind (arith, common_steps)
+pub returns-in_err-start-clause-refused : goal.returns-in_err-start-clause-refused
+returns-in_err-start-clause-refused g c =
+    let is = picked frame_view c.deref.result.now c.args.frame c.in_ok-frame.frame.now c.in_ok-frame.ensures in
+    IfErr-weaker c.from_residual-in_err-start.result _ _ (λ e told. subst (RefusesFrame c.args.gro.now c.args.frame (job_value c.args.job.now)) (sym told) (record {
+      frames = _;
+      frame = _;
+      gro_read = c.in_ok-frames.ensures.exact;
+      picked = rw c.deref.ensures.value at is;
+      refused = c.in_err-start.ensures.exact;
+    })) (if_err c.from_residual-in_err-start.result _ c.from_residual-in_err-start.ensures.1)
 
-pub returns-in_err-start-clause-fault : goal.returns-in_err-start-clause-fault
-returns-in_err-start-clause-fault g c = grind (arith, common_steps)
+pub returns-clause-is : goal.returns-clause-is
+returns-clause-is g c =
+    let is = picked frame_view c.deref.result.now c.args.frame c.in_ok-frame.frame.now c.in_ok-frame.ensures in
+    record {
+      frames = _;
+      frame = _;
+      gro_read = c.in_ok-frames.ensures.exact;
+      picked = rw c.deref.ensures.value at is;
+      started = c.in_ok-start.ensures.exact;
+    }

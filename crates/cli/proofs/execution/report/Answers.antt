@@ -1,9 +1,8 @@
-use Rattle.std.proofs.Common.{codes, inr, refl}
-use Rattle.cli.specs.declared.faults.Status.TheVariants as status
+use Rattle.std.proofs.Common.{codes, inl, inr, refl}
 use Rattle.cli.proofs.Printing.{written}
 use Rattle.cli.proofs.execution.report.Goals as goal
 
 pub returns-in-Err : goal.returns-in-Err
 returns-in-Err g c =
     let w = c.write_all-in-Err.ensures in
-    (status.Memory, codes "Memory", inr refl, c.code-in-Err.ensures.code, written c.write_all-in-Err.result _ _ _ _ _ w.taken w.count w.fault_taken w.fault_count)
+    inr (c.code-in-Err.ensures.code, written c.write_all-in-Err.result _ _ _ _ _ w.taken w.count w.fault_taken w.fault_count)

@@ -4,6 +4,7 @@ use Rattle.gro.specs.GroText.{IsGroText}
 use Rattle.gro.specs.GroReading.{Gives, frames_of}
 use Rattle.gro.specs.declared.faults.GroFault.{GroFault}
 use Rattle.gro.specs.declared.frames.GroFrame.{GroFrame}
+use Rattle.gro.proofs.FaultLaws.{is_caused}
 use Rattle.gro.proofs.FrameLaws.{text_of_frames, frames_of_text, reads_texts}
 use Rattle.gro.proofs.reading.read_frames.Goals as goal
 
@@ -20,3 +21,6 @@ returns-clause-only g c = λ frames h. subst (λ (r : Result (List FrameView) Gr
 
 pub returns-clause-texts : goal.returns-clause-texts
 returns-clause-texts g c = reads_texts
+
+pub returns-clause-cause : goal.returns-clause-cause
+returns-clause-cause g c = is_caused (λ (v : Vec (GroFrame g.row.A.Denot) g.row.A.Denot). map frame_view v.items) c.args.bytes.now c.frames.result c.frames.ensures

@@ -1,0 +1,309 @@
+-- What follows from why a command was not done: which files it asked for, what is left of its output, and what its status tells.
+use Rattle.std.proofs.Common.{◌≡◌, ◌≢◌, ◌⊎◌, ◌∙◌, ◌<◌, ◌-◌, ◌^◌, ℕ, Bool, true, false, List, Option, Some, None, ap, arith, inl, inr, refl, subst, sym}
+use Rattle.std.specs.Borrow.{Bor}
+use Rattle.command_line.specs.CommandLine.{AsksForHelp, AsksForTrajectory, AsksForVersion, IsCommand, IsMisuse, faults_of}
+use Rattle.command_line.specs.declared.commands.Command.{Command}
+use Rattle.command_line.specs.declared.commands.Command.TheVariants as command
+use Rattle.command_line.proofs.CommandLineLaws.{asks_for_help, asks_for_version, is_misuse}
+use Rattle.clap.specs.Words.{HasKind, kind_of}
+use Rattle.clap.specs.declared.error.Error.{Error}
+use Rattle.clap.specs.declared.error.kind.ErrorKind.TheVariants.{DisplayHelp, DisplayVersion, OutOfMemory}
+use Rattle.gro.specs.Out.{AppendsBeginning}
+use Rattle.gro.specs.declared.output.OutFault.{OutFault}
+use Rattle.job.specs.Values.{JobValue}
+use Rattle.integrator.specs.Runs.{is_out}
+use Rattle.integrator.specs.declared.faults.RunFault.{RunFault}
+use Rattle.integrator.specs.declared.faults.RunFault.TheVariants as run
+use Rattle.trajectory.specs.Trajectories.{Leaves}
+use Rattle.cli.specs.Asked.{also_asked}
+use Rattle.cli.specs.Kept.{IsKept, Output}
+use Rattle.cli.specs.Printed.{IsDone}
+use Rattle.cli.specs.Progress.{IsBegun, IsTold, PrintsIfCounted}
+use Rattle.cli.specs.Reads.{AsksFor, also_asked_if, asked_by, unread}
+use Rattle.cli.specs.Refusals.{HasNoBytes, IsFaultOf, IsLineFault, IsNoAnswer, IsRefused, IsUnanswered, IsUndone, IsUnread, IsUnreadOfSome, IsUnreadOfTwo, IsVerdictFault, RefusesCode, RefusesEnergy, RefusesFrame, RefusesJob, RefusesListing, RefusesSlope, RefusesState, RefusesUnder}
+use Rattle.cli.specs.Reports.{IsReported}
+use Rattle.cli.specs.Statuses.{code_of, run_status, status_of}
+use Rattle.cli.specs.declared.faults.CommandFault.{CommandFault}
+use Rattle.cli.specs.declared.faults.CommandFault.TheVariants as fault
+use Rattle.cli.specs.declared.faults.Status.TheVariants as status
+use Rattle.cli.specs.declared.files.ReadFault.{ReadFault}
+use Rattle.cli.specs.declared.files.ReadFault.TheVariants as read
+use Rattle.cli.proofs.ProgressLaws.{says}
+use Rattle.cli.proofs.StatusLaws.{IsOfWords, code_two, code_zero, never_done, words_alone}
+
+abbrev Paths : Type 0
+Paths = Option (List (List ℕ))
+
+-- ---- which files were asked for
+
+asks_all : (c : Command) (before after : Paths) → after ≡ asked_by before c → AsksFor c before after
+asks_all (command.Start start) before after all = inr all
+asks_all (command.Run run) before after all = inr all
+asks_all (command.Trajectory t) before after all = inr all
+asks_all (command.Frame frame) before after all = all
+asks_all (command.Energy energy) before after all = inr all
+asks_all (command.Check check) before after all = inr all
+asks_all (command.Code l) before after all = all
+
+asks_of_two : {A : Type 0} (first second : List ℕ) (before after : Paths) (f : CommandFault A) → IsUnreadOfTwo first second before after f
+    → (after ≡ also_asked before first) ⊎ (after ≡ also_asked (also_asked before first) second)
+asks_of_two first second before after f (inl h) = inl h.asked
+asks_of_two first second before after f (inr h) = inr h.asked
+
+asks_of_some : {A : Type 0} (first : List ℕ) (second : Option (Bor (List ℕ))) (before after : Paths) (f : CommandFault A) → IsUnreadOfSome first second before after f
+    → (after ≡ also_asked before first) ⊎ (after ≡ also_asked_if (also_asked before first) second)
+asks_of_some first None before after f h = inl h.asked
+asks_of_some first (Some second) before after f h = asks_of_two first second.now before after f h
+
+asks_without_bytes : {A : Type 0} (c : Command) (before after : Paths) (f : CommandFault A) → HasNoBytes c before after f → AsksFor c before after
+asks_without_bytes (command.Start start) before after f h = asks_of_two _ _ _ _ f h
+asks_without_bytes (command.Run run) before after f h = asks_of_two _ _ _ _ f h
+asks_without_bytes (command.Trajectory t) before after f h = asks_of_two _ _ _ _ f h
+asks_without_bytes (command.Frame frame) before after f h = h.asked
+asks_without_bytes (command.Energy energy) before after f h = asks_of_two _ _ _ _ f h
+asks_without_bytes (command.Check check) before after f h = asks_of_some _ check.listing _ _ f h
+asks_without_bytes (command.Code l) before after f h = h.asked
+
+asks_undone : {A : Type 0} (held : List ℕ → Option (List ℕ)) (asked asked' : Paths) (c : Command) (before after : Output) (f : CommandFault A)
+    → IsUndone held asked asked' c before after f → AsksFor c asked asked'
+asks_undone held asked asked' c before after f (inl h) = asks_without_bytes c asked asked' f h.0
+asks_undone held asked asked' c before after f (inr h) = asks_all c asked asked' h.0
+
+-- what is asked for where the words' wish was done, and where it was not
+pub asks_done : (words : List (List ℕ)) (held : List ℕ → Option (List ℕ)) (asked asked' : Paths) (before after : Option (List ℕ)) → IsDone words held asked asked' before after
+    → (asked' ≡ asked) ⊎ ((c : Command) × IsCommand words c × AsksFor c asked asked')
+asks_done words held asked asked' before after (inl h) = inl h.1
+asks_done words held asked asked' before after (inr h) = inr (h.0, h.1, asks_all h.0 asked asked' h.2)
+
+pub asks_faulty : {A : Type 0} (words : List (List ℕ)) (held : List ℕ → Option (List ℕ)) (asked asked' : Paths) (before after : Output) (f : CommandFault A)
+    → IsFaultOf words held asked asked' before after f → (asked' ≡ asked) ⊎ ((c : Command) × IsCommand words c × AsksFor c asked asked')
+asks_faulty words held asked asked' before after f (inl h) = inl h.1
+asks_faulty words held asked asked' before after f (inr h) = inr (h.0, h.1, asks_undone held asked asked' h.0 before after f h.2)
+
+-- ---- what is left of an output
+
+-- nothing was written, as this is why; or a write failed behind a beginning
+abbrev Unwritten : {A : Type 0} → Type 0 → Type 0 → Output → Output → CommandFault A → Type 0
+Unwritten Why Began before after f = (Why × (after.0 ≡ before.0)) ⊎ ((o : OutFault) × (f ≡ fault.Out o) × (before.1 < after.1) × Began)
+
+kept_unwritten : {A : Type 0} (Why Began : Type 0) (before after : Output) (f : CommandFault A) → Unwritten Why Began before after f → IsKept before after
+kept_unwritten Why Began before after f (inl h) = inl h.1
+kept_unwritten Why Began before after f (inr h) = inr h.2
+
+kept_by_out : (out : Bool) (before after : Output) → (out ≡ false → after.0 ≡ before.0) → (out ≡ true → before.1 < after.1) → IsKept before after
+kept_by_out true before after unwritten failed = inr (failed refl)
+kept_by_out false before after unwritten failed = inl (unwritten refl)
+
+kept_frames : {A : Type 0} (IsText : ℕ → List ℕ → Type 0) (every most : ℕ) (before after : Output) (f : RunFault A) → Leaves IsText every most before.0 after.0 f
+    → (is_out f ≡ true → before.1 < after.1) → IsKept before after ⊎ (run_status f ≡ status.Memory)
+kept_frames IsText every most before after (run.Job f) left failed = inl (inl left)
+kept_frames IsText every most before after (run.State f) left failed = inl (inl left)
+kept_frames IsText every most before after (run.Energy f) left failed = inl (inl left)
+kept_frames IsText every most before after run.BitsDiffer left failed = inl (inl left)
+kept_frames IsText every most before after (run.UnknownType n) left failed = inl (inl left)
+kept_frames IsText every most before after run.CutoffTooLong left failed = inl (inl left)
+kept_frames IsText every most before after (run.Kernel r) left failed = inl (inl left)
+kept_frames IsText every most before after run.ForceRange left failed = inl (inl left)
+kept_frames IsText every most before after run.StepRange left failed = inl (inl left)
+kept_frames IsText every most before after (run.KernelFault step low high pc why) left failed = inl (inl left)
+kept_frames IsText every most before after run.Memory left failed = inl (inl left)
+kept_frames IsText every most before after (run.MemoryAfter done) left failed = inr refl
+kept_frames IsText every most before after (run.Out o) left failed = inl (inr (failed refl))
+
+kept_verdict : {A : Type 0} (held : List ℕ → Option (List ℕ)) (job : List ℕ) (listing : Option (Bor (List ℕ))) (before after : Output) (f : CommandFault A)
+    → IsVerdictFault held job listing before after f → IsKept before after
+kept_verdict held job None before after f h = kept_unwritten _ _ before after f h.2
+kept_verdict held job (Some listing) before after f h = kept_unwritten _ _ before after f h.4
+
+-- what a command leaves that was refused: a trajectory may leave whole frames where memory is wanted
+kept_refused : {A : Type 0} (words : List (List ℕ)) (held : List ℕ → Option (List ℕ)) (c : Command) (before after : Output) (f : CommandFault A) → IsCommand words c
+    → IsRefused held c before after f → IsKept before after ⊎ ((status_of f ≡ status.Memory) × AsksForTrajectory words)
+kept_refused words held (command.Start start) before after f is h = inl (kept_unwritten _ _ before after f h.4)
+kept_refused words held (command.Run r) before after f is h = let refused = h.4.2 in inl (kept_by_out (is_out h.4.0) before after refused.unwritten refused.failed)
+kept_refused words held (command.Trajectory t) before after f is h = let refused = h.4.2 in
+    trajectory (kept_frames _ _ _ before after h.4.0 refused.left refused.failed)
+  where
+    trajectory : IsKept before after ⊎ (run_status h.4.0 ≡ status.Memory) → IsKept before after ⊎ ((status_of f ≡ status.Memory) × AsksForTrajectory words)
+    trajectory (inl kept) = inl kept
+    trajectory (inr memory) = inr (ap status_of h.4.1 ∙ memory, (t, is))
+kept_refused words held (command.Frame frame) before after f is h = inl (kept_unwritten _ _ before after f h.2)
+kept_refused words held (command.Energy energy) before after f is h = inl (kept_unwritten _ _ before after f h.4)
+kept_refused words held (command.Check check) before after f is h = inl (kept_verdict held _ check.listing before after f h)
+kept_refused words held (command.Code l) before after f is h = inl (kept_unwritten _ _ before after f h.2)
+
+kept_unanswered : {A : Type 0} (words : List (List ℕ)) (before after : Output) (f : CommandFault A) → IsUnanswered words before after f → IsKept before after
+kept_unanswered words before after (fault.CommandLine e) h = inl h.1
+kept_unanswered words before after fault.NotText h = absurd h
+kept_unanswered words before after (fault.CannotRead path) h = absurd h
+kept_unanswered words before after (fault.Job f) h = absurd h
+kept_unanswered words before after (fault.Gro f) h = absurd h
+kept_unanswered words before after (fault.Start f) h = absurd h
+kept_unanswered words before after (fault.State f) h = absurd h
+kept_unanswered words before after (fault.Listing f) h = absurd h
+kept_unanswered words before after (fault.Run f) h = absurd h
+kept_unanswered words before after (fault.Out o) h = inr h.1
+kept_unanswered words before after fault.Memory h = inl h
+
+kept_faulty : {A : Type 0} (words : List (List ℕ)) (held : List ℕ → Option (List ℕ)) (asked asked' : Paths) (before after : Output) (f : CommandFault A)
+    → IsFaultOf words held asked asked' before after f → IsKept before after ⊎ ((status_of f ≡ status.Memory) × AsksForTrajectory words)
+kept_faulty words held asked asked' before after f (inl h) = inl (kept_unanswered words before after f h.0)
+kept_faulty words held asked asked' before after f (inr (c, is, inl h)) = inl (inl h.1)
+kept_faulty words held asked asked' before after f (inr (c, is, inr h)) = kept_refused words held c before after f is h.1
+
+-- the status is the fault's, or that of want of memory
+abbrev HasStatus : {A : Type 0} → CommandFault A → ℕ → Type 0 → Type 0 → Type 0
+HasStatus f result Text Memory = ((result ≡ code_of (status_of f)) × Text) ⊎ ((result ≡ code_of status.Memory) × Memory)
+
+-- the same as the status tells it
+pub kept_told : {A : Type 0} (words : List (List ℕ)) (held : List ℕ → Option (List ℕ)) (asked asked' : Paths) (before after : Output) (f : CommandFault A) (result : ℕ) (Text Memory : Type 0)
+    → IsFaultOf words held asked asked' before after f → HasStatus f result Text Memory → IsKept before after ⊎ ((result ≡ 4) × AsksForTrajectory words)
+kept_told words held asked asked' before after f result Text Memory is told = by_status (kept_faulty words held asked asked' before after f is) told
+  where
+    by_status : IsKept before after ⊎ ((status_of f ≡ status.Memory) × AsksForTrajectory words) → HasStatus f result Text Memory → IsKept before after ⊎ ((result ≡ 4) × AsksForTrajectory words)
+    by_status (inl kept) told = inl kept
+    by_status (inr h) (inl told) = inr (told.0 ∙ ap code_of h.0, h.1)
+    by_status (inr h) (inr told) = inr (told.0, h.1)
+
+-- ---- what a status tells
+
+-- a fault is told by another status than 0
+pub some_told : {A : Type 0} (f : CommandFault A) (result : ℕ) (Text Memory : Type 0) → HasStatus f result Text Memory → result ≢ 0
+some_told f result Text Memory (inl told) zero = never_done f (code_zero (status_of f) (sym told.0 ∙ zero))
+some_told f result Text Memory (inr told) zero = let bad : 4 ≡ 0 = sym told.0 ∙ zero in absurd (omega (arith, bad))
+
+-- no file's fault is one of the words
+unread_of_words : {A : Type 0} (path : List ℕ) (before after : Paths) (f : CommandFault A) → IsOfWords f → IsUnread path before after f → ⊥
+unread_of_words {A} path before after f of_words h = unread_no h.why h.lent (subst IsOfWords h.is of_words)
+  where
+    unread_no : (why : ReadFault) (lent : Bor (List ℕ)) → IsOfWords {A = A} (unread why lent) → ⊥
+    unread_no read.CannotRead lent h = h
+    unread_no read.Memory lent h = h
+
+two_of_words : {A : Type 0} (first second : List ℕ) (before after : Paths) (f : CommandFault A) → IsOfWords f → IsUnreadOfTwo first second before after f → ⊥
+two_of_words first second before after f of_words (inl h) = unread_of_words _ _ _ f of_words h
+two_of_words first second before after f of_words (inr h) = unread_of_words _ _ _ f of_words h
+
+some_of_words : {A : Type 0} (first : List ℕ) (second : Option (Bor (List ℕ))) (before after : Paths) (f : CommandFault A) → IsOfWords f → IsUnreadOfSome first second before after f → ⊥
+some_of_words first None before after f of_words h = unread_of_words _ _ _ f of_words h
+some_of_words first (Some second) before after f of_words h = two_of_words _ _ _ _ f of_words h
+
+bytes_of_words : {A : Type 0} (c : Command) (before after : Paths) (f : CommandFault A) → IsOfWords f → HasNoBytes c before after f → ⊥
+bytes_of_words (command.Start start) before after f of_words h = two_of_words _ _ _ _ f of_words h
+bytes_of_words (command.Run r) before after f of_words h = two_of_words _ _ _ _ f of_words h
+bytes_of_words (command.Trajectory t) before after f of_words h = two_of_words _ _ _ _ f of_words h
+bytes_of_words (command.Frame frame) before after f of_words h = unread_of_words _ _ _ f of_words h
+bytes_of_words (command.Energy energy) before after f of_words h = two_of_words _ _ _ _ f of_words h
+bytes_of_words (command.Check check) before after f of_words h = some_of_words _ check.listing _ _ f of_words h
+bytes_of_words (command.Code l) before after f of_words h = unread_of_words _ _ _ f of_words h
+
+-- what texts are refused for isn't a fault of the words, nor is a failed output
+unwritten_of_words : {A : Type 0} (Why Began : Type 0) (before after : Output) (f : CommandFault A) → IsOfWords f → (Why → ⊥) → Unwritten Why Began before after f → ⊥
+unwritten_of_words Why Began before after f of_words none (inl h) = none h.0
+unwritten_of_words Why Began before after f of_words none (inr h) = subst IsOfWords h.1 of_words
+
+under_of_words : (Job : Type 0) (Read Refuses' : JobValue → Type 0) → (Job → ⊥) → ((said : JobValue) → Refuses' said → ⊥) → Job ⊎ ((said : JobValue) × Read said × Refuses' said) → ⊥
+under_of_words Job Read Refuses' none never (inl h) = none h
+under_of_words Job Read Refuses' none never (inr h) = never h.0 h.2
+
+refused_of_words : {A : Type 0} (held : List ℕ → Option (List ℕ)) (c : Command) (before after : Output) (f : CommandFault A) → IsOfWords f
+    → ((job : List ℕ) → RefusesJob job f → ⊥) → ((gro : List ℕ) (n : ℕ) (said : JobValue) → RefusesFrame gro n said f → ⊥) → ((state : List ℕ) → RefusesState state f → ⊥)
+    → ((job : List ℕ) → RefusesCode job f → ⊥) → ((said : JobValue) → RefusesSlope said f → ⊥) → ((listing : List ℕ) (said : JobValue) → RefusesListing listing said f → ⊥)
+    → ((job state : List ℕ) → RefusesEnergy job state f → ⊥) → IsRefused held c before after f → ⊥
+refused_of_words held (command.Start start) before after f of_words job frame state code slope listing energy h =
+    unwritten_of_words _ _ before after f of_words (under_of_words _ _ _ (job h.0) (frame h.1 start.frame)) h.4
+refused_of_words held (command.Run r) before after f of_words job frame state code slope listing energy h = subst IsOfWords h.4.1 of_words
+refused_of_words held (command.Trajectory t) before after f of_words job frame state code slope listing energy h = subst IsOfWords h.4.1 of_words
+refused_of_words held (command.Frame fr) before after f of_words job frame state code slope listing energy h = unwritten_of_words _ _ before after f of_words (state h.0) h.2
+refused_of_words held (command.Energy e) before after f of_words job frame state code slope listing energy h = unwritten_of_words _ _ before after f of_words (energy h.0 h.1) h.4
+refused_of_words held (command.Check check) before after f of_words job frame state code slope listing energy h = by_listing check.listing h
+  where
+    by_listing : (l : Option (Bor (List ℕ))) → IsVerdictFault held check.job.now l before after f → ⊥
+    by_listing None h = unwritten_of_words _ _ before after f of_words (under_of_words _ _ _ (job h.0) slope) h.2
+    by_listing (Some l) h = unwritten_of_words _ _ before after f of_words (under_of_words _ _ _ (job h.0) (listing h.1)) h.4
+refused_of_words held (command.Code l) before after f of_words job frame state code slope listing energy h = unwritten_of_words _ _ before after f of_words (code h.0) h.2
+
+-- words that name a command have no fault of their own
+command_of_words : {A : Type 0} (held : List ℕ → Option (List ℕ)) (asked asked' : Paths) (c : Command) (before after : Output) (f : CommandFault A) → IsOfWords f
+    → IsUndone held asked asked' c before after f → ⊥
+command_of_words held asked asked' c before after f of_words (inl h) = bytes_of_words c asked asked' f of_words h.0
+command_of_words held asked asked' c before after (fault.CommandLine e) of_words (inr h) =
+    refused_of_words held c before after (fault.CommandLine e) of_words (λ job x. x) (λ gro n said x. x) (λ state x. x) (λ job x. x) (λ said x. x) (λ listing said x. x) (λ job state x. x) h.1
+command_of_words held asked asked' c before after fault.NotText of_words (inr h) =
+    refused_of_words held c before after fault.NotText of_words (λ job x. x) (λ gro n said x. x) (λ state x. x) (λ job x. x) (λ said x. x) (λ listing said x. x) (λ job state x. x) h.1
+command_of_words held asked asked' c before after (fault.CannotRead path) of_words (inr h) = of_words
+command_of_words held asked asked' c before after (fault.Job f) of_words (inr h) = of_words
+command_of_words held asked asked' c before after (fault.Gro f) of_words (inr h) = of_words
+command_of_words held asked asked' c before after (fault.Start f) of_words (inr h) = of_words
+command_of_words held asked asked' c before after (fault.State f) of_words (inr h) = of_words
+command_of_words held asked asked' c before after (fault.Listing f) of_words (inr h) = of_words
+command_of_words held asked asked' c before after (fault.Run f) of_words (inr h) = of_words
+command_of_words held asked asked' c before after (fault.Out o) of_words (inr h) = of_words
+command_of_words held asked asked' c before after fault.Memory of_words (inr h) = of_words
+
+unanswered_of_words : {A : Type 0} (words : List (List ℕ)) (before after : Output) (f : CommandFault A) → IsOfWords f → IsUnanswered words before after f
+    → IsMisuse words × (after.0 ≡ before.0)
+unanswered_of_words words before after (fault.CommandLine e) of_words h = h
+unanswered_of_words words before after fault.NotText of_words h = absurd h
+unanswered_of_words words before after (fault.CannotRead path) of_words h = absurd h
+unanswered_of_words words before after (fault.Job f) of_words h = absurd h
+unanswered_of_words words before after (fault.Gro f) of_words h = absurd h
+unanswered_of_words words before after (fault.Start f) of_words h = absurd h
+unanswered_of_words words before after (fault.State f) of_words h = absurd h
+unanswered_of_words words before after (fault.Listing f) of_words h = absurd h
+unanswered_of_words words before after (fault.Run f) of_words h = absurd h
+unanswered_of_words words before after (fault.Out o) of_words h = absurd of_words
+unanswered_of_words words before after fault.Memory of_words h = absurd of_words
+
+misuse_of : {A : Type 0} (words : List (List ℕ)) (held : List ℕ → Option (List ℕ)) (asked asked' : Paths) (before after : Output) (f : CommandFault A)
+    → IsFaultOf words held asked asked' before after f → IsOfWords f → IsMisuse words × (after.0 ≡ before.0)
+misuse_of words held asked asked' before after f (inl h) of_words = unanswered_of_words words before after f of_words h.0
+misuse_of words held asked asked' before after f (inr h) of_words = absurd (command_of_words held asked asked' h.0 before after f of_words h.2)
+
+-- the status of misuse is told of misuse alone
+pub misuse_told : {A : Type 0} (words : List (List ℕ)) (held : List ℕ → Option (List ℕ)) (asked asked' : Paths) (before after : Output) (f : CommandFault A) (result : ℕ) (Text Memory : Type 0)
+    → IsFaultOf words held asked asked' before after f → HasStatus f result Text Memory → result ≡ 2 → IsMisuse words × (after.0 ≡ before.0)
+misuse_told words held asked asked' before after f result Text Memory is (inl told) two =
+    misuse_of words held asked asked' before after f is (words_alone f (code_two (status_of f) (sym told.0 ∙ two)))
+misuse_told words held asked asked' before after f result Text Memory is (inr told) two = let bad : 4 ≡ 2 = sym told.0 ∙ two in absurd (omega (arith, bad))
+
+-- a fault is told behind how far a run has come
+pub told_behind : {A : Type 0} (words : List (List ℕ)) (before between after : Output) (f : CommandFault A) (result : ℕ) → before.1 < 2 ^ 64 - 1 → IsBegun words before between
+    → IsReported f result (PrintsIfCounted between after) → IsTold words f result before after
+told_behind words before between after f result room begun (inl told) = inl (told.0, (told.1.0, says words before between after _ room begun told.1.1))
+told_behind words before between after f result room begun (inr told) = inr (told.0, says words before between after _ room begun told.1)
+
+-- ---- words that name no command
+
+-- why they were not answered, by the parser's error
+pub unanswered : {A : Type 0} (words : List (List ℕ)) (e : Error) (before after : Output) (f : CommandFault A) → HasKind (faults_of words) e
+    → (kind_of e ≡ OutOfMemory) ⊎ ((c : Command) → IsCommand words c → ⊥) → IsNoAnswer (kind_of e) before after f → IsUnanswered words before after f
+unanswered words e before after (fault.CommandLine x) kind none h = (is_misuse words e h.0 h.1 h.2 kind none, h.3)
+unanswered words e before after fault.NotText kind none h = absurd h
+unanswered words e before after (fault.CannotRead path) kind none h = absurd h
+unanswered words e before after (fault.Job f) kind none h = absurd h
+unanswered words e before after (fault.Gro f) kind none h = absurd h
+unanswered words e before after (fault.Start f) kind none h = absurd h
+unanswered words e before after (fault.State f) kind none h = absurd h
+unanswered words e before after (fault.Listing f) kind none h = absurd h
+unanswered words e before after (fault.Run f) kind none h = absurd h
+unanswered words e before after (fault.Out o) kind none h = (asked h.0, h.1)
+  where
+    asked : (kind_of e ≡ DisplayHelp) ⊎ (kind_of e ≡ DisplayVersion) → AsksForHelp words ⊎ AsksForVersion words
+    asked (inl help) = inl (asks_for_help words e help kind)
+    asked (inr version) = inr (asks_for_version words e version kind)
+unanswered words e before after fault.Memory kind none h = h
+
+-- ---- a line that is written behind what is known
+
+-- why the line wasn't written is why what it tells wasn't
+pub line_unwritten : {A : Type 0} (Why Began : Type 0) (text : List ℕ) (before after : Output) (f : CommandFault A) → (f ≡ fault.Memory → Why) → (AppendsBeginning before.0 after.0 text → Began)
+    → IsLineFault text before after f → Unwritten Why Began before after f
+line_unwritten Why Began text before after f memory began (inl h) = inl (memory h.0, h.1)
+line_unwritten Why Began text before after f memory began (inr h) = inr (h.0, h.1, h.2, began h.3)
+
+-- want of memory is told of any text
+pub slope_memory : {A : Type 0} (job : List ℕ) (f : CommandFault A) → f ≡ fault.Memory → RefusesUnder job RefusesSlope f
+slope_memory job f is = subst (λ g. RefusesUnder job RefusesSlope g) (sym is) (inl tt)
+
+pub listing_memory : {A : Type 0} (job listing : List ℕ) (f : CommandFault A) → f ≡ fault.Memory → RefusesUnder job (RefusesListing listing) f
+listing_memory job listing f is = subst (λ g. RefusesUnder job (RefusesListing listing) g) (sym is) (inl tt)

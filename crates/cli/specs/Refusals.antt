@@ -1,0 +1,224 @@
+-- Why a command was not done: its fault, by what its files hold, and what its output is left with. Want of memory says nothing of the files.
+use Rattle.std.specs.Prelude.{◌≡◌, ◌≢◌, ◌⊎◌, ◌<◌, ◌/◌, ℕ, suc, true, false, List, length, Option, Some, None, Ok, Err, IfSome}
+use Rattle.std.specs.Borrow.{Bor}
+use Rattle.clap.specs.declared.error.kind.ErrorKind.{ErrorKind}
+use Rattle.clap.specs.declared.error.kind.ErrorKind.TheVariants.{DisplayHelp, DisplayVersion, OutOfMemory}
+use Rattle.command_line.specs.CommandLine.{AsksForHelp, AsksForVersion, IsCommand, IsMisuse}
+use Rattle.command_line.specs.declared.commands.Command.{Command}
+use Rattle.command_line.specs.declared.commands.Command.TheVariants as command
+use Rattle.command_line.specs.declared.commands.Run.{Run}
+use Rattle.command_line.specs.declared.commands.Trajectory.{Trajectory}
+use Rattle.engine.specs.Engines.{IsEngineRefusal}
+use Rattle.engine.specs.PairEnergies.{HasNoEnergyOfTexts}
+use Rattle.engine.specs.Verdicts.{HasNoSlopeKernel, IsVerdict}
+use Rattle.gro.specs.Frames.{FrameView}
+use Rattle.gro.specs.GroReading.{Fails as FailsGro, frames_of}
+use Rattle.gro.specs.Out.{AppendsBeginning}
+use Rattle.gro.specs.declared.faults.GroFault.TheVariants.{NoSuchFrame}
+use Rattle.gro.specs.declared.output.OutFault.{OutFault}
+use Rattle.integrator.specs.Runs.{WroteBeginning, is_out}
+use Rattle.integrator.specs.Starts.{plain, slope_code_of}
+use Rattle.integrator.specs.StartViews.{Refuses}
+use Rattle.integrator.specs.declared.faults.RunFault.{RunFault}
+use Rattle.job.specs.JobText.{reading_of, limits}
+use Rattle.job.specs.Values.{JobValue}
+use Rattle.job.specs.Views.{refusal_of}
+use Rattle.kernel_code.specs.ListingReading.{Fails as FailsListing, code_of}
+use Rattle.kernel_code.specs.declared.instructions.Instr.{Instr}
+use Rattle.state.specs.Starts.{Gives, start_of}
+use Rattle.state.specs.StateReading.{Fails as FailsState, state_of}
+use Rattle.state.specs.StateText.{StateView}
+use Rattle.state.specs.declared.faults.StartFault.{StartFault}
+use Rattle.trajectory.specs.Trajectories.{IsFrameOfRun, IsTrajectoryRefusal, Leaves}
+use Rattle.cli.specs.Asked.{also_asked}
+use Rattle.cli.specs.Conversions.{IsCodeText, IsFrameOf, IsFrameText, IsStartText}
+use Rattle.cli.specs.Held.{OfOne, OfTwo}
+use Rattle.cli.specs.Kept.{Output}
+use Rattle.cli.specs.Reads.{asked_by, unread}
+use Rattle.cli.specs.Verdicts.{IsEnergyText, IsListingVerdict, IsSlopeVerdict}
+use Rattle.cli.specs.declared.faults.CommandFault.{CommandFault}
+use Rattle.cli.specs.declared.faults.CommandFault.TheVariants as fault
+use Rattle.cli.specs.declared.files.ReadFault.{ReadFault}
+
+-- ---- what texts are refused for
+
+-- a job is refused so
+abbrev pub RefusesJob : {A : Type 0} → List ℕ → CommandFault A → Type 0
+RefusesJob job (fault.Job f) = IfSome (refusal_of f) (λ r. reading_of limits job ≡ Err r)
+RefusesJob job fault.Memory = Unit {0}
+RefusesJob job _ = ⊥
+
+-- a job is refused; or it is read, and this is what is refused under it
+abbrev pub RefusesUnder : {A : Type 0} → List ℕ → (JobValue → CommandFault A → Type 0) → CommandFault A → Type 0
+RefusesUnder job Refuses' f = RefusesJob job f ⊎ ((said : JobValue) × (reading_of limits job ≡ Ok said) × Refuses' said f)
+
+-- a GRO text is read, and has no frame of this number
+pub record HasNoFrame (gro : List ℕ) (number : ℕ) : Type 0 where
+  pub frames : List FrameView
+  pub gro_read : frames_of gro ≡ Ok frames
+  pub none : (number ≡ 0) ⊎ (length frames < number)
+
+-- the frame of this number is there, and no state begins at it
+pub record HasNoBox (gro : List ℕ) (number : ℕ) (job : JobValue) (f : StartFault) : Type 0 where
+  pub frames : List FrameView
+  pub frame : FrameView
+  pub gro_read : frames_of gro ≡ Ok frames
+  pub picked : IsFrameOf frames number frame
+  pub refused : Gives {X = StateView} (λ s. s) (Err f) (start_of job.frac job.time_step frame)
+
+-- the GRO text is judged first, then the number of the frame, and its box
+abbrev pub RefusesFrame : {A : Type 0} → List ℕ → ℕ → JobValue → CommandFault A → Type 0
+RefusesFrame gro number job (fault.Gro f) = FailsGro {Y = List FrameView} f (frames_of gro) ⊎ ((f ≡ NoSuchFrame) × HasNoFrame gro number)
+RefusesFrame gro number job (fault.Start f) = HasNoBox gro number job f
+RefusesFrame gro number job fault.Memory = Unit {0}
+RefusesFrame gro number job _ = ⊥
+
+-- a state is refused so
+abbrev pub RefusesState : {A : Type 0} → List ℕ → CommandFault A → Type 0
+RefusesState state (fault.State f) = FailsState {Y = StateView} f (state_of state)
+RefusesState state fault.Memory = Unit {0}
+RefusesState state _ = ⊥
+
+-- a job has no code of a slope
+abbrev pub RefusesCode : {A : Type 0} → List ℕ → CommandFault A → Type 0
+RefusesCode {A} job (fault.Run f) = Refuses {A = A} f (slope_code_of job)
+RefusesCode job fault.Memory = Unit {0}
+RefusesCode job _ = ⊥
+
+-- the code of a job's slope is not accepted
+abbrev pub RefusesSlope : {A : Type 0} → JobValue → CommandFault A → Type 0
+RefusesSlope job (fault.Run f) = HasNoSlopeKernel job f
+RefusesSlope job fault.Memory = Unit {0}
+RefusesSlope job _ = ⊥
+
+-- the code of a listing is not accepted under a job
+abbrev pub RefusesListing : {A : Type 0} → List ℕ → JobValue → CommandFault A → Type 0
+RefusesListing listing job (fault.Listing f) = FailsListing {Y = List Instr} f (code_of listing)
+RefusesListing listing job (fault.Run f) = (code : List Instr) × (code_of listing ≡ Ok code) × IsVerdict job code f
+RefusesListing listing job fault.Memory = Unit {0}
+RefusesListing listing job _ = ⊥
+
+-- a state has no energy under a job
+abbrev pub RefusesEnergy : {A : Type 0} → (job state : List ℕ) → CommandFault A → Type 0
+RefusesEnergy job state (fault.Run f) = HasNoEnergyOfTexts job state f
+RefusesEnergy job state fault.Memory = Unit {0}
+RefusesEnergy job state _ = ⊥
+
+-- ---- what an output is left with
+
+-- nothing was written, and this is why; or there was a text to write, a write failed, and a beginning of it went out
+abbrev pub IsUnwritten : {A : Type 0} → (CommandFault A → Type 0) → ((List ℕ → Type 0) → Type 0) → Output → Output → CommandFault A → Type 0
+IsUnwritten Why HasText before after f = (Why f × (after.0 ≡ before.0))
+    ⊎ ((o : OutFault) × (f ≡ fault.Out o) × (before.1 < after.1) × HasText (AppendsBeginning before.0 after.0))
+
+-- why a text that is made was not written
+abbrev pub IsLineFault : {A : Type 0} → List ℕ → Output → Output → CommandFault A → Type 0
+IsLineFault text before after f = IsUnwritten (λ g. g ≡ fault.Memory) (λ Wrote. Wrote text) before after f
+
+-- why no text was written of the state that begins at a frame, of a state's frame, of a listing, of a verdict, of an energy
+abbrev pub IsStartFault : {A : Type 0} → (job gro : List ℕ) → ℕ → Output → Output → CommandFault A → Type 0
+IsStartFault job gro number before after f = IsUnwritten (RefusesUnder job (RefusesFrame gro number)) (IsStartText job gro number) before after f
+
+abbrev pub IsFrameFault : {A : Type 0} → List ℕ → Output → Output → CommandFault A → Type 0
+IsFrameFault state before after f = IsUnwritten (RefusesState state) (IsFrameText state) before after f
+
+abbrev pub IsCodeFault : {A : Type 0} → List ℕ → Output → Output → CommandFault A → Type 0
+IsCodeFault job before after f = IsUnwritten (RefusesCode job) (IsCodeText job) before after f
+
+abbrev pub IsSlopeFault : {A : Type 0} → List ℕ → Output → Output → CommandFault A → Type 0
+IsSlopeFault job before after f = IsUnwritten (RefusesUnder job RefusesSlope) (IsSlopeVerdict job) before after f
+
+abbrev pub IsListingFault : {A : Type 0} → (job listing : List ℕ) → Output → Output → CommandFault A → Type 0
+IsListingFault job listing before after f = IsUnwritten (RefusesUnder job (RefusesListing listing)) (IsListingVerdict job listing) before after f
+
+abbrev pub IsEnergyFault : {A : Type 0} → (job state : List ℕ) → Output → Output → CommandFault A → Type 0
+IsEnergyFault job state before after f = IsUnwritten (RefusesEnergy job state) (IsEnergyText job state) before after f
+
+-- why no run of a state under a job was written: a failed output is left with a beginning of its text, and what else there is writes nothing
+pub record IsRunRefused {A : Type 0} (job state : List ℕ) (run : Run) (before after : Output) (f : RunFault A) : Type 0 where
+  pub refused : IsEngineRefusal job state run.direction run.steps f
+  pub unwritten : is_out f ≡ false → after.0 ≡ before.0
+  pub failed : is_out f ≡ true → before.1 < after.1
+  pub beginning : is_out f ≡ true → WroteBeginning plain job state run.direction run.steps before.0 after.0
+
+abbrev pub IsRunFault : {A : Type 0} → (job state : List ℕ) → Run → Output → Output → CommandFault A → Type 0
+IsRunFault {A} job state run before after f = (g : RunFault A) × (f ≡ fault.Run g) × IsRunRefused job state run before after g
+
+-- why not all frames of a run were written: where memory is wanted in it whole frames may have been, and a failed output is left with a beginning of them
+pub record IsTrajectoryRefused {A : Type 0} (job state : List ℕ) (t : Trajectory) (before after : Output) (f : RunFault A) : Type 0 where
+  pub refused : IsTrajectoryRefusal job state t.direction t.steps f
+  pub left : Leaves (IsFrameOfRun job state t.direction t.every) t.every (t.steps / t.every) before.0 after.0 f
+  pub failed : is_out f ≡ true → before.1 < after.1
+
+abbrev pub IsTrajectoryFault : {A : Type 0} → (job state : List ℕ) → Trajectory → Output → Output → CommandFault A → Type 0
+IsTrajectoryFault {A} job state t before after f = (g : RunFault A) × (f ≡ fault.Run g) × IsTrajectoryRefused job state t before after g
+
+-- ---- of a command, whose files gave these bytes
+
+abbrev pub IsVerdictFault : {A : Type 0} → (List ℕ → Option (List ℕ)) → List ℕ → Option (Bor (List ℕ)) → Output → Output → CommandFault A → Type 0
+IsVerdictFault held job None before after f = OfOne held job (λ j. IsSlopeFault j before after f)
+IsVerdictFault held job (Some listing) before after f = OfTwo held job listing.now (λ j l. IsListingFault j l before after f)
+
+abbrev pub IsRefused : {A : Type 0} → (List ℕ → Option (List ℕ)) → Command → Output → Output → CommandFault A → Type 0
+IsRefused held (command.Start start) before after f = OfTwo held start.job.now start.gro.now (λ job gro. IsStartFault job gro start.frame before after f)
+IsRefused held (command.Run run) before after f = OfTwo held run.job.now run.state.now (λ job state. IsRunFault job state run before after f)
+IsRefused held (command.Trajectory t) before after f = OfTwo held t.job.now t.state.now (λ job state. IsTrajectoryFault job state t before after f)
+IsRefused held (command.Frame frame) before after f = OfOne held frame.state.now (λ state. IsFrameFault state before after f)
+IsRefused held (command.Energy energy) before after f = OfTwo held energy.job.now energy.state.now (λ job state. IsEnergyFault job state before after f)
+IsRefused held (command.Check check) before after f = IsVerdictFault held check.job.now check.listing before after f
+IsRefused held (command.Code l) before after f = OfOne held l.job.now (λ job. IsCodeFault job before after f)
+
+-- ---- files that give no bytes
+
+-- the file at a path gave no bytes, and was the last to be asked for
+pub record IsUnread {A : Type 0} (path : List ℕ) (asked_before asked_after : Option (List (List ℕ))) (f : CommandFault A) : Type 0 where
+  pub why : ReadFault
+  pub lent : Bor (List ℕ)
+  pub is : f ≡ unread why lent
+  pub path' : lent.now ≡ path
+  pub asked : asked_after ≡ also_asked asked_before path
+
+-- the same of the first or the second of two files
+abbrev pub IsUnreadOfTwo : {A : Type 0} → (first second : List ℕ) → (asked_before asked_after : Option (List (List ℕ))) → CommandFault A → Type 0
+IsUnreadOfTwo first second asked_before asked_after f = IsUnread first asked_before asked_after f ⊎ IsUnread second (also_asked asked_before first) asked_after f
+
+-- the same of the first of two files, or of the second where there is one
+abbrev pub IsUnreadOfSome : {A : Type 0} → (first : List ℕ) → Option (Bor (List ℕ)) → (asked_before asked_after : Option (List (List ℕ))) → CommandFault A → Type 0
+IsUnreadOfSome first None asked_before asked_after f = IsUnread first asked_before asked_after f
+IsUnreadOfSome first (Some second) asked_before asked_after f = IsUnreadOfTwo first second.now asked_before asked_after f
+
+-- a file of a command gave no bytes; it asks for no file behind that one
+abbrev pub HasNoBytes : {A : Type 0} → Command → (asked_before asked_after : Option (List (List ℕ))) → CommandFault A → Type 0
+HasNoBytes (command.Start start) asked_before asked_after f = IsUnreadOfTwo start.job.now start.gro.now asked_before asked_after f
+HasNoBytes (command.Run run) asked_before asked_after f = IsUnreadOfTwo run.job.now run.state.now asked_before asked_after f
+HasNoBytes (command.Trajectory t) asked_before asked_after f = IsUnreadOfTwo t.job.now t.state.now asked_before asked_after f
+HasNoBytes (command.Frame frame) asked_before asked_after f = IsUnread frame.state.now asked_before asked_after f
+HasNoBytes (command.Energy energy) asked_before asked_after f = IsUnreadOfTwo energy.job.now energy.state.now asked_before asked_after f
+HasNoBytes (command.Check check) asked_before asked_after f = IsUnreadOfSome check.job.now check.listing asked_before asked_after f
+HasNoBytes (command.Code l) asked_before asked_after f = IsUnread l.job.now asked_before asked_after f
+
+-- ---- of words
+
+-- Why a command was not done: one of its files gave no bytes, and nothing was printed; or all did, and this is what they are refused for, or what it lacked.
+abbrev pub IsUndone : {A : Type 0} → (List ℕ → Option (List ℕ)) → (asked_before asked_after : Option (List (List ℕ))) → Command → Output → Output → CommandFault A → Type 0
+IsUndone held asked_before asked_after c before after f = (HasNoBytes c asked_before asked_after f × (after.0 ≡ before.0))
+    ⊎ ((asked_after ≡ asked_by asked_before c) × IsRefused held c before after f)
+
+-- why an error of the parser was not answered on standard output, by its kind
+abbrev pub IsNoAnswer : {A : Type 0} → ErrorKind → Output → Output → CommandFault A → Type 0
+IsNoAnswer kind before after (fault.CommandLine e) = (kind ≢ OutOfMemory) × (kind ≢ DisplayHelp) × (kind ≢ DisplayVersion) × (after.0 ≡ before.0)
+IsNoAnswer kind before after (fault.Out o) = ((kind ≡ DisplayHelp) ⊎ (kind ≡ DisplayVersion)) × (before.1 < after.1)
+IsNoAnswer kind before after fault.Memory = after.0 ≡ before.0
+IsNoAnswer kind before after _ = ⊥
+
+-- why words that name no command were not answered on standard output: they ask for nothing that there is; or they ask for help or the version, and the output failed; or memory was wanted
+abbrev pub IsUnanswered : {A : Type 0} → List (List ℕ) → Output → Output → CommandFault A → Type 0
+IsUnanswered words before after (fault.CommandLine e) = IsMisuse words × (after.0 ≡ before.0)
+IsUnanswered words before after (fault.Out o) = (AsksForHelp words ⊎ AsksForVersion words) × (before.1 < after.1)
+IsUnanswered words before after fault.Memory = after.0 ≡ before.0
+IsUnanswered words before after _ = ⊥
+
+-- Why what the words ask for was not done.
+abbrev pub IsFaultOf : {A : Type 0} → List (List ℕ) → (List ℕ → Option (List ℕ)) → (asked_before asked_after : Option (List (List ℕ))) → Output → Output → CommandFault A → Type 0
+IsFaultOf words held asked_before asked_after before after f = (IsUnanswered words before after f × (asked_after ≡ asked_before))
+    ⊎ ((c : Command) × IsCommand words c × IsUndone held asked_before asked_after c before after f)

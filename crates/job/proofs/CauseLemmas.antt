@@ -1,0 +1,195 @@
+-- The fault that is read of a text has its cause in the text.
+use Rattle.std.proofs.Common.{◌≡◌, ◌≢◌, ℕ, ℤ, int_lt, Bool, true, false, List, [], ◌∷◌, ◌++◌, length, Option, Some, None, Result, Ok, Err, IfErr, IfSome, All, bytes_eq, inl, inr, refl, sym, ap, subst, ◌∙◌, append_assoc, append-nil, eqb, if◌then◌else◌}
+use Rattle.std.specs.Option.{unwrap_or}
+use Rattle.std.proofs.lemmas.Bool.{eqb-false, eqb-true}
+use Rattle.std.proofs.lemmas.List.Elements.{All-nil, All-cons}
+use Rattle.line_text.specs.Steps.{◌>>=◌}
+use Rattle.line_text.proofs.PartLaws.{same_bytes}
+use Rattle.line_text.proofs.StepLaws.{Split, split}
+use Rattle.fixed.specs.declared.frac.Frac.{Frac}
+use Rattle.job.specs.Bits.{frac_in}
+use Rattle.job.specs.Faults.{Refusal, Said, TypeLine, bad_line, first_fault, line_fault, missing, or_else, out_of_range, summary}
+use Rattle.job.specs.JobFaults.{FaultsHaveCauses, HasKeys, IsCause, IsLack, IsLineFault, Lacks, no_energy, no_core, no_cutoff, no_time_step, short_cutoff, other_values}
+use Rattle.job.specs.JobText.{IsFaultless, header, job_from, lines_reading, needed, ordered, reading_at, reading_of, unless, whole_types}
+use Rattle.job.specs.Values.{Counts, JobValue, TypeValue}
+use Rattle.job.specs.Views.{Gives, job_value, refusal_of}
+use Rattle.job.specs.Words.{lines_of}
+use Rattle.job.specs.declared.faults.JobFault.{JobFault}
+use Rattle.job.specs.declared.faults.Key.{Key}
+use Rattle.job.specs.declared.faults.Key.TheVariants as keys
+use Rattle.job.specs.declared.jobs.Job.{Job}
+use Rattle.job.proofs.TextLemmas.{below_is, faultless_from, is_below, needed_ok, ordered_ok}
+
+-- ---- the line at fault
+
+-- a line with this fault, below lines without one
+abbrev HasFirst : Counts → Frac → List (List ℕ) → List (List ℕ) → Refusal → Type 0
+HasFirst most frac above lines f = (front : List (List ℕ)) × (below : List (List ℕ)) × (line : List ℕ) × (lines ≡ front ++ line ∷ below)
+    × ((a b : List (List ℕ)) (l : List ℕ) → front ≡ a ++ l ∷ b → line_fault most frac (above ++ a) l ≡ None) × (line_fault most frac (above ++ front) line ≡ Some f)
+
+first_there : (most : Counts) (frac : Frac) (above lines : List (List ℕ)) (f : Refusal) → first_fault most frac above lines ≡ Some f → HasFirst most frac above lines f
+unfolding first_fault
+first_there most frac above [] f e = absurd cc
+first_there most frac above (l ∷ ls) f e = at (line_fault most frac above l) refl (λ d. first_there most frac (above ++ l ∷ []) ls f d) e
+  where
+    own : line_fault most frac (above ++ []) l ≡ line_fault most frac above l
+    own = ap (λ (z : List (List ℕ)). line_fault most frac z l) (append-nil above)
+
+    clean : (front : List (List ℕ)) → line_fault most frac above l ≡ None → ((a b : List (List ℕ)) (x : List ℕ) → front ≡ a ++ x ∷ b → line_fault most frac ((above ++ l ∷ []) ++ a) x ≡ None)
+        → (a b : List (List ℕ)) (x : List ℕ) → l ∷ front ≡ a ++ x ∷ b → line_fault most frac (above ++ a) x ≡ None
+    clean front first rest [] b x e =
+        let same : l ≡ x = cc in
+        ap (λ (z : List (List ℕ)). line_fault most frac z x) (append-nil above) ∙ ap (line_fault most frac above) (sym same) ∙ first
+    clean front first rest (y ∷ a) b x e =
+        let same : l ≡ y = cc in
+        let left : front ≡ a ++ x ∷ b = cc in
+        ap (λ (z : List ℕ). line_fault most frac (above ++ z ∷ a) x) (sym same) ∙ ap (λ (z : List (List ℕ)). line_fault most frac z x) (sym (append_assoc above (l ∷ []) a)) ∙ rest a b x left
+
+    at : (o : Option Refusal) → line_fault most frac above l ≡ o → (first_fault most frac (above ++ l ∷ []) ls ≡ Some f → HasFirst most frac (above ++ l ∷ []) ls f)
+        → or_else o (first_fault most frac (above ++ l ∷ []) ls) ≡ Some f → HasFirst most frac above (l ∷ ls) f
+    at (Some g) is again e = ([], ls, l, refl, (λ a b x none. nothing a b x none), own ∙ is ∙ e)
+      where
+        nothing : (a b : List (List ℕ)) (x : List ℕ) → [] ≡ a ++ x ∷ b → line_fault most frac (above ++ a) x ≡ None
+        nothing [] b x none = absurd cc
+        nothing (y ∷ a) b x none = absurd cc
+    at None is again e =
+        let h = again e in
+        (l ∷ h.0, h.1, h.2, ap (λ (z : List (List ℕ)). l ∷ z) h.3, clean h.0 is h.4, ap (λ (z : List (List ℕ)). line_fault most frac z h.2) (sym (append_assoc above (l ∷ []) h.0)) ∙ h.5)
+
+-- ---- what lines lack
+
+needed_err : {X : Type 0} (key : Key) (o : Option X) (f : Refusal) → needed key o ≡ Err f → (o ≡ None) × (f ≡ missing key)
+needed_err key None f e = (refl, cc)
+needed_err key (Some x) f e = absurd cc
+
+ordered_err : (core cutoff : ℤ) (f : Refusal) → ordered core cutoff ≡ Err f → (int_lt core cutoff ≡ false) × (f ≡ out_of_range keys.Cutoff)
+ordered_err core cutoff f e = at (int_lt core cutoff) refl e
+  where
+    at : (b : Bool) → int_lt core cutoff ≡ b → ◌≡◌ {A = Result ℤ Refusal} (if b then Ok cutoff else Err (out_of_range keys.Cutoff)) (Err f) → (int_lt core cutoff ≡ false) × (f ≡ out_of_range keys.Cutoff)
+    at true b e = absurd cc
+    at false b e = (b, cc)
+
+-- the first type with another number of values
+abbrev HasOther : ℕ → List TypeLine → Refusal → Type 0
+HasOther k ts f = (before : List TypeLine) × (after : List TypeLine) × (t : TypeLine) × (ts ≡ before ++ t ∷ after) × All (λ u. length u.value.values ≡ k) before × (length t.value.values ≢ k) × (f ≡ bad_line t.line)
+
+whole_err : (k : ℕ) (ts : List TypeLine) (f : Refusal) → whole_types k ts ≡ Err f → HasOther k ts f
+unfolding whole_types
+whole_err k [] f e = absurd cc
+whole_err k (t ∷ ts) f e = at (eqb (length t.value.values) k) refl (λ d. whole_err k ts f d) (whole_types k ts) refl e
+  where
+    at : (b : Bool) → eqb (length t.value.values) k ≡ b → (whole_types k ts ≡ Err f → HasOther k ts f) → (r : Result (List TypeValue) Refusal) → whole_types k ts ≡ r
+        → ◌≡◌ {A = Result (List TypeValue) Refusal} (if b then (r >>= λ us. Ok (t.value ∷ us)) else Err (bad_line t.line)) (Err f) → HasOther k (t ∷ ts) f
+    at true b again (Ok us) is e = absurd cc
+    at true b again (Err g) is e =
+        let same : g ≡ f = cc in
+        let h = again (is ∙ ap (λ (x : Refusal). Err x) same) in
+        (t ∷ h.0, h.1, h.2, ap (λ (z : List TypeLine). t ∷ z) h.3, All-cons (λ u. length u.value.values ≡ k) t h.0 (eqb-true (length t.value.values) k b) h.4, h.5, h.6)
+    at false b again r is e = ([], ts, t, refl, All-nil (λ u. length u.value.values ≡ k), eqb-false (length t.value.values) k b, cc)
+
+-- the job of these parts
+abbrev job_of : Said → List ℕ → ℤ → ℕ → ℤ → List TypeValue → Result JobValue Refusal
+job_of s energy core time_step cutoff types = Ok (record {
+  frac = s.frac;
+  energy = energy;
+  core = core;
+  cutoff = cutoff;
+  time_step = time_step;
+  slices = unwrap_or s.slices 64;
+  parameters = s.parameters;
+  globals = s.globals;
+  types = types;
+})
+
+job_lacks : (s : Said) (f : Refusal) → job_from s ≡ Err f → Lacks s f
+unfolding job_from
+job_lacks s f e = by_energy (split f (needed keys.Energy s.energy) with_energy e)
+  where
+    with_cutoff : List ℕ → ℤ → ℕ → ℤ → Result JobValue Refusal
+    with_cutoff energy core time_step cutoff = whole_types (length s.parameters) s.types >>= job_of s energy core time_step cutoff
+
+    with_step : List ℕ → ℤ → ℤ → ℕ → Result JobValue Refusal
+    with_step energy core longest time_step = ordered core longest >>= with_cutoff energy core time_step
+
+    with_longest : List ℕ → ℤ → ℤ → Result JobValue Refusal
+    with_longest energy core longest = needed keys.TimeStep s.time_step >>= with_step energy core longest
+
+    with_core : List ℕ → ℤ → Result JobValue Refusal
+    with_core energy core = needed keys.Cutoff s.cutoff >>= with_longest energy core
+
+    with_energy : List ℕ → Result JobValue Refusal
+    with_energy energy = needed keys.Core s.core >>= with_core energy
+
+    by_types : (energy : List ℕ) (core longest cutoff : ℤ) (step : ℕ) → s.energy ≡ Some energy → s.core ≡ Some core → s.cutoff ≡ Some longest → s.time_step ≡ Some step → int_lt core longest ≡ true
+        → Split {B = JobValue} f (whole_types (length s.parameters) s.types) (job_of s energy core step cutoff) → Lacks s f
+    by_types energy core longest cutoff step en co lo st long (inr (types, good, wrong)) = absurd cc
+    by_types energy core longest cutoff step en co lo st long (inl bad) =
+        let h = whole_err (length s.parameters) s.types f bad in
+        other_values (record { core = core; cutoff = longest; energy' = (energy, en); core' = co; cutoff' = lo; time_step' = (step, st); longer = record { lt = below_is (int_lt core longest) long } }) h.0 h.1 h.2 h.3 h.4 h.5 h.6
+
+    by_order : (energy : List ℕ) (core longest : ℤ) (step : ℕ) → s.energy ≡ Some energy → s.core ≡ Some core → s.cutoff ≡ Some longest → s.time_step ≡ Some step
+        → Split {B = JobValue} f (ordered core longest) (with_cutoff energy core step) → Lacks s f
+    by_order energy core longest step en co lo st (inl bad) =
+        let h = ordered_err core longest f bad in
+        short_cutoff core longest (energy, en) co lo (step, st) (λ less. let wrong : false ≡ true = sym h.0 ∙ is_below (int_lt core longest) less.lt in cc) h.1
+    by_order energy core longest step en co lo st (inr (cutoff, good, d)) =
+        by_types energy core longest cutoff step en co lo st (ordered_ok core longest cutoff good).1 (split f (whole_types (length s.parameters) s.types) (job_of s energy core step cutoff) d)
+
+    by_step : (energy : List ℕ) (core longest : ℤ) → s.energy ≡ Some energy → s.core ≡ Some core → s.cutoff ≡ Some longest → Split {B = JobValue} f (needed keys.TimeStep s.time_step) (with_step energy core longest) → Lacks s f
+    by_step energy core longest en co lo (inl bad) = let h = needed_err keys.TimeStep s.time_step f bad in no_time_step (energy, en) (core, co) (longest, lo) h.0 h.1
+    by_step energy core longest en co lo (inr (step, good, d)) =
+        by_order energy core longest step en co lo (needed_ok keys.TimeStep s.time_step step good) (split f (ordered core longest) (with_cutoff energy core step) d)
+
+    by_cutoff : (energy : List ℕ) (core : ℤ) → s.energy ≡ Some energy → s.core ≡ Some core → Split {B = JobValue} f (needed keys.Cutoff s.cutoff) (with_longest energy core) → Lacks s f
+    by_cutoff energy core en co (inl bad) = let h = needed_err keys.Cutoff s.cutoff f bad in no_cutoff (energy, en) (core, co) h.0 h.1
+    by_cutoff energy core en co (inr (longest, good, d)) =
+        by_step energy core longest en co (needed_ok keys.Cutoff s.cutoff longest good) (split f (needed keys.TimeStep s.time_step) (with_step energy core longest) d)
+
+    by_core : (energy : List ℕ) → s.energy ≡ Some energy → Split {B = JobValue} f (needed keys.Core s.core) (with_core energy) → Lacks s f
+    by_core energy en (inl bad) = let h = needed_err keys.Core s.core f bad in no_core (energy, en) h.0 h.1
+    by_core energy en (inr (core, good, d)) = by_cutoff energy core en (needed_ok keys.Core s.core core good) (split f (needed keys.Cutoff s.cutoff) (with_longest energy core) d)
+
+    by_energy : Split {B = JobValue} f (needed keys.Energy s.energy) with_energy → Lacks s f
+    by_energy (inl bad) = let h = needed_err keys.Energy s.energy f bad in no_energy h.0 h.1
+    by_energy (inr (energy, good, d)) = by_core energy (needed_ok keys.Energy s.energy energy good) (split f (needed keys.Core s.core) (with_core energy) d)
+
+-- ---- the whole
+
+below_header : (most : Counts) (text : List ℕ) (lines : List (List ℕ)) (f : Refusal) → lines_of text ≡ header ∷ lines → reading_at most (frac_in lines) lines ≡ Err f → IsCause most text f
+below_header most text lines f first e = at (first_fault most (frac_in lines) [] lines) refl e
+  where
+    at : (o : Option Refusal) → first_fault most (frac_in lines) [] lines ≡ o → unless o (job_from (summary (frac_in lines) lines)) ≡ Err f → IsCause most text f
+    at (Some g) is e =
+        let same : g ≡ f = cc in
+        let h = first_there most (frac_in lines) [] lines f (is ∙ ap (λ (x : Refusal). Some x) same) in
+        inr (inl (record { lines = lines; above = h.0; below = h.1; line = h.2; first_line = first; place = h.3; faultless = λ a b l is. h.4 a b l is; fault = h.5 }))
+    at None is e =
+        inr (inr (record { lines = lines; first_line = first; faultless = λ a b l place. faultless_from most (frac_in lines) [] lines is a b l place; lacks = job_lacks (summary (frac_in lines) lines) f e }))
+
+pub faults_have_causes : FaultsHaveCauses
+unfolding reading_of
+faults_have_causes most text f e = at (lines_of text) refl e
+  where
+    at_line : (line : List ℕ) (lines : List (List ℕ)) → lines_of text ≡ line ∷ lines → (b : Bool) → bytes_eq line header ≡ b
+        → ◌≡◌ {A = Result JobValue Refusal} (if b then reading_at most (frac_in lines) lines else Err (bad_line 1)) (Err f) → IsCause most text f
+    at_line line lines is true b e = below_header most text lines f (is ∙ ap (λ (l : List ℕ). l ∷ lines) (same_bytes line header b)) e
+    at_line line lines is false b e =
+        let same : f ≡ bad_line 1 = cc in
+        inl (
+          λ others headed. (let same_line : line ≡ header = (let both : line ∷ lines ≡ header ∷ others = sym is ∙ headed in cc) in
+              let wrong : false ≡ true = sym b ∙ ap (λ (l : List ℕ). bytes_eq l header) same_line in cc),
+          same,
+        )
+
+    at : (all : List (List ℕ)) → lines_of text ≡ all → lines_reading most all ≡ Err f → IsCause most text f
+    at [] is e = let same : f ≡ bad_line 1 = cc in inl (λ lines headed. (let wrong : [] ≡ header ∷ lines = sym is ∙ headed in cc), same)
+    at (line ∷ lines) is e = at_line line lines is (bytes_eq line header) refl e
+
+-- the same at what a call answered
+pub given_cause : {A : Type 0} (most : Counts) (text : List ℕ) (r : Result (Job A) (JobFault A)) → Gives job_value r (reading_of most text) → IfErr r (λ f. IfSome (refusal_of f) (IsCause most text))
+given_cause most text (Ok job) h = tt
+given_cause most text (Err f) h = at (refusal_of f) h
+  where
+    at : (o : Option Refusal) → IfSome o (λ g. reading_of most text ≡ Err g) → IfSome o (IsCause most text)
+    at None h = tt
+    at (Some g) h = faults_have_causes most text g h
