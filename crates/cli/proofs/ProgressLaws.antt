@@ -1,5 +1,5 @@
 -- What was printed of how far a run has come, and what is printed in all.
-use Rattle.std.proofs.Common.{◌≡◌, ◌≢◌, ◌⊎◌, ◌∙◌, ◌<◌, ◌-◌, ◌^◌, ℕ, List, Option, Some, None, arith, inl, inr, refl, subst, sym}
+use Rattle.std.proofs.Common.{◌≡◌, ◌<◌, ◌-◌, ◌^◌, ℕ, List, Option, Some, None, arith, inl, inr, refl, subst, sym}
 use Rattle.std.specs.Prelude.{OnErr, OnOk, Result, Ok, Err}
 use Rattle.integrator.specs.Forces.{numbers_from}
 use Rattle.command_line.specs.CommandLine.{IsCommand}
@@ -7,9 +7,6 @@ use Rattle.command_line.specs.declared.commands.Command.{Command}
 use Rattle.cli.specs.Kept.{Output}
 use Rattle.cli.specs.Progress.{IsBegun, IsQuiet, PrintsIfCounted, Says, TellsAll, TellsSome, told_of}
 use Rattle.cli.specs.Reports.{Prints}
-use Rattle.cli.specs.Statuses.{code_of}
-use Rattle.cli.specs.declared.faults.Status.{Status}
-use Rattle.cli.specs.declared.faults.Status.TheVariants as status
 
 -- before the first step nothing is told
 nothing_told : (steps : Option ℕ) (o : Output) → TellsSome steps o o

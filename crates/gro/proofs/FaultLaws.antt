@@ -1,9 +1,9 @@
 -- The fault that is read of a text has its cause in the text.
-use Rattle.std.proofs.Common.{◌≡◌, ◌≢◌, ◌<◌, ◌≤◌, ℕ, zero, suc, ◌+◌, Bool, true, false, ◌&&◌, ◌||◌, cond, eqb, leb, ltb, not, List, [], ◌∷◌, ◌++◌, length, drop, take, replicate, Option, Some, None, Result, Ok, Err, IfErr, IsTrue, ℤ, pos, inl, inr, refl, sym, ap, subst, ◌∙◌, arith}
-use Rattle.std.proofs.lemmas.Bool.{and_parts, eqb-false, eqb-true, le-ltb, leb-false, ltb-false, ltb-true, ne_eqb, not-true}
+use Rattle.std.proofs.Common.{◌≡◌, ◌<◌, ◌≤◌, ℕ, zero, suc, ◌+◌, Bool, true, false, ◌&&◌, ◌||◌, cond, eqb, leb, ltb, not, List, [], ◌∷◌, ◌++◌, length, drop, take, Option, Some, None, Result, Ok, Err, IfErr, IsTrue, ℤ, inl, inr, refl, sym, ap, subst, ◌∙◌, arith}
+use Rattle.std.proofs.lemmas.Bool.{and_parts, eqb-false, eqb-true, le-ltb, leb-false, ltb-false, ltb-true, not-true}
 use Rattle.std.proofs.lemmas.List.{nil_from_length}
 use Rattle.std.specs.List.{list_all}
-use Rattle.line_text.specs.Parts.{◌>>=◌ as ◌|>◌, cut_at, is_printable, lacks, trimmed}
+use Rattle.line_text.specs.Parts.{◌>>=◌ as ◌|>◌, cut_at, is_printable, trimmed}
 use Rattle.line_text.specs.Steps.{◌>>=◌}
 use Rattle.line_text.specs.Words.{words}
 use Rattle.line_text.proofs.LineLaws.{cut_again, cut_found, cut_none, uncut}
@@ -11,8 +11,8 @@ use Rattle.line_text.proofs.StepLaws.{Split, bind_ok, split}
 use Rattle.line_text.proofs.WrittenLaws.{padded_found}
 use Rattle.gro.specs.Frames.{AtomView, FrameView}
 use Rattle.gro.specs.GroFaults.{AreFrames, FaultsHaveCauses, HasAtoms, HasOtherPrecision, HasPoints, HasValues, IsAtomFault, IsBoxFault, IsCause, IsCountFault, IsFrameFault, IsNeeded, IsUnfinished, bad_atom, bad_box, bad_count, no_title}
-use Rattle.gro.specs.GroReading.{Gives, LineView, and_more, atom_at, atom_in, atoms_at, count_at, count_in, counted, fields_of, frame_at, frames_at, frames_of, from_atoms, from_count, from_title, is_zero, line_at, parted, points_of, rectangular, said, sides_at, sides_by, sides_in, values_of, whole_of, with_points}
-use Rattle.gro.specs.GroText.{AreAtoms, AreValues, IsAtomLine, IsCount, IsFrame, IsLine, is_blank}
+use Rattle.gro.specs.GroReading.{Gives, LineView, and_more, atom_at, atom_in, atoms_at, count_at, count_in, counted, fields_of, frame_at, frames_at, frames_of, from_atoms, from_count, from_title, is_zero, line_at, parted, points_of, rectangular, said, sides_at, sides_in, values_of, whole_of, with_points}
+use Rattle.gro.specs.GroText.{AreAtoms, IsAtomLine, IsCount, IsLine, is_blank}
 use Rattle.gro.specs.declared.faults.GroFault.{GroFault}
 use Rattle.gro.specs.declared.faults.GroFault.TheVariants.{Truncated, BadCount, BadColumns, Precision, BadBox, Triclinic, TooManyAtoms, NoSuchFrame, Memory}
 use Rattle.gro.proofs.AtomLaws.{atom_read, atom_written}

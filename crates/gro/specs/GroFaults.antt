@@ -7,7 +7,7 @@ use Rattle.gro.specs.Frames.{AtomView, FrameView}
 use Rattle.gro.specs.GroReading.{frames_of}
 use Rattle.gro.specs.GroText.{AreAtoms, AreValues, IsAtomLine, IsCount, IsFrame, IsLine, is_blank}
 use Rattle.gro.specs.declared.faults.GroFault.{GroFault}
-use Rattle.gro.specs.declared.faults.GroFault.TheVariants.{Truncated, BadCount, BadColumns, Precision, BadBox, Triclinic, TooManyAtoms, NoSuchFrame, Memory}
+use Rattle.gro.specs.declared.faults.GroFault.TheVariants.{Truncated, BadCount, BadColumns, Precision, BadBox, Triclinic, TooManyAtoms, Memory}
 
 -- ---- what is wrong with a line, whose number is n, and which stands at the front of these bytes
 

@@ -1,5 +1,5 @@
 -- The fault that is read of a text has its cause in the text.
-use Rattle.std.proofs.Common.{◌≡◌, ◌≢◌, ℕ, ℤ, int_lt, Bool, true, false, List, [], ◌∷◌, ◌++◌, length, Option, Some, None, Result, Ok, Err, IfErr, IfSome, All, bytes_eq, inl, inr, refl, sym, ap, subst, ◌∙◌, append_assoc, append-nil, eqb, if◌then◌else◌}
+use Rattle.std.proofs.Common.{◌≡◌, ◌≢◌, ℕ, ℤ, int_lt, Bool, true, false, List, [], ◌∷◌, ◌++◌, length, Option, Some, None, Result, Ok, Err, IfErr, IfSome, All, bytes_eq, inl, inr, refl, sym, ap, ◌∙◌, append_assoc, append-nil, eqb, if◌then◌else◌}
 use Rattle.std.specs.Option.{unwrap_or}
 use Rattle.std.proofs.lemmas.Bool.{eqb-false, eqb-true}
 use Rattle.std.proofs.lemmas.List.Elements.{All-nil, All-cons}
@@ -9,8 +9,8 @@ use Rattle.line_text.proofs.StepLaws.{Split, split}
 use Rattle.fixed.specs.declared.frac.Frac.{Frac}
 use Rattle.job.specs.Bits.{frac_in}
 use Rattle.job.specs.Faults.{Refusal, Said, TypeLine, bad_line, first_fault, line_fault, missing, or_else, out_of_range, summary}
-use Rattle.job.specs.JobFaults.{FaultsHaveCauses, HasKeys, IsCause, IsLack, IsLineFault, Lacks, no_energy, no_core, no_cutoff, no_time_step, short_cutoff, other_values}
-use Rattle.job.specs.JobText.{IsFaultless, header, job_from, lines_reading, needed, ordered, reading_at, reading_of, unless, whole_types}
+use Rattle.job.specs.JobFaults.{FaultsHaveCauses, IsCause, Lacks, no_energy, no_core, no_cutoff, no_time_step, short_cutoff, other_values}
+use Rattle.job.specs.JobText.{header, job_from, lines_reading, needed, ordered, reading_at, reading_of, unless, whole_types}
 use Rattle.job.specs.Values.{Counts, JobValue, TypeValue}
 use Rattle.job.specs.Views.{Gives, job_value, refusal_of}
 use Rattle.job.specs.Words.{lines_of}

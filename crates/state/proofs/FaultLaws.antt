@@ -10,17 +10,17 @@ use Rattle.fixed.specs.declared.frac.Frac.TheVariants.{F24, F32, F40}
 use Rattle.line_text.specs.Parts.{AreThree, cut_at, ended, is_title, lacks}
 use Rattle.line_text.specs.Steps.{◌>>=◌}
 use Rattle.line_text.proofs.Items.{all_push}
-use Rattle.line_text.proofs.LineLaws.{cut_found, cut_none, ended_then, line_cut}
+use Rattle.line_text.proofs.LineLaws.{cut_found, cut_none, ended_then}
 use Rattle.line_text.proofs.StepLaws.{Split, bind_err, split}
-use Rattle.state.specs.StateFaults.{AreLines, FaultsHaveCauses, IsBadLine, IsBegun, IsCause, IsTrailing, IsTruncated}
-use Rattle.state.specs.StateReading.{Gives, frac_of, head_of, title_of, step_of, count_of, sides_of, atom_of, line_at, needed, said, field_at, frac_at, atom_at, atoms_at, count_number, from_atoms, from_sides, from_count, from_frac, from_step, from_title, state_of}
+use Rattle.state.specs.StateFaults.{AreLines, FaultsHaveCauses, IsBegun, IsCause}
+use Rattle.state.specs.StateReading.{Gives, frac_of, head_of, title_of, step_of, count_of, sides_of, atom_of, needed, said, field_at, atom_at, atoms_at, from_atoms, from_sides, from_count, from_frac, from_step, from_title, state_of}
 use Rattle.state.specs.StateText.{AtomView, IsAtom, IsSide, IsState, StateView, atom_line, atom_lines, bits_in, bits_line, box_line, count_line, head_line, state_text, step_line, title_line, version_of}
 use Rattle.state.specs.declared.faults.StateFault.{StateFault}
 use Rattle.state.specs.declared.faults.StateFault.TheVariants.{BadLine, Truncated, Trailing, Memory}
 use Rattle.state.specs.declared.versions.Version.{Version}
 use Rattle.state.specs.declared.versions.Version.TheVariants.{First, Second}
 use Rattle.state.proofs.AtomLaws.{atom_again, atom_found, atom_lacks}
-use Rattle.state.proofs.AtomListLaws.{atoms_again, atoms_found}
+use Rattle.state.proofs.AtomListLaws.{atoms_found}
 use Rattle.state.proofs.LineLaws.{count_again, count_found, count_lacks, field_again, field_found, frac_again, frac_found, frac_lacks, head_again, head_found, head_lacks, line_again, sides_again, sides_found, sides_lack, step_again, step_found, step_lacks, title_again, title_found, title_lacks}
 use Rattle.state.proofs.StateReadsAgain.{state_reads_again}
 
