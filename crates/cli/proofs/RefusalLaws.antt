@@ -20,7 +20,7 @@ use Rattle.cli.specs.Kept.{IsKept, Output}
 use Rattle.cli.specs.Printed.{IsDone}
 use Rattle.cli.specs.Progress.{IsBegun, IsTold, PrintsIfCounted}
 use Rattle.cli.specs.Reads.{AsksFor, also_asked_if, asked_by, unread}
-use Rattle.cli.specs.Refusals.{HasNoBytes, IsFaultOf, IsLineFault, IsNoAnswer, IsRefused, IsUnanswered, IsUndone, IsUnread, IsUnreadOfSome, IsUnreadOfTwo, IsVerdictFault, RefusesCode, RefusesEnergy, RefusesFrame, RefusesJob, RefusesListing, RefusesSlope, RefusesState, RefusesUnder}
+use Rattle.cli.specs.Refusals.{HasNoBytes, IsFaultOf, IsLineUndone, IsNoAnswer, IsCommandRefused, IsUnanswered, IsUndone, IsUnread, IsUnreadOfSome, IsUnreadOfTwo, IsVerdictUndone, RefusesCode, RefusesEnergy, RefusesFrame, RefusesJob, RefusesListing, RefusesSlope, RefusesState, RefusesUnder}
 use Rattle.cli.specs.Reports.{IsReported}
 use Rattle.cli.specs.Statuses.{code_of, run_status, status_of}
 use Rattle.cli.specs.declared.faults.CommandFault.{CommandFault}
@@ -45,28 +45,28 @@ asks_all (command.Energy energy) before after all = inr all
 asks_all (command.Check check) before after all = inr all
 asks_all (command.Code l) before after all = all
 
-asks_of_two : {A : Type 0} (first second : List ℕ) (before after : Paths) (f : CommandFault A) → IsUnreadOfTwo first second before after f
+asks_of_two : {A : Type 0} (held : List ℕ → Option (List ℕ)) (first second : List ℕ) (before after : Paths) (f : CommandFault A) → IsUnreadOfTwo held first second before after f
     → (after ≡ also_asked before first) ⊎ (after ≡ also_asked (also_asked before first) second)
-asks_of_two first second before after f (inl h) = inl h.asked
-asks_of_two first second before after f (inr h) = inr h.asked
+asks_of_two held first second before after f (inl h) = inl h.asked
+asks_of_two held first second before after f (inr h) = inr h.asked
 
-asks_of_some : {A : Type 0} (first : List ℕ) (second : Option (Bor (List ℕ))) (before after : Paths) (f : CommandFault A) → IsUnreadOfSome first second before after f
+asks_of_some : {A : Type 0} (held : List ℕ → Option (List ℕ)) (first : List ℕ) (second : Option (Bor (List ℕ))) (before after : Paths) (f : CommandFault A) → IsUnreadOfSome held first second before after f
     → (after ≡ also_asked before first) ⊎ (after ≡ also_asked_if (also_asked before first) second)
-asks_of_some first None before after f h = inl h.asked
-asks_of_some first (Some second) before after f h = asks_of_two first second.now before after f h
+asks_of_some held first None before after f h = inl h.asked
+asks_of_some held first (Some second) before after f h = asks_of_two held first second.now before after f h
 
-asks_without_bytes : {A : Type 0} (c : Command) (before after : Paths) (f : CommandFault A) → HasNoBytes c before after f → AsksFor c before after
-asks_without_bytes (command.Start start) before after f h = asks_of_two _ _ _ _ f h
-asks_without_bytes (command.Run run) before after f h = asks_of_two _ _ _ _ f h
-asks_without_bytes (command.Trajectory t) before after f h = asks_of_two _ _ _ _ f h
-asks_without_bytes (command.Frame frame) before after f h = h.asked
-asks_without_bytes (command.Energy energy) before after f h = asks_of_two _ _ _ _ f h
-asks_without_bytes (command.Check check) before after f h = asks_of_some _ check.listing _ _ f h
-asks_without_bytes (command.Code l) before after f h = h.asked
+asks_without_bytes : {A : Type 0} (held : List ℕ → Option (List ℕ)) (c : Command) (before after : Paths) (f : CommandFault A) → HasNoBytes held c before after f → AsksFor c before after
+asks_without_bytes held (command.Start start) before after f h = asks_of_two held _ _ _ _ f h
+asks_without_bytes held (command.Run run) before after f h = asks_of_two held _ _ _ _ f h
+asks_without_bytes held (command.Trajectory t) before after f h = asks_of_two held _ _ _ _ f h
+asks_without_bytes held (command.Frame frame) before after f h = h.asked
+asks_without_bytes held (command.Energy energy) before after f h = asks_of_two held _ _ _ _ f h
+asks_without_bytes held (command.Check check) before after f h = asks_of_some held _ check.listing _ _ f h
+asks_without_bytes held (command.Code l) before after f h = h.asked
 
 asks_undone : {A : Type 0} (held : List ℕ → Option (List ℕ)) (asked asked' : Paths) (c : Command) (before after : Output) (f : CommandFault A)
     → IsUndone held asked asked' c before after f → AsksFor c asked asked'
-asks_undone held asked asked' c before after f (inl h) = asks_without_bytes c asked asked' f h.0
+asks_undone held asked asked' c before after f (inl h) = asks_without_bytes held c asked asked' f h.0
 asks_undone held asked asked' c before after f (inr h) = asks_all c asked asked' h.0
 
 -- what is asked for where the words' wish was done, and where it was not
@@ -111,13 +111,13 @@ kept_frames IsText every most before after (run.MemoryAfter done) left failed = 
 kept_frames IsText every most before after (run.Out o) left failed = inl (inr (failed refl))
 
 kept_verdict : {A : Type 0} (held : List ℕ → Option (List ℕ)) (job : List ℕ) (listing : Option (Bor (List ℕ))) (before after : Output) (f : CommandFault A)
-    → IsVerdictFault held job listing before after f → IsKept before after
+    → IsVerdictUndone held job listing before after f → IsKept before after
 kept_verdict held job None before after f h = kept_unwritten _ _ before after f h.2
 kept_verdict held job (Some listing) before after f h = kept_unwritten _ _ before after f h.4
 
 -- what a command leaves that was refused: a trajectory may leave whole frames where memory is wanted
 kept_refused : {A : Type 0} (words : List (List ℕ)) (held : List ℕ → Option (List ℕ)) (c : Command) (before after : Output) (f : CommandFault A) → IsCommand words c
-    → IsRefused held c before after f → IsKept before after ⊎ ((status_of f ≡ status.Memory) × AsksForTrajectory words)
+    → IsCommandRefused held c before after f → IsKept before after ⊎ ((status_of f ≡ status.Memory) × AsksForTrajectory words)
 kept_refused words held (command.Start start) before after f is h = inl (kept_unwritten _ _ before after f h.4)
 kept_refused words held (command.Run r) before after f is h = let refused = h.4.2 in inl (kept_by_out (is_out h.4.0) before after refused.unwritten refused.failed)
 kept_refused words held (command.Trajectory t) before after f is h = let refused = h.4.2 in
@@ -172,29 +172,29 @@ some_told f result Text Memory (inl told) zero = never_done f (code_zero (status
 some_told f result Text Memory (inr told) zero = let bad : 4 ≡ 0 = sym told.0 ∙ zero in absurd (omega (arith, bad))
 
 -- no file's fault is one of the words
-unread_of_words : {A : Type 0} (path : List ℕ) (before after : Paths) (f : CommandFault A) → IsOfWords f → IsUnread path before after f → ⊥
-unread_of_words {A} path before after f of_words h = unread_no h.why h.lent (subst IsOfWords h.is of_words)
+unread_of_words : {A : Type 0} (held : List ℕ → Option (List ℕ)) (path : List ℕ) (before after : Paths) (f : CommandFault A) → IsOfWords f → IsUnread held path before after f → ⊥
+unread_of_words {A} held path before after f of_words h = unread_no h.why h.lent (subst IsOfWords h.is of_words)
   where
     unread_no : (why : ReadFault) (lent : Bor (List ℕ)) → IsOfWords {A = A} (unread why lent) → ⊥
     unread_no read.CannotRead lent h = h
     unread_no read.Memory lent h = h
 
-two_of_words : {A : Type 0} (first second : List ℕ) (before after : Paths) (f : CommandFault A) → IsOfWords f → IsUnreadOfTwo first second before after f → ⊥
-two_of_words first second before after f of_words (inl h) = unread_of_words _ _ _ f of_words h
-two_of_words first second before after f of_words (inr h) = unread_of_words _ _ _ f of_words h
+two_of_words : {A : Type 0} (held : List ℕ → Option (List ℕ)) (first second : List ℕ) (before after : Paths) (f : CommandFault A) → IsOfWords f → IsUnreadOfTwo held first second before after f → ⊥
+two_of_words held first second before after f of_words (inl h) = unread_of_words held _ _ _ f of_words h
+two_of_words held first second before after f of_words (inr h) = unread_of_words held _ _ _ f of_words h
 
-some_of_words : {A : Type 0} (first : List ℕ) (second : Option (Bor (List ℕ))) (before after : Paths) (f : CommandFault A) → IsOfWords f → IsUnreadOfSome first second before after f → ⊥
-some_of_words first None before after f of_words h = unread_of_words _ _ _ f of_words h
-some_of_words first (Some second) before after f of_words h = two_of_words _ _ _ _ f of_words h
+some_of_words : {A : Type 0} (held : List ℕ → Option (List ℕ)) (first : List ℕ) (second : Option (Bor (List ℕ))) (before after : Paths) (f : CommandFault A) → IsOfWords f → IsUnreadOfSome held first second before after f → ⊥
+some_of_words held first None before after f of_words h = unread_of_words held _ _ _ f of_words h
+some_of_words held first (Some second) before after f of_words h = two_of_words held _ _ _ _ f of_words h
 
-bytes_of_words : {A : Type 0} (c : Command) (before after : Paths) (f : CommandFault A) → IsOfWords f → HasNoBytes c before after f → ⊥
-bytes_of_words (command.Start start) before after f of_words h = two_of_words _ _ _ _ f of_words h
-bytes_of_words (command.Run r) before after f of_words h = two_of_words _ _ _ _ f of_words h
-bytes_of_words (command.Trajectory t) before after f of_words h = two_of_words _ _ _ _ f of_words h
-bytes_of_words (command.Frame frame) before after f of_words h = unread_of_words _ _ _ f of_words h
-bytes_of_words (command.Energy energy) before after f of_words h = two_of_words _ _ _ _ f of_words h
-bytes_of_words (command.Check check) before after f of_words h = some_of_words _ check.listing _ _ f of_words h
-bytes_of_words (command.Code l) before after f of_words h = unread_of_words _ _ _ f of_words h
+bytes_of_words : {A : Type 0} (held : List ℕ → Option (List ℕ)) (c : Command) (before after : Paths) (f : CommandFault A) → IsOfWords f → HasNoBytes held c before after f → ⊥
+bytes_of_words held (command.Start start) before after f of_words h = two_of_words held _ _ _ _ f of_words h
+bytes_of_words held (command.Run r) before after f of_words h = two_of_words held _ _ _ _ f of_words h
+bytes_of_words held (command.Trajectory t) before after f of_words h = two_of_words held _ _ _ _ f of_words h
+bytes_of_words held (command.Frame frame) before after f of_words h = unread_of_words held _ _ _ f of_words h
+bytes_of_words held (command.Energy energy) before after f of_words h = two_of_words held _ _ _ _ f of_words h
+bytes_of_words held (command.Check check) before after f of_words h = some_of_words held _ check.listing _ _ f of_words h
+bytes_of_words held (command.Code l) before after f of_words h = unread_of_words held _ _ _ f of_words h
 
 -- what texts are refused for isn't a fault of the words, nor is a failed output
 unwritten_of_words : {A : Type 0} (Why Began : Type 0) (before after : Output) (f : CommandFault A) → IsOfWords f → (Why → ⊥) → Unwritten Why Began before after f → ⊥
@@ -208,7 +208,7 @@ under_of_words Job Read Refuses' none never (inr h) = never h.0 h.2
 refused_of_words : {A : Type 0} (held : List ℕ → Option (List ℕ)) (c : Command) (before after : Output) (f : CommandFault A) → IsOfWords f
     → ((job : List ℕ) → RefusesJob job f → ⊥) → ((gro : List ℕ) (n : ℕ) (said : JobValue) → RefusesFrame gro n said f → ⊥) → ((state : List ℕ) → RefusesState state f → ⊥)
     → ((job : List ℕ) → RefusesCode job f → ⊥) → ((said : JobValue) → RefusesSlope said f → ⊥) → ((listing : List ℕ) (said : JobValue) → RefusesListing listing said f → ⊥)
-    → ((job state : List ℕ) → RefusesEnergy job state f → ⊥) → IsRefused held c before after f → ⊥
+    → ((job state : List ℕ) → RefusesEnergy job state f → ⊥) → IsCommandRefused held c before after f → ⊥
 refused_of_words held (command.Start start) before after f of_words job frame state code slope listing energy h =
     unwritten_of_words _ _ before after f of_words (under_of_words _ _ _ (job h.0) (frame h.1 start.frame)) h.4
 refused_of_words held (command.Run r) before after f of_words job frame state code slope listing energy h = subst IsOfWords h.4.1 of_words
@@ -217,7 +217,7 @@ refused_of_words held (command.Frame fr) before after f of_words job frame state
 refused_of_words held (command.Energy e) before after f of_words job frame state code slope listing energy h = unwritten_of_words _ _ before after f of_words (energy h.0 h.1) h.4
 refused_of_words held (command.Check check) before after f of_words job frame state code slope listing energy h = by_listing check.listing h
   where
-    by_listing : (l : Option (Bor (List ℕ))) → IsVerdictFault held check.job.now l before after f → ⊥
+    by_listing : (l : Option (Bor (List ℕ))) → IsVerdictUndone held check.job.now l before after f → ⊥
     by_listing None h = unwritten_of_words _ _ before after f of_words (under_of_words _ _ _ (job h.0) slope) h.2
     by_listing (Some l) h = unwritten_of_words _ _ before after f of_words (under_of_words _ _ _ (job h.0) (listing h.1)) h.4
 refused_of_words held (command.Code l) before after f of_words job frame state code slope listing energy h = unwritten_of_words _ _ before after f of_words (code h.0) h.2
@@ -225,7 +225,7 @@ refused_of_words held (command.Code l) before after f of_words job frame state c
 -- words that name a command have no fault of their own
 command_of_words : {A : Type 0} (held : List ℕ → Option (List ℕ)) (asked asked' : Paths) (c : Command) (before after : Output) (f : CommandFault A) → IsOfWords f
     → IsUndone held asked asked' c before after f → ⊥
-command_of_words held asked asked' c before after f of_words (inl h) = bytes_of_words c asked asked' f of_words h.0
+command_of_words held asked asked' c before after f of_words (inl h) = bytes_of_words held c asked asked' f of_words h.0
 command_of_words held asked asked' c before after (fault.CommandLine e) of_words (inr h) =
     refused_of_words held c before after (fault.CommandLine e) of_words (λ job x. x) (λ gro n said x. x) (λ state x. x) (λ job x. x) (λ said x. x) (λ listing said x. x) (λ job state x. x) h.1
 command_of_words held asked asked' c before after fault.NotText of_words (inr h) =
@@ -297,7 +297,7 @@ unanswered words e before after fault.Memory kind none h = h
 
 -- why the line wasn't written is why what it tells wasn't
 pub line_unwritten : {A : Type 0} (Why Began : Type 0) (text : List ℕ) (before after : Output) (f : CommandFault A) → (f ≡ fault.Memory → Why) → (AppendsBeginning before.0 after.0 text → Began)
-    → IsLineFault text before after f → Unwritten Why Began before after f
+    → IsLineUndone text before after f → Unwritten Why Began before after f
 line_unwritten Why Began text before after f memory began (inl h) = inl (memory h.0, h.1)
 line_unwritten Why Began text before after f memory began (inr h) = inr (h.0, h.1, h.2, began h.3)
 

@@ -39,6 +39,7 @@ use Rattle.cli.specs.Verdicts.{IsEnergyText, IsListingVerdict, IsSlopeVerdict}
 use Rattle.cli.specs.declared.faults.CommandFault.{CommandFault}
 use Rattle.cli.specs.declared.faults.CommandFault.TheVariants as fault
 use Rattle.cli.specs.declared.files.ReadFault.{ReadFault}
+use Rattle.cli.specs.declared.files.ReadFault.TheVariants as read
 
 -- ---- what texts are refused for
 
@@ -107,32 +108,32 @@ RefusesEnergy job state _ = ⊥
 -- ---- what an output is left with
 
 -- nothing was written, and this is why; or there was a text to write, a write failed, and a beginning of it went out
-abbrev pub IsUnwritten : {A : Type 0} → (CommandFault A → Type 0) → ((List ℕ → Type 0) → Type 0) → Output → Output → CommandFault A → Type 0
-IsUnwritten Why HasText before after f = (Why f × (after.0 ≡ before.0))
+abbrev pub IsTextUnwritten : {A : Type 0} → (CommandFault A → Type 0) → ((List ℕ → Type 0) → Type 0) → Output → Output → CommandFault A → Type 0
+IsTextUnwritten Why HasText before after f = (Why f × (after.0 ≡ before.0))
     ⊎ ((o : OutFault) × (f ≡ fault.Out o) × (before.1 < after.1) × HasText (AppendsBeginning before.0 after.0))
 
 -- why a text that is made was not written
-abbrev pub IsLineFault : {A : Type 0} → List ℕ → Output → Output → CommandFault A → Type 0
-IsLineFault text before after f = IsUnwritten (λ g. g ≡ fault.Memory) (λ Wrote. Wrote text) before after f
+abbrev pub IsLineUndone : {A : Type 0} → List ℕ → Output → Output → CommandFault A → Type 0
+IsLineUndone text before after f = IsTextUnwritten (λ g. g ≡ fault.Memory) (λ Wrote. Wrote text) before after f
 
 -- why no text was written of the state that begins at a frame, of a state's frame, of a listing, of a verdict, of an energy
-abbrev pub IsStartFault : {A : Type 0} → (job gro : List ℕ) → ℕ → Output → Output → CommandFault A → Type 0
-IsStartFault job gro number before after f = IsUnwritten (RefusesUnder job (RefusesFrame gro number)) (IsStartText job gro number) before after f
+abbrev pub IsStartUndone : {A : Type 0} → (job gro : List ℕ) → ℕ → Output → Output → CommandFault A → Type 0
+IsStartUndone job gro number before after f = IsTextUnwritten (RefusesUnder job (RefusesFrame gro number)) (IsStartText job gro number) before after f
 
-abbrev pub IsFrameFault : {A : Type 0} → List ℕ → Output → Output → CommandFault A → Type 0
-IsFrameFault state before after f = IsUnwritten (RefusesState state) (IsFrameText state) before after f
+abbrev pub IsFrameUndone : {A : Type 0} → List ℕ → Output → Output → CommandFault A → Type 0
+IsFrameUndone state before after f = IsTextUnwritten (RefusesState state) (IsFrameText state) before after f
 
-abbrev pub IsCodeFault : {A : Type 0} → List ℕ → Output → Output → CommandFault A → Type 0
-IsCodeFault job before after f = IsUnwritten (RefusesCode job) (IsCodeText job) before after f
+abbrev pub IsCodeUndone : {A : Type 0} → List ℕ → Output → Output → CommandFault A → Type 0
+IsCodeUndone job before after f = IsTextUnwritten (RefusesCode job) (IsCodeText job) before after f
 
-abbrev pub IsSlopeFault : {A : Type 0} → List ℕ → Output → Output → CommandFault A → Type 0
-IsSlopeFault job before after f = IsUnwritten (RefusesUnder job RefusesSlope) (IsSlopeVerdict job) before after f
+abbrev pub IsSlopeUndone : {A : Type 0} → List ℕ → Output → Output → CommandFault A → Type 0
+IsSlopeUndone job before after f = IsTextUnwritten (RefusesUnder job RefusesSlope) (IsSlopeVerdict job) before after f
 
-abbrev pub IsListingFault : {A : Type 0} → (job listing : List ℕ) → Output → Output → CommandFault A → Type 0
-IsListingFault job listing before after f = IsUnwritten (RefusesUnder job (RefusesListing listing)) (IsListingVerdict job listing) before after f
+abbrev pub IsListingUndone : {A : Type 0} → (job listing : List ℕ) → Output → Output → CommandFault A → Type 0
+IsListingUndone job listing before after f = IsTextUnwritten (RefusesUnder job (RefusesListing listing)) (IsListingVerdict job listing) before after f
 
-abbrev pub IsEnergyFault : {A : Type 0} → (job state : List ℕ) → Output → Output → CommandFault A → Type 0
-IsEnergyFault job state before after f = IsUnwritten (RefusesEnergy job state) (IsEnergyText job state) before after f
+abbrev pub IsEnergyUndone : {A : Type 0} → (job state : List ℕ) → Output → Output → CommandFault A → Type 0
+IsEnergyUndone job state before after f = IsTextUnwritten (RefusesEnergy job state) (IsEnergyText job state) before after f
 
 -- why no run of a state under a job was written: a failed output is left with a beginning of its text, and what else there is writes nothing
 pub record IsRunRefused {A : Type 0} (job state : List ℕ) (run : Run) (before after : Output) (f : RunFault A) : Type 0 where
@@ -141,8 +142,8 @@ pub record IsRunRefused {A : Type 0} (job state : List ℕ) (run : Run) (before 
   pub failed : is_out f ≡ true → before.1 < after.1
   pub beginning : is_out f ≡ true → WroteBeginning plain job state run.direction run.steps before.0 after.0
 
-abbrev pub IsRunFault : {A : Type 0} → (job state : List ℕ) → Run → Output → Output → CommandFault A → Type 0
-IsRunFault {A} job state run before after f = (g : RunFault A) × (f ≡ fault.Run g) × IsRunRefused job state run before after g
+abbrev pub IsRunUndone : {A : Type 0} → (job state : List ℕ) → Run → Output → Output → CommandFault A → Type 0
+IsRunUndone {A} job state run before after f = (g : RunFault A) × (f ≡ fault.Run g) × IsRunRefused job state run before after g
 
 -- why not all frames of a run were written: where memory is wanted in it whole frames may have been, and a failed output is left with a beginning of them
 pub record IsTrajectoryRefused {A : Type 0} (job state : List ℕ) (t : Trajectory) (before after : Output) (f : RunFault A) : Type 0 where
@@ -150,59 +151,60 @@ pub record IsTrajectoryRefused {A : Type 0} (job state : List ℕ) (t : Trajecto
   pub left : Leaves (IsFrameOfRun job state t.direction t.every) t.every (t.steps / t.every) before.0 after.0 f
   pub failed : is_out f ≡ true → before.1 < after.1
 
-abbrev pub IsTrajectoryFault : {A : Type 0} → (job state : List ℕ) → Trajectory → Output → Output → CommandFault A → Type 0
-IsTrajectoryFault {A} job state t before after f = (g : RunFault A) × (f ≡ fault.Run g) × IsTrajectoryRefused job state t before after g
+abbrev pub IsTrajectoryUndone : {A : Type 0} → (job state : List ℕ) → Trajectory → Output → Output → CommandFault A → Type 0
+IsTrajectoryUndone {A} job state t before after f = (g : RunFault A) × (f ≡ fault.Run g) × IsTrajectoryRefused job state t before after g
 
 -- ---- of a command, whose files gave these bytes
 
-abbrev pub IsVerdictFault : {A : Type 0} → (List ℕ → Option (List ℕ)) → List ℕ → Option (Bor (List ℕ)) → Output → Output → CommandFault A → Type 0
-IsVerdictFault held job None before after f = OfOne held job (λ j. IsSlopeFault j before after f)
-IsVerdictFault held job (Some listing) before after f = OfTwo held job listing.now (λ j l. IsListingFault j l before after f)
+abbrev pub IsVerdictUndone : {A : Type 0} → (List ℕ → Option (List ℕ)) → List ℕ → Option (Bor (List ℕ)) → Output → Output → CommandFault A → Type 0
+IsVerdictUndone held job None before after f = OfOne held job (λ j. IsSlopeUndone j before after f)
+IsVerdictUndone held job (Some listing) before after f = OfTwo held job listing.now (λ j l. IsListingUndone j l before after f)
 
-abbrev pub IsRefused : {A : Type 0} → (List ℕ → Option (List ℕ)) → Command → Output → Output → CommandFault A → Type 0
-IsRefused held (command.Start start) before after f = OfTwo held start.job.now start.gro.now (λ job gro. IsStartFault job gro start.frame before after f)
-IsRefused held (command.Run run) before after f = OfTwo held run.job.now run.state.now (λ job state. IsRunFault job state run before after f)
-IsRefused held (command.Trajectory t) before after f = OfTwo held t.job.now t.state.now (λ job state. IsTrajectoryFault job state t before after f)
-IsRefused held (command.Frame frame) before after f = OfOne held frame.state.now (λ state. IsFrameFault state before after f)
-IsRefused held (command.Energy energy) before after f = OfTwo held energy.job.now energy.state.now (λ job state. IsEnergyFault job state before after f)
-IsRefused held (command.Check check) before after f = IsVerdictFault held check.job.now check.listing before after f
-IsRefused held (command.Code l) before after f = OfOne held l.job.now (λ job. IsCodeFault job before after f)
+abbrev pub IsCommandRefused : {A : Type 0} → (List ℕ → Option (List ℕ)) → Command → Output → Output → CommandFault A → Type 0
+IsCommandRefused held (command.Start start) before after f = OfTwo held start.job.now start.gro.now (λ job gro. IsStartUndone job gro start.frame before after f)
+IsCommandRefused held (command.Run run) before after f = OfTwo held run.job.now run.state.now (λ job state. IsRunUndone job state run before after f)
+IsCommandRefused held (command.Trajectory t) before after f = OfTwo held t.job.now t.state.now (λ job state. IsTrajectoryUndone job state t before after f)
+IsCommandRefused held (command.Frame frame) before after f = OfOne held frame.state.now (λ state. IsFrameUndone state before after f)
+IsCommandRefused held (command.Energy energy) before after f = OfTwo held energy.job.now energy.state.now (λ job state. IsEnergyUndone job state before after f)
+IsCommandRefused held (command.Check check) before after f = IsVerdictUndone held check.job.now check.listing before after f
+IsCommandRefused held (command.Code l) before after f = OfOne held l.job.now (λ job. IsCodeUndone job before after f)
 
 -- ---- files that give no bytes
 
--- the file at a path gave no bytes, and was the last to be asked for
-pub record IsUnread {A : Type 0} (path : List ℕ) (asked_before asked_after : Option (List (List ℕ))) (f : CommandFault A) : Type 0 where
+-- the file at a path gave no bytes, and was the last to be asked for; one whose bytes are told gives them, unless memory runs out
+pub record IsUnread {A : Type 0} (held : List ℕ → Option (List ℕ)) (path : List ℕ) (asked_before asked_after : Option (List (List ℕ))) (f : CommandFault A) : Type 0 where
   pub why : ReadFault
   pub lent : Bor (List ℕ)
   pub is : f ≡ unread why lent
   pub path' : lent.now ≡ path
   pub asked : asked_after ≡ also_asked asked_before path
+  pub untold : why ≡ read.CannotRead → held path ≡ None
 
 -- the same of the first or the second of two files
-abbrev pub IsUnreadOfTwo : {A : Type 0} → (first second : List ℕ) → (asked_before asked_after : Option (List (List ℕ))) → CommandFault A → Type 0
-IsUnreadOfTwo first second asked_before asked_after f = IsUnread first asked_before asked_after f ⊎ IsUnread second (also_asked asked_before first) asked_after f
+abbrev pub IsUnreadOfTwo : {A : Type 0} → (List ℕ → Option (List ℕ)) → (first second : List ℕ) → (asked_before asked_after : Option (List (List ℕ))) → CommandFault A → Type 0
+IsUnreadOfTwo held first second asked_before asked_after f = IsUnread held first asked_before asked_after f ⊎ IsUnread held second (also_asked asked_before first) asked_after f
 
 -- the same of the first of two files, or of the second where there is one
-abbrev pub IsUnreadOfSome : {A : Type 0} → (first : List ℕ) → Option (Bor (List ℕ)) → (asked_before asked_after : Option (List (List ℕ))) → CommandFault A → Type 0
-IsUnreadOfSome first None asked_before asked_after f = IsUnread first asked_before asked_after f
-IsUnreadOfSome first (Some second) asked_before asked_after f = IsUnreadOfTwo first second.now asked_before asked_after f
+abbrev pub IsUnreadOfSome : {A : Type 0} → (List ℕ → Option (List ℕ)) → (first : List ℕ) → Option (Bor (List ℕ)) → (asked_before asked_after : Option (List (List ℕ))) → CommandFault A → Type 0
+IsUnreadOfSome held first None asked_before asked_after f = IsUnread held first asked_before asked_after f
+IsUnreadOfSome held first (Some second) asked_before asked_after f = IsUnreadOfTwo held first second.now asked_before asked_after f
 
 -- a file of a command gave no bytes; it asks for no file behind that one
-abbrev pub HasNoBytes : {A : Type 0} → Command → (asked_before asked_after : Option (List (List ℕ))) → CommandFault A → Type 0
-HasNoBytes (command.Start start) asked_before asked_after f = IsUnreadOfTwo start.job.now start.gro.now asked_before asked_after f
-HasNoBytes (command.Run run) asked_before asked_after f = IsUnreadOfTwo run.job.now run.state.now asked_before asked_after f
-HasNoBytes (command.Trajectory t) asked_before asked_after f = IsUnreadOfTwo t.job.now t.state.now asked_before asked_after f
-HasNoBytes (command.Frame frame) asked_before asked_after f = IsUnread frame.state.now asked_before asked_after f
-HasNoBytes (command.Energy energy) asked_before asked_after f = IsUnreadOfTwo energy.job.now energy.state.now asked_before asked_after f
-HasNoBytes (command.Check check) asked_before asked_after f = IsUnreadOfSome check.job.now check.listing asked_before asked_after f
-HasNoBytes (command.Code l) asked_before asked_after f = IsUnread l.job.now asked_before asked_after f
+abbrev pub HasNoBytes : {A : Type 0} → (List ℕ → Option (List ℕ)) → Command → (asked_before asked_after : Option (List (List ℕ))) → CommandFault A → Type 0
+HasNoBytes held (command.Start start) asked_before asked_after f = IsUnreadOfTwo held start.job.now start.gro.now asked_before asked_after f
+HasNoBytes held (command.Run run) asked_before asked_after f = IsUnreadOfTwo held run.job.now run.state.now asked_before asked_after f
+HasNoBytes held (command.Trajectory t) asked_before asked_after f = IsUnreadOfTwo held t.job.now t.state.now asked_before asked_after f
+HasNoBytes held (command.Frame frame) asked_before asked_after f = IsUnread held frame.state.now asked_before asked_after f
+HasNoBytes held (command.Energy energy) asked_before asked_after f = IsUnreadOfTwo held energy.job.now energy.state.now asked_before asked_after f
+HasNoBytes held (command.Check check) asked_before asked_after f = IsUnreadOfSome held check.job.now check.listing asked_before asked_after f
+HasNoBytes held (command.Code l) asked_before asked_after f = IsUnread held l.job.now asked_before asked_after f
 
 -- ---- of words
 
 -- Why a command was not done: one of its files gave no bytes, and nothing was printed; or all did, and this is what they are refused for, or what it lacked.
 abbrev pub IsUndone : {A : Type 0} → (List ℕ → Option (List ℕ)) → (asked_before asked_after : Option (List (List ℕ))) → Command → Output → Output → CommandFault A → Type 0
-IsUndone held asked_before asked_after c before after f = (HasNoBytes c asked_before asked_after f × (after.0 ≡ before.0))
-    ⊎ ((asked_after ≡ asked_by asked_before c) × IsRefused held c before after f)
+IsUndone held asked_before asked_after c before after f = (HasNoBytes held c asked_before asked_after f × (after.0 ≡ before.0))
+    ⊎ ((asked_after ≡ asked_by asked_before c) × IsCommandRefused held c before after f)
 
 -- why an error of the parser was not answered on standard output, by its kind
 abbrev pub IsNoAnswer : {A : Type 0} → ErrorKind → Output → Output → CommandFault A → Type 0

@@ -14,7 +14,7 @@ ghost use Rattle.state.specs.StateViews.{state_view};
 ghost use Rattle.job.specs.Views.{job_value};
 ghost use Rattle.cli.specs.Conversions.{IsCodeText, IsFrameText, IsStartOf, IsStartText};
 ghost use Rattle.cli.specs.Kept.{Appends};
-ghost use Rattle.cli.specs.Refusals.{IsCodeFault, IsFrameFault, IsStartFault, RefusesCode, RefusesFrame, RefusesState, RefusesUnder};
+ghost use Rattle.cli.specs.Refusals.{IsCodeUndone, IsFrameUndone, IsStartUndone, RefusesCode, RefusesFrame, RefusesState, RefusesUnder};
 
 use crate::faults::CommandFault;
 use gro::{GroFrame, Out, pick, read_frames, write_all};
@@ -36,7 +36,7 @@ pub(crate) fn start_bytes<'a, A: Allocator + Copy, O: Out>(
 ) -> Result<(), CommandFault<'a, A>>
     requires { O.failed out.old < 2 ^ 64 - 1 }
     ensures written { OnOk result (IsStartText job.now gro.now frame (Appends (O.taken out.old) (O.taken out.new))) }
-    ensures refused { IfErr result (IsStartFault job.now gro.now frame (O.taken out.old, O.failed out.old) (O.taken out.new, O.failed out.new)) }
+    ensures refused { IfErr result (IsStartUndone job.now gro.now frame (O.taken out.old, O.failed out.old) (O.taken out.new, O.failed out.new)) }
 {
     let state = started(alloc, job, gro, frame)?;
     state.write(out)?;
@@ -81,7 +81,7 @@ pub(crate) fn frame_bytes<'a, A: Allocator + Copy, O: Out>(
 ) -> Result<(), CommandFault<'a, A>>
     requires { O.failed out.old < 2 ^ 64 - 1 }
     ensures written { OnOk result (IsFrameText state.now (Appends (O.taken out.old) (O.taken out.new))) }
-    ensures refused { IfErr result (IsFrameFault state.now (O.taken out.old, O.failed out.old) (O.taken out.new, O.failed out.new)) }
+    ensures refused { IfErr result (IsFrameUndone state.now (O.taken out.old, O.failed out.old) (O.taken out.new, O.failed out.new)) }
 {
     let frame = frame_read(alloc, state)?;
     gro::write(&frame, out)?;
@@ -108,7 +108,7 @@ pub(crate) fn code_bytes<'a, A: Allocator + Copy, O: Out>(
 ) -> Result<(), CommandFault<'a, A>>
     requires { O.failed out.old < 2 ^ 64 - 1 }
     ensures written { OnOk result (IsCodeText job.now (Appends (O.taken out.old) (O.taken out.new))) }
-    ensures refused { IfErr result (IsCodeFault job.now (O.taken out.old, O.failed out.old) (O.taken out.new, O.failed out.new)) }
+    ensures refused { IfErr result (IsCodeUndone job.now (O.taken out.old, O.failed out.old) (O.taken out.new, O.failed out.new)) }
 {
     let listing = slope_listing(alloc, job)?;
     write_all(out, &listing)?;

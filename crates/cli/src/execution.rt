@@ -1,6 +1,6 @@
 //! Doing what the words ask for.
 
-ghost use Rattle.std.specs.Prelude.{◌≡◌, ◌≢◌, ◌⊎◌, ◌≤◌, ◌<◌, ◌-◌, ◌/◌, ◌^◌, ℕ, suc, List, IfOk, OnOk, OnErr, IfErr, map, string_bytes};
+ghost use Rattle.std.specs.Prelude.{◌≡◌, ◌≢◌, ◌⊎◌, ◌≤◌, ◌<◌, ◌-◌, ◌/◌, ◌^◌, ℕ, suc, List, None, IfOk, OnOk, OnErr, IfErr, map, string_bytes};
 ghost use Rattle.clap.specs.Words.{kind_of};
 ghost use Rattle.clap.specs.declared.error.kind.ErrorKind.TheVariants.{DisplayHelp, DisplayVersion};
 ghost use Rattle.command_line.specs.CommandLine.{AsksForTrajectory, IsCommand, IsMisuse};
@@ -13,7 +13,7 @@ ghost use Rattle.cli.specs.Kept.{IsKept};
 ghost use Rattle.cli.specs.Printed.{HasPrinted, IsDone};
 ghost use Rattle.cli.specs.Progress.{IsBegun, IsQuiet, IsTold, PrintsIfCounted, TellsAll, TellsSome, told_of};
 ghost use Rattle.cli.specs.Reads.{AsksFor, asked_by, unread};
-ghost use Rattle.cli.specs.Refusals.{IsFaultOf, IsNoAnswer, IsRunFault, IsTrajectoryFault, IsUndone, IsUnreadOfTwo};
+ghost use Rattle.cli.specs.Refusals.{IsFaultOf, IsNoAnswer, IsRunUndone, IsTrajectoryUndone, IsUndone, IsUnreadOfTwo};
 ghost use Rattle.cli.specs.Reports.{IsReported, Prints, line, said};
 ghost use Rattle.cli.specs.Statuses.{status_of};
 ghost use Rattle.cli.specs.declared.faults.CommandFault.{CommandFault};
@@ -244,7 +244,7 @@ fn run_texts<'a, R: Threads + Sync, A: Allocator + Copy + Send + Sync, O: Out>(
 ) -> Result<(), CommandFault<'a, A>>
     requires { O.failed out.old < 2 ^ 64 - 1 }
     ensures wrote { OnOk result (WroteLevesqueVerletRun job.now state.now run.now.direction run.now.steps (O.taken out.old) (O.taken out.new)) }
-    ensures refused { IfErr result (IsRunFault job.now state.now run.now (O.taken out.old, O.failed out.old) (O.taken out.new, O.failed out.new)) }
+    ensures refused { IfErr result (IsRunUndone job.now state.now run.now (O.taken out.old, O.failed out.old) (O.taken out.new, O.failed out.new)) }
 {
     run_bytes(
         rt,
@@ -302,7 +302,7 @@ fn trajectory_texts<'a, R: Threads + Sync, A: Allocator + Copy + Send + Sync, O:
     requires { O.failed out.old < 2 ^ 64 - 1 }
     ensures wrote { OnOk result (WroteFrames (IsFrameOfRun job.now state.now trajectory.now.direction trajectory.now.every)
         (suc (trajectory.now.steps / trajectory.now.every)) (O.taken out.old) (O.taken out.new)) }
-    ensures refused { IfErr result (IsTrajectoryFault job.now state.now trajectory.now (O.taken out.old, O.failed out.old) (O.taken out.new, O.failed out.new)) }
+    ensures refused { IfErr result (IsTrajectoryUndone job.now state.now trajectory.now (O.taken out.old, O.failed out.old) (O.taken out.new, O.failed out.new)) }
 {
     trajectory_bytes(
         rt,
@@ -327,7 +327,7 @@ fn read_two<'a, A: Allocator + Copy, F: Files>(
 ) -> Result<(Vec<u8, A>, Vec<u8, A>), CommandFault<'a, A>>
     ensures done { OnOk result (F.asked files.new ≡ also_asked (also_asked (F.asked files.old) first.entry.now) second.entry.now) }
     ensures gives { IfOk result (λ both. IsHeld (F.held files.old) first.entry.now both.0.items × IsHeld (F.held files.old) second.entry.now both.1.items) }
-    ensures unread { IfErr result (IsUnreadOfTwo first.entry.now second.entry.now (F.asked files.old) (F.asked files.new)) }
+    ensures unread { IfErr result (IsUnreadOfTwo (F.held files.old) first.entry.now second.entry.now (F.asked files.old) (F.asked files.new)) }
 {
     let first = read(alloc, first, files)?;
     let second = read(alloc, second, files)?;
@@ -342,7 +342,7 @@ fn read<'a, A: Allocator + Copy, F: Files>(
     ensures asked { F.asked files.new ≡ also_asked (F.asked files.old) path.entry.now }
     ensures gives { IfOk result (λ v. IsHeld (F.held files.old) path.entry.now v.items) }
     ensures still { F.held files.new ≡ F.held files.old }
-    ensures fault { IfErr result (λ e. (fault : ReadFault) × (e ≡ unread fault path.entry)) }
+    ensures fault { IfErr result (λ e. (fault : ReadFault) × (e ≡ unread fault path.entry) × (fault ≡ ReadFault.CannotRead → F.held files.old path.entry.now ≡ None)) }
 {
     match files.read(alloc, path) {
         Ok(bytes) => Ok(bytes),

@@ -5,7 +5,7 @@ ghost use Rattle.std.proofs.Common.{◌∙◌};
 ghost use Rattle.engine.specs.Headline.{WroteLevesqueVerletRun};
 ghost use Rattle.trajectory.specs.Trajectories.{IsFrameOfRun, WroteFrames};
 ghost use Rattle.cli.specs.Progress.{PrintsProgress, TellsAll, TellsSome, prints_also};
-ghost use Rattle.cli.specs.Refusals.{IsRunFault, IsTrajectoryFault};
+ghost use Rattle.cli.specs.Refusals.{IsRunUndone, IsTrajectoryUndone};
 
 use crate::faults::CommandFault;
 use command_line::{Run, Trajectory};
@@ -69,7 +69,7 @@ pub(crate) fn run_watched<'a, R: Threads + Sync, A: Allocator + Copy + Send + Sy
     ensures wrote { OnOk result (WroteLevesqueVerletRun job.now state.now run.now.direction run.now.steps (O.taken out.old) (O.taken out.new)) }
     ensures told { OnOk result (TellsAll (Some run.now.steps) (E.taken err.old, E.failed err.old) (E.taken err.new, E.failed err.new)) }
     ensures told_some { OnErr result (TellsSome (Some run.now.steps) (E.taken err.old, E.failed err.old) (E.taken err.new, E.failed err.new)) }
-    ensures refused { IfErr result (IsRunFault job.now state.now run.now (O.taken out.old, O.failed out.old) (O.taken out.new, O.failed out.new)) }
+    ensures refused { IfErr result (IsRunUndone job.now state.now run.now (O.taken out.old, O.failed out.old) (O.taken out.new, O.failed out.new)) }
 {
     let steps = run.steps;
     let mut watch = ProgressLines { err, steps };
@@ -110,7 +110,7 @@ pub(crate) fn trajectory_watched<
         (E.taken err.old, E.failed err.old) (E.taken err.new, E.failed err.new)) }
     ensures told_some { OnErr result (TellsSome (Some (trajectory.now.steps / trajectory.now.every * trajectory.now.every))
         (E.taken err.old, E.failed err.old) (E.taken err.new, E.failed err.new)) }
-    ensures refused { IfErr result (IsTrajectoryFault job.now state.now trajectory.now (O.taken out.old, O.failed out.old) (O.taken out.new, O.failed out.new)) }
+    ensures refused { IfErr result (IsTrajectoryUndone job.now state.now trajectory.now (O.taken out.old, O.failed out.old) (O.taken out.new, O.failed out.new)) }
 {
     let steps = trajectory.steps / trajectory.every * trajectory.every;
     let mut watch = ProgressLines { err, steps };

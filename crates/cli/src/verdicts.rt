@@ -8,7 +8,7 @@ ghost use Rattle.job.specs.Values.{JobValue};
 ghost use Rattle.kernel_code.specs.ListingReading.{code_of};
 ghost use Rattle.verifier.specs.Kernels.{IsKernel, Kernel};
 ghost use Rattle.cli.specs.Kept.{Appends};
-ghost use Rattle.cli.specs.Refusals.{IsEnergyFault, IsLineFault, IsListingFault, IsSlopeFault, RefusesListing, RefusesSlope, RefusesUnder};
+ghost use Rattle.cli.specs.Refusals.{IsEnergyUndone, IsLineUndone, IsListingUndone, IsSlopeUndone, RefusesListing, RefusesSlope, RefusesUnder};
 ghost use Rattle.cli.specs.Verdicts.{IsEnergyText, IsListingVerdict, IsSlopeVerdict, energy_line, verdict_line};
 
 use crate::faults::CommandFault;
@@ -46,7 +46,7 @@ fn write_verdict<'a, A: Allocator + Copy, O: Out>(
 ) -> Result<(), CommandFault<'a, A>>
     requires { O.failed out.old < 2 ^ 64 - 1 }
     ensures written { OnOk result (O.taken out.new ≡ appended (O.taken out.old) (verdict_line steps bound)) }
-    ensures refused { IfErr result (IsLineFault (verdict_line steps bound) (O.taken out.old, O.failed out.old) (O.taken out.new, O.failed out.new)) }
+    ensures refused { IfErr result (IsLineUndone (verdict_line steps bound) (O.taken out.old, O.failed out.old) (O.taken out.new, O.failed out.new)) }
 {
     let line = verdict_line(alloc, steps, bound)?;
     write_all(out, line.as_bytes())?;
@@ -62,7 +62,7 @@ pub(crate) fn slope_verdict_bytes<'a, A: Allocator + Copy, O: Out>(
 ) -> Result<(), CommandFault<'a, A>>
     requires { O.failed out.old < 2 ^ 64 - 1 }
     ensures written { OnOk result (IsSlopeVerdict job.now (Appends (O.taken out.old) (O.taken out.new))) }
-    ensures refused { IfErr result (IsSlopeFault job.now (O.taken out.old, O.failed out.old) (O.taken out.new, O.failed out.new)) }
+    ensures refused { IfErr result (IsSlopeUndone job.now (O.taken out.old, O.failed out.old) (O.taken out.new, O.failed out.new)) }
 {
     let known = slope_known(alloc, job)?;
     write_verdict(alloc, known.0, known.1, out)
@@ -92,7 +92,7 @@ pub(crate) fn listing_verdict_bytes<'a, A: Allocator + Copy, O: Out>(
 ) -> Result<(), CommandFault<'a, A>>
     requires { O.failed out.old < 2 ^ 64 - 1 }
     ensures written { OnOk result (IsListingVerdict job.now listing.now (Appends (O.taken out.old) (O.taken out.new))) }
-    ensures refused { IfErr result (IsListingFault job.now listing.now (O.taken out.old, O.failed out.old) (O.taken out.new, O.failed out.new)) }
+    ensures refused { IfErr result (IsListingUndone job.now listing.now (O.taken out.old, O.failed out.old) (O.taken out.new, O.failed out.new)) }
 {
     let known = listing_known(alloc, job, listing)?;
     write_verdict(alloc, known.0, known.1, out)
@@ -124,7 +124,7 @@ pub(crate) fn energy_bytes<'a, A: Allocator + Copy, O: Out>(
 ) -> Result<(), CommandFault<'a, A>>
     requires { O.failed out.old < 2 ^ 64 - 1 }
     ensures written { OnOk result (IsEnergyText job.now state.now (Appends (O.taken out.old) (O.taken out.new))) }
-    ensures refused { IfErr result (IsEnergyFault job.now state.now (O.taken out.old, O.failed out.old) (O.taken out.new, O.failed out.new)) }
+    ensures refused { IfErr result (IsEnergyUndone job.now state.now (O.taken out.old, O.failed out.old) (O.taken out.new, O.failed out.new)) }
 {
     let energy = state_energy(alloc, job, state)?;
     let line = energy_line(alloc, energy)?;
