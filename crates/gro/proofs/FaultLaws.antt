@@ -1,5 +1,5 @@
 -- The fault that is read of a text has its cause in the text.
-use Rattle.std.proofs.Common.{◌≡◌, ◌<◌, ◌≤◌, ℕ, zero, suc, ◌+◌, Bool, true, false, ◌&&◌, ◌||◌, cond, eqb, leb, ltb, not, List, [], ◌∷◌, ◌++◌, length, drop, take, Option, Some, None, Result, Ok, Err, IfErr, IsTrue, ℤ, inl, inr, refl, sym, ap, subst, ◌∙◌, arith}
+use Rattle.std.proofs.Common.{◌≡◌, ◌<◌, ◌≤◌, ℕ, zero, suc, ◌+◌, Bool, true, false, ◌&&◌, ◌||◌, cond, eqb, leb, ltb, not, List, [], ◌∷◌, ◌++◌, length, drop, take, Option, Some, None, Result, Ok, Err, IsTrue, ℤ, inl, inr, refl, sym, ap, subst, ◌∙◌, arith}
 use Rattle.std.proofs.lemmas.Bool.{and_parts, eqb-false, eqb-true, le-ltb, leb-false, ltb-false, ltb-true, not-true}
 use Rattle.std.proofs.lemmas.List.{nil_from_length}
 use Rattle.std.specs.List.{list_all}
@@ -10,11 +10,11 @@ use Rattle.line_text.proofs.LineLaws.{cut_again, cut_found, cut_none, uncut}
 use Rattle.line_text.proofs.StepLaws.{Split, bind_ok, split}
 use Rattle.line_text.proofs.WrittenLaws.{padded_found}
 use Rattle.gro.specs.Frames.{AtomView, FrameView}
-use Rattle.gro.specs.GroFaults.{AreFrames, FaultsHaveCauses, HasAtoms, HasOtherPrecision, HasPoints, HasValues, IsAtomFault, IsBoxFault, IsCause, IsCountFault, IsFrameFault, IsNeeded, IsUnfinished, bad_atom, bad_box, bad_count, no_title}
-use Rattle.gro.specs.GroReading.{Gives, LineView, and_more, atom_at, atom_in, atoms_at, count_at, count_in, counted, fields_of, frame_at, frames_at, frames_of, from_atoms, from_count, from_title, is_zero, line_at, parted, points_of, rectangular, said, sides_at, sides_in, values_of, whole_of, with_points}
+use Rattle.gro.specs.GroFaults.{AreFrames, HasAtoms, HasOtherPrecision, HasPoints, HasValues, IsAtomFault, IsBoxFault, IsCountFault, IsFrameFault, IsNeeded, IsTextFault, IsUnfinished, bad_atom, bad_box, bad_count, no_title}
+use Rattle.gro.specs.GroReading.{LineView, and_more, atom_at, atom_in, atoms_at, count_at, count_in, counted, fields_of, frame_at, frames_at, frames_of, from_atoms, from_count, from_title, is_zero, line_at, parted, points_of, rectangular, said, sides_at, sides_in, values_of, whole_of, with_points}
 use Rattle.gro.specs.GroText.{AreAtoms, IsAtomLine, IsCount, IsLine, is_blank}
 use Rattle.gro.specs.declared.faults.GroFault.{GroFault}
-use Rattle.gro.specs.declared.faults.GroFault.TheVariants.{Truncated, BadCount, BadColumns, Precision, BadBox, Triclinic, TooManyAtoms, NoSuchFrame, Memory}
+use Rattle.gro.specs.declared.faults.GroFault.TheVariants.{Truncated, BadCount, BadColumns, Precision, BadBox, Triclinic, TooManyAtoms, NoSuchFrame}
 use Rattle.gro.proofs.AtomLaws.{atom_read, atom_written}
 use Rattle.gro.proofs.BoxLaws.{all_zero, values_length, values_read, values_written}
 use Rattle.gro.proofs.CountLaws.{count_written, number_read, whole_written}
@@ -320,21 +320,9 @@ frames_wrong (suc k) n bytes f less e = by_frame (λ m b shorter d. frames_wrong
     by_frame again (inl bad) = ([], n, bytes, (refl, refl), frame_wrong n bytes f bad)
     by_frame again (inr (x, read, d)) = by_more again x read (is_blank x.1) refl (frames_at k (n + length x.0.atoms + 3) x.1) refl d
 
-pub faults_have_causes : FaultsHaveCauses
+-- the fault that is read of a text has its cause in the text
+pub faults_have_causes : (bytes : List ℕ) (f : GroFault) → frames_of bytes ≡ Err f → IsTextFault bytes f
 unfolding frames_of
 faults_have_causes bytes f e =
     let it = frames_wrong (length bytes + 1) 1 bytes f (omega arith) e in
     record { frames = it.0; line = it.1; rest = it.2; before = it.3; fault = it.4 }
-
--- the same at what a call answered
-pub is_caused : {X : Type 0} (view : X → List FrameView) (bytes : List ℕ) (r : Result X GroFault) → Gives view r (frames_of bytes) → IfErr r (IsCause bytes)
-is_caused view bytes (Ok x) h = tt
-is_caused view bytes (Err Truncated) h = faults_have_causes bytes Truncated h
-is_caused view bytes (Err (BadCount n)) h = faults_have_causes bytes (BadCount n) h
-is_caused view bytes (Err (BadColumns n)) h = faults_have_causes bytes (BadColumns n) h
-is_caused view bytes (Err (Precision n)) h = faults_have_causes bytes (Precision n) h
-is_caused view bytes (Err (BadBox n)) h = faults_have_causes bytes (BadBox n) h
-is_caused view bytes (Err (Triclinic n)) h = faults_have_causes bytes (Triclinic n) h
-is_caused view bytes (Err (TooManyAtoms n)) h = faults_have_causes bytes (TooManyAtoms n) h
-is_caused view bytes (Err NoSuchFrame) h = faults_have_causes bytes NoSuchFrame h
-is_caused view bytes (Err Memory) h = tt

@@ -1,26 +1,16 @@
 -- Reading atoms and frames one after the other, as loops do.
 use Rattle.std.proofs.Common.{◌≡◌, ℕ, zero, suc, ◌-◌, ◌+◌, ◌≤◌, ◌<◌, Bool, true, false, cond, ℤ, List, [], ◌∷◌, ◌++◌, length, Result, Ok, Err, refl, sym, ap, ◌∙◌, append_assoc, arith}
 use Rattle.std.proofs.lemmas.List.{append-nil}
+use Rattle.fallible.specs.Failures.{Fails}
+use Rattle.fallible.specs.declared.failure.Failure.{Failure}
+use Rattle.fallible.proofs.FailureLaws.{fails_as}
 use Rattle.gro.specs.declared.faults.GroFault.{GroFault}
-use Rattle.gro.specs.declared.faults.GroFault.TheVariants.{Truncated, BadCount, BadColumns, Precision, BadBox, Triclinic, TooManyAtoms, NoSuchFrame, Memory}
 use Rattle.gro.specs.Frames.{AtomView, FrameView}
 use Rattle.gro.specs.GroText.{is_blank}
 use Rattle.line_text.specs.Steps.{◌>>=◌}
 use Rattle.line_text.proofs.StepLaws.{bind_ok}
-use Rattle.gro.specs.GroReading.{Fails, line_at, count_in, atom_in, sides_in, count_at, atom_at, atoms_at, sides_at, from_atoms, from_count, from_title, frame_at, and_more, frames_at}
+use Rattle.gro.specs.GroReading.{line_at, count_in, atom_in, sides_in, count_at, atom_at, atoms_at, sides_at, from_atoms, from_count, from_title, frame_at, and_more, frames_at}
 use Rattle.gro.proofs.LineLaws.{line_shorter}
-
--- a fault of a text is its answer; want of memory is none
-pub fails_as : {X Y : Type 0} (fault : GroFault) (r : Result X GroFault) (s : Result Y GroFault) → (r ≡ Err fault → s ≡ Err fault) → Fails fault r → Fails fault s
-fails_as Memory r s f h = tt
-fails_as Truncated r s f h = f h
-fails_as (BadCount n) r s f h = f h
-fails_as (BadColumns n) r s f h = f h
-fails_as (Precision n) r s f h = f h
-fails_as (BadBox n) r s f h = f h
-fails_as (Triclinic n) r s f h = f h
-fails_as (TooManyAtoms n) r s f h = f h
-fails_as NoSuchFrame r s f h = f h
 
 -- ---- atoms
 
@@ -48,12 +38,11 @@ unfolding atoms_at
 atoms_stop fault front n k bytes h = rw h refl
 
 pub atoms_end : (fault : GroFault) (front : List AtomView) (start count i : ℕ) (bytes : List ℕ) (total : Result (List AtomView × List ℕ) GroFault)
-    → i < count → Fails fault (atom_at (start + i) bytes)
-    → with_atoms front (atoms_at (start + i) (count - i) bytes) ≡ total → Fails fault total
+    → i < count → atom_at (start + i) bytes ≡ Err fault
+    → with_atoms front (atoms_at (start + i) (count - i) bytes) ≡ total → total ≡ Err fault
 atoms_end fault front start count i bytes total lt h so_far =
     let k : suc (count - (i + 1)) ≡ count - i = omega arith in
-    fails_as fault (atom_at (start + i) bytes) total
-    (λ e. sym so_far ∙ ap (λ (j : ℕ). with_atoms front (atoms_at (start + i) j bytes)) (sym k) ∙ atoms_stop fault front (start + i) (count - (i + 1)) bytes e) h
+    sym so_far ∙ ap (λ (j : ℕ). with_atoms front (atoms_at (start + i) j bytes)) (sym k) ∙ atoms_stop fault front (start + i) (count - (i + 1)) bytes h
 
 pub atoms_done : (front : List AtomView) (start count i : ℕ) (bytes : List ℕ) (total : Result (List AtomView × List ℕ) GroFault)
     → count ≤ i → with_atoms front (atoms_at (start + i) (count - i) bytes) ≡ total → total ≡ Ok (front, bytes)
@@ -132,12 +121,12 @@ frames_first : (most n : ℕ) (bytes : List ℕ) (r : Result (FrameView × List 
 unfolding frames_at
 frames_first most n bytes r e = ap (λ (q : Result (FrameView × List ℕ) GroFault). q >>= λ first. and_more first.0 first.1 (frames_at most (n + length first.0.atoms + 3) first.1)) e
 
-pub frames_end : (fault : GroFault) (front : List FrameView) (n : ℕ) (bytes : List ℕ) (total : Result (List FrameView) GroFault) → Fails fault (frame_at n bytes)
-    → with_frames front (frames_at (length bytes + 1) n bytes) ≡ total → Fails fault total
-frames_end fault front n bytes total h so_far =
+pub frames_end : (failure : Failure GroFault) (front : List FrameView) (n : ℕ) (bytes : List ℕ) (total : Result (List FrameView) GroFault) → Fails (λ (f : GroFault). f) failure (frame_at n bytes)
+    → with_frames front (frames_at (length bytes + 1) n bytes) ≡ total → Fails (λ (f : GroFault). f) failure total
+frames_end failure front n bytes total h so_far =
     let one : suc (length bytes) ≡ length bytes + 1 = omega arith in
-    fails_as fault (frame_at n bytes) total
-    (λ e. sym so_far ∙ ap (λ (j : ℕ). with_frames front (frames_at j n bytes)) (sym one) ∙ ap (with_frames front) (frames_first (length bytes) n bytes (Err fault) e)) h
+    fails_as (λ (f : GroFault). f) failure (frame_at n bytes) total
+    (λ fault e. sym so_far ∙ ap (λ (j : ℕ). with_frames front (frames_at j n bytes)) (sym one) ∙ ap (with_frames front) (frames_first (length bytes) n bytes (Err fault) e)) h
 
 pub frames_done : (front : List FrameView) (n : ℕ) (bytes : List ℕ) (f : FrameView) (rest : List ℕ) (total : Result (List FrameView) GroFault) → frame_at n bytes ≡ Ok (f, rest)
     → is_blank rest ≡ true → with_frames front (frames_at (length bytes + 1) n bytes) ≡ total → total ≡ Ok (front ++ f ∷ [])

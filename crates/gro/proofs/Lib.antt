@@ -1,4 +1,3 @@
-pub mod Appends
 pub mod Pieces
 pub mod LineLaws
 pub mod CountLaws

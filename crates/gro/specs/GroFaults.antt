@@ -7,7 +7,7 @@ use Rattle.gro.specs.Frames.{AtomView, FrameView}
 use Rattle.gro.specs.GroReading.{frames_of}
 use Rattle.gro.specs.GroText.{AreAtoms, AreValues, IsAtomLine, IsCount, IsFrame, IsLine, is_blank}
 use Rattle.gro.specs.declared.faults.GroFault.{GroFault}
-use Rattle.gro.specs.declared.faults.GroFault.TheVariants.{Truncated, BadCount, BadColumns, Precision, BadBox, Triclinic, TooManyAtoms, Memory}
+use Rattle.gro.specs.declared.faults.GroFault.TheVariants.{Truncated, BadCount, BadColumns, Precision, BadBox, Triclinic, TooManyAtoms}
 
 -- ---- what is wrong with a line, whose number is n, and which stands at the front of these bytes
 
@@ -90,12 +90,3 @@ pub record IsTextFault (bytes : List ℕ) (f : GroFault) : Type 0 where
   pub rest : List ℕ
   pub before : AreFrames 1 bytes frames line rest
   pub fault : IsFrameFault line rest f
-
--- the fault that is read of a text has its cause in the text
-abbrev pub FaultsHaveCauses : Type 0
-FaultsHaveCauses = (bytes : List ℕ) (f : GroFault) → frames_of bytes ≡ Err f → IsTextFault bytes f
-
--- the same of what a call answered: want of memory says nothing, and a missing frame is no fault of the text
-abbrev pub IsCause : List ℕ → GroFault → Type 0
-IsCause bytes Memory = Unit {0}
-IsCause bytes f = IsTextFault bytes f

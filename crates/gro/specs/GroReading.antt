@@ -8,16 +8,7 @@ use Rattle.line_text.specs.Steps.{◌>>=◌}
 use Rattle.gro.specs.Frames.{AtomView, FrameView}
 use Rattle.gro.specs.GroText.{are_spaces, is_blank, IsGroText}
 use Rattle.gro.specs.declared.faults.GroFault.{GroFault}
-use Rattle.gro.specs.declared.faults.GroFault.TheVariants.{Truncated, BadCount, BadColumns, Precision, BadBox, Triclinic, TooManyAtoms, NoSuchFrame, Memory}
-
--- What a call returned, seen by view, is what the definition answers. Want of memory says nothing.
-abbrev pub Fails : {Y : Type 0} → GroFault → Result Y GroFault → Type 0
-Fails Memory answer = Unit {0}
-Fails fault answer = answer ≡ Err fault
-
-abbrev pub Gives : {X Y : Type 0} → (X → Y) → Result X GroFault → Result Y GroFault → Type 0
-Gives view (Ok x) answer = answer ≡ Ok (view x)
-Gives view (Err fault) answer = Fails fault answer
+use Rattle.gro.specs.declared.faults.GroFault.TheVariants.{Truncated, BadCount, BadColumns, Precision, BadBox, Triclinic, TooManyAtoms, NoSuchFrame}
 
 -- what is said, or this fault
 abbrev pub said : {X : Type 0} → GroFault → Option X → Result X GroFault

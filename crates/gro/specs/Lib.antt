@@ -3,5 +3,4 @@ pub mod GroReading
 pub mod GroText
 pub mod GroWriting
 pub mod InputLines
-pub mod Out
 pub mod GroFaults

@@ -1,9 +1,10 @@
 //! The line of an atom.
 
 ghost use Rattle.std.specs.Prelude.{◌≡◌, ◌≤◌, ◌<◌, ◌^◌, length, option_map, pos, negsuc, ◌≤ℤ◌, IfSome};
+ghost use Rattle.fallible.specs.Failures.{Answers};
 ghost use Rattle.gro.specs.Frames.{atom_view};
 ghost use Rattle.gro.specs.GroText.{are_spaces};
-ghost use Rattle.gro.specs.GroReading.{Gives, whole_of, points_of, residue_number_of, three_columns_of, velocity_of, fields_of, atom_in};
+ghost use Rattle.gro.specs.GroReading.{whole_of, points_of, residue_number_of, three_columns_of, velocity_of, fields_of, atom_in};
 ghost use Rattle.gro.specs.InputLines.{line_view};
 
 use crate::faults::GroFault;
@@ -19,7 +20,7 @@ const COLUMNS: usize = 44;
 /// An unfinished line is judged first, then its bytes, its points, and its fields.
 #[tactic(auto, unfolding(crate::specs::GroReading::atom_in))]
 pub fn atom(number: u64, line: InputLine<'_>) -> Result<GroAtom, GroFault>
-    ensures { Gives atom_view result (atom_in number (line_view line.entry)) }
+    ensures { Answers atom_view (λ f. f) result (atom_in number (line_view line.entry)) }
 {
     if !line.ended && line.text.len() < COLUMNS {
         return Err(GroFault::Truncated);

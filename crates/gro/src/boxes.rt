@@ -2,8 +2,9 @@
 
 ghost use Rattle.std.specs.Prelude.{◌≡◌, ◌≤◌, ◌<◌, ◌^◌, length, option_map, IfSome};
 ghost use Rattle.std.specs.List.{list_all};
+ghost use Rattle.fallible.specs.Failures.{Answers};
 ghost use Rattle.line_text.specs.Words.{words};
-ghost use Rattle.gro.specs.GroReading.{Gives, few_digits_of, length_of, value_of, values_of, is_zero, rectangular, sides_in};
+ghost use Rattle.gro.specs.GroReading.{few_digits_of, length_of, value_of, values_of, is_zero, rectangular, sides_in};
 ghost use Rattle.gro.specs.InputLines.{line_view};
 
 use crate::faults::GroFault;
@@ -17,7 +18,7 @@ use line_text::{cut, digits, next_word, power_of_ten};
 /// that those after the third are zero.
 #[tactic(auto, unfolding(crate::specs::GroReading::sides_in))]
 pub fn sides(number: u64, line: InputLine<'_>) -> Result<[i64; 3], GroFault>
-    ensures { Gives (λ x. x) result (sides_in number (line_view line.entry)) }
+    ensures { Answers (λ x. x) (λ f. f) result (sides_in number (line_view line.entry)) }
 {
     let count = word_count(line.text);
     if count < 3 && !line.ended {
@@ -33,7 +34,7 @@ pub fn sides(number: u64, line: InputLine<'_>) -> Result<[i64; 3], GroFault>
 /// The first three values, where the others are zero.
 fn rectangular(number: u64, values: &[i64]) -> Result<[i64; 3], GroFault>
     requires { 3 ≤ length values.now }
-    ensures { Gives (λ x. x) result (rectangular number (Some values.now)) }
+    ensures { Answers (λ x. x) (λ f. f) result (rectangular number (Some values.now)) }
 {
     let (sides, others) = values.split_at(3);
     if are_zero(others) {

@@ -1,12 +1,12 @@
 //! Why a text has no frames, or not the one that is wanted.
 
 ghost use Rattle.std.specs.Prelude.{◌≡◌};
-ghost use Rattle.gro.specs.declared.faults.GroFault.TheVariants.{Memory};
+ghost use Rattle.fallible.specs.declared.failure.Failure.TheVariants.{Refused};
 
-use std::alloc::{AllocError, AllocFailed};
+use fallible::Failure;
 use thiserror::Error;
 
-/// The first fault of a GRO file, from the top, or want of memory. Lines are counted from 1.
+/// The first fault of a GRO file, from the top. Lines are counted from 1.
 #[derive(Clone, Copy, Debug, PartialEq, Eq, Error)]
 pub enum GroFault {
     /// A needed line is not there, or the last line, without its LF, was cut off.
@@ -33,23 +33,12 @@ pub enum GroFault {
     /// There is no frame of that number.
     #[error("G8 NoSuchFrame")]
     NoSuchFrame,
-    /// Memory ran out.
-    #[error("Memory")]
-    Memory,
 }
 
-impl From<AllocError> for GroFault {
-    ghost from_gives = { λ _ e. e ≡ Memory };
+impl From<GroFault> for Failure<GroFault> {
+    ghost from_gives = { λ fault e. e ≡ Refused fault };
 
-    fn from(_e: AllocError) -> GroFault {
-        GroFault::Memory
-    }
-}
-
-impl<T: Drop> From<AllocFailed<T>> for GroFault {
-    ghost from_gives = { λ _ e. e ≡ Memory };
-
-    fn from(_e: AllocFailed<T>) -> GroFault {
-        GroFault::Memory
+    fn from(fault: GroFault) -> Failure<GroFault> {
+        Failure::Refused(fault)
     }
 }

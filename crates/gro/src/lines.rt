@@ -1,8 +1,9 @@
 //! The lines of a GRO file.
 
 ghost use Rattle.std.specs.Prelude.{◌<◌, length, IfOk, IsTrue};
+ghost use Rattle.fallible.specs.Failures.{Answers};
 ghost use Rattle.line_text.specs.Parts.{is_title};
-ghost use Rattle.gro.specs.GroReading.{Gives, line_at};
+ghost use Rattle.gro.specs.GroReading.{line_at};
 ghost use Rattle.gro.specs.InputLines.{line_view};
 
 use crate::faults::GroFault;
@@ -20,7 +21,7 @@ pub struct InputLine<'a> {
 /// The next line, and what stands after it; `Truncated` where nothing is left.
 #[tactic(auto, unfolding(crate::specs::GroReading::line_at))]
 pub fn next_line(bytes: &[u8]) -> Result<(InputLine<'_>, &[u8]), GroFault>
-    ensures exact { Gives (λ x. (line_view x.0, x.1.now)) result (line_at bytes.now) }
+    ensures exact { Answers (λ x. (line_view x.0, x.1.now)) (λ f. f) result (line_at bytes.now) }
     ensures title { IfOk result (λ x. IsTrue (is_title x.0.text.now)) }
     ensures shorter { IfOk result (λ x. length x.1.now < length bytes.now) }
 {

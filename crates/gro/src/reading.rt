@@ -1,15 +1,17 @@
 //! Reading the frames of a GRO file.
 
-ghost use Rattle.std.specs.Prelude.{◌≡◌, ◌≤◌, ◌<◌, ◌+◌, ◌^◌, ℕ, List, length, map, IfErr, IfOk, IfSome};
+ghost use Rattle.std.specs.Prelude.{◌≡◌, ◌≤◌, ◌<◌, ◌+◌, ◌^◌, ℕ, List, length, map, IfErr, IfOk};
+ghost use Rattle.fallible.specs.Failures.{Answers, Gives, IfRefused};
 ghost use Rattle.gro.specs.Frames.{atom_view, frame_view, FrameView};
-ghost use Rattle.gro.specs.GroFaults.{IsCause};
+ghost use Rattle.gro.specs.GroFaults.{IsTextFault};
 ghost use Rattle.gro.specs.GroText.{is_blank, IsGroText};
-ghost use Rattle.gro.specs.GroReading.{Gives, count_in, count_at, atom_at, atoms_at, sides_at, frame_at, frames_of, ReadsGroTexts, Picks};
+ghost use Rattle.gro.specs.GroReading.{count_in, count_at, atom_at, atoms_at, sides_at, frame_at, frames_of, ReadsGroTexts, Picks};
 
 use crate::faults::GroFault;
 use crate::frames::{GroAtom, GroFrame};
 use crate::lines::next_line;
 use crate::{atoms, boxes};
+use fallible::Failure;
 use line_text::{digits_up_to, trim};
 use std::alloc::Allocator;
 
@@ -28,19 +30,19 @@ const MAX_ATOMS: u64 = 65_536;
 /// than 65,536. `Precision`: the first two points at or after column 20 of an atom's line are not 8
 /// columns apart. `BadColumns`: it has a byte outside 32 to 126, fewer than two points, or another form.
 /// `BadBox`: the line is not 3 to 9 values of 1 to 12 digits and at most 5 decimals. `Triclinic`: a
-/// value after the third is not zero. `Memory` comes only where a growth was refused.
+/// value after the third is not zero. `Memory`: an allocation was refused.
 pub fn read_frames<A: Allocator + Copy>(
     alloc: A,
     bytes: &[u8],
-) -> Result<Vec<GroFrame<A>, A>, GroFault>
+) -> Result<Vec<GroFrame<A>, A>, Failure<GroFault>>
     // The frames, or the first fault.
-    ensures exact { Gives (λ v. map frame_view v.items) result (frames_of bytes.now) }
+    ensures exact { Gives (λ v. map frame_view v.items) (λ f. f) result (frames_of bytes.now) }
     // What is read, the text says.
     ensures found { IfOk result (λ v. IsGroText bytes.now (map frame_view v.items)) }
     // What the text says is read, unless memory runs out.
-    ensures only { (frames : List FrameView) → IsGroText bytes.now frames → Gives (λ v. map frame_view v.items) result (Ok frames) }
+    ensures only { (frames : List FrameView) → IsGroText bytes.now frames → Gives (λ v. map frame_view v.items) (λ f. f) result (Ok frames) }
     // Why the text stands for no frames: by its lines and what they say.
-    ensures cause { IfErr result (IsCause bytes.now) }
+    ensures cause { IfErr result (λ failure. IfRefused failure (IsTextFault bytes.now)) }
     // The definition reads exactly the texts that stand for frames.
     ensures texts { ReadsGroTexts }
 {
@@ -48,8 +50,8 @@ pub fn read_frames<A: Allocator + Copy>(
 }
 
 #[tactic(auto, unfolding(crate::specs::GroReading::frames_of))]
-fn frames<A: Allocator + Copy>(alloc: A, bytes: &[u8]) -> Result<Vec<GroFrame<A>, A>, GroFault>
-    ensures { Gives (λ v. map frame_view v.items) result (frames_of bytes.now) }
+fn frames<A: Allocator + Copy>(alloc: A, bytes: &[u8]) -> Result<Vec<GroFrame<A>, A>, Failure<GroFault>>
+    ensures { Gives (λ v. map frame_view v.items) (λ f. f) result (frames_of bytes.now) }
 {
     let mut frames = Vec::new(alloc);
     let mut number = 1;
@@ -80,9 +82,9 @@ fn frame<A: Allocator + Copy>(
     alloc: A,
     number: u64,
     bytes: &[u8],
-) -> Result<(GroFrame<A>, &[u8]), GroFault>
+) -> Result<(GroFrame<A>, &[u8]), Failure<GroFault>>
     requires { number + length bytes.now < 2 ^ 64 }
-    ensures exact { Gives (λ x. (frame_view x.0, x.1.now)) result (frame_at number bytes.now) }
+    ensures exact { Gives (λ x. (frame_view x.0, x.1.now)) (λ f. f) result (frame_at number bytes.now) }
     ensures shorter { IfOk result (λ x. length x.1.now + (length x.0.atoms.items + 3) ≤ length bytes.now) }
 {
     let (title, rest) = next_line(bytes)?;
@@ -103,7 +105,7 @@ fn frame<A: Allocator + Copy>(
 /// The number of atoms on the line with this number, and what stands after it.
 #[tactic(auto, unfolding(crate::specs::GroReading::count_at))]
 fn count(number: u64, bytes: &[u8]) -> Result<(u64, &[u8]), GroFault>
-    ensures exact { Gives (λ x. (x.0, x.1.now)) result (count_at number bytes.now) }
+    ensures exact { Answers (λ x. (x.0, x.1.now)) (λ f. f) result (count_at number bytes.now) }
     ensures few { IfOk result (λ x. x.0 ≤ 65536) }
     ensures shorter { IfOk result (λ x. length x.1.now < length bytes.now) }
 {
@@ -115,7 +117,7 @@ fn count(number: u64, bytes: &[u8]) -> Result<(u64, &[u8]), GroFault>
 /// What a line with spaces, digits and spaces says.
 #[tactic(auto, unfolding(crate::specs::GroReading::count_in))]
 fn line_count(number: u64, text: &[u8]) -> Result<u64, GroFault>
-    ensures exact { Gives (λ n. n) result (count_in number text.now) }
+    ensures exact { Answers (λ n. n) (λ f. f) result (count_in number text.now) }
     ensures few { IfOk result (λ n. n ≤ 65536) }
 {
     let digits = trim(text);
@@ -135,9 +137,9 @@ fn atoms<A: Allocator + Copy>(
     number: u64,
     count: u64,
     bytes: &[u8],
-) -> Result<(Vec<GroAtom, A>, &[u8]), GroFault>
+) -> Result<(Vec<GroAtom, A>, &[u8]), Failure<GroFault>>
     requires { number + length bytes.now < 2 ^ 64 }
-    ensures exact { Gives (λ x. (map atom_view x.0.items, x.1.now)) result (atoms_at number count bytes.now) }
+    ensures exact { Gives (λ x. (map atom_view x.0.items, x.1.now)) (λ f. f) result (atoms_at number count bytes.now) }
     ensures len { IfOk result (λ x. length x.0.items ≡ count) }
     ensures shorter { IfOk result (λ x. length x.1.now + count ≤ length bytes.now) }
 {
@@ -154,7 +156,7 @@ fn atoms<A: Allocator + Copy>(
 /// The atom on the line with this number, and what stands after it.
 #[tactic(auto, unfolding(crate::specs::GroReading::atom_at))]
 fn atom(number: u64, bytes: &[u8]) -> Result<(GroAtom, &[u8]), GroFault>
-    ensures exact { Gives (λ x. (atom_view x.0, x.1.now)) result (atom_at number bytes.now) }
+    ensures exact { Answers (λ x. (atom_view x.0, x.1.now)) (λ f. f) result (atom_at number bytes.now) }
     ensures shorter { IfOk result (λ x. length x.1.now < length bytes.now) }
 {
     let (line, rest) = next_line(bytes)?;
@@ -165,7 +167,7 @@ fn atom(number: u64, bytes: &[u8]) -> Result<(GroAtom, &[u8]), GroFault>
 /// The sides of the box on the line with this number, and what stands after it.
 #[tactic(auto, unfolding(crate::specs::GroReading::sides_at))]
 fn sides(number: u64, bytes: &[u8]) -> Result<([i64; 3], &[u8]), GroFault>
-    ensures exact { Gives (λ x. (x.0, x.1.now)) result (sides_at number bytes.now) }
+    ensures exact { Answers (λ x. (x.0, x.1.now)) (λ f. f) result (sides_at number bytes.now) }
     ensures shorter { IfOk result (λ x. length x.1.now < length bytes.now) }
 {
     let (line, rest) = next_line(bytes)?;

@@ -3,15 +3,15 @@
 ghost use Rattle.std.specs.Prelude.{◌≡◌, ◌+◌, ◌-◌, ◌^◌, ◌<◌, ◌≤◌, ◌++◌, ◌∷◌, [], length, map, IfOk, OnErr, pos, negsuc, ◌≤ℤ◌, IsTrue};
 ghost use Rattle.std.specs.List.{flat_map, AllByRecursion};
 ghost use Rattle.arrayvec.specs.ArrayVec.{array_vec_len};
+ghost use Rattle.fallible.specs.Out.{appended, AppendsBeginning};
 ghost use Rattle.line_text.specs.Parts.{ended, right_in};
 ghost use Rattle.line_text.specs.Columns.{decimals_text};
-ghost use Rattle.gro.specs.Out.{appended, AppendsBeginning};
 ghost use Rattle.gro.specs.Frames.{atom_view, frame_view};
 ghost use Rattle.gro.specs.GroReading.{frames_of};
 ghost use Rattle.gro.specs.GroWriting.{count_line, atom_line, atom_lines, box_line, frame_text, FitsColumns, HasForm};
 
 use crate::frames::{GroAtom, GroFrame};
-use crate::output::{Out, OutFault, write_all};
+use fallible::{Out, OutFault, write_all};
 use itoa::Buffer;
 use line_text::{Line, put, put_decimals_right, put_left, put_right};
 use std::alloc::Allocator;

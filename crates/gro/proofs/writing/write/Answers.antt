@@ -6,7 +6,7 @@ use Rattle.std.proofs.lemmas.Result.{on_ok_weaker, on_err_weaker}
 use Rattle.line_text.specs.Parts.{ended}
 use Rattle.gro.specs.Frames.{FrameView, atom_view, frame_view}
 use Rattle.gro.specs.GroWriting.{HasForm, count_line, atom_lines, box_line}
-use Rattle.gro.proofs.Appends.{appended_after, beginning_of_more, beginning_after, beginning_between, OnErr_of}
+use Rattle.fallible.proofs.Appends.{appended_after, beginning_of_more, beginning_after, beginning_between, OnErr_of}
 use Rattle.gro.proofs.Pieces.{in_pieces}
 use Rattle.gro.proofs.WrittenFrames.{written_again}
 use Rattle.gro.proofs.writing.write.Goals as goal

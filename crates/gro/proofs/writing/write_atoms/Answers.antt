@@ -2,10 +2,10 @@ use Rattle.std.proofs.Common.{◌≡◌, ℕ, ◌+◌, ◌<◌, ◌∙◌, List,
 use Rattle.std.specs.List.{flat_map, enumerate_from}
 use Rattle.std.proofs.lemmas.List.{length-map, take_all}
 use Rattle.std.proofs.lemmas.List.FromFn.{length-enumerate_from}
-use Rattle.gro.proofs.Appends.{appended_piece, beginning_at_piece, OnErr_of}
+use Rattle.fallible.proofs.Appends.{appended_piece, beginning_at_piece, OnErr_of}
 use Rattle.line_text.proofs.Items.{item_is, indexed_is, indexed_within, all_more}
 use Rattle.line_text.specs.Parts.{ended}
-use Rattle.gro.specs.Out.{appended}
+use Rattle.fallible.specs.Out.{appended}
 use Rattle.gro.specs.Frames.{AtomView, atom_view}
 use Rattle.gro.specs.GroWriting.{HasForm, atom_line}
 use Rattle.gro.proofs.writing.write_atoms.Goals as goal

@@ -1,7 +1,7 @@
 use Rattle.std.proofs.Common.{◌≡◌, ◌+◌, map, take}
 use Rattle.std.specs.List.{flat_map, enumerate_from, AllByRecursion}
 use Rattle.line_text.specs.Parts.{ended}
-use Rattle.gro.specs.Out.{appended}
+use Rattle.fallible.specs.Out.{appended}
 use Rattle.gro.specs.Frames.{atom_view}
 use Rattle.gro.specs.GroWriting.{atom_line, HasForm}
 use Rattle.gro.proofs.writing.write_atoms.Given as goal

@@ -1,7 +1,7 @@
 use Rattle.std.proofs.Common.{◌∙◌, rules}
 use Rattle.std.proofs.lemmas.List.{take_rest}
-use Rattle.gro.proofs.Appends.{OnErr_of, appended_take, beginning_at}
-use Rattle.gro.proofs.output.write_all.Goals as goal
+use Rattle.fallible.proofs.Appends.{OnErr_of, appended_take, beginning_at}
+use Rattle.fallible.proofs.output.write_all.Goals as goal
 
 pub returns-in_err-at-clause-fault_taken : goal.returns-in_err-at-clause-fault_taken
 returns-in_err-at-clause-fault_taken g c =

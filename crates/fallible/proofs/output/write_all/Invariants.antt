@@ -1,7 +1,7 @@
 -- The text up to the place has been appended, and no write has failed.
 use Rattle.std.proofs.Common.{◌≡◌, ◌-◌, ◌≤◌, length, take}
-use Rattle.gro.specs.Out.{appended}
-use Rattle.gro.proofs.output.write_all.Given as goal
+use Rattle.fallible.specs.Out.{appended}
+use Rattle.fallible.proofs.output.write_all.Given as goal
 
 abbrev pub invariant-loop-at : goal.invariant-loop-at
 invariant-loop-at g l =

@@ -1,5 +1,5 @@
 ghost use Rattle.std.specs.Prelude.{◌≡◌, [], Some};
-ghost use Rattle.gro.specs.Out.{Collection};
+ghost use Rattle.fallible.specs.Out.{Collection};
 
 use crate::output::{Out, OutFault};
 use std::alloc::Allocator;

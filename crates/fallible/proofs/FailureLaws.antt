@@ -1,0 +1,16 @@
+-- Laws of calls that can run out of memory.
+use Rattle.std.proofs.Common.{◌≡◌, Result, Ok, Err, IfErr, refl}
+use Rattle.fallible.specs.Failures.{Fails, Gives, IfRefused}
+use Rattle.fallible.specs.declared.failure.Failure.{Failure}
+use Rattle.fallible.specs.declared.failure.Failure.TheVariants.{Refused, Memory}
+
+-- A part that fails is the failure of the whole, where the whole is refused for what the part is refused for.
+pub fails_as : {X Y R S : Type 0} (seen : R → S) (failure : Failure R) (part : Result X S) (whole : Result Y S) → ((fault : S) → part ≡ Err fault → whole ≡ Err fault) → Fails seen failure part → Fails seen failure whole
+fails_as seen (Refused fault) part whole hands_on h = hands_on (seen fault) h
+fails_as seen Memory part whole hands_on h = tt
+
+-- What holds of whatever the definition refuses holds of what the call is refused for.
+pub refused_for : {X Y R S : Type 0} (view : X → Y) (seen : R → S) (holds : R → Type 0) (result : Result X (Failure R)) (said : Result Y S) → ((fault : R) → said ≡ Err (seen fault) → holds fault) → Gives view seen result said → IfErr result (λ failure. IfRefused failure holds)
+refused_for view seen holds (Ok x) said causes h = tt
+refused_for view seen holds (Err (Refused fault)) said causes h = causes fault h
+refused_for view seen holds (Err Memory) said causes h = tt

@@ -1,0 +1,29 @@
+-- What a call answers that can run out of memory, beside what a definition says of its input.
+use Rattle.std.specs.Prelude.{◌≡◌, Result, Ok, Err}
+use Rattle.fallible.specs.declared.failure.Failure.{Failure}
+use Rattle.fallible.specs.declared.failure.Failure.TheVariants.{Refused, Memory}
+
+-- The input is refused for what the definition says. Want of memory says nothing of the input.
+abbrev pub Fails : {Y R S : Type 0} → (R → S) → Failure R → Result Y S → Type 0
+Fails seen (Refused fault) said = said ≡ Err (seen fault)
+Fails seen Memory said = Unit {0}
+
+-- The call gives what the definition says, or fails so; values and refusals are seen by these views.
+abbrev pub Gives : {X Y R S : Type 0} → (X → Y) → (R → S) → Result X (Failure R) → Result Y S → Type 0
+Gives view seen (Ok x) said = said ≡ Ok (view x)
+Gives view seen (Err failure) said = Fails seen failure said
+
+-- A call that takes no memory answers what the definition says, seen by these views.
+abbrev pub Answers : {X Y R S : Type 0} → (X → Y) → (R → S) → Result X R → Result Y S → Type 0
+Answers view seen (Ok x) said = said ≡ Ok (view x)
+Answers view seen (Err fault) said = said ≡ Err (seen fault)
+
+-- what holds of a refusal; want of memory has no reason
+abbrev pub IfRefused : {R : Type 0} → Failure R → (R → Type 0) → Type 0
+IfRefused (Refused fault) holds = holds fault
+IfRefused Memory holds = Unit {0}
+
+-- this holds of the value, or memory ran out
+abbrev pub IsOrMemory : {X R : Type 0} → (X → Type 0) → Result X (Failure R) → Type 0
+IsOrMemory holds (Ok x) = holds x
+IsOrMemory holds (Err failure) = failure ≡ Memory
