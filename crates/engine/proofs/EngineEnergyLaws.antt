@@ -1,6 +1,6 @@
 -- The energy of an engine is that of its system.
-use Rattle.std.proofs.Common.{◌≡◌, ℕ, ◌<◌, ◌≤◌, List, length, ℤ, Option, Some, None, Result, Ok, Err, refl, ap, sym, ◌∙◌}
-use Rattle.std.specs.Prelude.{IfSome, slice_index}
+use Rattle.std.proofs.Common.{◌≡◌, ℕ, ◌<◌, ◌≤◌, List, length, ℤ, Some, Ok, refl, ap, sym, ◌∙◌}
+use Rattle.std.specs.Prelude.{slice_index}
 use Rattle.fixed.specs.Fractions.{bits_of}
 use Rattle.energy_program.specs.Faults as energy
 use Rattle.energy_program.specs.Programs.{program_tree, trees_of}
@@ -24,10 +24,13 @@ use Rattle.integrator.specs.Forces.{pairs_of}
 use Rattle.engine.specs.PairEnergies.{HasNoEnergy, energy_sum, engine_value, pair_energy}
 use Rattle.engine.specs.SafeEnergies.{safe_value}
 use Rattle.engine.specs.SafeKernels.{safe_dynamics}
-use Rattle.integrator.specs.Starts.{energy_refused, or_refused, table_of}
-use Rattle.engine.specs.Verdicts.{IsVerdict}
-use Rattle.integrator.specs.declared.faults.RunFault.{RunFault}
-use Rattle.integrator.specs.declared.faults.RunFault.TheVariants as run
+use Rattle.integrator.specs.Starts.{table_of}
+use Rattle.engine.specs.Verdicts.{IsRefused}
+use Rattle.fallible.specs.Failures.{Fails, IfRefused, refused_as}
+use Rattle.fallible.specs.declared.failure.Failure.{Failure}
+use Rattle.fallible.specs.declared.failure.Failure.TheVariants.{Memory, Refused}
+use Rattle.integrator.specs.declared.kernel_refusals.KernelRefusal.{KernelRefusal}
+use Rattle.engine.specs.declared.faults.EnergyFault.TheVariants as fault
 use Rattle.engine.specs.declared.safe_kernels.SafeKernel.{SafeKernel}
 use Rattle.integrator.specs.declared.systems.System.{System}
 
@@ -54,26 +57,13 @@ engine_energy j s y frame z h e =
     ∙ sym (ap (λ v. energy_sum (pair_energy (safe_dynamics y) v frame) (pairs_of (length frame))) value)
     ∙ e
 
-refused_at : (o : Option energy.Refusal) (read : Result (List Instr) energy.Refusal) → energy.FailsBy read o → IfSome o (λ r. or_refused energy_refused read ≡ Err (energy_refused r))
-refused_at None read h = tt
-refused_at (Some r) read h = rw h refl
-
 -- code that would be too large
-pub too_large : {A : Type 0} (e : EngineView) (p : Program A) (f : ExprFault A) → program_tree p ≡ job_tree e.job → energy.Fails f (compiled (bits_of e.job.frac) (trees_of p).0 (trees_of p).1) → HasNoEnergy {A = A} e (run.Energy f)
-too_large e p f same h = record { program = trees_of p; its = same; it = refused_at (energy.refusal_of f) (compiled (bits_of e.job.frac) (trees_of p).0 (trees_of p).1) h }
+pub too_large : {A : Type 0} (e : EngineView) (p : Program A) (failure : Failure (ExprFault A)) → program_tree p ≡ job_tree e.job → Fails energy.refusal_of failure (compiled (bits_of e.job.frac) (trees_of p).0 (trees_of p).1) → IfRefused (refused_as fault.Energy failure) (HasNoEnergy e)
+too_large e p (Refused f) same h = record { program = trees_of p; its = same; it = h }
+too_large e p Memory same h = tt
 
 -- code that the verifier refuses
-pub not_accepted : {A : Type 0} (e : EngineView) (p : Program A) (code : List Instr) (f : RunFault A) → program_tree p ≡ job_tree e.job → compiled (bits_of e.job.frac) (trees_of p).0 (trees_of p).1 ≡ Ok code → IsVerdict e.job code f → HasNoEnergy e f
-not_accepted e p code (run.Kernel r) same c h = record { program = trees_of p; its = same; it = record { code = code; is = c; why = h } }
-not_accepted e p code run.Memory same c h = tt
-not_accepted e p code (run.Energy f) same c h = absurd h
-not_accepted e p code run.BitsDiffer same c h = absurd h
-not_accepted e p code (run.UnknownType k) same c h = absurd h
-not_accepted e p code run.CutoffTooLong same c h = absurd h
-not_accepted e p code run.ForceRange same c h = absurd h
-not_accepted e p code (run.Job f) same c h = absurd h
-not_accepted e p code (run.State f) same c h = absurd h
-not_accepted e p code run.StepRange same c h = absurd h
-not_accepted e p code (run.KernelFault a b c' d f) same c h = absurd h
-not_accepted e p code (run.MemoryAfter done) same c h = absurd h
-not_accepted e p code (run.Out f) same c h = absurd h
+pub not_accepted : {A : Type 0} (e : EngineView) (p : Program A) (code : List Instr) (failure : Failure KernelRefusal) → program_tree p ≡ job_tree e.job → compiled (bits_of e.job.frac) (trees_of p).0 (trees_of p).1 ≡ Ok code
+    → IfRefused failure (IsRefused e.job code) → IfRefused (refused_as (fault.Kernel {A = A}) failure) (HasNoEnergy e)
+not_accepted e p code (Refused r) same c h = record { program = trees_of p; its = same; it = record { code = code; is = c; why = h } }
+not_accepted e p code Memory same c h = tt

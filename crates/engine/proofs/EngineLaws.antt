@@ -1,6 +1,6 @@
 -- Engines: what their parts make them, and their steps as runs.
 use Rattle.std.proofs.Common.{◌≡◌, ℕ, ◌-◌, ◌*◌, ◌^◌, ◌<◌, ◌≤◌, Bool, true, false, List, [], length, get_or, ℤ, pos, negsuc, ◌+ℤ◌, ◌-ℤ◌, ◌≤ℤ◌, Option, Some, None, Ok, Err, arith, refl, ap, sym, ◌∙◌, zero-add}
-use Rattle.std.specs.Prelude.{nat_lt, is_none, unsigned_abs, ◌&&◌, if◌then◌else◌, IfSome}
+use Rattle.std.specs.Prelude.{nat_lt, is_none, unsigned_abs, ◌&&◌, if◌then◌else◌}
 use Rattle.std.proofs.lemmas.Int.{ints}
 use Rattle.std.proofs.lemmas.Bool.{and_parts, leb-true, lt-ltb, ltb-false, ltb-true}
 use Rattle.std.proofs.lemmas.List.{ext_get_or, get_or-map}
@@ -9,7 +9,6 @@ use Rattle.fixed.specs.Fractions.{bits_of}
 use Rattle.fixed.specs.declared.frac.Frac.{Frac}
 use Rattle.ring_box.specs.Cells.{HasCells}
 use Rattle.ring_box.specs.declared.boxes.RingBox.{RingBox}
-use Rattle.job.specs.Faults as jobfaults
 use Rattle.job.specs.Views as jobs
 use Rattle.job.specs.declared.faults.JobFault.{JobFault}
 use Rattle.verifier.specs.Kernels.{IsKernel, Kernel}
@@ -17,27 +16,31 @@ use Rattle.verifier.specs.Safety.{IsCertified}
 use Rattle.job.specs.JobText.{reading_of, limits}
 use Rattle.job.specs.Values.{JobValue}
 use Rattle.kernel_code.specs.declared.instructions.Instr.{Instr}
-use Rattle.state.specs.StateReading.{Fails, state_of}
+use Rattle.state.specs.StateReading.{state_of}
 use Rattle.state.specs.declared.faults.StateFault.{StateFault}
-use Rattle.state.specs.declared.faults.StateFault.TheVariants as statefault
 use Rattle.state.specs.StateText.{AtomView, StateView}
 use Rattle.integrator.proofs.ReturnLaws.{start_from, system_parts}
-use Rattle.integrator.proofs.StartLaws.{start_refused, started}
+use Rattle.integrator.proofs.StartLaws.{started}
 use Rattle.integrator.proofs.NumberLaws.{length-numbers, at_number}
 use Rattle.integrator.specs.Energies.{Energy, energy_of, job_tree}
-use Rattle.engine.specs.Engines.{AreSafe, EngineView, HasNoEngine, HasNoEngineOfTexts, IsEngineOfTexts, IsEngineRefusal, Stopped, Went, engine_dynamics}
+use Rattle.engine.specs.Engines.{AreSafe, AreStopped, EngineView, HasNoEngine, HasNoEngineOfTexts, IsEngineOfTexts, Stopped, Went, engine_dynamics}
 use Rattle.integrator.specs.Frames.{frames, places_of, turns}
-use Rattle.integrator.specs.Runs.{IsAfter, is_out}
-use Rattle.integrator.specs.Starts.{has_room, holds_two, job_refused, plain, start_of, start_with, step_range, system_of, table_of}
-use Rattle.integrator.specs.StartViews.{Refuses, is_of_system}
+use Rattle.integrator.specs.Runs.{IsAfter}
+use Rattle.integrator.specs.Starts.{has_room, holds_two, plain, start_of, start_with, step_range, system_of, table_of}
+use Rattle.integrator.specs.StartViews.{system_refusal}
 use Rattle.integrator.specs.States.{counter_after, counter_at, current_frame, frames_of, moved_state, nobody, placed, placed_atoms, previous_frame}
-use Rattle.integrator.specs.StepFaults.{run_fault_of}
 use Rattle.engine.specs.Tilings.{IsUnstarted, frames_along}
-use Rattle.engine.specs.Verdicts.{IsJudged, IsSafeFor, IsVerdict, PassesRange}
+use Rattle.engine.specs.Verdicts.{IsJudged, IsRefused, IsSafeFor, PassesRange}
 use Rattle.integrator.specs.declared.direction.Direction.{Direction}
 use Rattle.integrator.specs.declared.direction.Direction.TheVariants.{Forward, Back}
-use Rattle.integrator.specs.declared.faults.RunFault.{RunFault}
-use Rattle.integrator.specs.declared.faults.RunFault.TheVariants as run
+use Rattle.fallible.specs.Failures.{Fails, IfRefused, refused_as}
+use Rattle.fallible.specs.declared.failure.Failure.{Failure}
+use Rattle.fallible.specs.declared.failure.Failure.TheVariants.{Memory, Refused}
+use Rattle.integrator.specs.declared.faults.SystemFault.{SystemFault}
+use Rattle.integrator.specs.declared.kernel_refusals.KernelRefusal.{KernelRefusal}
+use Rattle.engine.specs.declared.faults.EngineFault.{EngineFault}
+use Rattle.engine.specs.declared.faults.EngineFault.TheVariants as engine
+use Rattle.engine.specs.declared.faults.OpenFault.TheVariants as open
 use Rattle.integrator.specs.declared.faults.StepFault.{StepFault}
 use Rattle.integrator.specs.declared.faults.StepFault.TheVariants as step
 
@@ -146,97 +149,24 @@ no_counter job state w n j s system p q r h = start_from plain job state w n j s
 pub safe_texts : (job state : List ℕ) (e : EngineView) → IsEngineOfTexts job state e → AreSafe job state
 safe_texts job state e t = record { j = t.j; s = t.s; job_read = t.job_read; state_read = t.state_read; it = record { system = t.it.system; made = t.it.made; it = t.it.safe } }
 
-pub engine_stops : (A : Type 0) (job state : List ℕ) (w : Direction) (n : ℕ) (e f : EngineView) (fault : StepFault) → IsEngineOfTexts job state e → Stopped w n e f fault
-    → IsEngineRefusal {A = A} job state w n (run_fault_of fault)
-engine_stops A job state w n e f step.StepRange t h =
+-- where its steps stop, those of its texts do
+pub engine_stops : (job state : List ℕ) (w : Direction) (n : ℕ) (e f : EngineView) (fault : StepFault) → IsEngineOfTexts job state e → Stopped w n e f fault → AreStopped job state w n fault
+engine_stops job state w n e f step.StepRange t h =
     let none = rw t.it.is at h.0 in
     (no_counter job state w n t.j t.s t.it.system t.job_read t.state_read t.it.made none, safe_texts job state e t)
-engine_stops A job state w n e f (step.Memory done) t h = (h.0, safe_texts job state e t)
-
-pub step_unwritten : (A : Type 0) (fault : StepFault) → is_out (run_fault_of {A = A} fault) ≡ false
-step_unwritten A step.StepRange = refl
-step_unwritten A (step.Memory done) = refl
-
--- why there is no engine is why there is no run
-pub no_engine_refuses : {A : Type 0} (job state : List ℕ) (w : Direction) (n : ℕ) (f : RunFault A) → HasNoEngineOfTexts job state f → IsEngineRefusal job state w n f
-no_engine_refuses job state w n (run.Job f) h = h w n
-no_engine_refuses job state w n (run.State f) h = h w n
-no_engine_refuses job state w n (run.Energy f) h = h w n
-no_engine_refuses job state w n run.BitsDiffer h = h w n
-no_engine_refuses job state w n (run.UnknownType k) h = h w n
-no_engine_refuses job state w n run.CutoffTooLong h = h w n
-no_engine_refuses job state w n (run.Kernel r) h = h
-no_engine_refuses job state w n run.ForceRange h = h
-no_engine_refuses job state w n run.Memory h = tt
-no_engine_refuses job state w n run.StepRange h = absurd h
-no_engine_refuses job state w n (run.KernelFault a b c d e) h = absurd h
-no_engine_refuses job state w n (run.MemoryAfter done) h = absurd h
-no_engine_refuses job state w n (run.Out f) h = absurd h
-
-pub no_engine_unwritten : {A : Type 0} (job state : List ℕ) (f : RunFault A) → HasNoEngineOfTexts job state f → is_out f ≡ false
-no_engine_unwritten job state (run.Job f) h = refl
-no_engine_unwritten job state (run.State f) h = refl
-no_engine_unwritten job state (run.Energy f) h = refl
-no_engine_unwritten job state run.BitsDiffer h = refl
-no_engine_unwritten job state (run.UnknownType k) h = refl
-no_engine_unwritten job state run.CutoffTooLong h = refl
-no_engine_unwritten job state (run.Kernel r) h = refl
-no_engine_unwritten job state run.ForceRange h = refl
-no_engine_unwritten job state run.Memory h = refl
-no_engine_unwritten job state run.StepRange h = refl
-no_engine_unwritten job state (run.KernelFault a b c d e) h = refl
-no_engine_unwritten job state (run.MemoryAfter done) h = refl
-no_engine_unwritten job state (run.Out f) h = absurd h
-
--- texts that are read, of which there is no engine
-pub texts_refused : {A : Type 0} (job state : List ℕ) (j : JobValue) (s : StateView) (f : RunFault A) → reading_of limits job ≡ Ok j → state_of state ≡ Ok s → HasNoEngine j s f → HasNoEngineOfTexts job state f
-texts_refused {A} job state j s (run.Energy f) p q h = λ w n. start_refused plain job state w n j s (run.Energy f) p q h
-texts_refused {A} job state j s run.BitsDiffer p q h = λ w n. start_refused {A = A} plain job state w n j s run.BitsDiffer p q h
-texts_refused {A} job state j s (run.UnknownType k) p q h = λ w n. start_refused {A = A} plain job state w n j s (run.UnknownType k) p q h
-texts_refused {A} job state j s run.CutoffTooLong p q h = λ w n. start_refused {A = A} plain job state w n j s run.CutoffTooLong p q h
-texts_refused job state j s (run.Kernel r) p q h = record { j = j; s = s; job_read = p; state_read = q; it = h }
-texts_refused job state j s run.ForceRange p q h = record { j = j; s = s; job_read = p; state_read = q; it = h }
-texts_refused job state j s run.Memory p q h = tt
-texts_refused job state j s (run.Job f) p q h = absurd h
-texts_refused job state j s (run.State f) p q h = absurd h
-texts_refused job state j s run.StepRange p q h = absurd h
-texts_refused job state j s (run.KernelFault a b c d e) p q h = absurd h
-texts_refused job state j s (run.MemoryAfter done) p q h = absurd h
-texts_refused job state j s (run.Out f) p q h = absurd h
+engine_stops job state w n e f (step.Memory done) t h = (h.0, safe_texts job state e t)
 
 -- ---- which engines there are
 
--- a verdict on the code of the slope is why there is no engine
-pub verdict_refuses : {A : Type 0} (j : JobValue) (s : StateView) (system : Energy × List ℕ) (f : RunFault A) → system_of j s ≡ Ok system → IsVerdict j system.0.code f → HasNoEngine j s f
-verdict_refuses j s system (run.Kernel r) e h = record { system = system; made = e; it = h }
-verdict_refuses j s system run.Memory e h = tt
-verdict_refuses j s system (run.Job g) e h = absurd h
-verdict_refuses j s system (run.State g) e h = absurd h
-verdict_refuses j s system (run.Energy g) e h = absurd h
-verdict_refuses j s system run.BitsDiffer e h = absurd h
-verdict_refuses j s system (run.UnknownType n) e h = absurd h
-verdict_refuses j s system run.CutoffTooLong e h = absurd h
-verdict_refuses j s system run.ForceRange e h = absurd h
-verdict_refuses j s system run.StepRange e h = absurd h
-verdict_refuses j s system (run.KernelFault a b c d k) e h = absurd h
-verdict_refuses j s system (run.MemoryAfter done) e h = absurd h
-verdict_refuses j s system (run.Out g) e h = absurd h
+-- a job and a state whose atoms can't be run have none
+pub system_refuses : {A : Type 0} (j : JobValue) (s : StateView) (failure : Failure (SystemFault A)) → Fails system_refusal failure (system_of j s) → IfRefused (refused_as engine.System failure) (HasNoEngine j s)
+system_refuses j s (Refused f) h = h
+system_refuses j s Memory h = tt
 
--- what has no system has no engine
-pub system_refuses : {A : Type 0} (j : JobValue) (s : StateView) (f : RunFault A) → is_of_system f ≡ true → Refuses f (system_of j s) → HasNoEngine j s f
-system_refuses j s (run.Energy g) o h = h
-system_refuses j s run.BitsDiffer o h = h
-system_refuses j s (run.UnknownType n) o h = h
-system_refuses j s run.CutoffTooLong o h = h
-system_refuses j s run.Memory o h = tt
-system_refuses j s (run.Kernel r) o h = absurd (no_fault o)
-system_refuses j s (run.Job g) o h = absurd (no_fault o)
-system_refuses j s (run.State g) o h = absurd (no_fault o)
-system_refuses j s run.ForceRange o h = absurd (no_fault o)
-system_refuses j s run.StepRange o h = absurd (no_fault o)
-system_refuses j s (run.KernelFault a b c d k) o h = absurd (no_fault o)
-system_refuses j s (run.MemoryAfter done) o h = absurd (no_fault o)
-system_refuses j s (run.Out g) o h = absurd (no_fault o)
+-- nor have those whose code of the slope the verifier refuses
+pub verdict_refuses : {A : Type 0} (j : JobValue) (s : StateView) (system : Energy × List ℕ) (failure : Failure KernelRefusal) → system_of j s ≡ Ok system → IfRefused failure (IsRefused j system.0.code) → IfRefused (refused_as (engine.Kernel {A = A}) failure) (HasNoEngine j s)
+verdict_refuses j s system (Refused r) e h = record { system = system; made = e; it = h }
+verdict_refuses j s system Memory e h = tt
 
 certified_for : (j : JobValue) (code : List Instr) (k : Kernel) → IsKernel k → k.code ≡ code → k.table ≡ table_of j → k.core ≡ j.core → k.cutoff ≡ j.cutoff → IsCertified code (table_of j) j.core j.cutoff k.steps k.bound
 certified_for j code k h a b c d = rw (← a, ← b, ← c, ← d) h
@@ -277,19 +207,19 @@ room_for_cells frac cutoff ring h =
     let z = leb-true (200000 * unsigned_abs cutoff) (ring.z * 2 ^ bits_of frac) q.1 in
     (omega arith, omega arith, omega arith)
 
--- ---- texts that aren't read
+-- ---- texts that have no engine
 
-job_unread_at : (job state : List ℕ) (w : Direction) (n : ℕ) (o : Option jobfaults.Refusal) → IfSome o (λ r. reading_of limits job ≡ Err r) → IfSome o (λ r. start_of plain job state w n ≡ Err (job_refused r))
-unfolding start_of
-job_unread_at job state w n None h = tt
-job_unread_at job state w n (Some r) h = rw h refl
+-- the first is no job's
+pub job_refuses : {A : Type 0} (job state : List ℕ) (failure : Failure (JobFault A)) → Fails jobs.refusal_of failure (reading_of limits job) → IfRefused (refused_as open.Job failure) (HasNoEngineOfTexts job state)
+job_refuses job state (Refused f) h = h
+job_refuses job state Memory h = tt
 
-pub job_unread : {A : Type 0} (job state : List ℕ) (f : JobFault A) → IfSome (jobs.refusal_of f) (λ r. reading_of limits job ≡ Err r) → HasNoEngineOfTexts {A = A} job state (run.Job f)
-job_unread job state f h = λ w n. job_unread_at job state w n (jobs.refusal_of f) h
+-- the second is no state's
+pub state_refuses : {A : Type 0} (job state : List ℕ) (j : JobValue) (failure : Failure StateFault) → reading_of limits job ≡ Ok j → Fails (λ (f : StateFault). f) failure (state_of state) → IfRefused (refused_as (open.State {A = A}) failure) (HasNoEngineOfTexts job state)
+state_refuses job state j (Refused f) p h = (j, p, h)
+state_refuses job state j Memory p h = tt
 
-pub state_unread : (A : Type 0) (job state : List ℕ) (j : JobValue) (f : StateFault) → reading_of limits job ≡ Ok j → Fails f (state_of state) → HasNoEngineOfTexts {A = A} job state (run.State f)
-unfolding start_of
-state_unread A job state j (statefault.BadLine n) p h = λ w n. rw (p, h) refl
-state_unread A job state j statefault.Truncated p h = λ w n. rw (p, h) refl
-state_unread A job state j statefault.Trailing p h = λ w n. rw (p, h) refl
-state_unread A job state j statefault.Memory p h = λ w n. tt
+-- what they say has none
+pub engine_refuses : {A : Type 0} (job state : List ℕ) (j : JobValue) (s : StateView) (failure : Failure (EngineFault A)) → reading_of limits job ≡ Ok j → state_of state ≡ Ok s → IfRefused failure (HasNoEngine j s) → IfRefused (refused_as open.Engine failure) (HasNoEngineOfTexts job state)
+engine_refuses job state j s (Refused f) p q h = record { j = j; s = s; job_read = p; state_read = q; it = h }
+engine_refuses job state j s Memory p q h = tt

@@ -14,4 +14,3 @@ pub mod SafeRuns
 pub mod EnergySumLaws
 pub mod EnergyTileLaws
 pub mod EngineEnergyLaws
-pub mod EnergyOfTexts

@@ -1,20 +1,29 @@
 -- Where texts have a run and the code of the slope is accepted, no other answer is left but want of memory and a failed output.
-use Rattle.std.proofs.Common.{◌≡◌, ℕ, ◌-◌, ◌*◌, ◌^◌, ◌≤◌, List, length, Ok, Err, arith, subst, sym, ◌∙◌}
+use Rattle.std.proofs.Common.{◌≡◌, ℕ, ◌-◌, ◌*◌, ◌^◌, ◌≤◌, List, length, Ok, Err, arith, refl, subst, sym, ◌∙◌}
 use Rattle.job.specs.Values.{JobValue}
 use Rattle.kernel_code.specs.declared.instructions.Instr.{Instr}
 use Rattle.state.specs.StateText.{StateView}
 use Rattle.verifier.specs.Verdicts.{range}
 use Rattle.verifier.proofs.OneVerdict.{accepted_alone}
 use Rattle.integrator.proofs.Constructors.{err_is_no_ok, ok_same}
-use Rattle.integrator.proofs.RunLaws.{only_lacks}
+use Rattle.integrator.proofs.RunLaws.{run_starts}
+use Rattle.integrator.proofs.StartLaws.{system_unready}
 use Rattle.integrator.specs.Energies.{Energy}
 use Rattle.integrator.specs.Runs.{IsRun}
-use Rattle.integrator.specs.Starts.{plain, table_of}
+use Rattle.integrator.specs.Starts.{plain, step_range, table_of}
 use Rattle.integrator.specs.declared.direction.Direction.{Direction}
-use Rattle.integrator.specs.declared.faults.RunFault.{RunFault}
-use Rattle.integrator.specs.declared.faults.RunFault.TheVariants as run
+use Rattle.fallible.specs.Failures.{IfRefused}
+use Rattle.fallible.specs.declared.failure.Failure.{Failure}
+use Rattle.fallible.specs.declared.failure.Failure.TheVariants.{Memory, Refused}
+use Rattle.job.specs.Views as jobs
+use Rattle.integrator.specs.StartViews.{system_refusal}
+use Rattle.integrator.specs.declared.faults.StepFault.{StepFault}
+use Rattle.integrator.specs.declared.faults.StepFault.TheVariants as step
+use Rattle.engine.specs.declared.faults.EngineFault.TheVariants as engine
+use Rattle.engine.specs.declared.faults.OpenFault.{OpenFault}
+use Rattle.engine.specs.declared.faults.OpenFault.TheVariants as open
 use Rattle.integrator.specs.declared.kernel_refusals.KernelRefusal.{KernelRefusal}
-use Rattle.engine.specs.Engines.{AreSafe, IsEngineRefusal, OfSlope, OfTexts, Wants}
+use Rattle.engine.specs.Engines.{AreSafe, AreStopped, HasNoEngineOfTexts, OfSlope, OfTexts}
 use Rattle.engine.specs.Verdicts.{IsJudged, IsRefused, IsSafeFor, PassesRange}
 
 -- ---- of one code
@@ -53,17 +62,21 @@ same_texts job state holds a b =
     let s : b.s ≡ a.s = ok_same b.s a.s (sym b.state_read ∙ a.state_read) in
     subst (holds a.j) s (subst (λ (x : JobValue). holds x b.s) j b.it)
 
-pub only_wants : {A : Type 0} (job state : List ℕ) (w : Direction) (n : ℕ) (text : List ℕ) (f : RunFault A) → IsRun plain job state w n text → AreSafe job state → IsEngineRefusal job state w n f → Wants f
-only_wants {A} job state w n text (run.Job f) r a h = only_lacks {A = A} plain job state w n text (run.Job f) r h
-only_wants {A} job state w n text (run.State f) r a h = only_lacks {A = A} plain job state w n text (run.State f) r h
-only_wants {A} job state w n text (run.Energy f) r a h = only_lacks {A = A} plain job state w n text (run.Energy f) r h
-only_wants {A} job state w n text run.BitsDiffer r a h = only_lacks {A = A} plain job state w n text run.BitsDiffer r h
-only_wants {A} job state w n text (run.UnknownType k) r a h = only_lacks {A = A} plain job state w n text (run.UnknownType k) r h
-only_wants {A} job state w n text run.CutoffTooLong r a h = only_lacks {A = A} plain job state w n text run.CutoffTooLong r h
-only_wants {A} job state w n text run.StepRange r a h = only_lacks {A = A} plain job state w n text run.StepRange r h.0
-only_wants job state w n text (run.Kernel k) r a h = not_refused a.j a.s k a.it (same_texts job state (λ j s. OfSlope j s (λ code. IsRefused j code k)) a h)
-only_wants job state w n text run.ForceRange r a h = not_passed a.j a.s a.it (same_texts job state (λ j s. OfSlope j s (λ code. PassesRange j code (length s.atoms))) a h)
-only_wants job state w n text (run.KernelFault b c d e f) r a h = h
-only_wants job state w n text (run.MemoryAfter done) r a h = tt
-only_wants job state w n text run.Memory r a h = tt
-only_wants job state w n text (run.Out f) r a h = tt
+-- texts that have a run, and whose code is accepted, have an engine
+has_engine : {A : Type 0} (job state : List ℕ) (w : Direction) (n : ℕ) (text : List ℕ) (f : OpenFault A) → IsRun plain job state w n text → AreSafe job state → HasNoEngineOfTexts job state f → ⊥
+has_engine job state w n text (open.Job f) r a h = err_is_no_ok (jobs.refusal_of f) a.j (sym h ∙ a.job_read)
+has_engine job state w n text (open.State f) r a h = err_is_no_ok f a.s (sym h.2 ∙ a.state_read)
+has_engine job state w n text (open.Engine (engine.System f)) r a h =
+    run_starts plain job state w n text (system_refusal f) r (system_unready plain job state w n h.j h.s (system_refusal f) h.job_read h.state_read h.it)
+has_engine job state w n text (open.Engine (engine.Kernel k)) r a h = not_refused a.j a.s k a.it (same_texts job state (λ j s. OfSlope j s (λ code. IsRefused j code k)) a h)
+has_engine job state w n text (open.Engine engine.ForceRange) r a h = not_passed a.j a.s a.it (same_texts job state (λ j s. OfSlope j s (λ code. PassesRange j code (length s.atoms))) a h)
+
+-- so it isn't missing but for want of memory
+pub only_memory : {A : Type 0} (job state : List ℕ) (w : Direction) (n : ℕ) (text : List ℕ) (failure : Failure (OpenFault A)) → IsRun plain job state w n text → AreSafe job state → IfRefused failure (HasNoEngineOfTexts job state) → failure ≡ Memory
+only_memory job state w n text (Refused f) r a h = absurd (has_engine job state w n text f r a h)
+only_memory job state w n text Memory r a h = refl
+
+-- and no step is out of the counter's range
+pub only_stops : (job state : List ℕ) (w : Direction) (n : ℕ) (text : List ℕ) (f : StepFault) → IsRun plain job state w n text → AreStopped job state w n f → (done : ℕ) × (f ≡ step.Memory done)
+only_stops job state w n text step.StepRange r h = absurd (run_starts plain job state w n text step_range r h.0)
+only_stops job state w n text (step.Memory done) r h = (done, refl)

@@ -1,6 +1,10 @@
 -- Engines: which jobs and states have one, and what its steps do.
-use Rattle.std.specs.Prelude.{◌≡◌, ℕ, ◌-◌, ◌≤◌, ℤ, List, length, Some, None, Ok}
+use Rattle.std.specs.Prelude.{◌≡◌, ℕ, ◌-◌, ◌<◌, ◌≤◌, ℤ, List, length, Some, None, Ok, Err}
 use Rattle.energy_program.specs.Tree.{Tree}
+use Rattle.fallible.specs.Failures.{IfRefused}
+use Rattle.fallible.specs.Out.{Output}
+use Rattle.fallible.specs.declared.failure.Failure.TheVariants.{Memory}
+use Rattle.job.specs.Views as jobs
 use Rattle.job.specs.JobText.{HasNamesOnce, reading_of, limits}
 use Rattle.job.specs.Values.{JobValue}
 use Rattle.kernel_code.specs.declared.instructions.Instr.{Instr}
@@ -8,17 +12,21 @@ use Rattle.state.specs.StateReading.{state_of}
 use Rattle.state.specs.StateText.{StateView}
 use Rattle.integrator.specs.Energies.{Energy, job_tree}
 use Rattle.integrator.specs.Frames.{Dynamics, Frames, turns}
-use Rattle.integrator.specs.Starts.{as_written, plain, start_of, system_of}
-use Rattle.integrator.specs.Runs.{Lacks}
-use Rattle.integrator.specs.StartViews.{Refuses}
+use Rattle.integrator.specs.Starts.{as_written, plain, start_of, step_range, system_of}
+use Rattle.integrator.specs.Runs.{WroteBeginning}
+use Rattle.integrator.specs.StartViews.{system_refusal}
 use Rattle.integrator.specs.States.{counter_after, frames_of, moved_state}
 use Rattle.engine.specs.Headline.{IsJobEnergy}
 use Rattle.engine.specs.Verdicts.{IsRefused, IsSafeFor, PassesRange}
 use Rattle.integrator.specs.declared.direction.Direction.{Direction}
-use Rattle.integrator.specs.declared.faults.RunFault.{RunFault}
-use Rattle.integrator.specs.declared.faults.RunFault.TheVariants as run
 use Rattle.integrator.specs.declared.faults.StepFault.{StepFault}
 use Rattle.integrator.specs.declared.faults.StepFault.TheVariants as step
+use Rattle.engine.specs.declared.faults.EngineFault.{EngineFault}
+use Rattle.engine.specs.declared.faults.EngineFault.TheVariants as engine
+use Rattle.engine.specs.declared.faults.OpenFault.{OpenFault}
+use Rattle.engine.specs.declared.faults.OpenFault.TheVariants as open
+use Rattle.engine.specs.declared.faults.RunFault.{RunFault}
+use Rattle.engine.specs.declared.faults.RunFault.TheVariants as run
 
 -- how a contract sees an engine: its job, the types of its atoms, and the state that it has come to
 pub record EngineView : Type 0 where
@@ -45,21 +53,11 @@ pub record OfSlope (j : JobValue) (s : StateView) (holds : List Instr → Type 0
   pub made : system_of j s ≡ Ok system
   pub it : holds system.0.code
 
--- why they have none; want of memory says nothing
-abbrev pub HasNoEngine : {A : Type 0} → JobValue → StateView → RunFault A → Type 0
-HasNoEngine {A} j s (run.Energy f) = Refuses {A = A} (run.Energy f) (system_of j s)
-HasNoEngine {A} j s run.BitsDiffer = Refuses {A = A} run.BitsDiffer (system_of j s)
-HasNoEngine {A} j s (run.UnknownType n) = Refuses {A = A} (run.UnknownType n) (system_of j s)
-HasNoEngine {A} j s run.CutoffTooLong = Refuses {A = A} run.CutoffTooLong (system_of j s)
-HasNoEngine j s (run.Kernel r) = OfSlope j s (λ code. IsRefused j code r)
-HasNoEngine j s run.ForceRange = OfSlope j s (λ code. PassesRange j code (length s.atoms))
-HasNoEngine j s run.Memory = Unit {0}
-HasNoEngine j s (run.Job f) = ⊥
-HasNoEngine j s (run.State f) = ⊥
-HasNoEngine j s run.StepRange = ⊥
-HasNoEngine j s (run.KernelFault step low high pc why) = ⊥
-HasNoEngine j s (run.MemoryAfter done) = ⊥
-HasNoEngine j s (run.Out f) = ⊥
+-- why they have none
+abbrev pub HasNoEngine : {A : Type 0} → JobValue → StateView → EngineFault A → Type 0
+HasNoEngine j s (engine.System f) = system_of j s ≡ Err (system_refusal f)
+HasNoEngine j s (engine.Kernel r) = OfSlope j s (λ code. IsRefused j code r)
+HasNoEngine j s engine.ForceRange = OfSlope j s (λ code. PassesRange j code (length s.atoms))
 
 -- ---- steps
 
@@ -103,50 +101,25 @@ pub record SaysOnly (j : JobValue) (tree : Tree) : Type 0 where
 abbrev pub AreReadOnce : List ℕ → List ℕ → Type 0
 AreReadOnce job state = OfTexts job state (λ j s. HasNamesOnce j × SaysOnly j (job_tree j))
 
--- why texts have no engine; what is refused before the verifier is what a run is refused for, whatever its steps
-abbrev pub HasNoEngineOfTexts : {A : Type 0} → List ℕ → List ℕ → RunFault A → Type 0
-HasNoEngineOfTexts {A} job state (run.Job f) = (direction : Direction) (steps : ℕ) → Refuses {A = A} (run.Job f) (start_of plain job state direction steps)
-HasNoEngineOfTexts {A} job state (run.State f) = (direction : Direction) (steps : ℕ) → Refuses {A = A} (run.State f) (start_of plain job state direction steps)
-HasNoEngineOfTexts {A} job state (run.Energy f) = (direction : Direction) (steps : ℕ) → Refuses {A = A} (run.Energy f) (start_of plain job state direction steps)
-HasNoEngineOfTexts {A} job state run.BitsDiffer = (direction : Direction) (steps : ℕ) → Refuses {A = A} run.BitsDiffer (start_of plain job state direction steps)
-HasNoEngineOfTexts {A} job state (run.UnknownType n) = (direction : Direction) (steps : ℕ) → Refuses {A = A} (run.UnknownType n) (start_of plain job state direction steps)
-HasNoEngineOfTexts {A} job state run.CutoffTooLong = (direction : Direction) (steps : ℕ) → Refuses {A = A} run.CutoffTooLong (start_of plain job state direction steps)
-HasNoEngineOfTexts {A} job state (run.Kernel r) = OfTexts job state (λ j s. HasNoEngine {A = A} j s (run.Kernel r))
-HasNoEngineOfTexts {A} job state run.ForceRange = OfTexts job state (λ j s. HasNoEngine {A = A} j s run.ForceRange)
-HasNoEngineOfTexts job state run.Memory = Unit {0}
-HasNoEngineOfTexts job state run.StepRange = ⊥
-HasNoEngineOfTexts job state (run.KernelFault step low high pc why) = ⊥
-HasNoEngineOfTexts job state (run.MemoryAfter done) = ⊥
-HasNoEngineOfTexts job state (run.Out f) = ⊥
+-- why texts have no engine
+abbrev pub HasNoEngineOfTexts : {A : Type 0} → List ℕ → List ℕ → OpenFault A → Type 0
+HasNoEngineOfTexts job state (open.Job f) = reading_of limits job ≡ Err (jobs.refusal_of f)
+HasNoEngineOfTexts job state (open.State f) = (j : JobValue) × (reading_of limits job ≡ Ok j) × (state_of state ≡ Err f)
+HasNoEngineOfTexts job state (open.Engine f) = OfTexts job state (λ j s. HasNoEngine j s f)
 
--- want of memory, before the steps or after some of them, or a failed output
+-- why steps of the engine of texts stop: the counter would leave 64 bits, or memory ran out after some of them, and not after the last
+abbrev pub AreStopped : List ℕ → List ℕ → Direction → ℕ → StepFault → Type 0
+AreStopped job state direction steps step.StepRange = (start_of plain job state direction steps ≡ Err step_range) × AreSafe job state
+AreStopped job state direction steps (step.Memory done) = (done ≤ steps - 1) × AreSafe job state
+
+-- why the text of a run was not written, and what the output is left with: only a failed output is left with a beginning of the text
+abbrev pub IsRunUnwritten : {A : Type 0} → List ℕ → List ℕ → Direction → ℕ → Output → Output → RunFault A → Type 0
+IsRunUnwritten job state direction steps before after (run.Open failure) = IfRefused failure (HasNoEngineOfTexts job state) × (after.0 ≡ before.0)
+IsRunUnwritten job state direction steps before after (run.Steps f) = AreStopped job state direction steps f × (after.0 ≡ before.0)
+IsRunUnwritten job state direction steps before after (run.Out f) = AreSafe job state × WroteBeginning plain job state direction steps before.0 after.0 × (before.1 < after.1)
+
+-- memory ran out, before the steps or after some of them, or the output failed
 abbrev pub Wants : {A : Type 0} → RunFault A → Type 0
-Wants (run.MemoryAfter done) = Unit {0}
-Wants run.Memory = Unit {0}
+Wants (run.Open failure) = failure ≡ Memory
+Wants (run.Steps f) = (done : ℕ) × (f ≡ step.Memory done)
 Wants (run.Out f) = Unit {0}
-Wants {A} (run.Job f) = Lacks {A = A} (run.Job f)
-Wants {A} (run.State f) = Lacks {A = A} (run.State f)
-Wants {A} (run.Energy f) = Lacks {A = A} (run.Energy f)
-Wants run.BitsDiffer = ⊥
-Wants (run.UnknownType n) = ⊥
-Wants run.CutoffTooLong = ⊥
-Wants (run.Kernel r) = ⊥
-Wants run.ForceRange = ⊥
-Wants run.StepRange = ⊥
-Wants (run.KernelFault step low high pc why) = ⊥
-
--- why texts give no text on an engine; want of memory before the steps says nothing of them, and where the counter, the memory of a step or the output ends a run they are safe
-abbrev pub IsEngineRefusal : {A : Type 0} → List ℕ → List ℕ → Direction → ℕ → RunFault A → Type 0
-IsEngineRefusal {A} job state direction steps (run.Job f) = Refuses {A = A} (run.Job f) (start_of plain job state direction steps)
-IsEngineRefusal {A} job state direction steps (run.State f) = Refuses {A = A} (run.State f) (start_of plain job state direction steps)
-IsEngineRefusal {A} job state direction steps (run.Energy f) = Refuses {A = A} (run.Energy f) (start_of plain job state direction steps)
-IsEngineRefusal {A} job state direction steps run.BitsDiffer = Refuses {A = A} run.BitsDiffer (start_of plain job state direction steps)
-IsEngineRefusal {A} job state direction steps (run.UnknownType n) = Refuses {A = A} (run.UnknownType n) (start_of plain job state direction steps)
-IsEngineRefusal {A} job state direction steps run.CutoffTooLong = Refuses {A = A} run.CutoffTooLong (start_of plain job state direction steps)
-IsEngineRefusal {A} job state direction steps run.StepRange = Refuses {A = A} run.StepRange (start_of plain job state direction steps) × AreSafe job state
-IsEngineRefusal {A} job state direction steps (run.Kernel r) = OfTexts job state (λ j s. HasNoEngine {A = A} j s (run.Kernel r))
-IsEngineRefusal {A} job state direction steps run.ForceRange = OfTexts job state (λ j s. HasNoEngine {A = A} j s run.ForceRange)
-IsEngineRefusal job state direction steps (run.KernelFault step low high pc why) = ⊥
-IsEngineRefusal job state direction steps run.Memory = Unit {0}
-IsEngineRefusal job state direction steps (run.MemoryAfter done) = (done ≤ steps - 1) × AreSafe job state
-IsEngineRefusal job state direction steps (run.Out f) = AreSafe job state

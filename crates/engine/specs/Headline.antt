@@ -9,7 +9,7 @@ use Rattle.derivative.specs.Slope.{slope_of}
 use Rattle.job.specs.JobText.{AreApart, IsJobText, limits}
 use Rattle.job.specs.Values.{JobValue, TypeValue}
 use Rattle.state.specs.StateText.{AtomView, IsState, StateView, state_text}
-use Rattle.gro.specs.Out.{appended}
+use Rattle.fallible.specs.Out.{appended}
 use Rattle.ring_box.specs.Distances.{square_of}
 use Rattle.ring_box.specs.Forces.{acting_distance_of, force_along_of}
 use Rattle.ring_box.specs.declared.boxes.RingBox.{RingBox}

@@ -1,5 +1,5 @@
 -- The energy of a frame: the exact sum over all pairs that act, also where both atoms are at one place.
-use Rattle.std.specs.Prelude.{◌≡◌, ℕ, ℤ, pos, ◌+ℤ◌, List, [], ◌∷◌, length, Option, Some, None, Result, Ok, option_map, ◌⊎◌}
+use Rattle.std.specs.Prelude.{◌≡◌, ℕ, ℤ, pos, ◌+ℤ◌, List, [], ◌∷◌, length, Option, Some, None, Result, Ok, Err, option_map}
 use Rattle.fixed.specs.Fractions.{bits_of}
 use Rattle.energy_program.specs.Programs.{Trees}
 use Rattle.energy_program.specs.Tree.{substituted}
@@ -9,15 +9,14 @@ use Rattle.kernel_code.specs.declared.instructions.Instr.{Instr}
 use Rattle.kernel_compiler.specs.Code.{compiled}
 use Rattle.ring_box.specs.Forces.{acting_distance_of}
 use Rattle.integrator.specs.Energies.{job_tree}
-use Rattle.engine.specs.Engines.{EngineView, engine_dynamics, HasNoEngineOfTexts, IsEngineOfTexts}
+use Rattle.engine.specs.Engines.{EngineView, engine_dynamics, IsEngineOfTexts}
 use Rattle.integrator.specs.Forces.{pairs_of}
 use Rattle.integrator.specs.Frames.{Dynamics, places_of}
-use Rattle.integrator.specs.Starts.{energy_refused, or_refused, pair_inputs}
-use Rattle.integrator.specs.StartViews.{Refuses}
+use Rattle.integrator.specs.Starts.{pair_inputs}
 use Rattle.integrator.specs.States.{current_frame}
 use Rattle.engine.specs.Verdicts.{IsRefused}
-use Rattle.integrator.specs.declared.faults.RunFault.{RunFault}
-use Rattle.integrator.specs.declared.faults.RunFault.TheVariants as run
+use Rattle.engine.specs.declared.faults.EnergyFault.{EnergyFault}
+use Rattle.engine.specs.declared.faults.EnergyFault.TheVariants as fault
 use Rattle.integrator.specs.declared.kernel_refusals.KernelRefusal.{KernelRefusal}
 
 -- the energy at the distance at which a pair acts, and 0 where it doesn't
@@ -61,12 +60,10 @@ pub record IsCodeRefused (e : EngineView) (compiled' : Result (List Instr) energ
   pub is : compiled' ≡ Ok code
   pub why : IsRefused e.job code r
 
--- why it isn't told: the code would be too large, or the verifier refuses it; want of memory says nothing
-abbrev pub HasNoEnergy : {A : Type 0} → EngineView → RunFault A → Type 0
-HasNoEnergy {A} e (run.Energy f) = OfEnergy e (λ c. Refuses {A = A} (run.Energy f) (or_refused energy_refused c))
-HasNoEnergy e (run.Kernel r) = OfEnergy e (λ c. IsCodeRefused e c r)
-HasNoEnergy e run.Memory = Unit {0}
-HasNoEnergy e _ = ⊥
+-- why it isn't told: the code would be too large, or the verifier refuses it
+abbrev pub HasNoEnergy : {A : Type 0} → EngineView → EnergyFault A → Type 0
+HasNoEnergy e (fault.Energy f) = OfEnergy e (λ c. c ≡ Err (energy.refusal_of f))
+HasNoEnergy e (fault.Kernel r) = OfEnergy e (λ c. IsCodeRefused e c r)
 
 -- ---- from bytes
 
@@ -77,11 +74,7 @@ pub record IsEnergyOfTexts (job state : List ℕ) (z : ℤ) : Type 0 where
   pub is : IsEnergy engine z
 
 -- an engine of these texts doesn't tell it
-pub record IsEnergyRefused {A : Type 0} (job state : List ℕ) (f : RunFault A) : Type 0 where
+pub record HasNoEnergyOfTexts {A : Type 0} (job state : List ℕ) (f : EnergyFault A) : Type 0 where
   pub engine : EngineView
   pub opens : IsEngineOfTexts job state engine
   pub why : HasNoEnergy engine f
-
--- why texts have none: there is no engine of them, or it doesn't tell it
-abbrev pub HasNoEnergyOfTexts : {A : Type 0} → List ℕ → List ℕ → RunFault A → Type 0
-HasNoEnergyOfTexts job state f = HasNoEngineOfTexts job state f ⊎ IsEnergyRefused job state f

@@ -3,6 +3,7 @@
 ghost use Rattle.std.specs.Prelude.{◌≡◌, ◌<◌, ◌≤◌, ◌-◌, ◌*◌, ◌^◌, nat_lt, length, map, Ok, Some, is_none, false, IfOk, IfErr};
 ghost use Rattle.std.specs.List.{All};
 ghost use Rattle.energy_program.specs.Programs.{program_tree};
+ghost use Rattle.fallible.specs.Failures.{IfRefused};
 ghost use Rattle.job.specs.Views.{job_value, type_value};
 ghost use Rattle.integrator.specs.Energies.{job_tree};
 ghost use Rattle.ring_box.specs.Cells.{HasCells};
@@ -17,6 +18,7 @@ ghost use Rattle.integrator.specs.States.{counter_after, frames_of};
 ghost use Rattle.integrator.specs.declared.direction.Direction.TheVariants.{Back, Forward};
 ghost use Rattle.integrator.specs.declared.faults.StepFault.TheVariants.{Memory};
 
+use crate::faults::{EnergyFault, EngineFault};
 use crate::frame_steps::{Course, LastFrames, Tiling};
 use crate::pools::{NoGate, Pool};
 use crate::rows::{Scratch, scratches};
@@ -24,8 +26,9 @@ use crate::safe_energies::SafeEnergy;
 use crate::safe_kernels::SafeKernel;
 use crate::safe_systems::SafeSystem;
 use crate::verdicts::{safe_kernel, verdict};
+use fallible::Failure;
 use integrator::{
-    Direction, RunFault, StepFault, System, TypedAtoms, advance, counter_after, current_frame,
+    Direction, StepFault, System, TypedAtoms, advance, counter_after, current_frame,
     ready,
 };
 use job::Job;
@@ -110,16 +113,16 @@ fn job_motion<A: Allocator + Copy>(
     alloc: A,
     job: &Job<A>,
     state: &State<A>,
-) -> Result<SafeSystem<A>, RunFault<A>>
+) -> Result<SafeSystem<A>, Failure<EngineFault<A>>>
     ensures engine { IfOk result (λ m. IsEngine job.now state.now m.system) }
     ensures says { IfOk result (λ _. SaysOnly (job_value job.now) (job_tree (job_value job.now))) }
     ensures of { IfOk result (λ m. IsEngineOf (job_value job.now) (state_view state.now) (engine_view job.now state.now m.system)) }
-    ensures refused { IfErr result (HasNoEngine (job_value job.now) (state_view state.now)) }
+    ensures refused { IfErr result (λ failure. IfRefused failure (HasNoEngine (job_value job.now) (state_view state.now))) }
 {
     let ready = ready(alloc, job, state)?;
     let kernel = safe_kernel(alloc, job, ready.parts)?;
     if !fits(kernel.verified.bound(), state.atoms.len()) {
-        return Err(RunFault::ForceRange);
+        return Err(Failure::Refused(EngineFault::ForceRange));
     }
     Ok(motion(job, state, kernel, ready.atoms))
 }
@@ -142,11 +145,11 @@ impl<A: Allocator + Copy> Engine<A> {
     /// job's numbers and the state's have not as many bits behind the point; `UnknownType` for the lowest atom whose name
     /// no type has; `CutoffTooLong` where some side is shorter than two cutoffs; `Kernel` where the
     /// verifier refuses the code of the slope; `ForceRange` where the greatest slope that it found, times one less than
-    /// the number of atoms, is 2^63 or more. `Memory` wherever a growth is refused.
-    pub fn new(alloc: A, job: Job<A>, state: State<A>) -> Result<Engine<A>, RunFault<A>>
+    /// the number of atoms, is 2^63 or more. `Memory`: an allocation was refused.
+    pub fn new(alloc: A, job: Job<A>, state: State<A>) -> Result<Engine<A>, Failure<EngineFault<A>>>
         ensures engine { IfOk result (IsEngineOf (job_value job) (state_view state)) }
         ensures says { IfOk result (λ _. SaysOnly (job_value job) (job_tree (job_value job))) }
-        ensures refused { IfErr result (HasNoEngine (job_value job) (state_view state)) }
+        ensures refused { IfErr result (λ failure. IfRefused failure (HasNoEngine (job_value job) (state_view state))) }
     {
         let motion = job_motion(alloc, &job, &state)?;
         Ok(Engine {
@@ -186,10 +189,10 @@ impl<A: Allocator + Copy> Engine<A> {
     /// energy at their distance, or at the core where that is more; also where both are at one place.
     ///
     /// `Energy` where the code of the energy itself would be too large, `Kernel` where the verifier refuses it, though
-    /// it accepts that of the slope. `Memory` wherever a growth is refused.
-    pub fn energy(&self) -> Result<i128, RunFault<A>>
+    /// it accepts that of the slope. `Memory`: an allocation was refused.
+    pub fn energy(&self) -> Result<i128, Failure<EnergyFault<A>>>
         ensures value { IfOk result (IsEnergy self.now) }
-        ensures refused { IfErr result (HasNoEnergy self.now) }
+        ensures refused { IfErr result (λ failure. IfRefused failure (HasNoEnergy self.now)) }
     {
         let code = compile(self.alloc, self.job.frac, &self.motion.system.kernel.energy)?;
         let verified = verdict(self.alloc, &self.job, code)?;

@@ -3,6 +3,7 @@
 
 mod engine_runs;
 mod engines;
+mod faults;
 mod frame_steps;
 mod frame_works;
 mod laws;
@@ -13,7 +14,8 @@ mod safe_kernels;
 mod safe_systems;
 mod verdicts;
 
-pub use engine_runs::{open, run_bytes, state_energy};
+pub use engine_runs::{open, run_bytes};
 pub use engines::Engine;
+pub use faults::{EnergyFault, EngineFault, OpenFault, RunFault};
 pub use laws::{runs_stay_safe, steps_add, steps_return};
 pub use verdicts::{verdict, verified_slope};

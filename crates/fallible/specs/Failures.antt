@@ -18,6 +18,11 @@ abbrev pub Answers : {X Y R S : Type 0} → (X → Y) → (R → S) → Result X
 Answers view seen (Ok x) said = said ≡ Ok (view x)
 Answers view seen (Err fault) said = said ≡ Err (seen fault)
 
+-- the failure of a call that is refused for what its part is refused for
+abbrev pub refused_as : {R S : Type 0} → (R → S) → Failure R → Failure S
+refused_as handed_on (Refused fault) = Refused (handed_on fault)
+refused_as handed_on Memory = Memory
+
 -- what holds of a refusal; want of memory has no reason
 abbrev pub IfRefused : {R : Type 0} → Failure R → (R → Type 0) → Type 0
 IfRefused (Refused fault) holds = holds fault

@@ -1,17 +1,11 @@
 -- Texts have one run at most, and where they have one no refusal of a start says otherwise.
-use Rattle.std.proofs.Common.{◌≡◌, ℕ, List, Option, Some, None, Result, Ok, Err, refl, ap, sym, ◌∙◌}
-use Rattle.std.specs.Prelude.{IfSome}
-use Rattle.energy_program.specs.Faults as energies
-use Rattle.job.specs.Views as jobs
+use Rattle.std.proofs.Common.{◌≡◌, ℕ, List, Err, ap, sym, ◌∙◌}
 use Rattle.state.specs.StateText.{StateView, state_text}
 use Rattle.integrator.proofs.Constructors.{err_is_no_ok, ok_same, some_same}
 use Rattle.integrator.specs.States.{moved_state}
-use Rattle.integrator.specs.Starts.{Law, Refusal, Start, bits_differ, cutoff_too_long, energy_refused, job_refused, start_of, step_range, unknown_type}
-use Rattle.integrator.specs.StartViews.{Refuses, state_refusal}
-use Rattle.integrator.specs.Runs.{IsRun, Lacks, Ran}
+use Rattle.integrator.specs.Starts.{Law, Refusal, Start, start_of}
+use Rattle.integrator.specs.Runs.{IsRun, Ran}
 use Rattle.integrator.specs.declared.direction.Direction.{Direction}
-use Rattle.integrator.specs.declared.faults.RunFault.{RunFault}
-use Rattle.integrator.specs.declared.faults.RunFault.TheVariants as fault
 
 -- ---- one run
 
@@ -29,22 +23,6 @@ run_unique law job state w n a b p q =
 
 -- ---- no refusal of a start where there is a run
 
-lacks_at : {R : Type 0} → (o : Option R) (made : R → Refusal) (start : Result Start Refusal) (s : Start) → start ≡ Ok s → IfSome o (λ r. start ≡ Err (made r)) → o ≡ None
-lacks_at None made start s e h = refl
-lacks_at (Some r) made start s e h = absurd (err_is_no_ok (made r) s (sym h ∙ e))
-
--- where texts have a run, what a start is refused for is want of memory
-pub only_lacks : {A : Type 0} → (law : Law) (job state : List ℕ) (w : Direction) (n : ℕ) (text : List ℕ) (f : RunFault A) → IsRun law job state w n text → Refuses f (start_of law job state w n) → Lacks f
-only_lacks law job state w n text (fault.Job f) r h = lacks_at (jobs.refusal_of f) job_refused (start_of law job state w n) r.start r.starts h
-only_lacks law job state w n text (fault.State f) r h = lacks_at (state_refusal f) (λ x. x) (start_of law job state w n) r.start r.starts h
-only_lacks law job state w n text (fault.Energy f) r h = lacks_at (energies.refusal_of f) energy_refused (start_of law job state w n) r.start r.starts h
-only_lacks law job state w n text fault.BitsDiffer r h = err_is_no_ok bits_differ r.start (sym h ∙ r.starts)
-only_lacks law job state w n text (fault.UnknownType k) r h = err_is_no_ok (unknown_type k) r.start (sym h ∙ r.starts)
-only_lacks law job state w n text fault.CutoffTooLong r h = err_is_no_ok cutoff_too_long r.start (sym h ∙ r.starts)
-only_lacks law job state w n text fault.StepRange r h = err_is_no_ok step_range r.start (sym h ∙ r.starts)
-only_lacks law job state w n text (fault.KernelFault step low high pc why) r h = h
-only_lacks law job state w n text (fault.Kernel f) r h = h
-only_lacks law job state w n text fault.ForceRange r h = h
-only_lacks law job state w n text (fault.MemoryAfter done) r h = h
-only_lacks law job state w n text fault.Memory r h = tt
-only_lacks law job state w n text (fault.Out f) r h = tt
+-- texts that have a run have a start
+pub run_starts : (law : Law) (job state : List ℕ) (w : Direction) (n : ℕ) (text : List ℕ) (r : Refusal) → IsRun law job state w n text → start_of law job state w n ≡ Err r → ⊥
+run_starts law job state w n text r run e = err_is_no_ok r run.start (sym e ∙ run.starts)

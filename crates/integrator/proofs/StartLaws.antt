@@ -1,7 +1,7 @@
 -- Types of atoms, one after another.
 use Rattle.std.proofs.Common.{◌≡◌, ℕ, suc, ◌+◌, ◌<◌, Bool, true, cond, List, [], ◌∷◌, ◌++◌, length, get_or, drop, Option, Some, None, Result, Ok, Err, ℤ, refl, ap, sym, ◌∙◌, add-one, append_assoc}
 use Rattle.std.proofs.lemmas.List.{append-nil}
-use Rattle.std.specs.Prelude.{IfSome, bytes_eq, map, not}
+use Rattle.std.specs.Prelude.{bytes_eq, map, not}
 use Rattle.std.proofs.Math.Seq.{drop-cons}
 use Rattle.line_text.specs.Names.{name_text}
 use Rattle.line_text.specs.Steps.{◌>>=◌}
@@ -13,14 +13,16 @@ use Rattle.std.proofs.lemmas.List.{length-map}
 use Rattle.job.specs.Values.{JobValue, TypeValue}
 use Rattle.state.specs.StateText.{AtomView, StateView}
 use Rattle.job.specs.JobText.{reading_of, limits}
-use Rattle.job.specs.Views as jobs
-use Rattle.energy_program.specs.Faults as energies
+use Rattle.job.specs.Faults as job
 use Rattle.state.specs.StateReading.{state_of}
-use Rattle.integrator.specs.declared.faults.RunFault.{RunFault}
-use Rattle.integrator.specs.declared.faults.RunFault.TheVariants as fault
-use Rattle.integrator.specs.StartViews.{Refuses, state_refusal}
+use Rattle.state.specs.declared.faults.StateFault.{StateFault}
+use Rattle.fallible.specs.Failures.{Fails}
+use Rattle.fallible.specs.declared.failure.Failure.{Failure}
+use Rattle.fallible.proofs.FailureLaws.{fails_as}
+use Rattle.integrator.specs.declared.faults.SystemFault.{SystemFault}
+use Rattle.integrator.specs.StartViews.{system_refusal}
 use Rattle.integrator.specs.Energies.{Energy, energy_of}
-use Rattle.integrator.specs.Starts.{Law, Refusal, are_alike, bits_differ, cutoff_too_long, energy_refused, in_counter, job_energy, job_refused, start_at, start_of, step_range, atom_types, has_room, ring_of, start_with, system_of, types_of, type_with, unknown_type}
+use Rattle.integrator.specs.Starts.{Law, Refusal, are_alike, job_refused, start_at, start_of, state_refused, atom_types, has_room, ring_of, start_with, system_of, types_of, type_with, unknown_type}
 use Rattle.integrator.specs.States.{counter_after}
 use Rattle.integrator.specs.declared.direction.Direction.{Direction}
 
@@ -79,43 +81,23 @@ started law direction steps j s energy types counter e t a h k = rw (e, a, t, h,
 
 -- ---- refusals on the way
 
-some_refused : {X Y R : Type 0} → (o : Option R) (made : R → Refusal) (r : Result X Refusal) (f : X → Result Y Refusal) → IfSome o (λ x. r ≡ Err (made x)) → IfSome o (λ x. (r >>= f) ≡ Err (made x))
-some_refused None made r f h = tt
-some_refused {X} {Y} (Some x) made r f h = bind_err r f (made x) h
-
-pub refuses_on : {A X Y : Type 0} → (e : RunFault A) (r : Result X Refusal) (f : X → Result Y Refusal) → Refuses e r → Refuses e (r >>= f)
-refuses_on (fault.Job g) r f h = some_refused (jobs.refusal_of g) job_refused r f h
-refuses_on (fault.State g) r f h = some_refused (state_refusal g) (λ x. x) r f h
-refuses_on (fault.Energy g) r f h = some_refused (energies.refusal_of g) energy_refused r f h
-refuses_on fault.BitsDiffer r f h = bind_err r f bits_differ h
-refuses_on (fault.UnknownType n) r f h = bind_err r f (unknown_type n) h
-refuses_on fault.CutoffTooLong r f h = bind_err r f cutoff_too_long h
-refuses_on fault.StepRange r f h = bind_err r f step_range h
-refuses_on (fault.KernelFault step low high pc why) r f h = absurd h
-refuses_on (fault.Kernel g) r f h = absurd h
-refuses_on fault.ForceRange r f h = absurd h
-refuses_on (fault.MemoryAfter done) r f h = absurd h
-refuses_on fault.Memory r f h = tt
-refuses_on (fault.Out g) r f h = absurd h
-
 -- a job and a state whose atoms can't be run
-pub system_refused : {A : Type 0} → (j : JobValue) (s : StateView) (energy : Energy) (e : RunFault A) → energy_of j ≡ Ok energy → Refuses e (types_of j s) → Refuses e (system_of j s)
+pub system_refused : {A : Type 0} → (j : JobValue) (s : StateView) (energy : Energy) (failure : Failure (SystemFault A)) → energy_of j ≡ Ok energy → Fails system_refusal failure (types_of j s) → Fails system_refusal failure (system_of j s)
 unfolding system_of
-system_refused j s energy e r h = rw r (refuses_on e (types_of j s) (λ types. Ok (energy, types)) h)
+system_refused j s energy failure r h =
+    rw r (fails_as system_refusal failure (types_of j s) (types_of j s >>= λ types. Ok (energy, types)) (λ fault e. bind_err (types_of j s) (λ types. Ok (energy, types)) fault e) h)
 
--- a job and a state that have no system
-pub start_with_refused : {A : Type 0} → (law : Law) (w : Direction) (n : ℕ) (j : JobValue) (s : StateView) (e : RunFault A) → Refuses e (system_of j s) → Refuses e (start_with law w n j s)
-unfolding start_with
-start_with_refused law w n j s e h = refuses_on e (system_of j s) (λ system. in_counter (counter_after w s.step n) >>= λ counter. Ok (start_at law j s system counter)) h
+-- texts that have no start since the first is no job's
+pub job_unread : (law : Law) (job state : List ℕ) (w : Direction) (n : ℕ) (r : job.Refusal) → reading_of limits job ≡ Err r → start_of law job state w n ≡ Err (job_refused r)
+unfolding start_of
+job_unread law job state w n r e = rw e refl
 
--- texts that have no system
-pub start_refused : {A : Type 0} → (law : Law) (job state : List ℕ) (w : Direction) (n : ℕ) (j : JobValue) (s : StateView) (e : RunFault A)
-    → reading_of limits job ≡ Ok j → state_of state ≡ Ok s → Refuses e (system_of j s) → Refuses e (start_of law job state w n)
+-- since the second is no state's
+pub state_unread : (law : Law) (job state : List ℕ) (w : Direction) (n : ℕ) (j : JobValue) (f : StateFault) → reading_of limits job ≡ Ok j → state_of state ≡ Err f → start_of law job state w n ≡ Err (state_refused f)
+unfolding start_of
+state_unread law job state w n j f e d = rw (e, d) refl
+
+-- since they have no atoms that can be run
+pub system_unready : (law : Law) (job state : List ℕ) (w : Direction) (n : ℕ) (j : JobValue) (s : StateView) (r : Refusal) → reading_of limits job ≡ Ok j → state_of state ≡ Ok s → system_of j s ≡ Err r → start_of law job state w n ≡ Err r
 unfolding start_of start_with
-start_refused law job state w n j s e p q h =
-    rw (p, q) (refuses_on e (system_of j s) (λ system. in_counter (counter_after w s.step n) >>= λ counter. Ok (start_at law j s system counter)) h)
-
--- the energy of a job's text
-pub energy_said : (job : List ℕ) (j : JobValue) (energy : Energy) → reading_of limits job ≡ Ok j → energy_of j ≡ Ok energy → job_energy job ≡ Ok (j, energy)
-unfolding job_energy
-energy_said job j energy p q = rw (p, q) refl
+system_unready law job state w n j s r e d h = rw (e, d, h) refl

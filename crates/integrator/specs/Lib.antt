@@ -8,5 +8,4 @@ pub mod States
 pub mod Starts
 pub mod StartViews
 pub mod Runs
-pub mod StepFaults
 pub mod InputNames

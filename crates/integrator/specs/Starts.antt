@@ -161,20 +161,13 @@ start_of law job state direction steps = do
 
 -- ---- the code alone
 
--- what a job's text says, and its energy
-unfoldable pub job_energy : List ℕ → Result (JobValue × Energy) Refusal
-job_energy job = do
-  j ← or_refused job_refused (reading_of limits job)
-  energy ← or_refused energy_refused (energy_of j)
-  Ok (j, energy)
+-- the code of the slope of a job's energy
+abbrev pub slope_code_of : JobValue → Result (List Instr) energy.Refusal
+slope_code_of j = energy_of j >>= λ e. Ok e.code
 
--- the code of the slope of its energy
-abbrev pub slope_code_of : List ℕ → Result (List Instr) Refusal
-slope_code_of job = job_energy job >>= λ said. Ok said.1.code
-
--- the code computes the slope of the energy of the job's text, where no input is missing
-pub record IsSlopeCode (job : List ℕ) (code : List Instr) : Type 0 where
-  pub said : JobValue × Energy
-  pub says : job_energy job ≡ Ok said
-  pub its : code ≡ said.1.code
-  pub compiled : IsCompiled (bits_of said.0.frac) (length said.0.parameters) (length said.0.globals) said.1
+-- the code computes the slope of the job's energy, where no input is missing
+pub record IsSlopeCode (j : JobValue) (code : List Instr) : Type 0 where
+  pub energy' : Energy
+  pub says : energy_of j ≡ Ok energy'
+  pub its : code ≡ energy'.code
+  pub compiled : IsCompiled (bits_of j.frac) (length j.parameters) (length j.globals) energy'

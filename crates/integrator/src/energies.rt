@@ -2,7 +2,8 @@
 
 ghost use Rattle.std.specs.Prelude.{◌≡◌, length, map, IfOk};
 ghost use Rattle.fixed.specs.Fractions.{bits_of};
-ghost use Rattle.energy_program.specs.Faults.{Gives};
+ghost use Rattle.energy_program.specs.Faults.{refusal_of};
+ghost use Rattle.fallible.specs.Failures.{Gives};
 ghost use Rattle.energy_program.specs.Names.{names_from};
 ghost use Rattle.energy_program.specs.Variables.{names_of};
 ghost use Rattle.energy_program.specs.Programs.{trees_of};
@@ -14,6 +15,7 @@ use crate::slope_parts::SlopeParts;
 use derivative::derive;
 use energy_program::{ExprFault, Names, Program};
 use expr::parse;
+use fallible::Failure;
 use fixed::Frac;
 use job::{Global, Job};
 use kernel_compiler::compile;
@@ -43,8 +45,8 @@ fn global_names<A: Allocator + Copy>(
 }
 
 /// The names that a job's energy may use.
-fn names<A: Allocator + Copy>(alloc: A, job: &Job<A>) -> Result<Names<A>, ExprFault<A>>
-    ensures value { Gives names_of result (names_from (job_value job.now).parameters (global_names (job_value job.now).globals)) }
+fn names<A: Allocator + Copy>(alloc: A, job: &Job<A>) -> Result<Names<A>, Failure<ExprFault<A>>>
+    ensures value { Gives names_of refusal_of result (names_from (job_value job.now).parameters (global_names (job_value job.now).globals)) }
     ensures parameters { IfOk result (λ n. n.parameters ≡ length job.now.parameters.items) }
     ensures globals { IfOk result (λ n. n.globals ≡ length job.now.globals.items) }
 {
@@ -55,8 +57,8 @@ fn names<A: Allocator + Copy>(alloc: A, job: &Job<A>) -> Result<Names<A>, ExprFa
 
 /// The program of a job's energy.
 #[tactic(auto, unfolding(crate::specs::Energies::job_program))]
-fn program<A: Allocator + Copy>(alloc: A, job: &Job<A>) -> Result<Program<A>, ExprFault<A>>
-    ensures value { Gives trees_of result (job_program (job_value job.now)) }
+fn program<A: Allocator + Copy>(alloc: A, job: &Job<A>) -> Result<Program<A>, Failure<ExprFault<A>>>
+    ensures value { Gives trees_of refusal_of result (job_program (job_value job.now)) }
     ensures parameters { IfOk result (λ p. p.parameters ≡ length job.now.parameters.items) }
     ensures globals { IfOk result (λ p. p.globals ≡ length job.now.globals.items) }
 {
@@ -70,8 +72,8 @@ fn with_slope<A: Allocator + Copy>(
     alloc: A,
     frac: Frac,
     energy: Program<A>,
-) -> Result<SlopeParts<A>, ExprFault<A>>
-    ensures value { Gives energy_view result (energy_from (bits_of frac) (trees_of energy)) }
+) -> Result<SlopeParts<A>, Failure<ExprFault<A>>>
+    ensures value { Gives energy_view refusal_of result (energy_from (bits_of frac) (trees_of energy)) }
     ensures compiled { IfOk result (λ p. IsCompiled (bits_of frac) energy.parameters energy.globals (energy_view p)) }
     ensures energy { IfOk result (λ p. p.energy ≡ energy) }
 {
@@ -88,10 +90,10 @@ fn with_slope<A: Allocator + Copy>(
 /// The energy of a job, and the code of its slope.
 ///
 /// The refusals are those of `Names::new` for the job's parameters and globals, of `parse`, of `derive` and of `compile`, in this
-/// order; `Memory` wherever a growth is refused.
+/// order; `Memory`: an allocation was refused.
 #[tactic(auto, unfolding(crate::specs::Energies::energy_of))]
-pub fn job_slope<A: Allocator + Copy>(alloc: A, job: &Job<A>) -> Result<SlopeParts<A>, ExprFault<A>>
-    ensures value { Gives energy_view result (energy_of (job_value job.now)) }
+pub fn job_slope<A: Allocator + Copy>(alloc: A, job: &Job<A>) -> Result<SlopeParts<A>, Failure<ExprFault<A>>>
+    ensures value { Gives energy_view refusal_of result (energy_of (job_value job.now)) }
     ensures compiled { IfOk result (λ p. IsCompiled (bits_of job.now.frac) (length job.now.parameters.items) (length job.now.globals.items) (energy_view p)) }
     ensures parameters { IfOk result (λ p. p.energy.parameters ≡ length job.now.parameters.items) }
     ensures globals { IfOk result (λ p. p.energy.globals ≡ length job.now.globals.items) }

@@ -1,27 +1,18 @@
-//! Why a run is refused.
+//! Why a job and a state can't be run, and why steps stop.
 
 ghost use Rattle.std.specs.Prelude.{◌≡◌};
-ghost use Rattle.integrator.specs.declared.faults.RunFault.TheVariants.{Energy, Job, Kernel, Memory, Out, State};
-ghost use Rattle.integrator.specs.StepFaults.{run_fault_of};
+ghost use Rattle.fallible.specs.Failures.{refused_as};
+ghost use Rattle.fallible.specs.declared.failure.Failure.TheVariants.{Refused};
+ghost use Rattle.integrator.specs.declared.faults.SystemFault.TheVariants.{Energy};
 
-use crate::kernel_refusals::KernelRefusal;
-use expr::ExprFault;
-use fixed::Fault;
-use gro::OutFault;
-use job::JobFault;
-use state::StateFault;
-use std::alloc::{AllocError, AllocFailed, Allocator};
+use energy_program::ExprFault;
+use fallible::Failure;
+use std::alloc::Allocator;
 use thiserror::Error;
 
-/// Why a run or an engine is refused. Nothing was written then, but for `Out`: there a beginning of the new state was.
+/// Why a job and a state have no atoms that can be run.
 #[derive(Debug, Drop, Error)]
-pub enum RunFault<A: Allocator> {
-    /// The job's text is refused.
-    #[error("{0}")]
-    Job(JobFault<A>),
-    /// The state's text is refused.
-    #[error("{0}")]
-    State(StateFault),
+pub enum SystemFault<A: Allocator> {
     /// The energy's text is refused.
     #[error("{0}")]
     Energy(ExprFault<A>),
@@ -30,120 +21,38 @@ pub enum RunFault<A: Allocator> {
     BitsDiffer,
     /// The job has no type with the name of this atom, the lowest such, counted from 1.
     #[error("A1 UnknownType {atom}")]
-    UnknownType {
-        atom: u64,
-    },
+    UnknownType { atom: u64 },
     /// Some side of the box is shorter than two cutoffs.
     #[error("A2 CutoffTooLong")]
     CutoffTooLong,
-    /// The verifier refuses the code of the slope, or of the energy where that was asked for.
-    #[error("{0}")]
-    Kernel(KernelRefusal),
-    /// By the greatest slope that the verifier found, the force on an atom might pass 64 bits: with N atoms, N - 1
-    /// times that slope is 2^63 or more.
-    #[error("A3 ForceRange")]
-    ForceRange,
-    /// The step counter would leave an i64.
-    #[error("A4 StepRange")]
-    StepRange,
-    /// The code of the slope gives no value for the pair of atoms `low` and `high`, counted from 1, in the frame whose
-    /// counter is `step`: it is the first such pair, by the lower atom and then by the higher. `pc` is the place of the
-    /// operation that has none. Then the slope, or a definition that its program uses, has no value there.
-    #[error("A5 KernelFault {step} {low} {high} {pc} {fault}")]
-    KernelFault {
-        step: i64,
-        low: u64,
-        high: u64,
-        pc: u32,
-        fault: Fault,
-    },
-    /// A growth was refused.
-    #[error("Memory")]
-    Memory,
-    /// A growth was refused after so many whole steps.
-    #[error("Memory after {done} steps")]
-    MemoryAfter {
-        done: u64,
-    },
-    /// The output failed.
-    #[error("{0}")]
-    Out(OutFault),
 }
 
-/// Why an engine stopped before the last of its steps.
+/// Why steps stopped before the last.
 #[derive(Clone, Copy, PartialEq, Eq, Debug, Error)]
 pub enum StepFault {
     /// The step counter would leave an i64. No step was done.
     #[error("A4 StepRange")]
     StepRange,
-    /// A growth was refused after so many whole steps.
+    /// An allocation was refused after so many whole steps.
     #[error("Memory after {done} steps")]
     Memory { done: u64 },
 }
 
-impl<A: Allocator> From<JobFault<A>> for RunFault<A> {
-    ghost from_gives = { λ f e. e ≡ Job f };
+impl<A: Allocator> From<SystemFault<A>> for Failure<SystemFault<A>> {
+    ghost from_gives = { λ fault e. e ≡ Refused fault };
 
-    fn from(fault: JobFault<A>) -> RunFault<A> {
-        RunFault::Job(fault)
+    fn from(fault: SystemFault<A>) -> Failure<SystemFault<A>> {
+        Failure::Refused(fault)
     }
 }
 
-impl<A: Allocator> From<StateFault> for RunFault<A> {
-    ghost from_gives = { λ f e. e ≡ State f };
+impl<A: Allocator> From<Failure<ExprFault<A>>> for Failure<SystemFault<A>> {
+    ghost from_gives = { λ failure e. e ≡ refused_as Energy failure };
 
-    fn from(fault: StateFault) -> RunFault<A> {
-        RunFault::State(fault)
-    }
-}
-
-impl<A: Allocator> From<ExprFault<A>> for RunFault<A> {
-    ghost from_gives = { λ f e. e ≡ Energy f };
-
-    fn from(fault: ExprFault<A>) -> RunFault<A> {
-        RunFault::Energy(fault)
-    }
-}
-
-impl<A: Allocator> From<OutFault> for RunFault<A> {
-    ghost from_gives = { λ f e. e ≡ Out f };
-
-    fn from(fault: OutFault) -> RunFault<A> {
-        RunFault::Out(fault)
-    }
-}
-
-impl<A: Allocator> From<KernelRefusal> for RunFault<A> {
-    ghost from_gives = { λ f e. e ≡ Kernel f };
-
-    fn from(fault: KernelRefusal) -> RunFault<A> {
-        RunFault::Kernel(fault)
-    }
-}
-
-impl<A: Allocator> From<StepFault> for RunFault<A> {
-    ghost from_gives = { λ f e. e ≡ run_fault_of f };
-
-    fn from(fault: StepFault) -> RunFault<A> {
-        match fault {
-            StepFault::StepRange => RunFault::StepRange,
-            StepFault::Memory { done } => RunFault::MemoryAfter { done },
+    fn from(failure: Failure<ExprFault<A>>) -> Failure<SystemFault<A>> {
+        match failure {
+            Failure::Refused(fault) => Failure::Refused(SystemFault::Energy(fault)),
+            Failure::Memory => Failure::Memory,
         }
-    }
-}
-
-impl<A: Allocator> From<AllocError> for RunFault<A> {
-    ghost from_gives = { λ _ e. e ≡ Memory };
-
-    fn from(_e: AllocError) -> RunFault<A> {
-        RunFault::Memory
-    }
-}
-
-impl<T: Drop, A: Allocator> From<AllocFailed<T>> for RunFault<A> {
-    ghost from_gives = { λ _ e. e ≡ Memory };
-
-    fn from(_e: AllocFailed<T>) -> RunFault<A> {
-        RunFault::Memory
     }
 }

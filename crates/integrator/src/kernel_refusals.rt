@@ -39,8 +39,7 @@ impl fmt::Display for KernelRefusal {
                     "V3 Undecided {first} {second} {from} {to} pc {pc} {fault}"
                 )
             }
-            VerifyFault::Malformed { .. } | VerifyFault::DepthOver64 { .. } | VerifyFault::Memory =>
-                self.fault.fmt(f),
+            VerifyFault::Malformed { .. } | VerifyFault::DepthOver64 { .. } => self.fault.fmt(f),
         }
     }
 }

@@ -17,7 +17,7 @@ mod tables;
 
 pub use direction::Direction;
 pub use energies::job_slope;
-pub use faults::{RunFault, StepFault};
+pub use faults::{StepFault, SystemFault};
 pub use kernel_refusals::KernelRefusal;
 pub use laws::inputs_have_names;
 pub use prepared::{Ready, TypedAtoms};

@@ -1,17 +1,21 @@
 //! What a run starts from.
 
-ghost use Rattle.std.specs.Prelude.{◌≡◌, ◌*◌, ◌^◌, ◌<◌, ◌≤◌, length, map, true, IfOk, IfErr};
+ghost use Rattle.std.specs.Prelude.{◌≡◌, ◌*◌, ◌^◌, ◌<◌, ◌≤◌, length, map, IfOk};
 ghost use Rattle.std.specs.List.{All};
+ghost use Rattle.energy_program.specs.Faults.{refusal_of};
+ghost use Rattle.fallible.specs.Failures.{Gives};
 ghost use Rattle.job.specs.Views.{job_value, type_value};
 ghost use Rattle.state.specs.StateViews.{atom_view, state_view};
 ghost use Rattle.integrator.specs.Energies.{IsCompiled};
 ghost use Rattle.integrator.specs.Starts.{atom_types, has_room, holds_two, mass_of, system_of, types_of, IsSlopeCode, slope_code_of};
 ghost use Rattle.fixed.specs.Fractions.{bits_of};
-ghost use Rattle.integrator.specs.StartViews.{Gives, is_of_system, energy_view, ready_view};
+ghost use Rattle.integrator.specs.StartViews.{energy_view, ready_view, system_refusal};
 
 use crate::energies::job_slope;
-use crate::faults::RunFault;
+use crate::faults::SystemFault;
 use crate::prepared::{Ready, TypedAtoms};
+use energy_program::ExprFault;
+use fallible::Failure;
 use fixed::{Frac, Fx};
 use job::{AtomType, Job};
 use kernel_code::Code;
@@ -24,17 +28,18 @@ fn atom_types<A: Allocator + Copy>(
     alloc: A,
     job: &Job<A>,
     atoms: &[Atom],
-) -> Result<Vec<u32, A>, RunFault<A>>
-    ensures value { Gives (λ v. v.items) result (atom_types (map type_value job.now.types.items) 1 (map atom_view atoms.now)) }
+) -> Result<Vec<u32, A>, Failure<SystemFault<A>>>
+    ensures value { Gives (λ v. v.items) system_refusal result (atom_types (map type_value job.now.types.items) 1 (map atom_view atoms.now)) }
     ensures known { IfOk result (λ v. All (λ t. t < length job.now.types.items) v.items) }
     ensures count { IfOk result (λ v. length v.items ≡ length atoms.now) }
-    ensures only { IfErr result (λ f. is_of_system f ≡ true) }
 {
     let mut types = Vec::new(alloc);
     for (k, atom) in atoms.iter().enumerate() {
         match job.type_of(atom.name.as_bytes()) {
             Some(number) => types.push(number)?,
-            None => return Err(RunFault::UnknownType { atom: k as u64 + 1 }),
+            None => return Err(Failure::Refused(SystemFault::UnknownType {
+                    atom: k as u64 + 1,
+                })),
         }
     }
     Ok(types)
@@ -87,19 +92,18 @@ fn typed_atoms<A: Allocator + Copy>(
     alloc: A,
     job: &Job<A>,
     state: &State<A>,
-) -> Result<TypedAtoms<A>, RunFault<A>>
-    ensures value { Gives (λ t. t.types.items) result (types_of (job_value job.now) (state_view state.now)) }
+) -> Result<TypedAtoms<A>, Failure<SystemFault<A>>>
+    ensures value { Gives (λ t. t.types.items) system_refusal result (types_of (job_value job.now) (state_view state.now)) }
     ensures known { IfOk result (λ t. All (λ k. k < length job.now.types.items) t.types.items) }
     ensures masses { IfOk result (λ t. t.masses.items ≡ map (mass_of (map type_value job.now.types.items)) t.types.items) }
     ensures count { IfOk result (λ t. length t.types.items ≡ length state.now.atoms.items) }
-    ensures only { IfErr result (λ f. is_of_system f ≡ true) }
 {
     if job.frac.bits() != state.frac.bits() {
-        return Err(RunFault::BitsDiffer);
+        return Err(Failure::Refused(SystemFault::BitsDiffer));
     }
     let types = atom_types(alloc, job, &state.atoms)?;
     if !has_room(job.frac, job.cutoff, &state.ring) {
-        return Err(RunFault::CutoffTooLong);
+        return Err(Failure::Refused(SystemFault::CutoffTooLong));
     }
     let masses = atom_masses(alloc, &job.types, &types)?;
     Ok(TypedAtoms { types, masses })
@@ -109,21 +113,20 @@ fn typed_atoms<A: Allocator + Copy>(
 ///
 /// The refusals come in this order: those of the energy, of its slope and of its code; `BitsDiffer` where the job's numbers and the state's
 /// have not as many bits behind the point; `UnknownType` for the lowest atom whose name no
-/// type has, counted from 1; `CutoffTooLong` where some side is shorter than two cutoffs. `Memory` wherever a growth is refused.
+/// type has, counted from 1; `CutoffTooLong` where some side is shorter than two cutoffs. `Memory`: an allocation was refused.
 #[tactic(auto, unfolding(crate::specs::Starts::system_of))]
 pub fn ready<A: Allocator + Copy>(
     alloc: A,
     job: &Job<A>,
     state: &State<A>,
-) -> Result<Ready<A>, RunFault<A>>
-    ensures value { Gives ready_view result (system_of (job_value job.now) (state_view state.now)) }
+) -> Result<Ready<A>, Failure<SystemFault<A>>>
+    ensures value { Gives ready_view system_refusal result (system_of (job_value job.now) (state_view state.now)) }
     ensures compiled { IfOk result (λ r. IsCompiled (bits_of job.now.frac) (length job.now.parameters.items) (length job.now.globals.items) (energy_view r.parts)) }
     ensures parameters { IfOk result (λ r. r.parts.energy.parameters ≡ length job.now.parameters.items) }
     ensures globals { IfOk result (λ r. r.parts.energy.globals ≡ length job.now.globals.items) }
     ensures known { IfOk result (λ r. All (λ k. k < length job.now.types.items) r.atoms.types.items) }
     ensures masses { IfOk result (λ r. r.atoms.masses.items ≡ map (mass_of (map type_value job.now.types.items)) r.atoms.types.items) }
     ensures count { IfOk result (λ r. length r.atoms.types.items ≡ length state.now.atoms.items) }
-    ensures only { IfErr result (λ f. is_of_system f ≡ true) }
 {
     let parts = job_slope(alloc, job)?;
     let atoms = typed_atoms(alloc, job, state)?;
@@ -132,16 +135,16 @@ pub fn ready<A: Allocator + Copy>(
 
 /// The code of the slope of a job's energy, as a run of the job has it. Whether it would give a value anywhere isn't asked.
 ///
-/// `job` has the bytes of a job file. The refusals are those of the job and then of its energy; `Memory` wherever a
-/// growth is refused.
-#[tactic(auto, unfolding(crate::specs::Starts::job_energy))]
-pub fn slope_code<A: Allocator + Copy>(alloc: A, job: &[u8]) -> Result<Code<A>, RunFault<A>>
+/// The refusals are those of `job_slope`. `Memory`: an allocation was refused.
+pub fn slope_code<A: Allocator + Copy>(
+    alloc: A,
+    job: &Job<A>,
+) -> Result<Code<A>, Failure<ExprFault<A>>>
     // Which answer it is.
-    ensures exact { Gives (λ code. code) result (slope_code_of job.now) }
+    ensures exact { Gives (λ code. code) refusal_of result (slope_code_of (job_value job.now)) }
     // What the code gives.
-    ensures computes { IfOk result (IsSlopeCode job.now) }
+    ensures computes { IfOk result (IsSlopeCode (job_value job.now)) }
 {
-    let job = Job::read(alloc, job)?;
-    let parts = job_slope(alloc, &job)?;
+    let parts = job_slope(alloc, job)?;
     Ok(parts.code)
 }

@@ -4,3 +4,4 @@ pub mod BoundLaws
 pub mod OutcomeLaws
 pub mod PlainLaws
 pub mod StopLaws
+pub mod RefusalLaws

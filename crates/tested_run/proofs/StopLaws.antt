@@ -1,8 +1,7 @@
 -- A run that stops does not end, so where texts have a run no refusal says otherwise.
-use Rattle.std.proofs.Common.{◌≡◌, ℕ, zero, suc, ◌+◌, ◌<◌, List, length, Some, None, ℤ, arith, refl, ap, sym, ◌∙◌, ◌-◌, false, Ok}
+use Rattle.std.proofs.Common.{◌≡◌, ℕ, zero, suc, ◌+◌, ◌<◌, List, length, Some, None, arith, refl, ap, sym, ◌∙◌, ◌-◌}
 use Rattle.std.specs.Prelude.{option_map}
 use Rattle.std.specs.Option.{option_and_then}
-use Rattle.fixed.specs.declared.faults.Fault.{Fault}
 use Rattle.state.specs.StateText.{StateView}
 use Rattle.integrator.proofs.Constructors.{none_is_no_some, ok_same}
 use Rattle.integrator.specs.Frames.{Dynamics, Frames, frames, moved_frame, next_frame, step, turn, turns, exchanged, pair_force}
@@ -10,16 +9,20 @@ use Rattle.tested_run.specs.declared.slope_faults.SlopeFault.{SlopeFault}
 use Rattle.integrator.specs.declared.direction.Direction.{Direction}
 use Rattle.integrator.specs.declared.direction.Direction.TheVariants.{Forward, Back}
 use Rattle.integrator.specs.States.{frames_of}
-use Rattle.integrator.specs.Starts.{Start, start_of}
-use Rattle.integrator.specs.Runs.{is_out, IsRun, Lacks, Ran}
-use Rattle.integrator.specs.declared.faults.RunFault.{RunFault}
+use Rattle.integrator.specs.Starts.{Start}
+use Rattle.integrator.specs.Runs.{IsRun, Ran}
 use Rattle.integrator.proofs.TurnLaws.{turns-more, exchanged_turns}
-use Rattle.integrator.proofs.RunLaws.{only_lacks, start_moves}
+use Rattle.integrator.proofs.RunLaws.{run_starts, start_moves}
 use Rattle.tested_run.specs.Stops.{Faults, StopsAt, first_without_force, middle}
-use Rattle.tested_run.specs.TestedStarts.{HaveFaults, tested}
-use Rattle.tested_run.specs.Refusals.{IsRefusal, IsStop, Stopped}
+use Rattle.tested_run.specs.TestedStarts.{tested}
+use Rattle.tested_run.specs.Refusals.{IsRefusal, IsStop, start_refusal}
 use Rattle.tested_run.proofs.AddingLaws.{no_forces}
-use Rattle.integrator.specs.declared.faults.RunFault.TheVariants as fault
+use Rattle.fallible.specs.Failures.{IfRefused}
+use Rattle.fallible.specs.declared.failure.Failure.{Failure}
+use Rattle.fallible.specs.declared.failure.Failure.TheVariants.{Memory, Refused}
+use Rattle.tested_run.specs.declared.faults.KernelFault.{KernelFault}
+use Rattle.tested_run.specs.declared.faults.TestedFault.{TestedFault}
+use Rattle.tested_run.specs.declared.faults.TestedFault.TheVariants as fault
 
 -- ---- steps
 
@@ -59,57 +62,20 @@ never_ends w d faults n f done pair why h =
     let size : done + 1 + (n - (done + 1)) ≡ n = omega arith in
     rw size at (stays_none w d f (done + 1) (n - (done + 1)) next)
 
-stopped_or_ran : (w : Direction) (n : ℕ) (s : Start) (faults : Faults) (step : ℤ) (low high pc : ℕ) (why : Fault) (a : StateView) → Stopped w n s faults step low high pc why → Ran w n s a → ⊥
-stopped_or_ran w n s faults step low high pc why a p q =
-    none_is_no_some q.frames' (sym (never_ends w s.dynamics faults n (frames_of s.state) p.done p.pair (record { pc = pc; fault = why }) p.stops) ∙ q.turned)
+stopped_or_ran : (w : Direction) (n : ℕ) (s : Start) (faults : Faults) (f : KernelFault) (a : StateView) → IsStop w n s faults f → Ran w n s a → ⊥
+stopped_or_ran w n s faults f a p q =
+    none_is_no_some q.frames' (sym (never_ends w s.dynamics faults n (frames_of s.state) p.done p.pair (record { pc = f.pc; fault = f.fault }) p.stops) ∙ q.turned)
 
 -- ---- no refusal where there is a run
 
-pub tested_lacks : {A : Type 0} → (job state : List ℕ) (w : Direction) (n : ℕ) (text : List ℕ) (f : RunFault A) → IsRun tested job state w n text → IsRefusal job state w n f → Lacks f
-tested_lacks {A} job state w n text (fault.Job f) r h = only_lacks {A = A} tested job state w n text (fault.Job f) r h
-tested_lacks {A} job state w n text (fault.State f) r h = only_lacks {A = A} tested job state w n text (fault.State f) r h
-tested_lacks {A} job state w n text (fault.Energy f) r h = only_lacks {A = A} tested job state w n text (fault.Energy f) r h
-tested_lacks {A} job state w n text fault.BitsDiffer r h = only_lacks {A = A} tested job state w n text fault.BitsDiffer r h
-tested_lacks {A} job state w n text (fault.UnknownType k) r h = only_lacks {A = A} tested job state w n text (fault.UnknownType k) r h
-tested_lacks {A} job state w n text fault.CutoffTooLong r h = only_lacks {A = A} tested job state w n text fault.CutoffTooLong r h
-tested_lacks {A} job state w n text fault.StepRange r h = only_lacks {A = A} tested job state w n text fault.StepRange r h
-tested_lacks job state w n text (fault.KernelFault step low high pc why) r h =
+-- texts that have a tested run are not refused
+pub tested_runs : {A : Type 0} → (job state : List ℕ) (w : Direction) (n : ℕ) (text : List ℕ) (f : TestedFault A) → IsRun tested job state w n text → IsRefusal job state w n f → ⊥
+tested_runs job state w n text (fault.Start f) r h = run_starts tested job state w n text (start_refusal f) r h
+tested_runs job state w n text (fault.Kernel f) r h =
     let same : r.start ≡ h.start = ok_same r.start h.start (sym r.starts ∙ h.starts) in
-    stopped_or_ran w n h.start h.faults step low high pc why r.after h.stopped (start_moves w n r.start h.start r.after same r.ran)
-tested_lacks job state w n text (fault.Kernel f) r h = h
-tested_lacks job state w n text fault.ForceRange r h = h
-tested_lacks job state w n text (fault.MemoryAfter done) r h = h
-tested_lacks job state w n text fault.Memory r h = tt
-tested_lacks job state w n text (fault.Out f) r h = tt
+    stopped_or_ran w n h.start h.faults f r.after h.stopped (start_moves w n r.start h.start r.after same r.ran)
 
--- ---- why a run that has started gives no state
-
-pub stop_refuses : {A : Type 0} → (job state : List ℕ) (w : Direction) (n : ℕ) (start : Start) (faults : Faults) (f : RunFault A) → start_of tested job state w n ≡ Ok start → HaveFaults job state faults → IsStop w n start faults f → IsRefusal job state w n f
-stop_refuses job state w n start faults (fault.KernelFault step low high pc why) e d h = record { start = start; starts = e; faults = faults; known = d; stopped = h }
-stop_refuses job state w n start faults fault.Memory e d h = tt
-stop_refuses job state w n start faults (fault.Job f) e d h = absurd h
-stop_refuses job state w n start faults (fault.State f) e d h = absurd h
-stop_refuses job state w n start faults (fault.Energy f) e d h = absurd h
-stop_refuses job state w n start faults fault.BitsDiffer e d h = absurd h
-stop_refuses job state w n start faults (fault.UnknownType k) e d h = absurd h
-stop_refuses job state w n start faults fault.CutoffTooLong e d h = absurd h
-stop_refuses job state w n start faults fault.StepRange e d h = absurd h
-stop_refuses job state w n start faults (fault.Kernel f) e d h = absurd h
-stop_refuses job state w n start faults fault.ForceRange e d h = absurd h
-stop_refuses job state w n start faults (fault.MemoryAfter done) e d h = absurd h
-stop_refuses job state w n start faults (fault.Out f) e d h = absurd h
-
-pub stop_unwritten : {A : Type 0} → (w : Direction) (n : ℕ) (start : Start) (faults : Faults) (f : RunFault A) → IsStop w n start faults f → is_out f ≡ false
-stop_unwritten w n start faults (fault.KernelFault step low high pc why) h = refl
-stop_unwritten w n start faults fault.Memory h = refl
-stop_unwritten w n start faults (fault.Job f) h = refl
-stop_unwritten w n start faults (fault.State f) h = refl
-stop_unwritten w n start faults (fault.Energy f) h = refl
-stop_unwritten w n start faults fault.BitsDiffer h = refl
-stop_unwritten w n start faults (fault.UnknownType k) h = refl
-stop_unwritten w n start faults fault.CutoffTooLong h = refl
-stop_unwritten w n start faults fault.StepRange h = refl
-stop_unwritten w n start faults (fault.Kernel f) h = refl
-stop_unwritten w n start faults fault.ForceRange h = refl
-stop_unwritten w n start faults (fault.MemoryAfter done) h = refl
-stop_unwritten w n start faults (fault.Out f) h = absurd h
+-- so of these texts a tested run has no failure but want of memory
+pub tested_lacks : {A : Type 0} → (job state : List ℕ) (w : Direction) (n : ℕ) (text : List ℕ) (failure : Failure (TestedFault A)) → IsRun tested job state w n text → IfRefused failure (IsRefusal job state w n) → failure ≡ Memory
+tested_lacks job state w n text (Refused f) r h = absurd (tested_runs job state w n text f r h)
+tested_lacks job state w n text Memory r h = refl

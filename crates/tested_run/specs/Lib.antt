@@ -4,4 +4,3 @@ pub mod Adding
 pub mod Stops
 pub mod TestedStarts
 pub mod Refusals
-pub mod Halts

@@ -1,61 +1,60 @@
 -- Why a tested run gives no state.
-use Rattle.std.specs.Prelude.{◌≡◌, ℕ, ℤ, ◌+◌, List, Ok}
-use Rattle.fixed.specs.declared.faults.Fault.{Fault}
+use Rattle.std.specs.Prelude.{◌≡◌, ℕ, ℤ, ◌+◌, ◌<◌, List, Ok, Err}
+use Rattle.fallible.specs.Failures.{IfRefused}
+use Rattle.fallible.specs.Out.{Output}
+use Rattle.fallible.specs.declared.failure.Failure.TheVariants.{Memory}
+use Rattle.job.specs.Views as job
 use Rattle.integrator.specs.States.{frames_of}
-use Rattle.integrator.specs.Starts.{Start, start_of}
-use Rattle.integrator.specs.StartViews.{Refuses}
+use Rattle.integrator.specs.Starts.{Refusal, Start, job_refused, start_of, state_refused, step_range}
+use Rattle.integrator.specs.StartViews.{system_refusal}
+use Rattle.integrator.specs.Runs.{WroteBeginning}
 use Rattle.integrator.specs.declared.direction.Direction.{Direction}
-use Rattle.integrator.specs.declared.faults.RunFault.{RunFault}
 use Rattle.tested_run.specs.Stops.{Faults, StopsAt, forced_counter}
 use Rattle.tested_run.specs.TestedStarts.{HaveFaults, tested}
-use Rattle.integrator.specs.declared.faults.RunFault.TheVariants as fault
+use Rattle.tested_run.specs.declared.faults.KernelFault.{KernelFault}
+use Rattle.tested_run.specs.declared.faults.StartFault.{StartFault}
+use Rattle.tested_run.specs.declared.faults.StartFault.TheVariants as start
+use Rattle.tested_run.specs.declared.faults.TestedFault.{TestedFault}
+use Rattle.tested_run.specs.declared.faults.TestedFault.TheVariants as fault
+use Rattle.tested_run.specs.declared.faults.TestedRunFault.{TestedRunFault}
+use Rattle.tested_run.specs.declared.faults.TestedRunFault.TheVariants as run
+
+-- the refusal of a start that a fault tells
+abbrev pub start_refusal : {A : Type 0} → StartFault A → Refusal
+start_refusal (start.Job f) = job_refused (job.refusal_of f)
+start_refusal (start.State f) = state_refused f
+start_refusal (start.System f) = system_refusal f
+start_refusal start.StepRange = step_range
 
 -- the run stops before this frame, at this pair, counted from 1, since an operation of the kernel's code, at this place, has
 -- no value there
-pub record Stopped (direction : Direction) (steps : ℕ) (start : Start) (faults : Faults) (step : ℤ) (low high pc : ℕ) (why : Fault) : Type 0 where
+pub record IsStop (direction : Direction) (steps : ℕ) (start : Start) (faults : Faults) (f : KernelFault) : Type 0 where
   pub done : ℕ
   pub pair : ℕ × ℕ
-  pub stops : StopsAt direction start.dynamics faults steps (frames_of start.state) done pair (record { pc = pc; fault = why })
-  pub counter : step ≡ forced_counter direction start.state.step done
-  pub lower : low ≡ pair.0 + 1
-  pub higher : high ≡ pair.1 + 1
-
--- why a run that has started gives no state
-abbrev pub IsStop : {A : Type 0} → Direction → ℕ → Start → Faults → RunFault A → Type 0
-IsStop direction steps start faults (fault.KernelFault step low high pc why) = Stopped direction steps start faults step low high pc why
-IsStop direction steps start faults fault.Memory = Unit {0}
-IsStop direction steps start faults (fault.Job f) = ⊥
-IsStop direction steps start faults (fault.State f) = ⊥
-IsStop direction steps start faults (fault.Energy f) = ⊥
-IsStop direction steps start faults fault.BitsDiffer = ⊥
-IsStop direction steps start faults (fault.UnknownType n) = ⊥
-IsStop direction steps start faults fault.CutoffTooLong = ⊥
-IsStop direction steps start faults fault.StepRange = ⊥
-IsStop direction steps start faults (fault.Kernel f) = ⊥
-IsStop direction steps start faults fault.ForceRange = ⊥
-IsStop direction steps start faults (fault.MemoryAfter done) = ⊥
-IsStop direction steps start faults (fault.Out f) = ⊥
+  pub stops : StopsAt direction start.dynamics faults steps (frames_of start.state) done pair (record { pc = f.pc; fault = f.fault })
+  pub counter : f.step ≡ forced_counter direction start.state.step done
+  pub lower : f.low ≡ pair.0 + 1
+  pub higher : f.high ≡ pair.1 + 1
 
 -- a kernel's fault on the way from these texts
-pub record IsKernelFault (job state : List ℕ) (direction : Direction) (steps : ℕ) (step : ℤ) (low high pc : ℕ) (why : Fault) : Type 0 where
+pub record IsKernelFault (job state : List ℕ) (direction : Direction) (steps : ℕ) (f : KernelFault) : Type 0 where
   pub start : Start
   pub starts : start_of tested job state direction steps ≡ Ok start
   pub faults : Faults
   pub known : HaveFaults job state faults
-  pub stopped : Stopped direction steps start faults step low high pc why
+  pub stopped : IsStop direction steps start faults f
 
--- why texts give no text: want of memory and a failed output say nothing of them
-abbrev pub IsRefusal : {A : Type 0} → List ℕ → List ℕ → Direction → ℕ → RunFault A → Type 0
-IsRefusal job state direction steps (fault.KernelFault step low high pc why) = IsKernelFault job state direction steps step low high pc why
-IsRefusal job state direction steps (fault.Out f) = Unit {0}
-IsRefusal job state direction steps fault.Memory = Unit {0}
-IsRefusal job state direction steps (fault.Kernel f) = ⊥
-IsRefusal job state direction steps fault.ForceRange = ⊥
-IsRefusal job state direction steps (fault.MemoryAfter done) = ⊥
-IsRefusal {A} job state direction steps (fault.Job f) = Refuses {A = A} (fault.Job f) (start_of tested job state direction steps)
-IsRefusal {A} job state direction steps (fault.State f) = Refuses {A = A} (fault.State f) (start_of tested job state direction steps)
-IsRefusal {A} job state direction steps (fault.Energy f) = Refuses {A = A} (fault.Energy f) (start_of tested job state direction steps)
-IsRefusal {A} job state direction steps fault.BitsDiffer = Refuses {A = A} fault.BitsDiffer (start_of tested job state direction steps)
-IsRefusal {A} job state direction steps (fault.UnknownType n) = Refuses {A = A} (fault.UnknownType n) (start_of tested job state direction steps)
-IsRefusal {A} job state direction steps fault.CutoffTooLong = Refuses {A = A} fault.CutoffTooLong (start_of tested job state direction steps)
-IsRefusal {A} job state direction steps fault.StepRange = Refuses {A = A} fault.StepRange (start_of tested job state direction steps)
+-- why texts have no tested run
+abbrev pub IsRefusal : {A : Type 0} → List ℕ → List ℕ → Direction → ℕ → TestedFault A → Type 0
+IsRefusal job state direction steps (fault.Start f) = start_of tested job state direction steps ≡ Err (start_refusal f)
+IsRefusal job state direction steps (fault.Kernel f) = IsKernelFault job state direction steps f
+
+-- why the text of a tested run was not written, and what the output is left with: only a failed output has a beginning of the text
+abbrev pub IsTestedUnwritten : {A : Type 0} → List ℕ → List ℕ → Direction → ℕ → Output → Output → TestedRunFault A → Type 0
+IsTestedUnwritten job state direction steps before after (run.Run failure) = IfRefused failure (IsRefusal job state direction steps) × (after.0 ≡ before.0)
+IsTestedUnwritten job state direction steps before after (run.Out f) = WroteBeginning tested job state direction steps before.0 after.0 × (before.1 < after.1)
+
+-- memory ran out, or the output failed
+abbrev pub Wants : {A : Type 0} → TestedRunFault A → Type 0
+Wants (run.Run failure) = failure ≡ Memory
+Wants (run.Out f) = Unit {0}

@@ -3,6 +3,7 @@
 #![tactic(auto)]
 
 mod code_slopes;
+mod faults;
 mod forces;
 mod kernels;
 mod laws;
@@ -15,5 +16,6 @@ mod steps;
 mod stops;
 mod sums;
 
+pub use faults::{KernelFault, StartFault, TestedFault, TestedRunFault};
 pub use laws::outcomes_are_ends;
 pub use runs::run_bytes_checked;

@@ -1,30 +1,30 @@
 //! Runs of states, and from bytes to bytes.
 
-ghost use Rattle.std.specs.Prelude.{◌≡◌, ◌<◌, ◌+◌, ◌-◌, ◌^◌, ◌+ℤ◌, ◌-ℤ◌, pos, length, map, true, false, Some, IfOk, OnOk, IfErr, ℕ, List, MatchResult, ◌⊎◌, OnErr};
+ghost use Rattle.std.specs.Prelude.{◌≡◌, ◌<◌, ◌+◌, ◌-◌, ◌^◌, ◌+ℤ◌, ◌-ℤ◌, pos, length, map, true, Some, IfOk, OnOk, IfErr, ℕ, List, MatchResult};
 ghost use Rattle.std.specs.List.{All};
-ghost use Rattle.gro.specs.Out.{appended};
+ghost use Rattle.fallible.specs.Failures.{IfRefused};
+ghost use Rattle.fallible.specs.Out.{appended};
 ghost use Rattle.state.specs.StateViews.{atom_view, state_view};
 ghost use Rattle.fixed.specs.Arithmetic.{in_range};
-ghost use Rattle.integrator.specs.Runs.{is_out, IsAfter, IsRun, Lacks, Ran, Wrote, WroteBeginning};
+ghost use Rattle.integrator.specs.Runs.{IsAfter, IsRun, Ran, Wrote};
 ghost use Rattle.integrator.specs.Starts.{plain};
-ghost use Rattle.integrator.specs.declared.faults.RunFault.TheVariants.{KernelFault};
 ghost use Rattle.integrator.specs.States.{counter_at, current_frame, frames_of, moved_state, previous_frame};
 ghost use Rattle.integrator.specs.Frames.{frames, opposite, turns};
 ghost use Rattle.integrator.specs.Systems.{dynamics_of};
-ghost use Rattle.tested_run.specs.Halts.{IsHalt};
-ghost use Rattle.tested_run.specs.Refusals.{IsRefusal, IsStop};
+ghost use Rattle.tested_run.specs.Refusals.{IsRefusal, IsStop, IsTestedUnwritten, Wants};
 ghost use Rattle.tested_run.specs.Stops.{faults_of, forced_counter, StopsAt};
 ghost use Rattle.tested_run.specs.TestedStarts.{faults_view, start_view, tested};
 
+use crate::faults::{KernelFault, TestedFault, TestedRunFault};
 use crate::prepared::Prepared;
 use crate::slopes::TestedSlope;
 use crate::starts::start;
 use crate::steps::turns;
 use crate::stops::Stop;
-use gro::Out;
-use integrator::{Direction, RunFault, System, Turned, advance, current_frame, previous_frame};
+use fallible::{Failure, Out};
+use integrator::{Direction, System, Turned, advance, current_frame, previous_frame};
 use state::{Atom, State};
-use std::alloc::{AllocError, Allocator};
+use std::alloc::Allocator;
 
 /// So many steps of two frames in a direction.
 fn turn_frames<K: TestedSlope + Drop, A: Allocator>(
@@ -50,22 +50,6 @@ fn turn_frames<K: TestedSlope + Drop, A: Allocator>(
     }
 }
 
-/// Why a run did not reach its end.
-enum Halt {
-    Memory,
-    Stop(Stop),
-}
-
-impl From<AllocError> for Halt {
-    ghost use Rattle.tested_run.specs.declared.runs.Halt.TheVariants.{Memory};
-
-    ghost from_gives = { λ _ e. e ≡ Memory };
-
-    fn from(_e: AllocError) -> Halt {
-        Halt::Memory
-    }
-}
-
 /// The frames of these atoms after so many steps in a direction.
 fn frames_after<K: TestedSlope + Drop, A: Allocator + Copy>(
     alloc: A,
@@ -73,13 +57,13 @@ fn frames_after<K: TestedSlope + Drop, A: Allocator + Copy>(
     direction: Direction,
     steps: u64,
     atoms: &[Atom],
-) -> Result<Turned<A>, Halt>
+) -> Result<Turned<A>, Failure<Stop>>
     requires atoms { length atoms.now ≡ length system.now.masses.items }
     requires known { All (λ t. t < K.types system.now.kernel) system.now.types.items }
     ensures value { IfOk result (λ t. turns direction (dynamics_of K.slope system.now) steps (frames (previous_frame (map atom_view atoms.now)) (current_frame (map atom_view atoms.now))) ≡ Some (frames t.previous.items t.current.items)) }
     ensures previous { IfOk result (λ t. length t.previous.items ≡ length atoms.now) }
     ensures current { IfOk result (λ t. length t.current.items ≡ length atoms.now) }
-    ensures halt { IfErr result (IsHalt (dynamics_of K.slope system.now) (faults_of K.fault system.now) direction steps (frames (previous_frame (map atom_view atoms.now)) (current_frame (map atom_view atoms.now)))) }
+    ensures stops { IfErr result (λ failure. IfRefused failure (λ s. StopsAt direction (dynamics_of K.slope system.now) (faults_of K.fault system.now) steps (frames (previous_frame (map atom_view atoms.now)) (current_frame (map atom_view atoms.now))) s.done (s.pair.low, s.pair.high) s.pair.fault)) }
 {
     let mut previous = previous_frame(alloc, atoms)?;
     let mut current = current_frame(alloc, atoms)?;
@@ -93,7 +77,7 @@ fn frames_after<K: TestedSlope + Drop, A: Allocator + Copy>(
         &mut sums,
     ) {
         Ok(()) => Ok(Turned { previous, current }),
-        Err(stop) => Err(Halt::Stop(stop)),
+        Err(stop) => Err(Failure::Refused(stop)),
     }
 }
 
@@ -134,12 +118,12 @@ fn kernel_fault<A: Allocator>(
     state: &State<A>,
     steps: u64,
     stop: Stop,
-) -> RunFault<A>
+) -> KernelFault
     requires fits { in_range (counter_at direction state.now.step steps) ≡ true }
     requires early { stop.done < steps }
-    ensures { result ≡ KernelFault (forced_counter direction state.now.step stop.done) (stop.pair.low + 1) (stop.pair.high + 1) stop.pair.fault.pc stop.pair.fault.fault }
+    ensures { result ≡ record { step = forced_counter direction state.now.step stop.done; low = stop.pair.low + 1; high = stop.pair.high + 1; pc = stop.pair.fault.pc; fault = stop.pair.fault.fault } }
 {
-    RunFault::KernelFault {
+    KernelFault {
         step: forced_counter(direction, state.step, steps, stop.done),
         low: stop.pair.low as u64 + 1,
         high: stop.pair.high as u64 + 1,
@@ -154,18 +138,20 @@ fn run_frames<A: Allocator + Copy>(
     direction: Direction,
     steps: u64,
     prepared: &Prepared<A>,
-) -> Result<Turned<A>, RunFault<A>>
+) -> Result<Turned<A>, Failure<KernelFault>>
     requires { in_range (counter_at direction prepared.now.state.step steps) ≡ true }
     ensures value { IfOk result (λ t. turns direction (start_view prepared.now).dynamics steps (frames_of (start_view prepared.now).state) ≡ Some (frames t.previous.items t.current.items)) }
     ensures previous { IfOk result (λ t. length t.previous.items ≡ length prepared.now.state.atoms.items) }
     ensures current { IfOk result (λ t. length t.current.items ≡ length prepared.now.state.atoms.items) }
-    ensures stop { IfErr result (IsStop direction steps (start_view prepared.now) (faults_view prepared.now)) }
+    ensures stop { IfErr result (λ failure. IfRefused failure (IsStop direction steps (start_view prepared.now) (faults_view prepared.now))) }
 {
     let Prepared { state, system, .. } = prepared;
     match frames_after(alloc, system, direction, steps, &state.atoms) {
         Ok(turned) => Ok(turned),
-        Err(Halt::Memory) => Err(RunFault::Memory),
-        Err(Halt::Stop(stop)) => Err(kernel_fault(direction, state, steps, stop)),
+        Err(Failure::Memory) => Err(Failure::Memory),
+        Err(Failure::Refused(stop)) => Err(Failure::Refused(kernel_fault(
+            direction, state, steps, stop,
+        ))),
     }
 }
 
@@ -190,10 +176,10 @@ fn run<A: Allocator + Copy>(
     direction: Direction,
     steps: u64,
     prepared: Prepared<A>,
-) -> Result<State<A>, RunFault<A>>
+) -> Result<State<A>, Failure<KernelFault>>
     requires { in_range (counter_at direction prepared.state.step steps) ≡ true }
     ensures value { IfOk result (λ s. Ran direction steps (start_view prepared) (state_view s)) }
-    ensures stop { IfErr result (IsStop direction steps (start_view prepared) (faults_view prepared)) }
+    ensures stop { IfErr result (λ failure. IfRefused failure (IsStop direction steps (start_view prepared) (faults_view prepared))) }
 {
     let turned = run_frames(alloc, direction, steps, &prepared)?;
     Ok(arrived(prepared, &turned))
@@ -206,13 +192,13 @@ fn state_after<A: Allocator + Copy>(
     state: &[u8],
     steps: u64,
     direction: Direction,
-) -> Result<State<A>, RunFault<A>>
+) -> Result<State<A>, Failure<TestedFault<A>>>
     ensures value { IfOk result (λ s. IsAfter tested job.now state.now direction steps (state_view s)) }
-    ensures refused { IfErr result (IsRefusal job.now state.now direction steps) }
-    ensures unwritten { IfErr result (λ f. is_out f ≡ false) }
+    ensures refused { IfErr result (λ failure. IfRefused failure (IsRefusal job.now state.now direction steps)) }
 {
     let prepared = start(alloc, direction, steps, job, state)?;
-    run(alloc, direction, steps, prepared)
+    let after = run(alloc, direction, steps, prepared)?;
+    Ok(after)
 }
 
 /// Runs a state so many steps in a direction, on one thread with every operation tested, and writes the new state.
@@ -224,8 +210,8 @@ fn state_after<A: Allocator + Copy>(
 ///
 /// The refusals come in this order: those of the job, of the state, of the energy; `BitsDiffer` where the job's
 /// numbers and the state's have not as many bits behind the point; `UnknownType` for the lowest atom whose name no type has; `CutoffTooLong` where some side is shorter than two cutoffs; `StepRange` where the counter
-/// would leave an i64; `KernelFault` for the first pair without a force in the first frame that has one; `Memory`
-/// wherever a growth is refused. Nothing is written then. `Out` comes only where a write failed, after a beginning of
+/// would leave an i64; `Kernel` for the first pair without a force in the first frame that has one. `Memory`: an
+/// allocation was refused. Nothing is written then. `Out` comes only where a write failed, after a beginning of
 /// the new state's text.
 pub fn run_bytes_checked<A: Allocator + Copy, O: Out>(
     alloc: A,
@@ -234,20 +220,15 @@ pub fn run_bytes_checked<A: Allocator + Copy, O: Out>(
     steps: u64,
     direction: Direction,
     out: &mut O,
-) -> Result<(), RunFault<A>>
+) -> Result<(), TestedRunFault<A>>
     requires count { O.failed out.old < 2 ^ 64 - 1 }
     // The text of the state after the steps is written.
     ensures ran { OnOk result (Wrote tested job.now state.now direction steps (O.taken out.old) (O.taken out.new)) }
     ensures kept { OnOk result (O.failed out.new ≡ O.failed out.old) }
-    // Why there is none.
-    ensures refused { IfErr result (IsRefusal job.now state.now direction steps) }
-    // A refusal writes nothing, but where the output failed.
-    ensures unwritten { IfErr result (λ f. is_out f ≡ false → O.taken out.new ≡ O.taken out.old) }
-    ensures beginning { IfErr result (λ f. is_out f ≡ true → WroteBeginning tested job.now state.now direction steps (O.taken out.old) (O.taken out.new)) }
-    ensures failed { IfErr result (λ f. is_out f ≡ true → O.failed out.old < O.failed out.new) }
-    ensures quiet { OnErr result ((O.taken out.new ≡ O.taken out.old) ⊎ (O.failed out.old < O.failed out.new)) }
+    // Why it is not: a refusal writes nothing, a failed output is left with a beginning of it.
+    ensures refused { IfErr result (IsTestedUnwritten job.now state.now direction steps (O.taken out.old, O.failed out.old) (O.taken out.new, O.failed out.new)) }
     // Where the texts have a run it is written, unless memory or the output fails.
-    ensures only { (text : List ℕ) → IsRun tested job.now state.now direction steps text → MatchResult result (λ _. O.taken out.new ≡ appended (O.taken out.old) text) Lacks }
+    ensures only { (text : List ℕ) → IsRun tested job.now state.now direction steps text → MatchResult result (λ _. O.taken out.new ≡ appended (O.taken out.old) text) Wants }
     // The texts that have a tested run have it with the plain slope.
     ensures same { (text : List ℕ) → IsRun tested job.now state.now direction steps text → IsRun plain job.now state.now direction steps text }
     // So many steps the other way over the written text give the starting text.

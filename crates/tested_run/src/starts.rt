@@ -9,14 +9,16 @@ ghost use Rattle.state.specs.StateViews.{state_view};
 ghost use Rattle.integrator.specs.Energies.{IsCompiled};
 ghost use Rattle.integrator.specs.Starts.{mass_of, start_at, start_of, start_with, table_of};
 ghost use Rattle.integrator.specs.States.{counter_at};
-ghost use Rattle.integrator.specs.StartViews.{Gives, energy_view};
+ghost use Rattle.integrator.specs.StartViews.{energy_view};
+ghost use Rattle.fallible.specs.Failures.{Gives};
+ghost use Rattle.tested_run.specs.Refusals.{start_refusal};
 ghost use Rattle.tested_run.specs.TestedStarts.{faults_view, start_view, tested, tested_faults, HasFaults, HaveFaults};
 
+use crate::faults::StartFault;
 use crate::kernels::CodeKernel;
 use crate::prepared::Prepared;
-use integrator::{
-    Direction, RunFault, SlopeParts, System, TypedAtoms, counter_after, ready, type_table,
-};
+use fallible::Failure;
+use integrator::{Direction, SlopeParts, System, TypedAtoms, counter_after, ready, type_table};
 use job::Job;
 use state::State;
 use std::alloc::{AllocError, Allocator};
@@ -76,14 +78,14 @@ fn started<A: Allocator + Copy>(
     steps: u64,
     job: &Job<A>,
     state: State<A>,
-) -> Result<Prepared<A>, RunFault<A>>
-    ensures value { Gives start_view result (start_with tested direction steps (job_value job.now) (state_view state)) }
+) -> Result<Prepared<A>, Failure<StartFault<A>>>
+    ensures value { Gives start_view start_refusal result (start_with tested direction steps (job_value job.now) (state_view state)) }
     ensures faults { IfOk result (λ p. HasFaults (job_value job.now) (state_view state) (faults_view p)) }
     ensures fits { IfOk result (λ p. in_range (counter_at direction p.state.step steps) ≡ true) }
 {
     let ready = ready(alloc, job, &state)?;
     let Some(counter) = counter_after(direction, &state, steps) else {
-        return Err(RunFault::StepRange);
+        return Err(Failure::Refused(StartFault::StepRange));
     };
     let kernel = kernel(alloc, job, ready.parts)?;
     Ok(prepare(job, state, kernel, ready.atoms, counter))
@@ -97,8 +99,8 @@ pub(crate) fn start<A: Allocator + Copy>(
     steps: u64,
     job: &[u8],
     state: &[u8],
-) -> Result<Prepared<A>, RunFault<A>>
-    ensures value { Gives start_view result (start_of tested job.now state.now direction steps) }
+) -> Result<Prepared<A>, Failure<StartFault<A>>>
+    ensures value { Gives start_view start_refusal result (start_of tested job.now state.now direction steps) }
     ensures faults { IfOk result (λ p. HaveFaults job.now state.now (faults_view p)) }
     ensures fits { IfOk result (λ p. in_range (counter_at direction p.state.step steps) ≡ true) }
 {

@@ -1,15 +1,27 @@
 use Rattle.std.proofs.Common.{◌≡◌, ℕ, List, length, arith, ap, refl, subst, sym, ◌∙◌}
 use Rattle.std.specs.Prelude.{map}
 use Rattle.std.proofs.lemmas.List.{length-map}
+use Rattle.std.proofs.lemmas.Result.{err_from_is_err_and}
 use Rattle.energy_program.specs.Programs.{program_tree}
 use Rattle.job.specs.Views.{job_value}
 use Rattle.state.specs.StateViews.{atom_view, state_view}
 use Rattle.integrator.specs.StartViews.{energy_view, ready_view}
 use Rattle.engine.specs.Engines.{SaysOnly}
-use Rattle.engine.proofs.EngineLaws.{is_safe, job_tree_is, passes, room_for_cells}
+use Rattle.engine.proofs.EngineLaws.{is_safe, job_tree_is, passes, room_for_cells, system_refuses, verdict_refuses}
 use Rattle.engine.proofs.HeadlineTexts.{says_energy}
 use Rattle.integrator.proofs.ReturnLaws.{system_parts}
 use Rattle.engine.proofs.engines.job_motion.Goals as goal
+
+pub returns-in_err-ready-clause-refused : goal.returns-in_err-ready-clause-refused
+returns-in_err-ready-clause-refused g c =
+    let p = err_from_is_err_and c.from_residual.result c.from_residual.ensures.1 in
+    rw (p.1, p.2) (system_refuses (job_value c.args.job.now) (state_view c.args.state.now) c.in_err-ready.field-0.0 c.in_err-ready.ensures.value)
+
+pub returns-in_err-kernel-clause-refused : goal.returns-in_err-kernel-clause-refused
+returns-in_err-kernel-clause-refused g c =
+    let p = err_from_is_err_and c.from_residual-in_err-kernel.result c.from_residual-in_err-kernel.ensures.1 in
+    rw (p.1, p.2)
+    (verdict_refuses {A = g.row.A.Denot} (job_value c.args.job.now) (state_view c.args.state.now) (ready_view c.in_ok-ready.ready) c.in_err-kernel.field-0.0 c.in_ok-ready.ensures.value c.in_err-kernel.ensures.refused)
 
 pub returns-then-not-fits-clause-refused : goal.returns-then-not-fits-clause-refused
 returns-then-not-fits-clause-refused g c =

@@ -9,8 +9,8 @@ returns-in-Ok-clause-value g c =
     let current = c.in_ok-current.ensures ∙ sym (current_frame-views c.args.atoms.now) in
     rw (← previous, ← current) c.in-Ok.ensures.value
 
-pub returns-in-Err-clause-halt : goal.returns-in-Err-clause-halt
-returns-in-Err-clause-halt g c =
+pub returns-in-Err-clause-stops : goal.returns-in-Err-clause-stops
+returns-in-Err-clause-stops g c =
     let previous = c.in_ok-previous.ensures ∙ sym (previous_frame-views c.args.atoms.now) in
     let current = c.in_ok-current.ensures ∙ sym (current_frame-views c.args.atoms.now) in
     rw (← previous, ← current) c.in-Err.ensures.fault

@@ -8,16 +8,21 @@ use Rattle.tested_run.proofs.PlainLaws.{plain_run}
 use Rattle.tested_run.proofs.StopLaws.{tested_lacks}
 use Rattle.tested_run.proofs.runs.run_bytes_checked.Goals as goal
 
-pub returns-in_err-write-clause-beginning : goal.returns-in_err-write-clause-beginning
-returns-in_err-write-clause-beginning g c =
+pub returns-in_err-after-clause-refused : goal.returns-in_err-after-clause-refused
+returns-in_err-after-clause-refused g c =
+    let p = err_from_is_err_and c.from_residual.result c.from_residual.ensures.1 in
+    rw (p.1, p.2) (c.in_err-after.ensures.refused, refl)
+
+pub returns-in_err-write-clause-refused : goal.returns-in_err-write-clause-refused
+returns-in_err-write-clause-refused g c =
     let p = err_from_is_err_and c.from_residual-in_err-write.result c.from_residual-in_err-write.ensures.1 in
     let after = c.in_ok-after.ensures.value in
-    rw p.1
-    (λ is_out. record {
+    rw (p.1, p.2)
+    (record {
       text = state_text (state_view c.in_ok-after.after);
       run = record { start = after.start; starts = after.starts; after = state_view c.in_ok-after.after; ran = after.ran; written = refl };
       beginning = c.in_err-write.ensures.fault_taken;
-    })
+    }, c.in_err-write.ensures.fault_count)
 
 pub returns-in_err-after-clause-only : goal.returns-in_err-after-clause-only
 returns-in_err-after-clause-only g c =

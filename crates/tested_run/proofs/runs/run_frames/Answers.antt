@@ -6,11 +6,11 @@ returns-in-Ok-clause-value g c =
     let atoms = c.deref.ensures.value in
     rw (← atoms) c.in-Ok.ensures.value
 
-pub returns-in-Err-Stop-clause-stop : goal.returns-in-Err-Stop-clause-stop
-returns-in-Err-Stop-clause-stop g c =
+pub returns-in-Err-Refused-clause-stop : goal.returns-in-Err-Refused-clause-stop
+returns-in-Err-Refused-clause-stop g c =
     let atoms = c.deref.ensures.value in
-    let stop = c.in-Err-Stop.stop in
-    let halt = rw c.in-Err-Stop.field-0-is at c.in-Err-Stop.ensures.halt in
+    let stop = c.in-Err-Refused.stop in
+    let halt = rw c.in-Err-Refused.field-0-is at c.in-Err-Refused.ensures.stops in
     rw c.kernel_fault.ensures (
     record {
       done = stop.done;

@@ -1,16 +1,19 @@
-use Rattle.std.proofs.lemmas.Result.{IfErr-weaker, IfOk-weaker}
+use Rattle.std.proofs.lemmas.Result.{err_from_is_err_and}
 use Rattle.tested_run.specs.TestedStarts.{faults_view, start_view}
-use Rattle.tested_run.proofs.StopLaws.{stop_refuses, stop_unwritten}
+use Rattle.tested_run.proofs.RefusalLaws.{start_handed_on, stop_handed_on}
 use Rattle.tested_run.proofs.runs.state_after.Goals as goal
 
 pub returns-clause-value : goal.returns-clause-value
-returns-clause-value g c =
-    IfOk-weaker c.run.result _ _ (λ s h. record { start = start_view c.in_ok-prepared.prepared; starts = c.in_ok-prepared.ensures.value; ran = h }) c.run.ensures.value
+returns-clause-value g c = record { start = start_view c.in_ok-prepared.prepared; starts = c.in_ok-prepared.ensures.value; ran = c.in_ok-after.ensures.value }
 
-pub returns-clause-refused : goal.returns-clause-refused
-returns-clause-refused g c =
-    IfErr-weaker c.run.result _ _ (λ f h. stop_refuses c.args.job.now c.args.state.now c.args.direction c.args.steps (start_view c.in_ok-prepared.prepared) (faults_view c.in_ok-prepared.prepared) f c.in_ok-prepared.ensures.value c.in_ok-prepared.ensures.faults h) c.run.ensures.stop
+pub returns-in_err-prepared-clause-refused : goal.returns-in_err-prepared-clause-refused
+returns-in_err-prepared-clause-refused g c =
+    let p = err_from_is_err_and c.from_residual.result c.from_residual.ensures.1 in
+    rw (p.1, p.2) (start_handed_on c.args.job.now c.args.state.now c.args.direction c.args.steps c.in_err-prepared.field-0.0 c.in_err-prepared.ensures.value)
 
-pub returns-clause-unwritten : goal.returns-clause-unwritten
-returns-clause-unwritten g c =
-    IfErr-weaker c.run.result _ _ (λ f h. stop_unwritten c.args.direction c.args.steps (start_view c.in_ok-prepared.prepared) (faults_view c.in_ok-prepared.prepared) f h) c.run.ensures.stop
+pub returns-in_err-after-clause-refused : goal.returns-in_err-after-clause-refused
+returns-in_err-after-clause-refused g c =
+    let p = err_from_is_err_and c.from_residual-in_err-after.result c.from_residual-in_err-after.ensures.1 in
+    let prepared = c.in_ok-prepared.prepared in
+    rw (p.1, p.2)
+    (stop_handed_on {A = g.row.A.Denot} c.args.job.now c.args.state.now c.args.direction c.args.steps (start_view prepared) (faults_view prepared) c.in_err-after.field-0.0 c.in_ok-prepared.ensures.value c.in_ok-prepared.ensures.faults c.in_err-after.ensures.stop)

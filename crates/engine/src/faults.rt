@@ -1,0 +1,171 @@
+//! Why a job and a state have no engine, and why a run wrote no state.
+
+ghost use Rattle.std.specs.Prelude.{◌≡◌};
+ghost use Rattle.fallible.specs.Failures.{refused_as};
+ghost use Rattle.engine.specs.declared.faults.EnergyFault.TheVariants as energy;
+ghost use Rattle.engine.specs.declared.faults.EngineFault.TheVariants as engine;
+ghost use Rattle.engine.specs.declared.faults.OpenFault.TheVariants as open;
+ghost use Rattle.engine.specs.declared.faults.RunFault.TheVariants as run;
+
+use energy_program::ExprFault;
+use fallible::{Failure, OutFault};
+use integrator::{KernelRefusal, StepFault, SystemFault};
+use job::JobFault;
+use state::StateFault;
+use std::alloc::Allocator;
+use thiserror::Error;
+
+/// Why an energy, or its slope, has no accepted code.
+#[derive(Debug, Drop, Error)]
+pub enum EnergyFault<A: Allocator> {
+    /// It has no code: its text is refused, or its slope or its code would be too large.
+    #[error("{0}")]
+    Energy(ExprFault<A>),
+    /// The verifier refuses the code.
+    #[error("{0}")]
+    Kernel(KernelRefusal),
+}
+
+/// Why a job and a state have no engine.
+#[derive(Debug, Drop, Error)]
+pub enum EngineFault<A: Allocator> {
+    /// They have no atoms that can be run.
+    #[error("{0}")]
+    System(SystemFault<A>),
+    /// The verifier refuses the code of the slope.
+    #[error("{0}")]
+    Kernel(KernelRefusal),
+    /// By the greatest slope that the verifier found, the force on an atom might pass 64 bits: with N atoms, N - 1
+    /// times that slope is 2^63 or more.
+    #[error("A3 ForceRange")]
+    ForceRange,
+}
+
+/// Why the texts of a job and a state have no engine.
+#[derive(Debug, Drop, Error)]
+pub enum OpenFault<A: Allocator> {
+    /// The job's text is refused.
+    #[error("{0}")]
+    Job(JobFault<A>),
+    /// The state's text is refused.
+    #[error("{0}")]
+    State(StateFault),
+    /// Both are read, and have no engine.
+    #[error("{0}")]
+    Engine(EngineFault<A>),
+}
+
+/// Why a run wrote no state. Nothing was written then, but for `Out`.
+#[derive(Debug, Drop, Error)]
+pub enum RunFault<A: Allocator> {
+    /// The texts have no engine, or memory ran out before there was one.
+    #[error("{0}")]
+    Open(Failure<OpenFault<A>>),
+    /// The steps stopped before the last.
+    #[error("{0}")]
+    Steps(StepFault),
+    /// The output failed. A beginning of what was to be written was.
+    #[error("{0}")]
+    Out(OutFault),
+}
+
+impl<A: Allocator> From<Failure<ExprFault<A>>> for Failure<EnergyFault<A>> {
+    ghost from_gives = { λ failure e. e ≡ refused_as energy.Energy failure };
+
+    fn from(failure: Failure<ExprFault<A>>) -> Failure<EnergyFault<A>> {
+        match failure {
+            Failure::Refused(fault) => Failure::Refused(EnergyFault::Energy(fault)),
+            Failure::Memory => Failure::Memory,
+        }
+    }
+}
+
+impl<A: Allocator> From<Failure<KernelRefusal>> for Failure<EnergyFault<A>> {
+    ghost from_gives = { λ failure e. e ≡ refused_as energy.Kernel failure };
+
+    fn from(failure: Failure<KernelRefusal>) -> Failure<EnergyFault<A>> {
+        match failure {
+            Failure::Refused(fault) => Failure::Refused(EnergyFault::Kernel(fault)),
+            Failure::Memory => Failure::Memory,
+        }
+    }
+}
+
+impl<A: Allocator> From<Failure<SystemFault<A>>> for Failure<EngineFault<A>> {
+    ghost from_gives = { λ failure e. e ≡ refused_as engine.System failure };
+
+    fn from(failure: Failure<SystemFault<A>>) -> Failure<EngineFault<A>> {
+        match failure {
+            Failure::Refused(fault) => Failure::Refused(EngineFault::System(fault)),
+            Failure::Memory => Failure::Memory,
+        }
+    }
+}
+
+impl<A: Allocator> From<Failure<KernelRefusal>> for Failure<EngineFault<A>> {
+    ghost from_gives = { λ failure e. e ≡ refused_as engine.Kernel failure };
+
+    fn from(failure: Failure<KernelRefusal>) -> Failure<EngineFault<A>> {
+        match failure {
+            Failure::Refused(fault) => Failure::Refused(EngineFault::Kernel(fault)),
+            Failure::Memory => Failure::Memory,
+        }
+    }
+}
+
+impl<A: Allocator> From<Failure<JobFault<A>>> for Failure<OpenFault<A>> {
+    ghost from_gives = { λ failure e. e ≡ refused_as open.Job failure };
+
+    fn from(failure: Failure<JobFault<A>>) -> Failure<OpenFault<A>> {
+        match failure {
+            Failure::Refused(fault) => Failure::Refused(OpenFault::Job(fault)),
+            Failure::Memory => Failure::Memory,
+        }
+    }
+}
+
+impl<A: Allocator> From<Failure<StateFault>> for Failure<OpenFault<A>> {
+    ghost from_gives = { λ failure e. e ≡ refused_as open.State failure };
+
+    fn from(failure: Failure<StateFault>) -> Failure<OpenFault<A>> {
+        match failure {
+            Failure::Refused(fault) => Failure::Refused(OpenFault::State(fault)),
+            Failure::Memory => Failure::Memory,
+        }
+    }
+}
+
+impl<A: Allocator> From<Failure<EngineFault<A>>> for Failure<OpenFault<A>> {
+    ghost from_gives = { λ failure e. e ≡ refused_as open.Engine failure };
+
+    fn from(failure: Failure<EngineFault<A>>) -> Failure<OpenFault<A>> {
+        match failure {
+            Failure::Refused(fault) => Failure::Refused(OpenFault::Engine(fault)),
+            Failure::Memory => Failure::Memory,
+        }
+    }
+}
+
+impl<A: Allocator> From<Failure<OpenFault<A>>> for RunFault<A> {
+    ghost from_gives = { λ failure e. e ≡ run.Open failure };
+
+    fn from(failure: Failure<OpenFault<A>>) -> RunFault<A> {
+        RunFault::Open(failure)
+    }
+}
+
+impl<A: Allocator> From<StepFault> for RunFault<A> {
+    ghost from_gives = { λ fault e. e ≡ run.Steps fault };
+
+    fn from(fault: StepFault) -> RunFault<A> {
+        RunFault::Steps(fault)
+    }
+}
+
+impl<A: Allocator> From<OutFault> for RunFault<A> {
+    ghost from_gives = { λ fault e. e ≡ run.Out fault };
+
+    fn from(fault: OutFault) -> RunFault<A> {
+        RunFault::Out(fault)
+    }
+}

@@ -1,0 +1,38 @@
+-- What a tested run's start is refused for.
+use Rattle.std.proofs.Common.{◌≡◌, ℕ, List, Ok}
+use Rattle.fallible.specs.Failures.{Fails, IfRefused, refused_as}
+use Rattle.fallible.specs.declared.failure.Failure.{Failure}
+use Rattle.fallible.specs.declared.failure.Failure.TheVariants.{Memory, Refused}
+use Rattle.job.specs.Values.{JobValue}
+use Rattle.state.specs.StateText.{StateView}
+use Rattle.line_text.specs.Steps.{◌>>=◌}
+use Rattle.line_text.proofs.StepLaws.{bind_err}
+use Rattle.integrator.specs.Starts.{Law, Start, in_counter, start_at, start_of, start_with, system_of}
+use Rattle.integrator.specs.StartViews.{system_refusal}
+use Rattle.integrator.specs.States.{counter_after}
+use Rattle.integrator.specs.declared.direction.Direction.{Direction}
+use Rattle.integrator.specs.declared.faults.SystemFault.{SystemFault}
+use Rattle.tested_run.specs.Refusals.{IsRefusal, IsStop, start_refusal}
+use Rattle.tested_run.specs.Stops.{Faults}
+use Rattle.tested_run.specs.TestedStarts.{HaveFaults, tested}
+use Rattle.tested_run.specs.declared.faults.KernelFault.{KernelFault}
+use Rattle.tested_run.specs.declared.faults.StartFault.{StartFault}
+use Rattle.tested_run.specs.declared.faults.StartFault.TheVariants as start
+use Rattle.tested_run.specs.declared.faults.TestedFault.TheVariants as fault
+
+-- a job and a state whose atoms can't be run have no start
+pub system_handed_on : {A : Type 0} → (law : Law) (w : Direction) (n : ℕ) (j : JobValue) (s : StateView) (failure : Failure (SystemFault A)) → Fails system_refusal failure (system_of j s) → Fails start_refusal (refused_as start.System failure) (start_with law w n j s)
+unfolding start_with
+system_handed_on law w n j s (Refused f) h = bind_err (system_of j s) (λ system. in_counter (counter_after w s.step n) >>= λ counter. Ok (start_at law j s system counter)) (system_refusal f) h
+system_handed_on law w n j s Memory h = tt
+
+-- texts that have no start have no tested run
+pub start_handed_on : {A : Type 0} → (job state : List ℕ) (w : Direction) (n : ℕ) (failure : Failure (StartFault A)) → Fails start_refusal failure (start_of tested job state w n) → IfRefused (refused_as fault.Start failure) (IsRefusal job state w n)
+start_handed_on job state w n (Refused f) h = h
+start_handed_on job state w n Memory h = tt
+
+-- nor have those whose run stops on the way
+pub stop_handed_on : {A : Type 0} → (job state : List ℕ) (w : Direction) (n : ℕ) (start : Start) (faults : Faults) (failure : Failure KernelFault) → start_of tested job state w n ≡ Ok start → HaveFaults job state faults
+    → IfRefused failure (IsStop w n start faults) → IfRefused (refused_as (fault.Kernel {A = A}) failure) (IsRefusal job state w n)
+stop_handed_on job state w n start faults (Refused f) e d h = record { start = start; starts = e; faults = faults; known = d; stopped = h }
+stop_handed_on job state w n start faults Memory e d h = tt

@@ -1,0 +1,136 @@
+//! Why a tested run is refused.
+
+ghost use Rattle.std.specs.Prelude.{◌≡◌};
+ghost use Rattle.fallible.specs.Failures.{refused_as};
+ghost use Rattle.tested_run.specs.declared.faults.StartFault.TheVariants.{Job, State, System};
+ghost use Rattle.tested_run.specs.declared.faults.TestedFault.TheVariants.{Kernel, Start};
+ghost use Rattle.tested_run.specs.declared.faults.TestedRunFault.TheVariants as run;
+
+use fallible::{Failure, OutFault};
+use fixed::Fault;
+use integrator::SystemFault;
+use job::JobFault;
+use state::StateFault;
+use std::alloc::Allocator;
+use thiserror::Error;
+
+/// Why texts have no start of a tested run.
+#[derive(Debug, Drop, Error)]
+pub enum StartFault<A: Allocator> {
+    /// The job's text is refused.
+    #[error("{0}")]
+    Job(JobFault<A>),
+    /// The state's text is refused.
+    #[error("{0}")]
+    State(StateFault),
+    /// The job and the state have no atoms that can be run.
+    #[error("{0}")]
+    System(SystemFault<A>),
+    /// The step counter would leave an i64.
+    #[error("A4 StepRange")]
+    StepRange,
+}
+
+/// The code of the slope gives no value for the pair of atoms `low` and `high`, counted from 1, in the frame whose
+/// counter is `step`: it is the first such pair, by the lower atom and then by the higher. `pc` is the place of the
+/// operation that has none. Then the slope, or a definition that its program uses, has no value there.
+#[derive(Clone, Copy, Debug, PartialEq, Eq, Error)]
+#[error("A5 KernelFault {step} {low} {high} {pc} {fault}")]
+pub struct KernelFault {
+    pub step: i64,
+    pub low: u64,
+    pub high: u64,
+    pub pc: u32,
+    pub fault: Fault,
+}
+
+/// Why texts have no tested run.
+#[derive(Debug, Drop, Error)]
+pub enum TestedFault<A: Allocator> {
+    /// They have no start.
+    #[error("{0}")]
+    Start(StartFault<A>),
+    /// On the way a pair has no force.
+    #[error("{0}")]
+    Kernel(KernelFault),
+}
+
+/// Why a tested run wrote no state.
+#[derive(Debug, Drop)]
+pub enum TestedRunFault<A: Allocator> {
+    /// There is none, or memory ran out. Nothing was written.
+    Run(Failure<TestedFault<A>>),
+    /// The output failed, and a beginning of the new state was written.
+    Out(OutFault),
+}
+
+impl<A: Allocator> From<Failure<JobFault<A>>> for Failure<StartFault<A>> {
+    ghost from_gives = { λ failure e. e ≡ refused_as Job failure };
+
+    fn from(failure: Failure<JobFault<A>>) -> Failure<StartFault<A>> {
+        match failure {
+            Failure::Refused(fault) => Failure::Refused(StartFault::Job(fault)),
+            Failure::Memory => Failure::Memory,
+        }
+    }
+}
+
+impl<A: Allocator> From<Failure<StateFault>> for Failure<StartFault<A>> {
+    ghost from_gives = { λ failure e. e ≡ refused_as State failure };
+
+    fn from(failure: Failure<StateFault>) -> Failure<StartFault<A>> {
+        match failure {
+            Failure::Refused(fault) => Failure::Refused(StartFault::State(fault)),
+            Failure::Memory => Failure::Memory,
+        }
+    }
+}
+
+impl<A: Allocator> From<Failure<SystemFault<A>>> for Failure<StartFault<A>> {
+    ghost from_gives = { λ failure e. e ≡ refused_as System failure };
+
+    fn from(failure: Failure<SystemFault<A>>) -> Failure<StartFault<A>> {
+        match failure {
+            Failure::Refused(fault) => Failure::Refused(StartFault::System(fault)),
+            Failure::Memory => Failure::Memory,
+        }
+    }
+}
+
+impl<A: Allocator> From<Failure<StartFault<A>>> for Failure<TestedFault<A>> {
+    ghost from_gives = { λ failure e. e ≡ refused_as Start failure };
+
+    fn from(failure: Failure<StartFault<A>>) -> Failure<TestedFault<A>> {
+        match failure {
+            Failure::Refused(fault) => Failure::Refused(TestedFault::Start(fault)),
+            Failure::Memory => Failure::Memory,
+        }
+    }
+}
+
+impl<A: Allocator> From<Failure<KernelFault>> for Failure<TestedFault<A>> {
+    ghost from_gives = { λ failure e. e ≡ refused_as Kernel failure };
+
+    fn from(failure: Failure<KernelFault>) -> Failure<TestedFault<A>> {
+        match failure {
+            Failure::Refused(fault) => Failure::Refused(TestedFault::Kernel(fault)),
+            Failure::Memory => Failure::Memory,
+        }
+    }
+}
+
+impl<A: Allocator> From<Failure<TestedFault<A>>> for TestedRunFault<A> {
+    ghost from_gives = { λ failure e. e ≡ run.Run failure };
+
+    fn from(failure: Failure<TestedFault<A>>) -> TestedRunFault<A> {
+        TestedRunFault::Run(failure)
+    }
+}
+
+impl<A: Allocator> From<OutFault> for TestedRunFault<A> {
+    ghost from_gives = { λ fault e. e ≡ run.Out fault };
+
+    fn from(fault: OutFault) -> TestedRunFault<A> {
+        TestedRunFault::Out(fault)
+    }
+}
