@@ -2,10 +2,9 @@
 use Rattle.std.proofs.Common.{◌≡◌, ℕ, suc, ◌-◌, ◌+◌, ◌≤◌, ◌<◌, List, [], ◌∷◌, ◌++◌, Result, Ok, Err, refl, sym, ap, ◌∙◌, append_assoc, arith}
 use Rattle.std.proofs.lemmas.List.{append-nil}
 use Rattle.state.specs.declared.faults.StateFault.{StateFault}
-use Rattle.state.specs.declared.faults.StateFault.TheVariants.{BadLine, Truncated, Trailing, Memory}
 use Rattle.state.specs.StateText.{AtomView}
 use Rattle.line_text.specs.Steps.{◌>>=◌}
-use Rattle.state.specs.StateReading.{Fails, atom_at, atoms_at}
+use Rattle.state.specs.StateReading.{atom_at, atoms_at}
 
 -- what was read before, and what is still read
 abbrev pub with_front : List AtomView → Result (List AtomView × List ℕ) StateFault → Result (List AtomView × List ℕ) StateFault
@@ -26,22 +25,14 @@ goes_on front n count i bytes a after total lt h so_far =
     let one : with_front front (atoms_at (n + i) (count - i) bytes) ≡ with_front (front ++ a ∷ []) (atoms_at (n + (i + 1)) (count - (i + 1)) after) = rw (k, h, m) (regroup front a (atoms_at (n + (i + 1)) (count - (i + 1)) after)) in
     sym one ∙ so_far
 
-stops : (fault : StateFault) (front : List AtomView) (n count i : ℕ) (bytes : List ℕ) (total : Result (List AtomView × List ℕ) StateFault)
+pub ends : (fault : StateFault) (front : List AtomView) (n count i : ℕ) (bytes : List ℕ) (total : Result (List AtomView × List ℕ) StateFault)
     → i < count → atom_at (n + i) bytes ≡ Err fault
     → with_front front (atoms_at (n + i) (count - i) bytes) ≡ total → total ≡ Err fault
 unfolding atoms_at
-stops fault front n count i bytes total lt h so_far =
+ends fault front n count i bytes total lt h so_far =
     let k : count - i ≡ suc (count - (i + 1)) = omega arith in
     let one : with_front front (atoms_at (n + i) (count - i) bytes) ≡ Err fault = rw (k, h) refl in
     sym so_far ∙ one
-
-pub ends : (fault : StateFault) (front : List AtomView) (n count i : ℕ) (bytes : List ℕ) (total : Result (List AtomView × List ℕ) StateFault)
-    → i < count → Fails fault (atom_at (n + i) bytes)
-    → with_front front (atoms_at (n + i) (count - i) bytes) ≡ total → Fails fault total
-ends Memory front n count i bytes total lt h so_far = tt
-ends (BadLine line) front n count i bytes total lt h so_far = stops (BadLine line) front n count i bytes total lt h so_far
-ends Truncated front n count i bytes total lt h so_far = stops Truncated front n count i bytes total lt h so_far
-ends Trailing front n count i bytes total lt h so_far = stops Trailing front n count i bytes total lt h so_far
 
 pub is_done : (front : List AtomView) (n count i : ℕ) (bytes : List ℕ) (total : Result (List AtomView × List ℕ) StateFault)
     → count ≤ i → with_front front (atoms_at (n + i) (count - i) bytes) ≡ total → total ≡ Ok (front, bytes)

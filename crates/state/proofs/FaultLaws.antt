@@ -1,5 +1,5 @@
 -- The fault that is read of a text has its cause in the text.
-use Rattle.std.proofs.Common.{◌≡◌, ◌≢◌, ◌≤◌, ◌<◌, ◌^◌, ℕ, zero, suc, ◌+◌, Bool, true, false, cond, eqb, List, [], ◌∷◌, ◌++◌, length, replicate, Option, Some, None, IfErr, Result, Ok, Err, ℤ, pos, codes, inl, inr, refl, sym, ap, subst, ◌∙◌, append_assoc, arith, lit<}
+use Rattle.std.proofs.Common.{◌≡◌, ◌≢◌, ◌≤◌, ◌<◌, ◌^◌, ℕ, zero, suc, ◌+◌, Bool, true, false, cond, eqb, List, [], ◌∷◌, ◌++◌, length, replicate, Option, Some, None, Result, Ok, Err, ℤ, pos, codes, inl, inr, refl, sym, ap, subst, ◌∙◌, append_assoc, arith, lit<}
 use Rattle.std.proofs.lemmas.Grind.{flat_map-append}
 use Rattle.std.proofs.lemmas.List.{append-nil, length-append, length-replicate}
 use Rattle.std.specs.List.{AllByRecursion, flat_map}
@@ -12,11 +12,11 @@ use Rattle.line_text.specs.Steps.{◌>>=◌}
 use Rattle.line_text.proofs.Items.{all_push}
 use Rattle.line_text.proofs.LineLaws.{cut_found, cut_none, ended_then}
 use Rattle.line_text.proofs.StepLaws.{Split, bind_err, split}
-use Rattle.state.specs.StateFaults.{AreLines, FaultsHaveCauses, IsBegun, IsCause}
-use Rattle.state.specs.StateReading.{Gives, frac_of, head_of, title_of, step_of, count_of, sides_of, atom_of, needed, said, field_at, atom_at, atoms_at, from_atoms, from_sides, from_count, from_frac, from_step, from_title, state_of}
+use Rattle.state.specs.StateFaults.{AreLines, BeginsState, IsCause}
+use Rattle.state.specs.StateReading.{frac_of, head_of, title_of, step_of, count_of, sides_of, atom_of, needed, said, field_at, atom_at, atoms_at, from_atoms, from_sides, from_count, from_frac, from_step, from_title, state_of}
 use Rattle.state.specs.StateText.{AtomView, IsAtom, IsSide, IsState, StateView, atom_line, atom_lines, bits_in, bits_line, box_line, count_line, head_line, state_text, step_line, title_line, version_of}
 use Rattle.state.specs.declared.faults.StateFault.{StateFault}
-use Rattle.state.specs.declared.faults.StateFault.TheVariants.{BadLine, Truncated, Trailing, Memory}
+use Rattle.state.specs.declared.faults.StateFault.TheVariants.{BadLine, Truncated, Trailing}
 use Rattle.state.specs.declared.versions.Version.{Version}
 use Rattle.state.specs.declared.versions.Version.TheVariants.{First, Second}
 use Rattle.state.proofs.AtomLaws.{atom_again, atom_found, atom_lacks}
@@ -60,7 +60,7 @@ none_begins front line n fails s more is text =
     let bad : ◌≡◌ {A = Result StateView StateFault} (Ok s) (Err (BadLine n)) = sym read ∙ given_up in
     cc
 
-field_cause : {X : Type 0} (front : List ℕ) (n k : ℕ) (read : List ℕ → Option X) (bytes : List ℕ) (e : StateFault) → n ≡ suc k → AreLines k front → IsBegun front → Fails front (field_at n read)
+field_cause : {X : Type 0} (front : List ℕ) (n k : ℕ) (read : List ℕ → Option X) (bytes : List ℕ) (e : StateFault) → n ≡ suc k → AreLines k front → BeginsState front → Fails front (field_at n read)
     → field_at n read bytes ≡ Err e → IsCause (front ++ bytes) e
 field_cause {X = X} front n k read bytes e number lines begun fails failed = at_cut (cut_at 10 bytes) refl failed
   where
@@ -107,7 +107,7 @@ fits_next Agrees Agrees' rest rest' front line next fits = λ s is agrees.
     let n = next s agrees in
     fits s is n.0 ∙ ap (λ (t : List ℕ). front ++ t) n.1 ∙ sym (append_assoc front line (rest' s))
 
-begun_by : (Agrees : StateView → Type 0) (rest : StateView → List ℕ) (front : List ℕ) (s : StateView) → Fits Agrees rest front → IsState s → Agrees s → rest s ≢ [] → IsBegun front
+begun_by : (Agrees : StateView → Type 0) (rest : StateView → List ℕ) (front : List ℕ) (s : StateView) → Fits Agrees rest front → IsState s → Agrees s → rest s ≢ [] → BeginsState front
 begun_by Agrees rest front s fits is agrees some = record { state = s; more = rest s; is = is; some = some; text = fits s is agrees }
 
 spare_atom : AtomView
@@ -221,7 +221,7 @@ atoms_cause title step frac sides count Agrees box has fits (suc k) e n lines fi
     enough : length (first ++ more) ≡ count
     enough = length-append first more ∙ ap (λ (m : ℕ). length first + m) (length-replicate (suc k) spare_atom) ∙ counted
 
-    begun : IsBegun front
+    begun : BeginsState front
     begun =
         let it = has (first ++ more) enough (all_both IsAtom first more all (spares (suc k))) in
         let split_lines : atom_lines (first ++ more) ≡ atom_lines first ++ atom_lines more = flat_map-append (λ a. ended (atom_line a)) first more in
@@ -472,13 +472,6 @@ head_end bytes e r failed = by_head (split e (field_at 1 head_of bytes) next fai
         (head_lacks head.0) (head_again head.0) (λ s knows. (tt, ap (λ (v : Version). ended (head_line v) ++ behind_head s) knows)) r in
         moved [] (ended (head_line head.0)) head.1 bytes e found.0 (title_end head.0 (ended (head_line head.0)) head.1 e r' later)
 
-pub faults_have_causes : FaultsHaveCauses
+-- the fault that is read of a text has its cause in the text
+pub faults_have_causes : (bytes : List ℕ) (e : StateFault) → state_of bytes ≡ Err e → IsCause bytes e
 faults_have_causes bytes e failed = head_end bytes e (record { lines = no_lines; fits = λ s is knows. whole_text s; reads = λ x. refl }) failed
-
--- the same at what a call returned
-pub is_caused : {X : Type 0} (view : X → StateView) (bytes : List ℕ) (r : Result X StateFault) → Gives view r (state_of bytes) → IfErr r (IsCause bytes)
-is_caused view bytes (Ok x) h = tt
-is_caused view bytes (Err (BadLine n)) h = faults_have_causes bytes (BadLine n) h
-is_caused view bytes (Err Truncated) h = faults_have_causes bytes Truncated h
-is_caused view bytes (Err Trailing) h = faults_have_causes bytes Trailing h
-is_caused view bytes (Err Memory) h = tt

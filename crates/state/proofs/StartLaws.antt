@@ -5,6 +5,8 @@ use Rattle.std.specs.List.{AllZip}
 use Rattle.std.proofs.lemmas.Bool.{and_parts}
 use Rattle.std.proofs.lemmas.Bool.Decides.{nat_tests}
 use Rattle.std.proofs.lemmas.Int.{ints}
+use Rattle.fallible.specs.Failures.{Gives}
+use Rattle.fallible.specs.declared.failure.Failure.{Failure}
 use Rattle.fixed.specs.declared.frac.Frac.{Frac}
 use Rattle.fixed.specs.Rounding.{nearest_of}
 use Rattle.fixed.proofs.FloorLemmas.{nearest_is}
@@ -19,8 +21,7 @@ use Rattle.ring_box.proofs.PlaceLemmas.{place_is, place_of_pm_is}
 use Rattle.state.specs.StateText.{StateView}
 use Rattle.state.specs.StateViews.{sides_view, state_view}
 use Rattle.state.specs.Velocities.{places_moved, place_before}
-use Rattle.state.specs.Starts.{BeginsAt, Gives, IsStartOfAtom, IsStartOnSide, on_box, start_in, start_of, started_atom}
-use Rattle.state.specs.declared.faults.StartFault.{StartFault}
+use Rattle.state.specs.Starts.{BeginsAt, IsStartOfAtom, IsStartOnSide, on_box, start_in, start_of, started_atom}
 use Rattle.state.specs.declared.states.State.{State}
 
 -- ---- the box
@@ -107,6 +108,6 @@ begins_at frac dt f s e =
     } in
     subst (λ (t : StateView). BeginsAt frac dt f t) b.2 it
 
-pub start_begins : {A : Type 0} (frac : Frac) (dt : ℕ) (f : gro.FrameView) (r : Result (State A) StartFault) → Gives state_view r (start_of frac dt f) → IfOk r (λ s. BeginsAt frac dt f (state_view s))
+pub start_begins : {A : Type 0} (frac : Frac) (dt : ℕ) (f : gro.FrameView) (r : Result (State A) (Failure BoxFault)) → Gives state_view (λ (e : BoxFault). e) r (start_of frac dt f) → IfOk r (λ s. BeginsAt frac dt f (state_view s))
 start_begins frac dt f (Ok s) h = begins_at frac dt f (state_view s) h
 start_begins frac dt f (Err e) h = tt

@@ -10,8 +10,6 @@ use Rattle.ring_box.specs.declared.faults.BoxFault.{BoxFault}
 use Rattle.state.specs.StateText.{AtomView, StateView}
 use Rattle.state.specs.StateViews.{sides_view}
 use Rattle.state.specs.Velocities.{IsPlaceBefore, place_before}
-use Rattle.state.specs.declared.faults.StartFault.{StartFault}
-use Rattle.state.specs.declared.faults.StartFault.TheVariants as fault
 
 -- the places of an atom, and those one time step before
 abbrev pub current_places : RingBox → List ℤ → List ℕ
@@ -44,12 +42,6 @@ on_box (Err fault) start = Err fault
 -- the state of so many fraction bits that begins at a frame with a time step of dt fs, or why its sides are no box's
 abbrev pub start_of : Frac → ℕ → gro.FrameView → Result StateView BoxFault
 start_of frac dt f = on_box (box_of f.sides) (start_in frac dt f)
-
--- What a call returned, seen by view, is what the definition answers. Want of memory says nothing.
-abbrev pub Gives : {X : Type 0} → (X → StateView) → Result X StartFault → Result StateView BoxFault → Type 0
-Gives view (Ok x) answer = answer ≡ Ok (view x)
-Gives view (Err (fault.Box why)) answer = answer ≡ Err why
-Gives view (Err fault.Memory) answer = Unit {0}
 
 -- ---- the same as a relation
 

@@ -1,11 +1,10 @@
 -- Which fault a text has that is no state's: told by the texts of states, and not by how one is read.
-use Rattle.std.specs.Prelude.{◌≡◌, ◌≢◌, ℕ, suc, List, [], ◌++◌, length, true, Err}
+use Rattle.std.specs.Prelude.{◌≡◌, ◌≢◌, ℕ, suc, List, [], ◌++◌, length, true}
 use Rattle.std.specs.List.{AllByRecursion, flat_map}
 use Rattle.line_text.specs.Parts.{ended, lacks}
-use Rattle.state.specs.StateReading.{state_of}
 use Rattle.state.specs.StateText.{IsState, StateView, state_text}
 use Rattle.state.specs.declared.faults.StateFault.{StateFault}
-use Rattle.state.specs.declared.faults.StateFault.TheVariants.{BadLine, Truncated, Trailing, Memory}
+use Rattle.state.specs.declared.faults.StateFault.TheVariants.{BadLine, Truncated, Trailing}
 
 -- so many lines, each with its LF
 pub record AreLines (count : ℕ) (text : List ℕ) : Type 0 where
@@ -15,7 +14,7 @@ pub record AreLines (count : ℕ) (text : List ℕ) : Type 0 where
   pub joined : text ≡ flat_map ended lines
 
 -- the text of a state begins so, and more of it follows
-pub record IsBegun (front : List ℕ) : Type 0 where
+pub record BeginsState (front : List ℕ) : Type 0 where
   pub state : StateView
   pub more : List ℕ
   pub is : IsState state
@@ -36,7 +35,7 @@ pub record IsBadLine (bytes : List ℕ) (number : ℕ) : Type 0 where
   pub number' : number ≡ suc before
   pub lines : AreLines before front
   pub whole : lacks 10 line ≡ true
-  pub begun : IsBegun front
+  pub begun : BeginsState front
   pub none : BeginsNone (front ++ ended line)
 
 -- the whole lines begin the text of a state, and another line of it is needed
@@ -47,7 +46,7 @@ pub record IsTruncated (bytes : List ℕ) : Type 0 where
   pub text : bytes ≡ front ++ rest
   pub lines : AreLines count front
   pub part : lacks 10 rest ≡ true
-  pub begun : IsBegun front
+  pub begun : BeginsState front
 
 -- something stands behind the text of a state
 pub record IsTrailing (bytes : List ℕ) : Type 0 where
@@ -57,13 +56,8 @@ pub record IsTrailing (bytes : List ℕ) : Type 0 where
   pub some : rest ≢ []
   pub text : bytes ≡ state_text state ++ rest
 
--- why bytes are no state's text; want of memory says nothing of them
+-- why bytes are no state's text
 abbrev pub IsCause : List ℕ → StateFault → Type 0
 IsCause bytes (BadLine number) = IsBadLine bytes number
 IsCause bytes Truncated = IsTruncated bytes
 IsCause bytes Trailing = IsTrailing bytes
-IsCause bytes Memory = Unit {0}
-
--- the fault that is read of a text has its cause in the text
-abbrev pub FaultsHaveCauses : Type 0
-FaultsHaveCauses = (bytes : List ℕ) (fault : StateFault) → state_of bytes ≡ Err fault → IsCause bytes fault

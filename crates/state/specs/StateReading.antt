@@ -10,16 +10,7 @@ use Rattle.state.specs.StateText.{AtomView, StateView, head_line, atom_line, IsS
 use Rattle.state.specs.declared.versions.Version.{Version}
 use Rattle.state.specs.declared.versions.Version.TheVariants.{First, Second}
 use Rattle.state.specs.declared.faults.StateFault.{StateFault}
-use Rattle.state.specs.declared.faults.StateFault.TheVariants.{BadLine, Truncated, Trailing, Memory}
-
--- What a call returned, seen by view, is what the definition answers. Want of memory says nothing.
-abbrev pub Fails : {Y : Type 0} → StateFault → Result Y StateFault → Type 0
-Fails Memory answer = Unit {0}
-Fails fault answer = answer ≡ Err fault
-
-abbrev pub Gives : {X Y : Type 0} → (X → Y) → Result X StateFault → Result Y StateFault → Type 0
-Gives view (Ok x) answer = answer ≡ Ok (view x)
-Gives view (Err fault) answer = Fails fault answer
+use Rattle.state.specs.declared.faults.StateFault.TheVariants.{BadLine, Truncated, Trailing}
 
 -- ---- what each line says, without its LF
 

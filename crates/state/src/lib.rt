@@ -11,5 +11,5 @@ mod velocities;
 mod versions;
 mod writing;
 
-pub use faults::{StartFault, StateFault};
+pub use faults::StateFault;
 pub use states::{Atom, State};

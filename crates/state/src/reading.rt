@@ -1,24 +1,27 @@
 //! Reading a state.
 
 ghost use Rattle.std.specs.Prelude.{◌≡◌, ◌≤◌, ◌+◌, length, map, IfOk, IsTrue};
+ghost use Rattle.fallible.specs.Failures.{Answers, Gives};
 ghost use Rattle.line_text.specs.Parts.{is_title, lacks};
 ghost use Rattle.state.specs.StateViews.{atom_view, state_view};
-ghost use Rattle.state.specs.StateReading.{Gives, line_at, frac_at, atom_at, atoms_at, from_count, state_of};
+ghost use Rattle.state.specs.StateReading.{line_at, frac_at, atom_at, atoms_at, from_count, state_of};
 
 use crate::faults::StateFault;
 use crate::lines;
 use crate::states::{Atom, State};
 use crate::versions::Version;
+use fallible::Failure;
 use fixed::Frac;
 use line_text::cut;
 use std::alloc::Allocator;
 
 impl<A: Allocator + Copy> State<A> {
     ghost use Rattle.std.specs.Prelude.{◌≡◌, Ok, IfErr, IfOk};
+    ghost use Rattle.fallible.specs.Failures.{Gives, IfRefused};
     ghost use Rattle.state.specs.StateFaults.{IsCause};
     ghost use Rattle.state.specs.StateText.{StateView, IsState, state_text};
     ghost use Rattle.state.specs.StateViews.{state_view};
-    ghost use Rattle.state.specs.StateReading.{Gives, OneText, state_of};
+    ghost use Rattle.state.specs.StateReading.{OneText, state_of};
 
     /// The state whose one text the bytes are.
     ///
@@ -27,16 +30,16 @@ impl<A: Allocator + Copy> State<A> {
     /// form or is out of range; after the last atom's line `Trailing`, where anything is left.
     /// A text whose first line is `pairmd state 2` says `bits 24` or `bits 40` on its fourth line,
     /// and its other lines follow; one whose first line is `pairmd state 1` has no such line.
-    /// `Memory` comes only where a growth was refused.
-    pub fn read(alloc: A, bytes: &[u8]) -> Result<State<A>, StateFault>
+    /// `Memory`: an allocation was refused.
+    pub fn read(alloc: A, bytes: &[u8]) -> Result<State<A>, Failure<StateFault>>
         // What is read has these bytes as its text.
         ensures found { IfOk result (λ x. IsState (state_view x) × (bytes.now ≡ state_text (state_view x))) }
         // The text of a state is read as that state, unless memory runs out.
-        ensures only { (s : StateView) → IsState s → bytes.now ≡ state_text s → Gives state_view result (Ok s) }
+        ensures only { (s : StateView) → IsState s → bytes.now ≡ state_text s → Gives state_view (λ f. f) result (Ok s) }
         // The state, or the first fault.
-        ensures exact { Gives state_view result (state_of bytes.now) }
+        ensures exact { Gives state_view (λ f. f) result (state_of bytes.now) }
         // Why the bytes are no state's text: by the texts of states.
-        ensures cause { IfErr result (IsCause bytes.now) }
+        ensures cause { IfErr result (λ failure. IfRefused failure (IsCause bytes.now)) }
         // The definition reads exactly the texts of states.
         ensures one_text { OneText }
     {
@@ -45,8 +48,8 @@ impl<A: Allocator + Copy> State<A> {
 }
 
 #[tactic(auto, unfolding(crate::specs::StateReading::state_of))]
-fn state<A: Allocator + Copy>(alloc: A, bytes: &[u8]) -> Result<State<A>, StateFault>
-    ensures { Gives state_view result (state_of bytes.now) }
+fn state<A: Allocator + Copy>(alloc: A, bytes: &[u8]) -> Result<State<A>, Failure<StateFault>>
+    ensures { Gives state_view (λ f. f) result (state_of bytes.now) }
 {
     let (text, rest) = line(bytes)?;
     let version = lines::head(text).ok_or(bad(1))?;
@@ -60,7 +63,7 @@ fn state<A: Allocator + Copy>(alloc: A, bytes: &[u8]) -> Result<State<A>, StateF
 
 /// The fraction bits, which only the second version has a line for, and what stands after that line.
 fn frac(version: Version, bytes: &[u8]) -> Result<(Frac, &[u8]), StateFault>
-    ensures { Gives (λ x. (x.0, x.1.now)) result (frac_at version bytes.now) }
+    ensures { Answers (λ x. (x.0, x.1.now)) (λ f. f) result (frac_at version bytes.now) }
 {
     match version {
         Version::First => Ok((Frac::F32, bytes)),
@@ -80,10 +83,10 @@ fn from_count<A: Allocator + Copy>(
     frac: Frac,
     number: u64,
     bytes: &[u8],
-) -> Result<State<A>, StateFault>
+) -> Result<State<A>, Failure<StateFault>>
     requires title { IsTrue (is_title title.now) }
     requires number { number ≤ 5 }
-    ensures { Gives state_view result (from_count title.now step frac number bytes.now) }
+    ensures { Gives state_view (λ f. f) result (from_count title.now step frac number bytes.now) }
 {
     let (text, rest) = line(bytes)?;
     let count = lines::count(text).ok_or(bad(number))?;
@@ -91,7 +94,7 @@ fn from_count<A: Allocator + Copy>(
     let ring = lines::sides(text).ok_or(bad(number + 1))?;
     let (atoms, rest) = atoms(alloc, number + 2, count, rest)?;
     if !rest.is_empty() {
-        return Err(StateFault::Trailing);
+        return Err(Failure::Refused(StateFault::Trailing));
     }
     let title = Vec::from_slice(alloc, title)?;
     Ok(State {
@@ -105,7 +108,7 @@ fn from_count<A: Allocator + Copy>(
 
 /// A needed line, and what stands after its LF.
 fn line(bytes: &[u8]) -> Result<(&[u8], &[u8]), StateFault>
-    ensures exact { Gives (λ x. (x.0.now, x.1.now)) result (line_at bytes.now) }
+    ensures exact { Answers (λ x. (x.0.now, x.1.now)) (λ f. f) result (line_at bytes.now) }
     ensures whole { IfOk result (λ x. IsTrue (lacks 10 x.0.now)) }
 {
     cut(b'\n', bytes).ok_or(StateFault::Truncated)
@@ -123,10 +126,10 @@ fn atoms<A: Allocator + Copy>(
     first: u64,
     count: u64,
     bytes: &[u8],
-) -> Result<(Vec<Atom, A>, &[u8]), StateFault>
+) -> Result<(Vec<Atom, A>, &[u8]), Failure<StateFault>>
     requires first { first ≤ 7 }
     requires count { count ≤ 65536 }
-    ensures exact { Gives (λ x. (map atom_view x.0.items, x.1.now)) result (atoms_at first count bytes.now) }
+    ensures exact { Gives (λ x. (map atom_view x.0.items, x.1.now)) (λ f. f) result (atoms_at first count bytes.now) }
     ensures len { IfOk result (λ x. length x.0.items ≡ count) }
 {
     let mut atoms = Vec::new(alloc);
@@ -142,7 +145,7 @@ fn atoms<A: Allocator + Copy>(
 /// The atom on the line with this number, and what stands after it.
 #[tactic(auto, unfolding(crate::specs::StateReading::atom_at))]
 fn atom(number: u64, bytes: &[u8]) -> Result<(Atom, &[u8]), StateFault>
-    ensures { Gives (λ x. (atom_view x.0, x.1.now)) result (atom_at number bytes.now) }
+    ensures { Answers (λ x. (atom_view x.0, x.1.now)) (λ f. f) result (atom_at number bytes.now) }
 {
     let (text, rest) = line(bytes)?;
     let atom = lines::atom(text).ok_or(bad(number))?;

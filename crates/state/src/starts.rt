@@ -1,34 +1,36 @@
 //! The state that begins at a frame of a GRO file.
 
 ghost use Rattle.std.specs.Prelude.{◌≡◌, ◌≤◌, map, IfOk};
+ghost use Rattle.fallible.specs.Failures.{Gives};
 ghost use Rattle.gro.specs.Frames as gro;
-ghost use Rattle.state.specs.Starts.{Gives, current_places, previous_places, start_of, started_atom};
+ghost use Rattle.state.specs.Starts.{current_places, previous_places, start_of, started_atom};
 ghost use Rattle.state.specs.StateViews.{atom_view, state_view};
 
-use crate::faults::StartFault;
 use crate::states::{Atom, State};
 use crate::velocities::place_before;
+use fallible::Failure;
 use fixed::Frac;
 use gro::{GroAtom, GroFrame};
 use job::Job;
-use ring_box::{RingBox, place_of_pm};
+use ring_box::{BoxFault, RingBox, place_of_pm};
 use std::alloc::{AllocError, Allocator};
 
 impl<A: Allocator + Copy> State<A> {
+    ghost use Rattle.fallible.specs.Failures.{Gives};
     ghost use Rattle.gro.specs.Frames.{frame_view};
     ghost use Rattle.state.specs.StateViews.{state_view};
-    ghost use Rattle.state.specs.Starts.{BeginsAt, Gives, start_of};
+    ghost use Rattle.state.specs.Starts.{BeginsAt, start_of};
 
     /// The state that begins at a frame: its counter is 0, its fraction bits are the job's, and title, residue numbers, names and sides are the frame's. Each coordinate's current place is the one nearest to its position, and its previous place is as many places before that as its velocity leads in the job's time step.
     ///
-    /// `Box` where the frame's sides are no box's: `NoBox` where all three are 0, else `SideRange` where some side is below 1 or above 16,000,000. `Memory` comes only where a growth was refused.
+    /// It is refused where the frame's sides are no box's: `NoBox` where all three are 0, else `SideRange` where some side is below 1 or above 16,000,000. `Memory`: an allocation was refused.
     pub fn start<J: Allocator, F: Allocator>(
         alloc: A,
         job: &Job<J>,
         frame: &GroFrame<F>,
-    ) -> Result<State<A>, StartFault>
+    ) -> Result<State<A>, Failure<BoxFault>>
         // The state, or the fault of the sides.
-        ensures exact { Gives state_view result (start_of job.now.frac job.now.time_step (frame_view frame.now)) }
+        ensures exact { Gives state_view (λ f. f) result (start_of job.now.frac job.now.time_step (frame_view frame.now)) }
         // Each place is nearest to where the frame, or the velocity one time step before it, has the atom.
         ensures begins { IfOk result (λ s. BeginsAt job.now.frac job.now.time_step (frame_view frame.now) (state_view s)) }
     {
@@ -41,11 +43,11 @@ fn started<A: Allocator + Copy, F: Allocator>(
     frac: Frac,
     time_step: u32,
     frame: &GroFrame<F>,
-) -> Result<State<A>, StartFault>
+) -> Result<State<A>, Failure<BoxFault>>
     requires { time_step ≤ 1000 }
-    ensures { Gives state_view result (start_of frac time_step (gro.frame_view frame.now)) }
+    ensures { Gives state_view (λ f. f) result (start_of frac time_step (gro.frame_view frame.now)) }
 {
-    let ring = RingBox::new(frame.sides)?;
+    let ring = RingBox::new(frame.sides).map_err(Failure::Refused)?;
     let title = Vec::from_slice(alloc, &frame.title)?;
     let atoms = started_atoms(alloc, time_step, &ring, &frame.atoms)?;
     Ok(State {

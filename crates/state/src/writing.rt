@@ -1,7 +1,7 @@
 //! Writing a state.
 
 ghost use Rattle.std.specs.Prelude.{◌≡◌, ◌-◌, ◌^◌, ◌<◌, length, map, IfOk, OnErr};
-ghost use Rattle.gro.specs.Out.{appended, AppendsBeginning};
+ghost use Rattle.fallible.specs.Out.{appended, AppendsBeginning};
 ghost use Rattle.std.specs.List.{AllByRecursion};
 ghost use lib.Signed.{mag};
 ghost use Rattle.line_text.specs.Parts.{AreThree, ended};
@@ -12,14 +12,14 @@ ghost use Rattle.state.specs.Middle.{front, middle};
 use crate::lines::{put_atom, put_bits, put_sides};
 use crate::states::{Atom, State};
 use crate::versions::Version;
+use fallible::{Out, OutFault, write_all};
 use fixed::Frac;
-use gro::{Out, OutFault, write_all};
 use line_text::{Line, put, put_integer, put_word};
 use std::alloc::Allocator;
 
 impl<A: Allocator> State<A> {
     ghost use Rattle.std.specs.Prelude.{◌≡◌, ◌-◌, ◌^◌, ◌<◌, Ok, IfOk, OnErr};
-    ghost use Rattle.gro.specs.Out.{appended, AppendsBeginning};
+    ghost use Rattle.fallible.specs.Out.{appended, AppendsBeginning};
     ghost use Rattle.state.specs.StateText.{IsState, state_text};
     ghost use Rattle.state.specs.StateViews.{state_view};
     ghost use Rattle.state.specs.StateReading.{state_of};

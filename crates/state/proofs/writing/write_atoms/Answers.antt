@@ -1,6 +1,6 @@
 use Rattle.std.proofs.Common.{◌≡◌, ◌<◌, ◌∙◌, List, map, length, get_or, arith}
 use Rattle.std.proofs.lemmas.List.{length-map}
-use Rattle.gro.proofs.Appends.{appended_piece, beginning_at_piece, OnErr_of}
+use Rattle.fallible.proofs.Appends.{appended_piece, beginning_at_piece, OnErr_of}
 use Rattle.line_text.specs.Parts.{ended}
 use Rattle.state.specs.StateText.{AtomView, IsAtom, atom_line}
 use Rattle.state.specs.StateViews.{atom_view}

@@ -1,6 +1,6 @@
 use Rattle.std.proofs.Common.{◌≡◌, map, take}
 use Rattle.std.specs.List.{AllByRecursion}
-use Rattle.gro.specs.Out.{appended}
+use Rattle.fallible.specs.Out.{appended}
 use Rattle.state.specs.StateText.{IsAtom, atom_lines}
 use Rattle.state.specs.StateViews.{atom_view}
 use Rattle.state.proofs.writing.write_atoms.Given as goal

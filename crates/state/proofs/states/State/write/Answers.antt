@@ -1,7 +1,7 @@
 use Rattle.std.proofs.Common.{◌≡◌, List, ℕ, ◌++◌, ◌∙◌, ap, sym, length, arith}
 use Rattle.std.proofs.lemmas.List.{length-map}
 use Rattle.std.proofs.lemmas.Result.{on_ok_weaker, on_err_weaker}
-use Rattle.gro.proofs.Appends.{appended_after, beginning_of_more, beginning_after, beginning_between, OnErr_of}
+use Rattle.fallible.proofs.Appends.{appended_after, beginning_of_more, beginning_after, beginning_between, OnErr_of}
 use Rattle.state.specs.StateText.{StateView, IsState, atom_lines}
 use Rattle.state.specs.StateViews.{atom_view, state_view}
 use Rattle.state.specs.Middle.{front, middle}
