@@ -1,5 +1,5 @@
 -- Laws of calls that can run out of memory.
-use Rattle.std.proofs.Common.{◌≡◌, Result, Ok, Err, IfErr, refl}
+use Rattle.std.proofs.Common.{◌≡◌, Result, Ok, Err, IfErr}
 use Rattle.fallible.specs.Failures.{Fails, Gives, IfRefused}
 use Rattle.fallible.specs.declared.failure.Failure.{Failure}
 use Rattle.fallible.specs.declared.failure.Failure.TheVariants.{Refused, Memory}

@@ -14,7 +14,7 @@ use Rattle.gro.specs.GroFaults.{AreFrames, HasAtoms, HasOtherPrecision, HasPoint
 use Rattle.gro.specs.GroReading.{LineView, and_more, atom_at, atom_in, atoms_at, count_at, count_in, counted, fields_of, frame_at, frames_at, frames_of, from_atoms, from_count, from_title, is_zero, line_at, parted, points_of, rectangular, said, sides_at, sides_in, values_of, whole_of, with_points}
 use Rattle.gro.specs.GroText.{AreAtoms, IsAtomLine, IsCount, IsLine, is_blank}
 use Rattle.gro.specs.declared.faults.GroFault.{GroFault}
-use Rattle.gro.specs.declared.faults.GroFault.TheVariants.{Truncated, BadCount, BadColumns, Precision, BadBox, Triclinic, TooManyAtoms, NoSuchFrame}
+use Rattle.gro.specs.declared.faults.GroFault.TheVariants.{Truncated, BadCount, BadColumns, Precision, BadBox, Triclinic, TooManyAtoms}
 use Rattle.gro.proofs.AtomLaws.{atom_read, atom_written}
 use Rattle.gro.proofs.BoxLaws.{all_zero, values_length, values_read, values_written}
 use Rattle.gro.proofs.CountLaws.{count_written, number_read, whole_written}

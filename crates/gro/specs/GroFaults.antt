@@ -1,10 +1,9 @@
 -- Which fault a text has that stands for no frames: told by its lines and what they say, and not by how they are read.
-use Rattle.std.specs.Prelude.{◌≡◌, ◌≢◌, ◌⊎◌, ◌<◌, ◌≤◌, ◌+◌, ℕ, false, true, List, [], ◌∷◌, ◌++◌, length, drop, replicate, Err, ℤ, pos, IsTrue}
+use Rattle.std.specs.Prelude.{◌≡◌, ◌≢◌, ◌⊎◌, ◌<◌, ◌≤◌, ◌+◌, ℕ, false, true, List, [], ◌∷◌, ◌++◌, length, drop, replicate, ℤ, pos, IsTrue}
 use Rattle.line_text.specs.Parts.{is_printable, lacks}
 use Rattle.line_text.specs.Words.{words}
 use Rattle.line_text.specs.Written.{IsPadded, WritesWhole}
 use Rattle.gro.specs.Frames.{AtomView, FrameView}
-use Rattle.gro.specs.GroReading.{frames_of}
 use Rattle.gro.specs.GroText.{AreAtoms, AreValues, IsAtomLine, IsCount, IsFrame, IsLine, is_blank}
 use Rattle.gro.specs.declared.faults.GroFault.{GroFault}
 use Rattle.gro.specs.declared.faults.GroFault.TheVariants.{Truncated, BadCount, BadColumns, Precision, BadBox, Triclinic, TooManyAtoms}
