@@ -7,7 +7,6 @@ use Rattle.std.proofs.lemmas.Slice.Eq.{bytes_eq-Decides}
 use Rattle.fixed.specs.declared.frac.Frac.{Frac}
 use Rattle.job.specs.declared.faults.Key.{Key}
 use Rattle.job.specs.declared.jobs.Job.{Job}
-use Rattle.job.specs.declared.faults.JobFault.{JobFault}
 use Rattle.job.specs.Values.{Counts, JobValue, GlobalValue, TypeValue}
 use Rattle.job.specs.Statements.{Statement, parameter_is, global_is, type_is, entry_of}
 use Rattle.job.specs.Faults.{Refusal, Said, TypeLine, knows, listed, entry_fault, line_fault, summary}
@@ -118,6 +117,6 @@ names_once most frac lines job h t =
       types = subst (λ (ts : List TypeValue). AreApart (map (λ u. u.name) ts)) t.types (subst AreApart (sym (line_names (summary frac lines).types)) (apart_below most frac (λ s. map (λ u. u.value.name) s.types) type_name (type_names most) [] lines h apart_none));
     }
 
-pub given_apart : {A : Type 0} (most : Counts) (text : List ℕ) (result : Result (Job A) (JobFault A)) → IfOk result (λ job. IsJobText most text (job_value job)) → IfOk result (λ job. HasNamesOnce (job_value job))
+pub given_apart : {A E : Type 0} (most : Counts) (text : List ℕ) (result : Result (Job A) E) → IfOk result (λ job. IsJobText most text (job_value job)) → IfOk result (λ job. HasNamesOnce (job_value job))
 given_apart most text (Err e) h = tt
 given_apart most text (Ok job) h = names_once most job.frac h.lines (job_value job) h.faultless h.tells

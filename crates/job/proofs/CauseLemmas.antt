@@ -1,5 +1,5 @@
 -- The fault that is read of a text has its cause in the text.
-use Rattle.std.proofs.Common.{◌≡◌, ◌≢◌, ℕ, ℤ, int_lt, Bool, true, false, List, [], ◌∷◌, ◌++◌, length, Option, Some, None, Result, Ok, Err, IfErr, IfSome, All, bytes_eq, inl, inr, refl, sym, ap, ◌∙◌, append_assoc, append-nil, eqb, if◌then◌else◌}
+use Rattle.std.proofs.Common.{◌≡◌, ◌≢◌, ℕ, ℤ, int_lt, Bool, true, false, List, [], ◌∷◌, ◌++◌, length, Option, Some, None, Result, Ok, Err, All, bytes_eq, inl, inr, refl, sym, ap, ◌∙◌, append_assoc, append-nil, eqb, if◌then◌else◌}
 use Rattle.std.specs.Option.{unwrap_or}
 use Rattle.std.proofs.lemmas.Bool.{eqb-false, eqb-true}
 use Rattle.std.proofs.lemmas.List.Elements.{All-nil, All-cons}
@@ -9,15 +9,12 @@ use Rattle.line_text.proofs.StepLaws.{Split, split}
 use Rattle.fixed.specs.declared.frac.Frac.{Frac}
 use Rattle.job.specs.Bits.{frac_in}
 use Rattle.job.specs.Faults.{Refusal, Said, TypeLine, bad_line, first_fault, line_fault, missing, or_else, out_of_range, summary}
-use Rattle.job.specs.JobFaults.{FaultsHaveCauses, IsCause, Lacks, no_energy, no_core, no_cutoff, no_time_step, short_cutoff, other_values}
+use Rattle.job.specs.JobFaults.{IsCause, LacksPart, no_energy, no_core, no_cutoff, no_time_step, short_cutoff, other_values}
 use Rattle.job.specs.JobText.{header, job_from, lines_reading, needed, ordered, reading_at, reading_of, unless, whole_types}
 use Rattle.job.specs.Values.{Counts, JobValue, TypeValue}
-use Rattle.job.specs.Views.{Gives, job_value, refusal_of}
 use Rattle.job.specs.Words.{lines_of}
-use Rattle.job.specs.declared.faults.JobFault.{JobFault}
 use Rattle.job.specs.declared.faults.Key.{Key}
 use Rattle.job.specs.declared.faults.Key.TheVariants as keys
-use Rattle.job.specs.declared.jobs.Job.{Job}
 use Rattle.job.proofs.TextLemmas.{below_is, faultless_from, is_below, needed_ok, ordered_ok}
 
 -- ---- the line at fault
@@ -101,7 +98,7 @@ job_of s energy core time_step cutoff types = Ok (record {
   types = types;
 })
 
-job_lacks : (s : Said) (f : Refusal) → job_from s ≡ Err f → Lacks s f
+job_lacks : (s : Said) (f : Refusal) → job_from s ≡ Err f → LacksPart s f
 unfolding job_from
 job_lacks s f e = by_energy (split f (needed keys.Energy s.energy) with_energy e)
   where
@@ -121,35 +118,35 @@ job_lacks s f e = by_energy (split f (needed keys.Energy s.energy) with_energy e
     with_energy energy = needed keys.Core s.core >>= with_core energy
 
     by_types : (energy : List ℕ) (core longest cutoff : ℤ) (step : ℕ) → s.energy ≡ Some energy → s.core ≡ Some core → s.cutoff ≡ Some longest → s.time_step ≡ Some step → int_lt core longest ≡ true
-        → Split {B = JobValue} f (whole_types (length s.parameters) s.types) (job_of s energy core step cutoff) → Lacks s f
+        → Split {B = JobValue} f (whole_types (length s.parameters) s.types) (job_of s energy core step cutoff) → LacksPart s f
     by_types energy core longest cutoff step en co lo st long (inr (types, good, wrong)) = absurd cc
     by_types energy core longest cutoff step en co lo st long (inl bad) =
         let h = whole_err (length s.parameters) s.types f bad in
         other_values (record { core = core; cutoff = longest; energy' = (energy, en); core' = co; cutoff' = lo; time_step' = (step, st); longer = record { lt = below_is (int_lt core longest) long } }) h.0 h.1 h.2 h.3 h.4 h.5 h.6
 
     by_order : (energy : List ℕ) (core longest : ℤ) (step : ℕ) → s.energy ≡ Some energy → s.core ≡ Some core → s.cutoff ≡ Some longest → s.time_step ≡ Some step
-        → Split {B = JobValue} f (ordered core longest) (with_cutoff energy core step) → Lacks s f
+        → Split {B = JobValue} f (ordered core longest) (with_cutoff energy core step) → LacksPart s f
     by_order energy core longest step en co lo st (inl bad) =
         let h = ordered_err core longest f bad in
         short_cutoff core longest (energy, en) co lo (step, st) (λ less. let wrong : false ≡ true = sym h.0 ∙ is_below (int_lt core longest) less.lt in cc) h.1
     by_order energy core longest step en co lo st (inr (cutoff, good, d)) =
         by_types energy core longest cutoff step en co lo st (ordered_ok core longest cutoff good).1 (split f (whole_types (length s.parameters) s.types) (job_of s energy core step cutoff) d)
 
-    by_step : (energy : List ℕ) (core longest : ℤ) → s.energy ≡ Some energy → s.core ≡ Some core → s.cutoff ≡ Some longest → Split {B = JobValue} f (needed keys.TimeStep s.time_step) (with_step energy core longest) → Lacks s f
+    by_step : (energy : List ℕ) (core longest : ℤ) → s.energy ≡ Some energy → s.core ≡ Some core → s.cutoff ≡ Some longest → Split {B = JobValue} f (needed keys.TimeStep s.time_step) (with_step energy core longest) → LacksPart s f
     by_step energy core longest en co lo (inl bad) = let h = needed_err keys.TimeStep s.time_step f bad in no_time_step (energy, en) (core, co) (longest, lo) h.0 h.1
     by_step energy core longest en co lo (inr (step, good, d)) =
         by_order energy core longest step en co lo (needed_ok keys.TimeStep s.time_step step good) (split f (ordered core longest) (with_cutoff energy core step) d)
 
-    by_cutoff : (energy : List ℕ) (core : ℤ) → s.energy ≡ Some energy → s.core ≡ Some core → Split {B = JobValue} f (needed keys.Cutoff s.cutoff) (with_longest energy core) → Lacks s f
+    by_cutoff : (energy : List ℕ) (core : ℤ) → s.energy ≡ Some energy → s.core ≡ Some core → Split {B = JobValue} f (needed keys.Cutoff s.cutoff) (with_longest energy core) → LacksPart s f
     by_cutoff energy core en co (inl bad) = let h = needed_err keys.Cutoff s.cutoff f bad in no_cutoff (energy, en) (core, co) h.0 h.1
     by_cutoff energy core en co (inr (longest, good, d)) =
         by_step energy core longest en co (needed_ok keys.Cutoff s.cutoff longest good) (split f (needed keys.TimeStep s.time_step) (with_step energy core longest) d)
 
-    by_core : (energy : List ℕ) → s.energy ≡ Some energy → Split {B = JobValue} f (needed keys.Core s.core) (with_core energy) → Lacks s f
+    by_core : (energy : List ℕ) → s.energy ≡ Some energy → Split {B = JobValue} f (needed keys.Core s.core) (with_core energy) → LacksPart s f
     by_core energy en (inl bad) = let h = needed_err keys.Core s.core f bad in no_core (energy, en) h.0 h.1
     by_core energy en (inr (core, good, d)) = by_cutoff energy core en (needed_ok keys.Core s.core core good) (split f (needed keys.Cutoff s.cutoff) (with_longest energy core) d)
 
-    by_energy : Split {B = JobValue} f (needed keys.Energy s.energy) with_energy → Lacks s f
+    by_energy : Split {B = JobValue} f (needed keys.Energy s.energy) with_energy → LacksPart s f
     by_energy (inl bad) = let h = needed_err keys.Energy s.energy f bad in no_energy h.0 h.1
     by_energy (inr (energy, good, d)) = by_core energy (needed_ok keys.Energy s.energy energy good) (split f (needed keys.Core s.core) (with_core energy) d)
 
@@ -166,7 +163,8 @@ below_header most text lines f first e = at (first_fault most (frac_in lines) []
     at None is e =
         inr (inr (record { lines = lines; first_line = first; faultless = λ a b l place. faultless_from most (frac_in lines) [] lines is a b l place; lacks = job_lacks (summary (frac_in lines) lines) f e }))
 
-pub faults_have_causes : FaultsHaveCauses
+-- the fault that is read of a text has its cause in the text
+pub faults_have_causes : (most : Counts) (text : List ℕ) (f : Refusal) → reading_of most text ≡ Err f → IsCause most text f
 unfolding reading_of
 faults_have_causes most text f e = at (lines_of text) refl e
   where
@@ -184,12 +182,3 @@ faults_have_causes most text f e = at (lines_of text) refl e
     at : (all : List (List ℕ)) → lines_of text ≡ all → lines_reading most all ≡ Err f → IsCause most text f
     at [] is e = let same : f ≡ bad_line 1 = cc in inl (λ lines headed. (let wrong : [] ≡ header ∷ lines = sym is ∙ headed in cc), same)
     at (line ∷ lines) is e = at_line line lines is (bytes_eq line header) refl e
-
--- the same at what a call answered
-pub given_cause : {A : Type 0} (most : Counts) (text : List ℕ) (r : Result (Job A) (JobFault A)) → Gives job_value r (reading_of most text) → IfErr r (λ f. IfSome (refusal_of f) (IsCause most text))
-given_cause most text (Ok job) h = tt
-given_cause most text (Err f) h = at (refusal_of f) h
-  where
-    at : (o : Option Refusal) → IfSome o (λ g. reading_of most text ≡ Err g) → IfSome o (IsCause most text)
-    at None h = tt
-    at (Some g) h = faults_have_causes most text g h

@@ -1,7 +1,10 @@
 -- What the next line of a key that many lines may have adds.
-use Rattle.std.proofs.Common.{◌≡◌, ℕ, ◌<◌, ◌≤◌, ℤ, true, false, List, [], ◌∷◌, ◌++◌, length, map, Option, Some, None, Result, Ok, Err, IfSome, ok_or, option_map, refl, sym, ap, ◌∙◌, lt-ltb, le-ltb}
+use Rattle.std.proofs.Common.{◌≡◌, ℕ, ◌<◌, ◌≤◌, ℤ, true, false, List, [], ◌∷◌, ◌++◌, length, map, Option, Some, None, Result, Ok, Err, ok_or, option_map, refl, sym, ap, ◌∙◌, lt-ltb, le-ltb}
 use Rattle.std.proofs.lemmas.List.{map-append}
 use Rattle.std.specs.Prelude.{IsErr, IsErrAnd}
+use Rattle.fallible.specs.Failures.{Fails, Gives, IfRefused}
+use Rattle.fallible.specs.declared.failure.Failure.{Failure}
+use Rattle.fallible.specs.declared.failure.Failure.TheVariants.{Refused, Memory}
 use Rattle.job.specs.declared.faults.Key.TheVariants as keys
 use Rattle.line_text.specs.Identifiers.{is_identifier}
 use Rattle.job.specs.Words.{two}
@@ -11,20 +14,18 @@ use Rattle.job.specs.Statements.{well_formed}
 use Rattle.job.specs.Values.{GlobalValue, Counts}
 use Rattle.job.specs.Faults.{Refusal, bad_line, repeated_name, repeated_type, out_of_range, TypeLine, Said, knows}
 use Rattle.job.specs.Forms.{is_type_name}
-use Rattle.job.specs.declared.faults.JobFault.{JobFault}
-use Rattle.job.specs.Views.{refusal_of, Gives}
 use Rattle.job.specs.Drafts.{parameter_new, global_new, global_by, global_into, type_new, type_by, type_into}
 
 -- a refusal of this fault
-pub refused : {X : Type 0} (o : Option Refusal) (fault : Refusal) (r : Result X Refusal) → IfSome o (λ f. f ≡ fault) → r ≡ Err fault → IfSome o (λ f. r ≡ Err f)
-refused None fault r h e = tt
-refused (Some f) fault r h e = e ∙ ap (λ (x : Refusal). Err x) (sym h)
+pub refused : {X R S : Type 0} (seen : R → S) (failure : Failure R) (fault : S) (r : Result X S) → IfRefused failure (λ f. seen f ≡ fault) → r ≡ Err fault → Fails seen failure r
+refused {S = S} seen (Refused f) fault r h e = e ∙ ap (λ (x : S). Err x) (sym h)
+refused seen Memory fault r h e = tt
 
--- a fault that is passed on
-pub passed_on : {X Y A : Type 0} (view : X → Y) (result : Result X (JobFault A)) (e : JobFault A) (r : Result Y Refusal) → IsErr result × IsErrAnd result (λ x. x ≡ e) → IfSome (refusal_of e) (λ f. r ≡ Err f)
-    → Gives view result r
-passed_on view (Ok x) e r p h = absurd p.1
-passed_on view (Err x) e r p h = rw p.1 h
+-- a failure that is passed on
+pub passed_on : {X Y R S : Type 0} (view : X → Y) (seen : R → S) (result : Result X (Failure R)) (failure : Failure R) (r : Result Y S) → IsErr result × IsErrAnd result (λ x. x ≡ failure) → Fails seen failure r
+    → Gives view seen result r
+passed_on view seen (Ok x) failure r p h = absurd p.1
+passed_on view seen (Err x) failure r p h = rw p.1 h
 
 pub pushed : {X Y : Type 0} (view : X → Y) (xs ys : List X) (x : X) (y : Y) → ys ≡ xs ++ x ∷ [] → view x ≡ y → map view ys ≡ map view xs ++ y ∷ []
 pushed view xs ys x y e v = ap (map view) e ∙ map-append view xs (x ∷ []) ∙ ap (λ z. map view xs ++ z ∷ []) v
@@ -60,10 +61,9 @@ by_value : (most : Counts) (n : ℕ) (s : Said) (name : List ℕ) (o : Option (O
 by_value most n s name None v e = absurd cc
 by_value most n s name (Some u) v e = let same : u ≡ v = cc in ap (global_new most s name) same
 
-by_fault : (most : Counts) (n : ℕ) (s : Said) (name : List ℕ) (o : Option (Option ℤ)) (e : Option Refusal) → IfSome e (λ f. ok_or o (bad_line n) ≡ Err f) → IfSome e (λ f. global_by most n s name o ≡ Err f)
-by_fault most n s name o None e = tt
-by_fault most n s name (Some u) (Some f) e = absurd cc
-by_fault most n s name None (Some f) e = let same : bad_line n ≡ f = cc in ap (λ (x : Refusal). Err x) same
+by_fault : (most : Counts) (n : ℕ) (s : Said) (name : List ℕ) (o : Option (Option ℤ)) (f : Refusal) → ok_or o (bad_line n) ≡ Err f → global_by most n s name o ≡ Err f
+by_fault most n s name (Some u) f e = absurd cc
+by_fault most n s name None f e = let same : bad_line n ≡ f = cc in ap (λ (x : Refusal). Err x) same
 
 by_pair : (most : Counts) (n : ℕ) (s : Said) (ws : List (List ℕ)) (name word : List ℕ) (r : Reading ℤ) → two ws ≡ Some (name, word) → is_identifier name ≡ true → r ≡ signed_of s.frac word
     → global_into most n s ws ≡ global_by most n s name (well_formed r)
@@ -82,9 +82,9 @@ pub global_by_value : (most : Counts) (n : ℕ) (s : Said) (ws : List (List ℕ)
 global_by_value most n s ws name word r v e is read ok = by_pair most n s ws name word r e is read ∙ by_value most n s name (well_formed r) v ok
 
 -- a malformed value is a fault
-pub global_malformed : (most : Counts) (n : ℕ) (s : Said) (ws : List (List ℕ)) (name word : List ℕ) (r : Reading ℤ) (o : Option Refusal) → two ws ≡ Some (name, word) → is_identifier name ≡ true
-    → r ≡ signed_of s.frac word → IfSome o (λ f. ok_or (well_formed r) (bad_line n) ≡ Err f) → IfSome o (λ f. global_into most n s ws ≡ Err f)
-global_malformed most n s ws name word r o e is read h = rw (by_pair most n s ws name word r e is read) (by_fault most n s name (well_formed r) o h)
+pub global_malformed : (most : Counts) (n : ℕ) (s : Said) (ws : List (List ℕ)) (name word : List ℕ) (r : Reading ℤ) (f : Refusal) → two ws ≡ Some (name, word) → is_identifier name ≡ true
+    → r ≡ signed_of s.frac word → ok_or (well_formed r) (bad_line n) ≡ Err f → global_into most n s ws ≡ Err f
+global_malformed most n s ws name word r f e is read h = by_pair most n s ws name word r e is read ∙ by_fault most n s name (well_formed r) f h
 
 pub type_known : (most : Counts) (n : ℕ) (s : Said) (name : List ℕ) (v : Option (ℕ × List ℤ)) → knows (map (λ t. t.value.name) s.types) name ≡ true → type_new most n s name v ≡ Err (repeated_type name)
 unfolding type_new
@@ -114,12 +114,11 @@ by_numbers view most n s name (Ok x) v e = let same : Some x ≡ v = cc in ap (�
 by_numbers {X = X} view most n s name (Err NumberRange) v e = let same : ◌≡◌ {A = Option X} None v = cc in ap (λ u. type_new most n s name (option_map view u)) same
 by_numbers view most n s name (Err BadNumber) v e = absurd cc
 
-malformed : {X : Type 0} (view : X → ℕ × List ℤ) (most : Counts) (n : ℕ) (s : Said) (name : List ℕ) (r : Reading X) (o : Option Refusal) → IfSome o (λ f. ok_or (well_formed r) (bad_line n) ≡ Err f)
-    → IfSome o (λ f. type_by most n s name (well_formed (mapped view r)) ≡ Err f)
-malformed view most n s name r None e = tt
-malformed view most n s name (Ok x) (Some f) e = absurd cc
-malformed view most n s name (Err NumberRange) (Some f) e = absurd cc
-malformed view most n s name (Err BadNumber) (Some f) e = let same : bad_line n ≡ f = cc in ap (λ (x : Refusal). Err x) same
+malformed : {X : Type 0} (view : X → ℕ × List ℤ) (most : Counts) (n : ℕ) (s : Said) (name : List ℕ) (r : Reading X) (f : Refusal) → ok_or (well_formed r) (bad_line n) ≡ Err f
+    → type_by most n s name (well_formed (mapped view r)) ≡ Err f
+malformed view most n s name (Ok x) f e = absurd cc
+malformed view most n s name (Err NumberRange) f e = absurd cc
+malformed view most n s name (Err BadNumber) f e = let same : bad_line n ≡ f = cc in ap (λ (x : Refusal). Err x) same
 
 -- numbers that are well formed have a new type, or not
 pub type_by_numbers : {X : Type 0} (view : X → ℕ × List ℤ) (most : Counts) (n : ℕ) (s : Said) (ws rest values : List (List ℕ)) (name mass : List ℕ) (r : Reading X) (v : Option X) → ws ≡ name ∷ rest
@@ -128,8 +127,8 @@ pub type_by_numbers : {X : Type 0} (view : X → ℕ × List ℤ) (most : Counts
 type_by_numbers view most n s ws rest values name mass r v first second is read ok = by_words most n s ws rest values name mass (mapped view r) first second is read ∙ by_numbers view most n s name r v ok
 
 -- malformed numbers are a fault
-pub type_malformed : {X : Type 0} (view : X → ℕ × List ℤ) (most : Counts) (n : ℕ) (s : Said) (ws rest values : List (List ℕ)) (name mass : List ℕ) (r : Reading X) (o : Option Refusal) → ws ≡ name ∷ rest
-    → rest ≡ mass ∷ values → is_type_name name ≡ true → mapped view r ≡ both (mass_of mass) (values_of s.frac values) → IfSome o (λ f. ok_or (well_formed r) (bad_line n) ≡ Err f)
-    → IfSome o (λ f. type_into most n s ws ≡ Err f)
-type_malformed view most n s ws rest values name mass r o first second is read e =
-    rw (by_words most n s ws rest values name mass (mapped view r) first second is read) (malformed view most n s name r o e)
+pub type_malformed : {X : Type 0} (view : X → ℕ × List ℤ) (most : Counts) (n : ℕ) (s : Said) (ws rest values : List (List ℕ)) (name mass : List ℕ) (r : Reading X) (f : Refusal) → ws ≡ name ∷ rest
+    → rest ≡ mass ∷ values → is_type_name name ≡ true → mapped view r ≡ both (mass_of mass) (values_of s.frac values) → ok_or (well_formed r) (bad_line n) ≡ Err f
+    → type_into most n s ws ≡ Err f
+type_malformed view most n s ws rest values name mass r f first second is read e =
+    by_words most n s ws rest values name mass (mapped view r) first second is read ∙ malformed view most n s name r f e

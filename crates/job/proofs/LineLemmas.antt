@@ -1,6 +1,9 @@
 -- Lines, one after another.
-use Rattle.std.proofs.Common.{◌≡◌, ◌==◌, refl, ℕ, ◌+◌, List, [], ◌∷◌, length, Option, Some, None, Result, Ok, Err, IfSome, ◌<◌, ◌≤◌, option_map, arith, sym, ap, ◌∙◌}
+use Rattle.std.proofs.Common.{◌≡◌, ◌==◌, refl, ℕ, ◌+◌, List, [], ◌∷◌, length, Option, Some, None, Result, Ok, IfSome, ◌<◌, ◌≤◌, option_map, arith, sym, ap, ◌∙◌}
 use Rattle.std.specs.List.{slice_split}
+use Rattle.fallible.specs.Failures.{Fails}
+use Rattle.fallible.specs.declared.failure.Failure.{Failure}
+use Rattle.fallible.proofs.FailureLaws.{fails_as}
 use Rattle.line_text.specs.Parts.{cut_at}
 use Rattle.line_text.proofs.LineLaws.{cut_none}
 use Rattle.line_text.proofs.SplitLaws.{split_cut, split_uncut, split_some}
@@ -36,11 +39,11 @@ pub lines_step : (most : Counts) (n : ℕ) (s t : Said) (line : List ℕ) (lines
 unfolding lines_into
 lines_step most n s t line lines all total a e h = sym (ap (lines_into most n s) a ∙ ap (λ r. r >>= λ u. lines_into most (n + 1) u lines) e) ∙ h
 
-pub lines_fault : (most : Counts) (n : ℕ) (s : Said) (line : List ℕ) (lines all : List (List ℕ)) (total : Result Said Refusal) (fault : Option Refusal) → all ≡ line ∷ lines
-    → IfSome fault (λ f. line_into most n s line ≡ Err f) → lines_into most n s all ≡ total → IfSome fault (λ f. total ≡ Err f)
+pub lines_fault : {R : Type 0} (seen : R → Refusal) (failure : Failure R) (most : Counts) (n : ℕ) (s : Said) (line : List ℕ) (lines all : List (List ℕ)) (total : Result Said Refusal) → all ≡ line ∷ lines
+    → Fails seen failure (line_into most n s line) → lines_into most n s all ≡ total → Fails seen failure total
 unfolding lines_into
-lines_fault most n s line lines all total None a e h = tt
-lines_fault most n s line lines all total (Some f) a e h = sym h ∙ ap (lines_into most n s) a ∙ ap (λ r. r >>= λ u. lines_into most (n + 1) u lines) e
+lines_fault seen failure most n s line lines all total a e h =
+    fails_as seen failure (line_into most n s line) total (λ fault f. sym h ∙ ap (lines_into most n s) a ∙ ap (λ r. r >>= λ u. lines_into most (n + 1) u lines) f) e
 
 pub lines_end : (most : Counts) (n : ℕ) (s : Said) (total : Result Said Refusal) → lines_into most n s [] ≡ total → total ≡ Ok s
 unfolding lines_into

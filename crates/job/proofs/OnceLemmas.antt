@@ -4,7 +4,6 @@ use Rattle.fixed.specs.declared.frac.Frac.{Frac}
 use Rattle.job.specs.declared.faults.Key.{Key}
 use Rattle.job.specs.declared.faults.Key.TheVariants as keys
 use Rattle.job.specs.declared.jobs.Job.{Job}
-use Rattle.job.specs.declared.faults.JobFault.{JobFault}
 use Rattle.job.specs.Words.{lines_of}
 use Rattle.job.specs.Views.{job_value}
 use Rattle.job.specs.Values.{Counts, JobValue}
@@ -107,7 +106,7 @@ keys_once most frac lines job h t =
       bits = at_most_once most frac bits_in (bits_once most frac) [] lines h (omega arith);
     }
 
-pub given_once : {A : Type 0} (most : Counts) (text : List ℕ) (result : Result (Job A) (JobFault A)) → IfOk result (λ job. IsJobText most text (job_value job))
+pub given_once : {A E : Type 0} (most : Counts) (text : List ℕ) (result : Result (Job A) E) → IfOk result (λ job. IsJobText most text (job_value job))
     → IfOk result (λ job. HasKeysOnce job.frac (below_first (lines_of text)))
 given_once most text (Err e) h = tt
 given_once most text (Ok job) h = subst (HasKeysOnce job.frac) (sym (ap below_first h.first_line)) (keys_once most job.frac h.lines (job_value job) h.faultless h.tells)

@@ -1,8 +1,11 @@
 -- What is read from a text is its job, and a text of a job is read as that job.
-use Rattle.std.proofs.Common.{◌≡◌, ℕ, ℤ, int_lt, Bool, true, false, T, List, [], ◌∷◌, ◌++◌, length, map, Option, Some, None, Result, Ok, Err, IfOk, IfSome, IsNone, All, bytes_eq, refl, sym, ap, subst, ◌∙◌, append_assoc, append-nil, eqb, eq-eqb, eqb-true, if◌then◌else◌}
+use Rattle.std.proofs.Common.{◌≡◌, ℕ, ℤ, int_lt, Bool, true, false, T, List, [], ◌∷◌, ◌++◌, length, map, Option, Some, None, Result, Ok, Err, IfOk, All, bytes_eq, refl, sym, ap, subst, ◌∙◌, append_assoc, append-nil, eqb, eq-eqb, eqb-true, if◌then◌else◌}
 use Rattle.std.specs.Option.{unwrap_or}
 use Rattle.std.proofs.lemmas.List.Elements.{All-nil, All-cons, All-head, All-tail}
 use Rattle.std.proofs.lemmas.Slice.Eq.{bytes_eq-Decides}
+use Rattle.fallible.specs.Failures.{Gives, IsOrMemory}
+use Rattle.fallible.specs.declared.failure.Failure.{Failure}
+use Rattle.fallible.specs.declared.failure.Failure.TheVariants.{Refused, Memory}
 use Rattle.fixed.specs.declared.frac.Frac.{Frac}
 use Rattle.fixed.specs.declared.frac.Frac.TheVariants.{F32}
 use Rattle.job.specs.declared.faults.Key.{Key}
@@ -16,7 +19,7 @@ use Rattle.job.specs.JobText.{header, IsFaultless, IsJobText, Tells, needed, ord
 use Rattle.job.specs.Values.{TypeValue, JobValue, Counts}
 use Rattle.job.specs.declared.jobs.Job.{Job}
 use Rattle.job.specs.declared.faults.JobFault.{JobFault}
-use Rattle.job.specs.Views.{job_value, refusal_of, Gives, AnswersJob}
+use Rattle.job.specs.Views.{job_value, refusal_of}
 use Rattle.job.specs.Drafts.{nothing, lines_into, lines_job}
 use Rattle.job.proofs.FaultLemmas.{outcome, lines_below}
 use Rattle.job.proofs.BitsLemmas.{frac_said}
@@ -210,19 +213,18 @@ pub lines_job_from : (most : Counts) (all lines : List (List ℕ)) (line : List 
     → lines_into most 2 (nothing frac) lines ≡ Ok s → lines_job most all ≡ job_from s
 lines_job_from most all lines line frac s e h f l = rw (e, h, ← f, l) refl
 
-pub given : {A : Type 0} (most : Counts) (text : List ℕ) (result : Result (Job A) (JobFault A)) → Gives job_value result (lines_job most (lines_of text)) → Gives job_value result (reading_of most text)
+pub given : {A : Type 0} (most : Counts) (text : List ℕ) (result : Result (Job A) (Failure (JobFault A))) → Gives job_value refusal_of result (lines_job most (lines_of text))
+    → Gives job_value refusal_of result (reading_of most text)
 unfolding reading_of
-given {A = A} most text result h = subst (λ (r : Result JobValue Refusal). Gives (job_value {A = A}) result r) (lines_job_is most (lines_of text)) h
+given {A = A} most text result h = subst (λ (r : Result JobValue Refusal). Gives (job_value {A = A}) (refusal_of {A = A}) result r) (lines_job_is most (lines_of text)) h
 
-pub given_job : {A : Type 0} (most : Counts) (text : List ℕ) (result : Result (Job A) (JobFault A)) → Gives job_value result (reading_of most text) → IfOk result (λ job. IsJobText most text (job_value job))
+pub given_job : {A : Type 0} (most : Counts) (text : List ℕ) (result : Result (Job A) (Failure (JobFault A))) → Gives job_value refusal_of result (reading_of most text)
+    → IfOk result (λ job. IsJobText most text (job_value job))
 given_job most text (Ok job) h = reading_ok most text (job_value job) h
 given_job most text (Err e) h = tt
 
-pub given_only : {A : Type 0} (most : Counts) (text : List ℕ) (result : Result (Job A) (JobFault A)) → Gives job_value result (reading_of most text)
-    → (job : JobValue) → IsJobText most text job → AnswersJob result job
+pub given_only : {A : Type 0} (most : Counts) (text : List ℕ) (result : Result (Job A) (Failure (JobFault A))) → Gives job_value refusal_of result (reading_of most text)
+    → (job : JobValue) → IsJobText most text job → IsOrMemory (λ j. job_value j ≡ job) result
 given_only most text (Ok j) h job r = let a = reading_again most text job r in cc
-given_only {A = A} most text (Err e) h job r = at (refusal_of e) (reading_again most text job r) h
-  where
-    at : (o : Option Refusal) → reading_of most text ≡ Ok job → IfSome o (λ fault. reading_of most text ≡ Err fault) → IsNone o
-    at None a g = refl
-    at (Some f) a g = absurd cc
+given_only most text (Err (Refused f)) h job r = let a = reading_again most text job r in absurd cc
+given_only most text (Err Memory) h job r = refl

@@ -1,8 +1,8 @@
 -- Why a text is no job's: told by the line at fault and the lines above it, or by what all lines together lack.
-use Rattle.std.specs.Prelude.{◌≡◌, ◌≢◌, ◌⊎◌, ℕ, ℤ, List, ◌∷◌, ◌++◌, length, Option, Some, None, Err, ◌<ℤ◌, All}
+use Rattle.std.specs.Prelude.{◌≡◌, ◌≢◌, ◌⊎◌, ℕ, ℤ, List, ◌∷◌, ◌++◌, length, Option, Some, None, ◌<ℤ◌, All}
 use Rattle.job.specs.Bits.{frac_in}
 use Rattle.job.specs.Faults.{Refusal, Said, TypeLine, bad_line, line_fault, missing, out_of_range, summary}
-use Rattle.job.specs.JobText.{IsFaultless, header, reading_of}
+use Rattle.job.specs.JobText.{IsFaultless, header}
 use Rattle.job.specs.Values.{Counts}
 use Rattle.job.specs.Words.{lines_of}
 use Rattle.job.specs.declared.faults.Key.TheVariants as keys
@@ -21,14 +21,14 @@ pub record HasKeys (s : Said) : Type 0 where
   pub longer : core <ℤ cutoff
 
 -- what lines lack that are each without a fault: the first of these keys, a cutoff that is long enough, or the first type with so many values as there are parameters
-pub data Lacks (s : Said) (f : Refusal) : Type 0 where
-  no_energy : s.energy ≡ None → f ≡ missing keys.Energy → Lacks s f
-  no_core : IsThere s.energy → s.core ≡ None → f ≡ missing keys.Core → Lacks s f
-  no_cutoff : IsThere s.energy → IsThere s.core → s.cutoff ≡ None → f ≡ missing keys.Cutoff → Lacks s f
-  no_time_step : IsThere s.energy → IsThere s.core → IsThere s.cutoff → s.time_step ≡ None → f ≡ missing keys.TimeStep → Lacks s f
-  short_cutoff : (core cutoff : ℤ) → IsThere s.energy → s.core ≡ Some core → s.cutoff ≡ Some cutoff → IsThere s.time_step → (core <ℤ cutoff → ⊥) → f ≡ out_of_range keys.Cutoff → Lacks s f
+pub data LacksPart (s : Said) (f : Refusal) : Type 0 where
+  no_energy : s.energy ≡ None → f ≡ missing keys.Energy → LacksPart s f
+  no_core : IsThere s.energy → s.core ≡ None → f ≡ missing keys.Core → LacksPart s f
+  no_cutoff : IsThere s.energy → IsThere s.core → s.cutoff ≡ None → f ≡ missing keys.Cutoff → LacksPart s f
+  no_time_step : IsThere s.energy → IsThere s.core → IsThere s.cutoff → s.time_step ≡ None → f ≡ missing keys.TimeStep → LacksPart s f
+  short_cutoff : (core cutoff : ℤ) → IsThere s.energy → s.core ≡ Some core → s.cutoff ≡ Some cutoff → IsThere s.time_step → (core <ℤ cutoff → ⊥) → f ≡ out_of_range keys.Cutoff → LacksPart s f
   other_values : HasKeys s → (before after : List TypeLine) (t : TypeLine) → s.types ≡ before ++ t ∷ after → All (λ u. length u.value.values ≡ length s.parameters) before
-      → length t.value.values ≢ length s.parameters → f ≡ bad_line t.line → Lacks s f
+      → length t.value.values ≢ length s.parameters → f ≡ bad_line t.line → LacksPart s f
 
 -- the lines above this one are without a fault, and this one has it
 pub record IsLineFault (most : Counts) (text : List ℕ) (f : Refusal) : Type 0 where
@@ -46,7 +46,7 @@ pub record IsLack (most : Counts) (text : List ℕ) (f : Refusal) : Type 0 where
   pub lines : List (List ℕ)
   pub first_line : lines_of text ≡ header ∷ lines
   pub faultless : IsFaultless most (frac_in lines) lines
-  pub lacks : Lacks (summary (frac_in lines) lines) f
+  pub lacks : LacksPart (summary (frac_in lines) lines) f
 
 -- the first line is not that of a job
 abbrev pub HasNoHeader : List ℕ → Refusal → Type 0
@@ -54,7 +54,3 @@ HasNoHeader text f = ((lines : List (List ℕ)) → lines_of text ≡ header ∷
 
 abbrev pub IsCause : Counts → List ℕ → Refusal → Type 0
 IsCause most text f = HasNoHeader text f ⊎ IsLineFault most text f ⊎ IsLack most text f
-
--- the fault that is read of a text has its cause in the text
-abbrev pub FaultsHaveCauses : Type 0
-FaultsHaveCauses = (most : Counts) (text : List ℕ) (f : Refusal) → reading_of most text ≡ Err f → IsCause most text f

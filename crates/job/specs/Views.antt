@@ -1,5 +1,5 @@
 -- The code's values as plain ones.
-use Rattle.std.specs.Prelude.{◌≡◌, ℕ, ℤ, List, map, Option, Some, None, Result, Ok, Err, IfSome, IsNone, string_bytes}
+use Rattle.std.specs.Prelude.{ℕ, ℤ, List, map, string_bytes}
 use Rattle.std.specs.Option.{option_map}
 use Rattle.line_text.specs.Names.{name_text}
 use Rattle.job.specs.declared.faults.JobFault.{JobFault}
@@ -52,22 +52,11 @@ said_of d = record {
   bits = d.bits;
 }
 
--- want of memory is no refusal of the text
-abbrev pub refusal_of : {A : Type 0} → JobFault A → Option plain.Refusal
-refusal_of (faults.BadLine n) = Some (plain.bad_line n)
-refusal_of (faults.Missing key) = Some (plain.missing key)
-refusal_of (faults.Repeated key) = Some (plain.repeated key)
-refusal_of (faults.RepeatedName name) = Some (plain.repeated_name (string_bytes name))
-refusal_of (faults.Range key) = Some (plain.out_of_range key)
-refusal_of (faults.RepeatedType name) = Some (plain.repeated_type (string_bytes name))
-refusal_of faults.Memory = None
-
--- the result is this reading, unless memory was wanted
-abbrev pub Gives : {X Y A : Type 0} → (X → Y) → Result X (JobFault A) → Result Y plain.Refusal → Type 0
-Gives view (Ok x) reading = reading ≡ Ok (view x)
-Gives view (Err e) reading = IfSome (refusal_of e) (λ fault. reading ≡ Err fault)
-
--- the answer is this job, unless memory was wanted
-abbrev pub AnswersJob : {A : Type 0} → Result (Job A) (JobFault A) → JobValue → Type 0
-AnswersJob (Ok j) job = job_value j ≡ job
-AnswersJob (Err e) job = IsNone (refusal_of e)
+-- what the text is refused for
+abbrev pub refusal_of : {A : Type 0} → JobFault A → plain.Refusal
+refusal_of (faults.BadLine n) = plain.bad_line n
+refusal_of (faults.Missing key) = plain.missing key
+refusal_of (faults.Repeated key) = plain.repeated key
+refusal_of (faults.RepeatedName name) = plain.repeated_name (string_bytes name)
+refusal_of (faults.Range key) = plain.out_of_range key
+refusal_of (faults.RepeatedType name) = plain.repeated_type (string_bytes name)

@@ -1,9 +1,10 @@
 //! Why a text is no job.
 
 ghost use Rattle.std.specs.Prelude.{◌≡◌};
-ghost use Rattle.job.specs.declared.faults.JobFault.TheVariants.{Memory};
+ghost use Rattle.fallible.specs.declared.failure.Failure.TheVariants.{Refused};
 
-use std::alloc::{AllocError, AllocFailed, Allocator};
+use fallible::Failure;
+use std::alloc::Allocator;
 use std::fmt;
 use thiserror::Error;
 
@@ -71,23 +72,12 @@ pub enum JobFault<A: Allocator> {
     /// A second `type` line has this name.
     #[error("J5 RepeatedType {name}")]
     RepeatedType { name: String<A> },
-    /// A growth was refused.
-    #[error("Memory")]
-    Memory,
 }
 
-impl<A: Allocator> From<AllocError> for JobFault<A> {
-    ghost from_gives = { λ _ e. e ≡ Memory };
+impl<A: Allocator> From<JobFault<A>> for Failure<JobFault<A>> {
+    ghost from_gives = { λ fault e. e ≡ Refused fault };
 
-    fn from(_e: AllocError) -> JobFault<A> {
-        JobFault::Memory
-    }
-}
-
-impl<T: Drop, A: Allocator> From<AllocFailed<T>> for JobFault<A> {
-    ghost from_gives = { λ _ e. e ≡ Memory };
-
-    fn from(_e: AllocFailed<T>) -> JobFault<A> {
-        JobFault::Memory
+    fn from(fault: JobFault<A>) -> Failure<JobFault<A>> {
+        Failure::Refused(fault)
     }
 }

@@ -1,7 +1,8 @@
 //! What one line adds to what the lines above it have said.
 
-ghost use Rattle.std.specs.Prelude.{◌≡◌, ◌≤◌, ◌≤ℤ◌, ◌*◌, ◌^◌, pos, map, true, length, option_map, IfOk, IfSome, IsTrue, IsAscii, string_bytes, bytes_eq, ok_or};
+ghost use Rattle.std.specs.Prelude.{◌≡◌, ◌≤◌, ◌≤ℤ◌, ◌*◌, ◌^◌, pos, map, true, length, option_map, IfOk, IsTrue, IsAscii, string_bytes, bytes_eq, ok_or};
 ghost use Rattle.std.specs.List.{list_any};
+ghost use Rattle.fallible.specs.Failures.{Answers, Gives, IfRefused};
 ghost use Rattle.fixed.specs.Fractions.{bits_of};
 ghost use Rattle.line_text.specs.Names.{name_text};
 ghost use Rattle.line_text.specs.Identifiers.{is_identifier};
@@ -12,7 +13,7 @@ ghost use Rattle.job.specs.Statements.{well_formed};
 ghost use Rattle.job.specs.Faults.{bad_line, repeated_name, repeated_type, knows};
 ghost use Rattle.job.specs.Drafts.{number_of, energy_into, core_into, cutoff_into, time_step_into, slices_into, bits_into, parameter_new, parameter_into, global_add, global_new, global_by, global_into, type_add, type_new, type_into, key_into, words_into, line_into};
 ghost use Rattle.job.specs.JobText.{limits};
-ghost use Rattle.job.specs.Views.{said_of, global_value, type_line, refusal_of, type_numbers_of, Gives};
+ghost use Rattle.job.specs.Views.{said_of, global_value, type_line, refusal_of, type_numbers_of};
 
 use crate::bits::bits_in;
 use crate::drafts::{Draft, TypeLine, TypeNumbers};
@@ -21,6 +22,7 @@ use crate::forms::{is_type_name, key_of};
 use crate::jobs::{AtomType, Global};
 use crate::numbers::{cutoff, mass, numeral, signed_numeral, values, whole};
 use crate::words::{only_word, two_words};
+use fallible::Failure;
 use fixed::{Frac, Fx, NumFault};
 use line_text::{Name, is_identifier, next_word, skip_blanks};
 use std::alloc::{AllocError, Allocator};
@@ -61,7 +63,7 @@ fn number_of<T: Copy, A: Allocator>(
     old: Option<T>,
     reading: Result<T, NumFault>,
 ) -> Result<T, JobFault<A>>
-    ensures value { Gives (λ x. x) result (number_of number key old reading) }
+    ensures value { Answers (λ x. x) refusal_of result (number_of number key old reading) }
     ensures reading { IfOk result (λ x. reading ≡ Ok x) }
 {
     match (reading, old) {
@@ -77,15 +79,15 @@ fn take_energy<A: Allocator>(
     mut draft: Draft<A>,
     number: u64,
     text: &[u8],
-) -> Result<Draft<A>, JobFault<A>>
-    ensures { Gives said_of result (energy_into number (said_of draft) (without_blanks text.now)) }
+) -> Result<Draft<A>, Failure<JobFault<A>>>
+    ensures { Gives said_of refusal_of result (energy_into number (said_of draft) (without_blanks text.now)) }
 {
     let text = skip_blanks(text);
     if text.is_empty() {
-        return Err(JobFault::BadLine { line: number });
+        return Err(Failure::Refused(JobFault::BadLine { line: number }));
     }
     if draft.energy.is_some() {
-        return Err(JobFault::Repeated { key: Key::Energy });
+        return Err(Failure::Refused(JobFault::Repeated { key: Key::Energy }));
     }
     draft.energy = Some(Vec::from_slice(alloc, text)?);
     Ok(draft)
@@ -96,7 +98,7 @@ fn take_core<A: Allocator>(
     number: u64,
     text: &[u8],
 ) -> Result<Draft<A>, JobFault<A>>
-    ensures { Gives said_of result (core_into number (said_of draft) (alone (numeral_of draft.frac) (words text.now))) }
+    ensures { Answers said_of refusal_of result (core_into number (said_of draft) (alone (numeral_of draft.frac) (words text.now))) }
 {
     let value = number_of(number, Key::Core, draft.core, core_in(draft.frac, text))?;
     draft.core = Some(value);
@@ -108,7 +110,7 @@ fn take_cutoff<A: Allocator>(
     number: u64,
     text: &[u8],
 ) -> Result<Draft<A>, JobFault<A>>
-    ensures { Gives said_of result (cutoff_into number (said_of draft) (alone (cutoff_of draft.frac) (words text.now))) }
+    ensures { Answers said_of refusal_of result (cutoff_into number (said_of draft) (alone (cutoff_of draft.frac) (words text.now))) }
 {
     let value = number_of(
         number,
@@ -125,7 +127,7 @@ fn take_time_step<A: Allocator>(
     number: u64,
     text: &[u8],
 ) -> Result<Draft<A>, JobFault<A>>
-    ensures { Gives said_of result (time_step_into number (said_of draft) (alone (whole_of 1 1000) (words text.now))) }
+    ensures { Answers said_of refusal_of result (time_step_into number (said_of draft) (alone (whole_of 1 1000) (words text.now))) }
 {
     let value = number_of(number, Key::TimeStep, draft.time_step, whole_in(1000, text))?;
     draft.time_step = Some(value);
@@ -137,7 +139,7 @@ fn take_slices<A: Allocator>(
     number: u64,
     text: &[u8],
 ) -> Result<Draft<A>, JobFault<A>>
-    ensures { Gives said_of result (slices_into number (said_of draft) (alone (whole_of 1 65536) (words text.now))) }
+    ensures { Answers said_of refusal_of result (slices_into number (said_of draft) (alone (whole_of 1 65536) (words text.now))) }
 {
     let value = number_of(number, Key::Slices, draft.slices, whole_in(65536, text))?;
     draft.slices = Some(value);
@@ -149,7 +151,7 @@ fn take_bits<A: Allocator>(
     number: u64,
     text: &[u8],
 ) -> Result<Draft<A>, JobFault<A>>
-    ensures { Gives said_of result (bits_into number (said_of draft) (alone frac_of (words text.now))) }
+    ensures { Answers said_of refusal_of result (bits_into number (said_of draft) (alone frac_of (words text.now))) }
 {
     let value = number_of(number, Key::Bits, draft.bits, bits_in(text))?;
     draft.bits = Some(value);
@@ -167,24 +169,24 @@ fn text_of<A: Allocator>(alloc: A, name: &[u8]) -> Result<String<A>, AllocError>
 }
 
 #[tactic(auto, using(line_text::proofs::IdentifierLaws::ascii_identifier))]
-fn repeated_name<A: Allocator>(alloc: A, name: &[u8]) -> JobFault<A>
+fn repeated_name<A: Allocator>(alloc: A, name: &[u8]) -> Failure<JobFault<A>>
     requires { is_identifier name.now ≡ true }
-    ensures { IfSome (refusal_of result) (λ f. f ≡ repeated_name name.now) }
+    ensures { IfRefused result (λ fault. refusal_of fault ≡ repeated_name name.now) }
 {
     match text_of(alloc, name) {
-        Ok(name) => JobFault::RepeatedName { name },
-        Err(_) => JobFault::Memory,
+        Ok(name) => Failure::Refused(JobFault::RepeatedName { name }),
+        Err(_) => Failure::Memory,
     }
 }
 
 #[tactic(auto, using(crate::proofs::FormLemmas::ascii_type_name))]
-fn repeated_type<A: Allocator>(alloc: A, name: &[u8]) -> JobFault<A>
+fn repeated_type<A: Allocator>(alloc: A, name: &[u8]) -> Failure<JobFault<A>>
     requires { is_type_name name.now ≡ true }
-    ensures { IfSome (refusal_of result) (λ f. f ≡ repeated_type name.now) }
+    ensures { IfRefused result (λ fault. refusal_of fault ≡ repeated_type name.now) }
 {
     match text_of(alloc, name) {
-        Ok(name) => JobFault::RepeatedType { name },
-        Err(_) => JobFault::Memory,
+        Ok(name) => Failure::Refused(JobFault::RepeatedType { name }),
+        Err(_) => Failure::Memory,
     }
 }
 
@@ -210,17 +212,17 @@ fn add_parameter<A: Allocator + Copy>(
     alloc: A,
     mut draft: Draft<A>,
     name: &[u8],
-) -> Result<Draft<A>, JobFault<A>>
+) -> Result<Draft<A>, Failure<JobFault<A>>>
     requires { is_identifier name.now ≡ true }
-    ensures { Gives said_of result (parameter_new limits (said_of draft) name.now) }
+    ensures { Gives said_of refusal_of result (parameter_new limits (said_of draft) name.now) }
 {
     if knows_parameter(draft.parameters.as_slice(), name) {
         return Err(repeated_name(alloc, name));
     }
     if draft.parameters.as_slice().len() >= MAX_PARAMETERS {
-        return Err(JobFault::Range {
+        return Err(Failure::Refused(JobFault::Range {
             key: Key::Parameter,
-        });
+        }));
     }
     let name = Vec::from_slice(alloc, name)?;
     draft.parameters.push(name)?;
@@ -232,12 +234,12 @@ fn take_parameter<A: Allocator + Copy>(
     draft: Draft<A>,
     number: u64,
     text: &[u8],
-) -> Result<Draft<A>, JobFault<A>>
-    ensures { Gives said_of result (parameter_into limits number (said_of draft) (only (words text.now))) }
+) -> Result<Draft<A>, Failure<JobFault<A>>>
+    ensures { Gives said_of refusal_of result (parameter_into limits number (said_of draft) (only (words text.now))) }
 {
     match only_word(text) {
         Ok(name) if is_identifier(name) => add_parameter(alloc, draft, name),
-        _ => Err(JobFault::BadLine { line: number }),
+        _ => Err(Failure::Refused(JobFault::BadLine { line: number })),
     }
 }
 
@@ -246,18 +248,18 @@ fn add_global<A: Allocator + Copy>(
     mut draft: Draft<A>,
     name: &[u8],
     value: Option<Fx>,
-) -> Result<Draft<A>, JobFault<A>>
+) -> Result<Draft<A>, Failure<JobFault<A>>>
     requires { is_identifier name.now ≡ true }
-    ensures { Gives said_of result (global_new limits (said_of draft) name.now value) }
+    ensures { Gives said_of refusal_of result (global_new limits (said_of draft) name.now value) }
 {
     if knows_global(draft.globals.as_slice(), name) {
         return Err(repeated_name(alloc, name));
     }
     let Some(value) = value else {
-        return Err(JobFault::Range { key: Key::Global });
+        return Err(Failure::Refused(JobFault::Range { key: Key::Global }));
     };
     if draft.globals.as_slice().len() >= MAX_GLOBALS {
-        return Err(JobFault::Range { key: Key::Global });
+        return Err(Failure::Refused(JobFault::Range { key: Key::Global }));
     }
     let name = Vec::from_slice(alloc, name)?;
     draft.globals.push(Global { name, value })?;
@@ -269,7 +271,7 @@ fn well_formed<T, A: Allocator>(
     number: u64,
     reading: Result<T, NumFault>,
 ) -> Result<Option<T>, JobFault<A>>
-    ensures { Gives (λ x. x) result (ok_or (well_formed reading) (bad_line number)) }
+    ensures { Answers (λ x. x) refusal_of result (ok_or (well_formed reading) (bad_line number)) }
 {
     match reading {
         Ok(value) => Ok(Some(value)),
@@ -283,15 +285,15 @@ fn take_global<A: Allocator + Copy>(
     draft: Draft<A>,
     number: u64,
     text: &[u8],
-) -> Result<Draft<A>, JobFault<A>>
-    ensures { Gives said_of result (global_into limits number (said_of draft) (words text.now)) }
+) -> Result<Draft<A>, Failure<JobFault<A>>>
+    ensures { Gives said_of refusal_of result (global_into limits number (said_of draft) (words text.now)) }
 {
     match two_words(text) {
         Some((name, value)) if is_identifier(name) => {
             let value = well_formed(number, signed_numeral(draft.frac, value))?;
             add_global(alloc, draft, name, value)
         }
-        _ => Err(JobFault::BadLine { line: number }),
+        _ => Err(Failure::Refused(JobFault::BadLine { line: number })),
     }
 }
 
@@ -317,18 +319,18 @@ fn add_type<A: Allocator + Copy>(
     number: u64,
     word: &[u8],
     numbers: Option<TypeNumbers<A>>,
-) -> Result<Draft<A>, JobFault<A>>
+) -> Result<Draft<A>, Failure<JobFault<A>>>
     requires { is_type_name word.now ≡ true }
-    ensures { Gives said_of result (type_new limits number (said_of draft) word.now (option_map type_numbers_of numbers)) }
+    ensures { Gives said_of refusal_of result (type_new limits number (said_of draft) word.now (option_map type_numbers_of numbers)) }
 {
     if knows_type(draft.types.as_slice(), word) {
         return Err(repeated_type(alloc, word));
     }
     let Some(numbers) = numbers else {
-        return Err(JobFault::Range { key: Key::Types });
+        return Err(Failure::Refused(JobFault::Range { key: Key::Types }));
     };
     if draft.types.as_slice().len() >= MAX_TYPES {
-        return Err(JobFault::Range { key: Key::Types });
+        return Err(Failure::Refused(JobFault::Range { key: Key::Types }));
     }
     let name = type_name(word);
     draft.types.push(TypeLine {
@@ -358,17 +360,17 @@ fn take_type<A: Allocator + Copy>(
     draft: Draft<A>,
     number: u64,
     text: &[u8],
-) -> Result<Draft<A>, JobFault<A>>
-    ensures { Gives said_of result (type_into limits number (said_of draft) (words text.now)) }
+) -> Result<Draft<A>, Failure<JobFault<A>>>
+    ensures { Gives said_of refusal_of result (type_into limits number (said_of draft) (words text.now)) }
 {
     let Some((name, rest)) = next_word(text) else {
-        return Err(JobFault::BadLine { line: number });
+        return Err(Failure::Refused(JobFault::BadLine { line: number }));
     };
     let Some((mass, rest)) = next_word(rest) else {
-        return Err(JobFault::BadLine { line: number });
+        return Err(Failure::Refused(JobFault::BadLine { line: number }));
     };
     if !is_type_name(name) {
-        return Err(JobFault::BadLine { line: number });
+        return Err(Failure::Refused(JobFault::BadLine { line: number }));
     }
     let numbers = well_formed(number, type_numbers(alloc, draft.frac, mass, rest)?)?;
     add_type(alloc, draft, number, name, numbers)
@@ -381,20 +383,20 @@ fn take_key<A: Allocator + Copy>(
     number: u64,
     key: Option<Key>,
     text: &[u8],
-) -> Result<Draft<A>, JobFault<A>>
-    ensures { Gives said_of result (key_into limits number (said_of draft) key text.now) }
+) -> Result<Draft<A>, Failure<JobFault<A>>>
+    ensures { Gives said_of refusal_of result (key_into limits number (said_of draft) key text.now) }
 {
     match key {
-        None => Err(JobFault::BadLine { line: number }),
+        None => Err(Failure::Refused(JobFault::BadLine { line: number })),
         Some(Key::Energy) => take_energy(alloc, draft, number, text),
-        Some(Key::Core) => take_core(draft, number, text),
-        Some(Key::Cutoff) => take_cutoff(draft, number, text),
-        Some(Key::TimeStep) => take_time_step(draft, number, text),
-        Some(Key::Slices) => take_slices(draft, number, text),
+        Some(Key::Core) => Ok(take_core(draft, number, text)?),
+        Some(Key::Cutoff) => Ok(take_cutoff(draft, number, text)?),
+        Some(Key::TimeStep) => Ok(take_time_step(draft, number, text)?),
+        Some(Key::Slices) => Ok(take_slices(draft, number, text)?),
         Some(Key::Parameter) => take_parameter(alloc, draft, number, text),
         Some(Key::Global) => take_global(alloc, draft, number, text),
         Some(Key::Types) => take_type(alloc, draft, number, text),
-        Some(Key::Bits) => take_bits(draft, number, text),
+        Some(Key::Bits) => Ok(take_bits(draft, number, text)?),
     }
 }
 
@@ -405,8 +407,8 @@ pub fn take_line<A: Allocator + Copy>(
     draft: Draft<A>,
     number: u64,
     line: &[u8],
-) -> Result<Draft<A>, JobFault<A>>
-    ensures { Gives said_of result (line_into limits number (said_of draft) line.now) }
+) -> Result<Draft<A>, Failure<JobFault<A>>>
+    ensures { Gives said_of refusal_of result (line_into limits number (said_of draft) line.now) }
 {
     if let [b'#', ..] = line {
         return Ok(draft);

@@ -1,13 +1,14 @@
 //! Reading a job's text.
 
 ghost use Rattle.std.specs.Prelude.{◌≡◌, ◌+◌, ◌<◌, ◌≤◌, ◌<ℤ◌, ◌^◌, ℕ, length, map, option_map, position, bytes_eq, IfOk, IfSome};
+ghost use Rattle.fallible.specs.Failures.{Answers, Gives};
 ghost use Rattle.line_text.specs.Names.{name_text};
 ghost use Rattle.std.specs.List.{All};
 ghost use Rattle.std.specs.Option.{unwrap_or};
 ghost use Rattle.job.specs.Words.{lines_of, more_lines};
 ghost use Rattle.job.specs.Drafts.{nothing, lines_into, lines_job};
 ghost use Rattle.job.specs.JobText.{header, needed, ordered, whole_types, job_from, limits};
-ghost use Rattle.job.specs.Views.{said_of, type_line, type_value, job_value, Gives};
+ghost use Rattle.job.specs.Views.{said_of, type_line, type_value, job_value, refusal_of};
 
 use crate::bits::frac_in;
 use crate::drafts::{Draft, TypeLine};
@@ -15,6 +16,7 @@ use crate::faults::{JobFault, Key};
 use crate::jobs::{AtomType, Job};
 use crate::lines::take_line;
 use crate::words::next_line;
+use fallible::Failure;
 use fixed::{Frac, Fx};
 use std::alloc::{AllocError, Allocator};
 
@@ -25,9 +27,9 @@ fn take_lines<A: Allocator + Copy>(
     alloc: A,
     frac: Frac,
     text: Option<&[u8]>,
-) -> Result<Draft<A>, JobFault<A>>
+) -> Result<Draft<A>, Failure<JobFault<A>>>
     requires { IfSome text (λ t. length t.now + 3 < 2 ^ 64) }
-    ensures { Gives said_of result (lines_into limits 2 (nothing frac) (more_lines (option_map (λ x. x.now) text.entry))) }
+    ensures { Gives said_of refusal_of result (lines_into limits 2 (nothing frac) (more_lines (option_map (λ x. x.now) text.entry))) }
 {
     let mut draft = Draft::new(alloc, frac);
     let mut number = 2;
@@ -42,7 +44,7 @@ fn take_lines<A: Allocator + Copy>(
 }
 
 fn needed<T, A: Allocator>(key: Key, value: Option<T>) -> Result<T, JobFault<A>>
-    ensures value { Gives (λ x. x) result (needed key value) }
+    ensures value { Answers (λ x. x) refusal_of result (needed key value) }
     ensures found { IfOk result (λ x. value ≡ Some x) }
 {
     value.ok_or(JobFault::Missing { key })
@@ -50,7 +52,7 @@ fn needed<T, A: Allocator>(key: Key, value: Option<T>) -> Result<T, JobFault<A>>
 
 // The first type with another number of values than this is a fault.
 fn check_counts<A: Allocator>(count: usize, types: &[TypeLine<A>]) -> Result<(), JobFault<A>>
-    ensures value { Gives (λ _. map (λ t. t.value) (map type_line types.now)) result (whole_types count (map type_line types.now)) }
+    ensures value { Answers (λ _. map (λ t. t.value) (map type_line types.now)) refusal_of result (whole_types count (map type_line types.now)) }
     ensures whole { IfOk result (λ _. All (λ t. length t.value.values.items ≡ count) types.now) }
 {
     for line in types {
@@ -75,8 +77,8 @@ fn atom_types<A: Allocator>(
     alloc: A,
     count: usize,
     lines: Vec<TypeLine<A>, A>,
-) -> Result<Vec<AtomType<A>, A>, JobFault<A>>
-    ensures value { Gives (λ v. map type_value v.items) result (whole_types count (map type_line lines.items)) }
+) -> Result<Vec<AtomType<A>, A>, Failure<JobFault<A>>>
+    ensures value { Gives (λ v. map type_value v.items) refusal_of result (whole_types count (map type_line lines.items)) }
     ensures whole { IfOk result (λ v. All (λ t. length t.values.items ≡ count) v.items) }
     ensures few { IfOk result (λ v. length v.items ≡ length lines.items) }
 {
@@ -86,7 +88,7 @@ fn atom_types<A: Allocator>(
 
 // The cutoff, which is more than the core.
 fn ordered<A: Allocator>(core: Fx, cutoff: Fx) -> Result<Fx, JobFault<A>>
-    ensures value { Gives (λ x. x) result (ordered core cutoff) }
+    ensures value { Answers (λ x. x) refusal_of result (ordered core cutoff) }
     ensures above { IfOk result (λ x. (x ≡ cutoff) × (core <ℤ x)) }
 {
     if core.raw() < cutoff.raw() {
@@ -110,8 +112,8 @@ fn slices_or_default(slices: Option<u32>) -> u32
 
 // The job that the lines have said.
 #[tactic(auto, unfolding(crate::specs::JobText::job_from))]
-fn finish<A: Allocator + Copy>(alloc: A, draft: Draft<A>) -> Result<Job<A>, JobFault<A>>
-    ensures { Gives job_value result (job_from (said_of draft)) }
+fn finish<A: Allocator + Copy>(alloc: A, draft: Draft<A>) -> Result<Job<A>, Failure<JobFault<A>>>
+    ensures { Gives job_value refusal_of result (job_from (said_of draft)) }
 {
     let Draft {
         frac,
@@ -157,12 +159,12 @@ fn is_header(line: &[u8]) -> bool
     line == b"pairmd job 1".as_slice()
 }
 
-fn read_lines<A: Allocator + Copy>(alloc: A, bytes: &[u8]) -> Result<Job<A>, JobFault<A>>
-    ensures { Gives job_value result (lines_job limits (lines_of bytes.now)) }
+fn read_lines<A: Allocator + Copy>(alloc: A, bytes: &[u8]) -> Result<Job<A>, Failure<JobFault<A>>>
+    ensures { Gives job_value refusal_of result (lines_job limits (lines_of bytes.now)) }
 {
     let (first, rest) = next_line(bytes);
     if !is_header(first) {
-        return Err(JobFault::BadLine { line: 1 });
+        return Err(Failure::Refused(JobFault::BadLine { line: 1 }));
     }
     let frac = frac_in(rest);
     let draft = take_lines(alloc, frac, rest)?;
@@ -172,9 +174,10 @@ fn read_lines<A: Allocator + Copy>(alloc: A, bytes: &[u8]) -> Result<Job<A>, Job
 impl<A: Allocator + Copy> Job<A> {
     ghost use Rattle.job.specs.JobText.{IsJobText, HasKeysOnce, HasNamesOnce, below_first, reading_of};
     ghost use Rattle.job.specs.Values.{JobValue};
-    ghost use Rattle.std.specs.Prelude.{IfErr, IfOk, IfSome};
+    ghost use Rattle.std.specs.Prelude.{IfErr, IfOk};
+    ghost use Rattle.fallible.specs.Failures.{Gives, IfRefused, IsOrMemory};
     ghost use Rattle.job.specs.JobFaults.{IsCause};
-    ghost use Rattle.job.specs.Views.{job_value, Gives, AnswersJob, refusal_of};
+    ghost use Rattle.job.specs.Views.{job_value, refusal_of};
 
     /// Reads a job's text.
     ///
@@ -191,15 +194,15 @@ impl<A: Allocator + Copy> Job<A> {
     /// `Repeated` or `RepeatedName` where a line above has its key or its name, `RepeatedType` where a type above has
     /// its name, and `Range` where a number is out of its range or the line is one too many. Then come `Missing` for
     /// `energy`, `core`, `cutoff` and `dt` in this order, `Range` where the cutoff isn't more than the core, and
-    /// `BadLine` for the first type with another number of values than there are parameters. `Memory` comes only where
-    /// a growth was refused.
-    pub fn read(alloc: A, bytes: &[u8]) -> Result<Job<A>, JobFault<A>>
-        ensures exact { Gives job_value result (reading_of limits bytes.now) }
-        ensures cause { IfErr result (λ f. IfSome (refusal_of f) (IsCause limits bytes.now)) }
+    /// `BadLine` for the first type with another number of values than there are parameters. `Memory`: an allocation
+    /// was refused.
+    pub fn read(alloc: A, bytes: &[u8]) -> Result<Job<A>, Failure<JobFault<A>>>
+        ensures exact { Gives job_value refusal_of result (reading_of limits bytes.now) }
+        ensures cause { IfErr result (λ failure. IfRefused failure (λ fault. IsCause limits bytes.now (refusal_of fault))) }
         ensures job { IfOk result (λ job. IsJobText limits bytes.now (job_value job)) }
         ensures once { IfOk result (λ job. HasKeysOnce job.frac (below_first (lines_of bytes.now))) }
         ensures apart { IfOk result (λ job. HasNamesOnce (job_value job)) }
-        ensures only { (job : JobValue) → IsJobText limits bytes.now job → AnswersJob result job }
+        ensures only { (job : JobValue) → IsJobText limits bytes.now job → IsOrMemory (λ j. job_value j ≡ job) result }
     {
         read_lines(alloc, bytes)
     }

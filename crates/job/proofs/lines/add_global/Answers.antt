@@ -10,7 +10,7 @@ use Rattle.job.proofs.lines.add_global.Goals as goal
 
 pub returns-then-knows_global : goal.returns-then-knows_global
 returns-then-knows_global g c =
-    refused (refusal_of c.repeated_name.result) _ _ c.repeated_name.ensures
+    refused (refusal_of {A = g.row.A.Denot}) c.repeated_name.result _ _ c.repeated_name.ensures
     (global_known limits (said_of c.args.draft) c.args.name.now c.args.value
     (known_through (global_value {A = g.row.A.Denot}) (λ (v : GlobalValue). v.name) c.args.draft.globals.items _ _ _ _ c.as_slice.ensures.value c.knows_global.ensures c.if-knows_global.true))
 

@@ -10,7 +10,7 @@ use Rattle.job.proofs.lines.add_parameter.Goals as goal
 
 pub returns-then-knows_parameter : goal.returns-then-knows_parameter
 returns-then-knows_parameter g c =
-    refused (refusal_of c.repeated_name.result) _ _ c.repeated_name.ensures
+    refused (refusal_of {A = g.row.A.Denot}) c.repeated_name.result _ _ c.repeated_name.ensures
     (parameter_known limits (said_of c.args.draft) c.args.name.now
     (known_is (λ (p : Vec ℕ g.row.A.Denot). p.items) c.args.draft.parameters.items _ _ _ _ c.as_slice.ensures.value c.knows_parameter.ensures c.if-knows_parameter.true))
 

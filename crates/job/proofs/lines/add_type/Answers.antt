@@ -10,7 +10,7 @@ use Rattle.job.proofs.lines.add_type.Goals as goal
 
 pub returns-then-knows_type : goal.returns-then-knows_type
 returns-then-knows_type g c =
-    refused (refusal_of c.repeated_type.result) _ _ c.repeated_type.ensures
+    refused (refusal_of {A = g.row.A.Denot}) c.repeated_type.result _ _ c.repeated_type.ensures
     (type_known limits c.args.number (said_of c.args.draft) c.args.word.now (option_map (type_numbers_of {A = g.row.A.Denot}) c.args.numbers)
     (known_through (type_line {A = g.row.A.Denot}) (λ (t : TypeLine). t.value.name) c.args.draft.types.items _ _ _ _ c.as_slice.ensures.value c.knows_type.ensures c.if-knows_type.true))
 

@@ -1,17 +1,11 @@
-use Rattle.std.proofs.Common.{Option, Some, None, Result, Err, IfSome, ◌≡◌, arith, length, ap, ◌∙◌}
+use Rattle.std.proofs.Common.{arith, length, ap, ◌∙◌}
 use Rattle.std.proofs.lemmas.Grind.{common_steps}
+use Rattle.fallible.specs.declared.failure.Failure.TheVariants.{Refused}
 use Rattle.job.specs.JobText.{job_from}
-use Rattle.line_text.specs.Steps.{◌>>=◌}
 use Rattle.line_text.proofs.StepLaws.{bind_err}
-use Rattle.job.specs.Faults.{Refusal}
 use Rattle.job.specs.Views.{job_value, refusal_of}
 use Rattle.job.proofs.DraftLemmas.{passed_on}
 use Rattle.job.proofs.reading.finish.Goals as goal
-
--- a step that was refused is the answer
-stopped : {X Y : Type 0} (o : Option Refusal) (r : Result X Refusal) (next : X → Result Y Refusal) → IfSome o (λ f. r ≡ Err f) → IfSome o (λ f. (r >>= next) ≡ Err f)
-stopped None r next h = tt
-stopped (Some f) r next h = bind_err r next f h
 
 pub invariant_of-result-clause-least_core : goal.invariant_of-result-clause-least_core
 invariant_of-result-clause-least_core g c = let core = c.in_ok-core.ensures.found in rw core at c.args.draft.least_core
@@ -39,22 +33,26 @@ returns-in_err-energy g c = grind (arith, common_steps)
 pub returns-in_err-core : goal.returns-in_err-core
 unfolding job_from
 returns-in_err-core g c =
-    rw c.in_ok-energy.ensures.found (passed_on (job_value {A = g.row.A.Denot}) c.from_residual-in_err-core.result c.in_err-core.field-0.0 _ c.from_residual-in_err-core.ensures (stopped (refusal_of c.in_err-core.field-0.0) _ _ c.in_err-core.ensures.value))
+    rw c.in_ok-energy.ensures.found
+    (passed_on (job_value {A = g.row.A.Denot}) (refusal_of {A = g.row.A.Denot}) c.from_residual-in_err-core.result (Refused c.in_err-core.field-0.0) _ c.from_residual-in_err-core.ensures (bind_err _ _ _ c.in_err-core.ensures.value))
 
 pub returns-in_err-longest : goal.returns-in_err-longest
 unfolding job_from
 returns-in_err-longest g c =
-    rw (c.in_ok-energy.ensures.found, c.in_ok-core.ensures.found) (passed_on (job_value {A = g.row.A.Denot}) c.from_residual-in_err-longest.result c.in_err-longest.field-0.0 _ c.from_residual-in_err-longest.ensures (stopped (refusal_of c.in_err-longest.field-0.0) _ _ c.in_err-longest.ensures.value))
+    rw (c.in_ok-energy.ensures.found, c.in_ok-core.ensures.found)
+    (passed_on (job_value {A = g.row.A.Denot}) (refusal_of {A = g.row.A.Denot}) c.from_residual-in_err-longest.result (Refused c.in_err-longest.field-0.0) _ c.from_residual-in_err-longest.ensures (bind_err _ _ _ c.in_err-longest.ensures.value))
 
 pub returns-in_err-time_step : goal.returns-in_err-time_step
 unfolding job_from
 returns-in_err-time_step g c =
-    rw (c.in_ok-energy.ensures.found, c.in_ok-core.ensures.found, c.in_ok-longest.ensures.found) (passed_on (job_value {A = g.row.A.Denot}) c.from_residual-in_err-time_step.result c.in_err-time_step.field-0.0 _ c.from_residual-in_err-time_step.ensures (stopped (refusal_of c.in_err-time_step.field-0.0) _ _ c.in_err-time_step.ensures.value))
+    rw (c.in_ok-energy.ensures.found, c.in_ok-core.ensures.found, c.in_ok-longest.ensures.found)
+    (passed_on (job_value {A = g.row.A.Denot}) (refusal_of {A = g.row.A.Denot}) c.from_residual-in_err-time_step.result (Refused c.in_err-time_step.field-0.0) _ c.from_residual-in_err-time_step.ensures (bind_err _ _ _ c.in_err-time_step.ensures.value))
 
 pub returns-in_err-cutoff : goal.returns-in_err-cutoff
 unfolding job_from
 returns-in_err-cutoff g c =
-    rw (c.in_ok-energy.ensures.found, c.in_ok-core.ensures.found, c.in_ok-longest.ensures.found, c.in_ok-time_step.ensures.found) (passed_on (job_value {A = g.row.A.Denot}) c.from_residual-in_err-cutoff.result c.in_err-cutoff.field-0.0 _ c.from_residual-in_err-cutoff.ensures (stopped (refusal_of c.in_err-cutoff.field-0.0) _ _ c.in_err-cutoff.ensures.value))
+    rw (c.in_ok-energy.ensures.found, c.in_ok-core.ensures.found, c.in_ok-longest.ensures.found, c.in_ok-time_step.ensures.found)
+    (passed_on (job_value {A = g.row.A.Denot}) (refusal_of {A = g.row.A.Denot}) c.from_residual-in_err-cutoff.result (Refused c.in_err-cutoff.field-0.0) _ c.from_residual-in_err-cutoff.ensures (bind_err _ _ _ c.in_err-cutoff.ensures.value))
 
 pub returns-in_err-types : goal.returns-in_err-types
 unfolding job_from

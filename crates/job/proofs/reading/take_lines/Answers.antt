@@ -10,7 +10,7 @@ use Rattle.job.proofs.reading.take_lines.Goals as goal
 pub returns-in_err-draft : goal.returns-in_err-draft
 returns-in_err-draft g c =
     let p = err_from_is_err_and c.from_residual.result c.from_residual.ensures.1 in
-    rw (p.1, p.2) (lines_fault limits c.loop-rest.number (said_of c.loop-rest.draft) _ _ (more_lines (option_map (λ (x : Bor (List ℕ)). x.now) c.loop-rest.rest)) _ (refusal_of c.in_err-draft.field-0.0)
+    rw (p.1, p.2) (lines_fault (refusal_of {A = g.row.A.Denot}) c.in_err-draft.field-0.0 limits c.loop-rest.number (said_of c.loop-rest.draft) _ _ (more_lines (option_map (λ (x : Bor (List ℕ)). x.now) c.loop-rest.rest)) _
     (ap (λ (r : Option (Bor (List ℕ))). more_lines (option_map (λ x. x.now) r)) c.in-Some.is ∙ c.next_line.ensures.lines) c.in_err-draft.ensures c.loop-rest.invariant.lines)
 
 pub overflow_add-number : goal.overflow_add-number

@@ -1,6 +1,10 @@
-use Rattle.job.specs.JobText.{limits}
+use Rattle.fallible.proofs.FailureLaws.{refused_for}
+use Rattle.job.specs.JobFaults.{IsCause}
+use Rattle.job.specs.JobText.{limits, reading_of}
+use Rattle.job.specs.Views.{job_value, refusal_of}
+use Rattle.job.specs.declared.faults.JobFault.{JobFault}
 use Rattle.job.proofs.ApartLemmas.{given_apart}
-use Rattle.job.proofs.CauseLemmas.{given_cause}
+use Rattle.job.proofs.CauseLemmas.{faults_have_causes}
 use Rattle.job.proofs.OnceLemmas.{given_once}
 use Rattle.job.proofs.TextLemmas.{given, given_job, given_only}
 use Rattle.job.proofs.jobs.Job.read.Goals as goal
@@ -23,4 +27,6 @@ returns-clause-apart g c =
     given_apart limits c.args.bytes.now c.read_lines.result (given_job limits c.args.bytes.now c.read_lines.result (given limits c.args.bytes.now c.read_lines.result c.read_lines.ensures))
 
 pub returns-clause-cause : goal.returns-clause-cause
-returns-clause-cause g c = given_cause limits c.args.bytes.now c.read_lines.result (given limits c.args.bytes.now c.read_lines.result c.read_lines.ensures)
+returns-clause-cause g c =
+    refused_for (job_value {A = g.row.A.Denot}) (refusal_of {A = g.row.A.Denot}) (λ (f : JobFault g.row.A.Denot). IsCause limits c.args.bytes.now (refusal_of f)) c.read_lines.result (reading_of limits c.args.bytes.now)
+    (λ f e. faults_have_causes limits c.args.bytes.now (refusal_of f) e) (given limits c.args.bytes.now c.read_lines.result c.read_lines.ensures)
