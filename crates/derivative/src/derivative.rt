@@ -10,6 +10,7 @@ ghost use Rattle.derivative.specs.Used.{AllNeeded};
 use crate::prune::pruned;
 use crate::slopes::with_all;
 use energy_program::{ExprFault, MAX_DEFINITIONS, Program};
+use fallible::Failure;
 use fixed::Frac;
 use std::alloc::Allocator;
 
@@ -20,12 +21,12 @@ use std::alloc::Allocator;
 /// between the slopes of their parts; `abs` gives its part's slope times one or minus one, so that a part's slope is written
 /// once.
 ///
-/// `TooLarge` where more than 128 definitions would be needed, and `Memory` where a growth is refused.
+/// `TooLarge`: more than 128 definitions would be needed. `Memory`: an allocation was refused.
 pub fn derive<A: Allocator + Copy>(
     alloc: A,
     frac: Frac,
     program: &Program<A>,
-) -> Result<Program<A>, ExprFault<A>>
+) -> Result<Program<A>, Failure<ExprFault<A>>>
     // Its value is the slope, and the one is there exactly where the other is.
     ensures value { IfOk result (λ p. (inputs : List ℤ) → value_of (bits_of frac) inputs (program_tree p) ≡ slope_of (bits_of frac) inputs (program_tree program.now)) }
     // The body needs each definition: it uses it, directly or through another.
@@ -38,7 +39,7 @@ pub fn derive<A: Allocator + Copy>(
     let whole = with_all(alloc, frac, program)?;
     let slope = pruned(alloc, &whole)?;
     if slope.definitions.len() > MAX_DEFINITIONS {
-        return Err(ExprFault::TooLarge);
+        return Err(Failure::Refused(ExprFault::TooLarge));
     }
     Ok(Program {
         body: slope.body,

@@ -9,6 +9,7 @@ use Rattle.std.proofs.lemmas.Bool.{le-leb, lt-leb}
 use Rattle.std.proofs.Math.Bool.{and-false}
 use native.Mathlib.Numerals.{unary_clauses}
 use Rattle.indexmap.specs.IndexSet.{insert_key}
+use Rattle.fallible.specs.declared.failure.Failure.{Failure}
 use Rattle.energy_program.specs.declared.faults.ExprFault.{ExprFault}
 use Rattle.line_text.specs.Steps.{◌>>=◌}
 use Rattle.energy_program.specs.Faults.{Refusal, RepeatedDefinition, ReservedName, TooLarge, Says, Fails}
@@ -100,7 +101,7 @@ filled_append names [] second = refl
 filled_append names (v ∷ vs) second = parted vs second (added names v) (λ more. filled_append more vs second)
 
 -- a variable that is refused, among those that are left
-pub fails_at : {X A : Type 0} (h : X → List ℕ) (names : List (List ℕ)) (xs : List X) (i : ℕ) (d : X) (e : ExprFault A) (name : List ℕ) → i < length xs → name ≡ h (get_or xs i d)
+pub fails_at : {X A : Type 0} (h : X → List ℕ) (names : List (List ℕ)) (xs : List X) (i : ℕ) (d : X) (e : Failure (ExprFault A)) (name : List ℕ) → i < length xs → name ≡ h (get_or xs i d)
     → Fails e (added names name) → Fails e (filled names (map h (drop i xs)))
 fails_at h names xs i d e name within is f =
     rw (drop-cons xs i d, ← is) (fails_then e (added names name) (λ more. filled more (map h (drop (suc i) xs))) f)
@@ -116,7 +117,7 @@ module _ {X Y : Type 0} (h : X → List ℕ) (k : Y → List ℕ) (ps : List X) 
       ∙ ap (λ l. filled names l >>= λ a. filled a (second_particle (map h ps) ++ map k gs)) (map-map (λ p. p ++ codes "1") h ps)
       ∙ ap (λ next. filled names (map (λ p. h p ++ 49 ∷ []) ps) >>= next) (λ i a. (filled_append a (second_particle (map h ps)) (map k gs) ∙ ap (λ l. filled a l >>= λ b. filled b (map k gs)) (map-map (λ p. p ++ codes "2") h ps)) i)
 
-  module _ {A : Type 0} (e : ExprFault A) where
+  module _ {A : Type 0} (e : Failure (ExprFault A)) where
     pub first_fails : Fails e (filled names (map (λ p. h p ++ 49 ∷ []) ps)) → Fails e all
     first_fails f = rw steps (fails_then e _ _ f)
 
@@ -156,7 +157,7 @@ module _ (ps gs : List (List ℕ)) where
     by_lists : (first second : Option (List ℕ)) → first_repeated ps ≡ first → first_repeated gs ≡ second → names_from ps gs ≡ checked true first second
     by_lists first second e f = is_checked ∙ ap (λ b. checked b (first_repeated ps) (first_repeated gs)) few ∙ ap (λ o. checked true o (first_repeated gs)) e ∙ ap (checked true first) f
 
-    module _ {A : Type 0} (e : ExprFault A) where
+    module _ {A : Type 0} (e : Failure (ExprFault A)) where
       refused : (o : Option (List ℕ)) → IsSomeAnd o (λ n. Says e (RepeatedDefinition n)) → (n : List ℕ) × (o ≡ Some n) × Says e (RepeatedDefinition n)
       refused None h = absurd h
       refused (Some n) h = (n, refl, h)

@@ -1,5 +1,8 @@
--- What is wrong with a text, and how a call that may want memory answers it.
-use Rattle.std.specs.Prelude.{◌≡◌, ℕ, List, Option, Some, None, Result, Ok, Err}
+-- What is wrong with a text, and how calls tell it.
+use Rattle.std.specs.Prelude.{◌≡◌, ℕ, List, Result}
+use Rattle.fallible.specs.Failures.{IfRefused}
+use Rattle.fallible.specs.Failures as fallible
+use Rattle.fallible.specs.declared.failure.Failure.{Failure}
 use Rattle.energy_program.specs.declared.faults.ExprFault.{ExprFault}
 use Rattle.energy_program.specs.declared.faults.ExprFault.TheVariants as fault
 
@@ -17,42 +20,31 @@ pub data Refusal : Type 0 where
   TooLarge : Refusal
   LeftOutFunction : List ℕ → Refusal
 
--- what a fault says of the text: nothing, where memory ran out
-abbrev pub refusal_of : {A : Type 0} → ExprFault A → Option Refusal
-refusal_of (fault.BadCharacter at) = Some (BadCharacter at)
-refusal_of (fault.BadNumber at) = Some (BadNumber at)
-refusal_of (fault.UnexpectedToken at) = Some (UnexpectedToken at)
-refusal_of (fault.UnknownName name) = Some (UnknownName name.bytes.items)
-refusal_of (fault.WrongArgumentCount name) = Some (WrongArgumentCount name.bytes.items)
-refusal_of (fault.BadExponent at) = Some (BadExponent at)
-refusal_of (fault.NumberRange at) = Some (NumberRange at)
-refusal_of (fault.RepeatedDefinition name) = Some (RepeatedDefinition name.bytes.items)
-refusal_of (fault.ReservedName name) = Some (ReservedName name.bytes.items)
-refusal_of fault.TooLarge = Some TooLarge
-refusal_of (fault.LeftOutFunction name) = Some (LeftOutFunction name.bytes.items)
-refusal_of fault.Memory = None
+-- what a fault says of the text
+abbrev pub refusal_of : {A : Type 0} → ExprFault A → Refusal
+refusal_of (fault.BadCharacter at) = BadCharacter at
+refusal_of (fault.BadNumber at) = BadNumber at
+refusal_of (fault.UnexpectedToken at) = UnexpectedToken at
+refusal_of (fault.UnknownName name) = UnknownName name.bytes.items
+refusal_of (fault.WrongArgumentCount name) = WrongArgumentCount name.bytes.items
+refusal_of (fault.BadExponent at) = BadExponent at
+refusal_of (fault.NumberRange at) = NumberRange at
+refusal_of (fault.RepeatedDefinition name) = RepeatedDefinition name.bytes.items
+refusal_of (fault.ReservedName name) = ReservedName name.bytes.items
+refusal_of fault.TooLarge = TooLarge
+refusal_of (fault.LeftOutFunction name) = LeftOutFunction name.bytes.items
 
--- the fault says this refusal, unless memory ran out
-abbrev pub IsSaid : Refusal → Option Refusal → Type 0
-IsSaid r (Some said) = r ≡ said
-IsSaid r None = Unit {0}
+-- the failure says this refusal, unless memory ran out
+abbrev pub Says : {A : Type 0} → Failure (ExprFault A) → Refusal → Type 0
+Says failure r = IfRefused failure (λ fault. refusal_of fault ≡ r)
 
-abbrev pub Says : {A : Type 0} → ExprFault A → Refusal → Type 0
-Says e r = IsSaid r (refusal_of e)
+-- ---- the answers of calls on texts, where faults are seen by what they say
 
--- reading fails as the fault says, unless memory ran out
-abbrev pub FailsBy : {Y : Type 0} → Result Y Refusal → Option Refusal → Type 0
-FailsBy read (Some said) = read ≡ Err said
-FailsBy read None = Unit {0}
+abbrev pub Fails : {A Y : Type 0} → Failure (ExprFault A) → Result Y Refusal → Type 0
+Fails failure read = fallible.Fails refusal_of failure read
 
-abbrev pub Fails : {A Y : Type 0} → ExprFault A → Result Y Refusal → Type 0
-Fails e read = FailsBy read (refusal_of e)
+abbrev pub Gives : {A X Y : Type 0} → (X → Y) → Result X (Failure (ExprFault A)) → Result Y Refusal → Type 0
+Gives view result read = fallible.Gives view refusal_of result read
 
--- what a call answered, seen by a view, is what is read, unless memory ran out
-abbrev pub Gives : {A X Y : Type 0} → (X → Y) → Result X (ExprFault A) → Result Y Refusal → Type 0
-Gives view (Ok x) read = read ≡ Ok (view x)
-Gives view (Err e) read = Fails e read
-
-abbrev pub IsOrMemory : {A X : Type 0} → (X → Type 0) → Result X (ExprFault A) → Type 0
-IsOrMemory holds (Ok x) = holds x
-IsOrMemory holds (Err e) = e ≡ fault.Memory
+abbrev pub Answers : {A X Y : Type 0} → (X → Y) → Result X (ExprFault A) → Result Y Refusal → Type 0
+Answers view result read = fallible.Answers view refusal_of result read

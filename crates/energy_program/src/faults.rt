@@ -1,10 +1,11 @@
-ghost use Rattle.std.specs.Prelude.{◌≡◌};
-ghost use Rattle.energy_program.specs.declared.faults.ExprFault.TheVariants.{Memory};
-ghost use Rattle.energy_program.specs.Faults.{Says, IsOrMemory, RepeatedDefinition, ReservedName, UnknownName, WrongArgumentCount};
+ghost use Rattle.std.specs.Prelude.{◌≡◌, IfOk};
+ghost use Rattle.fallible.specs.declared.failure.Failure.TheVariants.{Refused};
+ghost use Rattle.energy_program.specs.Faults.{Says, RepeatedDefinition, ReservedName, UnknownName, WrongArgumentCount};
 ghost use Rattle.energy_program.specs.Names.{call_refusal};
 
 use crate::names::{Name, is_left_out};
-use std::alloc::{AllocError, AllocFailed, Allocator};
+use fallible::Failure;
+use std::alloc::{AllocError, Allocator};
 use thiserror::Error;
 
 /// Why an energy text is refused. An offset counts the bytes before the place, from 0.
@@ -46,92 +47,81 @@ pub enum ExprFault<A: Allocator> {
     /// The function before a parenthesis is left out of the language.
     #[error("E11 LeftOutFunction {name}")]
     LeftOutFunction { name: Name<A> },
-    /// No memory is left.
-    #[error("Memory")]
-    Memory,
 }
 
 // The name's own copy.
-fn copied<A: Allocator + Copy>(alloc: A, name: &[u8]) -> Result<Name<A>, ExprFault<A>>
-    ensures { IsOrMemory (λ copy. copy.bytes.items ≡ name.now) result }
+fn copied<A: Allocator + Copy>(alloc: A, name: &[u8]) -> Result<Name<A>, AllocError>
+    ensures { IfOk result (λ copy. copy.bytes.items ≡ name.now) }
 {
     Ok(Name {
         bytes: Vec::from_slice(alloc, name)?,
     })
 }
 
-// Each names a fault by its own copy of the name, and is `Memory` where none is left for that.
+// Each names a fault by its own copy of the name, and is `Memory` where the allocation for that was refused.
 impl<A: Allocator + Copy> ExprFault<A> {
     /// The refusal of a name that stands for nothing.
-    pub fn unknown_name(alloc: A, name: &[u8]) -> ExprFault<A>
+    pub fn unknown_name(alloc: A, name: &[u8]) -> Failure<ExprFault<A>>
         ensures { Says result (UnknownName name.now) }
     {
         match copied(alloc, name) {
-            Err(_) => ExprFault::Memory,
-            Ok(name) => ExprFault::UnknownName { name },
+            Err(_) => Failure::Memory,
+            Ok(name) => Failure::Refused(ExprFault::UnknownName { name }),
         }
     }
 
     /// The refusal of a name before a parenthesis that is no function's: the function is left out of the language, or
     /// the name stands for nothing.
-    pub fn no_function(alloc: A, name: &[u8]) -> ExprFault<A>
+    pub fn no_function(alloc: A, name: &[u8]) -> Failure<ExprFault<A>>
         ensures { Says result (call_refusal name.now) }
     {
         match copied(alloc, name) {
-            Err(_) => ExprFault::Memory,
+            Err(_) => Failure::Memory,
             Ok(copy) => {
                 if is_left_out(name) {
-                    ExprFault::LeftOutFunction { name: copy }
+                    Failure::Refused(ExprFault::LeftOutFunction { name: copy })
                 } else {
-                    ExprFault::UnknownName { name: copy }
+                    Failure::Refused(ExprFault::UnknownName { name: copy })
                 }
             }
         }
     }
 
     /// The refusal of a function's name before another number of arguments.
-    pub fn wrong_argument_count(alloc: A, name: &[u8]) -> ExprFault<A>
+    pub fn wrong_argument_count(alloc: A, name: &[u8]) -> Failure<ExprFault<A>>
         ensures { Says result (WrongArgumentCount name.now) }
     {
         match copied(alloc, name) {
-            Err(_) => ExprFault::Memory,
-            Ok(name) => ExprFault::WrongArgumentCount { name },
+            Err(_) => Failure::Memory,
+            Ok(name) => Failure::Refused(ExprFault::WrongArgumentCount { name }),
         }
     }
 
     /// The refusal of a name that stands twice.
-    pub fn repeated_definition(alloc: A, name: &[u8]) -> ExprFault<A>
+    pub fn repeated_definition(alloc: A, name: &[u8]) -> Failure<ExprFault<A>>
         ensures { Says result (RepeatedDefinition name.now) }
     {
         match copied(alloc, name) {
-            Err(_) => ExprFault::Memory,
-            Ok(name) => ExprFault::RepeatedDefinition { name },
+            Err(_) => Failure::Memory,
+            Ok(name) => Failure::Refused(ExprFault::RepeatedDefinition { name }),
         }
     }
 
     /// The refusal of a name that is taken: it is reserved or a variable's.
-    pub fn reserved_name(alloc: A, name: &[u8]) -> ExprFault<A>
+    pub fn reserved_name(alloc: A, name: &[u8]) -> Failure<ExprFault<A>>
         ensures { Says result (ReservedName name.now) }
     {
         match copied(alloc, name) {
-            Err(_) => ExprFault::Memory,
-            Ok(name) => ExprFault::ReservedName { name },
+            Err(_) => Failure::Memory,
+            Ok(name) => Failure::Refused(ExprFault::ReservedName { name }),
         }
     }
 }
 
-impl<A: Allocator> From<AllocError> for ExprFault<A> {
-    ghost from_gives = { λ _ e. e ≡ Memory };
+impl<A: Allocator> From<ExprFault<A>> for Failure<ExprFault<A>> {
+    ghost from_gives = { λ fault e. e ≡ Refused fault };
 
-    fn from(_e: AllocError) -> ExprFault<A> {
-        ExprFault::Memory
-    }
-}
-
-impl<T: Drop, A: Allocator> From<AllocFailed<T>> for ExprFault<A> {
-    ghost from_gives = { λ _ e. e ≡ Memory };
-
-    fn from(_e: AllocFailed<T>) -> ExprFault<A> {
-        ExprFault::Memory
+    fn from(fault: ExprFault<A>) -> Failure<ExprFault<A>> {
+        Failure::Refused(fault)
     }
 }

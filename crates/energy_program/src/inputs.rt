@@ -5,13 +5,15 @@ ghost use Rattle.std.specs.Option.{option_map};
 ghost use Rattle.std.specs.Str.{bytes_eq};
 ghost use Rattle.line_text.specs.Identifiers.{is_identifier};
 ghost use Rattle.energy_program.specs.Names.{first_repeated, input_of, names_from, parameters_and_globals};
-ghost use Rattle.energy_program.specs.Faults.{Gives, IsOrMemory, RepeatedDefinition, Says};
+ghost use Rattle.fallible.specs.Failures.{IsOrMemory};
+ghost use Rattle.energy_program.specs.Faults.{Gives, RepeatedDefinition, Says};
 ghost use Rattle.energy_program.specs.Tree.{inputs_of};
 ghost use Rattle.energy_program.specs.Variables.{added, filled, names_in, names_of};
 
 use crate::faults::ExprFault;
 use crate::names::is_reserved;
 use crate::variables::{MAX_GLOBALS, MAX_PARAMETERS, NameSet, Names};
+use fallible::Failure;
 use indexmap::IndexSet;
 use std::alloc::Allocator;
 
@@ -39,7 +41,10 @@ fn first_repeated<'a>(names: &[&'a [u8]]) -> Option<&'a [u8]>
 }
 
 // Refuses the first name that comes again.
-fn refuse_repeated<A: Allocator + Copy>(alloc: A, names: &[&[u8]]) -> Result<(), ExprFault<A>>
+fn refuse_repeated<A: Allocator + Copy>(
+    alloc: A,
+    names: &[&[u8]],
+) -> Result<(), Failure<ExprFault<A>>>
     ensures once { OnOk result (first_repeated (map (λ n. n.now) names.now) ≡ None) }
     ensures refused { IfErr result (λ e. IsSomeAnd (first_repeated (map (λ n. n.now) names.now)) (λ name. Says e (RepeatedDefinition name))) }
 {
@@ -54,7 +59,7 @@ fn add<A: Allocator + Copy>(
     alloc: A,
     names: &mut NameSet<A>,
     name: &[u8],
-) -> Result<(), ExprFault<A>>
+) -> Result<(), Failure<ExprFault<A>>>
     ensures { Gives (λ _. names_in names.new) result (added (names_in names.old) name.now) }
 {
     if is_reserved(name) {
@@ -73,7 +78,7 @@ fn numbered<A: Allocator + Copy>(
     alloc: A,
     parameter: &[u8],
     digit: u8,
-) -> Result<Vec<u8, A>, ExprFault<A>>
+) -> Result<Vec<u8, A>, Failure<ExprFault<A>>>
     ensures { IsOrMemory (λ name. name.items ≡ parameter.now ++ digit ∷ []) result }
 {
     let mut name = Vec::from_slice(alloc, parameter)?;
@@ -87,7 +92,7 @@ fn add_particle<A: Allocator + Copy>(
     names: &mut NameSet<A>,
     parameters: &[&[u8]],
     digit: u8,
-) -> Result<(), ExprFault<A>>
+) -> Result<(), Failure<ExprFault<A>>>
     ensures { Gives (λ _. names_in names.new) result (filled (names_in names.old) (map (λ p. p.now ++ digit ∷ []) parameters.now)) }
 {
     for parameter in parameters {
@@ -101,7 +106,7 @@ fn add_all<A: Allocator + Copy>(
     alloc: A,
     names: &mut NameSet<A>,
     globals: &[&[u8]],
-) -> Result<(), ExprFault<A>>
+) -> Result<(), Failure<ExprFault<A>>>
     ensures { Gives (λ _. names_in names.new) result (filled (names_in names.old) (map (λ g. g.now) globals.now)) }
 {
     for global in globals {
@@ -111,7 +116,7 @@ fn add_all<A: Allocator + Copy>(
 }
 
 // The distance.
-fn only_distance<A: Allocator + Copy>(alloc: A) -> Result<NameSet<A>, ExprFault<A>>
+fn only_distance<A: Allocator + Copy>(alloc: A) -> Result<NameSet<A>, Failure<ExprFault<A>>>
     ensures { IsOrMemory (λ names. names_in names ≡ codes "r" ∷ []) result }
 {
     let mut names = IndexSet::new(alloc);
@@ -124,7 +129,7 @@ fn all_variables<A: Allocator + Copy>(
     alloc: A,
     parameters: &[&[u8]],
     globals: &[&[u8]],
-) -> Result<NameSet<A>, ExprFault<A>>
+) -> Result<NameSet<A>, Failure<ExprFault<A>>>
     ensures { Gives names_in result (filled (codes "r" ∷ []) (parameters_and_globals (map (λ p. p.now) parameters.now) (map (λ g. g.now) globals.now))) }
 {
     let mut names = only_distance(alloc)?;
@@ -140,9 +145,14 @@ impl<A: Allocator + Copy> Names<A> {
     /// It refuses more than 8 parameters or 16 globals by `TooLarge`; else a name that stands twice in its own list by
     /// `RepeatedDefinition`, the first that occurs again; else a variable by `ReservedName` whose name is reserved or an earlier
     /// one's, the first such: parameters come before globals. So a parameter `atan` is refused for its variable `atan2`.
+    /// `Memory`: an allocation was refused.
     ///
     /// The caller hands in identifiers.
-    pub fn new(alloc: A, parameters: &[&[u8]], globals: &[&[u8]]) -> Result<Names<A>, ExprFault<A>>
+    pub fn new(
+        alloc: A,
+        parameters: &[&[u8]],
+        globals: &[&[u8]],
+    ) -> Result<Names<A>, Failure<ExprFault<A>>>
         requires parameters_named { All (λ p. IsTrue (is_identifier p.now)) parameters.now }
         requires globals_named { All (λ g. IsTrue (is_identifier g.now)) globals.now }
         ensures exact { Gives names_of result (names_from (map (λ p. p.now) parameters.now) (map (λ g. g.now) globals.now)) }
@@ -150,7 +160,7 @@ impl<A: Allocator + Copy> Names<A> {
         ensures globals { IfOk result (λ n. n.globals ≡ length globals.now) }
     {
         if parameters.len() > MAX_PARAMETERS || globals.len() > MAX_GLOBALS {
-            return Err(ExprFault::TooLarge);
+            return Err(Failure::Refused(ExprFault::TooLarge));
         }
         refuse_repeated(alloc, parameters)?;
         refuse_repeated(alloc, globals)?;

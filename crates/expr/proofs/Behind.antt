@@ -2,6 +2,7 @@
 use Rattle.std.proofs.Common.{◌≡◌, ℕ, suc, ◌+◌, ◌-◌, ◌<◌, ◌≤◌, Bool, true, false, eqb, List, [], ◌∷◌, ◌++◌, length, Option, Some, None, Result, Ok, Err, refl, sym, ap, ◌∙◌, append_assoc, arith}
 use Rattle.std.proofs.lemmas.Bool.{eqb-true, eqb-false}
 use Rattle.std.proofs.lemmas.List.{append-nil}
+use Rattle.fallible.specs.declared.failure.Failure.{Failure}
 use Rattle.energy_program.specs.declared.faults.ExprFault.{ExprFault}
 use Rattle.line_text.specs.Steps.{◌>>=◌}
 use Rattle.energy_program.specs.Faults.{Refusal, Fails}
@@ -88,7 +89,7 @@ starts end ts body rest front count f c e = rw (f, c, e) refl
 
 -- ---- faults and the end
 
-heading_fails_by : {C : Type 0} (end count : ℕ) (ts : List Placed) (full : Bool) (e : ExprFault C) → count ≤ 64 → eqb count 64 ≡ full → Fails e (heading_at end full ts) → Fails e (definitions_at end (64 - count) ts)
+heading_fails_by : {C : Type 0} (end count : ℕ) (ts : List Placed) (full : Bool) (e : Failure (ExprFault C)) → count ≤ 64 → eqb count 64 ≡ full → Fails e (heading_at end full ts) → Fails e (definitions_at end (64 - count) ts)
 unfolding definitions_at
 heading_fails_by end count ts true e few c h =
     fails_same e (definitions_at end 0 ts) (definitions_at end (64 - count) ts) (ap (λ (z : ℕ). definitions_at end z ts) (none_left count c)) (fails_then e (heading_at end true ts) (λ h. Ok []) h)
@@ -96,7 +97,7 @@ heading_fails_by end count ts false e few c h =
     fails_same e (definitions_at end (suc (64 - (count + 1))) ts) (definitions_at end (64 - count) ts) (ap (λ (z : ℕ). definitions_at end z ts) (one_less count few c))
     (fails_then e (heading_at end false ts) (λ h. defined (expr_at end 65) (definitions_at end (64 - (count + 1))) h) h)
 
-pub heading_fails : {C : Type 0} (end count : ℕ) (body : Syntax) (front : List Definition) (ts : List Placed) (e : ExprFault C) → count ≤ 64 → Fails e (heading_at end (eqb count 64) ts)
+pub heading_fails : {C : Type 0} (end count : ℕ) (body : Syntax) (front : List Definition) (ts : List Placed) (e : Failure (ExprFault C)) → count ≤ 64 → Fails e (heading_at end (eqb count 64) ts)
     → Fails e (behind body front (definitions_at end (64 - count) ts))
 heading_fails end count body front ts e few h = fails_then e (definitions_at end (64 - count) ts) (λ ds. Ok (body, front ++ ds)) (heading_fails_by end count ts (eqb count 64) e few refl h)
 
@@ -105,14 +106,14 @@ value_turn : (end n : ℕ) (ts : List Placed) (w : List ℕ) (after : List Place
 unfolding definitions_at
 value_turn end n ts w after h = rw h refl
 
-value_fails_by : {C : Type 0} (end count : ℕ) (ts : List Placed) (full : Bool) (w : List ℕ) (after : List Placed) (e : ExprFault C) → count ≤ 64 → eqb count 64 ≡ full → heading_at end full ts ≡ Ok (Some (w, after)) → Fails e (expr_at end 65 after)
+value_fails_by : {C : Type 0} (end count : ℕ) (ts : List Placed) (full : Bool) (w : List ℕ) (after : List Placed) (e : Failure (ExprFault C)) → count ≤ 64 → eqb count 64 ≡ full → heading_at end full ts ≡ Ok (Some (w, after)) → Fails e (expr_at end 65 after)
     → Fails e (definitions_at end (64 - count) ts)
 value_fails_by end count ts true w after e few c h f = absurd (full_none end ts (w, after) h)
 value_fails_by end count ts false w after e few c h f =
     fails_same e _ (definitions_at end (64 - count) ts) (ap (λ (z : ℕ). definitions_at end z ts) (one_less count few c) ∙ value_turn end (64 - (count + 1)) ts w after h)
     (fails_then e (expr_at end 65 after) (λ x. before ((w, x.0) ∷ []) (definitions_at end (64 - (count + 1)) x.1)) f)
 
-pub value_fails : {C : Type 0} (end count : ℕ) (body : Syntax) (front : List Definition) (ts : List Placed) (w : List ℕ) (after : List Placed) (e : ExprFault C) → count ≤ 64 → heading_at end (eqb count 64) ts ≡ Ok (Some (w, after))
+pub value_fails : {C : Type 0} (end count : ℕ) (body : Syntax) (front : List Definition) (ts : List Placed) (w : List ℕ) (after : List Placed) (e : Failure (ExprFault C)) → count ≤ 64 → heading_at end (eqb count 64) ts ≡ Ok (Some (w, after))
     → Fails e (expr_at end 65 after) → Fails e (behind body front (definitions_at end (64 - count) ts))
 value_fails end count body front ts w after e few h f =
     fails_then e (definitions_at end (64 - count) ts) (λ ds. Ok (body, front ++ ds)) (value_fails_by end count ts (eqb count 64) w after e few refl h f)
@@ -126,6 +127,6 @@ pub ends : (end count : ℕ) (body : Syntax) (front : List Definition) (ts : Lis
     → behind body front (definitions_at end (64 - count) ts) ≡ Ok (body, front)
 ends end count body front ts few h = ap (behind body front) (ends_by end count ts (eqb count 64) few refl h) ∙ simp append-nil refl
 
-pub body_fails : {C : Type 0} (end : ℕ) (ts : List Placed) (e : ExprFault C) → Fails e (expr_at end 65 ts) → Fails e (source_at end ts)
+pub body_fails : {C : Type 0} (end : ℕ) (ts : List Placed) (e : Failure (ExprFault C)) → Fails e (expr_at end 65 ts) → Fails e (source_at end ts)
 unfolding source_at
 body_fails end ts e h = fails_then e (expr_at end 65 ts) (λ x. definitions_at end 64 x.1 >>= λ ds. Ok (x.0, ds)) h

@@ -1,20 +1,20 @@
 -- What each level reads, as the code takes it apart.
 use Rattle.std.proofs.Common.{◌≡◌, ℕ, zero, suc, ◌-◌, ◌<◌, List, length, Option, Some, None, Result, Ok, Err, refl, ap, ◌∙◌, arith}
-use Rattle.std.specs.Borrow.{Bor}
+use Rattle.fallible.specs.declared.failure.Failure.{Failure}
 use Rattle.energy_program.specs.declared.faults.ExprFault.{ExprFault}
-use Rattle.expr.specs.declared.tokens.Token.{Token}
 use Rattle.energy_program.specs.declared.trees.Operator.{Operator}
 use Rattle.line_text.specs.Steps.{◌>>=◌}
-use Rattle.energy_program.specs.Faults.{Refusal, Fails, FailsBy, Gives, refusal_of}
-use Rattle.expr.specs.Tokens.{Placed, placed}
+use Rattle.energy_program.specs.Faults.{Refusal, Fails, Gives, refusal_of}
+use Rattle.expr.specs.Tokens.{Placed}
 use Rattle.expr.specs.Syntax.{Syntax, Arguments, One, with_argument}
 use Rattle.expr.specs.Syntax as tree
-use Rattle.expr.specs.Parsing.{arguments_at, arguments_by, beside, close, close_sign, closed, rest_seen, ReadingOf, power_at, call_at, list_at, listed, comma_sign, Reading, Beginning, Word, Group, start, misplaced, sum_sign, product_sign, minus_sign, open_sign, chain, chained, atom_by, unary_by, name_by, unary_at, term_at, expr_at, closed_at, atom_at}
+use Rattle.expr.specs.Parsing.{ReadingOf, power_at, call_at, list_at, listed, comma_sign, Reading, Beginning, Word, Group, start, misplaced, sum_sign, product_sign, minus_sign, open_sign, chain, chained, atom_by, unary_by, name_by, unary_at, term_at, expr_at, closed_at, atom_at}
+use Rattle.fallible.proofs.FailureLaws.{fails_as}
 use Rattle.energy_program.proofs.FaultLaws.{fails_same, fails_then}
 use Rattle.expr.proofs.Chain.{turn, turn_fails, turn_ends, sum_signs, product_signs, comma_signs, unary_takes, term_takes, expr_takes}
 
 -- what a call gave stands for what is equal
-pub gives_same : {C X Y : Type 0} (view : X → Y) (r : Result X (ExprFault C)) (s u : Result Y Refusal) → u ≡ s → Gives view r s → Gives view r u
+pub gives_same : {C X Y : Type 0} (view : X → Y) (r : Result X (Failure (ExprFault C))) (s u : Result Y Refusal) → u ≡ s → Gives view r s → Gives view r u
 gives_same view r s u same h = rw same h
 
 abbrev pub reading : Syntax → List Placed → Reading
@@ -44,7 +44,7 @@ pub unary_minus : (end n : ℕ) (ts rest : List Placed) → 0 < n → minus_sign
 unary_minus end zero ts rest d e = absurd (omega arith)
 unary_minus end (suc n) ts rest d e = rw (less_one (suc n) n refl) (unary_is end n ts ∙ ap (unary_by (unary_at end n) (power_at end n ts)) e)
 
-pub minus_fails : {C : Type 0} (end n : ℕ) (ts rest : List Placed) (e : ExprFault C) → 0 < n → minus_sign ts ≡ Some rest → Fails e (unary_at end (n - 1) rest) → Fails e (unary_at end n ts)
+pub minus_fails : {C : Type 0} (end n : ℕ) (ts rest : List Placed) (e : Failure (ExprFault C)) → 0 < n → minus_sign ts ≡ Some rest → Fails e (unary_at end (n - 1) rest) → Fails e (unary_at end n ts)
 minus_fails end n ts rest e d f h = fails_same e _ (unary_at end n ts) (unary_minus end n ts rest d f) (fails_then e (unary_at end (n - 1) rest) (λ x. Ok (tree.Negated x.0, x.1)) h)
 
 pub minus_reads : (end n : ℕ) (ts rest : List Placed) (x : Syntax) (after : List Placed) → 0 < n → minus_sign ts ≡ Some rest → unary_at end (n - 1) rest ≡ Ok (x, after) → unary_at end n ts ≡ Ok (tree.Negated x, after)
@@ -60,11 +60,11 @@ pub expr_starts : (end n : ℕ) (ts : List Placed) (x : Syntax) (rest : List Pla
 unfolding expr_at chained
 expr_starts end n ts x rest e = rw e refl
 
-pub term_fails : {C : Type 0} (end n : ℕ) (ts : List Placed) (e : ExprFault C) → Fails e (unary_at end n ts) → Fails e (term_at end n ts)
+pub term_fails : {C : Type 0} (end n : ℕ) (ts : List Placed) (e : Failure (ExprFault C)) → Fails e (unary_at end n ts) → Fails e (term_at end n ts)
 unfolding term_at chained
 term_fails end n ts e h = fails_then e (unary_at end n ts) (λ x. chain product_sign (unary_at end n) tree.Binary (length x.1) x.0 x.1) h
 
-pub expr_fails : {C : Type 0} (end n : ℕ) (ts : List Placed) (e : ExprFault C) → Fails e (term_at end n ts) → Fails e (expr_at end n ts)
+pub expr_fails : {C : Type 0} (end n : ℕ) (ts : List Placed) (e : Failure (ExprFault C)) → Fails e (term_at end n ts) → Fails e (expr_at end n ts)
 unfolding expr_at chained
 expr_fails end n ts e h = fails_then e (term_at end n ts) (λ x. chain sum_sign (term_at end n) tree.Binary (length x.1) x.0 x.1) h
 
@@ -77,18 +77,14 @@ pub expr_turn : (end n : ℕ) (left : Syntax) (ts : List Placed) (o : Operator) 
 expr_turn end n = turn sum_sign (term_at end n) tree.Binary sum_signs (term_takes end n)
 
 -- a fault of an operand is the loop's
-chain_fails_by : {X : Type 0} (o : Option Refusal) (operand : Reading) (whole : ReadingOf X) → ((f : Refusal) → operand ≡ Err f → whole ≡ Err f) → FailsBy operand o → FailsBy whole o
-chain_fails_by (Some said) operand whole k h = k said h
-chain_fails_by None operand whole k h = tt
+chain_fails : {C X : Type 0} (e : Failure (ExprFault C)) (operand : Reading) (whole : ReadingOf X) → ((f : Refusal) → operand ≡ Err f → whole ≡ Err f) → Fails e operand → Fails e whole
+chain_fails e operand whole k h = fails_as refusal_of e operand whole k h
 
-chain_fails : {C X : Type 0} (e : ExprFault C) (operand : Reading) (whole : ReadingOf X) → ((f : Refusal) → operand ≡ Err f → whole ≡ Err f) → Fails e operand → Fails e whole
-chain_fails e operand whole k h = chain_fails_by (refusal_of e) operand whole k h
-
-pub term_turn_fails : {C : Type 0} (end n : ℕ) (left : Syntax) (ts : List Placed) (o : Operator) (rest : List Placed) (e : ExprFault C) → product_sign ts ≡ Some (o, rest) → Fails e (unary_at end n rest)
+pub term_turn_fails : {C : Type 0} (end n : ℕ) (left : Syntax) (ts : List Placed) (o : Operator) (rest : List Placed) (e : Failure (ExprFault C)) → product_sign ts ≡ Some (o, rest) → Fails e (unary_at end n rest)
     → Fails e (chain product_sign (unary_at end n) tree.Binary (length ts) left ts)
 term_turn_fails end n left ts o rest e s h = chain_fails e (unary_at end n rest) _ (λ f. turn_fails product_sign (unary_at end n) tree.Binary product_signs (unary_takes end n) left ts o rest f s) h
 
-pub expr_turn_fails : {C : Type 0} (end n : ℕ) (left : Syntax) (ts : List Placed) (o : Operator) (rest : List Placed) (e : ExprFault C) → sum_sign ts ≡ Some (o, rest) → Fails e (term_at end n rest)
+pub expr_turn_fails : {C : Type 0} (end n : ℕ) (left : Syntax) (ts : List Placed) (o : Operator) (rest : List Placed) (e : Failure (ExprFault C)) → sum_sign ts ≡ Some (o, rest) → Fails e (term_at end n rest)
     → Fails e (chain sum_sign (term_at end n) tree.Binary (length ts) left ts)
 expr_turn_fails end n left ts o rest e s h = chain_fails e (term_at end n rest) _ (λ f. turn_fails sum_sign (term_at end n) tree.Binary sum_signs (term_takes end n) left ts o rest f s) h
 
@@ -122,21 +118,7 @@ pub atom_call : (end n : ℕ) (ts : List Placed) (w : List ℕ) (rest inside : L
 unfolding call_at
 atom_call end n ts w rest inside f o = atom_start end n ts _ f ∙ ap (name_by end (expr_at end n) w rest) o
 
-pub group_closes : (end n : ℕ) (ts : List Placed) (x : Syntax) (rest : List Placed) → expr_at end n ts ≡ Ok (x, rest) → closed_at end n ts ≡ (close end rest >>= λ after. Ok (x, after))
-unfolding closed_at closed
-group_closes end n ts x rest e = rw e refl
-
--- what closes behind a value
-pub closes : {C X V : Type 0} (of : X → V) (x : X) (r : Result (Bor (List Token)) (ExprFault C)) (s : Result (List Placed) Refusal) (result : Result (X × Bor (List Token)) (ExprFault C)) (whole : Result (V × List Placed) Refusal)
-    → result ≡ beside x r → Gives rest_seen r s → whole ≡ (s >>= λ after. Ok (of x, after)) → Gives {Y = V × List Placed} (λ (p : X × Bor (List Token)). (of p.0, placed p.1.now)) result whole
-closes of x (Ok y) s result whole m h e = rw (m, e, h) refl
-closes of x (Err f) s result whole m h e = rw (m, e) (fails_then f s (λ after. Ok (of x, after)) h)
-
 -- ---- arguments
-
-pub arguments_close : (end n : ℕ) (ts : List Placed) (xs : Arguments) (rest : List Placed) → close_sign ts ≡ None → list_at end n ts ≡ Ok (xs, rest) → arguments_at end n ts ≡ (close end rest >>= λ after. Ok (xs, after))
-unfolding arguments_at list_at closed
-arguments_close end n ts xs rest none e = ap (arguments_by end (expr_at end n) ts) none ∙ rw e refl
 
 abbrev pub list_reading : Arguments → List Placed → ReadingOf Arguments
 list_reading xs rest = Ok (xs, rest)
@@ -145,7 +127,7 @@ pub list_starts : (end n : ℕ) (ts : List Placed) (x : Syntax) (rest : List Pla
 unfolding list_at chained
 list_starts end n ts x rest e = rw e refl
 
-pub list_fails : {C : Type 0} (end n : ℕ) (ts : List Placed) (e : ExprFault C) → Fails e (expr_at end n ts) → Fails e (list_at end n ts)
+pub list_fails : {C : Type 0} (end n : ℕ) (ts : List Placed) (e : Failure (ExprFault C)) → Fails e (expr_at end n ts) → Fails e (list_at end n ts)
 unfolding list_at chained
 list_fails end n ts e h = fails_then e (expr_at end n ts) (λ x. chain comma_sign (expr_at end n) listed (length x.1) (One x.0) x.1) h
 
@@ -153,7 +135,7 @@ pub list_turn : (end n : ℕ) (left : Arguments) (ts : List Placed) (at : ℕ) (
     → chain comma_sign (expr_at end n) listed (length ts) left ts ≡ chain comma_sign (expr_at end n) listed (length after) (with_argument left y) after
 list_turn end n = turn comma_sign (expr_at end n) listed comma_signs (expr_takes end n)
 
-pub list_turn_fails : {C : Type 0} (end n : ℕ) (left : Arguments) (ts : List Placed) (at : ℕ) (rest : List Placed) (e : ExprFault C) → comma_sign ts ≡ Some (at, rest) → Fails e (expr_at end n rest)
+pub list_turn_fails : {C : Type 0} (end n : ℕ) (left : Arguments) (ts : List Placed) (at : ℕ) (rest : List Placed) (e : Failure (ExprFault C)) → comma_sign ts ≡ Some (at, rest) → Fails e (expr_at end n rest)
     → Fails e (chain comma_sign (expr_at end n) listed (length ts) left ts)
 list_turn_fails end n left ts at rest e s h = chain_fails e (expr_at end n rest) _ (λ f. turn_fails comma_sign (expr_at end n) listed comma_signs (expr_takes end n) left ts at rest f s) h
 

@@ -1,6 +1,7 @@
 -- What is made of parts whose names are resolved.
 use Rattle.std.proofs.Common.{◌≡◌, ℕ, List, Result, Ok, Err, refl}
 use Rattle.std.specs.Prelude.{Box}
+use Rattle.fallible.specs.declared.failure.Failure.{Failure}
 use Rattle.energy_program.specs.declared.faults.ExprFault.{ExprFault}
 use Rattle.energy_program.specs.declared.trees.Expr as code
 use Rattle.energy_program.specs.declared.trees.Function.{Function}
@@ -15,7 +16,7 @@ use Rattle.expr.specs.Syntax as s
 use Rattle.expr.specs.Uses.{Grows, resolved}
 
 abbrev pub Part : Type 0 → Type 0
-Part A = Result (Box (code.Expr A) A) (ExprFault A)
+Part A = Result (Box (code.Expr A) A) (Failure (ExprFault A))
 
 abbrev pub part_tree : {A : Type 0} → Box (code.Expr A) A → Tree
 part_tree part = tree_of part.value

@@ -1,14 +1,17 @@
 -- A text is read as a tree where the grammar says so, and nowhere else; and each refusal has its cause.
 use Rattle.std.proofs.Common.{◌≡◌, ◌⊎◌, inl, inr, ℕ, ℤ, ◌+◌, ◌<◌, ◌≤◌, Bool, true, false, ltb, List, [], ◌∷◌, length, Option, Some, None, Result, Ok, Err, refl, sym, ap, subst, ◌∙◌}
-use Rattle.std.specs.Prelude.{IfOk, IfErr, IfSome}
+use Rattle.std.specs.Prelude.{IfOk, IfErr}
 use Rattle.std.proofs.lemmas.Bool.{ltb-true, ltb-false, le-ltb}
+use Rattle.fallible.specs.Failures.{IfRefused}
+use Rattle.fallible.specs.declared.failure.Failure.{Failure}
+use Rattle.fallible.specs.declared.failure.Failure.TheVariants.{Refused, Memory}
+use Rattle.fallible.proofs.FailureLaws.{refused_for}
 use Rattle.energy_program.specs.declared.faults.ExprFault.{ExprFault}
-use Rattle.energy_program.specs.declared.faults.ExprFault.TheVariants as fault
 use Rattle.energy_program.specs.declared.trees.Operator.{Operator}
 use Rattle.energy_program.specs.declared.trees.Function.{Function}
 use Rattle.energy_program.specs.declared.programs.Program.{Program}
 use Rattle.line_text.specs.Steps.{◌>>=◌}
-use Rattle.energy_program.specs.Faults.{Refusal, BadCharacter, BadNumber, UnexpectedToken, UnknownName, WrongArgumentCount, BadExponent, NumberRange, RepeatedDefinition, ReservedName, TooLarge, LeftOutFunction, refusal_of, FailsBy, Fails, Gives}
+use Rattle.energy_program.specs.Faults.{Refusal, BadCharacter, BadNumber, UnexpectedToken, UnknownName, WrongArgumentCount, BadExponent, NumberRange, RepeatedDefinition, ReservedName, TooLarge, LeftOutFunction, refusal_of, Fails, Gives}
 use Rattle.expr.specs.Tokens.{Placed}
 use Rattle.expr.specs.Syntax.{Syntax, Definition, Source, names_in}
 use Rattle.expr.specs.Syntax as s
@@ -74,7 +77,7 @@ source_is bits vs text ts source t few s =
     ∙ ap (λ (c : Bool). of_few (trees vs) vs (length text) (limited c ts)) (le-ltb 4096 (length ts) few)
     ∙ ap (of_source (trees vs) vs) s
 
-pub named_fails : {A : Type 0} (bits : ℕ) (vs : List (List ℕ)) (text : List ℕ) (ts : List Placed) (source : Source) (e : ExprFault A) → tokens_of bits text ≡ Ok ts → length ts ≤ 4096 → source_at (length text) ts ≡ Ok source
+pub named_fails : {A : Type 0} (bits : ℕ) (vs : List (List ℕ)) (text : List ℕ) (ts : List Placed) (source : Source) (e : Failure (ExprFault A)) → tokens_of bits text ≡ Ok ts → length ts ≤ 4096 → source_at (length text) ts ≡ Ok source
     → Fails e (checked vs [] (names_in source.1)) → Fails e (trees_in bits vs text)
 named_fails bits vs text ts source e t few s h =
     fails_same e (of_names (trees vs) source (checked vs [] (names_in source.1))) (trees_in bits vs text) (source_is bits vs text ts source t few s) (fails_then e (checked vs [] (names_in source.1)) (λ names. trees vs source) h)
@@ -84,7 +87,7 @@ pub named_is : (bits : ℕ) (vs : List (List ℕ)) (text : List ℕ) (ts : List 
 named_is bits vs text ts source all t few s h = source_is bits vs text ts source t few s ∙ ap (of_names (trees vs) source) h
 
 -- the program's trees say its tree
-pub in_place_gives : {A : Type 0} (bits : ℕ) (vs : List (List ℕ)) (text : List ℕ) (r : Result (Program A) (ExprFault A)) → Gives trees_of r (trees_in bits vs text) → Gives program_tree r (program_of bits vs text)
+pub in_place_gives : {A : Type 0} (bits : ℕ) (vs : List (List ℕ)) (text : List ℕ) (r : Result (Program A) (Failure (ExprFault A))) → Gives trees_of r (trees_in bits vs text) → Gives program_tree r (program_of bits vs text)
 unfolding program_of
 in_place_gives bits vs text (Ok p) h = ap in_place h
 in_place_gives bits vs text (Err e) h = fails_then e (trees_in bits vs text) (λ t. Ok (substituted t.0 t.1)) h
@@ -119,7 +122,7 @@ found bits vs text e h =
       meant = d.2;
     }
 
-pub is_found : {A : Type 0} (bits : ℕ) (vs : List (List ℕ)) (text : List ℕ) (r : Result (Program A) (ExprFault A)) → Gives program_tree r (program_of bits vs text) → IfOk r (λ p. IsEnergy bits vs text 64 (program_tree p))
+pub is_found : {A : Type 0} (bits : ℕ) (vs : List (List ℕ)) (text : List ℕ) (r : Result (Program A) (Failure (ExprFault A))) → Gives program_tree r (program_of bits vs text) → IfOk r (λ p. IsEnergy bits vs text 64 (program_tree p))
 is_found bits vs text (Ok p) h = found bits vs text (program_tree p) h
 is_found bits vs text (Err f) h = tt
 
@@ -137,34 +140,14 @@ complete bits vs text n e p =
         inl (start ∙ ap (of_source (meaning vs) vs) h ∙ ap (of_names (meaning vs) (p.body, p.definitions)) (new_checked vs [] (names_in p.definitions) p.new) ∙ p.meant)
     by_source start (inr h) = inr (h.0, start ∙ ap (of_source (meaning vs) vs) h.1)
 
-read_as : {A : Type 0} (n : ℕ) (e : Tree) (r : Result (Program A) (ExprFault A)) (whole : Result Tree Refusal) → (whole ≡ Ok e) ⊎ ((64 < n) × (whole ≡ Err TooLarge)) → Gives program_tree r whole → IsRead n e r
+read_as : {A : Type 0} (n : ℕ) (e : Tree) (r : Result (Program A) (Failure (ExprFault A))) (whole : Result Tree Refusal) → (whole ≡ Ok e) ⊎ ((64 < n) × (whole ≡ Err TooLarge)) → Gives program_tree r whole → IsRead n e r
 read_as n e (Ok x) whole (inl h) g = ok_is (program_tree x) e (sym g ∙ h)
 read_as n e (Ok x) whole (inr h) g = absurd cc
-read_as n e (Err fault.Memory) whole w g = tt
-read_as n e (Err fault.TooLarge) whole (inl h) g = absurd cc
-read_as n e (Err fault.TooLarge) whole (inr h) g = h.0
-read_as n e (Err (fault.UnexpectedToken at)) whole (inl h) g = absurd cc
-read_as n e (Err (fault.UnexpectedToken at)) whole (inr h) g = absurd cc
-read_as n e (Err (fault.UnknownName name)) whole (inl h) g = absurd cc
-read_as n e (Err (fault.UnknownName name)) whole (inr h) g = absurd cc
-read_as n e (Err (fault.LeftOutFunction name)) whole (inl h) g = absurd cc
-read_as n e (Err (fault.LeftOutFunction name)) whole (inr h) g = absurd cc
-read_as n e (Err (fault.BadCharacter at)) whole (inl h) g = absurd cc
-read_as n e (Err (fault.BadCharacter at)) whole (inr h) g = absurd cc
-read_as n e (Err (fault.BadNumber at)) whole (inl h) g = absurd cc
-read_as n e (Err (fault.BadNumber at)) whole (inr h) g = absurd cc
-read_as n e (Err (fault.WrongArgumentCount name)) whole (inl h) g = absurd cc
-read_as n e (Err (fault.WrongArgumentCount name)) whole (inr h) g = absurd cc
-read_as n e (Err (fault.BadExponent at)) whole (inl h) g = absurd cc
-read_as n e (Err (fault.BadExponent at)) whole (inr h) g = absurd cc
-read_as n e (Err (fault.RepeatedDefinition name)) whole (inl h) g = absurd cc
-read_as n e (Err (fault.RepeatedDefinition name)) whole (inr h) g = absurd cc
-read_as n e (Err (fault.ReservedName name)) whole (inl h) g = absurd cc
-read_as n e (Err (fault.ReservedName name)) whole (inr h) g = absurd cc
-read_as n e (Err (fault.NumberRange at)) whole (inl h) g = absurd cc
-read_as n e (Err (fault.NumberRange at)) whole (inr h) g = absurd cc
+read_as n e (Err (Refused fault)) whole (inl h) g = absurd cc
+read_as n e (Err (Refused fault)) whole (inr h) g = (err_is (refusal_of fault) TooLarge (sym g ∙ h.1), h.0)
+read_as n e (Err Memory) whole w g = tt
 
-pub is_read : {A : Type 0} (bits : ℕ) (vs : List (List ℕ)) (text : List ℕ) (r : Result (Program A) (ExprFault A)) → Gives program_tree r (program_of bits vs text) → (n : ℕ) (e : Tree) → IsEnergy bits vs text n e → IsRead n e r
+pub is_read : {A : Type 0} (bits : ℕ) (vs : List (List ℕ)) (text : List ℕ) (r : Result (Program A) (Failure (ExprFault A))) → Gives program_tree r (program_of bits vs text) → (n : ℕ) (e : Tree) → IsEnergy bits vs text n e → IsRead n e r
 is_read bits vs text r h n e p = read_as n e r (program_of bits vs text) (complete bits vs text n e p) h
 
 -- ---- causes
@@ -337,13 +320,7 @@ cause_by bits vs text (RepeatedDefinition w) (uses ts source all t s n e) = let 
 cause_by bits vs text (ReservedName w) (uses ts source all t s n e) = let k = (meaning_err vs source (ReservedName w) e).1 in absurd cc
 cause_by bits vs text (LeftOutFunction w) (uses ts source all t s n e) = let k = (meaning_err vs source (LeftOutFunction w) e).1 in absurd cc
 
-cause_of_said : (bits : ℕ) (vs : List (List ℕ)) (text : List ℕ) (said : Option Refusal) → FailsBy (program_of bits vs text) said → IfSome said (IsCause bits vs text)
-cause_of_said bits vs text (Some r) h = cause_by bits vs text r (step_of bits vs text r h)
-cause_of_said bits vs text None h = tt
-
-cause_of : {A : Type 0} (bits : ℕ) (vs : List (List ℕ)) (text : List ℕ) (e : ExprFault A) → Fails e (program_of bits vs text) → IfSome (refusal_of e) (IsCause bits vs text)
-cause_of bits vs text e h = cause_of_said bits vs text (refusal_of e) h
-
-pub is_cause : {A : Type 0} (bits : ℕ) (vs : List (List ℕ)) (text : List ℕ) (r : Result (Program A) (ExprFault A)) → Gives program_tree r (program_of bits vs text) → IfErr r (λ e. IfSome (refusal_of e) (IsCause bits vs text))
-is_cause bits vs text (Ok p) h = tt
-is_cause bits vs text (Err e) h = cause_of bits vs text e h
+pub is_cause : {A : Type 0} (bits : ℕ) (vs : List (List ℕ)) (text : List ℕ) (r : Result (Program A) (Failure (ExprFault A))) → Gives program_tree r (program_of bits vs text)
+    → IfErr r (λ failure. IfRefused failure (λ fault. IsCause bits vs text (refusal_of fault)))
+is_cause bits vs text r h =
+    refused_for program_tree refusal_of (λ fault. IsCause bits vs text (refusal_of fault)) r (program_of bits vs text) (λ fault e. cause_by bits vs text (refusal_of fault) (step_of bits vs text (refusal_of fault) e)) h

@@ -3,6 +3,7 @@ use Rattle.std.proofs.Common.{◌≡◌, ℕ, ◌+◌, ◌<◌, Bool, true, fals
 use Rattle.std.specs.Prelude.{◌&&◌}
 use Rattle.std.proofs.lemmas.Bool.{and_parts}
 use Rattle.std.proofs.lemmas.List.{append-nil}
+use Rattle.fallible.specs.declared.failure.Failure.{Failure}
 use Rattle.energy_program.specs.declared.faults.ExprFault.{ExprFault}
 use Rattle.line_text.specs.Steps.{◌>>=◌}
 use Rattle.energy_program.specs.Faults.{Refusal, Fails}
@@ -31,7 +32,7 @@ module _ {X : Type 0} (f : X → Definition) (xs : List X) (i : ℕ) (d : X) (be
   turn : all_resolved vs i (map f (drop i xs)) ≡ (resolved vs (i + 1) (names_in (map f (drop (i + 1) xs))) (f (get_or xs i d)).1 >>= λ x. behind (x ∷ []) (all_resolved vs (i + 1) (map f (drop (i + 1) xs))))
   turn = ap (all_resolved vs i) next ∙ all_behind (f (get_or xs i d)) (map f (drop (i + 1) xs)) vs i
 
-  pub fails : {C : Type 0} (front : List Tree) (e : ExprFault C) → Fails e (resolved vs (i + 1) (names_in (map f (drop (i + 1) xs))) (f (get_or xs i d)).1)
+  pub fails : {C : Type 0} (front : List Tree) (e : Failure (ExprFault C)) → Fails e (resolved vs (i + 1) (names_in (map f (drop (i + 1) xs))) (f (get_or xs i d)).1)
       → Fails e (behind front (all_resolved vs i (map f (drop i xs))))
   fails front e h =
       fails_then e (all_resolved vs i (map f (drop i xs))) (λ xs. Ok (front ++ xs))

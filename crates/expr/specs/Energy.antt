@@ -1,10 +1,11 @@
 -- Texts of energies.
 use Rattle.std.specs.Prelude.{◌≡◌, ℕ, suc, ◌<◌, ◌≤◌, nat_lt, ◌⊎◌, Bool, true, false, List, [], ◌∷◌, ◌++◌, length, Result, Ok, Err}
+use Rattle.fallible.specs.Failures.{IfRefused}
+use Rattle.fallible.specs.declared.failure.Failure.{Failure}
 use Rattle.energy_program.specs.declared.faults.ExprFault.{ExprFault}
-use Rattle.energy_program.specs.declared.faults.ExprFault.TheVariants as fault
 use Rattle.energy_program.specs.declared.programs.Program.{Program}
 use Rattle.line_text.specs.Steps.{◌>>=◌}
-use Rattle.energy_program.specs.Faults.{Refusal, BadCharacter, BadNumber, UnexpectedToken, UnknownName, WrongArgumentCount, BadExponent, NumberRange, RepeatedDefinition, ReservedName, TooLarge, LeftOutFunction}
+use Rattle.energy_program.specs.Faults.{Refusal, BadCharacter, BadNumber, UnexpectedToken, UnknownName, WrongArgumentCount, BadExponent, NumberRange, RepeatedDefinition, ReservedName, TooLarge, LeftOutFunction, refusal_of}
 use Rattle.expr.specs.Definitions.{AreNew, checked, is_given, is_taken}
 use Rattle.expr.specs.Grammar.{IsProgram}
 use Rattle.expr.specs.Halting.{HaltsProgram}
@@ -29,21 +30,10 @@ pub record IsEnergy (bits : ℕ) (variables : List (List ℕ)) (text : List ℕ)
   pub new : AreNew variables [] (names_in definitions)
   pub meant : meaning variables (body, definitions) ≡ Ok e
 
--- the answer to a text that says this tree
-abbrev pub IsRead : {A : Type 0} → ℕ → Tree → Result (Program A) (ExprFault A) → Type 0
+-- the answer to a text that says this tree: the tree, or that the text nests too deep
+abbrev pub IsRead : {A : Type 0} → ℕ → Tree → Result (Program A) (Failure (ExprFault A)) → Type 0
 IsRead n e (Ok p) = program_tree p ≡ e
-IsRead n e (Err fault.Memory) = Unit {0}
-IsRead n e (Err fault.TooLarge) = 64 < n
-IsRead n e (Err (fault.BadCharacter at)) = ⊥
-IsRead n e (Err (fault.BadNumber at)) = ⊥
-IsRead n e (Err (fault.UnexpectedToken at)) = ⊥
-IsRead n e (Err (fault.UnknownName name)) = ⊥
-IsRead n e (Err (fault.WrongArgumentCount name)) = ⊥
-IsRead n e (Err (fault.BadExponent at)) = ⊥
-IsRead n e (Err (fault.NumberRange at)) = ⊥
-IsRead n e (Err (fault.RepeatedDefinition name)) = ⊥
-IsRead n e (Err (fault.ReservedName name)) = ⊥
-IsRead n e (Err (fault.LeftOutFunction name)) = ⊥
+IsRead n e (Err failure) = IfRefused failure (λ fault. (refusal_of fault ≡ TooLarge) × (64 < n))
 
 -- ---- why a text is refused
 

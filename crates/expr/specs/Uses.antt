@@ -1,10 +1,12 @@
 -- Names put for what they stand for, from left to right, as far as the first that stands for nothing. A name is one of the
 -- variables, or one that a later definition gives.
 use Rattle.std.specs.Prelude.{◌≡◌, ℕ, ◌+◌, List, [], ◌∷◌, Option, Some, None, Result, Ok, Err, Box}
+use Rattle.fallible.specs.Failures.{IsOrMemory}
+use Rattle.fallible.specs.declared.failure.Failure.{Failure}
 use Rattle.energy_program.specs.declared.faults.ExprFault.{ExprFault}
 use Rattle.energy_program.specs.declared.trees.Expr as code
 use Rattle.line_text.specs.Steps.{◌>>=◌}
-use Rattle.energy_program.specs.Faults.{IsOrMemory, Refusal, UnknownName}
+use Rattle.energy_program.specs.Faults.{Refusal, UnknownName}
 use Rattle.energy_program.specs.Names.{input_of}
 use Rattle.expr.specs.Definitions.{number_from}
 use Rattle.expr.specs.Syntax.{Syntax, Definition, Source, names_in}
@@ -14,7 +16,7 @@ use Rattle.energy_program.specs.Tree as t
 use Rattle.energy_program.specs.Programs.{Trees}
 
 -- what is made of a part, unless there is no part or memory runs out
-abbrev pub Grows : {A : Type 0} → (Tree → Tree) → Result (Box (code.Expr A) A) (ExprFault A) → Result (Box (code.Expr A) A) (ExprFault A) → Type 0
+abbrev pub Grows : {A : Type 0} → (Tree → Tree) → Result (Box (code.Expr A) A) (Failure (ExprFault A)) → Result (Box (code.Expr A) A) (Failure (ExprFault A)) → Type 0
 Grows make (Ok part) result = IsOrMemory (λ e. tree_of e.value ≡ make (tree_of part.value)) result
 Grows make (Err e) result = result ≡ Err e
 

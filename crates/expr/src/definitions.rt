@@ -7,6 +7,7 @@ ghost use Rattle.expr.specs.Syntax.{definition_of, names_in};
 
 use crate::sources::Definition;
 use energy_program::{ExprFault, Names, is_reserved};
+use fallible::Failure;
 use std::alloc::Allocator;
 
 /// The number of the first of these definitions that gives the name, where they are numbered from the first.
@@ -42,7 +43,7 @@ pub fn check_names<A: Allocator + Copy>(
     alloc: A,
     names: &Names<A>,
     definitions: &[Definition<A>],
-) -> Result<(), ExprFault<A>>
+) -> Result<(), Failure<ExprFault<A>>>
     requires { length definitions.now ≤ 64 }
     ensures { Gives (λ u. names_in (map definition_of definitions.now)) result (checked (names_of names.now) [] (names_in (map definition_of definitions.now))) }
 {

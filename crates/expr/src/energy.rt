@@ -1,8 +1,9 @@
-ghost use Rattle.std.specs.Prelude.{◌≡◌, ℕ, IfOk, IfErr, IfSome};
+ghost use Rattle.std.specs.Prelude.{◌≡◌, ℕ, IfOk, IfErr};
 ghost use Rattle.fixed.specs.Fractions.{bits_of};
 ghost use Rattle.energy_program.specs.Programs.{program_tree, trees_of};
 ghost use Rattle.energy_program.specs.Tree.{Tree};
 ghost use Rattle.energy_program.specs.Variables.{names_of};
+ghost use Rattle.fallible.specs.Failures.{IfRefused};
 ghost use Rattle.energy_program.specs.Faults.{Gives, refusal_of};
 ghost use Rattle.expr.specs.Energy.{IsCause, IsEnergy, IsRead, program_of, trees_in};
 
@@ -11,6 +12,7 @@ use crate::lexer::tokens;
 use crate::parser::Parser;
 use crate::uses::program;
 use energy_program::{ExprFault, Names, Program};
+use fallible::Failure;
 use fixed::Frac;
 use std::alloc::Allocator;
 
@@ -42,20 +44,21 @@ const MAX_TOKENS: usize = 4096;
 ///   follows;
 /// - definition by definition, `ReservedName` for a name that is a variable's or reserved (`r`, the functions and those left
 ///   out), else `RepeatedDefinition` for one that an earlier definition gives;
-/// - from left to right, the body first, `UnknownName` for a name that is no variable's and no later definition's;
-/// - `Memory`, wherever a growth is refused.
+/// - from left to right, the body first, `UnknownName` for a name that is no variable's and no later definition's.
+///
+/// `Memory`: an allocation was refused.
 pub fn parse<A: Allocator + Copy>(
     alloc: A,
     frac: Frac,
     text: &[u8],
     names: &Names<A>,
-) -> Result<Program<A>, ExprFault<A>>
+) -> Result<Program<A>, Failure<ExprFault<A>>>
     // What is read, the text says.
     ensures found { IfOk result (λ p. IsEnergy (bits_of frac) (names_of names.now) text.now 64 (program_tree p)) }
     // What the text says is read, unless it nests too deep or memory runs out.
     ensures only { (n : ℕ) (e : Tree) → IsEnergy (bits_of frac) (names_of names.now) text.now n e → IsRead n e result }
     // Each refusal has its cause in the text.
-    ensures cause { IfErr result (λ fault. IfSome (refusal_of fault) (IsCause (bits_of frac) (names_of names.now) text.now)) }
+    ensures cause { IfErr result (λ failure. IfRefused failure (λ fault. IsCause (bits_of frac) (names_of names.now) text.now (refusal_of fault))) }
     // Which answer it is.
     ensures exact { Gives program_tree result (program_of (bits_of frac) (names_of names.now) text.now) }
     // Its body and definitions, as they stand.
@@ -74,14 +77,14 @@ fn read<A: Allocator + Copy>(
     frac: Frac,
     text: &[u8],
     names: &Names<A>,
-) -> Result<Program<A>, ExprFault<A>>
+) -> Result<Program<A>, Failure<ExprFault<A>>>
     ensures value { Gives trees_of result (trees_in (bits_of frac) (names_of names.now) text.now) }
     ensures parameters { IfOk result (λ p. p.parameters ≡ names.now.parameters) }
     ensures globals { IfOk result (λ p. p.globals ≡ names.now.globals) }
 {
     let tokens = tokens(alloc, frac, text)?;
     if tokens.len() > MAX_TOKENS {
-        return Err(ExprFault::TooLarge);
+        return Err(Failure::Refused(ExprFault::TooLarge));
     }
     let parser = Parser {
         alloc,

@@ -2,7 +2,7 @@
 ghost use Rattle.std.specs.Prelude.{◌≡◌, ◌≤◌, length};
 ghost use Rattle.std.specs.List.{prefix_len};
 ghost use Rattle.fixed.specs.Fractions.{bits_of};
-ghost use Rattle.energy_program.specs.Faults.{Gives, Says};
+ghost use Rattle.energy_program.specs.Faults.{Gives, refusal_of};
 ghost use Rattle.expr.specs.Tokens.{placed_items};
 ghost use Rattle.line_text.specs.Identifiers.{is_identifier_continue};
 ghost use Rattle.expr.specs.Bytes.{is_space, begins_number};
@@ -11,6 +11,7 @@ ghost use Rattle.expr.specs.Lexing.{symbol_of, ShowsKind, token_at, ShowsToken, 
 use crate::numerals::{number, whole};
 use crate::tokens::{Kind, Token};
 use energy_program::ExprFault;
+use fallible::Failure;
 use fixed::{Frac, NumFault};
 use line_text::{is_identifier_continue, is_identifier_start};
 use std::alloc::Allocator;
@@ -94,7 +95,7 @@ fn token_at<'a>(frac: Frac, text: &'a [u8]) -> Result<(Kind<'a>, &'a [u8]), Wron
 
 // What is wrong, as the fault at a place.
 fn wrong_at<A: Allocator>(wrong: Wrong, at: usize) -> ExprFault<A>
-    ensures { Says result (refusal_at at wrong) }
+    ensures { refusal_of result ≡ refusal_at at wrong }
 {
     match wrong {
         Wrong::Byte => ExprFault::BadCharacter { at },
@@ -108,7 +109,7 @@ pub fn tokens<'a, A: Allocator + Copy>(
     alloc: A,
     frac: Frac,
     text: &'a [u8],
-) -> Result<Vec<Token<'a>, A>, ExprFault<A>>
+) -> Result<Vec<Token<'a>, A>, Failure<ExprFault<A>>>
     ensures { Gives placed_items result (tokens_of (bits_of frac) text.now) }
 {
     let mut tokens = Vec::new(alloc);
@@ -123,7 +124,7 @@ pub fn tokens<'a, A: Allocator + Copy>(
                     tokens.push(Token { kind, at })?;
                     rest = beyond;
                 }
-                Err(wrong) => return Err(wrong_at(wrong, at)),
+                Err(wrong) => return Err(Failure::Refused(wrong_at(wrong, at))),
             }
         }
     }

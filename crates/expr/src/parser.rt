@@ -1,7 +1,8 @@
 // From tokens to a tree, by recursive descent.
 ghost use Rattle.std.specs.Prelude.{◌≡◌, Ok};
 ghost use Rattle.expr.specs.Tokens.{lexeme, placed};
-ghost use Rattle.energy_program.specs.Faults.{Gives, IsOrMemory, Says};
+ghost use Rattle.fallible.specs.Failures.{IsOrMemory};
+ghost use Rattle.energy_program.specs.Faults.{Answers, Gives, refusal_of};
 ghost use Rattle.expr.specs.Calls.{called};
 ghost use Rattle.expr.specs.Syntax.{arguments_of, syntax_of};
 ghost use Rattle.expr.specs.Syntax as s;
@@ -12,6 +13,7 @@ use crate::exponents::{awaits_operand, caret_sign, signed_sign};
 use crate::syntax::{Boxed, Syntax};
 use crate::tokens::{Kind, Token};
 use energy_program::{Callee, Exponent, ExprFault, Operator, function_of};
+use fallible::Failure;
 use fixed::Fx;
 use std::alloc::Allocator;
 
@@ -19,10 +21,10 @@ use std::alloc::Allocator;
 pub const LEVELS: usize = 65;
 
 /// What is read, and the tokens after it.
-pub type Read<'a, A> = Result<(Boxed<'a, A>, &'a [Token<'a>]), ExprFault<A>>;
+pub type Read<'a, A> = Result<(Boxed<'a, A>, &'a [Token<'a>]), Failure<ExprFault<A>>>;
 
 /// What arguments are read, and the tokens after them.
-type ReadArguments<'a, A> = Result<(Arguments<'a, A>, &'a [Token<'a>]), ExprFault<A>>;
+type ReadArguments<'a, A> = Result<(Arguments<'a, A>, &'a [Token<'a>]), Failure<ExprFault<A>>>;
 
 /// Reads the tokens of a text, which ends at a place.
 #[derive(Drop)]
@@ -206,7 +208,7 @@ impl<A: Allocator + Copy> Parser<A> {
 
     // Why no operand is read where no level is left.
     fn misplaced(&self, tokens: &[Token]) -> ExprFault<A>
-        ensures { Says result (misplaced self.now.end (placed tokens.now)) }
+        ensures { refusal_of result ≡ misplaced self.now.end (placed tokens.now) }
     {
         match tokens {
             [token, ..] if begins_operand(token.kind) => ExprFault::TooLarge,
@@ -248,7 +250,7 @@ impl<A: Allocator + Copy> Parser<A> {
         ensures { Gives seen result (unary_at self.now.end levels (placed tokens.now)) }
     {
         if levels == 0 {
-            return Err(self.misplaced(tokens));
+            return Err(Failure::Refused(self.misplaced(tokens)));
         }
         match minus_sign(tokens) {
             Some(rest) => {
@@ -291,7 +293,7 @@ impl<A: Allocator + Copy> Parser<A> {
         levels: usize,
         at: usize,
     ) -> Result<(Exponent, &'a [Token<'a>]), ExprFault<A>>
-        ensures { Gives exponent_seen result (exponent_at self.now.end levels at (placed tokens.now)) }
+        ensures { Answers exponent_seen result (exponent_at self.now.end levels at (placed tokens.now)) }
     {
         match open_sign(tokens) {
             Some(inside) => self.grouped(inside, levels, at),
@@ -310,7 +312,7 @@ impl<A: Allocator + Copy> Parser<A> {
         levels: usize,
         at: usize,
     ) -> Result<(Exponent, &'a [Token<'a>]), ExprFault<A>>
-        ensures { Gives exponent_seen result (grouped_at self.now.end levels at (placed tokens.now)) }
+        ensures { Answers exponent_seen result (grouped_at self.now.end levels at (placed tokens.now)) }
     {
         if levels == 0 && awaits_operand(tokens) {
             return Err(ExprFault::TooLarge);
@@ -327,9 +329,9 @@ impl<A: Allocator + Copy> Parser<A> {
         ensures { Gives seen result (atom_at self.now.end levels (placed tokens.now)) }
     {
         match read_start(tokens) {
-            None => Err(ExprFault::UnexpectedToken {
+            None => Err(Failure::Refused(ExprFault::UnexpectedToken {
                 at: self.offset(tokens),
-            }),
+            })),
             Some((Start::Number(raw), rest)) => self.put(Syntax::Number(Fx::from_raw(raw)), rest),
             Some((Start::Name(name), rest)) => match open_sign(rest) {
                 None => self.put(Syntax::Name(name), rest),
@@ -364,7 +366,7 @@ impl<A: Allocator + Copy> Parser<A> {
             Some(rest) => Ok((Arguments::Empty, rest)),
             None => {
                 let (arguments, rest) = self.list(tokens, levels)?;
-                beside(arguments, self.close(rest))
+                Ok(beside(arguments, self.close(rest))?)
             }
         }
     }
@@ -415,12 +417,12 @@ impl<A: Allocator + Copy> Parser<A> {
         ensures { Gives seen result (closed_at self.now.end levels (placed tokens.now)) }
     {
         let (inner, rest) = self.expr(tokens, levels)?;
-        beside(inner, self.close(rest))
+        Ok(beside(inner, self.close(rest))?)
     }
 
     // The tokens after a closing parenthesis.
     fn close<'a>(&self, tokens: &'a [Token<'a>]) -> Result<&'a [Token<'a>], ExprFault<A>>
-        ensures { Gives rest_seen result (close self.now.end (placed tokens.now)) }
+        ensures { Answers rest_seen result (close self.now.end (placed tokens.now)) }
     {
         match tokens {
             [
@@ -442,7 +444,7 @@ impl<A: Allocator + Copy> Parser<A> {
         operator: Operator,
         left: Boxed<'a, A>,
         right: Boxed<'a, A>,
-    ) -> Result<Boxed<'a, A>, ExprFault<A>>
+    ) -> Result<Boxed<'a, A>, Failure<ExprFault<A>>>
         ensures { IsOrMemory (λ e. syntax_of e.value ≡ s.Binary operator (syntax_of left.entry.value) (syntax_of right.entry.value)) result }
     {
         Ok(Box::new(self.alloc, Syntax::Binary(operator, left, right))?)

@@ -1,15 +1,16 @@
 // Parts put together to a tree, apart from the recursion, which goes as deep as a sum has terms: so its frames stay small.
 ghost use Rattle.std.specs.Prelude.{◌≡◌};
-ghost use Rattle.energy_program.specs.Faults.{IsOrMemory};
+ghost use Rattle.fallible.specs.Failures.{IsOrMemory};
 ghost use Rattle.energy_program.specs.Tree.{tree_of};
 ghost use Rattle.energy_program.specs.Tree as t;
 ghost use Rattle.expr.specs.Uses.{Grows};
 
 use energy_program::{Exponent, Expr, ExprFault, Function, Operator};
+use fallible::Failure;
 use std::alloc::Allocator;
 
 /// A tree, or why there is none. It stands in a block of its own, so that one that waits for others is a pointer.
-pub type Part<A> = Result<Box<Expr<A>, A>, ExprFault<A>>;
+pub type Part<A> = Result<Box<Expr<A>, A>, Failure<ExprFault<A>>>;
 
 /// A tree without parts.
 pub fn leaf<A: Allocator + Copy>(alloc: A, tree: Expr<A>) -> Part<A>

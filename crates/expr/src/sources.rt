@@ -1,6 +1,6 @@
 // Whole texts: a body, and definitions behind it.
 ghost use Rattle.std.specs.Prelude.{◌≡◌};
-ghost use Rattle.energy_program.specs.Faults.{Gives};
+ghost use Rattle.energy_program.specs.Faults.{Answers, Gives};
 ghost use Rattle.expr.specs.Parsing.{ShowsRest, rest_seen};
 ghost use Rattle.expr.specs.Sources.{ShowsBytes, ShowsName, after_semicolons, definitions_at, equals, heading_at, heading_seen, name_in, name_sign, named_at, no_heading, semicolon_sign, source_at};
 ghost use Rattle.expr.specs.Syntax.{definitions_of, source_of};
@@ -10,6 +10,7 @@ use crate::parser::{LEVELS, Parser};
 use crate::syntax::Boxed;
 use crate::tokens::{Kind, Token};
 use energy_program::ExprFault;
+use fallible::Failure;
 use std::alloc::Allocator;
 
 /// How many definitions a text may have.
@@ -81,7 +82,7 @@ fn name_sign<'a>(tokens: &'a [Token<'a>]) -> Option<(&'a [u8], &'a [Token<'a>])>
 
 // No definition follows: this is the end of the text.
 fn no_heading<'a, A: Allocator>(tokens: &'a [Token<'a>]) -> Heading<'a, A>
-    ensures { Gives heading_seen result (no_heading (placed tokens.now)) }
+    ensures { Answers heading_seen result (no_heading (placed tokens.now)) }
 {
     match tokens {
         [] => Ok(None),
@@ -91,7 +92,10 @@ fn no_heading<'a, A: Allocator>(tokens: &'a [Token<'a>]) -> Heading<'a, A>
 
 impl<A: Allocator + Copy> Parser<A> {
     /// Reads all of the tokens as a body and definitions behind it.
-    pub fn source<'a>(&self, tokens: &'a [Token<'a>]) -> Result<Source<'a, A>, ExprFault<A>>
+    pub fn source<'a>(
+        &self,
+        tokens: &'a [Token<'a>],
+    ) -> Result<Source<'a, A>, Failure<ExprFault<A>>>
         ensures { Gives source_of result (source_at self.now.end (placed tokens.now)) }
     {
         let (body, mut rest) = self.expr(tokens, LEVELS)?;
@@ -107,7 +111,7 @@ impl<A: Allocator + Copy> Parser<A> {
     // The heading of the next definition; full: there are as many as a text may have.
     #[tactic(auto, unfolding(crate::specs::Sources::heading_at))]
     fn heading<'a>(&self, tokens: &'a [Token<'a>], full: bool) -> Heading<'a, A>
-        ensures { Gives heading_seen result (heading_at self.now.end full (placed tokens.now)) }
+        ensures { Answers heading_seen result (heading_at self.now.end full (placed tokens.now)) }
     {
         match semicolon_sign(tokens) {
             Some(after) => self.named(after_semicolons(after), full),
@@ -118,7 +122,7 @@ impl<A: Allocator + Copy> Parser<A> {
     // The heading behind semicolons.
     #[tactic(auto, unfolding(crate::specs::Sources::named_at))]
     fn named<'a>(&self, tokens: &'a [Token<'a>], full: bool) -> Heading<'a, A>
-        ensures { Gives heading_seen result (named_at self.now.end full (placed tokens.now)) }
+        ensures { Answers heading_seen result (named_at self.now.end full (placed tokens.now)) }
     {
         match name_sign(tokens) {
             Some((name, after)) => {
@@ -133,7 +137,7 @@ impl<A: Allocator + Copy> Parser<A> {
 
     // The tokens after an equals sign.
     fn equals<'a>(&self, tokens: &'a [Token<'a>]) -> Result<&'a [Token<'a>], ExprFault<A>>
-        ensures { Gives rest_seen result (equals self.now.end (placed tokens.now)) }
+        ensures { Answers rest_seen result (equals self.now.end (placed tokens.now)) }
     {
         match tokens {
             [

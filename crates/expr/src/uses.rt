@@ -13,6 +13,7 @@ use crate::parts::{Part, application, choice, leaf, negative, operation, raised}
 use crate::sources::{Definition, Source};
 use crate::syntax::Syntax;
 use energy_program::{Expr, ExprFault, Names, Program};
+use fallible::Failure;
 use std::alloc::Allocator;
 
 /// What an expression may name: the variables, and the later definitions, which are numbered from the first.
@@ -69,7 +70,7 @@ fn resolve_all<A: Allocator + Copy>(
     alloc: A,
     names: &Names<A>,
     definitions: &[Definition<A>],
-) -> Result<Vec<Expr<A>, A>, ExprFault<A>>
+) -> Result<Vec<Expr<A>, A>, Failure<ExprFault<A>>>
     requires { length definitions.now ≤ 64 }
     ensures value { Gives (λ trees. map tree_of trees.items) result (all_resolved (names_of names.now) 0 (map definition_of definitions.now)) }
     ensures scoped { IfOk result (λ trees. IsTrue (are_scoped (inputs_of names.now.parameters names.now.globals) 0 (map tree_of trees.items))) }
@@ -94,7 +95,7 @@ pub fn program<A: Allocator + Copy>(
     alloc: A,
     names: &Names<A>,
     source: &Source<A>,
-) -> Result<Program<A>, ExprFault<A>>
+) -> Result<Program<A>, Failure<ExprFault<A>>>
     requires { length source.now.definitions.items ≤ 64 }
     ensures value { Gives trees_of result (trees (names_of names.now) (source_of source.now)) }
     ensures parameters { IfOk result (λ p. p.parameters ≡ names.now.parameters) }

@@ -3,6 +3,8 @@ use Rattle.std.specs.Prelude.{◌≡◌, ℕ, ◌⊎◌, ℤ, List, Some, None, 
 use Rattle.kernel_code.specs.declared.instructions.Instr.{Instr}
 use Rattle.kernel_code.specs.declared.traps.Trap.{Trap}
 use Rattle.kernel_code.specs.Machine.{Ends, IsOperation}
+use Rattle.fallible.specs.declared.failure.Failure.{Failure}
+use Rattle.fallible.specs.declared.failure.Failure.TheVariants.{Refused}
 use Rattle.energy_program.specs.declared.faults.ExprFault.{ExprFault}
 use Rattle.energy_program.specs.declared.faults.ExprFault.TheVariants as fault
 use Rattle.energy_program.specs.Tree.{Tree, meaning, substituted}
@@ -31,5 +33,5 @@ pub record Computes (bits : ℕ) (body : Tree) (definitions : List Tree) (code :
 
 -- ---- refusals
 
-abbrev pub IsTooLarge : {A X : Type 0} → Result X (ExprFault A) → Type 0
-IsTooLarge result = result ≡ Err fault.TooLarge
+abbrev pub IsTooLarge : {A X : Type 0} → Result X (Failure (ExprFault A)) → Type 0
+IsTooLarge result = result ≡ Err (Refused fault.TooLarge)

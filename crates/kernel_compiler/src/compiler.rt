@@ -12,6 +12,7 @@ ghost use Rattle.kernel_compiler.specs.Compiled.{Computes, IsTooLarge};
 use crate::emit::{emit, emit_definitions};
 use crate::sizes::{definitions_left, measure};
 use energy_program::{ExprFault, Program, marks_of};
+use fallible::Failure;
 use fixed::Frac;
 use kernel_code::{Code, Instr};
 use std::alloc::{AllocError, Allocator};
@@ -55,13 +56,13 @@ fn instructions_of<A: Allocator + Copy>(
 /// than 47 values on the stack, and more than the first; so no code within the limit of instructions has more than 63
 /// there (after Sethi and Ullman, The generation of optimal code for arithmetic expressions, 1970).
 ///
-/// `TooLarge` comes only where this code has more than 16,384 instructions, and `Memory` only where a growth was refused.
+/// `TooLarge`: this code has more than 16,384 instructions. `Memory`: an allocation was refused.
 /// There is no other fault.
 pub fn compile<A: Allocator + Copy>(
     alloc: A,
     frac: Frac,
     program: &Program<A>,
-) -> Result<Code<A>, ExprFault<A>>
+) -> Result<Code<A>, Failure<ExprFault<A>>>
     // Where a run gives a value it is the tree's; a fault is an operation's, where the tree or a definition that is
     // used has no value.
     ensures value { IfOk result (λ code. (inputs : List ℤ) → input_count_of program.now ≤ length inputs → Computes (bits_of frac) (body_of program.now) (definitions_of program.now) code inputs) }
@@ -73,7 +74,7 @@ pub fn compile<A: Allocator + Copy>(
 {
     let marks = marks_of(alloc, &program.body, &program.definitions)?;
     if !is_within_limits(program, &marks) {
-        return Err(ExprFault::TooLarge);
+        return Err(Failure::Refused(ExprFault::TooLarge));
     }
     let instructions = instructions_of(alloc, frac, program, &marks)?;
     match Code::new(instructions) {

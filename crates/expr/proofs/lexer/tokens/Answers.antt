@@ -4,7 +4,6 @@ use Rattle.fixed.specs.Fractions.{bits_of}
 use Rattle.expr.specs.Tokens.{placed}
 use Rattle.expr.specs.Lexing.{with_front, tokens_from}
 use Rattle.expr.proofs.Lexing.{tail_less, skip_list, take_list, fail_list, done_list, all_spaces_off, regroup, token_less}
-use Rattle.energy_program.proofs.FaultLaws.{fails_says}
 use Rattle.expr.proofs.lexer.tokens.Goals as goal
 
 pub loop-rest-init : goal.loop-rest-init
@@ -37,10 +36,9 @@ loop-rest-preserved g c =
 
 pub returns-in-Err : goal.returns-in-Err
 returns-in-Err g c =
-    fails_says _ _ _
+    rw c.wrong_at.ensures
     (c.loop-rest.invariant.read
     ∙ ap (with_front (placed c.loop-rest.tokens.items)) (fail_list (bits_of c.args.frac) (length c.args.text.now) c.loop-rest.rest.now _ c.in-len1-up.len_at_least (sym c.if-is_space.ensures) c.in-Err.ensures))
-    c.wrong_at.ensures
 
 pub returns : goal.returns
 returns g c = c.loop-rest.invariant.read ∙ done_list (bits_of c.args.frac) (placed c.loop-rest.tokens.items) (length c.args.text.now) c.loop-rest.rest.now c.in_default.len_below

@@ -5,8 +5,7 @@ use Rattle.expr.specs.Tokens.{placed}
 use Rattle.expr.specs.Syntax.{arguments_of, syntax_of}
 use Rattle.expr.specs.Syntax as tree
 use Rattle.expr.specs.Parsing.{beginning, sum_sign, product_sign, comma_sign, listed, chain, expr_at, term_at, unary_at}
-use Rattle.energy_program.proofs.FaultLaws.{fails_says}
-use Rattle.expr.proofs.Levels.{group_closes, closes, arguments_close, unary_none_left, atom_group, atom_name, atom_call, minus_fails, minus_reads, gives_same, atom_start, unary_none, term_starts, expr_starts, term_fails, expr_fails, term_turn, expr_turn, term_turn_fails, expr_turn_fails, term_ends, expr_ends, term_less, expr_less, started, reading, list_starts, list_fails, list_turn, list_turn_fails, list_ends, list_less}
+use Rattle.expr.proofs.Levels.{unary_none_left, atom_group, atom_name, atom_call, minus_fails, minus_reads, gives_same, atom_start, unary_none, term_starts, expr_starts, term_fails, expr_fails, term_turn, expr_turn, term_turn_fails, expr_turn_fails, term_ends, expr_ends, term_less, expr_less, started, reading, list_starts, list_fails, list_turn, list_turn_fails, list_ends, list_less}
 use Rattle.expr.proofs.Results.{beside_ok, beside_err}
 use Rattle.expr.proofs.parser.Parser.+parser.Goals as goal
 
@@ -65,7 +64,7 @@ pub term-returns : goal.term-returns
 term-returns g t c = c.loop-operator.invariant ∙ term_ends c.args.self.now.end c.args.levels _ (placed c.loop-operator.rest.now) c.in_default.ensures
 
 pub unary-returns-then-levels-eq0 : goal.unary-returns-then-levels-eq0
-unary-returns-then-levels-eq0 g t c = fails_says _ _ _ (unary_none_left c.args.self.now.end c.args.levels (placed c.args.tokens.now) c.if-levels-eq0.true) c.misplaced.ensures
+unary-returns-then-levels-eq0 g t c = rw c.misplaced.ensures (unary_none_left c.args.self.now.end c.args.levels (placed c.args.tokens.now) c.if-levels-eq0.true)
 
 pub unary-returns-in_err-inner-in-Some : goal.unary-returns-in_err-inner-in-Some
 unary-returns-in_err-inner-in-Some g t c =
@@ -133,12 +132,3 @@ list-loop-after-preserved g t c =
 
 pub list-returns : goal.list-returns
 list-returns g t c = c.loop-after.invariant ∙ list_ends c.args.self.now.end c.args.levels _ (placed c.loop-after.rest.now) c.in_default.ensures
-
-pub closed-returns : goal.closed-returns
-closed-returns g t c =
-    closes (λ part. syntax_of part.value) _ c.close.result _ c.beside.result _ c.beside.ensures c.close.ensures (group_closes c.args.self.now.end c.args.levels (placed c.args.tokens.now) _ _ c.in_ok-inner.ensures)
-
-pub arguments-returns-in_ok-arguments-in-None : goal.arguments-returns-in_ok-arguments-in-None
-arguments-returns-in_ok-arguments-in-None g t c =
-    closes arguments_of _ c.close.result _ c.beside.result _ c.beside.ensures c.close.ensures
-    (arguments_close c.args.self.now.end c.args.levels (placed c.args.tokens.now) _ _ c.in-None.ensures c.in_ok-arguments-in-None.ensures)

@@ -22,8 +22,9 @@ loop-definitions-init g c =
 pub returns-in_err-name : goal.returns-in_err-name
 returns-in_err-name g c =
     let p = err_from_is_err_and c.from_residual-in_err-name.result c.from_residual-in_err-name.ensures.1 in
-    rw (p.1, p.2, c.loop-definitions.invariant.left)
-    (heading_fails c.args.self.now.end (length c.loop-definitions.definitions.items) _ _ (placed c.loop-definitions.rest.now) _ c.loop-definitions.invariant.few (rw (c.len.ensures, c.loop-definitions.definitions.ok.0) at c.in_err-name.ensures))
+    rw (p.1, c.loop-definitions.invariant.left)
+    (heading_fails c.args.self.now.end (length c.loop-definitions.definitions.items) _ _ (placed c.loop-definitions.rest.now) p.0 c.loop-definitions.invariant.few
+    (rw p.2 (rw (c.len.ensures, c.loop-definitions.definitions.ok.0) at c.in_err-name.ensures)))
 
 pub returns-in_err-value : goal.returns-in_err-value
 returns-in_err-value g c =
