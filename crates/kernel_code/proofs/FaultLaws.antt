@@ -1,16 +1,16 @@
 -- What each fault says of the instructions or of the text.
-use Rattle.std.proofs.Common.{◌≡◌, ℕ, zero, suc, ◌+◌, ◌<◌, ◌≤◌, inl, inr, Bool, true, false, nat_lt, List, [], ◌∷◌, ◌++◌, length, Option, Some, None, Result, Ok, Err, IfErr, refl, sym, ap, subst, ◌∙◌, append_assoc, arith, zero-add, if◌then◌else◌}
+use Rattle.std.proofs.Common.{◌≡◌, ℕ, zero, suc, ◌+◌, ◌<◌, ◌≤◌, inl, inr, Bool, true, false, nat_lt, List, [], ◌∷◌, ◌++◌, length, Option, Some, None, Result, Ok, Err, refl, sym, ap, subst, ◌∙◌, append_assoc, arith, zero-add, if◌then◌else◌}
 use Rattle.std.specs.Prelude.{slice_get}
 use Rattle.std.specs.List.{AllByRecursion}
 use Rattle.std.proofs.lemmas.Bool.{ltb-true, ltb-false}
 use Rattle.line_text.specs.Parts.{ended}
 use Rattle.kernel_code.specs.declared.instructions.Instr.{Instr}
 use Rattle.kernel_code.specs.declared.faults.CodeFault.{CodeFault}
-use Rattle.kernel_code.specs.declared.faults.CodeFault.TheVariants.{BadLine, BadTarget, TooLong, Memory}
+use Rattle.kernel_code.specs.declared.faults.CodeFault.TheVariants.{BadLine, BadTarget, TooLong}
 use Rattle.kernel_code.specs.Code.{goes_forward, targets_checked, code_if, code_from}
 use Rattle.kernel_code.specs.Listing.{head_line, instruction_line, instruction_lines, HasOperands, listing_of}
 use Rattle.line_text.specs.Steps.{◌>>=◌}
-use Rattle.kernel_code.specs.ListingReading.{Gives, said, below_head, line_at, parts_of, instructions_of, code_of}
+use Rattle.kernel_code.specs.ListingReading.{said, below_head, line_at, parts_of, instructions_of, code_of}
 use Rattle.kernel_code.specs.ListingFaults.{IsCodeFault, BeginsWith, IsListingFault}
 use Rattle.kernel_code.proofs.LineLaws.{line_found, line_again, instructions_first, instructions_none, instructions_found, bad_first}
 use Rattle.kernel_code.proofs.ListingLaws.{below_head_found, below_head_again}
@@ -160,7 +160,6 @@ no_code : (text : List ℕ) (is : List Instr) (fault : CodeFault) → AllByRecur
 no_code text is (BadLine n) h e f = absurd f
 no_code text is (BadTarget n) h e f = record { instructions = is; operands = h; text' = e; fault' = f }
 no_code text is TooLong h e f = record { instructions = is; operands = h; text' = e; fault' = f }
-no_code text is Memory h e f = absurd f
 
 pub listing_fault : (text : List ℕ) (fault : CodeFault) → code_of text ≡ Err fault → IsListingFault text fault
 unfolding code_of listing_of
@@ -178,12 +177,3 @@ listing_fault text fault e = at (below_head text) refl e
         subst (IsListingFault text) same
         (inl (record { bad = λ b. let f : below_head text ≡ Some b.0 = ap below_head b.1 ∙ below_head_again b.0 in absurd cc; line' = refl }))
     at (Some rest) h d = below rest (below_head_found text rest h) (instructions_of 2 (parts_of rest)) refl d
-
--- ---- at what a call returned
-
-pub is_fault : (text : List ℕ) (r : Result (List Instr) CodeFault) → Gives (λ x. x) r (code_of text) → IfErr r (IsListingFault text)
-is_fault text (Ok code) h = tt
-is_fault text (Err (BadLine n)) h = listing_fault text (BadLine n) h
-is_fault text (Err (BadTarget n)) h = listing_fault text (BadTarget n) h
-is_fault text (Err TooLong) h = listing_fault text TooLong h
-is_fault text (Err Memory) h = tt

@@ -2,6 +2,8 @@
 use Rattle.std.proofs.Common.{◌≡◌, ℕ, ◌+◌, ◌<◌, ◌≤◌, cond, List, ◌∷◌, ◌++◌, length, take, get_or, Some, None, Result, Ok, Err, IfOk, bytes_eq, refl, sym, ap, subst, ◌∙◌, append_assoc}
 use Rattle.std.specs.List.{AllByRecursion}
 use Rattle.std.proofs.lemmas.List.{take_all}
+use Rattle.fallible.specs.Failures.{Gives}
+use Rattle.fallible.specs.declared.failure.Failure.{Failure}
 use Rattle.line_text.specs.Parts.{cut_at, ended}
 use Rattle.line_text.proofs.PartLaws.{some_of, same_bytes}
 use Rattle.line_text.proofs.LineLaws.{bind_some, cut_found, line_cut, ended_then}
@@ -11,7 +13,7 @@ use Rattle.kernel_code.specs.declared.faults.CodeFault.{CodeFault}
 use Rattle.kernel_code.specs.Code.{IsCode, code_from}
 use Rattle.kernel_code.specs.Listing.{head_line, instruction_line, instruction_lines, HasOperands, IsListed, listing_of}
 use Rattle.line_text.specs.Steps.{◌>>=◌}
-use Rattle.kernel_code.specs.ListingReading.{Gives, said, parts_of, below_head, instructions_of, code_of, OneListing}
+use Rattle.kernel_code.specs.ListingReading.{said, parts_of, below_head, instructions_of, code_of, OneListing}
 use Rattle.kernel_code.proofs.TargetLaws.{code_from_found, code_from_again}
 use Rattle.line_text.proofs.StepLaws.{bind_ok}
 use Rattle.kernel_code.proofs.LineLaws.{said_found, instructions_found, instructions_again}
@@ -50,12 +52,12 @@ one_listing text code = (listing_found text code, λ h. ap code_of h.1 ∙ listi
 
 -- ---- at what a call returned
 
-pub is_found : (text : List ℕ) (r : Result (List Instr) CodeFault) → Gives (λ x. x) r (code_of text) → IfOk r (λ code. IsListed code × (text ≡ listing_of code))
+pub is_found : (text : List ℕ) (r : Result (List Instr) (Failure CodeFault)) → Gives (λ x. x) (λ (f : CodeFault). f) r (code_of text) → IfOk r (λ code. IsListed code × (text ≡ listing_of code))
 is_found text (Ok code) h = listing_found text code h
 is_found text (Err e) h = tt
 
-pub is_read : (text : List ℕ) (r : Result (List Instr) CodeFault) → Gives (λ x. x) r (code_of text) → (code : List Instr) → IsListed code → text ≡ listing_of code → Gives (λ x. x) r (Ok code)
-is_read text r h code l e = subst (Gives (λ x. x) r) (ap code_of e ∙ listing_again code l) h
+pub is_read : (text : List ℕ) (r : Result (List Instr) (Failure CodeFault)) → Gives (λ x. x) (λ (f : CodeFault). f) r (code_of text) → (code : List Instr) → IsListed code → text ≡ listing_of code → Gives (λ x. x) (λ (f : CodeFault). f) r (Ok code)
+is_read text r h code l e = subst (Gives (λ x. x) (λ (f : CodeFault). f) r) (ap code_of e ∙ listing_again code l) h
 
 -- ---- line by line, as a loop prints
 

@@ -4,7 +4,7 @@ use Rattle.std.specs.List.{AllByRecursion}
 use Rattle.line_text.specs.Parts.{ended}
 use Rattle.kernel_code.specs.declared.instructions.Instr.{Instr}
 use Rattle.kernel_code.specs.declared.faults.CodeFault.{CodeFault}
-use Rattle.kernel_code.specs.declared.faults.CodeFault.TheVariants.{BadLine, BadTarget, TooLong, Memory}
+use Rattle.kernel_code.specs.declared.faults.CodeFault.TheVariants.{BadLine, BadTarget, TooLong}
 use Rattle.kernel_code.specs.Code.{goes_forward}
 use Rattle.kernel_code.specs.Listing.{head_line, instruction_line, HasOperands, listing_of}
 
@@ -28,7 +28,6 @@ abbrev pub IsCodeFault : List Instr → CodeFault → Type 0
 IsCodeFault code (BadLine n) = ⊥
 IsCodeFault code (BadTarget n) = IsBadTarget code n
 IsCodeFault code TooLong = 16384 < length code
-IsCodeFault code Memory = ⊥
 
 -- ---- texts
 
@@ -61,4 +60,3 @@ abbrev pub IsListingFault : List ℕ → CodeFault → Type 0
 IsListingFault text (BadLine n) = IsBadHead text n ⊎ IsFirstBadLine text n
 IsListingFault text (BadTarget n) = AreNoCode text (BadTarget n)
 IsListingFault text TooLong = AreNoCode text TooLong
-IsListingFault text Memory = Unit {0}

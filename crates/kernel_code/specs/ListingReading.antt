@@ -4,7 +4,7 @@ use Rattle.std.specs.List.{slice_split}
 use Rattle.line_text.specs.Parts.{◌>>=◌ as ◌|>◌, cut_at, natural_of, integer_of}
 use Rattle.line_text.specs.Steps.{◌>>=◌}
 use Rattle.kernel_code.specs.declared.faults.CodeFault.{CodeFault}
-use Rattle.kernel_code.specs.declared.faults.CodeFault.TheVariants.{BadLine, Memory}
+use Rattle.kernel_code.specs.declared.faults.CodeFault.TheVariants.{BadLine}
 use Rattle.kernel_code.specs.declared.instructions.BinaryOperation.{BinaryOperation}
 use Rattle.kernel_code.specs.declared.instructions.BinaryOperation.TheVariants.{Add, Subtract, Multiply, Divide, Minimum, Maximum}
 use Rattle.kernel_code.specs.declared.instructions.UnaryOperation.{UnaryOperation}
@@ -13,15 +13,6 @@ use Rattle.kernel_code.specs.declared.instructions.Instr.{Instr}
 use Rattle.kernel_code.specs.declared.instructions.Instr.TheVariants.{Push, Input, Keep, Get, Binary, Unary, JumpIfZero, Jump}
 use Rattle.kernel_code.specs.Code.{code_from}
 use Rattle.kernel_code.specs.Listing.{head_line, instruction_line, HasOperands, IsListed, listing_of}
-
--- What a call returned is what the definition answers, its value seen by view. Want of memory says nothing.
-abbrev pub Fails : {Y : Type 0} → CodeFault → Result Y CodeFault → Type 0
-Fails Memory answer = Unit {0}
-Fails fault answer = answer ≡ Err fault
-
-abbrev pub Gives : {X Y : Type 0} → (X → Y) → Result X CodeFault → Result Y CodeFault → Type 0
-Gives view (Ok x) answer = answer ≡ Ok (view x)
-Gives view (Err fault) answer = Fails fault answer
 
 -- ---- one line, without its LF
 

@@ -1,12 +1,12 @@
 //! Why a text is no listing, or a list of instructions no code.
 
 ghost use Rattle.std.specs.Prelude.{◌≡◌};
-ghost use Rattle.kernel_code.specs.declared.faults.CodeFault.TheVariants.{Memory};
+ghost use Rattle.fallible.specs.declared.failure.Failure.TheVariants.{Refused};
 
-use std::alloc::{AllocError, AllocFailed};
+use fallible::Failure;
 use thiserror::Error;
 
-/// The first fault, or want of memory.
+/// The first fault.
 #[derive(Clone, Copy, PartialEq, Eq, Debug, Error)]
 pub enum CodeFault {
     /// The line with this number, counted from 1, is no instruction's (line 1: not `pairmd code 1`), has an operand out
@@ -19,23 +19,12 @@ pub enum CodeFault {
     /// There are more than 16,384 instructions.
     #[error("C3 TooLong")]
     TooLong,
-    /// Memory ran out.
-    #[error("Memory")]
-    Memory,
 }
 
-impl From<AllocError> for CodeFault {
-    ghost from_gives = { λ _ e. e ≡ Memory };
+impl From<CodeFault> for Failure<CodeFault> {
+    ghost from_gives = { λ fault e. e ≡ Refused fault };
 
-    fn from(_e: AllocError) -> CodeFault {
-        CodeFault::Memory
-    }
-}
-
-impl<T: Drop> From<AllocFailed<T>> for CodeFault {
-    ghost from_gives = { λ _ e. e ≡ Memory };
-
-    fn from(_e: AllocFailed<T>) -> CodeFault {
-        CodeFault::Memory
+    fn from(fault: CodeFault) -> Failure<CodeFault> {
+        Failure::Refused(fault)
     }
 }

@@ -1,16 +1,18 @@
 //! Reading and printing listings.
 
 ghost use Rattle.std.specs.Prelude.{◌≡◌, List, Ok, IfOk, IfErr, option_map};
+ghost use Rattle.fallible.specs.Failures.{Gives, IfRefused};
 ghost use Rattle.line_text.specs.Parts.{ended};
 ghost use Rattle.kernel_code.specs.declared.instructions.Instr.{Instr};
 ghost use Rattle.kernel_code.specs.Listing.{IsListed, listing_of, instruction_line, HasOperands};
 ghost use Rattle.kernel_code.specs.ListingFaults.{IsListingFault};
-ghost use Rattle.kernel_code.specs.ListingReading.{Gives, OneLine, OneListing, parts_of, below_head, line_at, instructions_of, code_of};
+ghost use Rattle.kernel_code.specs.ListingReading.{OneLine, OneListing, parts_of, below_head, line_at, instructions_of, code_of};
 
 use crate::codes::Code;
 use crate::faults::CodeFault;
 use crate::instructions::Instr;
 use crate::lines::{instruction, put_instruction};
+use fallible::Failure;
 use line_text::{Line, cut, put};
 use std::alloc::{AllocError, Allocator};
 
@@ -19,16 +21,16 @@ use std::alloc::{AllocError, Allocator};
 /// `BadLine` names the first line that is no instruction's (line 1: not `pairmd code 1`), that has an operand out of
 /// its range, or that lacks its line feed; an empty text has a bad line 1. `TooLong`, for more than 16,384
 /// instructions, and `BadTarget`, for the lowest jump that doesn't go forwards and at most to the end, come only where
-/// every line is good, in this order. `Memory` comes only where a growth was refused.
-pub fn read<A: Allocator + Copy>(alloc: A, bytes: &[u8]) -> Result<Code<A>, CodeFault>
+/// every line is good, in this order. `Memory`: an allocation was refused.
+pub fn read<A: Allocator + Copy>(alloc: A, bytes: &[u8]) -> Result<Code<A>, Failure<CodeFault>>
     // What is read has these bytes as its listing.
     ensures found { IfOk result (λ code. IsListed code × (bytes.now ≡ listing_of code)) }
     // The listing of a code is read as that code, unless memory runs out.
-    ensures only { (code : List Instr) → IsListed code → bytes.now ≡ listing_of code → Gives (λ x. x) result (Ok code) }
+    ensures only { (code : List Instr) → IsListed code → bytes.now ≡ listing_of code → Gives (λ x. x) (λ f. f) result (Ok code) }
     // A fault says what is wrong, and where.
-    ensures fault { IfErr result (IsListingFault bytes.now) }
+    ensures fault { IfErr result (λ failure. IfRefused failure (IsListingFault bytes.now)) }
     // The code, or the first fault.
-    ensures exact { Gives (λ x. x) result (code_of bytes.now) }
+    ensures exact { Gives (λ x. x) (λ f. f) result (code_of bytes.now) }
     // The definition reads exactly the lines of instructions, and the listings of codes.
     ensures one_line { OneLine }
     ensures one_listing { OneListing }
@@ -56,11 +58,11 @@ pub fn print<A: Allocator + Copy, B: Allocator>(
 }
 
 #[tactic(auto, unfolding(crate::specs::ListingReading::code_of))]
-fn listing<A: Allocator + Copy>(alloc: A, bytes: &[u8]) -> Result<Code<A>, CodeFault>
-    ensures { Gives (λ x. x) result (code_of bytes.now) }
+fn listing<A: Allocator + Copy>(alloc: A, bytes: &[u8]) -> Result<Code<A>, Failure<CodeFault>>
+    ensures { Gives (λ x. x) (λ f. f) result (code_of bytes.now) }
 {
     let rest = below_head(bytes).ok_or(bad(1))?;
-    Code::new(instructions(alloc, rest)?)
+    Ok(Code::new(instructions(alloc, rest)?)?)
 }
 
 /// An instruction's line with its line feed.
@@ -103,15 +105,18 @@ fn line(bytes: &[u8]) -> Option<(Instr, &[u8])>
 }
 
 /// The instructions of these lines, the first of which is line 2.
-fn instructions<A: Allocator + Copy>(alloc: A, bytes: &[u8]) -> Result<Vec<Instr, A>, CodeFault>
-    ensures { Gives (λ v. v.items) result (instructions_of 2 (parts_of bytes.now)) }
+fn instructions<A: Allocator + Copy>(
+    alloc: A,
+    bytes: &[u8],
+) -> Result<Vec<Instr, A>, Failure<CodeFault>>
+    ensures { Gives (λ v. v.items) (λ f. f) result (instructions_of 2 (parts_of bytes.now)) }
 {
     let mut instructions = Vec::new(alloc);
     let mut number = 2;
     let mut rest = bytes;
     while !rest.is_empty() {
         let Some((instr, after)) = line(rest) else {
-            return Err(bad(number));
+            return Err(Failure::Refused(bad(number)));
         };
         instructions.push(instr)?;
         number += 1;

@@ -1,5 +1,5 @@
 -- What the paths of a code come to at its end, and that there is one judgement.
-use Rattle.std.proofs.Common.{◌≡◌, ◌≢◌, ℕ, ◌+◌, ◌<◌, ◌≤◌, ◌⊎◌, inl, inr, Bool, false, List, length, replicate, Result, Ok, Err, IfErr, refl, sym, ap, subst, ◌∙◌, arith, slice_index_or, slice_set, get_or-set_other, get_or-set_same}
+use Rattle.std.proofs.Common.{◌≡◌, ◌≢◌, ℕ, ◌+◌, ◌<◌, ◌≤◌, ◌⊎◌, inl, inr, Bool, false, List, length, replicate, Result, Ok, Err, refl, sym, ap, subst, ◌∙◌, arith, slice_index_or, slice_set, get_or-set_other, get_or-set_same}
 use Rattle.std.proofs.lemmas.Bool.{cases_lt, cases_eq}
 use Rattle.std.proofs.lemmas.List.{length-replicate, get_or-replicate, length-set}
 use Rattle.std.proofs.lemmas.Option.{slice_get_within}
@@ -8,15 +8,15 @@ use Rattle.kernel_code.specs.Code.{IsCode}
 use Rattle.kernel_code.specs.Paths.{IsPath}
 use Rattle.kernel_code.proofs.PathLaws.{path_within}
 use Rattle.kernel_paths.specs.declared.faults.Misfit.{Misfit}
-use Rattle.kernel_paths.specs.declared.faults.Misfit.TheVariants.{Malformed, DepthOver64, Memory}
+use Rattle.kernel_paths.specs.declared.faults.Misfit.TheVariants.{Malformed, DepthOver64}
 use Rattle.kernel_paths.specs.declared.meetings.Shape.{Shape}
 use Rattle.kernel_paths.specs.declared.meetings.Meeting.{Meeting}
 use Rattle.kernel_paths.specs.declared.meetings.Meeting.TheVariants.{Nothing, Level, Uneven}
-use Rattle.kernel_paths.specs.Misfits.{IsLevel, DoesWell, IsFirstMalformed, IsJudged, GoesWrongSo}
+use Rattle.kernel_paths.specs.Misfits.{IsLevel, DoesWell, IsFirstMalformed, IsJudged}
 use Rattle.kernel_paths.specs.Meetings.{IsEnd, meeting_at, Arrives, first, arrivals, IsSummary, Describes, Stands}
 use Rattle.kernel_paths.proofs.Arrivals.{arrives_here, is_path, only_start}
 use Rattle.kernel_paths.proofs.Standing.{met_here}
-use Rattle.kernel_paths.proofs.Refusals.{held_here, level_here, uneven, end_met, goes_wrong}
+use Rattle.kernel_paths.proofs.Refusals.{held_here, level_here, uneven, end_met}
 
 -- ---- the beginning
 
@@ -91,15 +91,9 @@ judged_end code inputs meetings Nothing r c st e h = absurd h
 judged_end code inputs meetings (Level s) (Ok steps) c st e h = subst (λ (n : ℕ). DoesWell code inputs n) (sym h.1) (does_well code inputs s meetings c st e h.0)
 judged_end code inputs meetings (Level s) (Err (Malformed pc)) c st e h = subst (λ (k : ℕ). IsFirstMalformed code inputs k) (sym h.1) (ends_badly code inputs s meetings st e h.0)
 judged_end code inputs meetings (Level s) (Err (DepthOver64 pc)) c st e h = absurd h
-judged_end code inputs meetings (Level s) (Err Memory) c st e h = absurd h
 judged_end code inputs meetings Uneven (Ok steps) c st e h = absurd h
 judged_end code inputs meetings Uneven (Err (Malformed pc)) c st e h = subst (λ (k : ℕ). IsFirstMalformed code inputs k) (sym h) (uneven code inputs (length code) meetings (omega arith) st e)
 judged_end code inputs meetings Uneven (Err (DepthOver64 pc)) c st e h = absurd h
-judged_end code inputs meetings Uneven (Err Memory) c st e h = absurd h
-
-pub wrong_if : (code : List Instr) (inputs : ℕ) (r : Result ℕ Misfit) → IsCode code → IsJudged code inputs r → IfErr r (GoesWrongSo code inputs)
-wrong_if code inputs (Ok steps) c j = tt
-wrong_if code inputs (Err misfit) c j = goes_wrong code inputs misfit c.forward j
 
 -- ---- what is read at the end
 

@@ -1,5 +1,5 @@
 -- A code has one judgement.
-use Rattle.std.proofs.Common.{◌≡◌, ◌≢◌, ℕ, ◌<◌, ◌≤◌, ◌⊎◌, inl, inr, List, length, Result, Ok, Err, refl, sym, ap, subst, arith, ⊎_elim}
+use Rattle.std.proofs.Common.{◌≡◌, ◌≢◌, ℕ, ◌<◌, ◌≤◌, ◌⊎◌, inl, inr, List, length, Result, Ok, Err, sym, ap, subst, arith, ⊎_elim}
 use Rattle.std.proofs.lemmas.Bool.{cases_lt}
 use Rattle.std.proofs.lemmas.Option.{slice_get_within}
 use Rattle.kernel_code.specs.declared.instructions.Instr.{Instr}
@@ -7,8 +7,8 @@ use Rattle.kernel_code.specs.Code.{JumpsForward}
 use Rattle.kernel_code.specs.Paths.{IsPath}
 use Rattle.kernel_code.proofs.PathLaws.{path_within}
 use Rattle.kernel_paths.specs.declared.faults.Misfit.{Misfit}
-use Rattle.kernel_paths.specs.declared.faults.Misfit.TheVariants.{Malformed, DepthOver64, Memory}
-use Rattle.kernel_paths.specs.Misfits.{IsLevel, AreSupplied, Fits, Lacks, EndsBadly, MeetUnevenly, Overfills, DoesWell, IsFirstMalformed, IsFirstOverfull, IsJudged, AgreeUnlessMemory}
+use Rattle.kernel_paths.specs.declared.faults.Misfit.TheVariants.{Malformed, DepthOver64}
+use Rattle.kernel_paths.specs.Misfits.{IsLevel, AreSupplied, Fits, Lacks, EndsBadly, MeetUnevenly, Overfills, DoesWell, IsFirstMalformed, IsFirstOverfull, IsJudged}
 
 -- what is wrong at a place
 abbrev IsMalformed : List Instr → (inputs pc : ℕ) → Type 0
@@ -86,17 +86,13 @@ not_both code inputs p q forward a b =
 
 -- ---- all
 
-pub one_judgement : (code : List Instr) (inputs : ℕ) (r answer : Result ℕ Misfit) → JumpsForward code → IsJudged code inputs r → IsJudged code inputs answer → AgreeUnlessMemory r answer
-one_judgement code inputs (Err Memory) answer forward a b = inr (inl refl)
-one_judgement code inputs (Ok m) (Err Memory) forward a b = inr (inr refl)
-one_judgement code inputs (Err (Malformed p)) (Err Memory) forward a b = inr (inr refl)
-one_judgement code inputs (Err (DepthOver64 p)) (Err Memory) forward a b = inr (inr refl)
-one_judgement code inputs (Ok m) (Ok n) forward a b = inl (ap (λ (k : ℕ). Ok k) (sym (one_length code inputs m n a b)))
+pub one_judgement : (code : List Instr) (inputs : ℕ) (r answer : Result ℕ Misfit) → JumpsForward code → IsJudged code inputs r → IsJudged code inputs answer → answer ≡ r
+one_judgement code inputs (Ok m) (Ok n) forward a b = ap (λ (k : ℕ). Ok k) (sym (one_length code inputs m n a b))
 one_judgement code inputs (Ok m) (Err (Malformed q)) forward a b = absurd (no_malformed code inputs m q a b.wrong)
 one_judgement code inputs (Ok m) (Err (DepthOver64 q)) forward a b = absurd (no_overfull code inputs m q a b.overfills)
 one_judgement code inputs (Err (Malformed p)) (Ok n) forward a b = absurd (no_malformed code inputs n p b a.wrong)
-one_judgement code inputs (Err (Malformed p)) (Err (Malformed q)) forward a b = inl (ap (λ (k : ℕ). Err (Malformed k)) (sym (same_malformed code inputs p q forward a b)))
+one_judgement code inputs (Err (Malformed p)) (Err (Malformed q)) forward a b = ap (λ (k : ℕ). Err (Malformed k)) (sym (same_malformed code inputs p q forward a b))
 one_judgement code inputs (Err (Malformed p)) (Err (DepthOver64 q)) forward a b = absurd (not_both code inputs p q forward a b)
 one_judgement code inputs (Err (DepthOver64 p)) (Ok n) forward a b = absurd (no_overfull code inputs n p b a.overfills)
 one_judgement code inputs (Err (DepthOver64 p)) (Err (Malformed q)) forward a b = absurd (not_both code inputs q p forward b a)
-one_judgement code inputs (Err (DepthOver64 p)) (Err (DepthOver64 q)) forward a b = inl (ap (λ (k : ℕ). Err (DepthOver64 k)) (sym (same_overfull code inputs p q forward a b)))
+one_judgement code inputs (Err (DepthOver64 p)) (Err (DepthOver64 q)) forward a b = ap (λ (k : ℕ). Err (DepthOver64 k)) (sym (same_overfull code inputs p q forward a b))

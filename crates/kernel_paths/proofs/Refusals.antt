@@ -8,7 +8,7 @@ use Rattle.kernel_code.specs.declared.instructions.Instr.TheVariants.{Push, Inpu
 use Rattle.kernel_code.specs.Code.{JumpsForward}
 use Rattle.kernel_code.specs.Paths.{IsSupplied, HasRoom, MayGo, IsPath, goes, begins, height_after, set_after}
 use Rattle.kernel_paths.specs.declared.faults.Misfit.{Misfit}
-use Rattle.kernel_paths.specs.declared.faults.Misfit.TheVariants.{Malformed, DepthOver64, Memory}
+use Rattle.kernel_paths.specs.declared.faults.Misfit.TheVariants.{Malformed, DepthOver64}
 use Rattle.kernel_paths.specs.declared.meetings.Shape.{Shape}
 use Rattle.kernel_paths.specs.declared.meetings.Meeting.{Meeting}
 use Rattle.kernel_paths.specs.declared.meetings.Meeting.TheVariants.{Nothing, Level, Uneven}
@@ -94,7 +94,6 @@ unfit code inputs here i s meetings misfit forward there st e fit = at misfit fi
         (record { below = st.fits; wrong = inl (lacking code inputs here i s there x fit.1.lacks) })
     at (DepthOver64 pc) fit =
         subst (λ (k : ℕ). IsFirst code inputs (DepthOver64 k)) (sym fit.0) (overfull code inputs here i s meetings forward there st x fit.1)
-    at Memory fit = absurd fit
 
 pub uneven_paths : (code : List Instr) (here : ℕ) → AreUneven (arrivals code here here) → MeetUnevenly code here
 uneven_paths code here u = record {
@@ -231,4 +230,3 @@ goes_wrong code inputs (Malformed pc) forward f = at f.wrong
     at (inr (inl u)) = uneven_wrong code inputs (length code) u.n u.n' pc u.height u.height' u.set u.set' forward (path_within code forward u.path) (omega arith) u.path u.path' u.different
     at (inr (inr e)) = inr (subst (λ (k : ℕ). EndsBadly code k) e.last e)
 goes_wrong code inputs (DepthOver64 pc) forward f = f.overfills
-goes_wrong code inputs Memory forward f = tt

@@ -3,7 +3,7 @@ use Rattle.std.specs.Prelude.{◌≡◌, ◌≢◌, ℕ, suc, ◌+◌, ◌<◌, 
 use Rattle.kernel_code.specs.declared.instructions.Instr.{Instr}
 use Rattle.kernel_code.specs.Paths.{IsSupplied, HasRoom, CanAct, MayGo, IsPath, height_after, set_after}
 use Rattle.kernel_paths.specs.declared.faults.Misfit.{Misfit}
-use Rattle.kernel_paths.specs.declared.faults.Misfit.TheVariants.{Malformed, DepthOver64, Memory}
+use Rattle.kernel_paths.specs.declared.faults.Misfit.TheVariants.{Malformed, DepthOver64}
 use Rattle.kernel_paths.specs.declared.meetings.Shape.{Shape}
 use Rattle.kernel_paths.specs.declared.meetings.Meeting.{Meeting}
 use Rattle.kernel_paths.specs.declared.meetings.Meeting.TheVariants.{Nothing, Level, Uneven}
@@ -23,7 +23,6 @@ abbrev pub IsFit : Instr → (pc inputs height : ℕ) → List Bool → Result (
 IsFit i pc inputs height set (Ok u) = CanAct i inputs height set
 IsFit i pc inputs height set (Err (Malformed at)) = (at ≡ pc) × LacksSomething i inputs height set
 IsFit i pc inputs height set (Err (DepthOver64 at)) = (at ≡ pc) × IsOverfull i inputs height set
-IsFit i pc inputs height set (Err Memory) = ⊥
 
 -- ---- meetings
 
@@ -69,11 +68,9 @@ IsEnd Nothing len r = ⊥
 IsEnd (Level s) len (Ok steps) = (s.height ≡ 1) × (steps ≡ s.steps)
 IsEnd (Level s) len (Err (Malformed at)) = (s.height ≢ 1) × (at ≡ len)
 IsEnd (Level s) len (Err (DepthOver64 at)) = ⊥
-IsEnd (Level s) len (Err Memory) = ⊥
 IsEnd Uneven len (Ok steps) = ⊥
 IsEnd Uneven len (Err (Malformed at)) = at ≡ len
 IsEnd Uneven len (Err (DepthOver64 at)) = ⊥
-IsEnd Uneven len (Err Memory) = ⊥
 
 -- ---- paths
 

@@ -3,7 +3,7 @@ use Rattle.std.specs.Prelude.{◌≡◌, ◌≢◌, ℕ, ◌<◌, ◌⊎◌, Lis
 use Rattle.kernel_code.specs.declared.instructions.Instr.{Instr}
 use Rattle.kernel_code.specs.Paths.{IsSupplied, HasRoom, IsPath, MissesNothing, IsLongest}
 use Rattle.kernel_paths.specs.declared.faults.Misfit.{Misfit}
-use Rattle.kernel_paths.specs.declared.faults.Misfit.TheVariants.{Malformed, DepthOver64, Memory}
+use Rattle.kernel_paths.specs.declared.faults.Misfit.TheVariants.{Malformed, DepthOver64}
 
 -- ---- a place where all is well
 
@@ -87,11 +87,10 @@ pub record IsFirstOverfull (code : List Instr) (inputs pc : ℕ) : Type 0 where
   pub supplied : AreSupplied code inputs pc
   pub overfills : Overfills code pc
 
--- the lowest place at which something is wrong, and what; want of memory says nothing
+-- the lowest place at which something is wrong, and what
 abbrev pub IsFirst : List Instr → ℕ → Misfit → Type 0
 IsFirst code inputs (Malformed pc) = IsFirstMalformed code inputs pc
 IsFirst code inputs (DepthOver64 pc) = IsFirstOverfull code inputs pc
-IsFirst code inputs Memory = Unit {0}
 
 abbrev pub IsJudged : List Instr → ℕ → Result ℕ Misfit → Type 0
 IsJudged code inputs (Ok steps) = DoesWell code inputs steps
@@ -107,10 +106,3 @@ GoesWrong code inputs = ((pc : ℕ) × Lacks code inputs pc) ⊎ EndsBadly code 
 abbrev pub GoesWrongSo : List Instr → ℕ → Misfit → Type 0
 GoesWrongSo code inputs (Malformed pc) = GoesWrong code inputs
 GoesWrongSo code inputs (DepthOver64 pc) = Overfills code pc
-GoesWrongSo code inputs Memory = Unit {0}
-
--- ---- one judgement
-
--- want of memory aside, the two are the same
-abbrev pub AgreeUnlessMemory : (r answer : Result ℕ Misfit) → Type 0
-AgreeUnlessMemory r answer = (answer ≡ r) ⊎ ((r ≡ Err Memory) ⊎ (answer ≡ Err Memory))

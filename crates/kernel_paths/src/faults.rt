@@ -1,12 +1,12 @@
 //! Why code doesn't do well on all its paths.
 
 ghost use Rattle.std.specs.Prelude.{◌≡◌};
-ghost use Rattle.kernel_paths.specs.declared.faults.Misfit.TheVariants.{Memory};
+ghost use Rattle.fallible.specs.declared.failure.Failure.TheVariants.{Refused};
 
-use std::alloc::{AllocError, AllocFailed};
+use fallible::Failure;
 use thiserror::Error;
 
-/// The first place at which some path of a code goes wrong, or want of memory.
+/// The first place at which some path of a code goes wrong.
 #[derive(Clone, Copy, PartialEq, Eq, Debug, Error)]
 pub enum Misfit {
     /// At this place, an instruction's or the code's length, a path lacks an operand, a local or an input, or ends with
@@ -16,23 +16,12 @@ pub enum Misfit {
     /// On some path the instruction at this place would push a 65th value.
     #[error("V4 DepthOver64 {pc}")]
     DepthOver64 { pc: u32 },
-    /// Memory ran out.
-    #[error("Memory")]
-    Memory,
 }
 
-impl From<AllocError> for Misfit {
-    ghost from_gives = { λ _ e. e ≡ Memory };
+impl From<Misfit> for Failure<Misfit> {
+    ghost from_gives = { λ misfit e. e ≡ Refused misfit };
 
-    fn from(_e: AllocError) -> Misfit {
-        Misfit::Memory
-    }
-}
-
-impl<T: Drop> From<AllocFailed<T>> for Misfit {
-    ghost from_gives = { λ _ e. e ≡ Memory };
-
-    fn from(_e: AllocFailed<T>) -> Misfit {
-        Misfit::Memory
+    fn from(misfit: Misfit) -> Failure<Misfit> {
+        Failure::Refused(misfit)
     }
 }

@@ -1,14 +1,16 @@
 //! All paths of a code, followed place by place.
 
-ghost use Rattle.std.specs.Prelude.{◌≡◌, ◌+◌, ◌^◌, ◌<◌, ℕ, length, OnOk, IfErr, Result};
+ghost use Rattle.std.specs.Prelude.{◌≡◌, ◌+◌, ◌^◌, ◌<◌, ℕ, length, OnOk, IfOk, IfErr, Result};
+ghost use Rattle.fallible.specs.Failures.{Gives, IfRefused};
 ghost use Rattle.kernel_code.specs.Code.{IsCode};
 ghost use Rattle.kernel_paths.specs.declared.meetings.Meeting.TheVariants.{Nothing};
-ghost use Rattle.kernel_paths.specs.Misfits.{IsFirst, IsJudged, GoesWrongSo, AgreeUnlessMemory};
+ghost use Rattle.kernel_paths.specs.Misfits.{DoesWell, IsFirst, IsJudged, GoesWrongSo};
 ghost use Rattle.kernel_paths.specs.Meetings.{Stands, IsEnd};
 
 use crate::faults::Misfit;
 use crate::instructions::{act, check, lead};
 use crate::meetings::{Meeting, Shape};
+use fallible::Failure;
 use kernel_code::{Code, Instr};
 use std::alloc::Allocator;
 
@@ -58,18 +60,19 @@ fn judge_end(end: &Meeting, len: usize) -> Result<u32, Misfit>
 /// Otherwise the lowest place that is wrong decides. `Malformed` where a path lacks an operand, a local or an input,
 /// where paths meet with stacks of different heights, or at the end, the place that is the code's length, where a path
 /// has other than one value; else `DepthOver64` where a path pushes a 65th value. Instructions that no path comes to
-/// are passed over. `Memory` comes only where a growth was refused.
+/// are passed over. `Memory`: an allocation was refused.
 pub fn longest_path<A: Allocator, B: Allocator>(
     alloc: A,
     code: &Code<B>,
     inputs: usize,
-) -> Result<u32, Misfit>
+) -> Result<u32, Failure<Misfit>>
     // Which answer it is.
-    ensures judged { IsJudged code.now inputs result }
+    ensures well { IfOk result (DoesWell code.now inputs) }
+    ensures first { IfErr result (λ failure. IfRefused failure (IsFirst code.now inputs)) }
     // There is no other.
-    ensures only { (answer : Result ℕ Misfit) → IsJudged code.now inputs answer → AgreeUnlessMemory result answer }
+    ensures only { (answer : Result ℕ Misfit) → IsJudged code.now inputs answer → Gives (λ steps. steps) (λ misfit. misfit) result answer }
     // Where it refuses, some path goes wrong.
-    ensures refused { IfErr result (GoesWrongSo code.now inputs) }
+    ensures refused { IfErr result (λ failure. IfRefused failure (GoesWrongSo code.now inputs)) }
 {
     let instructions = code.as_slice();
     let len = instructions.len();
@@ -78,5 +81,5 @@ pub fn longest_path<A: Allocator, B: Allocator>(
     for here in 0..len {
         follow(instructions, here, inputs, &mut meetings)?;
     }
-    judge_end(&meetings[len], len)
+    Ok(judge_end(&meetings[len], len)?)
 }

@@ -13,7 +13,7 @@ use Rattle.kernel_code.specs.Tables.{Table, IsTable, inputs_of}
 use Rattle.kernel_code.proofs.PathLaws.{set_of, run_is_path, path_within}
 use Rattle.kernel_paths.specs.Misfits.{DoesWell}
 use Rattle.verifier.specs.declared.faults.VerifyFault.{VerifyFault}
-use Rattle.verifier.specs.declared.faults.VerifyFault.TheVariants.{Malformed, DepthOver64, Fault, Undecided, Memory}
+use Rattle.verifier.specs.declared.faults.VerifyFault.TheVariants.{Malformed, DepthOver64, Fault, Undecided}
 use Rattle.verifier.specs.Safety.{IsSafe, IsCertified, IsFound, IsRefusal, input_count}
 use Rattle.verifier.specs.Slices.{AreEnoughLocals}
 use Rattle.verifier.specs.Searches.{Searched, IsSearch}
@@ -58,7 +58,6 @@ refused code t core cutoff limit (Malformed pc) h = absurd h
 refused code t core cutoff limit (DepthOver64 pc) h = absurd h
 refused code t core cutoff limit (Fault a b r pc fault) h = h
 refused code t core cutoff limit (Undecided a b lo hi pc fault) h = h
-refused code t core cutoff limit Memory h = tt
 
 -- ---- locals
 

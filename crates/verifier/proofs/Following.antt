@@ -5,6 +5,9 @@ use Rattle.std.proofs.lemmas.Bool.{cases_eq, lt-ltb}
 use Rattle.std.proofs.lemmas.Int.{ints}
 use Rattle.std.proofs.lemmas.List.{get_or-set_same, get_or-set_other}
 use Rattle.std.proofs.Math.ListN.{length-set}
+use Rattle.fallible.specs.Failures.{IfRefused}
+use Rattle.fallible.specs.declared.failure.Failure.{Failure}
+use Rattle.fallible.specs.declared.failure.Failure.TheVariants.{Refused, Memory}
 use Rattle.interval_domain.specs.declared.span.Span.{Span}
 use Rattle.interval_domain.specs.Spans.{IsMember, IsLeastSpan, IsOutcome, IsOutcomeOfTwo}
 use Rattle.kernel_code.specs.declared.instructions.BinaryOperation.{BinaryOperation}
@@ -13,10 +16,7 @@ use Rattle.kernel_code.specs.declared.instructions.Instr.TheVariants.{Push, Inpu
 use Rattle.kernel_code.specs.declared.traps.TrapKind.TheVariants.{MissingInput, MissingLocal}
 use Rattle.kernel_code.specs.Machine.{pushed, pushed_if, kept, given, on_two, on_one, binary_of, unary_of}
 use Rattle.fixed.specs.declared.faults.Fault.{Fault}
-use Rattle.verifier.specs.declared.frames.Stop.{Stop}
-use Rattle.verifier.specs.declared.frames.Stop.TheVariants as stop
 use Rattle.verifier.specs.Places.{IsCause, KeepsTop, PushesNumber, StopsOnOne, StopsOnTwo}
-use Rattle.verifier.specs.Stopping.{IsStop}
 use Rattle.verifier.specs.Frames.{SpanFrame, AreMembers, IsLocalOf, AreLocalsOf, AreIn, HasSet, IsOfSize, Pushes, Pops, Keeps, AppliesBinary, AppliesUnary, Follows}
 
 -- what a call says at `Ok`, passed on
@@ -219,9 +219,11 @@ stops_on_two bits op a b old one two fault pb pa cause = record { a = a; b = b; 
 pub stops_on_one : (bits : ℕ) (op : UnaryOperation) (a : Span) (old one : SpanFrame) (fault : Fault) → Pops a old one → IsCause (IsOutcome (unary_of bits op) a) fault → StopsOnOne bits op old fault
 stops_on_one bits op a old one fault pa cause = record { a = a; rest = one.stack; taken = pa.stack; cause = cause }
 
-pub stop_weaker : (P Q : Fault → Type 0) (s : Stop) → ((f : Fault) → P f → Q f) → IsStop P s → IsStop Q s
-stop_weaker P Q (stop.Fault f) g h = g f h
-stop_weaker P Q stop.Memory g h = tt
+-- what follows from what a refusal says
+pub refused_weaker : {R : Type 0} (P Q : R → Type 0) (failure : Failure R) → ((fault : R) → P fault → Q fault) → IfRefused failure P → IfRefused failure Q
+refused_weaker P Q (Refused fault) g h = g fault h
+refused_weaker P Q Memory g h = tt
 
-pub stop_memory : (P : Fault → Type 0) (s : Stop) → s ≡ stop.Memory → IsStop P s
-stop_memory P s e = rw e tt
+-- want of memory says nothing
+pub refused_memory : {R : Type 0} (P : R → Type 0) (failure : Failure R) → failure ≡ Memory → IfRefused failure P
+refused_memory P failure e = rw e tt

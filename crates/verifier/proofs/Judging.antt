@@ -10,11 +10,7 @@ use Rattle.interval_domain.specs.Spans.{IsMember, AreHalves, ArePartsOf}
 use Rattle.kernel_code.specs.declared.instructions.Instr.{Instr}
 use Rattle.kernel_code.specs.Tables.{Table, inputs_of}
 use Rattle.verifier.specs.declared.faults.VerifyFault.{VerifyFault}
-use Rattle.verifier.specs.declared.faults.VerifyFault.TheVariants.{Malformed, DepthOver64, Fault, Undecided, Memory}
-use Rattle.fixed.specs.declared.faults.Fault as kind
-use Rattle.verifier.specs.declared.slices.Stopped.{Stopped}
-use Rattle.verifier.specs.declared.slices.Stopped.TheVariants as stopped
-use Rattle.verifier.specs.Stopping.{IsStopAt}
+use Rattle.verifier.specs.declared.faults.VerifyFault.TheVariants.{Malformed, DepthOver64, Fault, Undecided}
 use Rattle.verifier.specs.Frames.{AreInputsOf}
 use Rattle.verifier.specs.Slices.{AllGiveIn}
 use Rattle.verifier.specs.Safety.{GivesWithin, IsFound}
@@ -63,17 +59,10 @@ found_within code t from last from' last' limit limit' (Fault x y r pc fault) a 
     record { first = h.first; second = h.second; low = omega (arith, ints, a, h.low); high = omega (arith, ints, b, h.high); n = h.n; ends = h.ends }
 found_within code t from last from' last' limit limit' (Undecided x y lo hi pc fault) a b w h =
     record { first = h.first; second = h.second; low = omega (arith, ints, a, h.low); two = h.two; high = omega (arith, ints, b, h.high); at_lo = h.at_lo; at_hi = h.at_hi; wide = w h.wide }
-found_within code t from last from' last' limit limit' Memory a b w h = tt
 
 -- at one distance
 pub found_at : (code : List Instr) (t : Table) (r from last : ℤ) (limit : ℕ) (f : VerifyFault) → from ≤ℤ r → r ≤ℤ last → ((l : ℕ) → IsFound code t r r l f) → IsFound code t from last limit f
 found_at code t r from last limit f a b h = found_within code t r r from last 1 limit f a b (λ w. absurd (omega (arith, ints, w))) (h 1)
-
--- ---- stops
-
-pub stop_at_weaker : (P Q : ℕ → kind.Fault → Type 0) (s : Stopped) → ((pc : ℕ) (f : kind.Fault) → P pc f → Q pc f) → IsStopAt P s → IsStopAt Q s
-stop_at_weaker P Q (stopped.Fault pc f) g h = g pc f h
-stop_at_weaker P Q stopped.Memory g h = tt
 
 -- ---- halves
 

@@ -1,6 +1,6 @@
 -- Two verdicts on one code are the same.
 use Rattle.std.proofs.Common.{◌≡◌, ℕ, zero, suc, ◌+◌, ◌*◌, ◌/◌, ◌<◌, ◌≤◌, List, [], ◌∷◌, length, Some, Result, Ok, Err, refl, sym, ap, ◌∙◌, subst, arith, ⊎_elim, ℤ, pos, ◌+ℤ◌, ◌-ℤ◌, ◌<ℤ◌, max}
-use Rattle.std.specs.Prelude.{◌⊎◌, slice_get, unsigned_abs}
+use Rattle.std.specs.Prelude.{slice_get, unsigned_abs}
 use Rattle.std.proofs.lemmas.Int.{ints}
 use Rattle.std.proofs.lemmas.Bool.{cases_lt}
 use Rattle.fixed.specs.Fractions.{bits_of}
@@ -292,56 +292,45 @@ module _ (code : List Instr) (t : Table) (g : Range) where
 told : Misfit → VerifyFault
 told (misfit.Malformed pc) = fault.Malformed pc
 told (misfit.DepthOver64 pc) = fault.DepthOver64 pc
-told misfit.Memory = fault.Memory
 
 -- code with a misfit misses something
-misses_not : (code : List Instr) (n : ℕ) (m : Misfit) → JumpsForward code → MissesNothing code n → (m ≡ misfit.Memory → ⊥) → IsFirst code n m → ⊥
-misses_not code n (misfit.Malformed pc) forward misses some first =
+misses_not : (code : List Instr) (n : ℕ) (m : Misfit) → JumpsForward code → MissesNothing code n → IsFirst code n m → ⊥
+misses_not code n (misfit.Malformed pc) forward misses first =
     ⊎_elim
     (λ (w : (pc : ℕ) × Lacks code n pc). let l = w.1 in l.lacks (misses.acts l.n w.0 l.height l.set l.instr l.path l.there).supplied)
     (λ (w : EndsBadly code (length code)). w.other (misses.ends w.n w.height w.set w.path))
     (goes_wrong code n (misfit.Malformed pc) forward first)
-misses_not code n (misfit.DepthOver64 pc) forward misses some first =
+misses_not code n (misfit.DepthOver64 pc) forward misses first =
     let o = first.overfills in
     o.full (misses.acts o.n pc o.height o.set o.instr o.path o.there).room
-misses_not code n misfit.Memory forward misses some first = some refl
 
 same_misfit : (m m' : Misfit) → (let r : Result ℕ Misfit = Err m in r) ≡ Err m' → m ≡ m'
 same_misfit m m' e = cc
 
-one_misfit : (code : List Instr) (n : ℕ) (m m' : Misfit) → JumpsForward code → (m ≡ misfit.Memory → ⊥) → (m' ≡ misfit.Memory → ⊥) → IsFirst code n m → IsFirst code n m' → m ≡ m'
-one_misfit code n m m' forward some some' first first' =
-    ⊎_elim
-    (λ (e : (let r : Result ℕ Misfit = Err m' in r) ≡ Err m). sym (same_misfit m' m e))
-    (λ (o : ((let r : Result ℕ Misfit = Err m in r) ≡ Err misfit.Memory) ⊎ ((let r : Result ℕ Misfit = Err m' in r) ≡ Err misfit.Memory)).
-    ⊎_elim
-    (λ (e : (let r : Result ℕ Misfit = Err m in r) ≡ Err misfit.Memory). absurd (some (same_misfit m misfit.Memory e)))
-    (λ (e : (let r : Result ℕ Misfit = Err m' in r) ≡ Err misfit.Memory). absurd (some' (same_misfit m' misfit.Memory e)))
-    o)
-    (one_judgement code n (Err m) (Err m') forward first first')
+one_misfit : (code : List Instr) (n : ℕ) (m m' : Misfit) → JumpsForward code → IsFirst code n m → IsFirst code n m' → m ≡ m'
+one_misfit code n m m' forward first first' = sym (same_misfit m' m (one_judgement code n (Err m) (Err m') forward first first'))
 
 -- ---- verdicts
 
 module _ (code : List Instr) (t : Table) (g : Range) where
   data Kind (x : Answer) : Type 0 where
     searched : IsSearched code t g x → Kind x
-    misfit' : (m : Misfit) → (m ≡ misfit.Memory → ⊥) → IsFirst code (input_count t) m → x ≡ Err (told m) → Kind x
+    misfit' : (m : Misfit) → IsFirst code (input_count t) m → x ≡ Err (told m) → Kind x
 
   kind_of : (x : Answer) → IsVerdict code t g x → Kind x
   unfolding told
   kind_of (Ok bound) v = searched v
-  kind_of (Err (fault.Malformed pc)) v = misfit' (misfit.Malformed pc) (λ e. absurd cc) v refl
-  kind_of (Err (fault.DepthOver64 pc)) v = misfit' (misfit.DepthOver64 pc) (λ e. absurd cc) v refl
+  kind_of (Err (fault.Malformed pc)) v = misfit' (misfit.Malformed pc) v refl
+  kind_of (Err (fault.DepthOver64 pc)) v = misfit' (misfit.DepthOver64 pc) v refl
   kind_of (Err (fault.Fault a b r pc kind)) v = searched v
   kind_of (Err (fault.Undecided a b lo hi pc kind)) v = searched v
-  kind_of (Err fault.Memory) v = absurd v
 
   kind_same : (x y : Answer) → JumpsForward code → Kind x → Kind y → x ≡ y
   kind_same x y forward (searched p) (searched q) = found_same code t g x y p.found q.found
-  kind_same x y forward (searched p) (misfit' m some first e) = absurd (misses_not code (input_count t) m forward p.misses some first)
-  kind_same x y forward (misfit' m some first e) (searched p) = absurd (misses_not code (input_count t) m forward p.misses some first)
-  kind_same x y forward (misfit' m some first e) (misfit' m' some' first' e') =
-      e ∙ ap (λ (k : Misfit). Err (told k)) (one_misfit code (input_count t) m m' forward some some' first first') ∙ sym e'
+  kind_same x y forward (searched p) (misfit' m first e) = absurd (misses_not code (input_count t) m forward p.misses first)
+  kind_same x y forward (misfit' m first e) (searched p) = absurd (misses_not code (input_count t) m forward p.misses first)
+  kind_same x y forward (misfit' m first e) (misfit' m' first' e') =
+      e ∙ ap (λ (k : Misfit). Err (told k)) (one_misfit code (input_count t) m m' forward first first') ∙ sym e'
 
   pub verdict_same : (x y : Answer) → JumpsForward code → IsVerdict code t g x → IsVerdict code t g y → x ≡ y
   verdict_same x y forward p q = kind_same x y forward (kind_of x p) (kind_of y q)

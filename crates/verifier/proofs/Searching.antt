@@ -3,6 +3,9 @@ use Rattle.std.proofs.Common.{◌≡◌, ◌≢◌, ℕ, zero, suc, ◌+◌, ◌
 use Rattle.std.specs.Prelude.{◌⊎◌}
 use Rattle.std.proofs.lemmas.Int.{ints}
 use Rattle.std.proofs.lemmas.Bool.{cases_eq, cases_lt}
+use Rattle.fallible.specs.Failures.{IfRefused}
+use Rattle.fallible.specs.declared.failure.Failure.{Failure}
+use Rattle.fallible.specs.declared.failure.Failure.TheVariants.{Refused, Memory}
 use Rattle.fixed.specs.Fractions.{bits_of}
 use Rattle.fixed.specs.declared.faults.Fault.{Fault}
 use Rattle.interval_domain.specs.declared.span.Span.{Span}
@@ -23,11 +26,9 @@ use Rattle.verifier.specs.Verdicts.{Answer, HasFault, IsAtOne, IsFirstRefused, I
 
 -- ---- want of memory
 
-pub unless_ok : (P : Answer → Type 0) (x : ℕ) → UnlessMemory P (Ok x) → P (Ok x)
-unless_ok P x h = ⊎_elim (λ (e : (let r : Answer = Ok x in r) ≡ Err fault.Memory). absurd cc) (λ (p : P (Ok x)). p) h
-
-pub unless_err : (P Q : Answer → Type 0) (f : VerifyFault) → (P (Err f) → Q (Err f)) → UnlessMemory P (Err f) → UnlessMemory Q (Err f)
-unless_err P Q f g h = ⊎_elim (λ (e : (let r : Answer = Err f in r) ≡ Err fault.Memory). inl e) (λ (p : P (Err f)). inr (g p)) h
+pub unless_err : (P Q : Answer → Type 0) (failure : Failure VerifyFault) → ((f : VerifyFault) → P (Err f) → Q (Err f)) → UnlessMemory P (Err failure) → UnlessMemory Q (Err failure)
+unless_err P Q (Refused f) g h = g f h
+unless_err P Q Memory g h = tt
 
 -- ---- answers in their order
 
@@ -85,30 +86,31 @@ module _ (code : List Instr) (t : Table) (a b : ℕ) where
   pub at_depth : (depth : ℕ) (s : Span) (f : VerifyFault) → depth ≡ 0 → IsPieceAnswer code t a b 0 s (Err f) → IsPieceAnswer code t a b depth s (Err f)
   at_depth depth s f e h = rw e h
 
-  pub judged_lower : (depth : ℕ) (s l u : Span) (pc : ℕ) (kind : Fault) (f : VerifyFault) → depth ≢ 0 → s.lo <ℤ s.hi → IsStopped code t a b s pc kind → AreHalves s l u → UnlessMemory (IsPieceAnswer code t a b (depth - 1) l) (Err f) → UnlessMemory (IsPieceAnswer code t a b depth s) (Err f)
-  judged_lower zero s l u pc kind f n two stop cut h = absurd (n refl)
-  judged_lower (suc d) s l u pc kind f n two stop cut h =
+  pub judged_lower : (depth : ℕ) (s l u : Span) (pc : ℕ) (kind : Fault) (failure : Failure VerifyFault) → depth ≢ 0 → s.lo <ℤ s.hi → IsStopped code t a b s pc kind → AreHalves s l u → UnlessMemory (IsPieceAnswer code t a b (depth - 1) l) (Err failure)
+      → UnlessMemory (IsPieceAnswer code t a b depth s) (Err failure)
+  judged_lower zero s l u pc kind failure n two stop cut h = absurd (n refl)
+  judged_lower (suc d) s l u pc kind failure n two stop cut h =
       let e : suc d - 1 ≡ d = omega arith in
-      let h' : UnlessMemory (IsPieceAnswer code t a b d l) (Err f) = rw e at h in
-      unless_err (IsPieceAnswer code t a b d l) (IsPieceAnswer code t a b (suc d) s) f (λ p. lower two stop cut p) h'
+      let h' = subst (λ (k : ℕ). UnlessMemory (IsPieceAnswer code t a b k l) (Err failure)) e h in
+      unless_err (IsPieceAnswer code t a b d l) (IsPieceAnswer code t a b (suc d) s) failure (λ f p. lower two stop cut p) h'
 
-  pub judged_upper : (depth : ℕ) (s l u : Span) (pc : ℕ) (kind : Fault) (x : ℕ) (f : VerifyFault) → depth ≢ 0 → s.lo <ℤ s.hi → IsStopped code t a b s pc kind → AreHalves s l u → UnlessMemory (IsPieceAnswer code t a b (depth - 1) l) (Ok x) → UnlessMemory (IsPieceAnswer code t a b (depth - 1) u) (Err f)
-      → UnlessMemory (IsPieceAnswer code t a b depth s) (Err f)
-  judged_upper zero s l u pc kind x f n two stop cut g h = absurd (n refl)
-  judged_upper (suc d) s l u pc kind x f n two stop cut g h =
+  pub judged_upper : (depth : ℕ) (s l u : Span) (pc : ℕ) (kind : Fault) (x : ℕ) (failure : Failure VerifyFault) → depth ≢ 0 → s.lo <ℤ s.hi → IsStopped code t a b s pc kind → AreHalves s l u → IsPieceAnswer code t a b (depth - 1) l (Ok x)
+      → UnlessMemory (IsPieceAnswer code t a b (depth - 1) u) (Err failure) → UnlessMemory (IsPieceAnswer code t a b depth s) (Err failure)
+  judged_upper zero s l u pc kind x failure n two stop cut g h = absurd (n refl)
+  judged_upper (suc d) s l u pc kind x failure n two stop cut g h =
       let e : suc d - 1 ≡ d = omega arith in
-      let g' : UnlessMemory (IsPieceAnswer code t a b d l) (Ok x) = rw e at g in
-      let h' : UnlessMemory (IsPieceAnswer code t a b d u) (Err f) = rw e at h in
-      unless_err (IsPieceAnswer code t a b d u) (IsPieceAnswer code t a b (suc d) s) f (λ p. upper two stop cut (unless_ok (IsPieceAnswer code t a b d l) x g') p) h'
+      let g' : IsPieceAnswer code t a b d l (Ok x) = rw e at g in
+      let h' = subst (λ (k : ℕ). UnlessMemory (IsPieceAnswer code t a b k u) (Err failure)) e h in
+      unless_err (IsPieceAnswer code t a b d u) (IsPieceAnswer code t a b (suc d) s) failure (λ f p. upper two stop cut g' p) h'
 
-  pub judged_both : (depth : ℕ) (s l u : Span) (pc : ℕ) (kind : Fault) (x y z : ℕ) → depth ≢ 0 → s.lo <ℤ s.hi → IsStopped code t a b s pc kind → AreHalves s l u → UnlessMemory (IsPieceAnswer code t a b (depth - 1) l) (Ok x) → UnlessMemory (IsPieceAnswer code t a b (depth - 1) u) (Ok y)
-      → z ≡ max x y → UnlessMemory (IsPieceAnswer code t a b depth s) (Ok z)
+  pub judged_both : (depth : ℕ) (s l u : Span) (pc : ℕ) (kind : Fault) (x y z : ℕ) → depth ≢ 0 → s.lo <ℤ s.hi → IsStopped code t a b s pc kind → AreHalves s l u → IsPieceAnswer code t a b (depth - 1) l (Ok x) → IsPieceAnswer code t a b (depth - 1) u (Ok y)
+      → z ≡ max x y → IsPieceAnswer code t a b depth s (Ok z)
   judged_both zero s l u pc kind x y z n two stop cut g h m = absurd (n refl)
   judged_both (suc d) s l u pc kind x y z n two stop cut g h m =
       let e : suc d - 1 ≡ d = omega arith in
-      let g' : UnlessMemory (IsPieceAnswer code t a b d l) (Ok x) = rw e at g in
-      let h' : UnlessMemory (IsPieceAnswer code t a b d u) (Ok y) = rw e at h in
-      inr (subst (λ (w : ℕ). IsPieceAnswer code t a b (suc d) s (Ok w)) (sym m) (both two stop cut (unless_ok (IsPieceAnswer code t a b d l) x g') (unless_ok (IsPieceAnswer code t a b d u) y h')))
+      let g' : IsPieceAnswer code t a b d l (Ok x) = rw e at g in
+      let h' : IsPieceAnswer code t a b d u (Ok y) = rw e at h in
+      subst (λ (w : ℕ). IsPieceAnswer code t a b (suc d) s (Ok w)) (sym m) (both two stop cut g' h')
 
 -- ---- slices
 
@@ -130,23 +132,22 @@ full_slice code t g a b i width from end s answer wide ef ee lo hi h =
 -- ---- the verdict
 
 -- a search tells no misfit
-found_verdict : (code : List Instr) (t : Table) (g : Range) (from last : ℤ) (limit : ℕ) (f : VerifyFault) → IsCode code → MissesNothing code (input_count t) → IsFound code t from last limit f → UnlessMemory (IsFoundOf code t g) (Err f) → (f ≡ fault.Memory) ⊎ IsVerdict code t g (Err f)
+found_verdict : (code : List Instr) (t : Table) (g : Range) (from last : ℤ) (limit : ℕ) (f : VerifyFault) → IsCode code → MissesNothing code (input_count t) → IsFound code t from last limit f → IsFoundOf code t g (Err f) → IsVerdict code t g (Err f)
 found_verdict code t g from last limit (fault.Malformed pc) is m found h = absurd found
 found_verdict code t g from last limit (fault.DepthOver64 pc) is m found h = absurd found
-found_verdict code t g from last limit (fault.Fault a b r pc kind) is m found h =
-    ⊎_elim (λ (e : (let r : Answer = Err (fault.Fault a b r pc kind) in r) ≡ Err fault.Memory). absurd cc) (λ (p : IsFoundOf code t g (Err (fault.Fault a b r pc kind))). inr (record { is_code = is; misses = m; found = p })) h
-found_verdict code t g from last limit (fault.Undecided a b lo hi pc kind) is m found h =
-    ⊎_elim (λ (e : (let r : Answer = Err (fault.Undecided a b lo hi pc kind) in r) ≡ Err fault.Memory). absurd cc) (λ (p : IsFoundOf code t g (Err (fault.Undecided a b lo hi pc kind))). inr (record { is_code = is; misses = m; found = p })) h
-found_verdict code t g from last limit fault.Memory is m found h = inl refl
+found_verdict code t g from last limit (fault.Fault a b r pc kind) is m found h = record { is_code = is; misses = m; found = h }
+found_verdict code t g from last limit (fault.Undecided a b lo hi pc kind) is m found h = record { is_code = is; misses = m; found = h }
 
-pub accepted_verdict : (code : List Instr) (t : Table) (g : Range) (inputs steps bound : ℕ) → IsCode code → DoesWell code inputs steps → inputs ≡ input_count t → UnlessMemory (IsFoundOf code t g) (Ok bound) → IsVerdict code t g (Ok bound)
-accepted_verdict code t g inputs steps bound is d e h = record { is_code = is; misses = subst (λ (n : ℕ). MissesNothing code n) e d.misses; found = unless_ok (IsFoundOf code t g) bound h }
+pub accepted_verdict : (code : List Instr) (t : Table) (g : Range) (inputs steps bound : ℕ) → IsCode code → DoesWell code inputs steps → inputs ≡ input_count t → IsFoundOf code t g (Ok bound) → IsVerdict code t g (Ok bound)
+accepted_verdict code t g inputs steps bound is d e h = record { is_code = is; misses = subst (λ (n : ℕ). MissesNothing code n) e d.misses; found = h }
 
-pub refused_verdict : (code : List Instr) (t : Table) (g : Range) (from last : ℤ) (limit inputs steps : ℕ) (f : VerifyFault) → IsCode code → DoesWell code inputs steps → inputs ≡ input_count t → IsFound code t from last limit f → UnlessMemory (IsFoundOf code t g) (Err f) → (f ≡ fault.Memory) ⊎ IsVerdict code t g (Err f)
-refused_verdict code t g from last limit inputs steps f is d e found h = found_verdict code t g from last limit f is (subst (λ (n : ℕ). MissesNothing code n) e d.misses) found h
+pub refused_verdict : (code : List Instr) (t : Table) (g : Range) (from last : ℤ) (limit inputs steps : ℕ) (failure : Failure VerifyFault) → IsCode code → DoesWell code inputs steps → inputs ≡ input_count t → IfRefused failure (IsFound code t from last limit)
+    → UnlessMemory (IsFoundOf code t g) (Err failure) → IfRefused failure (λ f. IsVerdict code t g (Err f))
+refused_verdict code t g from last limit inputs steps (Refused f) is d e found h = found_verdict code t g from last limit f is (subst (λ (n : ℕ). MissesNothing code n) e d.misses) found h
+refused_verdict code t g from last limit inputs steps Memory is d e found h = tt
 
-pub first_malformed : (code : List Instr) (t : Table) (g : Range) (inputs pc : ℕ) → IsFirstMalformed code inputs pc → inputs ≡ input_count t → (fault.Malformed pc ≡ fault.Memory) ⊎ IsVerdict code t g (Err (fault.Malformed pc))
-first_malformed code t g inputs pc first e = inr (subst (λ (n : ℕ). IsFirstMalformed code n pc) e first)
+pub first_malformed : (code : List Instr) (t : Table) (g : Range) (inputs pc : ℕ) → IsFirstMalformed code inputs pc → inputs ≡ input_count t → IsVerdict code t g (Err (fault.Malformed pc))
+first_malformed code t g inputs pc first e = subst (λ (n : ℕ). IsFirstMalformed code n pc) e first
 
-pub first_overfull : (code : List Instr) (t : Table) (g : Range) (inputs pc : ℕ) → IsFirstOverfull code inputs pc → inputs ≡ input_count t → (fault.DepthOver64 pc ≡ fault.Memory) ⊎ IsVerdict code t g (Err (fault.DepthOver64 pc))
-first_overfull code t g inputs pc first e = inr (subst (λ (n : ℕ). IsFirstOverfull code n pc) e first)
+pub first_overfull : (code : List Instr) (t : Table) (g : Range) (inputs pc : ℕ) → IsFirstOverfull code inputs pc → inputs ≡ input_count t → IsVerdict code t g (Err (fault.DepthOver64 pc))
+first_overfull code t g inputs pc first e = subst (λ (n : ℕ). IsFirstOverfull code n pc) e first

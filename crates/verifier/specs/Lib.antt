@@ -1,6 +1,5 @@
 pub mod Frames
 pub mod Places
-pub mod Stopping
 pub mod Slices
 pub mod Safety
 pub mod Verdicts

@@ -9,7 +9,7 @@ use Rattle.kernel_code.specs.Tables.{Table, inputs_of}
 use Rattle.kernel_code.specs.Paths.{IsLongest, MissesNothing}
 use Rattle.kernel_paths.specs.Misfits.{GoesWrong, Overfills}
 use Rattle.verifier.specs.declared.faults.VerifyFault.{VerifyFault}
-use Rattle.verifier.specs.declared.faults.VerifyFault.TheVariants.{Malformed, DepthOver64, Fault, Undecided, Memory}
+use Rattle.verifier.specs.declared.faults.VerifyFault.TheVariants.{Malformed, DepthOver64, Fault, Undecided}
 
 -- ---- values
 
@@ -36,7 +36,7 @@ pub record Traps (code : List Instr) (t : Table) (from last : ℤ) (a b : ℕ) (
   pub ends : Ends (bits_of t.frac) code (inputs_of t a b r) n (Err trap)
 
 -- the machine gives a value
-pub record Gives (code : List Instr) (t : Table) (a b : ℕ) (r : ℤ) : Type 0 where
+pub record GivesValue (code : List Instr) (t : Table) (a b : ℕ) (r : ℤ) : Type 0 where
   pub value : ℤ
   pub n : ℕ
   pub ends : Ends (bits_of t.frac) code (inputs_of t a b r) n (Ok value)
@@ -48,17 +48,16 @@ pub record IsUndecided (code : List Instr) (t : Table) (from last : ℤ) (limit 
   pub low : from ≤ℤ lo
   pub two : lo <ℤ hi
   pub high : hi ≤ℤ last
-  pub at_lo : Gives code t a b lo
-  pub at_hi : Gives code t a b hi
+  pub at_lo : GivesValue code t a b lo
+  pub at_hi : GivesValue code t a b hi
   pub wide : (from +ℤ pos limit) ≤ℤ last
 
--- what a refusal at the distances from one to another says, where so many are always decided; want of memory says nothing
+-- what a refusal at the distances from one to another says, where so many are always decided
 abbrev pub IsFound : List Instr → Table → (from last : ℤ) → (limit : ℕ) → VerifyFault → Type 0
 IsFound code t from last limit (Malformed pc) = ⊥
 IsFound code t from last limit (DepthOver64 pc) = ⊥
 IsFound code t from last limit (Fault a b r pc fault) = Traps code t from last a b r (record { pc = pc; kind = Operation fault })
 IsFound code t from last limit (Undecided a b lo hi pc fault) = IsUndecided code t from last limit a b lo hi
-IsFound code t from last limit Memory = Unit {0}
 
 -- ---- all pairs
 
@@ -98,4 +97,3 @@ IsRefusal code t core cutoff limit (Malformed pc) = GoesWrong code (input_count 
 IsRefusal code t core cutoff limit (DepthOver64 pc) = Overfills code pc
 IsRefusal code t core cutoff limit (Fault a b r pc fault) = Traps code t core (cutoff -ℤ pos 1) a b r (record { pc = pc; kind = Operation fault })
 IsRefusal code t core cutoff limit (Undecided a b lo hi pc fault) = IsUndecided code t core (cutoff -ℤ pos 1) limit a b lo hi
-IsRefusal code t core cutoff limit Memory = Unit {0}

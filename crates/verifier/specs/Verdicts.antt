@@ -1,6 +1,8 @@
 -- The verdict on code: the greatest magnitude of its values by their spans, or the first refusal. There is one for each
 -- code, table, range of distances, number of slices and depth.
 use Rattle.std.specs.Prelude.{◌≡◌, ℕ, suc, ◌+◌, ◌*◌, ◌/◌, ◌<◌, ◌≤◌, ◌⊎◌, max, List, length, ℤ, pos, ◌+ℤ◌, ◌-ℤ◌, ◌<ℤ◌, Result, Ok, Err, Some, slice_get, unsigned_abs}
+use Rattle.fallible.specs.declared.failure.Failure.{Failure}
+use Rattle.fallible.specs.declared.failure.Failure.TheVariants.{Refused, Memory}
 use Rattle.fixed.specs.Fractions.{bits_of}
 use Rattle.fixed.specs.declared.faults.Fault.{Fault}
 use Rattle.interval_domain.specs.declared.span.Span.{Span}
@@ -179,10 +181,11 @@ IsVerdict code t g (Err (fault.Malformed pc)) = IsFirstMalformed code (input_cou
 IsVerdict code t g (Err (fault.DepthOver64 pc)) = IsFirstOverfull code (input_count t) pc
 IsVerdict code t g (Err (fault.Fault a b r pc kind)) = IsSearched code t g (Err (fault.Fault a b r pc kind))
 IsVerdict code t g (Err (fault.Undecided a b lo hi pc kind)) = IsSearched code t g (Err (fault.Undecided a b lo hi pc kind))
-IsVerdict code t g (Err fault.Memory) = ⊥
 
 -- ---- want of memory
 
--- the answer is so, or memory ran out
-abbrev pub UnlessMemory : (Answer → Type 0) → Answer → Type 0
-UnlessMemory holds answer = (answer ≡ Err fault.Memory) ⊎ holds answer
+-- the answer is so, or memory ran out before there was one
+abbrev pub UnlessMemory : (Answer → Type 0) → Result ℕ (Failure VerifyFault) → Type 0
+UnlessMemory holds (Ok bound) = holds (Ok bound)
+UnlessMemory holds (Err (Refused f)) = holds (Err f)
+UnlessMemory holds (Err Memory) = Unit {0}

@@ -1,15 +1,16 @@
 //! Code judged whole.
 
-ghost use Rattle.std.specs.Prelude.{◌≡◌, ◌*◌, ◌^◌, ◌<◌, ◌≤ℤ◌, ◌<ℤ◌, ◌⊎◌, pos, Ok, Err, IfOk, IfErr};
+ghost use Rattle.std.specs.Prelude.{◌*◌, ◌^◌, ◌<◌, ◌≤ℤ◌, ◌<ℤ◌, pos, Ok, Err, IfOk, IfErr};
+ghost use Rattle.fallible.specs.Failures.{IfRefused};
 ghost use Rattle.kernel_code.specs.Code.{IsCode};
 ghost use Rattle.verifier.specs.Safety.{IsCertified, IsRefusal};
 ghost use Rattle.verifier.specs.Slices.{AreEnoughLocals};
 ghost use Rattle.verifier.specs.Verdicts.{IsVerdict, range};
-ghost use Rattle.verifier.specs.declared.faults.VerifyFault.TheVariants.{Memory};
 
 use crate::faults::VerifyFault;
 use crate::places::Places;
 use crate::searches::Search;
+use fallible::Failure;
 use fixed::Fx;
 use kernel_code::{Code, Instr, TypeTable};
 use kernel_paths::{Misfit, longest_path};
@@ -46,27 +47,33 @@ pub fn certify_to<A: Allocator + Copy, B: Allocator>(
     cutoff: Fx,
     slices: u32,
     depth: u32,
-) -> Result<Certificate, VerifyFault>
+) -> Result<Certificate, Failure<VerifyFault>>
     requires core { pos 0 ≤ℤ core }
     requires range { core <ℤ cutoff }
     requires slices { 0 < slices }
     ensures code { IsCode code.now }
     ensures certified { IfOk result (λ c. IsCertified code.now table.now core cutoff c.steps c.bound) }
-    ensures refused { IfErr result (IsRefusal code.now table.now core cutoff (slices * 2 ^ depth)) }
+    ensures refused { IfErr result (λ failure. IfRefused failure (IsRefusal code.now table.now core cutoff (slices * 2 ^ depth))) }
     ensures bound { IfOk result (λ c. IsVerdict code.now table.now (range core cutoff slices depth) (Ok c.bound)) }
-    ensures verdict { IfErr result (λ fault. (fault ≡ Memory) ⊎ IsVerdict code.now table.now (range core cutoff slices depth) (Err fault)) }
+    ensures verdict { IfErr result (λ failure. IfRefused failure (λ fault. IsVerdict code.now table.now (range core cutoff slices depth) (Err fault))) }
 {
     let instructions = code.as_slice();
     let inputs = 2 * table.parameters() + table.globals() + 1;
     let steps = match longest_path(alloc, code, inputs) {
         Ok(steps) => steps,
-        Err(Misfit::Malformed { pc }) => return Err(VerifyFault::Malformed { pc }),
-        Err(Misfit::DepthOver64 { pc }) => return Err(VerifyFault::DepthOver64 { pc }),
-        Err(Misfit::Memory) => return Err(VerifyFault::Memory),
+        Err(Failure::Refused(misfit)) => match misfit {
+            Misfit::Malformed { pc } => {
+                return Err(Failure::Refused(VerifyFault::Malformed { pc }));
+            }
+            Misfit::DepthOver64 { pc } => {
+                return Err(Failure::Refused(VerifyFault::DepthOver64 { pc }));
+            }
+        },
+        Err(Failure::Memory) => return Err(Failure::Memory),
     };
     let locals = locals_of(instructions);
     let Ok(mut places) = Places::new(alloc, instructions.len()) else {
-        return Err(VerifyFault::Memory);
+        return Err(Failure::Memory);
     };
     let search = Search {
         alloc,
@@ -80,6 +87,6 @@ pub fn certify_to<A: Allocator + Copy, B: Allocator>(
     };
     match search.judge_all(&mut places) {
         Ok(bound) => Ok(Certificate { steps, bound }),
-        Err(fault) => Err(fault),
+        Err(failure) => Err(failure),
     }
 }

@@ -1,10 +1,10 @@
 //! Why code isn't accepted.
 
 ghost use Rattle.std.specs.Prelude.{◌≡◌};
-ghost use Rattle.verifier.specs.declared.faults.VerifyFault.TheVariants.{Memory};
+ghost use Rattle.fallible.specs.declared.failure.Failure.TheVariants.{Refused};
 
+use fallible::Failure;
 use fixed::{Fault, Fx};
-use std::alloc::{AllocError, AllocFailed};
 use std::error::Error;
 use std::fmt;
 
@@ -38,8 +38,6 @@ pub enum VerifyFault {
         pc: u32,
         fault: Fault,
     },
-    /// Memory ran out.
-    Memory,
 }
 
 impl fmt::Display for VerifyFault {
@@ -72,25 +70,16 @@ impl fmt::Display for VerifyFault {
                     "V3 Undecided {first} {second} {from} {to} pc {pc} {fault}"
                 )
             }
-            VerifyFault::Memory => write!(f, "Memory"),
         }
     }
 }
 
 impl Error for VerifyFault {}
 
-impl From<AllocError> for VerifyFault {
-    ghost from_gives = { λ _ e. e ≡ Memory };
+impl From<VerifyFault> for Failure<VerifyFault> {
+    ghost from_gives = { λ fault e. e ≡ Refused fault };
 
-    fn from(_e: AllocError) -> VerifyFault {
-        VerifyFault::Memory
-    }
-}
-
-impl<T: Drop> From<AllocFailed<T>> for VerifyFault {
-    ghost from_gives = { λ _ e. e ≡ Memory };
-
-    fn from(_e: AllocFailed<T>) -> VerifyFault {
-        VerifyFault::Memory
+    fn from(fault: VerifyFault) -> Failure<VerifyFault> {
+        Failure::Refused(fault)
     }
 }

@@ -1,39 +1,15 @@
 //! Where runs may stand at a place: spans on the stack and in the locals.
 
 ghost use Rattle.std.specs.Prelude.{◌≡◌, ◌<◌, ◌≤◌, None, length, slice_index_or, IfOk, OnOk, IfErr};
+ghost use Rattle.fallible.specs.declared.failure.Failure.TheVariants.{Memory};
 ghost use Rattle.verifier.specs.Frames.{IsOfSize, IsUnset, Keeps, Pops, Pushes, Widens};
-ghost use Rattle.verifier.specs.declared.frames.Stop.TheVariants.{Memory};
 
 use crate::widening::{widen_locals, widen_spans};
+use fallible::Failure;
 use fixed::Fault;
 use interval_domain::Span;
-use std::alloc::{AllocError, AllocFailed, Allocator};
+use std::alloc::{AllocError, Allocator};
 use std::marker::Model;
-
-/// Why runs aren't followed further.
-#[derive(Clone, Copy, PartialEq, Eq, Debug)]
-pub enum Stop {
-    /// The instruction's operation may have no value, for this reason.
-    Fault(Fault),
-    /// Memory ran out.
-    Memory,
-}
-
-impl From<AllocError> for Stop {
-    ghost from_gives = { λ _ e. e ≡ Memory };
-
-    fn from(_e: AllocError) -> Stop {
-        Stop::Memory
-    }
-}
-
-impl<T: Drop> From<AllocFailed<T>> for Stop {
-    ghost from_gives = { λ _ e. e ≡ Memory };
-
-    fn from(_e: AllocFailed<T>) -> Stop {
-        Stop::Memory
-    }
-}
 
 /// A span for each value on the stack, and for each local that is set on all paths to here.
 ///
@@ -92,14 +68,14 @@ impl<A: Allocator> Frame<A> {
     }
 
     /// Puts a span on the stack. Only memory can stop it.
-    pub fn push(&mut self, span: Span) -> Result<(), Stop>
+    pub fn push(&mut self, span: Span) -> Result<(), Failure<Fault>>
         requires { length self.old.stack < 64 }
         ensures pushes { OnOk result (Pushes span self.old self.new) }
-        ensures memory { IfErr result (λ stop. stop ≡ Memory) }
+        ensures memory { IfErr result (λ failure. failure ≡ Memory) }
     {
         match self.stack.push(span) {
             Ok(()) => Ok(()),
-            Err(_) => Err(Stop::Memory),
+            Err(_) => Err(Failure::Memory),
         }
     }
 

@@ -1,11 +1,12 @@
 //! The places that runs may still come to, each with its frame.
 
 ghost use Rattle.std.specs.Prelude.{◌≡◌, ◌+◌, ◌-◌, ◌<◌, ◌≤◌, ℕ, None, length, IfOk, OnOk, IfErr};
+ghost use Rattle.fallible.specs.declared.failure.Failure.TheVariants.{Memory};
 ghost use Rattle.verifier.specs.Slices.{Branches, CanMeet, Joins, Takes, frame_at};
-ghost use Rattle.verifier.specs.declared.frames.Stop.TheVariants.{Memory};
 
-use crate::frames::{Frame, Stop};
-use fixed::Fx;
+use crate::frames::Frame;
+use fallible::Failure;
+use fixed::{Fault, Fx};
 use std::alloc::{AllocError, Allocator};
 use std::marker::Model;
 
@@ -69,14 +70,14 @@ pub fn branch<A: Allocator + Copy>(
     target: usize,
     mut frame: Frame<A>,
     places: &mut Places<A>,
-) -> Result<(), Stop>
+) -> Result<(), Failure<Fault>>
     requires next { next < length places.old }
     requires target { target < length places.old }
     requires operand { 1 ≤ length frame.stack }
     requires meet_next { CanMeet (frame_at places.old next) (length frame.stack - 1) (length frame.locals) }
     requires meet_target { CanMeet (frame_at places.old target) (length frame.stack - 1) (length frame.locals) }
     ensures branches { OnOk result (Branches next target frame places.old places.new) }
-    ensures memory { IfErr result (λ stop. stop ≡ Memory) }
+    ensures memory { IfErr result (λ failure. failure ≡ Memory) }
     ensures long { length places.new ≡ length places.old }
 {
     let span = frame.pop();

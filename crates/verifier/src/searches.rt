@@ -1,17 +1,18 @@
 //! The search for values and faults: all pairs of types, all slices of the distances.
 
 ghost use Rattle.std.specs.Prelude.{◌≡◌, ◌+◌, ◌*◌, ◌<◌, ◌≤◌, ◌^◌, ◌<ℤ◌, ◌≤ℤ◌, pos, ◌-ℤ◌, ℕ, length, max, unsigned_abs, Err, IfOk, IfErr};
+ghost use Rattle.fallible.specs.Failures.{IfRefused};
 ghost use Rattle.kernel_paths.specs.Misfits.{DoesWell};
 ghost use Rattle.verifier.specs.Safety.{GivesWithin, IsFound, IsSafe, IsSafeFrom, IsSafeRow, input_count};
 ghost use Rattle.verifier.specs.Searches.{HoldInputs, IsSafeAt, range_of};
 ghost use Rattle.verifier.specs.Slices.{AreEnoughLocals};
-ghost use Rattle.verifier.specs.Stopping.{IsStopAt};
 ghost use Rattle.verifier.specs.Verdicts.{AreInputSpans, IsAtOne, IsBounded, IsFoundOf, IsPieceAnswer, IsStopped, UnlessMemory, pair_answer, row_answer};
 
 use crate::faults::VerifyFault;
 use crate::places::Places;
 use crate::ranges::{share, slice_span, width_of};
 use crate::slices::{Stopped, follow_slice};
+use fallible::Failure;
 use fixed::{Fault, Fx};
 use interval_domain::{Span, halves};
 use kernel_code::{Code, InputNumber, TrapKind, TypeTable, run_checked};
@@ -95,17 +96,17 @@ impl<'a, A: Allocator + Copy, B: Allocator> Search<'a, A, B> {
         pair: Pair,
         distances: &Span,
         places: &mut Places<A>,
-    ) -> Result<u64, Stopped>
+    ) -> Result<u64, Failure<Stopped>>
         requires first { pair.first < length self.now.table.rows }
         requires second { pair.second < length self.now.table.rows }
         requires long { length places.old ≡ length self.now.code + 1 }
         ensures safe { IfOk result (IsSafeAt self.now.code self.now.table pair.first pair.second distances.now) }
         ensures bounded { IfOk result (IsBounded self.now.code self.now.table pair.first pair.second distances.now) }
-        ensures stopped { IfErr result (IsStopAt (IsStopped self.now.code self.now.table pair.first pair.second distances.now)) }
+        ensures stopped { IfErr result (λ failure. IfRefused failure (λ stopped. IsStopped self.now.code self.now.table pair.first pair.second distances.now stopped.pc stopped.fault)) }
         ensures long { length places.new ≡ length self.now.code + 1 }
     {
         let Ok(inputs) = self.input_spans(pair, distances) else {
-            return Err(Stopped::Memory);
+            return Err(Failure::Memory);
         };
         let frac = self.table.frac();
         let code = self.code.as_slice();
@@ -182,32 +183,33 @@ impl<'a, A: Allocator + Copy, B: Allocator> Search<'a, A, B> {
     /// so many times where some run may meet a fault.
     ///
     /// `Fault` and `Undecided` as they say; never `Undecided` where the depth suffices to come to
-    /// single distances.
+    /// single distances. `Memory`: an allocation was refused.
     fn judge(
         &self,
         pair: Pair,
         distances: &Span,
         depth: u32,
         places: &mut Places<A>,
-    ) -> Result<u64, VerifyFault>
+    ) -> Result<u64, Failure<VerifyFault>>
         requires first { pair.first < length self.now.table.rows }
         requires second { pair.second < length self.now.table.rows }
         requires long { length places.old ≡ length self.now.code + 1 }
         ensures safe { IfOk result (IsSafeAt self.now.code self.now.table pair.first pair.second distances.now) }
-        ensures fault { IfErr result (IsFound self.now.code self.now.table distances.now.lo distances.now.hi (2 ^ depth)) }
+        ensures fault { IfErr result (λ failure. IfRefused failure (IsFound self.now.code self.now.table distances.now.lo distances.now.hi (2 ^ depth))) }
         ensures answer { UnlessMemory (IsPieceAnswer self.now.code self.now.table pair.first pair.second depth distances.now) result }
         ensures long { length places.new ≡ length self.now.code + 1 }
     {
         if distances.lo.raw() >= distances.hi.raw() {
-            return self.judge_single(pair, distances);
+            return Ok(self.judge_single(pair, distances)?);
         }
-        let (pc, fault) = match self.try_slice(pair, distances, places) {
+        let stopped = match self.try_slice(pair, distances, places) {
             Ok(bound) => return Ok(bound),
-            Err(Stopped::Memory) => return Err(VerifyFault::Memory),
-            Err(Stopped::Fault { pc, fault }) => (pc, fault),
+            Err(Failure::Memory) => return Err(Failure::Memory),
+            Err(Failure::Refused(stopped)) => stopped,
         };
         if depth == 0 {
-            return Err(self.judge_ends(pair, distances, pc, fault));
+            let found = self.judge_ends(pair, distances, stopped.pc, stopped.fault);
+            return Err(Failure::Refused(found));
         }
         let (lower, upper) = halves(*distances);
         let low = self.judge(pair, &lower, depth - 1, places)?;
@@ -216,12 +218,12 @@ impl<'a, A: Allocator + Copy, B: Allocator> Search<'a, A, B> {
     }
 
     /// The greatest magnitude of a pair's values.
-    fn judge_pair(&self, pair: Pair, places: &mut Places<A>) -> Result<u64, VerifyFault>
+    fn judge_pair(&self, pair: Pair, places: &mut Places<A>) -> Result<u64, Failure<VerifyFault>>
         requires first { pair.first < length self.now.table.rows }
         requires second { pair.second < length self.now.table.rows }
         requires long { length places.old ≡ length self.now.code + 1 }
         ensures safe { IfOk result (IsSafeFrom self.now.code self.now.table pair.first pair.second self.now.core self.now.cutoff) }
-        ensures fault { IfErr result (IsFound self.now.code self.now.table self.now.core (self.now.cutoff -ℤ pos 1) (self.now.slices * 2 ^ self.now.depth)) }
+        ensures fault { IfErr result (λ failure. IfRefused failure (IsFound self.now.code self.now.table self.now.core (self.now.cutoff -ℤ pos 1) (self.now.slices * 2 ^ self.now.depth))) }
         ensures answer { UnlessMemory (pair_answer self.now.code self.now.table (range_of self.now) pair.first pair.second) result }
         ensures long { length places.new ≡ length self.now.code + 1 }
     {
@@ -234,7 +236,7 @@ impl<'a, A: Allocator + Copy, B: Allocator> Search<'a, A, B> {
                 let distances = slice_span(self.core, from, end);
                 match self.judge(pair, &distances, self.depth, places) {
                     Ok(greatest) => bound = bound.max(greatest),
-                    Err(fault) => return Err(fault),
+                    Err(failure) => return Err(failure),
                 }
             }
             from = end;
@@ -243,11 +245,11 @@ impl<'a, A: Allocator + Copy, B: Allocator> Search<'a, A, B> {
     }
 
     /// The greatest magnitude of the values for a first type.
-    fn judge_row(&self, first: u32, places: &mut Places<A>) -> Result<u64, VerifyFault>
+    fn judge_row(&self, first: u32, places: &mut Places<A>) -> Result<u64, Failure<VerifyFault>>
         requires first { first < length self.now.table.rows }
         requires long { length places.old ≡ length self.now.code + 1 }
         ensures safe { IfOk result (IsSafeRow self.now.code self.now.table first (length self.now.table.rows) self.now.core self.now.cutoff) }
-        ensures fault { IfErr result (IsFound self.now.code self.now.table self.now.core (self.now.cutoff -ℤ pos 1) (self.now.slices * 2 ^ self.now.depth)) }
+        ensures fault { IfErr result (λ failure. IfRefused failure (IsFound self.now.code self.now.table self.now.core (self.now.cutoff -ℤ pos 1) (self.now.slices * 2 ^ self.now.depth))) }
         ensures answer { UnlessMemory (row_answer self.now.code self.now.table (range_of self.now) first) result }
         ensures long { length places.new ≡ length self.now.code + 1 }
     {
@@ -255,24 +257,24 @@ impl<'a, A: Allocator + Copy, B: Allocator> Search<'a, A, B> {
         for second in 0..self.table.types() {
             match self.judge_pair(Pair { first, second }, places) {
                 Ok(greatest) => bound = bound.max(greatest),
-                Err(fault) => return Err(fault),
+                Err(failure) => return Err(failure),
             }
         }
         Ok(bound)
     }
 
     /// The greatest magnitude of the values for all pairs.
-    pub fn judge_all(&self, places: &mut Places<A>) -> Result<u64, VerifyFault>
+    pub fn judge_all(&self, places: &mut Places<A>) -> Result<u64, Failure<VerifyFault>>
         requires long { length places.old ≡ length self.now.code + 1 }
         ensures safe { IfOk result (IsSafe self.now.code self.now.table (length self.now.table.rows) self.now.core self.now.cutoff) }
-        ensures fault { IfErr result (IsFound self.now.code self.now.table self.now.core (self.now.cutoff -ℤ pos 1) (self.now.slices * 2 ^ self.now.depth)) }
+        ensures fault { IfErr result (λ failure. IfRefused failure (IsFound self.now.code self.now.table self.now.core (self.now.cutoff -ℤ pos 1) (self.now.slices * 2 ^ self.now.depth))) }
         ensures answer { UnlessMemory (IsFoundOf self.now.code self.now.table (range_of self.now)) result }
     {
         let mut bound = 0u64;
         for first in 0..self.table.types() {
             match self.judge_row(first, places) {
                 Ok(greatest) => bound = bound.max(greatest),
-                Err(fault) => return Err(fault),
+                Err(failure) => return Err(failure),
             }
         }
         Ok(bound)

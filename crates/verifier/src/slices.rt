@@ -1,28 +1,28 @@
 //! All runs on inputs in some spans, followed place by place.
 
 ghost use Rattle.std.specs.Prelude.{◌≡◌, ◌+◌, ◌<◌, ℕ, None, length, IfOk, OnOk, IfErr};
+ghost use Rattle.fallible.specs.Failures.{IfRefused};
 ghost use Rattle.fixed.specs.Fractions.{bits_of};
 ghost use Rattle.kernel_code.specs.Code.{IsCode};
 ghost use Rattle.kernel_paths.specs.Misfits.{DoesWell};
 ghost use Rattle.verifier.specs.Places.{GivesSpan, StopsAt};
 ghost use Rattle.verifier.specs.Slices.{AllGiveIn, AreAttained, AreEnoughLocals, Comes, Stands, frame_at};
-ghost use Rattle.verifier.specs.Stopping.{IsStop, IsStopAt};
 
-use crate::frames::{Frame, Stop};
+use crate::frames::Frame;
 use crate::instructions::follow;
 use crate::places::{Places, branch};
+use fallible::Failure;
 use fixed::{Fault, Frac};
 use interval_domain::Span;
 use kernel_code::Instr;
 use std::alloc::Allocator;
 
-/// Why the runs of a slice aren't followed to their end.
+/// Why the runs of a slice aren't followed to their end: the operation at this place may have no
+/// value, for this reason.
 #[derive(Clone, Copy, PartialEq, Eq, Debug)]
-pub enum Stopped {
-    /// The operation at this place may have no value, for this reason.
-    Fault { pc: u32, fault: Fault },
-    /// Memory ran out.
-    Memory,
+pub struct Stopped {
+    pub pc: u32,
+    pub fault: Fault,
 }
 
 /// Takes all frames away.
@@ -44,7 +44,7 @@ fn pass<A: Allocator + Copy>(
     here: usize,
     inputs: &[Span],
     places: &mut Places<A>,
-) -> Result<(), Stop>
+) -> Result<(), Failure<Fault>>
     requires code { IsCode code.now }
     requires well { (steps : ℕ) × DoesWell code.now (length inputs.now) steps }
     requires within { here < length code.now }
@@ -55,7 +55,7 @@ fn pass<A: Allocator + Copy>(
     ensures on { OnOk result (Comes (bits_of frac) code.now inputs.now (here + 1) places.new) }
     ensures attained { OnOk result (AreAttained code.now places.new) }
     ensures stands { OnOk result (Stands (bits_of frac) code.now inputs.now (here + 1) places.new) }
-    ensures stops { IfErr result (IsStop (StopsAt (bits_of frac) code.now inputs.now here)) }
+    ensures stops { IfErr result (λ failure. IfRefused failure (StopsAt (bits_of frac) code.now inputs.now here)) }
     ensures long { length places.new ≡ length code.now + 1 }
 {
     let Some(mut frame) = places.take(here) else {
@@ -102,28 +102,28 @@ pub fn follow_slice<A: Allocator + Copy>(
     locals: usize,
     inputs: &[Span],
     places: &mut Places<A>,
-) -> Result<Span, Stopped>
+) -> Result<Span, Failure<Stopped>>
     requires code { IsCode code.now }
     requires well { (steps : ℕ) × DoesWell code.now (length inputs.now) steps }
     requires locals { AreEnoughLocals code.now locals }
     requires long { length places.old ≡ length code.now + 1 }
     ensures span { IfOk result (AllGiveIn (bits_of frac) code.now inputs.now) }
     ensures gives { IfOk result (GivesSpan (bits_of frac) code.now inputs.now) }
-    ensures stops { IfErr result (IsStopAt (StopsAt (bits_of frac) code.now inputs.now)) }
+    ensures stops { IfErr result (λ failure. IfRefused failure (λ stopped. StopsAt (bits_of frac) code.now inputs.now stopped.pc stopped.fault)) }
     ensures long { length places.new ≡ length code.now + 1 }
 {
     let Ok(start) = Frame::start(alloc, locals) else {
-        return Err(Stopped::Memory);
+        return Err(Failure::Memory);
     };
     clear(code, places);
     places.join(0, start);
     for here in 0..code.len() {
         match pass(alloc, frac, code, here, inputs, places) {
             Ok(()) => {}
-            Err(Stop::Memory) => return Err(Stopped::Memory),
-            Err(Stop::Fault(fault)) => {
+            Err(Failure::Memory) => return Err(Failure::Memory),
+            Err(Failure::Refused(fault)) => {
                 let pc = here as u32;
-                return Err(Stopped::Fault { pc, fault });
+                return Err(Failure::Refused(Stopped { pc, fault }));
             }
         }
     }

@@ -1,12 +1,13 @@
 //! Accepted code.
 
-ghost use Rattle.std.specs.Prelude.{◌≡◌, ◌*◌, ◌^◌, ◌<◌, ◌≤ℤ◌, ◌<ℤ◌, ◌⊎◌, pos, Ok, Err, IfOk, IfErr};
+ghost use Rattle.std.specs.Prelude.{◌≡◌, ◌*◌, ◌^◌, ◌<◌, ◌≤ℤ◌, ◌<ℤ◌, pos, Ok, Err, IfOk, IfErr};
+ghost use Rattle.fallible.specs.Failures.{IfRefused};
 ghost use Rattle.verifier.specs.Safety.{IsRefusal};
 ghost use Rattle.verifier.specs.Verdicts.{Answer, IsVerdict, range};
-ghost use Rattle.verifier.specs.declared.faults.VerifyFault.TheVariants.{Memory};
 
 use crate::certificates::certify_to;
 use crate::faults::VerifyFault;
+use fallible::Failure;
 use fixed::Fx;
 use kernel_code::{Code, TypeTable};
 use std::alloc::Allocator;
@@ -89,7 +90,7 @@ impl<A: Allocator> Verified<A> {
 ///
 /// `Malformed` and `DepthOver64` where some path of the code goes wrong, whatever the values; else
 /// `Fault` where an operation has no value, and `Undecided` where that stays open, never where there
-/// are at most 2^24 distances for each slice. `Memory` comes only where a growth was refused.
+/// are at most 2^24 distances for each slice. `Memory`: an allocation was refused.
 pub fn verify<A: Allocator, B: Allocator>(
     alloc: A,
     code: Code<B>,
@@ -97,7 +98,7 @@ pub fn verify<A: Allocator, B: Allocator>(
     core: Fx,
     cutoff: Fx,
     slices: u32,
-) -> Result<Verified<B>, VerifyFault>
+) -> Result<Verified<B>, Failure<VerifyFault>>
     requires core { pos 0 ≤ℤ core }
     requires range { core <ℤ cutoff }
     requires slices { 0 < slices }
@@ -106,13 +107,13 @@ pub fn verify<A: Allocator, B: Allocator>(
     ensures core { IfOk result (λ v. v.core ≡ core) }
     ensures cutoff { IfOk result (λ v. v.cutoff ≡ cutoff) }
     // What a refusal says of the code's runs and paths.
-    ensures refused { IfErr result (IsRefusal code table core cutoff (slices * 2 ^ 24)) }
+    ensures refused { IfErr result (λ failure. IfRefused failure (IsRefusal code table core cutoff (slices * 2 ^ 24))) }
     // The bound, and the refusal: which there is, is the definition's.
     ensures bound { IfOk result (λ v. IsVerdict code table (range core cutoff slices 24) (Ok v.bound)) }
-    ensures verdict { IfErr result (λ fault. (fault ≡ Memory) ⊎ IsVerdict code table (range core cutoff slices 24) (Err fault)) }
+    ensures verdict { IfErr result (λ failure. IfRefused failure (λ fault. IsVerdict code table (range core cutoff slices 24) (Err fault))) }
     // There is no other.
     ensures only_bound { (answer : Answer) → IsVerdict code table (range core cutoff slices 24) answer → IfOk result (λ v. answer ≡ Ok v.bound) }
-    ensures only_refusal { (answer : Answer) → IsVerdict code table (range core cutoff slices 24) answer → IfErr result (λ fault. (fault ≡ Memory) ⊎ (answer ≡ Err fault)) }
+    ensures only_refusal { (answer : Answer) → IsVerdict code table (range core cutoff slices 24) answer → IfErr result (λ failure. IfRefused failure (λ fault. answer ≡ Err fault)) }
 {
     match certify_to(&alloc, &code, &table, core, cutoff, slices, 24) {
         Ok(certificate) => Ok(Verified {
@@ -123,6 +124,6 @@ pub fn verify<A: Allocator, B: Allocator>(
             steps: certificate.steps,
             bound: certificate.bound,
         }),
-        Err(fault) => Err(fault),
+        Err(failure) => Err(failure),
     }
 }

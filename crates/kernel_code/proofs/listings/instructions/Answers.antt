@@ -1,12 +1,13 @@
-use Rattle.std.proofs.Common.{◌+◌, List, sym, ap, subst, ◌∙◌, arith}
+use Rattle.std.proofs.Common.{◌≡◌, ◌+◌, List, Err, sym, ap, subst, ◌∙◌, arith}
+use Rattle.kernel_code.specs.declared.faults.CodeFault.{CodeFault}
 use Rattle.kernel_code.specs.declared.instructions.Instr.{Instr}
-use Rattle.kernel_code.specs.ListingReading.{Fails, parts_of, instructions_of}
+use Rattle.kernel_code.specs.ListingReading.{parts_of, instructions_of}
 use Rattle.kernel_code.proofs.LineLaws.{with_front, lines_go_on, lines_stop, lines_end, line_found}
 use Rattle.kernel_code.proofs.listings.instructions.Goals as goal
 
 pub returns-in_default : goal.returns-in_default
 returns-in_default g c =
-    subst (λ f. Fails f (instructions_of 2 (parts_of c.args.bytes.now))) (sym c.bad.ensures)
+    subst (λ (f : CodeFault). instructions_of 2 (parts_of c.args.bytes.now) ≡ Err f) (sym c.bad.ensures)
     (lines_stop c.loop-rest.instructions.items c.loop-rest.number c.loop-rest.rest.now _ (sym c.is_empty.ensures ∙ c.loop-rest-test.true) (sym c.in_default.ensures) c.loop-rest.invariant.read)
 
 pub loop-rest-smaller : goal.loop-rest-smaller

@@ -1,12 +1,12 @@
-use Rattle.std.proofs.Common.{◌≡◌, ◌+◌, List, length, replicate, slice_set, arith, rules, sym, ap, subst}
+use Rattle.std.proofs.Common.{◌≡◌, ◌+◌, Err, List, Ok, length, replicate, slice_set, arith, rules, sym, ap, subst}
 use Rattle.std.proofs.lemmas.Result.{err_from_is_err_and}
 use Rattle.kernel_code.specs.declared.instructions.Instr.{Instr}
 use Rattle.kernel_code.specs.Code.{IsCode}
 use Rattle.kernel_paths.specs.declared.meetings.Meeting.{Meeting}
 use Rattle.kernel_paths.specs.declared.meetings.Meeting.TheVariants.{Nothing, Level}
-use Rattle.kernel_paths.specs.Misfits.{GoesWrongSo, IsFirst, IsJudged}
+use Rattle.kernel_paths.specs.Misfits.{DoesWell, GoesWrongSo, IsFirst}
 use Rattle.kernel_paths.proofs.Refusals.{goes_wrong}
-use Rattle.kernel_paths.proofs.Judgements.{stands_first, judged_last, some_last, wrong_if}
+use Rattle.kernel_paths.proofs.Judgements.{stands_first, judged_last, some_last}
 use Rattle.kernel_paths.proofs.OneJudgement.{one_judgement}
 use Rattle.std.proofs.lemmas.Grind.{common_steps}
 use Rattle.kernel_paths.proofs.following.longest_path.Goals as goal
@@ -30,9 +30,9 @@ pub returns-in_err-follow-clause-only : goal.returns-in_err-follow-clause-only
 returns-in_err-follow-clause-only g c =
     let same = c.as_slice-instructions.ensures.items in
     let p = err_from_is_err_and c.from_residual-in_err-follow.result c.from_residual-in_err-follow.ensures.1 in
-    let first = subst (λ (is : List Instr). IsFirst is c.args.inputs c.in_err-follow.field-0.0) same c.in_err-follow.ensures.refused in
-    let judged : IsJudged c.args.code.now c.args.inputs c.from_residual-in_err-follow.result = rw (p.1, p.2) first in
-    λ answer other. one_judgement c.args.code.now c.args.inputs c.from_residual-in_err-follow.result answer c.as_slice-instructions.ensures.code.forward judged other
+    let misfit = c.in_err-follow.field-0.0 in
+    let first = subst (λ (is : List Instr). IsFirst is c.args.inputs misfit) same c.in_err-follow.ensures.refused in
+    rw (p.1, p.2) (λ answer other. one_judgement c.args.code.now c.args.inputs (Err misfit) answer c.as_slice-instructions.ensures.code.forward first other)
 
 pub judge_end-requires-clause-some : goal.judge_end-requires-clause-some
 judge_end-requires-clause-some g c =
@@ -40,27 +40,40 @@ judge_end-requires-clause-some g c =
     some_last c.args.code.now c.as_slice-instructions.result.now c.args.inputs c.loop-here.here c.loop-here.meetings.items c.index.result.now c.as_slice-instructions.ensures.items c.as_slice-instructions.ensures.code
     c.loop-here.invariant last c.index.ensures
 
-pub returns-clause-judged : goal.returns-clause-judged
-returns-clause-judged g c =
+-- ---- what the paths come to at the end
+
+well : (g : _) (c : goal.After-drop-meetings-2 g) → DoesWell c.args.code.now c.args.inputs c.in_ok-judge_end.field-0
+well g c =
     let last : c.loop-here.here ≡ length c.as_slice-instructions.result.now = omega arith in
-    judged_last c.args.code.now c.as_slice-instructions.result.now c.args.inputs c.loop-here.here c.loop-here.meetings.items c.index.result.now c.judge_end.result c.as_slice-instructions.ensures.items
-    c.as_slice-instructions.ensures.code c.loop-here.invariant last c.index.ensures c.judge_end.ensures
+    judged_last c.args.code.now c.as_slice-instructions.result.now c.args.inputs c.loop-here.here c.loop-here.meetings.items c.index.result.now (Ok c.in_ok-judge_end.field-0) c.as_slice-instructions.ensures.items
+    c.as_slice-instructions.ensures.code c.loop-here.invariant last c.index.ensures c.in_ok-judge_end.ensures
+
+pub returns-clause-well : goal.returns-clause-well
+returns-clause-well g c = well g c
 
 pub returns-clause-only : goal.returns-clause-only
-returns-clause-only g c =
-    let last : c.loop-here.here ≡ length c.as_slice-instructions.result.now = omega arith in
-    λ answer other.
-    one_judgement c.args.code.now c.args.inputs c.judge_end.result answer c.as_slice-instructions.ensures.code.forward
-    (judged_last c.args.code.now c.as_slice-instructions.result.now c.args.inputs c.loop-here.here c.loop-here.meetings.items c.index.result.now c.judge_end.result c.as_slice-instructions.ensures.items
-    c.as_slice-instructions.ensures.code c.loop-here.invariant last c.index.ensures c.judge_end.ensures)
-    other
+returns-clause-only g c = λ answer other. one_judgement c.args.code.now c.args.inputs (Ok c.in_ok-judge_end.field-0) answer c.as_slice-instructions.ensures.code.forward (well g c) other
 
-pub returns-clause-refused : goal.returns-clause-refused
-returns-clause-refused g c =
+first : (g : _) (c : goal.After-drop-meetings-in_err-judge_end g) → IsFirst c.args.code.now c.args.inputs c.in_err-judge_end.field-0.0
+first g c =
     let last : c.loop-here.here ≡ length c.as_slice-instructions.result.now = omega arith in
-    wrong_if c.args.code.now c.args.inputs c.judge_end.result c.as_slice-instructions.ensures.code
-    (judged_last c.args.code.now c.as_slice-instructions.result.now c.args.inputs c.loop-here.here c.loop-here.meetings.items c.index.result.now c.judge_end.result c.as_slice-instructions.ensures.items
-    c.as_slice-instructions.ensures.code c.loop-here.invariant last c.index.ensures c.judge_end.ensures)
+    judged_last c.args.code.now c.as_slice-instructions.result.now c.args.inputs c.loop-here.here c.loop-here.meetings.items c.index.result.now (Err c.in_err-judge_end.field-0.0) c.as_slice-instructions.ensures.items
+    c.as_slice-instructions.ensures.code c.loop-here.invariant last c.index.ensures c.in_err-judge_end.ensures
+
+pub returns-in_err-judge_end-clause-first : goal.returns-in_err-judge_end-clause-first
+returns-in_err-judge_end-clause-first g c =
+    let p = err_from_is_err_and c.from_residual-in_err-judge_end.result c.from_residual-in_err-judge_end.ensures.1 in
+    rw (p.1, p.2) (first g c)
+
+pub returns-in_err-judge_end-clause-only : goal.returns-in_err-judge_end-clause-only
+returns-in_err-judge_end-clause-only g c =
+    let p = err_from_is_err_and c.from_residual-in_err-judge_end.result c.from_residual-in_err-judge_end.ensures.1 in
+    rw (p.1, p.2) (λ answer other. one_judgement c.args.code.now c.args.inputs (Err c.in_err-judge_end.field-0.0) answer c.as_slice-instructions.ensures.code.forward (first g c) other)
+
+pub returns-in_err-judge_end-clause-refused : goal.returns-in_err-judge_end-clause-refused
+returns-in_err-judge_end-clause-refused g c =
+    let p = err_from_is_err_and c.from_residual-in_err-judge_end.result c.from_residual-in_err-judge_end.ensures.1 in
+    rw (p.1, p.2) (goes_wrong c.args.code.now c.args.inputs c.in_err-judge_end.field-0.0 c.as_slice-instructions.ensures.code.forward (first g c))
 
 pub loop-here-preserved : goal.loop-here-preserved
 loop-here-preserved g c = grind (arith, common_steps)

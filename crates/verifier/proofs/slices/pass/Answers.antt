@@ -4,7 +4,7 @@ use Rattle.fixed.specs.Fractions.{bits_of}
 use Rattle.kernel_code.specs.declared.instructions.Instr.TheVariants.{JumpIfZero, Jump}
 use Rattle.std.proofs.lemmas.Result.{IfErr-weaker, err_from_is_err_and}
 use Rattle.verifier.specs.Places.{Stops, StopsAt}
-use Rattle.verifier.proofs.Following.{on_ok, stop_memory, stop_weaker}
+use Rattle.verifier.proofs.Following.{on_ok, refused_memory, refused_weaker}
 use Rattle.verifier.proofs.Standing.{stands_branch, stands_jump, stands_past, stands_plain, stops_at}
 use Rattle.verifier.proofs.Passing.{jump_within, branch_within, comes_on, passes_jump, passes_branch, passes_plain, joins_loses, branches_loses}
 use Rattle.verifier.proofs.Attaining.{past_attained, is_plain, at_hand, plain_meets, plain_attained, jump_meets, jump_attained, branch_meets, branch_attained}
@@ -90,7 +90,7 @@ returns-in-JumpIfZero-clause-stands g c =
     stands_branch (bits_of c.args.frac) c.args.code.now c.args.inputs.now c.args.here c.in-JumpIfZero.target c.in-Some.frame c.args.places.now c.take.new.self c.branch-alloc.new.places c.requires.stands c.in-Some.ensures (there ∙ ap Some c.in-JumpIfZero.is) b)
 
 pub returns-in-JumpIfZero-clause-stops : goal.returns-in-JumpIfZero-clause-stops
-returns-in-JumpIfZero-clause-stops g c = IfErr-weaker c.branch-alloc.result _ _ (λ e same. stop_memory _ e same) c.branch-alloc.ensures.memory
+returns-in-JumpIfZero-clause-stops g c = IfErr-weaker c.branch-alloc.result _ _ (λ e same. refused_memory _ e same) c.branch-alloc.ensures.memory
 
 -- ---- any other
 
@@ -99,7 +99,7 @@ returns-in_err-follow-in_default-instr-clause-stops g c =
     let there = slice_get_read c.args.code.now (length c.args.code.now) c.args.here c.index-code-here.result refl c.requires.within c.index-code-here.is in
     let p = err_from_is_err_and c.from_residual.result c.from_residual.ensures.1 in
     rw (p.1, p.2)
-    (stop_weaker (Stops (bits_of c.args.frac) c.index-code-here.result c.in-Some.frame) (StopsAt (bits_of c.args.frac) c.args.code.now c.args.inputs.now c.args.here) c.in_err-follow-in_default-instr.field-0.0
+    (refused_weaker (Stops (bits_of c.args.frac) c.index-code-here.result c.in-Some.frame) (StopsAt (bits_of c.args.frac) c.args.code.now c.args.inputs.now c.args.here) c.in_err-follow-in_default-instr.field-0.0
     (λ f x. stops_at (bits_of c.args.frac) c.args.code.now c.args.inputs.now c.args.here c.index-code-here.result f c.in-Some.frame c.args.places.now c.take.new.self c.requires.stands c.in-Some.ensures there x)
     c.in_err-follow-in_default-instr.ensures.stops)
 

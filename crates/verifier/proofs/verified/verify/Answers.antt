@@ -1,6 +1,7 @@
-use Rattle.std.proofs.Common.{◌≡◌, Err, Ok, inl, inr, ⊎_elim}
+use Rattle.std.proofs.Common.{◌≡◌, Err, Ok}
 use Rattle.verifier.specs.Verdicts.{IsVerdict, range}
-use Rattle.verifier.specs.declared.faults.VerifyFault.TheVariants as fault
+use Rattle.verifier.specs.declared.faults.VerifyFault.{VerifyFault}
+use Rattle.verifier.proofs.Following.{refused_weaker}
 use Rattle.verifier.proofs.OneVerdict.{verdict_same}
 use Rattle.verifier.proofs.verified.verify.Goals as goal
 
@@ -11,7 +12,6 @@ returns-in-Ok-clause-only_bound g c = λ answer v.
 pub returns-clause-only_refusal : goal.returns-clause-only_refusal
 returns-clause-only_refusal g c = λ answer v.
     let within = range c.args.core c.args.cutoff c.args.slices 24 in
-    ⊎_elim
-    (λ (e : c.in-Err.fault ≡ fault.Memory). inl e)
-    (λ (w : IsVerdict c.args.code c.args.table within (Err c.in-Err.fault)). inr (verdict_same c.args.code c.args.table within answer (Err c.in-Err.fault) c.certify_to.ensures.code.forward v w))
+    refused_weaker (λ (f : VerifyFault). IsVerdict c.args.code c.args.table within (Err f)) (λ (f : VerifyFault). answer ≡ Err f) c.in-Err.failure
+    (λ f w. verdict_same c.args.code c.args.table within answer (Err f) c.certify_to.ensures.code.forward v w)
     c.in-Err.ensures.verdict

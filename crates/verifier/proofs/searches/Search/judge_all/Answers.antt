@@ -1,7 +1,7 @@
-use Rattle.std.proofs.Common.{◌≡◌, ◌<◌, length, arith, inr, subst}
+use Rattle.std.proofs.Common.{◌≡◌, ◌<◌, length, arith, subst}
 use Rattle.verifier.specs.Searches.{Searched, range_of}
 use Rattle.verifier.specs.Verdicts.{IsFoundOf, row_answer}
-use Rattle.verifier.proofs.Searching.{first_refused, greatest_all, greatest_more, unless_err, unless_ok}
+use Rattle.verifier.proofs.Searching.{first_refused, greatest_all, greatest_more, unless_err}
 use Rattle.verifier.proofs.Sweeping.{all_more}
 use Rattle.verifier.proofs.searches.Search.judge_all.Goals as goal
 
@@ -12,7 +12,7 @@ loop-first-preserved g c = record {
   greatest =
       let s = c.args.self.now in
       let A = row_answer s.code s.table (range_of s) in
-      greatest_more A c.loop-first.first c.loop-first.bound c.in-Ok.greatest c.max-bound.result c.loop-first.invariant.greatest (unless_ok (A c.loop-first.first) c.in-Ok.greatest c.in-Ok.ensures.answer) c.max-bound.ensures;
+      greatest_more A c.loop-first.first c.loop-first.bound c.in-Ok.greatest c.max-bound.result c.loop-first.invariant.greatest c.in-Ok.ensures.answer c.max-bound.ensures;
 }
 
 pub returns-in-Err-clause-answer : goal.returns-in-Err-clause-answer
@@ -20,11 +20,11 @@ returns-in-Err-clause-answer g c =
     let s = c.args.self.now in
     let A = row_answer s.code s.table (range_of s) in
     let within : c.loop-first.first < length s.table.rows = subst (λ (x : Searched). c.loop-first.first < length x.table.rows) c.self.view_is (omega (arith, c.loop-first-test.true, c.types-first-end.ensures.value)) in
-    unless_err (A c.loop-first.first) (IsFoundOf s.code s.table (range_of s)) c.in-Err.fault (λ p. first_refused A c.loop-first.first (length s.table.rows) c.loop-first.bound c.in-Err.fault c.loop-first.invariant.greatest within p) c.in-Err.ensures.answer
+    unless_err (A c.loop-first.first) (IsFoundOf s.code s.table (range_of s)) c.in-Err.failure (λ f p. first_refused A c.loop-first.first (length s.table.rows) c.loop-first.bound f c.loop-first.invariant.greatest within p) c.in-Err.ensures.answer
 
 pub returns-clause-answer : goal.returns-clause-answer
 returns-clause-answer g c =
     let s = c.args.self.now in
     let A = row_answer s.code s.table (range_of s) in
     let last : c.loop-first.first ≡ length s.table.rows = subst (λ (x : Searched). c.loop-first.first ≡ length x.table.rows) c.self.view_is (omega (arith, c.loop-first-test.false, c.loop-first.auto.first-end, c.types-first-end.ensures.value)) in
-    inr (greatest_all A c.loop-first.first (length s.table.rows) c.loop-first.bound c.loop-first.invariant.greatest last)
+    greatest_all A c.loop-first.first (length s.table.rows) c.loop-first.bound c.loop-first.invariant.greatest last

@@ -1,9 +1,11 @@
-use Rattle.std.proofs.Common.{arith, inr, Ok, Err, ◌<◌, sym, subst, ◌∙◌, ◌^◌, ◌≡◌, ◌+◌, ◌*◌, ◌/◌, pos, ◌+ℤ◌, ◌-ℤ◌}
+use Rattle.std.proofs.Common.{arith, Ok, Err, ◌<◌, sym, subst, ◌∙◌, ◌^◌, ◌≡◌, ◌+◌, ◌*◌, ◌/◌, pos, ◌+ℤ◌, ◌-ℤ◌}
 use Rattle.std.proofs.lemmas.Int.{ints}
+use Rattle.fallible.specs.Failures.{IfRefused}
 use Rattle.verifier.specs.Safety.{IsFound}
 use Rattle.verifier.specs.Searches.{Searched, range_of}
 use Rattle.verifier.specs.Verdicts.{IsPieceAnswer, IsSliceAnswer, UnlessMemory, pair_answer}
-use Rattle.verifier.proofs.Searching.{empty_slice, first_refused, full_slice, greatest_all, greatest_more, unless_err, unless_ok}
+use Rattle.verifier.proofs.Following.{refused_weaker}
+use Rattle.verifier.proofs.Searching.{empty_slice, first_refused, full_slice, greatest_all, greatest_more, unless_err}
 use Rattle.verifier.proofs.Sweeping.{safe_more, safe_less, found_more, share_all}
 use Rattle.verifier.proofs.searches.Search.judge_pair.Goals as goal
 use Rattle.verifier.proofs.searches.Search.judge_pair.Goals.{then-from-end+in-Ok, else-from-end}
@@ -12,10 +14,14 @@ pub returns-in-Err-clause-fault : goal.returns-in-Err-clause-fault
 returns-in-Err-clause-fault g c =
     let view = c.self.view_is in
     let from = subst (λ (s : Searched). c.loop-i.from ≡ c.width_of-width.result * c.loop-i.i / s.slices) (sym view) c.loop-i.invariant.from in
-    let found = subst (λ (s : Searched). IsFound s.code s.table c.slice_span-distances.result.lo c.slice_span-distances.result.hi (2 ^ c.self.inside.depth) c.in-Err.fault) (sym view) c.in-Err.ensures.fault in
-    subst (λ (s : Searched). IsFound s.code s.table s.core (s.cutoff -ℤ pos 1) (s.slices * 2 ^ s.depth) c.in-Err.fault) view
-    (found_more c.self.inside.code.now c.self.inside.table.now c.self.inside.core c.self.inside.cutoff c.width_of-width.result c.loop-i.i c.self.inside.slices (2 ^ c.self.inside.depth) c.loop-i.from c.share-end.result c.slice_span-distances.result c.in-Err.fault
-    c.self.invariant.slices c.width_of-width.ensures.width from c.share-end.ensures.exact c.share-end.ensures.within c.slice_span-distances.ensures.lo c.slice_span-distances.ensures.hi found)
+    let found = subst (λ (s : Searched). IfRefused c.in-Err.failure (IsFound s.code s.table c.slice_span-distances.result.lo c.slice_span-distances.result.hi (2 ^ c.self.inside.depth))) (sym view) c.in-Err.ensures.fault in
+    let i = c.self.inside in
+    subst (λ (s : Searched). IfRefused c.in-Err.failure (IsFound s.code s.table s.core (s.cutoff -ℤ pos 1) (s.slices * 2 ^ s.depth))) view
+    (refused_weaker (IsFound i.code.now i.table.now c.slice_span-distances.result.lo c.slice_span-distances.result.hi (2 ^ i.depth)) (IsFound i.code.now i.table.now i.core (i.cutoff -ℤ pos 1) (i.slices * 2 ^ i.depth)) c.in-Err.failure
+    (λ f h.
+    found_more i.code.now i.table.now i.core i.cutoff c.width_of-width.result c.loop-i.i i.slices (2 ^ i.depth) c.loop-i.from c.share-end.result c.slice_span-distances.result f
+    c.self.invariant.slices c.width_of-width.ensures.width from c.share-end.ensures.exact c.share-end.ensures.within c.slice_span-distances.ensures.lo c.slice_span-distances.ensures.hi h)
+    found)
 
 pub returns-in-Err-clause-answer : goal.returns-in-Err-clause-answer
 returns-in-Err-clause-answer g c =
@@ -26,18 +32,18 @@ returns-in-Err-clause-answer g c =
     let lo = subst (λ (s : Searched). c.slice_span-distances.result.lo ≡ (s.core +ℤ pos c.loop-i.from)) view c.slice_span-distances.ensures.lo in
     let hi = subst (λ (s : Searched). c.slice_span-distances.result.hi ≡ (s.core +ℤ pos c.share-end.result -ℤ pos 1)) view c.slice_span-distances.ensures.hi in
     let within : c.loop-i.i < s.slices = subst (λ (s : Searched). c.loop-i.i < s.slices) view (omega (arith, c.loop-i-test.true)) in
-    let answer = subst (λ (x : Searched). UnlessMemory (IsPieceAnswer s.code s.table c.args.pair.first c.args.pair.second x.depth c.slice_span-distances.result) (Err c.in-Err.fault)) view c.in-Err.ensures.answer in
-    unless_err (IsPieceAnswer s.code s.table c.args.pair.first c.args.pair.second s.depth c.slice_span-distances.result) (pair_answer s.code s.table (range_of s) c.args.pair.first c.args.pair.second) c.in-Err.fault
-    (λ p.
-    first_refused (IsSliceAnswer s.code s.table (range_of s) c.args.pair.first c.args.pair.second) c.loop-i.i s.slices c.loop-i.bound c.in-Err.fault c.loop-i.invariant.greatest within
-    (full_slice s.code s.table (range_of s) c.args.pair.first c.args.pair.second c.loop-i.i c.width_of-width.result c.loop-i.from c.share-end.result c.slice_span-distances.result (Err c.in-Err.fault) width c.loop-i.invariant.from exact lo hi p))
+    let answer = subst (λ (x : Searched). UnlessMemory (IsPieceAnswer s.code s.table c.args.pair.first c.args.pair.second x.depth c.slice_span-distances.result) (Err c.in-Err.failure)) view c.in-Err.ensures.answer in
+    unless_err (IsPieceAnswer s.code s.table c.args.pair.first c.args.pair.second s.depth c.slice_span-distances.result) (pair_answer s.code s.table (range_of s) c.args.pair.first c.args.pair.second) c.in-Err.failure
+    (λ f p.
+    first_refused (IsSliceAnswer s.code s.table (range_of s) c.args.pair.first c.args.pair.second) c.loop-i.i s.slices c.loop-i.bound f c.loop-i.invariant.greatest within
+    (full_slice s.code s.table (range_of s) c.args.pair.first c.args.pair.second c.loop-i.i c.width_of-width.result c.loop-i.from c.share-end.result c.slice_span-distances.result (Err f) width c.loop-i.invariant.from exact lo hi p))
     answer
 
 pub returns-clause-answer : goal.returns-clause-answer
 returns-clause-answer g c =
     let s = c.args.self.now in
     let last : c.loop-i.i ≡ s.slices = subst (λ (s : Searched). c.loop-i.i ≡ s.slices) c.self.view_is (omega arith) in
-    inr (greatest_all (IsSliceAnswer s.code s.table (range_of s) c.args.pair.first c.args.pair.second) c.loop-i.i s.slices c.loop-i.bound c.loop-i.invariant.greatest last)
+    greatest_all (IsSliceAnswer s.code s.table (range_of s) c.args.pair.first c.args.pair.second) c.loop-i.i s.slices c.loop-i.bound c.loop-i.invariant.greatest last
 
 pub loop-i-preserved : goal.loop-i-preserved
 loop-i-preserved g c =
@@ -52,8 +58,7 @@ loop-i-preserved g c =
         greatest =
             let lo = subst (λ (s : Searched). w.slice_span-distances.result.lo ≡ (s.core +ℤ pos c.loop-i.from)) view w.slice_span-distances.ensures.lo in
             let hi = subst (λ (s : Searched). w.slice_span-distances.result.hi ≡ (s.core +ℤ pos c.share-end.result -ℤ pos 1)) view w.slice_span-distances.ensures.hi in
-            let answer = subst (λ (x : Searched). UnlessMemory (IsPieceAnswer s.code s.table c.args.pair.first c.args.pair.second x.depth w.slice_span-distances.result) (Ok w.in-Ok.greatest)) view w.in-Ok.ensures.answer in
-            let piece = unless_ok (IsPieceAnswer s.code s.table c.args.pair.first c.args.pair.second s.depth w.slice_span-distances.result) w.in-Ok.greatest answer in
+            let piece = subst (λ (x : Searched). IsPieceAnswer s.code s.table c.args.pair.first c.args.pair.second x.depth w.slice_span-distances.result (Ok w.in-Ok.greatest)) view w.in-Ok.ensures.answer in
             greatest_more (IsSliceAnswer s.code s.table (range_of s) c.args.pair.first c.args.pair.second) c.loop-i.i c.loop-i.bound w.in-Ok.greatest c.if-from-end.bound c.loop-i.invariant.greatest
             (full_slice s.code s.table (range_of s) c.args.pair.first c.args.pair.second c.loop-i.i c.width_of-width.result c.loop-i.from c.share-end.result w.slice_span-distances.result (Ok w.in-Ok.greatest) width c.loop-i.invariant.from exact lo hi piece)
             (w.bound-is ∙ w.max-bound.ensures);

@@ -1,7 +1,7 @@
-use Rattle.std.proofs.Common.{◌≡◌, ◌<◌, length, arith, inr, subst}
+use Rattle.std.proofs.Common.{◌≡◌, ◌<◌, length, arith, subst}
 use Rattle.verifier.specs.Searches.{Searched, range_of}
 use Rattle.verifier.specs.Verdicts.{pair_answer, row_answer}
-use Rattle.verifier.proofs.Searching.{first_refused, greatest_all, greatest_more, unless_err, unless_ok}
+use Rattle.verifier.proofs.Searching.{first_refused, greatest_all, greatest_more, unless_err}
 use Rattle.verifier.proofs.Sweeping.{row_more}
 use Rattle.verifier.proofs.searches.Search.judge_row.Goals as goal
 
@@ -12,7 +12,7 @@ loop-second-preserved g c = record {
   greatest =
       let s = c.args.self.now in
       let A = pair_answer s.code s.table (range_of s) c.args.first in
-      greatest_more A c.loop-second.second c.loop-second.bound c.in-Ok.greatest c.max-bound.result c.loop-second.invariant.greatest (unless_ok (A c.loop-second.second) c.in-Ok.greatest c.in-Ok.ensures.answer) c.max-bound.ensures;
+      greatest_more A c.loop-second.second c.loop-second.bound c.in-Ok.greatest c.max-bound.result c.loop-second.invariant.greatest c.in-Ok.ensures.answer c.max-bound.ensures;
 }
 
 pub returns-in-Err-clause-answer : goal.returns-in-Err-clause-answer
@@ -20,11 +20,11 @@ returns-in-Err-clause-answer g c =
     let s = c.args.self.now in
     let A = pair_answer s.code s.table (range_of s) c.args.first in
     let within : c.loop-second.second < length s.table.rows = subst (λ (x : Searched). c.loop-second.second < length x.table.rows) c.self.view_is (omega (arith, c.loop-second-test.true, c.types-second-end.ensures.value)) in
-    unless_err (A c.loop-second.second) (row_answer s.code s.table (range_of s) c.args.first) c.in-Err.fault (λ p. first_refused A c.loop-second.second (length s.table.rows) c.loop-second.bound c.in-Err.fault c.loop-second.invariant.greatest within p) c.in-Err.ensures.answer
+    unless_err (A c.loop-second.second) (row_answer s.code s.table (range_of s) c.args.first) c.in-Err.failure (λ f p. first_refused A c.loop-second.second (length s.table.rows) c.loop-second.bound f c.loop-second.invariant.greatest within p) c.in-Err.ensures.answer
 
 pub returns-clause-answer : goal.returns-clause-answer
 returns-clause-answer g c =
     let s = c.args.self.now in
     let A = pair_answer s.code s.table (range_of s) c.args.first in
     let last : c.loop-second.second ≡ length s.table.rows = subst (λ (x : Searched). c.loop-second.second ≡ length x.table.rows) c.self.view_is (omega (arith, c.loop-second-test.false, c.loop-second.auto.second-end, c.types-second-end.ensures.value)) in
-    inr (greatest_all A c.loop-second.second (length s.table.rows) c.loop-second.bound c.loop-second.invariant.greatest last)
+    greatest_all A c.loop-second.second (length s.table.rows) c.loop-second.bound c.loop-second.invariant.greatest last

@@ -1,13 +1,15 @@
 use Rattle.std.proofs.Common.{sym, ap, subst}
 use Rattle.kernel_code.specs.Tables.{Table}
 use Rattle.std.proofs.lemmas.Result.{err_from_is_err_and}
+use Rattle.fallible.specs.Failures.{IfRefused}
 use Rattle.fixed.specs.Fractions.{bits_of}
+use Rattle.verifier.specs.declared.slices.Stopped.{Stopped}
 use Rattle.verifier.specs.Places.{StopsAt}
 use Rattle.verifier.specs.Verdicts.{AreInputSpans, IsBounded, IsStopped}
-use Rattle.verifier.specs.Stopping.{IsStopAt}
 use Rattle.verifier.specs.Searches.{Searched, HoldInputs, IsSafeAt}
 use Rattle.verifier.proofs.Inputs.{well_held}
-use Rattle.verifier.proofs.Judging.{safe_slice, stop_at_weaker}
+use Rattle.verifier.proofs.Following.{refused_weaker}
+use Rattle.verifier.proofs.Judging.{safe_slice}
 use Rattle.verifier.proofs.searches.Search.try_slice.Goals as goal
 
 pub follow_slice-requires-clause-well : goal.follow_slice-requires-clause-well
@@ -41,6 +43,6 @@ returns-in_err-span-clause-stopped g c =
     let stops = rw (c.frac-frac.ensures, c.as_slice-code.ensures.items, c.as_slice-inputs.ensures.value) at c.in_err-span.ensures.stops in
     let p = err_from_is_err_and c.from_residual.result c.from_residual.ensures.1 in
     rw (p.1, p.2)
-    (subst (λ (s : Searched). IsStopAt (IsStopped s.code s.table c.args.pair.first c.args.pair.second c.args.distances.now) c.in_err-span.field-0.0) c.self.view_is
-    (stop_at_weaker (StopsAt (bits_of t.frac) code c.in-Ok.inputs.items) (IsStopped code t c.args.pair.first c.args.pair.second c.args.distances.now) c.in_err-span.field-0.0
-    (λ pc f x. record { spans = c.in-Ok.inputs.items; inputs = spans; stops = x }) stops))
+    (subst (λ (s : Searched). IfRefused c.in_err-span.field-0.0 (λ (x : Stopped). IsStopped s.code s.table c.args.pair.first c.args.pair.second c.args.distances.now x.pc x.fault)) c.self.view_is
+    (refused_weaker (λ (x : Stopped). StopsAt (bits_of t.frac) code c.in-Ok.inputs.items x.pc x.fault) (λ (x : Stopped). IsStopped code t c.args.pair.first c.args.pair.second c.args.distances.now x.pc x.fault) c.in_err-span.field-0.0
+    (λ x s. record { spans = c.in-Ok.inputs.items; inputs = spans; stops = s }) stops))
