@@ -30,10 +30,18 @@ pub fn open<A: Allocator + Copy>(
     ensures once { IfOk result (λ _. AreReadOnce job.now state.now) }
     ensures refused { IfErr result (λ failure. IfRefused failure (HasNoEngineOfTexts job.now state.now)) }
 {
-    let job = Job::read(alloc, job)?;
-    let state = State::read(alloc, state)?;
-    let engine = Engine::new(alloc, job, state)?;
-    Ok(engine)
+    let job = match Job::read(alloc, job) {
+        Ok(job) => job,
+        Err(failure) => return Err(OpenFault::of_job(failure)),
+    };
+    let state = match State::read(alloc, state) {
+        Ok(state) => state,
+        Err(failure) => return Err(OpenFault::of_state(failure)),
+    };
+    match Engine::new(alloc, job, state) {
+        Ok(engine) => Ok(engine),
+        Err(failure) => Err(OpenFault::of_engine(failure)),
+    }
 }
 
 /// Runs a state so many steps in a direction, by so many workers, and writes the new state.

@@ -119,8 +119,14 @@ fn job_motion<A: Allocator + Copy>(
     ensures of { IfOk result (λ m. IsEngineOf (job_value job.now) (state_view state.now) (engine_view job.now state.now m.system)) }
     ensures refused { IfErr result (λ failure. IfRefused failure (HasNoEngine (job_value job.now) (state_view state.now))) }
 {
-    let ready = ready(alloc, job, state)?;
-    let kernel = safe_kernel(alloc, job, ready.parts)?;
+    let ready = match ready(alloc, job, state) {
+        Ok(ready) => ready,
+        Err(failure) => return Err(EngineFault::of_system(failure)),
+    };
+    let kernel = match safe_kernel(alloc, job, ready.parts) {
+        Ok(kernel) => kernel,
+        Err(failure) => return Err(EngineFault::of_kernel(failure)),
+    };
     if !fits(kernel.verified.bound(), state.atoms.len()) {
         return Err(Failure::Refused(EngineFault::ForceRange));
     }
@@ -194,8 +200,15 @@ impl<A: Allocator + Copy> Engine<A> {
         ensures value { IfOk result (IsEnergy self.now) }
         ensures refused { IfErr result (λ failure. IfRefused failure (HasNoEnergy self.now)) }
     {
-        let code = compile(self.alloc, self.job.frac, &self.motion.system.kernel.energy)?;
-        let verified = verdict(self.alloc, &self.job, code)?;
+        let energy = &self.motion.system.kernel.energy;
+        let code = match compile(self.alloc, self.job.frac, energy) {
+            Ok(code) => code,
+            Err(failure) => return Err(EnergyFault::of_energy(failure)),
+        };
+        let verified = match verdict(self.alloc, &self.job, code) {
+            Ok(verified) => verified,
+            Err(failure) => return Err(EnergyFault::of_kernel(failure)),
+        };
         let energy = SafeEnergy::new(self.alloc, &self.motion, verified)?;
         let frame = current_frame(self.alloc, &self.state.atoms)?;
         let sum = energy.of_frame(self.alloc, &frame)?;

@@ -69,21 +69,21 @@ pub enum RunFault<A: Allocator> {
     Out(OutFault),
 }
 
-impl<A: Allocator> From<Failure<ExprFault<A>>> for Failure<EnergyFault<A>> {
-    ghost from_gives = { λ failure e. e ≡ refused_as energy.Energy failure };
-
-    fn from(failure: Failure<ExprFault<A>>) -> Failure<EnergyFault<A>> {
+impl<A: Allocator> EnergyFault<A> {
+    /// The failure by what an energy's code is refused for.
+    pub(crate) fn of_energy(failure: Failure<ExprFault<A>>) -> Failure<EnergyFault<A>>
+        ensures { result ≡ refused_as energy.Energy failure }
+    {
         match failure {
             Failure::Refused(fault) => Failure::Refused(EnergyFault::Energy(fault)),
             Failure::Memory => Failure::Memory,
         }
     }
-}
 
-impl<A: Allocator> From<Failure<KernelRefusal>> for Failure<EnergyFault<A>> {
-    ghost from_gives = { λ failure e. e ≡ refused_as energy.Kernel failure };
-
-    fn from(failure: Failure<KernelRefusal>) -> Failure<EnergyFault<A>> {
+    /// The failure by what the verifier refuses code for.
+    pub(crate) fn of_kernel(failure: Failure<KernelRefusal>) -> Failure<EnergyFault<A>>
+        ensures { result ≡ refused_as energy.Kernel failure }
+    {
         match failure {
             Failure::Refused(fault) => Failure::Refused(EnergyFault::Kernel(fault)),
             Failure::Memory => Failure::Memory,
@@ -91,21 +91,21 @@ impl<A: Allocator> From<Failure<KernelRefusal>> for Failure<EnergyFault<A>> {
     }
 }
 
-impl<A: Allocator> From<Failure<SystemFault<A>>> for Failure<EngineFault<A>> {
-    ghost from_gives = { λ failure e. e ≡ refused_as engine.System failure };
-
-    fn from(failure: Failure<SystemFault<A>>) -> Failure<EngineFault<A>> {
+impl<A: Allocator> EngineFault<A> {
+    /// The failure by what a job and a state are refused for.
+    pub(crate) fn of_system(failure: Failure<SystemFault<A>>) -> Failure<EngineFault<A>>
+        ensures { result ≡ refused_as engine.System failure }
+    {
         match failure {
             Failure::Refused(fault) => Failure::Refused(EngineFault::System(fault)),
             Failure::Memory => Failure::Memory,
         }
     }
-}
 
-impl<A: Allocator> From<Failure<KernelRefusal>> for Failure<EngineFault<A>> {
-    ghost from_gives = { λ failure e. e ≡ refused_as engine.Kernel failure };
-
-    fn from(failure: Failure<KernelRefusal>) -> Failure<EngineFault<A>> {
+    /// The failure by what the verifier refuses code for.
+    pub(crate) fn of_kernel(failure: Failure<KernelRefusal>) -> Failure<EngineFault<A>>
+        ensures { result ≡ refused_as engine.Kernel failure }
+    {
         match failure {
             Failure::Refused(fault) => Failure::Refused(EngineFault::Kernel(fault)),
             Failure::Memory => Failure::Memory,
@@ -113,32 +113,31 @@ impl<A: Allocator> From<Failure<KernelRefusal>> for Failure<EngineFault<A>> {
     }
 }
 
-impl<A: Allocator> From<Failure<JobFault<A>>> for Failure<OpenFault<A>> {
-    ghost from_gives = { λ failure e. e ≡ refused_as open.Job failure };
-
-    fn from(failure: Failure<JobFault<A>>) -> Failure<OpenFault<A>> {
+impl<A: Allocator> OpenFault<A> {
+    /// The failure by what a job's text is refused for.
+    pub(crate) fn of_job(failure: Failure<JobFault<A>>) -> Failure<OpenFault<A>>
+        ensures { result ≡ refused_as open.Job failure }
+    {
         match failure {
             Failure::Refused(fault) => Failure::Refused(OpenFault::Job(fault)),
             Failure::Memory => Failure::Memory,
         }
     }
-}
 
-impl<A: Allocator> From<Failure<StateFault>> for Failure<OpenFault<A>> {
-    ghost from_gives = { λ failure e. e ≡ refused_as open.State failure };
-
-    fn from(failure: Failure<StateFault>) -> Failure<OpenFault<A>> {
+    /// The failure by what a state's text is refused for.
+    pub(crate) fn of_state(failure: Failure<StateFault>) -> Failure<OpenFault<A>>
+        ensures { result ≡ refused_as open.State failure }
+    {
         match failure {
             Failure::Refused(fault) => Failure::Refused(OpenFault::State(fault)),
             Failure::Memory => Failure::Memory,
         }
     }
-}
 
-impl<A: Allocator> From<Failure<EngineFault<A>>> for Failure<OpenFault<A>> {
-    ghost from_gives = { λ failure e. e ≡ refused_as open.Engine failure };
-
-    fn from(failure: Failure<EngineFault<A>>) -> Failure<OpenFault<A>> {
+    /// The failure by what an engine is refused for.
+    pub(crate) fn of_engine(failure: Failure<EngineFault<A>>) -> Failure<OpenFault<A>>
+        ensures { result ≡ refused_as open.Engine failure }
+    {
         match failure {
             Failure::Refused(fault) => Failure::Refused(OpenFault::Engine(fault)),
             Failure::Memory => Failure::Memory,

@@ -1,5 +1,5 @@
 -- Code that computes a slope gives it, and a pair's inputs are enough for it.
-use Rattle.std.proofs.Common.{◌≡◌, ℕ, ◌+◌, ◌<◌, ◌≤◌, ◌++◌, [], length-append, true, List, length, ℤ, arith, refl, sym, ◌∙◌, ⊎_elim, inl, inr}
+use Rattle.std.proofs.Common.{◌≡◌, ℕ, ◌<◌, ◌≤◌, ◌++◌, [], length-append, true, List, length, ℤ, arith, refl, sym, ◌∙◌, ⊎_elim, inl, inr}
 use Rattle.std.specs.List.{All}
 use Rattle.derivative.specs.Slope.{slope_of}
 use Rattle.energy_program.specs.Tree.{Tree, substituted}

@@ -13,7 +13,7 @@ use Rattle.std.proofs.lemmas.List.{length-map}
 use Rattle.job.specs.Values.{JobValue, TypeValue}
 use Rattle.state.specs.StateText.{AtomView, StateView}
 use Rattle.job.specs.JobText.{reading_of, limits}
-use Rattle.job.specs.Faults as job
+use Rattle.job.specs.Faults as jobs
 use Rattle.state.specs.StateReading.{state_of}
 use Rattle.state.specs.declared.faults.StateFault.{StateFault}
 use Rattle.fallible.specs.Failures.{Fails}
@@ -88,7 +88,7 @@ system_refused j s energy failure r h =
     rw r (fails_as system_refusal failure (types_of j s) (types_of j s >>= λ types. Ok (energy, types)) (λ fault e. bind_err (types_of j s) (λ types. Ok (energy, types)) fault e) h)
 
 -- texts that have no start since the first is no job's
-pub job_unread : (law : Law) (job state : List ℕ) (w : Direction) (n : ℕ) (r : job.Refusal) → reading_of limits job ≡ Err r → start_of law job state w n ≡ Err (job_refused r)
+pub job_unread : (law : Law) (job state : List ℕ) (w : Direction) (n : ℕ) (r : jobs.Refusal) → reading_of limits job ≡ Err r → start_of law job state w n ≡ Err (job_refused r)
 unfolding start_of
 job_unread law job state w n r e = rw e refl
 

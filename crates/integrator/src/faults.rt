@@ -46,10 +46,11 @@ impl<A: Allocator> From<SystemFault<A>> for Failure<SystemFault<A>> {
     }
 }
 
-impl<A: Allocator> From<Failure<ExprFault<A>>> for Failure<SystemFault<A>> {
-    ghost from_gives = { λ failure e. e ≡ refused_as Energy failure };
-
-    fn from(failure: Failure<ExprFault<A>>) -> Failure<SystemFault<A>> {
+impl<A: Allocator> SystemFault<A> {
+    /// The failure by what an energy's code is refused for.
+    pub(crate) fn of_energy(failure: Failure<ExprFault<A>>) -> Failure<SystemFault<A>>
+        ensures { result ≡ refused_as Energy failure }
+    {
         match failure {
             Failure::Refused(fault) => Failure::Refused(SystemFault::Energy(fault)),
             Failure::Memory => Failure::Memory,

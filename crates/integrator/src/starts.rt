@@ -128,7 +128,10 @@ pub fn ready<A: Allocator + Copy>(
     ensures masses { IfOk result (λ r. r.atoms.masses.items ≡ map (mass_of (map type_value job.now.types.items)) r.atoms.types.items) }
     ensures count { IfOk result (λ r. length r.atoms.types.items ≡ length state.now.atoms.items) }
 {
-    let parts = job_slope(alloc, job)?;
+    let parts = match job_slope(alloc, job) {
+        Ok(parts) => parts,
+        Err(failure) => return Err(SystemFault::of_energy(failure)),
+    };
     let atoms = typed_atoms(alloc, job, state)?;
     Ok(Ready { parts, atoms })
 }

@@ -64,32 +64,31 @@ pub enum TestedRunFault<A: Allocator> {
     Out(OutFault),
 }
 
-impl<A: Allocator> From<Failure<JobFault<A>>> for Failure<StartFault<A>> {
-    ghost from_gives = { λ failure e. e ≡ refused_as Job failure };
-
-    fn from(failure: Failure<JobFault<A>>) -> Failure<StartFault<A>> {
+impl<A: Allocator> StartFault<A> {
+    /// The failure by what a job's text is refused for.
+    pub(crate) fn of_job(failure: Failure<JobFault<A>>) -> Failure<StartFault<A>>
+        ensures { result ≡ refused_as Job failure }
+    {
         match failure {
             Failure::Refused(fault) => Failure::Refused(StartFault::Job(fault)),
             Failure::Memory => Failure::Memory,
         }
     }
-}
 
-impl<A: Allocator> From<Failure<StateFault>> for Failure<StartFault<A>> {
-    ghost from_gives = { λ failure e. e ≡ refused_as State failure };
-
-    fn from(failure: Failure<StateFault>) -> Failure<StartFault<A>> {
+    /// The failure by what a state's text is refused for.
+    pub(crate) fn of_state(failure: Failure<StateFault>) -> Failure<StartFault<A>>
+        ensures { result ≡ refused_as State failure }
+    {
         match failure {
             Failure::Refused(fault) => Failure::Refused(StartFault::State(fault)),
             Failure::Memory => Failure::Memory,
         }
     }
-}
 
-impl<A: Allocator> From<Failure<SystemFault<A>>> for Failure<StartFault<A>> {
-    ghost from_gives = { λ failure e. e ≡ refused_as System failure };
-
-    fn from(failure: Failure<SystemFault<A>>) -> Failure<StartFault<A>> {
+    /// The failure by what a job and a state are refused for.
+    pub(crate) fn of_system(failure: Failure<SystemFault<A>>) -> Failure<StartFault<A>>
+        ensures { result ≡ refused_as System failure }
+    {
         match failure {
             Failure::Refused(fault) => Failure::Refused(StartFault::System(fault)),
             Failure::Memory => Failure::Memory,
@@ -97,21 +96,21 @@ impl<A: Allocator> From<Failure<SystemFault<A>>> for Failure<StartFault<A>> {
     }
 }
 
-impl<A: Allocator> From<Failure<StartFault<A>>> for Failure<TestedFault<A>> {
-    ghost from_gives = { λ failure e. e ≡ refused_as Start failure };
-
-    fn from(failure: Failure<StartFault<A>>) -> Failure<TestedFault<A>> {
+impl<A: Allocator> TestedFault<A> {
+    /// The failure by what a start is refused for.
+    pub(crate) fn of_start(failure: Failure<StartFault<A>>) -> Failure<TestedFault<A>>
+        ensures { result ≡ refused_as Start failure }
+    {
         match failure {
             Failure::Refused(fault) => Failure::Refused(TestedFault::Start(fault)),
             Failure::Memory => Failure::Memory,
         }
     }
-}
 
-impl<A: Allocator> From<Failure<KernelFault>> for Failure<TestedFault<A>> {
-    ghost from_gives = { λ failure e. e ≡ refused_as Kernel failure };
-
-    fn from(failure: Failure<KernelFault>) -> Failure<TestedFault<A>> {
+    /// The failure by a pair without a force.
+    pub(crate) fn of_kernel(failure: Failure<KernelFault>) -> Failure<TestedFault<A>>
+        ensures { result ≡ refused_as Kernel failure }
+    {
         match failure {
             Failure::Refused(fault) => Failure::Refused(TestedFault::Kernel(fault)),
             Failure::Memory => Failure::Memory,

@@ -196,9 +196,14 @@ fn state_after<A: Allocator + Copy>(
     ensures value { IfOk result (λ s. IsAfter tested job.now state.now direction steps (state_view s)) }
     ensures refused { IfErr result (λ failure. IfRefused failure (IsRefusal job.now state.now direction steps)) }
 {
-    let prepared = start(alloc, direction, steps, job, state)?;
-    let after = run(alloc, direction, steps, prepared)?;
-    Ok(after)
+    let prepared = match start(alloc, direction, steps, job, state) {
+        Ok(prepared) => prepared,
+        Err(failure) => return Err(TestedFault::of_start(failure)),
+    };
+    match run(alloc, direction, steps, prepared) {
+        Ok(after) => Ok(after),
+        Err(failure) => Err(TestedFault::of_kernel(failure)),
+    }
 }
 
 /// Runs a state so many steps in a direction, on one thread with every operation tested, and writes the new state.

@@ -83,7 +83,10 @@ fn started<A: Allocator + Copy>(
     ensures faults { IfOk result (λ p. HasFaults (job_value job.now) (state_view state) (faults_view p)) }
     ensures fits { IfOk result (λ p. in_range (counter_at direction p.state.step steps) ≡ true) }
 {
-    let ready = ready(alloc, job, &state)?;
+    let ready = match ready(alloc, job, &state) {
+        Ok(ready) => ready,
+        Err(failure) => return Err(StartFault::of_system(failure)),
+    };
     let Some(counter) = counter_after(direction, &state, steps) else {
         return Err(Failure::Refused(StartFault::StepRange));
     };
@@ -104,7 +107,13 @@ pub(crate) fn start<A: Allocator + Copy>(
     ensures faults { IfOk result (λ p. HaveFaults job.now state.now (faults_view p)) }
     ensures fits { IfOk result (λ p. in_range (counter_at direction p.state.step steps) ≡ true) }
 {
-    let job = Job::read(alloc, job)?;
-    let state = State::read(alloc, state)?;
+    let job = match Job::read(alloc, job) {
+        Ok(job) => job,
+        Err(failure) => return Err(StartFault::of_job(failure)),
+    };
+    let state = match State::read(alloc, state) {
+        Ok(state) => state,
+        Err(failure) => return Err(StartFault::of_state(failure)),
+    };
     started(alloc, direction, steps, &job, state)
 }
