@@ -1,5 +1,5 @@
 -- The energy of an engine is that of its system.
-use Rattle.std.proofs.Common.{◌≡◌, ℕ, ◌<◌, ◌≤◌, List, length, ℤ, Some, Ok, refl, ap, sym, ◌∙◌}
+use Rattle.std.proofs.Common.{◌≡◌, ℕ, ◌<◌, ◌≤◌, List, length, ℤ, Some, Ok, ap, sym, ◌∙◌}
 use Rattle.std.specs.Prelude.{slice_index}
 use Rattle.fixed.specs.Fractions.{bits_of}
 use Rattle.energy_program.specs.Faults as energy
@@ -30,6 +30,7 @@ use Rattle.fallible.specs.Failures.{Fails, IfRefused, refused_as}
 use Rattle.fallible.specs.declared.failure.Failure.{Failure}
 use Rattle.fallible.specs.declared.failure.Failure.TheVariants.{Memory, Refused}
 use Rattle.integrator.specs.declared.kernel_refusals.KernelRefusal.{KernelRefusal}
+use Rattle.engine.specs.declared.faults.EnergyFault.{EnergyFault}
 use Rattle.engine.specs.declared.faults.EnergyFault.TheVariants as fault
 use Rattle.engine.specs.declared.safe_kernels.SafeKernel.{SafeKernel}
 use Rattle.integrator.specs.declared.systems.System.{System}
@@ -64,6 +65,6 @@ too_large e p Memory same h = tt
 
 -- code that the verifier refuses
 pub not_accepted : {A : Type 0} (e : EngineView) (p : Program A) (code : List Instr) (failure : Failure KernelRefusal) → program_tree p ≡ job_tree e.job → compiled (bits_of e.job.frac) (trees_of p).0 (trees_of p).1 ≡ Ok code
-    → IfRefused failure (IsRefused e.job code) → IfRefused (refused_as (fault.Kernel {A = A}) failure) (HasNoEnergy e)
+    → IfRefused failure (IsRefused e.job code) → IfRefused (refused_as {S = EnergyFault A} fault.Kernel failure) (HasNoEnergy e)
 not_accepted e p code (Refused r) same c h = record { program = trees_of p; its = same; it = record { code = code; is = c; why = h } }
 not_accepted e p code Memory same c h = tt

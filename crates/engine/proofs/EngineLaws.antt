@@ -1,5 +1,5 @@
 -- Engines: what their parts make them, and their steps as runs.
-use Rattle.std.proofs.Common.{◌≡◌, ℕ, ◌-◌, ◌*◌, ◌^◌, ◌<◌, ◌≤◌, Bool, true, false, List, [], length, get_or, ℤ, pos, negsuc, ◌+ℤ◌, ◌-ℤ◌, ◌≤ℤ◌, Option, Some, None, Ok, Err, arith, refl, ap, sym, ◌∙◌, zero-add}
+use Rattle.std.proofs.Common.{◌≡◌, ℕ, ◌-◌, ◌*◌, ◌^◌, ◌<◌, ◌≤◌, Bool, true, false, List, [], length, get_or, ℤ, pos, negsuc, ◌+ℤ◌, ◌-ℤ◌, ◌≤ℤ◌, Some, None, Ok, Err, arith, refl, ap, sym, ◌∙◌, zero-add}
 use Rattle.std.specs.Prelude.{nat_lt, is_none, unsigned_abs, ◌&&◌, if◌then◌else◌}
 use Rattle.std.proofs.lemmas.Int.{ints}
 use Rattle.std.proofs.lemmas.Bool.{and_parts, leb-true, lt-ltb, ltb-false, ltb-true}
@@ -40,7 +40,8 @@ use Rattle.integrator.specs.declared.faults.SystemFault.{SystemFault}
 use Rattle.integrator.specs.declared.kernel_refusals.KernelRefusal.{KernelRefusal}
 use Rattle.engine.specs.declared.faults.EngineFault.{EngineFault}
 use Rattle.engine.specs.declared.faults.EngineFault.TheVariants as engine
-use Rattle.engine.specs.declared.faults.OpenFault.TheVariants as open
+use Rattle.engine.specs.declared.faults.OpenFault.{OpenFault}
+use Rattle.engine.specs.declared.faults.OpenFault.TheVariants as opened
 use Rattle.integrator.specs.declared.faults.StepFault.{StepFault}
 use Rattle.integrator.specs.declared.faults.StepFault.TheVariants as step
 
@@ -164,9 +165,9 @@ system_refuses j s (Refused f) h = h
 system_refuses j s Memory h = tt
 
 -- nor have those whose code of the slope the verifier refuses
-pub verdict_refuses : {A : Type 0} (j : JobValue) (s : StateView) (system : Energy × List ℕ) (failure : Failure KernelRefusal) → system_of j s ≡ Ok system → IfRefused failure (IsRefused j system.0.code) → IfRefused (refused_as (engine.Kernel {A = A}) failure) (HasNoEngine j s)
-verdict_refuses j s system (Refused r) e h = record { system = system; made = e; it = h }
-verdict_refuses j s system Memory e h = tt
+pub verdict_refuses : (A : Type 0) (j : JobValue) (s : StateView) (system : Energy × List ℕ) (failure : Failure KernelRefusal) → system_of j s ≡ Ok system → IfRefused failure (IsRefused j system.0.code) → IfRefused (refused_as {S = EngineFault A} engine.Kernel failure) (HasNoEngine j s)
+verdict_refuses A j s system (Refused r) e h = record { system = system; made = e; it = h }
+verdict_refuses A j s system Memory e h = tt
 
 certified_for : (j : JobValue) (code : List Instr) (k : Kernel) → IsKernel k → k.code ≡ code → k.table ≡ table_of j → k.core ≡ j.core → k.cutoff ≡ j.cutoff → IsCertified code (table_of j) j.core j.cutoff k.steps k.bound
 certified_for j code k h a b c d = rw (← a, ← b, ← c, ← d) h
@@ -210,16 +211,16 @@ room_for_cells frac cutoff ring h =
 -- ---- texts that have no engine
 
 -- the first is no job's
-pub job_refuses : {A : Type 0} (job state : List ℕ) (failure : Failure (JobFault A)) → Fails jobs.refusal_of failure (reading_of limits job) → IfRefused (refused_as open.Job failure) (HasNoEngineOfTexts job state)
+pub job_refuses : {A : Type 0} (job state : List ℕ) (failure : Failure (JobFault A)) → Fails jobs.refusal_of failure (reading_of limits job) → IfRefused (refused_as opened.Job failure) (HasNoEngineOfTexts job state)
 job_refuses job state (Refused f) h = h
 job_refuses job state Memory h = tt
 
 -- the second is no state's
-pub state_refuses : {A : Type 0} (job state : List ℕ) (j : JobValue) (failure : Failure StateFault) → reading_of limits job ≡ Ok j → Fails (λ (f : StateFault). f) failure (state_of state) → IfRefused (refused_as (open.State {A = A}) failure) (HasNoEngineOfTexts job state)
-state_refuses job state j (Refused f) p h = (j, p, h)
-state_refuses job state j Memory p h = tt
+pub state_refuses : (A : Type 0) (job state : List ℕ) (j : JobValue) (failure : Failure StateFault) → reading_of limits job ≡ Ok j → Fails (λ (f : StateFault). f) failure (state_of state) → IfRefused (refused_as {S = OpenFault A} opened.State failure) (HasNoEngineOfTexts job state)
+state_refuses A job state j (Refused f) p h = (j, p, h)
+state_refuses A job state j Memory p h = tt
 
 -- what they say has none
-pub engine_refuses : {A : Type 0} (job state : List ℕ) (j : JobValue) (s : StateView) (failure : Failure (EngineFault A)) → reading_of limits job ≡ Ok j → state_of state ≡ Ok s → IfRefused failure (HasNoEngine j s) → IfRefused (refused_as open.Engine failure) (HasNoEngineOfTexts job state)
+pub engine_refuses : {A : Type 0} (job state : List ℕ) (j : JobValue) (s : StateView) (failure : Failure (EngineFault A)) → reading_of limits job ≡ Ok j → state_of state ≡ Ok s → IfRefused failure (HasNoEngine j s) → IfRefused (refused_as opened.Engine failure) (HasNoEngineOfTexts job state)
 engine_refuses job state j s (Refused f) p q h = record { j = j; s = s; job_read = p; state_read = q; it = h }
 engine_refuses job state j s Memory p q h = tt

@@ -21,7 +21,7 @@ use Rattle.integrator.specs.declared.faults.StepFault.{StepFault}
 use Rattle.integrator.specs.declared.faults.StepFault.TheVariants as step
 use Rattle.engine.specs.declared.faults.EngineFault.TheVariants as engine
 use Rattle.engine.specs.declared.faults.OpenFault.{OpenFault}
-use Rattle.engine.specs.declared.faults.OpenFault.TheVariants as open
+use Rattle.engine.specs.declared.faults.OpenFault.TheVariants as opened
 use Rattle.integrator.specs.declared.kernel_refusals.KernelRefusal.{KernelRefusal}
 use Rattle.engine.specs.Engines.{AreSafe, AreStopped, HasNoEngineOfTexts, OfSlope, OfTexts}
 use Rattle.engine.specs.Verdicts.{IsJudged, IsRefused, IsSafeFor, PassesRange}
@@ -64,12 +64,12 @@ same_texts job state holds a b =
 
 -- texts that have a run, and whose code is accepted, have an engine
 has_engine : {A : Type 0} (job state : List ℕ) (w : Direction) (n : ℕ) (text : List ℕ) (f : OpenFault A) → IsRun plain job state w n text → AreSafe job state → HasNoEngineOfTexts job state f → ⊥
-has_engine job state w n text (open.Job f) r a h = err_is_no_ok (jobs.refusal_of f) a.j (sym h ∙ a.job_read)
-has_engine job state w n text (open.State f) r a h = err_is_no_ok f a.s (sym h.2 ∙ a.state_read)
-has_engine job state w n text (open.Engine (engine.System f)) r a h =
+has_engine job state w n text (opened.Job f) r a h = err_is_no_ok (jobs.refusal_of f) a.j (sym h ∙ a.job_read)
+has_engine job state w n text (opened.State f) r a h = err_is_no_ok f a.s (sym h.2 ∙ a.state_read)
+has_engine job state w n text (opened.Engine (engine.System f)) r a h =
     run_starts plain job state w n text (system_refusal f) r (system_unready plain job state w n h.j h.s (system_refusal f) h.job_read h.state_read h.it)
-has_engine job state w n text (open.Engine (engine.Kernel k)) r a h = not_refused a.j a.s k a.it (same_texts job state (λ j s. OfSlope j s (λ code. IsRefused j code k)) a h)
-has_engine job state w n text (open.Engine engine.ForceRange) r a h = not_passed a.j a.s a.it (same_texts job state (λ j s. OfSlope j s (λ code. PassesRange j code (length s.atoms))) a h)
+has_engine job state w n text (opened.Engine (engine.Kernel k)) r a h = not_refused a.j a.s k a.it (same_texts job state (λ j s. OfSlope j s (λ code. IsRefused j code k)) a h)
+has_engine job state w n text (opened.Engine engine.ForceRange) r a h = not_passed a.j a.s a.it (same_texts job state (λ j s. OfSlope j s (λ code. PassesRange j code (length s.atoms))) a h)
 
 -- so it isn't missing but for want of memory
 pub only_memory : {A : Type 0} (job state : List ℕ) (w : Direction) (n : ℕ) (text : List ℕ) (failure : Failure (OpenFault A)) → IsRun plain job state w n text → AreSafe job state → IfRefused failure (HasNoEngineOfTexts job state) → failure ≡ Memory

@@ -1,15 +1,13 @@
 -- A run leads from safe texts to safe texts: the same code is certified for as many atoms.
-use Rattle.std.proofs.Common.{◌≡◌, ℕ, List, length, ap, sym, subst, ◌∙◌}
+use Rattle.std.proofs.Common.{◌≡◌, ℕ, length, ap, sym, subst, ◌∙◌}
 use Rattle.std.proofs.lemmas.List.{length-map}
 use Rattle.state.specs.StateText.{StateView}
 use Rattle.state.proofs.StateReadsAgain.{one_text}
 use Rattle.integrator.specs.Starts.{system_of}
 use Rattle.integrator.specs.States.{frames_of, moved_state}
-use Rattle.integrator.specs.declared.direction.Direction.{Direction}
 use Rattle.integrator.proofs.Constructors.{ok_same}
 use Rattle.integrator.proofs.ReturnLaws.{system-placed}
-use Rattle.engine.specs.Engines.{AreSafe}
-use Rattle.engine.specs.Headline.{IsLevesqueVerletRun, who}
+use Rattle.engine.specs.Headline.{who}
 use Rattle.engine.specs.Turns.{RunsStaySafe}
 use Rattle.engine.specs.Verdicts.{IsSafeFor}
 use Rattle.engine.proofs.HeadlineTexts.{moved_again}

@@ -24,7 +24,7 @@ use Rattle.integrator.specs.declared.faults.StepFault.TheVariants as step
 use Rattle.engine.specs.declared.faults.EngineFault.{EngineFault}
 use Rattle.engine.specs.declared.faults.EngineFault.TheVariants as engine
 use Rattle.engine.specs.declared.faults.OpenFault.{OpenFault}
-use Rattle.engine.specs.declared.faults.OpenFault.TheVariants as open
+use Rattle.engine.specs.declared.faults.OpenFault.TheVariants as opened
 use Rattle.engine.specs.declared.faults.RunFault.{RunFault}
 use Rattle.engine.specs.declared.faults.RunFault.TheVariants as run
 
@@ -103,9 +103,9 @@ AreReadOnce job state = OfTexts job state (λ j s. HasNamesOnce j × SaysOnly j 
 
 -- why texts have no engine
 abbrev pub HasNoEngineOfTexts : {A : Type 0} → List ℕ → List ℕ → OpenFault A → Type 0
-HasNoEngineOfTexts job state (open.Job f) = reading_of limits job ≡ Err (jobs.refusal_of f)
-HasNoEngineOfTexts job state (open.State f) = (j : JobValue) × (reading_of limits job ≡ Ok j) × (state_of state ≡ Err f)
-HasNoEngineOfTexts job state (open.Engine f) = OfTexts job state (λ j s. HasNoEngine j s f)
+HasNoEngineOfTexts job state (opened.Job f) = reading_of limits job ≡ Err (jobs.refusal_of f)
+HasNoEngineOfTexts job state (opened.State f) = (j : JobValue) × (reading_of limits job ≡ Ok j) × (state_of state ≡ Err f)
+HasNoEngineOfTexts job state (opened.Engine f) = OfTexts job state (λ j s. HasNoEngine j s f)
 
 -- why steps of the engine of texts stop: the counter would leave 64 bits, or memory ran out after some of them, and not after the last
 abbrev pub AreStopped : List ℕ → List ℕ → Direction → ℕ → StepFault → Type 0

@@ -28,8 +28,7 @@ use crate::safe_systems::SafeSystem;
 use crate::verdicts::{safe_kernel, verdict};
 use fallible::Failure;
 use integrator::{
-    Direction, StepFault, System, TypedAtoms, advance, counter_after, current_frame,
-    ready,
+    Direction, StepFault, System, TypedAtoms, advance, counter_after, current_frame, ready,
 };
 use job::Job;
 use kernel_compiler::compile;
@@ -200,8 +199,8 @@ impl<A: Allocator + Copy> Engine<A> {
         ensures value { IfOk result (IsEnergy self.now) }
         ensures refused { IfErr result (λ failure. IfRefused failure (HasNoEnergy self.now)) }
     {
-        let energy = &self.motion.system.kernel.energy;
-        let code = match compile(self.alloc, self.job.frac, energy) {
+        let program = &self.motion.system.kernel.energy;
+        let code = match compile(self.alloc, self.job.frac, program) {
             Ok(code) => code,
             Err(failure) => return Err(EnergyFault::of_energy(failure)),
         };

@@ -4,7 +4,7 @@ ghost use Rattle.std.specs.Prelude.{◌≡◌};
 ghost use Rattle.fallible.specs.Failures.{refused_as};
 ghost use Rattle.engine.specs.declared.faults.EnergyFault.TheVariants as energy;
 ghost use Rattle.engine.specs.declared.faults.EngineFault.TheVariants as engine;
-ghost use Rattle.engine.specs.declared.faults.OpenFault.TheVariants as open;
+ghost use Rattle.engine.specs.declared.faults.OpenFault.TheVariants as opened;
 ghost use Rattle.engine.specs.declared.faults.RunFault.TheVariants as run;
 
 use energy_program::ExprFault;
@@ -116,7 +116,7 @@ impl<A: Allocator> EngineFault<A> {
 impl<A: Allocator> OpenFault<A> {
     /// The failure by what a job's text is refused for.
     pub(crate) fn of_job(failure: Failure<JobFault<A>>) -> Failure<OpenFault<A>>
-        ensures { result ≡ refused_as open.Job failure }
+        ensures { result ≡ refused_as opened.Job failure }
     {
         match failure {
             Failure::Refused(fault) => Failure::Refused(OpenFault::Job(fault)),
@@ -126,7 +126,7 @@ impl<A: Allocator> OpenFault<A> {
 
     /// The failure by what a state's text is refused for.
     pub(crate) fn of_state(failure: Failure<StateFault>) -> Failure<OpenFault<A>>
-        ensures { result ≡ refused_as open.State failure }
+        ensures { result ≡ refused_as opened.State failure }
     {
         match failure {
             Failure::Refused(fault) => Failure::Refused(OpenFault::State(fault)),
@@ -136,7 +136,7 @@ impl<A: Allocator> OpenFault<A> {
 
     /// The failure by what an engine is refused for.
     pub(crate) fn of_engine(failure: Failure<EngineFault<A>>) -> Failure<OpenFault<A>>
-        ensures { result ≡ refused_as open.Engine failure }
+        ensures { result ≡ refused_as opened.Engine failure }
     {
         match failure {
             Failure::Refused(fault) => Failure::Refused(OpenFault::Engine(fault)),

@@ -92,7 +92,10 @@ fn with_slope<A: Allocator + Copy>(
 /// The refusals are those of `Names::new` for the job's parameters and globals, of `parse`, of `derive` and of `compile`, in this
 /// order; `Memory`: an allocation was refused.
 #[tactic(auto, unfolding(crate::specs::Energies::energy_of))]
-pub fn job_slope<A: Allocator + Copy>(alloc: A, job: &Job<A>) -> Result<SlopeParts<A>, Failure<ExprFault<A>>>
+pub fn job_slope<A: Allocator + Copy>(
+    alloc: A,
+    job: &Job<A>,
+) -> Result<SlopeParts<A>, Failure<ExprFault<A>>>
     ensures value { Gives energy_view refusal_of result (energy_of (job_value job.now)) }
     ensures compiled { IfOk result (λ p. IsCompiled (bits_of job.now.frac) (length job.now.parameters.items) (length job.now.globals.items) (energy_view p)) }
     ensures parameters { IfOk result (λ p. p.energy.parameters ≡ length job.now.parameters.items) }

@@ -37,9 +37,7 @@ fn atom_types<A: Allocator + Copy>(
     for (k, atom) in atoms.iter().enumerate() {
         match job.type_of(atom.name.as_bytes()) {
             Some(number) => types.push(number)?,
-            None => return Err(Failure::Refused(SystemFault::UnknownType {
-                    atom: k as u64 + 1,
-                })),
+            None => return Err(Failure::Refused(SystemFault::UnknownType { atom: k as u64 + 1 })),
         }
     }
     Ok(types)

@@ -18,6 +18,7 @@ use Rattle.tested_run.specs.TestedStarts.{HaveFaults, tested}
 use Rattle.tested_run.specs.declared.faults.KernelFault.{KernelFault}
 use Rattle.tested_run.specs.declared.faults.StartFault.{StartFault}
 use Rattle.tested_run.specs.declared.faults.StartFault.TheVariants as start
+use Rattle.tested_run.specs.declared.faults.TestedFault.{TestedFault}
 use Rattle.tested_run.specs.declared.faults.TestedFault.TheVariants as fault
 
 -- a job and a state whose atoms can't be run have no start
@@ -32,7 +33,7 @@ start_handed_on job state w n (Refused f) h = h
 start_handed_on job state w n Memory h = tt
 
 -- nor have those whose run stops on the way
-pub stop_handed_on : {A : Type 0} → (job state : List ℕ) (w : Direction) (n : ℕ) (start : Start) (faults : Faults) (failure : Failure KernelFault) → start_of tested job state w n ≡ Ok start → HaveFaults job state faults
-    → IfRefused failure (IsStop w n start faults) → IfRefused (refused_as (fault.Kernel {A = A}) failure) (IsRefusal job state w n)
-stop_handed_on job state w n start faults (Refused f) e d h = record { start = start; starts = e; faults = faults; known = d; stopped = h }
-stop_handed_on job state w n start faults Memory e d h = tt
+pub stop_handed_on : (A : Type 0) (job state : List ℕ) (w : Direction) (n : ℕ) (start : Start) (faults : Faults) (failure : Failure KernelFault) → start_of tested job state w n ≡ Ok start → HaveFaults job state faults
+    → IfRefused failure (IsStop w n start faults) → IfRefused (refused_as {S = TestedFault A} fault.Kernel failure) (IsRefusal job state w n)
+stop_handed_on A job state w n start faults (Refused f) e d h = record { start = start; starts = e; faults = faults; known = d; stopped = h }
+stop_handed_on A job state w n start faults Memory e d h = tt

@@ -29,14 +29,15 @@ returns-in_err-write-clause-refused g c =
     let state = c.args.state.now in
     let reached = c.turns_ungated.new.self in
     let after = engine_ran job state c.args.direction c.args.steps c.in_ok-engine.engine reached c.in_ok-engine.ensures.opens c.in_ok-turns_ungated.ensures.went in
-    rw (p.1, p.2)
-    (safe_texts job state c.in_ok-engine.engine c.in_ok-engine.ensures.opens,
-    record {
-      text = state_text reached.state;
-      run = record { start = after.start; starts = after.starts; after = reached.state; ran = after.ran; written = refl };
-      beginning = rw c.state.ensures at c.in_err-write.ensures.fault_taken;
-    },
-    c.in_err-write.ensures.fault_count)
+    rw (p.1, p.2) (
+      safe_texts job state c.in_ok-engine.engine c.in_ok-engine.ensures.opens,
+      record {
+        text = state_text reached.state;
+        run = record { start = after.start; starts = after.starts; after = reached.state; ran = after.ran; written = refl };
+        beginning = rw c.state.ensures at c.in_err-write.ensures.fault_taken;
+      },
+      c.in_err-write.ensures.fault_count,
+    )
 
 -- no other answer, at each exit
 pub returns-in_err-engine-clause-only : goal.returns-in_err-engine-clause-only

@@ -1,7 +1,6 @@
 use Rattle.std.proofs.Common.{◌≡◌, ℕ, List, length, arith, ap, refl, subst, sym, ◌∙◌}
 use Rattle.std.specs.Prelude.{map}
 use Rattle.std.proofs.lemmas.List.{length-map}
-use Rattle.std.proofs.lemmas.Result.{err_from_is_err_and}
 use Rattle.energy_program.specs.Programs.{program_tree}
 use Rattle.job.specs.Views.{job_value}
 use Rattle.state.specs.StateViews.{atom_view, state_view}
@@ -12,53 +11,50 @@ use Rattle.engine.proofs.HeadlineTexts.{says_energy}
 use Rattle.integrator.proofs.ReturnLaws.{system_parts}
 use Rattle.engine.proofs.engines.job_motion.Goals as goal
 
-pub returns-in_err-ready-clause-refused : goal.returns-in_err-ready-clause-refused
-returns-in_err-ready-clause-refused g c =
-    let p = err_from_is_err_and c.from_residual.result c.from_residual.ensures.1 in
-    rw (p.1, p.2) (system_refuses (job_value c.args.job.now) (state_view c.args.state.now) c.in_err-ready.field-0.0 c.in_err-ready.ensures.value)
+pub returns-in-Err-clause-refused : goal.returns-in-Err-clause-refused
+returns-in-Err-clause-refused g c = rw c.of_system.ensures (system_refuses (job_value c.args.job.now) (state_view c.args.state.now) c.in-Err.failure c.in-Err.ensures.value)
 
-pub returns-in_err-kernel-clause-refused : goal.returns-in_err-kernel-clause-refused
-returns-in_err-kernel-clause-refused g c =
-    let p = err_from_is_err_and c.from_residual-in_err-kernel.result c.from_residual-in_err-kernel.ensures.1 in
-    rw (p.1, p.2)
-    (verdict_refuses {A = g.row.A.Denot} (job_value c.args.job.now) (state_view c.args.state.now) (ready_view c.in_ok-ready.ready) c.in_err-kernel.field-0.0 c.in_ok-ready.ensures.value c.in_err-kernel.ensures.refused)
+pub returns-in-Err-safe_kernel-clause-refused : goal.returns-in-Err-safe_kernel-clause-refused
+returns-in-Err-safe_kernel-clause-refused g c =
+    rw c.of_kernel.ensures
+    (verdict_refuses g.row.A.Denot (job_value c.args.job.now) (state_view c.args.state.now) (ready_view c.in-Ok.ready) c.in-Err-safe_kernel.failure c.in-Ok.ensures.value c.in-Err-safe_kernel.ensures.refused)
 
 pub returns-then-not-fits-clause-refused : goal.returns-then-not-fits-clause-refused
 returns-then-not-fits-clause-refused g c =
-    let kernel = c.in_ok-kernel.ensures in
+    let kernel = c.in-Ok-safe_kernel.ensures in
     let count : c.len.result ≡ length (map atom_view c.args.state.now.atoms.items) = omega (arith, c.len.ensures, c.args.state.now.atoms.ok.0, length-map c.args.state.now.atoms.items atom_view) in
     record {
-      system = ready_view c.in_ok-ready.ready;
-      made = c.in_ok-ready.ensures.value;
-      it = passes (job_value c.args.job.now) c.in_ok-ready.ready.parts.code c.in_ok-kernel.kernel.verified c.fits.result c.bound.result c.len.result _ kernel.certified kernel.code kernel.table kernel.core kernel.cutoff c.fits.ensures c.bound.ensures count c.if-not-fits.true kernel.bound;
+      system = ready_view c.in-Ok.ready;
+      made = c.in-Ok.ensures.value;
+      it = passes (job_value c.args.job.now) c.in-Ok.ready.parts.code c.in-Ok-safe_kernel.kernel.verified c.fits.result c.bound.result c.len.result _ kernel.certified kernel.code kernel.table kernel.core kernel.cutoff c.fits.ensures c.bound.ensures count c.if-not-fits.true kernel.bound;
     }
 
 pub motion-requires-clause-energy : goal.motion-requires-clause-energy
 motion-requires-clause-energy g c =
-    let parts = system_parts (job_value c.args.job.now) (state_view c.args.state.now) (ready_view c.in_ok-ready.ready) c.in_ok-ready.ensures.value in
-    ap program_tree c.in_ok-kernel.ensures.energy ∙ sym (job_tree_is (job_value c.args.job.now) (energy_view c.in_ok-ready.ready.parts) parts.energy_read)
+    let parts = system_parts (job_value c.args.job.now) (state_view c.args.state.now) (ready_view c.in-Ok.ready) c.in-Ok.ensures.value in
+    ap program_tree c.in-Ok-safe_kernel.ensures.energy ∙ sym (job_tree_is (job_value c.args.job.now) (energy_view c.in-Ok.ready.parts) parts.energy_read)
 
 pub motion-requires-clause-room : goal.motion-requires-clause-room
 motion-requires-clause-room g c =
-    let parts = system_parts (job_value c.args.job.now) (state_view c.args.state.now) (ready_view c.in_ok-ready.ready) c.in_ok-ready.ensures.value in
+    let parts = system_parts (job_value c.args.job.now) (state_view c.args.state.now) (ready_view c.in-Ok.ready) c.in-Ok.ensures.value in
     room_for_cells c.args.job.now.frac c.args.job.now.cutoff c.args.state.now.ring parts.room
 
 pub returns-clause-of : goal.returns-clause-of
 returns-clause-of g c =
-    let kernel = c.in_ok-kernel.ensures in
+    let kernel = c.in-Ok-safe_kernel.ensures in
     let count : c.len.result ≡ length (map atom_view c.args.state.now.atoms.items) = omega (arith, c.len.ensures, c.args.state.now.atoms.ok.0, length-map c.args.state.now.atoms.items atom_view) in
     record {
-      system = ready_view c.in_ok-ready.ready;
-      made = c.in_ok-ready.ensures.value;
+      system = ready_view c.in-Ok.ready;
+      made = c.in-Ok.ensures.value;
       is = ap (λ (t : List ℕ). record { job = job_value c.args.job.now; types = t; state = state_view c.args.state.now }) c.motion.ensures.types;
-      safe = is_safe (job_value c.args.job.now) c.in_ok-ready.ready.parts.code c.in_ok-kernel.kernel.verified c.fits.result c.bound.result c.len.result _ kernel.certified kernel.code kernel.table kernel.core kernel.cutoff c.fits.ensures c.bound.ensures count c.if-not-fits.false kernel.bound;
+      safe = is_safe (job_value c.args.job.now) c.in-Ok.ready.parts.code c.in-Ok-safe_kernel.kernel.verified c.fits.result c.bound.result c.len.result _ kernel.certified kernel.code kernel.table kernel.core kernel.cutoff c.fits.ensures c.bound.ensures count c.if-not-fits.false kernel.bound;
     }
 
 -- the slope's parts hold the program of the energy's text
 pub returns-clause-says : goal.returns-clause-says
 returns-clause-says g c =
     let j = job_value c.args.job.now in
-    let parts = c.in_ok-ready.ready.parts in
+    let parts = c.in-Ok.ready.parts in
     let energy = energy_view parts in
-    let read = (system_parts j (state_view c.args.state.now) (ready_view c.in_ok-ready.ready) c.in_ok-ready.ensures.value).energy_read in
+    let read = (system_parts j (state_view c.args.state.now) (ready_view c.in-Ok.ready) c.in-Ok.ensures.value).energy_read in
     subst (SaysOnly j) (sym (job_tree_is j energy read)) (says_energy j energy parts.energy read refl)

@@ -7,16 +7,16 @@ use Rattle.tested_run.proofs.starts.start.Goals as goal
 
 pub returns-clause-value : goal.returns-clause-value
 returns-clause-value g c =
-    rw (start_from tested c.args.job.now c.args.state.now c.args.direction c.args.steps (job_value c.in_ok-job.job) (state_view c.in_ok-state.state) c.in_ok-job.ensures.exact c.in_ok-state.ensures.exact)
+    rw (start_from tested c.args.job.now c.args.state.now c.args.direction c.args.steps (job_value c.in-Ok.job) (state_view c.in-Ok-read.state) c.in-Ok.ensures.exact c.in-Ok-read.ensures.exact)
     c.started.ensures.value
 
 pub returns-clause-faults : goal.returns-clause-faults
 returns-clause-faults g c =
     IfOk-weaker c.started.result _ _
     (λ p h. record {
-      j = job_value c.in_ok-job.job;
-      s = state_view c.in_ok-state.state;
-      job_read = c.in_ok-job.ensures.exact;
-      state_read = c.in_ok-state.ensures.exact;
+      j = job_value c.in-Ok.job;
+      s = state_view c.in-Ok-read.state;
+      job_read = c.in-Ok.ensures.exact;
+      state_read = c.in-Ok-read.ensures.exact;
       it = h;
     }) c.started.ensures.faults

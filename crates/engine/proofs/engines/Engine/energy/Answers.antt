@@ -2,7 +2,6 @@ use Rattle.std.proofs.Common.{◌≡◌, ℕ, List, length, ap, sym, ◌∙◌, 
 use mir.Syntax.{w128}
 use Rattle.std.specs.Prelude.{map}
 use Rattle.std.proofs.lemmas.List.{length-map}
-use Rattle.std.proofs.lemmas.Result.{err_from_is_err_and}
 use Rattle.state.specs.StateText.{AtomView}
 use Rattle.state.specs.StateViews.{atom_view}
 use Rattle.engine.specs.EngineViews.{engine_view}
@@ -14,36 +13,34 @@ use Rattle.engine.proofs.EngineEnergyLaws.{energy_gives, engine_energy, not_acce
 use Rattle.integrator.proofs.StateLaws.{current_frame-views}
 use Rattle.engine.proofs.engines.Engine.energy.Goals as goal
 
-pub returns-in_err-code-clause-refused : goal.returns-in_err-code-clause-refused
-returns-in_err-code-clause-refused g c =
-    let p = err_from_is_err_and c.from_residual.result c.from_residual.ensures.1 in
+pub returns-in-Err-clause-refused : goal.returns-in-Err-clause-refused
+returns-in-Err-clause-refused g c =
     let i = c.self.inside in
     let e = engine_view i.job i.state i.motion.system in
-    rw (p.1, p.2, ← c.self.view_is) (too_large e i.motion.system.kernel.energy c.in_err-code.field-0.0 c.self.invariant.0.energy c.in_err-code.ensures.exact)
+    rw (c.of_energy.ensures, ← c.self.view_is) (too_large e i.motion.system.kernel.energy c.in-Err.failure c.self.invariant.0.energy c.in-Err.ensures.exact)
 
-pub returns-in_err-verified-clause-refused : goal.returns-in_err-verified-clause-refused
-returns-in_err-verified-clause-refused g c =
-    let p = err_from_is_err_and c.from_residual-in_err-verified.result c.from_residual-in_err-verified.ensures.1 in
+pub returns-in-Err-verdict-clause-refused : goal.returns-in-Err-verdict-clause-refused
+returns-in-Err-verdict-clause-refused g c =
     let i = c.self.inside in
     let e = engine_view i.job i.state i.motion.system in
-    rw (p.1, p.2, ← c.self.view_is)
-    (not_accepted e i.motion.system.kernel.energy c.in_ok-code.code c.in_err-verified.field-0.0 c.self.invariant.0.energy c.in_ok-code.ensures.exact c.in_err-verified.ensures.refused)
+    rw (c.of_kernel.ensures, ← c.self.view_is)
+    (not_accepted {A = g.row.A.Denot} e i.motion.system.kernel.energy c.in-Ok.code c.in-Err-verdict.failure c.self.invariant.0.energy c.in-Ok.ensures.exact c.in-Err-verdict.ensures.refused)
 
 pub new-requires-clause-table : goal.new-requires-clause-table
-new-requires-clause-table g c = c.in_ok-verified.ensures.table ∙ sym c.self.invariant.0.table
+new-requires-clause-table g c = c.in-Ok-verdict.ensures.table ∙ sym c.self.invariant.0.table
 
 pub new-requires-clause-core : goal.new-requires-clause-core
-new-requires-clause-core g c = c.in_ok-verified.ensures.core ∙ sym c.self.invariant.0.core
+new-requires-clause-core g c = c.in-Ok-verdict.ensures.core ∙ sym c.self.invariant.0.core
 
 pub new-requires-clause-cutoff : goal.new-requires-clause-cutoff
-new-requires-clause-cutoff g c = c.in_ok-verified.ensures.cutoff ∙ sym c.self.invariant.0.cutoff
+new-requires-clause-cutoff g c = c.in-Ok-verdict.ensures.cutoff ∙ sym c.self.invariant.0.cutoff
 
 pub new-requires-clause-gives : goal.new-requires-clause-gives
 new-requires-clause-gives g c =
     let i = c.self.inside in
-    let v = c.in_ok-verified.verified in
-    rw c.in_ok-verified.ensures.code
-    (energy_gives i.job v.table i.motion.system.kernel.energy c.in_ok-code.code c.in_ok-verified.ensures.table c.self.invariant.0.parameters c.self.invariant.0.globals c.in_ok-code.ensures.value)
+    let v = c.in-Ok-verdict.verified in
+    rw c.in-Ok-verdict.ensures.code
+    (energy_gives i.job v.table i.motion.system.kernel.energy c.in-Ok.code c.in-Ok-verdict.ensures.table c.self.invariant.0.parameters c.self.invariant.0.globals c.in-Ok.ensures.value)
 
 pub of_frame-requires : goal.of_frame-requires
 of_frame-requires g c =
