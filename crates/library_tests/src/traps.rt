@@ -7,11 +7,7 @@ use std::alloc::Global;
 use std::test::*;
 
 /// The outcome of this listing on two types of no parameter, with a global, at the distance `r`.
-fn outcome(
-    alloc: Global,
-    lines: &str,
-    r: i64,
-) -> Result<Result<Fx, Trap>, Failure<CodeFault>> {
+fn outcome(alloc: Global, lines: &str, r: i64) -> Result<Result<Fx, Trap>, Failure<CodeFault>> {
     let text = format!(in alloc; "pairmd code 1\n{lines}")?;
     let code = read(alloc, text.as_bytes())?;
     let rows = Vec::from_array(alloc, [Vec::new(alloc), Vec::new(alloc)])?;

@@ -357,12 +357,7 @@ fn verdicts_are_those_of_every_distance(rt: HostRuntime) {
 }
 
 /// Why this listing isn't accepted for one type without parameters, from the core to the cutoff in one slice.
-fn refusal(
-    alloc: Global,
-    listing: &[u8],
-    core: i64,
-    cutoff: i64,
-) -> Option<Failure<VerifyFault>>
+fn refusal(alloc: Global, listing: &[u8], core: i64, cutoff: i64) -> Option<Failure<VerifyFault>>
     requires core { pos 0 ≤ℤ core }
     requires range { core <ℤ cutoff }
 {
