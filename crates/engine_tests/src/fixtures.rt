@@ -1,7 +1,7 @@
 //! A job and states by hand, and their engines.
 
 use engine::Engine;
-use gro::Collected;
+use fallible::Collected;
 use job::Job;
 use state::State;
 use std::alloc::{AllocError, Allocator, Global};

@@ -4,25 +4,17 @@ ghost use Rattle.std.specs.Prelude.{◌<◌, ◌≤◌};
 
 use crate::fixtures::{AFTER_TWO, JOB, STATE, engine_over, layers, text_of};
 use engine::Engine;
-use gro::Collected;
-use integrator::{Direction, RunFault, StepFault};
+use fallible::{Collected, Failure};
+use integrator::{Direction, StepFault};
 use refusing_memory::RefusingAllocator;
-use std::alloc::{AllocError, Allocator, Global};
+use std::alloc::{AllocError, Global};
 use std::test::*;
 use std::thread::Threads;
-use tested_run::run_bytes_checked;
+use tested_run::{TestedRunFault, run_bytes_checked};
 use tile_pool::Gate;
 
 /// No run of a test makes so many requests for memory.
 const REQUESTS: u64 = 100_000;
-
-/// Whether the line of this fault tells want of memory.
-fn is_of_memory<A: Allocator>(alloc: Global, fault: &RunFault<A>) -> bool {
-    match format!(in alloc; "{fault}") {
-        Ok(line) => line.as_str().starts_with("Memory"),
-        Err(_) => false,
-    }
-}
 
 /// A tested run where the request with this number is refused: it ends with the text of its state, or wants memory and writes
 /// nothing. Tells whether that request was made, and nothing where the run ends otherwise.
@@ -31,12 +23,8 @@ fn run_without(alloc: Global, number: u64) -> Option<bool> {
     let mut out = Collected::new(alloc);
     let expected = match run_bytes_checked(&memory, JOB, STATE, 2, Direction::Forward, &mut out) {
         Ok(()) => AFTER_TWO,
-        Err(fault) => {
-            if !is_of_memory(alloc, &fault) {
-                return None;
-            }
-            b"".as_slice()
-        }
+        Err(TestedRunFault::Run(Failure::Memory)) => b"".as_slice(),
+        Err(_) => return None,
     };
     if out.bytes() == expected {
         Some(number < memory.requests())

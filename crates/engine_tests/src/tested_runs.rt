@@ -2,12 +2,12 @@
 
 use crate::fixtures::{JOB, STATE, layers};
 use engine::run_bytes;
-use gro::Collected;
+use fallible::Collected;
 use integrator::Direction;
 use std::alloc::{AllocError, Global};
 use std::test::*;
 use std::thread::Threads;
-use tested_run::run_bytes_checked;
+use tested_run::{TestedRunFault, run_bytes_checked};
 
 /// What a tested run writes, or the line of its fault.
 fn tested(
@@ -18,11 +18,12 @@ fn tested(
     steps: u64,
 ) -> Result<Vec<u8>, AllocError> {
     let mut out = Collected::new(alloc);
-    if let Err(fault) = run_bytes_checked(alloc, job, state, steps, direction, &mut out) {
-        let line = format!(in alloc; "{fault}")?;
-        return Vec::from_slice(alloc, line.as_bytes());
-    }
-    Ok(out.into_bytes())
+    let line = match run_bytes_checked(alloc, job, state, steps, direction, &mut out) {
+        Ok(()) => return Ok(out.into_bytes()),
+        Err(TestedRunFault::Run(failure)) => format!(in alloc; "{failure}")?,
+        Err(TestedRunFault::Out(fault)) => format!(in alloc; "{fault}")?,
+    };
+    Vec::from_slice(alloc, line.as_bytes())
 }
 
 /// A job with this energy.

@@ -1,9 +1,9 @@
 //! Two runs of the same code: tested, and accepted.
 
 use fixed::{Frac, Fx};
-use kernel_code::{CodeFault, TypeTable, read, run_checked};
+use kernel_code::{TypeTable, read, run_checked};
 use kernel_machine::{Stack, run};
-use std::alloc::Global;
+use std::alloc::{AllocError, Global};
 use std::test::*;
 use verifier::{Verified, verify};
 
@@ -27,7 +27,7 @@ const KEPT_AT_ONCE: &str =
     "push 2\ninput 0\nadd\nkeep 1\ninput 0\nneg\nkeep 2\nget 2\nneg\nget 1\nmul\n";
 
 /// Two types of two parameters each, and a global.
-fn table(alloc: Global) -> Result<TypeTable<Global>, CodeFault> {
+fn table(alloc: Global) -> Result<TypeTable<Global>, AllocError> {
     let first = vec![in alloc; Fx::from_raw(1_288_490_188), Fx::from_raw(3_000_000_000)]?;
     let second = vec![in alloc; Fx::from_raw(-858_993_459), Fx::from_raw(7_000_000_001)]?;
     let globals = vec![in alloc; Fx::from_raw(12_884_901_893)]?;

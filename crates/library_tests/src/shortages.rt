@@ -3,6 +3,7 @@
 use derivative::derive;
 use energy_program::{ExprFault, Names, Program};
 use expr::parse;
+use fallible::Failure;
 use fixed::Frac;
 use kernel_compiler::compile;
 use linked_list_allocator::LocalHeap;
@@ -14,14 +15,14 @@ const SIZES: usize = 1024;
 fn make_code<'a>(
     heap: &'a LocalHeap,
     program: &Program<&'a LocalHeap>,
-) -> Result<(), ExprFault<&'a LocalHeap>> {
+) -> Result<(), Failure<ExprFault<&'a LocalHeap>>> {
     let slope = derive(heap, Frac::F32, program)?;
     compile(heap, Frac::F32, &slope)?;
     Ok(())
 }
 
 #[tactic(auto, unfolding(line_text::specs::Identifiers::is_identifier))]
-fn make<'a>(heap: &'a LocalHeap, text: &[u8]) -> Result<(), ExprFault<&'a LocalHeap>> {
+fn make<'a>(heap: &'a LocalHeap, text: &[u8]) -> Result<(), Failure<ExprFault<&'a LocalHeap>>> {
     let names = Names::new(heap, &[b"q"], &[b"k"])?;
     let program = parse(heap, Frac::F32, text, &names)?;
     make_code(heap, &program)

@@ -1,12 +1,13 @@
 //! What the tested machine stops at, and prints of it.
 
+use fallible::Failure;
 use fixed::{Frac, Fx};
 use kernel_code::{CodeFault, Trap, TypeTable, read, run_checked};
 use std::alloc::Global;
 use std::test::*;
 
 /// The outcome of this listing on two types of no parameter, with a global, at the distance `r`.
-fn outcome(alloc: Global, lines: &str, r: i64) -> Result<Result<Fx, Trap>, CodeFault> {
+fn outcome(alloc: Global, lines: &str, r: i64) -> Result<Result<Fx, Trap>, Failure<CodeFault>> {
     let text = format!(in alloc; "pairmd code 1\n{lines}")?;
     let code = read(alloc, text.as_bytes())?;
     let rows = Vec::from_array(alloc, [Vec::new(alloc), Vec::new(alloc)])?;

@@ -2,6 +2,7 @@
 
 ghost use Rattle.std.specs.Prelude.{◌≡◌, ◌<◌, ◌≤ℤ◌, ◌<ℤ◌, pos, length, IfOk};
 
+use fallible::Failure;
 use fixed::{Fault, Frac, Fx};
 use kernel_code::{
     BinaryOperation, Code, InputNumber, Instr, TrapKind, TypeTable, UnaryOperation, read,
@@ -282,7 +283,7 @@ fn judged(
     code: Code<Global>,
     table: TypeTable<Global>,
     distances: Distances,
-) -> Result<u64, VerifyFault> {
+) -> Result<u64, Failure<VerifyFault>> {
     let core = Fx::from_raw(distances.core);
     let cutoff = Fx::from_raw(distances.core + distances.width);
     match verify(alloc, code, table, core, cutoff, distances.slices) {
@@ -299,14 +300,17 @@ enum Comparison {
     Different,
 }
 
-fn beside(surveyed: Result<u64, VerifyFault>, judged: Result<u64, VerifyFault>) -> Comparison {
+fn beside(
+    surveyed: Result<u64, VerifyFault>,
+    judged: Result<u64, Failure<VerifyFault>>,
+) -> Comparison {
     let outcome = match surveyed {
         Ok(_) => Comparison::Accepted,
         Err(_) => Comparison::Refused,
     };
     let agrees = match (surveyed, judged) {
         (Ok(greatest), Ok(bound)) => bound >= greatest,
-        (Err(expected), Err(fault)) => expected == fault,
+        (Err(expected), Err(Failure::Refused(fault))) => expected == fault,
         _ => false,
     };
     if agrees {
@@ -353,7 +357,7 @@ fn verdicts_are_those_of_every_distance(rt: HostRuntime) {
 }
 
 /// Why this listing isn't accepted for one type without parameters, from the core to the cutoff in one slice.
-fn refusal(alloc: Global, listing: &[u8], core: i64, cutoff: i64) -> Option<VerifyFault>
+fn refusal(alloc: Global, listing: &[u8], core: i64, cutoff: i64) -> Option<Failure<VerifyFault>>
     requires core { pos 0 ≤ℤ core }
     requires range { core <ℤ cutoff }
 {
@@ -372,15 +376,15 @@ const BRANCH: &[u8] = b"pairmd code 1\ninput 0\npush 2147483648\nsub\nstep\njump
     input 0\npush 1717986918\nsub\nsqrt\njump 11\npush 0\n";
 
 /// Undecided for the one type, at this place for this fault.
-fn undecided(lo: i64, hi: i64, pc: u32, fault: Fault) -> Option<VerifyFault> {
-    Some(VerifyFault::Undecided {
+fn undecided(lo: i64, hi: i64, pc: u32, fault: Fault) -> Option<Failure<VerifyFault>> {
+    Some(Failure::Refused(VerifyFault::Undecided {
         first: 0,
         second: 0,
         lo: Fx::from_raw(lo),
         hi: Fx::from_raw(hi),
         pc,
         fault,
-    })
+    }))
 }
 
 // So many distances that what is left after 24 cuts is as long as a slice of the distances from 0.2 to 0.9: the first of one slice, and the

@@ -5,7 +5,7 @@ ghost use Rattle.std.specs.Prelude.{◌≡◌, None};
 use crate::files::Memory;
 use crate::lines::{put_line, put_printed};
 use cli::execute;
-use gro::{Collected, Out, OutFault};
+use fallible::{Collected, Out, OutFault};
 use std::alloc::{AllocError, Allocator, Global};
 use std::convert::AsStr;
 use std::fs::Files;

@@ -4,7 +4,7 @@ use crate::files::Memory;
 use crate::outcomes::{Outcome, outcome_of};
 use crate::shell::{Change, listing_of, unescaped};
 use cli::{CommandFault, report};
-use gro::Collected;
+use fallible::Collected;
 use std::alloc::{AllocError, Global};
 use std::convert::AsStr;
 use std::fs::Files;
