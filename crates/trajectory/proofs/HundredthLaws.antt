@@ -1,6 +1,6 @@
 -- Hundredths of a run: where the next one is complete, and that those of a stretch and of the stretch behind it are those of both.
 use Rattle.std.proofs.Common.{◌≡◌, ℕ, zero, suc, ◌+◌, ◌-◌, ◌*◌, ◌/◌, ◌%◌, ◌<◌, ◌≤◌, true, false, List, [], ◌∷◌, ◌++◌, arith, refl, ap, sym, subst, ◌∙◌, zero-add}
-use Rattle.std.specs.Prelude.{cond, filter, ltb, min}
+use Rattle.std.specs.Prelude.{cond, filter}
 use Rattle.std.specs.Int.{div_ceil}
 use Rattle.std.proofs.lemmas.Bool.{le-ltb, lt-ltb}
 use Rattle.std.proofs.lemmas.List.{append-nil}

@@ -1,30 +1,24 @@
 -- Trajectories: what frames one after the other are, and what is left of them where a run ends early.
-use Rattle.std.proofs.Common.{◌≡◌, ℕ, zero, suc, ◌+◌, ◌*◌, ◌<◌, ◌≤◌, Bool, true, false, List, [], ◌++◌, length, get_or, ℤ, Option, Some, None, Ok, arith, refl, ap, sym, subst, ◌∙◌, zero-add, ◌⊎◌, inl, inr}
-use Rattle.std.specs.Prelude.{is_none, option_map, if◌then◌else◌}
-use Rattle.std.specs.Option.{option_and_then}
-use Rattle.std.proofs.lemmas.Bool.{cases_lt}
+use Rattle.std.proofs.Common.{◌≡◌, ℕ, zero, suc, ◌+◌, ◌*◌, ◌/◌, ◌<◌, ◌≤◌, Bool, true, false, List, [], ◌++◌, ℤ, Option, Some, None, Ok, arith, refl, ap, sym, subst, ◌∙◌}
+use Rattle.std.specs.Prelude.{is_none, if◌then◌else◌}
 use Rattle.std.proofs.lemmas.Int.{ints}
-use Rattle.std.proofs.lemmas.List.{ext_get_or, length-map, get_or-map}
 use Rattle.fixed.specs.Arithmetic.{in_range}
-use Rattle.gro.specs.Out.{appended, AppendsBeginning}
-use Rattle.gro.proofs.Appends.{appended-nil, appended_after, beginning_after}
-use Rattle.state.specs.StateText.{AtomView, StateView}
-use Rattle.integrator.proofs.Constructors.{none_is_no_some, some_same}
+use Rattle.fallible.specs.Out.{appended, AppendsBeginning, Output}
+use Rattle.fallible.proofs.Appends.{appended-nil, appended_after, beginning_after}
+use Rattle.state.specs.StateText.{StateView}
 use Rattle.integrator.proofs.ReturnLaws.{in_range_is}
 use Rattle.state.proofs.StateReadsAgain.{one_text}
-use Rattle.integrator.proofs.NumberLaws.{length-numbers, at_number}
-use Rattle.integrator.specs.Frames.{Dynamics, Frames, frames, moved_frame, next_frame, next_places, frame_forces, places_of, turn, turns}
 use Rattle.integrator.specs.Forces.{none}
-use Rattle.integrator.specs.Runs.{is_out}
-use Rattle.integrator.specs.States.{counter_after, counter_at, current_frame, frames_of, moved_state, nobody, placed, placed_atoms, previous_frame}
+use Rattle.integrator.specs.States.{counter_after, counter_at}
 use Rattle.integrator.specs.declared.direction.Direction.{Direction}
 use Rattle.integrator.specs.declared.direction.Direction.TheVariants.{Back, Forward}
-use Rattle.integrator.specs.declared.faults.RunFault.{RunFault}
-use Rattle.integrator.specs.declared.faults.RunFault.TheVariants as run
-use Rattle.engine.specs.Engines.{AreSafe, EngineView, HasNoEngineOfTexts, IsEngineOfTexts, Went, engine_dynamics}
-use Rattle.trajectory.specs.Trajectories.{AreJoined, BeganFrames, Halts, IsFrameOfRun, IsFrameOnWay, IsStopped, IsTrajectoryRefusal, IsUnwritten, Leaves, WroteFrame, WroteFrames}
+use Rattle.integrator.specs.declared.faults.StepFault.TheVariants as step
+use Rattle.engine.specs.Engines.{AreStopped, EngineView, IsEngineOfTexts, IsRunUnwritten, Wants, Went}
+use Rattle.trajectory.specs.Trajectories.{AreFramesUnwritten, AreJoined, BeganFrames, Halts, IsFrameOfRun, IsFrameOnWay, IsFrameUnwritten, IsStopped, LeftBeginning, LeftWhole, WroteFrame, WroteFrames, run_fault_of}
+use Rattle.trajectory.specs.declared.halts.Halt.{Halt}
+use Rattle.trajectory.specs.declared.halts.Halt.TheVariants as halt
 use Rattle.std.proofs.Math.Nat.{mul-le-mul_right}
-use Rattle.engine.proofs.EngineLaws.{counter_reached, engine_ran, no_engine_unwritten, went_nowhere}
+use Rattle.engine.proofs.EngineLaws.{counter_reached, engine_ran, engine_stops, safe_texts, went_nowhere}
 use Rattle.engine.proofs.HeadlineLaws.{counter_is}
 use Rattle.engine.proofs.WentLaws.{counters_add, steps_add}
 
@@ -68,63 +62,17 @@ joined_map P Q (suc n) text f h = (h.0, h.1, joined_map P Q n h.0 f h.2, f n h.1
 pub wrote_map : (P Q : ℕ → List ℕ → Type 0) (n : ℕ) (o m : Option (List ℕ)) → ((i : ℕ) (t : List ℕ) → P i t → Q i t) → WroteFrames P n o m → WroteFrames Q n o m
 wrote_map P Q n o m f h = record { text = h.text; frames = joined_map P Q n h.text f h.frames; appended' = h.appended' }
 
--- what a fault behind the start leaves, of frames and of what they are as well
-pub halted_left : {A : Type 0} (P Q : ℕ → List ℕ → Type 0) (every most : ℕ) (o m : Option (List ℕ)) (fault : RunFault A) → ((i : ℕ) (t : List ℕ) → P i t → Q i t) → Halts P every most o m fault → Leaves Q every most o m fault
-halted_left P Q every most o m (run.MemoryAfter done) f h = (h.0, h.1, h.2, h.3, wrote_map P Q h.0 o m f h.4)
-halted_left P Q every most o m (run.Out g) f h = (h.0, h.1, record { text = h.2.text; frames = joined_map P Q (suc h.0) h.2.text f h.2.frames; beginning = h.2.beginning })
-halted_left P Q every most o m (run.Job g) f h = absurd h
-halted_left P Q every most o m (run.State g) f h = absurd h
-halted_left P Q every most o m (run.Energy g) f h = absurd h
-halted_left P Q every most o m run.BitsDiffer f h = absurd h
-halted_left P Q every most o m (run.UnknownType n) f h = absurd h
-halted_left P Q every most o m run.CutoffTooLong f h = absurd h
-halted_left P Q every most o m (run.Kernel r) f h = absurd h
-halted_left P Q every most o m run.ForceRange f h = absurd h
-halted_left P Q every most o m run.StepRange f h = absurd h
-halted_left P Q every most o m (run.KernelFault a b c d k) f h = absurd h
-halted_left P Q every most o m run.Memory f h = absurd h
+-- whole frames that are left, of frames that are others as well
+left_whole_map : (P Q : ℕ → List ℕ → Type 0) (every most done : ℕ) (o m : Option (List ℕ)) → ((i : ℕ) (t : List ℕ) → P i t → Q i t) → LeftWhole P every most done o m → LeftWhole Q every most done o m
+left_whole_map P Q every most done o m f h = record { count = h.count; within = h.within; up_to = h.up_to; no_more = h.no_more; wrote = wrote_map P Q h.count o m f h.wrote }
 
--- it is a refusal of the trajectory
-pub halted_refused : {A : Type 0} (P : ℕ → List ℕ → Type 0) (job state : List ℕ) (w : Direction) (steps every most : ℕ) (o m : Option (List ℕ)) (fault : RunFault A) → most * every ≤ steps → AreSafe job state
-    → Halts P every most o m fault → IsTrajectoryRefusal job state w steps fault
-halted_refused P job state w steps every most o m (run.MemoryAfter done) few safe h = elim (cases_lt done steps) [
-  | inl l ↦ inl (omega (arith, l), safe)
-  | inr l ↦ let all : done ≡ steps = omega (arith, l, few, h.1) in inr (ap run.MemoryAfter all, safe)
-]
-halted_refused P job state w steps every most o m (run.Out g) few safe h = inl safe
-halted_refused P job state w steps every most o m (run.Job g) few safe h = absurd h
-halted_refused P job state w steps every most o m (run.State g) few safe h = absurd h
-halted_refused P job state w steps every most o m (run.Energy g) few safe h = absurd h
-halted_refused P job state w steps every most o m run.BitsDiffer few safe h = absurd h
-halted_refused P job state w steps every most o m (run.UnknownType n) few safe h = absurd h
-halted_refused P job state w steps every most o m run.CutoffTooLong few safe h = absurd h
-halted_refused P job state w steps every most o m (run.Kernel r) few safe h = absurd h
-halted_refused P job state w steps every most o m run.ForceRange few safe h = absurd h
-halted_refused P job state w steps every most o m run.StepRange few safe h = absurd h
-halted_refused P job state w steps every most o m (run.KernelFault a b c d k) few safe h = absurd h
-halted_refused P job state w steps every most o m run.Memory few safe h = absurd h
-
--- where there is no engine nothing is left
-pub unopened_left : {A : Type 0} (P : ℕ → List ℕ → Type 0) (job state : List ℕ) (every most : ℕ) (o : Option (List ℕ)) (fault : RunFault A) → HasNoEngineOfTexts job state fault → Leaves P every most o o fault
-unopened_left P job state every most o (run.MemoryAfter done) h = absurd h
-unopened_left P job state every most o (run.Out g) h = absurd h
-unopened_left P job state every most o (run.Job g) h = refl
-unopened_left P job state every most o (run.State g) h = refl
-unopened_left P job state every most o (run.Energy g) h = refl
-unopened_left P job state every most o run.BitsDiffer h = refl
-unopened_left P job state every most o (run.UnknownType n) h = refl
-unopened_left P job state every most o run.CutoffTooLong h = refl
-unopened_left P job state every most o (run.Kernel r) h = refl
-unopened_left P job state every most o run.ForceRange h = refl
-unopened_left P job state every most o run.StepRange h = refl
-unopened_left P job state every most o (run.KernelFault a b c d k) h = refl
-unopened_left P job state every most o run.Memory h = refl
-
-no_truth : ◌≡◌ {A = Bool} false true → ⊥
-no_truth e = cc
-
-pub unopened_unfailed : {A Failed : Type 0} (job state : List ℕ) (fault : RunFault A) → HasNoEngineOfTexts job state fault → is_out fault ≡ true → Failed
-unopened_unfailed job state fault h out = absurd (no_truth (sym (no_engine_unwritten job state fault h) ∙ out))
+-- and a beginning of them
+left_beginning_map : (P Q : ℕ → List ℕ → Type 0) (most : ℕ) (o m : Option (List ℕ)) → ((i : ℕ) (t : List ℕ) → P i t → Q i t) → LeftBeginning P most o m → LeftBeginning Q most o m
+left_beginning_map P Q most o m f h = record {
+  count = h.count;
+  few = h.few;
+  began = record { text = h.began.text; frames = joined_map P Q (suc h.count) h.began.text f h.began.frames; beginning = h.began.beginning };
+}
 
 -- ---- on the way
 
@@ -135,40 +83,45 @@ frame_reached w every number e f time_step o m r went same wrote frame =
     one_more (IsFrameOnWay w every e) number o m r frame.text wrote (record { reached = f; went = went; shown = rw (← same) frame.shown }) frame.appended'
 
 -- a frame that was not written, after so many whole ones
-pub frame_left : {A : Type 0} (w : Direction) (every most number : ℕ) (e f : EngineView) (time_step : ℕ) (o m r : Option (List ℕ)) (fault : RunFault A) → number ≤ most → Went w (number * every) e f
-    → time_step ≡ e.job.time_step → WroteFrames (IsFrameOnWay w every e) number o m → IsUnwritten time_step f.state (number * every) m r fault → Halts (IsFrameOnWay w every e) every most o r fault
-frame_left w every most number e f time_step o m r (run.MemoryAfter done) few went same wrote h =
+frame_left : (w : Direction) (every most number : ℕ) (e f : EngineView) (time_step : ℕ) (o m r : Output) (h : Halt) → number ≤ most → Went w (number * every) e f → time_step ≡ e.job.time_step
+    → WroteFrames (IsFrameOnWay w every e) number o.0 m.0 → m.1 ≡ o.1 → IsFrameUnwritten time_step f.state (number * every) m r h → Halts (IsFrameOnWay w every e) every most o r h
+frame_left w every most number e f time_step o m r (halt.Memory done) few went same wrote kept left =
     let l : number * every ≤ most * every = mul-le-mul_right every few in
-    (number, omega (arith, l, h.0), omega (arith, h.0), omega (arith, h.0), subst (WroteFrames (IsFrameOnWay w every e) number o) (sym h.1) wrote)
-frame_left w every most number e f time_step o m r (run.Out g) few went same wrote h =
-    (number, few, began_more (IsFrameOnWay w every e) number o m r h.text wrote (record { reached = f; went = went; shown = rw (← same) h.shown }) h.beginning)
-frame_left w every most number e f time_step o m r (run.Job g) few went same wrote h = absurd h
-frame_left w every most number e f time_step o m r (run.State g) few went same wrote h = absurd h
-frame_left w every most number e f time_step o m r (run.Energy g) few went same wrote h = absurd h
-frame_left w every most number e f time_step o m r run.BitsDiffer few went same wrote h = absurd h
-frame_left w every most number e f time_step o m r (run.UnknownType n) few went same wrote h = absurd h
-frame_left w every most number e f time_step o m r run.CutoffTooLong few went same wrote h = absurd h
-frame_left w every most number e f time_step o m r (run.Kernel k) few went same wrote h = absurd h
-frame_left w every most number e f time_step o m r run.ForceRange few went same wrote h = absurd h
-frame_left w every most number e f time_step o m r run.StepRange few went same wrote h = absurd h
-frame_left w every most number e f time_step o m r (run.KernelFault a b c d k) few went same wrote h = absurd h
-frame_left w every most number e f time_step o m r run.Memory few went same wrote h = absurd h
+    record {
+      count = number;
+      within = omega (arith, l, left.0);
+      up_to = omega (arith, left.0);
+      no_more = omega (arith, left.0);
+      wrote = subst (WroteFrames (IsFrameOnWay w every e) number o.0) (sym left.1) wrote;
+    }
+frame_left w every most number e f time_step o m r (halt.Out g) few went same wrote kept left =
+    let began = left.0 in (
+      record {
+        count = number;
+        few = few;
+        began = began_more (IsFrameOnWay w every e) number o.0 m.0 r.0 began.text wrote (record { reached = f; went = went; shown = rw (← same) began.shown }) began.beginning;
+      },
+      rw (← kept) left.1,
+    )
 
 -- want of memory in one of the steps behind so many frames
-pub steps_left : {A : Type 0} (P : ℕ → List ℕ → Type 0) (every most number : ℕ) (o m : Option (List ℕ)) (fault : RunFault A) → number < most → WroteFrames P (suc number) o m
-    → IsStopped (number * every) every fault → Halts P every most o m fault
-steps_left P every most number o m fault few wrote h =
+pub steps_left : (P : ℕ → List ℕ → Type 0) (every most number : ℕ) (o m : Output) (h : Halt) → number < most → WroteFrames P (suc number) o.0 m.0 → IsStopped (number * every) every h → Halts P every most o m h
+steps_left P every most number o m h few wrote stopped =
     let l : suc number * every ≤ most * every = mul-le-mul_right every few in
     let one : suc number * every ≡ number * every + every = omega arith in
-    rw h.is (suc number, omega (arith, l, one, h.few), omega (arith, one, h.few), omega (arith, one), wrote)
+    rw stopped.is
+    (record { count = suc number; within = omega (arith, l, one, stopped.few); up_to = omega (arith, one, stopped.few); no_more = omega (arith, one); wrote = wrote })
 
 -- want of memory in a later stretch of the steps
-pub stopped_later : {A : Type 0} (before made steps more : ℕ) (fault : RunFault A) → 1 ≤ more → made + more ≤ steps → IsStopped (before + made) more fault → IsStopped before steps fault
-stopped_later before made steps more fault some few h =
-    let all : before + made + h.more ≡ before + (made + h.more) = omega arith in
-    record { more = made + h.more; few = omega (arith, some, few, h.few); is = h.is ∙ ap run.MemoryAfter all }
+pub stopped_later : (before made steps more : ℕ) (h : Halt) → 1 ≤ more → made + more ≤ steps → IsStopped (before + made) more h → IsStopped before steps h
+stopped_later before made steps more h some few stopped =
+    let all : before + made + stopped.more ≡ before + (made + stopped.more) = omega arith in
+    record { more = made + stopped.more; few = omega (arith, some, few, stopped.few); is = stopped.is ∙ ap halt.Memory all }
 
 -- ---- counters that fit
+
+no_truth : ◌≡◌ {A = Bool} false true → ⊥
+no_truth e = cc
 
 pub none_is : (o : Option ℤ) → is_none o ≡ true → o ≡ None
 none_is None h = refl
@@ -210,12 +163,12 @@ first_written w every e s time_step o r fits is same frame =
     let went = at_first w every e fits in
     (went, frame_reached w every 0 e e time_step o o r went same (no_frame (IsFrameOnWay w every e) o) (subst (λ (v : StateView). WroteFrame time_step v o r) is frame))
 
-pub first_left : {A : Type 0} (w : Direction) (every most : ℕ) (e : EngineView) (s : StateView) (time_step : ℕ) (o r : Option (List ℕ)) (fault : RunFault A) → in_range e.state.step ≡ true → s ≡ e.state
-    → time_step ≡ e.job.time_step → IsUnwritten time_step s 0 o r fault → Halts (IsFrameOnWay w every e) every most o r fault
-first_left w every most e s time_step o r fault fits is same h =
+pub first_left : (w : Direction) (every most : ℕ) (e : EngineView) (s : StateView) (time_step : ℕ) (o r : Output) (h : Halt) → in_range e.state.step ≡ true → s ≡ e.state → time_step ≡ e.job.time_step
+    → IsFrameUnwritten time_step s 0 o r h → Halts (IsFrameOnWay w every e) every most o r h
+first_left w every most e s time_step o r h fits is same left =
     let none : 0 * every ≡ 0 = omega arith in
-    let here : IsUnwritten time_step e.state (0 * every) o r fault = rw (none, ← is) h in
-    frame_left w every most 0 e e time_step o o r fault (omega arith) (at_first w every e fits) same (no_frame (IsFrameOnWay w every e) o) here
+    let here : IsFrameUnwritten time_step e.state (0 * every) o r h = rw (none, ← is) left in
+    frame_left w every most 0 e e time_step o o r h (omega arith) (at_first w every e fits) same (no_frame (IsFrameOnWay w every e) o.0) refl here
 
 at_next : (w : Direction) (every number : ℕ) (e f g : EngineView) → Went w (number * every) e f → Went w every f g → Went w (suc number * every) e g
 at_next w every number e f g a b = let same : suc number * every ≡ number * every + every = omega arith in rw same (steps_add w (number * every) every e f g a b)
@@ -229,13 +182,13 @@ next_written w every number e f g s time_step o m r a b is same wrote frame =
     let one : number + 1 ≡ suc number = omega arith in
     rw one (went, frame_reached w every (suc number) e g time_step o m r went same wrote (subst (λ (v : StateView). WroteFrame time_step v m r) is frame))
 
-pub next_left : {A : Type 0} (w : Direction) (every most number : ℕ) (e f g : EngineView) (s : StateView) (time_step : ℕ) (o m r : Option (List ℕ)) (fault : RunFault A) → number < most
-    → Went w (number * every) e f → Went w every f g → s ≡ g.state → time_step ≡ e.job.time_step → WroteFrames (IsFrameOnWay w every e) (suc number) o m
-    → IsUnwritten time_step s (number * every + every) m r fault → Halts (IsFrameOnWay w every e) every most o r fault
-next_left w every most number e f g s time_step o m r fault few a b is same wrote h =
+pub next_left : (w : Direction) (every most number : ℕ) (e f g : EngineView) (s : StateView) (time_step : ℕ) (o m r : Output) (h : Halt) → number < most → Went w (number * every) e f → Went w every f g
+    → s ≡ g.state → time_step ≡ e.job.time_step → WroteFrames (IsFrameOnWay w every e) (suc number) o.0 m.0 → m.1 ≡ o.1 → IsFrameUnwritten time_step s (number * every + every) m r h
+    → Halts (IsFrameOnWay w every e) every most o r h
+next_left w every most number e f g s time_step o m r h few a b is same wrote kept left =
     let steps : suc number * every ≡ number * every + every = omega arith in
-    let here : IsUnwritten time_step g.state (suc number * every) m r fault = rw (steps, ← is) h in
-    frame_left w every most (suc number) e g time_step o m r fault few (at_next w every number e f g a b) same wrote here
+    let here : IsFrameUnwritten time_step g.state (suc number * every) m r h = rw (steps, ← is) left in
+    frame_left w every most (suc number) e g time_step o m r h few (at_next w every number e f g a b) same wrote kept here
 
 -- ---- from bytes to bytes
 
@@ -244,3 +197,23 @@ pub frame_of_texts : (job state : List ℕ) (w : Direction) (every : ℕ) (e : E
 frame_of_texts job state w every e t number text h =
     let job : e.job ≡ t.j = ap (λ (v : EngineView). v.job) t.it.is in
     record { said = e.job; after = h.reached.state; job_read = t.job_read ∙ ap Ok (sym job); run = engine_ran _ state w (number * every) e h.reached t h.went; shown = h.shown }
+
+-- what ends the frames of an engine of texts leaves of the frames of the texts
+pub frames_unwritten : (A : Type 0) (job state : List ℕ) (w : Direction) (steps every : ℕ) (e : EngineView) (before after : Output) (h : Halt) → IsEngineOfTexts job state e
+    → Halts (IsFrameOnWay w every e) every (steps / every) before after h → AreFramesUnwritten job state w steps every before after (run_fault_of {A = A} h)
+frames_unwritten A job state w steps every e before after (halt.Memory done) t left =
+    (safe_texts job state e t, left_whole_map (IsFrameOnWay w every e) (IsFrameOfRun job state w every) every (steps / every) done before.0 after.0 (frame_of_texts job state w every e t) left)
+frames_unwritten A job state w steps every e before after (halt.Out f) t left =
+    (safe_texts job state e t, left_beginning_map (IsFrameOnWay w every e) (IsFrameOfRun job state w every) (steps / every) before.0 after.0 (frame_of_texts job state w every e t) left.0, left.1)
+
+-- a counter that would leave 64 bits stops the steps of texts
+pub out_of_range : (job state : List ℕ) (w : Direction) (steps : ℕ) (e : EngineView) (o : Option ℤ) → IsEngineOfTexts job state e → o ≡ counter_after w e.state.step steps → is_none o ≡ true → AreStopped job state w steps step.StepRange
+out_of_range job state w steps e o t counted none = engine_stops job state w steps e e step.StepRange t (sym counted ∙ none_is o none, refl)
+
+-- want of memory in the steps of a run from texts
+pub steps_stopped : (A : Type 0) (job state : List ℕ) (w : Direction) (steps : ℕ) (e : EngineView) (before after : Output) (h : Halt) → IsEngineOfTexts job state e → IsStopped 0 steps h → after.0 ≡ before.0
+    → IsRunUnwritten job state w steps before after (run_fault_of {A = A} h)
+steps_stopped A job state w steps e before after h t stopped kept = rw stopped.is ((omega (arith, stopped.few), safe_texts job state e t), kept)
+
+pub stopped_wants : (A : Type 0) (steps : ℕ) (h : Halt) → IsStopped 0 steps h → Wants (run_fault_of {A = A} h)
+stopped_wants A steps h stopped = rw stopped.is (0 + stopped.more, refl)

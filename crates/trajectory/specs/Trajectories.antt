@@ -1,8 +1,9 @@
 -- Trajectories: the frames after 0, k, 2k, .. steps of a run, one after the other, as GROMACS writes them (GROMACS manual, gro file format).
-use Rattle.std.specs.Prelude.{◌≡◌, ◌⊎◌, ℕ, zero, suc, ◌+◌, ◌-◌, ◌*◌, ◌≤◌, List, [], ◌++◌, Option, Ok}
+use Rattle.std.specs.Prelude.{◌≡◌, ℕ, zero, suc, ◌+◌, ◌-◌, ◌*◌, ◌/◌, ◌≤◌, ◌<◌, List, [], ◌++◌, Option, Ok}
+use Rattle.fallible.specs.Failures.{IfRefused}
+use Rattle.fallible.specs.Out.{appended, AppendsBeginning, Output}
 use Rattle.gro.specs.Frames.{FrameView}
 use Rattle.gro.specs.GroWriting.{frame_text}
-use Rattle.gro.specs.Out.{appended, AppendsBeginning}
 use Rattle.job.specs.JobText.{reading_of, limits}
 use Rattle.job.specs.Values.{JobValue}
 use Rattle.state.specs.StateFrames.{frame_of}
@@ -10,10 +11,26 @@ use Rattle.state.specs.StateText.{StateView}
 use Rattle.integrator.specs.Runs.{IsAfter}
 use Rattle.integrator.specs.Starts.{plain}
 use Rattle.integrator.specs.declared.direction.Direction.{Direction}
-use Rattle.integrator.specs.declared.faults.RunFault.{RunFault}
-use Rattle.integrator.specs.declared.faults.RunFault.TheVariants as run
-use Rattle.engine.specs.Engines.{AreSafe, EngineView, IsEngineRefusal, Went}
+use Rattle.integrator.specs.declared.faults.StepFault.TheVariants as step
+use Rattle.engine.specs.Engines.{AreSafe, AreStopped, EngineView, HasNoEngineOfTexts, Went}
+use Rattle.engine.specs.declared.faults.RunFault.{RunFault}
+use Rattle.engine.specs.declared.faults.RunFault.TheVariants as run
 use Rattle.trajectory.specs.FrameTitles.{IsTimedTitle}
+use Rattle.trajectory.specs.declared.halts.Halt.{Halt}
+use Rattle.trajectory.specs.declared.halts.Halt.TheVariants as halt
+
+-- ---- what ends a run that has begun
+
+-- the fault of the run
+abbrev pub run_fault_of : {A : Type 0} → Halt → RunFault A
+run_fault_of (halt.Memory done) = run.Steps (step.Memory done)
+run_fault_of (halt.Out f) = run.Out f
+
+-- want of memory in one of so many more steps: the last of them isn't made then
+pub record IsStopped (before steps : ℕ) (h : Halt) : Type 0 where
+  pub more : ℕ
+  pub few : more ≤ steps - 1
+  pub is : h ≡ halt.Memory (before + more)
 
 -- ---- a frame
 
@@ -64,41 +81,26 @@ pub record BeganFrames (IsText : ℕ → List ℕ → Type 0) (count : ℕ) (bef
   pub frames : AreJoined IsText count text
   pub beginning : AppendsBeginning before after text
 
--- What want of memory, and an output that failed, leave of the frames after 0, k, 2k, .. up to `most` times k steps; no other fault comes once steps are made.
--- Where memory is wanted after so many steps the frames are whole, and are those up to there, maybe without that after just so many.
-abbrev pub Halts : {A : Type 0} → (ℕ → List ℕ → Type 0) → (every most : ℕ) → (before after : Option (List ℕ)) → RunFault A → Type 0
-Halts IsText every most before after (run.MemoryAfter done) =
-    (count : ℕ) × (done ≤ most * every) × (done ≤ count * every) × (count * every ≤ done + every) × WroteFrames IsText count before after
-Halts IsText every most before after (run.Out f) = (count : ℕ) × (count ≤ most) × BeganFrames IsText (suc count) before after
-Halts IsText every most before after (run.Job f) = ⊥
-Halts IsText every most before after (run.State f) = ⊥
-Halts IsText every most before after (run.Energy f) = ⊥
-Halts IsText every most before after run.BitsDiffer = ⊥
-Halts IsText every most before after (run.UnknownType n) = ⊥
-Halts IsText every most before after run.CutoffTooLong = ⊥
-Halts IsText every most before after (run.Kernel r) = ⊥
-Halts IsText every most before after run.ForceRange = ⊥
-Halts IsText every most before after run.StepRange = ⊥
-Halts IsText every most before after (run.KernelFault step low high pc why) = ⊥
-Halts IsText every most before after run.Memory = ⊥
+-- whole frames are left where memory ran out after so many steps: those up to there, maybe without that after just so many
+pub record LeftWhole (IsText : ℕ → List ℕ → Type 0) (every most done : ℕ) (before after : Option (List ℕ)) : Type 0 where
+  pub count : ℕ
+  pub within : done ≤ most * every
+  pub up_to : done ≤ count * every
+  pub no_more : count * every ≤ done + every
+  pub wrote : WroteFrames IsText count before after
 
--- what any fault leaves: where no step was made, nothing
-abbrev pub Leaves : {A : Type 0} → (ℕ → List ℕ → Type 0) → (every most : ℕ) → (before after : Option (List ℕ)) → RunFault A → Type 0
-Leaves {A} IsText every most before after (run.MemoryAfter done) = Halts {A = A} IsText every most before after (run.MemoryAfter done)
-Leaves {A} IsText every most before after (run.Out f) = Halts {A = A} IsText every most before after (run.Out f)
-Leaves IsText every most before after (run.Job f) = after ≡ before
-Leaves IsText every most before after (run.State f) = after ≡ before
-Leaves IsText every most before after (run.Energy f) = after ≡ before
-Leaves IsText every most before after run.BitsDiffer = after ≡ before
-Leaves IsText every most before after (run.UnknownType n) = after ≡ before
-Leaves IsText every most before after run.CutoffTooLong = after ≡ before
-Leaves IsText every most before after (run.Kernel r) = after ≡ before
-Leaves IsText every most before after run.ForceRange = after ≡ before
-Leaves IsText every most before after run.StepRange = after ≡ before
-Leaves IsText every most before after (run.KernelFault step low high pc why) = after ≡ before
-Leaves IsText every most before after run.Memory = after ≡ before
+-- a beginning of the frames is left, up to the first or to one of `most` behind it
+pub record LeftBeginning (IsText : ℕ → List ℕ → Type 0) (most : ℕ) (before after : Option (List ℕ)) : Type 0 where
+  pub count : ℕ
+  pub few : count ≤ most
+  pub began : BeganFrames IsText (suc count) before after
 
--- ---- one frame, and the steps to the next
+-- what a run that was ended leaves of the frames after 0, k, 2k, .. up to `most` times k steps
+abbrev pub Halts : (ℕ → List ℕ → Type 0) → (every most : ℕ) → (before after : Output) → Halt → Type 0
+Halts IsText every most before after (halt.Memory done) = LeftWhole IsText every most done before.0 after.0
+Halts IsText every most before after (halt.Out f) = LeftBeginning IsText most before.0 after.0 × (before.1 < after.1)
+
+-- ---- one frame
 
 -- the text of the frame of a state was appended
 pub record WroteFrame (time_step : ℕ) (s : StateView) (before after : Option (List ℕ)) : Type 0 where
@@ -112,30 +114,18 @@ pub record BeganFrame (time_step : ℕ) (s : StateView) (before after : Option (
   pub shown : IsTimedText time_step s text
   pub beginning : AppendsBeginning before after text
 
--- why it was not, after so many steps
-abbrev pub IsUnwritten : {A : Type 0} → ℕ → StateView → ℕ → (before after : Option (List ℕ)) → RunFault A → Type 0
-IsUnwritten time_step s steps before after (run.MemoryAfter done) = (done ≡ steps) × (after ≡ before)
-IsUnwritten time_step s steps before after (run.Out f) = BeganFrame time_step s before after
-IsUnwritten time_step s steps before after (run.Job f) = ⊥
-IsUnwritten time_step s steps before after (run.State f) = ⊥
-IsUnwritten time_step s steps before after (run.Energy f) = ⊥
-IsUnwritten time_step s steps before after run.BitsDiffer = ⊥
-IsUnwritten time_step s steps before after (run.UnknownType n) = ⊥
-IsUnwritten time_step s steps before after run.CutoffTooLong = ⊥
-IsUnwritten time_step s steps before after (run.Kernel r) = ⊥
-IsUnwritten time_step s steps before after run.ForceRange = ⊥
-IsUnwritten time_step s steps before after run.StepRange = ⊥
-IsUnwritten time_step s steps before after (run.KernelFault step low high pc why) = ⊥
-IsUnwritten time_step s steps before after run.Memory = ⊥
+-- why it was not, after so many steps, and what the output is left with
+abbrev pub IsFrameUnwritten : ℕ → StateView → ℕ → (before after : Output) → Halt → Type 0
+IsFrameUnwritten time_step s steps before after (halt.Memory done) = (done ≡ steps) × (after.0 ≡ before.0)
+IsFrameUnwritten time_step s steps before after (halt.Out f) = BeganFrame time_step s before.0 after.0 × (before.1 < after.1)
 
--- want of memory in one of so many more steps: the last of them isn't made then
-pub record IsStopped {A : Type 0} (before steps : ℕ) (fault : RunFault A) : Type 0 where
-  pub more : ℕ
-  pub few : more ≤ steps - 1
-  pub is : fault ≡ run.MemoryAfter (before + more)
+-- ---- from bytes to bytes
 
--- ---- why there are no frames
-
--- what ends a run ends its frames; and memory may be wanted for a frame when all steps are made
-abbrev pub IsTrajectoryRefusal : {A : Type 0} → List ℕ → List ℕ → Direction → ℕ → RunFault A → Type 0
-IsTrajectoryRefusal {A} job state direction steps fault = IsEngineRefusal {A = A} job state direction steps fault ⊎ ((fault ≡ run.MemoryAfter steps) × AreSafe job state)
+-- why the frames of a run from these texts were not all written, and what the output is left with: nothing, where they have no engine or the counter would leave 64 bits
+abbrev pub AreFramesUnwritten : {A : Type 0} → List ℕ → List ℕ → Direction → (steps every : ℕ) → (before after : Output) → RunFault A → Type 0
+AreFramesUnwritten job state direction steps every before after (run.Open failure) = IfRefused failure (HasNoEngineOfTexts job state) × (after.0 ≡ before.0)
+AreFramesUnwritten job state direction steps every before after (run.Steps step.StepRange) = AreStopped job state direction steps step.StepRange × (after.0 ≡ before.0)
+AreFramesUnwritten job state direction steps every before after (run.Steps (step.Memory done)) =
+    AreSafe job state × LeftWhole (IsFrameOfRun job state direction every) every (steps / every) done before.0 after.0
+AreFramesUnwritten job state direction steps every before after (run.Out f) =
+    AreSafe job state × LeftBeginning (IsFrameOfRun job state direction every) (steps / every) before.0 after.0 × (before.1 < after.1)

@@ -2,6 +2,7 @@
 #![tactic(auto)]
 
 mod frame_titles;
+mod halts;
 mod stretches;
 mod trajectories;
 mod watched_runs;

@@ -6,13 +6,16 @@ ghost use Rattle.integrator.specs.States.{counter_after};
 ghost use Rattle.trajectory.specs.Trajectories.{IsStopped};
 ghost use Rattle.trajectory.specs.Watching.{IsNextHundredth, hundredths_behind};
 
+use crate::halts::Halt;
 use crate::watching::Watch;
 use engine::Engine;
-use integrator::{Direction, RunFault, StepFault};
+use integrator::{Direction, StepFault};
 use std::alloc::Allocator;
 use std::thread::Threads;
 
 /// Makes so many steps, after those that were made before.
+///
+/// `Memory`: an allocation was refused after so many steps, those before counted, and before the last.
 fn go_on<R: Threads + Sync, A: Allocator + Copy + Send + Sync>(
     rt: &R,
     engine: &mut Engine<A>,
@@ -20,7 +23,7 @@ fn go_on<R: Threads + Sync, A: Allocator + Copy + Send + Sync>(
     steps: u64,
     workers: u32,
     before: u64,
-) -> Result<(), RunFault<A>>
+) -> Result<(), Halt>
     requires some { 0 < workers }
     requires few { workers ≤ 64 }
     requires fits { is_none (counter_after direction engine.old.state.step steps) ≡ false }
@@ -30,7 +33,7 @@ fn go_on<R: Threads + Sync, A: Allocator + Copy + Send + Sync>(
 {
     match engine.turns_ungated(rt, direction, steps, workers) {
         Ok(()) => Ok(()),
-        Err(StepFault::Memory { done }) => Err(RunFault::MemoryAfter {
+        Err(StepFault::Memory { done }) => Err(Halt::Memory {
             done: before + done,
         }),
         Err(StepFault::StepRange) => unreachable!(),
@@ -47,6 +50,8 @@ fn until_hundredth(done: u64, of: u64) -> u64
 }
 
 /// Makes so many steps of a run of `of` steps, after those that were made before, and tells the watcher of each hundredth.
+///
+/// `Memory`: an allocation was refused after so many steps, those before counted, and before the last.
 pub(crate) fn advance<R: Threads + Sync, A: Allocator + Copy + Send + Sync, W: Watch>(
     rt: &R,
     engine: &mut Engine<A>,
@@ -56,7 +61,7 @@ pub(crate) fn advance<R: Threads + Sync, A: Allocator + Copy + Send + Sync, W: W
     before: u64,
     of: u64,
     watch: &mut W,
-) -> Result<(), RunFault<A>>
+) -> Result<(), Halt>
     requires some { 0 < workers }
     requires few { workers ≤ 64 }
     requires fits { (k : ℕ) → k ≤ steps → is_none (counter_after direction engine.old.state.step k) ≡ false }

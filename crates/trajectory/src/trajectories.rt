@@ -1,20 +1,21 @@
 //! Trajectories from bytes to bytes: the frames of a run, every so many steps.
 
-ghost use Rattle.std.specs.Prelude.{◌≡◌, ◌<◌, ◌≤◌, ◌+◌, ◌-◌, ◌*◌, ◌/◌, ◌^◌, ℕ, suc, is_none, true, false, IfOk, OnOk, IfErr};
+ghost use Rattle.std.specs.Prelude.{◌≡◌, ◌<◌, ◌≤◌, ◌+◌, ◌-◌, ◌*◌, ◌/◌, ◌^◌, ℕ, suc, is_none, false, IfOk, OnOk, IfErr};
 ghost use Rattle.gro.specs.Frames.{frame_view};
 ghost use Rattle.state.specs.StateViews.{state_view};
 ghost use Rattle.engine.specs.Engines.{AreSafe};
-ghost use Rattle.trajectory.specs.Trajectories.{Halts, IsFrameOfRun, IsFrameOnWay, IsTimedFrame, IsTrajectoryRefusal, IsUnwritten, Leaves, WroteFrame, WroteFrames};
+ghost use Rattle.trajectory.specs.Trajectories.{AreFramesUnwritten, Halts, IsFrameOfRun, IsFrameOnWay, IsFrameUnwritten, IsTimedFrame, WroteFrame, WroteFrames};
 ghost use Rattle.trajectory.specs.Watching.{SomeHundredths, hundredths};
-ghost use Rattle.integrator.specs.Runs.{is_out};
 ghost use Rattle.integrator.specs.States.{counter_after};
 
 use crate::frame_titles::timed_title;
+use crate::halts::Halt;
 use crate::stretches::advance;
 use crate::watching::{Unwatched, Watch};
-use engine::{Engine, open};
-use gro::{GroFrame, Out, write};
-use integrator::{Direction, RunFault, counter_after};
+use engine::{Engine, RunFault, open};
+use fallible::Out;
+use gro::{GroFrame, write};
+use integrator::{Direction, StepFault, counter_after};
 use state::State;
 use std::alloc::{AllocError, Allocator};
 use std::thread::Threads;
@@ -42,28 +43,31 @@ fn timed_frame<A: Allocator + Copy>(
 }
 
 /// Writes the frame of a state that so many steps have led to.
+///
+/// `Memory`: an allocation was refused; it tells the steps, and nothing is written. `Out`: a write failed, after a beginning of the frame.
 fn write_frame<A: Allocator + Copy, O: Out>(
     state: &State<A>,
     time_step: u32,
     steps: u64,
     out: &mut O,
-) -> Result<(), RunFault<A>>
+) -> Result<(), Halt>
     requires some { 1 ≤ time_step }
     requires most { time_step ≤ 1000 }
     requires room { O.failed out.old < 2 ^ 64 - 1 }
     ensures wrote { OnOk result (WroteFrame time_step (state_view state.now) (O.taken out.old) (O.taken out.new)) }
     ensures kept { OnOk result (O.failed out.new ≡ O.failed out.old) }
-    ensures unwritten { IfErr result (IsUnwritten time_step (state_view state.now) steps (O.taken out.old) (O.taken out.new)) }
-    ensures failed { IfErr result (λ f. is_out f ≡ true → O.failed out.old < O.failed out.new) }
+    ensures unwritten { IfErr result (IsFrameUnwritten time_step (state_view state.now) steps (O.taken out.old, O.failed out.old) (O.taken out.new, O.failed out.new)) }
 {
     let Ok(frame) = timed_frame(state, time_step) else {
-        return Err(RunFault::MemoryAfter { done: steps });
+        return Err(Halt::Memory { done: steps });
     };
     write(&frame, out)?;
     Ok(())
 }
 
 /// Writes the frame of an engine, and then so many times the frame after `every` more steps.
+///
+/// `Memory`: an allocation was refused after so many steps, and whole frames are written. `Out`: a write failed, after a beginning of the frames.
 fn write_frames<R: Threads + Sync, A: Allocator + Copy + Send + Sync, W: Watch, O: Out>(
     rt: &R,
     engine: &mut Engine<A>,
@@ -73,7 +77,7 @@ fn write_frames<R: Threads + Sync, A: Allocator + Copy + Send + Sync, W: Watch, 
     workers: u32,
     watch: &mut W,
     out: &mut O,
-) -> Result<(), RunFault<A>>
+) -> Result<(), Halt>
     requires some { 0 < workers }
     requires few { workers ≤ 64 }
     requires fits { (k : ℕ) → k ≤ most * every → is_none (counter_after direction engine.old.state.step k) ≡ false }
@@ -81,8 +85,7 @@ fn write_frames<R: Threads + Sync, A: Allocator + Copy + Send + Sync, W: Watch, 
     requires room { O.failed out.old < 2 ^ 64 - 1 }
     ensures wrote { OnOk result (WroteFrames (IsFrameOnWay direction every engine.old) (suc most) (O.taken out.old) (O.taken out.new)) }
     ensures kept { OnOk result (O.failed out.new ≡ O.failed out.old) }
-    ensures left { IfErr result (Halts (IsFrameOnWay direction every engine.old) every most (O.taken out.old) (O.taken out.new)) }
-    ensures failed { IfErr result (λ f. is_out f ≡ true → O.failed out.old < O.failed out.new) }
+    ensures left { IfErr result (Halts (IsFrameOnWay direction every engine.old) every most (O.taken out.old, O.failed out.old) (O.taken out.new, O.failed out.new)) }
     ensures told { OnOk result (W.told watch.old watch.new (hundredths (most * every))) }
     ensures told_some { IfErr result (λ _. SomeHundredths (most * every) (W.told watch.old watch.new)) }
 {
@@ -106,9 +109,10 @@ fn write_frames<R: Threads + Sync, A: Allocator + Copy + Send + Sync, W: Watch, 
 /// writes it; its title is the state's own up to the first ` t= ` in it, and then ` t= %9.5f step= %d`: the time in ps and the step counter
 /// (GROMACS manual, gro file format). Steps behind the last frame are not made.
 ///
-/// The refusals come in this order: those of the job, of the state, of `Engine::new`; `StepRange` where the counter would leave an i64
-/// within the steps; nothing is written then. `MemoryAfter` where a growth is refused after so many steps: the frames up to there are
-/// written whole, maybe without that after just so many. `Out` comes only where a write failed, after a beginning of the frames.
+/// The refusals come in this order: `Open` with those of the job, of the state and of `Engine::new`, or where an allocation was refused
+/// before there was an engine; `Steps` with `StepRange` where the counter would leave an i64 within the steps; nothing is written then.
+/// `Steps` with `Memory` where an allocation was refused after so many steps: the frames up to there are written whole, maybe without
+/// that after just so many. `Out` comes only where a write failed, after a beginning of the frames.
 pub fn trajectory_bytes<R: Threads + Sync, A: Allocator + Copy + Send + Sync, O: Out>(
     rt: &R,
     alloc: A,
@@ -129,11 +133,8 @@ pub fn trajectory_bytes<R: Threads + Sync, A: Allocator + Copy + Send + Sync, O:
     // The frames after 0, k, 2k, .. steps are written.
     ensures wrote { OnOk result (WroteFrames (IsFrameOfRun job.now state.now direction every) (suc (steps / every)) (O.taken out.old) (O.taken out.new)) }
     ensures kept { OnOk result (O.failed out.new ≡ O.failed out.old) }
-    // Why they are not.
-    ensures refused { IfErr result (IsTrajectoryRefusal job.now state.now direction steps) }
-    // What is written then: nothing before the first step, whole frames where memory is wanted, a beginning of them where the output failed.
-    ensures left { IfErr result (Leaves (IsFrameOfRun job.now state.now direction every) every (steps / every) (O.taken out.old) (O.taken out.new)) }
-    ensures failed { IfErr result (λ f. is_out f ≡ true → O.failed out.old < O.failed out.new) }
+    // Why they are not, and what is written then: nothing before the first frame, whole frames where memory ran out, a beginning of them where the output failed.
+    ensures refused { IfErr result (AreFramesUnwritten job.now state.now direction steps every (O.taken out.old, O.failed out.old) (O.taken out.new, O.failed out.new)) }
 {
     watched_trajectory_bytes(
         rt,
@@ -176,18 +177,15 @@ pub fn watched_trajectory_bytes<
     // The frames after 0, k, 2k, .. steps are written.
     ensures wrote { OnOk result (WroteFrames (IsFrameOfRun job.now state.now direction every) (suc (steps / every)) (O.taken out.old) (O.taken out.new)) }
     ensures kept { OnOk result (O.failed out.new ≡ O.failed out.old) }
-    // Why they are not.
-    ensures refused { IfErr result (IsTrajectoryRefusal job.now state.now direction steps) }
-    // What is written then: nothing before the first step, whole frames where memory is wanted, a beginning of them where the output failed.
-    ensures left { IfErr result (Leaves (IsFrameOfRun job.now state.now direction every) every (steps / every) (O.taken out.old) (O.taken out.new)) }
-    ensures failed { IfErr result (λ f. is_out f ≡ true → O.failed out.old < O.failed out.new) }
+    // Why they are not, and what is written then: nothing before the first frame, whole frames where memory ran out, a beginning of them where the output failed.
+    ensures refused { IfErr result (AreFramesUnwritten job.now state.now direction steps every (O.taken out.old, O.failed out.old) (O.taken out.new, O.failed out.new)) }
     // The watcher is told of each hundredth of the steps up to the last frame, or of those among the first steps.
     ensures told { OnOk result (W.told watch.old watch.new (hundredths (steps / every * every))) }
     ensures told_some { IfErr result (λ _. SomeHundredths (steps / every * every) (W.told watch.old watch.new)) }
 {
     let mut engine = open(alloc, job, state)?;
     if counter_after(direction, engine.state(), steps).is_none() {
-        return Err(RunFault::StepRange);
+        return Err(RunFault::Steps(StepFault::StepRange));
     }
     write_frames(
         rt,
@@ -198,5 +196,6 @@ pub fn watched_trajectory_bytes<
         workers,
         watch,
         out,
-    )
+    )?;
+    Ok(())
 }
