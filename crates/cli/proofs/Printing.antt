@@ -1,7 +1,7 @@
 -- What a whole write has printed.
 use Rattle.std.proofs.Common.{◌≡◌, ◌≢◌, ◌<◌, ℕ, List, Option, inl, inr, refl}
 use Rattle.std.specs.Prelude.{IfOk, OnErr, Result, Ok, Err}
-use Rattle.gro.specs.Out.{appended, AppendsBeginning}
+use Rattle.fallible.specs.Out.{appended, AppendsBeginning}
 use Rattle.cli.specs.Reports.{Prints, line, said}
 use Rattle.cli.specs.declared.faults.Status.{Status}
 use Rattle.cli.specs.declared.faults.Status.TheVariants as status

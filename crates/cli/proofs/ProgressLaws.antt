@@ -1,10 +1,10 @@
 -- What was printed of how far a run has come, and what is printed in all.
 use Rattle.std.proofs.Common.{◌≡◌, ◌<◌, ◌-◌, ◌^◌, ℕ, List, Option, Some, None, arith, inl, inr, refl, subst, sym}
 use Rattle.std.specs.Prelude.{OnErr, OnOk, Result, Ok, Err}
+use Rattle.fallible.specs.Out.{Output}
 use Rattle.integrator.specs.Forces.{numbers_from}
 use Rattle.command_line.specs.CommandLine.{IsCommand}
 use Rattle.command_line.specs.declared.commands.Command.{Command}
-use Rattle.cli.specs.Kept.{Output}
 use Rattle.cli.specs.Progress.{IsBegun, IsQuiet, PrintsIfCounted, Says, TellsAll, TellsSome, told_of}
 use Rattle.cli.specs.Reports.{Prints}
 

@@ -1,5 +1,5 @@
 -- What follows from why a command was not done: which files it asked for, what is left of its output, and what its status tells.
-use Rattle.std.proofs.Common.{◌≡◌, ◌≢◌, ◌⊎◌, ◌∙◌, ◌<◌, ◌-◌, ◌^◌, ℕ, Bool, true, false, List, Option, Some, None, ap, arith, inl, inr, refl, subst, sym}
+use Rattle.std.proofs.Common.{◌≡◌, ◌≢◌, ◌⊎◌, ◌∙◌, ◌<◌, ◌-◌, ◌^◌, ℕ, List, Option, Some, None, ap, arith, inl, inr, refl, subst, sym}
 use Rattle.std.specs.Borrow.{Bor}
 use Rattle.command_line.specs.CommandLine.{AsksForHelp, AsksForTrajectory, AsksForVersion, IsCommand, IsMisuse, faults_of}
 use Rattle.command_line.specs.declared.commands.Command.{Command}
@@ -8,15 +8,17 @@ use Rattle.command_line.proofs.CommandLineLaws.{asks_for_help, asks_for_version,
 use Rattle.clap.specs.Words.{HasKind, kind_of}
 use Rattle.clap.specs.declared.error.Error.{Error}
 use Rattle.clap.specs.declared.error.kind.ErrorKind.TheVariants.{DisplayHelp, DisplayVersion, OutOfMemory}
-use Rattle.gro.specs.Out.{AppendsBeginning}
-use Rattle.gro.specs.declared.output.OutFault.{OutFault}
+use Rattle.fallible.specs.Out.{AppendsBeginning, Output}
+use Rattle.fallible.specs.declared.output.OutFault.{OutFault}
 use Rattle.job.specs.Values.{JobValue}
-use Rattle.integrator.specs.Runs.{is_out}
-use Rattle.integrator.specs.declared.faults.RunFault.{RunFault}
-use Rattle.integrator.specs.declared.faults.RunFault.TheVariants as run
-use Rattle.trajectory.specs.Trajectories.{Leaves}
+use Rattle.integrator.specs.declared.direction.Direction.{Direction}
+use Rattle.integrator.specs.declared.faults.StepFault.TheVariants as step
+use Rattle.engine.specs.Engines.{IsRunUnwritten}
+use Rattle.engine.specs.declared.faults.RunFault.{RunFault}
+use Rattle.engine.specs.declared.faults.RunFault.TheVariants as run
+use Rattle.trajectory.specs.Trajectories.{AreFramesUnwritten}
 use Rattle.cli.specs.Asked.{also_asked}
-use Rattle.cli.specs.Kept.{IsKept, Output}
+use Rattle.cli.specs.Kept.{IsKept}
 use Rattle.cli.specs.Printed.{IsDone}
 use Rattle.cli.specs.Progress.{IsBegun, IsTold, PrintsIfCounted}
 use Rattle.cli.specs.Reads.{AsksFor, also_asked_if, asked_by, unread}
@@ -29,7 +31,7 @@ use Rattle.cli.specs.declared.faults.Status.TheVariants as status
 use Rattle.cli.specs.declared.files.ReadFault.{ReadFault}
 use Rattle.cli.specs.declared.files.ReadFault.TheVariants as read
 use Rattle.cli.proofs.ProgressLaws.{says}
-use Rattle.cli.proofs.StatusLaws.{IsOfWords, code_two, code_zero, never_done, words_alone}
+use Rattle.cli.proofs.StatusLaws.{IsOfWords, code_two, code_zero, file_failed, memory_wanted, never_done, of_files_alone, of_run, words_alone}
 
 abbrev Paths : Type 0
 Paths = Option (List (List ℕ))
@@ -90,25 +92,19 @@ kept_unwritten : {A : Type 0} (Why Began : Type 0) (before after : Output) (f : 
 kept_unwritten Why Began before after f (inl h) = inl h.1
 kept_unwritten Why Began before after f (inr h) = inr h.2
 
-kept_by_out : (out : Bool) (before after : Output) → (out ≡ false → after.0 ≡ before.0) → (out ≡ true → before.1 < after.1) → IsKept before after
-kept_by_out true before after unwritten failed = inr (failed refl)
-kept_by_out false before after unwritten failed = inl (unwritten refl)
+-- of a run only a failed output is left with a beginning of its text
+kept_run : {A : Type 0} (job state : List ℕ) (direction : Direction) (steps : ℕ) (before after : Output) (f : RunFault A) → IsRunUnwritten job state direction steps before after f → IsKept before after
+kept_run job state direction steps before after (run.Open failure) h = inl h.1
+kept_run job state direction steps before after (run.Steps f) h = inl h.1
+kept_run job state direction steps before after (run.Out o) h = inr h.2
 
-kept_frames : {A : Type 0} (IsText : ℕ → List ℕ → Type 0) (every most : ℕ) (before after : Output) (f : RunFault A) → Leaves IsText every most before.0 after.0 f
-    → (is_out f ≡ true → before.1 < after.1) → IsKept before after ⊎ (run_status f ≡ status.Memory)
-kept_frames IsText every most before after (run.Job f) left failed = inl (inl left)
-kept_frames IsText every most before after (run.State f) left failed = inl (inl left)
-kept_frames IsText every most before after (run.Energy f) left failed = inl (inl left)
-kept_frames IsText every most before after run.BitsDiffer left failed = inl (inl left)
-kept_frames IsText every most before after (run.UnknownType n) left failed = inl (inl left)
-kept_frames IsText every most before after run.CutoffTooLong left failed = inl (inl left)
-kept_frames IsText every most before after (run.Kernel r) left failed = inl (inl left)
-kept_frames IsText every most before after run.ForceRange left failed = inl (inl left)
-kept_frames IsText every most before after run.StepRange left failed = inl (inl left)
-kept_frames IsText every most before after (run.KernelFault step low high pc why) left failed = inl (inl left)
-kept_frames IsText every most before after run.Memory left failed = inl (inl left)
-kept_frames IsText every most before after (run.MemoryAfter done) left failed = inr refl
-kept_frames IsText every most before after (run.Out o) left failed = inl (inr (failed refl))
+-- of its frames whole ones may be left where memory is wanted
+kept_frames : {A : Type 0} (job state : List ℕ) (direction : Direction) (steps every : ℕ) (before after : Output) (f : RunFault A) → AreFramesUnwritten job state direction steps every before after f
+    → IsKept before after ⊎ (run_status f ≡ status.Memory)
+kept_frames job state direction steps every before after (run.Open failure) h = inl (inl h.1)
+kept_frames job state direction steps every before after (run.Steps step.StepRange) h = inl (inl h.1)
+kept_frames job state direction steps every before after (run.Steps (step.Memory done)) h = inr refl
+kept_frames job state direction steps every before after (run.Out o) h = inl (inr h.2)
 
 kept_verdict : {A : Type 0} (held : List ℕ → Option (List ℕ)) (job : List ℕ) (listing : Option (Bor (List ℕ))) (before after : Output) (f : CommandFault A)
     → IsVerdictUndone held job listing before after f → IsKept before after
@@ -119,9 +115,8 @@ kept_verdict held job (Some listing) before after f h = kept_unwritten _ _ befor
 kept_refused : {A : Type 0} (words : List (List ℕ)) (held : List ℕ → Option (List ℕ)) (c : Command) (before after : Output) (f : CommandFault A) → IsCommand words c
     → IsCommandRefused held c before after f → IsKept before after ⊎ ((status_of f ≡ status.Memory) × AsksForTrajectory words)
 kept_refused words held (command.Start start) before after f is h = inl (kept_unwritten _ _ before after f h.4)
-kept_refused words held (command.Run r) before after f is h = let refused = h.4.2 in inl (kept_by_out (is_out h.4.0) before after refused.unwritten refused.failed)
-kept_refused words held (command.Trajectory t) before after f is h = let refused = h.4.2 in
-    trajectory (kept_frames _ _ _ before after h.4.0 refused.left refused.failed)
+kept_refused words held (command.Run r) before after f is h = inl (kept_run _ _ _ _ before after h.4.0 h.4.2)
+kept_refused words held (command.Trajectory t) before after f is h = trajectory (kept_frames _ _ _ _ _ before after h.4.0 h.4.2)
   where
     trajectory : IsKept before after ⊎ (run_status h.4.0 ≡ status.Memory) → IsKept before after ⊎ ((status_of f ≡ status.Memory) × AsksForTrajectory words)
     trajectory (inl kept) = inl kept
@@ -132,17 +127,9 @@ kept_refused words held (command.Check check) before after f is h = inl (kept_ve
 kept_refused words held (command.Code l) before after f is h = inl (kept_unwritten _ _ before after f h.2)
 
 kept_unanswered : {A : Type 0} (words : List (List ℕ)) (before after : Output) (f : CommandFault A) → IsUnanswered words before after f → IsKept before after
-kept_unanswered words before after (fault.CommandLine e) h = inl h.1
-kept_unanswered words before after fault.NotText h = absurd h
-kept_unanswered words before after (fault.CannotRead path) h = absurd h
-kept_unanswered words before after (fault.Job f) h = absurd h
-kept_unanswered words before after (fault.Gro f) h = absurd h
-kept_unanswered words before after (fault.Start f) h = absurd h
-kept_unanswered words before after (fault.State f) h = absurd h
-kept_unanswered words before after (fault.Listing f) h = absurd h
-kept_unanswered words before after (fault.Run f) h = absurd h
-kept_unanswered words before after (fault.Out o) h = inr h.1
-kept_unanswered words before after fault.Memory h = inl h
+kept_unanswered words before after f (inl h) = inl h.3
+kept_unanswered words before after f (inr (inl h)) = inr h.3
+kept_unanswered words before after f (inr (inr h)) = inl h.1
 
 kept_faulty : {A : Type 0} (words : List (List ℕ)) (held : List ℕ → Option (List ℕ)) (asked asked' : Paths) (before after : Output) (f : CommandFault A)
     → IsFaultOf words held asked asked' before after f → IsKept before after ⊎ ((status_of f ≡ status.Memory) × AsksForTrajectory words)
@@ -176,8 +163,8 @@ unread_of_words : {A : Type 0} (held : List ℕ → Option (List ℕ)) (path : L
 unread_of_words {A} held path before after f of_words h = unread_no h.why h.lent (subst IsOfWords h.is of_words)
   where
     unread_no : (why : ReadFault) (lent : Bor (List ℕ)) → IsOfWords {A = A} (unread why lent) → ⊥
-    unread_no read.CannotRead lent h = h
-    unread_no read.Memory lent h = h
+    unread_no read.CannotRead lent is = of_files_alone (fault.CannotRead lent) file_failed is
+    unread_no read.Memory lent is = of_files_alone fault.Memory memory_wanted is
 
 two_of_words : {A : Type 0} (held : List ℕ → Option (List ℕ)) (first second : List ℕ) (before after : Paths) (f : CommandFault A) → IsOfWords f → IsUnreadOfTwo held first second before after f → ⊥
 two_of_words held first second before after f of_words (inl h) = unread_of_words held _ _ _ f of_words h
@@ -199,7 +186,7 @@ bytes_of_words held (command.Code l) before after f of_words h = unread_of_words
 -- what texts are refused for isn't a fault of the words, nor is a failed output
 unwritten_of_words : {A : Type 0} (Why Began : Type 0) (before after : Output) (f : CommandFault A) → IsOfWords f → (Why → ⊥) → Unwritten Why Began before after f → ⊥
 unwritten_of_words Why Began before after f of_words none (inl h) = none h.0
-unwritten_of_words Why Began before after f of_words none (inr h) = subst IsOfWords h.1 of_words
+unwritten_of_words Why Began before after f of_words none (inr h) = of_files_alone (fault.Out h.0) file_failed (subst IsOfWords h.1 of_words)
 
 under_of_words : (Job : Type 0) (Read Refuses' : JobValue → Type 0) → (Job → ⊥) → ((said : JobValue) → Refuses' said → ⊥) → Job ⊎ ((said : JobValue) × Read said × Refuses' said) → ⊥
 under_of_words Job Read Refuses' none never (inl h) = none h
@@ -207,12 +194,12 @@ under_of_words Job Read Refuses' none never (inr h) = never h.0 h.2
 
 refused_of_words : {A : Type 0} (held : List ℕ → Option (List ℕ)) (c : Command) (before after : Output) (f : CommandFault A) → IsOfWords f
     → ((job : List ℕ) → RefusesJob job f → ⊥) → ((gro : List ℕ) (n : ℕ) (said : JobValue) → RefusesFrame gro n said f → ⊥) → ((state : List ℕ) → RefusesState state f → ⊥)
-    → ((job : List ℕ) → RefusesCode job f → ⊥) → ((said : JobValue) → RefusesSlope said f → ⊥) → ((listing : List ℕ) (said : JobValue) → RefusesListing listing said f → ⊥)
+    → ((said : JobValue) → RefusesCode said f → ⊥) → ((said : JobValue) → RefusesSlope said f → ⊥) → ((listing : List ℕ) (said : JobValue) → RefusesListing listing said f → ⊥)
     → ((job state : List ℕ) → RefusesEnergy job state f → ⊥) → IsCommandRefused held c before after f → ⊥
 refused_of_words held (command.Start start) before after f of_words job frame state code slope listing energy h =
     unwritten_of_words _ _ before after f of_words (under_of_words _ _ _ (job h.0) (frame h.1 start.frame)) h.4
-refused_of_words held (command.Run r) before after f of_words job frame state code slope listing energy h = subst IsOfWords h.4.1 of_words
-refused_of_words held (command.Trajectory t) before after f of_words job frame state code slope listing energy h = subst IsOfWords h.4.1 of_words
+refused_of_words held (command.Run r) before after f of_words job frame state code slope listing energy h = of_files_alone (fault.Run h.4.0) (of_run h.4.0) (subst IsOfWords h.4.1 of_words)
+refused_of_words held (command.Trajectory t) before after f of_words job frame state code slope listing energy h = of_files_alone (fault.Run h.4.0) (of_run h.4.0) (subst IsOfWords h.4.1 of_words)
 refused_of_words held (command.Frame fr) before after f of_words job frame state code slope listing energy h = unwritten_of_words _ _ before after f of_words (state h.0) h.2
 refused_of_words held (command.Energy e) before after f of_words job frame state code slope listing energy h = unwritten_of_words _ _ before after f of_words (energy h.0 h.1) h.4
 refused_of_words held (command.Check check) before after f of_words job frame state code slope listing energy h = by_listing check.listing h
@@ -220,39 +207,24 @@ refused_of_words held (command.Check check) before after f of_words job frame st
     by_listing : (l : Option (Bor (List ℕ))) → IsVerdictUndone held check.job.now l before after f → ⊥
     by_listing None h = unwritten_of_words _ _ before after f of_words (under_of_words _ _ _ (job h.0) slope) h.2
     by_listing (Some l) h = unwritten_of_words _ _ before after f of_words (under_of_words _ _ _ (job h.0) (listing h.1)) h.4
-refused_of_words held (command.Code l) before after f of_words job frame state code slope listing energy h = unwritten_of_words _ _ before after f of_words (code h.0) h.2
+refused_of_words held (command.Code l) before after f of_words job frame state code slope listing energy h = unwritten_of_words _ _ before after f of_words (under_of_words _ _ _ (job h.0) code) h.2
 
 -- words that name a command have no fault of their own
 command_of_words : {A : Type 0} (held : List ℕ → Option (List ℕ)) (asked asked' : Paths) (c : Command) (before after : Output) (f : CommandFault A) → IsOfWords f
     → IsUndone held asked asked' c before after f → ⊥
 command_of_words held asked asked' c before after f of_words (inl h) = bytes_of_words held c asked asked' f of_words h.0
-command_of_words held asked asked' c before after (fault.CommandLine e) of_words (inr h) =
-    refused_of_words held c before after (fault.CommandLine e) of_words (λ job x. x) (λ gro n said x. x) (λ state x. x) (λ job x. x) (λ said x. x) (λ listing said x. x) (λ job state x. x) h.1
-command_of_words held asked asked' c before after fault.NotText of_words (inr h) =
-    refused_of_words held c before after fault.NotText of_words (λ job x. x) (λ gro n said x. x) (λ state x. x) (λ job x. x) (λ said x. x) (λ listing said x. x) (λ job state x. x) h.1
-command_of_words held asked asked' c before after (fault.CannotRead path) of_words (inr h) = of_words
-command_of_words held asked asked' c before after (fault.Job f) of_words (inr h) = of_words
-command_of_words held asked asked' c before after (fault.Gro f) of_words (inr h) = of_words
-command_of_words held asked asked' c before after (fault.Start f) of_words (inr h) = of_words
-command_of_words held asked asked' c before after (fault.State f) of_words (inr h) = of_words
-command_of_words held asked asked' c before after (fault.Listing f) of_words (inr h) = of_words
-command_of_words held asked asked' c before after (fault.Run f) of_words (inr h) = of_words
-command_of_words held asked asked' c before after (fault.Out o) of_words (inr h) = of_words
-command_of_words held asked asked' c before after fault.Memory of_words (inr h) = of_words
+command_of_words held asked asked' c before after f (inl (e, is)) (inr h) =
+    refused_of_words held c before after (fault.CommandLine e) (inl (e, refl)) (λ job x. x) (λ gro n said x. x) (λ state x. x) (λ said x. x) (λ said x. x) (λ listing said x. x) (λ job state x. x)
+    (subst (λ g. IsCommandRefused held c before after g) is h.1)
+command_of_words held asked asked' c before after f (inr is) (inr h) =
+    refused_of_words held c before after fault.NotText (inr refl) (λ job x. x) (λ gro n said x. x) (λ state x. x) (λ said x. x) (λ said x. x) (λ listing said x. x) (λ job state x. x)
+    (subst (λ g. IsCommandRefused held c before after g) is h.1)
 
 unanswered_of_words : {A : Type 0} (words : List (List ℕ)) (before after : Output) (f : CommandFault A) → IsOfWords f → IsUnanswered words before after f
     → IsMisuse words × (after.0 ≡ before.0)
-unanswered_of_words words before after (fault.CommandLine e) of_words h = h
-unanswered_of_words words before after fault.NotText of_words h = absurd h
-unanswered_of_words words before after (fault.CannotRead path) of_words h = absurd h
-unanswered_of_words words before after (fault.Job f) of_words h = absurd h
-unanswered_of_words words before after (fault.Gro f) of_words h = absurd h
-unanswered_of_words words before after (fault.Start f) of_words h = absurd h
-unanswered_of_words words before after (fault.State f) of_words h = absurd h
-unanswered_of_words words before after (fault.Listing f) of_words h = absurd h
-unanswered_of_words words before after (fault.Run f) of_words h = absurd h
-unanswered_of_words words before after (fault.Out o) of_words h = absurd of_words
-unanswered_of_words words before after fault.Memory of_words h = absurd of_words
+unanswered_of_words words before after f of_words (inl h) = (h.2, h.3)
+unanswered_of_words words before after f of_words (inr (inl h)) = absurd (of_files_alone (fault.Out h.0) file_failed (subst IsOfWords h.1 of_words))
+unanswered_of_words words before after f of_words (inr (inr h)) = absurd (of_files_alone fault.Memory memory_wanted (subst IsOfWords h.0 of_words))
 
 misuse_of : {A : Type 0} (words : List (List ℕ)) (held : List ℕ → Option (List ℕ)) (asked asked' : Paths) (before after : Output) (f : CommandFault A)
     → IsFaultOf words held asked asked' before after f → IsOfWords f → IsMisuse words × (after.0 ≡ before.0)
@@ -277,21 +249,13 @@ told_behind words before between after f result room begun (inr told) = inr (tol
 -- why they were not answered, by the parser's error
 pub unanswered : {A : Type 0} (words : List (List ℕ)) (e : Error) (before after : Output) (f : CommandFault A) → HasKind (faults_of words) e
     → (kind_of e ≡ OutOfMemory) ⊎ ((c : Command) → IsCommand words c → ⊥) → IsNoAnswer (kind_of e) before after f → IsUnanswered words before after f
-unanswered words e before after (fault.CommandLine x) kind none h = (is_misuse words e h.0 h.1 h.2 kind none, h.3)
-unanswered words e before after fault.NotText kind none h = absurd h
-unanswered words e before after (fault.CannotRead path) kind none h = absurd h
-unanswered words e before after (fault.Job f) kind none h = absurd h
-unanswered words e before after (fault.Gro f) kind none h = absurd h
-unanswered words e before after (fault.Start f) kind none h = absurd h
-unanswered words e before after (fault.State f) kind none h = absurd h
-unanswered words e before after (fault.Listing f) kind none h = absurd h
-unanswered words e before after (fault.Run f) kind none h = absurd h
-unanswered words e before after (fault.Out o) kind none h = (asked h.0, h.1)
+unanswered words e before after f kind none (inl h) = inl (h.0, h.1, is_misuse words e h.2 h.3 h.4 kind none, h.5)
+unanswered words e before after f kind none (inr (inl h)) = inr (inl (h.0, h.1, asked h.2, h.3))
   where
     asked : (kind_of e ≡ DisplayHelp) ⊎ (kind_of e ≡ DisplayVersion) → AsksForHelp words ⊎ AsksForVersion words
     asked (inl help) = inl (asks_for_help words e help kind)
     asked (inr version) = inr (asks_for_version words e version kind)
-unanswered words e before after fault.Memory kind none h = h
+unanswered words e before after f kind none (inr (inr h)) = inr (inr h)
 
 -- ---- a line that is written behind what is known
 

@@ -3,8 +3,18 @@ use Rattle.std.proofs.Common.{◌≡◌, ◌∙◌, ◌<◌, ◌≤◌, ◌-◌,
 use Rattle.std.proofs.lemmas.List.{get_or-map, length-map}
 use Rattle.std.specs.Prelude.{slice_index_or, IfErr, Result, Ok, Err}
 use Rattle.std.specs.Result.{IsErrAnd}
+use Rattle.fallible.specs.Failures.{Fails}
+use Rattle.fallible.specs.declared.failure.Failure.{Failure}
+use Rattle.fallible.specs.declared.failure.Failure.TheVariants.{Refused, Memory}
 use Rattle.gro.specs.Frames.{FrameView}
+use Rattle.gro.specs.GroReading.{frames_of}
+use Rattle.job.specs.Values.{JobValue}
+use Rattle.ring_box.specs.declared.faults.BoxFault.{BoxFault}
+use Rattle.state.specs.Starts.{start_of}
 use Rattle.cli.specs.Conversions.{IsFrameOf}
+use Rattle.cli.specs.Failures.{command_fault}
+use Rattle.cli.specs.Refusals.{RefusesFrame}
+use Rattle.cli.specs.declared.faults.CommandFault.TheVariants as fault
 
 -- a frame that is picked is the one of this number, as what it says
 pub picked : {F : Type 0} (view : F → FrameView) (frames : List F) (number : ℕ) (f : F) → (0 < number) × (number ≤ length frames) × (f ≡ slice_index_or frames (number - 1) f)
@@ -14,6 +24,12 @@ picked view frames number f is = record {
   within = omega (arith, length-map frames view, is.1);
   there = ap view is.2 ∙ sym (get_or-map view frames (number - 1) f (view f) (omega (arith, is.0, is.1)));
 }
+
+-- a frame that is there is refused for its box, or memory is wanted for its state
+pub box_refused : (A : Type 0) (gro : List ℕ) (number : ℕ) (job : JobValue) (frames : List FrameView) (frame : FrameView) (failure : Failure BoxFault) → frames_of gro ≡ Ok frames
+    → IsFrameOf frames number frame → Fails (λ f. f) failure (start_of job.frac job.time_step frame) → RefusesFrame {A = A} gro number job (command_fault fault.Box failure)
+box_refused A gro number job frames frame (Refused f) gro_read is h = record { frames = frames; frame = frame; gro_read = gro_read; picked = is; refused = h }
+box_refused A gro number job frames frame Memory gro_read is h = tt
 
 -- what holds of the error that a result is holds of it, if it is one
 pub if_err : {T E : Type 0} (r : Result T E) (P : E → Type 0) → IsErrAnd r P → IfErr r P

@@ -1,27 +1,24 @@
 -- What statuses faults have: none has that of a command that was done, and only those of words have that of the command line.
-use Rattle.std.proofs.Common.{◌≡◌, ◌≢◌, arith, refl}
-use Rattle.energy_program.specs.declared.faults.ExprFault.{ExprFault}
-use Rattle.energy_program.specs.declared.faults.ExprFault.TheVariants as energy
-use Rattle.job.specs.declared.faults.JobFault.{JobFault}
-use Rattle.job.specs.declared.faults.JobFault.TheVariants as job
-use Rattle.gro.specs.declared.faults.GroFault.{GroFault}
-use Rattle.gro.specs.declared.faults.GroFault.TheVariants as gro
-use Rattle.state.specs.declared.faults.StartFault.{StartFault}
-use Rattle.state.specs.declared.faults.StartFault.TheVariants as start
-use Rattle.state.specs.declared.faults.StateFault.{StateFault}
-use Rattle.state.specs.declared.faults.StateFault.TheVariants as state
-use Rattle.kernel_code.specs.declared.faults.CodeFault.{CodeFault}
-use Rattle.kernel_code.specs.declared.faults.CodeFault.TheVariants as listing
-use Rattle.integrator.specs.declared.faults.RunFault.{RunFault}
-use Rattle.integrator.specs.declared.faults.RunFault.TheVariants as run
-use Rattle.cli.specs.Statuses.{code_of, energy_status, gro_status, job_status, listing_status, run_status, start_status, state_status, status_of}
+use Rattle.std.proofs.Common.{◌≡◌, ◌≢◌, ◌⊎◌, ◌∙◌, ap, arith, inl, inr, refl, sym}
+use Rattle.clap.specs.declared.error.Error.{Error}
+use Rattle.fallible.specs.declared.failure.Failure.TheVariants.{Refused, Memory}
+use Rattle.integrator.specs.declared.faults.StepFault.TheVariants as step
+use Rattle.integrator.specs.declared.faults.SystemFault.{SystemFault}
+use Rattle.integrator.specs.declared.faults.SystemFault.TheVariants as system
+use Rattle.engine.specs.declared.faults.EngineFault.{EngineFault}
+use Rattle.engine.specs.declared.faults.EngineFault.TheVariants as engine
+use Rattle.engine.specs.declared.faults.OpenFault.{OpenFault}
+use Rattle.engine.specs.declared.faults.OpenFault.TheVariants as open
+use Rattle.engine.specs.declared.faults.RunFault.{RunFault}
+use Rattle.engine.specs.declared.faults.RunFault.TheVariants as run
+use Rattle.cli.specs.Statuses.{code_of, engine_status, open_status, run_status, status_of, system_status}
 use Rattle.cli.specs.declared.faults.CommandFault.{CommandFault}
 use Rattle.cli.specs.declared.faults.CommandFault.TheVariants as fault
 use Rattle.cli.specs.declared.faults.Status.{Status}
 use Rattle.cli.specs.declared.faults.Status.TheVariants as status
 
 -- the status of a refusal, of want of memory, of a file or of the output
-abbrev IsOfFiles : Status → Type 0
+abbrev pub IsOfFiles : Status → Type 0
 IsOfFiles s = (s ≢ status.Done) × (s ≢ status.CommandLine)
 
 data_refused : IsOfFiles status.RefusedData
@@ -30,110 +27,80 @@ data_refused = (λ e. cc, λ e. cc)
 kernel_refused : IsOfFiles status.RefusedKernel
 kernel_refused = (λ e. cc, λ e. cc)
 
-memory : IsOfFiles status.Memory
-memory = (λ e. cc, λ e. cc)
+pub memory_wanted : IsOfFiles status.Memory
+memory_wanted = (λ e. cc, λ e. cc)
 
-file : IsOfFiles status.File
-file = (λ e. cc, λ e. cc)
+pub file_failed : IsOfFiles status.File
+file_failed = (λ e. cc, λ e. cc)
 
-of_energy : {A : Type 0} (f : ExprFault A) → IsOfFiles (energy_status f)
-of_energy (energy.BadCharacter at) = kernel_refused
-of_energy (energy.BadNumber at) = kernel_refused
-of_energy (energy.UnexpectedToken at) = kernel_refused
-of_energy (energy.UnknownName name) = kernel_refused
-of_energy (energy.WrongArgumentCount name) = kernel_refused
-of_energy (energy.BadExponent at) = kernel_refused
-of_energy (energy.NumberRange at) = kernel_refused
-of_energy (energy.RepeatedDefinition name) = kernel_refused
-of_energy (energy.ReservedName name) = kernel_refused
-of_energy energy.TooLarge = kernel_refused
-of_energy (energy.LeftOutFunction name) = kernel_refused
-of_energy energy.Memory = memory
+of_system : {A : Type 0} (f : SystemFault A) → IsOfFiles (system_status f)
+of_system (system.Energy f) = kernel_refused
+of_system system.BitsDiffer = data_refused
+of_system (system.UnknownType n) = data_refused
+of_system system.CutoffTooLong = data_refused
 
-of_job : {A : Type 0} (f : JobFault A) → IsOfFiles (job_status f)
-of_job (job.BadLine n) = data_refused
-of_job (job.Missing key) = data_refused
-of_job (job.Repeated key) = data_refused
-of_job (job.RepeatedName name) = data_refused
-of_job (job.Range key) = data_refused
-of_job (job.RepeatedType name) = data_refused
-of_job job.Memory = memory
+of_engine : {A : Type 0} (f : EngineFault A) → IsOfFiles (engine_status f)
+of_engine (engine.System f) = of_system f
+of_engine (engine.Kernel r) = kernel_refused
+of_engine engine.ForceRange = data_refused
 
-of_gro : (f : GroFault) → IsOfFiles (gro_status f)
-of_gro gro.Truncated = data_refused
-of_gro (gro.BadCount n) = data_refused
-of_gro (gro.BadColumns n) = data_refused
-of_gro (gro.Precision n) = data_refused
-of_gro (gro.BadBox n) = data_refused
-of_gro (gro.Triclinic n) = data_refused
-of_gro (gro.TooManyAtoms n) = data_refused
-of_gro gro.NoSuchFrame = data_refused
-of_gro gro.Memory = memory
+of_open : {A : Type 0} (f : OpenFault A) → IsOfFiles (open_status f)
+of_open (open.Job f) = data_refused
+of_open (open.State f) = data_refused
+of_open (open.Engine f) = of_engine f
 
-of_start : (f : StartFault) → IsOfFiles (start_status f)
-of_start (start.Box why) = data_refused
-of_start start.Memory = memory
-
-of_state : (f : StateFault) → IsOfFiles (state_status f)
-of_state (state.BadLine n) = data_refused
-of_state state.Truncated = data_refused
-of_state state.Trailing = data_refused
-of_state state.Memory = memory
-
-of_listing : (f : CodeFault) → IsOfFiles (listing_status f)
-of_listing (listing.BadLine n) = data_refused
-of_listing (listing.BadTarget n) = data_refused
-of_listing listing.TooLong = data_refused
-of_listing listing.Memory = memory
-
-of_run : {A : Type 0} (f : RunFault A) → IsOfFiles (run_status f)
-of_run (run.Job f) = of_job f
-of_run (run.State f) = of_state f
-of_run (run.Energy f) = of_energy f
-of_run run.BitsDiffer = data_refused
-of_run (run.UnknownType n) = data_refused
-of_run run.CutoffTooLong = data_refused
-of_run (run.Kernel r) = kernel_refused
-of_run run.ForceRange = data_refused
-of_run run.StepRange = data_refused
-of_run (run.KernelFault step low high pc why) = data_refused
-of_run run.Memory = memory
-of_run (run.MemoryAfter done) = memory
-of_run (run.Out o) = file
+pub of_run : {A : Type 0} (f : RunFault A) → IsOfFiles (run_status f)
+of_run (run.Open (Refused f)) = of_open f
+of_run (run.Open Memory) = memory_wanted
+of_run (run.Steps step.StepRange) = data_refused
+of_run (run.Steps (step.Memory done)) = memory_wanted
+of_run (run.Out o) = file_failed
 
 -- a fault of the words themselves
 abbrev pub IsOfWords : {A : Type 0} → CommandFault A → Type 0
-IsOfWords (fault.CommandLine e) = Unit {0}
-IsOfWords fault.NotText = Unit {0}
-IsOfWords _ = ⊥
+IsOfWords f = ((e : Error) × (f ≡ fault.CommandLine e)) ⊎ (f ≡ fault.NotText)
+
+-- its status is that of the command line
+of_words : {A : Type 0} (f : CommandFault A) → IsOfWords f → status_of f ≡ status.CommandLine
+of_words f (inl is) = ap status_of is.1
+of_words f (inr is) = ap status_of is
+
+-- any other fault has none of the words' own statuses
+of_what : {A : Type 0} (f : CommandFault A) → IsOfWords f ⊎ IsOfFiles (status_of f)
+of_what (fault.CommandLine e) = inl (inl (e, refl))
+of_what fault.NotText = inl (inr refl)
+of_what (fault.CannotRead path) = inr file_failed
+of_what (fault.Job f) = inr data_refused
+of_what (fault.Gro f) = inr data_refused
+of_what (fault.Box f) = inr data_refused
+of_what (fault.State f) = inr data_refused
+of_what (fault.Listing f) = inr data_refused
+of_what (fault.Energy f) = inr kernel_refused
+of_what (fault.Kernel r) = inr kernel_refused
+of_what (fault.Open f) = inr (of_open f)
+of_what (fault.Run f) = inr (of_run f)
+of_what (fault.Out o) = inr file_failed
+of_what fault.Memory = inr memory_wanted
+
+-- a fault with such a status is none of the words
+pub of_files_alone : {A : Type 0} (f : CommandFault A) → IsOfFiles (status_of f) → IsOfWords f → ⊥
+of_files_alone f of_files is = of_files.1 (of_words f is)
 
 -- no fault has the status of what was done
 pub never_done : {A : Type 0} (f : CommandFault A) → status_of f ≢ status.Done
-never_done (fault.CommandLine e) = λ is. cc
-never_done fault.NotText = λ is. cc
-never_done (fault.CannotRead path) = file.0
-never_done (fault.Job f) = (of_job f).0
-never_done (fault.Gro f) = (of_gro f).0
-never_done (fault.Start f) = (of_start f).0
-never_done (fault.State f) = (of_state f).0
-never_done (fault.Listing f) = (of_listing f).0
-never_done (fault.Run f) = (of_run f).0
-never_done (fault.Out o) = file.0
-never_done fault.Memory = memory.0
+never_done {A} f done = by_what (of_what f)
+  where
+    by_what : IsOfWords f ⊎ IsOfFiles (status_of f) → ⊥
+    by_what (inl is) = let bad : status.CommandLine ≡ status.Done = sym (of_words f is) ∙ done in cc
+    by_what (inr of_files) = of_files.0 done
 
 -- the status of the command line is that of words alone
 pub words_alone : {A : Type 0} (f : CommandFault A) → status_of f ≡ status.CommandLine → IsOfWords f
-words_alone (fault.CommandLine e) is = tt
-words_alone fault.NotText is = tt
-words_alone (fault.CannotRead path) is = absurd (file.1 is)
-words_alone (fault.Job f) is = absurd ((of_job f).1 is)
-words_alone (fault.Gro f) is = absurd ((of_gro f).1 is)
-words_alone (fault.Start f) is = absurd ((of_start f).1 is)
-words_alone (fault.State f) is = absurd ((of_state f).1 is)
-words_alone (fault.Listing f) is = absurd ((of_listing f).1 is)
-words_alone (fault.Run f) is = absurd ((of_run f).1 is)
-words_alone (fault.Out o) is = absurd (file.1 is)
-words_alone fault.Memory is = absurd (memory.1 is)
+words_alone {A} f told = by_what (of_what f)
+  where
+    by_what : IsOfWords f ⊎ IsOfFiles (status_of f) → IsOfWords f
+    by_what (inl is) = is
+    by_what (inr of_files) = absurd (of_files.1 told)
 
 -- ---- the numbers of statuses
 

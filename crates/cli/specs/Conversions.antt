@@ -44,6 +44,8 @@ pub record IsFrameText (state : List ℕ) (Wrote : List ℕ → Type 0) : Type 0
 
 -- the listing of the code of this job's slope was written
 pub record IsCodeText (job : List ℕ) (Wrote : List ℕ → Type 0) : Type 0 where
+  pub said : JobValue
   pub code : List Instr
-  pub compiled : slope_code_of job ≡ Ok code
+  pub job_read : reading_of limits job ≡ Ok said
+  pub compiled : slope_code_of said ≡ Ok code
   pub written : Wrote (listing_of code)

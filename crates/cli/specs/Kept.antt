@@ -1,10 +1,6 @@
 -- What an output was left with.
 use Rattle.std.specs.Prelude.{◌≡◌, ◌⊎◌, ◌<◌, ℕ, List, Option}
-use Rattle.gro.specs.Out.{appended}
-
--- what an output has taken, and how many of its writes have failed
-abbrev pub Output : Type 0
-Output = Option (List ℕ) × ℕ
+use Rattle.fallible.specs.Out.{Output, appended}
 
 -- all of a text was appended
 abbrev pub Appends : Option (List ℕ) → Option (List ℕ) → List ℕ → Type 0

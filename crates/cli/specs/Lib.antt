@@ -1,4 +1,5 @@
 pub mod Asked
+pub mod Failures
 pub mod Held
 pub mod Conversions
 pub mod Host

@@ -1,11 +1,11 @@
 -- What is printed of how far a run has come.
 use Rattle.std.specs.Prelude.{◌≡◌, ◌⊎◌, ◌≤◌, ◌-◌, ◌*◌, ◌/◌, ◌^◌, ℕ, List, [], ◌∷◌, ◌++◌, Bool, true, false, Option, Some, None, map, codes, decimal}
 use Rattle.std.proofs.Common.{subst}
+use Rattle.fallible.specs.Out.{Output}
 use Rattle.command_line.specs.CommandLine.{AsksForHelp, AsksForVersion, IsCommand}
 use Rattle.command_line.specs.declared.commands.Command.{Command}
 use Rattle.command_line.specs.declared.commands.Command.TheVariants as command
 use Rattle.trajectory.specs.Watching.{SomeHundredths, hundredths}
-use Rattle.cli.specs.Kept.{Output}
 use Rattle.cli.specs.Reports.{IsReported, Prints}
 use Rattle.cli.specs.declared.faults.CommandFault.{CommandFault}
 

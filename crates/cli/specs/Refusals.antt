@@ -1,6 +1,7 @@
 -- Why a command was not done: its fault, by what its files hold, and what its output is left with. Want of memory says nothing of the files.
-use Rattle.std.specs.Prelude.{◌≡◌, ◌≢◌, ◌⊎◌, ◌<◌, ◌/◌, ℕ, true, false, List, length, Option, Some, None, Ok, Err, IfSome}
+use Rattle.std.specs.Prelude.{◌≡◌, ◌≢◌, ◌⊎◌, ◌<◌, ℕ, List, length, Option, Some, None, Ok, Err}
 use Rattle.std.specs.Borrow.{Bor}
+use Rattle.clap.specs.declared.error.Error.{Error}
 use Rattle.clap.specs.declared.error.kind.ErrorKind.{ErrorKind}
 use Rattle.clap.specs.declared.error.kind.ErrorKind.TheVariants.{DisplayHelp, DisplayVersion, OutOfMemory}
 use Rattle.command_line.specs.CommandLine.{AsksForHelp, AsksForVersion, IsCommand, IsMisuse}
@@ -8,32 +9,30 @@ use Rattle.command_line.specs.declared.commands.Command.{Command}
 use Rattle.command_line.specs.declared.commands.Command.TheVariants as command
 use Rattle.command_line.specs.declared.commands.Run.{Run}
 use Rattle.command_line.specs.declared.commands.Trajectory.{Trajectory}
-use Rattle.engine.specs.Engines.{IsEngineRefusal}
+use Rattle.energy_program.specs.Faults as energies
+use Rattle.engine.specs.Engines.{HasNoEngineOfTexts, IsRunUnwritten}
 use Rattle.engine.specs.PairEnergies.{HasNoEnergyOfTexts}
-use Rattle.engine.specs.Verdicts.{HasNoSlopeKernel, IsVerdict}
+use Rattle.engine.specs.Verdicts.{HasNoSlopeKernel, IsRefused}
+use Rattle.engine.specs.declared.faults.EnergyFault.TheVariants as energy
+use Rattle.engine.specs.declared.faults.RunFault.{RunFault}
+use Rattle.fallible.specs.Out.{AppendsBeginning, Output}
+use Rattle.fallible.specs.declared.output.OutFault.{OutFault}
 use Rattle.gro.specs.Frames.{FrameView}
-use Rattle.gro.specs.GroReading.{Fails as FailsGro, frames_of}
-use Rattle.gro.specs.Out.{AppendsBeginning}
+use Rattle.gro.specs.GroReading.{frames_of}
 use Rattle.gro.specs.declared.faults.GroFault.TheVariants.{NoSuchFrame}
-use Rattle.gro.specs.declared.output.OutFault.{OutFault}
-use Rattle.integrator.specs.Runs.{WroteBeginning, is_out}
-use Rattle.integrator.specs.Starts.{plain, slope_code_of}
-use Rattle.integrator.specs.StartViews.{Refuses}
-use Rattle.integrator.specs.declared.faults.RunFault.{RunFault}
+use Rattle.integrator.specs.Starts.{slope_code_of}
 use Rattle.job.specs.JobText.{reading_of, limits}
 use Rattle.job.specs.Values.{JobValue}
-use Rattle.job.specs.Views.{refusal_of}
-use Rattle.kernel_code.specs.ListingReading.{Fails as FailsListing, code_of}
+use Rattle.job.specs.Views as jobs
+use Rattle.kernel_code.specs.ListingReading.{code_of}
 use Rattle.kernel_code.specs.declared.instructions.Instr.{Instr}
-use Rattle.state.specs.Starts.{Gives, start_of}
-use Rattle.state.specs.StateReading.{Fails as FailsState, state_of}
-use Rattle.state.specs.StateText.{StateView}
-use Rattle.state.specs.declared.faults.StartFault.{StartFault}
-use Rattle.trajectory.specs.Trajectories.{IsFrameOfRun, IsTrajectoryRefusal, Leaves}
+use Rattle.ring_box.specs.declared.faults.BoxFault.{BoxFault}
+use Rattle.state.specs.Starts.{start_of}
+use Rattle.state.specs.StateReading.{state_of}
+use Rattle.trajectory.specs.Trajectories.{AreFramesUnwritten}
 use Rattle.cli.specs.Asked.{also_asked}
 use Rattle.cli.specs.Conversions.{IsCodeText, IsFrameOf, IsFrameText, IsStartText}
 use Rattle.cli.specs.Held.{OfOne, OfTwo}
-use Rattle.cli.specs.Kept.{Output}
 use Rattle.cli.specs.Reads.{asked_by, unread}
 use Rattle.cli.specs.Verdicts.{IsEnergyText, IsListingVerdict, IsSlopeVerdict}
 use Rattle.cli.specs.declared.faults.CommandFault.{CommandFault}
@@ -45,7 +44,7 @@ use Rattle.cli.specs.declared.files.ReadFault.TheVariants as read
 
 -- a job is refused so
 abbrev pub RefusesJob : {A : Type 0} → List ℕ → CommandFault A → Type 0
-RefusesJob job (fault.Job f) = IfSome (refusal_of f) (λ r. reading_of limits job ≡ Err r)
+RefusesJob job (fault.Job f) = reading_of limits job ≡ Err (jobs.refusal_of f)
 RefusesJob job fault.Memory = Unit {0}
 RefusesJob job _ = ⊥
 
@@ -60,48 +59,49 @@ pub record HasNoFrame (gro : List ℕ) (number : ℕ) : Type 0 where
   pub none : (number ≡ 0) ⊎ (length frames < number)
 
 -- the frame of this number is there, and no state begins at it
-pub record HasNoBox (gro : List ℕ) (number : ℕ) (job : JobValue) (f : StartFault) : Type 0 where
+pub record HasNoBox (gro : List ℕ) (number : ℕ) (job : JobValue) (f : BoxFault) : Type 0 where
   pub frames : List FrameView
   pub frame : FrameView
   pub gro_read : frames_of gro ≡ Ok frames
   pub picked : IsFrameOf frames number frame
-  pub refused : Gives {X = StateView} (λ s. s) (Err f) (start_of job.frac job.time_step frame)
+  pub refused : start_of job.frac job.time_step frame ≡ Err f
 
 -- the GRO text is judged first, then the number of the frame, and its box
 abbrev pub RefusesFrame : {A : Type 0} → List ℕ → ℕ → JobValue → CommandFault A → Type 0
-RefusesFrame gro number job (fault.Gro f) = FailsGro {Y = List FrameView} f (frames_of gro) ⊎ ((f ≡ NoSuchFrame) × HasNoFrame gro number)
-RefusesFrame gro number job (fault.Start f) = HasNoBox gro number job f
+RefusesFrame gro number job (fault.Gro f) = (frames_of gro ≡ Err f) ⊎ ((f ≡ NoSuchFrame) × HasNoFrame gro number)
+RefusesFrame gro number job (fault.Box f) = HasNoBox gro number job f
 RefusesFrame gro number job fault.Memory = Unit {0}
 RefusesFrame gro number job _ = ⊥
 
 -- a state is refused so
 abbrev pub RefusesState : {A : Type 0} → List ℕ → CommandFault A → Type 0
-RefusesState state (fault.State f) = FailsState {Y = StateView} f (state_of state)
+RefusesState state (fault.State f) = state_of state ≡ Err f
 RefusesState state fault.Memory = Unit {0}
 RefusesState state _ = ⊥
 
 -- a job has no code of a slope
-abbrev pub RefusesCode : {A : Type 0} → List ℕ → CommandFault A → Type 0
-RefusesCode {A} job (fault.Run f) = Refuses {A = A} f (slope_code_of job)
+abbrev pub RefusesCode : {A : Type 0} → JobValue → CommandFault A → Type 0
+RefusesCode job (fault.Energy (energy.Energy f)) = slope_code_of job ≡ Err (energies.refusal_of f)
 RefusesCode job fault.Memory = Unit {0}
 RefusesCode job _ = ⊥
 
 -- the code of a job's slope is not accepted
 abbrev pub RefusesSlope : {A : Type 0} → JobValue → CommandFault A → Type 0
-RefusesSlope job (fault.Run f) = HasNoSlopeKernel job f
+RefusesSlope job (fault.Energy f) = HasNoSlopeKernel job f
 RefusesSlope job fault.Memory = Unit {0}
 RefusesSlope job _ = ⊥
 
 -- the code of a listing is not accepted under a job
 abbrev pub RefusesListing : {A : Type 0} → List ℕ → JobValue → CommandFault A → Type 0
-RefusesListing listing job (fault.Listing f) = FailsListing {Y = List Instr} f (code_of listing)
-RefusesListing listing job (fault.Run f) = (code : List Instr) × (code_of listing ≡ Ok code) × IsVerdict job code f
+RefusesListing listing job (fault.Listing f) = code_of listing ≡ Err f
+RefusesListing listing job (fault.Kernel r) = (code : List Instr) × (code_of listing ≡ Ok code) × IsRefused job code r
 RefusesListing listing job fault.Memory = Unit {0}
 RefusesListing listing job _ = ⊥
 
--- a state has no energy under a job
+-- a job and a state have no engine, or theirs doesn't tell its energy
 abbrev pub RefusesEnergy : {A : Type 0} → (job state : List ℕ) → CommandFault A → Type 0
-RefusesEnergy job state (fault.Run f) = HasNoEnergyOfTexts job state f
+RefusesEnergy job state (fault.Open f) = HasNoEngineOfTexts job state f
+RefusesEnergy job state (fault.Energy f) = HasNoEnergyOfTexts job state f
 RefusesEnergy job state fault.Memory = Unit {0}
 RefusesEnergy job state _ = ⊥
 
@@ -124,7 +124,7 @@ abbrev pub IsFrameUndone : {A : Type 0} → List ℕ → Output → Output → C
 IsFrameUndone state before after f = IsTextUnwritten (RefusesState state) (IsFrameText state) before after f
 
 abbrev pub IsCodeUndone : {A : Type 0} → List ℕ → Output → Output → CommandFault A → Type 0
-IsCodeUndone job before after f = IsTextUnwritten (RefusesCode job) (IsCodeText job) before after f
+IsCodeUndone job before after f = IsTextUnwritten (RefusesUnder job RefusesCode) (IsCodeText job) before after f
 
 abbrev pub IsSlopeUndone : {A : Type 0} → List ℕ → Output → Output → CommandFault A → Type 0
 IsSlopeUndone job before after f = IsTextUnwritten (RefusesUnder job RefusesSlope) (IsSlopeVerdict job) before after f
@@ -136,23 +136,12 @@ abbrev pub IsEnergyUndone : {A : Type 0} → (job state : List ℕ) → Output �
 IsEnergyUndone job state before after f = IsTextUnwritten (RefusesEnergy job state) (IsEnergyText job state) before after f
 
 -- why no run of a state under a job was written: a failed output is left with a beginning of its text, and what else there is writes nothing
-pub record IsRunRefused {A : Type 0} (job state : List ℕ) (run : Run) (before after : Output) (f : RunFault A) : Type 0 where
-  pub refused : IsEngineRefusal job state run.direction run.steps f
-  pub unwritten : is_out f ≡ false → after.0 ≡ before.0
-  pub failed : is_out f ≡ true → before.1 < after.1
-  pub beginning : is_out f ≡ true → WroteBeginning plain job state run.direction run.steps before.0 after.0
-
 abbrev pub IsRunUndone : {A : Type 0} → (job state : List ℕ) → Run → Output → Output → CommandFault A → Type 0
-IsRunUndone {A} job state run before after f = (g : RunFault A) × (f ≡ fault.Run g) × IsRunRefused job state run before after g
+IsRunUndone {A} job state run before after f = (g : RunFault A) × (f ≡ fault.Run g) × IsRunUnwritten job state run.direction run.steps before after g
 
 -- why not all frames of a run were written: where memory is wanted in it whole frames may have been, and a failed output is left with a beginning of them
-pub record IsTrajectoryRefused {A : Type 0} (job state : List ℕ) (t : Trajectory) (before after : Output) (f : RunFault A) : Type 0 where
-  pub refused : IsTrajectoryRefusal job state t.direction t.steps f
-  pub left : Leaves (IsFrameOfRun job state t.direction t.every) t.every (t.steps / t.every) before.0 after.0 f
-  pub failed : is_out f ≡ true → before.1 < after.1
-
 abbrev pub IsTrajectoryUndone : {A : Type 0} → (job state : List ℕ) → Trajectory → Output → Output → CommandFault A → Type 0
-IsTrajectoryUndone {A} job state t before after f = (g : RunFault A) × (f ≡ fault.Run g) × IsTrajectoryRefused job state t before after g
+IsTrajectoryUndone {A} job state t before after f = (g : RunFault A) × (f ≡ fault.Run g) × AreFramesUnwritten job state t.direction t.steps t.every before after g
 
 -- ---- of a command, whose files gave these bytes
 
@@ -206,19 +195,17 @@ abbrev pub IsUndone : {A : Type 0} → (List ℕ → Option (List ℕ)) → (ask
 IsUndone held asked_before asked_after c before after f = (HasNoBytes held c asked_before asked_after f × (after.0 ≡ before.0))
     ⊎ ((asked_after ≡ asked_by asked_before c) × IsCommandRefused held c before after f)
 
--- why an error of the parser was not answered on standard output, by its kind
+-- why an error of the parser was not answered on standard output, by its kind: it is one of words that ask for nothing that there is; or the output failed; or memory was wanted
 abbrev pub IsNoAnswer : {A : Type 0} → ErrorKind → Output → Output → CommandFault A → Type 0
-IsNoAnswer kind before after (fault.CommandLine e) = (kind ≢ OutOfMemory) × (kind ≢ DisplayHelp) × (kind ≢ DisplayVersion) × (after.0 ≡ before.0)
-IsNoAnswer kind before after (fault.Out o) = ((kind ≡ DisplayHelp) ⊎ (kind ≡ DisplayVersion)) × (before.1 < after.1)
-IsNoAnswer kind before after fault.Memory = after.0 ≡ before.0
-IsNoAnswer kind before after _ = ⊥
+IsNoAnswer kind before after f = ((e : Error) × (f ≡ fault.CommandLine e) × (kind ≢ OutOfMemory) × (kind ≢ DisplayHelp) × (kind ≢ DisplayVersion) × (after.0 ≡ before.0))
+    ⊎ ((o : OutFault) × (f ≡ fault.Out o) × ((kind ≡ DisplayHelp) ⊎ (kind ≡ DisplayVersion)) × (before.1 < after.1))
+    ⊎ ((f ≡ fault.Memory) × (after.0 ≡ before.0))
 
 -- why words that name no command were not answered on standard output: they ask for nothing that there is; or they ask for help or the version, and the output failed; or memory was wanted
 abbrev pub IsUnanswered : {A : Type 0} → List (List ℕ) → Output → Output → CommandFault A → Type 0
-IsUnanswered words before after (fault.CommandLine e) = IsMisuse words × (after.0 ≡ before.0)
-IsUnanswered words before after (fault.Out o) = (AsksForHelp words ⊎ AsksForVersion words) × (before.1 < after.1)
-IsUnanswered words before after fault.Memory = after.0 ≡ before.0
-IsUnanswered words before after _ = ⊥
+IsUnanswered words before after f = ((e : Error) × (f ≡ fault.CommandLine e) × IsMisuse words × (after.0 ≡ before.0))
+    ⊎ ((o : OutFault) × (f ≡ fault.Out o) × (AsksForHelp words ⊎ AsksForVersion words) × (before.1 < after.1))
+    ⊎ ((f ≡ fault.Memory) × (after.0 ≡ before.0))
 
 -- Why what the words ask for was not done.
 abbrev pub IsFaultOf : {A : Type 0} → List (List ℕ) → (List ℕ → Option (List ℕ)) → (asked_before asked_after : Option (List (List ℕ))) → Output → Output → CommandFault A → Type 0

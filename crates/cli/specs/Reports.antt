@@ -1,6 +1,6 @@
 -- What is printed of a fault.
 use Rattle.std.specs.Prelude.{◌≡◌, ◌⊎◌, ℕ, ◌<◌, List, [], ◌∷◌, ◌++◌, Option, codes}
-use Rattle.gro.specs.Out.{appended, AppendsBeginning}
+use Rattle.fallible.specs.Out.{Output, appended, AppendsBeginning}
 use Rattle.cli.specs.Statuses.{code_of, status_of}
 use Rattle.cli.specs.declared.faults.CommandFault.{CommandFault}
 use Rattle.cli.specs.declared.faults.Status.{Status}
@@ -16,7 +16,7 @@ said status.CommandLine text = text
 said _ text = line text
 
 -- The text was printed: all of it, or a write failed, and then a beginning of it. Of an output the bytes that it has taken are told, and how many of its writes have failed.
-abbrev pub Prints : Option (List ℕ) × ℕ → Option (List ℕ) × ℕ → List ℕ → Type 0
+abbrev pub Prints : Output → Output → List ℕ → Type 0
 Prints before after text = ((after.0 ≡ appended before.0 text) × (after.1 ≡ before.1))
     ⊎ (AppendsBeginning before.0 after.0 text × (before.1 < after.1))
 

@@ -17,7 +17,8 @@ ghost use Rattle.cli.specs.Kept.{Appends};
 ghost use Rattle.cli.specs.Refusals.{IsCodeUndone, IsFrameUndone, IsStartUndone, RefusesCode, RefusesFrame, RefusesState, RefusesUnder};
 
 use crate::faults::CommandFault;
-use gro::{GroFrame, Out, pick, read_frames, write_all};
+use fallible::{Out, write_all};
+use gro::{GroFrame, pick, read_frames};
 use integrator::slope_code;
 use job::Job;
 use kernel_code::print;
@@ -115,14 +116,16 @@ pub(crate) fn code_bytes<'a, A: Allocator + Copy, O: Out>(
     Ok(())
 }
 
-/// The listing of the code of a job's slope.
+/// The listing of the code of the slope of a job's text.
 fn slope_listing<'a, A: Allocator + Copy>(
     alloc: A,
     job: &[u8],
 ) -> Result<Vec<u8, A>, CommandFault<'a, A>>
-    ensures is { IfOk result (λ v. (code : List Instr) × (slope_code_of job.now ≡ Ok code) × (v.items ≡ listing_of code)) }
-    ensures refused { IfErr result (RefusesCode job.now) }
+    ensures is { IfOk result (λ v. (said : JobValue) × (code : List Instr) × (reading_of limits job.now ≡ Ok said)
+        × (slope_code_of said ≡ Ok code) × (v.items ≡ listing_of code)) }
+    ensures refused { IfErr result (RefusesUnder job.now RefusesCode) }
 {
-    let code = slope_code(alloc, job)?;
+    let job = Job::read(alloc, job)?;
+    let code = slope_code(alloc, &job)?;
     Ok(print(alloc, &code)?)
 }

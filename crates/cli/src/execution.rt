@@ -28,7 +28,7 @@ use clap::Error;
 use clap::error::ErrorKind;
 use command_line::{Check, Command, Energy, Frame, Listing, Run, Start, Trajectory, parse};
 use engine::run_bytes;
-use gro::{Out, write_all};
+use fallible::{Out, write_all};
 use std::alloc::{AllocError, Allocator, Global};
 use std::convert::AsStr;
 use std::thread::Threads;

@@ -1,15 +1,20 @@
 //! Why a command was not done, and the statuses of the program.
 
 ghost use Rattle.std.specs.Prelude.{◌≡◌, ◌≤◌};
-ghost use Rattle.cli.specs.declared.faults.CommandFault.TheVariants.{Gro, Job, Listing, Memory, Out, Run, Start, State};
+ghost use Rattle.cli.specs.Failures.{command_fault};
+ghost use Rattle.cli.specs.declared.faults.CommandFault.TheVariants as command;
+ghost use Rattle.engine.specs.declared.faults.EnergyFault.TheVariants as energy;
 
 use clap::Error;
-use expr::ExprFault;
-use gro::{GroFault, OutFault};
-use integrator::RunFault;
+use energy_program::ExprFault;
+use engine::{EnergyFault, EngineFault, OpenFault, RunFault};
+use fallible::{Failure, OutFault};
+use gro::GroFault;
+use integrator::{KernelRefusal, StepFault, SystemFault};
 use job::JobFault;
 use kernel_code::CodeFault;
-use state::{StartFault, StateFault};
+use ring_box::BoxFault;
+use state::StateFault;
 use std::alloc::{AllocError, AllocFailed, Allocator};
 use std::fmt;
 use thiserror::Error;
@@ -25,7 +30,7 @@ pub enum Status {
     CommandLine,
     /// An energy's text or its kernel was refused.
     RefusedKernel,
-    /// A growth was refused.
+    /// An allocation was refused.
     Memory,
     /// A file or the output failed.
     File,
@@ -62,28 +67,37 @@ pub enum CommandFault<'a, A: Allocator> {
     /// A file can't be read to its end. The path is that of the words.
     #[error("O1 CannotRead {path}")]
     CannotRead { path: &'a str },
-    /// The job of a start is refused.
+    /// The job of `start`, `check` or `code` is refused.
     #[error("{0}")]
     Job(JobFault<A>),
     /// The GRO file is refused, or has no such frame.
     #[error("{0}")]
     Gro(GroFault),
-    /// The frame's box is refused.
+    /// The sides of the frame that a state is to begin at are no box's.
     #[error("{0}")]
-    Start(StartFault),
-    /// The state of a frame is refused.
+    Box(BoxFault),
+    /// The state of `frame` is refused.
     #[error("{0}")]
     State(StateFault),
     /// The listing to judge is refused.
     #[error("{0}")]
     Listing(CodeFault),
-    /// The run is refused, or its engine.
+    /// The job's energy, or its slope, has no accepted code, where `code`, `check` or `energy` asks for one.
+    #[error("{0}")]
+    Energy(EnergyFault<A>),
+    /// The verifier refuses the code of the listing to judge.
+    #[error("{0}")]
+    Kernel(KernelRefusal),
+    /// The job and the state of `energy` have no engine.
+    #[error("{0}")]
+    Open(OpenFault<A>),
+    /// The run, or its frames, was not written.
     #[error("{0}")]
     Run(RunFault<A>),
     /// The output failed.
     #[error("{0}")]
     Out(OutFault),
-    /// A growth was refused.
+    /// An allocation was refused.
     #[error("Memory")]
     Memory,
 }
@@ -96,7 +110,7 @@ impl<'a, A: Allocator> fmt::Debug for CommandFault<'a, A> {
 }
 
 impl<'a, A: Allocator> From<AllocError> for CommandFault<'a, A> {
-    ghost from_gives = { λ _ e. e ≡ Memory };
+    ghost from_gives = { λ _ e. e ≡ command.Memory };
 
     fn from(_e: AllocError) -> CommandFault<'a, A> {
         CommandFault::Memory
@@ -104,7 +118,7 @@ impl<'a, A: Allocator> From<AllocError> for CommandFault<'a, A> {
 }
 
 impl<'a, T: Drop, A: Allocator> From<AllocFailed<T>> for CommandFault<'a, A> {
-    ghost from_gives = { λ _ e. e ≡ Memory };
+    ghost from_gives = { λ _ e. e ≡ command.Memory };
 
     fn from(_e: AllocFailed<T>) -> CommandFault<'a, A> {
         CommandFault::Memory
@@ -112,58 +126,125 @@ impl<'a, T: Drop, A: Allocator> From<AllocFailed<T>> for CommandFault<'a, A> {
 }
 
 impl<'a, A: Allocator> From<OutFault> for CommandFault<'a, A> {
-    ghost from_gives = { λ fault e. e ≡ Out fault };
+    ghost from_gives = { λ f e. e ≡ command.Out f };
 
     fn from(fault: OutFault) -> CommandFault<'a, A> {
         CommandFault::Out(fault)
     }
 }
 
-impl<'a, A: Allocator> From<JobFault<A>> for CommandFault<'a, A> {
-    ghost from_gives = { λ fault e. e ≡ Job fault };
-
-    fn from(fault: JobFault<A>) -> CommandFault<'a, A> {
-        CommandFault::Job(fault)
-    }
-}
-
 impl<'a, A: Allocator> From<GroFault> for CommandFault<'a, A> {
-    ghost from_gives = { λ fault e. e ≡ Gro fault };
+    ghost from_gives = { λ f e. e ≡ command.Gro f };
 
     fn from(fault: GroFault) -> CommandFault<'a, A> {
         CommandFault::Gro(fault)
     }
 }
 
-impl<'a, A: Allocator> From<StartFault> for CommandFault<'a, A> {
-    ghost from_gives = { λ fault e. e ≡ Start fault };
-
-    fn from(fault: StartFault) -> CommandFault<'a, A> {
-        CommandFault::Start(fault)
-    }
-}
-
-impl<'a, A: Allocator> From<StateFault> for CommandFault<'a, A> {
-    ghost from_gives = { λ fault e. e ≡ State fault };
-
-    fn from(fault: StateFault) -> CommandFault<'a, A> {
-        CommandFault::State(fault)
-    }
-}
-
-impl<'a, A: Allocator> From<CodeFault> for CommandFault<'a, A> {
-    ghost from_gives = { λ fault e. e ≡ Listing fault };
-
-    fn from(fault: CodeFault) -> CommandFault<'a, A> {
-        CommandFault::Listing(fault)
-    }
-}
-
 impl<'a, A: Allocator> From<RunFault<A>> for CommandFault<'a, A> {
-    ghost from_gives = { λ fault e. e ≡ Run fault };
+    ghost from_gives = { λ f e. e ≡ command.Run f };
 
     fn from(fault: RunFault<A>) -> CommandFault<'a, A> {
         CommandFault::Run(fault)
+    }
+}
+
+impl<'a, A: Allocator> From<Failure<JobFault<A>>> for CommandFault<'a, A> {
+    ghost from_gives = { λ failure e. e ≡ command_fault command.Job failure };
+
+    fn from(failure: Failure<JobFault<A>>) -> CommandFault<'a, A> {
+        match failure {
+            Failure::Refused(fault) => CommandFault::Job(fault),
+            Failure::Memory => CommandFault::Memory,
+        }
+    }
+}
+
+impl<'a, A: Allocator> From<Failure<GroFault>> for CommandFault<'a, A> {
+    ghost from_gives = { λ failure e. e ≡ command_fault command.Gro failure };
+
+    fn from(failure: Failure<GroFault>) -> CommandFault<'a, A> {
+        match failure {
+            Failure::Refused(fault) => CommandFault::Gro(fault),
+            Failure::Memory => CommandFault::Memory,
+        }
+    }
+}
+
+impl<'a, A: Allocator> From<Failure<BoxFault>> for CommandFault<'a, A> {
+    ghost from_gives = { λ failure e. e ≡ command_fault command.Box failure };
+
+    fn from(failure: Failure<BoxFault>) -> CommandFault<'a, A> {
+        match failure {
+            Failure::Refused(fault) => CommandFault::Box(fault),
+            Failure::Memory => CommandFault::Memory,
+        }
+    }
+}
+
+impl<'a, A: Allocator> From<Failure<StateFault>> for CommandFault<'a, A> {
+    ghost from_gives = { λ failure e. e ≡ command_fault command.State failure };
+
+    fn from(failure: Failure<StateFault>) -> CommandFault<'a, A> {
+        match failure {
+            Failure::Refused(fault) => CommandFault::State(fault),
+            Failure::Memory => CommandFault::Memory,
+        }
+    }
+}
+
+impl<'a, A: Allocator> From<Failure<CodeFault>> for CommandFault<'a, A> {
+    ghost from_gives = { λ failure e. e ≡ command_fault command.Listing failure };
+
+    fn from(failure: Failure<CodeFault>) -> CommandFault<'a, A> {
+        match failure {
+            Failure::Refused(fault) => CommandFault::Listing(fault),
+            Failure::Memory => CommandFault::Memory,
+        }
+    }
+}
+
+impl<'a, A: Allocator> From<Failure<EnergyFault<A>>> for CommandFault<'a, A> {
+    ghost from_gives = { λ failure e. e ≡ command_fault command.Energy failure };
+
+    fn from(failure: Failure<EnergyFault<A>>) -> CommandFault<'a, A> {
+        match failure {
+            Failure::Refused(fault) => CommandFault::Energy(fault),
+            Failure::Memory => CommandFault::Memory,
+        }
+    }
+}
+
+impl<'a, A: Allocator> From<Failure<KernelRefusal>> for CommandFault<'a, A> {
+    ghost from_gives = { λ failure e. e ≡ command_fault command.Kernel failure };
+
+    fn from(failure: Failure<KernelRefusal>) -> CommandFault<'a, A> {
+        match failure {
+            Failure::Refused(fault) => CommandFault::Kernel(fault),
+            Failure::Memory => CommandFault::Memory,
+        }
+    }
+}
+
+impl<'a, A: Allocator> From<Failure<OpenFault<A>>> for CommandFault<'a, A> {
+    ghost from_gives = { λ failure e. e ≡ command_fault command.Open failure };
+
+    fn from(failure: Failure<OpenFault<A>>) -> CommandFault<'a, A> {
+        match failure {
+            Failure::Refused(fault) => CommandFault::Open(fault),
+            Failure::Memory => CommandFault::Memory,
+        }
+    }
+}
+
+impl<'a, A: Allocator> From<Failure<ExprFault<A>>> for CommandFault<'a, A> {
+    ghost from_gives = { λ failure e. e ≡ command_fault (λ f. command.Energy (energy.Energy f)) failure };
+
+    fn from(failure: Failure<ExprFault<A>>) -> CommandFault<'a, A> {
+        match failure {
+            Failure::Refused(fault) => CommandFault::Energy(EnergyFault::Energy(fault)),
+            Failure::Memory => CommandFault::Memory,
+        }
     }
 }
 
@@ -177,90 +258,63 @@ impl<'a, A: Allocator> CommandFault<'a, A> {
         match self {
             CommandFault::CommandLine(_) | CommandFault::NotText => Status::CommandLine,
             CommandFault::CannotRead { .. } | CommandFault::Out(_) => Status::File,
-            CommandFault::Job(fault) => status_of_job(fault),
-            CommandFault::Gro(fault) => status_of_gro(fault),
-            CommandFault::Start(fault) => status_of_start(fault),
-            CommandFault::State(fault) => status_of_state(fault),
-            CommandFault::Listing(fault) => status_of_listing(fault),
+            CommandFault::Job(_)
+            | CommandFault::Gro(_)
+            | CommandFault::Box(_)
+            | CommandFault::State(_)
+            | CommandFault::Listing(_) => Status::RefusedData,
+            CommandFault::Energy(_) | CommandFault::Kernel(_) => Status::RefusedKernel,
+            CommandFault::Open(fault) => status_of_open(fault),
             CommandFault::Run(fault) => status_of_run(fault),
             CommandFault::Memory => Status::Memory,
         }
     }
 }
 
-ghost use Rattle.cli.specs.Statuses.{energy_status, gro_status, job_status, listing_status, run_status, start_status, state_status};
+ghost use Rattle.cli.specs.Statuses.{engine_status, open_status, run_status, system_status};
 
-/// The status that a refused job ends with. Want of memory inside a refused text is want of memory, here and below.
-fn status_of_job<A: Allocator>(fault: &JobFault<A>) -> Status
-    ensures { result ≡ job_status fault.now }
+/// The status that a job and a state end with that have no atoms to run.
+fn status_of_system<A: Allocator>(fault: &SystemFault<A>) -> Status
+    ensures { result ≡ system_status fault.now }
 {
     match fault {
-        JobFault::Memory => Status::Memory,
-        _ => Status::RefusedData,
+        SystemFault::Energy(_) => Status::RefusedKernel,
+        SystemFault::BitsDiffer | SystemFault::UnknownType { .. } | SystemFault::CutoffTooLong => {
+            Status::RefusedData
+        }
     }
 }
 
-fn status_of_gro(fault: &GroFault) -> Status
-    ensures { result ≡ gro_status fault.now }
+/// The status that a job and a state end with that have no engine.
+fn status_of_engine<A: Allocator>(fault: &EngineFault<A>) -> Status
+    ensures { result ≡ engine_status fault.now }
 {
     match fault {
-        GroFault::Memory => Status::Memory,
-        _ => Status::RefusedData,
+        EngineFault::System(fault) => status_of_system(fault),
+        EngineFault::Kernel(_) => Status::RefusedKernel,
+        EngineFault::ForceRange => Status::RefusedData,
     }
 }
 
-fn status_of_start(fault: &StartFault) -> Status
-    ensures { result ≡ start_status fault.now }
+/// The status that texts end with that have no engine.
+fn status_of_open<A: Allocator>(fault: &OpenFault<A>) -> Status
+    ensures { result ≡ open_status fault.now }
 {
     match fault {
-        StartFault::Memory => Status::Memory,
-        StartFault::Box(_) => Status::RefusedData,
+        OpenFault::Job(_) | OpenFault::State(_) => Status::RefusedData,
+        OpenFault::Engine(fault) => status_of_engine(fault),
     }
 }
 
-fn status_of_state(fault: &StateFault) -> Status
-    ensures { result ≡ state_status fault.now }
-{
-    match fault {
-        StateFault::Memory => Status::Memory,
-        _ => Status::RefusedData,
-    }
-}
-
-fn status_of_energy<A: Allocator>(fault: &ExprFault<A>) -> Status
-    ensures { result ≡ energy_status fault.now }
-{
-    match fault {
-        ExprFault::Memory => Status::Memory,
-        _ => Status::RefusedKernel,
-    }
-}
-
-fn status_of_listing(fault: &CodeFault) -> Status
-    ensures { result ≡ listing_status fault.now }
-{
-    match fault {
-        CodeFault::Memory => Status::Memory,
-        _ => Status::RefusedData,
-    }
-}
-
-/// The status that a refused run ends with.
+/// The status that a run ends with that was not written.
 fn status_of_run<A: Allocator>(fault: &RunFault<A>) -> Status
     ensures { result ≡ run_status fault.now }
 {
     match fault {
-        RunFault::Job(fault) => status_of_job(fault),
-        RunFault::State(fault) => status_of_state(fault),
-        RunFault::Energy(fault) => status_of_energy(fault),
-        RunFault::Kernel(_) => Status::RefusedKernel,
-        RunFault::BitsDiffer
-        | RunFault::UnknownType { .. }
-        | RunFault::CutoffTooLong
-        | RunFault::ForceRange
-        | RunFault::StepRange
-        | RunFault::KernelFault { .. } => Status::RefusedData,
+        RunFault::Open(Failure::Refused(fault)) => status_of_open(fault),
+        RunFault::Open(Failure::Memory) => Status::Memory,
+        RunFault::Steps(StepFault::StepRange) => Status::RefusedData,
+        RunFault::Steps(StepFault::Memory { .. }) => Status::Memory,
         RunFault::Out(_) => Status::File,
-        RunFault::Memory | RunFault::MemoryAfter { .. } => Status::Memory,
     }
 }

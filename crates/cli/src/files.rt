@@ -12,7 +12,7 @@ use std::alloc::Allocator;
 pub enum ReadFault {
     /// The file can't be read to its end.
     CannotRead,
-    /// A growth was refused.
+    /// An allocation was refused.
     Memory,
 }
 

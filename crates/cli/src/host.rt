@@ -8,7 +8,7 @@ ghost use Rattle.cli.specs.declared.faults.CommandFault.TheVariants.{Memory, Not
 
 use crate::faults::CommandFault;
 use crate::files::{Files, ReadFault};
-use gro::{Out, OutFault};
+use fallible::{Out, OutFault};
 use std::alloc::{Allocator, Global};
 use std::io::{Read, Write};
 use std::rt::Env;
@@ -116,7 +116,7 @@ impl<W: Write> Out for Stream<W> {
 
 /// The words of the process after the program's own name.
 ///
-/// `NotText` where the system's words can't be had as UTF-8 text, `Memory` where a growth was refused. No other fault comes.
+/// `NotText`: the system's words can't be had as UTF-8 text. `Memory`: an allocation was refused. No other fault comes.
 pub fn words<R: Env + AllocGlobal>(rt: &R) -> Result<Vec<String>, CommandFault<'static, Global>>
     ensures fault { IfErr result (λ f. (f ≡ Memory) ⊎ (f ≡ NotText)) }
 {

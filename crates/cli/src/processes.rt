@@ -14,7 +14,7 @@ use crate::execution::{execute, report};
 use crate::faults::CommandFault;
 use crate::files::Files;
 use crate::host::{HostFiles, Stream, words};
-use gro::Out;
+use fallible::Out;
 use std::alloc::Global;
 use std::fs;
 use std::io::Write;

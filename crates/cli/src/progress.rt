@@ -9,7 +9,7 @@ ghost use Rattle.cli.specs.Refusals.{IsRunUndone, IsTrajectoryUndone};
 
 use crate::faults::CommandFault;
 use command_line::{Run, Trajectory};
-use gro::{Out, write_all};
+use fallible::{Out, write_all};
 use line_text::{Line, put, put_natural};
 use std::alloc::Allocator;
 use std::thread::Threads;

@@ -1,19 +1,20 @@
 //! What is printed of a job's code, of other code under a job, and of a state's energy.
 
 ghost use Rattle.std.specs.Prelude.{◌≡◌, ◌-◌, ◌<◌, ◌^◌, IfErr, IfOk, Ok, OnOk, string_bytes};
+ghost use Rattle.engine.specs.PairEnergies.{IsEnergyOfTexts};
 ghost use Rattle.engine.specs.Verdicts.{IsSlopeKernel, IsUnder};
-ghost use Rattle.gro.specs.Out.{appended};
+ghost use Rattle.fallible.specs.Out.{appended};
 ghost use Rattle.job.specs.JobText.{limits, reading_of};
 ghost use Rattle.job.specs.Values.{JobValue};
 ghost use Rattle.kernel_code.specs.ListingReading.{code_of};
 ghost use Rattle.verifier.specs.Kernels.{IsKernel, Kernel};
 ghost use Rattle.cli.specs.Kept.{Appends};
-ghost use Rattle.cli.specs.Refusals.{IsEnergyUndone, IsLineUndone, IsListingUndone, IsSlopeUndone, RefusesListing, RefusesSlope, RefusesUnder};
+ghost use Rattle.cli.specs.Refusals.{IsEnergyUndone, IsLineUndone, IsListingUndone, IsSlopeUndone, RefusesEnergy, RefusesListing, RefusesSlope, RefusesUnder};
 ghost use Rattle.cli.specs.Verdicts.{IsEnergyText, IsListingVerdict, IsSlopeVerdict, energy_line, verdict_line};
 
 use crate::faults::CommandFault;
-use engine::{state_energy, verdict, verified_slope};
-use gro::{Out, write_all};
+use engine::{open, verdict, verified_slope};
+use fallible::{Out, write_all};
 use job::Job;
 use kernel_code::read;
 use std::alloc::{AllocError, Allocator};
@@ -126,8 +127,22 @@ pub(crate) fn energy_bytes<'a, A: Allocator + Copy, O: Out>(
     ensures written { OnOk result (IsEnergyText job.now state.now (Appends (O.taken out.old) (O.taken out.new))) }
     ensures refused { IfErr result (IsEnergyUndone job.now state.now (O.taken out.old, O.failed out.old) (O.taken out.new, O.failed out.new)) }
 {
-    let energy = state_energy(alloc, job, state)?;
+    let energy = energy_known(alloc, job, state)?;
     let line = energy_line(alloc, energy)?;
     write_all(out, line.as_bytes())?;
     Ok(())
+}
+
+/// The energy of a state under a job, of their texts.
+fn energy_known<'a, A: Allocator + Copy>(
+    alloc: A,
+    job: &[u8],
+    state: &[u8],
+) -> Result<i128, CommandFault<'a, A>>
+    ensures is { IfOk result (IsEnergyOfTexts job.now state.now) }
+    ensures refused { IfErr result (RefusesEnergy job.now state.now) }
+{
+    let engine = open(alloc, job, state)?;
+    let energy = engine.energy()?;
+    Ok(energy)
 }

@@ -4,19 +4,15 @@ use Rattle.std.proofs.lemmas.Result.{IfErr-weaker}
 use Rattle.gro.specs.Frames.{frame_view}
 use Rattle.job.specs.Views.{job_value}
 use Rattle.cli.specs.Refusals.{RefusesFrame}
-use Rattle.cli.proofs.StartLaws.{if_err, picked}
+use Rattle.cli.proofs.StartLaws.{box_refused, if_err, picked}
 use Rattle.cli.proofs.conversions.started_under.Goals as goal
 
 pub returns-in_err-start-clause-refused : goal.returns-in_err-start-clause-refused
 returns-in_err-start-clause-refused g c =
     let is = picked frame_view c.deref.result.now c.args.frame c.in_ok-frame.frame.now c.in_ok-frame.ensures in
-    IfErr-weaker c.from_residual-in_err-start.result _ _ (λ e told. subst (RefusesFrame c.args.gro.now c.args.frame (job_value c.args.job.now)) (sym told) (record {
-      frames = _;
-      frame = _;
-      gro_read = c.in_ok-frames.ensures.exact;
-      picked = rw c.deref.ensures.value at is;
-      refused = c.in_err-start.ensures.exact;
-    })) (if_err c.from_residual-in_err-start.result _ c.from_residual-in_err-start.ensures.1)
+    IfErr-weaker c.from_residual-in_err-start.result _ _ (λ e told. subst (RefusesFrame c.args.gro.now c.args.frame (job_value c.args.job.now)) (sym told)
+    (box_refused _ c.args.gro.now c.args.frame (job_value c.args.job.now) _ _ _ c.in_ok-frames.ensures.exact (rw c.deref.ensures.value at is) c.in_err-start.ensures.exact))
+    (if_err c.from_residual-in_err-start.result _ c.from_residual-in_err-start.ensures.1)
 
 pub returns-clause-is : goal.returns-clause-is
 returns-clause-is g c =
