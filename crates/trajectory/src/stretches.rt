@@ -1,6 +1,6 @@
 //! Steps of a run, stretch by stretch.
 
-ghost use Rattle.std.specs.Prelude.{◌≡◌, ◌≤◌, ◌<◌, ◌+◌, ◌*◌, ◌^◌, ℕ, is_none, true, false, OnOk, IfErr};
+ghost use Rattle.std.specs.Prelude.{◌≡◌, ◌≤◌, ◌<◌, ◌+◌, ◌*◌, ◌^◌, ℕ, is_none, false, OnOk, IfErr};
 ghost use Rattle.engine.specs.Engines.{Went};
 ghost use Rattle.integrator.specs.States.{counter_after};
 ghost use Rattle.trajectory.specs.Trajectories.{IsStopped};
