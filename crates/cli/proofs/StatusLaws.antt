@@ -8,7 +8,7 @@ use Rattle.integrator.specs.declared.faults.SystemFault.TheVariants as system
 use Rattle.engine.specs.declared.faults.EngineFault.{EngineFault}
 use Rattle.engine.specs.declared.faults.EngineFault.TheVariants as engine
 use Rattle.engine.specs.declared.faults.OpenFault.{OpenFault}
-use Rattle.engine.specs.declared.faults.OpenFault.TheVariants as open
+use Rattle.engine.specs.declared.faults.OpenFault.TheVariants as opened
 use Rattle.engine.specs.declared.faults.RunFault.{RunFault}
 use Rattle.engine.specs.declared.faults.RunFault.TheVariants as run
 use Rattle.cli.specs.Statuses.{code_of, engine_status, open_status, run_status, status_of, system_status}
@@ -45,9 +45,9 @@ of_engine (engine.Kernel r) = kernel_refused
 of_engine engine.ForceRange = data_refused
 
 of_open : {A : Type 0} (f : OpenFault A) → IsOfFiles (open_status f)
-of_open (open.Job f) = data_refused
-of_open (open.State f) = data_refused
-of_open (open.Engine f) = of_engine f
+of_open (opened.Job f) = data_refused
+of_open (opened.State f) = data_refused
+of_open (opened.Engine f) = of_engine f
 
 pub of_run : {A : Type 0} (f : RunFault A) → IsOfFiles (run_status f)
 of_run (run.Open (Refused f)) = of_open f

@@ -1,5 +1,5 @@
 -- What was written of code that is accepted.
-use Rattle.std.proofs.Common.{◌≡◌, ℕ, List, Ok}
+use Rattle.std.proofs.Common.{◌≡◌, ℕ, List, Ok, ℤ}
 use Rattle.integrator.specs.Starts.{table_of}
 use Rattle.engine.specs.Verdicts.{IsSlopeKernel}
 use Rattle.job.specs.JobText.{reading_of, limits}
@@ -7,6 +7,15 @@ use Rattle.job.specs.Values.{JobValue}
 use Rattle.kernel_code.specs.ListingReading.{code_of}
 use Rattle.verifier.specs.Kernels.{Kernel, IsKernel}
 use Rattle.cli.specs.Verdicts.{IsListingVerdict, IsSlopeVerdict, verdict_line}
+use Rattle.fallible.specs.Failures.{IfRefused}
+use Rattle.fallible.specs.declared.failure.Failure.{Failure}
+use Rattle.fallible.specs.declared.failure.Failure.TheVariants.{Memory, Refused}
+use Rattle.engine.specs.Engines.{EngineView, IsEngineOfTexts}
+use Rattle.engine.specs.PairEnergies.{HasNoEnergy, IsEnergy, IsEnergyOfTexts}
+use Rattle.engine.specs.declared.faults.EnergyFault.{EnergyFault}
+use Rattle.cli.specs.Failures.{command_fault}
+use Rattle.cli.specs.Refusals.{RefusesEnergy}
+use Rattle.cli.specs.declared.faults.CommandFault.TheVariants as command
 
 pub slope_verdict : (job : List ℕ) (said : JobValue) (k : Kernel) → reading_of limits job ≡ Ok said
     → IsSlopeKernel said k → IsKernel k → (steps bound : ℕ) → steps ≡ k.steps → bound ≡ k.bound
@@ -28,3 +37,14 @@ listing_verdict job listing said k read code table core cutoff accepted steps bo
       accepted = accepted;
       written = rw (← s, ← b) written;
     }
+
+-- ---- energies
+
+-- what an engine of texts tells is the energy of the texts
+pub energy_told : (job state : List ℕ) (e : EngineView) (z : ℤ) → IsEngineOfTexts job state e → IsEnergy e z → IsEnergyOfTexts job state z
+energy_told job state e z opens is = record { engine = e; opens = opens; is = is }
+
+-- what it doesn't tell is refused
+pub energy_untold : {A : Type 0} (job state : List ℕ) (e : EngineView) (failure : Failure (EnergyFault A)) → IsEngineOfTexts job state e → IfRefused failure (HasNoEnergy e) → RefusesEnergy job state (command_fault command.Energy failure)
+energy_untold job state e (Refused f) opens why = record { engine = e; opens = opens; why = why }
+energy_untold job state e Memory opens why = tt

@@ -1,5 +1,5 @@
 -- What is printed of a fault.
-use Rattle.std.specs.Prelude.{◌≡◌, ◌⊎◌, ℕ, ◌<◌, List, [], ◌∷◌, ◌++◌, Option, codes}
+use Rattle.std.specs.Prelude.{◌≡◌, ◌⊎◌, ℕ, ◌<◌, List, [], ◌∷◌, ◌++◌, codes}
 use Rattle.fallible.specs.Out.{Output, appended, AppendsBeginning}
 use Rattle.cli.specs.Statuses.{code_of, status_of}
 use Rattle.cli.specs.declared.faults.CommandFault.{CommandFault}

@@ -7,7 +7,7 @@ use Rattle.integrator.specs.declared.faults.SystemFault.TheVariants as system
 use Rattle.engine.specs.declared.faults.EngineFault.{EngineFault}
 use Rattle.engine.specs.declared.faults.EngineFault.TheVariants as engine
 use Rattle.engine.specs.declared.faults.OpenFault.{OpenFault}
-use Rattle.engine.specs.declared.faults.OpenFault.TheVariants as open
+use Rattle.engine.specs.declared.faults.OpenFault.TheVariants as opened
 use Rattle.engine.specs.declared.faults.RunFault.{RunFault}
 use Rattle.engine.specs.declared.faults.RunFault.TheVariants as run
 use Rattle.cli.specs.declared.faults.CommandFault.{CommandFault}
@@ -35,9 +35,9 @@ engine_status (engine.Kernel r) = status.RefusedKernel
 engine_status engine.ForceRange = status.RefusedData
 
 abbrev pub open_status : {A : Type 0} → OpenFault A → Status
-open_status (open.Job f) = status.RefusedData
-open_status (open.State f) = status.RefusedData
-open_status (open.Engine f) = engine_status f
+open_status (opened.Job f) = status.RefusedData
+open_status (opened.State f) = status.RefusedData
+open_status (opened.Engine f) = engine_status f
 
 abbrev pub run_status : {A : Type 0} → RunFault A → Status
 run_status (run.Open (Refused f)) = open_status f

@@ -1,4 +1,4 @@
-use Rattle.std.proofs.Common.{codes, inl, inr, refl}
+use Rattle.std.proofs.Common.{inr}
 use Rattle.cli.proofs.Printing.{written}
 use Rattle.cli.proofs.execution.report.Goals as goal
 

@@ -1,0 +1,15 @@
+use Rattle.std.proofs.Common.{◌≡◌, rules, to_z, of_z}
+use mir.Syntax.{w128}
+use Rattle.std.proofs.lemmas.Result.{err_from_is_err_and}
+use Rattle.cli.proofs.VerdictLaws.{energy_told, energy_untold}
+use Rattle.cli.proofs.verdicts.energy_known.Goals as goal
+
+pub returns-in_err-energy-clause-refused : goal.returns-in_err-energy-clause-refused
+returns-in_err-energy-clause-refused g c =
+    let p = err_from_is_err_and c.from_residual-in_err-energy.result c.from_residual-in_err-energy.ensures.1 in
+    rw (p.1, p.2) (energy_untold c.args.job.now c.args.state.now c.in_ok-engine.engine c.in_err-energy.field-0.0 c.in_ok-engine.ensures.opens c.in_err-energy.ensures.refused)
+
+pub returns-clause-is : goal.returns-clause-is
+returns-clause-is g c =
+    let same : to_z w128 (of_z w128 c.in_ok-energy.energy) ≡ c.in_ok-energy.energy = search rules in
+    rw same (energy_told c.args.job.now c.args.state.now c.in_ok-engine.engine c.in_ok-energy.energy c.in_ok-engine.ensures.opens c.in_ok-energy.ensures.value)
