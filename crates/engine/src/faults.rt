@@ -55,7 +55,7 @@ pub enum OpenFault<A: Allocator> {
     Engine(EngineFault<A>),
 }
 
-/// Why a run wrote no state. Nothing was written then, but for `Out`.
+/// Why a run wrote no state, or not all of its frames. Nothing of a state was written then, but for `Out`; of frames, those before.
 #[derive(Debug, Drop, Error)]
 pub enum RunFault<A: Allocator> {
     /// The texts have no engine, or memory ran out before there was one.
