@@ -50,7 +50,10 @@ pub fn read_frames<A: Allocator + Copy>(
 }
 
 #[tactic(auto, unfolding(crate::specs::GroReading::frames_of))]
-fn frames<A: Allocator + Copy>(alloc: A, bytes: &[u8]) -> Result<Vec<GroFrame<A>, A>, Failure<GroFault>>
+fn frames<A: Allocator + Copy>(
+    alloc: A,
+    bytes: &[u8],
+) -> Result<Vec<GroFrame<A>, A>, Failure<GroFault>>
     ensures { Gives (λ v. map frame_view v.items) (λ f. f) result (frames_of bytes.now) }
 {
     let mut frames = Vec::new(alloc);
