@@ -56,11 +56,13 @@ pub enum TestedFault<A: Allocator> {
 }
 
 /// Why a tested run wrote no state.
-#[derive(Debug, Drop)]
+#[derive(Debug, Drop, Error)]
 pub enum TestedRunFault<A: Allocator> {
     /// There is none, or memory ran out. Nothing was written.
+    #[error("{0}")]
     Run(Failure<TestedFault<A>>),
     /// The output failed, and a beginning of the new state was written.
+    #[error("{0}")]
     Out(OutFault),
 }
 
