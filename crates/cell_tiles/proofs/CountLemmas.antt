@@ -10,6 +10,7 @@ use Rattle.cell_tiles.specs.Cells.{numbers_below}
 -- ---- sums over lists
 
 module _ {A : Type 0} where
+  -- functions that are equal at each element have equal sums
   pub sum_same : (f g : A → ℕ) (xs : List A) → ((x : A) → f x ≡ g x) → sum_by f xs ≡ sum_by g xs
   sum_same f g [] h = refl
   sum_same f g (x ∷ xs) h =
@@ -17,6 +18,7 @@ module _ {A : Type 0} where
       let here : f x ≡ g x = h x in
       omega (arith, sum_by-cons f x xs, sum_by-cons g x xs)
 
+  -- a sum of nothing at each element is nothing
   pub sum_nothing : (f : A → ℕ) (xs : List A) → ((x : A) → f x ≡ 0) → sum_by f xs ≡ 0
   sum_nothing f [] h = refl
   sum_nothing f (x ∷ xs) h =
@@ -24,6 +26,7 @@ module _ {A : Type 0} where
       let here : f x ≡ 0 = h x in
       omega (arith, sum_by-cons f x xs)
 
+  -- the sum over those that pass is the sum over all, where one that doesn't pass counts nothing
   pub sum_filter : (f : A → ℕ) (p : A → Bool) (xs : List A) → sum_by f (filter p xs) ≡ sum_by (λ x. cond (p x) (f x) 0) xs
   sum_filter f p [] = refl
   sum_filter f p (x ∷ xs) =
@@ -35,12 +38,14 @@ module _ {A : Type 0} where
       first true = sum_by-cons f x (filter p xs)
       first false = omega arith
 
+-- the sum over images is the sum of the function of the image
 pub sum_map : {A B : Type 0} (f : B → ℕ) (g : A → B) (xs : List A) → sum_by f (map g xs) ≡ sum_by (λ x. f (g x)) xs
 sum_map f g [] = refl
 sum_map f g (x ∷ xs) =
     let rest : sum_by f (map g xs) ≡ sum_by (λ x. f (g x)) xs = sum_map f g xs in
     omega (arith, sum_by-cons f (g x) (map g xs), sum_by-cons (λ x. f (g x)) x xs)
 
+-- the sum over lists in a row is the sum of their sums
 pub sum_flat_map : {A B : Type 0} (g : B → ℕ) (f : A → List B) (xs : List A) → sum_by g (flat_map f xs) ≡ sum_by (λ x. sum_by g (f x)) xs
 sum_flat_map g f [] = refl
 sum_flat_map g f (x ∷ xs) =
@@ -49,17 +54,21 @@ sum_flat_map g f (x ∷ xs) =
 
 -- ---- the numbers below a bound
 
+-- the numbers below n + 1 are those below n, and n
 pub below_suc : (n : ℕ) → numbers_below (suc n) ≡ numbers_below n ++ n ∷ []
 unfolding numbers_below
 below_suc n = refl
 
+-- no number is below 0
 pub below_zero : numbers_below 0 ≡ []
 unfolding numbers_below
 below_zero = refl
 
+-- the same, as loops add one
 pub below_more : (n : ℕ) → numbers_below (n + 1) ≡ numbers_below n ++ n ∷ []
 below_more n = ap numbers_below (add-one n) ∙ below_suc n
 
+-- there are n numbers below n
 pub length_below : (n : ℕ) → length (numbers_below n) ≡ n
 length_below zero = ap length below_zero
 length_below (suc n) =
@@ -67,6 +76,7 @@ length_below (suc n) =
     let here : length (numbers_below (suc n)) ≡ length (numbers_below n) + 1 = ap length (below_suc n) ∙ length_push (numbers_below n) n in
     omega arith
 
+-- the number i stands at place i of the numbers below n
 pub get_below : (n i d : ℕ) → i < n → get_or (numbers_below n) i d ≡ i
 get_below zero i d h = absurd (omega arith)
 get_below (suc n) i d h = ap (λ xs. get_or xs i d) (below_suc n) ∙ ⊎_elim (λ lt. before (get_below n i d lt) lt) last (cases_lt i n)
@@ -82,12 +92,15 @@ get_below (suc n) i d h = ap (λ xs. get_or xs i d) (below_suc n) ∙ ⊎_elim (
         let e : i ≡ n = omega arith in
         get_or_push (numbers_below n) n d i (omega arith) ∙ sym e
 
+-- a sum over the numbers below 0 is nothing
 pub sum_below_zero : (f : ℕ → ℕ) → sum_by f (numbers_below 0) ≡ 0
 sum_below_zero f = ap (sum_by f) below_zero
 
+-- a sum over the numbers below n + 1 is that below n, and what is at n
 pub sum_below_suc : (f : ℕ → ℕ) (n : ℕ) → sum_by f (numbers_below (suc n)) ≡ sum_by f (numbers_below n) + f n
 sum_below_suc f n = ap (sum_by f) (below_suc n) ∙ sum_by_push f (numbers_below n) n
 
+-- functions that are equal below n have equal sums below n
 pub sum_below_same : (f g : ℕ → ℕ) (n : ℕ) → ((c : ℕ) → c < n → f c ≡ g c) → sum_by f (numbers_below n) ≡ sum_by g (numbers_below n)
 sum_below_same f g zero h = sum_below_zero f ∙ sym (sum_below_zero g)
 sum_below_same f g (suc n) h =
@@ -101,9 +114,11 @@ sum_below_same f g (suc n) h =
 abbrev pub same : ℕ → ℕ → ℕ
 same x y = cond (eqb x y) 1 0
 
+-- `same` is 1 where the two are equal
 pub same_here : (x y : ℕ) → x ≡ y → same x y ≡ 1
 same_here x y e = grind (arith, nat_tests)
 
+-- `same` is nothing where the two differ
 pub same_else : (x y : ℕ) → x ≢ y → same x y ≡ 0
 same_else x y ne = grind (arith, nat_tests)
 
@@ -127,11 +142,10 @@ sum_below_one f a (suc n) h =
 
 -- ---- how often a number stands in a list
 
+-- how often x stands in the list
 abbrev pub count : ℕ → List ℕ → ℕ
 count x xs = count_by (eqb x) xs
 
-pub count-cons : (x y : ℕ) (ys : List ℕ) → count x (y ∷ ys) ≡ same x y + count x ys
-count-cons x y ys = sum_by-cons (same x) y ys
-
+-- one element more counts where it is x
 pub count_push : (x y : ℕ) (ys : List ℕ) → count x (ys ++ y ∷ []) ≡ count x ys + same x y
 count_push x y ys = sum_by_push (same x) ys y

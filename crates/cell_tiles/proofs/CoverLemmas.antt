@@ -1,16 +1,17 @@
 -- Each pair of atoms of neighbouring cells stands in the tiles once, and no other pair stands there.
-use Rattle.std.proofs.Common.{◌≡◌, ℕ, suc, ◌+◌, ◌*◌, ◌<◌, ◌≤◌, ◌≢◌, Bool, true, false, cond, ◌&&◌, eqb, ltb, leb, List, [], length, take, filter, sum_by, refl, sym, ap, ◌∙◌, ⊎_elim, arith}
+use Rattle.std.proofs.Common.{◌≡◌, ℕ, suc, ◌+◌, ◌*◌, ◌<◌, ◌≤◌, ◌≢◌, Bool, true, false, cond, ◌&&◌, eqb, ltb, leb, List, length, take, filter, sum_by, refl, sym, ap, ◌∙◌, ⊎_elim, arith}
 use Rattle.std.specs.List.{All}
 use Rattle.std.proofs.lemmas.Bool.Decides.{nat_tests}
 use Rattle.std.proofs.lemmas.Bool.{cases_lt, cases_eq, eq-eqb, ne_eqb, lt-ltb, le-ltb, le-leb, lt-leb}
 use Rattle.std.proofs.lemmas.List.{take_all}
-use Rattle.std.proofs.lemmas.List.Elements.{All-get_or}
-use Rattle.ring_box.specs.Cells.{ArePlaces}
+use Rattle.ring_box.specs.Places.{ArePlaces}
+use Rattle.ring_box.specs.declared.vectors.CellBits.{CellBits}
+use Rattle.ring_box.specs.declared.vectors.Place3.{Place3}
 use Rattle.cell_tiles.specs.Cells.{IsGrid, are_near, cell_number, cells_of, members_among, members_of, numbers_below, places_of}
 use Rattle.cell_tiles.specs.Tiles.{members_at, pairs_among, pairs_between, pairs_in, tiles_of, tiles_with}
 use Rattle.cell_tiles.specs.Cover.{Covers, are_close, times}
 use Rattle.cell_tiles.proofs.CountLemmas.{count, same, same_here, same_else, sum_below_one, sum_below_same, sum_filter, sum_flat_map, sum_map, sum_nothing}
-use Rattle.cell_tiles.proofs.CellLemmas.{near_are_neighbours, near_sym, number_below}
+use Rattle.cell_tiles.proofs.CellLemmas.{are_places, near_are_neighbours, near_sym, number_below}
 use Rattle.cell_tiles.proofs.MemberLemmas.{members_here}
 use Rattle.cell_tiles.proofs.PairLemmas.{not_both, one_way, times_among, times_between, times_turned, times_twice}
 
@@ -20,7 +21,7 @@ use Rattle.cell_tiles.proofs.PairLemmas.{not_both, one_way, times_among, times_b
 abbrev inside : ℕ → ℕ → ℕ → ℕ → ℕ
 inside n a k c = cond (ltb a n) (same k c) 0
 
-count_members : (bits : List ℕ) (frame : List (List ℕ)) (n a c : ℕ) → count a (members_among bits frame n c) ≡ inside n a (cell_number bits (places_of frame a)) c
+count_members : (bits : CellBits) (frame : List Place3) (n a c : ℕ) → count a (members_among bits frame n c) ≡ inside n a (cell_number bits (places_of frame a)) c
 count_members bits frame n a c =
     let p : ℕ → Bool = λ b. eqb (cell_number bits (places_of frame b)) c in
     sum_filter (same a) p (numbers_below n)
@@ -59,6 +60,7 @@ module _ (members : List (List ℕ)) (lo hi : ℕ) where
       turned : (x y z w : ℕ) → 1 * y * x + 1 * w * z ≡ x * y + z * w
       turned x y z w = omega arith
 
+  -- in a tile a pair in order stands as often as its two atoms are met in the tile's cells
   pub times_in_tile : (c d : ℕ) → lo < hi → times (lo, hi) (pairs_in members (c, d)) ≡ in_tile c d (λ c. count lo (members_at members c)) (λ c. count hi (members_at members c))
   times_in_tile c d p = by_test (eqb c d)
     where
@@ -67,6 +69,7 @@ module _ (members : List (List ℕ)) (lo hi : ℕ) where
       by_test true = times_one_cell c p
       by_test false = times_two_cells c d p
 
+  -- a pair that is not in order stands in no tile
   pub times_turned_in_tile : (c d : ℕ) → hi < lo → times (lo, hi) (pairs_in members (c, d)) ≡ 0
   times_turned_in_tile c d p = by_test (eqb c d)
     where
@@ -108,7 +111,7 @@ times_twice_in_tile members a k c d n e f = ⊎_elim one two (cases_eq c d)
 
 -- ---- the sum over all tiles
 
-over_tiles : (bits : List ℕ) (f : ℕ × ℕ → ℕ) → sum_by f (tiles_of bits) ≡ sum_by (λ d. sum_by (λ c. cond (are_near bits c d) (f (c, d)) 0) (numbers_below (suc d))) (numbers_below (cells_of bits))
+over_tiles : (bits : CellBits) (f : ℕ × ℕ → ℕ) → sum_by f (tiles_of bits) ≡ sum_by (λ d. sum_by (λ c. cond (are_near bits c d) (f (c, d)) 0) (numbers_below (suc d))) (numbers_below (cells_of bits))
 over_tiles bits f =
     sum_flat_map f (tiles_with bits) (numbers_below (cells_of bits))
     ∙ sum_below_same (λ d. sum_by f (tiles_with bits d)) (λ d. sum_by (λ c. cond (are_near bits c d) (f (c, d)) 0) (numbers_below (suc d))) (cells_of bits) (λ d lt. one d)
@@ -119,7 +122,7 @@ over_tiles bits f =
         ∙ sum_filter (λ c. f (c, d)) (λ c. are_near bits c d) (numbers_below (suc d))
 
 -- what is nothing on each tile
-pub no_tiles : (bits : List ℕ) (f : ℕ × ℕ → ℕ) → ((c d : ℕ) → c < cells_of bits → d < cells_of bits → f (c, d) ≡ 0) → sum_by f (tiles_of bits) ≡ 0
+pub no_tiles : (bits : CellBits) (f : ℕ × ℕ → ℕ) → ((c d : ℕ) → c < cells_of bits → d < cells_of bits → f (c, d) ≡ 0) → sum_by f (tiles_of bits) ≡ 0
 no_tiles bits f h =
     over_tiles bits f
     ∙ (sum_below_same (λ d. sum_by (λ c. cond (are_near bits c d) (f (c, d)) 0) (numbers_below (suc d))) (λ _. 0) (cells_of bits) row
@@ -135,7 +138,7 @@ no_tiles bits f h =
         ∙ sum_nothing (λ _. 0) (numbers_below (suc d)) (λ _. refl)
 
 -- what is 1 on the tile of the cells p and q, p the lower, and nothing on others
-pub one_tile : (bits : List ℕ) (f : ℕ × ℕ → ℕ) (p q : ℕ) → p ≤ q → q < cells_of bits → ((c d : ℕ) → c ≤ d → d < cells_of bits → f (c, d) ≡ same p c * same q d) → sum_by f (tiles_of bits) ≡ cond (are_near bits p q) 1 0
+pub one_tile : (bits : CellBits) (f : ℕ × ℕ → ℕ) (p q : ℕ) → p ≤ q → q < cells_of bits → ((c d : ℕ) → c ≤ d → d < cells_of bits → f (c, d) ≡ same p c * same q d) → sum_by f (tiles_of bits) ≡ cond (are_near bits p q) 1 0
 one_tile bits f p q le below h =
     over_tiles bits f
     ∙ (sum_below_same (λ d. sum_by (λ c. cond (are_near bits c d) (f (c, d)) 0) (numbers_below (suc d))) (λ d. cond (ltb p (suc d)) (cond (are_near bits p d) (same p p * same q d) 0) 0) (cells_of bits) row
@@ -197,21 +200,21 @@ high_first p q c d h k = ⊎_elim one two (cases_eq c d)
 same_in_tile : (c d : ℕ) (x y v w : ℕ → ℕ) → x c ≡ v c → x d ≡ v d → y c ≡ w c → y d ≡ w d → in_tile c d x y ≡ in_tile c d v w
 same_in_tile c d x y v w e f g h = rw (e, f, g, h) refl
 
-either_near : (bits : List ℕ) (f : ℕ × ℕ → ℕ) (p q : ℕ) → p < cells_of bits → q < cells_of bits → ((c d : ℕ) → c ≤ d → d < cells_of bits → f (c, d) ≡ in_tile c d (same p) (same q)) → sum_by f (tiles_of bits) ≡ cond (are_near bits p q) 1 0
+either_near : (bits : CellBits) (f : ℕ × ℕ → ℕ) (p q : ℕ) → p < cells_of bits → q < cells_of bits → ((c d : ℕ) → c ≤ d → d < cells_of bits → f (c, d) ≡ in_tile c d (same p) (same q)) → sum_by f (tiles_of bits) ≡ cond (are_near bits p q) 1 0
 either_near bits f p q k l h =
     ⊎_elim
     (λ lt. one_tile bits f q p (omega arith) k (λ c d le below. h c d le below ∙ high_first p q c d lt le) ∙ ap (λ b. cond b 1 0) (near_sym bits q p))
     (λ le. one_tile bits f p q le l (λ c d o below. h c d o below ∙ low_first p q c d le o)) (cases_lt q p)
 
-module _ (bits : List ℕ) (frame : List (List ℕ)) (g : IsGrid bits) (places : All ArePlaces frame) where
+module _ (bits : CellBits) (frame : List Place3) (g : IsGrid bits) (places : All ArePlaces frame) where
   abbrev number : ℕ → ℕ
   number a = cell_number bits (places_of frame a)
 
   abbrev times_at : ℕ → ℕ → ℕ × ℕ → ℕ
   times_at lo hi t = times (lo, hi) (pairs_in (members_of bits frame) t)
 
-  number_is_below : (a : ℕ) → a < length frame → number a < cells_of bits
-  number_is_below a h = number_below bits (places_of frame a) g (All-get_or ArePlaces frame a [] h places)
+  number_is_below : (a : ℕ) → number a < cells_of bits
+  number_is_below a = number_below bits (places_of frame a) g (are_places frame a places)
 
   counted : (a c : ℕ) → c < cells_of bits → count a (members_at (members_of bits frame) c) ≡ inside (length frame) a (number a) c
   counted a c h = ap (count a) (members_here bits frame (length frame) c h) ∙ count_members bits frame (length frame) a c
@@ -225,13 +228,13 @@ module _ (bits : List ℕ) (frame : List (List ℕ)) (g : IsGrid bits) (places :
   both_in : (lo hi : ℕ) → lo < hi → hi < length frame → sum_by (times_at lo hi) (tiles_of bits) ≡ cond (are_close bits frame (lo, hi)) 1 0
   both_in lo hi p q =
       let l : lo < length frame = omega arith in
-      either_near bits (times_at lo hi) (number lo) (number hi) (number_is_below lo l) (number_is_below hi q)
+      either_near bits (times_at lo hi) (number lo) (number hi) (number_is_below lo) (number_is_below hi)
       (λ c d le below.
       let k : c < cells_of bits = omega arith in
       times_in_tile (members_of bits frame) lo hi c d p
       ∙ same_in_tile c d (λ c. count lo (members_at (members_of bits frame) c)) (λ c. count hi (members_at (members_of bits frame) c)) (same (number lo)) (same (number hi))
       (counted_in lo c l k) (counted_in lo d l below) (counted_in hi c q k) (counted_in hi d q below))
-      ∙ ap (λ b. cond b 1 0) (near_are_neighbours bits (places_of frame lo) (places_of frame hi) g (All-get_or ArePlaces frame lo [] l places) (All-get_or ArePlaces frame hi [] q places))
+      ∙ ap (λ b. cond b 1 0) (near_are_neighbours bits (places_of frame lo) (places_of frame hi) g (are_places frame lo places) (are_places frame hi places))
 
   high_out : (lo hi : ℕ) → lo < hi → length frame ≤ hi → sum_by (times_at lo hi) (tiles_of bits) ≡ 0
   high_out lo hi p q =
@@ -254,6 +257,7 @@ module _ (bits : List ℕ) (frame : List (List ℕ)) (g : IsGrid bits) (places :
           ap (λ a. times_at lo a (c, d)) (sym e)
           ∙ times_twice_in_tile (members_of bits frame) lo (number lo) c d (length frame) (counted lo c k) (counted lo d l)
 
+  -- the tiles have each pair of atoms of neighbouring cells once, and no other pair
   pub covers : Covers bits frame
   covers p =
       sum_map (times p) (pairs_in (members_of bits frame)) (tiles_of bits)

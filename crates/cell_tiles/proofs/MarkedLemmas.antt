@@ -9,6 +9,7 @@ use Rattle.std.proofs.Math.Seq.{get_or-append_seam, take-append_seam}
 use Rattle.cell_tiles.specs.Near.{marked}
 use Rattle.cell_tiles.specs.Tiles.{pairs_with}
 
+-- of no numbers none is marked
 pub marked_none : (marks : List Bool) → marked marks 0 ≡ []
 unfolding marked
 marked_none marks = refl
@@ -89,6 +90,7 @@ module _ (marks : List Bool) (numbers : List ℕ) (near row : ℕ) (written : ta
       let here : get_or (marked marks row) e 0 ≡ get_or numbers e 0 = ap (λ xs. get_or xs e 0) (sym written) ∙ get_or-take near numbers e 0 lt in
       subst (λ k. IsAt marks (marked marks row) row e k) here (is_at marks row e (omega (arith, all_written, lt)))
 
+  -- each number that was written is below the row's length
   pub number_below : (e : ℕ) → e < near → get_or numbers e 0 < row
   number_below e lt = (number_at e lt).below
 
@@ -98,6 +100,7 @@ module _ (marks : List Bool) (numbers : List ℕ) (near row : ℕ) (written : ta
     pub past : taken ≤ r
     pub before : take taken (take near numbers) ≡ marked marks r
 
+  -- once all are taken, the end of the row is reached
   pub reached_all : (taken r : ℕ) → taken ≡ near → r ≡ row → IsReached taken r
   reached_all taken r all is = record {
     within = omega arith;
@@ -105,6 +108,7 @@ module _ (marks : List Bool) (numbers : List ℕ) (near row : ℕ) (written : ta
     before = ap (λ n. take n (take near numbers)) all ∙ take_all near (take near numbers) (omega (arith, length-take-le near numbers wide)) ∙ written ∙ ap (marked marks) (sym is);
   }
 
+  -- before that, the next one that was written is reached
   pub reached_some : (taken r : ℕ) → taken < near → r ≡ get_or numbers taken 0 → IsReached taken r
   reached_some taken r lt is =
       let h : IsAt marks (marked marks row) row taken r = subst (λ k. IsAt marks (marked marks row) row taken k) (sym is) (number_at taken lt) in

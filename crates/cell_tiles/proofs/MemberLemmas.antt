@@ -5,34 +5,37 @@ use Rattle.std.proofs.lemmas.Bool.{cases_eq, eq-eqb, ne_eqb}
 use Rattle.std.proofs.lemmas.List.{ext_get_or, get_or-map, get_or-replicate, get_or-set_other, get_or-set_same, length-map, length-replicate, length-set}
 use Rattle.std.proofs.lemmas.List.Elements.{All-filter, All-from_get_or, filter-append}
 use Rattle.std.proofs.lemmas.List.Sums.{count_by-le-length, length-filter}
+use Rattle.ring_box.specs.declared.vectors.CellBits.{CellBits}
+use Rattle.ring_box.specs.declared.vectors.Place3.{Place3}
 use Rattle.cell_tiles.specs.Cells.{cell_number, cells_of, first_members, members_among, members_of, numbers_below, places_of}
 use Rattle.cell_tiles.specs.Tiles.{members_at}
 use Rattle.cell_tiles.proofs.CountLemmas.{below_more, below_zero, get_below, length_below}
 
-pub length_members : (bits : List ℕ) (frame : List (List ℕ)) (n : ℕ) → length (first_members bits frame n) ≡ cells_of bits
+-- there is a list of atoms for each cell
+pub length_members : (bits : CellBits) (frame : List Place3) (n : ℕ) → length (first_members bits frame n) ≡ cells_of bits
 length_members bits frame n = length-map (numbers_below (cells_of bits)) (members_among bits frame n) ∙ length_below (cells_of bits)
 
 -- the atoms of a cell, out of those of all cells
-pub members_here : (bits : List ℕ) (frame : List (List ℕ)) (n c : ℕ) → c < cells_of bits → get_or (first_members bits frame n) c [] ≡ members_among bits frame n c
+pub members_here : (bits : CellBits) (frame : List Place3) (n c : ℕ) → c < cells_of bits → get_or (first_members bits frame n) c [] ≡ members_among bits frame n c
 members_here bits frame n c h =
     let l = length_below (cells_of bits) in
     get_or-map (members_among bits frame n) (numbers_below (cells_of bits)) c 0 [] (omega arith)
     ∙ ap (members_among bits frame n) (get_below (cells_of bits) c 0 h)
 
-among_none : (bits : List ℕ) (frame : List (List ℕ)) (c : ℕ) → members_among bits frame 0 c ≡ []
+among_none : (bits : CellBits) (frame : List Place3) (c : ℕ) → members_among bits frame 0 c ≡ []
 among_none bits frame c = ap (filter (λ a. eqb (cell_number bits (places_of frame a)) c)) below_zero
 
 one_filtered : (p : ℕ → Bool) (n : ℕ) (b : Bool) → p n ≡ b → filter p (n ∷ []) ≡ cond b (n ∷ []) []
 one_filtered p n b e = rw e refl
 
-among_more : (bits : List ℕ) (frame : List (List ℕ)) (n c : ℕ) (b : Bool) → eqb (cell_number bits (places_of frame n)) c ≡ b →
+among_more : (bits : CellBits) (frame : List Place3) (n c : ℕ) (b : Bool) → eqb (cell_number bits (places_of frame n)) c ≡ b →
     members_among bits frame (n + 1) c ≡ members_among bits frame n c ++ cond b (n ∷ []) []
 among_more bits frame n c b e =
     let p : ℕ → Bool = λ a. eqb (cell_number bits (places_of frame a)) c in
     ap (filter p) (below_more n) ∙ (filter-append p (numbers_below n) (n ∷ []) ∙ ap (λ xs. filter p (numbers_below n) ++ xs) (one_filtered p n b e))
 
 -- before the first atom each cell is empty
-pub no_members : (bits : List ℕ) (frame : List (List ℕ)) → replicate (cells_of bits) [] ≡ first_members bits frame 0
+pub no_members : (bits : CellBits) (frame : List Place3) → replicate (cells_of bits) [] ≡ first_members bits frame 0
 no_members bits frame =
     let l = length_members bits frame 0 in
     let r : length (replicate {A = List ℕ} (cells_of bits) []) ≡ cells_of bits = length-replicate (cells_of bits) [] in
@@ -40,7 +43,7 @@ no_members bits frame =
     (λ c h. let lt : c < cells_of bits = omega arith in get_or-replicate (cells_of bits) c [] [] lt ∙ sym (members_here bits frame 0 c lt ∙ among_none bits frame c))
 
 -- the next atom is put behind those of its cell
-pub next_member : (bits : List ℕ) (frame : List (List ℕ)) (n k : ℕ) → k ≡ cell_number bits (places_of frame n) → k < cells_of bits →
+pub next_member : (bits : CellBits) (frame : List Place3) (n k : ℕ) → k ≡ cell_number bits (places_of frame n) → k < cells_of bits →
     set (first_members bits frame n) k (members_at (first_members bits frame n) k ++ n ∷ []) ≡ first_members bits frame (n + 1)
 next_member bits frame n k e h =
     let l = length_members bits frame n in
@@ -67,7 +70,7 @@ next_member bits frame n k e h =
         ∙ (sym (among_more bits frame n c false t) ∙ sym (members_here bits frame (n + 1) c lt))))
 
 -- the atoms of a cell are atoms of the frame
-pub members_inside : (bits : List ℕ) (frame : List (List ℕ)) → All (λ xs. All (λ a. a < length frame) xs) (members_of bits frame)
+pub members_inside : (bits : CellBits) (frame : List Place3) → All (λ xs. All (λ a. a < length frame) xs) (members_of bits frame)
 members_inside bits frame =
     let l = length_members bits frame (length frame) in
     All-from_get_or (λ xs. All (λ a. a < length frame) xs) (members_of bits frame) [] (λ c lt. here c (omega arith))
@@ -82,7 +85,7 @@ members_inside bits frame =
         rw (members_here bits frame (length frame) c lt) (All-filter p (λ a. a < length frame) (numbers_below (length frame)) below)
 
 -- no cell has more atoms than there are
-pub few_members : (bits : List ℕ) (frame : List (List ℕ)) (n m : ℕ) → n ≤ m → All (λ xs. length xs ≤ m) (first_members bits frame n)
+pub few_members : (bits : CellBits) (frame : List Place3) (n m : ℕ) → n ≤ m → All (λ xs. length xs ≤ m) (first_members bits frame n)
 few_members bits frame n m h =
     let l = length_members bits frame n in
     All-from_get_or (λ xs. length xs ≤ m) (first_members bits frame n) [] (λ c lt. here c (omega arith))

@@ -1,18 +1,20 @@
 -- The pairs of a tile that may act, as they are listed.
-use Rattle.std.proofs.Common.{◌≡◌, ℕ, zero, suc, ◌+◌, ◌^◌, ◌<◌, ◌≤◌, Bool, true, false, List, [], ◌∷◌, ◌++◌, length, get_or, set, take, drop, map, filter, None, inl, inr, refl, subst, sym, ap, ◌∙◌, arith, eqb, eqb-true, length-append, length-drop}
-use Rattle.std.specs.Prelude.{nat_lt, slice_index}
+use Rattle.std.proofs.Common.{◌≡◌, ℕ, zero, suc, ◌+◌, ◌<◌, ◌≤◌, Bool, true, false, List, [], ◌∷◌, ◌++◌, length, get_or, set, take, drop, map, filter, None, inl, inr, refl, subst, sym, ap, ◌∙◌, arith, eqb, eqb-true, length-append, length-drop}
+use Rattle.std.specs.Prelude.{nat_lt}
 use Rattle.std.specs.List.{All}
 use Rattle.std.proofs.lemmas.Bool.{cases_Bool}
 use Rattle.std.proofs.lemmas.List.{append_assoc, drop-append-le, drop-drop, drop-map, drop_all, get_or-map, get_or_append_left, length-map, map-append, take-append-drop, take_more, take_more_set}
 use Rattle.std.proofs.lemmas.List.Elements.{All-drop, All-from_get_or, All-get_or, All-push, All-take, All-weaker, filter-append, filter_passes}
 use Rattle.ring_box.specs.Acting.{AreInCell, Reach, acting_of}
-use Rattle.ring_box.specs.Cells.{ArePlaces, cell_of}
+use Rattle.ring_box.specs.Places.{ArePlaces}
 use Rattle.ring_box.specs.declared.boxes.RingBox.{RingBox}
 use Rattle.ring_box.proofs.ActingLemmas.{idle_turned}
-use Rattle.cell_tiles.specs.Cells.{IsGrid, cell_number, cells_of, members_of, numbers_below, places_of, x_number, y_number, z_number}
+use Rattle.ring_box.specs.declared.vectors.CellBits.{CellBits}
+use Rattle.ring_box.specs.declared.vectors.Place3.{Place3}
+use Rattle.cell_tiles.specs.Cells.{IsGrid, cell_number, cells_of, members_of, numbers_below, numbers_of, places_of}
 use Rattle.cell_tiles.specs.Near.{IsPairOf, act}
 use Rattle.cell_tiles.specs.Tiles.{members_at, pair_of, pairs_with}
-use Rattle.cell_tiles.proofs.CellLemmas.{along_below, x_of_place, y_of_place, z_of_place}
+use Rattle.cell_tiles.proofs.CellLemmas.{are_places, numbers_back}
 use Rattle.cell_tiles.proofs.MemberLemmas.{members_here}
 
 -- ---- the atoms of a pair
@@ -24,38 +26,29 @@ both_inside n a b p =
       | inr e ↦ let q : IsPairOf n (b, a) = rw e at p in (q.1, omega (arith, q.0, q.1))
     ]
 
+-- where the pairs of an atom with others are pairs of n atoms, so is that with each other one
 pub pair_inside : (n a : ℕ) (bs : List ℕ) (j : ℕ) → All (IsPairOf n) (pairs_with a bs) → j < length bs → IsPairOf n (pair_of a (get_or bs j 0))
 pair_inside n a bs j all lt =
     rw (get_or-map (pair_of a) bs j 0 (0, 0) lt) at (All-get_or (IsPairOf n) (pairs_with a bs) j (0, 0) (omega (arith, length-map bs (pair_of a), lt)) all)
 
+-- where an atom has pairs with others and they are pairs of n atoms, it is one of the n
 pub first_inside : (n a : ℕ) (bs : List ℕ) (j : ℕ) → All (IsPairOf n) (pairs_with a bs) → j < length bs → a < n
 first_inside n a bs j all lt = (both_inside n a (get_or bs j 0) (pair_inside n a bs j all lt)).0
 
-pub second_inside : (n a : ℕ) (bs : List ℕ) (j : ℕ) → All (IsPairOf n) (pairs_with a bs) → j < length bs → get_or bs j 0 < n
-second_inside n a bs j all lt = (both_inside n a (get_or bs j 0) (pair_inside n a bs j all lt)).1
-
 -- two atoms that don't act are a pair that doesn't
-pub pair_idle : (d : Reach) (b : RingBox) (frame : List (List ℕ)) (i j : ℕ) → ArePlaces (places_of frame i) → ArePlaces (places_of frame j) → acting_of d b (places_of frame i) (places_of frame j) ≡ None → act d b frame (pair_of i j) ≡ false
-pair_idle d b frame i j p q h =
+pub pair_idle : (d : Reach) (b : RingBox) (frame : List Place3) (i j : ℕ) → All ArePlaces frame → acting_of d b (places_of frame i) (places_of frame j) ≡ None → act d b frame (pair_of i j) ≡ false
+pair_idle d b frame i j places h =
     elim (cases_Bool (nat_lt i j)) [
       | inl e ↦ rw (e, h) refl
-      | inr e ↦ rw (e, idle_turned d b (places_of frame i) (places_of frame j) p q h) refl
+      | inr e ↦ rw (e, idle_turned d b (places_of frame i) (places_of frame j) (are_places frame i places) (are_places frame j places) h) refl
     ]
 
 -- ---- cells
 
 -- an atom lies in the cell that has its number
-pub lies_in : (bits x : List ℕ) (c : ℕ) → IsGrid bits → ArePlaces x → cell_number bits x ≡ c → AreInCell bits (x_number bits c ∷ y_number bits c ∷ z_number bits c ∷ []) x
-lies_in bits x c g p e =
-    let j = along_below (slice_index x 1) (slice_index bits 1) g.1 p.1 in
-    let k = along_below (slice_index x 2) (slice_index bits 2) g.2 p.2 in
-    let i = cell_of (slice_index x 0) (slice_index bits 0) in
-    let m = cell_of (slice_index x 1) (slice_index bits 1) in
-    let n = cell_of (slice_index x 2) (slice_index bits 2) in (
-      (p.0, sym (x_of_place i m n (2 ^ slice_index bits 1) (2 ^ slice_index bits 2) j k) ∙ ap (x_number bits) e),
-      (p.1, sym (y_of_place i m n (2 ^ slice_index bits 1) (2 ^ slice_index bits 2) j k) ∙ ap (y_number bits) e),
-      (p.2, sym (z_of_place i m n (2 ^ slice_index bits 1) (2 ^ slice_index bits 2) k) ∙ ap (z_number bits) e),
-    )
+pub lies_in : (bits : CellBits) (p : Place3) (c : ℕ) → IsGrid bits → ArePlaces p → cell_number bits p ≡ c → AreInCell bits (numbers_of bits c) p
+lies_in bits p c g h e =
+    subst (λ n. AreInCell bits n p) (sym (numbers_back bits p g h) ∙ ap (numbers_of bits) e) ((h.x, refl), (h.y, refl), (h.z, refl))
 
 -- ---- lists of those that act
 
@@ -113,7 +106,7 @@ row_all P ps row rest next all here =
     All-from_get_or P row (0, 0) (λ i lt. subst P (get_or_append_left row rest (0, 0) i lt) (All-get_or P (row ++ rest) i (0, 0) (omega (arith, length-append row rest, lt)) behind))
 
 -- the atoms of a cell have its number
-pub members_lie : (bits : List ℕ) (frame : List (List ℕ)) (c : ℕ) → c < cells_of bits → All (λ a. cell_number bits (places_of frame a) ≡ c) (members_at (members_of bits frame) c)
+pub members_lie : (bits : CellBits) (frame : List Place3) (c : ℕ) → c < cells_of bits → All (λ a. cell_number bits (places_of frame a) ≡ c) (members_at (members_of bits frame) c)
 members_lie bits frame c h =
     let here = members_here bits frame (length frame) c h in
     let passes = filter_passes (λ a. eqb (cell_number bits (places_of frame a)) c) (numbers_below (length frame)) in
@@ -126,16 +119,16 @@ part_lies P xs ys from count part all = rw part (All-take P count (drop from ys)
 -- ---- places beside atoms
 
 -- the places of the atoms of a cell
-pub places_at : (f : ℕ → List ℕ) (members : List (List ℕ)) (c : ℕ) → get_or (map (map f) members) c [] ≡ map f (members_at members c)
+pub places_at : (f : ℕ → Place3) (members : List (List ℕ)) (c : ℕ) → get_or (map (map f) members) c [] ≡ map f (members_at members c)
 places_at f [] c = refl
 places_at f (m ∷ members) zero = refl
 places_at f (m ∷ members) (suc c) = places_at f members c
 
-take_map : (f : ℕ → List ℕ) (n : ℕ) (xs : List ℕ) → take n (map f xs) ≡ map f (take n xs)
+take_map : (f : ℕ → Place3) (n : ℕ) (xs : List ℕ) → take n (map f xs) ≡ map f (take n xs)
 take_map f zero xs = refl
 take_map f (suc n) [] = refl
 take_map f (suc n) (x ∷ xs) = ap (λ ys. f x ∷ ys) (take_map f n xs)
 
 -- those of some of them
-pub part_places : (f : ℕ → List ℕ) (xs ys : List ℕ) (from count : ℕ) → xs ≡ take count (drop from ys) → take count (drop from (map f ys)) ≡ map f xs
+pub part_places : (f : ℕ → Place3) (xs ys : List ℕ) (from count : ℕ) → xs ≡ take count (drop from ys) → take count (drop from (map f ys)) ≡ map f xs
 part_places f xs ys from count part = ap (take count) (drop-map f from ys) ∙ (take_map f count (drop from ys) ∙ ap (map f) (sym part))

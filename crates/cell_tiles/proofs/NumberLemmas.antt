@@ -14,6 +14,7 @@ length_with a bs = length-map bs (pair_of a)
 
 -- ---- two lists
 
+-- two lists make as many pairs as the product of their lengths
 pub length_between : (xs ys : List ℕ) → length (pairs_between xs ys) ≡ length xs * length ys
 length_between [] ys = omega arith
 length_between (x ∷ xs) ys =
@@ -21,17 +22,21 @@ length_between (x ∷ xs) ys =
     let here = length_with x ys in
     omega (arith, length-append (pairs_with x ys) (pairs_between xs ys))
 
+-- where there is a pair of two lists, the second has an atom
 pub between_some : (xs ys : List ℕ) (k : ℕ) → k < length (pairs_between xs ys) → 0 < length ys
 between_some xs ys k h =
     let l = length_between xs ys in
     ⊎_elim (λ e. let z : length xs * length ys ≡ 0 = rw e (omega arith) in absurd (omega arith)) (λ ne. omega arith) (cases_eq (length ys) 0)
 
+-- the row of a number is an atom of the first list
 pub between_row : (xs ys : List ℕ) (k : ℕ) → k < length (pairs_between xs ys) → k / length ys < length xs
 between_row xs ys k h = let l = length_between xs ys in div_below k (length ys) (length xs) (between_some xs ys k h) (omega arith)
 
+-- its column is an atom of the second
 pub between_column : (xs ys : List ℕ) (k : ℕ) → k < length (pairs_between xs ys) → k % length ys < length ys
 between_column xs ys k h = mod_below k (length ys) (between_some xs ys k h)
 
+-- the pair with the number of row i and column j is that of the atoms i and j
 pub get_between : (xs ys : List ℕ) (i j n : ℕ) → i < length xs → j < length ys → n ≡ i * length ys + j → get_or (pairs_between xs ys) n (0, 0) ≡ pair_of (get_or xs i 0) (get_or ys j 0)
 get_between [] ys i j n p q e = absurd (omega arith)
 get_between (x ∷ xs) ys zero j n p q e =
@@ -45,6 +50,7 @@ get_between (x ∷ xs) ys (suc i) j n p q e =
     get_or-append_right (pairs_with x ys) (pairs_between xs ys) (length ys) n (0, 0) l (omega arith)
     ∙ get_between xs ys i j (n - length ys) (omega arith) q (omega arith)
 
+-- the pair with the number k is that of its row's and its column's atoms
 pub between_at : (xs ys : List ℕ) (k : ℕ) → k < length (pairs_between xs ys) → slice_get (pairs_between xs ys) k ≡ Some (pair_of (get_or xs (k / length ys) 0) (get_or ys (k % length ys) 0))
 between_at xs ys k h =
     slice_get-get_or (pairs_between xs ys) k (0, 0) h
@@ -52,6 +58,7 @@ between_at xs ys k h =
 
 -- ---- one list
 
+-- m atoms of one list make half of m * m - m pairs
 pub length_among : (xs : List ℕ) (m : ℕ) → m ≤ length xs → 2 * length (pairs_among xs m) + m ≡ m * m
 length_among xs zero h = rw (among_none xs) (omega arith)
 length_among xs (suc m) h =
@@ -62,6 +69,7 @@ length_among xs (suc m) h =
     let front : length (take m xs) ≡ m = length-take-le m xs (omega arith) in
     omega arith
 
+-- the code counts the pairs of one list as half of the length's square less the length
 pub among_count : (xs : List ℕ) → (length xs * length xs - length xs) / 2 ≡ length (pairs_among xs (length xs))
 among_count xs = let l = length_among xs (length xs) (omega arith) in omega arith
 
@@ -80,6 +88,7 @@ number_below i j k m l p q e f =
     difference : (m j : ℕ) → j < m → m ≡ suc j + (m - suc j)
     difference m j q = omega arith
 
+-- the pair with the number of row j and column i is that of the atoms j and i
 pub get_among : (xs : List ℕ) (m i j k : ℕ) → m ≤ length xs → i < j → j < m → 2 * k + j ≡ j * j + 2 * i → get_or (pairs_among xs m) k (0, 0) ≡ pair_of (get_or xs j 0) (get_or xs i 0)
 get_among xs zero i j k h p q e = absurd (omega arith)
 get_among xs (suc m) i j k h p q e =
@@ -118,11 +127,13 @@ among_row xs i j k p e h =
         let z : d.0 ≤ d.0 * d.0 = square_le d.0 in
         omega arith
 
+-- the same of a number that is known to be a pair's
 pub among_at : (xs : List ℕ) (i j k : ℕ) → i < j → 2 * k + j ≡ j * j + 2 * i → k < length (pairs_among xs (length xs)) → slice_get (pairs_among xs (length xs)) k ≡ Some (pair_of (get_or xs j 0) (get_or xs i 0))
 among_at xs i j k p e h =
     slice_get-get_or (pairs_among xs (length xs)) k (0, 0) h
     ∙ ap Some (get_among xs (length xs) i j k (omega arith) p (among_row xs i j k p e h) e)
 
+-- a number of a pair among at most 65536 atoms fits 32 bits
 pub among_few : (xs : List ℕ) (k : ℕ) → length xs ≤ 65536 → k < length (pairs_among xs (length xs)) → k < 4294967296
 among_few xs k h p =
     let l = length_among xs (length xs) (omega arith) in
@@ -159,18 +170,21 @@ row_from_root k r s =
         let square : (r + 1) * (r + 1) ≡ 2 * j * (2 * j) = ap (λ n. n * n) (sym e) in
         (omega arith, omega arith)
 
+-- the row that the root tells begins at or before the number k
 pub row_fits : (k r : ℕ) → IsSquareRoot (8 * k + 1) r → ((r + 1) / 2 * ((r + 1) / 2) - (r + 1) / 2) / 2 ≤ k
 row_fits k r s =
     let b = row_from_root k r s in
     let t = half_square ((r + 1) / 2) in
     omega (arith, b.0, b.1, t.1)
 
+-- the number k is past the row's beginning by less than the row's number, so by a column of the row
 pub row_within : (k r : ℕ) → IsSquareRoot (8 * k + 1) r → k - ((r + 1) / 2 * ((r + 1) / 2) - (r + 1) / 2) / 2 < (r + 1) / 2
 row_within k r s =
     let b = row_from_root k r s in
     let t = half_square ((r + 1) / 2) in
     omega (arith, b.0, b.1, t.1)
 
+-- the row and the column have the number k
 pub row_number : (k r : ℕ) → IsSquareRoot (8 * k + 1) r → 2 * k + (r + 1) / 2 ≡ (r + 1) / 2 * ((r + 1) / 2) + 2 * (k - ((r + 1) / 2 * ((r + 1) / 2) - (r + 1) / 2) / 2)
 row_number k r s =
     let b = row_from_root k r s in

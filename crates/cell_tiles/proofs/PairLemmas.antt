@@ -22,6 +22,7 @@ both_same false false = refl
 abbrev pub one_way : ℕ → ℕ → ℕ
 one_way lo hi = cond (leb lo hi) 1 0
 
+-- 1 where a pair can be met the other way: it is in order, and of two atoms
 abbrev pub other_way : ℕ → ℕ → ℕ
 other_way lo hi = cond (ltb lo hi) 1 0
 
@@ -73,6 +74,7 @@ met_turned lo hi a b le =
     level : lo ≤ hi → MetBy lo hi a b (same lo b * same hi a)
     level h = grind (arith, nat_tests)
 
+-- whether a pair is that of two atoms is told by the ways in which the atoms can be met
 pub same_pair_of : (lo hi a b : ℕ) → MetBy lo hi a b (same_pair (lo, hi) (pair_of a b))
 same_pair_of lo hi a b =
     ⊎_elim
@@ -90,12 +92,14 @@ sum_of_two u v f g (x ∷ xs) =
 
 -- ---- pairs of an atom with others, and of two lists
 
+-- how often a pair stands among those of an atom with others is told by how often its atoms are met there
 pub times_with : (lo hi a : ℕ) (bs : List ℕ) → times (lo, hi) (pairs_with a bs) ≡ one_way lo hi * same lo a * count hi bs + other_way lo hi * same hi a * count lo bs
 times_with lo hi a bs =
     sum_map (same_pair (lo, hi)) (pair_of a) bs
     ∙ (sum_same (λ b. same_pair (lo, hi) (pair_of a b)) (λ b. one_way lo hi * same lo a * same hi b + other_way lo hi * same hi a * same lo b) bs (λ b. same_pair_of lo hi a b)
     ∙ sum_of_two (one_way lo hi * same lo a) (other_way lo hi * same hi a) (same hi) (same lo) bs)
 
+-- the same among the pairs of two lists
 pub times_between : (lo hi : ℕ) (xs ys : List ℕ) → times (lo, hi) (pairs_between xs ys) ≡ one_way lo hi * count hi ys * count lo xs + other_way lo hi * count lo ys * count hi xs
 times_between lo hi xs ys =
     sum_flat_map (same_pair (lo, hi)) (λ a. pairs_with a ys) xs
@@ -110,10 +114,12 @@ times_between lo hi xs ys =
 
 -- ---- pairs of one list
 
+-- the first 0 atoms of a list make no pairs
 pub among_none : (xs : List ℕ) → pairs_among xs 0 ≡ []
 unfolding pairs_among
 among_none xs = refl
 
+-- one atom more makes pairs with those before it
 pub among_suc : (xs : List ℕ) (m : ℕ) → pairs_among xs (suc m) ≡ pairs_among xs m ++ pairs_with (get_or xs m 0) (take m xs)
 unfolding pairs_among
 among_suc xs m = refl
@@ -132,6 +138,7 @@ count_suc x xs m h = ap (count x) (take-suc xs m 0 h) ∙ count_push x (get_or x
 product_step : (l h x y : ℕ) → x * y ≡ 0 → l * h + (1 * x * h + 1 * y * l) ≡ (l + x) * (h + y)
 product_step l h x y z = omega arith
 
+-- a pair in order stands among those of the first m atoms as often as its two atoms stand there
 pub times_among : (lo hi : ℕ) (xs : List ℕ) (m : ℕ) → lo < hi → m ≤ length xs → times (lo, hi) (pairs_among xs m) ≡ count lo (take m xs) * count hi (take m xs)
 times_among lo hi xs zero p h = ap (times (lo, hi)) (among_none xs)
 times_among lo hi xs (suc m) p h =

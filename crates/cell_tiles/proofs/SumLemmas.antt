@@ -3,7 +3,9 @@ use Rattle.std.proofs.Common.{◌≡◌, ℕ, ◌+◌, ◌<◌, Bool, true, fals
 use Rattle.std.specs.List.{All, flat_map}
 use Rattle.std.proofs.lemmas.Bool.{and_parts, cases_Bool, eqb-true, eq-eqb}
 use Rattle.std.proofs.lemmas.List.Sums.{sum_by-cons}
-use Rattle.ring_box.specs.Cells.{ArePlaces}
+use Rattle.ring_box.specs.Places.{ArePlaces}
+use Rattle.ring_box.specs.declared.vectors.CellBits.{CellBits}
+use Rattle.ring_box.specs.declared.vectors.Place3.{Place3}
 use Rattle.cell_tiles.specs.Cells.{IsGrid}
 use Rattle.cell_tiles.specs.Tiles.{tile_pairs}
 use Rattle.cell_tiles.specs.Cover.{SumsAsAll, are_close, is_pair, is_same, times}
@@ -97,7 +99,8 @@ close_sums close f qs h = sum_filter f close qs ∙ sum_same (λ q. cond (close 
     each true q k = refl
     each false q k = sym (k refl)
 
-pub sums_as_all : (bits : List ℕ) (frame : List (List ℕ)) → IsGrid bits → All ArePlaces frame → SumsAsAll bits frame
+-- a function that is nothing for atoms that are not close sums over the tiles as over all pairs
+pub sums_as_all : (bits : CellBits) (frame : List Place3) → IsGrid bits → All ArePlaces frame → SumsAsAll bits frame
 sums_as_all bits frame g places f pairs are far =
     sym (sum_flat_map f (λ t. t) (tile_pairs bits frame))
     ∙ (same_sums f (flat_map (λ t. t) (tile_pairs bits frame)) (filter (are_close bits frame) pairs) times_are ∙ close_sums (are_close bits frame) f pairs far)

@@ -7,20 +7,23 @@ use Rattle.std.proofs.lemmas.List.Concat.{flat_map-append}
 use Rattle.std.proofs.lemmas.List.Elements.{All-append, All-filter, All-get_or, All-map, All-nil, All-push, All-same, All-weaker, filter-append}
 use Rattle.std.proofs.lemmas.Option.{get_or_from_slice_get, slice_get-map, slice_get_read, slice_get_within}
 use Rattle.std.specs.Option.{option_map}
+use Rattle.ring_box.specs.declared.vectors.CellBits.{CellBits}
 use Rattle.cell_tiles.specs.Cells.{are_near, cells_of, numbers_below}
 use Rattle.cell_tiles.specs.Tiles.{tiles_of, tiles_with}
 use Rattle.cell_tiles.proofs.CountLemmas.{below_more, below_suc, below_zero}
 
 -- the tiles of the cell d with the cells below n, and those of the cells below n with the cells up to them
-abbrev pub with_below : List ℕ → ℕ → ℕ → List (ℕ × ℕ)
+abbrev pub with_below : CellBits → ℕ → ℕ → List (ℕ × ℕ)
 with_below bits d n = map (λ c. (c, d)) (filter (λ c. are_near bits c d) (numbers_below n))
 
-abbrev pub all_below : List ℕ → ℕ → List (ℕ × ℕ)
+-- the tiles of the cells below n, each with the cells up to it
+abbrev pub all_below : CellBits → ℕ → List (ℕ × ℕ)
 all_below bits n = flat_map (tiles_with bits) (numbers_below n)
 
 -- ---- one more
 
-pub with_none : (bits : List ℕ) (d : ℕ) (ts : List (ℕ × ℕ)) → ts ≡ ts ++ with_below bits d 0
+-- before the first cell there is no tile with d
+pub with_none : (bits : CellBits) (d : ℕ) (ts : List (ℕ × ℕ)) → ts ≡ ts ++ with_below bits d 0
 with_none bits d ts =
     let e : with_below bits d 0 ≡ [] = ap (λ xs. map (λ c. (c, d)) (filter (λ c. are_near bits c d) xs)) below_zero in
     sym (ap (λ us. ts ++ us) e ∙ append-nil ts)
@@ -28,30 +31,35 @@ with_none bits d ts =
 one_filtered : (p : ℕ → Bool) (n : ℕ) (b : Bool) → p n ≡ b → filter p (n ∷ []) ≡ cond b (n ∷ []) []
 one_filtered p n b e = rw e refl
 
-with_more : (bits : List ℕ) (d n : ℕ) (b : Bool) → are_near bits n d ≡ b → with_below bits d (n + 1) ≡ with_below bits d n ++ map (λ c. (c, d)) (cond b (n ∷ []) [])
+with_more : (bits : CellBits) (d n : ℕ) (b : Bool) → are_near bits n d ≡ b → with_below bits d (n + 1) ≡ with_below bits d n ++ map (λ c. (c, d)) (cond b (n ∷ []) [])
 with_more bits d n b e =
     ap (λ xs. map (λ c. (c, d)) (filter (λ c. are_near bits c d) xs)) (below_more n)
     ∙ (ap (map (λ c. (c, d))) (filter-append (λ c. are_near bits c d) (numbers_below n) (n ∷ []) ∙ ap (λ xs. filter (λ c. are_near bits c d) (numbers_below n) ++ xs) (one_filtered (λ c. are_near bits c d) n b e))
     ∙ map-append (λ c. (c, d)) (filter (λ c. are_near bits c d) (numbers_below n)) (cond b (n ∷ []) []))
 
-pub with_near : (bits : List ℕ) (d n : ℕ) (ts : List (ℕ × ℕ)) → are_near bits n d ≡ true → (ts ++ with_below bits d n) ++ (n, d) ∷ [] ≡ ts ++ with_below bits d (n + 1)
+-- a cell near d makes one tile more
+pub with_near : (bits : CellBits) (d n : ℕ) (ts : List (ℕ × ℕ)) → are_near bits n d ≡ true → (ts ++ with_below bits d n) ++ (n, d) ∷ [] ≡ ts ++ with_below bits d (n + 1)
 with_near bits d n ts e = append_assoc ts (with_below bits d n) ((n, d) ∷ []) ∙ ap (λ us. ts ++ us) (sym (with_more bits d n true e))
 
-pub with_far : (bits : List ℕ) (d n : ℕ) (ts : List (ℕ × ℕ)) → are_near bits n d ≡ false → ts ++ with_below bits d n ≡ ts ++ with_below bits d (n + 1)
+-- a cell that is not near d makes none
+pub with_far : (bits : CellBits) (d n : ℕ) (ts : List (ℕ × ℕ)) → are_near bits n d ≡ false → ts ++ with_below bits d n ≡ ts ++ with_below bits d (n + 1)
 with_far bits d n ts e = ap (λ us. ts ++ us) (sym (with_more bits d n false e ∙ append-nil (with_below bits d n)))
 
-pub with_all : (bits : List ℕ) (d : ℕ) → with_below bits d (d + 1) ≡ tiles_with bits d
+-- with the cells up to d all tiles of d are there
+pub with_all : (bits : CellBits) (d : ℕ) → with_below bits d (d + 1) ≡ tiles_with bits d
 with_all bits d = ap (with_below bits d) (add-one d)
 
-pub all_none : (bits : List ℕ) → [] ≡ all_below bits 0
+-- before the first cell there is no tile
+pub all_none : (bits : CellBits) → [] ≡ all_below bits 0
 all_none bits = sym (ap (flat_map (tiles_with bits)) below_zero)
 
-flat_suc : (bits : List ℕ) (n : ℕ) → all_below bits (suc n) ≡ all_below bits n ++ tiles_with bits n
+flat_suc : (bits : CellBits) (n : ℕ) → all_below bits (suc n) ≡ all_below bits n ++ tiles_with bits n
 flat_suc bits n =
     ap (flat_map (tiles_with bits)) (below_suc n)
     ∙ (flat_map-append (tiles_with bits) (numbers_below n) (n ∷ []) ∙ ap (λ ts. all_below bits n ++ ts) (append-nil (tiles_with bits n)))
 
-pub all_more : (bits : List ℕ) (n : ℕ) → all_below bits n ++ tiles_with bits n ≡ all_below bits (n + 1)
+-- one cell more brings its tiles
+pub all_more : (bits : CellBits) (n : ℕ) → all_below bits n ++ tiles_with bits n ≡ all_below bits (n + 1)
 all_more bits n = sym (ap (all_below bits) (add-one n) ∙ flat_suc bits n)
 
 -- ---- the cells of a tile are in order, and are cells
@@ -65,13 +73,13 @@ numbers_are_below (suc n) =
 abbrev IsTileBelow : ℕ → ℕ × ℕ → Type 0
 IsTileBelow n t = (t.0 ≤ t.1) × (t.1 < n)
 
-tiles_with_below : (bits : List ℕ) (d n : ℕ) → d < n → All (IsTileBelow n) (tiles_with bits d)
+tiles_with_below : (bits : CellBits) (d n : ℕ) → d < n → All (IsTileBelow n) (tiles_with bits d)
 tiles_with_below bits d n h =
     All-map (IsTileBelow n) (λ c. (c, d)) (filter (λ c. are_near bits c d) (numbers_below (suc d)))
     (All-weaker (λ c. c < suc d) (λ c. IsTileBelow n (c, d)) (λ c lt. (omega arith, h)) (filter (λ c. are_near bits c d) (numbers_below (suc d)))
     (All-filter (λ c. are_near bits c d) (λ c. c < suc d) (numbers_below (suc d)) (numbers_are_below (suc d))))
 
-tiles_are_below : (bits : List ℕ) (n : ℕ) → All (IsTileBelow n) (all_below bits n)
+tiles_are_below : (bits : CellBits) (n : ℕ) → All (IsTileBelow n) (all_below bits n)
 tiles_are_below bits zero = All-same (IsTileBelow 0) (all_below bits 0) [] (sym (all_none bits)) (All-nil (IsTileBelow 0))
 tiles_are_below bits (suc n) =
     All-same (IsTileBelow (suc n)) (all_below bits (suc n)) (all_below bits n ++ tiles_with bits n) (flat_suc bits n)
@@ -86,7 +94,8 @@ tile_read view xs ts k x e lt r =
     let m : length (map view xs) ≡ length xs = length-map xs view in
     ap (λ us. slice_get us k) (sym e) ∙ (slice_get-map view xs k ∙ ap (option_map view) (slice_get_read xs (length xs) k x refl (omega arith) r))
 
-pub tile_at : (bits : List ℕ) (k c d : ℕ) → slice_get (tiles_of bits) k ≡ Some (c, d) → (c ≤ d) × (d < cells_of bits)
+-- a tile has two cells of the grid, the lower number first
+pub tile_at : (bits : CellBits) (k c d : ℕ) → slice_get (tiles_of bits) k ≡ Some (c, d) → (c ≤ d) × (d < cells_of bits)
 tile_at bits k c d e =
     let lt = slice_get_within (tiles_of bits) k (c, d) e in
     subst (IsTileBelow (cells_of bits)) (get_or_from_slice_get (tiles_of bits) k (c, d) (0, 0) e) (All-get_or (IsTileBelow (cells_of bits)) (tiles_of bits) k (0, 0) lt (tiles_are_below bits (cells_of bits)))

@@ -16,15 +16,12 @@ module _ {T E : Type 0} (view : T → List E) where
       ∙ (ap (λ z. take i (map view xs) ++ z ∷ []) e
       ∙ (ap (λ zs. zs ++ get_or ws i [] ∷ []) h ∙ sym (take_more ws i [] inside))))
 
-  pub laid_all : (xs : List T) (ws : List (List E)) (i : ℕ) → length xs ≤ i → length ws ≤ i → take i (map view xs) ≡ take i ws → map view xs ≡ ws
-  laid_all xs ws i p q h =
-      let l : length (map view xs) ≡ length xs = length-map xs view in
-      sym (take_all i (map view xs) (omega arith)) ∙ (h ∙ take_all i ws q)
-
+  -- there are as many lists as empty ones are seen
   pub length_empty : (xs : List T) (n : ℕ) → map view xs ≡ replicate n [] → length xs ≡ n
   length_empty xs n e = sym (length-map xs view) ∙ (ap length e ∙ length-replicate n [])
 
 module _ {T : Type 0} (view : T → List ℕ) where
+  -- one list more is cleared
   pub cleared_more : (xs : List T) (i : ℕ) (y : T) → view y ≡ [] → i < length xs → take i (map view xs) ≡ replicate i [] → take (i + 1) (map view (set xs i y)) ≡ replicate (i + 1) []
   cleared_more xs i y e lt h =
       let l : length (map view xs) ≡ length xs = length-map xs view in
@@ -33,6 +30,7 @@ module _ {T : Type 0} (view : T → List ℕ) where
       ∙ (ap (λ z. take i (map view xs) ++ z ∷ []) e
       ∙ (ap (λ zs. zs ++ [] ∷ []) h ∙ replicate_more i [])))
 
+  -- once all lists were come to, all are seen empty
   pub cleared_all : (xs : List T) (i n : ℕ) → length xs ≤ i → i ≡ n → take i (map view xs) ≡ replicate i [] → map view xs ≡ replicate n []
   cleared_all xs i n le e h =
       let l : length (map view xs) ≡ length xs = length-map xs view in
@@ -50,6 +48,7 @@ module _ {T : Type 0} (view : T → List ℕ) where
       let here : view y ≡ get_or (map view xs) i [] = e ∙ sym (get_or-map view xs i x [] lt ∙ ap view (sym r)) in
       map-set view xs i y ∙ (ap (set (map view xs) i) here ∙ set-get_or (map view xs) i [])
 
+  -- there are as many lists as are seen
   pub length_seen : (xs : List T) (ms : List (List ℕ)) (n : ℕ) → map view xs ≡ ms → length ms ≡ n → length xs ≡ n
   length_seen xs ms n e l = sym (length-map xs view) ∙ (ap length e ∙ l)
 
@@ -59,12 +58,15 @@ module _ {T : Type 0} (view : T → List ℕ) where
       let l : length (map view xs) ≡ length xs = length-map xs view in
       subst P (get_or-map view xs k d [] lt) (All-get_or P (map view xs) k [] (omega arith) (All-same P (map view xs) ms e all))
 
+  -- where none that is seen is longer than n, no list is
   pub few_seen : (xs : List T) (ms : List (List ℕ)) (n : ℕ) → map view xs ≡ ms → All (λ m. length m ≤ n) ms → All (λ x. length (view x) ≤ n) xs
   few_seen xs ms n e all = all_seen (λ m. length m ≤ n) xs ms e all
 
+  -- lists that are seen empty are no longer than any bound
   pub few_empty : (xs : List T) (n m : ℕ) → map view xs ≡ replicate n [] → All (λ x. length (view x) ≤ m) xs
   few_empty xs n m e = few_seen xs (replicate n []) m e (All-replicate (λ z. length z ≤ m) n [] (omega arith))
 
+-- a fact holds also where a result is a failure
 pub on_err : {A E P : Type 0} (r : Result A E) → P → OnErr r P
 on_err (Ok x) p = tt
 on_err (Err e) p = p

@@ -10,20 +10,13 @@ use Rattle.cell_tiles.proofs.NumberLemmas.{among_row, get_among, get_between, le
 
 -- ---- where a pair stands
 
+-- the row of a pair's number is one of the first list's atoms
 pub place_row : (one : Bool) (xs ys : List ℕ) (row column k : ℕ) → IsPlaceOf one xs ys row column k → k < length (pairs_over one xs ys) → row < length xs
 place_row true xs ys row column k p h = among_row xs column row k p.1.0 p.1.1 h
 place_row false xs ys row column k p h =
     let l = length_between xs ys in
     let n : k ≡ row * length ys + column = p.1 in
     ⊎_elim (λ lt. lt) (λ le. let m : length xs * length ys ≤ row * length ys = mul-le (length xs) (length ys) row (length ys) le (omega arith) in absurd (omega arith)) (cases_lt row (length xs))
-
-pub place_column : (one : Bool) (xs ys : List ℕ) (row column k : ℕ) → IsPlaceOf one xs ys row column k → k < length (pairs_over one xs ys) → column < length ys
-place_column true xs ys row column k p h =
-    let r : row < length xs = place_row true xs ys row column k p h in
-    let e : length ys ≡ length xs = ap length p.0 in
-    let c : column < row = p.1.0 in
-    omega arith
-place_column false xs ys row column k p h = p.0
 
 place_pair : (one : Bool) (xs ys : List ℕ) (row column k : ℕ) → IsPlaceOf one xs ys row column k → k < length (pairs_over one xs ys) → get_or (pairs_over one xs ys) k (0, 0) ≡ pair_of (get_or xs row 0) (get_or ys column 0)
 place_pair true xs ys row column k p h =
@@ -33,6 +26,7 @@ place_pair false xs ys row column k p h = get_between xs ys row column k (place_
 
 -- ---- what is left of a walk
 
+-- a walk with pairs left stands in a row of the first list
 pub walk_row : {one : Bool} {xs ys : List ℕ} {row column width left : ℕ} → IsWalk one xs ys row column width left → 0 < left → row < length xs
 walk_row {one} {xs} {ys} {row} {column} {width} {left} w h =
     let l : left ≤ length (pairs_over one xs ys) = w.within in
@@ -101,6 +95,7 @@ row_pairs one xs ys row column k p h =
 
 -- ---- a row of a walk
 
+-- a walk with pairs left stands in a column of its row, and the row is no longer than the second list
 pub walk_columns : {one : Bool} {xs ys : List ℕ} {row column width left : ℕ} → IsWalk one xs ys row column width left → 0 < left → (column < width) × (width ≤ length ys)
 walk_columns {one} {xs} {ys} {row} {column} {width} {left} w h =
     let l : left ≤ length (pairs_over one xs ys) = w.within in
@@ -144,6 +139,7 @@ walk_on {one} {xs} {ys} {row} {column} {width} {left} r c n w h e f g =
 
 -- ---- the start of a walk
 
+-- a number up to the pairs of at most 65536 atoms fits 32 bits
 pub among_at_most : (xs : List ℕ) (k : ℕ) → length xs ≤ 65536 → k ≤ length (pairs_among xs (length xs)) → k < 4294967296
 among_at_most xs k h p =
     let l = length_among xs (length xs) (omega arith) in

@@ -1,6 +1,8 @@
 -- What the tiles come to: each pair of atoms that lie in one cell or in neighbouring cells stands in one tile, once, and no other pair stands in any.
 use Rattle.std.specs.Prelude.{◌≡◌, ℕ, ◌==◌, Bool, false, ◌&&◌, nat_lt, if◌then◌else◌, List, length, sum_by, count_by}
 use Rattle.ring_box.specs.Cells.{are_neighbours}
+use Rattle.ring_box.specs.declared.vectors.CellBits.{CellBits}
+use Rattle.ring_box.specs.declared.vectors.Place3.{Place3}
 use Rattle.cell_tiles.specs.Cells.{places_of}
 use Rattle.cell_tiles.specs.Tiles.{tile_pairs}
 
@@ -20,10 +22,10 @@ abbrev pub is_pair : ℕ → ℕ × ℕ → Bool
 is_pair n p = nat_lt p.0 p.1 && nat_lt p.1 n
 
 -- two atoms of a frame lie in one cell or in neighbouring cells
-abbrev pub are_close : List ℕ → List (List ℕ) → ℕ × ℕ → Bool
+abbrev pub are_close : CellBits → List Place3 → ℕ × ℕ → Bool
 are_close bits frame p = are_neighbours bits (places_of frame p.0) (places_of frame p.1)
 
-abbrev pub Covers : List ℕ → List (List ℕ) → Type 0
+abbrev pub Covers : CellBits → List Place3 → Type 0
 Covers bits frame = (p : ℕ × ℕ)
     → times_in_all p (tile_pairs bits frame) ≡ (if is_pair (length frame) p && are_close bits frame p then 1 else 0)
 
@@ -32,7 +34,7 @@ abbrev pub ArePairs : ℕ → List (ℕ × ℕ) → Type 0
 ArePairs n ps = (p : ℕ × ℕ) → times p ps ≡ (if is_pair n p then 1 else 0)
 
 -- What is nothing for atoms that are not close comes to the same over the tiles as over all pairs.
-abbrev pub SumsAsAll : List ℕ → List (List ℕ) → Type 0
+abbrev pub SumsAsAll : CellBits → List Place3 → Type 0
 SumsAsAll bits frame = (f : ℕ × ℕ → ℕ) (pairs : List (ℕ × ℕ)) → ArePairs (length frame) pairs
     → ((p : ℕ × ℕ) → are_close bits frame p ≡ false → f p ≡ 0)
     → sum_by (λ t. sum_by f t) (tile_pairs bits frame) ≡ sum_by f pairs

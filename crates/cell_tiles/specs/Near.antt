@@ -2,14 +2,15 @@
 use Rattle.std.specs.Prelude.{◌≡◌, ◌<◌, ◌≤◌, ◌++◌, ℕ, zero, suc, Bool, false, is_some, if◌then◌else◌, List, [], ◌∷◌, filter, length, drop, slice_index_or}
 use Rattle.ring_box.specs.Acting.{Reach, acting_of}
 use Rattle.ring_box.specs.declared.boxes.RingBox.{RingBox}
+use Rattle.ring_box.specs.declared.vectors.Place3.{Place3}
 use Rattle.cell_tiles.specs.Cells.{places_of}
 
 -- two atoms of a frame act
-abbrev pub act : Reach → RingBox → List (List ℕ) → ℕ × ℕ → Bool
+abbrev pub act : Reach → RingBox → List Place3 → ℕ × ℕ → Bool
 act d b frame p = is_some (acting_of d b (places_of frame p.0) (places_of frame p.1))
 
 -- the pairs that act
-abbrev pub those_acting : Reach → RingBox → List (List ℕ) → List (ℕ × ℕ) → List (ℕ × ℕ)
+abbrev pub those_acting : Reach → RingBox → List Place3 → List (ℕ × ℕ) → List (ℕ × ℕ)
 those_acting d b frame ps = filter (act d b frame) ps
 
 -- two of n atoms, the lower first
@@ -17,7 +18,7 @@ abbrev pub IsPairOf : ℕ → ℕ × ℕ → Type 0
 IsPairOf n p = (p.0 < p.1) × (p.1 < n)
 
 -- the pairs from the number k on that act are those that are near, and then those from n on
-pub record AreNear (d : Reach) (b : RingBox) (frame : List (List ℕ)) (pairs : List (ℕ × ℕ)) (k : ℕ) (near : List (ℕ × ℕ)) (n : ℕ) : Type 0 where
+pub record AreNear (d : Reach) (b : RingBox) (frame : List Place3) (pairs : List (ℕ × ℕ)) (k : ℕ) (near : List (ℕ × ℕ)) (n : ℕ) : Type 0 where
   pub onward : k < n
   pub within : n ≤ length pairs
   pub acting : those_acting d b frame (drop k pairs) ≡ those_acting d b frame near ++ those_acting d b frame (drop n pairs)

@@ -1,13 +1,15 @@
 -- Tiles: two neighbouring cells, or a cell with itself; and the pairs of atoms that lie in them.
 use Rattle.std.specs.Prelude.{ℕ, zero, suc, ◌==◌, nat_lt, if◌then◌else◌, List, [], ◌++◌, length, map, filter, take, flat_map, slice_index, slice_index_or}
+use Rattle.ring_box.specs.declared.vectors.CellBits.{CellBits}
+use Rattle.ring_box.specs.declared.vectors.Place3.{Place3}
 use Rattle.cell_tiles.specs.Cells.{are_near, cells_of, members_of, numbers_below}
 
 -- the tiles of a cell with the cells up to it: two cells, the lower number first
-abbrev pub tiles_with : List ℕ → ℕ → List (ℕ × ℕ)
+abbrev pub tiles_with : CellBits → ℕ → List (ℕ × ℕ)
 tiles_with bits d = map (λ c. (c, d)) (filter (λ c. are_near bits c d) (numbers_below (suc d)))
 
 -- all tiles, each once
-abbrev pub tiles_of : List ℕ → List (ℕ × ℕ)
+abbrev pub tiles_of : CellBits → List (ℕ × ℕ)
 tiles_of bits = flat_map (tiles_with bits) (numbers_below (cells_of bits))
 
 -- a pair is two atoms, the lower first
@@ -38,5 +40,5 @@ pairs_in members t =
     else pairs_between (members_at members t.0) (members_at members t.1)
 
 -- the pairs of each tile for the atoms of a frame
-abbrev pub tile_pairs : List ℕ → List (List ℕ) → List (List (ℕ × ℕ))
+abbrev pub tile_pairs : CellBits → List Place3 → List (List (ℕ × ℕ))
 tile_pairs bits frame = map (pairs_in (members_of bits frame)) (tiles_of bits)

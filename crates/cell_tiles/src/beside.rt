@@ -4,13 +4,14 @@ ghost use Rattle.std.specs.Prelude.{◌≡◌, ◌<◌, length, map, OnOk};
 ghost use Rattle.std.specs.List.{All};
 ghost use Rattle.cell_tiles.specs.Cells.{member_places, places_of};
 
+use ring_box::Place3;
 use std::alloc::{AllocError, Allocator};
 
 // The places of these atoms of a frame, in place of what was there.
 fn lay_out<A: Allocator + Copy>(
-    places: &mut Vec<[u32; 3], A>,
+    places: &mut Vec<Place3, A>,
     atoms: &[u32],
-    frame: &[[u32; 3]],
+    frame: &[Place3],
 ) -> Result<(), AllocError>
     requires { All (λ a. a < length frame.now) atoms.now }
     ensures { OnOk result (places.new.items ≡ map (places_of frame.now) atoms.now) }
@@ -24,9 +25,9 @@ fn lay_out<A: Allocator + Copy>(
 
 /// The places of the atoms of each cell, in place of what was there. `AllocError` where memory is refused.
 pub(crate) fn lay_out_all<A: Allocator + Copy>(
-    places: &mut Vec<Vec<[u32; 3], A>, A>,
+    places: &mut Vec<Vec<Place3, A>, A>,
     members: &[Vec<u32, A>],
-    frame: &[[u32; 3]],
+    frame: &[Place3],
 ) -> Result<(), AllocError>
     requires cells { length places.old.items ≡ length members.now }
     requires inside { All (λ m. All (λ a. a < length frame.now) m.items) members.now }

@@ -4,7 +4,7 @@ ghost use Rattle.std.specs.Prelude.{◌≡◌, ◌+◌, ◌<◌, ◌≤◌, [], 
 ghost use Rattle.std.specs.List.{All};
 ghost use Rattle.cell_tiles.specs.Cells.{CellAtoms, cells_of, first_members, member_places, members_of};
 ghost use Rattle.cell_tiles.specs.Tiles.{members_at, pairs_in};
-ghost use Rattle.ring_box.specs.Cells.{ArePlaces};
+ghost use Rattle.ring_box.specs.Places.{ArePlaces};
 
 use crate::beside::lay_out_all;
 use crate::grids::Grid;
@@ -12,6 +12,7 @@ use crate::near::{FrameInBox, NearPairs};
 use crate::pairs::{AtomPair, count_among, count_between, pair_among, pair_between};
 use crate::tiles::Tile;
 use crate::walks::{TileRow, TileRows, walk_among, walk_between};
+use ring_box::Place3;
 use std::alloc::{AllocError, Allocator};
 use std::marker::Model;
 
@@ -20,7 +21,7 @@ use std::marker::Model;
 pub struct Cells<A: Allocator + Copy> {
     grid: Grid,
     members: Vec<Vec<u32, A>, A>,
-    places: Vec<Vec<[u32; 3], A>, A>,
+    places: Vec<Vec<Place3, A>, A>,
 }
 
 impl<A: Allocator + Copy> Model for Cells<A> {
@@ -64,7 +65,7 @@ fn put<A: Allocator + Copy>(
 fn put_all<A: Allocator + Copy>(
     members: &mut Vec<Vec<u32, A>, A>,
     grid: &Grid,
-    frame: &[[u32; 3]],
+    frame: &[Place3],
 ) -> Result<(), AllocError>
     requires few { length frame.now ≤ 65536 }
     requires empty { map (λ m. m.items) members.old.items ≡ replicate (cells_of grid.now.bits) [] }
@@ -111,7 +112,7 @@ impl<A: Allocator + Copy> Cells<A> {
     /// Puts each atom of a frame, of at most 65,536, into its cell in place of what the cells held, and its places beside it. It keeps
     /// the memory that the cells have, and answers `AllocError` where more is refused: the cells then hold some of the
     /// atoms, and can be filled again.
-    pub fn fill(&mut self, frame: &[[u32; 3]]) -> Result<(), AllocError>
+    pub fn fill(&mut self, frame: &[Place3]) -> Result<(), AllocError>
         requires { length frame.now ≤ 65536 }
         ensures bits { self.new.bits ≡ self.old.bits }
         ensures ok { OnOk result (self.new.members ≡ members_of self.old.bits frame.now) }
@@ -136,7 +137,7 @@ impl<A: Allocator + Copy> Cells<A> {
     }
 
     // The places of the atoms of a cell, in their order.
-    fn places(&self, cell: u32) -> &[[u32; 3]]
+    fn places(&self, cell: u32) -> &[Place3]
         ensures { result.now ≡ slice_index_or self.now.places cell [] }
     {
         match self.places.get(cell as usize) {
@@ -188,7 +189,7 @@ impl<A: Allocator + Copy> Cells<A> {
 // ---- pairs that act
 
 // The places of what is left of a row, of those of the atoms that it is cut from.
-fn places_beside<'a>(places: &'a [[u32; 3]], row: &TileRow<'_>) -> &'a [[u32; 3]]
+fn places_beside<'a>(places: &'a [Place3], row: &TileRow<'_>) -> &'a [Place3]
     requires { row.now.column + length row.now.others.now ≤ length places.now }
     ensures { result.now ≡ take (length row.now.others.now) (drop row.now.column places.now) }
 {
@@ -207,7 +208,7 @@ impl<A: Allocator + Copy> Cells<A> {
     fn is_cell_far(&self, frame: &FrameInBox, atom: u32, cell: u32) -> bool
         requires cell { cell < cells_of self.now.bits }
         requires atom { atom < length frame.now.places.now }
-        ensures { (b : ℕ) → IsTrue result → ArePlaces (places_of frame.now.places.now b) → cell_number self.now.bits (places_of frame.now.places.now b) ≡ cell
+        ensures { (b : ℕ) → IsTrue result → cell_number self.now.bits (places_of frame.now.places.now b) ≡ cell
             → acting_of frame.now.reach.now frame.now.ring.now (places_of frame.now.places.now atom) (places_of frame.now.places.now b) ≡ None }
     {
         let numbers = self.grid.numbers(cell);
@@ -226,13 +227,12 @@ impl<A: Allocator + Copy> Cells<A> {
         cell: u32,
         atom: u32,
         others: &[u32],
-        places: &[[u32; 3]],
+        places: &[Place3],
         near: &mut NearPairs,
     ) -> usize
         requires cell { cell < cells_of self.now.bits }
         requires there { 0 < length others.now }
         requires beside { places.now ≡ map (places_of frame.now.places.now) others.now }
-        requires places { All ArePlaces frame.now.places.now }
         requires others { All (λ b. cell_number self.now.bits (places_of frame.now.places.now b) ≡ cell) others.now }
         requires pairs { All (IsPairOf (length frame.now.places.now)) (pairs_with atom others.now) }
         ensures acting { those_acting frame.now.reach.now frame.now.ring.now frame.now.places.now near.new
@@ -257,7 +257,6 @@ impl<A: Allocator + Copy> Cells<A> {
         requires cell { tile.second < cells_of self.now.bits }
         requires members { self.now.members ≡ members_of self.now.bits frame.now.places.now }
         requires beside { self.now.places ≡ member_places frame.now.places.now self.now.members }
-        requires places { All ArePlaces frame.now.places.now }
         requires pairs { All (IsPairOf (length frame.now.places.now)) (pairs_in self.now.members (tile.first, tile.second)) }
         ensures near { AreNear frame.now.reach.now frame.now.ring.now frame.now.places.now (pairs_in self.now.members (tile.first, tile.second)) k near.new result }
         ensures listed { All (IsPairOf (length frame.now.places.now)) near.new }

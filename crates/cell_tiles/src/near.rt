@@ -2,13 +2,13 @@
 
 ghost use Rattle.std.specs.Prelude.{◌≡◌, ◌+◌, ◌<◌, ◌≤◌, ◌++◌, ℕ, length, map, take};
 ghost use Rattle.std.specs.List.{All};
-ghost use Rattle.ring_box.specs.Cells.{ArePlaces};
+ghost use Rattle.ring_box.specs.Places.{ArePlaces};
 ghost use Rattle.cell_tiles.specs.Cells.{places_of};
 ghost use Rattle.cell_tiles.specs.Near.{IsPairOf, marked, those_acting};
 ghost use Rattle.cell_tiles.specs.Tiles.{pair_of, pairs_with};
 
 use crate::pairs::{AtomPair, in_order};
-use ring_box::{Reach, RingBox};
+use ring_box::{Place3, Reach, RingBox};
 use std::marker::Model;
 
 /// The atoms of a frame at their places in a box, and how far forces reach in it.
@@ -16,7 +16,8 @@ use std::marker::Model;
 pub struct FrameInBox<'a> {
     pub ring: &'a RingBox,
     pub reach: &'a Reach,
-    pub places: &'a [[u32; 3]],
+    pub places: &'a [Place3],
+    pub ghost on_ring: { All ArePlaces places.now },
 }
 
 /// At most 64 pairs of atoms, in order. A contract sees the list of them.
@@ -98,11 +99,10 @@ impl NearPairs {
         frame: &FrameInBox,
         atom: u32,
         others: &[u32],
-        places: &[[u32; 3]],
+        places: &[Place3],
     ) -> usize
         requires there { 0 < length others.now }
         requires beside { places.now ≡ map (places_of frame.now.places.now) others.now }
-        requires places { All ArePlaces frame.now.places.now }
         requires pairs { All (IsPairOf (length frame.now.places.now)) (pairs_with atom others.now) }
         ensures acting { those_acting frame.now.reach.now frame.now.ring.now frame.now.places.now self.new
             ≡ those_acting frame.now.reach.now frame.now.ring.now frame.now.places.now self.old ++ those_acting frame.now.reach.now frame.now.ring.now frame.now.places.now (take result (pairs_with atom others.now)) }

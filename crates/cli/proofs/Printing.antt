@@ -1,17 +1,15 @@
 -- What a whole write has printed.
-use Rattle.std.proofs.Common.{◌≡◌, ◌≢◌, ◌<◌, ℕ, List, Option, inl, inr, refl}
-use Rattle.std.specs.Prelude.{IfOk, OnErr, Result, Ok, Err}
-use Rattle.fallible.specs.Out.{appended, AppendsBeginning}
+use Rattle.std.proofs.Common.{◌≡◌, ◌≢◌, ℕ, List, inl, inr, refl}
+use Rattle.std.specs.Prelude.{Result, Ok, Err}
+use Rattle.fallible.specs.Out.{Output, Writes}
 use Rattle.cli.specs.Reports.{Prints, line, said}
 use Rattle.cli.specs.declared.faults.Status.{Status}
 use Rattle.cli.specs.declared.faults.Status.TheVariants as status
 
-pub written : {T E : Type 0} (r : Result T E) (before after : Option (List ℕ)) (b a : ℕ) (text : List ℕ)
-    → IfOk r (λ _. after ≡ appended before text) → IfOk r (λ _. a ≡ b)
-    → OnErr r (AppendsBeginning before after text) → OnErr r (b < a)
-    → Prints (before, b) (after, a) text
-written (Ok x) before after b a text taken count fault_taken fault_count = inl (taken, count)
-written (Err e) before after b a text taken count fault_taken fault_count = inr (fault_taken, fault_count)
+-- a text that was written to an output, whole or with a write failed behind a beginning of it, was printed
+pub written : {T E : Type 0} (r : Result T E) {before after : Output} {text : List ℕ} → Writes before after text r → Prints before after text
+written (Ok x) w = inl w
+written (Err e) w = inr w
 
 -- every fault but one of the command line prints a line
 pub said_line : (s : Status) (text : List ℕ) → s ≢ status.CommandLine → said s text ≡ line text

@@ -30,6 +30,7 @@ pub begun_by_words : {T E : Type 0} (r : Result T E) (words : List (List ℕ)) (
 begun_by_words (Ok x) words c before after is told = tt
 begun_by_words (Err e) words c before after is told = begun words c (told_of c) before after refl is told
 
+-- two clauses on an answer that isn't an error hold together
 pub on_ok_both : {T E : Type 0} (r : Result T E) (P Q : Type 0) → OnOk r P → OnOk r Q → OnOk r (P × Q)
 on_ok_both (Ok x) P Q p q = (p, q)
 on_ok_both (Err e) P Q p q = tt
@@ -41,10 +42,10 @@ quiet_by_words (Ok x) words c before after is told = inr (c, is, told)
 quiet_by_words (Err e) words c before after is told = tt
 
 -- a text behind what was told
-pub says : (words : List (List ℕ)) (before between after : Output) (text : List ℕ) → before.1 < 2 ^ 64 - 1 → IsBegun words before between
+pub says : (words : List (List ℕ)) (before between after : Output) (text : List ℕ) → before.failed < 2 ^ 64 - 1 → IsBegun words before between
     → PrintsIfCounted between after text → Says words before after text
 says words before between after text room (inl same) (inl prints) = inl (subst (λ o. Prints o after text) same prints)
 says words before between after text room (inl same) (inr left) =
-    let few : between.1 < 2 ^ 64 - 1 = subst (λ (o : Output). o.1 < 2 ^ 64 - 1) (sym same) room in
+    let few : between.failed < 2 ^ 64 - 1 = subst (λ (o : Output). o.failed < 2 ^ 64 - 1) (sym same) room in
     let bad : ⊥ = omega (arith, few, left.1) in absurd bad
 says words before between after text room (inr told) prints = inr (told.0, told.1, between, told.2, told.3, told.4, prints)

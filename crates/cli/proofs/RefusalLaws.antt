@@ -24,7 +24,7 @@ use Rattle.cli.specs.Progress.{IsBegun, IsTold, PrintsIfCounted}
 use Rattle.cli.specs.Reads.{AsksFor, also_asked_if, asked_by, unread}
 use Rattle.cli.specs.Refusals.{HasNoBytes, IsFaultOf, IsLineUndone, IsNoAnswer, IsCommandRefused, IsUnanswered, IsUndone, IsUnread, IsUnreadOfSome, IsUnreadOfTwo, IsVerdictUndone, RefusesCode, RefusesEnergy, RefusesFrame, RefusesJob, RefusesListing, RefusesSlope, RefusesState, RefusesUnder}
 use Rattle.cli.specs.Reports.{IsReported}
-use Rattle.cli.specs.Statuses.{code_of, run_status, status_of}
+use Rattle.cli.specs.Statuses.{status_number, run_status, status_of}
 use Rattle.cli.specs.declared.faults.CommandFault.{CommandFault}
 use Rattle.cli.specs.declared.faults.CommandFault.TheVariants as fault
 use Rattle.cli.specs.declared.faults.Status.TheVariants as status
@@ -72,11 +72,12 @@ asks_undone held asked asked' c before after f (inl h) = asks_without_bytes held
 asks_undone held asked asked' c before after f (inr h) = asks_all c asked asked' h.0
 
 -- what is asked for where the words' wish was done, and where it was not
-pub asks_done : (words : List (List ℕ)) (held : List ℕ → Option (List ℕ)) (asked asked' : Paths) (before after : Option (List ℕ)) → IsDone words held asked asked' before after
+pub asks_done : (words : List (List ℕ)) (held : List ℕ → Option (List ℕ)) (asked asked' : Paths) (before after : Output) → IsDone words held asked asked' before after
     → (asked' ≡ asked) ⊎ ((c : Command) × IsCommand words c × AsksFor c asked asked')
 asks_done words held asked asked' before after (inl h) = inl h.1
 asks_done words held asked asked' before after (inr h) = inr (h.0, h.1, asks_all h.0 asked asked' h.2)
 
+-- the same where the words' wish ended in a fault
 pub asks_faulty : {A : Type 0} (words : List (List ℕ)) (held : List ℕ → Option (List ℕ)) (asked asked' : Paths) (before after : Output) (f : CommandFault A)
     → IsFaultOf words held asked asked' before after f → (asked' ≡ asked) ⊎ ((c : Command) × IsCommand words c × AsksFor c asked asked')
 asks_faulty words held asked asked' before after f (inl h) = inl h.1
@@ -86,17 +87,17 @@ asks_faulty words held asked asked' before after f (inr h) = inr (h.0, h.1, asks
 
 -- nothing was written, as this is why; or a write failed behind a beginning
 abbrev Unwritten : {A : Type 0} → Type 0 → Type 0 → Output → Output → CommandFault A → Type 0
-Unwritten Why Began before after f = (Why × (after.0 ≡ before.0)) ⊎ ((o : OutFault) × (f ≡ fault.Out o) × (before.1 < after.1) × Began)
+Unwritten Why Began before after f = (Why × (after ≡ before)) ⊎ ((o : OutFault) × (f ≡ fault.Out o) × Began)
 
-kept_unwritten : {A : Type 0} (Why Began : Type 0) (before after : Output) (f : CommandFault A) → Unwritten Why Began before after f → IsKept before after
-kept_unwritten Why Began before after f (inl h) = inl h.1
-kept_unwritten Why Began before after f (inr h) = inr h.2
+kept_unwritten : {A : Type 0} (Why Began : Type 0) (before after : Output) (f : CommandFault A) → Unwritten Why Began before after f → (Began → before.failed < after.failed) → IsKept before after
+kept_unwritten Why Began before after f (inl h) failed = inl h.1
+kept_unwritten Why Began before after f (inr h) failed = inr (failed h.2)
 
 -- of a run only a failed output is left with a beginning of its text
 kept_run : {A : Type 0} (job state : List ℕ) (direction : Direction) (steps : ℕ) (before after : Output) (f : RunFault A) → IsRunUnwritten job state direction steps before after f → IsKept before after
 kept_run job state direction steps before after (run.Open failure) h = inl h.1
 kept_run job state direction steps before after (run.Steps f) h = inl h.1
-kept_run job state direction steps before after (run.Out o) h = inr h.2
+kept_run job state direction steps before after (run.Out o) h = inr h.1.beginning.failed
 
 -- of its frames whole ones may be left where memory is wanted
 kept_frames : {A : Type 0} (job state : List ℕ) (direction : Direction) (steps every : ℕ) (before after : Output) (f : RunFault A) → AreFramesUnwritten job state direction steps every before after f
@@ -104,27 +105,27 @@ kept_frames : {A : Type 0} (job state : List ℕ) (direction : Direction) (steps
 kept_frames job state direction steps every before after (run.Open failure) h = inl (inl h.1)
 kept_frames job state direction steps every before after (run.Steps step.StepRange) h = inl (inl h.1)
 kept_frames job state direction steps every before after (run.Steps (step.Memory done)) h = inr refl
-kept_frames job state direction steps every before after (run.Out o) h = inl (inr h.2)
+kept_frames job state direction steps every before after (run.Out o) h = inl (inr h.1.began.beginning.failed)
 
 kept_verdict : {A : Type 0} (held : List ℕ → Option (List ℕ)) (job : List ℕ) (listing : Option (Bor (List ℕ))) (before after : Output) (f : CommandFault A)
     → IsVerdictUndone held job listing before after f → IsKept before after
-kept_verdict held job None before after f h = kept_unwritten _ _ before after f h.2
-kept_verdict held job (Some listing) before after f h = kept_unwritten _ _ before after f h.4
+kept_verdict held job None before after f h = kept_unwritten _ _ before after f h.2 (λ b. b.written.failed)
+kept_verdict held job (Some listing) before after f h = kept_unwritten _ _ before after f h.4 (λ b. b.written.failed)
 
 -- what a command leaves that was refused: a trajectory may leave whole frames where memory is wanted
 kept_refused : {A : Type 0} (words : List (List ℕ)) (held : List ℕ → Option (List ℕ)) (c : Command) (before after : Output) (f : CommandFault A) → IsCommand words c
     → IsCommandRefused held c before after f → IsKept before after ⊎ ((status_of f ≡ status.Memory) × AsksForTrajectory words)
-kept_refused words held (command.Start start) before after f is h = inl (kept_unwritten _ _ before after f h.4)
+kept_refused words held (command.Start start) before after f is h = inl (kept_unwritten _ _ before after f h.4 (λ b. b.written.failed))
 kept_refused words held (command.Run r) before after f is h = inl (kept_run _ _ _ _ before after h.4.0 h.4.2)
 kept_refused words held (command.Trajectory t) before after f is h = trajectory (kept_frames _ _ _ _ _ before after h.4.0 h.4.2)
   where
     trajectory : IsKept before after ⊎ (run_status h.4.0 ≡ status.Memory) → IsKept before after ⊎ ((status_of f ≡ status.Memory) × AsksForTrajectory words)
     trajectory (inl kept) = inl kept
     trajectory (inr memory) = inr (ap status_of h.4.1 ∙ memory, (t, is))
-kept_refused words held (command.Frame frame) before after f is h = inl (kept_unwritten _ _ before after f h.2)
-kept_refused words held (command.Energy energy) before after f is h = inl (kept_unwritten _ _ before after f h.4)
+kept_refused words held (command.Frame frame) before after f is h = inl (kept_unwritten _ _ before after f h.2 (λ b. b.written.failed))
+kept_refused words held (command.Energy energy) before after f is h = inl (kept_unwritten _ _ before after f h.4 (λ b. b.written.failed))
 kept_refused words held (command.Check check) before after f is h = inl (kept_verdict held _ check.listing before after f h)
-kept_refused words held (command.Code l) before after f is h = inl (kept_unwritten _ _ before after f h.2)
+kept_refused words held (command.Code l) before after f is h = inl (kept_unwritten _ _ before after f h.2 (λ b. b.written.failed))
 
 kept_unanswered : {A : Type 0} (words : List (List ℕ)) (before after : Output) (f : CommandFault A) → IsUnanswered words before after f → IsKept before after
 kept_unanswered words before after f (inl h) = inl h.3
@@ -139,7 +140,7 @@ kept_faulty words held asked asked' before after f (inr (c, is, inr h)) = kept_r
 
 -- the status is the fault's, or that of want of memory
 abbrev HasStatus : {A : Type 0} → CommandFault A → ℕ → Type 0 → Type 0 → Type 0
-HasStatus f result Text Memory = ((result ≡ code_of (status_of f)) × Text) ⊎ ((result ≡ code_of status.Memory) × Memory)
+HasStatus f result Text Memory = ((result ≡ status_number (status_of f)) × Text) ⊎ ((result ≡ status_number status.Memory) × Memory)
 
 -- the same as the status tells it
 pub kept_told : {A : Type 0} (words : List (List ℕ)) (held : List ℕ → Option (List ℕ)) (asked asked' : Paths) (before after : Output) (f : CommandFault A) (result : ℕ) (Text Memory : Type 0)
@@ -148,7 +149,7 @@ kept_told words held asked asked' before after f result Text Memory is told = by
   where
     by_status : IsKept before after ⊎ ((status_of f ≡ status.Memory) × AsksForTrajectory words) → HasStatus f result Text Memory → IsKept before after ⊎ ((result ≡ 4) × AsksForTrajectory words)
     by_status (inl kept) told = inl kept
-    by_status (inr h) (inl told) = inr (told.0 ∙ ap code_of h.0, h.1)
+    by_status (inr h) (inl told) = inr (told.0 ∙ ap status_number h.0, h.1)
     by_status (inr h) (inr told) = inr (told.0, h.1)
 
 -- ---- what a status tells
@@ -221,25 +222,25 @@ command_of_words held asked asked' c before after f (inr is) (inr h) =
     (subst (λ g. IsCommandRefused held c before after g) is h.1)
 
 unanswered_of_words : {A : Type 0} (words : List (List ℕ)) (before after : Output) (f : CommandFault A) → IsOfWords f → IsUnanswered words before after f
-    → IsMisuse words × (after.0 ≡ before.0)
+    → IsMisuse words × (after ≡ before)
 unanswered_of_words words before after f of_words (inl h) = (h.2, h.3)
 unanswered_of_words words before after f of_words (inr (inl h)) = absurd (of_files_alone (fault.Out h.0) file_failed (subst IsOfWords h.1 of_words))
 unanswered_of_words words before after f of_words (inr (inr h)) = absurd (of_files_alone fault.Memory memory_wanted (subst IsOfWords h.0 of_words))
 
 misuse_of : {A : Type 0} (words : List (List ℕ)) (held : List ℕ → Option (List ℕ)) (asked asked' : Paths) (before after : Output) (f : CommandFault A)
-    → IsFaultOf words held asked asked' before after f → IsOfWords f → IsMisuse words × (after.0 ≡ before.0)
+    → IsFaultOf words held asked asked' before after f → IsOfWords f → IsMisuse words × (after ≡ before)
 misuse_of words held asked asked' before after f (inl h) of_words = unanswered_of_words words before after f of_words h.0
 misuse_of words held asked asked' before after f (inr h) of_words = absurd (command_of_words held asked asked' h.0 before after f of_words h.2)
 
 -- the status of misuse is told of misuse alone
 pub misuse_told : {A : Type 0} (words : List (List ℕ)) (held : List ℕ → Option (List ℕ)) (asked asked' : Paths) (before after : Output) (f : CommandFault A) (result : ℕ) (Text Memory : Type 0)
-    → IsFaultOf words held asked asked' before after f → HasStatus f result Text Memory → result ≡ 2 → IsMisuse words × (after.0 ≡ before.0)
+    → IsFaultOf words held asked asked' before after f → HasStatus f result Text Memory → result ≡ 2 → IsMisuse words × (after ≡ before)
 misuse_told words held asked asked' before after f result Text Memory is (inl told) two =
     misuse_of words held asked asked' before after f is (words_alone f (code_two (status_of f) (sym told.0 ∙ two)))
 misuse_told words held asked asked' before after f result Text Memory is (inr told) two = let bad : 4 ≡ 2 = sym told.0 ∙ two in absurd (omega (arith, bad))
 
 -- a fault is told behind how far a run has come
-pub told_behind : {A : Type 0} (words : List (List ℕ)) (before between after : Output) (f : CommandFault A) (result : ℕ) → before.1 < 2 ^ 64 - 1 → IsBegun words before between
+pub told_behind : {A : Type 0} (words : List (List ℕ)) (before between after : Output) (f : CommandFault A) (result : ℕ) → before.failed < 2 ^ 64 - 1 → IsBegun words before between
     → IsReported f result (PrintsIfCounted between after) → IsTold words f result before after
 told_behind words before between after f result room begun (inl told) = inl (told.0, (told.1.0, says words before between after _ room begun told.1.1))
 told_behind words before between after f result room begun (inr told) = inr (told.0, says words before between after _ room begun told.1)
@@ -260,14 +261,15 @@ unanswered words e before after f kind none (inr (inr h)) = inr (inr h)
 -- ---- a line that is written behind what is known
 
 -- why the line wasn't written is why what it tells wasn't
-pub line_unwritten : {A : Type 0} (Why Began : Type 0) (text : List ℕ) (before after : Output) (f : CommandFault A) → (f ≡ fault.Memory → Why) → (AppendsBeginning before.0 after.0 text → Began)
+pub line_unwritten : {A : Type 0} (Why Began : Type 0) (text : List ℕ) (before after : Output) (f : CommandFault A) → (f ≡ fault.Memory → Why) → (AppendsBeginning before after text → Began)
     → IsLineUndone text before after f → Unwritten Why Began before after f
 line_unwritten Why Began text before after f memory began (inl h) = inl (memory h.0, h.1)
-line_unwritten Why Began text before after f memory began (inr h) = inr (h.0, h.1, h.2, began h.3)
+line_unwritten Why Began text before after f memory began (inr h) = inr (h.0, h.1, began h.2)
 
 -- want of memory is told of any text
 pub slope_memory : {A : Type 0} (job : List ℕ) (f : CommandFault A) → f ≡ fault.Memory → RefusesUnder job RefusesSlope f
 slope_memory job f is = subst (λ g. RefusesUnder job RefusesSlope g) (sym is) (inl tt)
 
+-- the same of any job with a listing
 pub listing_memory : {A : Type 0} (job listing : List ℕ) (f : CommandFault A) → f ≡ fault.Memory → RefusesUnder job (RefusesListing listing) f
 listing_memory job listing f is = subst (λ g. RefusesUnder job (RefusesListing listing) g) (sym is) (inl tt)

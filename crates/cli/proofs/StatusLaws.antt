@@ -11,7 +11,7 @@ use Rattle.engine.specs.declared.faults.OpenFault.{OpenFault}
 use Rattle.engine.specs.declared.faults.OpenFault.TheVariants as opened
 use Rattle.engine.specs.declared.faults.RunFault.{RunFault}
 use Rattle.engine.specs.declared.faults.RunFault.TheVariants as run
-use Rattle.cli.specs.Statuses.{code_of, engine_status, open_status, run_status, status_of, system_status}
+use Rattle.cli.specs.Statuses.{status_number, engine_status, open_status, run_status, status_of, system_status}
 use Rattle.cli.specs.declared.faults.CommandFault.{CommandFault}
 use Rattle.cli.specs.declared.faults.CommandFault.TheVariants as fault
 use Rattle.cli.specs.declared.faults.Status.{Status}
@@ -27,9 +27,11 @@ data_refused = (λ e. cc, λ e. cc)
 kernel_refused : IsOfFiles status.RefusedKernel
 kernel_refused = (λ e. cc, λ e. cc)
 
+-- the status of want of memory is neither that of a command that was done nor that of the command line
 pub memory_wanted : IsOfFiles status.Memory
 memory_wanted = (λ e. cc, λ e. cc)
 
+-- the same of the status of a file, or of the output
 pub file_failed : IsOfFiles status.File
 file_failed = (λ e. cc, λ e. cc)
 
@@ -49,6 +51,7 @@ of_open (opened.Job f) = data_refused
 of_open (opened.State f) = data_refused
 of_open (opened.Engine f) = of_engine f
 
+-- the same of the status of any fault of a run
 pub of_run : {A : Type 0} (f : RunFault A) → IsOfFiles (run_status f)
 of_run (run.Open (Refused f)) = of_open f
 of_run (run.Open Memory) = memory_wanted
@@ -104,7 +107,8 @@ words_alone {A} f told = by_what (of_what f)
 
 -- ---- the numbers of statuses
 
-pub code_zero : (s : Status) → code_of s ≡ 0 → s ≡ status.Done
+-- only the status of a command that was done has the number 0
+pub code_zero : (s : Status) → status_number s ≡ 0 → s ≡ status.Done
 code_zero status.Done e = refl
 code_zero status.RefusedData e = let bad : ⊥ = omega (arith, e) in absurd bad
 code_zero status.CommandLine e = let bad : ⊥ = omega (arith, e) in absurd bad
@@ -112,7 +116,8 @@ code_zero status.RefusedKernel e = let bad : ⊥ = omega (arith, e) in absurd ba
 code_zero status.Memory e = let bad : ⊥ = omega (arith, e) in absurd bad
 code_zero status.File e = let bad : ⊥ = omega (arith, e) in absurd bad
 
-pub code_two : (s : Status) → code_of s ≡ 2 → s ≡ status.CommandLine
+-- only the status of the command line has the number 2
+pub code_two : (s : Status) → status_number s ≡ 2 → s ≡ status.CommandLine
 code_two status.Done e = let bad : ⊥ = omega (arith, e) in absurd bad
 code_two status.RefusedData e = let bad : ⊥ = omega (arith, e) in absurd bad
 code_two status.CommandLine e = refl

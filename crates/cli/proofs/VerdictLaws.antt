@@ -1,7 +1,7 @@
 -- What was written of code that is accepted.
 use Rattle.std.proofs.Common.{◌≡◌, ℕ, List, Ok, ℤ}
 use Rattle.integrator.specs.Starts.{table_of}
-use Rattle.engine.specs.Verdicts.{IsSlopeKernel}
+use Rattle.engine.specs.Verdicts.{IsJudged, IsSlopeKernel}
 use Rattle.job.specs.JobText.{reading_of, limits}
 use Rattle.job.specs.Values.{JobValue}
 use Rattle.kernel_code.specs.ListingReading.{code_of}
@@ -17,17 +17,19 @@ use Rattle.cli.specs.Failures.{command_fault}
 use Rattle.cli.specs.Refusals.{RefusesEnergy}
 use Rattle.cli.specs.declared.faults.CommandFault.TheVariants as command
 
+-- the line of an accepted kernel's steps and bound, where it is the code of a job's slope, is the verdict on that slope
 pub slope_verdict : (job : List ℕ) (said : JobValue) (k : Kernel) → reading_of limits job ≡ Ok said
-    → IsSlopeKernel said k → IsKernel k → (steps bound : ℕ) → steps ≡ k.steps → bound ≡ k.bound
+    → IsSlopeKernel said k → IsKernel k → IsJudged said k.code (Ok k.bound) → (steps bound : ℕ) → steps ≡ k.steps → bound ≡ k.bound
     → (Wrote : List ℕ → Type 0) → Wrote (verdict_line steps bound) → IsSlopeVerdict job Wrote
-slope_verdict job said k read slope accepted steps bound s b Wrote written =
-    record { said = said; kernel = k; job_read = read; slope = slope; accepted = accepted; written = rw (← s, ← b) written }
+slope_verdict job said k read slope accepted judged steps bound s b Wrote written =
+    record { said = said; kernel = k; job_read = read; slope = slope; accepted = accepted; judged = judged; written = rw (← s, ← b) written }
 
+-- the same of the code of a listing, accepted under a job
 pub listing_verdict : (job listing : List ℕ) (said : JobValue) (k : Kernel) → reading_of limits job ≡ Ok said
-    → code_of listing ≡ Ok k.code → k.table ≡ table_of said → k.core ≡ said.core → k.cutoff ≡ said.cutoff → IsKernel k
+    → code_of listing ≡ Ok k.code → k.table ≡ table_of said → k.core ≡ said.core → k.cutoff ≡ said.cutoff → IsKernel k → IsJudged said k.code (Ok k.bound)
     → (steps bound : ℕ) → steps ≡ k.steps → bound ≡ k.bound
     → (Wrote : List ℕ → Type 0) → Wrote (verdict_line steps bound) → IsListingVerdict job listing Wrote
-listing_verdict job listing said k read code table core cutoff accepted steps bound s b Wrote written =
+listing_verdict job listing said k read code table core cutoff accepted judged steps bound s b Wrote written =
     record {
       said = said;
       kernel = k;
@@ -35,6 +37,7 @@ listing_verdict job listing said k read code table core cutoff accepted steps bo
       listing_read = code;
       under = record { table = table; core = core; cutoff = cutoff };
       accepted = accepted;
+      judged = judged;
       written = rw (← s, ← b) written;
     }
 

@@ -8,7 +8,7 @@ use Rattle.command_line.specs.declared.commands.Command.{Command}
 use Rattle.command_line.specs.declared.commands.Command.TheVariants as command
 use Rattle.cli.specs.Conversions.{IsCodeText, IsFrameText, IsStartText}
 use Rattle.cli.specs.Held.{OfOne, OfTwo}
-use Rattle.cli.specs.Kept.{Appends}
+use Rattle.fallible.specs.Out.{Output, Appends}
 use Rattle.cli.specs.Reads.{asked_by}
 use Rattle.cli.specs.Verdicts.{IsEnergyText, IsListingVerdict, IsSlopeVerdict}
 
@@ -19,7 +19,7 @@ HasVerdict held job (Some listing) Wrote = OfTwo held job listing.now (λ j l. I
 
 -- A command has printed what it is for, of the bytes of its files: a started state, the text of a state that so many steps lead to, frames on the way (with `--progress` as without), a
 -- state's frame or energy, a verdict, or a listing.
-abbrev pub HasPrinted : (List ℕ → Option (List ℕ)) → Command → Option (List ℕ) → Option (List ℕ) → Type 0
+abbrev pub HasPrinted : (List ℕ → Option (List ℕ)) → Command → Output → Output → Type 0
 HasPrinted held (command.Start start) before after = OfTwo held start.job.now start.gro.now (λ job gro. IsStartText job gro start.frame (Appends before after))
 HasPrinted held (command.Run run) before after = OfTwo held run.job.now run.state.now (λ job state. WroteLevesqueVerletRun job state run.direction run.steps before after)
 HasPrinted held (command.Trajectory t) before after = OfTwo held t.job.now t.state.now (λ job state. WroteFrames (IsFrameOfRun job state t.direction t.every) (suc (t.steps / t.every)) before after)
@@ -29,6 +29,6 @@ HasPrinted held (command.Check check) before after = HasVerdict held check.job.n
 HasPrinted held (command.Code l) before after = OfOne held l.job.now (λ job. IsCodeText job (Appends before after))
 
 -- What the words ask for was done: help or the version, and no file was asked for; or a command, which asked for its files and printed what they say.
-abbrev pub IsDone : List (List ℕ) → (List ℕ → Option (List ℕ)) → (asked_before asked_after : Option (List (List ℕ))) → (before after : Option (List ℕ)) → Type 0
+abbrev pub IsDone : List (List ℕ) → (List ℕ → Option (List ℕ)) → (asked_before asked_after : Option (List (List ℕ))) → (before after : Output) → Type 0
 IsDone words held asked_before asked_after before after = ((AsksForHelp words ⊎ AsksForVersion words) × (asked_after ≡ asked_before))
     ⊎ ((c : Command) × IsCommand words c × (asked_after ≡ asked_by asked_before c) × HasPrinted held c before after)

@@ -25,7 +25,7 @@ told_of _ = None
 
 -- A text was printed, as far as the output took it. An output of which no more failed writes can be counted is left as it is.
 abbrev pub PrintsIfCounted : Output → Output → List ℕ → Type 0
-PrintsIfCounted before after text = Prints before after text ⊎ ((after ≡ before) × (2 ^ 64 - 1 ≤ before.1))
+PrintsIfCounted before after text = Prints before after text ⊎ ((after ≡ before) × (2 ^ 64 - 1 ≤ before.failed))
 
 -- texts were printed, one after the other
 abbrev pub PrintsEach : List (List ℕ) → Output → Output → Type 0

@@ -109,8 +109,8 @@ RefusesEnergy job state _ = ⊥
 
 -- nothing was written, and this is why; or there was a text to write, a write failed, and a beginning of it went out
 abbrev pub IsTextUnwritten : {A : Type 0} → (CommandFault A → Type 0) → ((List ℕ → Type 0) → Type 0) → Output → Output → CommandFault A → Type 0
-IsTextUnwritten Why HasText before after f = (Why f × (after.0 ≡ before.0))
-    ⊎ ((o : OutFault) × (f ≡ fault.Out o) × (before.1 < after.1) × HasText (AppendsBeginning before.0 after.0))
+IsTextUnwritten Why HasText before after f = (Why f × (after ≡ before))
+    ⊎ ((o : OutFault) × (f ≡ fault.Out o) × HasText (AppendsBeginning before after))
 
 -- why a text that is made was not written
 abbrev pub IsLineUndone : {A : Type 0} → List ℕ → Output → Output → CommandFault A → Type 0
@@ -192,20 +192,20 @@ HasNoBytes held (command.Code l) asked_before asked_after f = IsUnread held l.jo
 
 -- Why a command was not done: one of its files gave no bytes, and nothing was printed; or all did, and this is what they are refused for, or what it lacked.
 abbrev pub IsUndone : {A : Type 0} → (List ℕ → Option (List ℕ)) → (asked_before asked_after : Option (List (List ℕ))) → Command → Output → Output → CommandFault A → Type 0
-IsUndone held asked_before asked_after c before after f = (HasNoBytes held c asked_before asked_after f × (after.0 ≡ before.0))
+IsUndone held asked_before asked_after c before after f = (HasNoBytes held c asked_before asked_after f × (after ≡ before))
     ⊎ ((asked_after ≡ asked_by asked_before c) × IsCommandRefused held c before after f)
 
 -- why an error of the parser was not answered on standard output, by its kind: it is one of words that ask for nothing that there is; or the output failed; or memory was wanted
 abbrev pub IsNoAnswer : {A : Type 0} → ErrorKind → Output → Output → CommandFault A → Type 0
-IsNoAnswer kind before after f = ((e : Error) × (f ≡ fault.CommandLine e) × (kind ≢ OutOfMemory) × (kind ≢ DisplayHelp) × (kind ≢ DisplayVersion) × (after.0 ≡ before.0))
-    ⊎ ((o : OutFault) × (f ≡ fault.Out o) × ((kind ≡ DisplayHelp) ⊎ (kind ≡ DisplayVersion)) × (before.1 < after.1))
-    ⊎ ((f ≡ fault.Memory) × (after.0 ≡ before.0))
+IsNoAnswer kind before after f = ((e : Error) × (f ≡ fault.CommandLine e) × (kind ≢ OutOfMemory) × (kind ≢ DisplayHelp) × (kind ≢ DisplayVersion) × (after ≡ before))
+    ⊎ ((o : OutFault) × (f ≡ fault.Out o) × ((kind ≡ DisplayHelp) ⊎ (kind ≡ DisplayVersion)) × (before.failed < after.failed))
+    ⊎ ((f ≡ fault.Memory) × (after ≡ before))
 
 -- why words that name no command were not answered on standard output: they ask for nothing that there is; or they ask for help or the version, and the output failed; or memory was wanted
 abbrev pub IsUnanswered : {A : Type 0} → List (List ℕ) → Output → Output → CommandFault A → Type 0
-IsUnanswered words before after f = ((e : Error) × (f ≡ fault.CommandLine e) × IsMisuse words × (after.0 ≡ before.0))
-    ⊎ ((o : OutFault) × (f ≡ fault.Out o) × (AsksForHelp words ⊎ AsksForVersion words) × (before.1 < after.1))
-    ⊎ ((f ≡ fault.Memory) × (after.0 ≡ before.0))
+IsUnanswered words before after f = ((e : Error) × (f ≡ fault.CommandLine e) × IsMisuse words × (after ≡ before))
+    ⊎ ((o : OutFault) × (f ≡ fault.Out o) × (AsksForHelp words ⊎ AsksForVersion words) × (before.failed < after.failed))
+    ⊎ ((f ≡ fault.Memory) × (after ≡ before))
 
 -- Why what the words ask for was not done.
 abbrev pub IsFaultOf : {A : Type 0} → List (List ℕ) → (List ℕ → Option (List ℕ)) → (asked_before asked_after : Option (List (List ℕ))) → Output → Output → CommandFault A → Type 0

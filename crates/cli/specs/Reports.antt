@@ -1,7 +1,7 @@
 -- What is printed of a fault.
-use Rattle.std.specs.Prelude.{◌≡◌, ◌⊎◌, ℕ, ◌<◌, List, [], ◌∷◌, ◌++◌, codes}
-use Rattle.fallible.specs.Out.{Output, appended, AppendsBeginning}
-use Rattle.cli.specs.Statuses.{code_of, status_of}
+use Rattle.std.specs.Prelude.{◌≡◌, ◌⊎◌, ℕ, List, [], ◌∷◌, ◌++◌, codes}
+use Rattle.fallible.specs.Out.{Output, Appends, AppendsBeginning}
+use Rattle.cli.specs.Statuses.{status_number, status_of}
 use Rattle.cli.specs.declared.faults.CommandFault.{CommandFault}
 use Rattle.cli.specs.declared.faults.Status.{Status}
 use Rattle.cli.specs.declared.faults.Status.TheVariants as status
@@ -15,12 +15,11 @@ abbrev pub said : Status → List ℕ → List ℕ
 said status.CommandLine text = text
 said _ text = line text
 
--- The text was printed: all of it, or a write failed, and then a beginning of it. Of an output the bytes that it has taken are told, and how many of its writes have failed.
+-- The text was printed: all of it, or a write failed, and then a beginning of it.
 abbrev pub Prints : Output → Output → List ℕ → Type 0
-Prints before after text = ((after.0 ≡ appended before.0 text) × (after.1 ≡ before.1))
-    ⊎ (AppendsBeginning before.0 after.0 text × (before.1 < after.1))
+Prints before after text = Appends before after text ⊎ AppendsBeginning before after text
 
 -- a fault was reported: by its status, with a text as its status has it printed; or memory for the text was refused, and want of memory was reported in place of it
 abbrev pub IsReported : {A : Type 0} → CommandFault A → ℕ → (List ℕ → Type 0) → Type 0
-IsReported f result Printed = ((result ≡ code_of (status_of f)) × ((text : List ℕ) × Printed (said (status_of f) text)))
-    ⊎ ((result ≡ code_of status.Memory) × Printed (line (codes "Memory")))
+IsReported f result Printed = ((result ≡ status_number (status_of f)) × ((text : List ℕ) × Printed (said (status_of f) text)))
+    ⊎ ((result ≡ status_number status.Memory) × Printed (line (codes "Memory")))

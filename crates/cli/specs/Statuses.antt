@@ -15,13 +15,13 @@ use Rattle.cli.specs.declared.faults.CommandFault.TheVariants as fault
 use Rattle.cli.specs.declared.faults.Status.{Status}
 use Rattle.cli.specs.declared.faults.Status.TheVariants as status
 
-abbrev pub code_of : Status → ℕ
-code_of status.Done = 0
-code_of status.RefusedData = 1
-code_of status.CommandLine = 2
-code_of status.RefusedKernel = 3
-code_of status.Memory = 4
-code_of status.File = 5
+abbrev pub status_number : Status → ℕ
+status_number status.Done = 0
+status_number status.RefusedData = 1
+status_number status.CommandLine = 2
+status_number status.RefusedKernel = 3
+status_number status.Memory = 4
+status_number status.File = 5
 
 abbrev pub system_status : {A : Type 0} → SystemFault A → Status
 system_status (system.Energy f) = status.RefusedKernel

@@ -2,7 +2,7 @@
 use Rattle.std.specs.Prelude.{◌≡◌, ℕ, ℤ, List, ◌++◌, [], ◌∷◌, Ok, codes, decimal}
 use Rattle.std.specs.Fmt.{signed_decimal}
 use Rattle.engine.specs.PairEnergies.{IsEnergyOfTexts}
-use Rattle.engine.specs.Verdicts.{IsSlopeKernel, IsUnder}
+use Rattle.engine.specs.Verdicts.{IsJudged, IsSlopeKernel, IsUnder}
 use Rattle.job.specs.JobText.{reading_of, limits}
 use Rattle.job.specs.Values.{JobValue}
 use Rattle.kernel_code.specs.ListingReading.{code_of}
@@ -12,13 +12,14 @@ use Rattle.verifier.specs.Kernels.{Kernel, IsKernel}
 unfoldable pub verdict_line : (steps bound : ℕ) → List ℕ
 verdict_line steps bound = codes "accepted: steps " ++ (decimal steps ++ (codes ", bound " ++ (decimal bound ++ 10 ∷ [])))
 
--- the code of the slope of the job's energy is accepted, and what is known of it was written
+-- the code of the slope of the job's energy is accepted, and what is known of it was written: the instructions on its longest path, and the verifier's one bound
 pub record IsSlopeVerdict (job : List ℕ) (Wrote : List ℕ → Type 0) : Type 0 where
   pub said : JobValue
   pub kernel : Kernel
   pub job_read : reading_of limits job ≡ Ok said
   pub slope : IsSlopeKernel said kernel
   pub accepted : IsKernel kernel
+  pub judged : IsJudged said kernel.code (Ok kernel.bound)
   pub written : Wrote (verdict_line kernel.steps kernel.bound)
 
 -- the same of the code of a listing, under the job
@@ -29,6 +30,7 @@ pub record IsListingVerdict (job listing : List ℕ) (Wrote : List ℕ → Type 
   pub listing_read : code_of listing ≡ Ok kernel.code
   pub under : IsUnder said kernel
   pub accepted : IsKernel kernel
+  pub judged : IsJudged said kernel.code (Ok kernel.bound)
   pub written : Wrote (verdict_line kernel.steps kernel.bound)
 
 -- the line of an energy, in units of 2^-bits kJ/mol

@@ -13,7 +13,7 @@ ghost use Rattle.state.specs.StateText.{StateView};
 ghost use Rattle.state.specs.StateViews.{state_view};
 ghost use Rattle.job.specs.Views.{job_value};
 ghost use Rattle.cli.specs.Conversions.{IsCodeText, IsFrameText, IsStartOf, IsStartText};
-ghost use Rattle.cli.specs.Kept.{Appends};
+ghost use Rattle.fallible.specs.Out.{Appends};
 ghost use Rattle.cli.specs.Refusals.{IsCodeUndone, IsFrameUndone, IsStartUndone, RefusesCode, RefusesFrame, RefusesState, RefusesUnder};
 
 use crate::faults::CommandFault;
@@ -35,9 +35,9 @@ pub(crate) fn start_bytes<'a, A: Allocator + Copy, O: Out>(
     frame: u64,
     out: &mut O,
 ) -> Result<(), CommandFault<'a, A>>
-    requires { O.failed out.old < 2 ^ 64 - 1 }
-    ensures written { OnOk result (IsStartText job.now gro.now frame (Appends (O.taken out.old) (O.taken out.new))) }
-    ensures refused { IfErr result (IsStartUndone job.now gro.now frame (O.taken out.old, O.failed out.old) (O.taken out.new, O.failed out.new)) }
+    requires { (O.output out.old).failed < 2 ^ 64 - 1 }
+    ensures written { OnOk result (IsStartText job.now gro.now frame (Appends (O.output out.old) (O.output out.new))) }
+    ensures refused { IfErr result (IsStartUndone job.now gro.now frame (O.output out.old) (O.output out.new)) }
 {
     let state = started(alloc, job, gro, frame)?;
     state.write(out)?;
@@ -80,9 +80,9 @@ pub(crate) fn frame_bytes<'a, A: Allocator + Copy, O: Out>(
     state: &[u8],
     out: &mut O,
 ) -> Result<(), CommandFault<'a, A>>
-    requires { O.failed out.old < 2 ^ 64 - 1 }
-    ensures written { OnOk result (IsFrameText state.now (Appends (O.taken out.old) (O.taken out.new))) }
-    ensures refused { IfErr result (IsFrameUndone state.now (O.taken out.old, O.failed out.old) (O.taken out.new, O.failed out.new)) }
+    requires { (O.output out.old).failed < 2 ^ 64 - 1 }
+    ensures written { OnOk result (IsFrameText state.now (Appends (O.output out.old) (O.output out.new))) }
+    ensures refused { IfErr result (IsFrameUndone state.now (O.output out.old) (O.output out.new)) }
 {
     let frame = frame_read(alloc, state)?;
     gro::write(&frame, out)?;
@@ -107,9 +107,9 @@ pub(crate) fn code_bytes<'a, A: Allocator + Copy, O: Out>(
     job: &[u8],
     out: &mut O,
 ) -> Result<(), CommandFault<'a, A>>
-    requires { O.failed out.old < 2 ^ 64 - 1 }
-    ensures written { OnOk result (IsCodeText job.now (Appends (O.taken out.old) (O.taken out.new))) }
-    ensures refused { IfErr result (IsCodeUndone job.now (O.taken out.old, O.failed out.old) (O.taken out.new, O.failed out.new)) }
+    requires { (O.output out.old).failed < 2 ^ 64 - 1 }
+    ensures written { OnOk result (IsCodeText job.now (Appends (O.output out.old) (O.output out.new))) }
+    ensures refused { IfErr result (IsCodeUndone job.now (O.output out.old) (O.output out.new)) }
 {
     let listing = slope_listing(alloc, job)?;
     write_all(out, &listing)?;

@@ -45,16 +45,16 @@ pub fn execute<
     O: Out,
     E: Out,
 >(rt: &R, words_alloc: Global, alloc: A, words: &[S], files: &mut F, out: &mut O, err: &mut E) -> u8
-    requires out { O.failed out.old < 2 ^ 64 - 1 }
-    requires err { E.failed err.old < 2 ^ 64 - 1 }
+    requires out { (O.output out.old).failed < 2 ^ 64 - 1 }
+    requires err { (E.output err.old).failed < 2 ^ 64 - 1 }
     ensures most { result ≤ 5 }
-    ensures quiet { result ≡ 0 → IsQuiet (map S.text words.now) (E.taken err.old, E.failed err.old) (E.taken err.new, E.failed err.new) }
-    ensures undone { result ≢ 0 → (f : CommandFault A) × IsFaultOf (map S.text words.now) (F.held files.old) (F.asked files.old) (F.asked files.new) (O.taken out.old, O.failed out.old) (O.taken out.new, O.failed out.new) f
-        × IsTold (map S.text words.now) f result (E.taken err.old, E.failed err.old) (E.taken err.new, E.failed err.new) }
-    ensures kept { result ≢ 0 → IsKept (O.taken out.old, O.failed out.old) (O.taken out.new, O.failed out.new)
+    ensures quiet { result ≡ 0 → IsQuiet (map S.text words.now) (E.output err.old) (E.output err.new) }
+    ensures undone { result ≢ 0 → (f : CommandFault A) × IsFaultOf (map S.text words.now) (F.held files.old) (F.asked files.old) (F.asked files.new) (O.output out.old) (O.output out.new) f
+        × IsTold (map S.text words.now) f result (E.output err.old) (E.output err.new) }
+    ensures kept { result ≢ 0 → IsKept (O.output out.old) (O.output out.new)
         ⊎ ((result ≡ 4) × AsksForTrajectory (map S.text words.now)) }
-    ensures misuse { result ≡ 2 → IsMisuse (map S.text words.now) × (O.taken out.new ≡ O.taken out.old) }
-    ensures done { result ≡ 0 → IsDone (map S.text words.now) (F.held files.old) (F.asked files.old) (F.asked files.new) (O.taken out.old) (O.taken out.new) }
+    ensures misuse { result ≡ 2 → IsMisuse (map S.text words.now) × (O.output out.new ≡ O.output out.old) }
+    ensures done { result ≡ 0 → IsDone (map S.text words.now) (F.held files.old) (F.asked files.old) (F.asked files.new) (O.output out.old) (O.output out.new) }
     ensures reads { (F.asked files.new ≡ F.asked files.old)
         ⊎ ((c : Command) × IsCommand (map S.text words.now) c × AsksFor c (F.asked files.old) (F.asked files.new)) }
 {
@@ -82,11 +82,11 @@ fn respond<
     out: &mut O,
     err: &mut E,
 ) -> Result<(), CommandFault<'a, A>>
-    requires { O.failed out.old < 2 ^ 64 - 1 }
-    ensures undone { IfErr result (IsFaultOf (map S.text words.entry.now) (F.held files.old) (F.asked files.old) (F.asked files.new) (O.taken out.old, O.failed out.old) (O.taken out.new, O.failed out.new)) }
-    ensures quiet { OnOk result (IsQuiet (map S.text words.entry.now) (E.taken err.old, E.failed err.old) (E.taken err.new, E.failed err.new)) }
-    ensures begun { OnErr result (IsBegun (map S.text words.entry.now) (E.taken err.old, E.failed err.old) (E.taken err.new, E.failed err.new)) }
-    ensures done { OnOk result (IsDone (map S.text words.entry.now) (F.held files.old) (F.asked files.old) (F.asked files.new) (O.taken out.old) (O.taken out.new)) }
+    requires { (O.output out.old).failed < 2 ^ 64 - 1 }
+    ensures undone { IfErr result (IsFaultOf (map S.text words.entry.now) (F.held files.old) (F.asked files.old) (F.asked files.new) (O.output out.old) (O.output out.new)) }
+    ensures quiet { OnOk result (IsQuiet (map S.text words.entry.now) (E.output err.old) (E.output err.new)) }
+    ensures begun { OnErr result (IsBegun (map S.text words.entry.now) (E.output err.old) (E.output err.new)) }
+    ensures done { OnOk result (IsDone (map S.text words.entry.now) (F.held files.old) (F.asked files.old) (F.asked files.new) (O.output out.old) (O.output out.new)) }
 {
     match parse(words_alloc, words) {
         Ok(command) => perform(rt, alloc, command, files, out, err),
@@ -103,12 +103,12 @@ fn perform<'a, R: Threads + Sync, A: Allocator + Copy + Send + Sync, F: Files, O
     out: &mut O,
     err: &mut E,
 ) -> Result<(), CommandFault<'a, A>>
-    requires { O.failed out.old < 2 ^ 64 - 1 }
+    requires { (O.output out.old).failed < 2 ^ 64 - 1 }
     ensures done { OnOk result (F.asked files.new ≡ asked_by (F.asked files.old) command.entry) }
-    ensures printed { OnOk result (HasPrinted (F.held files.old) command.entry (O.taken out.old) (O.taken out.new)) }
-    ensures told { OnOk result (TellsAll (told_of command.entry) (E.taken err.old, E.failed err.old) (E.taken err.new, E.failed err.new)) }
-    ensures told_some { OnErr result (TellsSome (told_of command.entry) (E.taken err.old, E.failed err.old) (E.taken err.new, E.failed err.new)) }
-    ensures undone { IfErr result (IsUndone (F.held files.old) (F.asked files.old) (F.asked files.new) command.entry (O.taken out.old, O.failed out.old) (O.taken out.new, O.failed out.new)) }
+    ensures printed { OnOk result (HasPrinted (F.held files.old) command.entry (O.output out.old) (O.output out.new)) }
+    ensures told { OnOk result (TellsAll (told_of command.entry) (E.output err.old) (E.output err.new)) }
+    ensures told_some { OnErr result (TellsSome (told_of command.entry) (E.output err.old) (E.output err.new)) }
+    ensures undone { IfErr result (IsUndone (F.held files.old) (F.asked files.old) (F.asked files.new) command.entry (O.output out.old) (O.output out.new)) }
 {
     match command {
         Command::Start(start) => perform_start(alloc, start, files, out),
@@ -130,10 +130,10 @@ fn perform_start<'a, A: Allocator + Copy, F: Files, O: Out>(
     files: &mut F,
     out: &mut O,
 ) -> Result<(), CommandFault<'a, A>>
-    requires { O.failed out.old < 2 ^ 64 - 1 }
+    requires { (O.output out.old).failed < 2 ^ 64 - 1 }
     ensures done { OnOk result (F.asked files.new ≡ asked_by (F.asked files.old) (Command.Start start.entry)) }
-    ensures printed { OnOk result (HasPrinted (F.held files.old) (Command.Start start.entry) (O.taken out.old) (O.taken out.new)) }
-    ensures undone { IfErr result (IsUndone (F.held files.old) (F.asked files.old) (F.asked files.new) (Command.Start start.entry) (O.taken out.old, O.failed out.old) (O.taken out.new, O.failed out.new)) }
+    ensures printed { OnOk result (HasPrinted (F.held files.old) (Command.Start start.entry) (O.output out.old) (O.output out.new)) }
+    ensures undone { IfErr result (IsUndone (F.held files.old) (F.asked files.old) (F.asked files.new) (Command.Start start.entry) (O.output out.old) (O.output out.new)) }
 {
     let (job, gro) = read_two(alloc, start.job, start.gro, files)?;
     start_bytes(alloc, job.as_slice(), gro.as_slice(), start.frame, out)
@@ -146,10 +146,10 @@ fn perform_frame<'a, A: Allocator + Copy, F: Files, O: Out>(
     files: &mut F,
     out: &mut O,
 ) -> Result<(), CommandFault<'a, A>>
-    requires { O.failed out.old < 2 ^ 64 - 1 }
+    requires { (O.output out.old).failed < 2 ^ 64 - 1 }
     ensures done { OnOk result (F.asked files.new ≡ asked_by (F.asked files.old) (Command.Frame frame.entry)) }
-    ensures printed { OnOk result (HasPrinted (F.held files.old) (Command.Frame frame.entry) (O.taken out.old) (O.taken out.new)) }
-    ensures undone { IfErr result (IsUndone (F.held files.old) (F.asked files.old) (F.asked files.new) (Command.Frame frame.entry) (O.taken out.old, O.failed out.old) (O.taken out.new, O.failed out.new)) }
+    ensures printed { OnOk result (HasPrinted (F.held files.old) (Command.Frame frame.entry) (O.output out.old) (O.output out.new)) }
+    ensures undone { IfErr result (IsUndone (F.held files.old) (F.asked files.old) (F.asked files.new) (Command.Frame frame.entry) (O.output out.old) (O.output out.new)) }
 {
     let state = read(alloc, frame.state, files)?;
     frame_bytes(alloc, state.as_slice(), out)
@@ -162,10 +162,10 @@ fn perform_energy<'a, A: Allocator + Copy, F: Files, O: Out>(
     files: &mut F,
     out: &mut O,
 ) -> Result<(), CommandFault<'a, A>>
-    requires { O.failed out.old < 2 ^ 64 - 1 }
+    requires { (O.output out.old).failed < 2 ^ 64 - 1 }
     ensures done { OnOk result (F.asked files.new ≡ asked_by (F.asked files.old) (Command.Energy energy.entry)) }
-    ensures printed { OnOk result (HasPrinted (F.held files.old) (Command.Energy energy.entry) (O.taken out.old) (O.taken out.new)) }
-    ensures undone { IfErr result (IsUndone (F.held files.old) (F.asked files.old) (F.asked files.new) (Command.Energy energy.entry) (O.taken out.old, O.failed out.old) (O.taken out.new, O.failed out.new)) }
+    ensures printed { OnOk result (HasPrinted (F.held files.old) (Command.Energy energy.entry) (O.output out.old) (O.output out.new)) }
+    ensures undone { IfErr result (IsUndone (F.held files.old) (F.asked files.old) (F.asked files.new) (Command.Energy energy.entry) (O.output out.old) (O.output out.new)) }
 {
     let (job, state) = read_two(alloc, energy.job, energy.state, files)?;
     energy_bytes(alloc, job.as_slice(), state.as_slice(), out)
@@ -178,10 +178,10 @@ fn perform_check<'a, A: Allocator + Copy, F: Files, O: Out>(
     files: &mut F,
     out: &mut O,
 ) -> Result<(), CommandFault<'a, A>>
-    requires { O.failed out.old < 2 ^ 64 - 1 }
+    requires { (O.output out.old).failed < 2 ^ 64 - 1 }
     ensures done { OnOk result (F.asked files.new ≡ asked_by (F.asked files.old) (Command.Check check.entry)) }
-    ensures printed { OnOk result (HasPrinted (F.held files.old) (Command.Check check.entry) (O.taken out.old) (O.taken out.new)) }
-    ensures undone { IfErr result (IsUndone (F.held files.old) (F.asked files.old) (F.asked files.new) (Command.Check check.entry) (O.taken out.old, O.failed out.old) (O.taken out.new, O.failed out.new)) }
+    ensures printed { OnOk result (HasPrinted (F.held files.old) (Command.Check check.entry) (O.output out.old) (O.output out.new)) }
+    ensures undone { IfErr result (IsUndone (F.held files.old) (F.asked files.old) (F.asked files.new) (Command.Check check.entry) (O.output out.old) (O.output out.new)) }
 {
     let job = read(alloc, check.job, files)?;
     match check.listing {
@@ -200,10 +200,10 @@ fn perform_code<'a, A: Allocator + Copy, F: Files, O: Out>(
     files: &mut F,
     out: &mut O,
 ) -> Result<(), CommandFault<'a, A>>
-    requires { O.failed out.old < 2 ^ 64 - 1 }
+    requires { (O.output out.old).failed < 2 ^ 64 - 1 }
     ensures done { OnOk result (F.asked files.new ≡ asked_by (F.asked files.old) (Command.Code listing.entry)) }
-    ensures printed { OnOk result (HasPrinted (F.held files.old) (Command.Code listing.entry) (O.taken out.old) (O.taken out.new)) }
-    ensures undone { IfErr result (IsUndone (F.held files.old) (F.asked files.old) (F.asked files.new) (Command.Code listing.entry) (O.taken out.old, O.failed out.old) (O.taken out.new, O.failed out.new)) }
+    ensures printed { OnOk result (HasPrinted (F.held files.old) (Command.Code listing.entry) (O.output out.old) (O.output out.new)) }
+    ensures undone { IfErr result (IsUndone (F.held files.old) (F.asked files.old) (F.asked files.new) (Command.Code listing.entry) (O.output out.old) (O.output out.new)) }
 {
     let job = read(alloc, listing.job, files)?;
     code_bytes(alloc, job.as_slice(), out)
@@ -218,12 +218,12 @@ fn perform_run<'a, R: Threads + Sync, A: Allocator + Copy + Send + Sync, F: File
     out: &mut O,
     err: &mut E,
 ) -> Result<(), CommandFault<'a, A>>
-    requires { O.failed out.old < 2 ^ 64 - 1 }
+    requires { (O.output out.old).failed < 2 ^ 64 - 1 }
     ensures done { OnOk result (F.asked files.new ≡ asked_by (F.asked files.old) (Command.Run run.entry)) }
-    ensures printed { OnOk result (HasPrinted (F.held files.old) (Command.Run run.entry) (O.taken out.old) (O.taken out.new)) }
-    ensures told { OnOk result (TellsAll (told_of (Command.Run run.entry)) (E.taken err.old, E.failed err.old) (E.taken err.new, E.failed err.new)) }
-    ensures told_some { OnErr result (TellsSome (told_of (Command.Run run.entry)) (E.taken err.old, E.failed err.old) (E.taken err.new, E.failed err.new)) }
-    ensures undone { IfErr result (IsUndone (F.held files.old) (F.asked files.old) (F.asked files.new) (Command.Run run.entry) (O.taken out.old, O.failed out.old) (O.taken out.new, O.failed out.new)) }
+    ensures printed { OnOk result (HasPrinted (F.held files.old) (Command.Run run.entry) (O.output out.old) (O.output out.new)) }
+    ensures told { OnOk result (TellsAll (told_of (Command.Run run.entry)) (E.output err.old) (E.output err.new)) }
+    ensures told_some { OnErr result (TellsSome (told_of (Command.Run run.entry)) (E.output err.old) (E.output err.new)) }
+    ensures undone { IfErr result (IsUndone (F.held files.old) (F.asked files.old) (F.asked files.new) (Command.Run run.entry) (O.output out.old) (O.output out.new)) }
 {
     let (job, state) = read_two(alloc, run.job, run.state, files)?;
     if run.progress {
@@ -242,9 +242,9 @@ fn run_texts<'a, R: Threads + Sync, A: Allocator + Copy + Send + Sync, O: Out>(
     run: &Run<'a>,
     out: &mut O,
 ) -> Result<(), CommandFault<'a, A>>
-    requires { O.failed out.old < 2 ^ 64 - 1 }
-    ensures wrote { OnOk result (WroteLevesqueVerletRun job.now state.now run.now.direction run.now.steps (O.taken out.old) (O.taken out.new)) }
-    ensures refused { IfErr result (IsRunUndone job.now state.now run.now (O.taken out.old, O.failed out.old) (O.taken out.new, O.failed out.new)) }
+    requires { (O.output out.old).failed < 2 ^ 64 - 1 }
+    ensures wrote { OnOk result (WroteLevesqueVerletRun job.now state.now run.now.direction run.now.steps (O.output out.old) (O.output out.new)) }
+    ensures refused { IfErr result (IsRunUndone job.now state.now run.now (O.output out.old) (O.output out.new)) }
 {
     run_bytes(
         rt,
@@ -275,12 +275,12 @@ fn perform_trajectory<
     out: &mut O,
     err: &mut E,
 ) -> Result<(), CommandFault<'a, A>>
-    requires { O.failed out.old < 2 ^ 64 - 1 }
+    requires { (O.output out.old).failed < 2 ^ 64 - 1 }
     ensures done { OnOk result (F.asked files.new ≡ asked_by (F.asked files.old) (Command.Trajectory trajectory.entry)) }
-    ensures printed { OnOk result (HasPrinted (F.held files.old) (Command.Trajectory trajectory.entry) (O.taken out.old) (O.taken out.new)) }
-    ensures told { OnOk result (TellsAll (told_of (Command.Trajectory trajectory.entry)) (E.taken err.old, E.failed err.old) (E.taken err.new, E.failed err.new)) }
-    ensures told_some { OnErr result (TellsSome (told_of (Command.Trajectory trajectory.entry)) (E.taken err.old, E.failed err.old) (E.taken err.new, E.failed err.new)) }
-    ensures undone { IfErr result (IsUndone (F.held files.old) (F.asked files.old) (F.asked files.new) (Command.Trajectory trajectory.entry) (O.taken out.old, O.failed out.old) (O.taken out.new, O.failed out.new)) }
+    ensures printed { OnOk result (HasPrinted (F.held files.old) (Command.Trajectory trajectory.entry) (O.output out.old) (O.output out.new)) }
+    ensures told { OnOk result (TellsAll (told_of (Command.Trajectory trajectory.entry)) (E.output err.old) (E.output err.new)) }
+    ensures told_some { OnErr result (TellsSome (told_of (Command.Trajectory trajectory.entry)) (E.output err.old) (E.output err.new)) }
+    ensures undone { IfErr result (IsUndone (F.held files.old) (F.asked files.old) (F.asked files.new) (Command.Trajectory trajectory.entry) (O.output out.old) (O.output out.new)) }
 {
     let (job, state) = read_two(alloc, trajectory.job, trajectory.state, files)?;
     if trajectory.progress {
@@ -299,10 +299,10 @@ fn trajectory_texts<'a, R: Threads + Sync, A: Allocator + Copy + Send + Sync, O:
     trajectory: &Trajectory<'a>,
     out: &mut O,
 ) -> Result<(), CommandFault<'a, A>>
-    requires { O.failed out.old < 2 ^ 64 - 1 }
+    requires { (O.output out.old).failed < 2 ^ 64 - 1 }
     ensures wrote { OnOk result (WroteFrames (IsFrameOfRun job.now state.now trajectory.now.direction trajectory.now.every)
-        (suc (trajectory.now.steps / trajectory.now.every)) (O.taken out.old) (O.taken out.new)) }
-    ensures refused { IfErr result (IsTrajectoryUndone job.now state.now trajectory.now (O.taken out.old, O.failed out.old) (O.taken out.new, O.failed out.new)) }
+        (suc (trajectory.now.steps / trajectory.now.every)) (O.output out.old) (O.output out.new)) }
+    ensures refused { IfErr result (IsTrajectoryUndone job.now state.now trajectory.now (O.output out.old) (O.output out.new)) }
 {
     trajectory_bytes(
         rt,
@@ -366,9 +366,9 @@ fn answer<'a, A: Allocator + Copy, O: Out>(
     error: Error,
     out: &mut O,
 ) -> Result<(), CommandFault<'a, A>>
-    requires { O.failed out.old < 2 ^ 64 - 1 }
+    requires { (O.output out.old).failed < 2 ^ 64 - 1 }
     ensures help { OnOk result ((kind_of error ≡ DisplayHelp) ⊎ (kind_of error ≡ DisplayVersion)) }
-    ensures unanswered { IfErr result (IsNoAnswer (kind_of error) (O.taken out.old, O.failed out.old) (O.taken out.new, O.failed out.new)) }
+    ensures unanswered { IfErr result (IsNoAnswer (kind_of error) (O.output out.old) (O.output out.new)) }
 {
     match error.kind() {
         ErrorKind::OutOfMemory => Err(CommandFault::Memory),
@@ -387,7 +387,7 @@ fn report_if_counted<A: Allocator + Copy, E: Out>(
     fault: &CommandFault<'_, A>,
     err: &mut E,
 ) -> u8
-    ensures { IsReported fault.now result (PrintsIfCounted (E.taken err.old, E.failed err.old) (E.taken err.new, E.failed err.new)) }
+    ensures { IsReported fault.now result (PrintsIfCounted (E.output err.old) (E.output err.new)) }
 {
     if err.failures() < u64::MAX {
         report(alloc, fault, err)
@@ -400,8 +400,8 @@ fn report_if_counted<A: Allocator + Copy, E: Out>(
 ///
 /// Where memory for the text is refused, the fault is want of memory. An output that fails is left with a beginning of the text.
 pub fn report<A: Allocator + Copy, E: Out>(alloc: A, fault: &CommandFault<'_, A>, err: &mut E) -> u8
-    requires { E.failed err.old < 2 ^ 64 - 1 }
-    ensures { IsReported fault.now result (Prints (E.taken err.old, E.failed err.old) (E.taken err.new, E.failed err.new)) }
+    requires { (E.output err.old).failed < 2 ^ 64 - 1 }
+    ensures { IsReported fault.now result (Prints (E.output err.old) (E.output err.new)) }
 {
     match text_of(alloc, fault) {
         Ok(text) => {

@@ -7,10 +7,10 @@ ghost use Rattle.engine.specs.declared.faults.EnergyFault.TheVariants as energy;
 
 use clap::Error;
 use energy_program::ExprFault;
-use engine::{EnergyFault, EngineFault, OpenFault, RunFault};
+use engine::{EnergyFault, EngineFault, KernelRefusal, OpenFault, RunFault};
 use fallible::{Failure, OutFault};
 use gro::GroFault;
-use integrator::{KernelRefusal, StepFault, SystemFault};
+use integrator::{StepFault, SystemFault};
 use job::JobFault;
 use kernel_code::CodeFault;
 use ring_box::BoxFault;
@@ -37,11 +37,11 @@ pub enum Status {
 }
 
 impl Status {
-    ghost use Rattle.cli.specs.Statuses.{code_of};
+    ghost use Rattle.cli.specs.Statuses.{status_number};
 
     /// The number that the process ends with, from 0 to 5.
     pub fn code(self) -> u8
-        ensures code { result ≡ code_of self }
+        ensures code { result ≡ status_number self }
         ensures most { result ≤ 5 }
     {
         match self {

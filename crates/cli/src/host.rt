@@ -101,9 +101,7 @@ impl<W: Write> Stream<W> {
 }
 
 impl<W: Write> Out for Stream<W> {
-    ghost taken = { λ _. None };
-
-    ghost failed = { λ s. s.failures };
+    ghost output = { λ s. record { taken = None; failed = s.failures } };
 
     fn write(&mut self, bytes: &[u8]) -> Result<usize, OutFault> {
         self.take(bytes)

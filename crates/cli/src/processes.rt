@@ -30,16 +30,16 @@ pub fn execute_words<'a, R: Threads + Sync + AllocGlobal, F: Files, O: Out, E: O
     out: &mut O,
     err: &mut E,
 ) -> u8
-    requires out { O.failed out.old < 2 ^ 64 - 1 }
-    requires err { E.failed err.old < 2 ^ 64 - 1 }
+    requires out { (O.output out.old).failed < 2 ^ 64 - 1 }
+    requires err { (E.output err.old).failed < 2 ^ 64 - 1 }
     ensures most { result ≤ 5 }
-    ensures done { IfOk words.entry (λ ws. result ≡ 0 → IsDone (map string_bytes ws.items) (F.held files.old) (F.asked files.old) (F.asked files.new) (O.taken out.old) (O.taken out.new)) }
-    ensures misuse { IfOk words.entry (λ ws. result ≡ 2 → IsMisuse (map string_bytes ws.items) × (O.taken out.new ≡ O.taken out.old)) }
-    ensures kept { IfOk words.entry (λ ws. result ≢ 0 → IsKept (O.taken out.old, O.failed out.old) (O.taken out.new, O.failed out.new)
+    ensures done { IfOk words.entry (λ ws. result ≡ 0 → IsDone (map string_bytes ws.items) (F.held files.old) (F.asked files.old) (F.asked files.new) (O.output out.old) (O.output out.new)) }
+    ensures misuse { IfOk words.entry (λ ws. result ≡ 2 → IsMisuse (map string_bytes ws.items) × (O.output out.new ≡ O.output out.old)) }
+    ensures kept { IfOk words.entry (λ ws. result ≢ 0 → IsKept (O.output out.old) (O.output out.new)
         ⊎ ((result ≡ 4) × AsksForTrajectory (map string_bytes ws.items))) }
-    ensures undone { IfOk words.entry (λ ws. result ≢ 0 → (f : CommandFault Global) × IsFaultOf (map string_bytes ws.items) (F.held files.old) (F.asked files.old) (F.asked files.new) (O.taken out.old, O.failed out.old) (O.taken out.new, O.failed out.new) f
-        × IsTold (map string_bytes ws.items) f result (E.taken err.old, E.failed err.old) (E.taken err.new, E.failed err.new)) }
-    ensures refused { IfErr words.entry (λ f. IsReported f result (Prints (E.taken err.old, E.failed err.old) (E.taken err.new, E.failed err.new)) × (O.taken out.new ≡ O.taken out.old)) }
+    ensures undone { IfOk words.entry (λ ws. result ≢ 0 → (f : CommandFault Global) × IsFaultOf (map string_bytes ws.items) (F.held files.old) (F.asked files.old) (F.asked files.new) (O.output out.old) (O.output out.new) f
+        × IsTold (map string_bytes ws.items) f result (E.output err.old) (E.output err.new)) }
+    ensures refused { IfErr words.entry (λ f. IsReported f result (Prints (E.output err.old) (E.output err.new)) × (O.output out.new ≡ O.output out.old)) }
 {
     match words {
         Ok(words) => execute(

@@ -27,7 +27,7 @@ struct ProgressLines<'a, E: Out> {
 /// It is another one's later value where it has that one's output and its number of steps.
 impl<'a, E: Out> Watch for ProgressLines<'a, E> {
     ghost told = { λ before after counts. (after.err.ghost_name ≡ before.err.ghost_name) × (after.steps ≡ before.steps)
-        × PrintsProgress before.steps (E.taken before.err.now, E.failed before.err.now) (E.taken after.err.now, E.failed after.err.now) counts };
+        × PrintsProgress before.steps (E.output before.err.now) (E.output after.err.now) counts };
 
     ghost told_nothing = { λ w. (refl, refl, refl) };
 
@@ -65,11 +65,11 @@ pub(crate) fn run_watched<'a, R: Threads + Sync, A: Allocator + Copy + Send + Sy
     out: &mut O,
     err: &mut E,
 ) -> Result<(), CommandFault<'a, A>>
-    requires { O.failed out.old < 2 ^ 64 - 1 }
-    ensures wrote { OnOk result (WroteLevesqueVerletRun job.now state.now run.now.direction run.now.steps (O.taken out.old) (O.taken out.new)) }
-    ensures told { OnOk result (TellsAll (Some run.now.steps) (E.taken err.old, E.failed err.old) (E.taken err.new, E.failed err.new)) }
-    ensures told_some { OnErr result (TellsSome (Some run.now.steps) (E.taken err.old, E.failed err.old) (E.taken err.new, E.failed err.new)) }
-    ensures refused { IfErr result (IsRunUndone job.now state.now run.now (O.taken out.old, O.failed out.old) (O.taken out.new, O.failed out.new)) }
+    requires { (O.output out.old).failed < 2 ^ 64 - 1 }
+    ensures wrote { OnOk result (WroteLevesqueVerletRun job.now state.now run.now.direction run.now.steps (O.output out.old) (O.output out.new)) }
+    ensures told { OnOk result (TellsAll (Some run.now.steps) (E.output err.old) (E.output err.new)) }
+    ensures told_some { OnErr result (TellsSome (Some run.now.steps) (E.output err.old) (E.output err.new)) }
+    ensures refused { IfErr result (IsRunUndone job.now state.now run.now (O.output out.old) (O.output out.new)) }
 {
     let steps = run.steps;
     let mut watch = ProgressLines { err, steps };
@@ -103,14 +103,14 @@ pub(crate) fn trajectory_watched<
     out: &mut O,
     err: &mut E,
 ) -> Result<(), CommandFault<'a, A>>
-    requires { O.failed out.old < 2 ^ 64 - 1 }
+    requires { (O.output out.old).failed < 2 ^ 64 - 1 }
     ensures wrote { OnOk result (WroteFrames (IsFrameOfRun job.now state.now trajectory.now.direction trajectory.now.every)
-        (suc (trajectory.now.steps / trajectory.now.every)) (O.taken out.old) (O.taken out.new)) }
+        (suc (trajectory.now.steps / trajectory.now.every)) (O.output out.old) (O.output out.new)) }
     ensures told { OnOk result (TellsAll (Some (trajectory.now.steps / trajectory.now.every * trajectory.now.every))
-        (E.taken err.old, E.failed err.old) (E.taken err.new, E.failed err.new)) }
+        (E.output err.old) (E.output err.new)) }
     ensures told_some { OnErr result (TellsSome (Some (trajectory.now.steps / trajectory.now.every * trajectory.now.every))
-        (E.taken err.old, E.failed err.old) (E.taken err.new, E.failed err.new)) }
-    ensures refused { IfErr result (IsTrajectoryUndone job.now state.now trajectory.now (O.taken out.old, O.failed out.old) (O.taken out.new, O.failed out.new)) }
+        (E.output err.old) (E.output err.new)) }
+    ensures refused { IfErr result (IsTrajectoryUndone job.now state.now trajectory.now (O.output out.old) (O.output out.new)) }
 {
     let steps = trajectory.steps / trajectory.every * trajectory.every;
     let mut watch = ProgressLines { err, steps };

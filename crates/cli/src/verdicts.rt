@@ -2,13 +2,12 @@
 
 ghost use Rattle.std.specs.Prelude.{◌≡◌, ◌-◌, ◌<◌, ◌^◌, IfErr, IfOk, Ok, OnOk, string_bytes};
 ghost use Rattle.engine.specs.PairEnergies.{IsEnergyOfTexts};
-ghost use Rattle.engine.specs.Verdicts.{IsSlopeKernel, IsUnder};
-ghost use Rattle.fallible.specs.Out.{appended};
+ghost use Rattle.engine.specs.Verdicts.{IsJudged, IsSlopeKernel, IsUnder};
+ghost use Rattle.fallible.specs.Out.{Appends};
 ghost use Rattle.job.specs.JobText.{limits, reading_of};
 ghost use Rattle.job.specs.Values.{JobValue};
 ghost use Rattle.kernel_code.specs.ListingReading.{code_of};
 ghost use Rattle.verifier.specs.Kernels.{IsKernel, Kernel};
-ghost use Rattle.cli.specs.Kept.{Appends};
 ghost use Rattle.cli.specs.Refusals.{IsEnergyUndone, IsLineUndone, IsListingUndone, IsSlopeUndone, RefusesEnergy, RefusesListing, RefusesSlope, RefusesUnder};
 ghost use Rattle.cli.specs.Verdicts.{IsEnergyText, IsListingVerdict, IsSlopeVerdict, energy_line, verdict_line};
 
@@ -45,9 +44,9 @@ fn write_verdict<'a, A: Allocator + Copy, O: Out>(
     bound: u64,
     out: &mut O,
 ) -> Result<(), CommandFault<'a, A>>
-    requires { O.failed out.old < 2 ^ 64 - 1 }
-    ensures written { OnOk result (O.taken out.new ≡ appended (O.taken out.old) (verdict_line steps bound)) }
-    ensures refused { IfErr result (IsLineUndone (verdict_line steps bound) (O.taken out.old, O.failed out.old) (O.taken out.new, O.failed out.new)) }
+    requires { (O.output out.old).failed < 2 ^ 64 - 1 }
+    ensures written { OnOk result (Appends (O.output out.old) (O.output out.new) (verdict_line steps bound)) }
+    ensures refused { IfErr result (IsLineUndone (verdict_line steps bound) (O.output out.old) (O.output out.new)) }
 {
     let line = verdict_line(alloc, steps, bound)?;
     write_all(out, line.as_bytes())?;
@@ -61,9 +60,9 @@ pub(crate) fn slope_verdict_bytes<'a, A: Allocator + Copy, O: Out>(
     job: &[u8],
     out: &mut O,
 ) -> Result<(), CommandFault<'a, A>>
-    requires { O.failed out.old < 2 ^ 64 - 1 }
-    ensures written { OnOk result (IsSlopeVerdict job.now (Appends (O.taken out.old) (O.taken out.new))) }
-    ensures refused { IfErr result (IsSlopeUndone job.now (O.taken out.old, O.failed out.old) (O.taken out.new, O.failed out.new)) }
+    requires { (O.output out.old).failed < 2 ^ 64 - 1 }
+    ensures written { OnOk result (IsSlopeVerdict job.now (Appends (O.output out.old) (O.output out.new))) }
+    ensures refused { IfErr result (IsSlopeUndone job.now (O.output out.old) (O.output out.new)) }
 {
     let known = slope_known(alloc, job)?;
     write_verdict(alloc, known.0, known.1, out)
@@ -75,7 +74,7 @@ fn slope_known<'a, A: Allocator + Copy>(
     job: &[u8],
 ) -> Result<(u32, u64), CommandFault<'a, A>>
     ensures is { IfOk result (λ known. (said : JobValue) × (k : Kernel) × (reading_of limits job.now ≡ Ok said)
-        × IsSlopeKernel said k × IsKernel k × (known.0 ≡ k.steps) × (known.1 ≡ k.bound)) }
+        × IsSlopeKernel said k × IsKernel k × IsJudged said k.code (Ok k.bound) × (known.0 ≡ k.steps) × (known.1 ≡ k.bound)) }
     ensures refused { IfErr result (RefusesUnder job.now RefusesSlope) }
 {
     let job = Job::read(alloc, job)?;
@@ -91,9 +90,9 @@ pub(crate) fn listing_verdict_bytes<'a, A: Allocator + Copy, O: Out>(
     listing: &[u8],
     out: &mut O,
 ) -> Result<(), CommandFault<'a, A>>
-    requires { O.failed out.old < 2 ^ 64 - 1 }
-    ensures written { OnOk result (IsListingVerdict job.now listing.now (Appends (O.taken out.old) (O.taken out.new))) }
-    ensures refused { IfErr result (IsListingUndone job.now listing.now (O.taken out.old, O.failed out.old) (O.taken out.new, O.failed out.new)) }
+    requires { (O.output out.old).failed < 2 ^ 64 - 1 }
+    ensures written { OnOk result (IsListingVerdict job.now listing.now (Appends (O.output out.old) (O.output out.new))) }
+    ensures refused { IfErr result (IsListingUndone job.now listing.now (O.output out.old) (O.output out.new)) }
 {
     let known = listing_known(alloc, job, listing)?;
     write_verdict(alloc, known.0, known.1, out)
@@ -106,7 +105,7 @@ fn listing_known<'a, A: Allocator + Copy>(
     listing: &[u8],
 ) -> Result<(u32, u64), CommandFault<'a, A>>
     ensures is { IfOk result (λ known. (said : JobValue) × (k : Kernel) × (reading_of limits job.now ≡ Ok said)
-        × (code_of listing.now ≡ Ok k.code) × IsUnder said k × IsKernel k × (known.0 ≡ k.steps) × (known.1 ≡ k.bound)) }
+        × (code_of listing.now ≡ Ok k.code) × IsUnder said k × IsKernel k × IsJudged said k.code (Ok k.bound) × (known.0 ≡ k.steps) × (known.1 ≡ k.bound)) }
     ensures refused { IfErr result (RefusesUnder job.now (RefusesListing listing.now)) }
 {
     let job = Job::read(alloc, job)?;
@@ -123,9 +122,9 @@ pub(crate) fn energy_bytes<'a, A: Allocator + Copy, O: Out>(
     state: &[u8],
     out: &mut O,
 ) -> Result<(), CommandFault<'a, A>>
-    requires { O.failed out.old < 2 ^ 64 - 1 }
-    ensures written { OnOk result (IsEnergyText job.now state.now (Appends (O.taken out.old) (O.taken out.new))) }
-    ensures refused { IfErr result (IsEnergyUndone job.now state.now (O.taken out.old, O.failed out.old) (O.taken out.new, O.failed out.new)) }
+    requires { (O.output out.old).failed < 2 ^ 64 - 1 }
+    ensures written { OnOk result (IsEnergyText job.now state.now (Appends (O.output out.old) (O.output out.new))) }
+    ensures refused { IfErr result (IsEnergyUndone job.now state.now (O.output out.old) (O.output out.new)) }
 {
     let energy = energy_known(alloc, job, state)?;
     let line = energy_line(alloc, energy)?;

@@ -26,10 +26,12 @@ shaped built app is = IfOk-weaker built _ _ (λ c h. (ap (λ (a : App). a.top) h
 
 -- ---- what the parser says of it
 
+-- the program is a command of which the parser's contracts tell the matches
 pub program_is_simple : is_simple program ≡ true
 unfolding clap_on_literals
 program_is_simple = refl
 
+-- the program is such a command, and none of its arguments has a rule on another, so that they tell its faults
 pub program_is_free : is_simple_and_free program ≡ true
 unfolding clap_on_literals
 program_is_free = refl
@@ -52,6 +54,7 @@ or_else_kind [] next e (inl memory) = inl memory
 or_else_kind [] next e (inr among) = absurd among
 or_else_kind (k ∷ ks) next e has = has
 
+-- an error of a kind that the parser finds in the words has a kind that the words' faults have
 pub faulty_has_kind : (words : List Text) (e : Error) → HasKind (fault_of program words) e → HasKind (faults_of words) e
 faulty_has_kind words e has = or_else_kind (fault_of program words) (MissingRequiredArgument ∷ []) e has
 
@@ -68,10 +71,12 @@ pub program_fails : (a : App) (words : List Text) (e : Error) → a ≡ program
     → (is_simple_and_free a ≡ true → HasKind (fault_of a words) e) → HasKind (fault_of program words) e
 program_fails a words e is fails = subst (λ b. HasKind (fault_of b words) e) is (fails (ap is_simple_and_free is ∙ program_is_free))
 
+-- the same where the parser finds no fault: the words have none
 pub program_passes : (a : App) (words : List Text) → a ≡ program
     → (is_simple_and_free a ≡ true → fault_of a words ≡ []) → fault_of program words ≡ []
 program_passes a words is passes = subst (λ b. fault_of b words ≡ []) is (passes (ap is_simple_and_free is ∙ program_is_free))
 
+-- the same of matches: the command that they name is the one that the words name
 pub program_meets : (a : App) (words : List Text) (m : ArgMatches) → a ≡ program → HasMatchesOf a words m
     → subcommand_rows_of m ≡ subcommand_of program words
 program_meets a words m is has = (has (ap is_simple is ∙ program_is_simple)).1 ∙ ap (λ b. subcommand_of b words) is

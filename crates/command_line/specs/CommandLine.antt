@@ -185,13 +185,13 @@ abbrev pub IsFrameNumber : List Row → ℕ → Type 0
 IsFrameNumber rows n = SaysNumber (codes "frame") rows n
 
 -- the values of the arguments of `start` say this start
-pub record IsStart (rows : List Row) (start : Start) : Type 0 where
+pub record SaysStart (rows : List Row) (start : Start) : Type 0 where
   pub job : first_of (codes "JOB") rows ≡ Some start.job.now
   pub gro : first_of (codes "GRO") rows ≡ Some start.gro.now
   pub frame : IsFrameNumber rows start.frame
 
 -- a command's name and the values of its arguments say this run
-pub record IsRun (name : Text) (rows : List Row) (run : Run) : Type 0 where
+pub record SaysRun (name : Text) (rows : List Row) (run : Run) : Type 0 where
   pub direction : name ≡ command_name run.direction
   pub job : first_of (codes "JOB") rows ≡ Some run.job.now
   pub state : first_of (codes "STATE") rows ≡ Some run.state.now
@@ -200,7 +200,7 @@ pub record IsRun (name : Text) (rows : List Row) (run : Run) : Type 0 where
   pub progress : IsProgress rows run.progress
 
 -- the values of the arguments of `trajectory` say these frames
-pub record IsTrajectory (rows : List Row) (t : Trajectory) : Type 0 where
+pub record SaysTrajectory (rows : List Row) (t : Trajectory) : Type 0 where
   pub direction : IsTurned rows t.direction
   pub job : first_of (codes "JOB") rows ≡ Some t.job.now
   pub state : first_of (codes "STATE") rows ≡ Some t.state.now
@@ -210,16 +210,16 @@ pub record IsTrajectory (rows : List Row) (t : Trajectory) : Type 0 where
   pub progress : IsProgress rows t.progress
 
 -- the values of the arguments of `frame` say this frame
-pub record IsFrame (rows : List Row) (frame : Frame) : Type 0 where
+pub record SaysFrame (rows : List Row) (frame : Frame) : Type 0 where
   pub state : first_of (codes "STATE") rows ≡ Some frame.state.now
 
 -- the values of the arguments of `energy` say this job and this state
-pub record IsEnergy (rows : List Row) (energy : Energy) : Type 0 where
+pub record SaysEnergy (rows : List Row) (energy : Energy) : Type 0 where
   pub job : first_of (codes "JOB") rows ≡ Some energy.job.now
   pub state : first_of (codes "STATE") rows ≡ Some energy.state.now
 
 -- the values of the arguments of `check` say this job, and this listing if any
-pub record IsCheck (rows : List Row) (check : Check) : Type 0 where
+pub record SaysCheck (rows : List Row) (check : Check) : Type 0 where
   pub job : first_of (codes "JOB") rows ≡ Some check.job.now
   pub listing : first_of (codes "code") rows ≡ option_map (λ path. path.now) check.listing
 
@@ -229,12 +229,12 @@ pub record IsListing (rows : List Row) (l : Listing) : Type 0 where
 
 -- a command's name and the values of its arguments say this command
 abbrev pub IsNamed : Text → List Row → Command → Type 0
-IsNamed name rows (command.Start start) = (name ≡ codes "start") × IsStart rows start
-IsNamed name rows (command.Run run) = IsRun name rows run
-IsNamed name rows (command.Trajectory t) = (name ≡ codes "trajectory") × IsTrajectory rows t
-IsNamed name rows (command.Frame frame) = (name ≡ codes "frame") × IsFrame rows frame
-IsNamed name rows (command.Energy energy) = (name ≡ codes "energy") × IsEnergy rows energy
-IsNamed name rows (command.Check check) = (name ≡ codes "check") × IsCheck rows check
+IsNamed name rows (command.Start start) = (name ≡ codes "start") × SaysStart rows start
+IsNamed name rows (command.Run run) = SaysRun name rows run
+IsNamed name rows (command.Trajectory t) = (name ≡ codes "trajectory") × SaysTrajectory rows t
+IsNamed name rows (command.Frame frame) = (name ≡ codes "frame") × SaysFrame rows frame
+IsNamed name rows (command.Energy energy) = (name ≡ codes "energy") × SaysEnergy rows energy
+IsNamed name rows (command.Check check) = (name ≡ codes "check") × SaysCheck rows check
 IsNamed name rows (command.Code l) = (name ≡ codes "code") × IsListing rows l
 
 abbrev pub IsNamedOf : Option (Text × List Row) → Command → Type 0

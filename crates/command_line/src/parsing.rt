@@ -3,7 +3,7 @@
 ghost use Rattle.std.specs.Prelude.{◌≡◌, ◌≤◌, ◌<◌, ◌^◌, ◌⊎◌, ℕ, IfOk, IfErr, MatchOption, codes, option_map, map, false};
 ghost use Rattle.clap.specs.Words.{App, HasKind, Rule, Shape, app_of, first_of, found_of, kind_of, new_app, rows_of, rule_of, subcommand_rows_of, with_rule, with_subcommand};
 ghost use Rattle.clap.specs.declared.error.kind.ErrorKind.TheVariants.{OutOfMemory};
-ghost use Rattle.command_line.specs.CommandLine.{IsBuilt, IsCheck, IsCommand, IsEnergy, IsEvery, IsFrame, IsFrameNumber, IsGiven, IsListing, IsNamed, IsNamedOf, IsRun, IsShaped, IsStart, IsSteps, IsTrajectory, IsTurned, IsWorkers, back_rule, bare, checking, code_rule, command_name, every_rule, faults_of, filming, flag_rule, forward, frame_rule, framing, judging, listing, option_rule, path_rule, program, progress_rule, returning, starting, stepped, steps_rule, stepping, weighing, workers_rule};
+ghost use Rattle.command_line.specs.CommandLine.{IsBuilt, SaysCheck, IsCommand, SaysEnergy, IsEvery, SaysFrame, IsFrameNumber, IsGiven, IsListing, IsNamed, IsNamedOf, SaysRun, IsShaped, SaysStart, IsSteps, SaysTrajectory, IsTurned, IsWorkers, back_rule, bare, checking, code_rule, command_name, every_rule, faults_of, filming, flag_rule, forward, frame_rule, framing, judging, listing, option_rule, path_rule, program, progress_rule, returning, starting, stepped, steps_rule, stepping, weighing, workers_rule};
 ghost use Rattle.command_line.specs.declared.commands.Start.{Start};
 ghost use Rattle.command_line.specs.declared.commands.Frame.{Frame};
 ghost use Rattle.command_line.specs.declared.commands.Listing.{Listing};
@@ -79,8 +79,8 @@ fn command_by<'a>(name: &str, matches: &ArgMatches<'a>) -> Option<Command<'a>>
 
 /// The start that these matches say.
 fn start_of<'a>(matches: &ArgMatches<'a>) -> Option<Command<'a>>
-    ensures { MatchOption result ((s : Start) → IsStart (rows_of (found_of matches.now)) s → ⊥)
-        (λ c. (s : Start) × (c ≡ Command.Start s) × IsStart (rows_of (found_of matches.now)) s) }
+    ensures { MatchOption result ((s : Start) → SaysStart (rows_of (found_of matches.now)) s → ⊥)
+        (λ c. (s : Start) × (c ≡ Command.Start s) × SaysStart (rows_of (found_of matches.now)) s) }
 {
     let job = path_of(matches, "JOB")?;
     let gro = path_of(matches, "GRO")?;
@@ -90,8 +90,8 @@ fn start_of<'a>(matches: &ArgMatches<'a>) -> Option<Command<'a>>
 
 /// The run of the command with this name and these matches.
 fn run_by<'a>(name: &str, matches: &ArgMatches<'a>) -> Option<Command<'a>>
-    ensures { MatchOption result ((r : Run) → IsRun name.now (rows_of (found_of matches.now)) r → ⊥)
-        (λ c. (r : Run) × (c ≡ Command.Run r) × IsRun name.now (rows_of (found_of matches.now)) r) }
+    ensures { MatchOption result ((r : Run) → SaysRun name.now (rows_of (found_of matches.now)) r → ⊥)
+        (λ c. (r : Run) × (c ≡ Command.Run r) × SaysRun name.now (rows_of (found_of matches.now)) r) }
 {
     let direction = direction_of(name)?;
     let job = path_of(matches, "JOB")?;
@@ -111,8 +111,8 @@ fn run_by<'a>(name: &str, matches: &ArgMatches<'a>) -> Option<Command<'a>>
 
 /// The frames of a run that these matches say.
 fn trajectory_of<'a>(matches: &ArgMatches<'a>) -> Option<Command<'a>>
-    ensures { MatchOption result ((t : Trajectory) → IsTrajectory (rows_of (found_of matches.now)) t → ⊥)
-        (λ c. (t : Trajectory) × (c ≡ Command.Trajectory t) × IsTrajectory (rows_of (found_of matches.now)) t) }
+    ensures { MatchOption result ((t : Trajectory) → SaysTrajectory (rows_of (found_of matches.now)) t → ⊥)
+        (λ c. (t : Trajectory) × (c ≡ Command.Trajectory t) × SaysTrajectory (rows_of (found_of matches.now)) t) }
 {
     let direction = turned_of(matches);
     let job = path_of(matches, "JOB")?;
@@ -134,8 +134,8 @@ fn trajectory_of<'a>(matches: &ArgMatches<'a>) -> Option<Command<'a>>
 
 /// The frame to print that these matches say.
 fn frame_of<'a>(matches: &ArgMatches<'a>) -> Option<Command<'a>>
-    ensures { MatchOption result ((f : Frame) → IsFrame (rows_of (found_of matches.now)) f → ⊥)
-        (λ c. (f : Frame) × (c ≡ Command.Frame f) × IsFrame (rows_of (found_of matches.now)) f) }
+    ensures { MatchOption result ((f : Frame) → SaysFrame (rows_of (found_of matches.now)) f → ⊥)
+        (λ c. (f : Frame) × (c ≡ Command.Frame f) × SaysFrame (rows_of (found_of matches.now)) f) }
 {
     let state = path_of(matches, "STATE")?;
     Some(Command::Frame(Frame { state }))
@@ -143,8 +143,8 @@ fn frame_of<'a>(matches: &ArgMatches<'a>) -> Option<Command<'a>>
 
 /// The state to weigh that these matches say.
 fn energy_of<'a>(matches: &ArgMatches<'a>) -> Option<Command<'a>>
-    ensures { MatchOption result ((e : Energy) → IsEnergy (rows_of (found_of matches.now)) e → ⊥)
-        (λ c. (e : Energy) × (c ≡ Command.Energy e) × IsEnergy (rows_of (found_of matches.now)) e) }
+    ensures { MatchOption result ((e : Energy) → SaysEnergy (rows_of (found_of matches.now)) e → ⊥)
+        (λ c. (e : Energy) × (c ≡ Command.Energy e) × SaysEnergy (rows_of (found_of matches.now)) e) }
 {
     let job = path_of(matches, "JOB")?;
     let state = path_of(matches, "STATE")?;
@@ -153,8 +153,8 @@ fn energy_of<'a>(matches: &ArgMatches<'a>) -> Option<Command<'a>>
 
 /// The code to judge that these matches say.
 fn check_of<'a>(matches: &ArgMatches<'a>) -> Option<Command<'a>>
-    ensures { MatchOption result ((c : Check) → IsCheck (rows_of (found_of matches.now)) c → ⊥)
-        (λ c. (k : Check) × (c ≡ Command.Check k) × IsCheck (rows_of (found_of matches.now)) k) }
+    ensures { MatchOption result ((c : Check) → SaysCheck (rows_of (found_of matches.now)) c → ⊥)
+        (λ c. (k : Check) × (c ≡ Command.Check k) × SaysCheck (rows_of (found_of matches.now)) k) }
 {
     let job = path_of(matches, "JOB")?;
     let listing = path_of(matches, "code");

@@ -2,14 +2,17 @@
 use Rattle.std.proofs.Common.{Bool, true, false, ◌&&◌, refl}
 use Rattle.std.specs.Bool.{IsTrue}
 
+-- where two tests hold together the first holds
 pub left_of : (a b : Bool) → IsTrue (a && b) → IsTrue a
 left_of true b h = refl
 left_of false b h = h
 
+-- where two tests hold together the second holds
 pub right_of : (a b : Bool) → IsTrue (a && b) → IsTrue b
 right_of true b h = h
 right_of false b h = absurd (cc)
 
+-- where each of two tests holds they hold together
 pub both : (a b : Bool) → IsTrue a → IsTrue b → IsTrue (a && b)
 both true b h k = k
 both false b h k = h

@@ -1,6 +1,7 @@
 -- A tree that has a value and a slope is these near the distance.
 use Rattle.std.proofs.Common.{◌≡◌, ◌≢◌, ℕ, zero, suc, ◌-◌, ◌==◌, ℤ, pos, negsuc, Bool, true, false, if◌then◌else◌, List, Option, Some, None, refl, sym, ap, ◌∙◌, subst, arith}
 use Rattle.std.proofs.lemmas.Bool.{ne_eqb}
+use Rattle.std.proofs.lemmas.Option.{same_Some}
 use Rattle.energy_program.specs.declared.trees.Operator.{Operator}
 use Rattle.energy_program.specs.declared.trees.Operator.TheVariants as op
 use Rattle.energy_program.specs.declared.trees.Function.{Function}
@@ -11,7 +12,7 @@ use Rattle.derivative.specs.Exact.{Numbers, AreExact, minus, whole, power, power
 use Rattle.derivative.specs.DualNumbers.{IsDerivative, IsNear, dual, is_flat}
 use Rattle.derivative.specs.DualNumbers as near
 use Rattle.derivative.proofs.RingLaws.{pair}
-use Rattle.derivative.proofs.ExactLaws.{chosen, of_one, of_two, order_by_difference, some_same, varying}
+use Rattle.derivative.proofs.ExactLaws.{chosen, of_one, of_two, order_by_difference, varying}
 use Rattle.derivative.proofs.DualRows.{power_is, power_row_is, power_value}
 use Rattle.derivative.proofs.DualParts.{product_parts, quotient_parts, reciprocal_parts, root_parts}
 use Rattle.derivative.proofs.Readings.{free_slope}
@@ -41,7 +42,7 @@ module _ {V : Type 0} (k : Numbers V) (h : AreExact k) (inputs : List V) where
       by_test false free = near_by_row v s ev (varying o (is_free_of_distance t) row s free (sym is ∙ es))
 
   input_complete : (n : ℕ) → IsComplete (Input n)
-  input_complete zero v s ev es = at (Input 0) v i v s refl (some_same i s es) (near.distance ev)
+  input_complete zero v s ev es = at (Input 0) v i v s refl (same_Some i s es) (near.distance ev)
   input_complete (suc n) v s ev es = constant (Input (suc n)) (rw (ne_eqb (suc n) 0 (λ e. omega arith)) refl) v s ev es
 
   negative_complete : (a : Tree) → IsComplete a → IsComplete (Negated a)
@@ -52,7 +53,7 @@ module _ {V : Type 0} (k : Numbers V) (h : AreExact k) (inputs : List V) where
       by_parts v s ev es =
           let u = of_one (λ x. Some (neg x)) (exact_value k inputs a) v ev in
           let du = of_one (λ x. Some (neg x)) (exact_slope k inputs a) s es in
-          at (Negated a) (neg u.0) (neg du.0) v s (some_same (neg u.0) v u.2) (some_same (neg du.0) s du.2) (near.negative (ia u.0 du.0 u.1 du.1))
+          at (Negated a) (neg u.0) (neg du.0) v s (same_Some (neg u.0) v u.2) (same_Some (neg du.0) s du.2) (near.negative (ia u.0 du.0 u.1 du.1))
 
   -- ---- operations on two
 
@@ -62,7 +63,7 @@ module _ {V : Type 0} (k : Numbers V) (h : AreExact k) (inputs : List V) where
     sum_complete v s ev es =
         let u = of_two (λ x y. Some (plus x y)) (exact_value k inputs a) (exact_value k inputs b) v ev in
         let du = of_two (λ x y. Some (plus x y)) (exact_slope k inputs a) (exact_slope k inputs b) s es in
-        at (Binary op.Add a b) (plus u.0 u.1) (plus du.0 du.1) v s (some_same (plus u.0 u.1) v u.4) (some_same (plus du.0 du.1) s du.4)
+        at (Binary op.Add a b) (plus u.0 u.1) (plus du.0 du.1) v s (same_Some (plus u.0 u.1) v u.4) (same_Some (plus du.0 du.1) s du.4)
         (near.sum (ia u.0 du.0 u.2 du.2) (ib u.1 du.1 u.3 du.3))
 
     difference_complete : (v s : V) → operation k op.Subtract (exact_value k inputs a) (exact_value k inputs b) ≡ Some v
@@ -71,7 +72,7 @@ module _ {V : Type 0} (k : Numbers V) (h : AreExact k) (inputs : List V) where
         let u = of_two (λ x y. Some (minus k.ring x y)) (exact_value k inputs a) (exact_value k inputs b) v ev in
         let du = of_two (λ x y. Some (minus k.ring x y)) (exact_slope k inputs a) (exact_slope k inputs b) s es in
         at (Binary op.Subtract a b) (minus k.ring u.0 u.1) (minus k.ring du.0 du.1) v s
-        (some_same (minus k.ring u.0 u.1) v u.4) (some_same (minus k.ring du.0 du.1) s du.4)
+        (same_Some (minus k.ring u.0 u.1) v u.4) (same_Some (minus k.ring du.0 du.1) s du.4)
         (near.difference (ia u.0 du.0 u.2 du.2) (ib u.1 du.1 u.3 du.3))
 
     free_a : is_free_of_distance a ≡ true → exact_slope k inputs a ≡ Some o
@@ -112,11 +113,11 @@ module _ {V : Type 0} (k : Numbers V) (h : AreExact k) (inputs : List V) where
             → operation_row (exact k) op.Minimum (is_free_of_distance a) (is_free_of_distance b) (exact_value k inputs a) (exact_value k inputs b) (exact_slope k inputs a) (exact_slope k inputs b) ≡ Some s
             → IsNear k inputs (Binary op.Minimum a b) (v, s)
         by_order x y ea eb true e ev es =
-            let is : x ≡ v = some_same x v (rw e at ev) in
+            let is : x ≡ v = same_Some x v (rw e at ev) in
             let slope : exact_slope k inputs a ≡ Some s = sym (chosen k h true (minus k.ring y x) (exact_slope k inputs a) (exact_slope k inputs b) (order_by_difference k h x y ∙ e)) ∙ (rw (ea, eb) at es) in
             at (Binary op.Minimum a b) x s v s is refl (near.minimum_first (ia x s ea slope) eb e)
         by_order x y ea eb false e ev es =
-            let is : y ≡ v = some_same y v (rw e at ev) in
+            let is : y ≡ v = same_Some y v (rw e at ev) in
             let slope : exact_slope k inputs b ≡ Some s = sym (chosen k h false (minus k.ring y x) (exact_slope k inputs a) (exact_slope k inputs b) (order_by_difference k h x y ∙ e)) ∙ (rw (ea, eb) at es) in
             at (Binary op.Minimum a b) y s v s is refl (near.minimum_second ea (ib y s eb slope) e)
 
@@ -132,11 +133,11 @@ module _ {V : Type 0} (k : Numbers V) (h : AreExact k) (inputs : List V) where
             → operation_row (exact k) op.Maximum (is_free_of_distance a) (is_free_of_distance b) (exact_value k inputs a) (exact_value k inputs b) (exact_slope k inputs a) (exact_slope k inputs b) ≡ Some s
             → IsNear k inputs (Binary op.Maximum a b) (v, s)
         by_order x y ea eb true e ev es =
-            let is : x ≡ v = some_same x v (rw e at ev) in
+            let is : x ≡ v = same_Some x v (rw e at ev) in
             let slope : exact_slope k inputs a ≡ Some s = sym (chosen k h true (minus k.ring x y) (exact_slope k inputs a) (exact_slope k inputs b) (order_by_difference k h y x ∙ e)) ∙ (rw (ea, eb) at es) in
             at (Binary op.Maximum a b) x s v s is refl (near.maximum_first (ia x s ea slope) eb e)
         by_order x y ea eb false e ev es =
-            let is : y ≡ v = some_same y v (rw e at ev) in
+            let is : y ≡ v = same_Some y v (rw e at ev) in
             let slope : exact_slope k inputs b ≡ Some s = sym (chosen k h false (minus k.ring x y) (exact_slope k inputs a) (exact_slope k inputs b) (order_by_difference k h y x ∙ e)) ∙ (rw (ea, eb) at es) in
             at (Binary op.Maximum a b) y s v s is refl (near.maximum_second ea (ib y s eb slope) e)
 
@@ -174,18 +175,18 @@ module _ {V : Type 0} (k : Numbers V) (h : AreExact k) (inputs : List V) where
             → selected k (Some (step_of k x)) (exact_slope k inputs a) ((exact k).negative (exact_slope k inputs a)) ≡ Some s
             → IsNear k inputs (Applied f.Absolute a) (v, s)
         by_sign x ea true e ev es =
-            let is : x ≡ v = some_same x v (rw e at ev) in
+            let is : x ≡ v = same_Some x v (rw e at ev) in
             let slope : exact_slope k inputs a ≡ Some s = sym (chosen k h true x (exact_slope k inputs a) ((exact k).negative (exact_slope k inputs a)) e) ∙ es in
             at (Applied f.Absolute a) x s v s is refl (near.absolute_same (ia x s ea slope) e)
         by_sign x ea false e ev es =
-            let is : neg x ≡ v = some_same (neg x) v (rw e at ev) in
+            let is : neg x ≡ v = same_Some (neg x) v (rw e at ev) in
             let slope : (exact k).negative (exact_slope k inputs a) ≡ Some s = sym (chosen k h false x (exact_slope k inputs a) ((exact k).negative (exact_slope k inputs a)) e) ∙ es in
             let d = of_one (λ y. Some (neg y)) (exact_slope k inputs a) s slope in
-            at (Applied f.Absolute a) (neg x) (neg d.0) v s is (some_same (neg d.0) s d.2) (near.absolute_opposite (ia x d.0 ea d.1) e)
+            at (Applied f.Absolute a) (neg x) (neg d.0) v s is (same_Some (neg d.0) s d.2) (near.absolute_opposite (ia x d.0 ea d.1) e)
 
     flat_complete : (g : Function) (v s : V) → is_flat g ≡ true → exact_value k inputs (Applied g a) ≡ Some v → Some o ≡ Some s
         → IsNear k inputs (Applied g a) (v, s)
-    flat_complete g v s is ev es = at (Applied g a) v o v s refl (some_same o s es) (near.flat is ev)
+    flat_complete g v s is ev es = at (Applied g a) v o v s refl (same_Some o s es) (near.flat is ev)
 
     applied_complete : (g : Function) (v s : V) → applied k g (exact_value k inputs a) ≡ Some v
         → applied_row (exact k) g (exact_value k inputs a) (exact_slope k inputs a) ≡ Some s → IsNear k inputs (Applied g a) (v, s)
@@ -215,8 +216,8 @@ module _ {V : Type 0} (k : Numbers V) (h : AreExact k) (inputs : List V) where
         let u = of_one (power_of k (pos n)) (exact_value k inputs a) v ev in
         let d = power_part n u.0 s u.1 es in
         let row : power_row (exact k) (Some u.0) (pos n) (Some d.0) ≡ Some s = rw (u.1, d.1) at es in
-        let is : (power (dual k.ring) (u.0, d.0) n).0 ≡ v = power_value k h n (u.0, d.0) ∙ some_same (power k.ring u.0 n) v u.2 in
-        let slope : (power (dual k.ring) (u.0, d.0) n).1 ≡ s = some_same (power (dual k.ring) (u.0, d.0) n).1 s (sym (power_row_is k h n (u.0, d.0)) ∙ row) in
+        let is : (power (dual k.ring) (u.0, d.0) n).0 ≡ v = power_value k h n (u.0, d.0) ∙ same_Some (power k.ring u.0 n) v u.2 in
+        let slope : (power (dual k.ring) (u.0, d.0) n).1 ≡ s = same_Some (power (dual k.ring) (u.0, d.0) n).1 s (sym (power_row_is k h n (u.0, d.0)) ∙ row) in
         at (Power a (pos n)) (power (dual k.ring) (u.0, d.0) n).0 (power (dual k.ring) (u.0, d.0) n).1 v s is slope (near.whole_power (ia u.0 d.0 u.1 d.1))
 
     reciprocal_near : (m : ℕ) (x0 x1 v s : V) → IsNear k inputs a (x0, x1) → times v (power k.ring x0 (suc m)) ≡ i

@@ -1,10 +1,10 @@
 -- The rows of the table, read back: what the parts are where the whole has a value and a slope.
 use Rattle.std.proofs.Common.{◌≡◌, ◌≢◌, ℕ, suc, ◌+◌, negsuc, Bool, true, false, Option, Some, None, refl, sym, ap, ◌∙◌, arith}
+use Rattle.std.proofs.lemmas.Option.{same_Some}
 use Rattle.energy_program.specs.declared.trees.Function.TheVariants as f
 use Rattle.derivative.specs.Slope.{product_row, quotient_row, applied_row, power_row}
 use Rattle.derivative.specs.Exact.{Numbers, AreExact, minus, whole, power, exact}
 use Rattle.derivative.proofs.RingLaws as ring
-use Rattle.derivative.proofs.ExactLaws.{some_same}
 use Rattle.derivative.proofs.DualRows.{left_constant, quotient_back, reciprocal_back, right_constant}
 
 module _ {V : Type 0} (k : Numbers V) (h : AreExact k) where
@@ -19,14 +19,14 @@ module _ {V : Type 0} (k : Numbers V) (h : AreExact k) where
   product_parts p q (Some x) None du dv z s hp hq ez es = absurd (cc)
   product_parts true q (Some x) (Some y) du None z s hp hq ez es = absurd (cc)
   product_parts true q (Some x) (Some y) du (Some dy) z s hp hq ez es =
-      (x, o, y, dy, refl, hp refl, refl, refl, some_same (times x y) z ez, left_constant k h x o y dy refl ∙ some_same (times x dy) s es)
+      (x, o, y, dy, refl, hp refl, refl, refl, same_Some (times x y) z ez, left_constant k h x o y dy refl ∙ same_Some (times x dy) s es)
   product_parts false true (Some x) (Some y) None dv z s hp hq ez es = absurd (cc)
   product_parts false true (Some x) (Some y) (Some dx) dv z s hp hq ez es =
-      (x, dx, y, o, refl, refl, refl, hq refl, some_same (times x y) z ez, right_constant k h x dx y o refl ∙ some_same (times dx y) s es)
+      (x, dx, y, o, refl, refl, refl, hq refl, same_Some (times x y) z ez, right_constant k h x dx y o refl ∙ same_Some (times dx y) s es)
   product_parts false false (Some x) (Some y) None dv z s hp hq ez es = absurd (cc)
   product_parts false false (Some x) (Some y) (Some dx) None z s hp hq ez es = absurd (cc)
   product_parts false false (Some x) (Some y) (Some dx) (Some dy) z s hp hq ez es =
-      (x, dx, y, dy, refl, refl, refl, refl, some_same (times x y) z ez, some_same (plus (times dx y) (times x dy)) s es)
+      (x, dx, y, dy, refl, refl, refl, refl, same_Some (times x y) z ez, same_Some (plus (times dx y) (times x dy)) s es)
 
   -- of a quotient z with the slope s
   pub quotient_parts : (p q : Bool) (u v du dv : Option V) (z s : V) → (p ≡ true → du ≡ Some o) → (q ≡ true → dv ≡ Some o)
@@ -100,7 +100,7 @@ module _ {V : Type 0} (k : Numbers V) (h : AreExact k) where
 
   negative_of : (w : Option V) (s : V) → (exact k).negative w ≡ Some s → (t : V) × (w ≡ Some t) × (neg t ≡ s)
   negative_of None s e = absurd (cc)
-  negative_of (Some t) s e = (t, refl, some_same (neg t) s e)
+  negative_of (Some t) s e = (t, refl, same_Some (neg t) s e)
 
   reciprocal_slope : (m : ℕ) (x dx z s t : V) → times z (power k.ring x (suc m)) ≡ i
       → k.quotient (times (whole k.ring (m + 1)) dx) (power k.ring x (m + 2)) ≡ Some t → neg t ≡ s

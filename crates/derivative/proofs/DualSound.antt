@@ -1,5 +1,6 @@
 -- What a tree is near a distance has its value and its slope.
 use Rattle.std.proofs.Common.{◌≡◌, ◌≢◌, ℕ, suc, ℤ, pos, negsuc, true, false, ◌&&◌, List, Option, Some, refl, sym, ap, ◌∙◌}
+use Rattle.std.proofs.lemmas.Option.{same_Some}
 use Rattle.energy_program.specs.declared.trees.Operator.{Operator}
 use Rattle.energy_program.specs.declared.trees.Operator.TheVariants as op
 use Rattle.energy_program.specs.declared.trees.Function.{Function}
@@ -10,7 +11,7 @@ use Rattle.derivative.specs.Exact.{Numbers, AreExact, minus, whole, power, exact
 use Rattle.derivative.specs.DualNumbers.{IsNear, dual, is_flat}
 use Rattle.derivative.specs.DualNumbers as near
 use Rattle.derivative.proofs.RingLaws as ring
-use Rattle.derivative.proofs.ExactLaws.{chosen, left_true, order_by_difference, right_true, some_same, unless}
+use Rattle.derivative.proofs.ExactLaws.{chosen, left_true, order_by_difference, right_true, unless}
 use Rattle.derivative.proofs.Readings.{free_slope}
 use Rattle.derivative.proofs.DualRows.{both_constant, constant_power, constant_quotient, constant_reciprocal, constant_root, divisor_not_zero, power_is, power_row_is, power_value, product_is, quotient_is, reciprocal_row_is, root_is}
 
@@ -19,7 +20,7 @@ module _ {V : Type 0} (k : Numbers V) (inputs : List V) where
 
   -- a constant's slope is 0
   pub constant_slope : (t : Tree) (s : V) → exact_slope k inputs t ≡ Some s → is_free_of_distance t ≡ true → s ≡ o
-  constant_slope t s e free = some_same s o (sym e ∙ free_slope (exact k) (exact_value k inputs) t free)
+  constant_slope t s e free = same_Some s o (sym e ∙ free_slope (exact k) (exact_value k inputs) t free)
 
   -- what is to be shown of a tree
   pub record Sound (t : Tree) (x : V × V) : Type 0 where

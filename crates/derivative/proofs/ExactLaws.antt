@@ -5,9 +5,6 @@ use Rattle.derivative.specs.Exact.{Numbers, AreExact, minus, whole, power, on_on
 use Rattle.derivative.proofs.RingLaws as ring
 
 -- two values that are there are equal where they are so as answers
-pub some_same : {V : Type 0} (x y : V) → Some x ≡ Some y → x ≡ y
-some_same x y e = cc
-
 -- an operation that has a value has a part, and one for it
 pub of_one : {V : Type 0} (f : V → Option V) (x : Option V) (z : V) → on_one f x ≡ Some z → (a : V) × (x ≡ Some a) × (f a ≡ Some z)
 of_one f None z e = absurd (cc)

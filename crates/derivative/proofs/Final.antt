@@ -55,6 +55,7 @@ pub record IsDerived {A : Type 0} (f : Frac) (count : ℕ) (body slope_body : Ex
   pub body_in : IsTrue (is_scoped count 0 (length slope_ds) (tree_of slope_body))
   pub definitions_in : IsTrue (are_scoped count 0 (map tree_of slope_ds))
 
+-- the program that is left of the one with all definitions has the slope as its value, needs each of its definitions, and uses only those
 pub derived : {A : Type 0} (f : Frac) (count : ℕ) (body slope_body : Expr A) (ds slope_ds : List (Expr A)) (whole : Trees)
     → whole ≡ with_all (bits_of f) (tree_of body, map tree_of ds) → (tree_of slope_body, map tree_of slope_ds) ≡ pruned whole
     → IsTrue (is_scoped count 0 (length ds) (tree_of body)) → IsTrue (are_scoped count 0 (map tree_of ds))
@@ -80,12 +81,14 @@ module _ {A : Type 0} (bits : ℕ) (body slope_body : Expr A) (ds slope_ds : Lis
       let slope_long : length (map tree_of slope_ds) ≡ length slope_ds = simp length-map in
       sym slope_long ∙ ap (λ x. length x.1) (e2 ∙ ap pruned e1)
 
+  -- where at most 128 definitions are left, the program that is left is the slope's
   pub few : length slope_ds ≤ 128 → slope_program bits (tree_of body, map tree_of ds) ≡ Ok (tree_of slope_body, map tree_of slope_ds)
   few h =
       let l = is_long in
       let test : nat_lt 128 (length (pruned (with_all bits (tree_of body, map tree_of ds))).1) ≡ false = le-ltb 128 _ (omega arith) in
       rw test (ap Ok (sym (e2 ∙ ap pruned e1)))
 
+  -- where more than 128 definitions are left, the slope has no program: it is refused as TooLarge
   pub many : 128 < length slope_ds → slope_program bits (tree_of body, map tree_of ds) ≡ Err TooLarge
   many h =
       let l = is_long in

@@ -13,9 +13,11 @@ module _ (count : ℕ) (body : Tree) (ds : List Tree) (hb : IsTrue (is_scoped co
   below : IsTrue (scoped_below count (length ds) 0 ds)
   below = to_below count (length ds) 0 ds (omega arith) hd
 
+  -- each definition that a marked one uses is marked
   pub closed : Closed (marks_of body ds) 0 ds
   closed = closed_where (marks_of body ds) 0 ds (definitions_marked count body ds hb hd)
 
+  -- each definition that the body uses is marked
   pub marked : IsTrue (all_marked (marks_of body ds) body)
   marked = all_marked_where (marks_of body ds) body (body_marked count body ds hb hd)
 
@@ -25,16 +27,19 @@ module _ (count : ℕ) (body : Tree) (ds : List Tree) (hb : IsTrue (is_scoped co
       renumbered_put count (length ds) (marks_of body ds) 0 (meaning 0 (kept_from (marks_of body ds) 0 ds)) (meaning 0 ds)
       (kept_means count (length ds) (marks_of body ds) 0 ds below closed) body hb marked
 
+  -- as many definitions are left as are marked
   pub left_long : length (kept_from (marks_of body ds) 0 ds) ≡ rank (marks_of body ds) (length ds)
   left_long =
       let h : 0 + length (kept_from (marks_of body ds) 0 ds) ≡ rank (marks_of body ds) (length ds) = kept_long count (length ds) (marks_of body ds) 0 ds (omega arith) in
       omega (arith, h)
 
+  -- the body that is left uses only definitions that are left
   pub left_body_scoped : IsTrue (is_scoped count 0 (length (pruned (body, ds)).1) (pruned (body, ds)).0)
   left_body_scoped =
       subst (λ k. IsTrue (is_scoped count 0 k (renumbered (rank (marks_of body ds)) body))) (sym left_long)
       (renumbered_scoped count (length ds) (marks_of body ds) 0 body hb marked)
 
+  -- each definition that is left uses only later ones that are left
   pub left_definitions_scoped : IsTrue (are_scoped count 0 (pruned (body, ds)).1)
   left_definitions_scoped =
       from_below count (rank (marks_of body ds) (length ds)) 0 (pruned (body, ds)).1 (omega (arith, left_long)) (kept_scoped count (length ds) (marks_of body ds) 0 ds below closed)

@@ -28,6 +28,7 @@ same_test n i j = by_test (j == i) refl
     by_test true h = let w = eqb-true j i h in eq-eqb (n + j) (n + i) (omega arith)
     by_test false h = ne_eqb (n + j) (n + i) (λ w. eqb-false j i h (omega arith))
 
+-- a definition that is moved, with all others of its list, stands under its higher number for what it stood for
 pub moved_meaning : (n i m : ℕ) (ds : List Tree) → m ≡ n + i → (j : ℕ) → meaning m (map (moved n) ds) (n + j) ≡ meaning i ds j
 moved_meaning n i m [] e j = refl
 moved_meaning n i m (d ∷ ds) e j =

@@ -21,6 +21,7 @@ all_marked t (Applied f a) = all_marked t a
 all_marked t (Power a n) = all_marked t a
 all_marked t (Select c a b) = all_marked t c && (all_marked t a && all_marked t b)
 
+-- a tree has all its uses marked, where each definition that it uses is
 pub all_marked_where : (t : List Bool) (e : Tree) → ((k : ℕ) → Uses e k → is_marked t k ≡ true) → IsTrue (all_marked t e)
 all_marked_where t (Number z) h = refl
 all_marked_where t (Input i) h = refl
@@ -39,14 +40,17 @@ Closed t i [] = Unit {0}
 Closed t i (d ∷ ds) = (is_marked t i ≡ true → IsTrue (all_marked t d)) × Closed t (i + 1) ds
 
 module _ (t : List Bool) where
+  -- the new number after a marked definition is one higher than its own
   pub rank_next : (i : ℕ) → is_marked t i ≡ true → rank t (i + 1) ≡ rank t i + 1
   rank_next i u = let e : i + 1 ≡ suc i = omega arith in ap (rank t) e ∙ ap (λ b. rank t i + (if b then 1 else 0)) u
 
+  -- a definition that isn't marked leaves the next new number as it is
   pub rank_same : (i : ℕ) → is_marked t i ≡ false → rank t (i + 1) ≡ rank t i
   rank_same i u =
       let e : i + 1 ≡ suc i = omega arith in
       let z : rank t i + 0 ≡ rank t i = omega arith in ap (rank t) e ∙ ap (λ b. rank t i + (if b then 1 else 0)) u ∙ z
 
+  -- of two definitions the later has no lower new number
   pub rank_up : (i j : ℕ) → i ≤ j → rank t i ≤ rank t j
   rank_up i zero h = let e : i ≡ 0 = omega arith in rw e (omega arith)
   rank_up i (suc j) h = by_case (cases_eq i (suc j)) (rank_up i j)
@@ -56,6 +60,7 @@ module _ (t : List Bool) where
       by_case (inr e) up = let r = up (omega arith) in omega arith
 
 module _ (count n : ℕ) (t : List Bool) where
+  -- a renumbered tree stands for what it stood for, where each marked definition does so under its new number
   pub renumbered_put : (first : ℕ) (f g : ℕ → Tree) → ((j : ℕ) → first ≤ j → is_marked t j ≡ true → f (rank t j) ≡ g j)
       → (e : Tree) → IsTrue (is_scoped count first n e) → IsTrue (all_marked t e) → put f (renumbered (rank t) e) ≡ put g e
   renumbered_put first f g same (Number z) h m = refl
@@ -76,6 +81,7 @@ module _ (count n : ℕ) (t : List Bool) where
       let wb = renumbered_put first f g same b (right_of (is_scoped count first n a) _ hk) (right_of (all_marked t a) _ mk) in
       rw (wc, wa, wb) refl
 
+  -- a marked definition stands, among those that are kept, under its new number for what it stood for
   pub kept_means : (i : ℕ) (ds : List Tree) → IsTrue (scoped_below count n i ds) → Closed t i ds
       → (j : ℕ) → i ≤ j → is_marked t j ≡ true → meaning (rank t i) (kept_from t i ds) (rank t j) ≡ meaning i ds j
   kept_means i [] h closed j w u = refl
@@ -106,6 +112,7 @@ module _ (count n : ℕ) (t : List Bool) where
           let other : j ≡ i → ⊥ = λ s. absurd (let x : is_marked t i ≡ true = sym (ap (is_marked t) s) ∙ u in cc) in
           rw v (ap (λ x. meaning x (kept_from t (i + 1) ds) (rank t j)) (sym (rank_same t i v)) ∙ rest j (omega arith) u ∙ sym (skip i j d ds (omega arith)))
 
+-- where each marked definition's uses are marked, so they are by the test on trees
 pub closed_where : (t : List Bool) (i : ℕ) (ds : List Tree) → AreMarked t i ds → Closed t i ds
 closed_where t i [] h = tt
 closed_where t i (d ∷ ds) h = ((λ on. all_marked_where t d (h.0 on)), closed_where t (i + 1) ds h.1)
@@ -113,6 +120,7 @@ closed_where t i (d ∷ ds) h = ((λ on. all_marked_where t d (h.0 on)), closed_
 module _ (count n : ℕ) where
   -- ---- the scopes of what is kept
 
+  -- as many of the definitions from i on are kept as new numbers are taken there
   pub kept_long : (t : List Bool) (i : ℕ) (ds : List Tree) → i + length ds ≡ n → rank t i + length (kept_from t i ds) ≡ rank t n
   kept_long t i [] e = let s : n ≡ i = omega arith in rw s (omega arith)
   kept_long t i (d ∷ ds) e = by_use (is_marked t i) refl (kept_long t (i + 1) ds (omega arith))
@@ -121,6 +129,7 @@ module _ (count n : ℕ) where
       by_use true v rest = let s = rank_next t i v in rw v (omega (arith, rest, s))
       by_use false v rest = let s = rank_same t i v in rw v (omega (arith, rest, s))
 
+  -- a tree whose uses are marked has, renumbered, only uses of definitions that are kept
   pub renumbered_scoped : (t : List Bool) (first : ℕ) (e : Tree) → IsTrue (is_scoped count first n e) → IsTrue (all_marked t e)
       → IsTrue (is_scoped count (rank t first) (rank t n) (renumbered (rank t) e))
   renumbered_scoped t first (Number z) h m = refl
@@ -144,6 +153,7 @@ module _ (count n : ℕ) where
       (both _ _ (renumbered_scoped t first a (left_of (is_scoped count first n a) _ hk) (left_of (all_marked t a) _ mk))
       (renumbered_scoped t first b (right_of (is_scoped count first n a) _ hk) (right_of (all_marked t a) _ mk)))
 
+  -- each definition that is kept has only uses of later ones that are kept
   pub kept_scoped : (t : List Bool) (i : ℕ) (ds : List Tree) → IsTrue (scoped_below count n i ds) → Closed t i ds
       → IsTrue (scoped_below count (rank t n) (rank t i) (kept_from t i ds))
   kept_scoped t i [] h closed = refl

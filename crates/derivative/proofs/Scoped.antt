@@ -14,6 +14,7 @@ abbrev pub scoped_below : ℕ → ℕ → ℕ → List Tree → Bool
 scoped_below inputs n i [] = true
 scoped_below inputs n i (d ∷ ds) = is_scoped inputs (i + 1) n d && scoped_below inputs n (i + 1) ds
 
+-- definitions that use only later ones use only numbers below that of the list's end
 pub to_below : (inputs n i : ℕ) (ds : List Tree) → i + length ds ≡ n → IsTrue (are_scoped inputs i ds) → IsTrue (scoped_below inputs n i ds)
 to_below inputs n i [] e h = refl
 to_below inputs n i (d ∷ ds) e h =
@@ -21,6 +22,7 @@ to_below inputs n i (d ∷ ds) e h =
     let within : IsTrue (is_scoped inputs (i + 1) n d) = subst (λ k. IsTrue (is_scoped inputs (i + 1) k d)) end (left_of _ _ h) in
     both _ _ within (to_below inputs n (i + 1) ds (omega arith) (right_of (is_scoped inputs (i + 1) (i + (1 + length ds)) d) _ h))
 
+-- definitions that use only numbers after their own, and below that of the list's end, use only later ones
 pub from_below : (inputs n i : ℕ) (ds : List Tree) → i + length ds ≡ n → IsTrue (scoped_below inputs n i ds) → IsTrue (are_scoped inputs i ds)
 from_below inputs n i [] e h = refl
 from_below inputs n i (d ∷ ds) e h =

@@ -96,6 +96,7 @@ module _ (count : ℕ) (body : Tree) (ds : List Tree) (hb : IsTrue (is_scoped co
       (slice_get-get_or (kept_from marks 0 ds) at.place (Number (pos 0)) at.within ∙ ap Some (at.is ∙ ap (renumbered (rank marks)) (get_or_from_slice_get ds i d (Number (pos 0)) is))) in
       through (needs_kept i n) got (uses_renumbered (rank marks) d k u)
 
+  -- the body that is left needs each definition that is left
   pub all_needed : AllNeeded (pruned (body, ds)).0 (pruned (body, ds)).1
   all_needed k h =
       let long = left_long count body ds hb hd in

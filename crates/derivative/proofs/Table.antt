@@ -12,11 +12,13 @@ use Rattle.derivative.proofs.Bool.{left_of, right_of}
 use Rattle.energy_program.proofs.Meaning.{skip, here, past}
 use Rattle.derivative.proofs.Scoped.{scoped_below, to_below, scoped_at}
 
+-- a use that passes the test for numbers from first to before n has such a number
 pub from_uses : (P : Type 0) (first n j : ℕ) → IsTrue (nat_le first j && nat_lt j n) → (first ≤ j → j < n → P) → P
 from_uses P first n j h k = k (leb-true first j (left_of _ _ h)) (ltb-true j n (right_of _ _ h))
 
 -- whether the distance occurs once the uses are put in place
 module _ (free : ℕ → Bool) (inputs n first : ℕ) (g : ℕ → Tree) (known : (j : ℕ) → first ≤ j → j < n → free j ≡ is_free_of_distance (g j)) where
+  -- a tree is found free of the distance exactly where it is once each use is put in place
   pub free_put : (e : Tree) → IsTrue (is_scoped inputs first n e) → is_free_given free e ≡ is_free_of_distance (put g e)
   free_put (Number z) h = refl
   free_put (Input i) h = refl

@@ -18,6 +18,7 @@ module _ (t : List Bool) where
   not_here : (i : ℕ) (d : Tree) (ds : List Tree) → is_marked t i ≡ false → kept_from t i (d ∷ ds) ≡ kept_from t (i + 1) ds
   not_here i d ds u = rw u refl
 
+  -- where the next definition is marked, pushing it renumbered leaves the rest to be kept behind it
   pub kept_turn : {A : Type 0} (es w w1 : List (Expr A)) (i : ℕ) (d y : Expr A) (goal : List Tree) → i < length es → d ≡ get_or es i d
       → is_marked t i ≡ true → tree_of y ≡ renumbered (rank t) (tree_of d) → w1 ≡ w ++ (y ∷ [])
       → map tree_of w ++ kept_from t i (map tree_of (drop i es)) ≡ goal → map tree_of w1 ++ kept_from t (i + 1) (map tree_of (drop (i + 1) es)) ≡ goal
@@ -29,6 +30,7 @@ module _ (t : List Bool) where
       ∙ ap (λ x. map tree_of w ++ x) (sym (kept_here i (tree_of d) (map tree_of (drop (i + 1) es)) u))
       ∙ k
 
+  -- where the next definition isn't marked, nothing is pushed, and the rest is left to be kept
   pub skip_turn : {A : Type 0} (es w : List (Expr A)) (i : ℕ) (d : Expr A) (goal : List Tree) → i < length es → d ≡ get_or es i d
       → is_marked t i ≡ false
       → map tree_of w ++ kept_from t i (map tree_of (drop i es)) ≡ goal → map tree_of w ++ kept_from t (i + 1) (map tree_of (drop (i + 1) es)) ≡ goal
@@ -36,6 +38,7 @@ module _ (t : List Bool) where
       let k : map tree_of w ++ kept_from t i (map tree_of (d ∷ drop (i + 1) es)) ≡ goal = subst (λ x. map tree_of w ++ kept_from t i (map tree_of x) ≡ goal) (cut es i d h is) so_far in
       ap (λ x. map tree_of w ++ x) (sym (not_here i (tree_of d) (map tree_of (drop (i + 1) es)) u)) ∙ k
 
+  -- behind the last definition all that are kept were pushed
   pub kept_end : {A : Type 0} (es w : List (Expr A)) (i : ℕ) (goal : List Tree) → length es ≤ i
       → map tree_of w ++ kept_from t i (map tree_of (drop i es)) ≡ goal → map tree_of w ≡ goal
   kept_end es w i goal h so_far =

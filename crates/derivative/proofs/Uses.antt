@@ -15,6 +15,7 @@ use Rattle.derivative.proofs.Bool.{left_of, right_of, both}
 use Rattle.derivative.proofs.Scoped.{scoped_below, to_below, from_below}
 
 module _ (count : ℕ) where
+  -- a moved tree has only uses of the definitions behind the n slopes
   pub moved_scoped : (n first k : ℕ) → k ≤ n + first → (e : Tree) → IsTrue (is_scoped count first n e) → IsTrue (is_scoped count k (n + n) (moved n e))
   moved_scoped n first k w (Number z) h = refl
   moved_scoped n first k w (Input i) h = h
@@ -87,6 +88,7 @@ module _ (count : ℕ) where
     lifted : (e : Tree) → IsTrue (is_scoped count first n e) → IsTrue (is_scoped count first (n + n) (moved n e))
     lifted e h = moved_scoped n first first (omega arith) e h
 
+    -- the tree that is written for a slope has only uses of later slopes, and of the definitions behind them all
     pub slope_scoped : (e : Tree) → IsTrue (is_scoped count first n e) → IsTrue (is_scoped count first (n + n) (slope_tree bits free n e))
     slope_scoped (Number z) h = refl
     slope_scoped (Input i) h = refl
@@ -137,6 +139,7 @@ module _ (count : ℕ) where
       subst (λ k. IsTrue (is_scoped count 0 k (slope_tree bits (free_among ds) (length ds) body))) (sym (all_long bits (free_among ds) ds))
       (slope_scoped bits (free_among ds) (length ds) 0 body h)
 
+  -- each definition of the program with all definitions uses only later ones
   pub definitions_scoped : (bits : ℕ) (body : Tree) (ds : List Tree) → IsTrue (are_scoped count 0 ds) → IsTrue (are_scoped count 0 (with_all bits (body, ds)).1)
   definitions_scoped bits body ds h =
       let n = length ds in

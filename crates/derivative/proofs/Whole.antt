@@ -19,6 +19,7 @@ module _ (free known : ℕ → Bool) (same : (j : ℕ) → free j ≡ known j) w
   same_free (Power a k) = same_free a
   same_free (Select c a b) = rw (same_free c, same_free a, same_free b) refl
 
+  -- the tree that is written for a slope is the same, where two tables say the same of each definition
   pub same_slope : (bits n : ℕ) (e : Tree) → slope_tree bits free n e ≡ slope_tree bits known n e
   same_slope bits n (Number z) = refl
   same_slope bits n (Input i) = refl
@@ -33,6 +34,7 @@ module _ (free known : ℕ → Bool) (same : (j : ℕ) → free j ≡ known j) w
   same_map bits n [] = refl
   same_map bits n (d ∷ ds) = rw (same_slope bits n d, same_map bits n ds) refl
 
+  -- the same of the definitions of the slope's program
   pub same_slopes : (bits : ℕ) (ds : List Tree) → all_slopes bits free ds ≡ all_slopes bits known ds
   same_slopes bits ds = ap (λ x. x ++ map (moved (length ds)) ds) (same_map bits (length ds) ds)
 
@@ -52,17 +54,3 @@ written bits n t t1 t2 body new_body ds new_ds en e1 e2 table hd hb =
     ∙ same_slope (λ j. get_or t j true) (free_among (map tree_of ds)) table bits n (tree_of body)
     ∙ ap (λ k. slope_tree bits (free_among (map tree_of ds)) k (tree_of body)) long in
     rw (definitions, whole_body) refl
-
--- the scopes of what was written
-pub whole_scoped : {A : Type 0} (bits count : ℕ) (body new_body : Expr A) (ds new_ds : List (Expr A))
-    → (tree_of new_body, map tree_of new_ds) ≡ with_all bits (tree_of body, map tree_of ds)
-    → IsTrue (is_scoped count 0 (length ds) (tree_of body)) → IsTrue (are_scoped count 0 (map tree_of ds))
-    → IsTrue (is_scoped count 0 (length new_ds) (tree_of new_body)) × IsTrue (are_scoped count 0 (map tree_of new_ds))
-whole_scoped bits count body new_body ds new_ds e hb hd =
-    let long : length (map tree_of ds) ≡ length ds = simp length-map in
-    let new_long : length (map tree_of new_ds) ≡ length new_ds = simp length-map in
-    let e0 : tree_of new_body ≡ (with_all bits (tree_of body, map tree_of ds)).0 = ap (λ x. x.0) e in
-    let e1 : map tree_of new_ds ≡ (with_all bits (tree_of body, map tree_of ds)).1 = ap (λ x. x.1) e in
-    let hb1 : IsTrue (is_scoped count 0 (length (map tree_of ds)) (tree_of body)) = subst (λ k. IsTrue (is_scoped count 0 k (tree_of body))) (sym long) hb in
-    let b : IsTrue (is_scoped count 0 (length (map tree_of new_ds)) (tree_of new_body)) = rw (e0, e1) (body_scoped count bits (tree_of body) (map tree_of ds) hb1) in
-    (subst (λ k. IsTrue (is_scoped count 0 k (tree_of new_body))) new_long b, rw e1 (definitions_scoped count bits (tree_of body) (map tree_of ds) hd))

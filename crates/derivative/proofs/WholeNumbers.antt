@@ -1,12 +1,12 @@
 -- The whole numbers are exact numbers: so there are some.
-use Rattle.std.proofs.Common.{◌≡◌, ◌≢◌, ℕ, zero, suc, ◌*◌, ◌<◌, ◌==◌, ℤ, pos, negsuc, neg_ℤ, ◌+ℤ◌, ◌-ℤ◌, ◌*ℤ◌, Bool, true, false, if◌then◌else◌, Some, None, refl, sym, ap, ◌∙◌, arith}
+use Rattle.std.proofs.Common.{◌≡◌, ◌≢◌, ℕ, zero, suc, ◌*◌, ◌==◌, ℤ, pos, negsuc, neg_ℤ, ◌+ℤ◌, ◌-ℤ◌, ◌*ℤ◌, Bool, true, false, if◌then◌else◌, Some, None, refl, sym, ap, ◌∙◌, arith}
 use Rattle.std.proofs.Math.IntN.{*ℤ_comm, *ℤ-zero}
 use Rattle.std.proofs.lemmas.Bool.{eqb-true}
 use Rattle.std.proofs.lemmas.Int.{ints}
 use Rattle.fixed.specs.Arithmetic.{floor_of, floor_over, is_zero}
 use Rattle.fixed.specs.Roots.{root}
-use Rattle.fixed.proofs.FloorLemmas.{floor_unique}
-use Rattle.fixed.proofs.IntegerLaws.{sum_times, times_times, neg_times}
+use Rattle.fixed.proofs.IntegerLaws.{sum_times, times_times, neg_times, zero_alone}
+use Rattle.derivative.proofs.Ranges.{floor_multiple}
 use Rattle.derivative.specs.Exact.{IsRing, AreExact, exact_quotient, exact_root, is_from_zero, whole_numbers}
 
 times_negative : (x y : ℤ) → x *ℤ neg_ℤ y ≡ neg_ℤ (x *ℤ y)
@@ -59,10 +59,6 @@ are_ring =
       times_plus = by_sum;
     }
 
-zero_alone : (x : ℤ) → is_zero x ≡ true → x ≡ pos 0
-zero_alone (pos n) e = ap pos (eqb-true n 0 e)
-zero_alone (negsuc n) e = absurd (cc)
-
 no_zero_divisors : (x y : ℤ) → x *ℤ y ≡ pos 0 → y ≢ pos 0 → x ≡ pos 0
 no_zero_divisors (pos zero) y e some = refl
 no_zero_divisors (pos (suc a)) (pos zero) e some = absurd (some refl)
@@ -87,15 +83,12 @@ found n d q false true eb ec e =
     some_zero : d ≡ pos 0 → is_zero d ≡ false → ⊥
     some_zero z f = let t : is_zero d ≡ true = ap is_zero z in cc
 
-floor_times : (q : ℤ) (d : ℕ) → 0 < d → floor_over (q *ℤ pos d) d ≡ q
-floor_times q d h = sym (floor_unique (q *ℤ pos d) d q (record { at_most = omega (arith, ints); next_above = omega (arith, ints) }))
-
 floor_exact : (n d q : ℤ) → d ≢ pos 0 → q *ℤ d ≡ n → floor_of n d ≡ q
 floor_exact n (pos zero) q some e = absurd (some refl)
-floor_exact n (pos (suc d)) q some e = ap (λ s. floor_over s (suc d)) (sym e) ∙ floor_times q (suc d) (omega arith)
+floor_exact n (pos (suc d)) q some e = ap (λ s. floor_over s (suc d)) (sym e) ∙ floor_multiple q (suc d) (omega arith)
 floor_exact n (negsuc d) q some e =
     let turned : neg_ℤ n ≡ q *ℤ pos (suc d) = ap neg_ℤ (sym e) ∙ sym (times_negative q (negsuc d)) in
-    ap (λ s. floor_over s (suc d)) turned ∙ floor_times q (suc d) (omega arith)
+    ap (λ s. floor_over s (suc d)) turned ∙ floor_multiple q (suc d) (omega arith)
 
 zero_test : (d : ℤ) (b : Bool) → is_zero d ≡ b → d ≢ pos 0 → b ≡ false
 zero_test d true e some = absurd (some (zero_alone d e))

@@ -6,53 +6,65 @@ use Rattle.energy_program.specs.Tree.{Tree, Negated, Binary, Applied, Power, Sel
 use Rattle.derivative.specs.declared.rows.Slope.{Slope}
 use Rattle.derivative.specs.Written.{is_free_given, moved, operation_tree, applied_tree, power_tree, unless_free, slope_tree}
 
+-- a tree that is written for a slope, and equals a first one, equals the second that this equals
 pub ok_is : {A F : Type 0} (r : Result (Slope A) F) (x y : Tree) → IfOk r (λ s. tree_of s.tree ≡ x) → x ≡ y → IfOk r (λ s. tree_of s.tree ≡ y)
 ok_is (Ok s) x y h p = h ∙ p
 ok_is (Err f) x y h p = h
 
+-- the same of the mark that says whether the tree is free of the distance
 pub free_is : {A F : Type 0} (r : Result (Slope A) F) (p q : Bool) → IfOk r (λ s. s.free ≡ p) → p ≡ q → IfOk r (λ s. s.free ≡ q)
 free_is (Ok s) p q h e = h ∙ e
 free_is (Err f) p q h e = h
 
 module _ (free : ℕ → Bool) where
+  -- an operation is free of the distance exactly where both its parts are found free
   pub free_binary : (e : Tree) (o : Operator) (u v : Tree) (p q : Bool) → e ≡ Binary o u v → {u1 v1 : Tree} → u1 ≡ u → v1 ≡ v
       → p ≡ is_free_given free u1 → q ≡ is_free_given free v1 → (p && q) ≡ is_free_given free e
   free_binary e o u v p q is d1 d2 hp hq = rw (is, hp, hq, d1, d2) refl
 
+  -- the same of a negative and its part
   pub free_negated : (e u : Tree) (p : Bool) → e ≡ Negated u → {u1 : Tree} → u1 ≡ u → p ≡ is_free_given free u1 → p ≡ is_free_given free e
   free_negated e u p is d1 hp = rw (is, hp, d1) refl
 
+  -- the same of a function and its part
   pub free_applied : (e : Tree) (f : Function) (u : Tree) (p : Bool) → e ≡ Applied f u → {u1 : Tree} → u1 ≡ u → p ≡ is_free_given free u1 → p ≡ is_free_given free e
   free_applied e f u p is d1 hp = rw (is, hp, d1) refl
 
+  -- the same of a power and its base
   pub free_power : (e u : Tree) (k : ℤ) (p : Bool) → e ≡ Power u k → {u1 : Tree} → u1 ≡ u → p ≡ is_free_given free u1 → p ≡ is_free_given free e
   free_power e u k p is d1 hp = rw (is, hp, d1) refl
 
+  -- the same of a choice and its three parts
   pub free_select : (e c u v : Tree) (r p q : Bool) → e ≡ Select c u v → {u1 v1 c1 : Tree} → u1 ≡ u → v1 ≡ v → c1 ≡ c
       → p ≡ is_free_given free u1 → q ≡ is_free_given free v1 → r ≡ is_free_given free c1 → (r && (p && q)) ≡ is_free_given free e
   free_select e c u v r p q is d1 d2 d3 hp hq hr = rw (is, hp, hq, hr, d1, d2, d3) refl
 
 module _ (bits : ℕ) (free : ℕ → Bool) (n : ℕ) where
+  -- the tree written from a negative's part, or 0 where this is free, is that of the negative's slope
   pub at_negated : (e u x : Tree) (p : Bool) → e ≡ Negated u → {u1 : Tree} → u1 ≡ u
       → x ≡ slope_tree bits free n u1 → p ≡ is_free_given free u1 → unless_free p (Negated x) ≡ slope_tree bits free n e
   at_negated e u x p is d1 hx hp = rw (is, hx, hp, d1) refl
 
+  -- the same of an operation and its row
   pub at_binary : (e : Tree) (o : Operator) (u v x y : Tree) (p q : Bool) → e ≡ Binary o u v
       → {u1 v1 u2 v2 : Tree} → u1 ≡ u → v1 ≡ v → u2 ≡ u → v2 ≡ v
       → x ≡ slope_tree bits free n u1 → p ≡ is_free_given free u1 → y ≡ slope_tree bits free n v1 → q ≡ is_free_given free v1
       → unless_free (p && q) (operation_tree o p q (moved n u2) (moved n v2) x y) ≡ slope_tree bits free n e
   at_binary e o u v x y p q is d1 d2 d3 d4 hx hp hy hq = rw (is, hx, hy, hp, hq, d1, d2, d3, d4) refl
 
+  -- the same of a function and its row
   pub at_applied : (e : Tree) (f : Function) (u x : Tree) (p : Bool) → e ≡ Applied f u → {u1 u2 : Tree} → u1 ≡ u → u2 ≡ u
       → x ≡ slope_tree bits free n u1 → p ≡ is_free_given free u1
       → unless_free p (applied_tree bits f (moved n u2) x) ≡ slope_tree bits free n e
   at_applied e f u x p is d1 d2 hx hp = rw (is, hx, hp, d1, d2) refl
 
+  -- the same of a power and its row
   pub at_power : (e u : Tree) (k : ℤ) (x : Tree) (p : Bool) → e ≡ Power u k → {u1 u2 : Tree} → u1 ≡ u → u2 ≡ u
       → x ≡ slope_tree bits free n u1 → p ≡ is_free_given free u1
       → unless_free p (power_tree bits k (moved n u2) x) ≡ slope_tree bits free n e
   at_power e u k x p is d1 d2 hx hp = rw (is, hx, hp, d1, d2) refl
 
+  -- the same of a choice between two parts
   pub at_select : (e c u v x y : Tree) (r p q : Bool) → e ≡ Select c u v → {u1 v1 c1 c2 : Tree} → u1 ≡ u → v1 ≡ v → c1 ≡ c → c2 ≡ c
       → x ≡ slope_tree bits free n u1 → p ≡ is_free_given free u1 → y ≡ slope_tree bits free n v1 → q ≡ is_free_given free v1 → r ≡ is_free_given free c1
       → unless_free (r && (p && q)) (Select (moved n c2) x y) ≡ slope_tree bits free n e

@@ -16,6 +16,7 @@ use Rattle.energy_program.proofs.Scopes.{IsValid, AreValid, valid_of, are_valid}
 pub marked_within : (m : List Bool) (k : ℕ) → slice_index_or m k false ≡ true → k < length m
 marked_within m k e = ⊎_elim (λ (lt : k < length m). lt) (λ (le : length m ≤ k). absurd (let p = get_or_past m k false le in cc)) (cases_lt k (length m))
 
+-- marking what a tree uses keeps the number of marks
 pub length-mark : (m : List Bool) (e : Tree) → length (mark m e) ≡ length m
 length-mark m (t.Number z) = refl
 length-mark m (t.Input k) = refl
@@ -111,6 +112,7 @@ length-if : (b : Bool) (m : List Bool) (d : Tree) → length (mark_if b m d) ≡
 length-if true m d = length-mark m d
 length-if false m d = refl
 
+-- so does marking what definitions use
 pub length-mark_from : (j : ℕ) (m : List Bool) (ds : List Tree) → length (mark_from j m ds) ≡ length m
 length-mark_from j m [] = refl
 length-mark_from j m (d ∷ ds) = length-mark_from (j + 1) _ ds ∙ length-if (slice_index_or m j false) m d
@@ -161,10 +163,12 @@ all_needed body all j m (d ∷ ds) pre e at h k marked =
     (λ i marked'. ⊎_elim (λ a. h i a) (λ (p : (slice_index_or m j false ≡ true) × Uses d i). through (h j p.0) here' p.1) (if_only (slice_index_or m j false) m d i marked'))
     k marked
 
+-- there is one mark for each definition
 pub length-marks : (body : Tree) (ds : List Tree) → length (marks_of body ds) ≡ length ds
 unfolding marks_of
 length-marks body ds = length-mark_from 0 _ ds ∙ length-mark (replicate (length ds) false) body ∙ length-replicate (length ds) false
 
+-- each marked definition is needed by the body
 pub marked_needed : (body : Tree) (ds : List Tree) (k : ℕ) → slice_index_or (marks_of body ds) k false ≡ true → Needs body ds k
 unfolding marks_of
 marked_needed body ds k h =
@@ -172,6 +176,7 @@ marked_needed body ds k h =
 
 -- What the body uses is marked, and what each marked definition uses.
 module _ (inputs : ℕ) (body : Tree) (ds : List Tree) (whole : IsTrue (is_scoped inputs 0 (length ds) body)) (each : IsTrue (are_scoped inputs 0 ds)) where
+  -- each definition that the body uses is marked
   pub body_marked : (k : ℕ) → Uses body k → slice_index_or (marks_of body ds) k false ≡ true
   unfolding marks_of
   body_marked k u =
@@ -179,6 +184,7 @@ module _ (inputs : ℕ) (body : Tree) (ds : List Tree) (whole : IsTrue (is_scope
       let long : length ds ≡ length none = sym (length-replicate (length ds) false) in
       all_keeps 0 (mark none body) ds k (mark_uses inputs 0 none body (subst (λ n. IsValid inputs 0 n body) long (valid_of inputs 0 (length ds) body whole)) k u)
 
+  -- each definition that a marked one uses is marked
   pub definitions_marked : AreMarked (marks_of body ds) 0 ds
   unfolding marks_of
   definitions_marked =
@@ -204,6 +210,7 @@ module _ (inputs : ℕ) (body : Tree) (ds : List Tree) (whole : IsTrue (is_scope
       let here : 0 + i ≡ i = omega arith in
       one_marked (marks_of body ds) 0 i ds d k definitions_marked is (ap (λ n. slice_index_or (marks_of body ds) n false) here ∙ needed_marked i n) u
 
+-- the marks that were set, at the front of those that there is room for, are the program's
 pub marks_are : (body : Tree) (ds : List Tree) (n len : ℕ) (before after rest : List Bool) → before ≡ replicate n false → n ≡ length ds → len ≡ n → after ≡ mark_from 0 (mark before body) ds → take len (after ++ rest) ≡ marks_of body ds
 unfolding marks_of
 marks_are body ds n len before after rest e0 e1 e2 e3 =

@@ -18,6 +18,7 @@ use Rattle.energy_program.specs.Variables.{added, filled}
 use Rattle.energy_program.proofs.FaultLaws.{fails_says, fails_then}
 
 module _ {X Y : Type 0} (p : Y → Bool) (h : X → Y) where
+  -- a test passes some image exactly where it passes the image of some element
   pub list_any-map : (xs : List X) → list_any p (map h xs) ≡ list_any (λ x. p (h x)) xs
   list_any-map [] = refl
   list_any-map (x ∷ xs) = ap (λ b. p (h x) || b) (list_any-map xs)
@@ -26,6 +27,7 @@ module _ {X Y : Type 0} (p : Y → Bool) (h : X → Y) where
   position_or_len-map [] = refl
   position_or_len-map (x ∷ xs) = ap (λ n. cond (not (p (h x))) (1 + n) 0) (position_or_len-map xs)
 
+  -- the first image that passes stands at the place of the first element whose image passes
   pub position-map : (xs : List X) → position p (map h xs) ≡ position (λ x. p (h x)) xs
   position-map xs = simp (position_or_len-map xs, length-map xs h)
 
@@ -37,6 +39,7 @@ module _ {X : Type 0} (h : X → List ℕ) where
   all_behind : (x : X) (xs : List X) → behind (x ∷ xs) ≡ xs
   all_behind x xs = simp unary_clauses (take_all (length xs) xs (omega arith))
 
+  -- the first repeated name is the first one, where it stands behind once more, and else the first among those behind
   pub repeated_next : (names : List X) (d : X) (b : Bool) → 1 ≤ length names → b ≡ list_any (λ m. bytes_eq (h (get_or names 0 d)) (h m)) (behind names)
       → first_repeated (map h names) ≡ (if b then Some (h (get_or names 0 d)) else first_repeated (map h (behind names)))
   repeated_next [] d b within e = absurd (omega arith)
@@ -78,6 +81,7 @@ module _ (v : List ℕ) (names vs : List (List ℕ)) where
   joined true rest = refl
   joined false rest = rest ∙ ap (λ l. refused_for ReservedName (first_clash (names ++ v ∷ []) vs) (Ok l)) (append_assoc names (v ∷ []) vs)
 
+-- more variables come behind these, unless one of them clashes
 pub filled_whole : (names more : List (List ℕ)) → filled names more ≡ refused_for ReservedName (first_clash names more) (Ok (names ++ more))
 filled_whole names [] = ap Ok (sym (append-nil names))
 filled_whole names (v ∷ vs) = joined v names vs (is_reserved v || is_among names v) (filled_whole (names ++ v ∷ []) vs)
@@ -86,6 +90,7 @@ allowed : (o : Option (List ℕ)) (xs ys : List (List ℕ)) → refused_for Rese
 allowed None xs ys e = cc
 allowed (Some n) xs ys e = absurd cc
 
+-- where none clashes, the variables are these and then the others
 pub filled_ok : (names more all : List (List ℕ)) → filled names more ≡ Ok all → all ≡ names ++ more
 filled_ok names more all e = allowed (first_clash names more) (names ++ more) all (sym (filled_whole names more) ∙ e)
 
@@ -96,6 +101,7 @@ module _ (vs second : List (List ℕ)) where
   parted (Ok more) rest = rest more
   parted (Err e) rest = refl
 
+-- filling in two lists in a row is filling in the first and then the second
 pub filled_append : (names first second : List (List ℕ)) → filled names (first ++ second) ≡ (filled names first >>= λ more. filled more second)
 filled_append names [] second = refl
 filled_append names (v ∷ vs) second = parted vs second (added names v) (λ more. filled_append more vs second)
@@ -118,15 +124,19 @@ module _ {X Y : Type 0} (h : X → List ℕ) (k : Y → List ℕ) (ps : List X) 
       ∙ ap (λ next. filled names (map (λ p. h p ++ 49 ∷ []) ps) >>= next) (λ i a. (filled_append a (second_particle (map h ps)) (map k gs) ∙ ap (λ l. filled a l >>= λ b. filled b (map k gs)) (map-map (λ p. p ++ codes "2") h ps)) i)
 
   module _ {A : Type 0} (e : Failure (ExprFault A)) where
+    -- a failure at the first particle's parameters is the failure of the whole
     pub first_fails : Fails e (filled names (map (λ p. h p ++ 49 ∷ []) ps)) → Fails e all
     first_fails f = rw steps (fails_then e _ _ f)
 
+    -- the same at the second particle's
     pub second_fails : (a : List (List ℕ)) → filled names (map (λ p. h p ++ 49 ∷ []) ps) ≡ Ok a → Fails e (filled a (map (λ p. h p ++ 50 ∷ []) ps)) → Fails e all
     second_fails a first f = rw (steps, first) (fails_then e _ (λ b. filled b (map k gs)) f)
 
+    -- the same at the globals
     pub third_fails : (a b : List (List ℕ)) → filled names (map (λ p. h p ++ 49 ∷ []) ps) ≡ Ok a → filled a (map (λ p. h p ++ 50 ∷ []) ps) ≡ Ok b → Fails e (filled b (map k gs)) → Fails e all
     third_fails a b first second f = rw (steps, first, second) f
 
+  -- where all three lists come in, the whole is what they come to
   pub all_filled : (a b c : List (List ℕ)) → filled names (map (λ p. h p ++ 49 ∷ []) ps) ≡ Ok a → filled a (map (λ p. h p ++ 50 ∷ []) ps) ≡ Ok b → filled b (map k gs) ≡ Ok c → all ≡ Ok c
   all_filled a b c first second third = rw (steps, first, second) third
 
@@ -150,6 +160,7 @@ module _ (ps gs : List (List ℕ)) where
       ap length (filled_ok (codes "r" ∷ []) (parameters_and_globals ps gs) all e)
       ∙ simp (length-append, length-map) (omega arith)
 
+  -- too many names are refused as too large
   pub names_many : are_few ps gs ≡ false → names_from ps gs ≡ Err TooLarge
   names_many few = is_checked ∙ ap (λ b. checked b (first_repeated ps) (first_repeated gs)) few
 
@@ -162,22 +173,28 @@ module _ (ps gs : List (List ℕ)) where
       refused None h = absurd h
       refused (Some n) h = (n, refl, h)
 
+      -- a parameter that stands twice is the first failure
       pub parameter_repeated : IsSomeAnd (first_repeated ps) (λ n. Says e (RepeatedDefinition n)) → Fails e (names_from ps gs)
       parameter_repeated h = let p = refused (first_repeated ps) h in fails_says e (RepeatedDefinition p.0) _ (by_lists (Some p.0) _ p.1 refl) p.2
 
+      -- a global that stands twice is the failure where no parameter does
       pub global_repeated : first_repeated ps ≡ None → IsSomeAnd (first_repeated gs) (λ n. Says e (RepeatedDefinition n)) → Fails e (names_from ps gs)
       global_repeated once h = let p = refused (first_repeated gs) h in fails_says e (RepeatedDefinition p.0) _ (by_lists None (Some p.0) once p.1) p.2
 
+    -- where no name stands twice in its list, the variables are filled in behind the distance
     pub names_filled : first_repeated ps ≡ None → first_repeated gs ≡ None → names_from ps gs ≡ filled (codes "r" ∷ []) (parameters_and_globals ps gs)
     names_filled once and = by_lists None None once and ∙ sym (filled_whole (codes "r" ∷ []) (parameters_and_globals ps gs))
 
 -- how many names there are
 module _ {X Y : Type 0} (h : X → List ℕ) (k : Y → List ℕ) (ps : List X) (gs : List Y) where
+  -- at most 8 parameters and 16 globals are few
   pub few_names : length ps ≤ 8 → length gs ≤ 16 → are_few (map h ps) (map k gs) ≡ true
   few_names p g = simp (length-map, le-leb (length ps) 8 p, le-leb (length gs) 16 g)
 
+  -- more than 8 parameters are not
   pub many_parameters : 8 < length ps → are_few (map h ps) (map k gs) ≡ false
   many_parameters p = simp (length-map, lt-leb (length ps) 8 p)
 
+  -- more than 16 globals are not
   pub many_globals : 16 < length gs → are_few (map h ps) (map k gs) ≡ false
   many_globals g = simp (length-map, lt-leb (length gs) 16 g, and-false)

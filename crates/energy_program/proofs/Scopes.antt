@@ -16,10 +16,12 @@ IsValid inputs j count (t.Applied g a) = IsValid inputs j count a
 IsValid inputs j count (t.Power a n) = IsTrue (is_exponent n) × IsValid inputs j count a
 IsValid inputs j count (t.Select x a b) = IsValid inputs j count x × IsValid inputs j count a × IsValid inputs j count b
 
+-- each of these definitions, the first with the number j, names only inputs and the definitions after it
 abbrev pub AreValid : (inputs j count : ℕ) → List Tree → Type 0
 AreValid inputs j count [] = Unit {0}
 AreValid inputs j count (d ∷ ds) = IsValid inputs (j + 1) count d × AreValid inputs (j + 1) count ds
 
+-- a tree that tests as scoped is valid
 pub valid_of : (inputs j count : ℕ) (e : Tree) → IsTrue (is_scoped inputs j count e) → IsValid inputs j count e
 valid_of inputs j count (t.Number z) h = tt
 valid_of inputs j count (t.Input k) h = ltb-true k inputs h
@@ -39,6 +41,7 @@ valid_of inputs j count (t.Select x a b) h =
     let q = and_parts (is_scoped inputs j count a) (is_scoped inputs j count b) p.1 in
     (valid_of inputs j count x p.0, valid_of inputs j count a q.0, valid_of inputs j count b q.1)
 
+-- definitions that test as scoped are valid
 pub are_valid : (inputs j count : ℕ) (ds : List Tree) → count ≡ j + length ds → IsTrue (are_scoped inputs j ds) → AreValid inputs j count ds
 are_valid inputs j count [] e h = tt
 are_valid inputs j count (d ∷ ds) e h =

@@ -1,7 +1,7 @@
 -- Programs as trees.
 use Rattle.std.specs.Prelude.{ℕ, List, map}
 use Rattle.energy_program.specs.declared.programs.Program.{Program}
-use Rattle.energy_program.specs.Tree.{Tree, inputs_of, substituted, tree_of}
+use Rattle.energy_program.specs.Tree.{Tree, variable_count, substituted, tree_of}
 
 abbrev pub body_of : {A : Type 0} → Program A → Tree
 body_of p = tree_of p.body
@@ -22,4 +22,4 @@ trees_of p = (body_of p, definitions_of p)
 
 -- how many inputs there are: the distance, the parameters of both particles and the globals
 abbrev pub input_count_of : {A : Type 0} → Program A → ℕ
-input_count_of p = inputs_of p.parameters p.globals
+input_count_of p = variable_count p.parameters p.globals

@@ -29,8 +29,8 @@ tree_of (e.Select' p x q a s b) = Select (tree_of x) (tree_of a) (tree_of b)
 -- ---- what a tree may name
 
 -- the inputs are the distance, the parameters of both particles and the globals
-abbrev pub inputs_of : ℕ → ℕ → ℕ
-inputs_of parameters globals = 1 + (2 * parameters + globals)
+abbrev pub variable_count : ℕ → ℕ → ℕ
+variable_count parameters globals = 1 + (2 * parameters + globals)
 
 -- from 1 to 32: an exponent as a text writes it, without its minus
 abbrev pub is_whole : ℕ → Bool

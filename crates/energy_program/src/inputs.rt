@@ -7,7 +7,7 @@ ghost use Rattle.line_text.specs.Identifiers.{is_identifier};
 ghost use Rattle.energy_program.specs.Names.{first_repeated, input_of, names_from, parameters_and_globals};
 ghost use Rattle.fallible.specs.Failures.{IsOrMemory};
 ghost use Rattle.energy_program.specs.Faults.{Gives, RepeatedDefinition, Says};
-ghost use Rattle.energy_program.specs.Tree.{inputs_of};
+ghost use Rattle.energy_program.specs.Tree.{variable_count};
 ghost use Rattle.energy_program.specs.Variables.{added, filled, names_in, names_of};
 
 use crate::faults::ExprFault;
@@ -176,7 +176,7 @@ impl<A: Allocator> Names<A> {
     /// The input number of the variable with this name.
     pub fn input_of(&self, name: &[u8]) -> Option<u32>
         ensures value { result ≡ input_of (names_of self.now) name.now }
-        ensures bound { IfSome result (λ input. input < inputs_of self.now.parameters self.now.globals) }
+        ensures bound { IfSome result (λ input. input < variable_count self.now.parameters self.now.globals) }
     {
         match self.variables.get_index_of(name) {
             Some(input) => Some(input as u32),

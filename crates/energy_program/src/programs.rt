@@ -1,7 +1,7 @@
 //! Programs: what an energy text says, with its names resolved.
 
 ghost use Rattle.std.specs.Prelude.{◌≤◌, length, map, IsTrue};
-ghost use Rattle.energy_program.specs.Tree.{are_scoped, inputs_of, is_scoped, tree_of};
+ghost use Rattle.energy_program.specs.Tree.{are_scoped, variable_count, is_scoped, tree_of};
 
 use crate::trees::Expr;
 use std::alloc::Allocator;
@@ -24,6 +24,6 @@ pub struct Program<A: Allocator> {
     pub ghost few_definitions: { length definitions.items ≤ 128 },
     pub ghost few_parameters: { parameters ≤ 8 },
     pub ghost few_globals: { globals ≤ 16 },
-    pub ghost body_scoped: { IsTrue (is_scoped (inputs_of parameters globals) 0 (length definitions.items) (tree_of body)) },
-    pub ghost definitions_scoped: { IsTrue (are_scoped (inputs_of parameters globals) 0 (map tree_of definitions.items)) },
+    pub ghost body_scoped: { IsTrue (is_scoped (variable_count parameters globals) 0 (length definitions.items) (tree_of body)) },
+    pub ghost definitions_scoped: { IsTrue (are_scoped (variable_count parameters globals) 0 (map tree_of definitions.items)) },
 }

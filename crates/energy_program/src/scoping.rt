@@ -2,7 +2,7 @@
 
 ghost use Rattle.std.specs.Prelude.{◌≡◌, ◌≤◌, ◌+◌, ◌&&◌, length, map, nat_le, is_some, IfSome};
 ghost use Rattle.energy_program.specs.Programs.{trees_of};
-ghost use Rattle.energy_program.specs.Tree.{are_scoped, inputs_of, is_exponent, is_scoped, tree_of};
+ghost use Rattle.energy_program.specs.Tree.{are_scoped, variable_count, is_exponent, is_scoped, tree_of};
 
 use crate::programs::{MAX_DEFINITIONS, Program};
 use crate::trees::Expr;
@@ -66,7 +66,7 @@ impl<A: Allocator> Program<A> {
         ensures trees { IfSome result (λ p. trees_of p ≡ (tree_of body, map tree_of definitions.items)) }
         ensures parameters { IfSome result (λ p. p.parameters ≡ parameters) }
         ensures globals { IfSome result (λ p. p.globals ≡ globals) }
-        ensures made { is_some result ≡ (nat_le (length definitions.items) 128 && nat_le parameters 8 && nat_le globals 16 && is_scoped (inputs_of parameters globals) 0 (length definitions.items) (tree_of body) && are_scoped (inputs_of parameters globals) 0 (map tree_of definitions.items)) }
+        ensures made { is_some result ≡ (nat_le (length definitions.items) 128 && nat_le parameters 8 && nat_le globals 16 && is_scoped (variable_count parameters globals) 0 (length definitions.items) (tree_of body) && are_scoped (variable_count parameters globals) 0 (map tree_of definitions.items)) }
     {
         if definitions.len() > MAX_DEFINITIONS
             || parameters as usize > MAX_PARAMETERS

@@ -1,6 +1,6 @@
 // The variables of energy texts.
 ghost use Rattle.std.specs.Prelude.{◌≡◌, ◌≤◌, length};
-ghost use Rattle.energy_program.specs.Tree.{inputs_of};
+ghost use Rattle.energy_program.specs.Tree.{variable_count};
 
 use indexmap::IndexSet;
 use std::alloc::Allocator;
@@ -26,5 +26,5 @@ pub struct Names<A: Allocator> {
     pub globals: u32,
     pub ghost few_parameters: { parameters ≤ 8 },
     pub ghost few_globals: { globals ≤ 16 },
-    pub ghost counted: { length variables.keys ≡ inputs_of parameters globals },
+    pub ghost counted: { length variables.keys ≡ variable_count parameters globals },
 }

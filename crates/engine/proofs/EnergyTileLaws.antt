@@ -19,13 +19,15 @@ use Rattle.cell_tiles.specs.Cover.{are_close}
 use Rattle.cell_tiles.specs.Tiles.{tile_pairs}
 use Rattle.cell_tiles.proofs.SumLemmas.{sums_as_all}
 use Rattle.ring_box.specs.Acting.{between}
-use Rattle.ring_box.specs.Cells.{ArePlaces, NearAreNeighbours}
+use Rattle.ring_box.specs.Cells.{NearAreNeighbours}
 use Rattle.ring_box.specs.Distances.{is_near, square_of}
 use Rattle.ring_box.specs.Forces.{acting_distance_of, taken_distance_of}
+use Rattle.ring_box.specs.Places.{ArePlaces}
+use Rattle.ring_box.specs.declared.vectors.Place3.{Place3}
 use Rattle.tile_round.specs.Tiles.{acting}
 use Rattle.integrator.proofs.ForceLaws.{ArePairsOf, frame_pairs, pairs_parts}
 use Rattle.integrator.specs.Forces.{pairs_from, pairs_of, pairs_with}
-use Rattle.integrator.specs.Frames.{places_of}
+use Rattle.integrator.specs.Frames.{Frame, places_of}
 use Rattle.integrator.specs.Kernels.{is_small}
 use Rattle.integrator.specs.declared.systems.System.{System}
 use Rattle.engine.proofs.EnergySumLaws.{over_append, over_tiles}
@@ -71,7 +73,7 @@ magnitude : (o : Option ℤ) (v : ℤ) (b : ℕ) → o ≡ Some v → unsigned_a
 magnitude o v b is small = rw is small
 
 module _ {A : Type 0} (s : System (SafeKernel A) A) where
-  abbrev between_atoms : List (List ℕ) → ℕ × ℕ → Option ℤ
+  abbrev between_atoms : Frame → ℕ × ℕ → Option ℤ
   between_atoms frame p = pair_energy (safe_dynamics s) (safe_value s) frame p
 
   pub has_energies : (k : Kernel) → IsKernel k → k.bound < 2 ^ 64 → k.table ≡ s.kernel.verified.table → k.core ≡ s.core → k.cutoff ≡ s.cutoff
@@ -107,14 +109,14 @@ module _ {A : Type 0} (s : System (SafeKernel A) A) where
       value_given : (o : Option ℤ) (v : ℤ) → o ≡ Some v → v ≡ unwrap_or o (pos 0)
       value_given o v e = rw e refl
 
-  found_head : (x y : List ℕ) (p : ℕ × ℕ) (rest : List (Option FoundPair)) (o : Option ℤ)
+  found_head : (x y : Place3) (p : ℕ × ℕ) (rest : List (Option FoundPair)) (o : Option ℤ)
       → unwrap_or (energy_at (safe_value s p) o) (pos 0) +ℤ sum_over (found_energy s) (acting rest)
       ≡ sum_over (found_energy s) (acting (option_map {U = FoundPair} (λ a. record { low = p.0; high = p.1; acting = a }) (option_map (between s.ring x y) o) ∷ rest))
   found_head x y p rest None = omega (arith, ints)
   found_head x y p rest (Some r) = refl
 
   -- pairs have the energy of those of them that are found
-  found_all : (frame : List (List ℕ)) (ps : List (ℕ × ℕ)) → sum_over (energy_between s frame) ps ≡ sum_over (found_energy s) (acting (map (found_of s frame) ps))
+  found_all : (frame : Frame) (ps : List (ℕ × ℕ)) → sum_over (energy_between s frame) ps ≡ sum_over (found_energy s) (acting (map (found_of s frame) ps))
   found_all frame [] = refl
   found_all frame (p ∷ ps) =
       let x = places_of frame p.0 in
@@ -123,7 +125,7 @@ module _ {A : Type 0} (s : System (SafeKernel A) A) where
       ∙ found_head x y p (map (found_of s frame) ps) (acting_distance_of s.frac s.ring s.core s.cutoff x y)
 
   -- the pairs before the number n have the energy of those before k, and of those found between
-  pub found_next : (frame : List (List ℕ)) (ps : List (ℕ × ℕ)) (k n : ℕ) (found : List FoundPair) → AreNextFound s frame ps k found n
+  pub found_next : (frame : Frame) (ps : List (ℕ × ℕ)) (k n : ℕ) (found : List FoundPair) → AreNextFound s frame ps k found n
       → sum_over (energy_between s frame) (take n ps) ≡ sum_over (energy_between s frame) (take k ps) +ℤ sum_over (found_energy s) found
   found_next frame ps k n found is =
       found_all frame (take n ps)
@@ -132,7 +134,7 @@ module _ {A : Type 0} (s : System (SafeKernel A) A) where
 
   -- ---- all pairs
 
-  module _ (accepted : IsAccepted s) (given : HasEnergies s) (frame : List (List ℕ)) where
+  module _ (accepted : IsAccepted s) (given : HasEnergies s) (frame : Frame) where
     number_at : (i j : ℕ) → i < length s.types.items → j < length s.types.items → (o : Option ℤ) → ((r : ℤ) → o ≡ Some r → (s.core ≤ℤ r) × (r <ℤ s.cutoff)) → HasNumber (2 ^ 64) (energy_at (safe_value s (i, j)) o)
     number_at i j first second None range = record { v = pos 0; has = refl; small = omega (arith, ints) }
     number_at i j first second (Some r) range =

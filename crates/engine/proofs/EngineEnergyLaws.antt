@@ -17,10 +17,11 @@ use Rattle.kernel_compiler.specs.Code.{compiled}
 use Rattle.kernel_compiler.specs.Compiled.{Computes}
 use Rattle.state.specs.declared.states.State.{State}
 use Rattle.integrator.proofs.EnergyLaws.{enough_of_job}
-use Rattle.integrator.specs.Energies.{job_tree}
+use Rattle.integrator.specs.Energies.{job_program}
 use Rattle.engine.specs.Engines.{EngineView, engine_dynamics}
 use Rattle.engine.specs.EngineViews.{IsEngine, engine_view}
 use Rattle.integrator.specs.Forces.{pairs_of}
+use Rattle.integrator.specs.Frames.{Frame}
 use Rattle.engine.specs.PairEnergies.{HasNoEnergy, energy_sum, engine_value, pair_energy}
 use Rattle.engine.specs.SafeEnergies.{safe_value}
 use Rattle.engine.specs.SafeKernels.{safe_dynamics}
@@ -29,7 +30,7 @@ use Rattle.engine.specs.Verdicts.{IsRefused}
 use Rattle.fallible.specs.Failures.{Fails, IfRefused, refused_as}
 use Rattle.fallible.specs.declared.failure.Failure.{Failure}
 use Rattle.fallible.specs.declared.failure.Failure.TheVariants.{Memory, Refused}
-use Rattle.integrator.specs.declared.kernel_refusals.KernelRefusal.{KernelRefusal}
+use Rattle.engine.specs.declared.kernel_refusals.KernelRefusal.{KernelRefusal}
 use Rattle.engine.specs.declared.faults.EnergyFault.{EnergyFault}
 use Rattle.engine.specs.declared.faults.EnergyFault.TheVariants as fault
 use Rattle.engine.specs.declared.safe_kernels.SafeKernel.{SafeKernel}
@@ -37,18 +38,18 @@ use Rattle.integrator.specs.declared.systems.System.{System}
 
 -- code of the energy, under the job's table, gives the energy's value
 pub energy_gives : {A : Type 0} (j : Job A) (t : Table) (p : Program A) (code : List Instr) → t ≡ table_of (job_value j) → p.parameters ≡ length j.parameters.items → p.globals ≡ length j.globals.items
-    → ((inputs : List ℤ) → trees.inputs_of p.parameters p.globals ≤ length inputs → Computes (bits_of j.frac) (trees_of p).0 (trees_of p).1 code inputs)
+    → ((inputs : List ℤ) → trees.variable_count p.parameters p.globals ≤ length inputs → Computes (bits_of j.frac) (trees_of p).0 (trees_of p).1 code inputs)
     → (a b : ℕ) (r : ℤ) (n : ℕ) (v : ℤ) → a < length t.rows → b < length t.rows → Ends (bits_of t.frac) code (inputs_of t a b r) n (Ok v)
     → value_of (bits_of t.frac) (inputs_of t a b r) (program_tree p) ≡ Some v
 energy_gives j t p code same parameters globals h =
     let u = table_of (job_value j) in
     rw same
     (λ a b r n v first second ends.
-    let enough : trees.inputs_of p.parameters p.globals ≤ length (inputs_of u a b r) = rw (parameters, globals) (enough_of_job j a b r first second) in
+    let enough : trees.variable_count p.parameters p.globals ≤ length (inputs_of u a b r) = rw (parameters, globals) (enough_of_job j a b r first second) in
     (h (inputs_of u a b r) enough).value n v ends)
 
 -- a sum of the system's is the engine's
-pub engine_energy : {A : Type 0} (j : Job A) (s : State A) (y : System (SafeKernel A) A) (frame : List (List ℕ)) (z : ℤ) → IsEngine j s y
+pub engine_energy : {A : Type 0} (j : Job A) (s : State A) (y : System (SafeKernel A) A) (frame : Frame) (z : ℤ) → IsEngine j s y
     → energy_sum (pair_energy (safe_dynamics y) (safe_value y) frame) (pairs_of (length frame)) ≡ Some z
     → energy_sum (pair_energy (engine_dynamics (engine_view j s y)) (engine_value (engine_view j s y)) frame) (pairs_of (length frame)) ≡ Some z
 engine_energy j s y frame z h e =
@@ -59,12 +60,12 @@ engine_energy j s y frame z h e =
     ∙ e
 
 -- code that would be too large
-pub too_large : {A : Type 0} (e : EngineView) (p : Program A) (failure : Failure (ExprFault A)) → program_tree p ≡ job_tree e.job → Fails energy.refusal_of failure (compiled (bits_of e.job.frac) (trees_of p).0 (trees_of p).1) → IfRefused (refused_as fault.Energy failure) (HasNoEnergy e)
+pub too_large : {A : Type 0} (e : EngineView) (p : Program A) (failure : Failure (ExprFault A)) → job_program e.job ≡ Ok (trees_of p) → Fails energy.refusal_of failure (compiled (bits_of e.job.frac) (trees_of p).0 (trees_of p).1) → IfRefused (refused_as fault.Energy failure) (HasNoEnergy e)
 too_large e p (Refused f) same h = record { program = trees_of p; its = same; it = h }
 too_large e p Memory same h = tt
 
 -- code that the verifier refuses
-pub not_accepted : {A : Type 0} (e : EngineView) (p : Program A) (code : List Instr) (failure : Failure KernelRefusal) → program_tree p ≡ job_tree e.job → compiled (bits_of e.job.frac) (trees_of p).0 (trees_of p).1 ≡ Ok code
+pub not_accepted : {A : Type 0} (e : EngineView) (p : Program A) (code : List Instr) (failure : Failure KernelRefusal) → job_program e.job ≡ Ok (trees_of p) → compiled (bits_of e.job.frac) (trees_of p).0 (trees_of p).1 ≡ Ok code
     → IfRefused failure (IsRefused e.job code) → IfRefused (refused_as {S = EnergyFault A} fault.Kernel failure) (HasNoEnergy e)
 not_accepted e p code (Refused r) same c h = record { program = trees_of p; its = same; it = record { code = code; is = c; why = h } }
 not_accepted e p code Memory same c h = tt

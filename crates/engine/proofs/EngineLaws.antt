@@ -1,5 +1,5 @@
 -- Engines: what their parts make them, and their steps as runs.
-use Rattle.std.proofs.Common.{◌≡◌, ℕ, ◌-◌, ◌*◌, ◌^◌, ◌<◌, ◌≤◌, Bool, true, false, List, [], length, get_or, ℤ, pos, negsuc, ◌+ℤ◌, ◌-ℤ◌, ◌≤ℤ◌, Some, None, Ok, Err, arith, refl, ap, sym, ◌∙◌, zero-add}
+use Rattle.std.proofs.Common.{◌≡◌, ℕ, ◌-◌, ◌*◌, ◌^◌, ◌<◌, ◌≤◌, Bool, true, false, List, length, get_or, ℤ, pos, negsuc, ◌+ℤ◌, ◌-ℤ◌, ◌≤ℤ◌, Some, None, Ok, Err, arith, refl, ap, sym, ◌∙◌, zero-add}
 use Rattle.std.specs.Prelude.{nat_lt, is_none, unsigned_abs, ◌&&◌, if◌then◌else◌}
 use Rattle.std.proofs.lemmas.Int.{ints}
 use Rattle.std.proofs.lemmas.Bool.{and_parts, leb-true, lt-ltb, ltb-false, ltb-true}
@@ -24,12 +24,13 @@ use Rattle.integrator.proofs.StartLaws.{started}
 use Rattle.integrator.proofs.NumberLaws.{length-numbers, at_number}
 use Rattle.integrator.specs.Energies.{Energy, energy_of, job_tree}
 use Rattle.engine.specs.Engines.{AreSafe, AreStopped, EngineView, HasNoEngine, HasNoEngineOfTexts, IsEngineOfTexts, Stopped, Went, engine_dynamics}
-use Rattle.integrator.specs.Frames.{frames, places_of, turns}
+use Rattle.ring_box.specs.Places.{nowhere}
+use Rattle.integrator.specs.Frames.{Frame, frames, places_of, turns}
 use Rattle.integrator.specs.Runs.{IsAfter}
 use Rattle.integrator.specs.Starts.{has_room, holds_two, plain, start_of, start_with, step_range, system_of, table_of}
 use Rattle.integrator.specs.StartViews.{system_refusal}
 use Rattle.integrator.specs.States.{counter_after, counter_at, current_frame, frames_of, moved_state, nobody, placed, placed_atoms, previous_frame}
-use Rattle.engine.specs.Tilings.{IsUnstarted, frames_along}
+use Rattle.engine.specs.Courses.{IsUnstarted}
 use Rattle.engine.specs.Verdicts.{IsJudged, IsRefused, IsSafeFor, PassesRange}
 use Rattle.integrator.specs.declared.direction.Direction.{Direction}
 use Rattle.integrator.specs.declared.direction.Direction.TheVariants.{Forward, Back}
@@ -37,7 +38,7 @@ use Rattle.fallible.specs.Failures.{Fails, IfRefused, refused_as}
 use Rattle.fallible.specs.declared.failure.Failure.{Failure}
 use Rattle.fallible.specs.declared.failure.Failure.TheVariants.{Memory, Refused}
 use Rattle.integrator.specs.declared.faults.SystemFault.{SystemFault}
-use Rattle.integrator.specs.declared.kernel_refusals.KernelRefusal.{KernelRefusal}
+use Rattle.engine.specs.declared.kernel_refusals.KernelRefusal.{KernelRefusal}
 use Rattle.engine.specs.declared.faults.EngineFault.{EngineFault}
 use Rattle.engine.specs.declared.faults.EngineFault.TheVariants as engine
 use Rattle.engine.specs.declared.faults.OpenFault.{OpenFault}
@@ -58,8 +59,8 @@ at_home atoms =
     ext_get_or nobody (placed_atoms atoms home) atoms (length-numbers g 0 (length atoms)) (λ k h.
     let l : k < length atoms = omega (arith, length-numbers g 0 (length atoms)) in
     at_number g nobody 0 (length atoms) k l ∙ ap g (zero-add k)
-    ∙ ap (λ p. placed (get_or atoms k nobody) p (places_of home.current k)) (get_or-map (λ (a : AtomView). a.previous) atoms k nobody [] l)
-    ∙ ap (λ p. placed (get_or atoms k nobody) (get_or atoms k nobody).previous p) (get_or-map (λ (a : AtomView). a.current) atoms k nobody [] l))
+    ∙ ap (λ p. placed (get_or atoms k nobody) p (places_of home.current k)) (get_or-map (λ (a : AtomView). a.previous) atoms k nobody nowhere l)
+    ∙ ap (λ p. placed (get_or atoms k nobody) (get_or atoms k nobody).previous p) (get_or-map (λ (a : AtomView). a.current) atoms k nobody nowhere l))
 
 no_way : (w : Direction) (z : ℤ) → counter_at w z 0 ≡ z
 no_way Forward z = omega (arith, ints)
@@ -80,9 +81,9 @@ went_nowhere w e h = record {
 }
 
 -- an engine whose atoms stand at the frames that its steps come to
-pub went_on : (w : Direction) (n : ℕ) (e f : EngineView) (b m p q : List (List ℕ)) (k : ℤ) → turns w (engine_dynamics e) n (frames_of e.state) ≡ Some (frames_along w b m) → frames p q ≡ frames_along w b m
+pub went_on : (w : Direction) (n : ℕ) (e f : EngineView) (p q : Frame) (k : ℤ) → turns w (engine_dynamics e) n (frames_of e.state) ≡ Some (frames p q)
     → counter_after w e.state.step n ≡ Some k → f ≡ record e { state = moved_state e.state (frames p q) k } → Went w n e f
-went_on w n e f b m p q k turned same counted moved = record { frames' = frames p q; turned = turned ∙ ap Some (sym same); counter = k; counted = counted; moved = moved }
+went_on w n e f p q k turned counted moved = record { frames' = frames p q; turned = turned; counter = k; counted = counted; moved = moved }
 
 -- steps that don't start leave an engine as it was
 pub unstarted : (w : Direction) (n : ℕ) (e : EngineView) (fault : StepFault) → in_range e.state.step ≡ true → IsUnstarted w n e.state.step fault → Stopped w n e e fault

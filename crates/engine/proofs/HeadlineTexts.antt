@@ -15,15 +15,14 @@ use Rattle.derivative.specs.Derive.{slope_program}
 use Rattle.kernel_compiler.specs.Code.{compiled}
 use Rattle.energy_program.specs.Faults.{Refusal, RepeatedDefinition, ReservedName, TooLarge}
 use Rattle.energy_program.specs.Names.{are_few, first_clash, first_repeated, is_among, is_reserved, names_from, parameters_and_globals, refused_for, variables_of}
-use Rattle.energy_program.specs.Programs.{program_tree}
-use Rattle.energy_program.specs.declared.programs.Program.{Program}
-use Rattle.expr.specs.Energy.{IsEnergy, program_of, trees_in}
+use Rattle.expr.specs.Energy.{program_of, trees_in}
 use Rattle.expr.specs.Uses.{in_place}
-use Rattle.expr.proofs.Parsing.{is_found, is_read}
+use Rattle.expr.proofs.Parsing.{reads_texts}
 use Rattle.job.specs.JobText.{AreApart}
 use Rattle.job.specs.Values.{JobValue, TypeValue}
 use Rattle.state.specs.StateText.{AtomView, StateView}
 use Rattle.integrator.specs.Energies.{Energy, energy_from, energy_of, job_program}
+use Rattle.ring_box.specs.Places.{nowhere}
 use Rattle.integrator.specs.Frames.{Frames, frames, places_of}
 use Rattle.integrator.specs.Starts.{are_alike, atom_types, has_room, holds_two, known, no_type, ring_of, type_with, unknown_type}
 use Rattle.integrator.specs.States.{frames_of, moved_state, nobody, placed, placed_atoms, previous_frame, current_frame}
@@ -95,17 +94,18 @@ made j energy e =
     let c = bind_ok (compiled bits s.0.0 s.0.1) _ energy s.2 in
     record { names = v.0; named = v.1; tree = ap in_place v.2 ∙ ap Ok (ap (λ (e : Energy). e.tree) (ok_same _ energy c.2)) }
 
--- the energy's text says the energy's tree, and no other, where some program has that tree
-pub says_energy : {A : Type 0} (j : JobValue) (energy : Energy) (p : Program A) → energy_of j ≡ Ok energy → program_tree p ≡ energy.tree → SaysOnly j energy.tree
-says_energy j energy p e same =
+-- the energy's text says the energy's tree, and no other
+pub says_energy : (j : JobValue) (energy : Energy) → energy_of j ≡ Ok energy → SaysOnly j energy.tree
+says_energy j energy e =
     let bits = bits_of j.frac in
     let m = made j energy e in
     let n = names_clear j.parameters (global_names j) m.names m.named in
     let c = clear (codes "r" ∷ []) (parameters_and_globals j.parameters (global_names j)) n.0 (one_name (codes "r")) in
-    let read : program_of bits (variables_of j.parameters (global_names j)) j.energy ≡ Ok (program_tree p) = ap (λ vs. program_of bits vs j.energy) n.1 ∙ m.tree ∙ ap Ok (sym same) in
+    let vs = variables_of j.parameters (global_names j) in
+    let read : program_of bits vs j.energy ≡ Ok energy.tree = ap (λ vs. program_of bits vs j.energy) n.1 ∙ m.tree in
     record {
-      says = record { apart = c.0; free = c.1; says = subst (IsEnergy bits (variables_of j.parameters (global_names j)) j.energy 64) same (is_found bits (variables_of j.parameters (global_names j)) j.energy (Ok p) read) };
-      only = λ tree says. sym (is_read bits (variables_of j.parameters (global_names j)) j.energy (Ok p) read 64 tree says.says) ∙ same;
+      says = record { apart = c.0; free = c.1; says = (reads_texts bits vs j.energy energy.tree).0 read };
+      only = λ tree says. ok_same tree energy.tree (sym ((reads_texts bits vs j.energy tree).1 says.says) ∙ read);
     }
 
 -- ---- the types of atoms
@@ -142,7 +142,7 @@ module _ (j : JobValue) where
   below_or a b false false p q h k = let x : b ≤ a = ltb-false a b p in let y : a ≤ b = ltb-false b a q in omega (arith, x, y)
 
   -- no two types have one name
-  one_type : AreApart (map (λ t. t.name) j.types) → (a b : ℕ) → a < length j.types → b < length j.types → type_name a ≡ type_name b → a ≡ b
+  pub one_type : AreApart (map (λ t. t.name) j.types) → (a b : ℕ) → a < length j.types → b < length j.types → type_name a ≡ type_name b → a ≡ b
   one_type apart a b la lb e =
       let at = λ (t : ℕ) (l : t < length j.types). get_or-map (λ (t : TypeValue). t.name) j.types t no_type [] l in
       let size = length-map j.types (λ (t : TypeValue). t.name) in
@@ -223,10 +223,10 @@ module _ (atoms : List AtomView) (f : Frames) where
   who_placed = part_placed who (who nobody) (map who atoms) (length-map atoms who) (λ k l. sym (get_or-map who atoms k nobody (who nobody) l))
 
   previous_placed : length f.previous ≡ length atoms → previous_frame (placed_atoms atoms f) ≡ f.previous
-  previous_placed size = part_placed (λ a. a.previous) [] f.previous size (λ k l. refl)
+  previous_placed size = part_placed (λ a. a.previous) nowhere f.previous size (λ k l. refl)
 
   current_placed : length f.current ≡ length atoms → current_frame (placed_atoms atoms f) ≡ f.current
-  current_placed size = part_placed (λ a. a.current) [] f.current size (λ k l. refl)
+  current_placed size = part_placed (λ a. a.current) nowhere f.current size (λ k l. refl)
 
 -- the frames of the state that is at these frames
 pub frames_moved : (s : StateView) (f : Frames) (k : ℤ) → length f.previous ≡ length s.atoms → length f.current ≡ length s.atoms → frames_of (moved_state s f k) ≡ f
@@ -246,8 +246,8 @@ placed_again atoms others e =
     let same : who (get_or others k nobody) ≡ who (get_or atoms k nobody) =
     sym (get_or-map who others k nobody (who nobody) h) ∙ ap (λ (ws : List (ℤ × List ℕ × List ℕ)). get_or ws k (who nobody)) e ∙ get_or-map who atoms k nobody (who nobody) l in
     atom_is (get_or others k nobody) (get_or atoms k nobody) same
-    ∙ ap (λ p. placed (get_or atoms k nobody) p (get_or others k nobody).current) (sym (get_or-map (λ (a : AtomView). a.previous) others k nobody [] h))
-    ∙ ap (λ c. placed (get_or atoms k nobody) (places_of f.previous k) c) (sym (get_or-map (λ (a : AtomView). a.current) others k nobody [] h))
+    ∙ ap (λ p. placed (get_or atoms k nobody) p (get_or others k nobody).current) (sym (get_or-map (λ (a : AtomView). a.previous) others k nobody nowhere h))
+    ∙ ap (λ c. placed (get_or atoms k nobody) (places_of f.previous k) c) (sym (get_or-map (λ (a : AtomView). a.current) others k nobody nowhere h))
     ∙ sym (get_or-placed atoms f k l))
 
 -- a state that differs in its counter and its atoms' places alone

@@ -9,6 +9,7 @@ pub mod OneAnswer
 pub mod HeadlineSteps
 pub mod HeadlineTexts
 pub mod HeadlineLaws
+pub mod ToldRuns
 pub mod WentLaws
 pub mod SafeRuns
 pub mod EnergySumLaws

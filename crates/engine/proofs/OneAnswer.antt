@@ -22,7 +22,7 @@ use Rattle.integrator.specs.declared.faults.StepFault.TheVariants as step
 use Rattle.engine.specs.declared.faults.EngineFault.TheVariants as engine
 use Rattle.engine.specs.declared.faults.OpenFault.{OpenFault}
 use Rattle.engine.specs.declared.faults.OpenFault.TheVariants as opened
-use Rattle.integrator.specs.declared.kernel_refusals.KernelRefusal.{KernelRefusal}
+use Rattle.engine.specs.declared.kernel_refusals.KernelRefusal.{KernelRefusal}
 use Rattle.engine.specs.Engines.{AreSafe, AreStopped, HasNoEngineOfTexts, OfSlope, OfTexts}
 use Rattle.engine.specs.Verdicts.{IsJudged, IsRefused, IsSafeFor, PassesRange}
 

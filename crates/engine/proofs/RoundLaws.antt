@@ -9,16 +9,18 @@ use Rattle.std.proofs.lemmas.Bool.Decides.{nat_tests}
 use Rattle.std.proofs.lemmas.List.{ext_get_or}
 use Rattle.std.proofs.lemmas.Nat.{mul-le}
 use Rattle.tile_round.specs.ExactSums.{PlanHasWords, TileHasWords, TotalsComeOut, exact_force, force_on, tile_force}
-use Rattle.tile_round.specs.Tiles.{additions_of, amount_on, on_entry, tile_of, tiles_of, total}
+use Rattle.tile_round.specs.Tiles.{additions_of, amount_on, component, on_entry, tile_of, tiles_of, total}
 use Rattle.tile_round.specs.declared.work.PairAdd.{PairAdd}
 use Rattle.tile_pool.specs.Totals.{AreTotals}
-use Rattle.integrator.specs.Forces.{component, force_or_none, forces_of, negative, none, numbers_from, pairs_of, plus, share_of, sum_of_shares, IsWithin}
+use Rattle.ring_box.specs.Forces.{IsWithin, no_force}
+use Rattle.ring_box.specs.declared.vectors.Force.{Force}
+use Rattle.integrator.specs.Forces.{force_or_none, forces_of, negative, numbers_from, pairs_of, plus, share_of, sum_of_shares}
 use Rattle.integrator.proofs.BoundLaws.{forces_within}
 use Rattle.integrator.proofs.Constructors.{some_same}
-use Rattle.integrator.proofs.ForceLaws.{ArePairsOf, frame_pairs, pairs_parts, shares-three, three, three_parts}
+use Rattle.integrator.proofs.ForceLaws.{ArePairsOf, frame_pairs, pairs_parts}
 use Rattle.integrator.proofs.NumberLaws.{at_number, length-numbers}
 use Rattle.engine.proofs.SafeLaws.{HasForce}
-use Rattle.engine.specs.Rounds.{forces_from, forces_in}
+use Rattle.engine.specs.Rounds.{forces_from, forces_in, pair_add}
 
 -- ---- what pairs add to an entry
 
@@ -44,69 +46,76 @@ total_weight add e (t ∷ ts) =
 -- ---- the force of each pair, as it is added and as it acts
 
 -- what a pair adds is its force, on its lower atom and turned on its higher one
-pub record AddsForce (force : ℕ × ℕ → Option (List ℤ)) (add : ℕ × ℕ → Option PairAdd) (p : ℕ × ℕ) : Type 0 where
-  pub acting : Option (List ℤ)
-  pub adds : add p ≡ option_map (λ v. record { low = p.0; high = p.1; force = v }) acting
-  pub is : force p ≡ Some (unwrap_or acting none)
+pub record AddsForce (force : ℕ × ℕ → Option (Force ℤ)) (add : ℕ × ℕ → Option PairAdd) (p : ℕ × ℕ) : Type 0 where
+  pub acting : Option (Force ℤ)
+  pub adds : add p ≡ option_map (pair_add p.0 p.1) acting
+  pub is : force p ≡ Some (unwrap_or acting no_force)
 
-none_component : (axis : ℕ) → component none axis ≡ pos 0
-none_component zero = refl
-none_component (suc zero) = refl
-none_component (suc (suc zero)) = refl
-none_component (suc (suc (suc k))) = refl
+-- a part of a force, as it is added
+abbrev part : Force ℤ → ℕ → ℤ
+part f axis = component (f.x ∷ f.y ∷ f.z ∷ []) axis
 
-negative_component : (v : List ℤ) (axis : ℕ) → axis < 3 → component (negative v) axis ≡ neg_ℤ (component v axis)
-negative_component v zero h = refl
-negative_component v (suc zero) h = refl
-negative_component v (suc (suc zero)) h = refl
-negative_component v (suc (suc (suc k))) h = absurd (omega arith)
+none_part : (axis : ℕ) → part no_force axis ≡ pos 0
+none_part zero = refl
+none_part (suc zero) = refl
+none_part (suc (suc zero)) = refl
+none_part (suc (suc (suc k))) = refl
 
-plus_component : (u v : List ℤ) (axis : ℕ) → axis < 3 → component (plus u v) axis ≡ component u axis +ℤ component v axis
-plus_component u v zero h = refl
-plus_component u v (suc zero) h = refl
-plus_component u v (suc (suc zero)) h = refl
-plus_component u v (suc (suc (suc k))) h = absurd (omega arith)
+negative_part : (f : Force ℤ) (axis : ℕ) → axis < 3 → part (negative f) axis ≡ neg_ℤ (part f axis)
+negative_part f zero h = refl
+negative_part f (suc zero) h = refl
+negative_part f (suc (suc zero)) h = refl
+negative_part f (suc (suc (suc k))) h = absurd (omega arith)
+
+plus_part : (f g : Force ℤ) (axis : ℕ) → axis < 3 → part (plus f g) axis ≡ part f axis +ℤ part g axis
+plus_part f g zero h = refl
+plus_part f g (suc zero) h = refl
+plus_part f g (suc (suc zero)) h = refl
+plus_part f g (suc (suc (suc k))) h = absurd (omega arith)
 
 true_is_not_false : ◌≡◌ {A = Bool} true false → ⊥
 true_is_not_false e = cc
 
-chosen_component : (low high : Bool) (v : List ℤ) (axis : ℕ) → axis < 3 → (low ≡ true → high ≡ false)
-    → (if low then component v axis else pos 0) +ℤ (if high then neg_ℤ (component v axis) else pos 0)
-    ≡ component (if low then v else if high then negative v else none) axis
-chosen_component true true v axis h apart = absurd (true_is_not_false (apart refl))
-chosen_component true false v axis h apart = omega (arith, ints)
-chosen_component false true v axis h apart = omega (arith, ints, negative_component v axis h)
-chosen_component false false v axis h apart = sym (none_component axis)
+chosen_part : (low high : Bool) (f : Force ℤ) (axis : ℕ) → axis < 3 → (low ≡ true → high ≡ false)
+    → (if low then part f axis else pos 0) +ℤ (if high then neg_ℤ (part f axis) else pos 0)
+    ≡ part (if low then f else if high then negative f else no_force) axis
+chosen_part true true v axis h apart = absurd (true_is_not_false (apart refl))
+chosen_part true false v axis h apart = omega (arith, ints)
+chosen_part false true v axis h apart = omega (arith, ints, negative_part v axis h)
+chosen_part false false v axis h apart = sym (none_part axis)
 
-chosen_none : (low high : Bool) (axis : ℕ) → pos 0 ≡ component (if low then none else if high then negative none else none) axis
-chosen_none true high axis = sym (none_component axis)
-chosen_none false true axis = sym (none_component axis)
-chosen_none false false axis = sym (none_component axis)
+chosen_none : (low high : Bool) (axis : ℕ) → pos 0 ≡ part (if low then no_force else if high then negative no_force else no_force) axis
+chosen_none true high axis = sym (none_part axis)
+chosen_none false true axis = sym (none_part axis)
+chosen_none false false axis = sym (none_part axis)
 
 one_of_two : (i j a : ℕ) → i < j → (i == a) ≡ true → (j == a) ≡ false
 one_of_two i j a h e = grind (arith, nat_tests)
 
 -- what a pair adds to an atom
-share_added : (force : ℕ × ℕ → Option (List ℤ)) (add : ℕ × ℕ → Option PairAdd) (p : ℕ × ℕ) (a axis : ℕ) → p.0 < p.1 → axis < 3 → (acting : Option (List ℤ))
-    → add p ≡ option_map (λ v. record { low = p.0; high = p.1; force = v }) acting → force p ≡ Some (unwrap_or acting none)
-    → force_on a axis (add p) ≡ component (share_of p (force_or_none force p) a) axis
+share_added : (force : ℕ × ℕ → Option (Force ℤ)) (add : ℕ × ℕ → Option PairAdd) (p : ℕ × ℕ) (a axis : ℕ) → p.0 < p.1 → axis < 3 → (acting : Option (Force ℤ))
+    → add p ≡ option_map (pair_add p.0 p.1) acting → force p ≡ Some (unwrap_or acting no_force)
+    → force_on a axis (add p) ≡ part (share_of p (force_or_none force p) a) axis
 share_added force add p a axis apart h None adds is = rw (adds, is) (chosen_none (p.0 == a) (p.1 == a) axis)
-share_added force add p a axis apart h (Some v) adds is = rw (adds, is) (chosen_component (p.0 == a) (p.1 == a) v axis h (one_of_two p.0 p.1 a apart))
+share_added force add p a axis apart h (Some v) adds is = rw (adds, is) (chosen_part (p.0 == a) (p.1 == a) v axis h (one_of_two p.0 p.1 a apart))
 
 -- ---- all pairs
 
-fits_from_within : (b : ℕ) (v : List ℤ) (axis : ℕ) → b < 2 ^ 63 → IsWithin b v → axis < 3 → FitsSigned w64 (component v axis)
-fits_from_within b v zero h w lt = fits_signed_from_abs w64 (component v 0) (omega (arith, w.x))
-fits_from_within b v (suc zero) h w lt = fits_signed_from_abs w64 (component v 1) (omega (arith, w.y))
-fits_from_within b v (suc (suc zero)) h w lt = fits_signed_from_abs w64 (component v 2) (omega (arith, w.z))
-fits_from_within b v (suc (suc (suc k))) h w lt = absurd (omega arith)
+same_force : (x y z : ℤ) (f : Force ℤ) → x ≡ f.x → y ≡ f.y → z ≡ f.z → ◌≡◌ {A = Force ℤ} (record { x = x; y = y; z = z }) f
+same_force x y z f p q r = rw (p, q, r) refl
 
-added_words : (b : ℕ) (p : ℕ × ℕ) (acting : Option (List ℤ)) (rest : List (Option PairAdd)) → b < 2 ^ 63 → IsWithin b (unwrap_or acting none) → TileHasWords rest
-    → TileHasWords (option_map (λ v. record { low = p.0; high = p.1; force = v }) acting ∷ rest)
+fits_from_within : (b : ℕ) (f : Force ℤ) (axis : ℕ) → b < 2 ^ 63 → IsWithin b f → axis < 3 → FitsSigned w64 (part f axis)
+fits_from_within b f zero h w lt = fits_signed_from_abs w64 f.x (omega (arith, w.x))
+fits_from_within b f (suc zero) h w lt = fits_signed_from_abs w64 f.y (omega (arith, w.y))
+fits_from_within b f (suc (suc zero)) h w lt = fits_signed_from_abs w64 f.z (omega (arith, w.z))
+fits_from_within b f (suc (suc (suc k))) h w lt = absurd (omega arith)
+
+added_words : (b : ℕ) (p : ℕ × ℕ) (acting : Option (Force ℤ)) (rest : List (Option PairAdd)) → b < 2 ^ 63 → IsWithin b (unwrap_or acting no_force) → TileHasWords rest
+    → TileHasWords (option_map (pair_add p.0 p.1) acting ∷ rest)
 added_words b p None rest h w more = more
 added_words b p (Some v) rest h w more = (λ axis lt. fits_from_within b v axis h w lt, more)
 
-module _ (b n : ℕ) (force : ℕ × ℕ → Option (List ℤ)) (add : ℕ × ℕ → Option PairAdd)
+module _ (b n : ℕ) (force : ℕ × ℕ → Option (Force ℤ)) (add : ℕ × ℕ → Option PairAdd)
     (has : (i j : ℕ) → i < j → j < n → HasForce b (force (i, j)))
     (adds : (i j : ℕ) → i < j → j < n → AddsForce force add (i, j))
     (fits : b * (n - 1) < 2 ^ 63) where
@@ -128,20 +137,20 @@ module _ (b n : ℕ) (force : ℕ × ℕ → Option (List ℤ)) (add : ℕ × �
       let q = pairs_parts n p ps h in
       let f = has p.0 p.1 q.0.apart q.0.below in
       let a = adds p.0 p.1 q.0.apart q.0.below in
-      let same : f.v ≡ unwrap_or a.acting none = some_same f.v (unwrap_or a.acting none) (sym f.has ∙ a.is) in
+      let same : f.v ≡ unwrap_or a.acting no_force = some_same f.v (unwrap_or a.acting no_force) (sym f.has ∙ a.is) in
       rw a.adds (added_words b p a.acting (map add ps) (pair_fits p.0 p.1 q.0.apart q.0.below) (rw (← same) f.small) (words ps q.1))
 
-  shares_added : (ps : List (ℕ × ℕ)) (a axis : ℕ) → ArePairsOf n ps → axis < 3 → tile_force a axis (map add ps) ≡ component (sum_of_shares (force_or_none force) ps a) axis
+  shares_added : (ps : List (ℕ × ℕ)) (a axis : ℕ) → ArePairsOf n ps → axis < 3 → tile_force a axis (map add ps) ≡ part (sum_of_shares (force_or_none force) ps a) axis
   unfolding sum_of_shares
-  shares_added [] a axis h lt = sym (none_component axis)
+  shares_added [] a axis h lt = sym (none_part axis)
   shares_added (p ∷ ps) a axis h lt =
       let q = pairs_parts n p ps h in
       let f = adds p.0 p.1 q.0.apart q.0.below in
-      let first : force_on a axis (add p) ≡ component (share_of p (force_or_none force p) a) axis = share_added force add p a axis q.0.apart lt f.acting f.adds f.is in
-      let rest : tile_force a axis (map add ps) ≡ component (sum_of_shares (force_or_none force) ps a) axis = shares_added ps a axis q.1 lt in
+      let first : force_on a axis (add p) ≡ part (share_of p (force_or_none force p) a) axis = share_added force add p a axis q.0.apart lt f.acting f.adds f.is in
+      let rest : tile_force a axis (map add ps) ≡ part (sum_of_shares (force_or_none force) ps a) axis = shares_added ps a axis q.1 lt in
       ap (λ z. z +ℤ tile_force a axis (map add ps)) first
-      ∙ ap (λ z. component (share_of p (force_or_none force p) a) axis +ℤ z) rest
-      ∙ sym (plus_component (share_of p (force_or_none force p) a) (sum_of_shares (force_or_none force) ps a) axis lt)
+      ∙ ap (λ z. part (share_of p (force_or_none force p) a) axis +ℤ z) rest
+      ∙ sym (plus_part (share_of p (force_or_none force p) a) (sum_of_shares (force_or_none force) ps a) axis lt)
 
   all_pairs : ArePairsOf n (pairs_of n)
   all_pairs = frame_pairs n 0 n (omega arith)
@@ -150,7 +159,7 @@ module _ (b n : ℕ) (force : ℕ × ℕ → Option (List ℤ)) (add : ℕ × �
   abbrev one_tile : List (List (Option PairAdd))
   one_tile = map add (pairs_of n) ∷ []
 
-  one_tile_is : (a axis : ℕ) → axis < 3 → exact_force a axis one_tile ≡ component (sum_of_shares (force_or_none force) (pairs_of n) a) axis
+  one_tile_is : (a axis : ℕ) → axis < 3 → exact_force a axis one_tile ≡ part (sum_of_shares (force_or_none force) (pairs_of n) a) axis
   one_tile_is a axis lt = omega (arith, ints, shares_added (pairs_of n) a axis all_pairs lt)
 
   share_fits : (a axis : ℕ) → axis < 3 → FitsSigned w64 (exact_force a axis one_tile)
@@ -169,7 +178,7 @@ module _ (b n : ℕ) (force : ℕ × ℕ → Option (List ℤ)) (add : ℕ × �
         total_weight add e tiles ∙ same e
         ∙ sym (total_weight add e (pairs_of n ∷ []) ∙ sum_by-cons (λ ps. sum_by (weight add e) ps) (pairs_of n) [] ∙ add-zero (sum_by (weight add e) (pairs_of n)))
 
-    entry : (a axis : ℕ) → a < n → axis < 3 → component sums (3 * a + axis) ≡ component (sum_of_shares (force_or_none force) (pairs_of n) a) axis
+    entry : (a axis : ℕ) → a < n → axis < 3 → component sums (3 * a + axis) ≡ part (sum_of_shares (force_or_none force) (pairs_of n) a) axis
     entry a axis below lt =
         totals.each (3 * a + axis) (omega arith)
         ∙ ap (λ t. cast_signed w64 (t % 2 ^ 64)) (same_total (3 * a + axis))
@@ -178,18 +187,15 @@ module _ (b n : ℕ) (force : ℕ × ℕ → Option (List ℤ)) (add : ℕ × �
 
     force_is : (a : ℕ) → a < n → forces_in sums a ≡ sum_of_shares (force_or_none force) (pairs_of n) a
     force_is a below =
-        let g = sum_of_shares (force_or_none force) (pairs_of n) a in
-        let first : component sums (3 * a) ≡ component g 0 = ap (component sums) (sym (add-zero (3 * a))) ∙ entry a 0 below (omega arith) in
-        three (component sums (3 * a)) (component sums (3 * a + 1)) (component sums (3 * a + 2)) (component g 0) (component g 1) (component g 2)
-        first (entry a 1 below (omega arith)) (entry a 2 below (omega arith))
-        ∙ sym (three_parts g (shares-three (force_or_none force) (pairs_of n) a))
+        same_force (component sums (3 * a)) (component sums (3 * a + 1)) (component sums (3 * a + 2)) (sum_of_shares (force_or_none force) (pairs_of n) a)
+        (ap (component sums) (sym (add-zero (3 * a))) ∙ entry a 0 below (omega arith)) (entry a 1 below (omega arith)) (entry a 2 below (omega arith))
 
     -- the sums of a round over tiles that come to all pairs are the forces
     pub round_forces : forces_of force n ≡ Some (forces_from sums n)
     round_forces =
         let g = sum_of_shares (force_or_none force) (pairs_of n) in
         let alike : length (map g (numbers_from 0 n)) ≡ length (forces_from sums n) = length-numbers g 0 n ∙ sym (length-numbers (forces_in sums) 0 n) in
-        let each : map g (numbers_from 0 n) ≡ forces_from sums n = ext_get_or none (map g (numbers_from 0 n)) (forces_from sums n) alike (λ a l.
+        let each : map g (numbers_from 0 n) ≡ forces_from sums n = ext_get_or no_force (map g (numbers_from 0 n)) (forces_from sums n) alike (λ a l.
         let k : a < n = omega (arith, length-numbers g 0 n) in
-        at_number g none 0 n a k ∙ ap g (zero-add a) ∙ sym (force_is a k) ∙ sym (at_number (forces_in sums) none 0 n a k ∙ ap (forces_in sums) (zero-add a))) in
+        at_number g no_force 0 n a k ∙ ap g (zero-add a) ∙ sym (force_is a k) ∙ sym (at_number (forces_in sums) no_force 0 n a k ∙ ap (forces_in sums) (zero-add a))) in
         rw (forces_there (pairs_of n) all_pairs) (ap Some each)

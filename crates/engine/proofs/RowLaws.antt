@@ -14,10 +14,10 @@ use Rattle.cell_tiles.specs.Near.{AreNear, those_acting}
 use Rattle.tile_round.proofs.ActingLemmas.{acting_append, take_next}
 use Rattle.tile_round.specs.Tiles.{AreNextActing, IsPairOf, acting}
 use Rattle.tile_round.specs.declared.work.PairAdd.{PairAdd}
-use Rattle.integrator.specs.Frames.{places_of}
+use Rattle.integrator.specs.Frames.{Frame, places_of}
 use Rattle.integrator.specs.declared.systems.System.{System}
 use Rattle.engine.proofs.SafeLaws.{minus_is}
-use Rattle.engine.specs.Rounds.{add_of}
+use Rattle.engine.specs.Rounds.{add_of, pair_add}
 use Rattle.engine.specs.Rows.{AreNextFound, IsFound, IsSlope, add_found, ask_of, found_of, reach_of}
 use Rattle.engine.specs.SafeKernels.{minus, potential_of, slope_at}
 use Rattle.engine.specs.declared.rows.FoundPair.{FoundPair}
@@ -64,29 +64,29 @@ module _ {A : Type 0} (s : System (SafeKernel A) A) where
 
   twice : (o : Option ActingPair) (p : ℕ × ℕ)
       → option_map (add_found s) (option_map {U = FoundPair} (λ a. record { low = p.0; high = p.1; acting = a }) o)
-      ≡ option_map {U = PairAdd} (λ v. record { low = p.0; high = p.1; force = v })
+      ≡ option_map (pair_add p.0 p.1)
       (option_map (λ (a : ActingPair). force_of a (minus (slope_at (potential_of s.kernel) (slice_index s.types.items p.0) (slice_index s.types.items p.1) a.distance))) o)
   twice None p = refl
   twice (Some a) p = refl
 
   -- what is added for the pair that is found is what the pair adds
-  pub found_adds : (frame : List (List ℕ)) (p : ℕ × ℕ) → option_map (add_found s) (found_of s frame p) ≡ add_of s frame p
+  pub found_adds : (frame : Frame) (p : ℕ × ℕ) → option_map (add_found s) (found_of s frame p) ≡ add_of s frame p
   found_adds frame p =
       let x = places_of frame p.0 in
       let y = places_of frame p.1 in
       let slope = λ (r : ℤ). minus (slope_at (potential_of s.kernel) (slice_index s.types.items p.0) (slice_index s.types.items p.1) r) in
-      twice (acting_of (reach_of s) s.ring x y) p ∙ ap (option_map {U = PairAdd} (λ v. record { low = p.0; high = p.1; force = v })) (halves (reach_of s) s.ring slope x y)
+      twice (acting_of (reach_of s) s.ring x y) p ∙ ap (option_map (pair_add p.0 p.1)) (halves (reach_of s) s.ring slope x y)
 
   -- what pairs add is what is added for those of them that are found
-  pub all_found : (frame : List (List ℕ)) (ps : List (ℕ × ℕ)) → acting (map (add_of s frame) ps) ≡ map (add_found s) (acting (map (found_of s frame) ps))
+  pub all_found : (frame : Frame) (ps : List (ℕ × ℕ)) → acting (map (add_of s frame) ps) ≡ map (add_found s) (acting (map (found_of s frame) ps))
   all_found frame ps =
       ap acting (sym (mapped_twice (found_of s frame) (add_found s) (add_of s frame) (found_adds frame) ps)) ∙ acting_mapped (add_found s) (map (found_of s frame) ps)
 
-  found_sieved : (frame : List (List ℕ)) (ps : List (ℕ × ℕ)) → acting (map (found_of s frame) ps) ≡ acting (map (found_of s frame) (those_acting (reach_of s) s.ring frame ps))
+  found_sieved : (frame : Frame) (ps : List (ℕ × ℕ)) → acting (map (found_of s frame) ps) ≡ acting (map (found_of s frame) (those_acting (reach_of s) s.ring frame ps))
   found_sieved frame ps = sieve (λ (p : ℕ × ℕ). acting_of (reach_of s) s.ring (places_of frame p.0) (places_of frame p.1)) (λ (p : ℕ × ℕ) (a : ActingPair). record { low = p.0; high = p.1; acting = a }) ps
 
   -- the pairs found among those that are near are those found from the number k to before n
-  pub near_found : (frame : List (List ℕ)) (ps near : List (ℕ × ℕ)) (k n : ℕ) (found : List FoundPair) → AreNear (reach_of s) s.ring frame ps k near n → found ≡ acting (map (found_of s frame) near)
+  pub near_found : (frame : Frame) (ps near : List (ℕ × ℕ)) (k n : ℕ) (found : List FoundPair) → AreNear (reach_of s) s.ring frame ps k near n → found ≡ acting (map (found_of s frame) near)
       → AreNextFound s frame ps k found n
   near_found frame ps near k n found is here =
       let F = found_of s frame in
@@ -106,11 +106,11 @@ module _ {A : Type 0} (s : System (SafeKernel A) A) where
       }
 
   -- the first pairs add what is added for those of them that are found
-  first_add : (frame : List (List ℕ)) (ps : List (ℕ × ℕ)) (m : ℕ) → acting (take m (map (add_of s frame) ps)) ≡ map (add_found s) (acting (map (found_of s frame) (take m ps)))
+  first_add : (frame : Frame) (ps : List (ℕ × ℕ)) (m : ℕ) → acting (take m (map (add_of s frame) ps)) ≡ map (add_found s) (acting (map (found_of s frame) (take m ps)))
   first_add frame ps m = ap acting (take-map (add_of s frame) m ps) ∙ all_found frame (take m ps)
 
   -- the next pairs found add what the next pairs add
-  pub next_add : (frame : List (List ℕ)) (ps : List (ℕ × ℕ)) (k n : ℕ) (found : List FoundPair) → AreNextFound s frame ps k found n → AreNextActing (map (add_of s frame) ps) k (map (add_found s) found) n
+  pub next_add : (frame : Frame) (ps : List (ℕ × ℕ)) (k n : ℕ) (found : List FoundPair) → AreNextFound s frame ps k found n → AreNextActing (map (add_of s frame) ps) k (map (add_found s) found) n
   next_add frame ps k n found is = record {
     onward = is.onward;
     within = rw (length-map ps (add_of s frame)) is.within;
@@ -140,5 +140,5 @@ module _ {A : Type 0} (s : System (SafeKernel A) A) where
   asked_at found l f lt is = get_or-map (ask_of s) found l f (record { a = 0; b = 0; r = pos 0 }) lt ∙ ap (ask_of s) (sym is)
 
   -- with the slope for what is asked a pair adds what it adds
-  pub slope_adds : (f : FoundPair) (ask : Ask) (v : ℤ) → IsSlope s ask v → ask ≡ ask_of s f → (add : PairAdd) → add ≡ record { low = f.low; high = f.high; force = force_of f.acting (neg_ℤ v) } → add ≡ add_found s f
+  pub slope_adds : (f : FoundPair) (ask : Ask) (v : ℤ) → IsSlope s ask v → ask ≡ ask_of s f → (add : PairAdd) → add ≡ pair_add f.low f.high (force_of f.acting (neg_ℤ v)) → add ≡ add_found s f
   slope_adds f ask v slope is add made = rw (made, slope.value, is) refl

@@ -1,19 +1,19 @@
 -- Accepted slopes: where a pair acts there is a slope, and each pair has a force that fits.
-use Rattle.std.proofs.Common.{◌≡◌, ℕ, ◌-◌, ◌*◌, ◌^◌, ◌<◌, ◌≤◌, Bool, true, false, List, length, ℤ, pos, Option, Some, None, arith, refl, ap, ◌∙◌}
+use Rattle.std.proofs.Common.{◌≡◌, ℕ, ◌-◌, ◌*◌, ◌^◌, ◌<◌, ◌≤◌, Bool, true, false, length, ℤ, pos, Option, Some, None, arith, refl, ap, ◌∙◌}
 use Rattle.std.specs.Prelude.{unsigned_abs, neg_ℤ, unwrap_or, option_map, ◌≤ℤ◌, ◌<ℤ◌, int_lt, nat_lt, not, ◌&&◌, ◌==◌, if◌then◌else◌, IfSome, slice_index}
 use Rattle.std.proofs.lemmas.Nat.{mul-le}
 use Rattle.std.proofs.lemmas.Int.{ints}
 use Rattle.std.proofs.lemmas.Bool.{and_from, and_parts, le-leb, leb-true, lt-ltb, ltb-true, not_from_false, not-true}
 use Rattle.fixed.specs.declared.frac.Frac.{Frac}
 use Rattle.ring_box.specs.declared.boxes.RingBox.{RingBox}
+use Rattle.ring_box.specs.declared.vectors.Force.{Force}
+use Rattle.ring_box.specs.declared.vectors.Place3.{Place3}
 use Rattle.ring_box.specs.Distances.{distance_at, is_near, square_of}
-use Rattle.ring_box.specs.Forces.{acting_distance_of, force_along_of, taken_distance_of}
+use Rattle.ring_box.specs.Forces.{IsWithin, acting_distance_of, force_along_of, no_force, taken_distance_of}
 use Rattle.ring_box.proofs.ForceLemmas.{max_high, max_low}
-use Rattle.integrator.proofs.BoundLaws.{along_within}
+use Rattle.integrator.proofs.BoundLaws.{along_within, none_within, within-weaker}
 use Rattle.integrator.proofs.Constructors.{none_is_no_some, some_same}
-use Rattle.integrator.proofs.SumLemmas.{within-weaker}
-use Rattle.integrator.specs.Forces.{none, IsWithin}
-use Rattle.integrator.specs.Frames.{force_at, pair_force, places_of}
+use Rattle.integrator.specs.Frames.{Frame, force_at, pair_force, places_of}
 use Rattle.integrator.specs.Kernels.{is_small}
 use Rattle.engine.specs.SafeKernels.{IsAccepted, Potential, is_taken, minus, potential_of, safe_dynamics, slope_at}
 use Rattle.engine.specs.declared.safe_kernels.SafeKernel.{SafeKernel}
@@ -90,52 +90,49 @@ minus_is slope v e = rw e refl
 
 -- ---- the distance at which a pair acts
 
-in_range_at : (f : Frac) (ring : RingBox) (core cutoff : ℤ) (x y : List ℕ) (r : ℤ) (near : Bool) → core <ℤ cutoff → is_near f (square_of ring x y) cutoff ≡ near
-    → (if near then Some (taken_distance_of f ring core x y) else None) ≡ Some r → (core ≤ℤ r) × (r <ℤ cutoff)
-in_range_at f ring core cutoff x y r true h e s =
-    let d = pos (distance_at f (square_of ring x y)) in
-    rw (← some_same (taken_distance_of f ring core x y) r s) (max_low d core, max_high d core cutoff e h)
-in_range_at f ring core cutoff x y r false h e s = absurd (none_is_no_some r s)
+in_range_at : (f : Frac) (ring : RingBox) (core cutoff : ℤ) (p q : Place3) (r : ℤ) (near : Bool) → core <ℤ cutoff → is_near f (square_of ring p q) cutoff ≡ near
+    → (if near then Some (taken_distance_of f ring core p q) else None) ≡ Some r → (core ≤ℤ r) × (r <ℤ cutoff)
+in_range_at f ring core cutoff p q r true h e s =
+    let d = pos (distance_at f (square_of ring p q)) in
+    rw (← some_same (taken_distance_of f ring core p q) r s) (max_low d core, max_high d core cutoff e h)
+in_range_at f ring core cutoff p q r false h e s = absurd (none_is_no_some r s)
 
-pub in_range : (f : Frac) (ring : RingBox) (core cutoff : ℤ) (x y : List ℕ) (r : ℤ) → core <ℤ cutoff → acting_distance_of f ring core cutoff x y ≡ Some r → (core ≤ℤ r) × (r <ℤ cutoff)
-in_range f ring core cutoff x y r h e = in_range_at f ring core cutoff x y r (is_near f (square_of ring x y) cutoff) h refl e
+pub in_range : (f : Frac) (ring : RingBox) (core cutoff : ℤ) (p q : Place3) (r : ℤ) → core <ℤ cutoff → acting_distance_of f ring core cutoff p q ≡ Some r → (core ≤ℤ r) × (r <ℤ cutoff)
+in_range f ring core cutoff p q r h e = in_range_at f ring core cutoff p q r (is_near f (square_of ring p q) cutoff) h refl e
 
 -- ---- the force of a pair
 
-along : (ring : RingBox) (x y : List ℕ) (g : ℤ) (together : Bool) → (square_of ring x y == 0) ≡ together
-    → (if together then Some none else Some (force_along_of ring (neg_ℤ g) x y)) ≡ Some (force_along_of ring (neg_ℤ g) x y)
-along ring x y g true e = rw e refl
-along ring x y g false e = refl
+along : (ring : RingBox) (p q : Place3) (g : ℤ) (together : Bool) → (square_of ring p q == 0) ≡ together
+    → (if together then Some no_force else Some (force_along_of ring (neg_ℤ g) p q)) ≡ Some (force_along_of ring (neg_ℤ g) p q)
+along ring p q g true e = rw e refl
+along ring p q g false e = refl
 
-forced_at : (ring : RingBox) (slope : ℤ → Option ℤ) (r v : ℤ) (x y : List ℕ) → slope r ≡ Some v → force_at ring slope (Some r) x y ≡ Some (force_along_of ring (minus (slope r)) x y)
-forced_at ring slope r v x y e =
-    let same : force_at ring slope (Some r) x y ≡ (if square_of ring x y == 0 then Some none else Some (force_along_of ring (neg_ℤ v) x y)) = rw e refl in
-    same ∙ along ring x y v (square_of ring x y == 0) refl ∙ ap (λ g. Some (force_along_of ring g x y)) (minus_is (slope r) v e)
+forced_at : (ring : RingBox) (slope : ℤ → Option ℤ) (r v : ℤ) (p q : Place3) → slope r ≡ Some v → force_at ring slope (Some r) p q ≡ Some (force_along_of ring (minus (slope r)) p q)
+forced_at ring slope r v p q e =
+    let same : force_at ring slope (Some r) p q ≡ (if square_of ring p q == 0 then Some no_force else Some (force_along_of ring (neg_ℤ v) p q)) = rw e refl in
+    same ∙ along ring p q v (square_of ring p q == 0) refl ∙ ap (λ g. Some (force_along_of ring g p q)) (minus_is (slope r) v e)
 
 -- where the pair has a slope it has a force
-pub forced : (b : ℕ) (ring : RingBox) (slope : ℤ → Option ℤ) (o : Option ℤ) (x y : List ℕ) → ((r : ℤ) → o ≡ Some r → HasNumber b (slope r))
-    → force_at ring slope o x y ≡ Some (unwrap_or (option_map (λ r. force_along_of ring (minus (slope r)) x y) o) none)
-forced b ring slope None x y h = refl
-forced b ring slope (Some r) x y h = let s = h r refl in forced_at ring slope r s.v x y s.has
+pub forced : (b : ℕ) (ring : RingBox) (slope : ℤ → Option ℤ) (o : Option ℤ) (p q : Place3) → ((r : ℤ) → o ≡ Some r → HasNumber b (slope r))
+    → force_at ring slope o p q ≡ Some (unwrap_or (option_map (λ r. force_along_of ring (minus (slope r)) p q) o) no_force)
+forced b ring slope None p q h = refl
+forced b ring slope (Some r) p q h = let s = h r refl in forced_at ring slope r s.v p q s.has
 
 -- and no component of it passes the greatest slope
-pub forced_within : (b : ℕ) (ring : RingBox) (slope : ℤ → Option ℤ) (o : Option ℤ) (x y : List ℕ) → ((r : ℤ) → o ≡ Some r → HasNumber b (slope r))
-    → IfSome (option_map (λ r. force_along_of ring (minus (slope r)) x y) o) (IsWithin b)
-forced_within b ring slope None x y h = tt
-forced_within b ring slope (Some r) x y h =
+pub forced_within : (b : ℕ) (ring : RingBox) (slope : ℤ → Option ℤ) (o : Option ℤ) (p q : Place3) → ((r : ℤ) → o ≡ Some r → HasNumber b (slope r))
+    → IfSome (option_map (λ r. force_along_of ring (minus (slope r)) p q) o) (IsWithin b)
+forced_within b ring slope None p q h = tt
+forced_within b ring slope (Some r) p q h =
     let s = h r refl in
-    rw (← minus_is (slope r) s.v s.has) (along_within b ring s.v x y s.small)
+    rw (← minus_is (slope r) s.v s.has) (along_within b ring s.v p q s.small)
 
-none_within : (b : ℕ) → IsWithin b none
-none_within b = record { x = omega arith; y = omega arith; z = omega arith }
-
-within_or_none : (b : ℕ) (o : Option (List ℤ)) → IfSome o (IsWithin b) → IsWithin b (unwrap_or o none)
+within_or_none : (b : ℕ) (o : Option (Force ℤ)) → IfSome o (IsWithin b) → IsWithin b (unwrap_or o no_force)
 within_or_none b None h = none_within b
 within_or_none b (Some v) h = h
 
 -- a pair's force, with no component of a greater magnitude
-pub record HasForce (b : ℕ) (o : Option (List ℤ)) : Type 0 where
-  pub v : List ℤ
+pub record HasForce (b : ℕ) (o : Option (Force ℤ)) : Type 0 where
+  pub v : Force ℤ
   pub has : o ≡ Some v
   pub small : IsWithin b v
 
@@ -151,10 +148,10 @@ module _ {A : Type 0} (s : System (SafeKernel A) A) (accepted : IsAccepted s) wh
       let fits : b * (length s.masses.items - 1) < 2 ^ 63 = accepted.fits in
       omega arith
 
-  pub slopes : (i j : ℕ) → i < length s.types.items → j < length s.types.items → (x y : List ℕ) (r : ℤ) → acting_distance_of s.frac s.ring s.core s.cutoff x y ≡ Some r
+  pub slopes : (i j : ℕ) → i < length s.types.items → j < length s.types.items → (p q : Place3) (r : ℤ) → acting_distance_of s.frac s.ring s.core s.cutoff p q ≡ Some r
       → HasNumber s.kernel.verified.bound (slope_at (potential_of s.kernel) (slice_index s.types.items i) (slice_index s.types.items j) r)
-  slopes i j first second x y r e =
-      let range = in_range s.frac s.ring s.core s.cutoff x y r s.below_cutoff e in
+  slopes i j first second p q r e =
+      let range = in_range s.frac s.ring s.core s.cutoff p q r s.below_cutoff e in
       has_slope s.kernel (slice_index s.types.items i) (slice_index s.types.items j) r (accepted.known i 0 first) (accepted.known j 0 second) (rw accepted.core range.0) (rw accepted.cutoff range.1)
 
   pub takes : (i j : ℕ) → i < j → j < length s.types.items → (r : ℤ) → s.core ≤ℤ r → r <ℤ s.cutoff
@@ -163,19 +160,19 @@ module _ {A : Type 0} (s : System (SafeKernel A) A) (accepted : IsAccepted s) wh
       taken_from (potential_of s.kernel) (slice_index s.types.items i) (slice_index s.types.items j) r
       (record { bound = bound_fits i j apart below; first = accepted.known i 0 (omega arith); second = accepted.known j 0 below; low = rw accepted.core low; high = rw accepted.cutoff high })
 
-  pub has_force : (frame : List (List ℕ)) (i j : ℕ) → i < j → j < length s.types.items → HasForce s.kernel.verified.bound (pair_force (safe_dynamics s) frame (i, j))
+  pub has_force : (frame : Frame) (i j : ℕ) → i < j → j < length s.types.items → HasForce s.kernel.verified.bound (pair_force (safe_dynamics s) frame (i, j))
   has_force frame i j apart below =
-      let x = places_of frame i in
-      let y = places_of frame j in
+      let p = places_of frame i in
+      let q = places_of frame j in
       let slope = λ (r : ℤ). slope_at (potential_of s.kernel) (slice_index s.types.items i) (slice_index s.types.items j) r in
-      let o = acting_distance_of s.frac s.ring s.core s.cutoff x y in
-      let h = slopes i j (omega arith) below x y in
+      let o = acting_distance_of s.frac s.ring s.core s.cutoff p q in
+      let h = slopes i j (omega arith) below p q in
       record {
-        v = unwrap_or (option_map (λ r. force_along_of s.ring (minus (slope r)) x y) o) none;
-        has = forced s.kernel.verified.bound s.ring slope o x y h;
-        small = within_or_none s.kernel.verified.bound (option_map (λ r. force_along_of s.ring (minus (slope r)) x y) o) (forced_within s.kernel.verified.bound s.ring slope o x y h);
+        v = unwrap_or (option_map (λ r. force_along_of s.ring (minus (slope r)) p q) o) no_force;
+        has = forced s.kernel.verified.bound s.ring slope o p q h;
+        small = within_or_none s.kernel.verified.bound (option_map (λ r. force_along_of s.ring (minus (slope r)) p q) o) (forced_within s.kernel.verified.bound s.ring slope o p q h);
       }
 
-pub some_within : (b c : ℕ) (o : Option (List ℤ)) → b ≤ c → IfSome o (IsWithin b) → IfSome o (IsWithin c)
+pub some_within : (b c : ℕ) (o : Option (Force ℤ)) → b ≤ c → IfSome o (IsWithin b) → IfSome o (IsWithin c)
 some_within b c None h w = tt
-some_within b c (Some v) h w = within-weaker b c h v w
+some_within b c (Some v) h w = within-weaker b c h w

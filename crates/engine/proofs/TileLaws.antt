@@ -4,7 +4,7 @@ use Rattle.std.specs.Prelude.{IfSome, map, slice_get, option_map, nat_lt, ◌&&�
 use Rattle.std.specs.List.{All}
 use Rattle.std.proofs.lemmas.Bool.{and_parts, cases_eq, cases_lt, ltb-true}
 use Rattle.std.proofs.lemmas.Bool.Decides.{nat_tests}
-use Rattle.std.proofs.lemmas.List.{get_or-map, get_or_past, length-map}
+use Rattle.std.proofs.lemmas.List.{get_or-map, length-map}
 use Rattle.std.proofs.lemmas.List.Elements.{All-from_get_or}
 use Rattle.std.proofs.lemmas.Option.{slice_get-get_or}
 use Rattle.std.proofs.lemmas.List.Sums.{sum_by-append, sum_by-cons}
@@ -12,10 +12,14 @@ use Rattle.cell_tiles.specs.Cells.{IsGrid, members_of}
 use Rattle.cell_tiles.specs.Cover.{ArePairs, Covers, SumsAsAll, are_close, is_pair, is_same, times, times_in_all}
 use Rattle.cell_tiles.specs.Near as near
 use Rattle.cell_tiles.specs.Tiles.{pairs_in, tile_pairs, tiles_of}
+use Rattle.cell_tiles.proofs.CellLemmas.{are_places}
 use Rattle.cell_tiles.proofs.SumLemmas.{sums_as_all}
-use Rattle.ring_box.specs.Cells.{ArePlaces, NearAreNeighbours, are_neighbours}
+use Rattle.ring_box.specs.Cells.{NearAreNeighbours, are_neighbours}
 use Rattle.ring_box.specs.Distances.{is_near, square_of}
 use Rattle.ring_box.specs.Forces.{acting_distance_of, force_along_of, taken_distance_of}
+use Rattle.ring_box.specs.Places.{ArePlaces}
+use Rattle.ring_box.specs.declared.vectors.CellBits.{CellBits}
+use Rattle.ring_box.specs.declared.vectors.Force.{Force}
 use Rattle.tile_pool.specs.Totals.{AreTotals}
 use Rattle.tile_round.proofs.ExactLemmas.{comes_out}
 use Rattle.tile_round.specs.ExactSums.{PlanHasWords, TotalsComeOut}
@@ -24,11 +28,11 @@ use Rattle.tile_round.specs.Tiles as round
 use Rattle.tile_round.specs.declared.work.PairAdd.{PairAdd}
 use Rattle.integrator.proofs.Constructors.{none_is_no_some, some_same}
 use Rattle.integrator.specs.Forces.{pairs_from, pairs_of, pairs_with}
-use Rattle.integrator.specs.Frames.{pair_force, places_of}
+use Rattle.integrator.specs.Frames.{Frame, pair_force, places_of}
 use Rattle.integrator.specs.declared.systems.System.{System}
 use Rattle.engine.proofs.RoundLaws.{AddsForce, round_forces, weight}
 use Rattle.engine.proofs.SafeLaws.{bound_fits, forced, has_force, slopes}
-use Rattle.engine.specs.Rounds.{AreForces, acting_force, add_of, grid_of, plan_of}
+use Rattle.engine.specs.Rounds.{AreForces, acting_force, add_of, grid_of, pair_add, plan_of}
 use Rattle.engine.specs.Rows.{tile_at}
 use Rattle.engine.specs.SafeKernels.{IsAccepted, minus, potential_of, safe_dynamics, slope_at}
 use Rattle.engine.specs.declared.safe_kernels.SafeKernel.{SafeKernel}
@@ -188,7 +192,7 @@ counted_is m true e h = refl
 counted_is m false e h = absurd (omega arith)
 
 -- a pair of a tile is two atoms of the frame, the lower first
-pub is_listed_pair : (bits : List ℕ) (frame : List (List ℕ)) (t k : ℕ) (tile p : ℕ × ℕ) → Covers bits frame → slice_get (tiles_of bits) t ≡ Some tile
+pub is_listed_pair : (bits : CellBits) (frame : Frame) (t k : ℕ) (tile p : ℕ × ℕ) → Covers bits frame → slice_get (tiles_of bits) t ≡ Some tile
     → slice_get (pairs_in (members_of bits frame) tile) k ≡ Some p → (p.0 < p.1) × (p.1 < length frame)
 is_listed_pair bits frame t k tile p covers at_tile at_pair =
     let n = length frame in
@@ -199,38 +203,38 @@ is_listed_pair bits frame t k tile p covers at_tile at_pair =
     (ltb-true p.0 p.1 parts.0, ltb-true p.1 n parts.1)
 
 -- so is each of its pairs
-pub listed_pairs : (bits : List ℕ) (frame : List (List ℕ)) (t : ℕ) (tile : ℕ × ℕ) → Covers bits frame → slice_get (tiles_of bits) t ≡ Some tile → All (near.IsPairOf (length frame)) (pairs_in (members_of bits frame) tile)
+pub listed_pairs : (bits : CellBits) (frame : Frame) (t : ℕ) (tile : ℕ × ℕ) → Covers bits frame → slice_get (tiles_of bits) t ≡ Some tile → All (near.IsPairOf (length frame)) (pairs_in (members_of bits frame) tile)
 listed_pairs bits frame t tile covers e =
     let ps = pairs_in (members_of bits frame) tile in
     All-from_get_or (near.IsPairOf (length frame)) ps (0, 0) (λ k lt. is_listed_pair bits frame t k tile (get_or ps k (0, 0)) covers e (slice_get-get_or ps k (0, 0) lt))
 
 -- the pairs that a tile lists
-pub tile_listed : {A : Type 0} (s : System (SafeKernel A) A) (frame : List (List ℕ)) (t : ℕ) (tile : ℕ × ℕ) → slice_get (tiles_of (grid_of s)) t ≡ Some tile
+pub tile_listed : {A : Type 0} (s : System (SafeKernel A) A) (frame : Frame) (t : ℕ) (tile : ℕ × ℕ) → slice_get (tiles_of (grid_of s)) t ≡ Some tile
     → tile_at s frame t ≡ pairs_in (members_of (grid_of s) frame) tile
 tile_listed s frame t tile e =
     let m = members_of (grid_of s) frame in
     found_at (tile_pairs (grid_of s) frame) t (pairs_in m tile) [] (mapped_at (pairs_in m) (tiles_of (grid_of s)) t tile e)
 
 -- what is planned for a tile is as long as its list
-pub tile_size : {A : Type 0} (s : System (SafeKernel A) A) (frame : List (List ℕ)) (t : ℕ) → t < length (plan_of s frame) → length (pairs_at (plan_of s frame) t) ≡ length (tile_at s frame t)
+pub tile_size : {A : Type 0} (s : System (SafeKernel A) A) (frame : Frame) (t : ℕ) → t < length (plan_of s frame) → length (pairs_at (plan_of s frame) t) ≡ length (tile_at s frame t)
 tile_size s frame t lt =
     let add = λ (ps : List (ℕ × ℕ)). map (add_of s frame) ps in
     let inside : t < length (tile_pairs (grid_of s) frame) = omega (arith, length-map (tile_pairs (grid_of s) frame) add) in
     ap length (get_or-map add (tile_pairs (grid_of s) frame) t [] [] inside) ∙ length-map (tile_at s frame t) (add_of s frame)
 
-pub tile_planned : {A : Type 0} (s : System (SafeKernel A) A) (frame : List (List ℕ)) (t : ℕ) (tile : ℕ × ℕ) → slice_get (tiles_of (grid_of s)) t ≡ Some tile
+pub tile_planned : {A : Type 0} (s : System (SafeKernel A) A) (frame : Frame) (t : ℕ) (tile : ℕ × ℕ) → slice_get (tiles_of (grid_of s)) t ≡ Some tile
     → pairs_at (plan_of s frame) t ≡ map (add_of s frame) (pairs_in (members_of (grid_of s) frame) tile)
 tile_planned s frame t tile e =
     let m = members_of (grid_of s) frame in
     found_at (plan_of s frame) t (map (add_of s frame) (pairs_in m tile)) []
     (mapped_at (λ ps. map (add_of s frame) ps) (tile_pairs (grid_of s) frame) t (pairs_in m tile) (mapped_at (pairs_in m) (tiles_of (grid_of s)) t tile e))
 
-pub tile_length : {A : Type 0} (s : System (SafeKernel A) A) (frame : List (List ℕ)) (t : ℕ) (tile : ℕ × ℕ) → slice_get (tiles_of (grid_of s)) t ≡ Some tile
+pub tile_length : {A : Type 0} (s : System (SafeKernel A) A) (frame : Frame) (t : ℕ) (tile : ℕ × ℕ) → slice_get (tiles_of (grid_of s)) t ≡ Some tile
     → length (pairs_at (plan_of s frame) t) ≡ length (pairs_in (members_of (grid_of s) frame) tile)
 tile_length s frame t tile e = ap length (tile_planned s frame t tile e) ∙ length-map (pairs_in (members_of (grid_of s) frame) tile) (add_of s frame)
 
 -- where a tile has a pair there are two atoms, so that the negative of no slope passes 64 bits
-pub bound_by_pair : {A : Type 0} (s : System (SafeKernel A) A) (frame : List (List ℕ)) (t k : ℕ) → IsAccepted s → Covers (grid_of s) frame → length frame ≡ length s.types.items → t < length (plan_of s frame)
+pub bound_by_pair : {A : Type 0} (s : System (SafeKernel A) A) (frame : Frame) (t k : ℕ) → IsAccepted s → Covers (grid_of s) frame → length frame ≡ length s.types.items → t < length (plan_of s frame)
     → k < length (pairs_at (plan_of s frame) t) → s.kernel.verified.bound < 2 ^ 63
 bound_by_pair s frame t k accepted covers atoms at_tile at_pair =
     let m = members_of (grid_of s) frame in
@@ -243,37 +247,30 @@ bound_by_pair s frame t k accepted covers atoms at_tile at_pair =
     bound_fits s accepted p.0 p.1 pair.0 (omega (arith, pair.1, atoms))
 
 -- what a pair adds is a pair of atoms
-some_pair_of : (n : ℕ) (p : ℕ × ℕ) (o : Option (List ℤ)) → p.0 < p.1 → p.1 < n → IfSome (option_map {U = PairAdd} (λ v. record { low = p.0; high = p.1; force = v }) o) (IsPairOf n)
+some_pair_of : (n : ℕ) (p : ℕ × ℕ) (o : Option (Force ℤ)) → p.0 < p.1 → p.1 < n → IfSome (option_map (pair_add p.0 p.1) o) (IsPairOf n)
 some_pair_of n p None apart below = tt
 some_pair_of n p (Some v) apart below = record { ordered = apart; inside = below }
 
-pub add_is_of_pair : {A : Type 0} (s : System (SafeKernel A) A) (frame : List (List ℕ)) (p : ℕ × ℕ) → p.0 < p.1 → p.1 < length frame → IfSome (add_of s frame p) (IsPairOf (length frame))
+pub add_is_of_pair : {A : Type 0} (s : System (SafeKernel A) A) (frame : Frame) (p : ℕ × ℕ) → p.0 < p.1 → p.1 < length frame → IfSome (add_of s frame p) (IsPairOf (length frame))
 add_is_of_pair s frame p apart below = some_pair_of (length frame) p (acting_force s frame p) apart below
 
 -- ---- atoms that are not close add nothing
-
-places_at : (frame : List (List ℕ)) (a : ℕ) → All ArePlaces frame → ArePlaces (places_of frame a)
-places_at frame a h =
-    elim (cases_lt a (length frame)) [
-      | inl l ↦ h a [] l
-      | inr l ↦ rw (get_or_past frame a [] (omega arith)) (omega arith, omega arith, omega arith)
-    ]
 
 far_is_apart : (near close : Bool) → (near ≡ true → close ≡ true) → close ≡ false → near ≡ false
 far_is_apart true close h e = absurd (true_is_not_false (sym (h refl) ∙ e))
 far_is_apart false close h e = refl
 
-module _ {A : Type 0} (s : System (SafeKernel A) A) (frame : List (List ℕ)) where
+module _ {A : Type 0} (s : System (SafeKernel A) A) (frame : Frame) where
   -- atoms that aren't close aren't nearer than the cutoff
   pub far_apart : (p : ℕ × ℕ) → NearAreNeighbours s.frac s.ring s.cutoff (grid_of s) → All ArePlaces frame → are_close (grid_of s) frame p ≡ false
       → is_near s.frac (square_of s.ring (places_of frame p.0) (places_of frame p.1)) s.cutoff ≡ false
   far_apart p law places far =
       let x = places_of frame p.0 in
       let y = places_of frame p.1 in
-      far_is_apart (is_near s.frac (square_of s.ring x y) s.cutoff) (are_neighbours (grid_of s) x y) (law x y (places_at frame p.0 places) (places_at frame p.1 places)) far
+      far_is_apart (is_near s.frac (square_of s.ring x y) s.cutoff) (are_neighbours (grid_of s) x y) (law x y (are_places frame p.0 places) (are_places frame p.1 places)) far
 
   adds_nothing : (p : ℕ × ℕ) (near : Bool) → near ≡ false
-      → option_map {U = PairAdd} (λ v. record { low = p.0; high = p.1; force = v })
+      → option_map (pair_add p.0 p.1)
       (option_map (λ r. force_along_of s.ring (minus (slope_at (potential_of s.kernel) (slice_index s.types.items p.0) (slice_index s.types.items p.1) r)) (places_of frame p.0) (places_of frame p.1))
       (if near then Some (taken_distance_of s.frac s.ring s.core (places_of frame p.0) (places_of frame p.1)) else None))
       ≡ None
@@ -314,8 +311,8 @@ module _ {A : Type 0} (s : System (SafeKernel A) A) (frame : List (List ℕ)) wh
       )
 
 -- totals of a round over the pairs of the frame are its forces
-pub frame_summed : {A : Type 0} (s t : System (SafeKernel A) A) (frame f : List (List ℕ)) → t ≡ s → f ≡ frame → IsAccepted s → NearAreNeighbours s.frac s.ring s.cutoff (grid_of s) → IsGrid (grid_of s) → All ArePlaces frame
-    → length frame ≡ length s.types.items → (sums : List ℤ) → AreTotals (round.tiles_of (plan_of t f)) (length frame) sums → AreForces s frame sums
+pub frame_summed : {A : Type 0} (s t : System (SafeKernel A) A) (frame f : Frame) → t ≡ s → f ≡ frame → IsAccepted s → NearAreNeighbours s.frac s.ring s.cutoff (grid_of s) → IsGrid (grid_of s) → All ArePlaces frame
+    → length frame ≡ length s.types.items → (sums : List ℤ) → AreTotals (round.tiles_of (plan_of t f)) (length f) sums → AreForces s frame sums
 frame_summed s t frame f same_system same_frame accepted law grid places atoms sums totals =
     frame_round s frame accepted law places atoms (sums_as_all (grid_of s) frame grid places) (λ plan words atom axis axes fits. comes_out atom axis axes plan words fits) sums
-    (subst (λ x. AreTotals (round.tiles_of (plan_of s x)) (length frame) sums) same_frame (subst (λ y. AreTotals (round.tiles_of (plan_of y f)) (length frame) sums) same_system totals))
+    (subst (λ x. AreTotals (round.tiles_of (plan_of s x)) (length x) sums) same_frame (subst (λ y. AreTotals (round.tiles_of (plan_of y f)) (length f) sums) same_system totals))

@@ -5,8 +5,9 @@ use Rattle.std.specs.Option.{option_and_then}
 use Rattle.std.proofs.lemmas.Int.{ints}
 use Rattle.std.proofs.lemmas.List.{ext_get_or, length-map}
 use Rattle.state.specs.StateText.{AtomView, StateView}
-use Rattle.integrator.specs.Frames.{Dynamics, Frames, frame_forces, frames, moved_frame, next_frame, next_places, opposite, places_of, turn, turns}
-use Rattle.integrator.specs.Forces.{none}
+use Rattle.ring_box.specs.Forces.{no_force}
+use Rattle.ring_box.specs.declared.vectors.Force.{Force}
+use Rattle.integrator.specs.Frames.{Dynamics, Frame, Frames, frame_forces, frames, moved_frame, next_frame, next_places, opposite, places_of, turn, turns}
 use Rattle.fixed.specs.Arithmetic.{in_range}
 use Rattle.integrator.specs.States.{counter_at, frames_of, moved_state, nobody, placed, placed_atoms}
 use Rattle.integrator.specs.declared.direction.Direction.{Direction}
@@ -25,17 +26,17 @@ use Rattle.engine.proofs.HeadlineTexts.{frames_moved, get_or-placed, length-plac
 abbrev Sized : ℕ → Frames → Type 0
 Sized n f = (length f.previous ≡ n) × (length f.current ≡ n)
 
-moved_size : (d : Dynamics) (p c m : List (List ℕ)) (o : Option (List (List ℤ))) → option_map (moved_frame d p c) o ≡ Some m → length m ≡ length c
+moved_size : (d : Dynamics) (p c m : Frame) (o : Option (List (Force ℤ))) → option_map (moved_frame d p c) o ≡ Some m → length m ≡ length c
 moved_size d p c m None h = absurd (none_is_no_some m h)
 moved_size d p c m (Some forces) h =
     ap length (sym (some_same (moved_frame d p c forces) m h))
-    ∙ length-numbers (λ a. next_places d (slice_index d.masses a) (places_of p a) (places_of c a) (get_or forces a none)) 0 (length c)
+    ∙ length-numbers (λ a. next_places d (slice_index d.masses a) (places_of p a) (places_of c a) (get_or forces a no_force)) 0 (length c)
 
-step_sized : (d : Dynamics) (p c : List (List ℕ)) (g : Frames) (n : ℕ) (o : Option (List (List ℕ))) → length c ≡ n → next_frame d p c ≡ o → option_map (frames c) o ≡ Some g → Sized n g
+step_sized : (d : Dynamics) (p c : Frame) (g : Frames) (n : ℕ) (o : Option Frame) → length c ≡ n → next_frame d p c ≡ o → option_map (frames c) o ≡ Some g → Sized n g
 step_sized d p c g n None b e h = absurd (none_is_no_some g h)
 step_sized d p c g n (Some m) b e h = subst (Sized n) (some_same (frames c m) g h) (b, moved_size d p c m (frame_forces d c) e ∙ b)
 
-back_sized : (d : Dynamics) (p c : List (List ℕ)) (g : Frames) (n : ℕ) (o : Option (List (List ℕ))) → length p ≡ n → next_frame d c p ≡ o → option_map (λ n. frames n p) o ≡ Some g → Sized n g
+back_sized : (d : Dynamics) (p c : Frame) (g : Frames) (n : ℕ) (o : Option Frame) → length p ≡ n → next_frame d c p ≡ o → option_map (λ n. frames n p) o ≡ Some g → Sized n g
 back_sized d p c g n None a e h = absurd (none_is_no_some g h)
 back_sized d p c g n (Some m) a e h = subst (Sized n) (some_same (frames m p) g h) (moved_size d c p m (frame_forces d p) e ∙ a, a)
 
@@ -61,7 +62,7 @@ turns_add_at : (w : Direction) (d : Dynamics) (k m : ℕ) (o : Option Frames) �
 turns_add_at w d k m None more = refl
 turns_add_at w d k m (Some f) more = more f
 
-turns_add : (w : Direction) (d : Dynamics) (k m : ℕ) (f : Frames) → turns w d (k + m) f ≡ option_and_then (turns w d m) (turns w d k f)
+pub turns_add : (w : Direction) (d : Dynamics) (k m : ℕ) (f : Frames) → turns w d (k + m) f ≡ option_and_then (turns w d m) (turns w d k f)
 unfolding turns
 turns_add w d zero m f = ap (λ i. turns w d i f) (zero-add m)
 turns_add w d (suc k) m f =

@@ -1,11 +1,11 @@
 -- An engine of the program as what a contract sees of it.
-use Rattle.std.specs.Prelude.{◌≡◌, length}
-use Rattle.energy_program.specs.Programs.{program_tree}
+use Rattle.std.specs.Prelude.{◌≡◌, length, Ok}
+use Rattle.energy_program.specs.Programs.{program_tree, trees_of}
 use Rattle.job.specs.Views.{job_value}
 use Rattle.job.specs.declared.jobs.Job.{Job}
 use Rattle.state.specs.StateViews.{sides_view, state_view}
 use Rattle.state.specs.declared.states.State.{State}
-use Rattle.integrator.specs.Energies.{job_tree}
+use Rattle.integrator.specs.Energies.{job_program, job_tree}
 use Rattle.engine.specs.Engines.{EngineView}
 use Rattle.engine.specs.SafeKernels.{safe_dynamics}
 use Rattle.integrator.specs.Starts.{as_written, table_of}
@@ -19,6 +19,7 @@ engine_view j s y = record { job = job_value j; types = y.types.items; state = s
 pub record IsEngine {A : Type 0} (j : Job A) (s : State A) (y : System (SafeKernel A) A) : Type 0 where
   pub dynamics : safe_dynamics y ≡ as_written (job_value j) (sides_view s.ring) (job_tree (job_value j)) y.types.items
   pub energy : program_tree y.kernel.energy ≡ job_tree (job_value j)
+  pub program : job_program (job_value j) ≡ Ok (trees_of y.kernel.energy)
   pub atoms : length s.atoms.items ≡ length y.masses.items
   pub table : y.kernel.verified.table ≡ table_of (job_value j)
   pub parameters : y.kernel.energy.parameters ≡ length j.parameters.items

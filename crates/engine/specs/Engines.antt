@@ -1,5 +1,5 @@
 -- Engines: which jobs and states have one, and what its steps do.
-use Rattle.std.specs.Prelude.{◌≡◌, ℕ, ◌-◌, ◌<◌, ◌≤◌, ℤ, List, length, Some, None, Ok, Err}
+use Rattle.std.specs.Prelude.{◌≡◌, ℕ, ◌-◌, ◌≤◌, ℤ, List, length, Some, None, Ok, Err}
 use Rattle.energy_program.specs.Tree.{Tree}
 use Rattle.fallible.specs.Failures.{IfRefused}
 use Rattle.fallible.specs.Out.{Output}
@@ -114,9 +114,9 @@ AreStopped job state direction steps (step.Memory done) = (done ≤ steps - 1) �
 
 -- why the text of a run was not written, and what the output is left with: only a failed output is left with a beginning of the text
 abbrev pub IsRunUnwritten : {A : Type 0} → List ℕ → List ℕ → Direction → ℕ → Output → Output → RunFault A → Type 0
-IsRunUnwritten job state direction steps before after (run.Open failure) = IfRefused failure (HasNoEngineOfTexts job state) × (after.0 ≡ before.0)
-IsRunUnwritten job state direction steps before after (run.Steps f) = AreStopped job state direction steps f × (after.0 ≡ before.0)
-IsRunUnwritten job state direction steps before after (run.Out f) = AreSafe job state × WroteBeginning plain job state direction steps before.0 after.0 × (before.1 < after.1)
+IsRunUnwritten job state direction steps before after (run.Open failure) = IfRefused failure (HasNoEngineOfTexts job state) × (after ≡ before)
+IsRunUnwritten job state direction steps before after (run.Steps f) = AreStopped job state direction steps f × (after ≡ before)
+IsRunUnwritten job state direction steps before after (run.Out f) = AreSafe job state × WroteBeginning plain job state direction steps before after
 
 -- memory ran out, before the steps or after some of them, or the output failed
 abbrev pub Wants : {A : Type 0} → RunFault A → Type 0

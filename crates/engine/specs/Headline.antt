@@ -1,5 +1,5 @@
 -- The headline on one page: what a run from texts to a text is, in relations alone. It stands on the texts of jobs, energies and states (`IsJobText`, `IsEnergy`, `state_text`), on the table of slopes (`slope_of`), on the geometry of a periodic box, and on the step of one coordinate; on no reader, no fault, no code and no machine.
-use Rattle.std.specs.Prelude.{◌≡◌, ◌≤◌, ◌<◌, ℕ, suc, ◌*◌, ◌^◌, ℤ, pos, neg_ℤ, ◌+ℤ◌, ◌-ℤ◌, unsigned_abs, false, List, [], ◌∷◌, ◌++◌, length, map, slice_index, slice_index_or, Option, Some, None}
+use Rattle.std.specs.Prelude.{◌≡◌, ◌≤◌, ◌<◌, ℕ, suc, ◌*◌, ◌^◌, ℤ, pos, neg_ℤ, ◌+ℤ◌, ◌-ℤ◌, unsigned_abs, false, List, [], ◌∷◌, ◌++◌, length, map, slice_index, slice_index_or, Some, None}
 use Rattle.std.specs.List.{All}
 use Rattle.fixed.specs.Fractions.{bits_of}
 use Rattle.energy_program.specs.Names.{is_reserved, parameters_and_globals, variables_of}
@@ -9,12 +9,15 @@ use Rattle.derivative.specs.Slope.{slope_of}
 use Rattle.job.specs.JobText.{AreApart, IsJobText, limits}
 use Rattle.job.specs.Values.{JobValue, TypeValue}
 use Rattle.state.specs.StateText.{AtomView, IsState, StateView, state_text}
-use Rattle.fallible.specs.Out.{appended}
+use Rattle.fallible.specs.Out.{Output, Appends}
 use Rattle.ring_box.specs.Distances.{square_of}
-use Rattle.ring_box.specs.Forces.{acting_distance_of, force_along_of}
+use Rattle.ring_box.specs.Forces.{acting_distance_of, force_along_of, no_force}
+use Rattle.ring_box.specs.Places.{nowhere}
 use Rattle.ring_box.specs.declared.boxes.RingBox.{RingBox}
+use Rattle.ring_box.specs.declared.vectors.Force.{Force}
+use Rattle.ring_box.specs.declared.vectors.Place3.{Place3}
 use Rattle.integrator.specs.Displacement.{displacement_of, next_place_of}
-use Rattle.integrator.specs.Forces.{component, none, pairs_of, sum_of_shares}
+use Rattle.integrator.specs.Forces.{pairs_of, sum_of_shares}
 use Rattle.integrator.specs.declared.direction.Direction.{Direction}
 use Rattle.integrator.specs.declared.direction.Direction.TheVariants.{Back, Forward}
 
@@ -52,48 +55,48 @@ box_of sides = record { x = slice_index sides 0; y = slice_index sides 1; z = sl
 
 -- ---- the Levesque-Verlet rule (Levesque and Verlet 1993, J. Stat. Phys. 72, 519)
 
--- Under a job whose energy is the tree, in a box with these sides, for atoms of these types. A frame has three places for each atom.
+-- Under a job whose energy is the tree, in a box with these sides, for atoms of these types. A frame has the place of each atom.
 module _ (j : JobValue) (tree : Tree) (sides types : List ℕ) where
   -- What the variables stand for, for a pair of atoms at a distance: the distance, the parameters of the first, of the second, the globals.
   abbrev pub inputs : ℕ × ℕ → ℤ → List ℤ
   inputs p r = r ∷ ((type_at j (slice_index types p.0)).values ++ ((type_at j (slice_index types p.1)).values ++ map (λ g. g.value) j.globals))
 
-  -- v is the force of two atoms at x and y on the first of them: along the line through both, of the size of minus the slope of the energy at their distance, or at the core where that is more; none where the distance isn't below the cutoff, and none where both are at one place.
-  pub data IsPairForce (p : ℕ × ℕ) (x y : List ℕ) (v : List ℤ) : Type 0 where
-    far : acting_distance_of j.frac (box_of sides) j.core j.cutoff x y ≡ None → v ≡ none → IsPairForce p x y v
-    together : square_of (box_of sides) x y ≡ 0 → v ≡ none → IsPairForce p x y v
-    near : (r slope : ℤ) → acting_distance_of j.frac (box_of sides) j.core j.cutoff x y ≡ Some r → slope_of (bits_of j.frac) (inputs p r) tree ≡ Some slope
-        → v ≡ force_along_of (box_of sides) (neg_ℤ slope) x y → IsPairForce p x y v
+  -- v is the force of two atoms at a and b on the first of them: along the line through both, of the size of minus the slope of the energy at their distance, or at the core where that is more; none where the distance isn't below the cutoff, and none where both are at one place.
+  pub data IsPairForce (p : ℕ × ℕ) (a b : Place3) (v : Force ℤ) : Type 0 where
+    far : acting_distance_of j.frac (box_of sides) j.core j.cutoff a b ≡ None → v ≡ no_force → IsPairForce p a b v
+    together : square_of (box_of sides) a b ≡ 0 → v ≡ no_force → IsPairForce p a b v
+    near : (r slope : ℤ) → acting_distance_of j.frac (box_of sides) j.core j.cutoff a b ≡ Some r → slope_of (bits_of j.frac) (inputs p r) tree ≡ Some slope
+        → v ≡ force_along_of (box_of sides) (neg_ℤ slope) a b → IsPairForce p a b v
 
-  -- The places of an atom of the mass m that follow the places x and y, where it feels the force v at y: on each axis 2 y - x + d round the ring, with d the whole number of places that is nearest to what the force displaces it by.
-  abbrev pub next_of : ℕ → List ℕ → List ℕ → List ℤ → List ℕ
-  next_of m x y v =
-      next_place_of (slice_index x 0) (slice_index y 0) (displacement_of j.frac (component v 0) j.time_step m (box_of sides).x)
-      ∷ next_place_of (slice_index x 1) (slice_index y 1) (displacement_of j.frac (component v 1) j.time_step m (box_of sides).y)
-      ∷ next_place_of (slice_index x 2) (slice_index y 2) (displacement_of j.frac (component v 2) j.time_step m (box_of sides).z)
-      ∷ []
+  -- The place of an atom of the mass m that follows the places p and c, where it feels the force v at c: on each axis 2 c - p + d round the ring, with d the whole number of places that is nearest to what the force displaces it by.
+  abbrev pub next_of : ℕ → Place3 → Place3 → Force ℤ → Place3
+  next_of m p c v = record {
+    x = next_place_of p.x c.x (displacement_of j.frac v.x j.time_step m (box_of sides).x);
+    y = next_place_of p.y c.y (displacement_of j.frac v.y j.time_step m (box_of sides).y);
+    z = next_place_of p.z c.z (displacement_of j.frac v.z j.time_step m (box_of sides).z);
+  }
 
   -- The frame n follows the frames p and c: each pair of atoms i < k has a force at c, and each atom moves on by the exact sum of its shares over all pairs, the pair's force on the atom i and its negative on k.
-  pub record Follows (p c n : List (List ℕ)) : Type 0 where
-    pub force : ℕ × ℕ → List ℤ
-    pub forces : All (λ q. IsPairForce q (slice_index_or c q.0 []) (slice_index_or c q.1 []) (force q)) (pairs_of (length c))
+  pub record Follows (p c n : List Place3) : Type 0 where
+    pub force : ℕ × ℕ → Force ℤ
+    pub forces : All (λ q. IsPairForce q (slice_index_or c q.0 nowhere) (slice_index_or c q.1 nowhere) (force q)) (pairs_of (length c))
     pub atoms : length n ≡ length c
     pub moved : (a : ℕ) → a < length c
-        → slice_index_or n a [] ≡ next_of (slice_index (map (λ t. (type_at j t).mass) types) a) (slice_index_or p a []) (slice_index_or c a []) (sum_of_shares force (pairs_of (length c)) a)
+        → slice_index_or n a nowhere ≡ next_of (slice_index (map (λ t. (type_at j t).mass) types) a) (slice_index_or p a nowhere) (slice_index_or c a nowhere) (sum_of_shares force (pairs_of (length c)) a)
 
   -- n steps lead from the frames p, c to the frames q, e: of n + 2 frames, p and c the first two and q and e the last two, each but the first two follows the two before it.
-  pub record Lead (n : ℕ) (p c q e : List (List ℕ)) : Type 0 where
-    pub frame : ℕ → List (List ℕ)
+  pub record Lead (n : ℕ) (p c q e : List Place3) : Type 0 where
+    pub frame : ℕ → List Place3
     pub begins : (frame 0 ≡ p) × (frame 1 ≡ c)
     pub steps : (k : ℕ) → k < n → Follows (frame k) (frame (suc k)) (frame (suc (suc k)))
     pub ends : (frame n ≡ q) × (frame (suc n) ≡ e)
 
 -- ---- runs
 
-abbrev pub previous : StateView → List (List ℕ)
+abbrev pub previous : StateView → List Place3
 previous s = map (λ a. a.previous) s.atoms
 
-abbrev pub current : StateView → List (List ℕ)
+abbrev pub current : StateView → List Place3
 current s = map (λ a. a.current) s.atoms
 
 -- n steps in a direction lead from a state's two frames to another's, and its counter as far: back is forward with the frames exchanged.
@@ -125,8 +128,8 @@ pub record IsLevesqueVerletRun (job state : List ℕ) (direction : Direction) (n
   pub kept : map who after.atoms ≡ map who before.atoms
 
 -- An output took all of that text, which is the only one.
-pub record WroteLevesqueVerletRun (job state : List ℕ) (direction : Direction) (n : ℕ) (taken_before taken_after : Option (List ℕ)) : Type 0 where
+pub record WroteLevesqueVerletRun (job state : List ℕ) (direction : Direction) (n : ℕ) (output_before output_after : Output) : Type 0 where
   pub text : List ℕ
   pub run : IsLevesqueVerletRun job state direction n text
   pub only : (other : List ℕ) → IsLevesqueVerletRun job state direction n other → other ≡ text
-  pub appended' : taken_after ≡ appended taken_before text
+  pub appends : Appends output_before output_after text

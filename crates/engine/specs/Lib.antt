@@ -10,3 +10,4 @@ pub mod SafeEnergies
 pub mod Rounds
 pub mod Rows
 pub mod Tilings
+pub mod Courses

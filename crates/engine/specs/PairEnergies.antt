@@ -2,22 +2,21 @@
 use Rattle.std.specs.Prelude.{◌≡◌, ℕ, ℤ, pos, ◌+ℤ◌, List, [], ◌∷◌, length, Option, Some, None, Result, Ok, Err, option_map}
 use Rattle.fixed.specs.Fractions.{bits_of}
 use Rattle.energy_program.specs.Programs.{Trees}
-use Rattle.energy_program.specs.Tree.{substituted}
 use Rattle.energy_program.specs.Value.{value_of}
 use Rattle.energy_program.specs.Faults as energy
 use Rattle.kernel_code.specs.declared.instructions.Instr.{Instr}
 use Rattle.kernel_compiler.specs.Code.{compiled}
 use Rattle.ring_box.specs.Forces.{acting_distance_of}
-use Rattle.integrator.specs.Energies.{job_tree}
+use Rattle.integrator.specs.Energies.{job_program, job_tree}
 use Rattle.engine.specs.Engines.{EngineView, engine_dynamics, IsEngineOfTexts}
 use Rattle.integrator.specs.Forces.{pairs_of}
-use Rattle.integrator.specs.Frames.{Dynamics, places_of}
+use Rattle.integrator.specs.Frames.{Dynamics, Frame, places_of}
 use Rattle.integrator.specs.Starts.{pair_inputs}
 use Rattle.integrator.specs.States.{current_frame}
 use Rattle.engine.specs.Verdicts.{IsRefused}
 use Rattle.engine.specs.declared.faults.EnergyFault.{EnergyFault}
 use Rattle.engine.specs.declared.faults.EnergyFault.TheVariants as fault
-use Rattle.integrator.specs.declared.kernel_refusals.KernelRefusal.{KernelRefusal}
+use Rattle.engine.specs.declared.kernel_refusals.KernelRefusal.{KernelRefusal}
 
 -- the energy at the distance at which a pair acts, and 0 where it doesn't
 abbrev pub energy_at : (ℤ → Option ℤ) → Option ℤ → Option ℤ
@@ -25,7 +24,7 @@ energy_at value None = Some (pos 0)
 energy_at value (Some r) = value r
 
 -- the energy of a pair, where `value` is that of two atoms at a distance
-abbrev pub pair_energy : Dynamics → (ℕ × ℕ → ℤ → Option ℤ) → List (List ℕ) → ℕ × ℕ → Option ℤ
+abbrev pub pair_energy : Dynamics → (ℕ × ℕ → ℤ → Option ℤ) → Frame → ℕ × ℕ → Option ℤ
 pair_energy d value frame p =
     energy_at (value p) (acting_distance_of d.frac d.ring d.core d.cutoff (places_of frame p.0) (places_of frame p.1))
 
@@ -48,10 +47,10 @@ engine_value e p r = value_of (bits_of e.job.frac) (pair_inputs e.job e.types p 
 abbrev pub IsEnergy : EngineView → ℤ → Type 0
 IsEnergy e z = energy_sum (pair_energy (engine_dynamics e) (engine_value e) (current_frame e.state.atoms)) (pairs_of (length e.state.atoms)) ≡ Some z
 
--- what is said of the code of its energy
+-- what is said of the code of its energy: that of the program of its job's text
 pub record OfEnergy (e : EngineView) (holds : Result (List Instr) energy.Refusal → Type 0) : Type 0 where
   pub program : Trees
-  pub its : substituted program.0 program.1 ≡ job_tree e.job
+  pub its : job_program e.job ≡ Ok program
   pub it : holds (compiled (bits_of e.job.frac) program.0 program.1)
 
 -- the code is refused so

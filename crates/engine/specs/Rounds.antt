@@ -3,39 +3,46 @@ use Rattle.std.specs.Prelude.{◌≡◌, ℕ, ◌+◌, ◌*◌, ℤ, List, [], �
 use Rattle.cell_tiles.specs.Tiles.{tile_pairs}
 use Rattle.ring_box.specs.Cells.{cell_bits_of}
 use Rattle.ring_box.specs.Forces.{pair_force_of}
+use Rattle.ring_box.specs.declared.vectors.CellBits.{CellBits}
+use Rattle.ring_box.specs.declared.vectors.Force.{Force}
+use Rattle.tile_round.specs.Tiles.{component}
 use Rattle.tile_round.specs.declared.work.PairAdd.{PairAdd}
-use Rattle.integrator.specs.Forces.{component, numbers_from}
-use Rattle.integrator.specs.Frames.{frame_forces, places_of}
+use Rattle.integrator.specs.Forces.{numbers_from}
+use Rattle.integrator.specs.Frames.{Frame, frame_forces, places_of}
 use Rattle.integrator.specs.declared.systems.System.{System}
 use Rattle.engine.specs.SafeKernels.{minus, potential_of, safe_dynamics, slope_at}
 use Rattle.engine.specs.declared.safe_kernels.SafeKernel.{SafeKernel}
 
+-- what a pair of atoms adds that has this force
+abbrev pub pair_add : ℕ → ℕ → Force ℤ → PairAdd
+pair_add low high f = record { low = low; high = high; force = f.x ∷ f.y ∷ f.z ∷ [] }
+
 module _ {A : Type 0} (s : System (SafeKernel A) A) where
   -- into how many cells each side is cut
-  abbrev pub grid_of : List ℕ
+  abbrev pub grid_of : CellBits
   grid_of = cell_bits_of s.frac s.ring s.cutoff
 
   -- the force on the lower atom of a pair; none where the pair doesn't act
-  abbrev pub acting_force : List (List ℕ) → ℕ × ℕ → Option (List ℤ)
+  abbrev pub acting_force : Frame → ℕ × ℕ → Option (Force ℤ)
   acting_force frame p =
       pair_force_of s.frac s.ring (λ r. minus (slope_at (potential_of s.kernel) (slice_index s.types.items p.0) (slice_index s.types.items p.1) r))
       s.core s.cutoff (places_of frame p.0) (places_of frame p.1)
 
   -- what a pair adds
-  abbrev pub add_of : List (List ℕ) → ℕ × ℕ → Option PairAdd
-  add_of frame p = option_map (λ v. record { low = p.0; high = p.1; force = v }) (acting_force frame p)
+  abbrev pub add_of : Frame → ℕ × ℕ → Option PairAdd
+  add_of frame p = option_map (pair_add p.0 p.1) (acting_force frame p)
 
   -- what the pairs of each tile add
-  abbrev pub plan_of : List (List ℕ) → List (List (Option PairAdd))
+  abbrev pub plan_of : Frame → List (List (Option PairAdd))
   plan_of frame = map (λ ps. map (add_of frame) ps) (tile_pairs grid_of frame)
 
 -- the sums of a round, three for each atom, as a force for each
-abbrev pub forces_in : List ℤ → ℕ → List ℤ
-forces_in sums a = component sums (3 * a) ∷ component sums (3 * a + 1) ∷ component sums (3 * a + 2) ∷ []
+abbrev pub forces_in : List ℤ → ℕ → Force ℤ
+forces_in sums a = record { x = component sums (3 * a); y = component sums (3 * a + 1); z = component sums (3 * a + 2) }
 
-abbrev pub forces_from : List ℤ → ℕ → List (List ℤ)
+abbrev pub forces_from : List ℤ → ℕ → List (Force ℤ)
 forces_from sums n = map (forces_in sums) (numbers_from 0 n)
 
 -- the sums are the forces on the atoms of the frame
-abbrev pub AreForces : {A : Type 0} → System (SafeKernel A) A → List (List ℕ) → List ℤ → Type 0
+abbrev pub AreForces : {A : Type 0} → System (SafeKernel A) A → Frame → List ℤ → Type 0
 AreForces s frame sums = (length sums ≡ 3 * length frame) × (frame_forces (safe_dynamics s) frame ≡ Some (forces_from sums (length frame)))

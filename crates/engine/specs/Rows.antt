@@ -6,9 +6,9 @@ use Rattle.kernel_lanes.specs.Flats.{ask_at}
 use Rattle.ring_box.specs.Acting.{Reach, acting_of, force_of}
 use Rattle.tile_round.specs.Tiles.{acting}
 use Rattle.tile_round.specs.declared.work.PairAdd.{PairAdd}
-use Rattle.integrator.specs.Frames.{places_of}
+use Rattle.integrator.specs.Frames.{Frame, places_of}
 use Rattle.integrator.specs.declared.systems.System.{System}
-use Rattle.engine.specs.Rounds.{grid_of}
+use Rattle.engine.specs.Rounds.{grid_of, pair_add}
 use Rattle.engine.specs.SafeKernels.{minus, potential_of, slope_at}
 use Rattle.engine.specs.declared.rows.FoundPair.{FoundPair}
 use Rattle.engine.specs.declared.safe_kernels.SafeKernel.{SafeKernel}
@@ -19,7 +19,7 @@ module _ {A : Type 0} (s : System (SafeKernel A) A) where
   reach_of = record { frac = s.frac; core = s.core; cutoff = s.cutoff }
 
   -- a pair with what its atoms have between them; none where it doesn't act
-  abbrev pub found_of : List (List ℕ) → ℕ × ℕ → Option FoundPair
+  abbrev pub found_of : Frame → ℕ × ℕ → Option FoundPair
   found_of frame p = option_map (λ a. record { low = p.0; high = p.1; acting = a }) (acting_of reach_of s.ring (places_of frame p.0) (places_of frame p.1))
 
   -- its atoms are two of so many, the lower first, and its force is taken within reach
@@ -30,11 +30,11 @@ module _ {A : Type 0} (s : System (SafeKernel A) A) where
     pub cutoff : f.acting.distance <ℤ s.cutoff
 
   -- the pairs of a tile of the frame
-  abbrev pub tile_at : List (List ℕ) → ℕ → List (ℕ × ℕ)
+  abbrev pub tile_at : Frame → ℕ → List (ℕ × ℕ)
   tile_at frame t = slice_index_or (tile_pairs (grid_of s) frame) t []
 
   -- the pairs found before the number n are those before k, and then these
-  pub record AreNextFound (frame : List (List ℕ)) (pairs : List (ℕ × ℕ)) (k : ℕ) (found : List FoundPair) (n : ℕ) : Type 0 where
+  pub record AreNextFound (frame : Frame) (pairs : List (ℕ × ℕ)) (k : ℕ) (found : List FoundPair) (n : ℕ) : Type 0 where
     pub onward : k < n
     pub within : n ≤ length pairs
     pub acting : acting (map (found_of frame) (take n pairs)) ≡ acting (map (found_of frame) (take k pairs)) ++ found
@@ -58,4 +58,4 @@ module _ {A : Type 0} (s : System (SafeKernel A) A) where
 
   -- what a pair adds
   abbrev pub add_found : FoundPair → PairAdd
-  add_found f = record { low = f.low; high = f.high; force = force_of f.acting (minus_slope_for (ask_of f)) }
+  add_found f = pair_add f.low f.high (force_of f.acting (minus_slope_for (ask_of f)))

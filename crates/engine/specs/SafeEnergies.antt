@@ -6,6 +6,7 @@ use Rattle.energy_program.specs.Value.{value_of}
 use Rattle.kernel_code.specs.Tables.{inputs_of}
 use Rattle.kernel_lanes.specs.Flats.{ask_at}
 use Rattle.kernel_lanes.specs.declared.asks.Ask.{Ask}
+use Rattle.integrator.specs.Frames.{Frame}
 use Rattle.integrator.specs.Kernels.{is_small}
 use Rattle.engine.specs.PairEnergies.{pair_energy}
 use Rattle.engine.specs.Rows.{ask_of}
@@ -38,5 +39,5 @@ module _ {A : Type 0} (s : System (SafeKernel A) A) where
   found_energy f = unwrap_or (energy_at_types (ask_of s f).a (ask_of s f).b (ask_of s f).r) (pos 0)
 
   -- the energy of a pair of a frame
-  abbrev pub energy_between : List (List ℕ) → ℕ × ℕ → ℤ
+  abbrev pub energy_between : Frame → ℕ × ℕ → ℤ
   energy_between frame p = unwrap_or (pair_energy (safe_dynamics s) safe_value frame p) (pos 0)

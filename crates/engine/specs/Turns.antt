@@ -1,7 +1,12 @@
--- Steps of an engine, one after the other and back; runs from safe texts.
-use Rattle.std.specs.Prelude.{ℕ, List, ◌+◌}
+-- Steps of an engine, one after the other and back; runs from safe texts; runs and the headline's page.
+use Rattle.std.specs.Prelude.{◌≡◌, ℕ, List, ◌+◌, Ok}
+use Rattle.job.specs.JobText.{limits, reading_of}
+use Rattle.job.specs.Values.{JobValue}
 use Rattle.state.specs.StateText.{IsState}
+use Rattle.integrator.specs.Energies.{Energy, energy_of}
 use Rattle.integrator.specs.Frames.{opposite}
+use Rattle.integrator.specs.Runs.{IsRun}
+use Rattle.integrator.specs.Starts.{plain}
 use Rattle.integrator.specs.declared.direction.Direction.{Direction}
 use Rattle.engine.specs.Engines.{AreSafe, EngineView, Went}
 use Rattle.engine.specs.Headline.{IsLevesqueVerletRun}
@@ -17,3 +22,13 @@ StepsReturn = (direction : Direction) (n : ℕ) (before after : EngineView) → 
 -- what a run writes is safe under its job where what it began with is: the code is certified for the way on, and for the way back
 abbrev pub RunsStaySafe : Type 0
 RunsStaySafe = (job state : List ℕ) (direction : Direction) (n : ℕ) (text : List ℕ) → IsLevesqueVerletRun job state direction n text → AreSafe job state → AreSafe job text
+
+-- What a run of the model writes, the headline's page relates to its texts, and nothing else, whether or not the verifier accepts their code.
+abbrev pub RunsAreTold : Type 0
+RunsAreTold = (job state : List ℕ) (direction : Direction) (n : ℕ) (text : List ℕ) → IsRun plain job state direction n text
+    → IsLevesqueVerletRun job state direction n text × ((other : List ℕ) → IsLevesqueVerletRun job state direction n other → other ≡ text)
+
+-- And what the page relates to texts, a run of the model writes, where the slope of the job's energy has a program and code: those of a slope that is too large have none.
+abbrev pub ToldAreRun : Type 0
+ToldAreRun = (job state : List ℕ) (direction : Direction) (n : ℕ) (text : List ℕ) (j : JobValue) (energy : Energy) → reading_of limits job ≡ Ok j → energy_of j ≡ Ok energy
+    → IsLevesqueVerletRun job state direction n text → IsRun plain job state direction n text

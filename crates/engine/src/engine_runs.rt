@@ -1,6 +1,6 @@
 //! Runs from bytes to bytes on an engine.
 
-ghost use Rattle.std.specs.Prelude.{◌≡◌, ◌<◌, ◌≤◌, ◌-◌, ◌^◌, IfOk, OnOk, IfErr, ℕ, List};
+ghost use Rattle.std.specs.Prelude.{◌<◌, ◌≤◌, ◌-◌, ◌^◌, IfOk, OnOk, IfErr, ℕ, List};
 ghost use Rattle.fallible.specs.Failures.{IfRefused};
 ghost use Rattle.engine.specs.Engines.{AreSafe, HasNoEngineOfTexts, IsEngineOfTexts, IsRunUnwritten, Wants};
 ghost use Rattle.integrator.specs.Frames.{opposite};
@@ -68,16 +68,15 @@ pub fn run_bytes<R: Threads + Sync, A: Allocator + Copy + Send + Sync, O: Out>(
 ) -> Result<(), RunFault<A>>
     requires some { 0 < workers }
     requires few { workers ≤ 64 }
-    requires count { O.failed out.old < 2 ^ 64 - 1 }
+    requires count { (O.output out.old).failed < 2 ^ 64 - 1 }
     // No instruction of the slope's code goes wrong, and no pair takes more of them than the certified number.
     ensures safe { OnOk result (AreSafe job.now state.now) }
     // The text of the state after the steps is written: by relations between texts, on one page.
-    ensures told { OnOk result (WroteLevesqueVerletRun job.now state.now direction steps (O.taken out.old) (O.taken out.new)) }
+    ensures told { OnOk result (WroteLevesqueVerletRun job.now state.now direction steps (O.output out.old) (O.output out.new)) }
     // The same by the definitions that the readers and the steps are proved against.
-    ensures ran { OnOk result (Wrote plain job.now state.now direction steps (O.taken out.old) (O.taken out.new)) }
-    ensures kept { OnOk result (O.failed out.new ≡ O.failed out.old) }
+    ensures ran { OnOk result (Wrote plain job.now state.now direction steps (O.output out.old) (O.output out.new)) }
     // Why it is not: only a failed output is left with a beginning of it.
-    ensures refused { IfErr result (IsRunUnwritten job.now state.now direction steps (O.taken out.old, O.failed out.old) (O.taken out.new, O.failed out.new)) }
+    ensures refused { IfErr result (IsRunUnwritten job.now state.now direction steps (O.output out.old) (O.output out.new)) }
     // Where there is such a text and the code is accepted, no other refusal is left but want of memory and a failed output.
     ensures only { (text : List ℕ) → IsRun plain job.now state.now direction steps text → AreSafe job.now state.now → IfErr result Wants }
     // So many steps the other way over the written text give the starting text.

@@ -2,25 +2,24 @@
 
 ghost use Rattle.std.specs.Prelude.{◌≡◌, ◌<◌, ◌≤◌, ◌-◌, ◌*◌, ◌^◌, nat_lt, length, map, Ok, Some, is_none, false, IfOk, IfErr};
 ghost use Rattle.std.specs.List.{All};
-ghost use Rattle.energy_program.specs.Programs.{program_tree};
+ghost use Rattle.energy_program.specs.Programs.{program_tree, trees_of};
 ghost use Rattle.fallible.specs.Failures.{IfRefused};
 ghost use Rattle.job.specs.Views.{job_value, type_value};
-ghost use Rattle.integrator.specs.Energies.{job_tree};
+ghost use Rattle.integrator.specs.Energies.{job_program, job_tree};
 ghost use Rattle.ring_box.specs.Cells.{HasCells};
 ghost use Rattle.state.specs.StateViews.{state_view};
 ghost use Rattle.engine.specs.Engines.{engine_dynamics, HasNoEngine, IsEngineOf, SaysOnly, Stopped, Went};
 ghost use Rattle.engine.specs.EngineViews.{IsEngine, engine_view};
 ghost use Rattle.engine.specs.PairEnergies.{HasNoEnergy, IsEnergy};
-ghost use Rattle.engine.specs.Tilings.{frames_along};
-ghost use Rattle.integrator.specs.Frames.{turns};
+ghost use Rattle.integrator.specs.Frames.{frames, turns};
 ghost use Rattle.integrator.specs.Starts.{mass_of, table_of};
 ghost use Rattle.integrator.specs.States.{counter_after, frames_of};
 ghost use Rattle.integrator.specs.declared.direction.Direction.TheVariants.{Back, Forward};
-ghost use Rattle.integrator.specs.declared.faults.StepFault.TheVariants.{Memory};
 
 use crate::faults::{EnergyFault, EngineFault};
-use crate::frame_steps::{Course, LastFrames, Tiling};
-use crate::pools::{NoGate, Pool};
+use crate::frame_steps::at_start;
+use crate::frame_sums::{Desk, Tiling};
+use crate::pools::{Crew, NoGate, Pool};
 use crate::rows::{Scratch, scratches};
 use crate::safe_energies::SafeEnergy;
 use crate::safe_kernels::SafeKernel;
@@ -28,12 +27,12 @@ use crate::safe_systems::SafeSystem;
 use crate::verdicts::{safe_kernel, verdict};
 use fallible::Failure;
 use integrator::{
-    Direction, StepFault, System, TypedAtoms, advance, counter_after, current_frame, ready,
+    Direction, StepFault, System, Turned, TypedAtoms, advance, counter_after, current_frame, ready,
 };
 use job::Job;
 use kernel_compiler::compile;
 use state::State;
-use std::alloc::{AllocError, Allocator};
+use std::alloc::Allocator;
 use std::marker::Model;
 use std::thread::Threads;
 use tile_pool::Gate;
@@ -80,6 +79,7 @@ fn motion<A: Allocator>(
     atoms: TypedAtoms<A>,
 ) -> SafeSystem<A>
     requires energy { program_tree kernel.energy ≡ job_tree (job_value job.now) }
+    requires program { job_program (job_value job.now) ≡ Ok (trees_of kernel.energy) }
     requires parameters { kernel.energy.parameters ≡ length job.now.parameters.items }
     requires globals { kernel.energy.globals ≡ length job.now.globals.items }
     requires table { kernel.verified.table ≡ table_of (job_value job.now) }
@@ -130,17 +130,6 @@ fn job_motion<A: Allocator + Copy>(
         return Err(Failure::Refused(EngineFault::ForceRange));
     }
     Ok(motion(job, state, kernel, ready.atoms))
-}
-
-/// What steps want before the first: `Memory` after no step where a growth was refused.
-fn at_start<T: Drop>(made: Result<T, AllocError>) -> Result<T, StepFault>
-    ensures ok { IfOk result (λ wanted. made ≡ Ok wanted) }
-    ensures refused { IfErr result (λ fault. fault ≡ Memory 0) }
-{
-    match made {
-        Ok(wanted) => Ok(wanted),
-        Err(_) => Err(StepFault::Memory { done: 0 }),
-    }
 }
 
 impl<A: Allocator + Copy> Engine<A> {
@@ -220,20 +209,20 @@ impl<A: Allocator + Copy> Engine<A> {
         direction: Direction,
         steps: u64,
         done: u64,
-        course: LastFrames<A>,
+        turned: Turned<A>,
     ) -> Result<(), StepFault>
-        requires before { length course.before.items ≡ length self.old.state.atoms }
-        requires middle { length course.middle.items ≡ length self.old.state.atoms }
+        requires previous { length turned.previous.items ≡ length self.old.state.atoms }
+        requires current { length turned.current.items ≡ length self.old.state.atoms }
         requires fits { is_none (counter_after direction self.old.state.step steps) ≡ false }
         requires few { done ≤ steps }
-        requires turned { turns direction (engine_dynamics self.old) done (frames_of self.old.state) ≡ Some (frames_along direction course.before.items course.middle.items) }
+        requires turned { turns direction (engine_dynamics self.old) done (frames_of self.old.state) ≡ Some (frames turned.previous.items turned.current.items) }
         ensures went { IfOk result (λ _. Went direction steps self.old self.new) }
         ensures stopped { IfErr result (Stopped direction steps self.old self.new) }
     {
         let Some(counter) = counter_after(direction, &self.state, done) else {
             unreachable!()
         };
-        advance(&mut self.state, &course.turned(direction), counter);
+        advance(&mut self.state, &turned, counter);
         if done < steps {
             return Err(StepFault::Memory { done });
         }
@@ -246,20 +235,17 @@ impl<A: Allocator + Copy> Engine<A> {
         ensures stopped { IfErr result (Stopped direction steps self.old self.new) }
     {
         let kept = self.tiling.take();
-        let mut course = self
+        let alloc = self.alloc;
+        let (mut course, tiling) = self
             .motion
-            .course(self.alloc, direction, &self.state, steps, kept)?;
-        let mut scratch = at_start(Scratch::new(self.alloc))?;
-        let done = self
-            .motion
-            .turns_alone(self.alloc, steps, &mut course, &mut scratch);
-        let Course {
-            before,
-            middle,
-            tiling,
-        } = course;
+            .course(alloc, direction, &self.state, steps, kept)?;
+        let scratch = at_start(Scratch::new(alloc))?;
+        let mut desk = Desk { tiling, scratch };
+        let done = course.turns_alone(alloc, steps, &mut desk);
+        let turned = course.turned(direction);
+        let Desk { tiling, .. } = desk;
         self.tiling = Some(tiling);
-        self.arrive(direction, steps, done, LastFrames { before, middle })
+        self.arrive(direction, steps, done, turned)
     }
 
     /// So many steps forward, on one thread, at most 1,000,000,000,000: Levesque and Verlet's (J. Stat. Phys. 72, 519,
@@ -303,25 +289,21 @@ impl<A: Allocator + Copy + Send + Sync> Engine<A> {
         ensures stopped { IfErr result (Stopped direction steps self.old self.new) }
     {
         let kept = self.tiling.take();
-        let mut course = self
+        let alloc = self.alloc;
+        let (mut course, tiling) = self
             .motion
-            .course(self.alloc, direction, &self.state, steps, kept)?;
-        let mut scratches = at_start(scratches(self.alloc, workers))?;
-        let pool = Pool { rt, gate };
-        let done = self.motion.turns_pooled(
-            self.alloc,
-            &pool,
-            steps,
-            &mut course,
-            scratches.as_mut_slice(),
-        );
-        let Course {
-            before,
-            middle,
+            .course(alloc, direction, &self.state, steps, kept)?;
+        let scratches = at_start(scratches(alloc, workers))?;
+        let mut desk = Desk {
             tiling,
-        } = course;
+            scratch: Crew { scratches },
+        };
+        let pool = Pool { rt, gate };
+        let done = course.turns_pooled(alloc, &pool, steps, &mut desk);
+        let turned = course.turned(direction);
+        let Desk { tiling, .. } = desk;
         self.tiling = Some(tiling);
-        self.arrive(direction, steps, done, LastFrames { before, middle })
+        self.arrive(direction, steps, done, turned)
     }
 
     /// So many steps in a direction by so many workers, 1 to 64, of which the caller's thread is the first: as `forward` and `back`, but that

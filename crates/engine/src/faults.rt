@@ -7,9 +7,10 @@ ghost use Rattle.engine.specs.declared.faults.EngineFault.TheVariants as engine;
 ghost use Rattle.engine.specs.declared.faults.OpenFault.TheVariants as opened;
 ghost use Rattle.engine.specs.declared.faults.RunFault.TheVariants as run;
 
+use crate::kernel_refusals::KernelRefusal;
 use energy_program::ExprFault;
 use fallible::{Failure, OutFault};
-use integrator::{KernelRefusal, StepFault, SystemFault};
+use integrator::{StepFault, SystemFault};
 use job::JobFault;
 use state::StateFault;
 use std::alloc::Allocator;

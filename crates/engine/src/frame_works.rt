@@ -4,7 +4,7 @@ ghost use Rattle.std.specs.Prelude.{◌≡◌, ◌<◌, length, map, slice_get, 
 ghost use Rattle.std.specs.List.{All};
 ghost use Rattle.cell_tiles.specs.Cells.{member_places, members_of};
 ghost use Rattle.cell_tiles.specs.Tiles.{pairs_in, tiles_of};
-ghost use Rattle.ring_box.specs.Cells.{ArePlaces};
+ghost use Rattle.ring_box.specs.Places.{ArePlaces};
 ghost use Rattle.tile_round.specs.Tiles.{pairs_at, AreNextActing, IsPairOf};
 ghost use Rattle.engine.specs.Rounds.{grid_of, plan_of};
 ghost use Rattle.engine.specs.Rows.{AreNextFound, IsFound, add_found, tile_at};
@@ -13,6 +13,7 @@ use crate::rows::{FoundPair, Scratch};
 use crate::safe_systems::SafeSystem;
 use arrayvec::ArrayVec;
 use cell_tiles::{AtomPair, Cells, FrameInBox, NearPairs, Tile, Tiles};
+use ring_box::Place3;
 use std::alloc::Allocator;
 use tile_round::{PairAdd, RowWork, Work};
 
@@ -20,7 +21,7 @@ use tile_round::{PairAdd, RowWork, Work};
 #[derive(Drop)]
 pub(crate) struct FrameWork<'a, A: Allocator + Copy> {
     pub motion: &'a SafeSystem<A>,
-    pub frame: &'a [[u32; 3]],
+    pub frame: &'a [Place3],
     pub tiles: &'a Tiles<A>,
     pub cells: &'a Cells<A>,
     pub ghost grid: { tiles.now.grid.bits ≡ grid_of motion.now.system },

@@ -1,6 +1,16 @@
 //! Workers that sum the forces of a frame.
 
-use tile_pool::Gate;
+ghost use Rattle.std.specs.Prelude.{◌<◌, ◌≤◌, length, IfOk};
+ghost use Rattle.tile_pool.specs.Totals.{AreTotals};
+ghost use Rattle.tile_round.specs.Tiles.{tiles_of};
+ghost use Rattle.engine.specs.Rounds.{plan_of};
+
+use crate::frame_works::FrameWork;
+use crate::rows::Scratch;
+use std::alloc::Allocator;
+use std::thread::Threads;
+use tile_pool::{Forces, Gate, forces};
+use tile_round::{Memory, Work};
 
 /// A gate that lets each tile pass.
 #[derive(Clone, Copy)]
@@ -10,9 +20,72 @@ impl Gate for NoGate {
     fn before_tile(&self, _worker: u32, _tile: u64) {}
 }
 
+/// What workers keep at hand, 1 to 64 of them.
+#[derive(Drop)]
+pub(crate) struct Crew<A: Allocator> {
+    pub scratches: Vec<Scratch<A>, A>,
+    pub ghost some: { 0 < length scratches.items },
+    pub ghost few: { length scratches.items ≤ 64 },
+}
+
 /// What starts workers, the first of which is the caller's thread, and the gate that each passes before each tile that it has drawn.
 #[derive(Drop)]
 pub(crate) struct Pool<'a, R, G> {
     pub rt: &'a R,
     pub gate: &'a G,
+}
+
+/// How many tiles have pairs: at least one is told, and no more than `most`. It tells how many workers find something to do.
+fn busy_tiles<W: Work>(work: &W, most: usize) -> usize
+    requires { 0 < most }
+    ensures some { 0 < result }
+    ensures few { result ≤ most }
+{
+    let mut busy = 0;
+    for tile in 0..work.tiles() {
+        if busy == most {
+            return busy;
+        }
+        if work.pairs(tile) > 0 {
+            busy += 1;
+        }
+    }
+    busy.max(1)
+}
+
+impl<'a, R: Threads + Sync, G: Gate + Sync> Pool<'a, R, G> {
+    /// The sums of the forces that a frame's pairs add, by a worker for each scratch, but no more than there are tiles with pairs.
+    fn sums_by<A: Allocator + Copy + Sync, B: Allocator + Send>(
+        &self,
+        alloc: A,
+        work: &FrameWork<'_, A>,
+        scratches: &mut [Scratch<B>],
+    ) -> Result<Forces<A>, Memory>
+        requires some { 0 < length scratches.old }
+        requires few { length scratches.old ≤ 64 }
+        ensures { IfOk result (AreTotals (tiles_of (plan_of work.now.motion.now.system work.now.frame.now)) (length work.now.frame.now)) }
+    {
+        let busy = busy_tiles(work, scratches.len());
+        forces(
+            self.rt,
+            alloc,
+            work,
+            &mut scratches[..busy],
+            work.frame.len() as u32,
+            self.gate,
+        )
+    }
+
+    /// The same by a crew.
+    pub(crate) fn sums<A: Allocator + Copy + Sync, B: Allocator + Send>(
+        &self,
+        alloc: A,
+        work: &FrameWork<'_, A>,
+        crew: &mut Crew<B>,
+    ) -> Result<Forces<A>, Memory>
+        ensures { IfOk result (AreTotals (tiles_of (plan_of work.now.motion.now.system work.now.frame.now)) (length work.now.frame.now)) }
+    {
+        let scratches = crew.scratches.as_mut_slice();
+        self.sums_by(alloc, work, scratches)
+    }
 }

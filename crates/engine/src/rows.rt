@@ -21,15 +21,18 @@ pub(crate) struct FoundPair {
 }
 
 impl FoundPair {
+    ghost use Rattle.engine.specs.Rounds.{pair_add};
+
     /// What the pair adds, where this is the slope of its energy.
     pub(crate) fn add(&self, slope: Fx) -> PairAdd
         requires { unsigned_abs slope < 2 ^ 63 }
-        ensures { result ≡ record { low = self.now.low; high = self.now.high; force = force_of self.now.acting (neg_ℤ slope) } }
+        ensures { result ≡ pair_add self.now.low self.now.high (force_of self.now.acting (neg_ℤ slope)) }
     {
+        let force = self.acting.force(opposite(slope));
         PairAdd {
             low: self.low,
             high: self.high,
-            force: self.acting.force(opposite(slope)),
+            force: [force.x, force.y, force.z],
         }
     }
 }

@@ -19,6 +19,7 @@ use crate::verdicts::lane_code;
 use fixed::Fx;
 use kernel_lanes::{Ask, Rows, run_lanes};
 use lane_paths::{PathRows, run_paths};
+use ring_box::Place3;
 use std::alloc::{AllocError, Allocator};
 use tile_round::Work;
 use verifier::Verified;
@@ -243,7 +244,7 @@ impl<'a, A: Allocator + Copy> SafeEnergy<'a, A> {
     }
 
     /// The energy of the frame, in 2^-bits kJ/mol. `AllocError` only where memory is refused.
-    pub(crate) fn of_frame(&self, alloc: A, frame: &[[u32; 3]]) -> Result<i128, AllocError>
+    pub(crate) fn of_frame(&self, alloc: A, frame: &[Place3]) -> Result<i128, AllocError>
         requires { length frame.now ≡ length self.now.motion.now.system.types.items }
         ensures { IfOk result (λ energy. energy_sum (pair_energy (safe_dynamics self.now.motion.now.system) (safe_value self.now.motion.now.system) frame.now) (pairs_of (length frame.now)) ≡ Some energy) }
     {

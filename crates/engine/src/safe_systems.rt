@@ -13,7 +13,7 @@ use integrator::System;
 use kernel_lanes::{Ask, Rows, run_lanes};
 use kernel_machine::{Stack, run};
 use lane_paths::{PathRows, run_paths};
-use ring_box::Reach;
+use ring_box::{Place3, Reach};
 use std::alloc::Allocator;
 use tile_round::PairAdd;
 
@@ -44,7 +44,7 @@ impl<A: Allocator> SafeSystem<A> {
     pub(crate) fn found(
         &self,
         reach: &Reach,
-        frame: &[[u32; 3]],
+        frame: &[Place3],
         low: u32,
         high: u32,
     ) -> Option<FoundPair>
@@ -66,7 +66,7 @@ impl<A: Allocator> SafeSystem<A> {
     pub(crate) fn find_all(
         &self,
         reach: &Reach,
-        frame: &[[u32; 3]],
+        frame: &[Place3],
         near: &[AtomPair],
         found: &mut ArrayVec<FoundPair, 64>,
     )
@@ -208,7 +208,7 @@ impl<A: Allocator> SafeSystem<A> {
     }
 
     /// What a pair adds to the forces; `None` where it doesn't act.
-    pub(crate) fn pair_add(&self, frame: &[[u32; 3]], low: u32, high: u32) -> Option<PairAdd>
+    pub(crate) fn pair_add(&self, frame: &[Place3], low: u32, high: u32) -> Option<PairAdd>
         requires apart { low < high }
         requires high { high < length frame.now }
         requires atoms { length frame.now ≡ length self.now.system.types.items }

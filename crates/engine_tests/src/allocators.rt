@@ -8,8 +8,9 @@ use std::thread::{Threads, join};
 /// A vector that takes one after another of these grows three times.
 const NUMBERS: [u64; 12] = [2, 3, 5, 7, 11, 13, 17, 19, 23, 29, 31, 37];
 
-/// How often a number is refused where all are pushed, and again where they are refused; and the number of the last such request.
-fn refusals(allocator: &RefusingAllocator<Global>) -> (u32, u64) {
+/// How often a number is refused where all are pushed, and again where they are refused; the number of the last such request; and how
+/// many blocks are out then.
+fn refusals(allocator: &RefusingAllocator<Global>) -> (u32, u64, u64) {
     let mut numbers: Vec<u64, &RefusingAllocator<Global>> = Vec::new(allocator);
     let mut refusals = 0u32;
     let mut last = 0u64;
@@ -23,20 +24,20 @@ fn refusals(allocator: &RefusingAllocator<Global>) -> (u32, u64) {
             last = request;
         }
     }
-    (refusals, last)
+    (refusals, last, allocator.blocks())
 }
 
-/// Whether on one thread the request with this number is refused, and no other.
+/// Whether on one thread the request with this number is refused, and no other, and the vector's block is given back.
 fn is_refused(alloc: Global, number: u64) -> bool {
     let allocator = RefusingAllocator::new(alloc, number);
-    refusals(&allocator) == (1, number) && allocator.requests() == 4
+    refusals(&allocator) == (1, number, 1) && allocator.requests() == 4 && allocator.blocks() == 0
 }
 
 /// Whether of six requests of two threads one is refused.
 fn is_one_of_two_threads<R: Threads + Sync + AllocGlobal>(rt: &R, number: u64) -> bool {
     let allocator = RefusingAllocator::new(rt.alloc(), number);
     let (one, other) = join(rt, || refusals(&allocator), || refusals(&allocator));
-    one.0.saturating_add(other.0) == 1 && allocator.requests() == 7
+    one.0.saturating_add(other.0) == 1 && allocator.requests() == 7 && allocator.blocks() == 0
 }
 
 #[test]

@@ -1,7 +1,8 @@
-//! A gate in which two workers meet.
+//! A gate in which two workers meet, on the way forward and on the way back.
 
 use crate::fixtures::{engine_over, layers, text_of};
 use engine::Engine;
+use integrator::Direction;
 use std::alloc::Global;
 use std::sync::atomic::{AtomicU64, Ordering};
 use std::test::*;
@@ -39,6 +40,7 @@ impl Gate for Meeting {
 /// How many tiles a step takes two workers, who meet in them, where the state is that of a step on one thread.
 fn tiles_of_two<R: Threads + Sync + AllocGlobal>(
     rt: &R,
+    direction: Direction,
     alone: &mut Engine<Global>,
     together: &mut Engine<Global>,
 ) -> Option<u64> {
@@ -47,7 +49,12 @@ fn tiles_of_two<R: Threads + Sync + AllocGlobal>(
         tiles: AtomicU64::new(0),
         late: AtomicU64::new(0),
     };
-    let went = alone.forward_alone(1).is_ok() && together.forward(rt, 1, 2, &gate).is_ok();
+    let went = match direction {
+        Direction::Forward => {
+            alone.forward_alone(1).is_ok() && together.forward(rt, 1, 2, &gate).is_ok()
+        }
+        Direction::Back => alone.back_alone(1).is_ok() && together.back(rt, 1, 2, &gate).is_ok(),
+    };
     let same = text_of(rt.alloc(), alone) == text_of(rt.alloc(), together);
     if went && same && gate.late.load(Ordering::SeqCst) == 0 {
         Some(gate.tiles.load(Ordering::SeqCst))
@@ -57,17 +64,22 @@ fn tiles_of_two<R: Threads + Sync + AllocGlobal>(
 }
 
 /// The same of two engines of a state.
-fn tiles_of<R: Threads + Sync + AllocGlobal>(rt: &R, state: &[u8]) -> Option<u64> {
+fn tiles_of<R: Threads + Sync + AllocGlobal>(
+    rt: &R,
+    direction: Direction,
+    state: &[u8],
+) -> Option<u64> {
     let mut alone = engine_over(rt.alloc(), state)?;
     let mut together = engine_over(rt.alloc(), state)?;
-    tiles_of_two(rt, &mut alone, &mut together)
+    tiles_of_two(rt, direction, &mut alone, &mut together)
 }
 
 // A box of 2 nm has two cells of 1 nm along each side: 8 cells, each the neighbour of each, so 36 tiles.
 #[test]
 fn two_workers_in_tiles_at_once(rt: HostRuntime) -> Result<(), Fail> {
     let start = layers(rt.alloc())?;
-    let tiles = tiles_of(&rt, &start);
-    assert_eq!(rt; tiles, Some(36));
+    let forward = tiles_of(&rt, Direction::Forward, &start);
+    let back = tiles_of(&rt, Direction::Back, &start);
+    assert_eq!(rt; (forward, back), (Some(36), Some(36)));
     Ok(())
 }

@@ -1,4 +1,5 @@
-//! Memory that is refused: one request after another, of a tested run, and of engines on one thread and with workers.
+//! Memory that is refused: one request after another, of a tested run, and of engines on one thread and with workers. All that was
+//! taken is given back in the end.
 
 ghost use Rattle.std.specs.Prelude.{◌<◌, ◌≤◌};
 
@@ -11,7 +12,6 @@ use std::alloc::{AllocError, Global};
 use std::test::*;
 use std::thread::Threads;
 use tested_run::{TestedRunFault, run_bytes_checked};
-use tile_pool::Gate;
 
 /// No run of a test makes so many requests for memory.
 const REQUESTS: u64 = 100_000;
@@ -26,7 +26,7 @@ fn run_without(alloc: Global, number: u64) -> Option<bool> {
         Err(TestedRunFault::Run(Failure::Memory)) => b"".as_slice(),
         Err(_) => return None,
     };
-    if out.bytes() == expected {
+    if out.bytes() == expected && memory.blocks() == 0 {
         Some(number < memory.requests())
     } else {
         None
@@ -49,33 +49,6 @@ fn each_request_of_a_tested_run(rt: HostRuntime) {
     assert!(rt; requests.unwrap_or(0) > 10, "{requests:?} requests");
 }
 
-/// Lets each tile through.
-#[derive(Drop)]
-struct Open;
-
-impl Gate for Open {
-    fn before_tile(&self, _worker: u32, _tile: u64) {}
-}
-
-/// So many steps by so many workers, one of them on the caller's thread alone.
-fn turn<R: Threads + Sync>(
-    rt: &R,
-    engine: &mut Engine<&RefusingAllocator<Global>>,
-    direction: Direction,
-    steps: u64,
-    workers: u32,
-) -> Result<(), StepFault>
-    requires some { 0 < workers }
-    requires few { workers ≤ 64 }
-{
-    match (direction, workers) {
-        (Direction::Forward, 1) => engine.forward_alone(steps),
-        (Direction::Back, 1) => engine.back_alone(steps),
-        (Direction::Forward, _) => engine.forward(rt, steps, workers, &Open),
-        (Direction::Back, _) => engine.back(rt, steps, workers, &Open),
-    }
-}
-
 /// Whether an engine stands at the last of these states after three steps; and where a step wants memory, first at that after so many
 /// whole steps as it says, from which it makes the others.
 fn goes_on<R: Threads + Sync + AllocGlobal>(
@@ -88,11 +61,13 @@ fn goes_on<R: Threads + Sync + AllocGlobal>(
     requires some { 0 < workers }
     requires few { workers ≤ 64 }
 {
-    match turn(rt, engine, direction, 3, workers) {
+    match engine.turns_ungated(rt, direction, 3, workers) {
         Ok(()) => stands_at(rt.alloc(), engine, states, 3),
         Err(StepFault::Memory { done }) => {
             stands_at(rt.alloc(), engine, states, done)
-                && turn(rt, engine, direction, 3u64.saturating_sub(done), 1).is_ok()
+                && engine
+                    .turns_ungated(rt, direction, 3u64.saturating_sub(done), 1)
+                    .is_ok()
                 && stands_at(rt.alloc(), engine, states, 3)
         }
         Err(StepFault::StepRange) => false,
@@ -130,7 +105,7 @@ fn steps_without<R: Threads + Sync + AllocGlobal>(
         Some(mut engine) => goes_on(rt, &mut engine, direction, workers, states),
         None => true,
     };
-    if right {
+    if right && memory.blocks() == 0 {
         Some(number < memory.requests())
     } else {
         None
@@ -175,7 +150,7 @@ fn requests_of<R: Threads + Sync + AllocGlobal>(
     None
 }
 
-/// The same of one thread, and of four workers.
+/// The same of one thread, and of four workers, each of whom wants a scratch of its own.
 fn requests_of_both<R: Threads + Sync + AllocGlobal>(
     rt: &R,
     direction: Direction,
@@ -190,19 +165,13 @@ fn requests_of_both<R: Threads + Sync + AllocGlobal>(
 #[test]
 fn each_request_of_steps_forward(rt: HostRuntime) -> Result<(), AllocError> {
     let (one, four) = requests_of_both(&rt, Direction::Forward)?;
-    assert!(rt;
-        one.unwrap_or(0) > 100 && four.unwrap_or(0) > 100,
-        "{one:?}, {four:?} requests"
-    );
+    assert!(rt; one > Some(100) && four > one, "{one:?}, {four:?} requests");
     Ok(())
 }
 
 #[test]
 fn each_request_of_steps_back(rt: HostRuntime) -> Result<(), AllocError> {
     let (one, four) = requests_of_both(&rt, Direction::Back)?;
-    assert!(rt;
-        one.unwrap_or(0) > 100 && four.unwrap_or(0) > 100,
-        "{one:?}, {four:?} requests"
-    );
+    assert!(rt; one > Some(100) && four > one, "{one:?}, {four:?} requests");
     Ok(())
 }

@@ -83,6 +83,22 @@ fn a_tested_run_stops_where_the_slope_has_no_value(rt: HostRuntime) -> Result<()
     Ok(())
 }
 
+/// An atom at the last step that a counter can tell.
+const LAST: &[u8] = b"pairmd state 1
+title last
+step 9223372036854775807
+atoms 1
+box 200000 200000 200000
+    1AR      AR 0 0 0 0 0 0
+";
+
+#[test]
+fn a_tested_run_has_no_step_behind_the_last(rt: HostRuntime) -> Result<(), Fail> {
+    let stopped = tested(rt.alloc(), JOB, LAST, Direction::Forward, 1)?;
+    assert_eq!(rt; stopped.as_slice(), b"A4 StepRange".as_slice());
+    Ok(())
+}
+
 // The atoms before the sixth are 0.5 nm from the first, or beyond the cutoff; the sixth is 0.7 nm from it.
 #[test]
 fn the_first_pair_without_a_slope(rt: HostRuntime) -> Result<(), Fail> {

@@ -18,10 +18,6 @@ use Rattle.expr.proofs.Results.{some_is}
 abbrev pub behind : Syntax → List Definition → Definitions → Result Source Refusal
 behind body front others = others >>= λ ds. Ok (body, front ++ ds)
 
-pub semicolon_less : (ts rest : List Placed) → semicolon_sign ts ≡ Some rest → length rest < length ts
-semicolon_less ((t.Semicolon, at) ∷ ts) rest e = let h = ap length (some_is ts rest e) in omega arith
-semicolon_less _ rest e = absurd cc
-
 -- ---- a full text has no further definition
 
 no_heading_none : (ts : List Placed) (h : List ℕ × List Placed) → no_heading ts ≡ Ok (Some h) → ⊥

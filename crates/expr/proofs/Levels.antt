@@ -120,9 +120,6 @@ atom_call end n ts w rest inside f o = atom_start end n ts _ f ∙ ap (name_by e
 
 -- ---- arguments
 
-abbrev pub list_reading : Arguments → List Placed → ReadingOf Arguments
-list_reading xs rest = Ok (xs, rest)
-
 pub list_starts : (end n : ℕ) (ts : List Placed) (x : Syntax) (rest : List Placed) → expr_at end n ts ≡ Ok (x, rest) → list_at end n ts ≡ chain comma_sign (expr_at end n) listed (length rest) (One x) rest
 unfolding list_at chained
 list_starts end n ts x rest e = rw e refl

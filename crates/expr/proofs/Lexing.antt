@@ -5,13 +5,13 @@ use Rattle.std.specs.List.{prefix_len}
 use Rattle.fixed.specs.declared.faults.NumFault.{NumFault}
 use Rattle.fixed.specs.Numerals.{numeral_text}
 use Rattle.expr.specs.declared.lexer.Wrong.{Wrong}
-use Rattle.expr.specs.Tokens.{Lexeme, Placed}
+use Rattle.expr.specs.Tokens.{Lexeme, Placed, whole_in}
 use Rattle.expr.specs.Tokens as t
 use Rattle.line_text.specs.Identifiers.{is_identifier_start, is_identifier_continue}
 use Rattle.expr.specs.Bytes.{is_space, begins_number}
-use Rattle.expr.specs.Numerals.{whole_in, number_at}
 use Rattle.expr.specs.Lexing.{symbol_of, TokenRead, number_token, symbol_token, token_at, Tokens, with_front, refusal_at, go_on, tokens_from, tokens_of}
-use Rattle.expr.proofs.NumeralLemmas.{number_ok, numeral_some}
+use Rattle.fixed.specs.NumeralParts.{front_of}
+use Rattle.fixed.proofs.NumeralLemmas.{front_ok, numeral_some}
 use Rattle.expr.proofs.Results.{ok_is}
 
 pub prefix_more : (test : ℕ → Bool) (b : ℕ) (rest : List ℕ) → test b ≡ true → prefix_len test (b ∷ rest) ≡ suc (prefix_len test rest)
@@ -27,21 +27,21 @@ shorter test b rest h = let p = prefix_more test b rest h in omega (arith, lengt
 pub word_start : (b : ℕ) → is_identifier_start b ≡ true → is_identifier_continue b ≡ true
 word_start b h = rw h refl
 
-number_less : (bits : ℕ) (text : List ℕ) (r : Result (ℤ × List ℕ) NumFault) (x : Lexeme × List ℕ) → number_at bits text ≡ r → number_token text r ≡ Ok x → length x.1 < length text
+number_less : (bits : ℕ) (text : List ℕ) (r : Result (ℤ × List ℕ) NumFault) (x : Lexeme × List ℕ) → front_of bits text ≡ r → number_token text r ≡ Ok x → length x.1 < length text
 number_less bits text (Err f) x h e = absurd cc
 number_less bits text (Ok (z, after)) x h e =
-    let n = number_ok bits text z after h in
-    let p = ap length n.parts in
+    let n = front_ok bits text z after h in
+    let p = ap length n.front.parts in
     let q = length-append (numeral_text n.numeral) after in
-    let m = numeral_some n.numeral n.is_numeral in
+    let m = numeral_some n.numeral n.front.is_numeral in
     let k = ok_is (t.Number z (whole_in (take (length text - length after) text)), after) x e in
     let l = ap (λ (y : Lexeme × List ℕ). length y.1) k in
     omega arith
 
-pub number_shorter : (bits : ℕ) (text : List ℕ) (z : ℤ) (after : List ℕ) → number_at bits text ≡ Ok (z, after) → length after ≤ length text
+pub number_shorter : (bits : ℕ) (text : List ℕ) (z : ℤ) (after : List ℕ) → front_of bits text ≡ Ok (z, after) → length after ≤ length text
 number_shorter bits text z after h =
-    let n = number_ok bits text z after h in
-    let p = ap length n.parts in
+    let n = front_ok bits text z after h in
+    let p = ap length n.front.parts in
     let q = length-append (numeral_text n.numeral) after in
     omega arith
 
@@ -55,8 +55,8 @@ name_less true name after rest o x n h g e = let k = ok_is (t.Name name, after) 
 name_less false name after rest o x n h g e = symbol_less rest o x n g e
 
 number_or : (c : Bool) (bits : ℕ) (text : List ℕ) (other : TokenRead) (x : Lexeme × List ℕ) → (other ≡ Ok x → length x.1 < length text)
-    → cond c (number_token text (number_at bits text)) other ≡ Ok x → length x.1 < length text
-number_or true bits text other x g e = number_less bits text (number_at bits text) x refl e
+    → cond c (number_token text (front_of bits text)) other ≡ Ok x → length x.1 < length text
+number_or true bits text other x g e = number_less bits text (front_of bits text) x refl e
 number_or false bits text other x g e = g e
 
 pub token_less : (bits : ℕ) (ts : List ℕ) (x : Lexeme × List ℕ) → token_at bits ts ≡ Ok x → length x.1 < length ts
@@ -156,6 +156,3 @@ all_spaces_off bits text front h = none (tokens_from (length text) bits (length 
     none : (r : Tokens) → r ≡ with_front [] r
     none (Ok ts) = refl
     none (Err e) = refl
-
-abbrev pub failed : Wrong → TokenRead
-failed w = Err w

@@ -1,6 +1,5 @@
 pub mod Results
 mod Made
-pub mod NumeralLemmas
 pub mod Chain
 pub mod Levels
 pub mod Sound

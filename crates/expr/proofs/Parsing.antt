@@ -1,5 +1,5 @@
 -- A text is read as a tree where the grammar says so, and nowhere else; and each refusal has its cause.
-use Rattle.std.proofs.Common.{◌≡◌, ◌⊎◌, inl, inr, ℕ, ℤ, ◌+◌, ◌<◌, ◌≤◌, Bool, true, false, ltb, List, [], ◌∷◌, length, Option, Some, None, Result, Ok, Err, refl, sym, ap, subst, ◌∙◌}
+use Rattle.std.proofs.Common.{◌≡◌, ◌⊎◌, inl, inr, ℕ, ℤ, ◌+◌, ◌<◌, ◌≤◌, arith, Bool, true, false, ltb, List, [], ◌∷◌, length, Option, Some, None, Result, Ok, Err, refl, sym, ap, subst, ◌∙◌}
 use Rattle.std.specs.Prelude.{IfOk, IfErr}
 use Rattle.std.proofs.lemmas.Bool.{ltb-true, ltb-false, le-ltb}
 use Rattle.fallible.specs.Failures.{IfRefused}
@@ -23,7 +23,7 @@ use Rattle.energy_program.specs.Names.{input_of}
 use Rattle.expr.specs.Lexing.{Tokens, tokens_of}
 use Rattle.expr.specs.Definitions.{checked, number_from}
 use Rattle.expr.specs.Sources.{source_at}
-use Rattle.expr.specs.Energy.{IsEnergy, IsRead, IsWritten, IsCause, limited, program_of, trees_in}
+use Rattle.expr.specs.Energy.{IsEnergy, IsRead, IsWritten, IsCause, ReadsEnergyTexts, limited, program_of, trees_in}
 use Rattle.expr.proofs.Checked.{Why, taken, given, are_new, new_checked, refused}
 use Rattle.energy_program.proofs.FaultLaws.{fails_same, fails_then}
 use Rattle.expr.proofs.Programs.{Is, source_sound, source_complete, source_halts, source_halting}
@@ -149,6 +149,13 @@ read_as n e (Err Memory) whole w g = tt
 
 pub is_read : {A : Type 0} (bits : ℕ) (vs : List (List ℕ)) (text : List ℕ) (r : Result (Program A) (Failure (ExprFault A))) → Gives program_tree r (program_of bits vs text) → (n : ℕ) (e : Tree) → IsEnergy bits vs text n e → IsRead n e r
 is_read bits vs text r h n e p = read_as n e r (program_of bits vs text) (complete bits vs text n e p) h
+
+pub reads_texts : ReadsEnergyTexts
+reads_texts bits vs text e = (found bits vs text e, λ p. known (complete bits vs text 64 e p))
+  where
+    known : (program_of bits vs text ≡ Ok e) ⊎ ((64 < 64) × (program_of bits vs text ≡ Err TooLarge)) → program_of bits vs text ≡ Ok e
+    known (inl h) = h
+    known (inr h) = let more = h.0 in absurd (omega (arith, more))
 
 -- ---- causes
 

@@ -6,16 +6,16 @@ use Rattle.std.proofs.lemmas.List.{take-append-drop, take_at, drop_at}
 use Rattle.std.specs.List.{AllPass, prefix_len}
 use Rattle.std.specs.Char.{is_ascii_digit}
 use Rattle.fixed.specs.declared.faults.NumFault.{NumFault}
-use Rattle.fixed.specs.Numerals.{Fraction, no_point, point, Numeral, IsNumeral, fraction_digits, fraction_text, exponent_text, numeral_text, value_of}
-use Rattle.expr.specs.Tokens.{Lexeme, Placed}
+use Rattle.fixed.specs.Numerals.{Fraction, no_point, point, Numeral, IsNumeral, fraction_digits, fraction_text, exponent_text, numeral_text, value_of, Ends, with_rest}
+use Rattle.fixed.specs.NumeralParts.{front_of}
+use Rattle.expr.specs.Tokens.{Lexeme, Placed, whole_in}
 use Rattle.expr.specs.Tokens as t
 use Rattle.line_text.specs.Identifiers.{is_identifier_start, is_identifier_continue}
 use Rattle.expr.specs.Bytes.{is_space, begins_number}
-use Rattle.expr.specs.Numerals.{whole_in, Ends, number_at, with_rest}
 use Rattle.expr.specs.Lexing.{symbol_of, TokenRead, number_token, symbol_token, token_at, Tokens, with_front, go_on, tokens_from, tokens_of}
 use Rattle.expr.specs.Text.{Every, Stops, IsToken, IsFront, IsText}
 use Rattle.expr.specs.Text as g
-use Rattle.expr.proofs.NumeralLemmas.{number_ok, number_again}
+use Rattle.fixed.proofs.NumeralLemmas.{front_ok, front_reading}
 use Rattle.expr.proofs.Lexing.{prefix_more, prefix_stops, word_start, token_less, skip_turn, take_turn}
 use Rattle.expr.proofs.Results.{some_is, ok_is}
 
@@ -85,13 +85,13 @@ front_taken ts front rest e =
     let count : length ts - length rest ≡ length front = omega arith in
     rw (count, e) (take_at front rest (length front) refl)
 
-number_front : (bits : ℕ) (ts : List ℕ) (k : Lexeme) (after : List ℕ) (r : Result (ℤ × List ℕ) NumFault) → number_at bits ts ≡ r → number_token ts r ≡ Ok (k, after) → Front bits ts k after
+number_front : (bits : ℕ) (ts : List ℕ) (k : Lexeme) (after : List ℕ) (r : Result (ℤ × List ℕ) NumFault) → front_of bits ts ≡ r → number_token ts r ≡ Ok (k, after) → Front bits ts k after
 number_front bits ts k after (Err f) h e = absurd cc
 number_front bits ts k after (Ok (z, rest)) h e =
-    let n = number_ok bits ts z rest h in
-    let text = front_taken ts (numeral_text n.numeral) rest (sym n.parts) in
+    let n = front_ok bits ts z rest h in
+    let text = front_taken ts (numeral_text n.numeral) rest (sym n.front.parts) in
     moved bits ts (t.Number z (whole_in (take (length ts - length rest) ts))) rest k after e
-    (record { front = numeral_text n.numeral; parts = sym n.parts; spelled = rw text (g.number n.is_numeral n.ends n.value) })
+    (record { front = numeral_text n.numeral; parts = sym n.front.parts; spelled = rw text (g.number n.front.is_numeral n.front.ends n.value) })
 
 name_front : (bits b : ℕ) (rest : List ℕ) (k : Lexeme) (after : List ℕ) → is_identifier_start b ≡ true → ◌≡◌ {A = TokenRead} (Ok (t.Name (take (prefix_len is_identifier_continue (b ∷ rest)) (b ∷ rest)), drop (prefix_len is_identifier_continue (b ∷ rest)) (b ∷ rest))) (Ok (k, after)) → Front bits (b ∷ rest) k after
 name_front bits b rest k after d e =
@@ -105,8 +105,8 @@ name_case : (bits b : ℕ) (rest : List ℕ) (k : Lexeme) (after : List ℕ) (c 
 name_case bits b rest k after true d e = name_front bits b rest k after d e
 name_case bits b rest k after false d e = symbol_front bits b rest k after (symbol_of b) refl e
 
-number_case : (bits : ℕ) (ts : List ℕ) (k : Lexeme) (after : List ℕ) (other : TokenRead) (c : Bool) → (other ≡ Ok (k, after) → Front bits ts k after) → cond c (number_token ts (number_at bits ts)) other ≡ Ok (k, after) → Front bits ts k after
-number_case bits ts k after other true f e = number_front bits ts k after (number_at bits ts) refl e
+number_case : (bits : ℕ) (ts : List ℕ) (k : Lexeme) (after : List ℕ) (other : TokenRead) (c : Bool) → (other ≡ Ok (k, after) → Front bits ts k after) → cond c (number_token ts (front_of bits ts)) other ≡ Ok (k, after) → Front bits ts k after
+number_case bits ts k after other true f e = number_front bits ts k after (front_of bits ts) refl e
 number_case bits ts k after other false f e = f e
 
 pub token_sound : (bits : ℕ) (ts : List ℕ) (k : Lexeme) (after : List ℕ) → token_at bits ts ≡ Ok (k, after) → Front bits ts k after
@@ -131,19 +131,19 @@ numeral_begins_by (b ∷ w) f u a h = record { byte = b; rest = w ++ (fraction_t
 pub numeral_begins : (n : Numeral) (rest : List ℕ) → IsNumeral n → BeginsNumeral (numeral_text n ++ rest)
 numeral_begins n rest h =
     let split : n.whole ++ (fraction_text n.fraction ++ (exponent_text n.exponent ++ rest)) ≡ numeral_text n ++ rest = simp append_assoc in
-    subst BeginsNumeral split (numeral_begins_by n.whole n.fraction (exponent_text n.exponent ++ rest) h.whole_digits h.some_digit)
+    subst BeginsNumeral split (numeral_begins_by n.whole n.fraction (exponent_text n.exponent ++ rest) h.form.whole h.some_digit)
 
-token_number : (bits b : ℕ) (rest : List ℕ) → begins_number b ≡ true → token_at bits (b ∷ rest) ≡ number_token (b ∷ rest) (number_at bits (b ∷ rest))
+token_number : (bits b : ℕ) (rest : List ℕ) → begins_number b ≡ true → token_at bits (b ∷ rest) ≡ number_token (b ∷ rest) (front_of bits (b ∷ rest))
 unfolding token_at
 token_number bits b rest h =
-    ap (λ c. cond c (number_token (b ∷ rest) (number_at bits (b ∷ rest)))
+    ap (λ c. cond c (number_token (b ∷ rest) (front_of bits (b ∷ rest)))
     (cond (is_identifier_start b) (Ok (t.Name (take (prefix_len is_identifier_continue (b ∷ rest)) (b ∷ rest)), drop (prefix_len is_identifier_continue (b ∷ rest)) (b ∷ rest))) (symbol_token rest (symbol_of b)))) h
 
 numeral_token : (bits : ℕ) (n : Numeral) (z : ℤ) (rest : List ℕ) → IsNumeral n → Ends n rest → value_of bits n ≡ Ok z → token_at bits (numeral_text n ++ rest) ≡ Ok (t.Number z (whole_in (numeral_text n)), rest)
 numeral_token bits n z rest h ends v =
     let b = numeral_begins n rest h in
-    ap (token_at bits) b.parts ∙ token_number bits b.byte b.rest b.begins ∙ ap (λ (u : List ℕ). number_token u (number_at bits u)) (sym b.parts)
-    ∙ ap (number_token (numeral_text n ++ rest)) (number_again bits n rest h ends ∙ ap (with_rest rest) v)
+    ap (token_at bits) b.parts ∙ token_number bits b.byte b.rest b.begins ∙ ap (λ (u : List ℕ). number_token u (front_of bits u)) (sym b.parts)
+    ∙ ap (number_token (numeral_text n ++ rest)) ((front_reading bits (numeral_text n ++ rest)).value n rest (record { is_numeral = h; ends = ends; parts = refl }) ∙ ap (with_rest rest) v)
     ∙ ap (λ (u : List ℕ). number_read z (whole_in u) rest) (front_taken (numeral_text n ++ rest) (numeral_text n) rest refl)
   where
     number_read : ℤ → ℕ → List ℕ → TokenRead
@@ -156,7 +156,7 @@ name_again : (bits b : ℕ) (bs rest : List ℕ) → is_identifier_start b ≡ t
 unfolding token_at
 name_again bits b bs rest d ev st =
     let n : prefix_len is_identifier_continue (b ∷ (bs ++ rest)) ≡ length (b ∷ bs) = span_is is_identifier_continue (b ∷ bs) rest (word_start b d, ev) st in
-    ap (λ c. cond c (number_token (b ∷ (bs ++ rest)) (number_at bits (b ∷ (bs ++ rest))))
+    ap (λ c. cond c (number_token (b ∷ (bs ++ rest)) (front_of bits (b ∷ (bs ++ rest))))
     (cond (is_identifier_start b) (Ok (t.Name (take (prefix_len is_identifier_continue (b ∷ (bs ++ rest))) (b ∷ (bs ++ rest))), drop (prefix_len is_identifier_continue (b ∷ (bs ++ rest))) (b ∷ (bs ++ rest)))) (symbol_token (bs ++ rest) (symbol_of b)))) (start_no_number b d)
     ∙ ap (λ c. cond c (name_read (prefix_len is_identifier_continue (b ∷ (bs ++ rest)))) (symbol_token (bs ++ rest) (symbol_of b))) d
     ∙ ap name_read n
@@ -219,9 +219,9 @@ Reads n bits total = (at : ℕ) (ts : List ℕ) (ps : List Placed) → length ts
 tokens_ok : List Placed → Tokens
 tokens_ok z = Ok z
 
-front_ok : (x : Placed) (r : Tokens) (ps : List Placed) → with_front (x ∷ []) r ≡ Ok ps → (qs : List Placed) × (r ≡ Ok qs) × (x ∷ qs ≡ ps)
-front_ok x (Ok qs) ps e = (qs, refl, ok_is (x ∷ qs) ps e)
-front_ok x (Err f) ps e = absurd cc
+with_front_ok : (x : Placed) (r : Tokens) (ps : List Placed) → with_front (x ∷ []) r ≡ Ok ps → (qs : List Placed) × (r ≡ Ok qs) × (x ∷ qs ≡ ps)
+with_front_ok x (Ok qs) ps e = (qs, refl, ok_is (x ∷ qs) ps e)
+with_front_ok x (Err f) ps e = absurd cc
 
 read_token : (n bits total : ℕ) → Reads n bits total → (at : ℕ) (ts : List ℕ) (ps : List Placed) (r : TokenRead) → token_at bits ts ≡ r → length ts ≤ suc n → at + length ts ≡ total
     → go_on (total - length ts) r (tokens_from n bits total) ≡ Ok ps → IsFront bits at ts ps total []
@@ -229,7 +229,7 @@ read_token n bits total ih at ts ps (Ok (k, after)) t l h e =
     let f = token_sound bits ts k after t in
     let less = token_less bits ts (k, after) t in
     let place : total - length ts ≡ at = omega arith in
-    let q = front_ok (k, total - length ts) (tokens_from n bits total after) ps e in
+    let q = with_front_ok (k, total - length ts) (tokens_from n bits total after) ps e in
     let rest = ih (at + length f.front) after q.0 (omega arith) (after_front at total ts f.front after h f.parts) q.1 in
     let made = g.token f.spelled rest in
     subst (λ (z : List Placed). IsFront bits at ts z total []) q.2

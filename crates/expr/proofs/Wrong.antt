@@ -10,11 +10,11 @@ use Rattle.expr.specs.Tokens as t
 use Rattle.line_text.specs.Identifiers.{is_identifier_start, is_identifier_continue}
 use Rattle.expr.specs.Bytes.{is_space, begins_number}
 use Rattle.energy_program.specs.Faults.{Refusal, BadCharacter, BadNumber, NumberRange, UnexpectedToken, UnknownName, WrongArgumentCount, BadExponent, RepeatedDefinition, ReservedName, TooLarge, LeftOutFunction}
-use Rattle.expr.specs.Numerals.{number_at, after_numeral}
 use Rattle.expr.specs.Lexing.{symbol_of, TokenRead, number_token, symbol_token, token_at, Tokens, with_front, refusal_at, go_on, tokens_from, tokens_of}
 use Rattle.expr.specs.Text.{IsToken, IsFront, BeginsNone, BeginsBadly, BeginsMalformed, BeginsTooGreat, IsWrongAt}
 use Rattle.expr.specs.Text as g
-use Rattle.expr.proofs.NumeralLemmas.{number_bad, number_too_great}
+use Rattle.fixed.specs.NumeralParts.{front_of}
+use Rattle.fixed.proofs.NumeralLemmas.{front_bad, front_too_great}
 use Rattle.expr.proofs.TextLemmas.{numeral_begins, token_sound, after_front}
 use Rattle.expr.proofs.Results.{err_is}
 
@@ -33,15 +33,15 @@ record Stuck (bits at : ℕ) (ts : List ℕ) (f : Refusal) : Type 0 where
 abbrev StuckAll : ℕ → ℕ → ℕ → Type 0
 StuckAll n bits total = (at : ℕ) (ts : List ℕ) (f : Refusal) → at + length ts ≡ total → tokens_from n bits total ts ≡ Err f → Stuck bits at ts f
 
-front_err : (x : Placed) (r : Tokens) (f : Refusal) → with_front (x ∷ []) r ≡ Err f → r ≡ Err f
-front_err x (Ok ts) f e = absurd cc
-front_err x (Err w) f e = e
+with_front_err : (x : Placed) (r : Tokens) (f : Refusal) → with_front (x ∷ []) r ≡ Err f → r ≡ Err f
+with_front_err x (Ok ts) f e = absurd cc
+with_front_err x (Err w) f e = e
 
 stuck_token : (n bits total : ℕ) → StuckAll n bits total → (at b : ℕ) (rest : List ℕ) (f : Refusal) (r : TokenRead) → is_space b ≡ false → token_at bits (b ∷ rest) ≡ r → at + length (b ∷ rest) ≡ total
     → go_on (total - length (b ∷ rest)) r (tokens_from n bits total) ≡ Err f → Stuck bits at (b ∷ rest) f
 stuck_token n bits total ih at b rest f (Ok (k, after)) s t h e =
     let p = token_sound bits (b ∷ rest) k after t in
-    let i = ih (at + length p.front) after f (after_front at total (b ∷ rest) p.front after h p.parts) (front_err (k, total - length (b ∷ rest)) (tokens_from n bits total after) f e) in
+    let i = ih (at + length p.front) after f (after_front at total (b ∷ rest) p.front after h p.parts) (with_front_err (k, total - length (b ∷ rest)) (tokens_from n bits total after) f e) in
     record {
       tokens = (k, at) ∷ i.tokens;
       place = i.place;
@@ -117,7 +117,7 @@ begins_none (g.name {b = c} {bs} d ev st) b a e n = let h : true ≡ false = sym
 -- a token that is not read: by its first byte
 abbrev NumberErr : ℕ → List ℕ → Wrong → Type 0
 NumberErr bits ts wrong.Byte = ⊥
-NumberErr bits ts (wrong.Number f) = number_at bits ts ≡ Err f
+NumberErr bits ts (wrong.Number f) = front_of bits ts ≡ Err f
 
 abbrev OtherErr : ℕ → Wrong → Type 0
 OtherErr b wrong.Byte = NoStart b
@@ -126,7 +126,7 @@ OtherErr b (wrong.Number f) = ⊥
 number_fault : (f k : NumFault) → ◌≡◌ {A = TokenRead} (Err (wrong.Number f)) (Err (wrong.Number k)) → ◌≡◌ {A = Result (ℤ × List ℕ) NumFault} (Err f) (Err k)
 number_fault f k e = let same : f ≡ k = cc in let failed : NumFault → Result (ℤ × List ℕ) NumFault = λ z. Err z in ap failed same
 
-number_err : (bits : ℕ) (ts : List ℕ) (w : Wrong) (r : Result (ℤ × List ℕ) NumFault) → number_at bits ts ≡ r → number_token ts r ≡ Err w → NumberErr bits ts w
+number_err : (bits : ℕ) (ts : List ℕ) (w : Wrong) (r : Result (ℤ × List ℕ) NumFault) → front_of bits ts ≡ r → number_token ts r ≡ Err w → NumberErr bits ts w
 number_err bits ts w (Ok x) h e = absurd cc
 number_err bits ts wrong.Byte (Err f) h e = absurd cc
 number_err bits ts (wrong.Number k) (Err f) h e = h ∙ number_fault f k e
@@ -145,8 +145,8 @@ TokenErr bits b ts w true = (begins_number b ≡ true) × NumberErr bits ts w
 TokenErr bits b ts w false = OtherErr b w
 
 token_err_by : (bits b : ℕ) (rest : List ℕ) (w : Wrong) (x : Lexeme × List ℕ) (c : Bool) → begins_number b ≡ c
-    → cond c (number_token (b ∷ rest) (number_at bits (b ∷ rest))) (cond (is_identifier_start b) (Ok x) (symbol_token rest (symbol_of b))) ≡ Err w → TokenErr bits b (b ∷ rest) w c
-token_err_by bits b rest w x true n e = (n, number_err bits (b ∷ rest) w (number_at bits (b ∷ rest)) refl e)
+    → cond c (number_token (b ∷ rest) (front_of bits (b ∷ rest))) (cond (is_identifier_start b) (Ok x) (symbol_token rest (symbol_of b))) ≡ Err w → TokenErr bits b (b ∷ rest) w c
+token_err_by bits b rest w x true n e = (n, number_err bits (b ∷ rest) w (front_of bits (b ∷ rest)) refl e)
 token_err_by bits b rest w x false n e = name_err b x rest w (is_identifier_start b) n refl e
 
 token_err : (bits b : ℕ) (rest : List ℕ) (w : Wrong) → token_at bits (b ∷ rest) ≡ Err w → TokenErr bits b (b ∷ rest) w (begins_number b)
@@ -158,13 +158,13 @@ byte_none bits b rest true e s = absurd e.1
 byte_none bits b rest false e s = record { no_space = s; no_number = e.number; no_token = λ bits a rest k i. begins_none i b a refl e }
 
 numeral_malformed : (bits b : ℕ) (rest : List ℕ) (c : Bool) → TokenErr bits b (b ∷ rest) (wrong.Number number.BadNumber) c → BeginsMalformed (b ∷ rest)
-numeral_malformed bits b rest true e = record { byte = b; rest = rest; parts = refl; begins = e.0; no_numeral = number_bad bits (b ∷ rest) e.1 }
+numeral_malformed bits b rest true e = record { byte = b; rest = rest; parts = refl; begins = e.0; no_numeral = front_bad bits (b ∷ rest) e.1 }
 numeral_malformed bits b rest false e = absurd e
 
 numeral_too_great : (bits b : ℕ) (rest : List ℕ) (c : Bool) → TokenErr bits b (b ∷ rest) (wrong.Number number.NumberRange) c → BeginsTooGreat bits (b ∷ rest)
 numeral_too_great bits b rest true e =
-    let n = number_too_great bits (b ∷ rest) e.1 in
-    record { numeral = n.numeral; rest = after_numeral (b ∷ rest); parts = sym n.parts; is_numeral = n.is_numeral; ends = n.ends; too_great = n.value }
+    let n = front_too_great bits (b ∷ rest) e.1 in
+    record { numeral = n.1.numeral; rest = n.0; begins = n.1.front; too_great = n.1.value }
 numeral_too_great bits b rest false e = absurd e
 
 -- what a text that is stuck begins with

@@ -1,5 +1,5 @@
 -- Texts of energies.
-use Rattle.std.specs.Prelude.{◌≡◌, ℕ, suc, ◌<◌, ◌≤◌, nat_lt, ◌⊎◌, Bool, true, false, List, [], ◌∷◌, ◌++◌, length, Result, Ok, Err}
+use Rattle.std.specs.Prelude.{◌≡◌, ◌↔◌, ℕ, suc, ◌<◌, ◌≤◌, nat_lt, ◌⊎◌, Bool, true, false, List, [], ◌∷◌, ◌++◌, length, Result, Ok, Err}
 use Rattle.fallible.specs.Failures.{IfRefused}
 use Rattle.fallible.specs.declared.failure.Failure.{Failure}
 use Rattle.energy_program.specs.declared.faults.ExprFault.{ExprFault}
@@ -121,3 +121,7 @@ trees_in bits variables text = do
 -- what a text is read as
 unfoldable pub program_of : ℕ → List (List ℕ) → List ℕ → Result Tree Refusal
 program_of bits variables text = in_place (trees_in bits variables text)
+
+-- A text is read as a tree exactly where it says that tree.
+abbrev pub ReadsEnergyTexts : Type 0
+ReadsEnergyTexts = (bits : ℕ) (variables : List (List ℕ)) (text : List ℕ) (e : Tree) → (program_of bits variables text ≡ Ok e) ↔ IsEnergy bits variables text 64 e

@@ -4,14 +4,14 @@ use Rattle.std.specs.List.{prefix_len}
 use Rattle.std.specs.Borrow.{Bor}
 use Rattle.fixed.specs.declared.faults.NumFault.{NumFault}
 use Rattle.fixed.specs.declared.faults.NumFault.TheVariants as number
+use Rattle.fixed.specs.NumeralParts.{front_of}
 use Rattle.expr.specs.declared.lexer.Wrong.{Wrong}
 use Rattle.expr.specs.declared.lexer.Wrong.TheVariants as wrong
 use Rattle.expr.specs.declared.tokens.Kind.{Kind}
 use Rattle.line_text.specs.Identifiers.{is_identifier_start, is_identifier_continue}
 use Rattle.expr.specs.Bytes.{is_space, begins_number}
 use Rattle.energy_program.specs.Faults.{Refusal, BadCharacter, BadNumber, NumberRange}
-use Rattle.expr.specs.Numerals.{number_at, whole_in}
-use Rattle.expr.specs.Tokens.{Lexeme, Placed, lexeme}
+use Rattle.expr.specs.Tokens.{Lexeme, Placed, lexeme, whole_in}
 use Rattle.expr.specs.Tokens as t
 
 unfoldable pub symbol_of : ℕ → Option Lexeme
@@ -39,7 +39,7 @@ symbol_token after (Some k) = Ok (k, after)
 unfoldable pub token_at : ℕ → List ℕ → TokenRead
 token_at bits [] = Err wrong.Byte
 token_at bits (b ∷ rest) =
-    if begins_number b then number_token (b ∷ rest) (number_at bits (b ∷ rest))
+    if begins_number b then number_token (b ∷ rest) (front_of bits (b ∷ rest))
     else (if is_identifier_start b then Ok (t.Name (take (prefix_len is_identifier_continue (b ∷ rest)) (b ∷ rest)), drop (prefix_len is_identifier_continue (b ∷ rest)) (b ∷ rest))
     else symbol_token rest (symbol_of b))
 

@@ -1,6 +1,5 @@
 pub mod Tokens
 pub mod Bytes
-pub mod Numerals
 pub mod Text
 pub mod Lexing
 pub mod Syntax

@@ -1,12 +1,11 @@
 -- Which bytes spell which tokens (operators and names as in the OpenMM User Guide, custom force expressions).
 use Rattle.std.specs.Prelude.{◌≡◌, ℕ, ℤ, ◌+◌, Bool, true, false, List, [], ◌∷◌, ◌++◌, length, Ok, Err}
 use Rattle.fixed.specs.declared.faults.NumFault.TheVariants.{NumberRange}
-use Rattle.fixed.specs.Numerals.{Numeral, IsNumeral, numeral_text, value_of}
-use Rattle.expr.specs.Tokens.{Lexeme, Placed}
+use Rattle.fixed.specs.Numerals.{Numeral, IsNumeral, numeral_text, value_of, Ends, BeginsWith}
+use Rattle.expr.specs.Tokens.{Lexeme, Placed, whole_in}
 use Rattle.expr.specs.Tokens as t
 use Rattle.line_text.specs.Identifiers.{is_identifier_start, is_identifier_continue}
 use Rattle.expr.specs.Bytes.{is_space, begins_number}
-use Rattle.expr.specs.Numerals.{Ends, whole_in}
 
 abbrev pub Every : (ℕ → Bool) → List ℕ → Type 0
 Every test [] = Unit {0}
@@ -57,9 +56,7 @@ BeginsBadly (b ∷ rest) = BeginsNone b
 pub record BeginsTooGreat (bits : ℕ) (text : List ℕ) : Type 0 where
   pub numeral : Numeral
   pub rest : List ℕ
-  pub parts : text ≡ numeral_text numeral ++ rest
-  pub is_numeral : IsNumeral numeral
-  pub ends : Ends numeral rest
+  pub begins : BeginsWith text numeral rest
   pub too_great : value_of bits numeral ≡ Err NumberRange
 
 -- the text begins with a digit or a point, and with no numeral
@@ -68,7 +65,7 @@ pub record BeginsMalformed (text : List ℕ) : Type 0 where
   pub rest : List ℕ
   pub parts : text ≡ byte ∷ rest
   pub begins : begins_number byte ≡ true
-  pub no_numeral : (n : Numeral) (after : List ℕ) → IsNumeral n → Ends n after → text ≡ numeral_text n ++ after → ⊥
+  pub no_numeral : (n : Numeral) (after : List ℕ) → BeginsWith text n after → ⊥
 
 -- behind its first tokens, at this place, the text begins so
 pub record IsWrongAt (bits : ℕ) (Wrong : List ℕ → Type 0) (text : List ℕ) (at : ℕ) : Type 0 where

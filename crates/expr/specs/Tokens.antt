@@ -1,9 +1,10 @@
 -- Tokens, and where they stand.
-use Rattle.std.specs.Prelude.{ℕ, ℤ, List, map}
+use Rattle.std.specs.Prelude.{ℕ, ℤ, List, map, min, Option, Some, None}
 use Rattle.std.specs.declared.vec.Vec.{Vec}
 use Rattle.expr.specs.declared.tokens.Kind.{Kind}
 use Rattle.expr.specs.declared.tokens.Kind.TheVariants as k
 use Rattle.expr.specs.declared.tokens.Token.{Token}
+use Rattle.line_text.specs.Columns.{digits_of}
 
 -- A number stands as its raw value, and as the whole number that its numeral writes in digits alone (at 100 or more as 100,
 -- otherwise as 0); a name as its bytes.
@@ -20,6 +21,14 @@ pub data Lexeme : Type 0 where
   Comma : Lexeme
   Semicolon : Lexeme
   Equals : Lexeme
+
+-- the number that the bytes write in digits alone, or 100 where it is more; otherwise 0
+abbrev pub up_to_100 : Option ℕ → ℕ
+up_to_100 None = 0
+up_to_100 (Some n) = min n 100
+
+abbrev pub whole_in : List ℕ → ℕ
+whole_in text = up_to_100 (digits_of text)
 
 -- a token, and the offset of its first byte
 abbrev pub Placed : Type 0

@@ -3,17 +3,16 @@ ghost use Rattle.std.specs.Prelude.{◌≡◌, ◌≤◌, length};
 ghost use Rattle.std.specs.List.{prefix_len};
 ghost use Rattle.fixed.specs.Fractions.{bits_of};
 ghost use Rattle.energy_program.specs.Faults.{Gives, refusal_of};
-ghost use Rattle.expr.specs.Tokens.{placed_items};
+ghost use Rattle.expr.specs.Tokens.{placed_items, whole_in};
 ghost use Rattle.line_text.specs.Identifiers.{is_identifier_continue};
 ghost use Rattle.expr.specs.Bytes.{is_space, begins_number};
 ghost use Rattle.expr.specs.Lexing.{symbol_of, ShowsKind, token_at, ShowsToken, refusal_at, tokens_of};
 
-use crate::numerals::{number, whole};
 use crate::tokens::{Kind, Token};
 use energy_program::ExprFault;
 use fallible::Failure;
-use fixed::{Frac, NumFault};
-use line_text::{is_identifier_continue, is_identifier_start};
+use fixed::{Frac, NumFault, numeral_front};
+use line_text::{digits_up_to, is_identifier_continue, is_identifier_start};
 use std::alloc::Allocator;
 
 /// What is wrong at the front of a text.
@@ -66,6 +65,16 @@ fn word_len(text: &[u8]) -> usize
         .count()
 }
 
+// The number that a numeral writes in digits alone, or 100 where it is more. Otherwise 0.
+fn whole(text: &[u8]) -> u8
+    ensures { result ≡ whole_in text.now }
+{
+    match digits_up_to(100, text) {
+        Some(whole) => whole as u8,
+        None => 0,
+    }
+}
+
 // The token at the front, and the bytes after it.
 #[tactic(auto, unfolding(crate::specs::Lexing::token_at))]
 fn token_at<'a>(frac: Frac, text: &'a [u8]) -> Result<(Kind<'a>, &'a [u8]), Wrong>
@@ -75,10 +84,10 @@ fn token_at<'a>(frac: Frac, text: &'a [u8]) -> Result<(Kind<'a>, &'a [u8]), Wron
         [] => Err(Wrong::Byte),
         [first, rest @ ..] => {
             if begins_number(*first) {
-                match number(frac, text) {
+                match numeral_front(frac, text) {
                     Ok((value, after)) => {
                         let whole = whole(&text[..text.len() - after.len()]);
-                        Ok((Kind::Number(value, whole), after))
+                        Ok((Kind::Number(value.raw(), whole), after))
                     }
                     Err(fault) => Err(Wrong::Number(fault)),
                 }

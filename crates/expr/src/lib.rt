@@ -5,8 +5,8 @@ mod calls;
 mod definitions;
 mod energy;
 mod exponents;
+mod laws;
 mod lexer;
-mod numerals;
 mod parser;
 mod parts;
 mod sources;
@@ -15,4 +15,4 @@ mod tokens;
 mod uses;
 
 pub use energy::parse;
-pub use energy_program::{Expr, ExprFault, Function, Name, Names, Operator, Program};
+pub use laws::reads_energy_texts;

@@ -14,7 +14,7 @@ use fallible::Failure;
 use std::alloc::Allocator;
 
 /// How many definitions a text may have.
-const MAX_DEFINITIONS: usize = 64;
+const MAX_TEXT_DEFINITIONS: usize = 64;
 
 /// A name, and what it stands for.
 #[derive(Drop)]
@@ -100,7 +100,10 @@ impl<A: Allocator + Copy> Parser<A> {
     {
         let (body, mut rest) = self.expr(tokens, LEVELS)?;
         let mut definitions = Vec::new(self.alloc);
-        while let Some((name, after)) = self.heading(rest, definitions.len() == MAX_DEFINITIONS)? {
+        while let Some((name, after)) = self.heading(
+            rest,
+            definitions.len() == MAX_TEXT_DEFINITIONS,
+        )? {
             let (value, beyond) = self.expr(after, LEVELS)?;
             definitions.push(Definition { name, value })?;
             rest = beyond;

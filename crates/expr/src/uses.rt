@@ -2,7 +2,7 @@
 ghost use Rattle.std.specs.Prelude.{◌≡◌, ◌+◌, ◌≤◌, IfOk, IsTrue, length, map};
 ghost use Rattle.energy_program.specs.Faults.{Gives};
 ghost use Rattle.energy_program.specs.Names.{input_of};
-ghost use Rattle.energy_program.specs.Tree.{are_scoped, inputs_of, is_scoped, tree_of};
+ghost use Rattle.energy_program.specs.Tree.{are_scoped, variable_count, is_scoped, tree_of};
 ghost use Rattle.energy_program.specs.Variables.{names_of};
 ghost use Rattle.energy_program.specs.Programs.{trees_of};
 ghost use Rattle.expr.specs.Syntax.{definition_of, definitions_of, names_in, source_of, syntax_of};
@@ -28,7 +28,7 @@ pub struct Scope<'a, 'b, 'c, A: Allocator> {
 // What a name stands for.
 fn used<A: Allocator + Copy>(alloc: A, scope: &Scope<A>, name: &[u8]) -> Part<A>
     ensures value { Gives (λ part. tree_of part.value) result (used scope.now.first (names_in (map definition_of scope.now.later.now)) name.now (input_of (names_of scope.now.names.now) name.now)) }
-    ensures scoped { IfOk result (λ e. IsTrue (is_scoped (inputs_of scope.now.names.now.parameters scope.now.names.now.globals) scope.now.first (scope.now.first + length scope.now.later.now) (tree_of e.value))) }
+    ensures scoped { IfOk result (λ e. IsTrue (is_scoped (variable_count scope.now.names.now.parameters scope.now.names.now.globals) scope.now.first (scope.now.first + length scope.now.later.now) (tree_of e.value))) }
 {
     match scope.names.input_of(name) {
         Some(input) => leaf(alloc, Expr::Input(input)),
@@ -43,7 +43,7 @@ fn used<A: Allocator + Copy>(alloc: A, scope: &Scope<A>, name: &[u8]) -> Part<A>
 #[tactic(auto, unfolding(crate::specs::Uses::resolved))]
 pub fn resolve<A: Allocator + Copy>(alloc: A, scope: &Scope<A>, syntax: &Syntax<A>) -> Part<A>
     ensures value { Gives (λ part. tree_of part.value) result (resolved (names_of scope.now.names.now) scope.now.first (names_in (map definition_of scope.now.later.now)) (syntax_of syntax.now)) }
-    ensures scoped { IfOk result (λ e. IsTrue (is_scoped (inputs_of scope.now.names.now.parameters scope.now.names.now.globals) scope.now.first (scope.now.first + length scope.now.later.now) (tree_of e.value))) }
+    ensures scoped { IfOk result (λ e. IsTrue (is_scoped (variable_count scope.now.names.now.parameters scope.now.names.now.globals) scope.now.first (scope.now.first + length scope.now.later.now) (tree_of e.value))) }
 {
     match syntax {
         Syntax::Number(value) => leaf(alloc, Expr::Number(*value)),
@@ -73,7 +73,7 @@ fn resolve_all<A: Allocator + Copy>(
 ) -> Result<Vec<Expr<A>, A>, Failure<ExprFault<A>>>
     requires { length definitions.now ≤ 64 }
     ensures value { Gives (λ trees. map tree_of trees.items) result (all_resolved (names_of names.now) 0 (map definition_of definitions.now)) }
-    ensures scoped { IfOk result (λ trees. IsTrue (are_scoped (inputs_of names.now.parameters names.now.globals) 0 (map tree_of trees.items))) }
+    ensures scoped { IfOk result (λ trees. IsTrue (are_scoped (variable_count names.now.parameters names.now.globals) 0 (map tree_of trees.items))) }
     ensures count { IfOk result (λ trees. length trees.items ≡ length definitions.now) }
 {
     let mut trees = Vec::new(alloc);

@@ -1,5 +1,5 @@
 -- Laws of calls that can run out of memory.
-use Rattle.std.proofs.Common.{◌≡◌, Result, Ok, Err, IfErr}
+use Rattle.std.proofs.Common.{◌≡◌, Result, Ok, Err, IfErr, IfOk}
 use Rattle.fallible.specs.Failures.{Fails, Gives, IfRefused}
 use Rattle.fallible.specs.declared.failure.Failure.{Failure}
 use Rattle.fallible.specs.declared.failure.Failure.TheVariants.{Refused, Memory}
@@ -14,3 +14,8 @@ pub refused_for : {X Y R S : Type 0} (view : X → Y) (seen : R → S) (holds : 
 refused_for view seen holds (Ok x) said causes h = tt
 refused_for view seen holds (Err (Refused fault)) said causes h = causes fault h
 refused_for view seen holds (Err Memory) said causes h = tt
+
+-- What holds anyway holds of a value.
+pub IfOk_of : {X E P : Type 0} (r : Result X E) → P → IfOk r (λ _. P)
+IfOk_of (Ok x) p = p
+IfOk_of (Err e) p = tt

@@ -48,9 +48,7 @@ impl<A: Allocator> Collected<A> {
 }
 
 impl<A: Allocator> Out for Collected<A> {
-    ghost taken = { λ c. Some c.bytes };
-
-    ghost failed = { λ c. c.failures };
+    ghost output = { λ c. record { taken = Some c.bytes; failed = c.failures } };
 
     /// Takes all of the bytes, or none where memory is refused.
     fn write(&mut self, bytes: &[u8]) -> Result<usize, OutFault> {

@@ -14,6 +14,7 @@ floor_greatest n d q k h low =
     (λ above. let u = h.next_above in let m = times_next q k d above in absurd (omega (arith, ints)))
     (λ below. times_le q k d below)
 
+-- whole_of is the greatest multiple of one that is at most the number
 pub whole_is : (bits : ℕ) (a q : ℤ) → q ≡ whole_of bits a → IsGreatestMultiple (one bits) a q
 whole_is bits a q e =
     let k = floor_over a (2 ^ bits) in
@@ -31,6 +32,7 @@ mirrored d a q h =
       least = λ k above. let e = neg_times k d in let g = h.greatest (neg_ℤ k) (omega (arith, ints)) in omega (arith, ints);
     }
 
+-- a ceiling, where there is one, is the least multiple of one that is at least the number
 pub ceiling_is : (bits : ℕ) (a : ℤ) (r : Result ℤ Fault) → r ≡ ceiling_of bits a → IfOk r (IsLeastMultiple (one bits) a)
 ceiling_is bits a r e =
     let q = whole_of bits (neg_ℤ a) in

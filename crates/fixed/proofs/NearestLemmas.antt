@@ -14,6 +14,7 @@ below_multiple n d j =
     let q : (n * suc j + j) / suc j ≡ n = div-mul-add n (suc j) j (omega arith) in
     rw e (sym (div-div-eq-div-mul (n * suc j + j) (suc j) d) ∙ ap (λ m. m / d) q)
 
+-- a common factor of dividend and divisor changes no floor
 pub floor_cancel : (n : ℤ) (d k : ℕ) → 0 < k → floor_over (n *ℤ pos k) (d * k) ≡ floor_over n d
 floor_cancel (pos n) d k p = ap pos (mul-div-mul_right n d p)
 floor_cancel (negsuc n) d (suc j) p =
@@ -26,11 +27,13 @@ double_times a b k =
     let e : pos 2 *ℤ a ≡ a +ℤ a = omega (arith, ints) in
     rw e (omega (arith, ints, sum_times (a +ℤ a) (pos b) k, sum_times a a k))
 
+-- a common factor of dividend and divisor changes no nearest whole number
 pub nearest_cancel : (a : ℤ) (b k : ℕ) → 0 < k → nearest_of (a *ℤ pos k) (pos (b * k)) ≡ nearest_of a (pos b)
 nearest_cancel a b k p =
     let e : 2 * (b * k) ≡ 2 * b * k = omega arith in
     rw (double_times a b k, e) (floor_cancel (pos 2 *ℤ a +ℤ pos b) (2 * b) k p)
 
+-- the whole number nearest to a fraction is no larger than dividend and divisor together
 pub nearest_small : (a b q : ℤ) → pos 0 <ℤ b → IsNearest a b q → unsigned_abs q ≤ unsigned_abs a + unsigned_abs b
 nearest_small a (negsuc m) q p h = absurd (omega (arith, ints))
 nearest_small a (pos zero) q p h = absurd (omega (arith, ints))

@@ -53,6 +53,7 @@ number_read column z h =
 three_is : (x y z : ℤ) (v : List ℤ) → ◌≡◌ {A = Option (List ℤ)} (Some (x ∷ y ∷ z ∷ [])) (Some v) → x ∷ y ∷ z ∷ [] ≡ v
 three_is x y z v e = cc
 
+-- three columns that are read write their numbers
 pub three_written : (places : ℕ) (text : List ℕ) (v : List ℤ) → three_columns_of places text ≡ Some v → AreColumns places text v
 unfolding three_columns_of
 three_written places text v e =
@@ -62,6 +63,7 @@ three_written places text v e =
     subst (λ (w : List ℤ). AreColumns places text w) (three_is x.0 y.0 z.0 v z.2)
     (column_written places (slice_range text 0 8) x.0 x.1, column_written places (slice_range text 8 16) y.0 y.1, column_written places (slice_range text 16 24) z.0 z.1)
 
+-- three columns that write numbers are read as them
 pub three_read : (places : ℕ) (text : List ℕ) (v : List ℤ) → AreColumns places text v → three_columns_of places text ≡ Some v
 unfolding three_columns_of
 three_read places text [] h = absurd h
@@ -84,6 +86,7 @@ pub record HasPoint (places : ℕ) (column : List ℕ) : Type 0 where
   pub part_lacks : lacks 46 part ≡ true
   pub part_length : length part ≡ places
 
+-- a column that writes a number with so many decimals has one point, so many digits before its end
 pub has_point : (places : ℕ) (column : List ℕ) (z : ℤ) → WritesColumn places column z → HasPoint places column
 has_point places column z h = at h.number
   where
@@ -230,6 +233,7 @@ points_written n text (Some distance) a e = at (eqb distance 8) (fields_of text)
     at true (Some x) f d = let same : x ≡ a = cc in f ∙ ap (λ (y : AtomView). Some y) same
     at false o f d = absurd cc
 
+-- a line that is read as an atom is that atom's
 pub atom_written : (n : ℕ) (line : LineView) (a : AtomView) → atom_in n line ≡ Ok a → IsAtomLine line.text a
 unfolding atom_in
 atom_written n line a e = at (not line.ended && ltb (length line.text) 44) (is_printable line.text) refl e
@@ -243,6 +247,7 @@ not_cut_off : (ended b : Bool) → b ≡ false → (not ended && b) ≡ false
 not_cut_off true b e = refl
 not_cut_off false b e = e
 
+-- an atom's line is read as that atom, whether or not it ends in a line feed
 pub atom_read : (n : ℕ) (text : List ℕ) (ended : Bool) (a : AtomView) → IsAtomLine text a → atom_in n (record { text = text; ended = ended }) ≡ Ok a
 unfolding atom_in
 atom_read n text ended a h =

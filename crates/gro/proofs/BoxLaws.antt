@@ -22,6 +22,7 @@ use Rattle.gro.proofs.CountLaws.{test_ok, first_digit}
 abbrev pub with_front : List ℤ → Option (List ℤ) → Option (List ℤ)
 with_front front read = option_map (λ vs. front ++ vs) read
 
+-- one value more is read, and the whole stays the same
 pub values_more : (front : List ℤ) (word : List ℕ) (ws : List (List ℕ)) (v : ℤ) (total : Option (List ℤ)) → value_of word ≡ Some v
     → with_front front (values_of (word ∷ ws)) ≡ total → with_front (front ++ v ∷ []) (values_of ws) ≡ total
 unfolding values_of
@@ -31,11 +32,13 @@ values_more front word ws v total e so_far = regroup (values_of ws) ∙ sym (ap 
     regroup None = refl
     regroup (Some vs) = ap (λ (xs : List ℤ). Some xs) (append_assoc front (v ∷ []) vs)
 
+-- a word that writes no value makes the whole none
 pub values_stop : (front : List ℤ) (word : List ℕ) (ws : List (List ℕ)) (total : Option (List ℤ)) → value_of word ≡ None
     → with_front front (values_of (word ∷ ws)) ≡ total → None ≡ total
 unfolding values_of
 values_stop front word ws total e so_far = sym (ap (λ (o : Option ℤ). with_front front (o >>= λ w. values_of ws >>= λ vs. Some (w ∷ vs))) e) ∙ so_far
 
+-- where no word is left, the values read so far are the whole
 pub values_done : (front : List ℤ) (total : Option (List ℤ)) → with_front front (values_of []) ≡ total → Some front ≡ total
 unfolding values_of
 values_done front total so_far = ap (λ (xs : List ℤ). Some xs) (sym (append-nil front)) ∙ so_far
@@ -46,6 +49,7 @@ or_false : (a b : Bool) → (a || b) ≡ false → (a ≡ false) × (b ≡ false
 or_false true b e = absurd cc
 or_false false b e = (refl, e)
 
+-- a text that is read as few digits is 1 to so many digits that write the number
 pub few_written : (most : ℕ) (text : List ℕ) (n : ℕ) → few_digits_of most text ≡ Some n → WritesFew most text n
 unfolding few_digits_of
 few_written most text n e =
@@ -55,6 +59,7 @@ few_written most text n e =
     let d = digits_written text n a.1 in
     record { number = record { form = record { some = omega arith; digits = d.0 }; value = d.1 }; few = ltb-false most (length text) b.1 }
 
+-- 1 to so many digits that write a number are read as it
 pub few_read : (most : ℕ) (text : List ℕ) (n : ℕ) → WritesFew most text n → few_digits_of most text ≡ Some n
 unfolding few_digits_of
 few_read most text n h =
@@ -99,6 +104,7 @@ value_read : (word : List ℕ) (v : ℤ) → WritesSigned WritesLength word v �
 unfolding value_of
 value_read word v h = signed_read WritesLength length_of length_read length_first word v h
 
+-- words that are read as values write them
 pub values_written : (ws : List (List ℕ)) (vs : List ℤ) → values_of ws ≡ Some vs → AreValues ws vs
 unfolding values_of
 values_written [] [] e = tt
@@ -108,6 +114,7 @@ values_written (w ∷ ws) vs e =
     let b = bind_some (values_of ws) (λ us. Some (a.0 ∷ us)) vs a.2 in
     subst (λ (us : List ℤ). AreValues (w ∷ ws) us) (some_is b.2) (value_written w a.0 a.1, values_written ws b.0 b.1)
 
+-- words that write values are read as them
 pub values_read : (ws : List (List ℕ)) (vs : List ℤ) → AreValues ws vs → values_of ws ≡ Some vs
 unfolding values_of
 values_read [] [] h = refl
@@ -116,6 +123,7 @@ values_read (w ∷ ws) [] h = absurd h
 values_read (w ∷ ws) (v ∷ vs) h =
     ap (λ (o : Option ℤ). o >>= λ a. values_of ws >>= λ us. Some (a ∷ us)) (value_read w v h.0) ∙ ap (λ (o : Option (List ℤ)). o >>= λ us. Some (v ∷ us)) (values_read ws vs h.1)
 
+-- there is one value for each word
 pub values_length : (ws : List (List ℕ)) (vs : List ℤ) → AreValues ws vs → length ws ≡ length vs
 values_length [] [] h = refl
 values_length [] (v ∷ vs) h = absurd h
@@ -131,12 +139,14 @@ zeros_are (pos n ∷ vs) e =
     ap (λ (m : ℕ). pos m ∷ vs) (eqb-true n 0 p.0) ∙ ap (λ (us : List ℤ). pos 0 ∷ us) (zeros_are vs p.1)
 zeros_are (negsuc n ∷ vs) e = absurd cc
 
+-- zeros all test as zero
 pub all_zero : (k : ℕ) → list_all is_zero (replicate k (pos 0)) ≡ true
 all_zero zero = refl
 all_zero (suc k) = all_zero k
 
 -- ---- the box
 
+-- a line that is read as a box's sides is that box's
 pub sides_written : (n : ℕ) (line : LineView) (sides : List ℤ) → sides_in n line ≡ Ok sides → IsBox line.text sides
 unfolding sides_in
 sides_written n line sides e =
@@ -163,6 +173,7 @@ sides_written n line sides e =
           values = subst (λ (us : List ℤ). AreValues (words line.text) us) split are;
         })
 
+-- a box's line is read as its sides, whether or not it ends in a line feed
 pub sides_read : (n : ℕ) (text : List ℕ) (ended : Bool) (sides : List ℤ) → IsBox text sides → sides_in n (record { text = text; ended = ended }) ≡ Ok sides
 unfolding sides_in
 sides_read n text ended sides h =

@@ -14,6 +14,7 @@ use Rattle.gro.proofs.BoxLaws.{sides_written, sides_read}
 use Rattle.line_text.proofs.StepLaws.{bind_ok}
 use Rattle.gro.proofs.FrameLoops.{frame_shorter}
 
+-- equal answers that are no faults have equal values
 pub ok_is : {A : Type 0} {x y : A} → ◌≡◌ {A = Result A GroFault} (Ok x) (Ok y) → x ≡ y
 ok_is e = cc
 
@@ -23,6 +24,7 @@ with_rest rest r = r >>= λ x. Ok (x, rest)
 
 -- ---- atoms
 
+-- atoms that are read stand there, one line each, and are as many as were asked for
 pub atoms_written : (n k : ℕ) (bytes : List ℕ) (p : List AtomView × List ℕ) → atoms_at n k bytes ≡ Ok p → AreAtoms bytes p.0 p.1 × (length p.0 ≡ k)
 unfolding atoms_at atom_at
 atoms_written n zero bytes p e = subst (λ (q : List AtomView × List ℕ). AreAtoms bytes q.0 q.1 × (length q.0 ≡ 0)) (ok_is e) (refl, refl)
@@ -49,6 +51,7 @@ atoms_read n bytes (a ∷ atoms) rest h =
 
 -- ---- a frame
 
+-- a frame that is read stands there
 pub frame_written : (n : ℕ) (bytes : List ℕ) (p : FrameView × List ℕ) → frame_at n bytes ≡ Ok p → IsFrame bytes p.0 p.1
 unfolding frame_at count_at sides_at
 frame_written n bytes p e =
@@ -168,13 +171,16 @@ frames_read (suc k) n bytes (f ∷ g ∷ frames) lt h =
     ∙ ap (λ (b : Bool). cond b (Ok (f ∷ [])) (frames_at k (n + length f.atoms + 3) h.0 >>= λ fs. Ok (f ∷ fs))) (false_from_ne_true (is_blank h.0) (frames_not_blank h.0 (g ∷ frames) h.2))
     ∙ ap (λ (r : Result (List FrameView) GroFault). r >>= λ fs. Ok (f ∷ fs)) (frames_read k (n + length f.atoms + 3) h.0 (g ∷ frames) (omega arith) h.2)
 
+-- a file that is read as frames stands for these frames
 pub text_of_frames : (bytes : List ℕ) (frames : List FrameView) → frames_of bytes ≡ Ok frames → IsGroText bytes frames
 unfolding frames_of
 text_of_frames bytes frames e = frames_written (length bytes + 1) 1 bytes frames e
 
+-- a text that stands for frames is read as these frames
 pub frames_of_text : (bytes : List ℕ) (frames : List FrameView) → IsGroText bytes frames → frames_of bytes ≡ Ok frames
 unfolding frames_of
 frames_of_text bytes frames h = frames_read (length bytes + 1) 1 bytes frames (omega arith) h
 
+-- frames are read exactly where the text stands for them
 pub reads_texts : ReadsGroTexts
 reads_texts bytes frames = (text_of_frames bytes frames, frames_of_text bytes frames)

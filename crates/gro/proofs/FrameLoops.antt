@@ -22,6 +22,7 @@ regroup_atoms : (front : List AtomView) (a : AtomView) (read : Result (List Atom
 regroup_atoms front a (Ok x) = ap (λ (xs : List AtomView). Ok (xs, x.1)) (sym (append_assoc front (a ∷ []) x.0))
 regroup_atoms front a (Err f) = refl
 
+-- one atom more is read, and the whole stays the same
 pub atoms_go_on : (front : List AtomView) (start count i : ℕ) (bytes : List ℕ) (a : AtomView) (after : List ℕ) (total : Result (List AtomView × List ℕ) GroFault)
     → i < count → atom_at (start + i) bytes ≡ Ok (a, after)
     → with_atoms front (atoms_at (start + i) (count - i) bytes) ≡ total
@@ -37,6 +38,7 @@ atoms_stop : (fault : GroFault) (front : List AtomView) (n k : ℕ) (bytes : Lis
 unfolding atoms_at
 atoms_stop fault front n k bytes h = rw h refl
 
+-- a fault of an atom is the fault of the whole
 pub atoms_end : (fault : GroFault) (front : List AtomView) (start count i : ℕ) (bytes : List ℕ) (total : Result (List AtomView × List ℕ) GroFault)
     → i < count → atom_at (start + i) bytes ≡ Err fault
     → with_atoms front (atoms_at (start + i) (count - i) bytes) ≡ total → total ≡ Err fault
@@ -44,6 +46,7 @@ atoms_end fault front start count i bytes total lt h so_far =
     let k : suc (count - (i + 1)) ≡ count - i = omega arith in
     sym so_far ∙ ap (λ (j : ℕ). with_atoms front (atoms_at (start + i) j bytes)) (sym k) ∙ atoms_stop fault front (start + i) (count - (i + 1)) bytes h
 
+-- once all atoms are read, they are the whole, and the bytes left are left after it
 pub atoms_done : (front : List AtomView) (start count i : ℕ) (bytes : List ℕ) (total : Result (List AtomView × List ℕ) GroFault)
     → count ≤ i → with_atoms front (atoms_at (start + i) (count - i) bytes) ≡ total → total ≡ Ok (front, bytes)
 unfolding atoms_at
@@ -54,6 +57,7 @@ atoms_done front start count i bytes total le so_far =
 
 -- ---- each part leaves less than there was
 
+-- an atom's line leaves less than there was
 pub atom_shorter : (n : ℕ) (bytes : List ℕ) (p : AtomView × List ℕ) → atom_at n bytes ≡ Ok p → length p.1 < length bytes
 unfolding atom_at
 atom_shorter n bytes p e =
@@ -89,6 +93,7 @@ sides_shorter n bytes p e =
     let same : l.0.1 ≡ p.1 = let q : (a.0, l.0.1) ≡ p = cc in ap (λ (x : List ℤ × List ℕ). x.1) q in
     omega (arith, line_shorter bytes l.0 l.1, ap length same)
 
+-- a frame leaves less than there was
 pub frame_shorter : (n : ℕ) (bytes : List ℕ) (p : FrameView × List ℕ) → frame_at n bytes ≡ Ok p → length p.1 < length bytes
 unfolding frame_at
 frame_shorter n bytes p e =
@@ -101,6 +106,7 @@ frame_shorter n bytes p e =
 
 -- ---- frames
 
+-- the frames that were read before, and those that are still read
 abbrev pub with_frames : List FrameView → Result (List FrameView) GroFault → Result (List FrameView) GroFault
 with_frames front read = read >>= λ fs. Ok (front ++ fs)
 
@@ -121,6 +127,7 @@ frames_first : (most n : ℕ) (bytes : List ℕ) (r : Result (FrameView × List 
 unfolding frames_at
 frames_first most n bytes r e = ap (λ (q : Result (FrameView × List ℕ) GroFault). q >>= λ first. and_more first.0 first.1 (frames_at most (n + length first.0.atoms + 3) first.1)) e
 
+-- a failure of a frame is the failure of the whole
 pub frames_end : (failure : Failure GroFault) (front : List FrameView) (n : ℕ) (bytes : List ℕ) (total : Result (List FrameView) GroFault) → Fails (λ (f : GroFault). f) failure (frame_at n bytes)
     → with_frames front (frames_at (length bytes + 1) n bytes) ≡ total → Fails (λ (f : GroFault). f) failure total
 frames_end failure front n bytes total h so_far =
@@ -128,6 +135,7 @@ frames_end failure front n bytes total h so_far =
     fails_as (λ (f : GroFault). f) failure (frame_at n bytes) total
     (λ fault e. sym so_far ∙ ap (λ (j : ℕ). with_frames front (frames_at j n bytes)) (sym one) ∙ ap (with_frames front) (frames_first (length bytes) n bytes (Err fault) e)) h
 
+-- where only blanks are left behind a frame, it is the last one
 pub frames_done : (front : List FrameView) (n : ℕ) (bytes : List ℕ) (f : FrameView) (rest : List ℕ) (total : Result (List FrameView) GroFault) → frame_at n bytes ≡ Ok (f, rest)
     → is_blank rest ≡ true → with_frames front (frames_at (length bytes + 1) n bytes) ≡ total → total ≡ Ok (front ++ f ∷ [])
 frames_done front n bytes f rest total e blank so_far =
@@ -139,6 +147,7 @@ regroup_frames : (front : List FrameView) (f : FrameView) (read : Result (List F
 regroup_frames front f (Ok fs) = ap (λ (xs : List FrameView). Ok xs) (sym (append_assoc front (f ∷ []) fs))
 regroup_frames front f (Err e) = refl
 
+-- where more is left, the frames behind it are still read, and the whole stays the same
 pub frames_go_on : (front : List FrameView) (n m : ℕ) (bytes : List ℕ) (f : FrameView) (rest : List ℕ) (total : Result (List FrameView) GroFault) → frame_at n bytes ≡ Ok (f, rest)
     → m ≡ n + length f.atoms + 3 → is_blank rest ≡ false → with_frames front (frames_at (length bytes + 1) n bytes) ≡ total
     → with_frames (front ++ f ∷ []) (frames_at (length rest + 1) m rest) ≡ total

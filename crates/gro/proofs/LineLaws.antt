@@ -17,15 +17,18 @@ returns_bare line l =
     let front : lacks 10 u ≡ true = lacks_front 10 u (replicate f.0 13) (subst (λ (t : List ℕ). lacks 10 t ≡ true) f.1 l) in
     and_from (lacks 10 u) (not (eqb (get_or u (length u - 1) 0) 13)) front (ap not (ne_eqb (get_or u (length u - 1) 0) 13 (end_dropped 13 line (lit< tt))))
 
+-- a title does not end in a carriage return
 pub title_end : (text : List ℕ) → IsTrue (is_title text) → get_or text (length text - 1) 0 ≡ 13 → ⊥
 title_end text h e =
     let no : eqb (get_or text (length text - 1) 0) 13 ≡ false = not-true (eqb (get_or text (length text - 1) 0) 13) (and_parts (lacks 10 text) (not (eqb (get_or text (length text - 1) 0) 13)) h).1 in
     let yes : eqb (get_or text (length text - 1) 0) 13 ≡ true = eq-eqb (get_or text (length text - 1) 0) 13 e in
     absurd cc
 
+-- a title has no line feed
 pub title_lacks : (text : List ℕ) → IsTrue (is_title text) → lacks 10 text ≡ true
 title_lacks text h = (and_parts (lacks 10 text) (not (eqb (get_or text (length text - 1) 0) 13)) h).0
 
+-- a line that is read stands there
 pub line_written : (bytes : List ℕ) (p : LineView × List ℕ) → line_at bytes ≡ Ok p → IsLine bytes p.0.text p.1
 unfolding line_at
 line_written bytes p e = at (eqb (length bytes) 0) refl (cut_at 10 bytes) refl e
@@ -53,6 +56,7 @@ some_line : (bytes text : List ℕ) (o : Option (List ℕ × List ℕ)) (line : 
 unfolding line_at
 some_line bytes text o line rest some c p = rw (ne_eqb (length bytes) 0 (λ e. omega arith), c) (ap (λ (q : LineView × List ℕ). Ok q) p)
 
+-- a line that stands there is read, whether or not it ends in a line feed
 pub line_read : (bytes text rest : List ℕ) → IsLine bytes text rest → (b : Bool) × (line_at bytes ≡ Ok (record { text = text; ended = b }, rest))
 line_read bytes text rest h =
     elim h.whole [
@@ -73,6 +77,7 @@ line_read bytes text rest h =
           )
     ]
 
+-- a line leaves less than there was
 pub line_shorter : (bytes : List ℕ) (p : LineView × List ℕ) → line_at bytes ≡ Ok p → length p.1 < length bytes
 line_shorter bytes p e = at (line_written bytes p e)
   where

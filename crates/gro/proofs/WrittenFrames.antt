@@ -1,10 +1,10 @@
 -- What is written of a frame stands for that one frame.
-use Rattle.std.proofs.Common.{◌≡◌, ℕ, zero, suc, ◌+◌, ◌-◌, ◌*◌, ◌/◌, ◌%◌, ◌^◌, ◌<◌, ◌≤◌, true, false, ◌&&◌, eqb, leb, not, List, [], ◌∷◌, ◌++◌, length, take, drop, get_or, replicate, ℤ, pos, negsuc, ◌≤ℤ◌, decimal, Ok, IsTrue, refl, sym, ap, subst, ◌∙◌, append_assoc, arith, inl, lit<}
+use Rattle.std.proofs.Common.{◌≡◌, ℕ, zero, suc, ◌+◌, ◌-◌, ◌*◌, ◌/◌, ◌%◌, ◌^◌, ◌<◌, ◌≤◌, true, ◌&&◌, eqb, leb, not, List, [], ◌∷◌, ◌++◌, length, take, drop, get_or, replicate, ℤ, pos, negsuc, ◌≤ℤ◌, decimal, Ok, IsTrue, refl, sym, ap, subst, ◌∙◌, append_assoc, arith, inl, lit<}
 use Rattle.std.specs.List.{list_all, slice_range, flat_map, AllByRecursion}
 use Rattle.std.specs.Fmt.{signed_decimal}
 use Rattle.std.specs.Str.{all_ascii_digits}
 use Rattle.std.specs.Int.{IsInRange}
-use Rattle.std.proofs.lemmas.Bool.{and_parts, and_from, ne_eqb, eq-eqb, not-true, le-leb}
+use Rattle.std.proofs.lemmas.Bool.{and_parts, and_from, ne_eqb, le-leb}
 use Rattle.std.proofs.lemmas.Int.{ints}
 use Rattle.std.proofs.lemmas.List.{append-nil, take_at, drop_at, length-append}
 use Rattle.std.proofs.lemmas.List.Folds.{list_all-append}
@@ -16,7 +16,7 @@ use Rattle.line_text.specs.Parts.{lacks, ended, is_title, is_name, is_printable,
 use Rattle.line_text.specs.Columns.{decimals_text, with_decimals, zeros_in}
 use Rattle.line_text.specs.Words.{words}
 use Rattle.line_text.specs.Written.{IsPadded, WritesName, WritesWhole, WritesSigned, plain, minus, WritesColumn}
-use Rattle.line_text.proofs.LineLaws.{ended_then, length-right_in, length-left_in}
+use Rattle.line_text.proofs.LineLaws.{ended_then, lacks_at, length-right_in, length-left_in}
 use Rattle.line_text.proofs.NameLaws.{is_clean, printable_lacks}
 use Rattle.line_text.proofs.ColumnLaws.{decimal_column_again, length-with_decimals-le, length-zeros_in, zeros_value, decimals_text_lacks}
 use Rattle.line_text.proofs.DigitLaws.{own}
@@ -76,14 +76,6 @@ printable_name : (name : List ℕ) → IsTrue (is_name name) → is_printable na
 printable_name name h = (and_parts (leb (length name) 5) (is_printable name) (and_parts (leb (length name) 5 && is_printable name) (has_clean_ends name) h).0).1
 
 -- ---- lines
-
-lacks_at : (c : ℕ) (text : List ℕ) (i : ℕ) → 0 < c → lacks c text ≡ true → get_or text i 0 ≡ c → ⊥
-lacks_at c [] i some l e = omega arith
-lacks_at c (x ∷ xs) zero some l e =
-    let no : eqb x c ≡ false = not-true (eqb x c) (and_parts (not (eqb x c)) (lacks c xs) l).0 in
-    let yes : eqb x c ≡ true = eq-eqb x c e in
-    absurd cc
-lacks_at c (x ∷ xs) (suc i) some l e = lacks_at c xs i some (and_parts (not (eqb x c)) (lacks c xs) l).1 e
 
 printable_bare : (text : List ℕ) → is_printable text ≡ true → IsTrue (is_title text)
 printable_bare text h =
@@ -323,5 +315,6 @@ frame_stands f title few forms fits =
     in_turn : (t c a b : List ℕ) → t ++ c ++ a ++ b ≡ t ++ (c ++ (a ++ (b ++ [])))
     in_turn t c a b = ap (λ (x : List ℕ). t ++ c ++ a ++ x) (sym (append-nil b)) ∙ simp append_assoc
 
+-- the text that is written of a frame that fits its columns is read as that one frame
 pub written_again : (f : FrameView) → IsTrue (is_title f.title) → length f.atoms ≤ 65536 → AllByRecursion HasForm f.atoms → FitsColumns f → frames_of (frame_text f) ≡ Ok (f ∷ [])
 written_again f title few forms fits = frames_of_text (frame_text f) (f ∷ []) ([], frame_stands f title few forms fits, refl)

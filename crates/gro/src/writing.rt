@@ -1,9 +1,9 @@
 //! Writing a frame.
 
-ghost use Rattle.std.specs.Prelude.{◌≡◌, ◌+◌, ◌-◌, ◌^◌, ◌<◌, ◌≤◌, ◌++◌, ◌∷◌, [], length, map, IfOk, OnErr, pos, negsuc, ◌≤ℤ◌, IsTrue};
+ghost use Rattle.std.specs.Prelude.{◌≡◌, ◌+◌, ◌-◌, ◌^◌, ◌<◌, ◌≤◌, ◌++◌, ◌∷◌, [], length, map, IfOk, pos, negsuc, ◌≤ℤ◌, IsTrue};
 ghost use Rattle.std.specs.List.{flat_map, AllByRecursion};
 ghost use Rattle.arrayvec.specs.ArrayVec.{array_vec_len};
-ghost use Rattle.fallible.specs.Out.{appended, AppendsBeginning};
+ghost use Rattle.fallible.specs.Out.{Writes};
 ghost use Rattle.line_text.specs.Parts.{ended, right_in};
 ghost use Rattle.line_text.specs.Columns.{decimals_text};
 ghost use Rattle.gro.specs.Frames.{atom_view, frame_view};
@@ -22,11 +22,8 @@ use std::alloc::Allocator;
 ///
 /// `OutFault` comes only from a write that failed, and then a beginning of the text was written.
 pub fn write<A: Allocator, O: Out>(frame: &GroFrame<A>, out: &mut O) -> Result<(), OutFault>
-    requires { O.failed out.old < 2 ^ 64 - 1 }
-    ensures taken { IfOk result (λ _. O.taken out.new ≡ appended (O.taken out.old) (frame_text (frame_view frame.now))) }
-    ensures count { IfOk result (λ _. O.failed out.new ≡ O.failed out.old) }
-    ensures fault_taken { OnErr result (AppendsBeginning (O.taken out.old) (O.taken out.new) (frame_text (frame_view frame.now))) }
-    ensures fault_count { OnErr result (O.failed out.old < O.failed out.new) }
+    requires { (O.output out.old).failed < 2 ^ 64 - 1 }
+    ensures writes { Writes (O.output out.old) (O.output out.new) (frame_text (frame_view frame.now)) result }
     // Where its numbers fit their columns, what was written reads as this one frame again.
     ensures again { IfOk result (λ _. FitsColumns (frame_view frame.now) → frames_of (frame_text (frame_view frame.now)) ≡ Ok (frame_view frame.now ∷ [])) }
 {
@@ -40,12 +37,9 @@ pub fn write<A: Allocator, O: Out>(frame: &GroFrame<A>, out: &mut O) -> Result<(
 
 /// Writes the lines of these atoms.
 fn write_atoms<O: Out>(atoms: &[GroAtom], out: &mut O) -> Result<(), OutFault>
-    requires room { O.failed out.old < 2 ^ 64 - 1 }
+    requires room { (O.output out.old).failed < 2 ^ 64 - 1 }
     requires few { length atoms.now ≤ 65536 }
-    ensures taken { IfOk result (λ _. O.taken out.new ≡ appended (O.taken out.old) (atom_lines 1 (map atom_view atoms.now))) }
-    ensures count { IfOk result (λ _. O.failed out.new ≡ O.failed out.old) }
-    ensures fault_taken { OnErr result (AppendsBeginning (O.taken out.old) (O.taken out.new) (atom_lines 1 (map atom_view atoms.now))) }
-    ensures fault_count { OnErr result (O.failed out.old < O.failed out.new) }
+    ensures writes { Writes (O.output out.old) (O.output out.new) (atom_lines 1 (map atom_view atoms.now)) result }
     ensures forms { IfOk result (λ _. AllByRecursion HasForm (map atom_view atoms.now)) }
 {
     let mut index = 1;
@@ -59,7 +53,7 @@ fn write_atoms<O: Out>(atoms: &[GroAtom], out: &mut O) -> Result<(), OutFault>
 
 /// The end of the title's line, and the line of the number of atoms.
 fn count_between<A: Allocator>(frame: &GroFrame<A>) -> Line
-    ensures { result.items ≡ 10 ∷ ended (count_line (length frame.now.atoms.items)) }
+    ensures { result.items ≡ 10 ∷ ended (count_line (length (frame_view frame.now).atoms)) }
 {
     let mut line = Line::new();
     let mut buffer = Buffer::new();

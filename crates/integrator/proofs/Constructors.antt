@@ -1,17 +1,22 @@
 -- What equal options and results are made of, and that their two kinds differ.
 use Rattle.std.proofs.Common.{◌≡◌, Option, Some, None, Result, Ok, Err}
 
+-- equal options that have values have equal values
 pub some_same : {X : Type 0} → (x y : X) → Some x ≡ Some y → x ≡ y
 some_same x y e = cc
 
+-- an option without a value is none with one
 pub none_is_no_some : {X : Type 0} → (x : X) → ◌≡◌ {A = Option X} None (Some x) → ⊥
 none_is_no_some x e = cc
 
+-- equal results that have values have equal values
 pub ok_same : {X E : Type 0} → (x y : X) → ◌≡◌ {A = Result X E} (Ok x) (Ok y) → x ≡ y
 ok_same x y e = cc
 
+-- equal results that have errors have equal errors
 pub err_same : {X E : Type 0} → (x y : E) → ◌≡◌ {A = Result X E} (Err x) (Err y) → x ≡ y
 err_same x y e = cc
 
+-- a result with an error is none with a value
 pub err_is_no_ok : {X E : Type 0} → (f : E) → (x : X) → ◌≡◌ {A = Result X E} (Err f) (Ok x) → ⊥
 err_is_no_ok f x e = cc

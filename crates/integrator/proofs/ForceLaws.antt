@@ -1,53 +1,30 @@
--- Forces as lists of three numbers, their shares, and the pairs of a frame.
-use Rattle.std.proofs.Common.{◌≡◌, ◌≢◌, ℕ, zero, suc, ◌+◌, ◌<◌, ◌≤◌, true, false, List, [], ◌∷◌, ◌++◌, ℤ, pos, ◌+ℤ◌, arith, refl, ap, sym, ◌∙◌}
+-- Sums of forces, their shares, and the pairs of a frame.
+use Rattle.std.proofs.Common.{◌≡◌, ◌≢◌, ℕ, zero, suc, ◌+◌, ◌<◌, ◌≤◌, true, false, List, [], ◌∷◌, ◌++◌, ℤ, arith, refl, ap, sym, ◌∙◌}
 use Rattle.std.specs.Prelude.{◌==◌}
-use Rattle.std.proofs.lemmas.Int.{ints}
+use Rattle.std.proofs.Math.IntN.{+ℤ_assoc, +ℤ_idl, +ℤ_idr}
 use Rattle.std.proofs.lemmas.Bool.Decides.{nat_tests}
-use Rattle.integrator.specs.Forces.{none, component, plus, negative, share_of, sum_of_shares, pairs_with, pairs_from}
+use Rattle.ring_box.specs.Forces.{no_force}
+use Rattle.ring_box.specs.declared.vectors.Force.{Force}
+use Rattle.integrator.specs.Forces.{plus, negative, share_of, sum_of_shares, pairs_with, pairs_from}
 
 -- ---- forces
 
--- a force has three components
-pub IsThree : List ℤ → Type 0
-IsThree v = v ≡ component v 0 ∷ component v 1 ∷ component v 2 ∷ []
+-- adding the zero force changes no force
+pub plus-none : (f : Force ℤ) → plus f no_force ≡ f
+plus-none f = simp +ℤ_idr
 
-pub three : (a b c d e f : ℤ) → a ≡ d → b ≡ e → c ≡ f → a ∷ b ∷ c ∷ [] ≡ d ∷ e ∷ f ∷ []
-three a b c d e f p q r = cc
+-- the same with the zero force first
+pub none-plus : (f : Force ℤ) → plus no_force f ≡ f
+none-plus f = simp +ℤ_idl
 
-pub plus-three : (u v : List ℤ) → IsThree (plus u v)
-unfolding IsThree
-plus-three u v = refl
+-- forces add up in whatever way they are grouped
+pub plus-assoc : (f g h : Force ℤ) → plus (plus f g) h ≡ plus f (plus g h)
+plus-assoc f g h = simp +ℤ_assoc
 
-pub three_parts : (v : List ℤ) → IsThree v → v ≡ component v 0 ∷ component v 1 ∷ component v 2 ∷ []
-unfolding IsThree
-three_parts v h = h
-
-pub none-three : IsThree none
-unfolding IsThree
-none-three = refl
-
-pub plus-none : (v : List ℤ) → IsThree v → plus v none ≡ v
-unfolding IsThree
-plus-none v h = three (component v 0 +ℤ pos 0) (component v 1 +ℤ pos 0) (component v 2 +ℤ pos 0) (component v 0) (component v 1) (component v 2) (omega (arith, ints)) (omega (arith, ints)) (omega (arith, ints)) ∙ sym h
-
-pub none-plus : (v : List ℤ) → IsThree v → plus none v ≡ v
-unfolding IsThree
-none-plus v h = three (pos 0 +ℤ component v 0) (pos 0 +ℤ component v 1) (pos 0 +ℤ component v 2) (component v 0) (component v 1) (component v 2) (omega (arith, ints)) (omega (arith, ints)) (omega (arith, ints)) ∙ sym h
-
-pub plus-assoc : (u v w : List ℤ) → plus (plus u v) w ≡ plus u (plus v w)
-plus-assoc u v w =
-    three ((component u 0 +ℤ component v 0) +ℤ component w 0) ((component u 1 +ℤ component v 1) +ℤ component w 1) ((component u 2 +ℤ component v 2) +ℤ component w 2)
-    (component u 0 +ℤ (component v 0 +ℤ component w 0)) (component u 1 +ℤ (component v 1 +ℤ component w 1)) (component u 2 +ℤ (component v 2 +ℤ component w 2))
-    (omega (arith, ints)) (omega (arith, ints)) (omega (arith, ints))
-
-pub shares-three : (g : ℕ × ℕ → List ℤ) (ps : List (ℕ × ℕ)) (a : ℕ) → IsThree (sum_of_shares g ps a)
+-- the shares of an atom over pairs in a row are those over the first ones and those over the others
+pub shares-append : (g : ℕ × ℕ → Force ℤ) (ps qs : List (ℕ × ℕ)) (a : ℕ) → sum_of_shares g (ps ++ qs) a ≡ plus (sum_of_shares g ps a) (sum_of_shares g qs a)
 unfolding sum_of_shares
-shares-three g [] a = none-three
-shares-three g (p ∷ ps) a = plus-three (share_of p (g p) a) (sum_of_shares g ps a)
-
-pub shares-append : (g : ℕ × ℕ → List ℤ) (ps qs : List (ℕ × ℕ)) (a : ℕ) → sum_of_shares g (ps ++ qs) a ≡ plus (sum_of_shares g ps a) (sum_of_shares g qs a)
-unfolding sum_of_shares
-shares-append g [] qs a = sym (none-plus (sum_of_shares g qs a) (shares-three g qs a))
+shares-append g [] qs a = sym (none-plus (sum_of_shares g qs a))
 shares-append g (p ∷ ps) qs a =
     ap (plus (share_of p (g p) a)) (shares-append g ps qs a)
     ∙ sym (plus-assoc (share_of p (g p) a) (sum_of_shares g ps a) (sum_of_shares g qs a))
@@ -59,10 +36,12 @@ pub record IsPairOf (n : ℕ) (p : ℕ × ℕ) : Type 0 where
   pub apart : p.0 < p.1
   pub below : p.1 < n
 
+-- each of these is a pair of n atoms, the lower first
 pub ArePairsOf : ℕ → List (ℕ × ℕ) → Type 0
 ArePairsOf n [] = Unit {0}
 ArePairsOf n (p ∷ ps) = IsPairOf n p × ArePairsOf n ps
 
+-- of such pairs the first is one, and so are the others
 pub pairs_parts : (n : ℕ) (p : ℕ × ℕ) (ps : List (ℕ × ℕ)) → ArePairsOf n (p ∷ ps) → IsPairOf n p × ArePairsOf n ps
 unfolding ArePairsOf
 pairs_parts n p ps h = h
@@ -77,6 +56,7 @@ unfolding ArePairsOf pairs_with
 row_pairs n i j zero h k = tt
 row_pairs n i j (suc m) h k = (record { apart = h; below = omega arith }, row_pairs n i (suc j) m (omega arith) (omega arith))
 
+-- the pairs of a frame from an atom on are pairs of its atoms
 pub frame_pairs : (n i m : ℕ) → i + m ≤ n → ArePairsOf n (pairs_from i m)
 unfolding ArePairsOf pairs_from
 frame_pairs n i zero h = tt
@@ -85,17 +65,20 @@ frame_pairs n i (suc m) h =
 
 -- ---- one pair
 
-pub same_share : (i j : ℕ) (v : List ℤ) → share_of (i, j) v i ≡ v
-same_share i j v = let e : (i == i) ≡ true = grind (arith, nat_tests) in rw e refl
+-- the share of a pair's lower atom is the pair's force
+pub same_share : (i j : ℕ) (f : Force ℤ) → share_of (i, j) f i ≡ f
+same_share i j f = let e : (i == i) ≡ true = grind (arith, nat_tests) in rw e refl
 
-pub higher_share : (i j : ℕ) (v : List ℤ) → i ≢ j → share_of (i, j) v j ≡ negative v
-higher_share i j v n =
-    let e : (i == j) ≡ false = grind (arith, nat_tests) in
-    let f : (j == j) ≡ true = grind (arith, nat_tests) in
-    rw (e, f) refl
+-- the share of its higher atom is the negative
+pub higher_share : (i j : ℕ) (f : Force ℤ) → i ≢ j → share_of (i, j) f j ≡ negative f
+higher_share i j f n =
+    let low : (i == j) ≡ false = grind (arith, nat_tests) in
+    let high : (j == j) ≡ true = grind (arith, nat_tests) in
+    rw (low, high) refl
 
-pub no_share : (i j a : ℕ) (v : List ℤ) → i ≢ a → j ≢ a → share_of (i, j) v a ≡ none
-no_share i j a v m n =
-    let e : (i == a) ≡ false = grind (arith, nat_tests) in
-    let f : (j == a) ≡ false = grind (arith, nat_tests) in
-    rw (e, f) refl
+-- the share of any other atom is the zero force
+pub no_share : (i j a : ℕ) (f : Force ℤ) → i ≢ a → j ≢ a → share_of (i, j) f a ≡ no_force
+no_share i j a f m n =
+    let low : (i == a) ≡ false = grind (arith, nat_tests) in
+    let high : (j == a) ≡ false = grind (arith, nat_tests) in
+    rw (low, high) refl

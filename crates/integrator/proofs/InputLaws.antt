@@ -134,6 +134,7 @@ module _ (parameters globals : List (List ℕ)) (row_a row_b values : List ℤ) 
       (get_right row_a (row_b ++ values) (length parameters) (length parameters + k) (sym long_a)
       ∙ get_right row_b values (length parameters) k (sym long_b) ∙ valued)
 
+-- each variable's value stands at the variable's number
 pub inputs_have_names : InputsHaveNames
 inputs_have_names parameters globals variables e t h long long_globals a b within_a within_b r =
     let known = are_variables parameters globals variables e in

@@ -25,6 +25,7 @@ operation_is MissingInput h = absurd h
 operation_is StackFull h = absurd h
 operation_is BadEnd h = absurd h
 
+-- code that computes a slope gives it
 pub gives : (bits : ℕ) (energy : Tree) (slope : Trees) (code : List Instr) (inputs : List ℤ) → ComputesSlope bits energy slope code inputs → GivesSlope bits energy code inputs
 gives bits energy slope code inputs h = record {
   forward = h.forward;
@@ -45,7 +46,8 @@ computes bits energy body definitions code inputs forward same h = record {
 
 -- ---- inputs
 
+-- the inputs for a pair of a table's types are as many as its energy has variables
 pub enough : (t : Table) (a b : ℕ) (r : ℤ) → All (λ row. length row ≡ t.parameters) t.rows → a < length t.rows → b < length t.rows
-    → trees.inputs_of t.parameters (length t.globals) ≤ length (inputs_of t a b r)
+    → trees.variable_count t.parameters (length t.globals) ≤ length (inputs_of t a b r)
 enough t a b r whole first second =
     omega (arith, length-append (row_of t a) (row_of t b ++ t.globals), length-append (row_of t b) t.globals, whole a [] first, whole b [] second)

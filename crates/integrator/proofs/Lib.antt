@@ -1,6 +1,5 @@
 pub mod Constructors
 pub mod StepLemmas
-pub mod SumLemmas
 pub mod ForceLaws
 pub mod BoundLaws
 pub mod NumberLaws

@@ -1,74 +1,35 @@
 -- A run leads back: so many steps the other way over the text that was written give the text of the start.
-use Rattle.std.proofs.Common.{◌≡◌, ℕ, suc, ◌<◌, ◌^◌, Bool, true, false, List, [], ◌∷◌, length, get_or, ℤ, pos, negsuc, Option, Some, None, Result, Ok, Err, arith, refl, ap, sym, ◌∙◌, zero-add}
+use Rattle.std.proofs.Common.{◌≡◌, ℕ, suc, ◌<◌, ◌^◌, Bool, true, false, List, [], ◌∷◌, length, ℤ, pos, negsuc, Option, Some, None, Result, Ok, Err, arith, refl, ap, sym, ◌∙◌}
 use Rattle.std.specs.Prelude.{map, if◌then◌else◌}
-use Rattle.std.specs.List.{All, AllByRecursion}
+use Rattle.std.specs.List.{AllByRecursion}
 use Rattle.std.proofs.lemmas.Int.{ints}
-use Rattle.std.proofs.lemmas.List.{ext_get_or, length-map, get_or-map}
-use Rattle.std.proofs.lemmas.List.Elements.{All-from_recursion, recursion_from_All, All-cons, All-nil, All-from_get_or}
+use Rattle.std.proofs.lemmas.List.{length-map, get_or-map}
+use Rattle.std.proofs.lemmas.List.Elements.{All-from_recursion, recursion_from_All, All-from_get_or, All-map}
 use Rattle.fixed.specs.Arithmetic.{in_range}
 use Rattle.job.specs.JobText.{reading_of, limits}
 use Rattle.job.specs.Values.{JobValue, TypeValue}
-use Rattle.line_text.specs.Parts.{AreThree}
 use Rattle.line_text.specs.Steps.{◌>>=◌}
 use Rattle.line_text.proofs.StepLaws.{bind_ok}
 use lib.Signed.{mag}
 use Rattle.std.proofs.lemmas.Bool.{ltb-true, lt-ltb}
+use Rattle.ring_box.specs.Places.{ArePlaces, nowhere}
 use Rattle.state.specs.StateReading.{state_of}
-use Rattle.state.specs.StateText.{AtomView, StateView, IsAtom, IsPlace, IsState, state_text}
+use Rattle.state.specs.StateText.{AtomView, StateView, IsAtom, IsState, state_text}
 use Rattle.integrator.proofs.Constructors.{err_is_no_ok, none_is_no_some, some_same}
-use Rattle.integrator.specs.Frames.{AreFrames, ArePlaces, Frames, frames, opposite, places_of, turns}
-use Rattle.integrator.specs.States.{counter_after, counter_at, current_frame, frames_of, moved_state, nobody, placed, placed_atoms, previous_frame}
+use Rattle.integrator.specs.Frames.{AreFrames, Frames, opposite, turns}
+use Rattle.integrator.specs.States.{counter_after, counter_at, frames_of, moved_state, nobody, placed_atoms}
 use Rattle.integrator.specs.Energies.{Energy, energy_of}
 use Rattle.integrator.specs.Starts.{Refusal, Start, are_alike, atom_types, bits_differ, Law, cutoff_too_long, energy_refused, has_room, in_counter, job_refused, known, or_refused, require, ring_of, state_refused, step_range, type_with, start_at, start_of, start_with, system_of, types_of}
 use Rattle.integrator.specs.Runs.{IsRun}
 use Rattle.state.proofs.StateReadsAgain.{one_text}
 use Rattle.integrator.proofs.StartLaws.{started}
-use Rattle.integrator.proofs.NumberLaws.{length-numbers, at_number}
+use Rattle.integrator.proofs.StateLaws.{at_home, frames_moved, get_or-placed, length-placed, part_placed, placed_twice}
 use Rattle.integrator.proofs.TurnLaws.{returned}
 use Rattle.integrator.specs.declared.direction.Direction.{Direction}
 use Rattle.integrator.specs.declared.direction.Direction.TheVariants.{Forward, Back}
 
 ok_same : (x y : Start) → ◌≡◌ {A = Result Start Refusal} (Ok y) (Ok x) → x ≡ y
 ok_same x y e = cc
-
--- ---- atoms at other places
-
-place_at : (atoms : List AtomView) (f : Frames) → ℕ → AtomView
-place_at atoms f a = placed (get_or atoms a nobody) (places_of f.previous a) (places_of f.current a)
-
-length-placed : (atoms : List AtomView) (f : Frames) → length (placed_atoms atoms f) ≡ length atoms
-length-placed atoms f = length-numbers (λ a. placed (get_or atoms a nobody) (places_of f.previous a) (places_of f.current a)) 0 (length atoms)
-
-get_or-placed : (atoms : List AtomView) (f : Frames) (k : ℕ) → k < length atoms
-    → get_or (placed_atoms atoms f) k nobody ≡ placed (get_or atoms k nobody) (places_of f.previous k) (places_of f.current k)
-get_or-placed atoms f k h =
-    let g = λ (a : ℕ). placed (get_or atoms a nobody) (places_of f.previous a) (places_of f.current a) in
-    at_number g nobody 0 (length atoms) k h ∙ ap g (zero-add k)
-
--- their frames are these
-previous-placed : (atoms : List AtomView) (f : Frames) → length f.previous ≡ length atoms → previous_frame (placed_atoms atoms f) ≡ f.previous
-previous-placed atoms f same =
-    ext_get_or [] (previous_frame (placed_atoms atoms f)) f.previous (length-map (placed_atoms atoms f) (λ a. a.previous) ∙ length-placed atoms f ∙ sym same) (λ k h.
-    let l : k < length atoms = omega (arith, length-map (placed_atoms atoms f) (λ (a : AtomView). a.previous), length-placed atoms f) in
-    get_or-map (λ (a : AtomView). a.previous) (placed_atoms atoms f) k nobody [] (omega (arith, length-placed atoms f)) ∙ ap (λ (a : AtomView). a.previous) (get_or-placed atoms f k l))
-
-current-placed : (atoms : List AtomView) (f : Frames) → length f.current ≡ length atoms → current_frame (placed_atoms atoms f) ≡ f.current
-current-placed atoms f same =
-    ext_get_or [] (current_frame (placed_atoms atoms f)) f.current (length-map (placed_atoms atoms f) (λ a. a.current) ∙ length-placed atoms f ∙ sym same) (λ k h.
-    let l : k < length atoms = omega (arith, length-map (placed_atoms atoms f) (λ (a : AtomView). a.current), length-placed atoms f) in
-    get_or-map (λ (a : AtomView). a.current) (placed_atoms atoms f) k nobody [] (omega (arith, length-placed atoms f)) ∙ ap (λ (a : AtomView). a.current) (get_or-placed atoms f k l))
-
--- at their own places again they are themselves
-placed-again : (atoms : List AtomView) (f : Frames) → placed_atoms (placed_atoms atoms f) (frames (previous_frame atoms) (current_frame atoms)) ≡ atoms
-placed-again atoms f =
-    let moved = placed_atoms atoms f in
-    let home = frames (previous_frame atoms) (current_frame atoms) in
-    ext_get_or nobody (placed_atoms moved home) atoms (length-placed moved home ∙ length-placed atoms f) (λ k h.
-    let l : k < length atoms = omega (arith, length-placed moved home, length-placed atoms f) in
-    get_or-placed moved home k (omega (arith, length-placed atoms f))
-    ∙ ap (λ a. placed a (places_of home.previous k) (places_of home.current k)) (get_or-placed atoms f k l)
-    ∙ ap (λ p. placed (get_or atoms k nobody) p (places_of home.current k)) (get_or-map (λ (a : AtomView). a.previous) atoms k nobody [] l)
-    ∙ ap (λ p. placed (get_or atoms k nobody) (get_or atoms k nobody).previous p) (get_or-map (λ (a : AtomView). a.current) atoms k nobody [] l))
 
 -- ---- types go by names
 
@@ -82,12 +43,7 @@ by_names types k [] = refl
 by_names types k (a ∷ atoms) = ap (λ r. known k (type_with types a.name) >>= λ t. r >>= λ ts. Ok (t ∷ ts)) (by_names types (suc k) atoms)
 
 names-placed : (atoms : List AtomView) (f : Frames) → map (λ a. a.name) (placed_atoms atoms f) ≡ map (λ a. a.name) atoms
-names-placed atoms f =
-    let name = λ (a : AtomView). a.name in
-    ext_get_or [] (map name (placed_atoms atoms f)) (map name atoms) (length-map (placed_atoms atoms f) name ∙ length-placed atoms f ∙ sym (length-map atoms name)) (λ k h.
-    let l : k < length atoms = omega (arith, length-map (placed_atoms atoms f) name, length-placed atoms f) in
-    get_or-map name (placed_atoms atoms f) k nobody [] (omega (arith, length-placed atoms f)) ∙ ap name (get_or-placed atoms f k l)
-    ∙ sym (get_or-map name atoms k nobody [] l))
+names-placed atoms f = part_placed atoms f (λ a. a.name) [] (map (λ a. a.name) atoms) (length-map atoms (λ a. a.name)) (λ k l. get_or-map (λ (a : AtomView). a.name) atoms k nobody [] l)
 
 types-placed : (types : List TypeValue) (k : ℕ) (atoms : List AtomView) (f : Frames) → atom_types types k (placed_atoms atoms f) ≡ atom_types types k atoms
 types-placed types k atoms f =
@@ -100,34 +56,15 @@ system-placed j s f k = rw (types-placed j.types 1 s.atoms f) refl
 
 -- ---- a state's frames are frames, and at frames it is a state
 
-places_are : (p : List ℕ) → AreThree IsPlace p → ArePlaces p
-places_are [] h = h
-places_are (x ∷ []) h = h
-places_are (x ∷ y ∷ []) h = h
-places_are (x ∷ y ∷ z ∷ []) h = h
-places_are (x ∷ y ∷ z ∷ w ∷ _) h = h
-
-three_are : (p : List ℕ) → ArePlaces p → AreThree IsPlace p
-three_are [] h = h
-three_are (x ∷ []) h = h
-three_are (x ∷ y ∷ []) h = h
-three_are (x ∷ y ∷ z ∷ []) h = h
-three_are (x ∷ y ∷ z ∷ w ∷ _) h = h
-
-previous_places : (atoms : List AtomView) → AllByRecursion IsAtom atoms → All ArePlaces (previous_frame atoms)
-previous_places [] h = All-nil ArePlaces
-previous_places (a ∷ atoms) h = All-cons ArePlaces a.previous (previous_frame atoms) (places_are a.previous h.0.previous) (previous_places atoms h.1)
-
-current_places : (atoms : List AtomView) → AllByRecursion IsAtom atoms → All ArePlaces (current_frame atoms)
-current_places [] h = All-nil ArePlaces
-current_places (a ∷ atoms) h = All-cons ArePlaces a.current (current_frame atoms) (places_are a.current h.0.current) (current_places atoms h.1)
-
+-- a state's two frames are frames of the same atoms
 pub frames_are : (s : StateView) → IsState s → AreFrames (frames_of s)
-frames_are s h = record {
-  alike = length-map s.atoms (λ a. a.previous) ∙ sym (length-map s.atoms (λ a. a.current));
-  previous = previous_places s.atoms h.atoms;
-  current = current_places s.atoms h.atoms;
-}
+frames_are s h =
+    let each = All-from_recursion IsAtom s.atoms h.atoms in
+    record {
+      alike = length-map s.atoms (λ a. a.previous) ∙ sym (length-map s.atoms (λ a. a.current));
+      previous = All-map ArePlaces (λ a. a.previous) s.atoms (λ k d l. (each k d l).previous);
+      current = All-map ArePlaces (λ a. a.current) s.atoms (λ k d l. (each k d l).current);
+    }
 
 placed_are : (atoms : List AtomView) (f : Frames) → AllByRecursion IsAtom atoms → AreFrames f → length f.previous ≡ length atoms → AllByRecursion IsAtom (placed_atoms atoms f)
 placed_are atoms f h frames' same =
@@ -141,18 +78,20 @@ placed_are atoms f h frames' same =
       high = atom.high;
       residue = atom.residue;
       name = atom.name;
-      previous = three_are (places_of f.previous k) (frames'.previous k [] (omega arith));
-      current = three_are (places_of f.current k) (frames'.current k [] (omega (arith, frames'.alike)));
+      previous = frames'.previous k nowhere (omega arith);
+      current = frames'.current k nowhere (omega (arith, frames'.alike));
     })))
 
 fits_is : (z : ℤ) → in_range z ≡ true → mag z < 2 ^ 63
 fits_is (pos n) h = ltb-true n (2 ^ 63) h
 fits_is (negsuc n) h = ltb-true n (2 ^ 63) h
 
+-- a number whose magnitude is below 2^63 is in range
 pub in_range_is : (z : ℤ) → mag z < 2 ^ 63 → in_range z ≡ true
 in_range_is (pos n) h = lt-ltb n (2 ^ 63) h
 in_range_is (negsuc n) h = lt-ltb n (2 ^ 63) h
 
+-- a state with frames of its atoms and a counter in range is a state again
 pub moved_is : (s : StateView) (f : Frames) (k : ℤ) → IsState s → AreFrames f → length f.previous ≡ length s.atoms → in_range k ≡ true → IsState (moved_state s f k)
 moved_is s f k h frames' same fits = record {
   title = h.title;
@@ -223,6 +162,7 @@ pub record SystemParts (j : JobValue) (s : StateView) (system : Energy × List �
   pub alike : are_alike j.frac s.frac ≡ true
   pub room : has_room j.frac j.cutoff (ring_of s.sides) ≡ true
 
+-- a system is made of the job's energy and of the types of the state's atoms, which have room
 pub system_parts : (j : JobValue) (s : StateView) (system : Energy × List ℕ) → system_of j s ≡ Ok system → SystemParts j s system
 unfolding system_of types_of
 system_parts j s system e =
@@ -241,6 +181,7 @@ system_parts j s system e =
       room = required (has_room j.frac j.cutoff (ring_of s.sides)) cutoff_too_long d.0 d.1;
     })
 
+-- a start is made of the job and the state of the texts, their system and a counter in range
 pub parts_of : (law : Law) (job state : List ℕ) (w : Direction) (n : ℕ) (start : Start) → start_of law job state w n ≡ Ok start → Parts law job state w n start
 unfolding start_of start_with
 parts_of law job state w n start e =
@@ -265,6 +206,7 @@ parts_of law job state w n start e =
       start_is = ok_same start _ k.2;
     }
 
+-- texts that are read as a job and a state have the start of these
 pub start_from : (law : Law) (job state : List ℕ) (w : Direction) (n : ℕ) (j : JobValue) (s : StateView)
     → reading_of limits job ≡ Ok j → state_of state ≡ Ok s → start_of law job state w n ≡ start_with law w n j s
 unfolding start_of
@@ -272,11 +214,7 @@ start_from law job state w n j s p q = rw (p, q) refl
 
 -- ---- the way back
 
-frames-placed : (s : StateView) (f : Frames) (k : ℤ) → length f.previous ≡ length s.atoms → length f.current ≡ length s.atoms → frames_of (moved_state s f k) ≡ f
-frames-placed s f k p c =
-    ap (λ q. frames q (current_frame (placed_atoms s.atoms f))) (previous-placed s.atoms f p)
-    ∙ ap (frames f.previous) (current-placed s.atoms f c)
-
+-- the run back of a run is a run
 pub run_back : (law : Law) (job state : List ℕ) (w : Direction) (n : ℕ) (text : List ℕ) → IsRun law job state w n text → IsRun law job text (opposite w) n state
 run_back law job state w n text r =
     let p = parts_of law job state w n r.start r.starts in
@@ -303,8 +241,8 @@ run_back law job state w n text r =
       after = s;
       ran = record {
         frames' = frames_of s;
-        turned = ap (turns (opposite w) d n) (frames-placed s f p.counter previous current) ∙ back.back;
-        moved = ap (λ atoms. record s { atoms = atoms }) (sym (placed-again s.atoms f));
+        turned = ap (turns (opposite w) d n) (frames_moved s f p.counter previous current) ∙ back.back;
+        moved = ap (λ atoms. record s { atoms = atoms }) (sym (placed_twice s.atoms f (frames_of s) ∙ at_home s.atoms));
       };
       written = read.1;
     }

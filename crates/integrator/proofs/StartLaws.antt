@@ -13,16 +13,14 @@ use Rattle.std.proofs.lemmas.List.{length-map}
 use Rattle.job.specs.Values.{JobValue, TypeValue}
 use Rattle.state.specs.StateText.{AtomView, StateView}
 use Rattle.job.specs.JobText.{reading_of, limits}
-use Rattle.job.specs.Faults as jobs
 use Rattle.state.specs.StateReading.{state_of}
-use Rattle.state.specs.declared.faults.StateFault.{StateFault}
 use Rattle.fallible.specs.Failures.{Fails}
 use Rattle.fallible.specs.declared.failure.Failure.{Failure}
 use Rattle.fallible.proofs.FailureLaws.{fails_as}
 use Rattle.integrator.specs.declared.faults.SystemFault.{SystemFault}
 use Rattle.integrator.specs.StartViews.{system_refusal}
 use Rattle.integrator.specs.Energies.{Energy, energy_of}
-use Rattle.integrator.specs.Starts.{Law, Refusal, are_alike, job_refused, start_at, start_of, state_refused, atom_types, has_room, ring_of, start_with, system_of, types_of, type_with, unknown_type}
+use Rattle.integrator.specs.Starts.{Law, Refusal, are_alike, start_at, start_of, atom_types, has_room, ring_of, start_with, system_of, types_of, type_with, unknown_type}
 use Rattle.integrator.specs.States.{counter_after}
 use Rattle.integrator.specs.declared.direction.Direction.{Direction}
 
@@ -30,6 +28,7 @@ position_or_len-map : {X Y : Type 0} → (p : Y → Bool) (f : X → Y) (xs : Li
 position_or_len-map p f [] = refl
 position_or_len-map p f (x ∷ xs) = ap (λ n. cond (not (p (f x))) (1 + n) 0) (position_or_len-map p f xs)
 
+-- the first image that passes stands at the place of the first element whose image passes
 pub position-map : {X Y : Type 0} → (p : Y → Bool) (f : X → Y) (xs : List X) → position p (map f xs) ≡ position (λ x. p (f x)) xs
 position-map p f xs = rw (position_or_len-map p f xs, length-map xs f) refl
 
@@ -37,11 +36,13 @@ position-map p f xs = rw (position_or_len-map p f xs, length-map xs f) refl
 pub with_front : List ℕ → Result (List ℕ) Refusal → Result (List ℕ) Refusal
 with_front front r = r >>= λ ts. Ok (front ++ ts)
 
+-- before any type is found the types of the rest are all
 pub front_none : (r : Result (List ℕ) Refusal) → with_front [] r ≡ r
 unfolding with_front
 front_none (Ok ts) = refl
 front_none (Err f) = refl
 
+-- where no atom is left, the types found are all
 pub front_all : (front : List ℕ) (types : List TypeValue) (k : ℕ) → with_front front (atom_types types k []) ≡ Ok front
 unfolding with_front atom_types
 front_all front types k = ap Ok (append-nil front)
@@ -51,11 +52,13 @@ unfolding with_front
 more_at front t (Ok ts) = ap Ok (sym (append_assoc front (t ∷ []) ts))
 more_at front t (Err f) = refl
 
+-- an atom whose name a type has adds that type
 pub front_more : (front : List ℕ) (types : List TypeValue) (k : ℕ) (a : AtomView) (atoms : List AtomView) (t : ℕ) → type_with types a.name ≡ Some t
     → with_front front (atom_types types k (a ∷ atoms)) ≡ with_front (front ++ t ∷ []) (atom_types types (suc k) atoms)
 unfolding atom_types
 front_more front types k a atoms t e = rw e (more_at front t (atom_types types (suc k) atoms))
 
+-- an atom whose name no type has is the refusal, with its number
 pub front_stops : (front : List ℕ) (types : List TypeValue) (k : ℕ) (a : AtomView) (atoms : List AtomView) → type_with types a.name ≡ None
     → with_front front (atom_types types k (a ∷ atoms)) ≡ Err (unknown_type k)
 unfolding atom_types with_front
@@ -86,16 +89,6 @@ pub system_refused : {A : Type 0} → (j : JobValue) (s : StateView) (energy : E
 unfolding system_of
 system_refused j s energy failure r h =
     rw r (fails_as system_refusal failure (types_of j s) (types_of j s >>= λ types. Ok (energy, types)) (λ fault e. bind_err (types_of j s) (λ types. Ok (energy, types)) fault e) h)
-
--- texts that have no start since the first is no job's
-pub job_unread : (law : Law) (job state : List ℕ) (w : Direction) (n : ℕ) (r : jobs.Refusal) → reading_of limits job ≡ Err r → start_of law job state w n ≡ Err (job_refused r)
-unfolding start_of
-job_unread law job state w n r e = rw e refl
-
--- since the second is no state's
-pub state_unread : (law : Law) (job state : List ℕ) (w : Direction) (n : ℕ) (j : JobValue) (f : StateFault) → reading_of limits job ≡ Ok j → state_of state ≡ Err f → start_of law job state w n ≡ Err (state_refused f)
-unfolding start_of
-state_unread law job state w n j f e d = rw (e, d) refl
 
 -- since they have no atoms that can be run
 pub system_unready : (law : Law) (job state : List ℕ) (w : Direction) (n : ℕ) (j : JobValue) (s : StateView) (r : Refusal) → reading_of limits job ≡ Ok j → state_of state ≡ Ok s → system_of j s ≡ Err r → start_of law job state w n ≡ Err r

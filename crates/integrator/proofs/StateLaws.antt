@@ -1,46 +1,83 @@
 -- Frames of a state's atoms, and atoms at other places.
-use Rattle.std.proofs.Common.{◌≡◌, ◌≢◌, ℕ, ◌+◌, ◌<◌, ◌≤◌, List, [], ◌∷◌, length, get_or, set, arith, refl, ap, sym, ◌∙◌, zero-add, inl, inr}
+use Rattle.std.proofs.Common.{◌≡◌, ◌≢◌, ℕ, ◌+◌, ◌<◌, ◌≤◌, List, [], ◌∷◌, length, get_or, set, arith, refl, ap, sym, ◌∙◌, inl, inr, ℤ}
 use Rattle.std.specs.Prelude.{map}
-use Rattle.std.proofs.lemmas.List.{ext_get_or, get_or-set_same, get_or-set_other}
+use Rattle.std.proofs.lemmas.List.{get_or-map, get_or-set_same, get_or-set_other}
+use Rattle.std.proofs.lemmas.Simd.{map-map}
 use Rattle.std.proofs.lemmas.Bool.{cases_eq}
-use Rattle.state.specs.StateText.{AtomView}
+use Rattle.ring_box.specs.Places.{nowhere}
+use Rattle.state.specs.StateText.{AtomView, StateView}
 use Rattle.state.specs.StateViews.{atom_view}
 use Rattle.state.specs.declared.states.Atom.{Atom}
-use Rattle.integrator.specs.Frames.{Frames, places_of}
-use Rattle.integrator.specs.States.{current_frame, nobody, placed, placed_atoms, previous_frame}
-use Rattle.integrator.proofs.NumberLaws.{length-numbers, at_number}
+use Rattle.integrator.specs.Forces.{numbers_from}
+use Rattle.integrator.specs.Frames.{Frames, frames, places_of}
+use Rattle.integrator.specs.States.{current_frame, frames_of, moved_state, nobody, placed, placed_at, placed_atoms, previous_frame}
+use Rattle.integrator.proofs.NumberLaws.{length-numbers, made_of_numbers, number_at}
 
+-- the frames of a state are those of its atoms as they lie in memory
 pub previous_frame-views : (atoms : List Atom) → previous_frame (map atom_view atoms) ≡ map (λ a. a.previous) atoms
 previous_frame-views [] = refl
 previous_frame-views (a ∷ atoms) = ap (λ f. a.previous ∷ f) (previous_frame-views atoms)
 
+-- the current frame of a state's atoms is made of their current places
 pub current_frame-views : (atoms : List Atom) → current_frame (map atom_view atoms) ≡ map (λ a. a.current) atoms
 current_frame-views [] = refl
 current_frame-views (a ∷ atoms) = ap (λ f. a.current ∷ f) (current_frame-views atoms)
 
--- atoms that are placed, one and all
-pub all_placed : (before after : List AtomView) (f : Frames) → length after ≡ length before
-    → ((k : ℕ) → k < length before → get_or after k nobody ≡ placed (get_or before k nobody) (places_of f.previous k) (places_of f.current k))
-    → after ≡ placed_atoms before f
-all_placed before after f same each =
-    let g = λ (a : ℕ). placed (get_or before a nobody) (places_of f.previous a) (places_of f.current a) in
-    ext_get_or nobody after (placed_atoms before f) (same ∙ sym (length-numbers g 0 (length before))) (λ k h.
-    let l : k < length before = omega arith in
-    each k l ∙ sym (at_number g nobody 0 (length before) k l ∙ ap g (zero-add k)))
-
--- one atom more is placed, and the others are kept
-pub placed_more : (atoms before : List AtomView) (f : Frames) (i : ℕ) (y : AtomView) → i < length atoms
-    → y ≡ placed (get_or before i nobody) (places_of f.previous i) (places_of f.current i)
-    → ((k : ℕ) → k < i → get_or atoms k nobody ≡ placed (get_or before k nobody) (places_of f.previous k) (places_of f.current k))
-    → (k : ℕ) → k < i + 1 → get_or (set atoms i y) k nobody ≡ placed (get_or before k nobody) (places_of f.previous k) (places_of f.current k)
+-- one atom more is placed
+pub placed_more : (atoms before : List AtomView) (f : Frames) (i : ℕ) (y : AtomView) → i < length atoms → y ≡ placed_at before f i
+    → ((k : ℕ) → k < i → get_or atoms k nobody ≡ placed_at before f k) → (k : ℕ) → k < i + 1 → get_or (set atoms i y) k nobody ≡ placed_at before f k
 placed_more atoms before f i y l e h k m =
     elim (cases_eq k i) [
       | inl same ↦ rw same (get_or-set_same atoms i y nobody l ∙ e)
       | inr other ↦ get_or-set_other atoms i k y nobody other ∙ h k (omega arith)
     ]
 
+-- the atoms after it are kept
 pub kept_more : (atoms before : List AtomView) (i : ℕ) (y : AtomView) → ((k : ℕ) → i ≤ k → get_or atoms k nobody ≡ get_or before k nobody)
     → (k : ℕ) → i + 1 ≤ k → get_or (set atoms i y) k nobody ≡ get_or before k nobody
 kept_more atoms before i y h k m =
     let other : k ≢ i = omega arith in
     get_or-set_other atoms i k y nobody other ∙ h k (omega arith)
+
+-- ---- atoms at other places
+
+module _ (atoms : List AtomView) (f : Frames) where
+  -- they are as many
+  pub length-placed : length (placed_atoms atoms f) ≡ length atoms
+  length-placed = length-numbers (placed_at atoms f) 0 (length atoms)
+
+  -- each is the atom of its number, placed
+  pub get_or-placed : (k : ℕ) → k < length atoms → get_or (placed_atoms atoms f) k nobody ≡ placed_at atoms f k
+  get_or-placed = number_at (placed_at atoms f) nobody (length atoms)
+
+  -- a part of each atom, where that of the placed atom is known
+  pub part_placed : {X : Type 0} (part : AtomView → X) (d : X) (xs : List X) → length xs ≡ length atoms
+      → ((k : ℕ) → k < length atoms → get_or xs k d ≡ part (placed_at atoms f k)) → map part (placed_atoms atoms f) ≡ xs
+  part_placed part d xs size each =
+      map-map part (placed_at atoms f) (numbers_from 0 (length atoms)) ∙ sym (made_of_numbers (λ k. part (placed_at atoms f k)) d (length atoms) xs size each)
+
+  -- their frames are these
+  previous_placed : length f.previous ≡ length atoms → previous_frame (placed_atoms atoms f) ≡ f.previous
+  previous_placed size = part_placed (λ a. a.previous) nowhere f.previous size (λ k l. refl)
+
+  current_placed : length f.current ≡ length atoms → current_frame (placed_atoms atoms f) ≡ f.current
+  current_placed size = part_placed (λ a. a.current) nowhere f.current size (λ k l. refl)
+
+-- the frames of the state that is at these frames
+pub frames_moved : (s : StateView) (f : Frames) (k : ℤ) → length f.previous ≡ length s.atoms → length f.current ≡ length s.atoms → frames_of (moved_state s f k) ≡ f
+frames_moved s f k p c = ap (λ q. frames q (current_frame (placed_atoms s.atoms f))) (previous_placed s.atoms f p) ∙ ap (frames f.previous) (current_placed s.atoms f c)
+
+-- atoms that were placed, placed again
+pub placed_twice : (atoms : List AtomView) (f g : Frames) → placed_atoms (placed_atoms atoms f) g ≡ placed_atoms atoms g
+placed_twice atoms f g =
+    let size = length-placed atoms f in
+    made_of_numbers (placed_at atoms g) nobody (length atoms) (placed_atoms (placed_atoms atoms f) g) (length-placed (placed_atoms atoms f) g ∙ size) (λ k l.
+    get_or-placed (placed_atoms atoms f) g k (omega (arith, size)) ∙ ap (λ a. placed a (places_of g.previous k) (places_of g.current k)) (get_or-placed atoms f k l))
+
+-- atoms at their own places are themselves
+pub at_home : (atoms : List AtomView) → placed_atoms atoms (frames (previous_frame atoms) (current_frame atoms)) ≡ atoms
+at_home atoms =
+    sym (made_of_numbers (placed_at atoms (frames (previous_frame atoms) (current_frame atoms))) nobody (length atoms) atoms refl (λ k l.
+    let atom = get_or atoms k nobody in
+    ap (λ p. placed atom p atom.current) (sym (get_or-map (λ (a : AtomView). a.previous) atoms k nobody nowhere l))
+    ∙ ap (λ c. placed atom (places_of (previous_frame atoms) k) c) (sym (get_or-map (λ (a : AtomView). a.current) atoms k nobody nowhere l))))

@@ -17,6 +17,7 @@ scaled_alike : (x : ℤ) (t w k t' w' : ℕ) → 0 < k → t' ≡ t * k → w' �
 scaled_alike x t w k t' w' p e f =
     rw (e, f, ← times_times x t k) (sym (nearest_cancel (x *ℤ pos t) w k p))
 
+-- with the common powers of two cancelled the displacement is the same
 pub cancelled : (f : Frac) (force : ℤ) (t w : ℕ) → nearest_of (force *ℤ pos (t * factor_above f)) (pos (w * factor_below f)) ≡ nearest_of (force *ℤ pos (t * 2 ^ 32)) (pos (w * 2 ^ bits_of f))
 cancelled F24 force t w = scaled_alike force (t * 256) (w * 1) 16777216 (t * 2 ^ 32) (w * 2 ^ 24) (omega arith) (omega arith) (omega arith)
 cancelled F32 force t w = scaled_alike force (t * 1) (w * 1) 4294967296 (t * 2 ^ 32) (w * 2 ^ 32) (omega arith) (omega arith) (omega arith)

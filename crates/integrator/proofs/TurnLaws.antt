@@ -1,16 +1,17 @@
 -- Steps one after another, and back.
-use Rattle.std.proofs.Common.{◌≡◌, ℕ, zero, suc, ◌+◌, ◌<◌, ◌^◌, List, [], ◌∷◌, length, Option, Some, None, ℤ, pos, negsuc, get_or, arith, refl, ap, sym, ◌∙◌, add-one, zero-add}
+use Rattle.std.proofs.Common.{◌≡◌, ℕ, zero, suc, ◌+◌, ◌<◌, ◌^◌, List, length, Option, Some, None, ℤ, pos, negsuc, get_or, arith, refl, ap, sym, ◌∙◌, add-one}
 use Rattle.std.specs.Prelude.{option_map, slice_index}
 use Rattle.std.specs.Option.{option_and_then}
 use Rattle.integrator.proofs.Constructors.{none_is_no_some, some_same}
-use Rattle.integrator.specs.Frames.{AreFrames, ArePlaces, Dynamics, Frames, frame_forces, frames, moved_frame, next_frame, next_places, places_of, turn, turns, exchanged, opposite}
-use Rattle.integrator.specs.Displacement.{displacement_of}
-use Rattle.integrator.specs.Forces.{component, none, numbers_from}
-use Rattle.integrator.proofs.NumberLaws.{length-numbers, at_number}
+use Rattle.integrator.specs.Frames.{AreFrames, Dynamics, Frame, Frames, frame_forces, frames, moved_frame, next_at, next_frame, next_places, places_of, turn, turns, exchanged, opposite}
+use Rattle.integrator.specs.Forces.{numbers_from}
+use Rattle.integrator.proofs.NumberLaws.{length-numbers, made_of_numbers, number_at}
 use Rattle.integrator.proofs.StepLemmas.{there_and_back}
-use Rattle.ring_box.specs.Places.{place_at}
+use Rattle.ring_box.specs.Forces.{no_force}
+use Rattle.ring_box.specs.Places.{ArePlaces, nowhere, place_at}
+use Rattle.ring_box.specs.declared.vectors.Force.{Force}
+use Rattle.ring_box.specs.declared.vectors.Place3.{Place3}
 use Rattle.std.specs.List.{All}
-use Rattle.std.proofs.lemmas.List.{ext_get_or}
 use Rattle.std.proofs.lemmas.List.Elements.{All-map}
 use Rattle.integrator.specs.declared.direction.Direction.{Direction}
 use Rattle.integrator.specs.declared.direction.Direction.TheVariants.{Forward, Back}
@@ -31,60 +32,44 @@ unfolding turns
 more w d zero f = only_one (turn w d f)
 more w d (suc n) f = more_after w d n (turn w d f) (more w d n)
 
+-- n + 1 steps are n steps and one more
 pub turns-more : (w : Direction) (d : Dynamics) (n : ℕ) (f : Frames) → turns w d (n + 1) f ≡ option_and_then (turn w d) (turns w d n f)
 turns-more w d n f = rw add-one (more w d n f)
 
 -- ---- the way back
 
-three : (a b c d e f : ℕ) → a ≡ d → b ≡ e → c ≡ f → a ∷ b ∷ c ∷ [] ≡ d ∷ e ∷ f ∷ []
-three a b c d e f p q r = cc
-
 -- an atom
-places_back : (d : Dynamics) (m : ℕ) (p c : List ℕ) (v : List ℤ) → ArePlaces p → next_places d m (next_places d m p c v) c v ≡ p
-places_back d m [] c v h = absurd h
-places_back d m (x ∷ []) c v h = absurd h
-places_back d m (x ∷ y ∷ []) c v h = absurd h
-places_back d m (x ∷ y ∷ z ∷ []) c v h =
-    three _ _ _ x y z
-    (there_and_back x (slice_index c 0) (displacement_of d.frac (component v 0) d.time_step m d.ring.x) h.0)
-    (there_and_back y (slice_index c 1) (displacement_of d.frac (component v 1) d.time_step m d.ring.y) h.1)
-    (there_and_back z (slice_index c 2) (displacement_of d.frac (component v 2) d.time_step m d.ring.z) h.2)
-places_back d m (x ∷ y ∷ z ∷ w ∷ _) c v h = absurd h
+places_back : (d : Dynamics) (m : ℕ) (p c : Place3) (f : Force ℤ) → ArePlaces p → next_places d m (next_places d m p c f) c f ≡ p
+places_back d m p c f h = simp (there_and_back, h.x, h.y, h.z)
 
 on_ring : (z : ℤ) → place_at z < 2 ^ 32
 on_ring (pos n) = omega arith
 on_ring (negsuc n) = omega arith
 
-next_on_ring : (d : Dynamics) (m : ℕ) (p c : List ℕ) (v : List ℤ) → ArePlaces (next_places d m p c v)
-next_on_ring d m p c v = (on_ring _, on_ring _, on_ring _)
+next_on_ring : (d : Dynamics) (p c : Frame) (forces : List (Force ℤ)) (a : ℕ) → ArePlaces (next_at d p c forces a)
+next_on_ring d p c forces a = record { x = on_ring _; y = on_ring _; z = on_ring _ }
 
 -- a frame
-moved_on_ring : (d : Dynamics) (p c : List (List ℕ)) (forces : List (List ℤ)) → All ArePlaces (moved_frame d p c forces)
-moved_on_ring d p c forces = All-map ArePlaces (λ a. next_places d (slice_index d.masses a) (places_of p a) (places_of c a) (get_or forces a none)) (numbers_from 0 (length c))
-    (λ k e h. let a = get_or (numbers_from 0 (length c)) k e in next_on_ring d (slice_index d.masses a) (places_of p a) (places_of c a) (get_or forces a none))
+moved_on_ring : (d : Dynamics) (p c : Frame) (forces : List (Force ℤ)) → All ArePlaces (moved_frame d p c forces)
+moved_on_ring d p c forces = All-map ArePlaces (next_at d p c forces) (numbers_from 0 (length c)) (λ k e h. next_on_ring d p c forces (get_or (numbers_from 0 (length c)) k e))
 
-length-moved_frame : (d : Dynamics) (p c : List (List ℕ)) (forces : List (List ℤ)) → length (moved_frame d p c forces) ≡ length c
-length-moved_frame d p c forces = length-numbers (λ a. next_places d (slice_index d.masses a) (places_of p a) (places_of c a) (get_or forces a none)) 0 (length c)
+length-moved_frame : (d : Dynamics) (p c : Frame) (forces : List (Force ℤ)) → length (moved_frame d p c forces) ≡ length c
+length-moved_frame d p c forces = length-numbers (next_at d p c forces) 0 (length c)
 
-moved_back : (d : Dynamics) (p c : List (List ℕ)) (forces : List (List ℤ)) → length p ≡ length c → All ArePlaces p → moved_frame d (moved_frame d p c forces) c forces ≡ p
+moved_back : (d : Dynamics) (p c : Frame) (forces : List (Force ℤ)) → length p ≡ length c → All ArePlaces p → moved_frame d (moved_frame d p c forces) c forces ≡ p
 moved_back d p c forces same h =
-    let q = moved_frame d p c forces in
-    let n = length c in
-    let there = λ (a : ℕ). next_places d (slice_index d.masses a) (places_of p a) (places_of c a) (get_or forces a none) in
-    let here = λ (a : ℕ). next_places d (slice_index d.masses a) (places_of q a) (places_of c a) (get_or forces a none) in
-    ext_get_or [] (moved_frame d q c forces) p (length-numbers here 0 n ∙ sym same) (λ a l.
-    let k : a < n = omega (arith, length-numbers here 0 n) in
-    at_number here [] 0 n a k ∙ ap here (zero-add a)
-    ∙ ap (λ x. next_places d (slice_index d.masses a) x (places_of c a) (get_or forces a none)) (at_number there [] 0 n a k ∙ ap there (zero-add a))
-    ∙ places_back d (slice_index d.masses a) (places_of p a) (places_of c a) (get_or forces a none) (h a [] (omega arith)))
+    sym (made_of_numbers (next_at d (moved_frame d p c forces) c forces) nowhere (length c) p same (λ a l.
+    let m = slice_index d.masses a in
+    let v = get_or forces a no_force in
+    sym (ap (λ q. next_places d m q (places_of c a) v) (number_at (next_at d p c forces) nowhere (length c) a l) ∙ places_back d m (places_of p a) (places_of c a) v (h a nowhere (omega arith)))))
 
 -- what a step makes
-pub record Followed (d : Dynamics) (p c q : List (List ℕ)) : Type 0 where
+pub record Followed (d : Dynamics) (p c q : Frame) : Type 0 where
   pub back : next_frame d q c ≡ Some p
   pub alike : length q ≡ length c
   pub on_ring : All ArePlaces q
 
-followed_at : (d : Dynamics) (p c q : List (List ℕ)) (o : Option (List (List ℤ))) → length p ≡ length c → All ArePlaces p
+followed_at : (d : Dynamics) (p c q : Frame) (o : Option (List (Force ℤ))) → length p ≡ length c → All ArePlaces p
     → option_map (moved_frame d p c) o ≡ Some q
     → (option_map (moved_frame d q c) o ≡ Some p) × (length q ≡ length c) × All ArePlaces q
 followed_at d p c q None same h e = absurd (none_is_no_some q e)
@@ -92,7 +77,7 @@ followed_at d p c q (Some forces) same h e =
     let made : moved_frame d p c forces ≡ q = some_same (moved_frame d p c forces) q e in
     rw (← made) (ap Some (moved_back d p c forces same h), length-moved_frame d p c forces, moved_on_ring d p c forces)
 
-followed : (d : Dynamics) (p c q : List (List ℕ)) → length p ≡ length c → All ArePlaces p → next_frame d p c ≡ Some q → Followed d p c q
+followed : (d : Dynamics) (p c q : Frame) → length p ≡ length c → All ArePlaces p → next_frame d p c ≡ Some q → Followed d p c q
 followed d p c q same h e =
     let f = followed_at d p c q (frame_forces d c) same h e in
     record { back = f.0; alike = f.1; on_ring = f.2 }
@@ -105,10 +90,7 @@ pub record Turned (w : Direction) (d : Dynamics) (f g : Frames) : Type 0 where
   pub frames' : AreFrames g
   pub atoms : length g.previous ≡ length f.previous
 
-frames_alike : (p c q e : List (List ℕ)) → frames p c ≡ frames q e → (p ≡ q) × (c ≡ e)
-frames_alike p c q e h = (ap (λ (f : Frames). f.previous) h, ap (λ (f : Frames). f.current) h)
-
-stepped_at : (d : Dynamics) (p c : List (List ℕ)) (g : Frames) (o : Option (List (List ℕ))) → AreFrames (frames p c) → next_frame d p c ≡ o
+stepped_at : (d : Dynamics) (p c : Frame) (g : Frames) (o : Option Frame) → AreFrames (frames p c) → next_frame d p c ≡ o
     → option_map (frames c) o ≡ Some g → Turned Forward d (frames p c) g
 stepped_at d p c g None h e k = absurd (none_is_no_some g k)
 stepped_at d p c g (Some q) h e k =
@@ -121,7 +103,7 @@ stepped_at d p c g (Some q) h e k =
     } in
     rw (← same) turned
 
-backed_at : (d : Dynamics) (p c : List (List ℕ)) (g : Frames) (o : Option (List (List ℕ))) → AreFrames (frames p c) → next_frame d c p ≡ o
+backed_at : (d : Dynamics) (p c : Frame) (g : Frames) (o : Option Frame) → AreFrames (frames p c) → next_frame d c p ≡ o
     → option_map (λ n. frames n p) o ≡ Some g → Turned Back d (frames p c) g
 backed_at d p c g None h e k = absurd (none_is_no_some g k)
 backed_at d p c g (Some q) h e k =
@@ -134,6 +116,7 @@ backed_at d p c g (Some q) h e k =
     } in
     rw (← same) turned
 
+-- a step from frames leads to frames from which one step the other way leads back
 pub turned : (w : Direction) (d : Dynamics) (f g : Frames) → AreFrames f → turn w d f ≡ Some g → Turned w d f g
 turned Forward d f g h e = stepped_at d f.previous f.current g (next_frame d f.previous f.current) h refl e
 turned Back d f g h e = backed_at d f.previous f.current g (next_frame d f.current f.previous) h refl e
@@ -157,6 +140,7 @@ return_step w d n f g (Some m) h e k again =
       atoms = r.atoms ∙ t.atoms;
     }
 
+-- n steps one way from frames lead to frames from which n steps the other way lead back
 pub returned : (w : Direction) (d : Dynamics) (n : ℕ) (f g : Frames) → AreFrames f → turns w d n f ≡ Some g → Returned w d n f g
 unfolding turns
 returned w d zero f g h e =
@@ -166,7 +150,7 @@ returned w d (suc n) f g h e = return_step w d n f g (turn w d f) h refl e (λ m
 
 -- ---- back is forward with the frames exchanged
 
-exchanged_turn_at : (d : Dynamics) (p : List (List ℕ)) (o : Option (List (List ℕ))) → option_map (λ n. frames n p) o ≡ option_map exchanged (option_map (frames p) o)
+exchanged_turn_at : (d : Dynamics) (p : Frame) (o : Option Frame) → option_map (λ n. frames n p) o ≡ option_map exchanged (option_map (frames p) o)
 exchanged_turn_at d p None = refl
 exchanged_turn_at d p (Some q) = refl
 
@@ -175,6 +159,7 @@ exchanged_turns_at : (d : Dynamics) (n : ℕ) (o : Option Frames) → ((f : Fram
 exchanged_turns_at d n None h = refl
 exchanged_turns_at d n (Some f) h = h f
 
+-- steps back are steps forward with the two frames exchanged
 pub exchanged_turns : (d : Dynamics) (n : ℕ) (f : Frames) → turns Back d n (exchanged f) ≡ option_map exchanged (turns Forward d n f)
 unfolding turns
 exchanged_turns d zero f = refl
@@ -183,5 +168,5 @@ exchanged_turns d (suc n) f =
     ∙ exchanged_turns_at d n (turn Forward d f) (exchanged_turns d n)
 
 -- frames that were reached, exchanged
-pub back_from_forward : (d : Dynamics) (n : ℕ) (p c q e : List (List ℕ)) → turns Forward d n (frames c p) ≡ Some (frames e q) → turns Back d n (frames p c) ≡ Some (frames q e)
+pub back_from_forward : (d : Dynamics) (n : ℕ) (p c q e : Frame) → turns Forward d n (frames c p) ≡ Some (frames e q) → turns Back d n (frames p c) ≡ Some (frames q e)
 back_from_forward d n p c q e h = exchanged_turns d n (frames c p) ∙ ap (option_map exchanged) h

@@ -6,7 +6,7 @@ use Rattle.line_text.specs.Steps.{◌>>=◌}
 use Rattle.energy_program.specs.Faults.{Refusal}
 use Rattle.energy_program.specs.Names.{names_from}
 use Rattle.energy_program.specs.Programs.{Trees}
-use Rattle.energy_program.specs.Tree.{Number, Tree, inputs_of, substituted}
+use Rattle.energy_program.specs.Tree.{Number, Tree, variable_count, substituted}
 use Rattle.expr.specs.Energy.{trees_in}
 use Rattle.job.specs.Values.{GlobalValue, JobValue}
 use Rattle.kernel_code.specs.declared.instructions.Instr.{Instr}
@@ -52,4 +52,4 @@ job_tree j = tree_or_zero (energy_of j)
 -- the code computes the slope, where no input is missing
 abbrev pub IsCompiled : ℕ → (parameters globals : ℕ) → Energy → Type 0
 IsCompiled bits parameters globals energy =
-    (inputs : List ℤ) → inputs_of parameters globals ≤ length inputs → ComputesSlope bits energy.tree energy.slope energy.code inputs
+    (inputs : List ℤ) → variable_count parameters globals ≤ length inputs → ComputesSlope bits energy.tree energy.slope energy.code inputs

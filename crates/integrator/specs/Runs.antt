@@ -1,10 +1,10 @@
 -- A run from bytes to bytes: the texts of a job and a state, a number of steps and a direction give the text of the state after them.
-use Rattle.std.specs.Prelude.{◌≡◌, ℕ, List, Option, Some, Ok}
+use Rattle.std.specs.Prelude.{◌≡◌, ℕ, List, Some, Ok}
 use Rattle.state.specs.StateText.{StateView, state_text}
 use Rattle.integrator.specs.Frames.{Frames, turns}
 use Rattle.integrator.specs.States.{frames_of, moved_state}
 use Rattle.integrator.specs.Starts.{Law, Start, start_of}
-use Rattle.fallible.specs.Out.{appended, AppendsBeginning}
+use Rattle.fallible.specs.Out.{Output, Appends, AppendsBeginning}
 use Rattle.integrator.specs.declared.direction.Direction.{Direction}
 
 -- the state after the steps
@@ -29,14 +29,14 @@ pub record IsAfter (law : Law) (job state : List ℕ) (direction : Direction) (s
 
 -- ---- the output
 
--- all of the run's text was appended
-pub record Wrote (law : Law) (job state : List ℕ) (direction : Direction) (steps : ℕ) (before after : Option (List ℕ)) : Type 0 where
+-- all of the run's text was written
+pub record Wrote (law : Law) (job state : List ℕ) (direction : Direction) (steps : ℕ) (before after : Output) : Type 0 where
   pub text : List ℕ
   pub run : IsRun law job state direction steps text
-  pub appended' : after ≡ appended before text
+  pub appends : Appends before after text
 
--- a beginning of the run's text was appended
-pub record WroteBeginning (law : Law) (job state : List ℕ) (direction : Direction) (steps : ℕ) (before after : Option (List ℕ)) : Type 0 where
+-- a write failed, after a beginning of the run's text
+pub record WroteBeginning (law : Law) (job state : List ℕ) (direction : Direction) (steps : ℕ) (before after : Output) : Type 0 where
   pub text : List ℕ
   pub run : IsRun law job state direction steps text
   pub beginning : AppendsBeginning before after text

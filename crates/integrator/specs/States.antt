@@ -1,16 +1,18 @@
 -- A state's two frames, and the state after some steps.
 use Rattle.std.specs.Prelude.{ℕ, ℤ, pos, ◌+ℤ◌, ◌-ℤ◌, List, [], length, map, Option, Some, None, slice_index_or, if◌then◌else◌}
 use Rattle.fixed.specs.Arithmetic.{in_range}
+use Rattle.ring_box.specs.Places.{nowhere}
+use Rattle.ring_box.specs.declared.vectors.Place3.{Place3}
 use Rattle.state.specs.StateText.{AtomView, StateView}
 use Rattle.integrator.specs.Forces.{numbers_from}
-use Rattle.integrator.specs.Frames.{Frames, frames, places_of}
+use Rattle.integrator.specs.Frames.{Frame, Frames, frames, places_of}
 use Rattle.integrator.specs.declared.direction.Direction.{Direction}
 use Rattle.integrator.specs.declared.direction.Direction.TheVariants.{Forward, Back}
 
-abbrev pub previous_frame : List AtomView → List (List ℕ)
+abbrev pub previous_frame : List AtomView → Frame
 previous_frame atoms = map (λ a. a.previous) atoms
 
-abbrev pub current_frame : List AtomView → List (List ℕ)
+abbrev pub current_frame : List AtomView → Frame
 current_frame atoms = map (λ a. a.current) atoms
 
 abbrev pub frames_of : StateView → Frames
@@ -26,15 +28,19 @@ abbrev pub counter_after : Direction → ℤ → ℕ → Option ℤ
 counter_after direction step n = if in_range (counter_at direction step n) then Some (counter_at direction step n) else None
 
 -- an atom at other places
-abbrev pub placed : AtomView → List ℕ → List ℕ → AtomView
+abbrev pub placed : AtomView → Place3 → Place3 → AtomView
 placed a previous current = record a { previous = previous; current = current }
 
 abbrev pub nobody : AtomView
-nobody = record { residue_number = pos 0; residue = []; name = []; previous = []; current = [] }
+nobody = record { residue_number = pos 0; residue = []; name = []; previous = nowhere; current = nowhere }
 
--- the atoms at the places of these frames
+-- the atom a at its places in these frames
+abbrev pub placed_at : List AtomView → Frames → ℕ → AtomView
+placed_at atoms f a = placed (slice_index_or atoms a nobody) (places_of f.previous a) (places_of f.current a)
+
+-- all of them there
 abbrev pub placed_atoms : List AtomView → Frames → List AtomView
-placed_atoms atoms f = map (λ a. placed (slice_index_or atoms a nobody) (places_of f.previous a) (places_of f.current a)) (numbers_from 0 (length atoms))
+placed_atoms atoms f = map (placed_at atoms f) (numbers_from 0 (length atoms))
 
 -- the state with these frames and this counter
 abbrev pub moved_state : StateView → Frames → ℤ → StateView

@@ -1,6 +1,6 @@
 //! From a job to its energy and the code of its slope.
 
-ghost use Rattle.std.specs.Prelude.{◌≡◌, length, map, IfOk};
+ghost use Rattle.std.specs.Prelude.{◌≡◌, length, map, IfOk, Ok};
 ghost use Rattle.fixed.specs.Fractions.{bits_of};
 ghost use Rattle.energy_program.specs.Faults.{refusal_of};
 ghost use Rattle.fallible.specs.Failures.{Gives};
@@ -97,6 +97,7 @@ pub fn job_slope<A: Allocator + Copy>(
     job: &Job<A>,
 ) -> Result<SlopeParts<A>, Failure<ExprFault<A>>>
     ensures value { Gives energy_view refusal_of result (energy_of (job_value job.now)) }
+    ensures program { IfOk result (λ p. job_program (job_value job.now) ≡ Ok (trees_of p.energy)) }
     ensures compiled { IfOk result (λ p. IsCompiled (bits_of job.now.frac) (length job.now.parameters.items) (length job.now.globals.items) (energy_view p)) }
     ensures parameters { IfOk result (λ p. p.energy.parameters ≡ length job.now.parameters.items) }
     ensures globals { IfOk result (λ p. p.energy.globals ≡ length job.now.globals.items) }

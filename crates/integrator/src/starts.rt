@@ -1,12 +1,13 @@
 //! What a run starts from.
 
-ghost use Rattle.std.specs.Prelude.{◌≡◌, ◌*◌, ◌^◌, ◌<◌, ◌≤◌, length, map, IfOk};
+ghost use Rattle.std.specs.Prelude.{◌≡◌, ◌*◌, ◌^◌, ◌<◌, ◌≤◌, length, map, IfOk, Ok};
 ghost use Rattle.std.specs.List.{All};
 ghost use Rattle.energy_program.specs.Faults.{refusal_of};
+ghost use Rattle.energy_program.specs.Programs.{trees_of};
 ghost use Rattle.fallible.specs.Failures.{Gives};
 ghost use Rattle.job.specs.Views.{job_value, type_value};
 ghost use Rattle.state.specs.StateViews.{atom_view, state_view};
-ghost use Rattle.integrator.specs.Energies.{IsCompiled};
+ghost use Rattle.integrator.specs.Energies.{IsCompiled, job_program};
 ghost use Rattle.integrator.specs.Starts.{atom_types, has_room, holds_two, mass_of, system_of, types_of, IsSlopeCode, slope_code_of};
 ghost use Rattle.fixed.specs.Fractions.{bits_of};
 ghost use Rattle.integrator.specs.StartViews.{energy_view, ready_view, system_refusal};
@@ -119,6 +120,7 @@ pub fn ready<A: Allocator + Copy>(
     state: &State<A>,
 ) -> Result<Ready<A>, Failure<SystemFault<A>>>
     ensures value { Gives ready_view system_refusal result (system_of (job_value job.now) (state_view state.now)) }
+    ensures program { IfOk result (λ r. job_program (job_value job.now) ≡ Ok (trees_of r.parts.energy)) }
     ensures compiled { IfOk result (λ r. IsCompiled (bits_of job.now.frac) (length job.now.parameters.items) (length job.now.globals.items) (energy_view r.parts)) }
     ensures parameters { IfOk result (λ r. r.parts.energy.parameters ≡ length job.now.parameters.items) }
     ensures globals { IfOk result (λ r. r.parts.energy.globals ≡ length job.now.globals.items) }

@@ -7,6 +7,7 @@ ghost use Rattle.integrator.specs.Frames.{frames};
 ghost use Rattle.integrator.specs.States.{counter_after, counter_at, moved_state, placed, placed_atoms};
 
 use crate::direction::Direction;
+use ring_box::Place3;
 use state::{Atom, State};
 use std::alloc::{AllocError, Allocator};
 
@@ -27,11 +28,8 @@ pub fn counter_after<A: Allocator>(
     i64::try_from(after).ok()
 }
 
-/// The places of the atoms one step earlier. Want of memory is its only refusal.
-pub fn previous_frame<A: Allocator>(
-    alloc: A,
-    atoms: &[Atom],
-) -> Result<Vec<[u32; 3], A>, AllocError>
+/// Where the atoms were one step earlier. Want of memory is its only refusal.
+pub fn previous_frame<A: Allocator>(alloc: A, atoms: &[Atom]) -> Result<Vec<Place3, A>, AllocError>
     ensures { IfOk result (λ v. v.items ≡ map (λ a. a.previous) atoms.now) }
 {
     let mut frame = Vec::new(alloc);
@@ -41,8 +39,8 @@ pub fn previous_frame<A: Allocator>(
     Ok(frame)
 }
 
-/// The places of the atoms. Want of memory is its only refusal.
-pub fn current_frame<A: Allocator>(alloc: A, atoms: &[Atom]) -> Result<Vec<[u32; 3], A>, AllocError>
+/// Where the atoms are. Want of memory is its only refusal.
+pub fn current_frame<A: Allocator>(alloc: A, atoms: &[Atom]) -> Result<Vec<Place3, A>, AllocError>
     ensures { IfOk result (λ v. v.items ≡ map (λ a. a.current) atoms.now) }
 {
     let mut frame = Vec::new(alloc);
@@ -52,7 +50,7 @@ pub fn current_frame<A: Allocator>(alloc: A, atoms: &[Atom]) -> Result<Vec<[u32;
     Ok(frame)
 }
 
-fn placed(mut atom: Atom, previous: [u32; 3], current: [u32; 3]) -> Atom
+fn placed(mut atom: Atom, previous: Place3, current: Place3) -> Atom
     ensures { atom_view result ≡ placed (atom_view atom) previous current }
 {
     atom.previous = previous;
@@ -61,7 +59,7 @@ fn placed(mut atom: Atom, previous: [u32; 3], current: [u32; 3]) -> Atom
 }
 
 /// Puts the atoms at the places of these frames.
-fn place(atoms: &mut [Atom], previous: &[[u32; 3]], current: &[[u32; 3]])
+fn place(atoms: &mut [Atom], previous: &[Place3], current: &[Place3])
     requires previous { length previous.now ≡ length atoms.old }
     requires current { length current.now ≡ length atoms.old }
     ensures { map atom_view atoms.new ≡ placed_atoms (map atom_view atoms.old) (frames previous.now current.now) }
@@ -74,10 +72,10 @@ fn place(atoms: &mut [Atom], previous: &[[u32; 3]], current: &[[u32; 3]])
 /// Two frames that follow one another.
 #[derive(Drop)]
 pub struct Turned<A: Allocator> {
-    /// Each atom's places one step earlier.
-    pub previous: Vec<[u32; 3], A>,
-    /// Each atom's places.
-    pub current: Vec<[u32; 3], A>,
+    /// Where each atom was one step earlier.
+    pub previous: Vec<Place3, A>,
+    /// Where each atom is.
+    pub current: Vec<Place3, A>,
 }
 
 /// Puts a state's atoms at the places of these frames, and gives it this counter.

@@ -2,13 +2,13 @@
 
 use crate::displacement::{displacement, next_place};
 use crate::systems::System;
-use ring_box::Side;
+use ring_box::{Force, Place3, Side};
 use std::alloc::Allocator;
 
 impl<K: Drop, A: Allocator> System<K, A> {
     ghost use Rattle.std.specs.Prelude.{◌≡◌, ◌<◌, ◌≤◌, ◌^◌, unsigned_abs};
+    ghost use Rattle.ring_box.specs.Forces.{IsWithin};
     ghost use Rattle.integrator.specs.Displacement.{displacement_of, next_place_of};
-    ghost use Rattle.integrator.specs.Forces.{IsWithin};
     ghost use Rattle.integrator.specs.Frames.{next_places};
     ghost use Rattle.integrator.specs.Systems.{forceless};
 
@@ -27,19 +27,19 @@ impl<K: Drop, A: Allocator> System<K, A> {
     pub fn next_places(
         &self,
         mass: u32,
-        before: [u32; 3],
-        middle: [u32; 3],
-        force: [i128; 3],
-    ) -> [u32; 3]
+        before: Place3,
+        middle: Place3,
+        force: Force<i128>,
+    ) -> Place3
         requires some_mass { 0 < mass }
         requires most_mass { mass ≤ 100000000 }
         requires force { IsWithin (2 ^ 80) force }
         ensures { result ≡ next_places (forceless self.now) mass before middle force }
     {
-        [
-            self.next_coordinate(mass, self.ring.x, before[0], middle[0], force[0]),
-            self.next_coordinate(mass, self.ring.y, before[1], middle[1], force[1]),
-            self.next_coordinate(mass, self.ring.z, before[2], middle[2], force[2]),
-        ]
+        Place3 {
+            x: self.next_coordinate(mass, self.ring.x, before.x, middle.x, force.x),
+            y: self.next_coordinate(mass, self.ring.y, before.y, middle.y, force.y),
+            z: self.next_coordinate(mass, self.ring.z, before.z, middle.z, force.z),
+        }
     }
 }

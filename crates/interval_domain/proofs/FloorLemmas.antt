@@ -19,6 +19,7 @@ div_rises a b n p h =
     (λ le. le)
     (cases_lt (b / n) (a / n))
 
+-- a quotient of natural numbers falls in the divisor
 pub div_falls : (a m n : ℕ) → 0 < m → m ≤ n → a / n ≤ a / m
 div_falls a m n p h =
     let q : 0 < n = omega arith in
@@ -30,6 +31,7 @@ div_falls a m n p h =
     (λ le. le)
     (cases_lt (a / m) (a / n))
 
+-- the floor over a positive number rises in the dividend
 pub floor_rises : (d : ℕ) (x y : ℤ) → 0 < d → x ≤ℤ y → floor_over x d ≤ℤ floor_over y d
 floor_rises d (pos a) (pos b) p h = omega (arith, ints, div_rises a b d p (omega (arith, ints)))
 floor_rises d (pos a) (negsuc b) p h = absurd (omega (arith, ints))
@@ -45,11 +47,13 @@ scale_up m (negsuc a) (pos b) h = rw (pos-*ℤ-negsuc m a, pos-*ℤ-pos m b) (om
 scale_up m (negsuc a) (negsuc b) h =
     let k : suc b ≤ suc a = omega (arith, ints) in rw (pos-*ℤ-negsuc m a, pos-*ℤ-negsuc m b) (omega (arith, ints, mul-le-mul_left m k))
 
+-- products with a negative number fall
 pub scale_down : (m : ℕ) (x y : ℤ) → x ≤ℤ y → (negsuc m *ℤ y) ≤ℤ (negsuc m *ℤ x)
 scale_down m x y h =
     let k = scale_up (suc m) x y h in
     rw (*ℤ_comm (negsuc m) y, *ℤ_comm (negsuc m) x, *ℤ-negsuc y m, *ℤ-negsuc x m, *ℤ_comm y (pos (suc m)), *ℤ_comm x (pos (suc m))) (omega (arith, ints))
 
+-- products with a natural number behind rise
 pub times_rises : (m : ℕ) (x y : ℤ) → x ≤ℤ y → (x *ℤ pos m) ≤ℤ (y *ℤ pos m)
 times_rises m x y h = rw (*ℤ_comm x (pos m), *ℤ_comm y (pos m)) (scale_up m x y h)
 
@@ -57,17 +61,20 @@ times_rises m x y h = rw (*ℤ_comm x (pos m), *ℤ_comm y (pos m)) (scale_up m 
 pub whole_rises : (bits : ℕ) (x y : ℤ) → x ≤ℤ y → whole_of bits x ≤ℤ whole_of bits y
 whole_rises bits x y h = times_rises (2 ^ bits) (floor_over x (2 ^ bits)) (floor_over y (2 ^ bits)) (floor_rises (2 ^ bits) x y (two_pos bits) h)
 
+-- the least multiple of one that is at least x
 abbrev pub least_multiple_of : ℕ → ℤ → ℤ
 least_multiple_of bits x = neg_ℤ (whole_of bits (neg_ℤ x))
 
 least_multiple_rises : (bits : ℕ) (x y : ℤ) → x ≤ℤ y → least_multiple_of bits x ≤ℤ least_multiple_of bits y
 least_multiple_rises bits x y h = let k = whole_rises bits (neg_ℤ y) (neg_ℤ x) (omega (arith, ints)) in omega (arith, ints)
 
+-- the least span of the greatest multiples of one at most a member is that of the span's ends
 pub least_whole : (bits : ℕ) (a s : Span) → s.lo ≡ whole_of bits a.lo → s.hi ≡ whole_of bits a.hi → IsLeastSpan (IsOutcome (λ x. Ok (whole_of bits x)) a) s
 least_whole bits a s el eh =
     let r : Rises a.lo a.hi (whole_of bits) = record { rises = λ x y p h q. whole_rises bits x y h } in
     least_rising (λ x. Ok (whole_of bits x)) (λ z. Ok z) (whole_of bits) a s exact_narrows (λ x p. refl) r (rw el refl) (rw eh refl)
 
+-- the least span of the least multiples of one at least a member is that of the span's ends
 pub least_ceiling : (bits : ℕ) (a s : Span) → ceiling_of bits a.lo ≡ Ok s.lo → ceiling_of bits a.hi ≡ Ok s.hi → IsLeastSpan (IsOutcome (ceiling_of bits) a) s
 least_ceiling bits a s el eh =
     let r : Rises a.lo a.hi (least_multiple_of bits) = record { rises = λ x y p h q. least_multiple_rises bits x y h } in

@@ -8,6 +8,7 @@ use Rattle.interval_domain.specs.declared.span.Span.{Span}
 use Rattle.interval_domain.specs.Spans.{AreHalves, ArePartsOf, IsHull, IsMember}
 use Rattle.interval_domain.proofs.OutcomeLemmas.{hi_member, lo_member}
 
+-- the lesser of the lower ends and the greater of the upper ends are the ends of the hull
 pub hull_is : (a b s : Span) → s.lo ≡ int_min a.lo b.lo → s.hi ≡ int_max a.hi b.hi → IsHull a b s
 hull_is a b s el eh =
     record {
@@ -28,6 +29,7 @@ half_of lo hi q h e =
     let f = floor_over_is (hi -ℤ lo) 2 (lit< tt) in
     (omega (arith, ints, f.at_most, f.next_above), omega (arith, ints, f.at_most, f.next_above))
 
+-- the halves of a span have its members between them
 pub parts_of : (s lower upper : Span) → AreHalves s lower upper → ArePartsOf s lower upper
 parts_of s lower upper h =
     let ol = lower.ordered in

@@ -13,15 +13,18 @@ use Rattle.interval_domain.proofs.OutcomeLemmas.{IsNarrowing, at_hi, at_hi_hi, a
 pub record Rises (u v : ℤ) (e : ℤ → ℤ) : Type 0 where
   pub rises : (x y : ℤ) → u ≤ℤ x → x ≤ℤ y → y ≤ℤ v → e x ≤ℤ e y
 
+-- e falls from u to v
 pub record Falls (u v : ℤ) (e : ℤ → ℤ) : Type 0 where
   pub falls : (x y : ℤ) → u ≤ℤ x → x ≤ℤ y → y ≤ℤ v → e y ≤ℤ e x
 
+-- z is a number from lo to hi
 pub record LiesBetween (lo z hi : ℤ) : Type 0 where
   pub least : lo ≤ℤ z
   pub greatest : z ≤ℤ hi
 
 -- ---- one argument
 
+-- the least span of what rises over a span is that of its ends
 pub least_rising : (f : ℤ → Result ℤ Fault) (narrow : ℤ → Result ℤ Fault) (e : ℤ → ℤ) (a s : Span) → IsNarrowing narrow → ((x : ℤ) → IsMember x a → f x ≡ narrow (e x)) → Rises a.lo a.hi e → f a.lo ≡ Ok s.lo → f a.hi ≡ Ok s.hi → IsLeastSpan (IsOutcome f a) s
 least_rising f narrow e a s n is r el eh =
     let l : e a.lo ≡ s.lo = n.same (e a.lo) s.lo (sym (is a.lo (lo_member a)) ∙ el) in
@@ -43,6 +46,7 @@ ends_suffice u v lo hi e m a b x p q =
 
 -- ---- two arguments
 
+-- e rises or falls in each argument alone, over the two spans
 pub record MovesInEach (e : ℤ → ℤ → ℤ) (a b : Span) : Type 0 where
   pub first : (y : ℤ) → IsMember y b → Rises a.lo a.hi (λ x. e x y) ⊎ Falls a.lo a.hi (λ x. e x y)
   pub second : (x : ℤ) → IsMember x a → Rises b.lo b.hi (λ y. e x y) ⊎ Falls b.lo b.hi (λ y. e x y)

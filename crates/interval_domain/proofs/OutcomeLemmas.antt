@@ -3,18 +3,20 @@ use Rattle.std.proofs.Common.{◌≡◌, refl, sym, inl, inr, ◌∙◌, subst, 
 use Rattle.std.specs.Prelude.{◌⊎◌, int_lt}
 use Rattle.std.specs.Int.{int_max, int_min}
 use Rattle.std.proofs.lemmas.Int.{by_lt_z, ints}
-use Rattle.std.proofs.lemmas.Bool.Decides.{nat_tests}
 use Rattle.fixed.specs.Arithmetic.{in_range, number_or_overflow}
 use Rattle.fixed.specs.declared.faults.Fault.{Fault}
 use Rattle.fixed.specs.declared.faults.Fault.TheVariants.{Overflow}
+use Rattle.fixed.proofs.IntegerLaws.{in_range_between}
 use Rattle.interval_domain.specs.declared.span.Span.{Span}
 use Rattle.interval_domain.specs.Spans.{IsLeastSpan, IsMember, IsOutcome, IsOutcomeOfTwo}
 
 -- ---- members
 
+-- the least member of a span is one
 pub lo_member : (a : Span) → IsMember a.lo a
 lo_member a = let o = a.ordered in record { at_least = omega (arith, ints); at_most = o }
 
+-- so is the greatest
 pub hi_member : (a : Span) → IsMember a.hi a
 hi_member a = let o = a.ordered in record { at_least = o; at_most = omega (arith, ints) }
 
@@ -22,6 +24,7 @@ hi_member a = let o = a.ordered in record { at_least = o; at_most = omega (arith
 abbrev pub IsOneSided : Span → Type 0
 IsOneSided b = (pos 1 ≤ℤ b.lo) ⊎ (b.hi ≤ℤ negsuc 0)
 
+-- a span of which 0 is no member lies on one side of 0
 pub one_sided : (b : Span) → (IsMember (pos 0) b → ⊥) → IsOneSided b
 one_sided b none =
     by_lt_z (pos 0) b.lo
@@ -33,21 +36,27 @@ one_sided b none =
 
 -- ---- outcomes at the ends
 
+-- the outcome at the least member is an outcome
 pub at_lo : (f : ℤ → Result ℤ Fault) (a : Span) (r : Result ℤ Fault) → f a.lo ≡ r → IsOutcome f a r
 at_lo f a r e = record { argument = a.lo; member = lo_member a; outcome = e }
 
+-- the same at the greatest member
 pub at_hi : (f : ℤ → Result ℤ Fault) (a : Span) (r : Result ℤ Fault) → f a.hi ≡ r → IsOutcome f a r
 at_hi f a r e = record { argument = a.hi; member = hi_member a; outcome = e }
 
+-- the outcome at the two least members is an outcome
 pub at_lo_lo : (f : ℤ → ℤ → Result ℤ Fault) (a b : Span) (r : Result ℤ Fault) → f a.lo b.lo ≡ r → IsOutcomeOfTwo f a b r
 at_lo_lo f a b r e = record { first = a.lo; second = b.lo; first_member = lo_member a; second_member = lo_member b; outcome = e }
 
+-- the same at the least and the greatest
 pub at_lo_hi : (f : ℤ → ℤ → Result ℤ Fault) (a b : Span) (r : Result ℤ Fault) → f a.lo b.hi ≡ r → IsOutcomeOfTwo f a b r
 at_lo_hi f a b r e = record { first = a.lo; second = b.hi; first_member = lo_member a; second_member = hi_member b; outcome = e }
 
+-- the same at the greatest and the least
 pub at_hi_lo : (f : ℤ → ℤ → Result ℤ Fault) (a b : Span) (r : Result ℤ Fault) → f a.hi b.lo ≡ r → IsOutcomeOfTwo f a b r
 at_hi_lo f a b r e = record { first = a.hi; second = b.lo; first_member = hi_member a; second_member = lo_member b; outcome = e }
 
+-- the same at the two greatest
 pub at_hi_hi : (f : ℤ → ℤ → Result ℤ Fault) (a b : Span) (r : Result ℤ Fault) → f a.hi b.hi ≡ r → IsOutcomeOfTwo f a b r
 at_hi_hi f a b r e = record { first = a.hi; second = b.hi; first_member = hi_member a; second_member = hi_member b; outcome = e }
 
@@ -70,22 +79,16 @@ fits_if : (z w : ℤ) (fits : Bool) → (if fits then Ok z else Err Overflow) �
 fits_if z w true e = refl
 fits_if z w false e = absurd (cc)
 
-fits_between : (lo z hi : ℤ) → in_range lo ≡ true → in_range hi ≡ true → lo ≤ℤ z → z ≤ℤ hi → in_range z ≡ true
-fits_between (pos l) (pos z) (pos h) p q a b = grind (arith, ints, nat_tests)
-fits_between (pos l) (pos z) (negsuc h) p q a b = absurd (omega (arith, ints))
-fits_between (pos l) (negsuc z) hi p q a b = absurd (omega (arith, ints))
-fits_between (negsuc l) (pos z) (pos h) p q a b = grind (arith, ints, nat_tests)
-fits_between (negsuc l) (pos z) (negsuc h) p q a b = absurd (omega (arith, ints))
-fits_between (negsuc l) (negsuc z) hi p q a b = grind (arith, ints, nat_tests)
-
 number_between : (lo z hi : ℤ) → number_or_overflow lo ≡ Ok lo → number_or_overflow hi ≡ Ok hi → lo ≤ℤ z → z ≤ℤ hi → number_or_overflow z ≡ Ok z
 number_between lo z hi el eh a b =
-    let fits : in_range z ≡ true = fits_between lo z hi (fits_if lo lo (in_range lo) el) (fits_if hi hi (in_range hi) eh) a b in
+    let fits : in_range z ≡ true = in_range_between lo z hi (fits_if lo lo (in_range lo) el) (fits_if hi hi (in_range hi) eh) a b in
     rw fits refl
 
+-- a number or an overflow: numbers are kept, and all between two that are kept
 pub number_narrows : IsNarrowing number_or_overflow
 number_narrows = record { same = number_is; between = number_between }
 
+-- the same with no limit, where all are kept
 pub exact_narrows : IsNarrowing (λ z. Ok z)
 exact_narrows = record { same = λ z w e. cc; between = λ lo z hi el eh a b. refl }
 
@@ -109,6 +112,7 @@ kept Outcome narrow lo hi z n w o =
     let e : v.0 ≡ z = n.same v.0 z (sym v.1) in
     subst (λ (x : ℤ). narrow x ≡ Ok z) e (sym v.1)
 
+-- where the outcomes lie between two of them, narrowed, these two are the ends of the least span
 pub least_span : (Outcome : Result ℤ Fault → Type 0) (narrow : ℤ → Result ℤ Fault) (s : Span) → IsNarrowing narrow → LiesWithin Outcome narrow s.lo s.hi → Outcome (Ok s.lo) → Outcome (Ok s.hi) → IsLeastSpan Outcome s
 least_span Outcome narrow s n w ol oh =
     let l = kept Outcome narrow s.lo s.hi s.lo n w ol in
@@ -139,5 +143,6 @@ least_of_two f narrow e a b s n w ol oh =
 pub min_keeps : (P : ℤ → Type 0) (x y : ℤ) → P x → P y → P (int_min x y)
 min_keeps P x y px py = elim (int_lt y x) as (λ b. P (cond b y x)) [ true ↦ py | false ↦ px ]
 
+-- the same of the greatest alone
 pub max_keeps : (P : ℤ → Type 0) (x y : ℤ) → P x → P y → P (int_max x y)
 max_keeps P x y px py = elim (int_lt y x) as (λ b. P (cond b x y)) [ true ↦ px | false ↦ py ]

@@ -31,6 +31,7 @@ moves_in_first bits (negsuc m) u v =
 product_moves : (bits : ℕ) (a b : Span) → MovesInEach (rounded_product bits) a b
 product_moves bits a b = record { first = λ y h. moves_in_first bits y a.lo a.hi; second = λ x h. moves_in_second bits x b.lo b.hi }
 
+-- the least span of a rounded product has the least and the greatest of the products of the ends
 pub least_product : (bits : ℕ) (a b : Span) (p q r s : ℤ) (span : Span) → product_of bits a.lo b.lo ≡ Ok p → product_of bits a.lo b.hi ≡ Ok q → product_of bits a.hi b.lo ≡ Ok r → product_of bits a.hi b.hi ≡ Ok s → IsExtremes p q r s span.lo span.hi → IsLeastSpan (IsOutcomeOfTwo (product_of bits) a b) span
 least_product bits a b p q r s span fp fq fr fs x =
     least_of_corners (product_of bits) number_or_overflow (rounded_product bits) a b p q r s span number_narrows (λ x y hx hy. refl) (product_moves bits a b) fp fq fr fs x

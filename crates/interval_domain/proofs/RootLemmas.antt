@@ -4,14 +4,11 @@ use Rattle.std.proofs.lemmas.Int.{ints}
 use Rattle.std.proofs.lemmas.Nat.{mul-le}
 use Rattle.fixed.specs.Arithmetic.{number_or_overflow, square_root_of}
 use Rattle.fixed.specs.Roots.{root}
-use Rattle.fixed.proofs.RootLemmas.{root_is}
+use Rattle.fixed.proofs.RootLemmas.{root_le}
 use Rattle.interval_domain.specs.declared.span.Span.{Span}
 use Rattle.interval_domain.specs.Spans.{IsLeastSpan, IsOutcome}
 use Rattle.interval_domain.proofs.OutcomeLemmas.{number_narrows}
 use Rattle.interval_domain.proofs.MonotoneLemmas.{Rises, least_rising}
-
-root_rises : (m n : ℕ) → m ≤ n → root m ≤ root n
-root_rises m n h = (root_is n).greatest (root m) (let k = (root_is m).square_le in omega arith)
 
 -- the rounded root of a number from 0 on, before it is narrowed to a number
 abbrev rounded_root : ℕ → ℤ → ℤ
@@ -20,7 +17,7 @@ rounded_root bits x = pos (root (unsigned_abs x * 2 ^ bits))
 rounded_root_rises : (bits : ℕ) (x y : ℤ) → pos 0 ≤ℤ x → x ≤ℤ y → rounded_root bits x ≤ℤ rounded_root bits y
 rounded_root_rises bits (pos m) (pos n) p h =
     let k : m ≤ n = omega (arith, ints) in
-    omega (arith, ints, root_rises (m * 2 ^ bits) (n * 2 ^ bits) (mul-le m (2 ^ bits) n (2 ^ bits) k (omega arith)))
+    omega (arith, ints, root_le (m * 2 ^ bits) (n * 2 ^ bits) (mul-le m (2 ^ bits) n (2 ^ bits) k (omega arith)))
 rounded_root_rises bits (pos m) (negsuc n) p h = absurd (omega (arith, ints))
 rounded_root_rises bits (negsuc m) y p h = absurd (omega (arith, ints))
 
@@ -32,6 +29,7 @@ root_sign : (bits : ℕ) (x z : ℤ) → square_root_of bits x ≡ Ok z → pos 
 root_sign bits (pos n) z e = omega (arith, ints)
 root_sign bits (negsuc n) z e = absurd (cc)
 
+-- the least span of a rounded square root is that of its ends
 pub least_root : (bits : ℕ) (a s : Span) → square_root_of bits a.lo ≡ Ok s.lo → square_root_of bits a.hi ≡ Ok s.hi → IsLeastSpan (IsOutcome (square_root_of bits) a) s
 least_root bits a s el eh =
     let sign = root_sign bits a.lo s.lo el in

@@ -49,10 +49,6 @@ apart_below most frac names name_in g above (line ∷ lines) h a =
     subst (λ (z : List (List ℕ)). AreApart (names (summary frac z))) (append_assoc above (line ∷ []) lines)
     (apart_below most frac names name_in g (above ++ line ∷ []) lines (λ front below l e. ap (λ (z : List (List ℕ)). line_fault most frac z l) (append_assoc above (line ∷ []) front) ∙ h (line ∷ front) below l (ap (λ zs. line ∷ zs) e)) more)
 
-map_one : {X Y : Type 0} (f : X → Y) (xs : List X) (o : Option X) → map f (and_one xs o) ≡ and_one (map f xs) (option_map f o)
-map_one f xs None = refl
-map_one f xs (Some x) = map-append f xs (x ∷ [])
-
 parameter_name : Option Statement → Option (List ℕ)
 parameter_name (Some (parameter_is name)) = Some name
 parameter_name _ = None
@@ -108,7 +104,7 @@ line_names : (ts : List TypeLine) → map (λ t. t.name) (map (λ t. t.value) ts
 line_names [] = refl
 line_names (t ∷ ts) = ap (λ ns. t.value.name ∷ ns) (line_names ts)
 
-names_once : (most : Counts) (frac : Frac) (lines : List (List ℕ)) (job : JobValue) → IsFaultless most frac lines → Tells (summary frac lines) job → HasNamesOnce job
+pub names_once : (most : Counts) (frac : Frac) (lines : List (List ℕ)) (job : JobValue) → IsFaultless most frac lines → Tells (summary frac lines) job → HasNamesOnce job
 unfolding summary
 names_once most frac lines job h t =
     record {
@@ -117,6 +113,7 @@ names_once most frac lines job h t =
       types = subst (λ (ts : List TypeValue). AreApart (map (λ u. u.name) ts)) t.types (subst AreApart (sym (line_names (summary frac lines).types)) (apart_below most frac (λ s. map (λ u. u.value.name) s.types) type_name (type_names most) [] lines h apart_none));
     }
 
+-- a job that a call returned has no name twice among its parameters, its globals or its types
 pub given_apart : {A E : Type 0} (most : Counts) (text : List ℕ) (result : Result (Job A) E) → IfOk result (λ job. IsJobText most text (job_value job)) → IfOk result (λ job. HasNamesOnce (job_value job))
 given_apart most text (Err e) h = tt
 given_apart most text (Ok job) h = names_once most job.frac h.lines (job_value job) h.faultless h.tells

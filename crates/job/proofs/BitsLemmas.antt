@@ -100,14 +100,17 @@ frac_said frac lines = ap (λ (vs : List Frac). unwrap_or (first vs) F32) (bits_
 
 -- ---- line by line
 
+-- a first line that says fraction bits tells those of all lines
 pub frac_found : (all lines : List (List ℕ)) (line : List ℕ) (frac : Frac) → all ≡ line ∷ lines → bits_said line ≡ Some frac → frac_in all ≡ frac
 unfolding frac_in
 frac_found all lines line frac a e = rw (a, e) refl
 
+-- fraction bits that a first line doesn't say are those of the lines below
 pub frac_below : (all lines : List (List ℕ)) (line : List ℕ) → all ≡ line ∷ lines → bits_said line ≡ None → frac_in all ≡ frac_in lines
 unfolding frac_in
 frac_below all lines line a e = rw (a, e) refl
 
+-- where there are no lines, 32 bits stand
 pub frac_of_none : frac_in [] ≡ F32
 unfolding frac_in
 frac_of_none = refl

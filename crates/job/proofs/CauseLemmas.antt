@@ -5,6 +5,7 @@ use Rattle.std.proofs.lemmas.Bool.{eqb-false, eqb-true}
 use Rattle.std.proofs.lemmas.List.Elements.{All-nil, All-cons}
 use Rattle.line_text.specs.Steps.{◌>>=◌}
 use Rattle.line_text.proofs.PartLaws.{same_bytes}
+use Rattle.line_text.proofs.ResidueNumbers.{T_true, true_T}
 use Rattle.line_text.proofs.StepLaws.{Split, split}
 use Rattle.fixed.specs.declared.frac.Frac.{Frac}
 use Rattle.job.specs.Bits.{frac_in}
@@ -15,7 +16,7 @@ use Rattle.job.specs.Values.{Counts, JobValue, TypeValue}
 use Rattle.job.specs.Words.{lines_of}
 use Rattle.job.specs.declared.faults.Key.{Key}
 use Rattle.job.specs.declared.faults.Key.TheVariants as keys
-use Rattle.job.proofs.TextLemmas.{below_is, faultless_from, is_below, needed_ok, ordered_ok}
+use Rattle.job.proofs.TextLemmas.{faultless_from, needed_ok, ordered_ok}
 
 -- ---- the line at fault
 
@@ -122,13 +123,13 @@ job_lacks s f e = by_energy (split f (needed keys.Energy s.energy) with_energy e
     by_types energy core longest cutoff step en co lo st long (inr (types, good, wrong)) = absurd cc
     by_types energy core longest cutoff step en co lo st long (inl bad) =
         let h = whole_err (length s.parameters) s.types f bad in
-        other_values (record { core = core; cutoff = longest; energy' = (energy, en); core' = co; cutoff' = lo; time_step' = (step, st); longer = record { lt = below_is (int_lt core longest) long } }) h.0 h.1 h.2 h.3 h.4 h.5 h.6
+        other_values (record { core = core; cutoff = longest; energy' = (energy, en); core' = co; cutoff' = lo; time_step' = (step, st); longer = record { lt = true_T (int_lt core longest) long } }) h.0 h.1 h.2 h.3 h.4 h.5 h.6
 
     by_order : (energy : List ℕ) (core longest : ℤ) (step : ℕ) → s.energy ≡ Some energy → s.core ≡ Some core → s.cutoff ≡ Some longest → s.time_step ≡ Some step
         → Split {B = JobValue} f (ordered core longest) (with_cutoff energy core step) → LacksPart s f
     by_order energy core longest step en co lo st (inl bad) =
         let h = ordered_err core longest f bad in
-        short_cutoff core longest (energy, en) co lo (step, st) (λ less. let wrong : false ≡ true = sym h.0 ∙ is_below (int_lt core longest) less.lt in cc) h.1
+        short_cutoff core longest (energy, en) co lo (step, st) (λ less. let wrong : false ≡ true = sym h.0 ∙ T_true (int_lt core longest) less.lt in cc) h.1
     by_order energy core longest step en co lo st (inr (cutoff, good, d)) =
         by_types energy core longest cutoff step en co lo st (ordered_ok core longest cutoff good).1 (split f (whole_types (length s.parameters) s.types) (job_of s energy core step cutoff) d)
 

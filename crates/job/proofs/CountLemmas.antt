@@ -4,6 +4,7 @@ use Rattle.std.specs.List.{AllWithin}
 use Rattle.job.specs.Faults.{bad_line, TypeLine}
 use Rattle.job.specs.JobText.{whole_types}
 
+-- the first type with another number of values is the fault, with its line
 pub wrong_at : {X : Type 0} (view : X → TypeLine) (k : ℕ) (xs : List X) (i : ℕ) (x : X) → AllWithin (λ t. length (view t).value.values ≡ k) xs 0 i → i < length xs → x ≡ get_or xs i x
     → (length (view x).value.values ≡ k → ⊥) → whole_types k (map view xs) ≡ Err (bad_line (view x).line)
 unfolding whole_types
@@ -13,6 +14,7 @@ wrong_at view k (y ∷ ys) (suc i) x h lt e differs =
     let first : length (view y).value.values ≡ k = h 0 y (omega arith) (omega arith) in
     rw (eq-eqb (length (view y).value.values) k first, wrong_at view k ys i x (λ j d low high. h (suc j) d (omega arith) (omega arith)) (omega arith) e differs) refl
 
+-- where each type has so many values, all types are taken
 pub whole_all : {X : Type 0} (view : X → TypeLine) (k : ℕ) (xs : List X) → AllWithin (λ t. length (view t).value.values ≡ k) xs 0 (length xs) → whole_types k (map view xs) ≡ Ok (map (λ t. t.value) (map view xs))
 unfolding whole_types
 whole_all view k [] h = refl

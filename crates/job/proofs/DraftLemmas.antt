@@ -27,31 +27,39 @@ pub passed_on : {X Y R S : Type 0} (view : X → Y) (seen : R → S) (result : R
 passed_on view seen (Ok x) failure r p h = absurd p.1
 passed_on view seen (Err x) failure r p h = rw p.1 h
 
+-- one element more is seen as its value behind those of the others
 pub pushed : {X Y : Type 0} (view : X → Y) (xs ys : List X) (x : X) (y : Y) → ys ≡ xs ++ x ∷ [] → view x ≡ y → map view ys ≡ map view xs ++ y ∷ []
 pushed view xs ys x y e v = ap (map view) e ∙ map-append view xs (x ∷ []) ∙ ap (λ z. map view xs ++ z ∷ []) v
 
+-- a parameter that was said before is a repeated name
 pub parameter_known : (most : Counts) (s : Said) (name : List ℕ) → knows s.parameters name ≡ true → parameter_new most s name ≡ Err (repeated_name name)
 parameter_known most s name k = rw k refl
 
+-- a new parameter past the limit is out of range
 pub parameter_full : (most : Counts) (s : Said) (name : List ℕ) → knows s.parameters name ≡ false → most.parameters ≤ length s.parameters → parameter_new most s name ≡ Err (out_of_range keys.Parameter)
 parameter_full most s name k le = rw (k, le-ltb (length s.parameters) most.parameters le) refl
 
+-- a new parameter within the limit is one more
 pub parameter_added : (most : Counts) (s : Said) (name : List ℕ) (ps : List (List ℕ)) → knows s.parameters name ≡ false → length s.parameters < most.parameters → ps ≡ s.parameters ++ name ∷ []
     → parameter_new most s name ≡ Ok (record s { parameters = ps })
 parameter_added most s name ps k lt e = rw (k, lt-ltb (length s.parameters) most.parameters lt, e) refl
 
+-- a global that was said before is a repeated name
 pub global_known : (most : Counts) (s : Said) (name : List ℕ) (v : Option ℤ) → knows (map (λ g. g.name) s.globals) name ≡ true → global_new most s name v ≡ Err (repeated_name name)
 unfolding global_new
 global_known most s name v k = rw k refl
 
+-- a new global whose value is out of range is so
 pub global_out : (most : Counts) (s : Said) (name : List ℕ) → knows (map (λ g. g.name) s.globals) name ≡ false → global_new most s name None ≡ Err (out_of_range keys.Global)
 unfolding global_new
 global_out most s name k = rw k refl
 
+-- a new global past the limit is out of range
 pub global_full : (most : Counts) (s : Said) (name : List ℕ) (v : ℤ) → knows (map (λ g. g.name) s.globals) name ≡ false → most.globals ≤ length s.globals → global_new most s name (Some v) ≡ Err (out_of_range keys.Global)
 unfolding global_new
 global_full most s name v k le = rw (k, le-ltb (length s.globals) most.globals le) refl
 
+-- a new global within the limit is one more
 pub global_added : (most : Counts) (s : Said) (name : List ℕ) (v : ℤ) (gs : List GlobalValue) → knows (map (λ g. g.name) s.globals) name ≡ false → length s.globals < most.globals
     → gs ≡ s.globals ++ record { name = name; value = v } ∷ [] → global_new most s name (Some v) ≡ Ok (record s { globals = gs })
 unfolding global_new
@@ -86,19 +94,23 @@ pub global_malformed : (most : Counts) (n : ℕ) (s : Said) (ws : List (List ℕ
     → r ≡ signed_of s.frac word → ok_or (well_formed r) (bad_line n) ≡ Err f → global_into most n s ws ≡ Err f
 global_malformed most n s ws name word r f e is read h = by_pair most n s ws name word r e is read ∙ by_fault most n s name (well_formed r) f h
 
+-- a type that was said before is a repeated type
 pub type_known : (most : Counts) (n : ℕ) (s : Said) (name : List ℕ) (v : Option (ℕ × List ℤ)) → knows (map (λ t. t.value.name) s.types) name ≡ true → type_new most n s name v ≡ Err (repeated_type name)
 unfolding type_new
 type_known most n s name v k = rw k refl
 
+-- a new type with a number out of range is so
 pub type_out : (most : Counts) (n : ℕ) (s : Said) (name : List ℕ) → knows (map (λ t. t.value.name) s.types) name ≡ false → type_new most n s name None ≡ Err (out_of_range keys.Types)
 unfolding type_new
 type_out most n s name k = rw k refl
 
+-- a new type past the limit is out of range
 pub type_full : (most : Counts) (n : ℕ) (s : Said) (name : List ℕ) (v : ℕ × List ℤ) → knows (map (λ t. t.value.name) s.types) name ≡ false → most.types ≤ length s.types
     → type_new most n s name (Some v) ≡ Err (out_of_range keys.Types)
 unfolding type_new
 type_full most n s name v k le = rw (k, le-ltb (length s.types) most.types le) refl
 
+-- a new type within the limit is one more, with the number of its line
 pub type_added : (most : Counts) (n : ℕ) (s : Said) (name : List ℕ) (v : ℕ × List ℤ) (ts : List TypeLine) → knows (map (λ t. t.value.name) s.types) name ≡ false → length s.types < most.types
     → ts ≡ s.types ++ record { line = n; value = record { name = name; mass = v.0; values = v.1 } } ∷ [] → type_new most n s name (Some v) ≡ Ok (record s { types = ts })
 unfolding type_new

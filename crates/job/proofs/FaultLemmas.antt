@@ -18,14 +18,17 @@ use Rattle.job.specs.Drafts.{number_of, energy_new, energy_into, core_into, cuto
 
 -- ---- one more line
 
+-- the value that was said first, or this one
 abbrev pub kept_first : {X : Type 0} → Option X → X → Option X
 kept_first None x = Some x
 kept_first (Some y) x = Some y
 
+-- the value that was said first, or the one that a line says, if it says one
 abbrev pub or_first : {X : Type 0} → Option X → Option X → Option X
 or_first o None = o
 or_first o (Some x) = kept_first o x
 
+-- the list, with what a line says behind it, if it says anything
 abbrev pub and_one : {X : Type 0} → List X → Option X → List X
 and_one xs None = xs
 and_one xs (Some x) = xs ++ x ∷ []
@@ -53,6 +56,7 @@ cons_one {Y = Y} h xs (Some x) = at (h x)
     at None = append-nil xs
     at (Some y) = refl
 
+-- one line more says what the lines above say, and then what it says
 pub said_more : {Y : Type 0} (frac : Frac) (h : Statement → Option Y) (lines : List (List ℕ)) (line : List ℕ)
     → filter_map h (filter_map (entry_of frac) (lines ++ line ∷ [])) ≡ and_one (filter_map h (filter_map (entry_of frac) lines)) (option_and_then h (entry_of frac line))
 said_more frac h lines line =
@@ -86,6 +90,7 @@ types_more frac n m [] line e =
 types_more frac n m (l ∷ lines) line e =
     ap (cons_option (type_in n (entry_of frac l))) (types_more frac (n + 1) m lines line (omega arith)) ∙ cons_and (type_in n (entry_of frac l)) (type_in m (entry_of frac line)) (type_lines frac (n + 1) lines)
 
+-- lines and one more have said as much as the lines, joined by what the one says
 pub summary_more : (frac : Frac) (lines : List (List ℕ)) (line : List ℕ) → summary frac (lines ++ line ∷ []) ≡ joined (length lines + 2) (summary frac lines) (entry_of frac line)
 unfolding summary
 summary_more frac lines line =
@@ -103,6 +108,7 @@ summary_more frac lines line =
 
 -- ---- the outcome of a line
 
+-- all that was said, or the fault where there is one
 abbrev pub outcome : Option Refusal → Said → Result Said Refusal
 outcome None s = Ok s
 outcome (Some fault) s = Err fault
@@ -228,6 +234,7 @@ unfolding line_fault summary
 line_below most frac above line =
     line_is most (length above + 2) (summary frac above) line ∙ ap (outcome (entry_fault most (length above + 2) (summary frac above) (entry_of frac line))) (sym (summary_more frac above line))
 
+-- lines below others are read to the first fault among them, or to what all have said
 pub lines_below : (most : Counts) (frac : Frac) (above lines : List (List ℕ)) (n : ℕ) → n ≡ length above + 2 → lines_into most n (summary frac above) lines ≡ outcome (first_fault most frac above lines) (summary frac (above ++ lines))
 unfolding lines_into first_fault
 lines_below most frac above [] n e = ap (λ (ls : List (List ℕ)). Ok (summary frac ls)) (sym (append-nil above))

@@ -19,10 +19,12 @@ ended_more : (line : List ℕ) (text : List ℕ) → ended (line ∷ slice_split
 unfolding lines_of
 ended_more line text = let s = split_some (λ b. b == 10) text in rw s.2 refl
 
+-- a text up to its first line feed is its first line, and the other lines are those of the rest
 pub lines_cut : (text a b : List ℕ) → cut_at 10 text ≡ Some (a, b) → lines_of text ≡ without_return a ∷ lines_of b
 unfolding lines_of
 lines_cut text a b e = ap ended (split_cut 10 text a b e) ∙ ended_more a b
 
+-- a text without a line feed is one line
 pub lines_whole : (text : List ℕ) → cut_at 10 text ≡ None → lines_of text ≡ text ∷ []
 unfolding lines_of
 lines_whole text e = ap ended (split_uncut 10 text (cut_none 10 text e))
@@ -34,25 +36,30 @@ abbrev pub size : Option (List ℕ) → ℕ
 size None = 0
 size (Some text) = 1 + length text
 
+-- one line without a fault is read, and the whole stays the same
 pub lines_step : (most : Counts) (n : ℕ) (s t : Said) (line : List ℕ) (lines all : List (List ℕ)) (total : Result Said Refusal) → all ≡ line ∷ lines → line_into most n s line ≡ Ok t
     → lines_into most n s all ≡ total → lines_into most (n + 1) t lines ≡ total
 unfolding lines_into
 lines_step most n s t line lines all total a e h = sym (ap (lines_into most n s) a ∙ ap (λ r. r >>= λ u. lines_into most (n + 1) u lines) e) ∙ h
 
+-- a failure of a line is the failure of the whole
 pub lines_fault : {R : Type 0} (seen : R → Refusal) (failure : Failure R) (most : Counts) (n : ℕ) (s : Said) (line : List ℕ) (lines all : List (List ℕ)) (total : Result Said Refusal) → all ≡ line ∷ lines
     → Fails seen failure (line_into most n s line) → lines_into most n s all ≡ total → Fails seen failure total
 unfolding lines_into
 lines_fault seen failure most n s line lines all total a e h =
     fails_as seen failure (line_into most n s line) total (λ fault f. sym h ∙ ap (lines_into most n s) a ∙ ap (λ r. r >>= λ u. lines_into most (n + 1) u lines) f) e
 
+-- where no line is left, what was said so far is the whole
 pub lines_end : (most : Counts) (n : ℕ) (s : Said) (total : Result Said Refusal) → lines_into most n s [] ≡ total → total ≡ Ok s
 unfolding lines_into
 lines_end most n s total h = sym h
 
+-- behind a line no more is left than there was
 pub size_left : {X : Type 0} (now : X → List ℕ) (rest : Option X) (line text : List ℕ) → IfSome rest (λ x. length line + length (now x) < length text) → size (option_map now rest) ≤ length text
 size_left now None line text h = omega arith
 size_left now (Some x) line text h = omega (arith, h)
 
+-- the size of a text that is left stays two below a bound where the text's bytes stay three below it
 pub size_within : {X : Type 0} (now : X → List ℕ) (text : Option X) (most : ℕ) → IfSome text (λ x. length (now x) + 3 < most) → 3 < most → size (option_map now text) + 2 < most
 size_within now None most h lt = omega arith
 size_within now (Some x) most h lt = omega (arith, h)

@@ -1,59 +1,27 @@
 -- What numerals, whole numbers and masses are read as.
-use Rattle.std.proofs.Common.{◌≡◌, ℕ, ◌+◌, ◌-◌, ◌*◌, ◌^◌, ◌<◌, ◌≤◌, ◌≤ℤ◌, ◌&&◌, ltb, leb, ℤ, pos, negsuc, Bool, true, false, cond, min, List, [], ◌∷◌, ◌++◌, length, Option, Some, None, Ok, Err, IfOk, option_map, refl, sym, ap, ◌∙◌, arith, append-nil, append_assoc, inl, inr}
+use Rattle.std.proofs.Common.{◌≡◌, ℕ, ◌+◌, ◌-◌, ◌*◌, ◌^◌, ◌<◌, ◌≤◌, ◌&&◌, ltb, leb, ℤ, Bool, true, false, cond, min, List, [], ◌∷◌, ◌++◌, length, Option, Some, None, Ok, Err, option_map, refl, sym, ap, ◌∙◌, arith, append-nil, append_assoc, inl, inr}
 use Rattle.std.specs.Str.{all_ascii_digits}
 use Rattle.std.specs.Str.Parse.{digits_value}
 use Rattle.std.proofs.lemmas.Bool.{cases_lt, le-leb, lt-leb, lt-ltb}
-use Rattle.std.proofs.lemmas.Int.{ints}
 use Rattle.fixed.specs.declared.frac.Frac.{Frac}
-use Rattle.fixed.specs.Fractions.{bits_of}
-use Rattle.fixed.specs.declared.faults.NumFault.{NumFault}
 use Rattle.fixed.specs.declared.faults.NumFault.TheVariants.{BadNumber, NumberRange}
-use Rattle.fixed.specs.Numerals.{IsReading, fixed_of}
-use Rattle.fixed.specs.NumeralParts.{decimal_of}
-use Rattle.fixed.proofs.NumeralLemmas.{sound, complete}
 use Rattle.line_text.specs.Columns.{digits_of}
 use Rattle.line_text.proofs.WrittenLaws.{digits_written}
 use Rattle.line_text.specs.Steps.{◌>>=◌}
-use Rattle.job.specs.Numbers.{Reading, both, or_malformed, numeral_of, signed_of, values_of, within, whole_of, mass_from}
-
--- ---- numerals
-
-joined : {D : Type 0} (f : D → Reading ℤ) (o : Option D) (r : Reading ℤ) → ((d : D) → o ≡ Some d → r ≡ f d) → (o ≡ None → r ≡ Err BadNumber) → r ≡ or_malformed (option_map f o)
-joined f None r some none = none refl
-joined f (Some d) r some none = some d refl
-
-pub reading_is : (frac : Frac) (text : List ℕ) (r : Reading ℤ) → IsReading (bits_of frac) text r → r ≡ numeral_of frac text
-unfolding numeral_of
-reading_is frac text r h = joined (λ d. fixed_of (bits_of frac) d.mantissa d.power) (decimal_of text) r
-    (λ d e. let s = sound text d e in
-    h.value s.0 s.1 s.2 ∙ ap (λ o. or_malformed (option_map (λ x. fixed_of (bits_of frac) x.mantissa x.power) o)) (sym (complete s.0 s.1) ∙ ap decimal_of s.2 ∙ e))
-    (λ e. h.bad (λ n is t. let c = sym (complete n is) ∙ ap decimal_of t ∙ e in cc))
-
-ok_least : (b : Bool) (n : ℕ) → IfOk {E = NumFault} (cond b (Ok (pos n)) (Err NumberRange)) (λ v. pos 0 ≤ℤ v)
-ok_least true n = omega (arith, ints)
-ok_least false n = tt
-
-fixed_least : (bits m : ℕ) (p : ℤ) → IfOk (fixed_of bits m p) (λ v. pos 0 ≤ℤ v)
-fixed_least bits m (pos p) = ok_least _ _
-fixed_least bits m (negsuc p) = ok_least _ _
-
-each_least : {D : Type 0} (f : D → Reading ℤ) → ((d : D) → IfOk (f d) (λ v. pos 0 ≤ℤ v)) → (o : Option D) → IfOk (or_malformed (option_map f o)) (λ v. pos 0 ≤ℤ v)
-each_least f h None = tt
-each_least f h (Some d) = h d
-
-pub numeral_least : (frac : Frac) (text : List ℕ) → IfOk (numeral_of frac text) (λ v. pos 0 ≤ℤ v)
-unfolding numeral_of
-numeral_least frac text = each_least (λ d. fixed_of (bits_of frac) d.mantissa d.power) (λ d. fixed_least (bits_of frac) d.mantissa d.power) (decimal_of text)
+use Rattle.job.specs.Numbers.{Reading, both, signed_of, values_of, within, whole_of, mass_from}
 
 -- ---- values
 
+-- the values read so far, or that one of them was out of range
 abbrev pub so_far : Bool → List ℤ → Reading (List ℤ)
 so_far true values = Ok values
 so_far false values = Err NumberRange
 
+-- values, and then others
 abbrev pub and_then : Reading (List ℤ) → Reading (List ℤ) → Reading (List ℤ)
 and_then r s = both r s >>= λ x. Ok (x.0 ++ x.1)
 
+-- with no values behind them, those so far stay
 pub values_end : (b : Bool) (values : List ℤ) → and_then (so_far b values) (Ok []) ≡ so_far b values
 values_end true values = ap (λ (l : List ℤ). Ok l) (append-nil values)
 values_end false values = refl
@@ -90,19 +58,23 @@ values_none : (frac : Frac) → values_of frac [] ≡ Ok []
 unfolding values_of
 values_none frac = refl
 
+-- one value more is read, and the whole stays the same
 pub values_push : (frac : Frac) (b : Bool) (values more : List ℤ) (v : ℤ) (rest ws : List (List ℕ)) (w : List ℕ) (total : Reading (List ℤ)) → rest ≡ w ∷ ws → signed_of frac w ≡ Ok v → more ≡ values ++ v ∷ []
     → and_then (so_far b values) (values_of frac rest) ≡ total → and_then (so_far b more) (values_of frac ws) ≡ total
 values_push frac b values more v rest ws w total e s m h =
     ap (λ (l : List ℤ). and_then (so_far b l) (values_of frac ws)) m ∙ values_more frac b values v ws w s ∙ ap (λ (l : List (List ℕ)). and_then (so_far b values) (values_of frac l)) (sym e) ∙ h
 
+-- a value out of range makes the whole so, unless a malformed one follows
 pub values_skip : (frac : Frac) (b : Bool) (values : List ℤ) (rest ws : List (List ℕ)) (w : List ℕ) (total : Reading (List ℤ)) → rest ≡ w ∷ ws → signed_of frac w ≡ Err NumberRange
     → and_then (so_far b values) (values_of frac rest) ≡ total → and_then (so_far false values) (values_of frac ws) ≡ total
 values_skip frac b values rest ws w total e s h = values_out frac b values ws w s ∙ ap (λ (l : List (List ℕ)). and_then (so_far b values) (values_of frac l)) (sym e) ∙ h
 
+-- a malformed value makes the whole malformed
 pub values_stop : (frac : Frac) (b : Bool) (values : List ℤ) (rest ws : List (List ℕ)) (w : List ℕ) (total : Reading (List ℤ)) → rest ≡ w ∷ ws → signed_of frac w ≡ Err BadNumber
     → and_then (so_far b values) (values_of frac rest) ≡ total → Err BadNumber ≡ total
 values_stop frac b values rest ws w total e s h = sym (values_bad frac b values ws w s) ∙ ap (λ (l : List (List ℕ)). and_then (so_far b values) (values_of frac l)) (sym e) ∙ h
 
+-- where no word is left, the values so far are the whole
 pub values_all : (frac : Frac) (b : Bool) (values : List ℤ) (rest : List (List ℕ)) (total : Reading (List ℤ)) → rest ≡ [] → and_then (so_far b values) (values_of frac rest) ≡ total → so_far b values ≡ total
 values_all frac b values rest total e h = sym (values_end b values) ∙ ap (and_then (so_far b values)) (sym (ap (values_of frac) e ∙ values_none frac)) ∙ h
 
@@ -138,11 +110,13 @@ no_digits text e = at (all_ascii_digits text) refl e
     at true t d = absurd cc
     at false t d = t
 
+-- the empty word is no whole number
 pub whole_empty : (least most : ℕ) (word : List ℕ) → length word ≡ 0 → Err BadNumber ≡ whole_of least most word
 unfolding whole_of
 whole_empty least most [] e = refl
 whole_empty least most (c ∷ cs) e = absurd (omega arith)
 
+-- a word with a byte that is no digit is no whole number
 pub whole_bad : (least most limit : ℕ) (word : List ℕ) → None ≡ option_map (λ n. min n limit) (digits_of word) → Err BadNumber ≡ whole_of least most word
 unfolding whole_of
 whole_bad least most limit word e = rw (no_digits word (none_in limit (digits_of word) e)) (at (ltb 0 (length word)))
@@ -151,6 +125,7 @@ whole_bad least most limit word e = rw (no_digits word (none_in limit (digits_of
     at true = refl
     at false = refl
 
+-- digits that were read up to a limit past the greatest number allowed are read as the whole number
 pub whole_is : (least most limit r : ℕ) (word : List ℕ) → limit ≡ most + 1 → (length word ≡ 0 → ⊥) → Some r ≡ option_map (λ n. min n limit) (digits_of word) → within least most r ≡ whole_of least most word
 unfolding whole_of
 whole_is least most limit r word above some e =
@@ -175,9 +150,11 @@ bad_part true true few mass = refl
 bad_part true false few mass = refl
 bad_part false whole few mass = refl
 
+-- a mass whose digits before the point are malformed is malformed
 pub mass_bad_whole : (limit : ℕ) (whole part : List ℕ) → None ≡ option_map (λ n. min n limit) (digits_of whole) → Err BadNumber ≡ mass_from whole part
 mass_bad_whole limit whole part e = rw (no_digits whole (none_in limit (digits_of whole) e)) (bad_whole (ltb 0 (length whole)) (all_ascii_digits part) (leb (length part) 5) _)
 
+-- so is one whose digits behind the point are
 pub mass_bad_part : (whole part : List ℕ) → None ≡ digits_of part → Err BadNumber ≡ mass_from whole part
 mass_bad_part whole part e = rw (no_digits part (sym e)) (bad_part (ltb 0 (length whole)) (all_ascii_digits whole) (leb (length part) 5) _)
 
@@ -188,6 +165,7 @@ mass_capped w f =
       | inr g ↦ above_range 1 100000000 (min w 1001 * 100000 + f) (omega arith) ∙ sym (above_range 1 100000000 (w * 100000 + f) (omega arith))
     ]
 
+-- a mass is made of its digits before the point, read up to a limit past the greatest mass, and of those behind it
 pub mass_is : (whole part : List ℕ) (w d k : ℕ) → (length whole ≡ 0 → ⊥) → length part ≤ 5 → Some w ≡ option_map (λ n. min n 1001) (digits_of whole) → Some d ≡ digits_of part → k ≡ 10 ^ (5 - length part)
     → within 1 100000000 (w * 100000 + d * k) ≡ mass_from whole part
 mass_is whole part w d k some few ew ed ek =

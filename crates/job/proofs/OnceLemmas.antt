@@ -94,6 +94,7 @@ exactly_once : {X : Type 0} (xs : List X) (x : X) → first xs ≡ Some x → le
 exactly_once [] x e le = absurd cc
 exactly_once (y ∷ ys) x e le = omega (arith, le)
 
+-- lines without a fault that tell a job have each key that one line may have once, or at most once
 pub keys_once : (most : Counts) (frac : Frac) (lines : List (List ℕ)) (job : JobValue) → IsFaultless most frac lines → Tells (summary frac lines) job → HasKeysOnce frac lines
 unfolding summary
 keys_once most frac lines job h t =
@@ -106,6 +107,7 @@ keys_once most frac lines job h t =
       bits = at_most_once most frac bits_in (bits_once most frac) [] lines h (omega arith);
     }
 
+-- so have the lines of the text that a call read as a job
 pub given_once : {A E : Type 0} (most : Counts) (text : List ℕ) (result : Result (Job A) E) → IfOk result (λ job. IsJobText most text (job_value job))
     → IfOk result (λ job. HasKeysOnce job.frac (below_first (lines_of text)))
 given_once most text (Err e) h = tt

@@ -1,5 +1,5 @@
 -- What is read from a text is its job, and a text of a job is read as that job.
-use Rattle.std.proofs.Common.{◌≡◌, ℕ, ℤ, int_lt, Bool, true, false, T, List, [], ◌∷◌, ◌++◌, length, map, Option, Some, None, Result, Ok, Err, IfOk, All, bytes_eq, refl, sym, ap, subst, ◌∙◌, append_assoc, append-nil, eqb, eq-eqb, eqb-true, if◌then◌else◌}
+use Rattle.std.proofs.Common.{◌≡◌, ℕ, ℤ, int_lt, Bool, true, false, List, [], ◌∷◌, ◌++◌, length, map, Option, Some, None, Result, Ok, Err, IfOk, All, bytes_eq, refl, sym, ap, subst, ◌∙◌, append_assoc, append-nil, eqb, eq-eqb, eqb-true, if◌then◌else◌}
 use Rattle.std.specs.Option.{unwrap_or}
 use Rattle.std.proofs.lemmas.List.Elements.{All-nil, All-cons, All-head, All-tail}
 use Rattle.std.proofs.lemmas.Slice.Eq.{bytes_eq-Decides}
@@ -14,8 +14,9 @@ use Rattle.job.specs.Words.{lines_of}
 use Rattle.job.specs.Faults.{Refusal, bad_line, out_of_range, TypeLine, Said, summary, line_fault, or_else, first_fault}
 use Rattle.job.specs.Bits.{frac_in}
 use Rattle.line_text.specs.Steps.{◌>>=◌}
+use Rattle.line_text.proofs.ResidueNumbers.{T_true, true_T}
 use Rattle.line_text.proofs.StepLaws.{bind_ok}
-use Rattle.job.specs.JobText.{header, IsFaultless, IsJobText, Tells, needed, ordered, whole_types, job_from, unless, reading_at, lines_reading, reading_of}
+use Rattle.job.specs.JobText.{header, IsFaultless, IsJobText, Tells, needed, ordered, whole_types, job_from, unless, reading_at, lines_reading, reading_of, ReadsJobTexts}
 use Rattle.job.specs.Values.{TypeValue, JobValue, Counts}
 use Rattle.job.specs.declared.jobs.Job.{Job}
 use Rattle.job.specs.declared.faults.JobFault.{JobFault}
@@ -34,6 +35,7 @@ job_after most frac lines = ap (λ r. r >>= job_from) (lines_below most frac [] 
     at None = refl
     at (Some f) = refl
 
+-- reading line by line finds the job of the lines, or their first fault
 pub lines_job_is : (most : Counts) (lines : List (List ℕ)) → lines_job most lines ≡ lines_reading most lines
 lines_job_is most [] = refl
 lines_job_is most (line ∷ lines) = ap (λ r. if bytes_eq line header then r else Err (bad_line 1)) (job_after most (frac_in lines) lines)
@@ -44,6 +46,7 @@ or_none : (a b : Option Refusal) → or_else a b ≡ None → (a ≡ None) × (b
 or_none None b e = (refl, e)
 or_none (Some f) b e = absurd cc
 
+-- where lines have no first fault, none of them has a fault below those above it
 pub faultless_from : (most : Counts) (frac : Frac) (above lines : List (List ℕ)) → first_fault most frac above lines ≡ None
     → (front below : List (List ℕ)) (line : List ℕ) → lines ≡ front ++ line ∷ below → line_fault most frac (above ++ front) line ≡ None
 unfolding first_fault
@@ -72,18 +75,12 @@ faultless_again most frac above (l ∷ ls) h =
 
 -- ---- the whole
 
+-- a key that was needed and taken was said
 pub needed_ok : {X : Type 0} (key : Key) (o : Option X) (x : X) → needed key o ≡ Ok x → o ≡ Some x
 needed_ok key None x e = absurd cc
 needed_ok key (Some y) x e = cc
 
-pub below_is : (b : Bool) → b ≡ true → T b
-below_is true e = tt
-below_is false e = absurd cc
-
-pub is_below : (b : Bool) → T b → b ≡ true
-is_below true t = refl
-is_below false t = absurd t
-
+-- a cutoff that was taken is more than the core
 pub ordered_ok : (core cutoff z : ℤ) → ordered core cutoff ≡ Ok z → (cutoff ≡ z) × (int_lt core cutoff ≡ true)
 ordered_ok core cutoff z e = at (int_lt core cutoff) e
   where
@@ -138,7 +135,7 @@ tells_made s energy core longest time_step job f e1 e2 e3 e4 h =
       energy = e1;
       core = e2;
       cutoff = e3 ∙ ap (λ (z : ℤ). Some z) below.0;
-      below_cutoff = record { lt = below_is (int_lt core o.0) (ap (int_lt core) (sym below.0) ∙ below.1) };
+      below_cutoff = record { lt = true_T (int_lt core o.0) (ap (int_lt core) (sym below.0) ∙ below.1) };
       time_step = e4;
       slices = refl;
       parameters = refl;
@@ -161,7 +158,7 @@ unfolding job_from
 tells_again s job f m =
     let whole : All (λ t. length t.values ≡ length s.parameters) (map (λ t. t.value) s.types) =
     subst (λ (us : List TypeValue). All (λ t. length t.values ≡ length s.parameters) us) (sym m.types) (subst (λ (ps : List (List ℕ)). All (λ t. length t.values ≡ length ps) job.types) (sym m.parameters) m.whole) in
-    rw (f, m.energy, m.core, m.cutoff, m.time_step, is_below (int_lt job.core job.cutoff) m.below_cutoff.lt, whole_again (length s.parameters) s.types whole, m.slices, m.parameters, m.globals, m.types) refl
+    rw (f, m.energy, m.core, m.cutoff, m.time_step, T_true (int_lt job.core job.cutoff) m.below_cutoff.lt, whole_again (length s.parameters) s.types whole, m.slices, m.parameters, m.globals, m.types) refl
 
 same_header : (line : List ℕ) (most : Counts) (lines : List (List ℕ)) (job : JobValue) → lines_reading most (line ∷ lines) ≡ Ok job
     → (line ≡ header) × (first_fault most (frac_in lines) [] lines ≡ None) × (job_from (summary (frac_in lines) lines) ≡ Ok job)
@@ -198,31 +195,40 @@ lines_ok most text job (line ∷ lines) e h =
       tells = subst (λ (frac : Frac). Tells (summary frac lines) job) told t;
     }
 
+-- a text that is read as a job is that job's
 pub reading_ok : (most : Counts) (text : List ℕ) (job : JobValue) → reading_of most text ≡ Ok job → IsJobText most text job
 unfolding reading_of
 reading_ok most text job e = lines_ok most text job (lines_of text) refl e
 
+-- a job's text is read as that job
 pub reading_again : (most : Counts) (text : List ℕ) (job : JobValue) → IsJobText most text job → reading_of most text ≡ Ok job
 unfolding reading_of
 reading_again most text job r =
     ap (lines_reading most) r.first_line ∙ ap (λ (frac : Frac). reading_at most frac r.lines) (frac_told job.frac r.lines job r.tells)
     ∙ ap (λ fault. unless fault (job_from (summary job.frac r.lines))) (faultless_again most job.frac [] r.lines r.faultless) ∙ again_below job.frac r.lines job refl r.tells
 
+-- a text is read as a job exactly where it is that job's
+pub reads_texts : ReadsJobTexts
+reads_texts most text job = (reading_ok most text job, reading_again most text job)
+
 -- what a call gave, as the reading of its text
 pub lines_job_from : (most : Counts) (all lines : List (List ℕ)) (line : List ℕ) (frac : Frac) (s : Said) → all ≡ line ∷ lines → bytes_eq line header ≡ true → frac ≡ frac_in lines
     → lines_into most 2 (nothing frac) lines ≡ Ok s → lines_job most all ≡ job_from s
 lines_job_from most all lines line frac s e h f l = rw (e, h, ← f, l) refl
 
+-- a call on the lines of a text gives the reading of the text
 pub given : {A : Type 0} (most : Counts) (text : List ℕ) (result : Result (Job A) (Failure (JobFault A))) → Gives job_value refusal_of result (lines_job most (lines_of text))
     → Gives job_value refusal_of result (reading_of most text)
 unfolding reading_of
 given {A = A} most text result h = subst (λ (r : Result JobValue Refusal). Gives (job_value {A = A}) (refusal_of {A = A}) result r) (lines_job_is most (lines_of text)) h
 
+-- a job that a call returned is that of the text
 pub given_job : {A : Type 0} (most : Counts) (text : List ℕ) (result : Result (Job A) (Failure (JobFault A))) → Gives job_value refusal_of result (reading_of most text)
     → IfOk result (λ job. IsJobText most text (job_value job))
 given_job most text (Ok job) h = reading_ok most text (job_value job) h
 given_job most text (Err e) h = tt
 
+-- a call that was given a job's text gives that job, or is out of memory
 pub given_only : {A : Type 0} (most : Counts) (text : List ℕ) (result : Result (Job A) (Failure (JobFault A))) → Gives job_value refusal_of result (reading_of most text)
     → (job : JobValue) → IsJobText most text job → IsOrMemory (λ j. job_value j ≡ job) result
 given_only most text (Ok j) h job r = let a = reading_again most text job r in cc

@@ -1,5 +1,5 @@
 -- Which text is which job's, and the first fault of a text that is no job's.
-use Rattle.std.specs.Prelude.{◌≡◌, ℕ, ℤ, List, [], ◌∷◌, ◌++◌, length, map, filter_map, ◌≤◌, AllPairs, Option, Some, None, Result, Ok, Err, ◌==◌, ◌<ℤ◌, int_lt, codes, bytes_eq, All, if◌then◌else◌}
+use Rattle.std.specs.Prelude.{◌≡◌, ◌↔◌, ℕ, ℤ, List, [], ◌∷◌, ◌++◌, length, map, filter_map, ◌≤◌, AllPairs, Option, Some, None, Result, Ok, Err, ◌==◌, ◌<ℤ◌, int_lt, codes, bytes_eq, All, if◌then◌else◌}
 use Rattle.std.specs.Option.{unwrap_or}
 use Rattle.line_text.specs.Steps.{◌>>=◌}
 use Rattle.fixed.specs.declared.frac.Frac.{Frac}
@@ -126,3 +126,7 @@ reading_of most text = lines_reading most (lines_of text)
 -- how many parameters, globals and types a job may have
 abbrev pub limits : Counts
 limits = record { parameters = 8; globals = 16; types = 64 }
+
+-- A text is read as a job exactly where it is that job's.
+abbrev pub ReadsJobTexts : Type 0
+ReadsJobTexts = (most : Counts) (text : List ℕ) (job : JobValue) → (reading_of most text ≡ Ok job) ↔ IsJobText most text job

@@ -1,14 +1,12 @@
 -- The numbers of a job: each reading is a number, BadNumber where the word is malformed, or NumberRange where the
 -- number is out of its range.
 use Rattle.std.specs.Prelude.{◌≡◌, ℕ, ℤ, pos, neg_ℤ, Bool, ◌&&◌, ◌==◌, nat_le, nat_lt, int_le, ◌+◌, ◌-◌, ◌*◌, ◌^◌, List, [], ◌∷◌, length, Option, Some, None, Result, Ok, Err, if◌then◌else◌}
-use Rattle.std.specs.Option.{option_map}
 use Rattle.std.specs.Str.{all_ascii_digits}
 use Rattle.std.specs.Str.Parse.{digits_value}
 use Rattle.fixed.specs.declared.frac.Frac.{Frac}
 use Rattle.fixed.specs.declared.frac.Frac.TheVariants.{F24, F32, F40}
 use Rattle.fixed.specs.Fractions.{bits_of}
-use Rattle.fixed.specs.Numerals.{fixed_of}
-use Rattle.fixed.specs.NumeralParts.{decimal_of}
+use Rattle.fixed.specs.NumeralParts.{reading_of}
 use Rattle.fixed.specs.declared.faults.NumFault.{NumFault}
 use Rattle.fixed.specs.declared.faults.NumFault.TheVariants.{BadNumber, NumberRange}
 use Rattle.line_text.specs.Parts.{cut_at}
@@ -40,12 +38,8 @@ abbrev pub alone : {X : Type 0} → (List ℕ → Reading X) → List (List ℕ)
 alone read ws = only ws >>= read
 
 -- a numeral, to the nearest number of these fraction bits
-abbrev pub or_malformed : Option (Reading ℤ) → Reading ℤ
-or_malformed None = Err BadNumber
-or_malformed (Some r) = r
-
 unfoldable pub numeral_of : Frac → List ℕ → Reading ℤ
-numeral_of frac word = or_malformed (option_map (λ d. fixed_of (bits_of frac) d.mantissa d.power) (decimal_of word))
+numeral_of frac word = reading_of (bits_of frac) word
 
 -- a numeral with or without a minus
 unfoldable pub signed_of : Frac → List ℕ → Reading ℤ

@@ -6,6 +6,7 @@ mod drafts;
 mod faults;
 mod forms;
 mod jobs;
+mod laws;
 mod lines;
 mod numbers;
 mod reading;
@@ -13,3 +14,4 @@ mod words;
 
 pub use faults::{JobFault, Key};
 pub use jobs::{AtomType, Global, Job};
+pub use laws::reads_job_texts;

@@ -17,6 +17,7 @@ abbrev pub FineAt : Option Instr → (inputs len pc height : ℕ) → List Bool 
 FineAt None inputs len pc height set next = height ≡ 1
 FineAt (Some i) inputs len pc height set next = CanAct i inputs height set × ((to : ℕ) → MayGo i pc to → next to (height_after i height) (set_after i set))
 
+-- no path from here misses anything within so many turns
 abbrev pub Fine : List Instr → (inputs fuel pc height : ℕ) → List Bool → Type 0
 Fine code inputs zero pc height set = Unit {0}
 Fine code inputs (suc n) pc height set = FineAt (slice_get code pc) inputs (length code) pc height set (Fine code inputs n)
@@ -26,6 +27,7 @@ module _ (code : List Instr) (inputs : ℕ) where
   pub record Well (pc height : ℕ) (set : List Bool) : Type 0 where
     pub by : (n : ℕ) → Fine code inputs n pc height set
 
+  -- every path from a place does well where its instruction has what it needs and every path from where it may go does well
   pub well_on : (i : Instr) (pc height : ℕ) (set : List Bool) → slice_get code pc ≡ Some i → IsSupplied i inputs height set → HasRoom i height → ((to : ℕ) → MayGo i pc to → Well to (height_after i height) (set_after i set)) → Well pc height set
   well_on i pc height set here supplied room next = record { by = by }
     where
@@ -33,6 +35,7 @@ module _ (code : List Instr) (inputs : ℕ) where
       by zero = tt
       by (suc n) = subst (λ o. FineAt o inputs (length code) pc height set (Fine code inputs n)) (sym here) (can i inputs height set supplied room, λ to may. (next to may).by n)
 
+  -- a path that is at the end with one value does well
   pub well_end : (pc height : ℕ) (set : List Bool) → length code ≤ pc → height ≡ 1 → Well pc height set
   well_end pc height set past one = record { by = by }
     where
@@ -40,6 +43,7 @@ module _ (code : List Instr) (inputs : ℕ) where
       by zero = tt
       by (suc n) = subst (λ o. FineAt o inputs (length code) pc height set (Fine code inputs n)) (sym (slice_get_past code pc past)) one
 
+  -- places and heights may be told otherwise
   pub well_at : (pc pc' height height' : ℕ) (set : List Bool) → pc ≡ pc' → height ≡ height' → Well pc height set → Well pc' height' set
   well_at pc pc' height height' set e f w = subst (λ p. Well p height' set) e (subst (λ h. Well pc h set) f w)
 
@@ -49,6 +53,7 @@ module _ (code : List Instr) (inputs : ℕ) where
       let earlier = along w before from h k path in
       record { by = λ m. (subst (λ o. FineAt o inputs (length code) from h k (Fine code inputs m)) here (earlier.by (suc m))).1 pc may }
 
+  -- where every path from the beginning does well, no path of the code misses anything
   pub misses_nothing : Well 0 0 (replicate 256 false) → MissesNothing code inputs
   misses_nothing w = record {
     acts = λ n pc height set i path here. (subst (λ o. FineAt o inputs (length code) pc height set (Fine code inputs 0)) here ((along w n pc height set path).by 1)).0;
@@ -57,23 +62,28 @@ module _ (code : List Instr) (inputs : ℕ) where
 
   -- instructions that go on to the next place
 
+  -- paths go on well from a read of a local that is set, if there is room for its value
   pub get_well : (k pc height : ℕ) (set : List Bool) → slice_get code pc ≡ Some (Get k) → height + 1 ≤ 64 → slice_index_or set k false ≡ true → Well (pc + 1) (height + 1) set → Well pc height set
   get_well k pc height set here h e w = well_on (Get k) pc height set here e (omega arith) (λ to may. well_at (pc + 1) to _ _ set (sym may) refl w)
 
+  -- paths go on well from a push, if there is room for its value
   pub push_well : (v : ℤ) (pc height : ℕ) (set : List Bool) → slice_get code pc ≡ Some (Push v) → height + 1 ≤ 64 → Well (pc + 1) (height + 1) set → Well pc height set
   push_well v pc height set here h w = well_on (Push v) pc height set here tt (omega arith) (λ to may. well_at (pc + 1) to _ _ set (sym may) refl w)
 
+  -- paths go on well from a write of a local, which is set then, if there is a value for it
   pub keep_well : (k pc height : ℕ) (set : List Bool) → slice_get code pc ≡ Some (Keep k) → Well (pc + 1) height (slice_set set k true) → Well pc (height + 1) set
   keep_well k pc height set here w =
       let one : 1 ≤ height + 1 = omega arith in
       let q : height ≡ height + 1 - 1 = omega arith in
       well_on (Keep k) pc (height + 1) set here one tt (λ to may. well_at (pc + 1) to height (height + 1 - 1) (slice_set set k true) (sym may) q w)
 
+  -- paths go on well from an operation on one value, if it is there
   pub unary_well : (o : UnaryOperation) (pc height : ℕ) (set : List Bool) → slice_get code pc ≡ Some (Unary o) → Well (pc + 1) (height + 1) set → Well pc (height + 1) set
   unary_well o pc height set here w =
       let one : 1 ≤ height + 1 = omega arith in
       well_on (Unary o) pc (height + 1) set here one tt (λ to may. well_at (pc + 1) to _ _ set (sym may) refl w)
 
+  -- paths go on well from an operation on two values, if they are there
   pub binary_well : (o : BinaryOperation) (pc height : ℕ) (set : List Bool) → slice_get code pc ≡ Some (Binary o) → Well (pc + 1) (height + 1) set → Well pc (height + 1 + 1) set
   binary_well o pc height set here w =
       let two : 2 ≤ height + 1 + 1 = omega arith in

@@ -81,6 +81,7 @@ bad_target is fault short e =
       line' = refl;
     })
 
+-- a fault of instructions says why they are no code
 pub code_fault : (is : List Instr) (fault : CodeFault) → code_from is ≡ Err fault → IsCodeFault is fault
 code_fault is fault e = at (nat_lt 16384 (length is)) refl e
   where
@@ -161,6 +162,7 @@ no_code text is (BadLine n) h e f = absurd f
 no_code text is (BadTarget n) h e f = record { instructions = is; operands = h; text' = e; fault' = f }
 no_code text is TooLong h e f = record { instructions = is; operands = h; text' = e; fault' = f }
 
+-- a fault of a text says why it is no listing
 pub listing_fault : (text : List ℕ) (fault : CodeFault) → code_of text ≡ Err fault → IsListingFault text fault
 unfolding code_of listing_of
 listing_fault text fault e = at (below_head text) refl e

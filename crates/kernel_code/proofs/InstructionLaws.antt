@@ -87,6 +87,7 @@ unary_lacks Ceiling = (refl, refl)
 numbered_lacks : (name : List ℕ) (n : ℕ) → lacks 10 name ≡ true → n < 2 ^ 64 → lacks 10 (name ++ decimal n) ≡ true
 numbered_lacks name n l h = lacks_append 10 name (decimal n) l (decimal_lacks 10 n (lit< tt) h)
 
+-- an instruction's line has no line feed
 pub instruction_lacks : (i : Instr) → HasOperands i → lacks 10 (instruction_line i) ≡ true
 instruction_lacks (Push v) h = lacks_append 10 (codes "push ") (signed_decimal v) refl (signed_lacks 10 v (lit< tt) h)
 instruction_lacks (Input k) h = numbered_lacks (codes "input ") k refl (omega arith)
@@ -107,6 +108,7 @@ cut_again_alone : (name : List ℕ) → lacks 32 name ≡ true → instruction_o
 unfolding instruction_of
 cut_again_alone name l = ap (instruction_cut name) (uncut 32 name l)
 
+-- an instruction's line is read as that instruction
 pub instruction_again : (i : Instr) → HasOperands i → instruction_of (instruction_line i) ≡ Some i
 unfolding transfer_with jump_with
 instruction_again (Push v) h = cut_again_with (codes "push") (signed_decimal v) refl ∙ ap (λ o. transfer_or (option_map Push o) None) (integer_again v h)
@@ -172,6 +174,7 @@ alone_found line i (Some op) u eb eu e = let same : Binary op ≡ i = cc in subs
 alone_found line i None (Some op) eb eu e = let same : Unary op ≡ i = cc in subst (Spelled line) same (tt, unary_found line op eu)
 alone_found line i None None eb eu e = absurd cc
 
+-- a line that is read as an instruction is that instruction's
 pub instruction_found : (line : List ℕ) (i : Instr) → instruction_of line ≡ Some i → HasOperands i × (line ≡ instruction_line i)
 unfolding instruction_of
 instruction_found line i e = at (cut_at 32 line) refl e
@@ -182,5 +185,6 @@ instruction_found line i e = at (cut_at 32 line) refl e
         let s = with_found p.0 p.1 i d in
         (s.0, (cut_found 32 line p.0 p.1 c).0 ∙ s.1)
 
+-- exactly the lines of instructions are read, each as its instruction
 pub one_line : OneLine
 one_line line i = (instruction_found line i, λ h. ap instruction_of h.1 ∙ instruction_again i h.0)

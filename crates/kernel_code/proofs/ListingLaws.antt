@@ -18,6 +18,7 @@ use Rattle.kernel_code.proofs.TargetLaws.{code_from_found, code_from_again}
 use Rattle.line_text.proofs.StepLaws.{bind_ok}
 use Rattle.kernel_code.proofs.LineLaws.{said_found, instructions_found, instructions_again}
 
+-- a text that is read behind a listing's first line begins with that line
 pub below_head_found : (text rest : List ℕ) → below_head text ≡ Some rest → text ≡ ended head_line ++ rest
 unfolding below_head
 below_head_found text rest e =
@@ -25,10 +26,12 @@ below_head_found text rest e =
     let s = some_of (bytes_eq a.0.0 head_line) a.0.1 rest a.2 in
     (cut_found 10 text a.0.0 a.0.1 a.1).0 ∙ ap (λ (l : List ℕ). l ++ 10 ∷ a.0.1) (same_bytes a.0.0 head_line s.0) ∙ ap (λ (t : List ℕ). head_line ++ 10 ∷ t) s.1 ∙ sym (ended_then head_line rest)
 
+-- and a listing's first line is taken off again
 pub below_head_again : (rest : List ℕ) → below_head (ended head_line ++ rest) ≡ Some rest
 unfolding below_head
 below_head_again rest = rw (line_cut head_line rest refl) refl
 
+-- a text that is read as code is the listing of that code
 pub listing_found : (text : List ℕ) (code : List Instr) → code_of text ≡ Ok code → IsListed code × (text ≡ listing_of code)
 unfolding code_of listing_of
 listing_found text code e =
@@ -41,26 +44,31 @@ listing_found text code e =
       head ∙ ap (λ (t : List ℕ). ended head_line ++ t) (is.0 ∙ ap instruction_lines c.0),
     )
 
+-- the listing of a code is read as that code
 pub listing_again : (code : List Instr) → IsListed code → code_of (listing_of code) ≡ Ok code
 unfolding code_of listing_of
 listing_again code h =
     rw (below_head_again (instruction_lines code))
     (ap (λ (r : Result (List Instr) CodeFault). r >>= code_from) (instructions_again 2 code h.operands) ∙ code_from_again code h.code')
 
+-- exactly the listings of codes are read, each as its code
 pub one_listing : OneListing
 one_listing text code = (listing_found text code, λ h. ap code_of h.1 ∙ listing_again code h.0)
 
 -- ---- at what a call returned
 
+-- a call that returned code was given the listing of that code
 pub is_found : (text : List ℕ) (r : Result (List Instr) (Failure CodeFault)) → Gives (λ x. x) (λ (f : CodeFault). f) r (code_of text) → IfOk r (λ code. IsListed code × (text ≡ listing_of code))
 is_found text (Ok code) h = listing_found text code h
 is_found text (Err e) h = tt
 
+-- a call that was given the listing of a code gives that code, or is out of memory
 pub is_read : (text : List ℕ) (r : Result (List Instr) (Failure CodeFault)) → Gives (λ x. x) (λ (f : CodeFault). f) r (code_of text) → (code : List Instr) → IsListed code → text ≡ listing_of code → Gives (λ x. x) (λ (f : CodeFault). f) r (Ok code)
 is_read text r h code l e = subst (Gives (λ x. x) (λ (f : CodeFault). f) r) (ap code_of e ∙ listing_again code l) h
 
 -- ---- line by line, as a loop prints
 
+-- one line more is printed
 pub lines_more : (xs : List Instr) (k : ℕ) (x : Instr) (head text line more : List ℕ) → k < length xs → x ≡ get_or xs k x → text ≡ head ++ instruction_lines (take k xs) → line ≡ ended (instruction_line x)
     → more ≡ text ++ line → more ≡ head ++ instruction_lines (take (k + 1) xs)
 lines_more xs k x head text line more within here so_far is e =
@@ -68,9 +76,11 @@ lines_more xs k x head text line more within here so_far is e =
     e ∙ ap (λ (t : List ℕ). t ++ line) so_far ∙ ap (λ (t : List ℕ). head ++ instruction_lines (take k xs) ++ t) is
     ∙ append_assoc head (instruction_lines (take k xs)) (ended (instruction_line x)) ∙ ap (λ (t : List ℕ). head ++ t) (sym one)
 
+-- once all lines are printed, the text is the listing
 pub printed : (xs : List Instr) (k : ℕ) (text : List ℕ) → length xs ≤ k → text ≡ ended head_line ++ instruction_lines (take k xs) → text ≡ listing_of xs
 unfolding listing_of
 printed xs k text past e = e ∙ ap (λ (l : List Instr). ended head_line ++ instruction_lines l) (take_all k xs past)
 
+-- a code whose instructions were all seen to have operands in range has a listing
 pub is_listed : (xs : List Instr) (k : ℕ) → length xs ≤ k → IsCode xs → AllByRecursion HasOperands (take k xs) → IsListed xs
 is_listed xs k past c h = record { code' = c; operands = subst (AllByRecursion HasOperands) (take_all k xs past) h }

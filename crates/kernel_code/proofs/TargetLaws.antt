@@ -14,16 +14,19 @@ use Rattle.kernel_code.specs.Code.{goes_forward, IsCode, targets_checked, code_i
 left : (xs : List Instr) (pc : ℕ) (x : Instr) → pc < length xs → x ≡ get_or xs pc x → drop pc xs ≡ x ∷ drop (pc + 1) xs
 left xs pc x within here = rw add-one (drop-cons xs pc x within ∙ ap (λ y. y ∷ drop (suc pc) xs) (sym here))
 
+-- behind an instruction that goes on forwards the next ones are tested
 pub targets_more : (len pc : ℕ) (xs : List Instr) (x : Instr) → pc < length xs → x ≡ get_or xs pc x → goes_forward len pc x ≡ true
     → targets_checked len pc (drop pc xs) ≡ targets_checked len (pc + 1) (drop (pc + 1) xs)
 unfolding targets_checked
 targets_more len pc xs x within here forward = ap (targets_checked len pc) (left xs pc x within here) ∙ rw forward refl
 
+-- an instruction that doesn't is the fault, with its line in a listing
 pub targets_stop : (len pc : ℕ) (xs : List Instr) (x : Instr) → pc < length xs → x ≡ get_or xs pc x → goes_forward len pc x ≡ false
     → targets_checked len pc (drop pc xs) ≡ Err (BadTarget (pc + 2))
 unfolding targets_checked
 targets_stop len pc xs x within here backward = ap (targets_checked len pc) (left xs pc x within here) ∙ rw backward refl
 
+-- past the last instruction there is no fault
 pub targets_end : (len pc : ℕ) (xs : List Instr) → length xs ≤ pc → targets_checked len pc (drop pc xs) ≡ Ok tt
 unfolding targets_checked
 targets_end len pc xs past = ap (targets_checked len pc) (drop_all pc xs past)
@@ -74,12 +77,14 @@ is_code is short e = record {
   forward = λ pc i h. rw zero-add at (forward_at (length is) 0 pc is i e h);
 }
 
+-- instructions that pass the tests of code are code
 pub code_from_found : (is code : List Instr) → code_from is ≡ Ok code → (is ≡ code) × IsCode code
 code_from_found is code e =
     let a = unless_long (nat_lt 16384 (length is)) is code (code_if is (targets_checked (length is) 0 is)) e in
     let b = if_ok is code (targets_checked (length is) 0 is) a.1 in
     (b.1, subst IsCode b.1 (is_code is (ltb-false 16384 (length is) a.0) b.0))
 
+-- code passes its own tests
 pub code_from_again : (code : List Instr) → IsCode code → code_from code ≡ Ok code
 code_from_again code h =
     let short : nat_lt 16384 (length code) ≡ false = le-ltb 16384 (length code) h.short in

@@ -20,7 +20,12 @@ use fixed::{
 use std::alloc::Allocator;
 
 /// The value of an operation on two numbers, or its fault.
-pub fn checked_binary(frac: Frac, operation: BinaryOperation, a: Fx, b: Fx) -> Result<Fx, Fault>
+pub(crate) fn checked_binary(
+    frac: Frac,
+    operation: BinaryOperation,
+    a: Fx,
+    b: Fx,
+) -> Result<Fx, Fault>
     ensures { result ≡ binary_of (bits_of frac) operation a b }
 {
     match operation {
@@ -34,7 +39,7 @@ pub fn checked_binary(frac: Frac, operation: BinaryOperation, a: Fx, b: Fx) -> R
 }
 
 /// The value of an operation on one number, or its fault.
-pub fn checked_unary(frac: Frac, operation: UnaryOperation, a: Fx) -> Result<Fx, Fault>
+pub(crate) fn checked_unary(frac: Frac, operation: UnaryOperation, a: Fx) -> Result<Fx, Fault>
     ensures { result ≡ unary_of (bits_of frac) operation a }
 {
     match operation {
@@ -150,7 +155,7 @@ fn jump_if_zero(target: u32, pc: u32, stack: &mut Operands) -> Result<u32, TrapK
 }
 
 /// One instruction at the place `pc`, with every test: the next place, or why there is none. There are 256 locals.
-pub fn act_checked<A: Allocator>(
+pub(crate) fn act_checked<A: Allocator>(
     frac: Frac,
     instr: Instr,
     inputs: &Inputs<A>,

@@ -30,7 +30,7 @@ impl<A: Allocator> Model for Code<A> {
 }
 
 /// The most instructions that code has.
-const MAX_INSTRUCTIONS: usize = 16_384;
+pub const MAX_INSTRUCTIONS: usize = 16_384;
 
 impl<A: Allocator> Code<A> {
     /// The code of these instructions.

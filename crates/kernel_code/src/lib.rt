@@ -14,12 +14,11 @@ mod operands;
 mod tables;
 mod traps;
 
-pub use checked::{act_checked, checked_binary, checked_unary, run_checked};
-pub use codes::Code;
+pub use checked::run_checked;
+pub use codes::{Code, MAX_INSTRUCTIONS};
 pub use faults::CodeFault;
 pub use inputs::InputNumber;
 pub use instructions::{BinaryOperation, Instr, UnaryOperation};
 pub use listings::{print, read};
-pub use operands::Operands;
 pub use tables::{Inputs, TypeTable};
 pub use traps::{Trap, TrapKind};

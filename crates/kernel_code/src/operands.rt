@@ -8,7 +8,7 @@ use std::marker::Model;
 
 /// The machine's stack: at most 64 values. A contract sees the list of them, the top first.
 #[derive(Drop)]
-pub struct Operands {
+pub(crate) struct Operands {
     // the raw values
     items: ArrayVec<i64, 64>,
 }
@@ -25,7 +25,7 @@ impl Model for Operands {
 
 impl Operands {
     /// No values.
-    pub fn new() -> Operands
+    pub(crate) fn new() -> Operands
         ensures { result ≡ [] }
     {
         Operands {
@@ -33,21 +33,21 @@ impl Operands {
         }
     }
 
-    pub fn is_empty(&self) -> bool
+    pub(crate) fn is_empty(&self) -> bool
         ensures { IsTrue result ↔ (self.now ≡ []) }
     {
         self.items.is_empty()
     }
 
     /// Whether there are 64 values.
-    pub fn is_full(&self) -> bool
+    pub(crate) fn is_full(&self) -> bool
         ensures { IsTrue result ↔ (64 ≤ length self.now) }
     {
         self.items.is_full()
     }
 
     /// Puts a value on top of less than 64.
-    pub fn push(&mut self, value: Fx)
+    pub(crate) fn push(&mut self, value: Fx)
         requires { length self.old < 64 }
         ensures { self.new ≡ value ∷ self.old }
     {
@@ -55,7 +55,7 @@ impl Operands {
     }
 
     /// Takes the value on top; `None` where there is none.
-    pub fn pop(&mut self) -> Option<Fx>
+    pub(crate) fn pop(&mut self) -> Option<Fx>
         ensures some { IfSome result (λ value. self.old ≡ value ∷ self.new) }
         ensures room { OnSome result (length self.new < 64) }
         ensures none { IfNone result ((self.old ≡ []) × (self.new ≡ [])) }

@@ -149,6 +149,7 @@ program_is_code bits body ds whole each short = record {
       (by_place (length (program_code bits body ds)) 0 (program_code bits body ds) (program_good bits body ds whole each) pc i here);
 }
 
+-- a program whose trees can be emitted, and whose instructions have room, has code within the limits
 pub program_within : (bits : ℕ) (body : Tree) (ds : List Tree) → IsEmittable body → AllEmittable 0 (marks_of body ds) ds → definitions_size 0 (marks_of body ds) ds + size body ≤ 16384 → is_within_limits (program_code bits body ds) ≡ true
 unfolding is_within_limits
 program_within bits body ds whole each short =

@@ -1,19 +1,11 @@
 -- The codes of powers.
-use Rattle.std.proofs.Common.{◌≡◌, ◌≢◌, ℕ, zero, suc, ◌+◌, ◌/◌, ◌%◌, ◌<◌, ◌≤◌, [], ◌∷◌, ◌++◌, length, arith, refl, inl, inr, ◌==◌, false, true, ap, ◌∙◌, length-append}
+use Rattle.std.proofs.Common.{◌≡◌, ◌≢◌, ℕ, zero, suc, ◌+◌, ◌/◌, ◌%◌, ◌<◌, ◌≤◌, [], ◌∷◌, ◌++◌, length, arith, refl, inl, inr, ap, ◌∙◌, length-append}
 use Rattle.std.proofs.lemmas.Bool.{cases_eq}
+use Rattle.fixed.proofs.PowerLemmas.{is_even, is_odd, is_one}
 use Rattle.kernel_code.specs.declared.instructions.BinaryOperation.TheVariants.{Multiply}
 use Rattle.kernel_code.specs.declared.instructions.UnaryOperation.TheVariants.{Square}
 use Rattle.kernel_code.specs.declared.instructions.Instr.TheVariants.{Get, Binary, Unary}
 use Rattle.kernel_compiler.specs.Code.{base, power_code_within, power_code}
-
-is_one : (n : ℕ) → 1 < n → (n == 1) ≡ false
-is_one n p = grind arith
-
-is_even : (n : ℕ) → n ≡ 0 → (n == 0) ≡ true
-is_even n p = grind arith
-
-is_odd : (n : ℕ) → n ≢ 0 → (n == 0) ≡ false
-is_odd n p = grind arith
 
 -- halvings that are left over change nothing
 within_same : (f g n : ℕ) → 0 < n → n ≤ f → n ≤ g → power_code_within f n ≡ power_code_within g n
@@ -26,27 +18,33 @@ within_same (suc f) (suc g) n p l m =
       | inr ne ↦ rw (within_same f g (n / 2) (omega arith) (omega arith) (omega arith)) refl
     ]
 
+-- the code of the power 1 is the base
 pub power_one : (n : ℕ) → n ≡ 1 → power_code n ≡ Get base ∷ []
 unfolding power_code_within
 power_one n e = rw e refl
 
+-- the code of an even power from 2 on is that of half of it, squared
 pub power_even : (n : ℕ) → 1 < n → n % 2 ≡ 0 → power_code n ≡ power_code (n / 2) ++ (Unary Square ∷ [])
 unfolding power_code_within
 power_even zero p e = absurd (omega arith)
 power_even (suc m) p e =
     rw (is_one (suc m) p, is_even (suc m % 2) e, within_same m (suc m / 2) (suc m / 2) (omega arith) (omega arith) (omega arith)) refl
 
+-- the code of an odd power above 1 is that of half of it, rounded down, squared and times the base
 pub power_odd : (n : ℕ) → 1 < n → n % 2 ≢ 0 → power_code n ≡ power_code (n / 2) ++ (Unary Square ∷ Get base ∷ Binary Multiply ∷ [])
 unfolding power_code_within
 power_odd zero p e = absurd (omega arith)
 power_odd (suc m) p e =
     rw (is_one (suc m) p, is_odd (suc m % 2) e, within_same m (suc m / 2) (suc m / 2) (omega arith) (omega arith) (omega arith)) refl
 
+-- the code of the power 1 is one instruction
 pub size_one : (n : ℕ) → n ≡ 1 → length (power_code n) ≡ 1
 size_one n e = ap length (power_one n e)
 
+-- the code of an even power from 2 on is one instruction longer than that of half of it
 pub size_even : (n : ℕ) → 1 < n → n % 2 ≡ 0 → length (power_code n) ≡ length (power_code (n / 2)) + 1
 size_even n p e = ap length (power_even n p e) ∙ length-append (power_code (n / 2)) (Unary Square ∷ [])
 
+-- the code of an odd power above 1 is three instructions longer than that of half of it, rounded down
 pub size_odd : (n : ℕ) → 1 < n → n % 2 ≢ 0 → length (power_code n) ≡ length (power_code (n / 2)) + 3
 size_odd n p e = ap length (power_odd n p e) ∙ length-append (power_code (n / 2)) (Unary Square ∷ Get base ∷ Binary Multiply ∷ [])

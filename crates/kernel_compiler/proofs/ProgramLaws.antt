@@ -192,6 +192,7 @@ computes_by bits body ds code xs (inr g) = record {
   ends = (g.faults.turns, Err (record { pc = g.faults.place; kind = Operation g.faults.fault }), g.faults.ends);
 }
 
+-- a program's code computes it, where each input and use that it needs is there, its definitions have locals, and the stack has room
 pub program_computes : (bits inputs : ℕ) (body : Tree) (ds : List Tree) (xs : List ℤ) → HaveLocals (marks_of body ds) → IsFine inputs (marks_of body ds) 0 body → AreFine inputs (marks_of body ds) 0 ds → definitions_need 0 (marks_of body ds) ds ≤ 64 → need body ≤ 64 → inputs ≤ length xs → Computes bits body ds (program_code bits body ds) xs
 program_computes bits inputs body ds xs have whole each r1 r enough = computes_by bits body ds (program_code bits body ds) xs (program_ends bits inputs body ds xs have whole each r1 r enough)
 
@@ -248,6 +249,7 @@ definitions_well code bits inputs ms (d ∷ ds) j have all has fine room next =
     definitions_well code bits inputs ms ds (j + 1) have all' (has_front code 0 later own has) fine.1 r1 (λ set held.
     one_well kept code bits inputs ms j d (length later) set refl have back fine.0 r2 held (λ set' held'. well_at code inputs _ _ 0 0 set' len refl (next set' held')))
 
+-- no path of such a program's code misses anything
 pub program_misses_nothing : (bits inputs : ℕ) (body : Tree) (ds : List Tree) → HaveLocals (marks_of body ds) → IsFine inputs (marks_of body ds) 0 body → AreFine inputs (marks_of body ds) 0 ds → definitions_need 0 (marks_of body ds) ds ≤ 64 → need body ≤ 64 → MissesNothing (program_code bits body ds) inputs
 unfolding program_code
 program_misses_nothing bits inputs body ds have whole each r1 r =

@@ -37,6 +37,7 @@ IsFine inputs ms j (t.Applied g a) = IsFine inputs ms j a
 IsFine inputs ms j (t.Power a n) = IsFine inputs ms j a
 IsFine inputs ms j (t.Select x a b) = IsFine inputs ms j x × IsFine inputs ms j a × IsFine inputs ms j b
 
+-- the code of any tree needs room for one value at least
 pub need_least : (e : Tree) → 1 ≤ need e
 need_least (t.Number z) = omega arith
 need_least (t.Input k) = omega arith
@@ -89,10 +90,12 @@ module _ (bits : ℕ) (code : List Instr) (xs : List ℤ) where
     pub fault : Fault
     pub ends : Ends bits code xs turns (Err (record { pc = place; kind = Operation fault }))
 
+  -- a run that comes to a place goes on as the instruction there acts
   pub comes_on : (pc pc' : ℕ) (stack stack' : List ℤ) (ls ls' : List (Option ℤ)) (i : Instr) → slice_get code pc ≡ Some i → act bits i xs pc stack ls ≡ Ok (record { pc = pc'; stack = stack'; locals = ls' }) → Comes pc stack ls → Comes pc' stack' ls'
   comes_on pc pc' stack stack' ls ls' i here turn c =
       record { turns = suc c.turns; there = after_more bits code xs c.turns _ _ i c.there here turn }
 
+  -- a run that comes to a place comes to it by an equal number
   pub comes_to : (pc pc' : ℕ) (stack : List ℤ) (ls : List (Option ℤ)) → pc ≡ pc' → Comes pc stack ls → Comes pc' stack ls
   comes_to pc pc' stack ls e c = subst (λ p. Comes p stack ls) e c
 
@@ -342,6 +345,7 @@ module _ (bits : ℕ) (code : List Instr) (xs : List ℤ) where
         let len : pc + length ca + 1 ≡ pc + length (ca ++ (Unary o ∷ [])) = omega (arith, length-append ca (Unary o ∷ [])) in
         gives_to _ _ stack (on_one (unary_of bits o) oa) len (one_gives o oa (pc + length ca) stack at g)
 
+    -- a run that comes to a tree's code brings the tree's value onto the stack, or ends by a fault where there is none, and definitions stay held
     pub tree_runs : (inputs : ℕ) → inputs ≤ length xs → (e : Tree) (pc : ℕ) (stack : List ℤ) (ls : List (Option ℤ)) → HasAt code pc (tree_code bits pc e) → IsFine inputs ms j e → length stack + need e ≤ 64 → Holds ls → Comes pc stack ls → Gives (pc + length (tree_code bits pc e)) stack (value_of bits xs (put mean e))
     tree_runs inputs enough (t.Number z) pc stack ls has fine h held c = push_gives (Push z) z pc stack ls has.0 refl h held c
     tree_runs inputs enough (t.Input k) pc stack ls has fine h held c =

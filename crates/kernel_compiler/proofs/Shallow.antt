@@ -13,6 +13,7 @@ abbrev pub need_if : Bool → Tree → ℕ
 need_if true d = need d
 need_if false d = 0
 
+-- the same of definitions that are numbered from j
 abbrev pub definitions_need : ℕ → List Bool → List Tree → ℕ
 definitions_need j ms [] = 0
 definitions_need j ms (d ∷ ds) = max (need_if (is_marked ms j) d) (definitions_need (j + 1) ms ds)
@@ -106,6 +107,7 @@ kept_shallow : (b : Bool) (d : Tree) → kept_size b d ≤ 16384 → need_if b d
 kept_shallow true d h = omega (arith, shallow d (omega arith))
 kept_shallow false d h = omega arith
 
+-- definitions whose code is within the limit need no 65th value on the stack
 pub definitions_shallow : (j : ℕ) (m : List Bool) (ds : List Tree) → definitions_size j m ds ≤ 16384 → definitions_need j m ds ≤ 64
 definitions_shallow j m [] h = omega arith
 definitions_shallow j m (d ∷ ds) h =

@@ -55,9 +55,11 @@ module _ {A : Type 0} (p : Program A) where
   valids : AreValid inputs 0 (length ds) ds
   valids = are_valid inputs 0 (length ds) ds (omega arith) p.definitions_scoped
 
+  -- the powers in a program's body are of exponents that there are
   pub body_powers : HasPowers body
   body_powers = has_powers inputs 0 (length ds) body valid
 
+  -- the same of its definitions
   pub all_powers : AllHavePowers ds
   all_powers = all_have_powers inputs 0 (length ds) ds valids
 
@@ -76,19 +78,24 @@ module _ {A : Type 0} (p : Program A) where
       let least = p.few_definitions in
       omega (arith, all)
 
+  -- the body of a program that fits can be emitted
   pub body_emittable : Fits → IsEmittable body
   body_emittable f = emittable inputs 0 (marks_of body ds) body few have fine.0 body_powers
 
+  -- each definition that the body of a program that fits uses can be emitted, and has a local
   pub all_emittable : Fits → AllEmittable 0 (marks_of body ds) ds
   all_emittable f = fine_emittable inputs 0 (marks_of body ds) ds few have fine.1 all_powers
 
+  -- the code of a program that fits is within the limits
   pub within : (bits : ℕ) → Fits → is_within_limits (program_code bits body ds) ≡ true
   within bits f = program_within bits body ds (body_emittable f) (all_emittable f) f.short
 
+  -- a program whose code is within the limits fits
   pub fits : (bits : ℕ) → is_within_limits (program_code bits body ds) ≡ true → Fits
   fits bits h =
       let a = within_has bits body ds h in record { short = a.1 }
 
+  -- the code of a program that doesn't fit is not within the limits
   pub within_not : (bits : ℕ) → (Fits → ⊥) → is_within_limits (program_code bits body ds) ≡ false
   within_not bits h = by (is_within_limits (program_code bits body ds)) refl
     where
@@ -104,6 +111,7 @@ module _ {A : Type 0} (p : Program A) where
       by (inl long) = long
       by (inr short) = absurd (true≢false (sym (within bits (record { short = omega (arith, length-program bits body ds) })) ∙ h))
 
+  -- code within the limits is code: it is short enough, and its jumps go forwards
   pub is_code : (bits : ℕ) → is_within_limits (program_code bits body ds) ≡ true → IsCode (program_code bits body ds)
   is_code bits h = let f = fits bits h in program_is_code bits body ds (body_emittable f) (all_emittable f) f.short
 
@@ -113,9 +121,11 @@ module _ {A : Type 0} (p : Program A) where
   lows : Fits → definitions_need 0 (marks_of body ds) ds ≤ 64
   lows f = let s = f.short in definitions_shallow 0 (marks_of body ds) ds (omega arith)
 
+  -- code within the limits computes its program, on as many inputs as it has
   pub computes : (bits : ℕ) → is_within_limits (program_code bits body ds) ≡ true → (xs : List ℤ) → inputs ≤ length xs → Computes bits body ds (program_code bits body ds) xs
   computes bits h xs enough = let f = fits bits h in program_computes bits inputs body ds xs have fine.0 fine.1 (lows f) (low f) enough
 
+  -- no path of code within the limits misses anything
   pub misses_nothing : (bits : ℕ) → is_within_limits (program_code bits body ds) ≡ true → MissesNothing (program_code bits body ds) inputs
   misses_nothing bits h = let f = fits bits h in program_misses_nothing bits inputs body ds have fine.0 fine.1 (lows f) (low f)
 
@@ -124,12 +134,7 @@ module _ {A : Type 0} (p : Program A) where
   measured bits None rest e m = within_not bits (λ f. let s = f.short in omega arith)
   measured bits (Some x) rest e m = within bits (record { short = omega (arith, m.0) })
 
-pub compiled_within : (bits : ℕ) (body : Tree) (ds : List Tree) → is_within_limits (program_code bits body ds) ≡ true → compiled bits body ds ≡ Ok (program_code bits body ds)
-compiled_within bits body ds h = rw h refl
-
-pub compiled_past : (bits : ℕ) (body : Tree) (ds : List Tree) → is_within_limits (program_code bits body ds) ≡ false → compiled bits body ds ≡ Err TooLarge
-compiled_past bits body ds h = rw h refl
-
+-- the code of the marked definitions, and behind it that of the body, is the program's code
 pub whole_code : (bits : ℕ) (body : Tree) (ds : List Tree) (m : List Bool) (first code : List Instr) → m ≡ marks_of body ds → first ≡ definitions_code bits 0 m ds → code ≡ first ++ tree_code bits (length first) body → code ≡ program_code bits body ds
 unfolding program_code
 whole_code bits body ds m first code e0 e1 e2 =

@@ -14,11 +14,8 @@ use crate::sizes::{definitions_left, measure};
 use energy_program::{ExprFault, Program, marks_of};
 use fallible::Failure;
 use fixed::Frac;
-use kernel_code::{Code, Instr};
+use kernel_code::{Code, Instr, MAX_INSTRUCTIONS};
 use std::alloc::{AllocError, Allocator};
-
-/// The most instructions that code has.
-const MAX_INSTRUCTIONS: usize = 16_384;
 
 /// Whether the code of the program is within the limits. A program has fewer definitions than there are locals.
 fn is_within_limits<A: Allocator>(program: &Program<A>, marks: &[bool]) -> bool

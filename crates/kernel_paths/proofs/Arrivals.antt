@@ -9,14 +9,10 @@ use Rattle.kernel_code.specs.declared.instructions.Instr.{Instr}
 use Rattle.kernel_code.specs.declared.instructions.Instr.TheVariants.{Push, Input, Keep, Get, Binary, Unary, JumpIfZero, Jump}
 use Rattle.kernel_code.specs.Code.{goes_forward, JumpsForward}
 use Rattle.kernel_code.specs.Paths.{MayGo, IsPath, begins, goes, set_after}
+use Rattle.kernel_code.proofs.Runs.{jump_between}
 use Rattle.kernel_paths.specs.Meetings.{Arrives, first, later}
 
 -- ---- places
-
-jump_between : (len from to : ℕ) → goes_forward len from (Jump to) ≡ true → (from < to) × (to ≤ len)
-jump_between len from to f =
-    let p = and_parts (nat_lt from to) (nat_le to len) f in
-    (ltb-true from to p.0, leb-true to len p.1)
 
 -- an instruction leads on, at most to the end
 pub leads_on : (i : Instr) (len from to : ℕ) → from < len → goes_forward len from i ≡ true → MayGo i from to → (from < to) × (to ≤ len)
@@ -30,16 +26,19 @@ leads_on (JumpIfZero target) len from to h f (inl go) = (omega (arith, go), omeg
 leads_on (JumpIfZero target) len from to h f (inr go) = let b = jump_between len from target f in (omega (arith, go, b.0), omega (arith, go, b.1))
 leads_on (Jump target) len from to h f go = let b = jump_between len from target f in (omega (arith, go, b.0), omega (arith, go, b.1))
 
+-- an instruction leads to a place behind its own, at most to the end
 pub leads_there : (code : List Instr) (i : Instr) (from to : ℕ) → JumpsForward code → slice_get code from ≡ Some i → MayGo i from to → (from < to) × (to ≤ length code)
 leads_there code i from to forward here go = leads_on i (length code) from to (slice_get_within code from i here) (forward from i here) go
 
 -- ---- paths and where they come from
 
+-- a path to a place comes from a place below it, or begins there
 pub arrives_here : (code : List Instr) {n pc height : ℕ} {set : List Bool} → JumpsForward code → IsPath code n pc height set → Arrives code pc n pc height set
 arrives_here code forward begins = first
 arrives_here code forward (goes {pc = from} {i = i} {to = to} path here go) =
     later path here go (leads_there code i from to forward here go).0
 
+-- a path that comes from below a place is a path
 pub is_path : (code : List Instr) {below n pc height : ℕ} {set : List Bool} → Arrives code below n pc height set → IsPath code n pc height set
 is_path code first = begins
 is_path code (later path here go lt) = goes path here go
@@ -51,6 +50,7 @@ pub record IsStart (n pc height : ℕ) (set : List Bool) : Type 0 where
   pub height' : height ≡ 0
   pub set' : set ≡ replicate 256 false
 
+-- a path that comes from below the first place is the beginning of all paths
 pub only_start : (code : List Instr) {n pc height : ℕ} {set : List Bool} → Arrives code 0 n pc height set → IsStart n pc height set
 only_start code first = record { n' = refl; pc' = refl; height' = refl; set' = refl }
 only_start code (later path here go lt) = absurd (omega arith)
@@ -75,9 +75,11 @@ set_long (Unary op) set = refl
 set_long (JumpIfZero to) set = refl
 set_long (Jump to) set = refl
 
+-- an instruction leaves the set of locals as long as it is
 pub long_after : (i : Instr) (set : List Bool) → length set ≡ 256 → length (set_after i set) ≡ 256
 long_after i set h = set_long i set ∙ h
 
+-- each path has 256 locals, set or not
 pub path_long : (code : List Instr) {n pc height : ℕ} {set : List Bool} → IsPath code n pc height set → length set ≡ 256
 path_long code begins = length-replicate 256 false
 path_long code (goes {set = set} {i = i} path here go) = long_after i set (path_long code path)

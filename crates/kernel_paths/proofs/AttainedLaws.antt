@@ -2,6 +2,7 @@
 -- needs there.
 use Rattle.std.proofs.Common.{◌≡◌, ℕ, suc, Bool, true, false, ◌&&◌, List, length, replicate, Some, refl, sym, ◌∙◌, slice_index_or, ⊎_elim}
 use Rattle.std.specs.Prelude.{slice_get}
+use Rattle.std.proofs.lemmas.Bool.{and_cases}
 use Rattle.std.proofs.lemmas.List.{length-replicate}
 use Rattle.kernel_code.specs.declared.instructions.Instr.{Instr}
 use Rattle.kernel_code.specs.declared.instructions.Instr.TheVariants.{Push, Input, Keep, Get, Binary, Unary, JumpIfZero, Jump}
@@ -9,8 +10,8 @@ use Rattle.kernel_code.specs.Paths.{IsSupplied, CanAct, MayGo, begins, goes, Mis
 use Rattle.kernel_paths.specs.Misfits.{DoesWell}
 use Rattle.kernel_paths.specs.Attained.{IsAttained}
 use Rattle.kernel_paths.proofs.Arrivals.{path_long, long_after, unset_before, unset_after}
-use Rattle.kernel_paths.proofs.Joins.{one_unset}
 
+-- at the first place the empty stack and no set local are attained
 pub attained_first : (code : List Instr) → IsAttained code 0 0 (replicate 256 false)
 attained_first code = record {
   long = length-replicate 256 false;
@@ -18,6 +19,7 @@ attained_first code = record {
   unset = λ k e. (0, 0, replicate 256 false, begins, e);
 }
 
+-- a height and a set that are attained before an instruction lead to those attained after it
 pub attained_on : (code : List Instr) (pc height : ℕ) (set : List Bool) (i : Instr) (to : ℕ) → IsAttained code pc height set → slice_get code pc ≡ Some i → MayGo i pc to → IsAttained code to (height_after i height) (set_after i set)
 attained_on code pc height set i to a there go = record {
   long = long_after i set a.long;
@@ -28,6 +30,7 @@ attained_on code pc height set i to a there go = record {
       (suc p.0, height_after i p.1, set_after i p.2, goes p.3 there go, unset_after i set p.2 k long e p.4);
 }
 
+-- with two sets that are attained their common locals are attained
 pub attained_both : (code : List Instr) (pc height height' : ℕ) (a b c : List Bool) → IsAttained code pc height a → IsAttained code pc height' b → length c ≡ 256
     → ((k : ℕ) → slice_index_or c k false ≡ (slice_index_or a k false && slice_index_or b k false)) → IsAttained code pc height c
 attained_both code pc height height' a b c x y long both = record {
@@ -37,7 +40,7 @@ attained_both code pc height height' a b c x y long both = record {
       ⊎_elim
       (λ (f : slice_index_or a k false ≡ false). x.unset k f)
       (λ (f : slice_index_or b k false ≡ false). y.unset k f)
-      (one_unset (slice_index_or a k false) (slice_index_or b k false) (sym (both k) ∙ e));
+      (and_cases (slice_index_or a k false) (slice_index_or b k false) (sym (both k) ∙ e));
 }
 
 -- those that meet have one height

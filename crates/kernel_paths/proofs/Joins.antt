@@ -1,6 +1,6 @@
 -- What paths have in common when others join them, and when they follow an instruction.
 use Rattle.std.proofs.Common.{◌≡◌, ◌≢◌, ℕ, suc, ◌+◌, ◌⊎◌, inl, inr, max, Bool, true, false, ◌&&◌, List, length, refl, sym, ap, subst, ◌∙◌, arith, slice_index_or, ⊎_elim}
-use Rattle.std.proofs.lemmas.Bool.{and_parts, cases_eq}
+use Rattle.std.proofs.lemmas.Bool.{and_cases, and_parts, cases_eq}
 use Rattle.kernel_code.specs.declared.instructions.Instr.{Instr}
 use Rattle.kernel_code.specs.declared.instructions.Instr.TheVariants.{JumpIfZero}
 use Rattle.kernel_code.specs.Code.{JumpsForward}
@@ -13,20 +13,11 @@ use Rattle.kernel_paths.proofs.Arrivals.{arrives_here, is_path, path_long, long_
 
 -- ---- the paths of two kinds
 
+-- the paths of c are those of a and those of b
 pub record IsUnion (a b c : ℕ → ℕ → List Bool → Type 0) : Type 0 where
   pub left : (n height : ℕ) (set : List Bool) → a n height set → c n height set
   pub right : (n height : ℕ) (set : List Bool) → b n height set → c n height set
   pub either : (n height : ℕ) (set : List Bool) → c n height set → a n height set ⊎ b n height set
-
-both_set : (p q : Bool) → p ≡ true → q ≡ true → (p && q) ≡ true
-both_set true true e f = refl
-both_set true false e f = absurd cc
-both_set false q e f = absurd cc
-
-pub one_unset : (p q : Bool) → (p && q) ≡ false → (p ≡ false) ⊎ (q ≡ false)
-one_unset true true e = absurd cc
-one_unset true false e = inr refl
-one_unset false q e = inl refl
 
 -- the longest of both
 taken_of_both : (a b c : ℕ → ℕ → List Bool → Type 0) → IsUnion a b c → (s t : Shape) → IsSummary a s → IsSummary b t → (steps : ℕ) → steps ≡ max s.steps t.steps → (height : ℕ) × (set : List Bool) × c steps height set
@@ -67,7 +58,7 @@ both_summary a b c u s t r x y j = record {
       ⊎_elim
       (λ (f : slice_index_or s.set k false ≡ false). let p = x.some_unset k f in (p.0, p.1, p.2, u.left p.0 p.1 p.2 p.3, p.4))
       (λ (f : slice_index_or t.set k false ≡ false). let p = y.some_unset k f in (p.0, p.1, p.2, u.right p.0 p.1 p.2 p.3, p.4))
-      (one_unset (slice_index_or s.set k false) (slice_index_or t.set k false) (sym (j.set.members k) ∙ e));
+      (and_cases (slice_index_or s.set k false) (slice_index_or t.set k false) (sym (j.set.members k) ∙ e));
 }
 
 -- ---- the same paths
@@ -96,6 +87,7 @@ uneven_too a c to x = record {
   different = x.different;
 }
 
+-- a meeting that describes paths describes the same paths, told otherwise
 pub describes_same : (a c : ℕ → ℕ → List Bool → Type 0) → ((n height : ℕ) (set : List Bool) → a n height set → c n height set) → ((n height : ℕ) (set : List Bool) → c n height set → a n height set)
     → (m : Meeting) → Describes a m → Describes c m
 describes_same a c to from Nothing x = λ n height set p. x n height set (from n height set p)
@@ -111,6 +103,7 @@ without a b c u none = record {
   either = λ n height set p. ⊎_elim (λ (q : a n height set). absurd (none n height set q)) (λ (q : b n height set). inl q) (u.either n height set p);
 }
 
+-- where the paths of a shape join those of a meeting, what is met then describes them all
 pub describes_join : (a b c : ℕ → ℕ → List Bool → Type 0) → IsUnion a b c → (m m' : Meeting) (s : Shape) → Describes a m → IsSummary b s → IsJoin m s m' → Describes c m'
 describes_join a b c u Nothing Nothing s x y j = absurd j
 describes_join a b c u Nothing (Level r) s x y j = both_summary b b c (without a b c u x) s s r y y j
@@ -150,6 +143,7 @@ both_twice a s b c x y = record {
   steps = let e = x.steps in let f = y.steps in omega arith;
 }
 
+-- a shape that joins twice joins as once
 pub join_twice : (m m' m'' : Meeting) (s : Shape) → IsJoin m s m' → IsJoin m' s m'' → IsJoin m s m''
 join_twice Nothing Nothing m'' s x y = absurd x
 join_twice Nothing Uneven m'' s x y = absurd x
@@ -203,6 +197,7 @@ pub record Leads (code : List Instr) (here : ℕ) (i : Instr) (at n height : ℕ
   pub is_height : height ≡ height_after i height'
   pub is_set : set ≡ set_after i set'
 
+-- paths that an instruction leads on have in common what they had before it, with its height, its locals and one step more
 pub leads_summary : (code : List Instr) (here : ℕ) (i : Instr) (at : ℕ) (s t : Shape) → JumpsForward code → MayGo i here at → IsSummary (arrivals code here here) s
     → t.height ≡ height_after i s.height → t.set ≡ set_after i s.set → t.steps ≡ s.steps + 1 → IsSummary (Leads code here i at) t
 leads_summary code here i at s t forward go x height' set' steps' = record {

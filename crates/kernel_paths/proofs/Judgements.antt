@@ -30,6 +30,7 @@ start_summary code s height set steps = record {
   some_unset = λ k e. (0, 0, replicate 256 false, first, ap (λ (bs : List Bool). slice_index_or bs k false) (sym set) ∙ e);
 }
 
+-- at the beginning only the first place has a path, the empty one
 pub stands_first : (code : List Instr) (inputs : ℕ) (s : Shape) (meetings : List Meeting) → meetings ≡ slice_set (replicate (length code + 1) Nothing) 0 (Level s) → s.height ≡ 0 → s.set ≡ replicate 256 false → s.steps ≡ 0
     → Stands code inputs 0 meetings
 stands_first code inputs s meetings e height set steps = record {
@@ -107,12 +108,14 @@ is_read code is inputs here meetings m same c st last read =
     let st' = subst (λ (k : ℕ). Stands is inputs k meetings) last st in
     record { code' = subst IsCode (sym same) c; stands = st'; there = met_here is inputs (length is) meetings m m (omega arith) st' read refl }
 
+-- at the end, once all places were followed, what is met there judges the code
 pub judged_last : (code is : List Instr) (inputs here : ℕ) (meetings : List Meeting) (m : Meeting) (r : Result ℕ Misfit) → is ≡ code → IsCode code → Stands is inputs here meetings → here ≡ length is
     → m ≡ slice_index_or meetings (length is) m → IsEnd m (length is) r → IsJudged code inputs r
 judged_last code is inputs here meetings m r same c st last read e =
     let x = is_read code is inputs here meetings m same c st last read in
     subst (λ (k : List Instr). IsJudged k inputs r) same (judged_end is inputs meetings m r x.code' x.stands x.there e)
 
+-- some path comes to the end
 pub some_last : (code is : List Instr) (inputs here : ℕ) (meetings : List Meeting) (m : Meeting) → is ≡ code → IsCode code → Stands is inputs here meetings → here ≡ length is → m ≡ slice_index_or meetings (length is) m → m ≡ Nothing → ⊥
 some_last code is inputs here meetings m same c st last read e =
     let x = is_read code is inputs here meetings m same c st last read in

@@ -86,6 +86,7 @@ not_both code inputs p q forward a b =
 
 -- ---- all
 
+-- a code has one judgement
 pub one_judgement : (code : List Instr) (inputs : ℕ) (r answer : Result ℕ Misfit) → JumpsForward code → IsJudged code inputs r → IsJudged code inputs answer → answer ≡ r
 one_judgement code inputs (Ok m) (Ok n) forward a b = ap (λ (k : ℕ). Ok k) (sym (one_length code inputs m n a b))
 one_judgement code inputs (Ok m) (Err (Malformed q)) forward a b = absurd (no_malformed code inputs m q a b.wrong)

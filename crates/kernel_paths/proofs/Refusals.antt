@@ -20,6 +20,7 @@ use Rattle.kernel_paths.proofs.Standing.{supplied_more}
 
 -- ---- what some path lacks
 
+-- the meeting at a place describes the paths that come to it
 pub held_here : (code : List Instr) (inputs here : ℕ) (meetings : List Meeting) (m : Meeting) → Stands code inputs here meetings → here ≤ length code → meeting_at meetings here ≡ m → Describes (arrivals code here here) m
 held_here code inputs here meetings m st within e = subst (λ (k : Meeting). Describes (arrivals code here here) k) e (st.held here (omega arith) within)
 
@@ -59,6 +60,7 @@ lacking code inputs here i s there x lacks = at i there lacks
     at (JumpIfZero to) there bad = taken (JumpIfZero to) there (λ (le : 1 ≤ h). bad (omega (arith, same)))
     at (Jump to) there bad = absurd (bad tt)
 
+-- where the paths that come to a place have a height in common, all paths there have stacks of one height
 pub level_here : (code : List Instr) (here : ℕ) (s : Shape) → JumpsForward code → IsSummary (arrivals code here here) s → (n m height height' : ℕ) (set set' : List Bool) → IsPath code n here height set → IsPath code m here height' set' → height ≡ height'
 level_here code here s forward x n m height height' set set' p q = x.level n height set (arrives_here code forward p) ∙ sym (x.level m height' set' (arrives_here code forward q))
 
@@ -95,6 +97,7 @@ unfit code inputs here i s meetings misfit forward there st e fit = at misfit fi
     at (DepthOver64 pc) fit =
         subst (λ (k : ℕ). IsFirst code inputs (DepthOver64 k)) (sym fit.0) (overfull code inputs here i s meetings forward there st x fit.1)
 
+-- paths that come to a place with different heights meet unevenly
 pub uneven_paths : (code : List Instr) (here : ℕ) → AreUneven (arrivals code here here) → MeetUnevenly code here
 uneven_paths code here u = record {
   n = u.n;
@@ -108,6 +111,7 @@ uneven_paths code here u = record {
   different = u.different;
 }
 
+-- a place where paths meet unevenly, once all below it were followed, is the first malformed one
 pub uneven : (code : List Instr) (inputs here : ℕ) (meetings : List Meeting) → here ≤ length code → Stands code inputs here meetings → meeting_at meetings here ≡ Uneven → IsFirstMalformed code inputs here
 uneven code inputs here meetings within st e =
     record { below = st.fits; wrong = inr (inl (uneven_paths code here (held_here code inputs here meetings Uneven st within e))) }
@@ -124,7 +128,8 @@ some_way (Unary op) from = (from + 1, refl)
 some_way (JumpIfZero to) from = (from + 1, inl refl)
 some_way (Jump to) from = (to, refl)
 
-at_or_end : (code : List Instr) (pc : ℕ) → pc ≤ length code → ((i : Instr) × (slice_get code pc ≡ Some i)) ⊎ (pc ≡ length code)
+-- at a place up to the end stands an instruction, or it is the end
+pub at_or_end : (code : List Instr) (pc : ℕ) → pc ≤ length code → ((i : Instr) × (slice_get code pc ≡ Some i)) ⊎ (pc ≡ length code)
 at_or_end [] pc within = inr (omega arith)
 at_or_end (i ∷ is) zero within = inl (i, refl)
 at_or_end (i ∷ is) (suc pc) within = ⊎_elim (λ (h : (j : Instr) × (slice_get is pc ≡ Some j)). inl (h.0, h.1)) (λ (e : pc ≡ length is). inr (ap suc e)) (at_or_end is pc (omega arith))

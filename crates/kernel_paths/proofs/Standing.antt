@@ -86,6 +86,7 @@ supplied_more (Unary op) inputs height a b more h = h
 supplied_more (JumpIfZero to) inputs height a b more h = h
 supplied_more (Jump to) inputs height a b more h = tt
 
+-- a place is well where its instruction can act with what all paths to it have in common
 pub fits_here : (code : List Instr) (inputs here : ℕ) (i : Instr) (s : Shape) → JumpsForward code → slice_get code here ≡ Some i → IsSummary (arrivals code here here) s → CanAct i inputs s.height s.set → Fits code inputs here
 fits_here code inputs here i s forward there x can = record {
   level = λ n m height height' set set' p q. x.level n height set (arrives_here code forward p) ∙ sym (x.level m height' set' (arrives_here code forward q));
@@ -107,6 +108,7 @@ fits_more code inputs here below at k lt =
     (λ (le : here ≤ k). let same : here ≡ k = omega arith in subst (λ (j : ℕ). Fits code inputs j) same at)
     (cases_lt k here)
 
+-- once a place where its instruction can act is followed, what is known goes on to the next
 pub stands_on : (code : List Instr) (inputs here : ℕ) (i : Instr) (s t : Shape) (old new : List Meeting) → JumpsForward code → slice_get code here ≡ Some i → Stands code inputs here old → meeting_at old here ≡ Level s
     → CanAct i inputs s.height s.set → t.height ≡ height_after i s.height → t.set ≡ set_after i s.set → t.steps ≡ s.steps + 1 → IsLed i here t old new → Stands code inputs (here + 1) new
 stands_on code inputs here i s t old new forward there st at_here can height set steps led = record {
@@ -159,6 +161,7 @@ stays_below code here none (later {n = n} {from = from} {height = height} {set =
     (λ (le : here ≤ from). let same : from ≡ here = omega arith in absurd (none n height set (subst (λ (k : ℕ). IsPath code n k height set) same path)))
     (cases_lt from here)
 
+-- a place that no path comes to is passed
 pub stands_past : (code : List Instr) (inputs here : ℕ) (meetings : List Meeting) → JumpsForward code → here < length code → Stands code inputs here meetings → meeting_at meetings here ≡ Nothing → Stands code inputs (here + 1) meetings
 stands_past code inputs here meetings forward within st at_here =
     let none = no_path code inputs here meetings forward (omega arith) st at_here in

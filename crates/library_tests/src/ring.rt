@@ -4,7 +4,7 @@
 ghost use Rattle.std.specs.Prelude.{ℤ, true, ◌<◌, ◌≤◌, ◌^◌, unsigned_abs};
 
 use fixed::{Frac, Fx};
-use ring_box::{BoxFault, PairForce, RingBox, Side};
+use ring_box::{BoxFault, CellBits, Force, PairForce, Place3, RingBox, Side};
 use std::test::Fail;
 
 // The same force at each distance. It counts how often it is asked, which is no part of what it holds.
@@ -41,7 +41,7 @@ fn box_of_two() -> Result<RingBox, BoxFault> {
 }
 
 // Core 0.2 nm, cutoff 0.9 nm.
-fn force(f: &mut ConstantForce, x: [u32; 3], y: [u32; 3]) -> Result<Option<[i64; 3]>, BoxFault> {
+fn force(f: &mut ConstantForce, p: Place3, q: Place3) -> Result<Option<Force<i64>>, BoxFault> {
     Ok(box_of_two()?.pair_force(
         Frac::F32,
         f,
@@ -49,16 +49,16 @@ fn force(f: &mut ConstantForce, x: [u32; 3], y: [u32; 3]) -> Result<Option<[i64;
         Fx::from_raw(3_865_470_566),
         0,
         0,
-        x,
-        y,
+        p,
+        q,
     ))
 }
 
 fn coarse_force(
     f: &mut ConstantForce,
-    x: [u32; 3],
-    y: [u32; 3],
-) -> Result<Option<[i64; 3]>, BoxFault> {
+    p: Place3,
+    q: Place3,
+) -> Result<Option<Force<i64>>, BoxFault> {
     Ok(box_of_two()?.pair_force(
         Frac::F24,
         f,
@@ -66,22 +66,26 @@ fn coarse_force(
         Fx::from_raw(15_099_494),
         0,
         0,
-        x,
-        y,
+        p,
+        q,
     ))
+}
+
+fn on_x_axis(x: u32) -> Place3 {
+    Place3 { x, y: 0, z: 0 }
 }
 
 // How often pairs at one place, 0.5 nm apart, and 1 nm apart ask: the last are too far from each other, and don't.
 fn asked() -> Result<u64, BoxFault> {
     let mut f = constant(1);
-    for y in [0, 1_073_741_824, 2_147_483_648] {
-        force(&mut f, [0, 0, 0], [y, 0, 0])?;
+    for x in [0, 1_073_741_824, 2_147_483_648] {
+        force(&mut f, on_x_axis(0), on_x_axis(x))?;
     }
     Ok(f.asked)
 }
 
 // The numbers of bits of the cells of three boxes.
-fn bits() -> [[u32; 3]; 3] {
+fn bits() -> [CellBits; 3] {
     let cutoff = Fx::from_raw(3_865_470_566);
     let two = RingBox {
         x: Side::new(200_000),
@@ -108,12 +112,20 @@ fn bits() -> [[u32; 3]; 3] {
 #[test]
 fn asks_measures_and_cuts(rt: HostRuntime) -> Result<(), Fail> {
     assert_eq!(rt; asked()?, 2);
-    assert_eq!(rt; bits(), [[1, 1, 1], [1, 2, 4], [4, 4, 4]]);
+    let [few, more, most] = bits();
+    assert_eq!(rt; few, CellBits { x: 1, y: 1, z: 1 });
+    assert_eq!(rt; more, CellBits { x: 1, y: 2, z: 4 });
+    assert_eq!(rt; most, CellBits { x: 4, y: 4, z: 4 });
     let b = box_of_two()?;
-    let (x, y) = ([1_073_741_824, 0, 0], [2_147_483_648, 0, 0]);
-    assert_eq!(rt; b.distance(Frac::F24, x, y).raw(), 8_388_608);
-    assert_eq!(rt; b.distance(Frac::F40, x, y).raw(), 549_755_813_888);
+    let (p, q) = (on_x_axis(1_073_741_824), on_x_axis(2_147_483_648));
+    assert_eq!(rt; b.distance(Frac::F24, p, q).raw(), 8_388_608);
+    assert_eq!(rt; b.distance(Frac::F40, p, q).raw(), 549_755_813_888);
     let mut f = constant(67_108_864);
-    assert_eq!(rt; coarse_force(&mut f, x, y)?, Some([-67_108_864, 0, 0]));
+    let expected = Force {
+        x: -67_108_864,
+        y: 0,
+        z: 0,
+    };
+    assert_eq!(rt; coarse_force(&mut f, p, q)?, Some(expected));
     Ok(())
 }

@@ -33,16 +33,19 @@ digits_again width n fits =
     rw (zeros_are_digits (width - length (decimal n)) (decimal n) ∙ digits_decimal own n fits)
     (ap (λ (m : ℕ). Some m) (zeros_add_none (width - length (decimal n)) (decimal n) ∙ digits_value-decimal own n fits))
 
+-- the decimal of a 64-bit number with zeros before it is digits, and they write that number
 pub zeros_value : (width n : ℕ) → n < 2 ^ 64 → (all_ascii_digits (zeros_in width (decimal n)) ≡ true) × (digits_value 10 (zeros_in width (decimal n)) ≡ n)
 zeros_value width n fits = (
   zeros_are_digits (width - length (decimal n)) (decimal n) ∙ digits_decimal own n fits,
   zeros_add_none (width - length (decimal n)) (decimal n) ∙ digits_value-decimal own n fits,
 )
 
+-- the decimal of a 64-bit number is read as that number
 pub decimal_digits_again : (n : ℕ) → n < 2 ^ 64 → digits_of (decimal n) ≡ Some n
 unfolding digits_of
 decimal_digits_again n fits = rw (digits_decimal own n fits) (ap (λ (m : ℕ). Some m) (digits_value-decimal own n fits))
 
+-- a text no longer than the column fills it with the zeros before it
 pub length-zeros_in : (width : ℕ) (text : List ℕ) → length text ≤ width → length (zeros_in width text) ≡ width
 length-zeros_in width text h = omega (arith, length-append (replicate (width - length text) 48) text, length-replicate {A = ℕ} (width - length text) 48)
 
@@ -51,6 +54,7 @@ length-zeros_in width text h = omega (arith, length-append (replicate (width - l
 mod_small : (n m : ℕ) → n % m ≤ n
 mod_small n m = omega (arith, div-add-mod' n m)
 
+-- digits, a point and so many digits are read as a number in units of the last decimal
 pub parts_read : (places : ℕ) (front back : List ℕ) (whole part : ℕ) → 0 < length front → length back ≡ places → digits_of front ≡ Some whole → digits_of back ≡ Some part
     → decimals_of places (front ++ 46 ∷ back) ≡ Some (whole * 10 ^ places + part)
 unfolding decimals_of
@@ -61,6 +65,7 @@ parts_read places front back whole part some len f b =
     let rest : length (front ++ 46 ∷ back) - places ≡ length front + 1 = omega (arith, total) in
     rw (le-ltb (length (front ++ 46 ∷ back)) (places + 2) long, point, rest, get_or_at front 46 back 0 (length front) refl, take_at front (46 ∷ back) (length front) refl, drop-append-add front (46 ∷ back) 1, f, b) refl
 
+-- a 64-bit number that is written with decimals, one at least, is read again
 pub decimals_again : (places n : ℕ) → 0 < places → n < 2 ^ 64 → decimals_of places (with_decimals places n) ≡ Some n
 decimals_again places n some fits =
     let unit : 0 < 10 ^ places = one-le-pow places 10 (omega arith) in
@@ -100,12 +105,14 @@ with_decimals_lacks c places n low fits =
     lacks_append c zeros (decimal (n % 10 ^ places)) (copies_lack c 48 (places - length (decimal (n % 10 ^ places))) (λ e. omega arith)) (decimal_lacks c (n % 10 ^ places) (omega arith) part) in
     lacks_append c (decimal (n / 10 ^ places)) (46 ∷ zeros ++ decimal (n % 10 ^ places)) (decimal_lacks c (n / 10 ^ places) (omega arith) whole) (rw (ne_eqb 46 c (λ e. omega arith), back) refl)
 
+-- a signed 64-bit number with decimals has no byte below the minus
 pub decimals_text_lacks : (c places : ℕ) (z : ℤ) → c < 45 → mag z < 2 ^ 63 → lacks c (decimals_text places z) ≡ true
 decimals_text_lacks c places (pos n) low fits = with_decimals_lacks c places n low (omega arith)
 decimals_text_lacks c places (negsuc n) low fits = rw (ne_eqb 45 c (λ e. omega arith), with_decimals_lacks c places (suc n) low (omega arith)) refl
 
 -- ---- in a column
 
+-- a signed 64-bit number with decimals, one at least, is read again from the column in which it is right
 pub decimal_column_again : (places width : ℕ) (z : ℤ) → 0 < places → mag z < 2 ^ 63 → decimal_column_of places (right_in width (decimals_text places z)) ≡ Some z
 unfolding decimal_column_of
 decimal_column_again places width (pos n) some fits =
@@ -116,6 +123,7 @@ decimal_column_again places width (negsuc n) some fits =
     let bare : without_spaces (right_in width (45 ∷ with_decimals places (suc n))) ≡ 45 ∷ with_decimals places (suc n) = right_again width (45 ∷ with_decimals places (suc n)) (λ e. omega (arith, e)) in
     rw (bare, decimals_again places (suc n) some (omega arith)) refl
 
+-- a number that is written right in a column is read again as digits
 pub right_digits_again : (width n : ℕ) → n < 2 ^ 64 → digits_of (without_spaces (right_in width (decimal n))) ≡ Some n
 right_digits_again width n fits =
     ap digits_of (right_again width (decimal n) (lacks_first 32 (decimal n) (lit< tt) (decimal_lacks 32 n (lit< tt) fits))) ∙ decimal_digits_again n fits

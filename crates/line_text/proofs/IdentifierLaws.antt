@@ -18,6 +18,7 @@ start_small b e = grind arith
 continue_small : (b : ℕ) → is_identifier_continue b ≡ true → b < 128
 continue_small b e = grind (arith, start_small)
 
+-- an identifier is ASCII
 pub ascii_identifier : (name : List ℕ) → is_identifier name ≡ true → IsAscii name
 unfolding is_identifier
 ascii_identifier [] e = absurd cc

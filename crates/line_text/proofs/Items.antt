@@ -9,16 +9,6 @@ use Rattle.std.proofs.lemmas.List.FromFn.{length-enumerate_from, get_or-enumerat
 pub item_is : {X Y : Type 0} (f : X → Y) (xs : List X) (i : ℕ) (x : X) → i < length xs → x ≡ get_or xs i x → f x ≡ get_or (map f xs) i (f x)
 item_is f xs i x lt is = ap f is ∙ sym (get_or-map f xs i x (f x) lt)
 
--- with its index
-pub indexed_is : {X Y : Type 0} (f : X → Y) (n : ℕ) (xs : List X) (i : ℕ) (x : X) → i < length xs → x ≡ get_or xs i x
-    → (n + i, f x) ≡ get_or (enumerate_from n (map f xs)) i (n + i, f x)
-indexed_is {Y = Y} f n xs i x lt is =
-    let inside : i < length (map f xs) = omega (arith, length-map xs f) in
-    ap (λ (y : Y). (n + i, y)) (item_is f xs i x lt is) ∙ sym (get_or-enumerate_from n (map f xs) i (n + i, f x) inside)
-
-pub indexed_within : {X Y : Type 0} (f : X → Y) (n : ℕ) (xs : List X) (i : ℕ) → i < length xs → i < length (enumerate_from n (map f xs))
-indexed_within f n xs i lt = omega (arith, length-enumerate_from n (map f xs), length-map xs f)
-
 -- what holds of each item, and of one more
 pub all_push : {X : Type 0} (P : X → Type 0) (xs : List X) (x : X) → AllByRecursion P xs → P x → AllByRecursion P (xs ++ x ∷ [])
 all_push P [] x h p = (p, tt)
@@ -28,6 +18,7 @@ all_push P (y ∷ ys) x h p = (h.0, all_push P ys x h.1 p)
 pub all_more : {X : Type 0} (P : X → Type 0) (xs : List X) (i : ℕ) (x : X) → i < length xs → x ≡ get_or xs i x → AllByRecursion P (take i xs) → P x → AllByRecursion P (take (i + 1) xs)
 all_more P xs i x lt is h p = rw (take_more xs i x lt) (all_push P (take i xs) (get_or xs i x) h (subst P is p))
 
+-- the texts of one item more are those so far and then that item's
 pub flat_map-take_more : {X : Type 0} (f : X → List ℕ) (xs : List X) (i : ℕ) (x : X) → i < length xs → x ≡ get_or xs i x
     → flat_map f (take (i + 1) xs) ≡ flat_map f (take i xs) ++ f x
 flat_map-take_more {X = X} f xs i x lt is =

@@ -21,21 +21,25 @@ pub bind_some : {A B : Type 0} (o : Option A) (f : A → Option B) (y : B) → (
 bind_some (Some x) f y e = (x, refl, e)
 bind_some None f y e = absurd cc
 
+-- equal optional pairs have equal parts
 pub pair_is : {A B : Type 0} (a x : A) (b y : B) → ◌≡◌ {A = Option (A × B)} (Some (a, b)) (Some (x, y)) → (a ≡ x) × (b ≡ y)
 pair_is a x b y e = some_pair_parts a x b y e
 
 -- ---- a byte that a text lacks
 
+-- a byte that two texts lack is lacked by them one after the other
 pub lacks_append : (c : ℕ) (a b : List ℕ) → lacks c a ≡ true → lacks c b ≡ true → lacks c (a ++ b) ≡ true
 lacks_append c [] b p q = q
 lacks_append c (x ∷ a) b p q =
     let s = and_parts (not (eqb x c)) (lacks c a) p in and_from (not (eqb x c)) (lacks c (a ++ b)) s.0 (lacks_append c a b s.1 q)
 
+-- a byte that a text lacks is lacked by each front of it
 pub lacks_front : (c : ℕ) (a b : List ℕ) → lacks c (a ++ b) ≡ true → lacks c a ≡ true
 lacks_front c [] b e = refl
 lacks_front c (x ∷ a) b e =
     let s = and_parts (not (eqb x c)) (lacks c (a ++ b)) e in and_from (not (eqb x c)) (lacks c a) s.0 (lacks_front c a b s.1)
 
+-- the same of what stands behind the front
 pub lacks_rest : (c : ℕ) (a b : List ℕ) → lacks c (a ++ b) ≡ true → lacks c b ≡ true
 lacks_rest c [] b e = e
 lacks_rest c (x ∷ a) b e = lacks_rest c a b (and_parts (not (eqb x c)) (lacks c (a ++ b)) e).1
@@ -48,16 +52,19 @@ lacks_first c (x ∷ xs) some l e =
     let yes : eqb x c ≡ true = eq-eqb x c e in
     absurd cc
 
+-- the first c stands behind a front that lacks it
 pub first_place_is : (c : ℕ) (a b : List ℕ) → lacks c a ≡ true → position_or_len (λ x. x == c) (a ++ c ∷ b) ≡ length a
 first_place_is c [] b p = rw (eq-eqb c c refl) refl
 first_place_is c (x ∷ a) b p =
     let s = and_parts (not (eqb x c)) (lacks c a) p in rw (s.0, first_place_is c a b s.1) (omega arith)
 
+-- in a text that lacks c the first place is its end
 pub first_place_none : (c : ℕ) (a : List ℕ) → lacks c a ≡ true → position_or_len (λ x. x == c) a ≡ length a
 first_place_none c [] p = refl
 first_place_none c (x ∷ a) p =
     let s = and_parts (not (eqb x c)) (lacks c a) p in rw (s.0, first_place_none c a s.1) (omega arith)
 
+-- the part before the first c lacks c
 pub before_lacks : (c : ℕ) (text : List ℕ) → lacks c (before_first (λ x. x == c) text) ≡ true
 before_lacks c [] = refl
 before_lacks c (x ∷ xs) =
@@ -69,21 +76,25 @@ before_lacks c (x ∷ xs) =
     add_is : (n : ℕ) → 1 + n ≡ suc n
     add_is n = omega arith
 
+-- digits have no byte below 48
 pub digits_lack : (c : ℕ) (ds : List ℕ) → c < 48 → AllDigits 10 ds → lacks c ds ≡ true
 digits_lack c [] small h = refl
 digits_lack c (x ∷ xs) small h =
     let r : IsInRange 48 57 x = digit_from_value x h.0 in
     rw (ne_eqb x c (λ e. omega (arith, r)), digits_lack c xs small h.1) refl
 
+-- the decimal of a 64-bit number has no byte below 48
 pub decimal_lacks : (c n : ℕ) → c < 48 → n < 2 ^ 64 → lacks c (decimal n) ≡ true
 decimal_lacks c n small fits = digits_lack c (decimal n) small (decimal_is_IsNumeral n fits).0.1
 
+-- the decimal of a signed 64-bit number has no byte below the minus
 pub signed_lacks : (c : ℕ) (z : ℤ) → c < 45 → mag z < 2 ^ 63 → lacks c (signed_decimal z) ≡ true
 signed_lacks c (pos n) small fits = decimal_lacks c n (omega arith) (omega arith)
 signed_lacks c (negsuc n) small fits = rw (ne_eqb 45 c (λ e. omega arith), decimal_lacks c (suc n) (omega arith) (omega arith)) refl
 
 -- ---- cut
 
+-- a text that is cut at c is its first part, c and the second part, and the first lacks c
 pub cut_found : (c : ℕ) (text a b : List ℕ) → cut_at c text ≡ Some (a, b) → (text ≡ a ++ c ∷ b) × (lacks c a ≡ true)
 unfolding cut_at
 cut_found c text a b e =
@@ -97,6 +108,7 @@ cut_found c text a b e =
     ∙ ap (λ (y : ℕ). a ++ y ∷ after_first (λ x. x == c) text) byte ∙ ap (λ (t : List ℕ). a ++ c ∷ t) rest in
     (split_at_first (λ x. x == c) text 0 inside ∙ whole, subst (λ (t : List ℕ). lacks c t ≡ true) front (before_lacks c text))
 
+-- a text that lacks c, then c and any text are cut into the two
 pub cut_again : (c : ℕ) (a b : List ℕ) → lacks c a ≡ true → cut_at c (a ++ c ∷ b) ≡ Some (a, b)
 unfolding cut_at
 cut_again c a b l =
@@ -108,6 +120,7 @@ cut_again c a b l =
 abbrev halves_if : ℕ → List ℕ → Bool → Option (List ℕ × List ℕ)
 halves_if c text found = cond found (Some (before_first (λ x. x == c) text, after_first (λ x. x == c) text)) None
 
+-- a text that isn't cut at c lacks c
 pub cut_none : (c : ℕ) (text : List ℕ) → cut_at c text ≡ None → lacks c text ≡ true
 unfolding cut_at
 cut_none c text e = at (ltb (position_or_len (λ x. x == c) text) (length text)) refl e
@@ -136,14 +149,17 @@ uncut c text l = at (cut_at c text) refl
 pub cut_shorter : (c : ℕ) (text a b : List ℕ) → cut_at c text ≡ Some (a, b) → length a + length b < length text
 cut_shorter c text a b e = omega (arith, ap length (cut_found c text a b e).0, length-append a (c ∷ b))
 
+-- a line with its LF and a text are the line, a LF and the text
 pub ended_then : (line rest : List ℕ) → ended line ++ rest ≡ line ++ 10 ∷ rest
 ended_then line rest = append_assoc line (10 ∷ []) rest
 
+-- a line that was ended with a LF is cut off again
 pub line_cut : (line rest : List ℕ) → lacks 10 line ≡ true → cut_at 10 (ended line ++ rest) ≡ Some (line, rest)
 line_cut line rest l = ap (cut_at 10) (ended_then line rest) ∙ cut_again 10 line rest l
 
 -- ---- a front
 
+-- where a text goes on after a front, it is that front and the rest
 pub after_found : (front text rest : List ℕ) → after front text ≡ Some rest → text ≡ front ++ rest
 unfolding after
 after_found front text rest e =
@@ -151,6 +167,7 @@ after_found front text rest e =
     let f : take (length front) text ≡ front = same_bytes _ _ s.0 in
     sym (take-append-drop (length front) text) ∙ ap (λ (t : List ℕ). t ++ drop (length front) text) f ∙ ap (λ (t : List ℕ). front ++ t) s.1
 
+-- after its front a text goes on with the rest
 pub after_again : (front rest : List ℕ) → after front (front ++ rest) ≡ Some rest
 unfolding after
 after_again front rest =
@@ -163,6 +180,7 @@ abbrev pub EndsWord : List ℕ → Type 0
 EndsWord [] = Unit {0}
 EndsWord (x ∷ xs) = x ≡ 32
 
+-- a word that is read is a space and the decimal of a number below the limit
 pub word_found : (limit : ℕ) (text : List ℕ) (n : ℕ) (rest : List ℕ) → word_at limit text ≡ Some (n, rest) → (text ≡ 32 ∷ decimal n ++ rest) × (n < limit)
 unfolding word_at
 word_found limit text n rest e =
@@ -177,6 +195,7 @@ ends_at : (a r : List ℕ) → lacks 32 a ≡ true → EndsWord r → position_o
 ends_at a [] l h = rw (append-nil a) (first_place_none 32 a l)
 ends_at a (x ∷ r) l h = rw h (first_place_is 32 a r l)
 
+-- a word that is written is read again, where a word may end behind it
 pub word_again : (limit n : ℕ) (rest : List ℕ) → n < limit → n < 2 ^ 64 → EndsWord rest → word_at limit (32 ∷ decimal n ++ rest) ≡ Some (n, rest)
 unfolding word_at
 word_again limit n rest lt fits ends =
@@ -185,6 +204,7 @@ word_again limit n rest lt fits ends =
 
 -- ---- three words
 
+-- three words in a row and a text are each word before the rest
 pub three_in_turn : (x y z : ℕ) (rest : List ℕ) → flat_map word (x ∷ y ∷ z ∷ []) ++ rest ≡ word x ++ (word y ++ (word z ++ rest))
 three_in_turn x y z rest =
     append_assoc (word x) (word y ++ (word z ++ [])) rest
@@ -202,6 +222,7 @@ three_is : (limit x y z : ℕ) (text r s rest : List ℕ) → word_at limit text
 unfolding three_at
 three_is limit x y z text r s rest a b c = rw (a, b, c) refl
 
+-- three words that are read are three numbers below the limit, as they are written
 pub three_found : (limit : ℕ) (text : List ℕ) (p : List ℕ × List ℕ) → three_at limit text ≡ Some p → (text ≡ flat_map word p.0 ++ p.1) × AreThree (λ x. x < limit) p.0
 unfolding three_at
 three_found limit text p e =
@@ -213,6 +234,7 @@ three_found limit text p e =
     let h = word_found limit b.0.1 c.0.0 c.0.1 c.1 in
     three_joined limit a.0.0 b.0.0 c.0.0 text a.0.1 b.0.1 c.0.1 p f.0 g.0 h.0 f.1 g.1 h.1 (cc)
 
+-- three words that are written are read again, where a word may end behind them
 pub three_again : (limit : ℕ) (ns rest : List ℕ) → limit ≤ 2 ^ 64 → AreThree (λ x. x < limit) ns → EndsWord rest → three_at limit (flat_map word ns ++ rest) ≡ Some (ns, rest)
 unfolding three_at
 three_again limit [] rest small h ends = absurd h
@@ -225,6 +247,7 @@ three_again limit (x ∷ y ∷ z ∷ []) rest small h ends =
     let a : word_at limit (word x ++ (word y ++ (word z ++ rest))) ≡ Some (x, word y ++ (word z ++ rest)) = word_again limit x (word y ++ (word z ++ rest)) h.0 (omega arith) refl in
     ap (three_at limit) (three_in_turn x y z rest) ∙ three_is limit x y z (word x ++ (word y ++ (word z ++ rest))) (word y ++ (word z ++ rest)) (word z ++ rest) rest a b c
 
+-- three words have no byte below the space
 pub words_lack : (c limit : ℕ) (ns : List ℕ) → c < 32 → limit ≤ 2 ^ 64 → AreThree (λ x. x < limit) ns → lacks c (flat_map word ns) ≡ true
 words_lack c limit [] low small h = absurd h
 words_lack c limit (x ∷ []) low small h = absurd h
@@ -240,22 +263,28 @@ words_lack c limit (x ∷ y ∷ z ∷ []) low small h =
 
 -- ---- columns
 
+-- copies of another byte lack c
 pub copies_lack : (c b k : ℕ) → (b ≡ c → ⊥) → lacks c (replicate k b) ≡ true
 copies_lack c b zero h = refl
 copies_lack c b (suc k) h = rw (ne_eqb b c h, copies_lack c b k h) refl
 
+-- spaces have no byte below the space
 pub spaces_lack : (c k : ℕ) → c < 32 → lacks c (replicate k 32) ≡ true
 spaces_lack c k low = copies_lack c 32 k (λ e. omega arith)
 
+-- a byte below the space that a text lacks is lacked by it right in a column
 pub right_lacks : (c width : ℕ) (text : List ℕ) → c < 32 → lacks c text ≡ true → lacks c (right_in width text) ≡ true
 right_lacks c width text low l = lacks_append c (replicate (width - length text) 32) text (spaces_lack c (width - length text) low) l
 
+-- the same left in a column
 pub left_lacks : (c width : ℕ) (text : List ℕ) → c < 32 → lacks c text ≡ true → lacks c (left_in width text) ≡ true
 left_lacks c width text low l = lacks_append c text (replicate (width - length text) 32) l (spaces_lack c (width - length text) low)
 
+-- a text no longer than the column fills it, right in it
 pub length-right_in : (width : ℕ) (text : List ℕ) → length text ≤ width → length (right_in width text) ≡ width
 length-right_in width text h = omega (arith, length-append (replicate (width - length text) 32) text, length-replicate {A = ℕ} (width - length text) 32)
 
+-- the same left in the column
 pub length-left_in : (width : ℕ) (text : List ℕ) → length text ≤ width → length (left_in width text) ≡ width
 length-left_in width text h = omega (arith, length-append text (replicate (width - length text) 32), length-replicate {A = ℕ} (width - length text) 32)
 
@@ -268,6 +297,7 @@ none_in_front : (c : ℕ) (text : List ℕ) → (get_or text 0 0 ≡ c → ⊥) 
 none_in_front c [] h = refl
 none_in_front c (x ∷ xs) h = rw (ne_eqb x c h) refl
 
+-- bytes c before a text that does not begin with c are dropped, and they alone
 pub front_again : (c k : ℕ) (text : List ℕ) → (get_or text 0 0 ≡ c → ⊥) → without_front c (replicate k c ++ text) ≡ text
 front_again c zero text h = none_in_front c text h
 front_again c (suc k) text h = rw (eq-eqb c c refl) (front_again c k text h)
@@ -304,33 +334,49 @@ first_of_reverse (x ∷ xs) =
     let at : length (x ∷ xs) - 1 - 0 ≡ length (x ∷ xs) - 1 = omega arith in
     get_or-reverse (x ∷ xs) 0 0 (omega arith) ∙ ap (λ i. get_or (x ∷ xs) i 0) at
 
+-- bytes c behind a text that does not end in c are dropped, and they alone
 pub end_again : (c k : ℕ) (text : List ℕ) → (get_or text (length text - 1) 0 ≡ c → ⊥) → without_end c (text ++ replicate k c) ≡ text
 end_again c k text h =
     let e : reverse (text ++ replicate k c) ≡ replicate k c ++ reverse text = rw (reverse-append, reverse_copies c k) refl in
     ap (λ (t : List ℕ). reverse (without_front c t)) e
     ∙ ap reverse (front_again c k (reverse text) (λ e. h (sym (first_of_reverse text) ∙ e))) ∙ reverse-reverse text
 
+-- the text is what is left and the bytes that were dropped at the end
 pub end_found : (c : ℕ) (text : List ℕ) → (k : ℕ) × (text ≡ without_end c text ++ replicate k c)
 end_found c text =
     let f = front_found c (reverse text) in
     (f.0, sym (reverse-reverse text) ∙ ap reverse f.1 ∙ reverse-append (copies f.0 c) (without_front c (reverse text)) ∙ ap (λ (t : List ℕ). without_end c text ++ t) (reverse_copies c f.0))
 
+-- a text from whose end the byte was dropped does not end in it
 pub end_dropped : (c : ℕ) (text : List ℕ) → 0 < c → get_or (without_end c text) (length (without_end c text) - 1) 0 ≡ c → ⊥
 end_dropped c text some e =
     front_dropped c (reverse text) some (ap (λ (t : List ℕ). get_or t 0 0) (sym (reverse-reverse (without_front c (reverse text)))) ∙ first_of_reverse (without_end c text) ∙ e)
 
+-- a text that begins with no space, right in a column, is what the spaces leave
 pub right_again : (width : ℕ) (text : List ℕ) → (get_or text 0 0 ≡ 32 → ⊥) → without_spaces (right_in width text) ≡ text
 right_again width text h = front_again 32 (width - length text) text h
 
+-- the same of a text that ends in no space, left in a column
 pub left_again : (width : ℕ) (text : List ℕ) → (get_or text (length text - 1) 0 ≡ 32 → ⊥) → without_end_spaces (left_in width text) ≡ text
 left_again width text h = end_again 32 (width - length text) text h
 
 -- ---- numbers in a column
 
+-- a number that is written right in a column is read again
 pub right_natural_again : (limit width n : ℕ) → n < limit → n < 2 ^ 64 → natural_of limit (without_spaces (right_in width (decimal n))) ≡ Some n
 right_natural_again limit width n lt fits =
     ap (natural_of limit) (right_again width (decimal n) (lacks_first 32 (decimal n) (lit< tt) (decimal_lacks 32 n (lit< tt) fits))) ∙ natural_again limit n lt fits
 
+-- the same of a signed number
 pub right_integer_again : (width : ℕ) (z : ℤ) → mag z < 2 ^ 63 → integer_of (without_spaces (right_in width (signed_decimal z))) ≡ Some z
 right_integer_again width z fits =
     ap integer_of (right_again width (signed_decimal z) (lacks_first 32 (signed_decimal z) (lit< tt) (signed_lacks 32 z (lit< tt) fits))) ∙ integer_again z fits
+
+-- a byte that a text lacks stands nowhere in it
+pub lacks_at : (c : ℕ) (text : List ℕ) (i : ℕ) → 0 < c → lacks c text ≡ true → get_or text i 0 ≡ c → ⊥
+lacks_at c [] i some l e = omega arith
+lacks_at c (x ∷ xs) zero some l e =
+    let no : eqb x c ≡ false = not-true (eqb x c) (and_parts (not (eqb x c)) (lacks c xs) l).0 in
+    let yes : eqb x c ≡ true = eq-eqb x c e in
+    absurd cc
+lacks_at c (x ∷ xs) (suc i) some l e = lacks_at c xs i some (and_parts (not (eqb x c)) (lacks c xs) l).1 e

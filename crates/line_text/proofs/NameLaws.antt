@@ -8,10 +8,12 @@ use Rattle.line_text.specs.Parts.{lacks, is_name, name_of, has_clean_ends, is_pr
 use Rattle.line_text.proofs.PartLaws.{some_of}
 use Rattle.line_text.proofs.LineLaws.{right_again, left_again}
 
+-- a name that is read from a text is the text, and it is a name
 pub name_found : (text name : List ℕ) → name_of text ≡ Some name → (text ≡ name) × IsTrue (is_name name)
 unfolding name_of
 name_found text name e = let s = some_of (is_name text) text name e in (s.1, subst (λ (u : List ℕ). is_name u ≡ true) s.1 s.0)
 
+-- a name is read as itself
 pub name_again : (name : List ℕ) → IsTrue (is_name name) → name_of name ≡ Some name
 unfolding name_of
 name_again name h = rw h refl
@@ -28,6 +30,7 @@ clean t = not (eqb (get_or t 0 0) 32) && not (eqb (get_or t (length t - 1) 0) 32
 differs : (x : ℕ) → not (eqb x 32) ≡ true → x ≡ 32 → ⊥
 differs x h e = absurd (let t : eqb x 32 ≡ true = eq-eqb x 32 e in let f : eqb x 32 ≡ false = not-true (eqb x 32) h in cc)
 
+-- a name has at most five bytes and no space at either end
 pub is_clean : (t : List ℕ) → IsTrue (is_name t) → IsClean t
 is_clean t h =
     let p = and_parts (leb (length t) 5 && is_printable t) (has_clean_ends t) h in
@@ -47,6 +50,7 @@ printable_lacks c (x ∷ t) low h =
     let least : 32 ≤ x = leb-true 32 x q.0 in
     rw (ne_eqb x c (λ e. omega arith), printable_lacks c t low p.1) refl
 
+-- a name has no byte below the space
 pub name_lacks : (c : ℕ) (t : List ℕ) → c < 32 → IsTrue (is_name t) → lacks c t ≡ true
 name_lacks c t low h =
     let p = and_parts (leb (length t) 5 && is_printable t) (has_clean_ends t) h in
@@ -61,6 +65,7 @@ printable_ascii (x ∷ t) h =
     let most : x ≤ 126 = leb-true x 126 q.1 in
     IsAscii-cons x t (omega arith) (printable_ascii t p.1)
 
+-- a name is ASCII
 pub name_ascii : (t : List ℕ) → IsTrue (is_name t) → IsAscii t
 name_ascii t h =
     let p = and_parts (leb (length t) 5 && is_printable t) (has_clean_ends t) h in
@@ -68,8 +73,10 @@ name_ascii t h =
 
 -- ---- a name in a column
 
+-- a name that is written right in a column is read again
 pub right_name_again : (width : ℕ) (name : List ℕ) → IsTrue (is_name name) → name_of (without_spaces (right_in width name)) ≡ Some name
 right_name_again width name h = ap name_of (right_again width name (is_clean name h).front) ∙ name_again name h
 
+-- the same left in a column
 pub left_name_again : (width : ℕ) (name : List ℕ) → IsTrue (is_name name) → name_of (without_end_spaces (left_in width name)) ≡ Some name
 left_name_again width name h = ap name_of (left_again width name (is_clean name h).back) ∙ name_again name h

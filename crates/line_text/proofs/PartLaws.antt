@@ -22,18 +22,22 @@ pub none_of : {A : Type 0} (b : Bool) (x y : A) → cond b None (Some x) ≡ Som
 none_of true x y e = absurd cc
 none_of false x y e = (refl, cc)
 
+-- a test that stops no value lets through what came
 pub none_or : {A : Type 0} (b : Bool) (o : Option A) (y : A) → cond b None o ≡ Some y → (b ≡ false) × (o ≡ Some y)
 none_or true o y e = absurd cc
 none_or false o y e = (refl, e)
 
+-- texts that compare equal are the same text
 pub same_bytes : (xs ys : List ℕ) → bytes_eq xs ys ≡ true → xs ≡ ys
 same_bytes xs ys e = (bytes_eq-Decides xs ys).0 e
 
+-- the same text compares equal
 pub bytes_same : (xs ys : List ℕ) → xs ≡ ys → bytes_eq xs ys ≡ true
 bytes_same xs ys e = (bytes_eq-Decides xs ys).1 e
 
 -- ---- numbers
 
+-- a number that is read from a text is below the limit, and the text is its decimal
 pub natural_found : (limit : ℕ) (text : List ℕ) (n : ℕ) → natural_of limit text ≡ Some n → (text ≡ decimal n) × (n < limit)
 unfolding natural_of
 natural_found limit text n e =
@@ -41,6 +45,7 @@ natural_found limit text n e =
     let p = and_parts (bytes_eq text (decimal (digits_value 10 text))) (ltb (digits_value 10 text) limit) s.0 in
     (same_bytes text (decimal (digits_value 10 text)) p.0 ∙ ap decimal s.1, subst (λ (k : ℕ). k < limit) s.1 (ltb-true _ _ p.1))
 
+-- the decimal of a 64-bit number below the limit is read as that number
 pub natural_again : (limit n : ℕ) → n < limit → n < 2 ^ 64 → natural_of limit (decimal n) ≡ Some n
 unfolding natural_of
 natural_again limit n lt fits =
@@ -59,6 +64,7 @@ natural_is limit text None small h = none_is (natural_of limit text) refl
 
 -- ---- signed numbers
 
+-- a signed number that is read from a text fits 64 bits, and the text is its decimal
 pub integer_found : (text : List ℕ) (z : ℤ) → integer_of text ≡ Some z → (text ≡ signed_decimal z) × (mag z < 2 ^ 63)
 unfolding integer_of
 integer_found text z e =
@@ -74,14 +80,17 @@ signed_value (pos n) lt =
     let minus : eqb (get_or (decimal n) 0 0) 45 ≡ false = ne_eqb _ _ (λ e. omega (arith, first)) in
     rw (minus, without_leading_plus_none (decimal n) (λ e. omega (arith, first)), is.1) refl
 
+-- a number with a magnitude below 2^63 fits a signed word
 pub fits_mag : (z : ℤ) → mag z < 2 ^ 63 → FitsSigned w64 z
 fits_mag z lt = record { sfits = lt }
 
+-- the decimal of a signed number that fits 64 bits is read as that number
 pub integer_again : (z : ℤ) → mag z < 2 ^ 63 → integer_of (signed_decimal z) ≡ Some z
 unfolding integer_of
 integer_again z lt =
     rw (signed_value z lt) (cond-true _ _ _ (and_from _ _ (bytes_same (signed_decimal z) (signed_decimal z) refl) (lt-ltb (mag z) (2 ^ 63) lt)))
 
+-- an answer is what integer_of says, where it fits and is spelled so, or where no number is
 pub integer_is : (text : List ℕ) (r : Option ℤ)
     → MatchOption r ((z : ℤ) → mag z < 2 ^ 63 → text ≡ signed_decimal z → ⊥) (λ z. (mag z < 2 ^ 63) × (text ≡ signed_decimal z)) → r ≡ integer_of text
 integer_is text (Some z) h = sym (ap integer_of h.1 ∙ integer_again z h.0)

@@ -15,6 +15,7 @@ bind_err r f d e = rw e refl
 abbrev pub Split : {A B E : Type 0} → E → Result A E → (A → Result B E) → Type 0
 Split {A} d r next = (r ≡ Err d) ⊎ ((x : A) × (r ≡ Ok x) × (next x ≡ Err d))
 
+-- where two steps fail, the first failed so, or it answered and the second failed so
 pub split : {A B E : Type 0} (d : E) (r : Result A E) (next : A → Result B E) → (r >>= next) ≡ Err d → Split d r next
 split d (Ok x) next e = inr (x, refl, e)
 split {A} {B} {E} d (Err w) next e = let same : w ≡ d = cc in inl (rw same refl)

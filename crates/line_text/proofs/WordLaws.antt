@@ -20,6 +20,7 @@ after_blank : (b : ℕ) (text : List ℕ) → is_blank b ≡ true → words (b �
 unfolding words
 after_blank b text e = ap (λ (t : Bool). kept (cond t ([] ∷ slice_split is_blank text) (onto_first b (slice_split is_blank text)))) e
 
+-- blanks at the front make no word
 pub words_blanks : (text : List ℕ) → words text ≡ words (without_blanks text)
 words_blanks [] = refl
 words_blanks (b ∷ bs) = at (is_blank b) refl (words_blanks bs)
@@ -28,6 +29,7 @@ words_blanks (b ∷ bs) = at (is_blank b) refl (words_blanks bs)
     at true e h = after_blank b bs e ∙ h
     at false e h = refl
 
+-- the empty text has no words
 pub no_words : words [] ≡ []
 unfolding words
 no_words = refl
@@ -70,10 +72,12 @@ words_split b bs e = at (b ∷ bs) (some_taken b bs _ (some_bytes b bs e)) (case
         ap kept (slice_split_none is_blank text (all_fail is_blank text le)) ∙ keeps_first text [] (subst (λ (t : List ℕ). is_empty t ≡ false) whole some)
         ∙ ap (λ (w : List ℕ). w ∷ []) (sym whole) ∙ ap (λ (ws : List (List ℕ)). take n text ∷ ws) (sym (ap words none ∙ no_words))
 
+-- a text with nothing but blanks has no words
 pub words_none : (text w : List ℕ) → w ≡ without_blanks text → length w ≡ 0 → words text ≡ []
 words_none text [] e l = words_blanks text ∙ ap words (sym e) ∙ no_words
 words_none text (b ∷ bs) e l = absurd (omega arith)
 
+-- else there is a first word, up to the next blank, and the other words are those of the shorter text behind it
 pub words_some : (text w : List ℕ) → w ≡ without_blanks text → (length w ≡ 0 → ⊥)
     → (words text ≡ take (position_or_len is_blank w) w ∷ words (drop (position_or_len is_blank w) w)) × (drop (position_or_len is_blank w) w ≡ after_word text) × (length (drop (position_or_len is_blank w) w) < length w)
 unfolding after_word

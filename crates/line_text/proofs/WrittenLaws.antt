@@ -19,22 +19,20 @@ use Rattle.line_text.proofs.ColumnLaws.{parts_read}
 
 -- ---- padding
 
+-- a column is what the spaces at its front leave, right in it
 pub right_found : (column : List ℕ) → IsRight column (without_spaces column)
 right_found column = let f = front_found 32 column in record { before = f.0; whole = f.1 }
 
+-- a text that begins with no space is read from the column in which it is right
 pub right_read : (column text : List ℕ) → IsRight column text → (get_or text 0 0 ≡ 32 → ⊥) → without_spaces column ≡ text
 right_read column text h first = ap without_spaces h.whole ∙ front_again 32 h.before text first
 
+-- a column is what the spaces at its ends leave, with spaces around it
 pub padded_found : (column : List ℕ) → IsPadded column (trimmed column)
 padded_found column =
     let f = front_found 32 column in
     let b = end_found 32 (without_spaces column) in
     record { before = f.0; behind = b.0; whole = f.1 ∙ ap (λ (t : List ℕ). replicate f.0 32 ++ t) b.1 }
-
--- the first byte of a text, or the first of what stands behind an empty one
-first_padded : (text : List ℕ) (k : ℕ) → (get_or text 0 0 ≡ 32 → ⊥) → 0 < length text → get_or (text ++ replicate k 32) 0 0 ≡ 32 → ⊥
-first_padded [] k h some e = omega arith
-first_padded (x ∷ xs) k h some e = h e
 
 all_spaces : (k : ℕ) → without_spaces (replicate k 32) ≡ []
 all_spaces zero = refl
@@ -44,16 +42,19 @@ spaces_joined : (j k : ℕ) → without_spaces (replicate j 32 ++ replicate k 32
 spaces_joined zero k = all_spaces k
 spaces_joined (suc j) k = spaces_joined j k
 
+-- a text with no space at either end is read from the column in which it has spaces around it
 pub padded_read : (column text : List ℕ) → IsPadded column text → (get_or text 0 0 ≡ 32 → ⊥) → (get_or text (length text - 1) 0 ≡ 32 → ⊥) → trimmed column ≡ text
 padded_read column [] h first last = ap trimmed h.whole ∙ ap without_end_spaces (spaces_joined h.before h.behind)
 padded_read column (x ∷ xs) h first last =
     ap trimmed h.whole ∙ ap without_end_spaces (front_again 32 h.before (x ∷ xs ++ replicate h.behind 32) first) ∙ end_again 32 h.behind (x ∷ xs) last
 
+-- a column that writes a name is read as that name
 pub name_read : (column name : List ℕ) → WritesName column name → name_of (trimmed column) ≡ Some name
 name_read column name h =
     let c = is_clean name h.named in
     ap name_of (padded_read column name h.padded c.front c.back) ∙ name_again name h.named
 
+-- a column that is read as a name writes it
 pub name_written : (column name : List ℕ) → name_of (trimmed column) ≡ Some name → WritesName column name
 name_written column name e =
     let f = name_found (trimmed column) name e in
@@ -61,31 +62,38 @@ name_written column name e =
 
 -- ---- digits
 
+-- a text that is read as a number is digits that write that number
 pub digits_written : (text : List ℕ) (n : ℕ) → digits_of text ≡ Some n → IsTrue (all_ascii_digits text) × (digits_value 10 text ≡ n)
 unfolding digits_of
 digits_written text n e = some_of (all_ascii_digits text) (digits_value 10 text) n e
 
+-- digits that write a number are read as it
 pub digits_read : (text : List ℕ) (n : ℕ) → IsTrue (all_ascii_digits text) → digits_value 10 text ≡ n → digits_of text ≡ Some n
 unfolding digits_of
 digits_read text n h e = rw h (ap (λ (m : ℕ). Some m) e)
 
+-- each byte of a text of digits is from 48 to 57
 pub digit_in : (text : List ℕ) (i : ℕ) → i < length text → IsTrue (all_ascii_digits text) → IsInRange 48 57 (get_or text i 0)
 digit_in text i lt h = digit_at text i (own.to text h) lt
 
+-- a text of digits has no byte below 48
 pub digits_lack_byte : (c : ℕ) (text : List ℕ) → c < 48 → IsTrue (all_ascii_digits text) → lacks c text ≡ true
 digits_lack_byte c text low h = digits_lack c text low (own.to text h)
 
+-- one digit at least begins with a digit
 pub whole_first : (text : List ℕ) → IsDigits text → IsInRange 48 57 (get_or text 0 0)
 whole_first text h = digit_in text 0 h.some h.digits
 
 -- ---- decimals
 
+-- a text that writes a number with so many decimals is read as that number
 pub decimal_read : (places : ℕ) (text : List ℕ) (n : ℕ) → WritesDecimal places text n → decimals_of places text ≡ Some n
 decimal_read places text n h =
     ap (decimals_of places) h.parts
     ∙ parts_read places h.whole h.part (digits_value 10 h.whole) (digits_value 10 h.part) h.whole_form.some h.part_length (digits_read h.whole _ h.whole_form.digits refl) (digits_read h.part _ h.part_digits refl)
     ∙ ap (λ (m : ℕ). Some m) h.value
 
+-- a text that is read as a number with so many decimals writes it
 pub decimal_written : (places : ℕ) (text : List ℕ) (n : ℕ) → decimals_of places text ≡ Some n → WritesDecimal places text n
 unfolding decimals_of
 decimal_written places text n e =
@@ -118,12 +126,14 @@ decimal_written places text n e =
     some_is : {A : Type 0} {x y : A} → ◌≡◌ {A = Option A} (Some x) (Some y) → x ≡ y
     some_is e = cc
 
+-- a number with decimals begins with a digit
 pub decimal_first : (places : ℕ) (text : List ℕ) (n : ℕ) → WritesDecimal places text n → IsInRange 48 57 (get_or text 0 0)
 decimal_first places text n h =
     subst (λ (b : ℕ). IsInRange 48 57 b) (sym (ap (λ (t : List ℕ). get_or t 0 0) h.parts ∙ get_or_append_left h.whole (46 ∷ h.part) 0 0 h.whole_form.some)) (whole_first h.whole h.whole_form)
 
 -- ---- with or without a minus
 
+-- a text that is read as a number that may have a minus writes it, if so does one without
 pub signed_written : (P : List ℕ → ℕ → Type 0) (read : List ℕ → Option ℕ) → ((t : List ℕ) (n : ℕ) → read t ≡ Some n → P t n)
     → (text : List ℕ) (z : ℤ) → signed_by read text ≡ Some z → WritesSigned P text z
 signed_written P read found [] z e = at (read []) refl e
@@ -140,6 +150,7 @@ signed_written P read found (x ∷ xs) z e = at (eqb x 45) refl (read xs) refl (
     at false t o r None s d = absurd cc
     at false t o r (Some n) s d = let same : z ≡ pos n = cc in plain n (found (x ∷ xs) n s) same
 
+-- a text that writes a number that may have a minus is read as it, if so is one without
 pub signed_read : (P : List ℕ → ℕ → Type 0) (read : List ℕ → Option ℕ) → ((t : List ℕ) (n : ℕ) → P t n → read t ≡ Some n)
     → ((t : List ℕ) (n : ℕ) → P t n → IsInRange 48 57 (get_or t 0 0)) → (text : List ℕ) (z : ℤ) → WritesSigned P text z → signed_by read text ≡ Some z
 signed_read P read again first text z (plain n p e) =
@@ -148,6 +159,7 @@ signed_read P read again first text z (plain n p e) =
 signed_read P read again first text z (minus magnitude n whole p e) =
     rw (whole, again magnitude n p) (ap (λ (y : ℤ). Some y) (sym e))
 
+-- a number that may have a minus begins with no space, if one without begins with a digit
 pub signed_first : (P : List ℕ → ℕ → Type 0) → ((t : List ℕ) (n : ℕ) → P t n → IsInRange 48 57 (get_or t 0 0)) → (text : List ℕ) (z : ℤ) → WritesSigned P text z
     → (get_or text 0 0 ≡ 32 → ⊥)
 signed_first P first text z (plain n p e) s = let digit = first text n p in omega (arith, digit)
@@ -156,6 +168,7 @@ signed_first P first text z (minus magnitude n whole p e) s =
 
 -- ---- columns
 
+-- a column that is read as a number with so many decimals writes it
 pub column_written : (places : ℕ) (column : List ℕ) (z : ℤ) → decimal_column_of places column ≡ Some z → WritesColumn places column z
 unfolding decimal_column_of
 column_written places column z e = record {
@@ -164,6 +177,7 @@ column_written places column z e = record {
   number = signed_written (WritesDecimal places) (decimals_of places) (decimal_written places) (without_spaces column) z e;
 }
 
+-- a column that writes a number with so many decimals is read as that number
 pub column_read : (places : ℕ) (column : List ℕ) (z : ℤ) → WritesColumn places column z → decimal_column_of places column ≡ Some z
 unfolding decimal_column_of
 column_read places column z h =

@@ -29,13 +29,6 @@ decimal_column_of places column = signed_by (decimals_of places) (without_spaces
 abbrev pub is_residue_number : ℤ → Bool
 is_residue_number z = int_le (negsuc 9998) z && int_le z (pos 99999)
 
--- with three decimals
-abbrev pub thousandths_of : List ℕ → Option ℕ
-thousandths_of text = decimals_of 3 text
-
-abbrev pub column_of : List ℕ → Option ℤ
-column_of column = decimal_column_of 3 column
-
 -- ---- what is written
 
 -- right in a column, with zeros before it
@@ -48,10 +41,3 @@ with_decimals places n = decimal (n / 10 ^ places) ++ 46 ∷ zeros_in places (de
 abbrev pub decimals_text : ℕ → ℤ → List ℕ
 decimals_text places (pos n) = with_decimals places n
 decimals_text places (negsuc n) = 45 ∷ with_decimals places (suc n)
-
--- with three decimals
-abbrev pub thousandths : ℕ → List ℕ
-thousandths n = with_decimals 3 n
-
-abbrev pub position_text : ℤ → List ℕ
-position_text z = decimals_text 3 z

@@ -3,7 +3,7 @@
 ghost use Rattle.std.specs.Prelude.{◌≡◌, ℕ, ◌+◌, ◌^◌, ◌<◌, ◌≤◌, ◌++◌, length, min, option_map, IfSome, decimal};
 ghost use Rattle.arrayvec.specs.ArrayVec.{array_vec_len};
 ghost use Rattle.line_text.specs.Parts.{right_in};
-ghost use Rattle.line_text.specs.Columns.{digits_of, decimals_of, decimal_column_of, column_of, zeros_in, decimals_text, position_text};
+ghost use Rattle.line_text.specs.Columns.{digits_of, decimals_of, decimal_column_of, zeros_in, decimals_text};
 
 use crate::line::{Line, put, put_copies, put_natural};
 use crate::text::trim_front;
@@ -100,14 +100,6 @@ pub fn decimal_column(places: usize, column: &[u8]) -> Option<i64>
     }
 }
 
-/// The number in a column with three decimals, as [`decimal_column`] reads it.
-pub fn column(column: &[u8]) -> Option<i64>
-    requires { length column.now ≤ 12 }
-    ensures { result ≡ column_of column.now }
-{
-    decimal_column(3, column)
-}
-
 /// Appends the digits of a number below a power of ten, with zeros in front.
 fn put_digits(line: &mut Line, width: usize, number: u64)
     requires room { array_vec_len line.old + width ≤ 160 }
@@ -154,13 +146,4 @@ pub fn put_decimals_right(line: &mut Line, width: usize, places: usize, number: 
     put_decimals(&mut text, places, number);
     put_copies(line, width.saturating_sub(text.len()), b' ');
     put(line, text.as_slice());
-}
-
-/// Appends a number, given in thousandths, with three decimals.
-pub fn put_thousandths(line: &mut Line, number: i64)
-    requires room { array_vec_len line.old + 32 ≤ 160 }
-    ensures items { line.new.items ≡ line.old.items ++ position_text number }
-    ensures len { array_vec_len line.new ≤ array_vec_len line.old + 32 }
-{
-    put_decimals(line, 3, number);
 }

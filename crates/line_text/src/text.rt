@@ -90,7 +90,7 @@ pub fn strip<'a>(front: &[u8], text: &'a [u8]) -> Option<&'a [u8]>
 /// A space and a number below the limit, which reaches to the next space or to the end; and what
 /// stands from there on. `None` where the text begins otherwise.
 #[tactic(auto, unfolding(crate::specs::Parts::word_at))]
-pub fn word(limit: u64, text: &[u8]) -> Option<(u64, &[u8])>
+pub(crate) fn word(limit: u64, text: &[u8]) -> Option<(u64, &[u8])>
     ensures exact { option_map (λ x. (x.0, x.1.now)) result ≡ word_at limit text.now }
     ensures below { IfSome result (λ x. x.0 < limit) }
 {

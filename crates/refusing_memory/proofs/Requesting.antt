@@ -1,7 +1,7 @@
--- `refuses_next` at a call: what it is handed, and what a caller has of it. Assumes `Logic`.
+-- `refuses_next` and `count_return` at a call: what they are handed, and what a caller has of them. Assumes `Logic`.
 use Rattle.std.proofs.Common.{◌≡◌, ℕ, Bool, List, [], ◌∷◌, refl, ap}
 use seplogic.Ra.Ura.{Ura}
-use mir.Val.{Val, vbool, vptr}
+use mir.Val.{Val, vbool, vptr, vunit}
 use base.Logic.{SProp, ent, sep, ex, guard, id⊢}
 use base.Fml.{Lft, Share, ftrue, fsep, flft}
 use prog.Memory.{Memory}
@@ -11,33 +11,57 @@ use contract.Monad.{Fun}
 use types.Kit.{‵, ◌⊛◌, some, later, ◌$◌, ◌∵◌, !, qed, move, keep, use1, split, join, pick, fjoin, feq_i, feq_l, check, show, await, updating, now as at_once, done}
 use denote.RattleType.{RattleType}
 use denote.Memory.{hidden_shr}
-use denote.Builtin.{bool}
+use denote.Builtin.{bool, unit}
 use denote.Steps.{nothing, only}
 use denote.Triple.Statement.{Contract}
 use denote.Triple.Spec.{triple_of}
 use Rattle.refusing_memory.specs.contracts.Requests as counted
 use Rattle.refusing_memory.specs.contracts.Requests.refuses_next as asked
+use Rattle.refusing_memory.specs.contracts.Requests.count_return as counting
 
+-- the type of the counter of requests
 abbrev pub Requests : RattleType
 Requests = counted.the_row
 
 module _ {M : Type 1} {𝓤 : Ura M} (𝓛 : Logic 𝓤) (at_mem : Memory → SProp 𝓤) (run : Routine → Fun 𝓤) where
+  -- the contract of the call that counts a request and tells whether it is the refused one
   abbrev pub Asks : Contract 𝓤
   Asks = triple_of 𝓛 asked.signature (asked.spec 𝓛 at_mem run)
 
+  -- counting a block that came back
+  abbrev pub Counts : Contract 𝓤
+  Counts = triple_of 𝓛 counting.signature (counting.spec 𝓛 at_mem run)
+
+  -- this call with a shared reference to the counter, at this place and with this value, under a lifetime and a share of it
   abbrev pub at_asks : Lft → Share → ℕ × ℕ → Requests.Denot → Asks.Ghost
   at_asks κ q c m = (((κ, tt), (q, tt), tt, (record { ref_ptr = c; now = m }, tt), (vptr c.0 c.1 ∷ [], tt)), tt)
+
+  abbrev pub at_counts : Lft → Share → ℕ × ℕ → Requests.Denot → Counts.Ghost
+  at_counts κ q c m = (((κ, tt), (q, tt), tt, (record { ref_ptr = c; now = m }, tt), (vptr c.0 c.1 ∷ [], tt)), tt)
 
 module _ {M : Type 1} {𝓤 : Ura M} (𝓛 : Logic 𝓤) (at_mem : Memory → SProp 𝓤) (run : Routine → Fun 𝓤) (κ : Lft) (q : Share) (c : ℕ × ℕ) (m : Requests.Denot) where
   open 𝓛 use {H, A}
 
+  -- whoever holds the shared counter, and a share of its lifetime, may make the call
   pub Asks-goes : ent 𝓤 (sep 𝓤 (sem 𝓛 (hidden_shr Requests κ m c.0 c.1)) (A.lft κ q)) ((Asks 𝓛 at_mem run).pre (at_asks 𝓛 at_mem run κ q c m))
   Asks-goes =
       qed 𝓛 (‵ (hidden_shr Requests κ m c.0 c.1) ∷ ‵ (flft κ q) ∷ []) ∵ feq_i ! (List Val) (vptr c.0 c.1 ∷ []) (vptr c.0 c.1 ∷ []) refl $ fjoin ! $
       nothing ! $ move ! (1 ∷ []) $ fjoin ! $ nothing ! $ move ! (2 ∷ []) $ join ! $ join ! $ nothing ! $ move ! (1 ∷ []) $ done !
 
+  -- the call gives back the share of the lifetime, and answers yes or no, of which no more is known
   pub Asks-gives : (v : Val) → ent 𝓤 ((Asks 𝓛 at_mem run).post (at_asks 𝓛 at_mem run κ q c m) v) (H.⇛ (ex 𝓤 (λ (y : Bool). guard 𝓤 (v ≡ vbool y) (A.lft κ q))))
   Asks-gives v =
       qed 𝓛 (types.Kit.raw ((Asks 𝓛 at_mem run).post (at_asks 𝓛 at_mem run κ q c m) v) ∷ []) ∵ updating ! $
       use1 𝓛 (later (some (λ (y : Bool). ((‵ (flft κ q) ⊛ ‵ ftrue) ⊛ ‵ (bool.own_val y (v ∷ []))) ⊛ some (λ (ws : Unit {0} × Unit {0}). ‵ (fsep ftrue ftrue) ⊛ ‵ ftrue)))) (id⊢ 𝓤 _) $ await ! tt $ pick ! (λ y.
       split ! $ split ! $ move ! (1 ∷ []) $ feq_l ! (λ e. split ! $ at_once ! $ show ! (λ (y : Bool). guard 𝓤 (v ≡ vbool y) (A.lft κ q)) y $ check ! (ap only e) $ keep ! (0 ∷ []) $ done !))
+
+  pub Counts-goes : ent 𝓤 (sep 𝓤 (sem 𝓛 (hidden_shr Requests κ m c.0 c.1)) (A.lft κ q)) ((Counts 𝓛 at_mem run).pre (at_counts 𝓛 at_mem run κ q c m))
+  Counts-goes =
+      qed 𝓛 (‵ (hidden_shr Requests κ m c.0 c.1) ∷ ‵ (flft κ q) ∷ []) ∵ feq_i ! (List Val) (vptr c.0 c.1 ∷ []) (vptr c.0 c.1 ∷ []) refl $ fjoin ! $
+      nothing ! $ move ! (1 ∷ []) $ fjoin ! $ nothing ! $ move ! (2 ∷ []) $ join ! $ join ! $ nothing ! $ move ! (1 ∷ []) $ done !
+
+  pub Counts-gives : (v : Val) → ent 𝓤 ((Counts 𝓛 at_mem run).post (at_counts 𝓛 at_mem run κ q c m) v) (H.⇛ (guard 𝓤 (v ≡ vunit) (A.lft κ q)))
+  Counts-gives v =
+      qed 𝓛 (types.Kit.raw ((Counts 𝓛 at_mem run).post (at_counts 𝓛 at_mem run κ q c m) v) ∷ []) ∵ updating ! $
+      use1 𝓛 (later (some (λ (y : Unit {0}). ((‵ (flft κ q) ⊛ ‵ ftrue) ⊛ ‵ (unit.own_val y (v ∷ []))) ⊛ some (λ (ws : Unit {0} × Unit {0}). ‵ (fsep ftrue ftrue) ⊛ ‵ ftrue)))) (id⊢ 𝓤 _) $ await ! tt $ pick ! (λ y.
+      split ! $ split ! $ move ! (1 ∷ []) $ feq_l ! (λ e. split ! $ at_once ! $ check ! (ap only e) $ keep ! (0 ∷ []) $ done !))

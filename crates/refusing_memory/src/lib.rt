@@ -13,17 +13,23 @@ pub struct RefusingAllocator<B: Allocator> {
     requests: Requests,
 }
 
-// How many requests were made, and the number of the one that is refused.
+// How many requests were made, the number of the one that is refused, and how many blocks were given back.
 #[derive(Drop)]
 struct Requests {
     made: AtomicU64,
     refused: u64,
+    returned: AtomicU64,
 }
 
 impl Requests {
     // Counts a request, and tells whether it is the refused one.
     fn refuses_next(&self) -> bool {
         self.made.fetch_add(1, Ordering::SeqCst) == self.refused
+    }
+
+    // Counts a block that is given back.
+    fn count_return(&self) {
+        self.returned.fetch_add(1, Ordering::SeqCst);
     }
 }
 
@@ -38,6 +44,7 @@ impl<B: Allocator> RefusingAllocator<B> {
             requests: Requests {
                 made: AtomicU64::new(0),
                 refused,
+                returned: AtomicU64::new(0),
             },
         }
     }
@@ -45,6 +52,14 @@ impl<B: Allocator> RefusingAllocator<B> {
     /// How many requests were made.
     pub fn requests(&self) -> u64 {
         self.requests.made.load(Ordering::SeqCst)
+    }
+
+    /// How many blocks were handed out and aren't given back, where the other allocator refused none.
+    pub fn blocks(&self) -> u64 {
+        let made = self.requests();
+        let refused = u64::from(made > self.requests.refused);
+        let returned = self.requests.returned.load(Ordering::SeqCst);
+        made.wrapping_sub(refused).wrapping_sub(returned)
     }
 }
 
@@ -68,6 +83,7 @@ unsafe impl<B: Allocator> Allocator for RefusingAllocator<B> {
     }
 
     unsafe fn deallocate(&self, ptr: *mut u8, size: usize, align: usize) {
+        self.requests.count_return();
         self.inner.deallocate(ptr, size, align);
     }
 }

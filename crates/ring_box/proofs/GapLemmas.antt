@@ -1,6 +1,6 @@
 -- How far a place is from the places of a cell.
-use Rattle.std.proofs.Common.{◌≡◌, ℕ, ◌+◌, ◌-◌, ◌*◌, ◌%◌, ◌^◌, ◌<◌, ◌≤◌, ℤ, pos, List, None, inl, inr, refl, sym, arith}
-use Rattle.std.specs.Prelude.{unsigned_abs, slice_index, ◌*ℤ◌}
+use Rattle.std.proofs.Common.{◌≡◌, ℕ, ◌+◌, ◌-◌, ◌*◌, ◌%◌, ◌^◌, ◌<◌, ◌≤◌, ℤ, pos, None, inl, inr, refl, sym, arith}
+use Rattle.std.specs.Prelude.{unsigned_abs, ◌*ℤ◌}
 use Rattle.std.proofs.lemmas.Nat.{mul-le, pow_pos}
 use Rattle.std.proofs.lemmas.Int.{unsigned_abs-mul}
 use Rattle.std.proofs.lemmas.Bool.{cases_lt}
@@ -10,6 +10,7 @@ use Rattle.ring_box.specs.Acting.{IsInCell, IsReach, Reach, acting_of, limit_of}
 use Rattle.ring_box.specs.Distances.{square, square_of}
 use Rattle.ring_box.specs.Places.{difference, signed}
 use Rattle.ring_box.specs.declared.boxes.RingBox.{RingBox}
+use Rattle.ring_box.specs.declared.vectors.Place3.{Place3}
 use Rattle.ring_box.proofs.ActingLemmas.{idle}
 
 signed_far : (m r : ℕ) → m < 2 ^ 32 → r ≤ m → r + m ≤ 2 ^ 32 → r ≤ unsigned_abs (signed m)
@@ -49,13 +50,12 @@ side_square g L d h =
     rw e (mul-le (g * L) (g * L) (unsigned_abs d * L) (unsigned_abs d * L) l l)
 
 -- an atom whose places are no nearer than these along the axes doesn't act where their squares come to the limit
-pub beyond : (d : Reach) (b : RingBox) (x y : List ℕ) (p q r : ℕ) → IsReach d →
-    p ≤ unsigned_abs (difference (slice_index x 0) (slice_index y 0)) → q ≤ unsigned_abs (difference (slice_index x 1) (slice_index y 1)) →
-    r ≤ unsigned_abs (difference (slice_index x 2) (slice_index y 2)) →
-    limit_of d.frac d.cutoff ≤ p * b.x * (p * b.x) + q * b.y * (q * b.y) + r * b.z * (r * b.z) → acting_of d b x y ≡ None
-beyond d b x y p q r a e f g h =
-    let i = side_square p b.x (difference (slice_index x 0) (slice_index y 0)) e in
-    let j = side_square q b.y (difference (slice_index x 1) (slice_index y 1)) f in
-    let k = side_square r b.z (difference (slice_index x 2) (slice_index y 2)) g in
-    let l : limit_of d.frac d.cutoff ≤ square_of b x y = omega (arith, h, i, j, k) in
-    sym (idle d b x y (square_of b x y) a refl l)
+pub beyond : (d : Reach) (b : RingBox) (p q : Place3) (u v w : ℕ) → IsReach d →
+    u ≤ unsigned_abs (difference p.x q.x) → v ≤ unsigned_abs (difference p.y q.y) → w ≤ unsigned_abs (difference p.z q.z) →
+    limit_of d.frac d.cutoff ≤ u * b.x * (u * b.x) + v * b.y * (v * b.y) + w * b.z * (w * b.z) → acting_of d b p q ≡ None
+beyond d b p q u v w a e f g h =
+    let i = side_square u b.x (difference p.x q.x) e in
+    let j = side_square v b.y (difference p.y q.y) f in
+    let k = side_square w b.z (difference p.z q.z) g in
+    let l : limit_of d.frac d.cutoff ≤ square_of b p q = omega (arith, h, i, j, k) in
+    sym (idle d b p q (square_of b p q) a refl l)

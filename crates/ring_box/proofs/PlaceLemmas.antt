@@ -11,13 +11,16 @@ place_below : (z : ℤ) → place_at z < 2 ^ 32
 place_below (pos n) = omega arith
 place_below (negsuc n) = omega arith
 
+-- a number is its place and some whole turns of the ring
 pub place_and_turns : (z : ℤ) → (turns : ℤ) × (z ≡ pos (place_at z) +ℤ turns *ℤ pos (2 ^ 32))
 place_and_turns (pos n) = (pos (n / 2 ^ 32), ap pos (omega arith))
 place_and_turns (negsuc n) = (negsuc (n / 2 ^ 32), omega (arith, ints))
 
+-- place_at is the place that is reached by so many places
 pub place_is : (z : ℤ) (x : ℕ) → x ≡ place_at z → IsPlace z x
 place_is z x e = rw e (record { below = place_below z; turned = place_and_turns z })
 
+-- the place of the nearest whole number of places is the place of so many picometres
 pub place_of_pm_is : (p q : ℤ) (L : ℕ) (z : ℤ) (x : ℕ) → q ≡ p *ℤ pos (100 * 2 ^ 32) → IsNearest q (pos L) z → IsPlace z x → IsPlaceOfPm p L x
 place_of_pm_is p q L z x e n h = record { nearest = (z, rw (← e) n, h) }
 
@@ -50,6 +53,7 @@ rest_is x y p q =
 sum_of_turns : (z a b j k : ℤ) → z ≡ a +ℤ j *ℤ pos (2 ^ 32) → a ≡ b +ℤ k *ℤ pos (2 ^ 32) → z ≡ b +ℤ (j +ℤ k) *ℤ pos (2 ^ 32)
 sum_of_turns z a b j k e f = omega (arith, ints)
 
+-- difference is the minimum image of two places
 pub minimum_image : (x y : ℕ) (d : ℤ) → x < 2 ^ 32 → y < 2 ^ 32 → d ≡ difference x y → IsMinimumImage x y d
 minimum_image x y d p q e =
     let s = signed_is ((x + (2 ^ 32 - y)) % 2 ^ 32) (omega arith) in

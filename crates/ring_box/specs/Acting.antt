@@ -1,13 +1,17 @@
 -- The force of a pair in two halves, so that one step can be made for many pairs before the next is: what two atoms that act have between them,
 -- and the force that a slope gives them along it.
-use Rattle.std.specs.Prelude.{ℕ, ℤ, pos, ◌≡◌, ◌+◌, ◌-◌, ◌*◌, ◌/◌, ◌^◌, ◌==◌, ◌≤◌, ◌<◌, ◌≤ℤ◌, ◌<ℤ◌, unsigned_abs, List, [], ◌∷◌, slice_index, if◌then◌else◌, Option, None, option_map}
+use Rattle.std.specs.Prelude.{ℕ, ℤ, pos, ◌≡◌, ◌+◌, ◌-◌, ◌*◌, ◌/◌, ◌^◌, ◌==◌, ◌≤◌, ◌<◌, ◌≤ℤ◌, ◌<ℤ◌, unsigned_abs, if◌then◌else◌, Option, None, option_map}
 use Rattle.fixed.specs.Fractions.{bits_of}
 use Rattle.fixed.specs.Roots.{root}
 use Rattle.fixed.specs.declared.frac.Frac.{Frac}
 use Rattle.ring_box.specs.Cells.{cell_of}
 use Rattle.ring_box.specs.Distances.{square_of, unit_of, widening_of, x_separation, y_separation, z_separation}
-use Rattle.ring_box.specs.Forces.{acting_distance_of, component_of, pair_force_of}
+use Rattle.ring_box.specs.Forces.{acting_distance_of, line_force_of, pair_force_of}
 use Rattle.ring_box.specs.declared.boxes.RingBox.{RingBox}
+use Rattle.ring_box.specs.declared.vectors.CellBits.{CellBits}
+use Rattle.ring_box.specs.declared.vectors.CellNumbers.{CellNumbers}
+use Rattle.ring_box.specs.declared.vectors.Force.{Force}
+use Rattle.ring_box.specs.declared.vectors.Place3.{Place3}
 
 -- ---- how far forces reach
 
@@ -47,22 +51,22 @@ pub record IsActingPair (p : ActingPair) : Type 0 where
 abbrev pub length_of : ℕ → ℕ
 length_of s = if s == 0 then 1 else root s
 
-abbrev pub between : RingBox → List ℕ → List ℕ → ℤ → ActingPair
-between b x y r =
-    record { x = x_separation b x y; y = y_separation b x y; z = z_separation b x y; length = length_of (square_of b x y); distance = r }
+abbrev pub between : RingBox → Place3 → Place3 → ℤ → ActingPair
+between b p q r =
+    record { x = x_separation b p q; y = y_separation b p q; z = z_separation b p q; length = length_of (square_of b p q); distance = r }
 
-abbrev pub acting_of : Reach → RingBox → List ℕ → List ℕ → Option ActingPair
-acting_of d b x y = option_map (between b x y) (acting_distance_of d.frac b d.core d.cutoff x y)
+abbrev pub acting_of : Reach → RingBox → Place3 → Place3 → Option ActingPair
+acting_of d b p q = option_map (between b p q) (acting_distance_of d.frac b d.core d.cutoff p q)
 
 -- ---- the force along it
 
-abbrev pub force_of : ActingPair → ℤ → List ℤ
-force_of p g = component_of g p.x p.length ∷ component_of g p.y p.length ∷ component_of g p.z p.length ∷ []
+abbrev pub force_of : ActingPair → ℤ → Force ℤ
+force_of p g = line_force_of g p.x p.y p.z p.length
 
 -- both halves are the force of the pair, where `minus_slope` is minus the slope of the energy at a distance
-abbrev pub HalvesAreWhole : Reach → RingBox → (ℤ → ℤ) → List ℕ → List ℕ → Type 0
-HalvesAreWhole d b minus_slope x y =
-    option_map (λ p. force_of p (minus_slope p.distance)) (acting_of d b x y) ≡ pair_force_of d.frac b minus_slope d.core d.cutoff x y
+abbrev pub HalvesAreWhole : Reach → RingBox → (ℤ → ℤ) → Place3 → Place3 → Type 0
+HalvesAreWhole d b minus_slope p q =
+    option_map (λ a. force_of a (minus_slope a.distance)) (acting_of d b p q) ≡ pair_force_of d.frac b minus_slope d.core d.cutoff p q
 
 -- ---- cells out of reach
 
@@ -74,19 +78,13 @@ IsInCell b cell y = (y < 2 ^ 32) × (cell_of y b ≡ cell)
 abbrev pub IsCellNumber : ℕ → ℕ → Type 0
 IsCellNumber b cell = (1 ≤ b) × (b ≤ 4) × (cell < 2 ^ b)
 
-abbrev pub AreCellNumbers : List ℕ → List ℕ → Type 0
-AreCellNumbers bits cell =
-    IsCellNumber (slice_index bits 0) (slice_index cell 0)
-    × IsCellNumber (slice_index bits 1) (slice_index cell 1)
-    × IsCellNumber (slice_index bits 2) (slice_index cell 2)
+abbrev pub AreCellNumbers : CellBits → CellNumbers → Type 0
+AreCellNumbers bits cell = IsCellNumber bits.x cell.x × IsCellNumber bits.y cell.y × IsCellNumber bits.z cell.z
 
 -- so does an atom along each axis
-abbrev pub AreInCell : List ℕ → List ℕ → List ℕ → Type 0
-AreInCell bits cell y =
-    IsInCell (slice_index bits 0) (slice_index cell 0) (slice_index y 0)
-    × IsInCell (slice_index bits 1) (slice_index cell 1) (slice_index y 1)
-    × IsInCell (slice_index bits 2) (slice_index cell 2) (slice_index y 2)
+abbrev pub AreInCell : CellBits → CellNumbers → Place3 → Type 0
+AreInCell bits cell p = IsInCell bits.x cell.x p.x × IsInCell bits.y cell.y p.y × IsInCell bits.z cell.z p.z
 
--- no atom of the cell acts with one at the places x
-abbrev pub IsOutOfReach : Reach → RingBox → List ℕ → List ℕ → List ℕ → Type 0
-IsOutOfReach r b bits cell x = (y : List ℕ) → AreInCell bits cell y → acting_of r b x y ≡ None
+-- no atom of the cell acts with one at p
+abbrev pub IsOutOfReach : Reach → RingBox → CellBits → CellNumbers → Place3 → Type 0
+IsOutOfReach r b bits cell p = (q : Place3) → AreInCell bits cell q → acting_of r b p q ≡ None

@@ -1,11 +1,12 @@
 //! The force of a pair in two halves, so that one step can be made for many pairs before the next.
 
-ghost use Rattle.std.specs.Prelude.{ℕ, ◌≡◌, ◌≤◌, ◌<◌, ◌+◌, ◌*◌, ◌/◌, ◌^◌, ℤ, List, IsTrue, unsigned_abs};
-ghost use Rattle.ring_box.specs.Places.{difference};
+ghost use Rattle.std.specs.Prelude.{ℕ, ◌≡◌, ◌≤◌, ◌<◌, ◌+◌, ◌*◌, ◌/◌, ◌^◌, ℤ, IsTrue, unsigned_abs};
+ghost use Rattle.ring_box.specs.Places.{difference, nowhere};
 ghost use Rattle.ring_box.specs.Acting.{IsInCell, IsReach, Reach, HalvesAreWhole, acting_of, force_of, length_of};
 ghost use Rattle.ring_box.specs.Distances.{square};
 ghost use Rattle.ring_box.specs.Forces.{IsWithin};
 ghost use Rattle.ring_box.specs.declared.boxes.RingBox.{RingBox};
+ghost use Rattle.ring_box.specs.declared.vectors.Place3.{Place3};
 
 use crate::boxes::RingBox;
 use crate::distances::distance_by_root;
@@ -14,6 +15,7 @@ use crate::lines::Line;
 use crate::places::diff;
 use crate::reaches::Reach;
 use crate::sides::Side;
+use crate::vectors::{CellBits, CellNumbers, Force, Place3};
 use fixed::Fx;
 use std::marker::Model;
 
@@ -69,10 +71,10 @@ impl ActingPair {
     }
 
     /// The force on the first atom in kJ/mol/nm, where this is minus the slope of the energy at that distance; the second has its negative.
-    pub fn force(self, minus_slope: Fx) -> [i64; 3]
+    pub fn force(self, minus_slope: Fx) -> Force<i64>
         requires { unsigned_abs minus_slope < 2 ^ 63 }
         ensures value { result ≡ force_of self minus_slope }
-        ensures bound { IsWithin minus_slope result }
+        ensures bound { IsWithin (unsigned_abs minus_slope) result }
     {
         let line = Line {
             x: self.x,
@@ -123,45 +125,45 @@ fn apart(x: u32, y: u32) -> u32
 }
 
 impl RingBox {
-    ghost use Rattle.std.specs.Prelude.{◌≡◌, ℕ, ◌<◌, ◌≤◌, ◌≤ℤ◌, ◌<ℤ◌, [], length, slice_index_or, true, false, IfSome, IsTrue, None};
+    ghost use Rattle.std.specs.Prelude.{◌≡◌, ℕ, ◌<◌, ◌≤◌, ◌≤ℤ◌, ◌<ℤ◌, length, slice_index_or, true, false, IfSome, IsTrue, None};
     ghost use Rattle.ring_box.specs.Acting.{acting_of};
 
-    /// Whether two atoms at the places `x` and `y` don't act, as far as 2^40 units of their separation tell. A no says nothing.
+    /// Whether two atoms at `p` and `q` don't act, as far as 2^40 units of their separation tell. A no says nothing.
     #[inline(always)]
-    pub fn is_far(&self, reach: &Reach, x: [u32; 3], y: [u32; 3]) -> bool
-        ensures { IsTrue result → acting_of reach.now self.now x y ≡ None }
+    pub fn is_far(&self, reach: &Reach, p: Place3, q: Place3) -> bool
+        ensures { IsTrue result → acting_of reach.now self.now p q ≡ None }
     {
         are_far(
-            coarse_length(apart(x[0], y[0]), self.x),
-            coarse_length(apart(x[1], y[1]), self.y),
-            coarse_length(apart(x[2], y[2]), self.z),
+            coarse_length(apart(p.x, q.x), self.x),
+            coarse_length(apart(p.y, q.y), self.y),
+            coarse_length(apart(p.z, q.z), self.z),
             reach.limit(),
         )
     }
 
-    /// Marks the atoms, at most 128 at the places `ys`, which may act with one at the places `x`: one that isn't marked doesn't. What stands behind their marks
+    /// Marks the atoms, at most 128 at the places `qs`, which may act with one at `p`: one that isn't marked doesn't. What stands behind their marks
     /// is of no meaning.
-    pub fn mark_near(&self, reach: &Reach, x: [u32; 3], ys: &[[u32; 3]], near: &mut [bool; 128])
-        requires { length ys.now ≤ 128 }
-        ensures { (j : ℕ) → j < length ys.now → slice_index_or near.new j true ≡ false → acting_of reach.now self.now x (slice_index_or ys.now j []) ≡ None }
+    pub fn mark_near(&self, reach: &Reach, p: Place3, qs: &[Place3], near: &mut [bool; 128])
+        requires { length qs.now ≤ 128 }
+        ensures { (j : ℕ) → j < length qs.now → slice_index_or near.new j true ≡ false → acting_of reach.now self.now p (slice_index_or qs.now j nowhere) ≡ None }
     {
-        for j in 0..ys.len() {
-            near[j] = !self.is_far(reach, x, ys[j]);
+        for j in 0..qs.len() {
+            near[j] = !self.is_far(reach, p, qs[j]);
         }
     }
 
-    /// What two atoms at the places `x` and `y` have between them; `None` where their distance isn't below the cutoff: they don't act.
-    pub fn acting(&self, reach: &Reach, x: [u32; 3], y: [u32; 3]) -> Option<ActingPair>
-        ensures value { result ≡ acting_of reach.now self.now x y }
-        ensures low { IfSome result (λ p. reach.now.core ≤ℤ p.distance) }
-        ensures high { IfSome result (λ p. p.distance <ℤ reach.now.cutoff) }
+    /// What two atoms at `p` and `q` have between them; `None` where their distance isn't below the cutoff: they don't act.
+    pub fn acting(&self, reach: &Reach, p: Place3, q: Place3) -> Option<ActingPair>
+        ensures value { result ≡ acting_of reach.now self.now p q }
+        ensures low { IfSome result (λ a. reach.now.core ≤ℤ a.distance) }
+        ensures high { IfSome result (λ a. a.distance <ℤ reach.now.cutoff) }
     {
-        let separation = self.separation(x, y);
+        let separation = self.separation(p, q);
         let s = separation.square();
         if s >= reach.limit() {
             return None;
         }
-        let line = separation.line_near(s, self.root_estimate(x, y));
+        let line = separation.line_near(s, self.root_estimate(p, q));
         Some(ActingPair {
             x: separation.x,
             y: separation.y,
@@ -193,16 +195,16 @@ impl RingBox {
     ghost use Rattle.std.specs.Prelude.{IsTrue};
     ghost use Rattle.ring_box.specs.Acting.{AreCellNumbers, IsOutOfReach};
 
-    /// Whether no atom of a cell acts with one at the places `x`, as far as the ends of the cell tell. The sides are cut into 2^bits
+    /// Whether no atom of a cell acts with one at `p`, as far as the ends of the cell tell. The sides are cut into 2^bits
     /// cells, 1 to 4 bits each, and the cell is given by its numbers along them.
-    pub fn is_cell_far(&self, reach: &Reach, x: [u32; 3], bits: [u32; 3], cell: [u32; 3]) -> bool
+    pub fn is_cell_far(&self, reach: &Reach, p: Place3, bits: CellBits, cell: CellNumbers) -> bool
         requires { AreCellNumbers bits cell }
-        ensures { IsTrue result → IsOutOfReach reach.now self.now bits cell x }
+        ensures { IsTrue result → IsOutOfReach reach.now self.now bits cell p }
     {
         are_far(
-            coarse_length(gap(x[0], bits[0], cell[0]), self.x),
-            coarse_length(gap(x[1], bits[1], cell[1]), self.y),
-            coarse_length(gap(x[2], bits[2], cell[2]), self.z),
+            coarse_length(gap(p.x, bits.x, cell.x), self.x),
+            coarse_length(gap(p.y, bits.y, cell.y), self.y),
+            coarse_length(gap(p.z, bits.z, cell.z), self.z),
             reach.limit(),
         )
     }
@@ -210,5 +212,5 @@ impl RingBox {
 
 /// Both halves of a pair's force are the force that `RingBox::pair_force` answers.
 pub fn halves_are_whole()
-    ensures { (d : Reach) (b : RingBox) (minus_slope : ℤ → ℤ) (x y : List ℕ) → HalvesAreWhole d b minus_slope x y }
+    ensures { (d : Reach) (b : RingBox) (minus_slope : ℤ → ℤ) (p q : Place3) → HalvesAreWhole d b minus_slope p q }
 {}

@@ -1,11 +1,12 @@
-ghost use Rattle.std.specs.Prelude.{ℕ, ◌≡◌, ◌≤◌, ◌<◌, ◌+◌, ◌*◌, ◌^◌, List, [], ◌∷◌, pos, ◌*ℤ◌, unsigned_abs, IsTrue};
+ghost use Rattle.std.specs.Prelude.{ℕ, ◌≡◌, ◌≤◌, ◌<◌, ◌+◌, ◌*◌, ◌^◌, pos, ◌*ℤ◌, unsigned_abs, IsTrue};
 ghost use Rattle.ring_box.specs.Acting.{length_of};
 ghost use Rattle.ring_box.specs.Distances.{square};
-ghost use Rattle.ring_box.specs.Forces.{IsWithin, component_of};
+ghost use Rattle.ring_box.specs.Forces.{IsWithin, component_of, line_force_of};
 
 use crate::estimates::{floor_estimate, near_float};
 use crate::floors::{floor_product, is_floor_over};
 use crate::separations::Separation;
+use crate::vectors::Force;
 use fixed::{floor_div, isqrt};
 
 /// The line through two atoms that are apart: its parts along the axes, and its length rounded down, which no part passes.
@@ -128,41 +129,41 @@ impl Line {
     }
 
     /// A force of the size `g` along the line, each component rounded down.
-    pub(crate) fn force(self, g: i128) -> [i128; 3]
+    pub(crate) fn force(self, g: i128) -> Force<i128>
         requires { unsigned_abs g ≤ 2 ^ 63 }
-        ensures value { result ≡ component_of g self.x self.length ∷ component_of g self.y self.length ∷ component_of g self.z self.length ∷ [] }
-        ensures bound { IsWithin g result }
+        ensures value { result ≡ line_force_of g self.x self.y self.z self.length }
+        ensures bound { IsWithin (unsigned_abs g) result }
     {
-        [
-            component(g, self.x, self.length),
-            component(g, self.y, self.length),
-            component(g, self.z, self.length),
-        ]
+        Force {
+            x: component(g, self.x, self.length),
+            y: component(g, self.y, self.length),
+            z: component(g, self.z, self.length),
+        }
     }
 
     /// About the same.
     #[inline(always)]
-    fn force_estimate(self, g: i64) -> [i64; 3] {
+    fn force_estimate(self, g: i64) -> Force<i64> {
         let ratio = near_float(g) / near_float(self.length.cast_signed());
-        [
-            floor_estimate(ratio * near_float(self.x)),
-            floor_estimate(ratio * near_float(self.y)),
-            floor_estimate(ratio * near_float(self.z)),
-        ]
+        Force {
+            x: floor_estimate(ratio * near_float(self.x)),
+            y: floor_estimate(ratio * near_float(self.y)),
+            z: floor_estimate(ratio * near_float(self.z)),
+        }
     }
 
     /// The same where the least number of 64 bits is left out.
-    pub(crate) fn small_force(self, g: i64) -> [i64; 3]
+    pub(crate) fn small_force(self, g: i64) -> Force<i64>
         requires { unsigned_abs g < 2 ^ 63 }
-        ensures value { result ≡ component_of g self.x self.length ∷ component_of g self.y self.length ∷ component_of g self.z self.length ∷ [] }
-        ensures bound { IsWithin g result }
+        ensures value { result ≡ line_force_of g self.x self.y self.z self.length }
+        ensures bound { IsWithin (unsigned_abs g) result }
     {
-        let [x, y, z] = self.force_estimate(g);
-        [
-            small_component(g, self.x, self.length, x),
-            small_component(g, self.y, self.length, y),
-            small_component(g, self.z, self.length, z),
-        ]
+        let estimate = self.force_estimate(g);
+        Force {
+            x: small_component(g, self.x, self.length, estimate.x),
+            y: small_component(g, self.y, self.length, estimate.y),
+            z: small_component(g, self.z, self.length, estimate.z),
+        }
     }
 }
 

@@ -5,6 +5,7 @@ use crate::boxes::RingBox;
 use crate::estimates::floor_estimate;
 use crate::places::diff;
 use crate::sides::Side;
+use crate::vectors::Place3;
 
 /// What lies between two atoms along each axis, in units of 10^-5 nm over 2^32.
 #[derive(Clone, Copy)]
@@ -34,15 +35,15 @@ fn square(a: i64) -> u128
 }
 
 impl RingBox {
-    pub(crate) fn separation(&self, x: [u32; 3], y: [u32; 3]) -> Separation
-        ensures x { result.x ≡ x_separation self.now x y }
-        ensures y { result.y ≡ y_separation self.now x y }
-        ensures z { result.z ≡ z_separation self.now x y }
+    pub(crate) fn separation(&self, p: Place3, q: Place3) -> Separation
+        ensures x { result.x ≡ x_separation self.now p q }
+        ensures y { result.y ≡ y_separation self.now p q }
+        ensures z { result.z ≡ z_separation self.now p q }
     {
         Separation {
-            x: axis_separation(self.x, x[0], y[0]),
-            y: axis_separation(self.y, x[1], y[1]),
-            z: axis_separation(self.z, x[2], y[2]),
+            x: axis_separation(self.x, p.x, q.x),
+            y: axis_separation(self.y, p.y, q.y),
+            z: axis_separation(self.z, p.z, q.z),
         }
     }
 }
@@ -50,10 +51,10 @@ impl RingBox {
 impl RingBox {
     /// About the root of the square of the separation.
     #[inline(always)]
-    pub(crate) fn root_estimate(&self, x: [u32; 3], y: [u32; 3]) -> u64 {
-        let a = diff(x[0], y[0]) as f64 * self.x.get() as f64;
-        let b = diff(x[1], y[1]) as f64 * self.y.get() as f64;
-        let c = diff(x[2], y[2]) as f64 * self.z.get() as f64;
+    pub(crate) fn root_estimate(&self, p: Place3, q: Place3) -> u64 {
+        let a = diff(p.x, q.x) as f64 * self.x.get() as f64;
+        let b = diff(p.y, q.y) as f64 * self.y.get() as f64;
+        let c = diff(p.z, q.z) as f64 * self.z.get() as f64;
         floor_estimate((a * a + b * b + c * c).sqrt()).cast_unsigned()
     }
 }

@@ -10,6 +10,7 @@ use Rattle.line_text.proofs.StepLaws.{bind_ok}
 use Rattle.state.proofs.LineLaws.{field_found, field_again}
 use Rattle.state.proofs.AtomLaws.{atom_found, atom_again, atom_lacks}
 
+-- atoms that are read stand there, one line each, and are as many as were asked for
 pub atoms_found : (n k : ℕ) (bytes : List ℕ) (p : List AtomView × List ℕ) → atoms_at n k bytes ≡ Ok p
     → (bytes ≡ atom_lines p.0 ++ p.1) × AllByRecursion IsAtom p.0 × (length p.0 ≡ k)
 unfolding atoms_at atom_at
@@ -26,6 +27,7 @@ atoms_found n (suc k) bytes p e =
     f.0 ∙ ap (λ (r : List ℕ). ended (atom_line a.0.0) ++ r) t.0 ∙ sym (append_assoc (ended (atom_line a.0.0)) (atom_lines b.0.0) b.0.1) in
     subst (λ (q : List AtomView × List ℕ). (bytes ≡ atom_lines q.0 ++ q.1) × AllByRecursion IsAtom q.0 × (length q.0 ≡ suc k)) same (whole, (f.1, t.1), ap suc t.2)
 
+-- the lines of atoms are read as these atoms, and the rest is left
 pub atoms_again : (n : ℕ) (atoms : List AtomView) (rest : List ℕ) → AllByRecursion IsAtom atoms → atoms_at n (length atoms) (atom_lines atoms ++ rest) ≡ Ok (atoms, rest)
 unfolding atoms_at atom_at
 atoms_again n [] rest h = refl

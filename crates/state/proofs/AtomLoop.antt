@@ -14,6 +14,7 @@ regroup : (front : List AtomView) (a : AtomView) (read : Result (List AtomView �
 regroup front a (Ok x) = ap (λ (xs : List AtomView). Ok (xs, x.1)) (simp append_assoc)
 regroup front a (Err f) = refl
 
+-- one atom more is read, and the whole stays the same
 pub goes_on : (front : List AtomView) (n count i : ℕ) (bytes : List ℕ) (a : AtomView) (after : List ℕ) (total : Result (List AtomView × List ℕ) StateFault)
     → i < count → atom_at (n + i) bytes ≡ Ok (a, after)
     → with_front front (atoms_at (n + i) (count - i) bytes) ≡ total
@@ -25,6 +26,7 @@ goes_on front n count i bytes a after total lt h so_far =
     let one : with_front front (atoms_at (n + i) (count - i) bytes) ≡ with_front (front ++ a ∷ []) (atoms_at (n + (i + 1)) (count - (i + 1)) after) = rw (k, h, m) (regroup front a (atoms_at (n + (i + 1)) (count - (i + 1)) after)) in
     sym one ∙ so_far
 
+-- a fault of an atom is the fault of the whole
 pub ends : (fault : StateFault) (front : List AtomView) (n count i : ℕ) (bytes : List ℕ) (total : Result (List AtomView × List ℕ) StateFault)
     → i < count → atom_at (n + i) bytes ≡ Err fault
     → with_front front (atoms_at (n + i) (count - i) bytes) ≡ total → total ≡ Err fault
@@ -34,6 +36,7 @@ ends fault front n count i bytes total lt h so_far =
     let one : with_front front (atoms_at (n + i) (count - i) bytes) ≡ Err fault = rw (k, h) refl in
     sym so_far ∙ one
 
+-- once all atoms are read, they are the whole, and the bytes left are left after it
 pub is_done : (front : List AtomView) (n count i : ℕ) (bytes : List ℕ) (total : Result (List AtomView × List ℕ) StateFault)
     → count ≤ i → with_front front (atoms_at (n + i) (count - i) bytes) ≡ total → total ≡ Ok (front, bytes)
 unfolding atoms_at

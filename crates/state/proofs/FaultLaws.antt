@@ -12,6 +12,7 @@ use Rattle.line_text.specs.Steps.{◌>>=◌}
 use Rattle.line_text.proofs.Items.{all_push}
 use Rattle.line_text.proofs.LineLaws.{cut_found, cut_none, ended_then}
 use Rattle.line_text.proofs.StepLaws.{Split, bind_err, split}
+use Rattle.ring_box.specs.Places.{ArePlaces, nowhere}
 use Rattle.state.specs.StateFaults.{AreLines, BeginsState, IsCause}
 use Rattle.state.specs.StateReading.{frac_of, head_of, title_of, step_of, count_of, sides_of, atom_of, needed, said, field_at, atom_at, atoms_at, from_atoms, from_sides, from_count, from_frac, from_step, from_title, state_of}
 use Rattle.state.specs.StateText.{AtomView, IsAtom, IsSide, IsState, StateView, atom_line, atom_lines, bits_in, bits_line, box_line, count_line, head_line, state_text, step_line, title_line, version_of}
@@ -111,10 +112,10 @@ begun_by : (Agrees : StateView → Type 0) (rest : StateView → List ℕ) (fron
 begun_by Agrees rest front s fits is agrees some = record { state = s; more = rest s; is = is; some = some; text = fits s is agrees }
 
 spare_atom : AtomView
-spare_atom = record { residue_number = pos 1; residue = codes "A"; name = codes "A"; previous = 0 ∷ 0 ∷ 0 ∷ []; current = 0 ∷ 0 ∷ 0 ∷ [] }
+spare_atom = record { residue_number = pos 1; residue = codes "A"; name = codes "A"; previous = nowhere; current = nowhere }
 
-spare_place : 0 < 2 ^ 32
-spare_place = lit< tt
+spare_place : ArePlaces nowhere
+spare_place = record { x = lit< tt; y = lit< tt; z = lit< tt }
 
 spare_is_atom : IsAtom spare_atom
 unfolding spare_atom
@@ -123,8 +124,8 @@ spare_is_atom = record {
   high = omega arith;
   residue = refl;
   name = refl;
-  previous = (spare_place, spare_place, spare_place);
-  current = (spare_place, spare_place, spare_place);
+  previous = spare_place;
+  current = spare_place;
 }
 
 spares : (k : ℕ) → AllByRecursion IsAtom (replicate k spare_atom)

@@ -20,6 +20,7 @@ use Rattle.state.specs.StateReading.{head_of, title_of, step_of, named_frac, fra
 
 -- ---- any line
 
+-- a line that is read stands in front with its line feed, and has none itself
 pub line_found : (bytes : List ℕ) (p : List ℕ × List ℕ) → line_at bytes ≡ Ok p → (bytes ≡ ended p.0 ++ p.1) × (lacks 10 p.0 ≡ true)
 line_found bytes p e = at (cut_at 10 bytes) refl e
   where
@@ -30,6 +31,7 @@ line_found bytes p e = at (cut_at 10 bytes) refl e
         let f = cut_found 10 bytes p.0 p.1 (c ∙ ap (λ (x : List ℕ × List ℕ). Some x) same) in
         (f.0 ∙ sym (ended_then p.0 p.1), f.1)
 
+-- a line that was ended with a line feed is read again
 pub line_again : (line rest : List ℕ) → lacks 10 line ≡ true → line_at (ended line ++ rest) ≡ Ok (line, rest)
 line_again line rest l = ap needed (line_cut line rest l)
 
@@ -41,6 +43,7 @@ said_found n (Some y) x e = cc
 abbrev pub Spells : {X : Type 0} → (List ℕ → Option X) → (X → List ℕ) → (X → Type 0) → Type 0
 Spells {X = X} read spell P = (line : List ℕ) (x : X) → lacks 10 line ≡ true → read line ≡ Some x → (line ≡ spell x) × P x
 
+-- a line that says something is spelled as that, where its reader takes only what is spelled so
 pub field_found : {X : Type 0} (n : ℕ) (read : List ℕ → Option X) (spell : X → List ℕ) (P : X → Type 0) → Spells read spell P
     → (bytes : List ℕ) (p : X × List ℕ) → field_at n read bytes ≡ Ok p → (bytes ≡ ended (spell p.0) ++ p.1) × P p.0
 field_found {X = X} n read spell P spells bytes p e =
@@ -51,12 +54,14 @@ field_found {X = X} n read spell P spells bytes p e =
     let same : (b.0, a.0.1) ≡ p = cc in
     subst (λ (q : X × List ℕ). (bytes ≡ ended (spell q.0) ++ q.1) × P q.0) same (g.0 ∙ ap (λ (l : List ℕ). ended l ++ a.0.1) s.0, s.1)
 
+-- a line that its reader takes is read as what it says, and the rest is left
 pub field_again : {X : Type 0} (n : ℕ) (read : List ℕ → Option X) (line : List ℕ) (x : X) (rest : List ℕ) → lacks 10 line ≡ true → read line ≡ Some x
     → field_at n read (ended line ++ rest) ≡ Ok (x, rest)
 field_again n read line x rest l e = rw (line_again line rest l, e) refl
 
 -- ---- the first line
 
+-- a first line that is read as a version is that version's
 pub head_found : Spells head_of head_line (λ _. Unit {0})
 head_found line v l e = at (bytes_eq line (head_line First)) (bytes_eq line (head_line Second)) refl refl e
   where
@@ -65,16 +70,19 @@ head_found line v l e = at (bytes_eq line (head_line First)) (bytes_eq line (hea
     at false true f g h = let same : Second ≡ v = cc in (same_bytes line (head_line Second) g ∙ ap head_line same, tt)
     at false false f g h = absurd cc
 
+-- a version's first line is read as that version
 pub head_again : (v : Version) → head_of (head_line v) ≡ Some v
 head_again First = refl
 head_again Second = refl
 
+-- a first line has no line feed
 pub head_lacks : (v : Version) → lacks 10 (head_line v) ≡ true
 head_lacks First = refl
 head_lacks Second = refl
 
 -- ---- the title
 
+-- a line that is read as a title is that title's
 pub title_found : Spells title_of title_line (λ t. IsTrue (is_title t))
 unfolding title_of
 title_found line t l e =
@@ -84,17 +92,20 @@ title_found line t l e =
     let no_return : eqb (get_or t (length t - 1) 0) 13 ≡ false = subst (λ (u : List ℕ). eqb (get_or u (length u - 1) 0) 13 ≡ false) s.1 s.0 in
     (whole, and_from (lacks 10 t) (not (eqb (get_or t (length t - 1) 0) 13)) (lacks_rest 10 (codes "title ") t (rw whole at l)) (ap not no_return))
 
+-- a title's line is read as that title
 pub title_again : (t : List ℕ) → IsTrue (is_title t) → title_of (title_line t) ≡ Some t
 unfolding title_of
 title_again t h =
     let p = and_parts (lacks 10 t) (not (eqb (get_or t (length t - 1) 0) 13)) h in
     rw (after_again (codes "title ") t, not-true (eqb (get_or t (length t - 1) 0) 13) p.1) refl
 
+-- a title's line has no line feed
 pub title_lacks : (t : List ℕ) → IsTrue (is_title t) → lacks 10 (title_line t) ≡ true
 title_lacks t h = (and_parts (lacks 10 t) (not (eqb (get_or t (length t - 1) 0) 13)) h).0
 
 -- ---- the step
 
+-- a line that is read as a step is that step's
 pub step_found : Spells step_of step_line (λ z. mag z < 2 ^ 63)
 unfolding step_of
 step_found line z l e =
@@ -102,10 +113,12 @@ step_found line z l e =
     let f = integer_found a.0 z a.2 in
     (after_found (codes "step ") line a.0 a.1 ∙ ap (λ (u : List ℕ). codes "step " ++ u) f.0, f.1)
 
+-- a step's line is read as that step
 pub step_again : (z : ℤ) → mag z < 2 ^ 63 → step_of (step_line z) ≡ Some z
 unfolding step_of
 step_again z h = rw (after_again (codes "step ") (signed_decimal z)) (integer_again z h)
 
+-- a step's line has no line feed
 pub step_lacks : (z : ℤ) → mag z < 2 ^ 63 → lacks 10 (step_line z) ≡ true
 step_lacks z h = lacks_append 10 (codes "step ") (signed_decimal z) refl (signed_lacks 10 z (lit< tt) h)
 
@@ -119,6 +132,7 @@ named_found n f e = at (eqb n 24) (eqb n 40) refl refl e
     at false true p q h = let same : F40 ≡ f = cc in (eqb-true n 40 q ∙ ap bits_of same, sym (ap version_of same))
     at false false p q h = absurd cc
 
+-- a line that is read as a number of bits is that number's, which only the second version has
 pub frac_found : Spells frac_of bits_line (λ f. version_of f ≡ Second)
 unfolding frac_of
 frac_found line f l e =
@@ -133,15 +147,18 @@ pub frac_again : (f : Frac) → bits_of f < 41 → named_frac (bits_of f) ≡ So
 unfolding frac_of
 frac_again f small named = rw (after_again (codes "bits ") (decimal (bits_of f)), natural_again 41 (bits_of f) small (omega arith)) named
 
+-- a line of bits has no line feed
 pub frac_lacks : (f : Frac) → bits_of f < 41 → lacks 10 (bits_line f) ≡ true
 frac_lacks f small = lacks_append 10 (codes "bits ") (decimal (bits_of f)) refl (decimal_lacks 10 (bits_of f) (lit< tt) (omega arith))
 
+-- the bits that a version reads are written there, if it has a line for them, and they are of that version
 pub bits_found : (v : Version) (bytes : List ℕ) (p : Frac × List ℕ) → frac_at v bytes ≡ Ok p → (bytes ≡ bits_in v p.0 ++ p.1) × (version_of p.0 ≡ v)
 bits_found First bytes p e =
     let same : (F32, bytes) ≡ p = cc in
     subst (λ (q : Frac × List ℕ). (bytes ≡ bits_in First q.0 ++ q.1) × (version_of q.0 ≡ First)) same (refl, refl)
 bits_found Second bytes p e = field_found 4 frac_of bits_line (λ f. version_of f ≡ Second) frac_found bytes p e
 
+-- the bits as their version writes them are read again
 pub bits_again : (f : Frac) (rest : List ℕ) → frac_at (version_of f) (bits_in (version_of f) f ++ rest) ≡ Ok (f, rest)
 bits_again F24 rest = field_again 4 frac_of (bits_line F24) F24 rest (frac_lacks F24 (lit< tt)) (frac_again F24 (lit< tt) refl)
 bits_again F32 rest = refl
@@ -149,6 +166,7 @@ bits_again F40 rest = field_again 4 frac_of (bits_line F40) F40 rest (frac_lacks
 
 -- ---- the number of atoms
 
+-- a line that is read as the number of atoms is that number's
 pub count_found : Spells count_of count_line (λ n. n ≤ 65536)
 unfolding count_of
 count_found line n l e =
@@ -156,34 +174,31 @@ count_found line n l e =
     let f = natural_found 65537 a.0 n a.2 in
     (after_found (codes "atoms ") line a.0 a.1 ∙ ap (λ (u : List ℕ). codes "atoms " ++ u) f.0, omega (arith, f.1))
 
+-- the line of a number of atoms is read as that number
 pub count_again : (n : ℕ) → n ≤ 65536 → count_of (count_line n) ≡ Some n
 unfolding count_of
 count_again n h = rw (after_again (codes "atoms ") (decimal n)) (natural_again 65537 n (omega arith) (omega arith))
 
+-- the line of a number of atoms has no line feed
 pub count_lacks : (n : ℕ) → n ≤ 65536 → lacks 10 (count_line n) ≡ true
 count_lacks n h = lacks_append 10 (codes "atoms ") (decimal n) refl (decimal_lacks 10 n (lit< tt) (omega arith))
 
 -- ---- the sides
 
 are_sides : (ns : List ℕ) → AreThree (λ x. x < 16000001) ns → list_all (λ x. ltb 0 x) ns ≡ true → AreThree IsSide ns
-are_sides [] h e = absurd h
-are_sides (x ∷ []) h e = absurd h
-are_sides (x ∷ y ∷ []) h e = absurd h
-are_sides (x ∷ y ∷ z ∷ w ∷ more) h e = absurd h
 are_sides (x ∷ y ∷ z ∷ []) h e =
     let p = and_parts (ltb 0 x) (ltb 0 y && (ltb 0 z && true)) e in
     let q = and_parts (ltb 0 y) (ltb 0 z && true) p.1 in
     let r = and_parts (ltb 0 z) true q.1 in
     ((ltb-true 0 x p.0, omega (arith, h.0)), (ltb-true 0 y q.0, omega (arith, h.1)), (ltb-true 0 z r.0, omega (arith, h.2)))
+are_sides _ h e = absurd h
 
 sides_small : (ns : List ℕ) → AreThree IsSide ns → (list_all (λ x. ltb 0 x) ns ≡ true) × AreThree (λ x. x < 16000001) ns
-sides_small [] h = absurd h
-sides_small (x ∷ []) h = absurd h
-sides_small (x ∷ y ∷ []) h = absurd h
-sides_small (x ∷ y ∷ z ∷ w ∷ more) h = absurd h
 sides_small (x ∷ y ∷ z ∷ []) h =
     (rw (lt-ltb 0 x h.0.0, lt-ltb 0 y h.1.0, lt-ltb 0 z h.2.0) refl, (omega (arith, h.0), omega (arith, h.1), omega (arith, h.2)))
+sides_small _ h = absurd h
 
+-- a line that is read as a box's sides is that of these sides
 pub sides_found : Spells sides_of box_line (AreThree IsSide)
 unfolding sides_of
 sides_found line ns l e =
@@ -197,6 +212,7 @@ sides_found line ns l e =
     after_found (codes "box") line a.0 a.1 ∙ ap (λ (u : List ℕ). codes "box" ++ u) (t.0 ∙ ap (λ (u : List ℕ). flat_map word b.0.0 ++ u) nothing ∙ append-nil (flat_map word b.0.0)) in
     subst (λ (u : List ℕ). (line ≡ box_line u) × AreThree IsSide u) s.1 (whole, are_sides b.0.0 t.1 p.1)
 
+-- the line of a box's sides is read as these sides
 pub sides_again : (ns : List ℕ) → AreThree IsSide ns → sides_of (box_line ns) ≡ Some ns
 unfolding sides_of
 sides_again ns h =
@@ -204,5 +220,6 @@ sides_again ns h =
     let t : three_at 16000001 (flat_map word ns) ≡ Some (ns, []) = ap (three_at 16000001) (sym (append-nil (flat_map word ns))) ∙ three_again 16000001 ns [] (omega arith) p.1 tt in
     rw (after_again (codes "box") (flat_map word ns)) (rw (t, p.0) refl)
 
+-- the line of a box's sides has no line feed
 pub sides_lack : (ns : List ℕ) → AreThree IsSide ns → lacks 10 (box_line ns) ≡ true
 sides_lack ns h = lacks_append 10 (codes "box") (flat_map word ns) refl (words_lack 10 16000001 ns (omega arith) (omega arith) (sides_small ns h).1)

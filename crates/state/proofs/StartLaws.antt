@@ -92,6 +92,7 @@ all_start dt ring (g ∷ gs) p q r =
 
 -- ---- the state
 
+-- the state that is made of a frame begins at that frame
 pub begins_at : (frac : Frac) (dt : ℕ) (f : gro.FrameView) (s : StateView) → start_of frac dt f ≡ Ok s → BeginsAt frac dt f s
 begins_at frac dt f s e =
     let b = box_found (box_of f.sides) (start_in frac dt f) s e in
@@ -108,6 +109,7 @@ begins_at frac dt f s e =
     } in
     subst (λ (t : StateView). BeginsAt frac dt f t) b.2 it
 
+-- so does the state that a call returned
 pub start_begins : {A : Type 0} (frac : Frac) (dt : ℕ) (f : gro.FrameView) (r : Result (State A) (Failure BoxFault)) → Gives state_view (λ (e : BoxFault). e) r (start_of frac dt f) → IfOk r (λ s. BeginsAt frac dt f (state_view s))
 start_begins frac dt f (Ok s) h = begins_at frac dt f (state_view s) h
 start_begins frac dt f (Err e) h = tt

@@ -25,6 +25,7 @@ joined a b c d e f g bytes r1 r2 r3 r4 r5 r6 h1 h2 h3 h4 h5 h6 h7 =
     ∙ ap (λ (r : List ℕ). a ++ r) (h2 ∙ ap (λ (r : List ℕ). b ++ r) (h3 ∙ ap (λ (r : List ℕ). c ++ r) (h4 ∙ ap (λ (r : List ℕ). d ++ r) (h5 ∙ ap (λ (r : List ℕ). e ++ r) (h6 ∙ ap (λ (r : List ℕ). f ++ r) h7)))))
     ∙ sym flat
 
+-- a text that is read as a state is that state's
 pub state_found : (bytes : List ℕ) (s : StateView) → state_of bytes ≡ Ok s → IsState s × (bytes ≡ state_text s)
 unfolding state_of state_text
 state_found bytes s e =

@@ -1,34 +1,39 @@
 -- The state that begins at a frame of a GRO file: the frame's atoms at their places in the box, and where they were one time step before.
-use Rattle.std.specs.Prelude.{◌≡◌, ℕ, ℤ, pos, List, [], ◌∷◌, map, slice_index, slice_index_or, Result, Ok, Err}
+use Rattle.std.specs.Prelude.{◌≡◌, ℕ, ℤ, pos, List, map, slice_index, slice_index_or, Result, Ok, Err}
 use Rattle.std.specs.List.{AllZip}
 use Rattle.fixed.specs.declared.frac.Frac.{Frac}
 use Rattle.gro.specs.Frames as gro
 use Rattle.ring_box.specs.Places.{IsPlaceOfPm, place_of_pm}
 use Rattle.ring_box.specs.Boxes.{box_of}
 use Rattle.ring_box.specs.declared.boxes.RingBox.{RingBox}
+use Rattle.ring_box.specs.declared.vectors.Place3.{Place3}
 use Rattle.ring_box.specs.declared.faults.BoxFault.{BoxFault}
 use Rattle.state.specs.StateText.{AtomView, StateView}
 use Rattle.state.specs.StateViews.{sides_view}
 use Rattle.state.specs.Velocities.{IsPlaceBefore, place_before}
 
--- the places of an atom, and those one time step before
-abbrev pub current_places : RingBox → List ℤ → List ℕ
-current_places ring at = place_of_pm (slice_index_or at 0 (pos 0)) ring.x ∷ place_of_pm (slice_index_or at 1 (pos 0)) ring.y ∷ place_of_pm (slice_index_or at 2 (pos 0)) ring.z ∷ []
+-- where an atom is, and where it was one time step before
+abbrev pub current_place : RingBox → List ℤ → Place3
+current_place ring at = record {
+  x = place_of_pm (slice_index_or at 0 (pos 0)) ring.x;
+  y = place_of_pm (slice_index_or at 1 (pos 0)) ring.y;
+  z = place_of_pm (slice_index_or at 2 (pos 0)) ring.z;
+}
 
-abbrev pub previous_places : ℕ → RingBox → List ℕ → List ℤ → List ℕ
-previous_places dt ring current velocity =
-    place_before (slice_index current 0) (slice_index_or velocity 0 (pos 0)) dt ring.x
-    ∷ place_before (slice_index current 1) (slice_index_or velocity 1 (pos 0)) dt ring.y
-    ∷ place_before (slice_index current 2) (slice_index_or velocity 2 (pos 0)) dt ring.z
-    ∷ []
+abbrev pub previous_place : ℕ → RingBox → Place3 → List ℤ → Place3
+previous_place dt ring current velocity = record {
+  x = place_before current.x (slice_index_or velocity 0 (pos 0)) dt ring.x;
+  y = place_before current.y (slice_index_or velocity 1 (pos 0)) dt ring.y;
+  z = place_before current.z (slice_index_or velocity 2 (pos 0)) dt ring.z;
+}
 
 abbrev pub started_atom : ℕ → RingBox → gro.AtomView → AtomView
 started_atom dt ring a = record {
   residue_number = a.number;
   residue = a.residue;
   name = a.name;
-  previous = previous_places dt ring (current_places ring a.at) a.velocity;
-  current = current_places ring a.at;
+  previous = previous_place dt ring (current_place ring a.at) a.velocity;
+  current = current_place ring a.at;
 }
 
 -- in a box
@@ -55,9 +60,9 @@ pub record IsStartOfAtom (dt : ℕ) (sides : List ℕ) (g : gro.AtomView) (a : A
   pub number : a.residue_number ≡ g.number
   pub residue : a.residue ≡ g.residue
   pub name : a.name ≡ g.name
-  pub x : IsStartOnSide dt (slice_index sides 0) (slice_index_or g.at 0 (pos 0)) (slice_index_or g.velocity 0 (pos 0)) (slice_index a.previous 0) (slice_index a.current 0)
-  pub y : IsStartOnSide dt (slice_index sides 1) (slice_index_or g.at 1 (pos 0)) (slice_index_or g.velocity 1 (pos 0)) (slice_index a.previous 1) (slice_index a.current 1)
-  pub z : IsStartOnSide dt (slice_index sides 2) (slice_index_or g.at 2 (pos 0)) (slice_index_or g.velocity 2 (pos 0)) (slice_index a.previous 2) (slice_index a.current 2)
+  pub x : IsStartOnSide dt (slice_index sides 0) (slice_index_or g.at 0 (pos 0)) (slice_index_or g.velocity 0 (pos 0)) a.previous.x a.current.x
+  pub y : IsStartOnSide dt (slice_index sides 1) (slice_index_or g.at 1 (pos 0)) (slice_index_or g.velocity 1 (pos 0)) a.previous.y a.current.y
+  pub z : IsStartOnSide dt (slice_index sides 2) (slice_index_or g.at 2 (pos 0)) (slice_index_or g.velocity 2 (pos 0)) a.previous.z a.current.z
 
 -- the state s of so many fraction bits begins at the frame f
 pub record BeginsAt (frac : Frac) (dt : ℕ) (f : gro.FrameView) (s : StateView) : Type 0 where

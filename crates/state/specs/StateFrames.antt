@@ -4,15 +4,12 @@ use Rattle.std.specs.List.{AllByRecursion}
 use Rattle.line_text.specs.Parts.{AreThree}
 use Rattle.gro.specs.Frames as gro
 use Rattle.ring_box.specs.Places.{pm_of_place}
+use Rattle.ring_box.specs.declared.vectors.Place3.{Place3}
 use Rattle.state.specs.StateText.{AtomView, StateView}
 
 -- the position of a place, and an atom's at its current place
-abbrev pub position_of : List ℕ → List ℕ → List ℤ
-position_of sides place =
-    pm_of_place (slice_index place 0) (slice_index sides 0)
-    ∷ pm_of_place (slice_index place 1) (slice_index sides 1)
-    ∷ pm_of_place (slice_index place 2) (slice_index sides 2)
-    ∷ []
+abbrev pub position_of : List ℕ → Place3 → List ℤ
+position_of sides place = pm_of_place place.x (slice_index sides 0) ∷ pm_of_place place.y (slice_index sides 1) ∷ pm_of_place place.z (slice_index sides 2) ∷ []
 
 abbrev pub at_rest : List ℤ
 at_rest = pos 0 ∷ pos 0 ∷ pos 0 ∷ []

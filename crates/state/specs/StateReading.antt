@@ -6,6 +6,7 @@ use Rattle.fixed.specs.declared.frac.Frac.TheVariants.{F24, F32, F40}
 use Rattle.line_text.specs.Parts.{◌>>=◌ as ◌|>◌, cut_at, after, natural_of, integer_of, three_at, name_of, without_spaces, without_end_spaces}
 use Rattle.line_text.specs.Columns.{is_residue_number}
 use Rattle.line_text.specs.Steps.{◌>>=◌}
+use Rattle.ring_box.specs.declared.vectors.Place3.{Place3}
 use Rattle.state.specs.StateText.{AtomView, StateView, head_line, atom_line, IsState, state_text}
 use Rattle.state.specs.declared.versions.Version.{Version}
 use Rattle.state.specs.declared.versions.Version.TheVariants.{First, Second}
@@ -39,6 +40,14 @@ sides_of line =
     three_at 16000001 rest |> λ w.
     if length w.1 == 0 && list_all (λ x. nat_lt 0 x) w.0 then Some w.0 else None
 
+-- the place of three numbers
+abbrev pub place_of : List ℕ → Place3
+place_of numbers = record { x = slice_index numbers 0; y = slice_index numbers 1; z = slice_index numbers 2 }
+
+-- the place that three words tell, and what stands after them
+unfoldable pub place_in : List ℕ → Option (Place3 × List ℕ)
+place_in text = three_at (2 ^ 32) text |> λ w. Some (place_of w.0, w.1)
+
 -- Read by columns and words; only the line that this atom has is taken.
 unfoldable pub atom_of : List ℕ → Option AtomView
 atom_of line =
@@ -46,8 +55,8 @@ atom_of line =
     integer_of (without_spaces (take 5 line)) |> λ number.
     name_of (without_end_spaces (take 5 (drop 5 line))) |> λ residue.
     name_of (without_spaces (take 5 (drop 5 (drop 5 line)))) |> λ name.
-    three_at (2 ^ 32) (drop 5 (drop 5 (drop 5 line))) |> λ previous.
-    three_at (2 ^ 32) previous.1 |> λ current.
+    place_in (drop 5 (drop 5 (drop 5 line))) |> λ previous.
+    place_in previous.1 |> λ current.
     if is_residue_number number && bytes_eq line (atom_line (record { residue_number = number; residue = residue; name = name; previous = previous.0; current = current.0 }))
     then Some (record { residue_number = number; residue = residue; name = name; previous = previous.0; current = current.0 }) else None)
 

@@ -1,22 +1,24 @@
 -- What a state is, without where it lies in memory, and the one text of each state.
-use Rattle.std.specs.Prelude.{ℕ, ◌<◌, ◌≤◌, ◌^◌, List, [], ◌++◌, length, codes, ℤ, pos, negsuc, ◌≤ℤ◌, IsTrue}
+use Rattle.std.specs.Prelude.{ℕ, ◌<◌, ◌≤◌, ◌^◌, List, [], ◌∷◌, ◌++◌, length, codes, ℤ, pos, negsuc, ◌≤ℤ◌, IsTrue}
 use Rattle.std.specs.Fmt.{signed_decimal}
 use Rattle.std.specs.List.{flat_map, AllByRecursion}
 use Rattle.fixed.specs.Fractions.{bits_of}
 use Rattle.fixed.specs.declared.frac.Frac.{Frac}
 use Rattle.fixed.specs.declared.frac.Frac.TheVariants.{F24, F32, F40}
 use Rattle.line_text.specs.Parts.{word, ended, AreThree, right_in, left_in, is_name, is_title}
+use Rattle.ring_box.specs.Places.{ArePlaces}
+use Rattle.ring_box.specs.declared.vectors.Place3.{Place3}
 use Rattle.state.specs.declared.versions.Version.{Version}
 use Rattle.state.specs.declared.versions.Version.TheVariants.{First, Second}
 use lib.Signed.{mag}
 
--- an atom; its two places are three numbers each, x, y and z
+-- an atom, and where it is in two frames
 pub record AtomView : Type 0 where
   pub residue_number : ℤ
   pub residue : List ℕ
   pub name : List ℕ
-  pub previous : List ℕ
-  pub current : List ℕ
+  pub previous : Place3
+  pub current : Place3
 
 -- a state; its numbers have so many bits behind the point, and its sides are three numbers, x, y and z
 pub record StateView : Type 0 where
@@ -53,11 +55,15 @@ count_line count = codes "atoms" ++ word count
 abbrev pub box_line : List ℕ → List ℕ
 box_line sides = codes "box" ++ flat_map word sides
 
+-- what a line says of a place
+abbrev pub numbers_of : Place3 → List ℕ
+numbers_of p = p.x ∷ p.y ∷ p.z ∷ []
+
 -- residue number, residue name and atom name in the columns of an atom's line (GROMACS manual, GRO file format), then the two places
 abbrev pub atom_line : AtomView → List ℕ
 atom_line a =
     right_in 5 (signed_decimal a.residue_number) ++ left_in 5 a.residue ++ right_in 5 a.name
-    ++ flat_map word a.previous ++ flat_map word a.current
+    ++ flat_map word (numbers_of a.previous) ++ flat_map word (numbers_of a.current)
 
 abbrev pub atom_lines : List AtomView → List ℕ
 atom_lines atoms = flat_map (λ a. ended (atom_line a)) atoms
@@ -81,10 +87,6 @@ state_text s =
 
 -- ---- what has a text
 
--- on a ring of 2^32 places
-abbrev pub IsPlace : ℕ → Type 0
-IsPlace x = x < 2 ^ 32
-
 -- in 10^-5 nm
 abbrev pub IsSide : ℕ → Type 0
 IsSide x = (0 < x) × (x ≤ 16000000)
@@ -94,8 +96,8 @@ pub record IsAtom (a : AtomView) : Type 0 where
   pub high : a.residue_number ≤ℤ pos 99999
   pub residue : IsTrue (is_name a.residue)
   pub name : IsTrue (is_name a.name)
-  pub previous : AreThree IsPlace a.previous
-  pub current : AreThree IsPlace a.current
+  pub previous : ArePlaces a.previous
+  pub current : ArePlaces a.current
 
 pub record IsState (s : StateView) : Type 0 where
   pub title : IsTrue (is_title s.title)

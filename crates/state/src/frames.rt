@@ -10,7 +10,7 @@ ghost use Rattle.state.specs.StateViews.{atom_view, sides_view};
 
 use crate::states::{Atom, State};
 use gro::{GroAtom, GroFrame};
-use ring_box::{RingBox, Side, pm_of_place};
+use ring_box::{Place3, RingBox, Side, pm_of_place};
 use std::alloc::{AllocError, Allocator};
 
 impl<A: Allocator + Copy> State<A> {
@@ -72,19 +72,19 @@ fn framed_atom(ring: &RingBox, atom: &Atom) -> GroAtom
         number: atom.residue_number,
         residue: atom.residue,
         name: atom.name,
-        at: position(ring, &atom.current),
+        at: position(ring, atom.current),
         velocity: [0, 0, 0],
     }
 }
 
-fn position(ring: &RingBox, place: &[u32; 3]) -> [i64; 3]
-    ensures value { result ≡ position_of (sides_view ring.now) place.now }
+fn position(ring: &RingBox, place: Place3) -> [i64; 3]
+    ensures value { result ≡ position_of (sides_view ring.now) place }
     ensures within { AreThree IsInBox result }
 {
     [
-        coordinate(place[0], ring.x),
-        coordinate(place[1], ring.y),
-        coordinate(place[2], ring.z),
+        coordinate(place.x, ring.x),
+        coordinate(place.y, ring.y),
+        coordinate(place.z, ring.z),
     ]
 }
 

@@ -4,9 +4,10 @@ ghost use Rattle.std.specs.Prelude.{◌≡◌, ◌≤◌, ◌+◌, ◌++◌, opt
 ghost use Rattle.std.specs.List.{flat_map};
 ghost use Rattle.arrayvec.specs.ArrayVec.{array_vec_len};
 ghost use Rattle.line_text.specs.Parts.{AreThree, is_title, lacks, word};
-ghost use Rattle.state.specs.StateText.{IsAtom, IsPlace, IsSide, atom_line, bits_in, version_of};
+ghost use Rattle.ring_box.specs.Places.{ArePlaces};
+ghost use Rattle.state.specs.StateText.{IsAtom, IsSide, atom_line, bits_in, numbers_of, version_of};
 ghost use Rattle.state.specs.StateViews.{atom_view, sides_view};
-ghost use Rattle.state.specs.StateReading.{head_of, title_of, step_of, frac_of, count_of, sides_of, atom_of};
+ghost use Rattle.state.specs.StateReading.{head_of, title_of, step_of, frac_of, count_of, sides_of, place_in, atom_of};
 
 use crate::states::Atom;
 use crate::versions::Version;
@@ -16,7 +17,7 @@ use line_text::{
     Line, Name, integer, natural, put, put_left, put_right, put_word, strip, three_words, trim_end,
     trim_front,
 };
-use ring_box::{RingBox, Side};
+use ring_box::{Place3, RingBox, Side};
 
 /// The version, of which the first line alone tells.
 pub fn head(line: &[u8]) -> Option<Version>
@@ -92,6 +93,20 @@ pub fn sides(line: &[u8]) -> Option<RingBox>
     }
 }
 
+/// The place that three numbers tell, and what stands after them.
+#[tactic(auto, unfolding(crate::specs::StateReading::place_in))]
+fn place(text: &[u8]) -> Option<(Place3, &[u8])>
+    ensures { option_map (λ x. (x.0, x.1.now)) result ≡ place_in text.now }
+{
+    let (x, y, z, rest) = three_words(1 << 32, text)?;
+    let place = Place3 {
+        x: x as u32,
+        y: y as u32,
+        z: z as u32,
+    };
+    Some((place, rest))
+}
+
 /// The atom. What the line says is spelled again and compared, so only one line says it.
 #[tactic(auto, unfolding(crate::specs::StateReading::atom_of))]
 pub fn atom(line: &[u8]) -> Option<Atom>
@@ -106,10 +121,8 @@ pub fn atom(line: &[u8]) -> Option<Atom>
     let number = integer(trim_front(number))?;
     let residue = Name::new(trim_end(residue))?;
     let name = Name::new(trim_front(name))?;
-    let (x, y, z, rest) = three_words(1 << 32, rest)?;
-    let previous = [x as u32, y as u32, z as u32];
-    let (x, y, z, _) = three_words(1 << 32, rest)?;
-    let current = [x as u32, y as u32, z as u32];
+    let (previous, rest) = place(rest)?;
+    let (current, _) = place(rest)?;
     if number < -9999 || number > 99999 {
         return None;
     }
@@ -163,20 +176,20 @@ pub fn put_atom(line: &mut Line, atom: &Atom)
     put_right(line, 5, buffer.format(atom.residue_number).as_bytes());
     put_left(line, 5, atom.residue.as_bytes());
     put_right(line, 5, atom.name.as_bytes());
-    put_place(line, &atom.previous);
-    put_place(line, &atom.current);
+    put_place(line, atom.previous);
+    put_place(line, atom.current);
 }
 
 /// Appends a place, with a space before each of its three numbers.
-fn put_place(line: &mut Line, place: &[u32; 3])
+fn put_place(line: &mut Line, place: Place3)
     requires { array_vec_len line.old + 63 ≤ 160 }
-    ensures place { AreThree IsPlace place.now }
-    ensures items { line.new.items ≡ line.old.items ++ flat_map word place.now }
+    ensures place { ArePlaces place }
+    ensures items { line.new.items ≡ line.old.items ++ flat_map word (numbers_of place) }
     ensures len { array_vec_len line.new ≤ array_vec_len line.old + 63 }
 {
-    put_word(line, place[0] as u64);
-    put_word(line, place[1] as u64);
-    put_word(line, place[2] as u64);
+    put_word(line, u64::from(place.x));
+    put_word(line, u64::from(place.y));
+    put_word(line, u64::from(place.z));
 }
 
 /// Appends the sides of a box, with a space before each.

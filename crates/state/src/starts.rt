@@ -3,7 +3,7 @@
 ghost use Rattle.std.specs.Prelude.{◌≡◌, ◌≤◌, map, IfOk};
 ghost use Rattle.fallible.specs.Failures.{Gives};
 ghost use Rattle.gro.specs.Frames as gro;
-ghost use Rattle.state.specs.Starts.{current_places, previous_places, start_of, started_atom};
+ghost use Rattle.state.specs.Starts.{current_place, previous_place, start_of, started_atom};
 ghost use Rattle.state.specs.StateViews.{atom_view, state_view};
 
 use crate::states::{Atom, State};
@@ -12,7 +12,7 @@ use fallible::Failure;
 use fixed::Frac;
 use gro::{GroAtom, GroFrame};
 use job::Job;
-use ring_box::{BoxFault, RingBox, place_of_pm};
+use ring_box::{BoxFault, Place3, RingBox, place_of_pm};
 use std::alloc::{AllocError, Allocator};
 
 impl<A: Allocator + Copy> State<A> {
@@ -79,8 +79,8 @@ fn started_atom(time_step: u32, ring: &RingBox, atom: &GroAtom) -> Atom
     requires { time_step ≤ 1000 }
     ensures { atom_view result ≡ started_atom time_step ring.now (gro.atom_view atom.now) }
 {
-    let current = current_places(ring, &atom.at);
-    let previous = previous_places(time_step, ring, &current, &atom.velocity);
+    let current = current_place(ring, &atom.at);
+    let previous = previous_place(time_step, ring, current, &atom.velocity);
     Atom {
         residue_number: atom.number,
         residue: atom.residue,
@@ -90,28 +90,23 @@ fn started_atom(time_step: u32, ring: &RingBox, atom: &GroAtom) -> Atom
     }
 }
 
-fn current_places(ring: &RingBox, at: &[i64; 3]) -> [u32; 3]
-    ensures { result ≡ current_places ring.now at.now }
+fn current_place(ring: &RingBox, at: &[i64; 3]) -> Place3
+    ensures { result ≡ current_place ring.now at.now }
 {
-    [
-        place_of_pm(at[0], ring.x),
-        place_of_pm(at[1], ring.y),
-        place_of_pm(at[2], ring.z),
-    ]
+    Place3 {
+        x: place_of_pm(at[0], ring.x),
+        y: place_of_pm(at[1], ring.y),
+        z: place_of_pm(at[2], ring.z),
+    }
 }
 
-fn previous_places(
-    time_step: u32,
-    ring: &RingBox,
-    current: &[u32; 3],
-    velocity: &[i64; 3],
-) -> [u32; 3]
+fn previous_place(time_step: u32, ring: &RingBox, current: Place3, velocity: &[i64; 3]) -> Place3
     requires { time_step ≤ 1000 }
-    ensures { result ≡ previous_places time_step ring.now current.now velocity.now }
+    ensures { result ≡ previous_place time_step ring.now current velocity.now }
 {
-    [
-        place_before(current[0], velocity[0], time_step, ring.x),
-        place_before(current[1], velocity[1], time_step, ring.y),
-        place_before(current[2], velocity[2], time_step, ring.z),
-    ]
+    Place3 {
+        x: place_before(current.x, velocity[0], time_step, ring.x),
+        y: place_before(current.y, velocity[1], time_step, ring.y),
+        z: place_before(current.z, velocity[2], time_step, ring.z),
+    }
 }

@@ -5,7 +5,7 @@ ghost use Rattle.line_text.specs.Parts.{is_title};
 
 use fixed::Frac;
 use line_text::Name;
-use ring_box::RingBox;
+use ring_box::{Place3, RingBox};
 use std::alloc::Allocator;
 
 /// An atom of a state, with its places in two frames that follow one another.
@@ -17,10 +17,10 @@ pub struct Atom {
     pub residue: Name,
     /// Its own name, which is also that of its type.
     pub name: Name,
-    /// Its place in the previous frame: x, y and z in parts of 2^-32 of the box's sides.
-    pub previous: [u32; 3],
-    /// Its place in the current frame, in the same parts.
-    pub current: [u32; 3],
+    /// Where it is in the previous frame.
+    pub previous: Place3,
+    /// Where it is in the current frame.
+    pub current: Place3,
     pub ghost low: { negsuc 9998 ≤ℤ residue_number },
     pub ghost high: { residue_number ≤ℤ pos 99999 },
 }

@@ -1,12 +1,12 @@
 //! Writing a state.
 
-ghost use Rattle.std.specs.Prelude.{◌≡◌, ◌-◌, ◌^◌, ◌<◌, length, map, IfOk, OnErr};
-ghost use Rattle.fallible.specs.Out.{appended, AppendsBeginning};
+ghost use Rattle.std.specs.Prelude.{◌≡◌, ◌-◌, ◌^◌, ◌<◌, length, map, IfOk};
+ghost use Rattle.fallible.specs.Out.{Writes};
 ghost use Rattle.std.specs.List.{AllByRecursion};
 ghost use lib.Signed.{mag};
 ghost use Rattle.line_text.specs.Parts.{AreThree, ended};
 ghost use Rattle.state.specs.StateText.{IsAtom, IsSide, atom_line, atom_lines};
-ghost use Rattle.state.specs.StateViews.{atom_view, sides_view};
+ghost use Rattle.state.specs.StateViews.{atom_view, sides_view, state_view};
 ghost use Rattle.state.specs.Middle.{front, middle};
 
 use crate::lines::{put_atom, put_bits, put_sides};
@@ -18,8 +18,8 @@ use line_text::{Line, put, put_integer, put_word};
 use std::alloc::Allocator;
 
 impl<A: Allocator> State<A> {
-    ghost use Rattle.std.specs.Prelude.{◌≡◌, ◌-◌, ◌^◌, ◌<◌, Ok, IfOk, OnErr};
-    ghost use Rattle.fallible.specs.Out.{appended, AppendsBeginning};
+    ghost use Rattle.std.specs.Prelude.{◌≡◌, ◌-◌, ◌^◌, ◌<◌, Ok, IfOk};
+    ghost use Rattle.fallible.specs.Out.{Writes};
     ghost use Rattle.state.specs.StateText.{IsState, state_text};
     ghost use Rattle.state.specs.StateViews.{state_view};
     ghost use Rattle.state.specs.StateReading.{state_of};
@@ -28,11 +28,8 @@ impl<A: Allocator> State<A> {
     ///
     /// `OutFault` comes only from a write that failed, and then a beginning of the text was written.
     pub fn write<O: Out>(&self, out: &mut O) -> Result<(), OutFault>
-        requires { O.failed out.old < 2 ^ 64 - 1 }
-        ensures taken { IfOk result (λ _. O.taken out.new ≡ appended (O.taken out.old) (state_text (state_view self.now))) }
-        ensures count { IfOk result (λ _. O.failed out.new ≡ O.failed out.old) }
-        ensures fault_taken { OnErr result (AppendsBeginning (O.taken out.old) (O.taken out.new) (state_text (state_view self.now))) }
-        ensures fault_count { OnErr result (O.failed out.old < O.failed out.new) }
+        requires { (O.output out.old).failed < 2 ^ 64 - 1 }
+        ensures writes { Writes (O.output out.old) (O.output out.new) (state_text (state_view self.now)) result }
         // What was written reads as this state again.
         ensures again { IfOk result (λ _. IsState (state_view self.now) × (state_of (state_text (state_view self.now)) ≡ Ok (state_view self.now))) }
     {
@@ -46,11 +43,8 @@ impl<A: Allocator> State<A> {
 
 /// Writes the lines of these atoms.
 fn write_atoms<O: Out>(atoms: &[Atom], out: &mut O) -> Result<(), OutFault>
-    requires { O.failed out.old < 2 ^ 64 - 1 }
-    ensures taken { IfOk result (λ _. O.taken out.new ≡ appended (O.taken out.old) (atom_lines (map atom_view atoms.now))) }
-    ensures count { IfOk result (λ _. O.failed out.new ≡ O.failed out.old) }
-    ensures fault_taken { OnErr result (AppendsBeginning (O.taken out.old) (O.taken out.new) (atom_lines (map atom_view atoms.now))) }
-    ensures fault_count { OnErr result (O.failed out.old < O.failed out.new) }
+    requires { (O.output out.old).failed < 2 ^ 64 - 1 }
+    ensures writes { Writes (O.output out.old) (O.output out.new) (atom_lines (map atom_view atoms.now)) result }
     ensures atoms { IfOk result (λ _. AllByRecursion IsAtom (map atom_view atoms.now)) }
 {
     for atom in atoms {
@@ -72,7 +66,7 @@ fn front(frac: Frac) -> &'static [u8]
 
 /// What stands between the title and the atoms.
 fn middle_line<A: Allocator>(state: &State<A>) -> Line
-    ensures items { result.items ≡ middle state.now.step state.now.frac (length state.now.atoms.items) (sides_view state.now.ring) }
+    ensures items { result.items ≡ middle state.now.step state.now.frac (length (state_view state.now).atoms) (sides_view state.now.ring) }
     ensures step { mag state.now.step < 2 ^ 63 }
     ensures sides { AreThree IsSide (sides_view state.now.ring) }
 {

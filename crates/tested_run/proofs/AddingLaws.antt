@@ -1,156 +1,154 @@
 -- Forces added up pair by pair are the exact sums over all pairs.
-use Rattle.std.proofs.Common.{◌≡◌, ◌≢◌, ℕ, ◌<◌, true, false, List, [], ◌∷◌, length, replicate, get_or, ℤ, Option, Some, None, Ok, Err, arith, refl, ap, sym, ◌∙◌, zero-add, inl, inr}
-use Rattle.std.specs.Prelude.{is_some, is_none, unwrap_or, map}
+use Rattle.std.proofs.Common.{◌≡◌, ◌≢◌, ℕ, ◌<◌, true, false, List, [], ◌∷◌, length, replicate, get_or, ℤ, Option, Some, None, Ok, Err, arith, refl, ap, sym, ◌∙◌, inl, inr}
+use Rattle.std.specs.Prelude.{is_some, is_none, unwrap_or}
 use Rattle.std.specs.List.{find, list_all}
 use Rattle.std.proofs.lemmas.Bool.{cases_eq}
-use Rattle.std.proofs.lemmas.List.{get_or-set_same, get_or-set_other, ext_get_or, length-set, length-replicate, get_or-replicate}
+use Rattle.std.proofs.lemmas.List.{get_or-set_same, get_or-set_other, length-set, length-replicate, get_or-replicate}
 use Rattle.integrator.proofs.Constructors.{err_is_no_ok, err_same, none_is_no_some, ok_same}
-use Rattle.integrator.specs.Forces.{none, plus, negative, share_of, sum_of_shares, numbers_from, pairs_of, force_or_none, forces_of}
-use Rattle.integrator.proofs.NumberLaws.{length-numbers, at_number}
-use Rattle.integrator.proofs.ForceLaws.{ArePairsOf, IsThree, frame_pairs, higher_share, no_share, none-plus, none-three, pairs_parts, plus-assoc, plus-none, plus-three, same_share, shares-three}
+use Rattle.ring_box.specs.Forces.{no_force}
+use Rattle.ring_box.specs.declared.vectors.Force.{Force}
+use Rattle.integrator.specs.Forces.{plus, negative, share_of, sum_of_shares, pairs_of, force_or_none, forces_of}
+use Rattle.integrator.proofs.NumberLaws.{made_of_numbers}
+use Rattle.integrator.proofs.ForceLaws.{ArePairsOf, frame_pairs, higher_share, no_share, none-plus, pairs_parts, plus-assoc, plus-none, same_share}
 use Rattle.tested_run.specs.Stops.{first_without_force}
 use Rattle.tested_run.specs.Adding.{on_force, with_force, with_pair, with_pairs}
 
 -- ---- one pair
 
-length-with_force : (sums : List (List ℤ)) (a : ℕ) (v : List ℤ) → length (with_force sums a v) ≡ length sums
-length-with_force sums a v = length-set sums a (plus (get_or sums a none) v)
+length-with_force : (sums : List (Force ℤ)) (a : ℕ) (v : Force ℤ) → length (with_force sums a v) ≡ length sums
+length-with_force sums a v = length-set sums a (plus (get_or sums a no_force) v)
 
-pub length-with_pair : (sums : List (List ℤ)) (p : ℕ × ℕ) (v : List ℤ) → length (with_pair sums p v) ≡ length sums
+-- the force of a pair keeps how many sums there are
+pub length-with_pair : (sums : List (Force ℤ)) (p : ℕ × ℕ) (v : Force ℤ) → length (with_pair sums p v) ≡ length sums
 length-with_pair sums p v = length-with_force (with_force sums p.0 v) p.1 (negative v) ∙ length-with_force sums p.0 v
 
-force_here : (sums : List (List ℤ)) (a : ℕ) (v : List ℤ) → a < length sums → get_or (with_force sums a v) a none ≡ plus (get_or sums a none) v
-force_here sums a v h = get_or-set_same sums a (plus (get_or sums a none) v) none h
+force_here : (sums : List (Force ℤ)) (a : ℕ) (v : Force ℤ) → a < length sums → get_or (with_force sums a v) a no_force ≡ plus (get_or sums a no_force) v
+force_here sums a v h = get_or-set_same sums a (plus (get_or sums a no_force) v) no_force h
 
-force_elsewhere : (sums : List (List ℤ)) (a : ℕ) (v : List ℤ) (b : ℕ) → b ≢ a → get_or (with_force sums a v) b none ≡ get_or sums b none
-force_elsewhere sums a v b n = get_or-set_other sums a b (plus (get_or sums a none) v) none n
+force_elsewhere : (sums : List (Force ℤ)) (a : ℕ) (v : Force ℤ) (b : ℕ) → b ≢ a → get_or (with_force sums a v) b no_force ≡ get_or sums b no_force
+force_elsewhere sums a v b n = get_or-set_other sums a b (plus (get_or sums a no_force) v) no_force n
 
-entry_low : (sums : List (List ℤ)) (i j : ℕ) (v : List ℤ) → i < j → j < length sums
-    → get_or (with_pair sums (i, j) v) i none ≡ plus (get_or sums i none) (share_of (i, j) v i)
+entry_low : (sums : List (Force ℤ)) (i j : ℕ) (v : Force ℤ) → i < j → j < length sums
+    → get_or (with_pair sums (i, j) v) i no_force ≡ plus (get_or sums i no_force) (share_of (i, j) v i)
 entry_low sums i j v h k =
     let n : i ≢ j = omega arith in
-    force_elsewhere (with_force sums i v) j (negative v) i n ∙ force_here sums i v (omega arith) ∙ ap (plus (get_or sums i none)) (sym (same_share i j v))
+    force_elsewhere (with_force sums i v) j (negative v) i n ∙ force_here sums i v (omega arith) ∙ ap (plus (get_or sums i no_force)) (sym (same_share i j v))
 
-entry_high : (sums : List (List ℤ)) (i j : ℕ) (v : List ℤ) → i < j → j < length sums
-    → get_or (with_pair sums (i, j) v) j none ≡ plus (get_or sums j none) (share_of (i, j) v j)
+entry_high : (sums : List (Force ℤ)) (i j : ℕ) (v : Force ℤ) → i < j → j < length sums
+    → get_or (with_pair sums (i, j) v) j no_force ≡ plus (get_or sums j no_force) (share_of (i, j) v j)
 entry_high sums i j v h k =
     let n : i ≢ j = omega arith in
     let m : j ≢ i = omega arith in
     force_here (with_force sums i v) j (negative v) (rw (length-with_force sums i v) k)
     ∙ ap (λ w. plus w (negative v)) (force_elsewhere sums i v j m)
-    ∙ ap (plus (get_or sums j none)) (sym (higher_share i j v n))
+    ∙ ap (plus (get_or sums j no_force)) (sym (higher_share i j v n))
 
-entry_other : (sums : List (List ℤ)) (i j : ℕ) (v : List ℤ) (a : ℕ) → a ≢ i → a ≢ j → IsThree (get_or sums a none)
-    → get_or (with_pair sums (i, j) v) a none ≡ plus (get_or sums a none) (share_of (i, j) v a)
-entry_other sums i j v a m n t =
+entry_other : (sums : List (Force ℤ)) (i j : ℕ) (v : Force ℤ) (a : ℕ) → a ≢ i → a ≢ j
+    → get_or (with_pair sums (i, j) v) a no_force ≡ plus (get_or sums a no_force) (share_of (i, j) v a)
+entry_other sums i j v a m n =
     let p : i ≢ a = omega arith in
     let q : j ≢ a = omega arith in
     force_elsewhere (with_force sums i v) j (negative v) a n ∙ force_elsewhere sums i v a m
-    ∙ sym (plus-none (get_or sums a none) t) ∙ ap (plus (get_or sums a none)) (sym (no_share i j a v p q))
+    ∙ sym (plus-none (get_or sums a no_force)) ∙ ap (plus (get_or sums a no_force)) (sym (no_share i j a v p q))
 
-entry_after : (sums : List (List ℤ)) (i j : ℕ) (v : List ℤ) (a : ℕ) → i < j → j < length sums → IsThree (get_or sums a none)
-    → get_or (with_pair sums (i, j) v) a none ≡ plus (get_or sums a none) (share_of (i, j) v a)
-entry_after sums i j v a h k t =
+entry_after : (sums : List (Force ℤ)) (i j : ℕ) (v : Force ℤ) (a : ℕ) → i < j → j < length sums
+    → get_or (with_pair sums (i, j) v) a no_force ≡ plus (get_or sums a no_force) (share_of (i, j) v a)
+entry_after sums i j v a h k =
     elim (cases_eq a i) [
       | inl e ↦ rw e (entry_low sums i j v h k)
       | inr m ↦ elim (cases_eq a j) [
         | inl e ↦ rw e (entry_high sums i j v h k)
-        | inr n ↦ entry_other sums i j v a m n t
+        | inr n ↦ entry_other sums i j v a m n
       ]
     ]
 
 -- ---- all pairs
 
 -- what is known of the pairs p ∷ ps once the sums are known
-pub record Added (force : ℕ × ℕ → Option (List ℤ)) (sums out : List (List ℤ)) (p : ℕ × ℕ) (ps : List (ℕ × ℕ)) : Type 0 where
-  pub v : List ℤ
+pub record Added (force : ℕ × ℕ → Option (Force ℤ)) (sums out : List (Force ℤ)) (p : ℕ × ℕ) (ps : List (ℕ × ℕ)) : Type 0 where
+  pub v : Force ℤ
   pub has : force p ≡ Some v
   pub rest : with_pairs force (with_pair sums p v) ps ≡ Ok out
 
-added_at : (force : ℕ × ℕ → Option (List ℤ)) (sums out : List (List ℤ)) (p : ℕ × ℕ) (ps : List (ℕ × ℕ)) (o : Option (List ℤ)) → force p ≡ o
+added_at : (force : ℕ × ℕ → Option (Force ℤ)) (sums out : List (Force ℤ)) (p : ℕ × ℕ) (ps : List (ℕ × ℕ)) (o : Option (Force ℤ)) → force p ≡ o
     → on_force p o (λ v. with_pairs force (with_pair sums p v) ps) ≡ Ok out → Added force sums out p ps
 added_at force sums out p ps None h e = absurd (err_is_no_ok p out e)
 added_at force sums out p ps (Some v) h e = record { v = v; has = h; rest = e }
 
-added : (force : ℕ × ℕ → Option (List ℤ)) (sums out : List (List ℤ)) (p : ℕ × ℕ) (ps : List (ℕ × ℕ)) → with_pairs force sums (p ∷ ps) ≡ Ok out → Added force sums out p ps
+added : (force : ℕ × ℕ → Option (Force ℤ)) (sums out : List (Force ℤ)) (p : ℕ × ℕ) (ps : List (ℕ × ℕ)) → with_pairs force sums (p ∷ ps) ≡ Ok out → Added force sums out p ps
 unfolding with_pairs
 added force sums out p ps e = added_at force sums out p ps (force p) refl e
 
-pub length-with_pairs : (force : ℕ × ℕ → Option (List ℤ)) (sums out : List (List ℤ)) (ps : List (ℕ × ℕ)) → with_pairs force sums ps ≡ Ok out → length out ≡ length sums
+-- so do the forces of all pairs
+pub length-with_pairs : (force : ℕ × ℕ → Option (Force ℤ)) (sums out : List (Force ℤ)) (ps : List (ℕ × ℕ)) → with_pairs force sums ps ≡ Ok out → length out ≡ length sums
 unfolding with_pairs
 length-with_pairs force sums out [] e = ap length (sym (ok_same sums out e))
 length-with_pairs force sums out (p ∷ ps) e =
     let a = added force sums out p ps e in
     length-with_pairs force (with_pair sums p a.v) out ps a.rest ∙ length-with_pair sums p a.v
 
-all_forced : (force : ℕ × ℕ → Option (List ℤ)) (sums out : List (List ℤ)) (ps : List (ℕ × ℕ)) → with_pairs force sums ps ≡ Ok out → list_all (λ p. is_some (force p)) ps ≡ true
+all_forced : (force : ℕ × ℕ → Option (Force ℤ)) (sums out : List (Force ℤ)) (ps : List (ℕ × ℕ)) → with_pairs force sums ps ≡ Ok out → list_all (λ p. is_some (force p)) ps ≡ true
 unfolding with_pairs
 all_forced force sums out [] e = refl
 all_forced force sums out (p ∷ ps) e =
     let a = added force sums out p ps e in
     rw a.has (all_forced force (with_pair sums p a.v) out ps a.rest)
 
-entries : (force : ℕ × ℕ → Option (List ℤ)) (sums out : List (List ℤ)) (ps : List (ℕ × ℕ)) (a : ℕ) → ArePairsOf (length sums) ps → IsThree (get_or sums a none)
-    → with_pairs force sums ps ≡ Ok out → get_or out a none ≡ plus (get_or sums a none) (sum_of_shares (force_or_none force) ps a)
+entries : (force : ℕ × ℕ → Option (Force ℤ)) (sums out : List (Force ℤ)) (ps : List (ℕ × ℕ)) (a : ℕ) → ArePairsOf (length sums) ps
+    → with_pairs force sums ps ≡ Ok out → get_or out a no_force ≡ plus (get_or sums a no_force) (sum_of_shares (force_or_none force) ps a)
 unfolding with_pairs sum_of_shares
-entries force sums out [] a h t e = ap (λ s. get_or s a none) (sym (ok_same sums out e)) ∙ sym (plus-none (get_or sums a none) t)
-entries force sums out (p ∷ ps) a h t e =
+entries force sums out [] a h e = ap (λ s. get_or s a no_force) (sym (ok_same sums out e)) ∙ sym (plus-none (get_or sums a no_force))
+entries force sums out (p ∷ ps) a h e =
     let d = added force sums out p ps e in
     let each = pairs_parts (length sums) p ps h in
     let next = with_pair sums p d.v in
     let rest = sum_of_shares (force_or_none force) ps a in
-    let first : get_or next a none ≡ plus (get_or sums a none) (share_of p d.v a) = entry_after sums p.0 p.1 d.v a each.0.apart each.0.below t in
-    let again : IsThree (get_or next a none) = rw first (plus-three (get_or sums a none) (share_of p d.v a)) in
+    let first : get_or next a no_force ≡ plus (get_or sums a no_force) (share_of p d.v a) = entry_after sums p.0 p.1 d.v a each.0.apart each.0.below in
     let within : ArePairsOf (length next) ps = rw (length-with_pair sums p d.v) each.1 in
-    entries force next out ps a within again d.rest
+    entries force next out ps a within d.rest
     ∙ ap (λ w. plus w rest) first
-    ∙ plus-assoc (get_or sums a none) (share_of p d.v a) rest
-    ∙ ap (λ o. plus (get_or sums a none) (plus (share_of p (unwrap_or o none) a) rest)) (sym d.has)
+    ∙ plus-assoc (get_or sums a no_force) (share_of p d.v a) rest
+    ∙ ap (λ o. plus (get_or sums a no_force) (plus (share_of p (unwrap_or o no_force) a) rest)) (sym d.has)
 
 -- the sums over all pairs, from zero, are the forces
-pub forces_found : (force : ℕ × ℕ → Option (List ℤ)) (n : ℕ) (out : List (List ℤ)) → with_pairs force (replicate n none) (pairs_of n) ≡ Ok out → forces_of force n ≡ Some out
+pub forces_found : (force : ℕ × ℕ → Option (Force ℤ)) (n : ℕ) (out : List (Force ℤ)) → with_pairs force (replicate n no_force) (pairs_of n) ≡ Ok out → forces_of force n ≡ Some out
 forces_found force n out e =
-    let zeros = replicate n none in
+    let zeros = replicate n no_force in
     let g = sum_of_shares (force_or_none force) (pairs_of n) in
-    let size : length zeros ≡ n = length-replicate n none in
-    let same : length (map g (numbers_from 0 n)) ≡ length out =
-    length-numbers g 0 n ∙ sym (length-with_pairs force zeros out (pairs_of n) e ∙ size) in
-    let all : list_all (λ p. is_some (force p)) (pairs_of n) ≡ true = all_forced force zeros out (pairs_of n) e in
-    let each : map g (numbers_from 0 n) ≡ out = ext_get_or none (map g (numbers_from 0 n)) out same (λ a h.
-    let l : a < n = omega (arith, length-numbers g 0 n) in
-    let zero_at : get_or zeros a none ≡ none = get_or-replicate n a none none l in
+    let size : length zeros ≡ n = length-replicate n no_force in
     let pairs : ArePairsOf (length zeros) (pairs_of n) = rw size (frame_pairs n 0 n (omega arith)) in
-    at_number g none 0 n a l ∙ ap g (zero-add a)
-    ∙ sym (entries force zeros out (pairs_of n) a pairs (rw zero_at none-three) e ∙ ap (λ w. plus w (g a)) zero_at ∙ none-plus (g a) (shares-three (force_or_none force) (pairs_of n) a))) in
-    rw all (ap Some each)
+    let all : list_all (λ p. is_some (force p)) (pairs_of n) ≡ true = all_forced force zeros out (pairs_of n) e in
+    rw all (ap Some (sym (made_of_numbers g no_force n out (length-with_pairs force zeros out (pairs_of n) e ∙ size) (λ a l.
+    entries force zeros out (pairs_of n) a pairs e ∙ ap (λ w. plus w (g a)) (get_or-replicate n a no_force no_force l) ∙ none-plus (g a)))))
 
 -- the pair at which the sums stop is the first without a force
-stops_at : (force : ℕ × ℕ → Option (List ℤ)) (sums : List (List ℤ)) (p q : ℕ × ℕ) (ps : List (ℕ × ℕ)) (o : Option (List ℤ)) → force p ≡ o
+stops_at : (force : ℕ × ℕ → Option (Force ℤ)) (sums : List (Force ℤ)) (p q : ℕ × ℕ) (ps : List (ℕ × ℕ)) (o : Option (Force ℤ)) → force p ≡ o
     → on_force p o (λ v. with_pairs force (with_pair sums p v) ps) ≡ Err q
-    → ((v : List ℤ) → with_pairs force (with_pair sums p v) ps ≡ Err q → find (λ p. is_none (force p)) ps ≡ Some q)
+    → ((v : Force ℤ) → with_pairs force (with_pair sums p v) ps ≡ Err q → find (λ p. is_none (force p)) ps ≡ Some q)
     → find (λ p. is_none (force p)) (p ∷ ps) ≡ Some q
 stops_at force sums p q ps None h e rest = rw h (ap Some (err_same p q e))
 stops_at force sums p q ps (Some v) h e rest = rw h (rest v e)
 
-first_found : (force : ℕ × ℕ → Option (List ℤ)) (sums : List (List ℤ)) (q : ℕ × ℕ) (ps : List (ℕ × ℕ)) → with_pairs force sums ps ≡ Err q → find (λ p. is_none (force p)) ps ≡ Some q
+first_found : (force : ℕ × ℕ → Option (Force ℤ)) (sums : List (Force ℤ)) (q : ℕ × ℕ) (ps : List (ℕ × ℕ)) → with_pairs force sums ps ≡ Err q → find (λ p. is_none (force p)) ps ≡ Some q
 unfolding with_pairs
 first_found force sums q [] e = absurd (err_is_no_ok q sums (sym e))
 first_found force sums q (p ∷ ps) e = stops_at force sums p q ps (force p) refl e (λ v h. first_found force (with_pair sums p v) q ps h)
 
-pub fault_found : (force : ℕ × ℕ → Option (List ℤ)) (n : ℕ) (sums : List (List ℤ)) (q : ℕ × ℕ) → with_pairs force sums (pairs_of n) ≡ Err q → first_without_force force n ≡ Some q
+-- where adding up all pairs of a frame stops, it stops at the first pair without a force
+pub fault_found : (force : ℕ × ℕ → Option (Force ℤ)) (n : ℕ) (sums : List (Force ℤ)) (q : ℕ × ℕ) → with_pairs force sums (pairs_of n) ≡ Err q → first_without_force force n ≡ Some q
 fault_found force n sums q e = first_found force sums q (pairs_of n) e
 
-not_all_at : (force : ℕ × ℕ → Option (List ℤ)) (q p : ℕ × ℕ) (ps : List (ℕ × ℕ)) (o : Option (List ℤ)) → force p ≡ o
+not_all_at : (force : ℕ × ℕ → Option (Force ℤ)) (q p : ℕ × ℕ) (ps : List (ℕ × ℕ)) (o : Option (Force ℤ)) → force p ≡ o
     → find (λ p. is_none (force p)) (p ∷ ps) ≡ Some q
     → (find (λ p. is_none (force p)) ps ≡ Some q → list_all (λ p. is_some (force p)) ps ≡ false)
     → list_all (λ p. is_some (force p)) (p ∷ ps) ≡ false
 not_all_at force q p ps None h e rest = rw h refl
 not_all_at force q p ps (Some v) h e rest = rw h (rest (rw h at e))
 
-not_all : (force : ℕ × ℕ → Option (List ℤ)) (q : ℕ × ℕ) (ps : List (ℕ × ℕ)) → find (λ p. is_none (force p)) ps ≡ Some q → list_all (λ p. is_some (force p)) ps ≡ false
+not_all : (force : ℕ × ℕ → Option (Force ℤ)) (q : ℕ × ℕ) (ps : List (ℕ × ℕ)) → find (λ p. is_none (force p)) ps ≡ Some q → list_all (λ p. is_some (force p)) ps ≡ false
 not_all force q [] e = absurd (none_is_no_some q e)
 not_all force q (p ∷ ps) e = not_all_at force q p ps (force p) refl e (λ h. not_all force q ps h)
 
 -- a frame with a pair without a force has no forces
-pub no_forces : (force : ℕ × ℕ → Option (List ℤ)) (n : ℕ) (q : ℕ × ℕ) → first_without_force force n ≡ Some q → forces_of force n ≡ None
+pub no_forces : (force : ℕ × ℕ → Option (Force ℤ)) (n : ℕ) (q : ℕ × ℕ) → first_without_force force n ≡ Some q → forces_of force n ≡ None
 no_forces force n q e = rw (not_all force q (pairs_of n) e) refl

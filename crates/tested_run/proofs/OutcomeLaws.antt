@@ -71,6 +71,7 @@ is_end : (bits : ℕ) (code : List Instr) (inputs : List ℤ) (n : ℕ) (o : Res
 is_end bits code inputs n o None r e = absurd (none_is_no_some o e)
 is_end bits code inputs n o (Some s) r e = record { state = s; reached = r; over = e }
 
+-- code whose jumps go forward has the outcome with which its run ends
 pub outcome_is : (bits : ℕ) (code : List Instr) (inputs : List ℤ) (n : ℕ) (o : Result ℤ Trap) → JumpsForward code → Ends bits code inputs n o → outcome_of bits code inputs ≡ Some o
 unfolding outcome_of
 outcome_is bits code inputs n o forward e =
@@ -89,30 +90,36 @@ unfolding first_from
 found_at f x zero n h = absurd (none_is_no_some x h)
 found_at f x (suc count) n h = found_first f x n (f n) (first_from f count (suc n)) refl h (found_at f x count (suc n))
 
+-- an outcome of code is that of a run which ends with it
 pub outcome_ends : (bits : ℕ) (code : List Instr) (inputs : List ℤ) (o : Result ℤ Trap) → outcome_of bits code inputs ≡ Some o → (n : ℕ) × Ends bits code inputs n o
 unfolding outcome_of
 outcome_ends bits code inputs o h =
     let found = found_at (end_after bits code inputs) o (length code + 1) 0 h in
     (found.0, is_end bits code inputs found.0 o (after bits code inputs found.0) refl found.1)
 
+-- code whose jumps go forward has the outcome with which its run ends, and no other
 pub outcomes_are_ends : OutcomesAreEnds
 outcomes_are_ends bits code inputs o forward = (outcome_ends bits code inputs o, λ n e. outcome_is bits code inputs n o forward e)
 
 -- ---- what the tested machine says
 
+-- code that gives a slope traps by operations alone
 pub only_operations : (bits : ℕ) (energy : Tree) (code : List Instr) (inputs : List ℤ) (trap : Trap) → GivesSlope bits energy code inputs → (n : ℕ) × Ends bits code inputs n (Err trap) → is_operation trap.kind ≡ true
 only_operations bits energy code inputs trap h e = h.operation e.0 trap e.1
 
+-- where the run of such code ends with a value, that is the slope
 pub given_value : (bits : ℕ) (energy : Tree) (code : List Instr) (inputs : List ℤ) (v : ℤ) → GivesSlope bits energy code inputs → (n : ℕ) × Ends bits code inputs n (Ok v)
     → where_given (outcome_of bits code inputs) (slope_of bits inputs energy) ≡ Some v
 given_value bits energy code inputs v h e =
     ap (λ o. where_given o (slope_of bits inputs energy)) (outcome_is bits code inputs e.0 (Ok v) h.forward e.1) ∙ h.value e.0 v e.1
 
+-- where it traps, there is no slope
 pub given_none : (bits : ℕ) (energy : Tree) (code : List Instr) (inputs : List ℤ) (trap : Trap) → GivesSlope bits energy code inputs → (n : ℕ) × Ends bits code inputs n (Err trap)
     → where_given (outcome_of bits code inputs) (slope_of bits inputs energy) ≡ None
 given_none bits energy code inputs trap h e =
     ap (λ o. where_given o (slope_of bits inputs energy)) (outcome_is bits code inputs e.0 (Err trap) h.forward e.1)
 
+-- and the fault is that of the operation that trapped
 pub given_fault : (bits : ℕ) (energy : Tree) (code : List Instr) (inputs : List ℤ) (trap : Trap) (f : SlopeFault) → GivesSlope bits energy code inputs → (n : ℕ) × Ends bits code inputs n (Err trap)
     → operation_fault trap.pc trap.kind ≡ Some f → fault_of (outcome_of bits code inputs) ≡ Some f
 given_fault bits energy code inputs trap f h e is = ap fault_of (outcome_is bits code inputs e.0 (Err trap) h.forward e.1) ∙ is

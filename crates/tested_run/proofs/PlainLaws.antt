@@ -7,14 +7,16 @@ use Rattle.kernel_code.specs.declared.traps.Trap.{Trap}
 use Rattle.job.specs.Values.{JobValue}
 use Rattle.ring_box.specs.declared.boxes.RingBox.{RingBox}
 use Rattle.ring_box.specs.Distances.{square_of}
-use Rattle.ring_box.specs.Forces.{acting_distance_of, force_along_of}
+use Rattle.ring_box.specs.Forces.{acting_distance_of, force_along_of, no_force}
+use Rattle.ring_box.specs.declared.vectors.Force.{Force}
+use Rattle.ring_box.specs.declared.vectors.Place3.{Place3}
 use Rattle.fixed.specs.Fractions.{bits_of}
 use Rattle.derivative.specs.Slope.{slope_of}
 use Rattle.integrator.proofs.Constructors.{none_is_no_some}
 use Rattle.integrator.specs.Energies.{Energy}
 use Rattle.tested_run.specs.Outcomes.{where_given}
-use Rattle.integrator.specs.Forces.{none, plus, share_of, sum_of_shares, pairs_of, force_or_none, forces_of, numbers_from}
-use Rattle.integrator.specs.Frames.{Frames, force_at, frame_forces, frames, moved_frame, next_frame, pair_force, places_of, turn, turns}
+use Rattle.integrator.specs.Forces.{plus, share_of, sum_of_shares, pairs_of, force_or_none, forces_of, numbers_from}
+use Rattle.integrator.specs.Frames.{Frame, Frames, force_at, frame_forces, frames, moved_frame, next_frame, pair_force, places_of, turn, turns}
 use Rattle.integrator.specs.Starts.{Start, dynamics_by, pair_inputs, plain, start_at}
 use Rattle.tested_run.specs.TestedStarts.{pair_outcome, tested}
 use Rattle.integrator.specs.States.{frames_of}
@@ -30,21 +32,21 @@ Keeps {X} o p = (x : X) → o ≡ Some x → p ≡ Some x
 
 -- ---- a pair
 
-along_kept : (ring : RingBox) (o p : Option ℤ) (x y : List ℕ) → Keeps o p → Keeps (option_map (λ g. force_along_of ring (neg_ℤ g) x y) o) (option_map (λ g. force_along_of ring (neg_ℤ g) x y) p)
+along_kept : (ring : RingBox) (o o' : Option ℤ) (p q : Place3) → Keeps o o' → Keeps (option_map (λ g. force_along_of ring (neg_ℤ g) p q) o) (option_map (λ g. force_along_of ring (neg_ℤ g) p q) o')
 unfolding Keeps
-along_kept ring None p x y h v e = absurd (none_is_no_some v e)
-along_kept ring (Some g) p x y h v e = ap (option_map (λ g. force_along_of ring (neg_ℤ g) x y)) (h g refl) ∙ e
+along_kept ring None o' p q h v e = absurd (none_is_no_some v e)
+along_kept ring (Some g) o' p q h v e = ap (option_map (λ g. force_along_of ring (neg_ℤ g) p q)) (h g refl) ∙ e
 
-apart_kept : (ring : RingBox) (together : Bool) (o p : Option ℤ) (x y : List ℕ) → Keeps o p
-    → Keeps (if together then Some none else option_map (λ g. force_along_of ring (neg_ℤ g) x y) o) (if together then Some none else option_map (λ g. force_along_of ring (neg_ℤ g) x y) p)
+apart_kept : (ring : RingBox) (together : Bool) (o o' : Option ℤ) (p q : Place3) → Keeps o o'
+    → Keeps (if together then Some no_force else option_map (λ g. force_along_of ring (neg_ℤ g) p q) o) (if together then Some no_force else option_map (λ g. force_along_of ring (neg_ℤ g) p q) o')
 unfolding Keeps
-apart_kept ring true o p x y h v e = e
-apart_kept ring false o p x y h v e = along_kept ring o p x y h v e
+apart_kept ring true o o' p q h v e = e
+apart_kept ring false o o' p q h v e = along_kept ring o o' p q h v e
 
-at_kept : (ring : RingBox) (s t : ℤ → Option ℤ) (r : Option ℤ) (x y : List ℕ) → ((r : ℤ) → Keeps (s r) (t r)) → Keeps (force_at ring s r x y) (force_at ring t r x y)
+at_kept : (ring : RingBox) (s t : ℤ → Option ℤ) (r : Option ℤ) (p q : Place3) → ((r : ℤ) → Keeps (s r) (t r)) → Keeps (force_at ring s r p q) (force_at ring t r p q)
 unfolding Keeps
-at_kept ring s t None x y h v e = e
-at_kept ring s t (Some r) x y h v e = apart_kept ring (square_of ring x y == 0) (s r) (t r) x y (h r) v e
+at_kept ring s t None p q h v e = e
+at_kept ring s t (Some r) p q h v e = apart_kept ring (square_of ring p q == 0) (s r) (t r) p q (h r) v e
 
 -- ---- a frame
 
@@ -52,16 +54,16 @@ false_is_not_true : ◌≡◌ {A = Bool} false true → ⊥
 false_is_not_true e = cc
 
 -- what a pair and the pairs after it have, where all have a force
-record Forced (force : ℕ × ℕ → Option (List ℤ)) (p : ℕ × ℕ) (ps : List (ℕ × ℕ)) : Type 0 where
-  v : List ℤ
+record Forced (force : ℕ × ℕ → Option (Force ℤ)) (p : ℕ × ℕ) (ps : List (ℕ × ℕ)) : Type 0 where
+  v : Force ℤ
   has : force p ≡ Some v
   rest : list_all (λ p. is_some (force p)) ps ≡ true
 
-forced : (force : ℕ × ℕ → Option (List ℤ)) (p : ℕ × ℕ) (ps : List (ℕ × ℕ)) (o : Option (List ℤ)) → force p ≡ o → list_all (λ p. is_some (force p)) (p ∷ ps) ≡ true → Forced force p ps
+forced : (force : ℕ × ℕ → Option (Force ℤ)) (p : ℕ × ℕ) (ps : List (ℕ × ℕ)) (o : Option (Force ℤ)) → force p ≡ o → list_all (λ p. is_some (force p)) (p ∷ ps) ≡ true → Forced force p ps
 forced force p ps None h e = absurd (false_is_not_true (rw h at e))
 forced force p ps (Some v) h e = record { v = v; has = h; rest = rw h at e }
 
-module _ (force other : ℕ × ℕ → Option (List ℤ)) (kept : (p : ℕ × ℕ) → Keeps (force p) (other p)) where
+module _ (force other : ℕ × ℕ → Option (Force ℤ)) (kept : (p : ℕ × ℕ) → Keeps (force p) (other p)) where
   all_kept : (ps : List (ℕ × ℕ)) → list_all (λ p. is_some (force p)) ps ≡ true → list_all (λ p. is_some (other p)) ps ≡ true
   unfolding Keeps
   all_kept [] e = refl
@@ -74,7 +76,7 @@ module _ (force other : ℕ × ℕ → Option (List ℤ)) (kept : (p : ℕ × �
   shares_kept [] a e = refl
   shares_kept (p ∷ ps) a e =
       let f = forced force p ps (force p) refl e in
-      ap (λ o. plus (share_of p (unwrap_or o none) a) (sum_of_shares (force_or_none other) ps a)) (kept p f.v f.has ∙ sym f.has)
+      ap (λ o. plus (share_of p (unwrap_or o no_force) a) (sum_of_shares (force_or_none other) ps a)) (kept p f.v f.has ∙ sym f.has)
       ∙ ap (plus (share_of p (force_or_none force p) a)) (shares_kept ps a f.rest)
 
   lists_kept : (ps : List (ℕ × ℕ)) (atoms : List ℕ) → list_all (λ p. is_some (force p)) ps ≡ true → map (sum_of_shares (force_or_none other) ps) atoms ≡ map (sum_of_shares (force_or_none force) ps) atoms
@@ -89,6 +91,7 @@ module _ (force other : ℕ × ℕ → Option (List ℤ)) (kept : (p : ℕ × �
   chosen_kept n true h v e = rw (all_kept (pairs_of n) h) (ap Some (lists_kept (pairs_of n) (numbers_from 0 n) h) ∙ e)
   chosen_kept n false h v e = absurd (none_is_no_some v e)
 
+  -- where each pair's force is also the other's, so are the forces of the frame
   pub forces_kept : (n : ℕ) → Keeps (forces_of force n) (forces_of other n)
   forces_kept n = chosen_kept n (list_all (λ p. is_some (force p)) (pairs_of n)) refl
 
@@ -105,7 +108,7 @@ then_kept f g None p k h y e = absurd (none_is_no_some y e)
 then_kept f g (Some x) p k h y e = ap (option_and_then g) (h x refl) ∙ k x y e
 
 module _ (s t : ℕ × ℕ → ℤ → Option ℤ) (j : JobValue) (sides types : List ℕ) (kept : (p : ℕ × ℕ) (r : ℤ) → Keeps (s p r) (t p r)) where
-  frame_kept : (p c : List (List ℕ)) → Keeps (next_frame (dynamics_by s j sides types) p c) (next_frame (dynamics_by t j sides types) p c)
+  frame_kept : (p c : Frame) → Keeps (next_frame (dynamics_by s j sides types) p c) (next_frame (dynamics_by t j sides types) p c)
   frame_kept p c =
       let d = dynamics_by s j sides types in
       let e = dynamics_by t j sides types in
@@ -120,6 +123,7 @@ module _ (s t : ℕ × ℕ → ℤ → Option ℤ) (j : JobValue) (sides types :
   turn_kept Back f =
       map_kept (λ n. frames n f.previous) (next_frame (dynamics_by s j sides types) f.current f.previous) (next_frame (dynamics_by t j sides types) f.current f.previous) (frame_kept f.current f.previous)
 
+  -- where each slope is also the other's, so are the frames after n steps
   pub turns_kept : (w : Direction) (n : ℕ) (f : Frames) → Keeps (turns w (dynamics_by s j sides types) n f) (turns w (dynamics_by t j sides types) n f)
   unfolding turns Keeps
   turns_kept w zero f g e = e

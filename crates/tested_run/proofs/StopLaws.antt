@@ -4,7 +4,7 @@ use Rattle.std.specs.Prelude.{option_map}
 use Rattle.std.specs.Option.{option_and_then}
 use Rattle.state.specs.StateText.{StateView}
 use Rattle.integrator.proofs.Constructors.{none_is_no_some, ok_same}
-use Rattle.integrator.specs.Frames.{Dynamics, Frames, frames, moved_frame, next_frame, step, turn, turns, exchanged, pair_force}
+use Rattle.integrator.specs.Frames.{Dynamics, Frame, Frames, frames, moved_frame, next_frame, step, turn, turns, exchanged, pair_force}
 use Rattle.tested_run.specs.declared.slope_faults.SlopeFault.{SlopeFault}
 use Rattle.integrator.specs.declared.direction.Direction.{Direction}
 use Rattle.integrator.specs.declared.direction.Direction.TheVariants.{Forward, Back}
@@ -26,10 +26,12 @@ use Rattle.tested_run.specs.declared.faults.TestedFault.TheVariants as fault
 
 -- ---- steps
 
-pub step_from : (d : Dynamics) (p c n : List (List ℕ)) → next_frame d p c ≡ Some n → step d (frames p c) ≡ Some (frames c n)
+-- a frame that follows two frames is a step forward of them
+pub step_from : (d : Dynamics) (p c n : Frame) → next_frame d p c ≡ Some n → step d (frames p c) ≡ Some (frames c n)
 step_from d p c n e = ap (option_map (frames c)) e
 
-pub stops_exchanged : (d : Dynamics) (faults : Faults) (n : ℕ) (p c : List (List ℕ)) (done : ℕ) (pair : ℕ × ℕ) (why : SlopeFault) → StopsAt Forward d faults n (frames c p) done pair why → StopsAt Back d faults n (frames p c) done pair why
+-- a run forward that stops is, with its frames exchanged, a run back that stops
+pub stops_exchanged : (d : Dynamics) (faults : Faults) (n : ℕ) (p c : Frame) (done : ℕ) (pair : ℕ × ℕ) (why : SlopeFault) → StopsAt Forward d faults n (frames c p) done pair why → StopsAt Back d faults n (frames p c) done pair why
 stops_exchanged d faults n p c done pair why h =
     record {
       reached = exchanged h.reached;
@@ -41,7 +43,7 @@ stops_exchanged d faults n p c done pair why h =
 
 -- ---- a run that stops does not end
 
-no_frame : (d : Dynamics) (p c : List (List ℕ)) (pair : ℕ × ℕ) → first_without_force (pair_force d c) (length c) ≡ Some pair → next_frame d p c ≡ None
+no_frame : (d : Dynamics) (p c : Frame) (pair : ℕ × ℕ) → first_without_force (pair_force d c) (length c) ≡ Some pair → next_frame d p c ≡ None
 no_frame d p c pair e = ap (option_map (moved_frame d p c)) (no_forces (pair_force d c) (length c) pair e)
 
 no_turn : (w : Direction) (d : Dynamics) (f : Frames) (pair : ℕ × ℕ) → first_without_force (pair_force d (middle w f)) (length (middle w f)) ≡ Some pair → turn w d f ≡ None

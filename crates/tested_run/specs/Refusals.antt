@@ -1,5 +1,5 @@
 -- Why a tested run gives no state.
-use Rattle.std.specs.Prelude.{◌≡◌, ℕ, ◌+◌, ◌<◌, List, Ok, Err}
+use Rattle.std.specs.Prelude.{◌≡◌, ℕ, ◌+◌, List, Ok, Err}
 use Rattle.fallible.specs.Failures.{IfRefused}
 use Rattle.fallible.specs.Out.{Output}
 use Rattle.fallible.specs.declared.failure.Failure.TheVariants.{Memory}
@@ -51,8 +51,8 @@ IsRefusal job state direction steps (fault.Kernel f) = IsKernelFault job state d
 
 -- why the text of a tested run was not written, and what the output is left with: only a failed output has a beginning of the text
 abbrev pub IsTestedUnwritten : {A : Type 0} → List ℕ → List ℕ → Direction → ℕ → Output → Output → TestedRunFault A → Type 0
-IsTestedUnwritten job state direction steps before after (run.Run failure) = IfRefused failure (IsRefusal job state direction steps) × (after.0 ≡ before.0)
-IsTestedUnwritten job state direction steps before after (run.Out f) = WroteBeginning tested job state direction steps before.0 after.0 × (before.1 < after.1)
+IsTestedUnwritten job state direction steps before after (run.Run failure) = IfRefused failure (IsRefusal job state direction steps) × (after ≡ before)
+IsTestedUnwritten job state direction steps before after (run.Out f) = WroteBeginning tested job state direction steps before after
 
 -- memory ran out, or the output failed
 abbrev pub Wants : {A : Type 0} → TestedRunFault A → Type 0

@@ -1,17 +1,18 @@
 -- Where steps stop: at the first pair without a force, in the frame whose forces the next step wants.
-use Rattle.std.specs.Prelude.{ℕ, ℤ, ◌≡◌, ◌<◌, List, length, Option, Some, pos, ◌+ℤ◌, is_none, ◌-ℤ◌, slice_index}
+use Rattle.std.specs.Prelude.{ℕ, ℤ, ◌≡◌, ◌<◌, length, Option, Some, pos, ◌+ℤ◌, is_none, ◌-ℤ◌, slice_index}
 use Rattle.std.specs.Option.{option_and_then}
 use Rattle.std.specs.List.{find}
 use Rattle.ring_box.specs.Forces.{acting_distance_of}
+use Rattle.ring_box.specs.declared.vectors.Force.{Force}
 use Rattle.integrator.specs.declared.systems.System.{System}
 use Rattle.tested_run.specs.declared.slope_faults.SlopeFault.{SlopeFault}
 use Rattle.integrator.specs.declared.direction.Direction.{Direction}
 use Rattle.integrator.specs.declared.direction.Direction.TheVariants.{Forward, Back}
-use Rattle.integrator.specs.Frames.{Frames, places_of, Dynamics, pair_force, turns}
+use Rattle.integrator.specs.Frames.{Frame, Frames, places_of, Dynamics, pair_force, turns}
 use Rattle.integrator.specs.Forces.{pairs_of}
 
 -- the first pair without a force, by the lower index, then by the higher
-abbrev pub first_without_force : (ℕ × ℕ → Option (List ℤ)) → ℕ → Option (ℕ × ℕ)
+abbrev pub first_without_force : (ℕ × ℕ → Option (Force ℤ)) → ℕ → Option (ℕ × ℕ)
 first_without_force force n = find (λ p. is_none (force p)) (pairs_of n)
 
 -- why there is no slope, at a pair of atoms and a distance
@@ -23,12 +24,12 @@ abbrev pub faults_of : {K A : Type 0} → (K → ℕ → ℕ → ℤ → Option 
 faults_of fault s p r = fault s.kernel (slice_index s.types.items p.0) (slice_index s.types.items p.1) r
 
 -- why a pair has no force
-abbrev pub pair_fault : Dynamics → Faults → List (List ℕ) → ℕ × ℕ → Option SlopeFault
+abbrev pub pair_fault : Dynamics → Faults → Frame → ℕ × ℕ → Option SlopeFault
 pair_fault dynamics faults frame p =
     option_and_then (faults p) (acting_distance_of dynamics.frac dynamics.ring dynamics.core dynamics.cutoff (places_of frame p.0) (places_of frame p.1))
 
 -- the frame whose forces a step in a direction wants
-abbrev pub middle : Direction → Frames → List (List ℕ)
+abbrev pub middle : Direction → Frames → Frame
 middle Forward f = f.current
 middle Back f = f.previous
 

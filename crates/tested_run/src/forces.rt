@@ -3,8 +3,8 @@
 ghost use Rattle.std.specs.Prelude.{◌≡◌, ℕ, ◌+◌, ◌-◌, ◌*◌, ◌<◌, ◌≤◌, ◌^◌, neg_ℤ, unsigned_abs, length, replicate, Some, None, Ok, Err, IfOk, OnOk, IfErr};
 ghost use Rattle.std.specs.List.{All};
 ghost use Rattle.std.specs.Option.{option_and_then};
-ghost use Rattle.ring_box.specs.Forces.{acting_distance_of, force_along_of};
-ghost use Rattle.integrator.specs.Forces.{none, pairs_of, pairs_with, IsWithin};
+ghost use Rattle.ring_box.specs.Forces.{acting_distance_of, force_along_of, no_force, IsWithin};
+ghost use Rattle.integrator.specs.Forces.{pairs_of, pairs_with};
 ghost use Rattle.integrator.specs.Frames.{force_at, frame_forces, pair_force};
 ghost use Rattle.integrator.specs.Systems.{dynamics_of};
 ghost use Rattle.tested_run.specs.Adding.{with_pairs};
@@ -13,10 +13,10 @@ ghost use Rattle.tested_run.specs.Stops.{faults_of, first_without_force, pair_fa
 use crate::slope_faults::SlopeFault;
 use crate::slopes::TestedSlope;
 use crate::stops::PairFault;
-use crate::sums::{add_pair, clear};
+use crate::sums::{NO_FORCE, add_pair, clear};
 use fixed::Fx;
 use integrator::System;
-use ring_box::RingBox;
+use ring_box::{Force, Place3, RingBox};
 use std::alloc::Allocator;
 
 fn opposite(slope: Fx) -> i128
@@ -26,12 +26,12 @@ fn opposite(slope: Fx) -> i128
     -i128::from(slope.raw())
 }
 
-fn force_along(ring: &RingBox, minus_slope: i128, x: [u32; 3], y: [u32; 3]) -> [i128; 3]
+fn force_along(ring: &RingBox, minus_slope: i128, p: Place3, q: Place3) -> Force<i128>
     requires { unsigned_abs minus_slope ≤ 2 ^ 63 }
-    ensures value { result ≡ force_along_of ring.now minus_slope x y }
+    ensures value { result ≡ force_along_of ring.now minus_slope p q }
     ensures within { IsWithin (2 ^ 63) result }
 {
-    ring.force_along(minus_slope, x, y)
+    ring.force_along(minus_slope, p, q)
 }
 
 fn force_at<K: TestedSlope>(
@@ -40,54 +40,54 @@ fn force_at<K: TestedSlope>(
     a: u32,
     b: u32,
     r: Fx,
-    x: [u32; 3],
-    y: [u32; 3],
-) -> Result<[i128; 3], SlopeFault>
+    p: Place3,
+    q: Place3,
+) -> Result<Force<i128>, SlopeFault>
     requires lower { a < K.types kernel.now }
     requires higher { b < K.types kernel.now }
-    ensures value { IfOk result (λ v. force_at ring.now (K.slope kernel.now a b) (Some r) x y ≡ Some v) }
+    ensures value { IfOk result (λ v. force_at ring.now (K.slope kernel.now a b) (Some r) p q ≡ Some v) }
     ensures within { IfOk result (IsWithin (2 ^ 63)) }
-    ensures none { IfErr result (λ _. force_at ring.now (K.slope kernel.now a b) (Some r) x y ≡ None) }
+    ensures none { IfErr result (λ _. force_at ring.now (K.slope kernel.now a b) (Some r) p q ≡ None) }
     ensures fault { IfErr result (λ f. K.fault kernel.now a b r ≡ Some f) }
 {
-    if ring.square(x, y) == 0 {
-        return Ok([0, 0, 0]);
+    if ring.square(p, q) == 0 {
+        return Ok(NO_FORCE);
     }
     let slope = kernel.slope(a, b, r)?;
-    Ok(force_along(ring, opposite(slope), x, y))
+    Ok(force_along(ring, opposite(slope), p, q))
 }
 
-/// The force on the first of two atoms of the types `a` and `b` at the places `x` and `y`, or why it has none.
+/// The force on the first of two atoms of the types `a` and `b` at the places `p` and `q`, or why it has none.
 fn force_between<K: TestedSlope + Drop, A: Allocator>(
     system: &System<K, A>,
     a: u32,
     b: u32,
-    x: [u32; 3],
-    y: [u32; 3],
-) -> Result<[i128; 3], SlopeFault>
+    p: Place3,
+    q: Place3,
+) -> Result<Force<i128>, SlopeFault>
     requires lower { a < K.types system.now.kernel }
     requires higher { b < K.types system.now.kernel }
-    ensures value { IfOk result (λ v. force_at system.now.ring (K.slope system.now.kernel a b) (acting_distance_of system.now.frac system.now.ring system.now.core system.now.cutoff x y) x y ≡ Some v) }
+    ensures value { IfOk result (λ v. force_at system.now.ring (K.slope system.now.kernel a b) (acting_distance_of system.now.frac system.now.ring system.now.core system.now.cutoff p q) p q ≡ Some v) }
     ensures within { IfOk result (IsWithin (2 ^ 63)) }
-    ensures none { IfErr result (λ _. force_at system.now.ring (K.slope system.now.kernel a b) (acting_distance_of system.now.frac system.now.ring system.now.core system.now.cutoff x y) x y ≡ None) }
-    ensures fault { IfErr result (λ f. option_and_then (K.fault system.now.kernel a b) (acting_distance_of system.now.frac system.now.ring system.now.core system.now.cutoff x y) ≡ Some f) }
+    ensures none { IfErr result (λ _. force_at system.now.ring (K.slope system.now.kernel a b) (acting_distance_of system.now.frac system.now.ring system.now.core system.now.cutoff p q) p q ≡ None) }
+    ensures fault { IfErr result (λ f. option_and_then (K.fault system.now.kernel a b) (acting_distance_of system.now.frac system.now.ring system.now.core system.now.cutoff p q) ≡ Some f) }
 {
     match system
         .ring
-        .acting_distance(system.frac, system.core, system.cutoff, x, y)
+        .acting_distance(system.frac, system.core, system.cutoff, p, q)
     {
-        None => Ok([0, 0, 0]),
-        Some(r) => force_at(&system.ring, &system.kernel, a, b, r, x, y),
+        None => Ok(NO_FORCE),
+        Some(r) => force_at(&system.ring, &system.kernel, a, b, r, p, q),
     }
 }
 
 /// The force on the lower atom of a pair, or why it has none.
 fn pair_force<K: TestedSlope + Drop, A: Allocator>(
     system: &System<K, A>,
-    frame: &[[u32; 3]],
+    frame: &[Place3],
     low: usize,
     high: usize,
-) -> Result<[i128; 3], SlopeFault>
+) -> Result<Force<i128>, SlopeFault>
     requires low { low < length frame.now }
     requires high { high < length frame.now }
     requires atoms { length frame.now ≡ length system.now.types.items }
@@ -109,9 +109,9 @@ fn pair_force<K: TestedSlope + Drop, A: Allocator>(
 /// Adds the forces of the pairs of the atom `low` with the atoms above it to the sums, by the higher atom.
 fn add_row<K: TestedSlope + Drop, A: Allocator>(
     system: &System<K, A>,
-    frame: &[[u32; 3]],
+    frame: &[Place3],
     low: usize,
-    sums: &mut [[i128; 3]],
+    sums: &mut [Force<i128>],
 ) -> Result<(), PairFault>
     requires low { low < length frame.now }
     requires atoms { length frame.now ≡ length system.now.types.items }
@@ -135,12 +135,12 @@ fn add_row<K: TestedSlope + Drop, A: Allocator>(
 /// Adds the forces of all pairs to the sums, by the lower atom and then by the higher.
 fn add_rows<K: TestedSlope + Drop, A: Allocator>(
     system: &System<K, A>,
-    frame: &[[u32; 3]],
-    sums: &mut [[i128; 3]],
+    frame: &[Place3],
+    sums: &mut [Force<i128>],
 ) -> Result<(), PairFault>
     requires atoms { length frame.now ≡ length system.now.types.items }
     requires known { All (λ t. t < K.types system.now.kernel) system.now.types.items }
-    requires zero { sums.old ≡ replicate (length frame.now) none }
+    requires zero { sums.old ≡ replicate (length frame.now) no_force }
     ensures value { OnOk result (with_pairs (pair_force (dynamics_of K.slope system.now) frame.now) sums.old (pairs_of (length frame.now)) ≡ Ok sums.new) }
     ensures fault { IfErr result (λ e. with_pairs (pair_force (dynamics_of K.slope system.now) frame.now) sums.old (pairs_of (length frame.now)) ≡ Err (e.low, e.high)) }
     ensures why { IfErr result (λ e. pair_fault (dynamics_of K.slope system.now) (faults_of K.fault system.now) frame.now (e.low, e.high) ≡ Some e.fault) }
@@ -155,8 +155,8 @@ fn add_rows<K: TestedSlope + Drop, A: Allocator>(
 /// the higher.
 pub(crate) fn forces<K: TestedSlope + Drop, A: Allocator>(
     system: &System<K, A>,
-    frame: &[[u32; 3]],
-    sums: &mut [[i128; 3]],
+    frame: &[Place3],
+    sums: &mut [Force<i128>],
 ) -> Result<(), PairFault>
     requires atoms { length frame.now ≡ length system.now.types.items }
     requires known { All (λ t. t < K.types system.now.kernel) system.now.types.items }

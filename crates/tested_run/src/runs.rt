@@ -3,7 +3,7 @@
 ghost use Rattle.std.specs.Prelude.{◌≡◌, ◌<◌, ◌+◌, ◌-◌, ◌^◌, ◌+ℤ◌, ◌-ℤ◌, pos, length, map, true, Some, IfOk, OnOk, IfErr, ℕ, List, MatchResult};
 ghost use Rattle.std.specs.List.{All};
 ghost use Rattle.fallible.specs.Failures.{IfRefused};
-ghost use Rattle.fallible.specs.Out.{appended};
+ghost use Rattle.fallible.specs.Out.{Appends};
 ghost use Rattle.state.specs.StateViews.{atom_view, state_view};
 ghost use Rattle.fixed.specs.Arithmetic.{in_range};
 ghost use Rattle.integrator.specs.Runs.{IsAfter, IsRun, Ran, Wrote};
@@ -21,8 +21,10 @@ use crate::slopes::TestedSlope;
 use crate::starts::start;
 use crate::steps::turns;
 use crate::stops::Stop;
+use crate::sums::NO_FORCE;
 use fallible::{Failure, Out};
 use integrator::{Direction, System, Turned, advance, current_frame, previous_frame};
+use ring_box::{Force, Place3};
 use state::{Atom, State};
 use std::alloc::Allocator;
 
@@ -31,9 +33,9 @@ fn turn_frames<K: TestedSlope + Drop, A: Allocator>(
     system: &System<K, A>,
     direction: Direction,
     steps: u64,
-    previous: &mut Vec<[u32; 3], A>,
-    current: &mut Vec<[u32; 3], A>,
-    sums: &mut [[i128; 3]],
+    previous: &mut Vec<Place3, A>,
+    current: &mut Vec<Place3, A>,
+    sums: &mut [Force<i128>],
 ) -> Result<(), Stop>
     requires previous { length previous.old.items ≡ length system.now.masses.items }
     requires current { length current.old.items ≡ length system.now.masses.items }
@@ -67,7 +69,7 @@ fn frames_after<K: TestedSlope + Drop, A: Allocator + Copy>(
 {
     let mut previous = previous_frame(alloc, atoms)?;
     let mut current = current_frame(alloc, atoms)?;
-    let mut sums = vec![in alloc; [0; 3]; atoms.len()]?;
+    let mut sums = vec![in alloc; NO_FORCE; atoms.len()]?;
     match turn_frames(
         system,
         direction,
@@ -226,14 +228,13 @@ pub fn run_bytes_checked<A: Allocator + Copy, O: Out>(
     direction: Direction,
     out: &mut O,
 ) -> Result<(), TestedRunFault<A>>
-    requires count { O.failed out.old < 2 ^ 64 - 1 }
+    requires count { (O.output out.old).failed < 2 ^ 64 - 1 }
     // The text of the state after the steps is written.
-    ensures ran { OnOk result (Wrote tested job.now state.now direction steps (O.taken out.old) (O.taken out.new)) }
-    ensures kept { OnOk result (O.failed out.new ≡ O.failed out.old) }
+    ensures ran { OnOk result (Wrote tested job.now state.now direction steps (O.output out.old) (O.output out.new)) }
     // Why it is not: a refusal writes nothing, a failed output is left with a beginning of it.
-    ensures refused { IfErr result (IsTestedUnwritten job.now state.now direction steps (O.taken out.old, O.failed out.old) (O.taken out.new, O.failed out.new)) }
+    ensures refused { IfErr result (IsTestedUnwritten job.now state.now direction steps (O.output out.old) (O.output out.new)) }
     // Where the texts have a run it is written, unless memory or the output fails.
-    ensures only { (text : List ℕ) → IsRun tested job.now state.now direction steps text → MatchResult result (λ _. O.taken out.new ≡ appended (O.taken out.old) text) Wants }
+    ensures only { (text : List ℕ) → IsRun tested job.now state.now direction steps text → MatchResult result (λ _. Appends (O.output out.old) (O.output out.new) text) Wants }
     // The texts that have a tested run have it with the plain slope.
     ensures same { (text : List ℕ) → IsRun tested job.now state.now direction steps text → IsRun plain job.now state.now direction steps text }
     // So many steps the other way over the written text give the starting text.

@@ -2,7 +2,7 @@
 
 ghost use Rattle.std.specs.Prelude.{◌≡◌, ◌<◌, ◌≤◌, ◌^◌, length, Some, OnOk, IfErr};
 ghost use Rattle.std.specs.List.{All};
-ghost use Rattle.integrator.specs.Forces.{IsWithin};
+ghost use Rattle.ring_box.specs.Forces.{IsWithin};
 ghost use Rattle.integrator.specs.Frames.{frames, moved_frame, next_frame, pair_force, step, turns};
 ghost use Rattle.integrator.specs.declared.direction.Direction.TheVariants.{Forward};
 ghost use Rattle.integrator.specs.Systems.{dynamics_of};
@@ -12,15 +12,16 @@ use crate::forces::forces;
 use crate::slopes::TestedSlope;
 use crate::stops::{PairFault, Stop};
 use integrator::System;
+use ring_box::{Force, Place3};
 use std::alloc::Allocator;
 use std::mem;
 
 /// Makes of the frame `before` the one that follows it and `middle`, where the atoms feel these forces at `middle`.
 fn advance<K: TestedSlope + Drop, A: Allocator>(
     system: &System<K, A>,
-    before: &mut [[u32; 3]],
-    middle: &[[u32; 3]],
-    forces: &[[i128; 3]],
+    before: &mut [Place3],
+    middle: &[Place3],
+    forces: &[Force<i128>],
 )
     requires atoms { length middle.now ≡ length system.now.masses.items }
     requires before { length before.old ≡ length middle.now }
@@ -42,9 +43,9 @@ fn advance<K: TestedSlope + Drop, A: Allocator>(
 /// Makes of the frame `before` the one that follows it and `middle`. Where a pair has no force it stays.
 fn follow<K: TestedSlope + Drop, A: Allocator>(
     system: &System<K, A>,
-    before: &mut [[u32; 3]],
-    middle: &[[u32; 3]],
-    sums: &mut [[i128; 3]],
+    before: &mut [Place3],
+    middle: &[Place3],
+    sums: &mut [Force<i128>],
 ) -> Result<(), PairFault>
     requires before { length before.old ≡ length middle.now }
     requires middle { length middle.now ≡ length system.now.masses.items }
@@ -63,9 +64,9 @@ fn follow<K: TestedSlope + Drop, A: Allocator>(
 /// they stay.
 fn turn<K: TestedSlope + Drop, A: Allocator>(
     system: &System<K, A>,
-    before: &mut Vec<[u32; 3], A>,
-    middle: &mut Vec<[u32; 3], A>,
-    sums: &mut [[i128; 3]],
+    before: &mut Vec<Place3, A>,
+    middle: &mut Vec<Place3, A>,
+    sums: &mut [Force<i128>],
 ) -> Result<(), PairFault>
     requires before { length before.old.items ≡ length system.now.masses.items }
     requires middle { length middle.old.items ≡ length system.now.masses.items }
@@ -86,9 +87,9 @@ fn turn<K: TestedSlope + Drop, A: Allocator>(
 pub(crate) fn turns<K: TestedSlope + Drop, A: Allocator>(
     system: &System<K, A>,
     steps: u64,
-    before: &mut Vec<[u32; 3], A>,
-    middle: &mut Vec<[u32; 3], A>,
-    sums: &mut [[i128; 3]],
+    before: &mut Vec<Place3, A>,
+    middle: &mut Vec<Place3, A>,
+    sums: &mut [Force<i128>],
 ) -> Result<(), Stop>
     requires before { length before.old.items ≡ length system.now.masses.items }
     requires middle { length middle.old.items ≡ length system.now.masses.items }

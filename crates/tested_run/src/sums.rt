@@ -2,8 +2,14 @@
 
 ghost use Rattle.std.specs.Prelude.{◌≡◌, ℕ, ◌<◌, ◌+◌, ◌^◌, ◌≤◌, ◌+ℤ◌, unsigned_abs, length, replicate};
 ghost use Rattle.std.specs.List.{All};
-ghost use Rattle.integrator.specs.Forces.{negative, none, plus, IsWithin};
+ghost use Rattle.ring_box.specs.Forces.{no_force, IsWithin};
+ghost use Rattle.integrator.specs.Forces.{negative, plus};
 ghost use Rattle.tested_run.specs.Adding.{with_force, with_pair};
+
+use ring_box::Force;
+
+/// What the sums begin at.
+pub(crate) const NO_FORCE: Force<i128> = Force { x: 0, y: 0, z: 0 };
 
 fn add(a: i128, b: i128) -> i128
     requires a { unsigned_abs a ≤ 2 ^ 100 }
@@ -13,23 +19,31 @@ fn add(a: i128, b: i128) -> i128
     a + b
 }
 
-fn sum(u: [i128; 3], v: [i128; 3]) -> [i128; 3]
-    requires u { IsWithin (2 ^ 100) u }
-    requires v { IsWithin (2 ^ 63) v }
-    ensures { result ≡ plus u v }
+fn sum(f: Force<i128>, g: Force<i128>) -> Force<i128>
+    requires f { IsWithin (2 ^ 100) f }
+    requires g { IsWithin (2 ^ 63) g }
+    ensures { result ≡ plus f g }
 {
-    [add(u[0], v[0]), add(u[1], v[1]), add(u[2], v[2])]
+    Force {
+        x: add(f.x, g.x),
+        y: add(f.y, g.y),
+        z: add(f.z, g.z),
+    }
 }
 
-fn opposite_force(force: [i128; 3]) -> [i128; 3]
+fn opposite_force(force: Force<i128>) -> Force<i128>
     requires { IsWithin (2 ^ 63) force }
     ensures value { result ≡ negative force }
     ensures within { IsWithin (2 ^ 63) result }
 {
-    [-force[0], -force[1], -force[2]]
+    Force {
+        x: -force.x,
+        y: -force.y,
+        z: -force.z,
+    }
 }
 
-fn add_force(sums: &mut [[i128; 3]], atom: usize, force: [i128; 3])
+fn add_force(sums: &mut [Force<i128>], atom: usize, force: Force<i128>)
     requires atom { atom < length sums.old }
     requires room { All (IsWithin (2 ^ 100)) sums.old }
     requires force { IsWithin (2 ^ 63) force }
@@ -41,7 +55,7 @@ fn add_force(sums: &mut [[i128; 3]], atom: usize, force: [i128; 3])
 }
 
 /// Adds the force of a pair to the sums: it acts on the lower atom, and its negative on the higher.
-pub(crate) fn add_pair(sums: &mut [[i128; 3]], low: usize, high: usize, force: [i128; 3])
+pub(crate) fn add_pair(sums: &mut [Force<i128>], low: usize, high: usize, force: Force<i128>)
     requires low { low < length sums.old }
     requires high { high < length sums.old }
     requires room { All (IsWithin (2 ^ 99)) sums.old }
@@ -54,8 +68,8 @@ pub(crate) fn add_pair(sums: &mut [[i128; 3]], low: usize, high: usize, force: [
 }
 
 /// Sets all sums to zero.
-pub(crate) fn clear(sums: &mut [[i128; 3]])
-    ensures { sums.new ≡ replicate (length sums.old) none }
+pub(crate) fn clear(sums: &mut [Force<i128>])
+    ensures { sums.new ≡ replicate (length sums.old) no_force }
 {
-    sums.fill([0, 0, 0]);
+    sums.fill(NO_FORCE);
 }

@@ -11,6 +11,7 @@ use Rattle.tile_pool.specs.Workers.{Each, EachEarlier, Ascends}
 use Rattle.tile_pool.specs.Rule.{same, count, once_below}
 
 module _ {A : Type 0} where
+  -- a write changes the sum by what the element at that place was and is
   pub sum_at : (g : A → ℕ) (xs : List A) (i : ℕ) (x y : A) → get_elem? xs i ≡ some x → sum_by g (set xs i y) + g x ≡ sum_by g xs + g y
   sum_at g [] i x y at = absurd (some-ne-none x (sym at))
   sum_at g (z ∷ zs) zero x y at =
@@ -20,6 +21,7 @@ module _ {A : Type 0} where
       let rest : sum_by g (set zs i y) + g x ≡ sum_by g zs + g y = sum_at g zs i x y at in
       omega (arith, sum_by-cons g z (set zs i y), sum_by-cons g z zs)
 
+  -- where each element counts no more by f than by g, so does the sum
   pub sum_le_each : (f g : A → ℕ) (xs : List A) → Each (λ x. f x ≤ g x) xs → sum_by f xs ≤ sum_by g xs
   sum_le_each f g [] h = omega arith
   sum_le_each f g (x ∷ xs) h =
@@ -27,6 +29,7 @@ module _ {A : Type 0} where
       let here : f x ≤ g x = h.0 in
       omega (arith, sum_by-cons f x xs, sum_by-cons g x xs)
 
+  -- where each element counts the same by f as by g, so does the sum
   pub sum_eq_each : (f g : A → ℕ) (xs : List A) → Each (λ x. f x ≡ g x) xs → sum_by f xs ≡ sum_by g xs
   sum_eq_each f g [] h = refl
   sum_eq_each f g (x ∷ xs) h =
@@ -34,40 +37,49 @@ module _ {A : Type 0} where
       let here : f x ≡ g x = h.0 in
       omega (arith, sum_by-cons f x xs, sum_by-cons g x xs)
 
+  -- one for each element sums to the length
   pub sum_of_ones : (xs : List A) → sum_by (λ _. 1) xs ≡ length xs
   sum_of_ones [] = refl
   sum_of_ones (x ∷ xs) = let e : sum_by (λ _. 1) xs ≡ length xs = sum_of_ones xs in omega (arith, sum_by-cons (λ (_ : A). 1) x xs)
 
+  -- a property that follows from another holds of each element of which the other holds
   pub each_of : (P Q : A → Type 0) (xs : List A) → ((x : A) → P x → Q x) → Each P xs → Each Q xs
   each_of P Q [] f h = tt
   each_of P Q (x ∷ xs) f h = (f x h.0, each_of P Q xs f h.1)
 
+  -- a property of each element of two lists is one of each element of the lists in a row
   pub each_append : (P : A → Type 0) (xs ys : List A) → Each P xs → Each P ys → Each P (xs ++ ys)
   each_append P [] ys h k = k
   each_append P (x ∷ xs) ys h k = (h.0, each_append P xs ys h.1 k)
 
+  -- a property of each element is one of the last
   pub each_last : (P : A → Type 0) (xs : List A) (x : A) → Each P (xs ++ x ∷ []) → P x
   each_last P [] x h = h.0
   each_last P (y ∷ ys) x h = each_last P ys x h.1
 
+  -- each element of a list of copies is the copy
   pub all_alike : (x : A) (n i : ℕ) → get_or (replicate n x) i x ≡ x
   all_alike x zero i = refl
   all_alike x (suc n) zero = refl
   all_alike x (suc n) (suc i) = all_alike x n i
 
+  -- a property of each element is one of the first
   pub each_first : (P : A → Type 0) (xs : List A) → Each P xs → Each P (take 1 xs)
   each_first P [] h = tt
   each_first P (x ∷ xs) h = (h.0, tt)
 
+  -- the same of those behind the first
   pub each_rest : (P : A → Type 0) (xs : List A) → Each P xs → Each P (drop 1 xs)
   each_rest P [] h = tt
   each_rest P (x ∷ xs) h = h.1
 
+  -- the same of the one at a place
   pub each_at : (P : A → Type 0) (xs : List A) (i : ℕ) (x : A) → Each P xs → get_elem? xs i ≡ some x → P x
   each_at P [] i x h at = absurd (some-ne-none x (sym at))
   each_at P (y ∷ ys) zero x h at = subst P (some-injective y x at) h.0
   each_at P (y ∷ ys) (suc i) x h at = each_at P ys i x h.1 at
 
+  -- a property of each element, and of one that is written, is one of each after the write
   pub each_set : (P : A → Type 0) (xs : List A) (i : ℕ) (x : A) → Each P xs → P x → Each P (set xs i x)
   each_set P [] i x h new = tt
   each_set P (y ∷ ys) zero x h new = (new, h.1)
@@ -90,33 +102,41 @@ sum_flat_map g f (x ∷ xs) =
 abbrev pub past : ℕ → ℕ → ℕ
 past n x = cond (nat_lt x n) 0 1
 
+-- a number below n is not past it
 pub past_below : (n x : ℕ) → x < n → past n x ≡ 0
 past_below n x h = grind (arith, nat_tests)
 
+-- a number from n on is past it
 pub past_past : (n x : ℕ) → n ≤ x → past n x ≡ 1
 past_past n x h = grind (arith, nat_tests)
 
+-- each number is past n once at most
 pub past_le : (n x : ℕ) → past n x ≤ 1
 past_le n x = ⊎_elim (λ lt. let e = past_below n x lt in omega arith) (λ le. let e = past_past n x le in omega arith) (cases_lt x n)
 
+-- up to n no number is past n
 pub below_none : (n m : ℕ) → m ≤ n → below (past n) m ≡ 0
 below_none n zero h = refl
 below_none n (suc m) h = let e = below_none n m (omega arith) in let p = past_below n m (omega arith) in omega arith
 
+-- of the numbers below m at most n are not past n
 pub below_past : (n m : ℕ) → m ≤ n + below (past n) m
 below_past n zero = omega arith
 below_past n (suc m) = let e = below_past n m in ⊎_elim (λ lt. omega arith) (λ le. let p = past_past n m le in omega arith) (cases_lt m n)
 
+-- one for each number below n sums to n
 pub below_ones : (n : ℕ) → below (λ _. 1) n ≡ n
 below_ones zero = refl
 below_ones (suc n) = let e : below (λ _. 1) n ≡ n = below_ones n in omega arith
 
+-- where no number of a list is past n, each is below n
 pub all_below : (n : ℕ) (ts : List ℕ) → sum_by (past n) ts ≡ 0 → Each (λ t. t < n) ts
 all_below n [] e = tt
 all_below n (t ∷ ts) e =
     let c = sum_by-cons (past n) t ts in
     (⊎_elim (λ lt. lt) (λ le. let p = past_past n t le in absurd (omega arith)) (cases_lt t n), all_below n ts (omega arith))
 
+-- where each number of a list is below n, none is past n
 pub none_past : (n : ℕ) (ts : List ℕ) → Each (λ t. t < n) ts → sum_by (past n) ts ≡ 0
 none_past n [] h = refl
 none_past n (t ∷ ts) h = let e = none_past n ts h.1 in let p = past_below n t h.0 in omega (arith, sum_by-cons (past n) t ts)
@@ -130,13 +150,16 @@ one_past n (t ∷ u ∷ us) h =
     let e : sum_by (past n) (u ∷ us) ≤ 1 = one_past n (u ∷ us) h.1 in
     omega (arith, sum_by-cons (past n) t (u ∷ us))
 
+-- an ascending list still ascends with one number more that is past all of it
 pub ascends_push : (ts : List ℕ) (n : ℕ) → Ascends ts → Each (λ t. t < n) ts → Ascends (ts ++ n ∷ [])
 ascends_push [] n a b = (tt, tt)
 ascends_push (t ∷ ts) n a b = (each_append (λ u. t < u) ts (n ∷ []) a.0 (b.0, tt), ascends_push ts n a.1 b.1)
 
+-- a number is the same as itself
 pub same_here : (n x : ℕ) → x ≡ n → same n x ≡ 1
 same_here n x e = grind (arith, nat_tests)
 
+-- other numbers are not the same
 pub same_else : (n x : ℕ) → x ≢ n → same n x ≡ 0
 same_else n x ne = grind (arith, nat_tests)
 
@@ -146,6 +169,7 @@ once_here bound n lt = grind (arith, nat_tests)
 once_past : (bound n : ℕ) → bound ≤ n → once_below bound n ≡ 0
 once_past bound n le = grind (arith, nat_tests)
 
+-- each number is below the bound once at most
 pub once_most : (bound n : ℕ) → once_below bound n ≤ 1
 once_most bound n = ⊎_elim (λ lt. let e = once_here bound n lt in omega arith) (λ le. let e = once_past bound n le in omega arith) (cases_lt n bound)
 
@@ -221,6 +245,7 @@ counted_below n (x ∷ xs) h =
       counted_below n xs (λ t. let m = h t in let d = sum_by-cons (same t) x xs in omega arith),
     )
 
+-- where each number below n stands in a list once, and no other, a sum over the list is the sum over the numbers below n
 pub summed : (xs : List ℕ) (n : ℕ) → ((t : ℕ) → count t xs ≡ once_below n t) → (f : ℕ → ℕ) → sum_by f xs ≡ below f n
 summed xs n once f =
     summed_by_counts f xs n (counted_below n xs (λ t. let e = once t in omega arith))

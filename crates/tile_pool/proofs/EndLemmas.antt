@@ -38,6 +38,7 @@ module _ (tiles : List (List Addition)) (atoms workers : ℕ) where
   fresh_added zero = tt
   fresh_added (suc n) = (inl (refl, refl), fresh_added n)
 
+  -- the rule holds of the table as it opens: all words zero, and one seat that stands for all workers
   pub opens : IsPool tiles atoms workers (replicate (3 * atoms + 1) zero) (fresh_workers workers ∷ [])
   opens = record {
     wide = length-replicate (3 * atoms + 1) zero;
@@ -71,6 +72,7 @@ module _ (tiles : List (List Addition)) (atoms workers : ℕ) where
       let of : Each P v = each_at (Each P) views id v h at in
       each_append (Each P) (set views id (drop 1 v)) (take 1 v ∷ []) (each_set (Each P) views id (drop 1 v) h (each_rest P v of)) (each_first P v of, tt)
 
+  -- a property of each worker in all views stays one when a view takes over another's workers
   pub each_joined : (P : Worker → Type 0) (views : List (List Worker)) (id other : ℕ) (v w : List Worker) → get_elem? views id ≡ some v → ¬ (other ≡ id) → get_elem? (set views id (v ++ w)) other ≡ some w
       → Each (Each P) views → Each (Each P) (set (set views id (v ++ w)) other [])
   each_joined P views id other v w at apart there h =
@@ -78,6 +80,7 @@ module _ (tiles : List (List Addition)) (atoms workers : ℕ) where
       let two : Each P w = ⊎_elim (λ t. absurd (apart t.0)) (λ t. each_at (Each P) views other w h t.1) (at_set views id other (v ++ w) w there) in
       each_set (Each P) (set views id (v ++ w)) other [] (each_set (Each P) views id (v ++ w) h (each_append P v w one two)) tt
 
+  -- the rule is kept when a seat is cut into its first worker and the others
   pub splits : (id : ℕ) (v : List Worker) → Splits (Holds tiles atoms workers) id v (drop 1 v) (take 1 v)
   splits id v s kept at =
       same_workers s.words s.views (set s.views id (drop 1 v) ++ take 1 v ∷ []) kept
@@ -85,6 +88,7 @@ module _ (tiles : List (List Addition)) (atoms workers : ℕ) where
       (each_cut (IsInOrder tiles) s.views id v at kept.order)
       (each_cut (HasAdded tiles) s.views id v at kept.deposits)
 
+  -- the rule is kept when a seat takes over the workers of another
   pub joins : (id : ℕ) (v : List Worker) (other : ℕ) (w : List Worker) → Joins (Holds tiles atoms workers) id v other w (v ++ w) []
   joins id v other w s kept at apart there =
       same_workers s.words s.views (set (set s.views id (v ++ w)) other []) kept
@@ -141,6 +145,7 @@ module _ (tiles : List (List Addition)) (atoms workers : ℕ) where
     stopped_sum : (k : ℕ) (h : Worker) → HasStopped tiles h → on_entry k h.deposits ≡ sum_by (λ t. on_entry k (tile_at tiles t)) h.tickets
     stopped_sum k h s = ap (on_entry k) s.deposits ∙ sum_flat_map (amount_on k) (tile_at tiles) h.tickets
 
+    -- once all workers are in one view and have stopped, each word after the first is the total of its entry, modulo 2^64
     pub ends : 0 < workers → length v ≡ workers → Each (HasStopped tiles) v → (k : ℕ) → k < 3 * atoms → slice_index words (1 + k) ≡ total tiles k % 2 ^ 64
     ends some_one full stopped k lt =
         let drawn = all_drawn some_one full stopped in

@@ -53,6 +53,7 @@ module _ {A : Type 0} where
   get_replicate (suc n) (suc i) x lt = get_replicate n i x (omega arith)
 
 module _ (tiles : List (List Addition)) where
+  -- the table as it is made stands for the machine's opening
   pub opens : Opens tiles
   opens workers entries = (ap (λ n. replicate n zero) (add-one entries), (fresh_stand workers (omega arith), tt))
     where
@@ -118,6 +119,7 @@ module _ (tiles : List (List Addition)) where
           } in
           subst (StandsAs tiles (drew w t)) (sym (stand_past tiles t le)) stopped
 
+  -- a worker that may draw and does is a claim that the machine accepts
   pub claims : ClaimsAccepted tiles
   claims atoms workers s words views id w round at ready =
       let own : StandsIn tiles s w = (each_at (Each (StandsIn tiles s)) views id (w ∷ []) round.stands at).0 in
@@ -150,6 +152,7 @@ module _ (tiles : List (List Addition)) where
       let d : length w.deposits ≡ length (additions tiles w.tickets) = ap length as_now.deposits in
       absurd (omega (arith, length-append w.deposits (a ∷ rest)))
 
+  -- a worker that makes the addition which it owes next is a deposit that the machine accepts
   pub deposits : DepositsAccepted tiles
   deposits atoms workers s words views id w entry amount rest round at o =
       let a : Addition = (entry, amount) in
@@ -169,8 +172,10 @@ module _ (tiles : List (List Addition)) where
         stands = subst (λ x. Each (Each (StandsIn tiles x)) (set views id (added w (a ∷ []) ∷ []))) (ap (λ p. p.0) (sym stepped)) stands;
       }
 
+  -- a view that is cut in two is no event
   pub cuts : CutsKeep tiles
   cuts s views id v stands at = each_cut tiles 0 0 (StandsIn tiles s) views id v at stands
 
+  -- two views that are made one are no event
   pub joins : JoinsKeep tiles
   joins s views id other v w stands at apart there = each_joined tiles 0 0 (StandsIn tiles s) views id other v w at apart there stands

@@ -19,6 +19,7 @@ added_twice h xs ys = ap (λ (ds : List Addition). let k : Worker = record { num
 pub is_alone : (me : Seen) (h : Worker) → me ≡ alone h → me ≡ alone (first_of me.0)
 is_alone me h e = let P : Seen → Type 0 = λ m. m ≡ alone (first_of m.0) in subst P (sym e) refl
 
+-- the first worker of a seat that stands for a worker alone is that worker
 pub first_is : (me : Seen) (h : Worker) → me ≡ alone h → first_of me.0 ≡ h
 first_is me h e = ap (λ (m : Seen). first_of m.0) e
 
@@ -52,6 +53,7 @@ module _ (tiles : List (List Addition)) where
   pub begins : (me : Seen) (n : ℕ) → me ≡ alone (fresh n) → IsReady tiles (first_of me.0)
   begins me n e = let P : Worker → Type 0 = λ h. IsReady tiles h in subst P (sym (first_is me (fresh n) e)) record { tickets = tt; deposits = refl }
 
+  -- a worker that was ready and drew a ticket owes all of that ticket's tile
   pub has_drawn : (me next : Seen) (t : ℕ) → IsReady tiles (first_of me.0) → next ≡ alone (drew (first_of me.0) t) → HasDrawn tiles (first_of next.0) t
   has_drawn me next t ready e =
       let P : Worker → Type 0 = λ h. HasDrawn tiles h t in
@@ -68,6 +70,7 @@ module _ (tiles : List (List Addition)) where
     tile = refl;
   }
 
+  -- the additions of one ticket more are those so far and then its tile's
   pub additions_push : (ts : List ℕ) (t : ℕ) → additions tiles (ts ++ t ∷ []) ≡ additions tiles ts ++ tile_at tiles t
   additions_push ts t = flat_map-append (tile_at tiles) ts (t ∷ []) ∙ ap (λ xs. additions tiles ts ++ xs) (append-nil (tile_at tiles t))
 
@@ -77,20 +80,11 @@ module _ (tiles : List (List Addition)) where
     deposits = ap (λ xs. xs ++ tile_at tiles t) d.deposits ∙ (sym (additions_push d.earlier t) ∙ ap (additions tiles) (sym d.tickets));
   }
 
+  -- a worker that has drawn a ticket and made all additions of its tile is ready for the next
   pub ready_after : (me next : Seen) (t : ℕ) → HasDrawn tiles (first_of me.0) t → t < length tiles → next ≡ alone (added (first_of me.0) (tile_at tiles t)) → IsReady tiles (first_of next.0)
   ready_after me next t d lt e =
       let P : Worker → Type 0 = λ h. IsReady tiles h in
       subst P (sym (first_is next (added (first_of me.0) (tile_at tiles t)) e)) (ready_added (first_of me.0) t d lt)
-
-  pub has_stopped : (h : Worker) (t : ℕ) → HasDrawn tiles h t → length tiles ≤ t → HasStopped tiles h
-  has_stopped h t d le = record {
-    earlier = d.earlier;
-    last = t;
-    tickets = d.tickets;
-    past = le;
-    deposits = d.deposits
-        ∙ (sym (append-nil (additions tiles d.earlier)) ∙ (ap (λ xs. additions tiles d.earlier ++ xs) (sym (get_or_past tiles t [] le)) ∙ (sym (additions_push d.earlier t) ∙ ap (additions tiles) (sym d.tickets))));
-  }
 
   -- the next ticket is greater
   pub rises : (me next : Seen) (xs : List Addition) (t n : ℕ) → HasDrawn tiles (first_of me.0) t → next ≡ alone (added (first_of me.0) xs) → Each (λ u. u < n) (first_of next.0).tickets → t < n
@@ -100,17 +94,14 @@ module _ (tiles : List (List Addition)) where
 
 -- the loop over the additions of a pair, which began at `me`
 module _ (p : PairAdd) (me : Seen) where
+  -- once the first k additions of a pair are made, the next one and those behind it are owed
   pub part_owes : (tiles : List (List Addition)) (now : Seen) (k : ℕ) (a : Addition) (rest : List Addition) → Owes tiles (first_of me.0) (additions_of (Some p) ++ rest) → slice_get (additions_of (Some p)) k ≡ Some a
       → now ≡ alone (added (first_of me.0) (take k (additions_of (Some p)))) → Owes tiles (first_of now.0) (a ∷ drop (suc k) (additions_of (Some p)) ++ rest)
   part_owes tiles now k a rest o at e = owes tiles me now (additions_of (Some p)) (take k (additions_of (Some p))) (a ∷ drop (suc k) (additions_of (Some p))) rest o (split_at (additions_of (Some p)) k a at) e
 
-  pub part_adds : (now next : Seen) (k : ℕ) (a : Addition) → slice_get (additions_of (Some p)) k ≡ Some a → now ≡ alone (added (first_of me.0) (take k (additions_of (Some p)))) → next ≡ alone (added (first_of now.0) (a ∷ []))
-      → next ≡ alone (added (first_of me.0) (take (k + 1) (additions_of (Some p))))
-  part_adds now next k a at e f =
-      added_on me now next (take k (additions_of (Some p))) (a ∷ []) e f ∙ ap (λ (xs : List Addition). alone (added (first_of me.0) xs)) (sym (take_next (additions_of (Some p)) k a at))
-
 -- the loop over pairs that act, which began at `me`
 module _ (adds : List PairAdd) (me : Seen) where
+  -- once the additions of the first k pairs are made, those of the next pair and of the pairs behind it are owed
   pub pair_owes : (tiles : List (List Addition)) (now : Seen) (k : ℕ) (add : PairAdd) (rest : List Addition) → Owes tiles (first_of me.0) (additions_of_all adds ++ rest) → slice_get adds k ≡ Some add
       → now ≡ alone (added (first_of me.0) (additions_of_all (take k adds))) → Owes tiles (first_of now.0) (additions_of (Some add) ++ (additions_of_all (drop (suc k) adds) ++ rest))
   pair_owes tiles now k add rest o at e =
@@ -119,11 +110,6 @@ module _ (adds : List PairAdd) (me : Seen) where
       (λ xs. Owes tiles (first_of now.0) xs)
       (append_assoc (additions_of (Some add)) behind rest)
       (owes tiles me now (additions_of_all adds) (additions_of_all (take k adds)) (additions_of (Some add) ++ behind) rest o (adds_split adds k add at) e)
-
-  pub pair_adds : (now next : Seen) (k : ℕ) (add : PairAdd) → slice_get adds k ≡ Some add → now ≡ alone (added (first_of me.0) (additions_of_all (take k adds))) → next ≡ alone (added (first_of now.0) (additions_of (Some add)))
-      → next ≡ alone (added (first_of me.0) (additions_of_all (take (k + 1) adds)))
-  pair_adds now next k add at e f =
-      added_on me now next (additions_of_all (take k adds)) (additions_of (Some add)) e f ∙ ap (λ (xs : List Addition). alone (added (first_of me.0) xs)) (sym (adds_next adds k add at))
 
 -- the loop over the pairs of a tile, which began at `me`
 module _ (plan : List (List (Option PairAdd))) (t : ℕ) (me : Seen) where
@@ -140,6 +126,7 @@ module _ (plan : List (List (Option PairAdd))) (t : ℕ) (me : Seen) where
       let left = owes (tiles_of plan) me now (tile_of Pairs) (tile_of (take k Pairs)) (additions_of_all adds ++ rest) [] o (row_split Pairs k n adds row) e in
       (rest, subst (λ xs. Owes (tiles_of plan) (first_of now.0) xs) (append-nil (additions_of_all adds ++ rest)) left)
 
+  -- the additions of the first k pairs, and then of the next pairs that act, are those of the first n pairs
   pub row_leads : (now next : Seen) (k n : ℕ) (adds : List PairAdd) → AreNextActing Pairs k adds n → now ≡ alone (added (first_of me.0) (tile_of (take k Pairs))) → next ≡ alone (added (first_of now.0) (additions_of_all adds))
       → next ≡ alone (added (first_of me.0) (tile_of (take n Pairs)))
   row_leads now next k n adds row e f =

@@ -21,6 +21,7 @@ run_more tiles s [] e = refl
 run_more tiles s (x ∷ es) e = run_more tiles (step tiles s x).0 es e
 
 module _ (tiles : List (List Addition)) (atoms workers : ℕ) where
+  -- the facts of a table's words and views between any two steps
   abbrev pub Holds : Table (Unit {0}) (List Worker) → Type 0
   Holds s = IsRunning tiles atoms workers s.words s.views
 
@@ -52,6 +53,7 @@ module _ (tiles : List (List Addition)) (atoms workers : ℕ) where
       let counts : suc n ≡ (n + 1) % 2 ^ 64 = claim_counts tiles atoms workers s.words s.views id h fits ready kept.rule at in
       (w, keeps, tt, subst (λ m. IsRunning tiles atoms workers (set s.words 0 m) (set s.views id w)) counts after, (refl, tickets_below tiles atoms workers s.words s.views id h kept.rule at))
 
+  -- a worker alone in its seat that is ready may add one to the ticket counter, and thereby draws a ticket
   pub claims_as : (slots id : ℕ) (me : Seen) → length tiles + workers < 2 ^ 64 → me ≡ alone (first_of me.0) → IsReady tiles (first_of me.0)
       → Allows Holds slots id me 0 (λ n. (n + 1) % 2 ^ 64) (draws (table_step slots 0 1 0 none) me)
   claims_as slots id me fits is ready =
@@ -72,21 +74,25 @@ module _ (tiles : List (List Addition)) (atoms workers : ℕ) where
       } in
       (k ∷ [], keeps, tt, after, λ j e. ap (λ z. alone (added h ((z, amount) ∷ []))) (let e' : at ≡ j = omega arith in e'))
 
+  -- a worker alone in its seat may add the amount that it owes next to that entry's word
   pub deposits_as : (slots id : ℕ) (me : Seen) (at amount : ℕ) (rest : List Addition) → at < 3 * atoms → me ≡ alone (first_of me.0) → Owes tiles (first_of me.0) ((at, amount) ∷ rest)
       → Allows Holds slots id me (1 + at) (λ n. (n + amount) % 2 ^ 64) (adds (table_step slots (1 + at) amount 0 none) me)
   deposits_as slots id me at amount rest inside is owes =
       let P : Seen → Type 0 = λ m. Allows Holds slots id m (1 + at) (λ n. (n + amount) % 2 ^ 64) (adds (table_step slots (1 + at) amount 0 none) m) in
       subst P (sym is) (deposits slots id (first_of me.0) at amount rest inside owes)
 
+  -- these facts hold of the table as it opens
   pub opens : IsRunning tiles atoms workers (replicate (3 * atoms + 1) zero) (fresh_workers workers ∷ [])
   opens = let o = round_opens tiles workers (3 * atoms) in record { rule = rule_opens tiles atoms workers; reached = record { events = []; same = o.0; stands = o.1 } }
 
+  -- they are kept when a seat is cut into its first worker and the others
   pub splits : (id : ℕ) (v : List Worker) → Splits Holds id v (drop 1 v) (take 1 v)
   splits id v s kept at = record {
     rule = rule_splits tiles atoms workers id v s kept.rule at;
     reached = record { events = kept.reached.events; same = kept.reached.same; stands = cuts tiles (StateOf kept.reached.events) s.views id v kept.reached.stands at };
   }
 
+  -- they are kept when a seat takes over the workers of another
   pub joins : (id : ℕ) (v : List Worker) (other : ℕ) (w : List Worker) → Joins Holds id v other w (v ++ w) []
   joins id v other w s kept at apart there = record {
     rule = rule_joins tiles atoms workers id v other w s kept.rule at apart there;

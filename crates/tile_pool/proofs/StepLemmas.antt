@@ -43,6 +43,7 @@ over_once items views n once f = sym (in_a_row f) ∙ summed (flat_map (λ v. fl
     in_a_row g = sum_flat_map g (λ v. flat_map items v) views ∙ in_views g views
 
 module _ (tiles : List (List Addition)) (atoms workers : ℕ) where
+  -- the rule holds of a table's words and views
   abbrev pub Holds : State (Unit {0}) (List Worker) → Type 0
   Holds s = IsPool tiles atoms workers s.words s.views
 
@@ -105,6 +106,7 @@ module _ (tiles : List (List Addition)) (atoms workers : ℕ) where
     tile = refl;
   }
 
+  -- the rule is kept when a worker that is ready draws the next ticket
   pub claim_keeps : (words : List ℕ) (views : List (List Worker)) (id : ℕ) (h : Worker) → length tiles + workers < 2 ^ 64 → IsReady tiles h → IsPool tiles atoms workers words views → get_elem? views id ≡ some (h ∷ [])
       → IsPool tiles atoms workers (set words 0 (suc (slice_index words 0))) (set views id (drew h (slice_index words 0) ∷ []))
   claim_keeps words views id h fits ready kept at =
@@ -165,6 +167,7 @@ module _ (tiles : List (List Addition)) (atoms workers : ℕ) where
           get_or-set_other words (1 + at) (1 + k) ((slice_index words (1 + at) + amount) % 2 ^ 64) 0 (λ e. ne (omega arith))
           ∙ (is ∙ ap (λ x. x % 2 ^ 64) (sym (other ne)))
 
+  -- the rule is kept when a worker makes the addition that it owes next
   pub deposit_keeps : (words : List ℕ) (views : List (List Worker)) (id : ℕ) (h : Worker) (at amount : ℕ) (rest : List Addition) → at < 3 * atoms → Owes tiles h ((at, amount) ∷ rest)
       → IsPool tiles atoms workers words views → get_elem? views id ≡ some (h ∷ [])
       → IsPool tiles atoms workers (set words (1 + at) ((slice_index words (1 + at) + amount) % 2 ^ 64)) (set views id (added h ((at, amount) ∷ []) ∷ []))

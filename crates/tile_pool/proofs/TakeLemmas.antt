@@ -8,6 +8,7 @@ use Rattle.tile_round.proofs.ActingLemmas.{take_next, tile_of_acting}
 use lib.ListN.{take-append-drop}
 use Rattle.tile_round.specs.declared.work.PairAdd.{PairAdd}
 
+-- a list is what comes before an element, the element, and what comes behind it
 pub split_at : {A : Type 0} (xs : List A) (k : ℕ) (x : A) → slice_get xs k ≡ Some x → xs ≡ take k xs ++ x ∷ drop (suc k) xs
 split_at [] k x at = absurd (cc at)
 split_at (y ∷ ys) zero x at = ap (λ z. z ∷ ys) (let s : y ≡ x = cc in s)
@@ -37,11 +38,13 @@ is_there [] k d lt = absurd (omega arith)
 is_there (x ∷ xs) zero d lt = refl
 is_there (x ∷ xs) (suc k) d lt = is_there xs k d (omega arith)
 
+-- the additions of the first pairs and of the pair after them
 pub adds_next : (adds : List PairAdd) (k : ℕ) (add : PairAdd) → slice_get adds k ≡ Some add → additions_of_all (take (k + 1) adds) ≡ additions_of_all (take k adds) ++ additions_of (Some add)
 adds_next adds k add at =
     ap additions_of_all (take_next adds k add at)
     ∙ (flat_map-append (λ a. additions_of (Some a)) (take k adds) (add ∷ []) ∙ ap (λ xs. additions_of_all (take k adds) ++ xs) (append-nil (additions_of (Some add))))
 
+-- the additions of all pairs are those before a pair, its own, and those behind it
 pub adds_split : (adds : List PairAdd) (k : ℕ) (add : PairAdd) → slice_get adds k ≡ Some add
     → additions_of_all adds ≡ additions_of_all (take k adds) ++ (additions_of (Some add) ++ additions_of_all (drop (suc k) adds))
 adds_split adds k add at = ap additions_of_all (split_at adds k add at) ∙ flat_map-append (λ a. additions_of (Some a)) (take k adds) (add ∷ drop (suc k) adds)

@@ -95,12 +95,11 @@ module _ (sums : List ℤ) (entry amount bits : ℕ) (result : ℤ) (bits_is : b
             let same : on_entry k (done ++ (entry, amount) ∷ []) ≡ on_entry k done = sum_by_push (amount_on k) done (entry, amount) ∙ (let z = amount_else k (entry, amount) ne in omega arith) in
             get_or-set_other sums entry k Stored (pos 0) (λ e. ne (omega arith)) ∙ (are.each k h ∙ ap (λ m. cast_signed w64 (m % 2 ^ 64)) (sym same))
 
+  -- one addition goes on from the sums
   pub goes_on_one : entry < length sums → GoesOn sums ((entry, amount) ∷ []) (set sums entry Stored)
   goes_on_one lt = (length-set sums entry Stored, λ done are. sums_added done (length sums) are lt)
 
-pub goes_on_open : (sums : List ℤ) → GoesOn sums [] sums
-goes_on_open sums = (refl, λ done are. subst (λ xs. AreSums xs (length sums) sums) (sym (append-nil done)) are)
-
+-- additions that go on from where others ended go on from where those began
 pub goes_on_more : (before now after : List ℤ) (xs ys zs : List Addition) → GoesOn before xs now → GoesOn now ys after → zs ≡ xs ++ ys → GoesOn before zs after
 goes_on_more before now after xs ys zs (len, one) (len', two) split =
     let P : ℕ → Type 0 = λ n. (done : List Addition) → AreSums done n now → AreSums (done ++ ys) n after in

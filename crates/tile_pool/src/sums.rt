@@ -1,6 +1,7 @@
 ghost use Rattle.std.specs.Prelude.{◌≡◌};
 
 use std::alloc::Allocator;
+use std::convert::AsSlice;
 use std::marker::Model;
 
 /// The forces on all atoms, a sum for each component: entry `3a + axis` is that of atom `a`. It is
@@ -24,5 +25,14 @@ impl<A: Allocator + Copy> Forces<A> {
         ensures { result.now ≡ self.now }
     {
         self.sums.as_slice()
+    }
+}
+
+impl<A: Allocator + Copy> AsSlice<i64> for Forces<A> {
+    ghost items = { λ f. f };
+
+    fn as_slice(&self) -> &[i64] {
+        let sums = &self.sums;
+        sums.as_slice()
     }
 }

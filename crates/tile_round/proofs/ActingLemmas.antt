@@ -6,9 +6,11 @@ use Rattle.std.proofs.lemmas.List.Elements.{All-append}
 use Rattle.tile_round.specs.declared.work.PairAdd.{PairAdd}
 use Rattle.tile_round.specs.Tiles.{AreIdle, ActsFirst, AreNextActing, acting, additions_of, additions_of_all, tile_of}
 
+-- from a number up to itself there is no pair that acts
 pub none_idle : (pairs : List (Option PairAdd)) (k : ℕ) → AreIdle pairs k k
 none_idle pairs k i low high = absurd (omega arith)
 
+-- where no pair up to the number n acts, and the pair n doesn't, none up to the next number does
 pub idle_more : (pairs : List (Option PairAdd)) (k n : ℕ) → AreIdle pairs k n → slice_get pairs n ≡ Some None → AreIdle pairs k (n + 1)
 idle_more pairs k n idle here i low high =
     ⊎_elim
@@ -16,6 +18,7 @@ idle_more pairs k n idle here i low high =
     (λ (le : n ≤ i). let e : n ≡ i = omega arith in subst (λ m. slice_get pairs m ≡ Some None) e here)
     (cases_lt i n)
 
+-- where no pair up to a number past the last one acts, none up to the last does
 pub idle_to : (pairs : List (Option PairAdd)) (k n : ℕ) → length pairs ≤ n → AreIdle pairs k n → AreIdle pairs k (length pairs)
 idle_to pairs k n le idle i low high = idle i low (omega arith)
 

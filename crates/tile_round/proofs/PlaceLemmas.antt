@@ -22,6 +22,7 @@ use Rattle.tile_round.specs.Interleaving.Stand.{doing, ended}
 use Rattle.tile_round.specs.Places.{task_at, later, stand_of, stands_of, stops, IsPlace, IsSound}
 use Rattle.tile_round.proofs.RunLemmas.{at_set, replicated, stand_below, stand_past, outcome_below, outcome_past, stops_most, claim_few, deposit_stops}
 
+-- a list from the place of an element on is that element and what comes behind it
 pub drop_at : {A : Type 0} (xs : List A) (i : ℕ) (x : A) → slice_get xs i ≡ Some x → drop i xs ≡ x ∷ drop (i + 1) xs
 drop_at xs i x e = go xs i x e ∙ ap (λ n. x ∷ drop n xs) (sym (add-one i))
   where
@@ -30,11 +31,13 @@ drop_at xs i x e = go xs i x e ∙ ap (λ n. x ∷ drop n xs) (sym (add-one i))
     go (y ∷ ys) zero x e = ap (λ z. z ∷ ys) (let s : y ≡ x = cc in s)
     go (y ∷ ys) (suc i) x e = go ys i x e
 
+-- a write of an element is seen as a write of its image
 pub map_set : {A B : Type 0} (f : A → B) (xs : List A) (i : ℕ) (x : A) → map f (set xs i x) ≡ set (map f xs) i (f x)
 map_set f [] i x = refl
 map_set f (y ∷ ys) zero x = refl
 map_set f (y ∷ ys) (suc i) x = ap (λ zs. f y ∷ zs) (map_set f ys i x)
 
+-- copies of an element are seen as copies of its image
 pub map-replicate : {A B : Type 0} (f : A → B) (n : ℕ) (x : A) → map f (replicate n x) ≡ replicate n (f x)
 map-replicate f zero x = refl
 map-replicate f (suc n) x = ap (λ ys. f x ∷ ys) (map-replicate f n x)
@@ -47,9 +50,11 @@ tile_of-drop pairs k o e = ap tile_of (drop_at pairs k o e) ∙ flat_map-cons ad
 pub passed : (pairs : List (Option PairAdd)) (first k : ℕ) (o : Option PairAdd) → slice_get pairs k ≡ Some o → tile_of (drop k pairs) ≡ tile_of (drop first pairs) → additions_of o ++ tile_of (drop (k + 1) pairs) ≡ tile_of (drop first pairs)
 passed pairs first k o e before = sym (tile_of-drop pairs k o e) ∙ before
 
+-- where no pair before the pair k acts, a worker stands before the additions of that pair and of those behind it
 pub stands_at_pair : (pairs : List (Option PairAdd)) (first k : ℕ) (p : PairAdd) → slice_get pairs k ≡ Some (Some p) → tile_of (drop k pairs) ≡ tile_of (drop first pairs) → doing (additions_of (Some p) ++ tile_of (drop (k + 1) pairs)) ≡ doing (tile_of (drop first pairs))
 stands_at_pair pairs first k p e before = ap doing (passed pairs first k (Some p) e before)
 
+-- the tile of a ticket is made of the plan's pairs for it
 pub tile_at-tiles_of : (plan : List (List (Option PairAdd))) (t : ℕ) → tile_at (tiles_of plan) t ≡ tile_of (pairs_at plan t)
 tile_at-tiles_of [] t = refl
 tile_at-tiles_of (ps ∷ plan) zero = refl
@@ -81,6 +86,7 @@ read_map f (y ∷ ys) (suc k) x d lt e = read_map f ys k x d (omega arith) e
 
 -- a sum that has grown by an amount, and stays a number of 64 bits
 module _ (sums : List ℤ) (k amount : ℕ) (old : ℤ) (lt : k < length sums) (read : old ≡ get_or sums k old) where
+  -- adding to a kept sum adds to its 64-bit word, modulo 2^64
   pub sum_added : map (cast_unsigned w64) (set sums k (cast_signed w64 ((cast_unsigned w64 old + amount) % 2 ^ 64))) ≡ set (map (cast_unsigned w64) sums) k ((slice_index (map (cast_unsigned w64) sums) k + amount) % 2 ^ 64)
   sum_added =
       map_set (cast_unsigned w64) sums k (cast_signed w64 ((cast_unsigned w64 old + amount) % 2 ^ 64))
@@ -109,9 +115,11 @@ module _ (sums : List ℤ) (k amount bits : ℕ) (old result : ℤ) (lt : k < le
       ∙ (ap (cast_signed w64) (of_z-to_z w64 ((bits + amount) % 2 ^ 64) (mod_below (bits + amount) (2 ^ 64) (omega arith)))
       ∙ ap (λ n. cast_signed w64 ((n + amount) % 2 ^ 64)) (bits_is ∙ ap (cast_unsigned w64) old_signed))
 
+  -- the same of a sum that is stored from its word
   pub stored_added : map (cast_unsigned w64) (set sums k (cast_signed w64 (cast_unsigned w64 result))) ≡ set (map (cast_unsigned w64) sums) k ((slice_index (map (cast_unsigned w64) sums) k + amount) % 2 ^ 64)
   stored_added = ap (λ z. map (cast_unsigned w64) (set sums k z)) stored ∙ sum_added sums k amount old lt read
 
+  -- sums stay signed 64-bit numbers when one is stored from its word
   pub stored_signed : map (cast_signed w64) (map (cast_unsigned w64) (set sums k (cast_signed w64 (cast_unsigned w64 result)))) ≡ set sums k (cast_signed w64 (cast_unsigned w64 result))
   stored_signed =
       let n = (cast_unsigned w64 old + amount) % 2 ^ 64 in
@@ -128,12 +136,14 @@ entry_inside atoms p (suc (suc (suc (suc zero)))) a pair at = let e : 3 * p.high
 entry_inside atoms p (suc (suc (suc (suc (suc zero))))) a pair at = let e : 3 * p.high + 2 ≡ a.0 = cc at in omega (arith, pair.inside)
 entry_inside atoms p (suc (suc (suc (suc (suc (suc part)))))) a pair at = absurd (cc at)
 
+-- a worker that may go on and has no task rests
 pub rests_at : (o : Option Place) → task_at o ≡ Ok None → o ≡ Some Resting
 rests_at None is = absurd (cc is)
 rests_at (Some Stopped) is = absurd (cc is)
 rests_at (Some Resting) is = refl
 rests_at (Some (Adding task)) is = absurd (cc is)
 
+-- a worker that has a task is adding
 pub adds_at : (o : Option Place) (task : Task) → task_at o ≡ Ok (Some task) → o ≡ Some (Adding task)
 adds_at None task is = absurd (cc is)
 adds_at (Some Stopped) task is = absurd (cc is)
@@ -145,6 +155,7 @@ module _ (plan : List (List (Option PairAdd))) where
   abbrev pub state_of : List ℕ → List Place → List ℤ → State
   state_of drawn places sums = record { drawn = drawn; stands = stands_of plan places; sums = map (cast_unsigned w64) sums }
 
+  -- how a worker stands in the machine's state is told by its place
   pub standing : (places : List Place) (w : ℕ) (o : Option Place) → slice_get places w ≡ o → slice_get (stands_of plan places) w ≡ option_map (stand_of plan) o
   standing places w o e = slice_get-map (stand_of plan) places w ∙ ap (option_map (stand_of plan)) e
 
@@ -159,6 +170,7 @@ module _ (plan : List (List (Option PairAdd))) where
       let stands : slice_get now.state.stands w ≡ Some (doing (a ∷ rest)) = ap (λ (v : Progress). slice_get v.state.stands w) (sym seen) ∙ at in
       sym (ap (on_claim now.tiles now.state w) stands)
 
+  -- a worker at rest has nothing to add, and its deposit is refused as idle
   pub deposit_idle : (now : Progress) (drawn : List ℕ) (places : List Place) (sums : List ℤ) (w : ℕ) → progress_of drawn places sums ≡ now
       → slice_get places w ≡ Some Resting → (now.state, Err Idle) ≡ on_deposit now.tiles now.state w (slice_get now.state.stands w)
   deposit_idle now drawn places sums w seen at =
@@ -170,12 +182,15 @@ module _ (plan : List (List (Option PairAdd))) where
   drew_tile t p lt e =
       e ∙ (ap doing (sym (tile_at-tiles_of plan t)) ∙ sym (stand_below (tiles_of plan) t (omega (arith, length-map plan tile_of))))
 
+  -- a worker that drew a ticket past the tiles has stopped
   pub drew_none : (t : ℕ) → length plan ≤ t → stand_of plan Stopped ≡ stand_at (tiles_of plan) t
   drew_none t le = sym (stand_past (tiles_of plan) t (omega (arith, length-map plan tile_of)))
 
+  -- a ticket of a tile is answered as drawn
   pub outcome_tile : (t : ℕ) → t < length plan → Drew t ≡ outcome_at (tiles_of plan) t
   outcome_tile t lt = let below : t < length (tiles_of plan) = omega (arith, length-map plan tile_of) in sym (outcome_below (tiles_of plan) t below)
 
+  -- a ticket past the tiles is answered as the end
   pub outcome_none : (t : ℕ) → length plan ≤ t → Ended ≡ outcome_at (tiles_of plan) t
   outcome_none t le = let past : length (tiles_of plan) ≤ t = omega (arith, length-map plan tile_of) in sym (outcome_past (tiles_of plan) t past)
 
@@ -188,6 +203,7 @@ module _ (plan : List (List (Option PairAdd))) where
       (λ i. (record { drawn = longer i; stands = stands i; sums = map (cast_unsigned w64) sums }, Ok (is i)))
       ∙ sym (ap (on_claim (tiles_of plan) (state_of drawn places sums) w) (standing places w (Some Resting) at))
 
+  -- the additions that a worker has left once its task's next one is made
   abbrev pub rest_of : Task → List Addition
   rest_of task = drop (task.part + 1) (additions_of (Some task.add)) ++ later plan task
 
@@ -222,6 +238,7 @@ module _ (plan : List (List (Option PairAdd))) where
         let same = length-map places (stand_of plan) in
         omega arith
 
+    -- a round is sound still once a worker at rest has drawn a ticket
     pub claim_sound : (drawn drawn' : List ℕ) (room room' : ℕ) (places : List Place) (sums : List ℤ) (w : ℕ) (p : Place) → IsSound atoms plan drawn room places sums → slice_get places w ≡ Some Resting → IsPlace atoms plan p
         → drawn' ≡ drawn ++ w ∷ [] → room' ≡ room → stand_of plan p ≡ stand_at (tiles_of plan) (length drawn) → IsSound atoms plan drawn' room' (set places w p) sums
     claim_sound drawn drawn' room room' places sums w p sound at is longer same stand = record {
@@ -239,6 +256,7 @@ module _ (plan : List (List (Option PairAdd))) where
       enough = let enough = sound.enough in omega (arith, length-set places w p);
     }
 
+    -- a round is sound still once a worker has made its task's next addition
     pub deposit_sound : (drawn : List ℕ) (room : ℕ) (places : List Place) (sums sums' : List ℤ) (w : ℕ) (task : Task) (p : Place) (a : Addition) → IsSound atoms plan drawn room places sums → slice_get places w ≡ Some (Adding task) → IsPlace atoms plan p
         → slice_get (additions_of (Some task.add)) task.part ≡ Some a → stand_of plan p ≡ doing (rest_of task)
         → length sums' ≡ length sums → map (cast_signed w64) (map (cast_unsigned w64) sums') ≡ sums' → IsSound atoms plan drawn room (set places w p) sums'
@@ -264,12 +282,14 @@ module _ (plan : List (List (Option PairAdd))) where
 
   -- the opening of a round
   module _ (atoms workers entries room : ℕ) (drawn : List ℕ) (places : List Place) (sums : List ℤ) (drawn_is : drawn ≡ []) (places_are : places ≡ replicate workers Resting) (sums_are : sums ≡ replicate entries (pos 0)) where
+    -- a round as it is made is the machine's opening
     pub opens_so : state_of drawn places sums ≡ opening workers entries
     opens_so =
         let stands : stands_of plan places ≡ replicate workers (doing []) = ap (stands_of plan) places_are ∙ map-replicate (stand_of plan) workers Resting in
         let zeros : map (cast_unsigned w64) sums ≡ replicate entries 0 = ap (map (cast_unsigned w64)) sums_are ∙ map-replicate (cast_unsigned w64) entries (pos 0) in
         λ i. record { drawn = drawn_is i; stands = stands i; sums = zeros i }
 
+    -- a round as it is made is sound, where it has sums for all atoms and room for all tickets
     pub opening_sound : 3 * atoms ≤ entries → length plan + workers ≤ room → IsSound atoms plan drawn room places sums
     opening_sound wide enough = record {
       within = λ w p e.

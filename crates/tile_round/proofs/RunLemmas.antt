@@ -33,6 +33,7 @@ at_set (z ∷ zs) zero (suc j) x y e = inr ((λ h. omega arith), e)
 at_set (z ∷ zs) (suc i) zero x y e = inr ((λ h. omega arith), e)
 at_set (z ∷ zs) (suc i) (suc j) x y e = ⊎_elim (λ t. inl (ap suc t.0, t.1)) (λ t. let n = t.0 in inr ((λ h. n (omega arith)), t.1)) (at_set zs i j x y e)
 
+-- each element of a list of copies is the copy
 pub replicated : {A : Type 0} (n i : ℕ) (x y : A) → slice_get (replicate n x) i ≡ Some y → x ≡ y
 replicated zero i x y e = absurd (cc e)
 replicated (suc n) zero x y e = cc
@@ -43,9 +44,11 @@ get_or-replicate_zero zero i = refl
 get_or-replicate_zero (suc n) zero = refl
 get_or-replicate_zero (suc n) (suc i) = get_or-replicate_zero n i
 
+-- an addition to an entry counts there by its amount
 pub amount_here : (k : ℕ) (a : Addition) → k ≡ a.0 → amount_on k a ≡ a.1
 amount_here k a e = grind (arith, nat_tests)
 
+-- an addition to another entry counts nothing
 pub amount_else : (k : ℕ) (a : Addition) → k ≢ a.0 → amount_on k a ≡ 0
 amount_else k a ne = grind (arith, nat_tests)
 
@@ -75,9 +78,11 @@ abbrev pub one_of : Option ℕ → List ℕ
 one_of None = []
 one_of (Some w) = w ∷ []
 
+-- the worker that drew the ticket, if one did
 abbrev pub drawer_at : List ℕ → ℕ → List ℕ
 drawer_at drawn t = one_of (slice_get drawn t)
 
+-- the worker, where the ticket is the tile's
 abbrev pub picked : ℕ → ℕ → ℕ → List ℕ
 picked n t w = if n == t then w ∷ [] else []
 
@@ -99,6 +104,7 @@ drawer_at-push (x ∷ xs) w (suc t) = drawer_at-push xs w t ∙ ap (λ ws. drawe
     else' : length xs ≢ t → picked (length xs) t w ≡ picked (suc (length xs)) (suc t) w
     else' ne = picked_else (length xs) t w ne ∙ sym (picked_else (suc (length xs)) (suc t) w (λ e. ne (omega arith)))
 
+-- no more workers have stopped than there are
 pub stops_most : (stands : List Stand) → sum_by stops stands ≤ length stands
 stops_most [] = omega arith
 stops_most (s ∷ ss) =
@@ -108,6 +114,7 @@ stops_most (s ∷ ss) =
     omega arith
 
 module _ (tiles : List (List Addition)) where
+  -- the facts of a state, reached by the additions `done`, between any two events
   pub record Holds (s : State) (done : List Addition) : Type 0 where
     pub sums : (k : ℕ) → k < length s.sums → slice_index s.sums k ≡ on_entry k done % 2 ^ 64
     pub drawn_sums : (k : ℕ) → on_entry k done + sum_by (λ h. on_entry k (left_of h)) s.stands ≡ below (λ t. on_entry k (tile_at tiles t)) (length s.drawn)
@@ -119,12 +126,15 @@ module _ (tiles : List (List Addition)) where
   pub stand_below : (t : ℕ) → t < length tiles → stand_at tiles t ≡ doing (tile_at tiles t)
   stand_below t lt = grind (arith, nat_tests)
 
+  -- a worker that drew a ticket past the tiles has stopped
   pub stand_past : (t : ℕ) → length tiles ≤ t → stand_at tiles t ≡ ended
   stand_past t le = grind (arith, nat_tests)
 
+  -- a ticket of a tile is answered as drawn
   pub outcome_below : (t : ℕ) → t < length tiles → outcome_at tiles t ≡ Drew t
   outcome_below t lt = grind (arith, nat_tests)
 
+  -- a ticket past the tiles is answered as the end
   pub outcome_past : (t : ℕ) → length tiles ≤ t → outcome_at tiles t ≡ Ended
   outcome_past t le = grind (arith, nat_tests)
 
@@ -145,6 +155,7 @@ module _ (tiles : List (List Addition)) where
       let longer = length-append s.drawn (w ∷ []) in
       ⊎_elim (λ lt. omega arith) (λ one. omega arith) (stops_at (length s.drawn))
 
+  -- a deposit stops no worker
   pub deposit_stops : (s : State) (w : ℕ) (a : Addition) (rest : List Addition) → slice_get s.stands w ≡ Some (doing (a ∷ rest)) → sum_by stops (deposited tiles s w a rest).stands ≡ sum_by stops s.stands
   deposit_stops s w a rest at = let moved : sum_by stops (set s.stands w (doing rest)) + 0 ≡ sum_by stops s.stands + 0 = sum_at_set stops s.stands w (doing (a ∷ rest)) (doing rest) at in omega arith
 
@@ -197,12 +208,14 @@ module _ (tiles : List (List Addition)) where
   step_keeps s done (Claim w) h = claim_keeps_at s done w (slice_get s.stands w) refl h
   step_keeps s done (Deposit w) h = deposit_keeps_at s done w (slice_get s.stands w) refl h
 
+  -- these facts are kept by every list of events, with the additions that they make
   pub run_keeps : (s : State) (done : List Addition) (es : List Event) → Holds s done → Holds (run tiles s es) (done ++ deposits tiles s es)
   run_keeps s done [] h = rw append-nil h
   run_keeps s done (e ∷ es) h =
       let k : Holds (run tiles s (e ∷ es)) ((done ++ deposits_in s e) ++ deposits tiles (step tiles s e).0 es) = run_keeps (step tiles s e).0 (done ++ deposits_in s e) es (step_keeps s done e h) in
       rw (← append_assoc) k
 
+  -- these facts hold of the opening, with no additions made
   pub opens : (workers entries : ℕ) → Holds (opening workers entries) []
   opens workers entries = record {
     sums = λ k lt. get_or-replicate_zero entries k;
@@ -229,6 +242,7 @@ module _ (tiles : List (List Addition)) where
   sums_at s (Claim w) = sums_at_claim s w (slice_get s.stands w)
   sums_at s (Deposit w) = sums_at_deposit s w (slice_get s.stands w)
 
+  -- events keep how many sums there are
   pub sums_length : (s : State) (es : List Event) → length (run tiles s es).sums ≡ length s.sums
   sums_length s [] = refl
   sums_length s (e ∷ es) = sums_length (step tiles s e).0 es ∙ sums_at s e
@@ -249,6 +263,7 @@ module _ (tiles : List (List Addition)) where
   drawn_at s (Claim w) = claims_at_claim s w (slice_get s.stands w)
   drawn_at s (Deposit w) = let e = ap length (drawn_at_deposit s w (slice_get s.stands w)) in omega arith
 
+  -- events draw as many tickets as claims of theirs are accepted
   pub drawn_after : (s : State) (es : List Event) → length (run tiles s es).drawn ≡ length s.drawn + claims tiles s es
   drawn_after s [] = omega arith
   drawn_after s (e ∷ es) = let a = drawn_after (step tiles s e).0 es in let b = drawn_at s e in omega arith
@@ -270,6 +285,7 @@ module _ (tiles : List (List Addition)) where
   stands_at s (Claim w) = stands_at_claim s w (slice_get s.stands w)
   stands_at s (Deposit w) = stands_at_deposit s w (slice_get s.stands w)
 
+  -- events keep how many workers there are
   pub stands_after : (s : State) (es : List Event) → length (run tiles s es).stands ≡ length s.stands
   stands_after s [] = refl
   stands_after s (e ∷ es) = stands_after (step tiles s e).0 es ∙ stands_at s e
@@ -300,6 +316,7 @@ module _ (tiles : List (List Addition)) where
       ap (λ ws. drawer_at ws t) (drawn_at_deposit s w (slice_get s.stands w))
       ∙ (sym (append-nil (drawer_at s.drawn t)) ∙ ap (λ ws. drawer_at s.drawn t ++ ws) (sym (drawers_at_deposit t s w (slice_get s.stands w))))
 
+  -- a tile's drawer, after events, is the one that was, and those of the events that drew it
   pub drawers_after : (t : ℕ) → t < length tiles → (s : State) (es : List Event) → drawer_at (run tiles s es).drawn t ≡ drawer_at s.drawn t ++ drawers tiles t s es
   drawers_after t lt s [] = sym (append-nil (drawer_at s.drawn t))
   drawers_after t lt s (e ∷ es) =
@@ -312,9 +329,11 @@ module _ (tiles : List (List Addition)) where
   nothing_left s done h over i (doing []) at = refl
   nothing_left s done h over i (doing (a ∷ rest)) at = let p = over.1 i (h.busy i a rest at) in absurd (cc)
 
+  -- once a round is over, a ticket past the tiles was drawn, and so were all tiles
   pub past_tiles : (s : State) (done : List Addition) → Holds s done → IsOver s → length tiles < length s.drawn
   past_tiles s done h over = h.stopped over.0.0 over.0.1
 
+  -- once a round is over, each sum is the total of its entry, modulo 2^64
   pub totals : (s : State) (done : List Addition) → Holds s done → IsOver s → (k : ℕ) → k < length s.sums → slice_index s.sums k ≡ total tiles k % 2 ^ 64
   totals s done h over k lt =
       let none : sum_by (λ x. on_entry k (left_of x)) s.stands ≡ 0 = sum_none (λ x. on_entry k (left_of x)) s.stands (λ i x at. ap (on_entry k) (nothing_left s done h over i x at)) in
@@ -326,9 +345,11 @@ module _ (tiles : List (List Addition)) where
 
   -- after any list of events
   module _ (workers entries : ℕ) (es : List Event) where
+    -- these facts hold after any list of events on the opening
     pub held : Holds (run tiles (opening workers entries) es) ([] ++ deposits tiles (opening workers entries) es)
     held = run_keeps (opening workers entries) [] es (opens workers entries)
 
+    -- after these events no more tickets are drawn than there are tiles and workers
     pub few_after : length (run tiles (opening workers entries) es).drawn ≤ length tiles + workers
     few_after =
         let s = run tiles (opening workers entries) es in
@@ -338,9 +359,11 @@ module _ (tiles : List (List Addition)) where
         let all = length-replicate workers (doing []) in
         omega arith
 
+    -- after these events each sum is the sum of the additions made, modulo 2^64
     pub summed : (k : ℕ) → k < length (opening workers entries).sums → slice_index (run tiles (opening workers entries) es).sums k ≡ on_entry k (deposits tiles (opening workers entries) es) % 2 ^ 64
     summed k lt = held.sums k (subst (λ n. k < n) (sym (sums_length (opening workers entries) es)) lt)
 
+    -- once these events end the round, each tile was drawn once, and each sum is its entry's total
     pub whole : IsOver (run tiles (opening workers entries) es) → IsWhole tiles (opening workers entries) es
     whole over = record {
       drawn = λ t lt.

@@ -9,7 +9,7 @@ use Rattle.std.proofs.Math.Nat.{mul-le-mul}
 use lib.Signed.{lt_z, mag}
 use Rattle.line_text.specs.Parts.{is_title, lacks, right_in}
 use Rattle.line_text.specs.Columns.{decimals_text, with_decimals, zeros_in}
-use Rattle.line_text.proofs.LineLaws.{copies_lack, decimal_lacks, lacks_append, lacks_first, lacks_front, lacks_rest, right_lacks, signed_lacks}
+use Rattle.line_text.proofs.LineLaws.{copies_lack, decimal_lacks, lacks_append, lacks_at, lacks_first, lacks_front, lacks_rest, right_lacks, signed_lacks}
 use Rattle.trajectory.specs.FrameTitles.{mark, time_and_step, time_of}
 
 -- ---- a time
@@ -56,6 +56,7 @@ pub time_below : (line : List ℕ) (time_step : ℕ) (step : ℤ) → 0 < time_s
     → line ≡ (45 ∷ []) ++ decimal (unsigned_abs step * time_step / 1000) ++ 46 ∷ zeros_in 5 (decimal (unsigned_abs step * time_step % 1000 * 100)) → line ≡ decimals_text 5 (time_of time_step step)
 time_below line time_step step some h e = e ∙ ap (λ (s : List ℕ). s ++ picoseconds (unsigned_abs step * time_step)) (sym (sign_below step h)) ∙ sym (time_parts time_step step some)
 
+-- the same of a time that isn't below 0
 pub time_above : (line : List ℕ) (time_step : ℕ) (step : ℤ) → 0 < time_step → lt_z step (pos 0) ≡ false
     → line ≡ decimal (unsigned_abs step * time_step / 1000) ++ 46 ∷ zeros_in 5 (decimal (unsigned_abs step * time_step % 1000 * 100)) → line ≡ decimals_text 5 (time_of time_step step)
 time_above line time_step step some h e = e ∙ ap (λ (s : List ℕ). s ++ picoseconds (unsigned_abs step * time_step)) (sym (sign_above step h)) ∙ sym (time_parts time_step step some)
@@ -69,10 +70,6 @@ part_text n below =
     rw (whole, part) (drop_at (decimal 0) (46 ∷ zeros_in 5 (decimal n)) 1 one)
 
 -- ---- a title with a time
-
-lacks_at : (c : ℕ) (text : List ℕ) (i : ℕ) → 0 < c → lacks c text ≡ true → get_or text i 0 ≡ c → ⊥
-lacks_at c text i some l e =
-    lacks_first c (drop i text) some (lacks_rest c (take i text) (drop i text) (rw (take-append-drop i text) l)) (get_or-drop i text 0 0 ∙ ap (λ k. get_or text k 0) (add-zero i) ∙ e)
 
 picoseconds_lack : (c n : ℕ) → c < 45 → n / 1000 < 2 ^ 64 → lacks c (picoseconds n) ≡ true
 picoseconds_lack c n low fits =
@@ -88,6 +85,7 @@ abs_fits : (z : ℤ) → mag z < 2 ^ 63 → unsigned_abs z ≤ 2 ^ 63
 abs_fits (pos n) fits = omega arith
 abs_fits (negsuc n) fits = omega arith
 
+-- the whole picoseconds of a time fit 64 bits, for as many steps as can be counted of at most 1000 fs each
 pub time_fits : (m time_step : ℕ) → m ≤ 2 ^ 63 → time_step ≤ 1000 → m * time_step / 1000 < 2 ^ 64
 time_fits m time_step a b = let l : m * time_step ≤ 2 ^ 63 * 1000 = mul-le-mul a b in omega arith
 

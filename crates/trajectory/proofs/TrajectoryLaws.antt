@@ -3,12 +3,11 @@ use Rattle.std.proofs.Common.{◌≡◌, ℕ, zero, suc, ◌+◌, ◌*◌, ◌/�
 use Rattle.std.specs.Prelude.{is_none, if◌then◌else◌}
 use Rattle.std.proofs.lemmas.Int.{ints}
 use Rattle.fixed.specs.Arithmetic.{in_range}
-use Rattle.fallible.specs.Out.{appended, AppendsBeginning, Output}
-use Rattle.fallible.proofs.Appends.{appended-nil, appended_after, beginning_after}
+use Rattle.fallible.specs.Out.{Output, Appends, AppendsBeginning}
+use Rattle.fallible.proofs.Appends.{appends_both, appends_nothing, begins_next}
 use Rattle.state.specs.StateText.{StateView}
 use Rattle.integrator.proofs.ReturnLaws.{in_range_is}
 use Rattle.state.proofs.StateReadsAgain.{one_text}
-use Rattle.integrator.specs.Forces.{none}
 use Rattle.integrator.specs.States.{counter_after, counter_at}
 use Rattle.integrator.specs.declared.direction.Direction.{Direction}
 use Rattle.integrator.specs.declared.direction.Direction.TheVariants.{Back, Forward}
@@ -38,36 +37,35 @@ fits_further w n m e f a h =
     let counter : f.state.step ≡ a.counter = ap (λ (v : EngineView). v.state.step) a.moved in
     ap is_none (ap (λ z. counter_after w z m) counter ∙ counter_further w e.state.step a.counter n m a.counted) ∙ h
 
--- its job stays
-pub went_job : (w : Direction) (n : ℕ) (e f : EngineView) → Went w n e f → f.job.time_step ≡ e.job.time_step
-went_job w n e f a = ap (λ (v : EngineView). v.job.time_step) a.moved
-
 -- ---- frames one after the other
 
-pub no_frame : (P : ℕ → List ℕ → Type 0) (o : Option (List ℕ)) → WroteFrames P 0 o o
-no_frame P o = record { text = []; frames = refl; appended' = sym (appended-nil o) }
+-- an output that is as it was has taken no frame
+pub no_frame : (P : ℕ → List ℕ → Type 0) (o : Output) → WroteFrames P 0 o o
+no_frame P o = record { text = []; frames = refl; appends = appends_nothing o }
 
 -- so many frames, and then the next
-pub one_more : (P : ℕ → List ℕ → Type 0) (n : ℕ) (o m r : Option (List ℕ)) (text : List ℕ) → WroteFrames P n o m → P n text → r ≡ appended m text → WroteFrames P (suc n) o r
-one_more P n o m r text h p e = record { text = h.text ++ text; frames = (h.text, text, h.frames, p, refl); appended' = appended_after o m r h.text text h.appended' e }
+pub one_more : (P : ℕ → List ℕ → Type 0) (n : ℕ) (o m r : Output) (text : List ℕ) → WroteFrames P n o m → P n text → Appends m r text → WroteFrames P (suc n) o r
+one_more P n o m r text h p e = record { text = h.text ++ text; frames = (h.text, text, h.frames, p, refl); appends = appends_both h.appends e }
 
 -- so many frames, and then a beginning of the next
-pub began_more : (P : ℕ → List ℕ → Type 0) (n : ℕ) (o m r : Option (List ℕ)) (text : List ℕ) → WroteFrames P n o m → P n text → AppendsBeginning m r text → BeganFrames P (suc n) o r
-began_more P n o m r text h p e = record { text = h.text ++ text; frames = (h.text, text, h.frames, p, refl); beginning = beginning_after o m r h.text text h.appended' e }
+pub began_more : (P : ℕ → List ℕ → Type 0) (n : ℕ) (o m r : Output) (text : List ℕ) → WroteFrames P n o m → P n text → AppendsBeginning m r text → BeganFrames P (suc n) o r
+began_more P n o m r text h p e = record { text = h.text ++ text; frames = (h.text, text, h.frames, p, refl); beginning = begins_next h.appends e }
 
+-- a text that joins texts of some kind joins texts of any kind that each of them is of
 pub joined_map : (P Q : ℕ → List ℕ → Type 0) (n : ℕ) (text : List ℕ) → ((i : ℕ) (t : List ℕ) → P i t → Q i t) → AreJoined P n text → AreJoined Q n text
 joined_map P Q zero text f h = h
 joined_map P Q (suc n) text f h = (h.0, h.1, joined_map P Q n h.0 f h.2, f n h.1 h.3, h.4)
 
-pub wrote_map : (P Q : ℕ → List ℕ → Type 0) (n : ℕ) (o m : Option (List ℕ)) → ((i : ℕ) (t : List ℕ) → P i t → Q i t) → WroteFrames P n o m → WroteFrames Q n o m
-wrote_map P Q n o m f h = record { text = h.text; frames = joined_map P Q n h.text f h.frames; appended' = h.appended' }
+-- the same of texts that an output took
+pub wrote_map : (P Q : ℕ → List ℕ → Type 0) (n : ℕ) (o m : Output) → ((i : ℕ) (t : List ℕ) → P i t → Q i t) → WroteFrames P n o m → WroteFrames Q n o m
+wrote_map P Q n o m f h = record { text = h.text; frames = joined_map P Q n h.text f h.frames; appends = h.appends }
 
 -- whole frames that are left, of frames that are others as well
-left_whole_map : (P Q : ℕ → List ℕ → Type 0) (every most done : ℕ) (o m : Option (List ℕ)) → ((i : ℕ) (t : List ℕ) → P i t → Q i t) → LeftWhole P every most done o m → LeftWhole Q every most done o m
+left_whole_map : (P Q : ℕ → List ℕ → Type 0) (every most done : ℕ) (o m : Output) → ((i : ℕ) (t : List ℕ) → P i t → Q i t) → LeftWhole P every most done o m → LeftWhole Q every most done o m
 left_whole_map P Q every most done o m f h = record { count = h.count; within = h.within; up_to = h.up_to; no_more = h.no_more; wrote = wrote_map P Q h.count o m f h.wrote }
 
 -- and a beginning of them
-left_beginning_map : (P Q : ℕ → List ℕ → Type 0) (most : ℕ) (o m : Option (List ℕ)) → ((i : ℕ) (t : List ℕ) → P i t → Q i t) → LeftBeginning P most o m → LeftBeginning Q most o m
+left_beginning_map : (P Q : ℕ → List ℕ → Type 0) (most : ℕ) (o m : Output) → ((i : ℕ) (t : List ℕ) → P i t → Q i t) → LeftBeginning P most o m → LeftBeginning Q most o m
 left_beginning_map P Q most o m f h = record {
   count = h.count;
   few = h.few;
@@ -77,35 +75,32 @@ left_beginning_map P Q most o m f h = record {
 -- ---- on the way
 
 -- the frame of an engine that was reached
-pub frame_reached : (w : Direction) (every number : ℕ) (e f : EngineView) (time_step : ℕ) (o m r : Option (List ℕ)) → Went w (number * every) e f → time_step ≡ e.job.time_step
+pub frame_reached : (w : Direction) (every number : ℕ) (e f : EngineView) (time_step : ℕ) (o m r : Output) → Went w (number * every) e f → time_step ≡ e.job.time_step
     → WroteFrames (IsFrameOnWay w every e) number o m → WroteFrame time_step f.state m r → WroteFrames (IsFrameOnWay w every e) (suc number) o r
 frame_reached w every number e f time_step o m r went same wrote frame =
-    one_more (IsFrameOnWay w every e) number o m r frame.text wrote (record { reached = f; went = went; shown = rw (← same) frame.shown }) frame.appended'
+    one_more (IsFrameOnWay w every e) number o m r frame.text wrote (record { reached = f; went = went; shown = rw (← same) frame.shown }) frame.appends
 
 -- a frame that was not written, after so many whole ones
 frame_left : (w : Direction) (every most number : ℕ) (e f : EngineView) (time_step : ℕ) (o m r : Output) (h : Halt) → number ≤ most → Went w (number * every) e f → time_step ≡ e.job.time_step
-    → WroteFrames (IsFrameOnWay w every e) number o.0 m.0 → m.1 ≡ o.1 → IsFrameUnwritten time_step f.state (number * every) m r h → Halts (IsFrameOnWay w every e) every most o r h
-frame_left w every most number e f time_step o m r (halt.Memory done) few went same wrote kept left =
+    → WroteFrames (IsFrameOnWay w every e) number o m → IsFrameUnwritten time_step f.state (number * every) m r h → Halts (IsFrameOnWay w every e) every most o r h
+frame_left w every most number e f time_step o m r (halt.Memory done) few went same wrote left =
     let l : number * every ≤ most * every = mul-le-mul_right every few in
     record {
       count = number;
       within = omega (arith, l, left.0);
       up_to = omega (arith, left.0);
       no_more = omega (arith, left.0);
-      wrote = subst (WroteFrames (IsFrameOnWay w every e) number o.0) (sym left.1) wrote;
+      wrote = subst (WroteFrames (IsFrameOnWay w every e) number o) (sym left.1) wrote;
     }
-frame_left w every most number e f time_step o m r (halt.Out g) few went same wrote kept left =
-    let began = left.0 in (
-      record {
-        count = number;
-        few = few;
-        began = began_more (IsFrameOnWay w every e) number o.0 m.0 r.0 began.text wrote (record { reached = f; went = went; shown = rw (← same) began.shown }) began.beginning;
-      },
-      rw (← kept) left.1,
-    )
+frame_left w every most number e f time_step o m r (halt.Out g) few went same wrote left =
+    record {
+      count = number;
+      few = few;
+      began = began_more (IsFrameOnWay w every e) number o m r left.text wrote (record { reached = f; went = went; shown = rw (← same) left.shown }) left.beginning;
+    }
 
 -- want of memory in one of the steps behind so many frames
-pub steps_left : (P : ℕ → List ℕ → Type 0) (every most number : ℕ) (o m : Output) (h : Halt) → number < most → WroteFrames P (suc number) o.0 m.0 → IsStopped (number * every) every h → Halts P every most o m h
+pub steps_left : (P : ℕ → List ℕ → Type 0) (every most number : ℕ) (o m : Output) (h : Halt) → number < most → WroteFrames P (suc number) o m → IsStopped (number * every) every h → Halts P every most o m h
 steps_left P every most number o m h few wrote stopped =
     let l : suc number * every ≤ most * every = mul-le-mul_right every few in
     let one : suc number * every ≡ number * every + every = omega arith in
@@ -123,6 +118,7 @@ stopped_later before made steps more h some few stopped =
 no_truth : ◌≡◌ {A = Bool} false true → ⊥
 no_truth e = cc
 
+-- a number that is told to be missing is missing
 pub none_is : (o : Option ℤ) → is_none o ≡ true → o ≡ None
 none_is None h = refl
 none_is (Some z) h = absurd (no_truth h)
@@ -157,24 +153,25 @@ at_first : (w : Direction) (every : ℕ) (e : EngineView) → in_range e.state.s
 at_first w every e fits = let none : 0 * every ≡ 0 = omega arith in rw none (went_nowhere w e fits)
 
 -- the first frame, before any step
-pub first_written : (w : Direction) (every : ℕ) (e : EngineView) (s : StateView) (time_step : ℕ) (o r : Option (List ℕ)) → in_range e.state.step ≡ true → s ≡ e.state → time_step ≡ e.job.time_step
+pub first_written : (w : Direction) (every : ℕ) (e : EngineView) (s : StateView) (time_step : ℕ) (o r : Output) → in_range e.state.step ≡ true → s ≡ e.state → time_step ≡ e.job.time_step
     → WroteFrame time_step s o r → Went w (0 * every) e e × WroteFrames (IsFrameOnWay w every e) 1 o r
 first_written w every e s time_step o r fits is same frame =
     let went = at_first w every e fits in
     (went, frame_reached w every 0 e e time_step o o r went same (no_frame (IsFrameOnWay w every e) o) (subst (λ (v : StateView). WroteFrame time_step v o r) is frame))
 
+-- where the first frame wasn't written, what is left is a beginning of it, or nothing where memory ran out
 pub first_left : (w : Direction) (every most : ℕ) (e : EngineView) (s : StateView) (time_step : ℕ) (o r : Output) (h : Halt) → in_range e.state.step ≡ true → s ≡ e.state → time_step ≡ e.job.time_step
     → IsFrameUnwritten time_step s 0 o r h → Halts (IsFrameOnWay w every e) every most o r h
 first_left w every most e s time_step o r h fits is same left =
     let none : 0 * every ≡ 0 = omega arith in
     let here : IsFrameUnwritten time_step e.state (0 * every) o r h = rw (none, ← is) left in
-    frame_left w every most 0 e e time_step o o r h (omega arith) (at_first w every e fits) same (no_frame (IsFrameOnWay w every e) o.0) refl here
+    frame_left w every most 0 e e time_step o o r h (omega arith) (at_first w every e fits) same (no_frame (IsFrameOnWay w every e) o) here
 
 at_next : (w : Direction) (every number : ℕ) (e f g : EngineView) → Went w (number * every) e f → Went w every f g → Went w (suc number * every) e g
 at_next w every number e f g a b = let same : suc number * every ≡ number * every + every = omega arith in rw same (steps_add w (number * every) every e f g a b)
 
 -- so many more steps, and the next frame
-pub next_written : (w : Direction) (every number : ℕ) (e f g : EngineView) (s : StateView) (time_step : ℕ) (o m r : Option (List ℕ)) → Went w (number * every) e f → Went w every f g → s ≡ g.state
+pub next_written : (w : Direction) (every number : ℕ) (e f g : EngineView) (s : StateView) (time_step : ℕ) (o m r : Output) → Went w (number * every) e f → Went w every f g → s ≡ g.state
     → time_step ≡ e.job.time_step → WroteFrames (IsFrameOnWay w every e) (suc number) o m → WroteFrame time_step s m r
     → Went w ((number + 1) * every) e g × WroteFrames (IsFrameOnWay w every e) (suc (number + 1)) o r
 next_written w every number e f g s time_step o m r a b is same wrote frame =
@@ -182,13 +179,14 @@ next_written w every number e f g s time_step o m r a b is same wrote frame =
     let one : number + 1 ≡ suc number = omega arith in
     rw one (went, frame_reached w every (suc number) e g time_step o m r went same wrote (subst (λ (v : StateView). WroteFrame time_step v m r) is frame))
 
+-- where the next frame wasn't written, the frames before it are left whole, and maybe a beginning of it where the output failed
 pub next_left : (w : Direction) (every most number : ℕ) (e f g : EngineView) (s : StateView) (time_step : ℕ) (o m r : Output) (h : Halt) → number < most → Went w (number * every) e f → Went w every f g
-    → s ≡ g.state → time_step ≡ e.job.time_step → WroteFrames (IsFrameOnWay w every e) (suc number) o.0 m.0 → m.1 ≡ o.1 → IsFrameUnwritten time_step s (number * every + every) m r h
+    → s ≡ g.state → time_step ≡ e.job.time_step → WroteFrames (IsFrameOnWay w every e) (suc number) o m → IsFrameUnwritten time_step s (number * every + every) m r h
     → Halts (IsFrameOnWay w every e) every most o r h
-next_left w every most number e f g s time_step o m r h few a b is same wrote kept left =
+next_left w every most number e f g s time_step o m r h few a b is same wrote left =
     let steps : suc number * every ≡ number * every + every = omega arith in
     let here : IsFrameUnwritten time_step g.state (suc number * every) m r h = rw (steps, ← is) left in
-    frame_left w every most (suc number) e g time_step o m r h few (at_next w every number e f g a b) same wrote kept here
+    frame_left w every most (suc number) e g time_step o m r h few (at_next w every number e f g a b) same wrote here
 
 -- ---- from bytes to bytes
 
@@ -202,18 +200,19 @@ frame_of_texts job state w every e t number text h =
 pub frames_unwritten : (A : Type 0) (job state : List ℕ) (w : Direction) (steps every : ℕ) (e : EngineView) (before after : Output) (h : Halt) → IsEngineOfTexts job state e
     → Halts (IsFrameOnWay w every e) every (steps / every) before after h → AreFramesUnwritten job state w steps every before after (run_fault_of {A = A} h)
 frames_unwritten A job state w steps every e before after (halt.Memory done) t left =
-    (safe_texts job state e t, left_whole_map (IsFrameOnWay w every e) (IsFrameOfRun job state w every) every (steps / every) done before.0 after.0 (frame_of_texts job state w every e t) left)
+    (safe_texts job state e t, left_whole_map (IsFrameOnWay w every e) (IsFrameOfRun job state w every) every (steps / every) done before after (frame_of_texts job state w every e t) left)
 frames_unwritten A job state w steps every e before after (halt.Out f) t left =
-    (safe_texts job state e t, left_beginning_map (IsFrameOnWay w every e) (IsFrameOfRun job state w every) (steps / every) before.0 after.0 (frame_of_texts job state w every e t) left.0, left.1)
+    (safe_texts job state e t, left_beginning_map (IsFrameOnWay w every e) (IsFrameOfRun job state w every) (steps / every) before after (frame_of_texts job state w every e t) left)
 
 -- a counter that would leave 64 bits stops the steps of texts
 pub out_of_range : (job state : List ℕ) (w : Direction) (steps : ℕ) (e : EngineView) (o : Option ℤ) → IsEngineOfTexts job state e → o ≡ counter_after w e.state.step steps → is_none o ≡ true → AreStopped job state w steps step.StepRange
 out_of_range job state w steps e o t counted none = engine_stops job state w steps e e step.StepRange t (sym counted ∙ none_is o none, refl)
 
 -- want of memory in the steps of a run from texts
-pub steps_stopped : (A : Type 0) (job state : List ℕ) (w : Direction) (steps : ℕ) (e : EngineView) (before after : Output) (h : Halt) → IsEngineOfTexts job state e → IsStopped 0 steps h → after.0 ≡ before.0
+pub steps_stopped : (A : Type 0) (job state : List ℕ) (w : Direction) (steps : ℕ) (e : EngineView) (before after : Output) (h : Halt) → IsEngineOfTexts job state e → IsStopped 0 steps h → after ≡ before
     → IsRunUnwritten job state w steps before after (run_fault_of {A = A} h)
 steps_stopped A job state w steps e before after h t stopped kept = rw stopped.is ((omega (arith, stopped.few), safe_texts job state e t), kept)
 
+-- a run that was stopped in its steps, for want of memory, answers that memory is wanted
 pub stopped_wants : (A : Type 0) (steps : ℕ) (h : Halt) → IsStopped 0 steps h → Wants (run_fault_of {A = A} h)
 stopped_wants A steps h stopped = rw stopped.is (0 + stopped.more, refl)

@@ -1,7 +1,7 @@
 -- Trajectories: the frames after 0, k, 2k, .. steps of a run, one after the other, as GROMACS writes them (GROMACS manual, gro file format).
-use Rattle.std.specs.Prelude.{◌≡◌, ℕ, zero, suc, ◌+◌, ◌-◌, ◌*◌, ◌/◌, ◌≤◌, ◌<◌, List, [], ◌++◌, Option, Ok}
+use Rattle.std.specs.Prelude.{◌≡◌, ℕ, zero, suc, ◌+◌, ◌-◌, ◌*◌, ◌/◌, ◌≤◌, List, [], ◌++◌, Ok}
 use Rattle.fallible.specs.Failures.{IfRefused}
-use Rattle.fallible.specs.Out.{appended, AppendsBeginning, Output}
+use Rattle.fallible.specs.Out.{Output, Appends, AppendsBeginning}
 use Rattle.gro.specs.Frames.{FrameView}
 use Rattle.gro.specs.GroWriting.{frame_text}
 use Rattle.job.specs.JobText.{reading_of, limits}
@@ -69,20 +69,20 @@ pub record IsFrameOfRun (job state : List ℕ) (direction : Direction) (every nu
 
 -- ---- the output
 
--- so many frames were appended
-pub record WroteFrames (IsText : ℕ → List ℕ → Type 0) (count : ℕ) (before after : Option (List ℕ)) : Type 0 where
+-- so many frames were written
+pub record WroteFrames (IsText : ℕ → List ℕ → Type 0) (count : ℕ) (before after : Output) : Type 0 where
   pub text : List ℕ
   pub frames : AreJoined IsText count text
-  pub appended' : after ≡ appended before text
+  pub appends : Appends before after text
 
--- a beginning of so many frames was appended
-pub record BeganFrames (IsText : ℕ → List ℕ → Type 0) (count : ℕ) (before after : Option (List ℕ)) : Type 0 where
+-- a write failed, after a beginning of so many frames
+pub record BeganFrames (IsText : ℕ → List ℕ → Type 0) (count : ℕ) (before after : Output) : Type 0 where
   pub text : List ℕ
   pub frames : AreJoined IsText count text
   pub beginning : AppendsBeginning before after text
 
 -- whole frames are left where memory ran out after so many steps: those up to there, maybe without that after just so many
-pub record LeftWhole (IsText : ℕ → List ℕ → Type 0) (every most done : ℕ) (before after : Option (List ℕ)) : Type 0 where
+pub record LeftWhole (IsText : ℕ → List ℕ → Type 0) (every most done : ℕ) (before after : Output) : Type 0 where
   pub count : ℕ
   pub within : done ≤ most * every
   pub up_to : done ≤ count * every
@@ -90,42 +90,42 @@ pub record LeftWhole (IsText : ℕ → List ℕ → Type 0) (every most done : �
   pub wrote : WroteFrames IsText count before after
 
 -- a beginning of the frames is left, up to the first or to one of `most` behind it
-pub record LeftBeginning (IsText : ℕ → List ℕ → Type 0) (most : ℕ) (before after : Option (List ℕ)) : Type 0 where
+pub record LeftBeginning (IsText : ℕ → List ℕ → Type 0) (most : ℕ) (before after : Output) : Type 0 where
   pub count : ℕ
   pub few : count ≤ most
   pub began : BeganFrames IsText (suc count) before after
 
 -- what a run that was ended leaves of the frames after 0, k, 2k, .. up to `most` times k steps
 abbrev pub Halts : (ℕ → List ℕ → Type 0) → (every most : ℕ) → (before after : Output) → Halt → Type 0
-Halts IsText every most before after (halt.Memory done) = LeftWhole IsText every most done before.0 after.0
-Halts IsText every most before after (halt.Out f) = LeftBeginning IsText most before.0 after.0 × (before.1 < after.1)
+Halts IsText every most before after (halt.Memory done) = LeftWhole IsText every most done before after
+Halts IsText every most before after (halt.Out f) = LeftBeginning IsText most before after
 
 -- ---- one frame
 
--- the text of the frame of a state was appended
-pub record WroteFrame (time_step : ℕ) (s : StateView) (before after : Option (List ℕ)) : Type 0 where
+-- the text of the frame of a state was written
+pub record WroteFrame (time_step : ℕ) (s : StateView) (before after : Output) : Type 0 where
   pub text : List ℕ
   pub shown : IsTimedText time_step s text
-  pub appended' : after ≡ appended before text
+  pub appends : Appends before after text
 
--- a beginning of it was appended
-pub record BeganFrame (time_step : ℕ) (s : StateView) (before after : Option (List ℕ)) : Type 0 where
+-- a write failed, after a beginning of it
+pub record BeganFrame (time_step : ℕ) (s : StateView) (before after : Output) : Type 0 where
   pub text : List ℕ
   pub shown : IsTimedText time_step s text
   pub beginning : AppendsBeginning before after text
 
 -- why it was not, after so many steps, and what the output is left with
 abbrev pub IsFrameUnwritten : ℕ → StateView → ℕ → (before after : Output) → Halt → Type 0
-IsFrameUnwritten time_step s steps before after (halt.Memory done) = (done ≡ steps) × (after.0 ≡ before.0)
-IsFrameUnwritten time_step s steps before after (halt.Out f) = BeganFrame time_step s before.0 after.0 × (before.1 < after.1)
+IsFrameUnwritten time_step s steps before after (halt.Memory done) = (done ≡ steps) × (after ≡ before)
+IsFrameUnwritten time_step s steps before after (halt.Out f) = BeganFrame time_step s before after
 
 -- ---- from bytes to bytes
 
 -- why the frames of a run from these texts were not all written, and what the output is left with: nothing, where they have no engine or the counter would leave 64 bits
 abbrev pub AreFramesUnwritten : {A : Type 0} → List ℕ → List ℕ → Direction → (steps every : ℕ) → (before after : Output) → RunFault A → Type 0
-AreFramesUnwritten job state direction steps every before after (run.Open failure) = IfRefused failure (HasNoEngineOfTexts job state) × (after.0 ≡ before.0)
-AreFramesUnwritten job state direction steps every before after (run.Steps step.StepRange) = AreStopped job state direction steps step.StepRange × (after.0 ≡ before.0)
+AreFramesUnwritten job state direction steps every before after (run.Open failure) = IfRefused failure (HasNoEngineOfTexts job state) × (after ≡ before)
+AreFramesUnwritten job state direction steps every before after (run.Steps step.StepRange) = AreStopped job state direction steps step.StepRange × (after ≡ before)
 AreFramesUnwritten job state direction steps every before after (run.Steps (step.Memory done)) =
-    AreSafe job state × LeftWhole (IsFrameOfRun job state direction every) every (steps / every) done before.0 after.0
+    AreSafe job state × LeftWhole (IsFrameOfRun job state direction every) every (steps / every) done before after
 AreFramesUnwritten job state direction steps every before after (run.Out f) =
-    AreSafe job state × LeftBeginning (IsFrameOfRun job state direction every) (steps / every) before.0 after.0 × (before.1 < after.1)
+    AreSafe job state × LeftBeginning (IsFrameOfRun job state direction every) (steps / every) before after

@@ -53,10 +53,9 @@ fn write_frame<A: Allocator + Copy, O: Out>(
 ) -> Result<(), Halt>
     requires some { 1 ≤ time_step }
     requires most { time_step ≤ 1000 }
-    requires room { O.failed out.old < 2 ^ 64 - 1 }
-    ensures wrote { OnOk result (WroteFrame time_step (state_view state.now) (O.taken out.old) (O.taken out.new)) }
-    ensures kept { OnOk result (O.failed out.new ≡ O.failed out.old) }
-    ensures unwritten { IfErr result (IsFrameUnwritten time_step (state_view state.now) steps (O.taken out.old, O.failed out.old) (O.taken out.new, O.failed out.new)) }
+    requires room { (O.output out.old).failed < 2 ^ 64 - 1 }
+    ensures wrote { OnOk result (WroteFrame time_step (state_view state.now) (O.output out.old) (O.output out.new)) }
+    ensures unwritten { IfErr result (IsFrameUnwritten time_step (state_view state.now) steps (O.output out.old) (O.output out.new)) }
 {
     let Ok(frame) = timed_frame(state, time_step) else {
         return Err(Halt::Memory { done: steps });
@@ -82,10 +81,9 @@ fn write_frames<R: Threads + Sync, A: Allocator + Copy + Send + Sync, W: Watch, 
     requires few { workers ≤ 64 }
     requires fits { (k : ℕ) → k ≤ most * every → is_none (counter_after direction engine.old.state.step k) ≡ false }
     requires range { most * every < 2 ^ 64 }
-    requires room { O.failed out.old < 2 ^ 64 - 1 }
-    ensures wrote { OnOk result (WroteFrames (IsFrameOnWay direction every engine.old) (suc most) (O.taken out.old) (O.taken out.new)) }
-    ensures kept { OnOk result (O.failed out.new ≡ O.failed out.old) }
-    ensures left { IfErr result (Halts (IsFrameOnWay direction every engine.old) every most (O.taken out.old, O.failed out.old) (O.taken out.new, O.failed out.new)) }
+    requires room { (O.output out.old).failed < 2 ^ 64 - 1 }
+    ensures wrote { OnOk result (WroteFrames (IsFrameOnWay direction every engine.old) (suc most) (O.output out.old) (O.output out.new)) }
+    ensures left { IfErr result (Halts (IsFrameOnWay direction every engine.old) every most (O.output out.old) (O.output out.new)) }
     ensures told { OnOk result (W.told watch.old watch.new (hundredths (most * every))) }
     ensures told_some { IfErr result (λ _. SomeHundredths (most * every) (W.told watch.old watch.new)) }
 {
@@ -127,14 +125,13 @@ pub fn trajectory_bytes<R: Threads + Sync, A: Allocator + Copy + Send + Sync, O:
     requires some { 0 < workers }
     requires few { workers ≤ 64 }
     requires every { 0 < every }
-    requires count { O.failed out.old < 2 ^ 64 - 1 }
+    requires count { (O.output out.old).failed < 2 ^ 64 - 1 }
     // No instruction of the slope's code goes wrong, and no pair takes more of them than the certified number.
     ensures safe { OnOk result (AreSafe job.now state.now) }
     // The frames after 0, k, 2k, .. steps are written.
-    ensures wrote { OnOk result (WroteFrames (IsFrameOfRun job.now state.now direction every) (suc (steps / every)) (O.taken out.old) (O.taken out.new)) }
-    ensures kept { OnOk result (O.failed out.new ≡ O.failed out.old) }
+    ensures wrote { OnOk result (WroteFrames (IsFrameOfRun job.now state.now direction every) (suc (steps / every)) (O.output out.old) (O.output out.new)) }
     // Why they are not, and what is written then: nothing before the first frame, whole frames where memory ran out, a beginning of them where the output failed.
-    ensures refused { IfErr result (AreFramesUnwritten job.now state.now direction steps every (O.taken out.old, O.failed out.old) (O.taken out.new, O.failed out.new)) }
+    ensures refused { IfErr result (AreFramesUnwritten job.now state.now direction steps every (O.output out.old) (O.output out.new)) }
 {
     watched_trajectory_bytes(
         rt,
@@ -171,14 +168,13 @@ pub fn watched_trajectory_bytes<
     requires some { 0 < workers }
     requires few { workers ≤ 64 }
     requires every { 0 < every }
-    requires count { O.failed out.old < 2 ^ 64 - 1 }
+    requires count { (O.output out.old).failed < 2 ^ 64 - 1 }
     // No instruction of the slope's code goes wrong, and no pair takes more of them than the certified number.
     ensures safe { OnOk result (AreSafe job.now state.now) }
     // The frames after 0, k, 2k, .. steps are written.
-    ensures wrote { OnOk result (WroteFrames (IsFrameOfRun job.now state.now direction every) (suc (steps / every)) (O.taken out.old) (O.taken out.new)) }
-    ensures kept { OnOk result (O.failed out.new ≡ O.failed out.old) }
+    ensures wrote { OnOk result (WroteFrames (IsFrameOfRun job.now state.now direction every) (suc (steps / every)) (O.output out.old) (O.output out.new)) }
     // Why they are not, and what is written then: nothing before the first frame, whole frames where memory ran out, a beginning of them where the output failed.
-    ensures refused { IfErr result (AreFramesUnwritten job.now state.now direction steps every (O.taken out.old, O.failed out.old) (O.taken out.new, O.failed out.new)) }
+    ensures refused { IfErr result (AreFramesUnwritten job.now state.now direction steps every (O.output out.old) (O.output out.new)) }
     // The watcher is told of each hundredth of the steps up to the last frame, or of those among the first steps.
     ensures told { OnOk result (W.told watch.old watch.new (hundredths (steps / every * every))) }
     ensures told_some { IfErr result (λ _. SomeHundredths (steps / every * every) (W.told watch.old watch.new)) }

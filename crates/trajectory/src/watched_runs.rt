@@ -1,6 +1,6 @@
 //! Runs from bytes to bytes that are watched.
 
-ghost use Rattle.std.specs.Prelude.{◌≡◌, ◌<◌, ◌≤◌, ◌-◌, ◌^◌, OnOk, IfErr, List, ℕ};
+ghost use Rattle.std.specs.Prelude.{◌<◌, ◌≤◌, ◌-◌, ◌^◌, OnOk, IfErr, List, ℕ};
 ghost use Rattle.integrator.specs.Runs.{IsRun, Wrote};
 ghost use Rattle.integrator.specs.Starts.{plain};
 ghost use Rattle.engine.specs.Engines.{AreSafe, IsRunUnwritten, Wants};
@@ -31,18 +31,17 @@ pub fn watched_run_bytes<R: Threads + Sync, A: Allocator + Copy + Send + Sync, W
 ) -> Result<(), RunFault<A>>
     requires some { 0 < workers }
     requires few { workers ≤ 64 }
-    requires count { O.failed out.old < 2 ^ 64 - 1 }
+    requires count { (O.output out.old).failed < 2 ^ 64 - 1 }
     // No instruction of the slope's code goes wrong, and no pair takes more of them than the certified number.
     ensures safe { OnOk result (AreSafe job.now state.now) }
     // The text of the state after the steps is written.
-    ensures wrote { OnOk result (WroteLevesqueVerletRun job.now state.now direction steps (O.taken out.old) (O.taken out.new)) }
-    ensures ran { OnOk result (Wrote plain job.now state.now direction steps (O.taken out.old) (O.taken out.new)) }
-    ensures kept { OnOk result (O.failed out.new ≡ O.failed out.old) }
+    ensures wrote { OnOk result (WroteLevesqueVerletRun job.now state.now direction steps (O.output out.old) (O.output out.new)) }
+    ensures ran { OnOk result (Wrote plain job.now state.now direction steps (O.output out.old) (O.output out.new)) }
     // The watcher is told of each hundredth of the steps, or of those among the first steps.
     ensures told { OnOk result (W.told watch.old watch.new (hundredths steps)) }
     ensures told_some { IfErr result (λ _. SomeHundredths steps (W.told watch.old watch.new)) }
     // Why there is no such text: only a failed output is left with a beginning of it.
-    ensures refused { IfErr result (IsRunUnwritten job.now state.now direction steps (O.taken out.old, O.failed out.old) (O.taken out.new, O.failed out.new)) }
+    ensures refused { IfErr result (IsRunUnwritten job.now state.now direction steps (O.output out.old) (O.output out.new)) }
     // Where there is such a text and the code is accepted, no other refusal is left but want of memory and a failed output.
     ensures only { (text : List ℕ) → IsRun plain job.now state.now direction steps text → AreSafe job.now state.now → IfErr result Wants }
 {

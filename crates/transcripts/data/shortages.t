@@ -34,7 +34,7 @@ Help goes to the same output.
   0-673: a beginning, pairmd: O2 CannotWrite [5]
   674: all
 
-Each request for memory is refused in turn: a command gives its whole answer, or says that it wants memory and prints nothing.
+Each request for memory is refused in turn: a command gives its whole answer, or says that it wants memory and prints nothing, and gives back all that it took.
 Where the request is one of a step of a run, the line says how many whole steps were done.
 
   $ requests pairmd start job gro
@@ -77,3 +77,34 @@ Memory may be wanted for the line of a refusal too.
   $ requests pairmd check job --code 'a path of no file'
   pairmd: Memory [4]
   all
+
+Several workers ask for more than one: for a list of scratches, for the scratch of each, two blocks, and at each step for the words that all of them
+add to, and for their table, two blocks more than those words.
+
+  $ memory pairmd run job state --steps 2
+  2 workers: 9 requests more
+  3 workers: 2 requests more
+  $ memory pairmd back job state --steps 2
+  2 workers: 9 requests more
+  3 workers: 2 requests more
+  $ memory pairmd trajectory job state --steps 2 --every 2
+  2 workers: 9 requests more
+  3 workers: 2 requests more
+  $ memory pairmd trajectory job state --steps 2 --every 2 --back
+  2 workers: 9 requests more
+  3 workers: 2 requests more
+
+They begin anew behind each frame, and where it is told how far a run has come.
+
+  $ memory pairmd trajectory job state --steps 2 --every 1
+  2 workers: 12 requests more
+  3 workers: 4 requests more
+  $ memory pairmd run job state --steps 2 --progress
+  2 workers: 12 requests more
+  3 workers: 4 requests more
+  $ memory pairmd back job state --steps 2 --progress
+  2 workers: 12 requests more
+  3 workers: 4 requests more
+  $ memory pairmd trajectory job state --steps 2 --every 2 --progress
+  2 workers: 12 requests more
+  3 workers: 4 requests more

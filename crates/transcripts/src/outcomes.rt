@@ -1,14 +1,12 @@
-//! What a command comes to, and the outputs that it prints to.
-
-ghost use Rattle.std.specs.Prelude.{◌≡◌, None};
+//! What a command comes to, and the writers that it prints to.
 
 use crate::files::Memory;
 use crate::lines::{put_line, put_printed};
-use cli::execute;
-use fallible::{Collected, Out, OutFault};
+use cli::{Stream, execute};
 use std::alloc::{AllocError, Allocator, Global};
 use std::convert::AsStr;
 use std::fs::Files;
+use std::io::{self, Write};
 use std::thread::Threads;
 
 /// What a command printed, and the status that it ended with.
@@ -75,14 +73,10 @@ pub(crate) fn outcome_of<
     A: Allocator + Copy + Send + Sync,
     S: AsStr,
 >(rt: &R, short: A, words: &[S], files: &mut Memory<'_, R>) -> Outcome {
-    let mut out = Collected::new(rt.alloc());
-    let mut err = Collected::new(rt.alloc());
-    let status = execute(rt, rt.alloc(), short, words, files, &mut out, &mut err);
-    Outcome {
-        out: out.into_bytes(),
-        err: err.into_bytes(),
-        status,
-    }
+    let mut out = Vec::new(rt.alloc());
+    let mut err = Vec::new(rt.alloc());
+    let status = status_of(rt, short, words, files, &mut out, &mut err);
+    Outcome { out, err, status }
 }
 
 /// What the program comes to on these words, on an output that takes so many bytes, one at a time, and then fails.
@@ -93,11 +87,11 @@ pub(crate) fn outcome_onto<R: Files + Threads + Sync + AllocGlobal>(
     files: &mut Memory<'_, R>,
 ) -> Outcome {
     let mut out = Limited::new(rt.alloc(), left, false);
-    let mut err = Collected::new(rt.alloc());
-    let status = execute(rt, rt.alloc(), rt.alloc(), words, files, &mut out, &mut err);
+    let mut err = Vec::new(rt.alloc());
+    let status = status_of(rt, rt.alloc(), words, files, &mut out, &mut err);
     Outcome {
         out: out.bytes,
-        err: err.into_bytes(),
+        err,
         status,
     }
 }
@@ -110,14 +104,27 @@ pub(crate) fn outcome_beside<R: Files + Threads + Sync + AllocGlobal>(
     words: &[&str],
     files: &mut Memory<'_, R>,
 ) -> Outcome {
-    let mut out = Collected::new(rt.alloc());
+    let mut out = Vec::new(rt.alloc());
     let mut err = Limited::new(rt.alloc(), left, fails_once);
-    let status = execute(rt, rt.alloc(), rt.alloc(), words, files, &mut out, &mut err);
+    let status = status_of(rt, rt.alloc(), words, files, &mut out, &mut err);
     Outcome {
-        out: out.into_bytes(),
+        out,
         err: err.bytes,
         status,
     }
+}
+
+/// The status that the program ends with on these words, which prints to streams over these writers, as it does to the system's.
+fn status_of<
+    R: Files + Threads + Sync + AllocGlobal,
+    A: Allocator + Copy + Send + Sync,
+    S: AsStr,
+    O: Write + Drop,
+    E: Write + Drop,
+>(rt: &R, short: A, words: &[S], files: &mut Memory<'_, R>, out: O, err: E) -> u8 {
+    let mut out = Stream::new(out);
+    let mut err = Stream::new(err);
+    execute(rt, rt.alloc(), short, words, files, &mut out, &mut err)
 }
 
 /// Takes one byte at a time, and fails once it has taken as many as it may: at each write from then on, or at one.
@@ -126,44 +133,36 @@ struct Limited {
     bytes: Vec<u8>,
     left: usize,
     fails_once: bool,
-    failures: u64,
 }
 
 impl Limited {
-    /// An output that has taken nothing.
-    fn new(alloc: Global, left: usize, fails_once: bool) -> Limited
-        ensures { result.failures ≡ 0 }
-    {
+    /// A writer that has taken nothing.
+    fn new(alloc: Global, left: usize, fails_once: bool) -> Limited {
         Limited {
             bytes: Vec::new(alloc),
             left,
             fails_once,
-            failures: 0,
         }
     }
 }
 
-impl Out for Limited {
-    ghost taken = { λ _. None };
-
-    ghost failed = { λ s. s.failures };
-
-    fn write(&mut self, bytes: &[u8]) -> Result<usize, OutFault> {
+impl Write for Limited {
+    fn write(&mut self, bytes: &[u8]) -> io::Result<usize> {
         let Some(first) = bytes.first() else {
             return Ok(0);
         };
-        if self.left > 0 && self.bytes.push(*first).is_ok() {
+        if self.left > 0 {
+            self.bytes.push(*first)?;
             self.left -= 1;
             return Ok(1);
         }
         if self.fails_once {
             self.left = usize::MAX;
         }
-        self.failures += 1;
-        Err(OutFault)
+        Err(io::ErrorKind::BrokenPipe.into())
     }
 
-    fn failures(&self) -> u64 {
-        self.failures
+    fn flush(&mut self) -> io::Result<()> {
+        Ok(())
     }
 }

@@ -104,6 +104,7 @@ impl<'a, R: Files + Threads + Sync + AllocGlobal> Shell<'a, R> {
             ["outputs", "pairmd", words @ ..] => self.failing_outputs(words),
             ["errors", "pairmd", words @ ..] => self.failing_errors(words),
             ["requests", "pairmd", words @ ..] => self.refused_requests(words),
+            ["memory", "pairmd", words @ ..] => self.requests_of_workers(words),
             words => self.make(words),
         }
     }

@@ -1,5 +1,5 @@
 //! One command many times: by numbers of workers, there and back, over beginnings of a file, onto outputs that fail, beside
-//! error outputs that fail, and with each request for memory refused in turn.
+//! error outputs that fail, with each request for memory refused in turn, and with the requests counted that workers make.
 
 use crate::lines::put_line;
 use crate::outcomes::{Outcome, outcome_beside, outcome_of, outcome_onto};
@@ -158,6 +158,17 @@ impl<'a, R: Files + Threads + Sync + AllocGlobal> Shell<'a, R> {
         Ok(told)
     }
 
+    /// What a command comes to where the request of this number is refused, and the allocator that counted its requests.
+    fn refusing<S: AsStr>(
+        &mut self,
+        number: u64,
+        words: &[S],
+    ) -> (Outcome, RefusingAllocator<Global>) {
+        let memory = RefusingAllocator::new(self.rt.alloc(), number);
+        let outcome = outcome_of(self.rt, &memory, words, &mut self.files);
+        (outcome, memory)
+    }
+
     /// Adds what a command comes to where the request of this number is refused, and tells whether there was such a request.
     fn without_request(
         &mut self,
@@ -167,13 +178,36 @@ impl<'a, R: Files + Threads + Sync + AllocGlobal> Shell<'a, R> {
         told: &mut Vec<Vec<u8>>,
     ) -> Result<bool, AllocError> {
         let alloc = self.rt.alloc();
-        let memory = RefusingAllocator::new(alloc, number);
-        let outcome = outcome_of(self.rt, &memory, words, &mut self.files);
-        let summary = summary_beside(alloc, outcome, whole)?;
+        let (outcome, memory) = self.refusing(number, words);
+        let mut summary = summary_beside(alloc, outcome, whole)?;
+        if memory.blocks() != 0 {
+            summary.extend_from_slice(b", and memory is left behind")?;
+        }
         if !told.contains(&summary) {
             told.push(summary)?;
         }
         Ok(memory.requests() > number)
+    }
+
+    /// How many requests for memory a command makes by 2 workers that it doesn't by 1, and by 3 that it doesn't by 2.
+    pub(crate) fn requests_of_workers(&mut self, words: &[&str]) -> Result<Outcome, AllocError> {
+        let alloc = self.rt.alloc();
+        let mut fewer = self.requests_by("1", words)?;
+        let mut text = Vec::new(alloc);
+        for workers in ["2", "3"] {
+            let requests = self.requests_by(workers, words)?;
+            let more = requests.saturating_sub(fewer);
+            let line = format!(in alloc; "{workers} workers: {more} requests more")?;
+            put_line(&mut text, line.as_bytes())?;
+            fewer = requests;
+        }
+        Ok(Outcome::printing(alloc, text))
+    }
+
+    fn requests_by(&mut self, workers: &str, words: &[&str]) -> Result<u64, AllocError> {
+        let words = by_workers(self.rt.alloc(), words, workers)?;
+        let (_, memory) = self.refusing(REQUESTS, &words);
+        Ok(memory.requests())
     }
 }
 

@@ -90,6 +90,7 @@ joined_frame code inputs steps locals to frame f (Some earlier) (Some new) d bef
     let same : new ≡ f = cc in
     subst (λ (g : SpanFrame). IsAttainedFrame code locals to g) same (attained_wide code inputs steps locals to earlier frame new d (before earlier refl) x j)
 
+-- where paths attain all frames, they do so after a frame that they attain at its place has joined there
 pub joins_attained : (code : List Instr) (inputs steps locals to : ℕ) (frame : SpanFrame) (old new : List (Option SpanFrame)) → DoesWell code inputs steps → AreAttainedFrames code locals old → IsAttainedFrame code locals to frame → Joins to frame old new → AreAttainedFrames code locals new
 joins_attained code inputs steps locals to frame old new d a x j =
     record {
@@ -102,6 +103,7 @@ joins_attained code inputs steps locals to frame old new d a x j =
           (cases_eq at to);
     }
 
+-- frames that paths attain are still attained when a place's frame is taken
 pub takes_attained : (code : List Instr) (locals here : ℕ) (o : Option SpanFrame) (old new : List (Option SpanFrame)) → AreAttainedFrames code locals old → Takes here o old new → AreAttainedFrames code locals new
 takes_attained code locals here o old new a t =
     record {
@@ -122,6 +124,7 @@ first_attained code inputs steps locals frame old new d enough none u j =
     let nothing : AreAttainedFrames code locals old = record { each = λ at f e. let n = none at in absurd cc } in
     record { locals = locals; enough = enough; frames = joins_attained code inputs steps locals 0 frame old new d nothing (start_attained code locals frame u) j }
 
+-- where no place has a frame yet, a frame of any size can meet there
 pub first_meets : (old : List (Option SpanFrame)) (height locals at : ℕ) → ((k : ℕ) → frame_at old k ≡ None) → CanMeet (frame_at old at) height locals
 first_meets old height locals at none = rw (none at) tt
 
@@ -131,6 +134,7 @@ meets : (code : List Instr) (inputs steps locals at : ℕ) (frame : SpanFrame) (
 meets code inputs steps locals at frame None d before x = tt
 meets code inputs steps locals at frame (Some e) d before x = attained_size code inputs steps locals at e frame d (before e refl) x
 
+-- a frame that paths attain can meet the one at its place: both have one size
 pub meets_there : (code : List Instr) (inputs steps locals at : ℕ) (frame : SpanFrame) (places : List (Option SpanFrame)) → DoesWell code inputs steps → AreAttainedFrames code locals places → IsAttainedFrame code locals at frame → CanMeet (frame_at places at) (length frame.stack) (length frame.locals)
 meets_there code inputs steps locals at frame places d a x = meets code inputs steps locals at frame (frame_at places at) d (a.each at) x
 
@@ -153,6 +157,7 @@ past_attained code here old between a t = record { locals = a.locals; enough = a
 
 -- ---- one that doesn't jump
 
+-- an instruction that is neither a jump at 0 nor a jump goes on to the next place
 pub is_plain : (i : Instr) → ((to : ℕ) → i ≡ JumpIfZero to → ⊥) → ((to : ℕ) → i ≡ Jump to → ⊥) → IsPlain i
 is_plain (Push v) f g = tt
 is_plain (Input k) f g = tt
@@ -193,6 +198,7 @@ at_hand code inputs steps here i frame old between d a t there = at i there (att
 plain_on : (bits : ℕ) (code : List Instr) (inputs : List Span) (locals here : ℕ) (i : Instr) (frame frame' : SpanFrame) → IsAttainedFrame code locals here frame → slice_get code here ≡ Some i → IsPlain i → Follows bits i inputs frame frame' → IsAttainedFrame code locals (here + 1) frame'
 plain_on bits code inputs locals here i frame frame' x there p f = goes_attained code locals here (here + 1) i frame frame' x there (plain_next i here p) f.size (f.set x.set x.has)
 
+-- an instruction that doesn't jump leads to a frame that can meet the one at the next place
 pub plain_meets : (bits : ℕ) (code : List Instr) (inputs : List Span) (steps here : ℕ) (i : Instr) (frame frame' : SpanFrame) (old between : List (Option SpanFrame)) → DoesWell code (length inputs) steps → AreAttained code old → Takes here (Some frame) old between → slice_get code here ≡ Some i → IsPlain i → Follows bits i inputs frame frame'
     → CanMeet (frame_at between (here + 1)) (length frame'.stack) (length frame'.locals)
 plain_meets bits code inputs steps here i frame frame' old between d a t there p f =
@@ -200,6 +206,7 @@ plain_meets bits code inputs steps here i frame frame' old between d a t there p
     let b = takes_attained code a.locals here (Some frame) old between a.frames t in
     meets_there code (length inputs) steps a.locals (here + 1) frame' between d b (plain_on bits code inputs a.locals here i frame frame' x there p f)
 
+-- paths still attain all frames when a place is passed by an instruction that doesn't jump
 pub plain_attained : (bits : ℕ) (code : List Instr) (inputs : List Span) (steps here : ℕ) (i : Instr) (frame frame' : SpanFrame) (old between new : List (Option SpanFrame)) → DoesWell code (length inputs) steps → AreAttained code old → Takes here (Some frame) old between → slice_get code here ≡ Some i → IsPlain i → Follows bits i inputs frame frame'
     → Joins (here + 1) frame' between new → AreAttained code new
 plain_attained bits code inputs steps here i frame frame' old between new d a t there p f j =
@@ -212,6 +219,7 @@ plain_attained bits code inputs steps here i frame frame' old between new d a t 
 jump_on : (code : List Instr) (locals here to : ℕ) (frame : SpanFrame) → IsAttainedFrame code locals here frame → slice_get code here ≡ Some (Jump to) → IsAttainedFrame code locals to frame
 jump_on code locals here to frame x there = goes_attained code locals here to (Jump to) frame frame x there refl (record { height' = refl; locals' = refl }) x.has
 
+-- the frame before a jump can meet the one at its target
 pub jump_meets : (code : List Instr) (inputs steps here to : ℕ) (frame : SpanFrame) (old between : List (Option SpanFrame)) → DoesWell code inputs steps → AreAttained code old → Takes here (Some frame) old between → slice_get code here ≡ Some (Jump to)
     → CanMeet (frame_at between to) (length frame.stack) (length frame.locals)
 jump_meets code inputs steps here to frame old between d a t there =
@@ -219,6 +227,7 @@ jump_meets code inputs steps here to frame old between d a t there =
     let b = takes_attained code a.locals here (Some frame) old between a.frames t in
     meets_there code inputs steps a.locals to frame between d b (jump_on code a.locals here to frame x there)
 
+-- paths still attain all frames when a place is passed by a jump
 pub jump_attained : (code : List Instr) (inputs steps here to : ℕ) (frame : SpanFrame) (old between new : List (Option SpanFrame)) → DoesWell code inputs steps → AreAttained code old → Takes here (Some frame) old between → slice_get code here ≡ Some (Jump to) → Joins to frame between new → AreAttained code new
 jump_attained code inputs steps here to frame old between new d a t there j =
     let x = a.frames.each here frame t.taken in
@@ -261,6 +270,7 @@ branched code inputs steps locals here target frame old new d a x there (may_jum
     let b = joins_attained code inputs steps locals (here + 1) rest old between d a (popped_on code locals here target (here + 1) s frame rest x there (inl refl) p) j in
     joins_attained code inputs steps locals target rest between new d b (popped_on code locals here target target s frame rest x there (inr refl) p) k
 
+-- paths still attain all frames when a place is passed by a jump at 0, whichever ways it may go
 pub branch_attained : (code : List Instr) (inputs steps here target : ℕ) (frame : SpanFrame) (old between new : List (Option SpanFrame)) → DoesWell code inputs steps → AreAttained code old → Takes here (Some frame) old between → slice_get code here ≡ Some (JumpIfZero target)
     → Branches (here + 1) target frame between new → AreAttained code new
 branch_attained code inputs steps here target frame old between new d a t there b =
@@ -270,6 +280,7 @@ branch_attained code inputs steps here target frame old between new d a t there 
 
 -- ---- the end
 
+-- a frame at the end of code that does well has one span on its stack
 pub one_left : (code : List Instr) (inputs steps : ℕ) (frame : SpanFrame) (places : List (Option SpanFrame)) → DoesWell code inputs steps → AreAttained code places → frame_at places (length code) ≡ Some frame → length frame.stack ≡ 1
 one_left code inputs steps frame places d a e =
     let x = a.frames.each (length code) frame e in

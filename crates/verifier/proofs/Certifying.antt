@@ -10,18 +10,13 @@ use Rattle.kernel_code.specs.Code.{IsCode}
 use Rattle.kernel_code.specs.Machine.{State, Turn, act, end_of, Ends}
 use Rattle.kernel_code.specs.Paths.{IsPath, IsLongest, MissesNothing}
 use Rattle.kernel_code.specs.Tables.{Table, IsTable, inputs_of}
-use Rattle.kernel_code.proofs.PathLaws.{set_of, run_is_path, path_within}
+use Rattle.kernel_code.proofs.PathLaws.{at_end, set_of, run_is_path, path_within}
 use Rattle.kernel_paths.specs.Misfits.{DoesWell}
 use Rattle.verifier.specs.declared.faults.VerifyFault.{VerifyFault}
 use Rattle.verifier.specs.declared.faults.VerifyFault.TheVariants.{Malformed, DepthOver64, Fault, Undecided}
 use Rattle.verifier.specs.Safety.{IsSafe, IsCertified, IsFound, IsRefusal, input_count}
 use Rattle.verifier.specs.Slices.{AreEnoughLocals}
 use Rattle.verifier.specs.Searches.{Searched, IsSearch}
-
-at_end : (code : List Instr) (pc : ℕ) → pc ≤ length code → slice_get code pc ≡ None → pc ≡ length code
-at_end [] pc h e = omega (arith, h)
-at_end (i ∷ is) zero h e = absurd cc
-at_end (i ∷ is) (suc pc) h e = ap suc (at_end is pc (omega (arith, h)) e)
 
 no_turn : (s : State) (t : Turn) (v : ℤ) → end_of s (Some t) ≡ Some (Ok v) → ⊥
 no_turn s (Ok next) v e = absurd cc
@@ -43,6 +38,7 @@ value_few bits code inputs n steps v is longest e = at (slice_get code s.pc) ref
         longest.most n (length s.stack) (set_of s.locals) (subst (λ (pc : ℕ). IsPath code n pc (length s.stack) (set_of s.locals)) last path)
     at (Some i) here over = absurd (no_turn s (act bits i inputs s.pc s.stack s.locals) v over)
 
+-- code that does well, and is safe with every two types within the bound, is certified with the number of instructions on its longest path
 pub certified : (code : List Instr) (t : Table) (core cutoff : ℤ) (inputs steps bound : ℕ) → IsCode code → DoesWell code inputs steps → inputs ≡ input_count t → IsSafe code t (length t.rows) core cutoff bound → IsCertified code t core cutoff steps bound
 certified code t core cutoff inputs steps bound is d e h =
     record {
@@ -52,12 +48,6 @@ certified code t core cutoff inputs steps bound is d e h =
       longest = d.longest;
       misses = subst (λ (n : ℕ). MissesNothing code n) e d.misses;
     }
-
-pub refused : (code : List Instr) (t : Table) (core cutoff : ℤ) (limit : ℕ) (f : VerifyFault) → IsFound code t core (cutoff -ℤ pos 1) limit f → IsRefusal code t core cutoff limit f
-refused code t core cutoff limit (Malformed pc) h = absurd h
-refused code t core cutoff limit (DepthOver64 pc) h = absurd h
-refused code t core cutoff limit (Fault a b r pc fault) h = h
-refused code t core cutoff limit (Undecided a b lo hi pc fault) h = h
 
 -- ---- locals
 
@@ -77,10 +67,12 @@ locals_more code at count count' item within is before more here pc k lt there =
     (λ (n : pc ≢ at). let h = before pc k (omega (arith, lt, n)) there in omega (arith, h, more))
     (cases_eq pc at)
 
+-- where each local that the instructions before a place keep is among so many, and the code ends there, these are enough for the code
 pub locals_all : (code : List Instr) (at count : ℕ) → ((pc k : ℕ) → pc < at → slice_get code pc ≡ Some (Keep k) → k < count) → length code ≤ at → AreEnoughLocals code count
 locals_all code at count before past = record { kept = λ pc k there. let w = slice_get_within code pc (Keep k) there in before pc k (omega (arith, w, past)) there }
 
 -- ---- the search
 
+-- a table, code that does well under it, enough locals, a range of distances that isn't empty and at least one slice make a search
 pub is_search : (s : Searched) (inputs steps : ℕ) → IsTable s.table → DoesWell s.code inputs steps → inputs ≡ input_count s.table → AreEnoughLocals s.code s.locals → pos 0 ≤ℤ s.core → s.core <ℤ s.cutoff → 0 < s.slices → IsSearch s
 is_search s inputs steps t d e l core range slices = record { table = t; well = (steps, subst (λ (n : ℕ). DoesWell s.code n steps) e d); locals = l; core = core; range = range; slices = slices }

@@ -134,11 +134,13 @@ module _ (bits : ℕ) (code : List Instr) where
   held_below xs ys F G last last' (suc n) w a b m lt le le' =
       held xs ys F G last last' m w a b le le' (λ k below. held_below xs ys F G last last' n w a b k (omega (arith, below, lt)) (omega (arith, below, le)) (omega (arith, below, le')))
 
+  -- where inputs are within others, a place's frame lies within the frame that the others' place has, as far as both lists of frames go
   pub held_at : (xs ys : List Span) (F G : ℕ → Option SpanFrame) (last last' m : ℕ) → AreInputsWithin xs ys → AreFrames bits code xs last F → AreFrames bits code ys last' G → m ≤ last → m ≤ last' → IsHeld F G m
   held_at xs ys F G last last' m w a b le le' = held_below xs ys F G last last' (suc m) w a b m (omega arith) le le'
 
   -- ---- spans
 
+  -- where inputs are within others, the span of the value lies within the others' one
   pub gives_within : (xs ys : List Span) (s t : Span) → AreInputsWithin xs ys → GivesSpan bits code xs s → GivesSpan bits code ys t → IsWithin s t
   gives_within xs ys s t w a b =
       let h = held_at xs ys a.frames b.frames (length code) (length code) (length code) w a.are b.are (omega arith) (omega arith) a.frame a.there in
@@ -160,9 +162,11 @@ module _ (bits : ℕ) (code : List Instr) where
       let same : on.instr ≡ a.instr = cc in
       stop_goes bits a.instr ys a.frame h.0 on.new fault h.2 a.stops (subst (λ (i : Instr). IsBehind bits i ys h.0 on.new) same on.behind)
 
+  -- code that stops on some inputs gives no span on inputs that these are within
   pub gives_no_stop : (xs ys : List Span) (s : Span) (pc : ℕ) (fault : Fault) → AreInputsWithin xs ys → StopsAt bits code xs pc fault → GivesSpan bits code ys s → ⊥
   gives_no_stop xs ys s pc fault w a b = stop_past xs ys b.frames (length code) pc fault w a b.are (slice_get_within code pc a.instr a.at)
 
+  -- on inputs within each other code stops at one place, for one cause
   pub stops_same : (xs ys : List Span) (pc pc' : ℕ) (fault fault' : Fault) → AreInputsWithin xs ys → AreInputsWithin ys xs → StopsAt bits code xs pc fault → StopsAt bits code ys pc' fault' → (pc ≡ pc') × (fault ≡ fault')
   stops_same xs ys pc pc' fault fault' w v a b =
       ⊎_elim

@@ -26,6 +26,7 @@ on_ok (Err e) P Q h f = tt
 
 -- ---- members
 
+-- a list of members of spans is as long as the list of spans
 pub length_members : (xs : List ℤ) (ss : List Span) → AreMembers xs ss → length xs ≡ length ss
 length_members [] [] h = refl
 length_members [] (s ∷ ss) h = absurd h
@@ -37,9 +38,11 @@ pub tops : (ys : List ℤ) (s : Span) (rest : List Span) → AreMembers ys (s �
 tops [] s rest h = absurd h
 tops (y ∷ ys) s rest h = (y, ys, refl, h.0, h.1)
 
+-- a stack in a frame whose top is popped is a member of that span and, below it, a stack in the frame that is left
 pub popped : (s : Span) (old new : SpanFrame) (ys : List ℤ) → Pops s old new → AreMembers ys old.stack → (y : ℤ) × (ys' : List ℤ) × (ys ≡ y ∷ ys') × IsMember y s × AreMembers ys' new.stack
 popped s old new ys p h = tops ys s new.stack (subst (AreMembers ys) p.stack h)
 
+-- locals that are in some spans are in equal ones
 pub same_locals : (ls : List (Option ℤ)) (a b : List (Option Span)) → b ≡ a → AreLocalsOf ls a → AreLocalsOf ls b
 same_locals ls a b e h = rw e h
 
@@ -75,6 +78,7 @@ push_leads x s pc ys ls old new h p i =
     let test : nat_lt (length ys) 64 ≡ true = lt-ltb (length ys) 64 room in
     (rw test refl, record { on_stack = subst (AreMembers (x ∷ ys)) (sym p.stack) (i, h.on_stack); set = same_locals ls old.locals new.locals p.locals h.set })
 
+-- where a frame has a number's own span pushed, Push of this number leads from the old frame to the new one
 pub follows_push : (bits : ℕ) (v : ℤ) (s : Span) (inputs : List Span) (old new : SpanFrame) → s.lo ≡ v → s.hi ≡ v → Pushes s old new → Follows bits (Push v) inputs old new
 follows_push bits v s inputs old new lo hi p =
     record {
@@ -86,6 +90,7 @@ follows_push bits v s inputs old new lo hi p =
       set = λ set h. same_set old.locals new.locals set p.locals h;
     }
 
+-- the same of Input, with the span of its input
 pub follows_input : (bits k : ℕ) (s : Span) (inputs : List Span) (old new : SpanFrame) → slice_get inputs k ≡ Some s → Pushes s old new → Follows bits (Input k) inputs old new
 follows_input bits k s inputs old new e p =
     record {
@@ -101,6 +106,7 @@ local_set : (o : Option ℤ) (s : Span) → IsLocalOf o (Some s) → (x : ℤ) �
 local_set None s h = absurd h
 local_set (Some x) s h = (x, refl, h)
 
+-- the same of Get, with the span of its local
 pub follows_get : (bits k : ℕ) (s : Span) (inputs : List Span) (old new : SpanFrame) → slice_index_or old.locals k None ≡ Some s → Pushes s old new → Follows bits (Get k) inputs old new
 follows_get bits k s inputs old new e p =
     record {
@@ -130,6 +136,7 @@ locals_kept ls l k x s h within i =
           (cases_eq j k);
     }
 
+-- Keep leads from a frame to the one without its top, in which the local has the top's span
 pub follows_keep : (bits k : ℕ) (s : Span) (inputs : List Span) (old between new : SpanFrame) → k < 256 → k < length old.locals → Pops s old between → Keeps k s between new → Follows bits (Keep k) inputs old new
 follows_keep bits k s inputs old between new fits within p n =
     record {
@@ -147,14 +154,17 @@ follows_keep bits k s inputs old between new fits within p n =
       set = λ set h. same_set (slice_set between.locals k (Some s)) new.locals (slice_set set k true) n.locals (set_with between.locals set k s fits (omega (arith, ap length p.locals, within)) (same_set old.locals between.locals set p.locals h));
     }
 
+-- popping two spans and pushing the least span of an operation's outcomes on them is the operation on the frame
 pub applies_binary : (bits : ℕ) (op : BinaryOperation) (a b s : Span) (old one two new : SpanFrame) → Pops b old one → Pops a one two → IsLeastSpan (IsOutcomeOfTwo (binary_of bits op) a b) s → Pushes s two new → AppliesBinary bits op old new
 applies_binary bits op a b s old one two new pb pa l p =
     record { a = a; b = b; s = s; rest = two.stack; taken = pb.stack ∙ ap (λ t. b ∷ t) pa.stack; least = l; given = p.stack; locals = p.locals ∙ pa.locals ∙ pb.locals }
 
+-- the same of an operation on one span
 pub applies_unary : (bits : ℕ) (op : UnaryOperation) (a s : Span) (old one new : SpanFrame) → Pops a old one → IsLeastSpan (IsOutcome (unary_of bits op) a) s → Pushes s one new → AppliesUnary bits op old new
 applies_unary bits op a s old one new pa l p =
     record { a = a; s = s; rest = one.stack; taken = pa.stack; least = l; given = p.stack; locals = p.locals ∙ pa.locals }
 
+-- an operation on two numbers leads to the frame in which it is applied to the spans on top
 pub follows_binary : (bits : ℕ) (op : BinaryOperation) (inputs : List Span) (old new : SpanFrame) → AppliesBinary bits op old new → Follows bits (Binary op) inputs old new
 follows_binary bits op inputs old new f =
     record {
@@ -174,6 +184,7 @@ follows_binary bits op inputs old new f =
       set = λ set h. same_set old.locals new.locals set f.locals h;
     }
 
+-- the same of an operation on one number
 pub follows_unary : (bits : ℕ) (op : UnaryOperation) (inputs : List Span) (old new : SpanFrame) → AppliesUnary bits op old new → Follows bits (Unary op) inputs old new
 follows_unary bits op inputs old new f =
     record {
@@ -194,9 +205,11 @@ follows_unary bits op inputs old new f =
 
 -- ---- the frame behind it
 
+-- a frame with the span of one number alone pushed is the one behind Push of that number
 pub behind_push : (v : ℤ) (s : Span) (old new : SpanFrame) → s.lo ≡ v → s.hi ≡ v → Pushes s old new → PushesNumber v old new
 behind_push v s old new lo hi p = record { span = s; one = record { lo' = lo; hi' = hi }; pushes = p }
 
+-- a frame whose top is popped, and then kept as a local's span, is the one behind Keep
 pub behind_keep : (k : ℕ) (s : Span) (old between new : SpanFrame) → k < length old.locals → Pops s old between → Keeps k s between new → KeepsTop k old new
 behind_keep k s old between new within p n =
     let within' : k < length between.locals = omega (arith, ap length p.locals, within) in
@@ -213,9 +226,11 @@ behind_keep k s old between new within p n =
 
 -- ---- why it stops
 
+-- an operation with a cause to fault on the two spans popped from a frame stops on the frame
 pub stops_on_two : (bits : ℕ) (op : BinaryOperation) (a b : Span) (old one two : SpanFrame) (fault : Fault) → Pops b old one → Pops a one two → IsCause (IsOutcomeOfTwo (binary_of bits op) a b) fault → StopsOnTwo bits op old fault
 stops_on_two bits op a b old one two fault pb pa cause = record { a = a; b = b; rest = two.stack; taken = pb.stack ∙ ap (λ t. b ∷ t) pa.stack; cause = cause }
 
+-- the same of an operation on one span
 pub stops_on_one : (bits : ℕ) (op : UnaryOperation) (a : Span) (old one : SpanFrame) (fault : Fault) → Pops a old one → IsCause (IsOutcome (unary_of bits op) a) fault → StopsOnOne bits op old fault
 stops_on_one bits op a old one fault pa cause = record { a = a; rest = one.stack; taken = pa.stack; cause = cause }
 

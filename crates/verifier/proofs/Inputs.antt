@@ -25,6 +25,7 @@ use Rattle.verifier.specs.Verdicts.{AreInputSpans, IsOneInput}
 row_length : (t : Table) (a : ℕ) → IsTable t → a < length t.rows → length (row_of t a) ≡ t.parameters
 row_length t a is within = All-get_or (λ (row : List ℤ). length row ≡ t.parameters) t.rows a [] within is.rows_whole
 
+-- code has as many inputs as its table says, for every two types at any distance
 pub inputs_length : (t : Table) (a b : ℕ) (r : ℤ) → IsTable t → a < length t.rows → b < length t.rows → length (inputs_of t a b r) ≡ input_count t
 inputs_length t a b r is first second =
     let x = row_length t a is first in
@@ -49,6 +50,7 @@ input_there t a b k k' r is first second none same lt =
 pub misses_inputs : (code : List Instr) (t : Table) (a b : ℕ) (r : ℤ) → IsTable t → a < length t.rows → b < length t.rows → (steps : ℕ) × DoesWell code (input_count t) steps → MissesNothing code (length (inputs_of t a b r))
 misses_inputs code t a b r is first second well = rw (inputs_length t a b r is first second) well.1.misses
 
+-- a trap of an operation has a fault
 pub not_operation : (kind : TrapKind) → IsOperation kind → ((fault : Fault) → kind ≡ Operation fault → ⊥) → ⊥
 not_operation (Operation fault) is other = other fault refl
 not_operation MissingOperand is other = is
@@ -107,9 +109,11 @@ get_first : (ss : List Span) (s t : Span) → slice_get ss 0 ≡ Some s → slic
 get_first [] s t e = absurd cc
 get_first (x ∷ ss) s t e = e
 
+-- the span of the distances alone holds the first input
 pub hold_first : (t : Table) (a b : ℕ) (distances : Span) (spans : List Span) → spans ≡ distances ∷ [] → HoldSome t a b 1 distances spans
 hold_first t a b distances spans e = rw e (record { long = refl; each = λ r m. inputs_first r _ distances m; first = refl; others = λ j s one there. absurd (none_later distances s j one there) })
 
+-- where spans hold the first k inputs, one more with the value of input k alone makes them hold one input more
 pub hold_more : (t : Table) (a b : ℕ) (v : ℤ) (k k' : ℕ) (distances : Span) (old new : List Span) (s : Span) → HoldSome t a b k distances old → 1 ≤ k → Some v ≡ slice_get (inputs_of t a b distances.lo) k' → k' ≡ k → s.lo ≡ v → s.hi ≡ v → new ≡ old ++ s ∷ [] → HoldSome t a b (k + 1) distances new
 hold_more t a b v k k' distances old new s h one there same el eh e =
     rw e
@@ -126,11 +130,14 @@ hold_more t a b v k k' distances old new s h one there same el eh e =
           (get_push old s x j at);
     })
 
+-- spans that hold the first k inputs hold all, where there are no more than k
 pub hold_all : (t : Table) (a b k : ℕ) (distances : Span) (spans : List Span) → HoldSome t a b k distances spans → k ≡ input_count t → HoldInputs t a b distances spans
 hold_all t a b k distances spans h e = record { long = h.long ∙ e; each = h.each }
 
+-- spans that hold the first k inputs are those of a verdict, where there are no more: the distances, and then each input's one value
 pub input_spans : (t : Table) (a b k : ℕ) (distances : Span) (spans : List Span) → HoldSome t a b k distances spans → k ≡ input_count t → AreInputSpans t a b distances spans
 input_spans t a b k distances spans h e = record { long = h.long ∙ e; first = h.first; others = h.others }
 
+-- code that does well with as many inputs as the table says does so with as many as there are spans that hold them
 pub well_held : (code : List Instr) (t : Table) (a b : ℕ) (distances : Span) (spans : List Span) → HoldInputs t a b distances spans → (steps : ℕ) × DoesWell code (input_count t) steps → (steps : ℕ) × DoesWell code (length spans) steps
 well_held code t a b distances spans h well = rw h.long well

@@ -3,6 +3,7 @@ use Rattle.std.proofs.Common.{◌≡◌, ◌≢◌, ℕ, zero, suc, ◌+◌, ◌
 use Rattle.std.specs.Prelude.{slice_get, slice_set, slice_index_or, is_some}
 use Rattle.std.proofs.lemmas.Bool.{cases_eq, cases_lt}
 use Rattle.std.proofs.lemmas.List.{get_or-set_same, get_or-set_other, get_or_past, length-reverse, reverse-reverse}
+use Rattle.std.proofs.lemmas.Option.{slice_get_within}
 use Rattle.std.proofs.Math.ListN.{length-set}
 use mathlib.Core.List.{reverse_aux}
 use Rattle.interval_domain.specs.declared.span.Span.{Span}
@@ -30,12 +31,14 @@ get_set_other (s ∷ ss) zero (suc j) h n = refl
 get_set_other (s ∷ ss) (suc k) zero h n = refl
 get_set_other (s ∷ ss) (suc k) (suc j) h n = get_set_other ss k j h (λ e. n (ap suc e))
 
+-- before the first hull is set the widened spans are the old ones
 pub spans_none : (old other : List Span) → length old ≡ length other → WidensFirst 0 old other old
 spans_none old other e = record { long = e; long' = refl; mine = λ xs m. m; first = λ j x y h lt p q r. absurd (omega (arith, lt)); rest = λ j le. refl }
 
 hull_same : (a b h a' b' h' : Span) → a' ≡ a → b' ≡ b → h' ≡ h → IsHull a b h → IsHull a' b' h'
 hull_same a b h a' b' h' p q r hull = rw (p, q, r) hull
 
+-- where the first k spans are widened, the hull set at place k makes it one more
 pub spans_more : (k : ℕ) (old other now : List Span) (a b h : Span) → WidensFirst k old other now → slice_get now k ≡ Some a → slice_get other k ≡ Some b → IsHull a b h → WidensFirst (k + 1) old other (slice_set now k h)
 spans_more k old other now a b h w ea eb hull =
     let ea' : slice_get old k ≡ Some a = sym (w.rest k (omega arith)) ∙ ea in
@@ -60,6 +63,7 @@ spans_more k old other now a b h w ea eb hull =
 
 -- ---- spans within spans
 
+-- numbers in some spans are in the spans that these are within
 pub within_members : (xs : List ℤ) (ss ts : List Span) → AreMembers xs ss → AreWithin ss ts → AreMembers xs ts
 within_members [] [] [] m w = tt
 within_members [] [] (t ∷ ts) m w = absurd w
@@ -99,17 +103,13 @@ hulls_least (a ∷ xs) [] (h ∷ hs) ts w p q = absurd (omega (arith, w.other'))
 hulls_least (a ∷ xs) (b ∷ bs) (h ∷ hs) [] w p q = absurd p
 hulls_least (a ∷ xs) (b ∷ bs) (h ∷ hs) (t ∷ ts) w p q = ((w.each 0 a b h refl refl refl).least t p.0 q.0, hulls_least xs bs hs ts (hulls_later a b h xs bs hs w) p.1 q.1)
 
-slice_get_short : (l : List Span) (j : ℕ) (s : Span) → slice_get l j ≡ Some s → j < length l
-slice_get_short [] j s e = absurd cc
-slice_get_short (x ∷ l) zero s e = omega arith
-slice_get_short (x ∷ l) (suc j) s e = let h = slice_get_short l j s e in omega (arith, h)
-
+-- where all spans are widened one by one, the list is the least that holds both lists
 pub spans_all : (k : ℕ) (old other now : List Span) → WidensFirst k old other now → length other ≤ k → WidensSpans old other now
 spans_all k old other now w past =
     let hulls : AreHulls old other now = record {
       mine' = w.long';
       other' = w.long;
-      each = λ j a b h p q r. let lt = slice_get_short other j b q in w.first j a b h (omega (arith, lt, past)) p q r;
+      each = λ j a b h p q r. let lt = slice_get_within other j b q in w.first j a b h (omega (arith, lt, past)) p q r;
     } in
     let second = hulls_second old other now hulls in
     record {
@@ -136,30 +136,15 @@ none_least (Some a) (Some b) (Some t) e p q = absurd cc
 pub local_none : (a b : Option Span) → (is_some a && is_some b) ≡ false → WidensLocal a b None
 local_none a b e = record { mine = λ o m. tt; others = λ o m. tt; set = sym e; first = tt; second = tt; least = λ t p q. none_least a b t e p q }
 
-pub local_first_none : (b : Option Span) → WidensLocal None b None
-local_first_none b = local_none None b refl
-
+-- a local without a span in the second frame has none in the widened one
 pub local_second_none : (a : Option Span) → WidensLocal a None None
 local_second_none a = local_none a None (and_none (is_some a))
 
-pub local_hull : (a b h : Span) → IsHull a b h → WidensLocal (Some a) (Some b) (Some h)
-local_hull a b h hull = record { mine = mine; others = others; set = refl; first = hull.first; second = hull.second; least = least }
-  where
-    least : (t : Option Span) → IsLocalWithin (Some a) t → IsLocalWithin (Some b) t → IsLocalWithin (Some h) t
-    least None p q = tt
-    least (Some t) p q = hull.least t p q
-
-    mine : (o : Option ℤ) → IsLocalOf o (Some a) → IsLocalOf o (Some h)
-    mine None m = m
-    mine (Some x) m = hull.first.members x m
-
-    others : (o : Option ℤ) → IsLocalOf o (Some b) → IsLocalOf o (Some h)
-    others None m = m
-    others (Some x) m = hull.second.members x m
-
+-- before the first local is widened they are the old ones
 pub locals_none : (old other : List (Option Span)) → length old ≡ length other → WidensFirstLocals 0 old other old
 locals_none old other e = record { long = e; first = λ j lt. absurd (omega (arith, lt)); rest = λ j le. refl }
 
+-- where the first k locals are widened, the widened one set at place k makes it one more
 pub locals_more : (k : ℕ) (old other now : List (Option Span)) (a b h : Option Span) → WidensFirstLocals k old other now → k < length now → slice_index_or now k None ≡ a → slice_index_or other k None ≡ b → WidensLocal a b h → WidensFirstLocals (k + 1) old other (slice_set now k h)
 locals_more k old other now a b h w within ea eb l =
     let here : WidensLocal (slice_index_or old k None) (slice_index_or other k None) h = rw (← w.rest k (omega arith), ea, eb) l in
@@ -174,6 +159,7 @@ locals_more k old other now a b h w within ea eb l =
       rest = λ j le. get_or-set_other now k j h None (omega (arith, le)) ∙ w.rest j (omega (arith, le));
     }
 
+-- where all locals are widened one by one, the list is widened
 pub locals_all : (k : ℕ) (old other now : List (Option Span)) → WidensFirstLocals k old other now → length other ≤ k → WidensLocals old other now
 locals_all k old other now w past =
     record {
@@ -218,6 +204,7 @@ within_back ss ts w = subst (λ (l : List Span). AreWithin l (reverse ts)) (reve
 within_forth : (ss ts : List Span) → AreWithin ss (reverse ts) → AreWithin (reverse ss) ts
 within_forth ss ts w = subst (AreWithin (reverse ss)) (reverse-reverse ts) (within_turned ss (reverse ts) w)
 
+-- frames are widened where their stacks and their locals are, with the stacks held bottom first
 pub frame_widens : (s t n : List Span) (ls ms ns : List (Option Span)) → WidensSpans s t n → length n ≡ length t → WidensLocals ls ms ns → length ns ≡ length ms
     → Widens (record { stack = reverse s; locals = ls }) (record { stack = reverse t; locals = ms }) (record { stack = reverse n; locals = ns })
 frame_widens s t n ls ms ns w long l long' =

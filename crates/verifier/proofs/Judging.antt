@@ -37,15 +37,7 @@ gives_within code t a b r inputs s bound g h e =
 pub safe_slice : (code : List Instr) (t : Table) (a b : ℕ) (distances : Span) (inputs : List Span) (s : Span) (bound : ℕ) → AllGiveIn (bits_of t.frac) code inputs s → HoldInputs t a b distances inputs → bound ≡ max (unsigned_abs s.lo) (unsigned_abs s.hi) → IsSafeAt code t a b distances bound
 safe_slice code t a b distances inputs s bound g h e = record { each = λ r m. gives_within code t a b r inputs s bound g (h.each r m) e }
 
--- at one alone
-pub safe_single : (code : List Instr) (t : Table) (a b : ℕ) (distances : Span) (bound : ℕ) → distances.hi ≤ℤ distances.lo → GivesWithin code t a b distances.lo bound → IsSafeAt code t a b distances bound
-safe_single code t a b distances bound single g =
-    record {
-      each = λ r m.
-          let same : distances.lo ≡ r = omega (arith, ints, m.at_least, m.at_most, single) in
-          subst (λ (x : ℤ). GivesWithin code t a b x bound) same g;
-    }
-
+-- a value of at most some magnitude is of at most any greater one
 pub gives_weaker : (code : List Instr) (t : Table) (a b : ℕ) (r : ℤ) (x y : ℕ) → x ≤ y → GivesWithin code t a b r x → GivesWithin code t a b r y
 gives_weaker code t a b r x y h g = record { value = g.value; n = g.n; ends = g.ends; small = omega (arith, g.small, h) }
 
@@ -66,6 +58,7 @@ found_at code t r from last limit f a b h = found_within code t r r from last 1 
 
 -- ---- halves
 
+-- 2 to the power d is twice the power one lower, where d isn't 0
 pub twice : (d : ℕ) → d ≢ 0 → 2 ^ d ≡ 2 ^ (d - 1) + 2 ^ (d - 1)
 twice zero n = absurd (n refl)
 twice (suc d) n =
@@ -73,6 +66,7 @@ twice (suc d) n =
     let p : 2 ^ suc d ≡ 2 ^ d * 2 = pow-suc 2 d in
     rw e (omega (arith, p))
 
+-- a refusal found in the lower half of some distances is found in all of them, where twice as many are always decided
 pub found_lower : (code : List Instr) (t : Table) (s lower upper : Span) (limit limit' : ℕ) (f : VerifyFault) → s.lo <ℤ s.hi → AreHalves s lower upper → limit' ≡ limit + limit → IsFound code t lower.lo lower.hi limit f → IsFound code t s.lo s.hi limit' f
 found_lower code t s lower upper limit limit' f two h e found =
     let q = floor_over_is (s.hi -ℤ s.lo) 2 (lit< tt) in
@@ -81,6 +75,7 @@ found_lower code t s lower upper limit limit' f two h e found =
     found_within code t lower.lo lower.hi s.lo s.hi limit limit' f (omega (arith, ints, from)) (omega (arith, ints, mid, two, q.at_most, q.next_above))
     (λ w. omega (arith, ints, from, mid, two, e, w, q.at_most, q.next_above)) found
 
+-- the same of the upper half
 pub found_upper : (code : List Instr) (t : Table) (s lower upper : Span) (limit limit' : ℕ) (f : VerifyFault) → s.lo <ℤ s.hi → AreHalves s lower upper → limit' ≡ limit + limit → IsFound code t upper.lo upper.hi limit f → IsFound code t s.lo s.hi limit' f
 found_upper code t s lower upper limit limit' f two h e found =
     let q = floor_over_is (s.hi -ℤ s.lo) 2 (lit< tt) in

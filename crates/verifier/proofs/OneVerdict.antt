@@ -3,6 +3,7 @@ use Rattle.std.proofs.Common.{◌≡◌, ℕ, zero, suc, ◌+◌, ◌*◌, ◌/�
 use Rattle.std.specs.Prelude.{slice_get, unsigned_abs}
 use Rattle.std.proofs.lemmas.Int.{ints}
 use Rattle.std.proofs.lemmas.Bool.{cases_lt}
+use Rattle.std.proofs.lemmas.Option.{slice_get_within}
 use Rattle.fixed.specs.Fractions.{bits_of}
 use Rattle.fixed.specs.declared.faults.Fault.{Fault}
 use Rattle.interval_domain.specs.declared.span.Span.{Span}
@@ -46,11 +47,6 @@ get_there [] k lt = absurd (omega (arith, lt))
 get_there (t ∷ l) zero lt = (t, refl)
 get_there (t ∷ l) (suc k) lt = get_there l k (omega (arith, lt))
 
-get_short : (l : List Span) (k : ℕ) (s : Span) → slice_get l k ≡ Some s → k < length l
-get_short [] k s e = absurd cc
-get_short (x ∷ l) zero s e = omega arith
-get_short (x ∷ l) (suc k) s e = let h = get_short l k s e in omega (arith, h)
-
 module _ (t : Table) (a b : ℕ) where
   one_input : (r r' : ℤ) (k : ℕ) (s s' : Span) → r ≡ r' → IsOneInput t a b r k s → IsOneInput t a b r' k s' → IsWithin s s'
   one_input r r' k s s' e p q =
@@ -68,7 +64,7 @@ module _ (t : Table) (a b : ℕ) where
           let same : d ≡ s = cc in
           (d', q.first, subst (λ (x : Span). IsWithin x d') same (ends_within d d' e f))
       each (suc k) s at =
-          let short = get_short xs (suc k) s at in
+          let short = slice_get_within xs (suc k) s at in
           let g = get_there ys (suc k) (omega (arith, short, p.long, q.long)) in
           (g.0, g.1, one_input d.lo d'.lo (suc k) s g.0 e (p.others (suc k) s (omega arith) at) (q.others (suc k) g.0 (omega arith) g.1))
 
@@ -213,12 +209,14 @@ module _ (code : List Instr) (t : Table) (a b : ℕ) where
       let r'' : rest depth s' pc kind y = subst (λ (k : ℕ). rest depth s' k kind y) (sym h.0) (subst (λ (k : Fault). rest depth s' pc' k y) (sym h.1) r') in
       same s s' pc kind x y e f r r''
 
+  -- two answers on distances of the same ends, cut at most as often, are the same
   pub piece_same : (depth : ℕ) (s s' : Span) (x y : Answer) → s.lo ≡ s'.lo → s.hi ≡ s'.hi → IsPieceAnswer code t a b depth s x → IsPieceAnswer code t a b depth s' y → x ≡ y
   piece_same zero s s' x y e f p q = view_same 0 s s' x y rest_last e f (view 0 s x p) (view 0 s' y q)
   piece_same (suc d) s s' x y e f p q = view_same (suc d) s s' x y (rest_more d (piece_same d)) e f (view (suc d) s x p) (view (suc d) s' y q)
 
 -- ---- answers in their order
 
+-- where each number has at most one answer, all in their order come to at most one
 pub joint_same : (A : ℕ → Answer → Type 0) (n : ℕ) (x y : Answer) → ((i : ℕ) (x y : Answer) → A i x → A i y → x ≡ y) → IsJoint A n x → IsJoint A n y → x ≡ y
 joint_same A n (Ok x) (Ok y) d p q =
     let le : x ≤ y = at x y p q in
@@ -332,6 +330,7 @@ module _ (code : List Instr) (t : Table) (g : Range) where
   kind_same x y forward (misfit' m first e) (misfit' m' first' e') =
       e ∙ ap (λ (k : Misfit). Err (told k)) (one_misfit code (input_count t) m m' forward first first') ∙ sym e'
 
+  -- two verdicts on one code under one table and range are the same
   pub verdict_same : (x y : Answer) → JumpsForward code → IsVerdict code t g x → IsVerdict code t g y → x ≡ y
   verdict_same x y forward p q = kind_same x y forward (kind_of x p) (kind_of y q)
 

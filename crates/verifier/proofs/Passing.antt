@@ -18,6 +18,7 @@ use Rattle.kernel_code.proofs.Runs.{after_more, ends_there, turn_leads}
 use Rattle.verifier.specs.Frames.{SpanFrame, AreInputsOf, AreMembers, AreLocalsOf, AreIn, IsOfSize, IsUnset, Pops, Follows, Widens}
 use Rattle.verifier.specs.Slices.{frame_at, Holds, Takes, CanMeet, IsJoined, Joins, Branches, goes_on, jumps, may_jump, Comes, AllGiveIn}
 use Rattle.verifier.proofs.Following.{popped}
+use Rattle.verifier.proofs.Standing.{unset_none}
 
 -- ---- places
 
@@ -47,6 +48,7 @@ joins_new to frame old items o e within was =
     let j : Joins to frame old (slice_set old to (Some frame)) = joins_set to frame frame None old within (ap (λ (l : List (Option SpanFrame)). frame_at l to) e ∙ sym was) refl in
     subst (Joins to frame old) (ap (λ (l : List (Option SpanFrame)). slice_set l to (Some frame)) e ∙ sym (set_again items to o (Some frame))) j
 
+-- the same where an earlier frame was taken, and the one widened by the new frame is put there
 pub joins_wide : (to : ℕ) (frame earlier wide : SpanFrame) (old items : List (Option SpanFrame)) (o : Option SpanFrame) → old ≡ items → to < length old → Some earlier ≡ frame_at items to → Widens earlier frame wide → Joins to frame old (slice_set (slice_set items to o) to (Some wide))
 joins_wide to frame earlier wide old items o e within was w =
     let j : Joins to frame old (slice_set old to (Some wide)) = joins_set to frame wide (Some earlier) old within (ap (λ (l : List (Option SpanFrame)). frame_at l to) e ∙ sym was) w in
@@ -65,6 +67,7 @@ takes_none at o old new t none k lt =
     (λ (n : k ≢ at). t.others k n ∙ none k (omega (arith, lt, n)))
     (cases_eq k at)
 
+-- where no place below the end of the list has a frame, no place has one
 pub none_past : (at : ℕ) (places : List (Option SpanFrame)) → ((k : ℕ) → k < at → frame_at places k ≡ None) → length places ≤ at → (k : ℕ) → frame_at places k ≡ None
 none_past at places none past k =
     ⊎_elim
@@ -89,6 +92,7 @@ held_still to frame f new (Some earlier) (Some wide) was e j ys ls m =
     let same : f ≡ earlier = cc in
     record { frame = wide; there = e; within = j.mine ys ls (subst (λ (x : SpanFrame). AreIn x ys ls) same m) }
 
+-- a frame that joins a place loses nothing that was held
 pub joins_loses : (to : ℕ) (frame : SpanFrame) (old new : List (Option SpanFrame)) → Joins to frame old new → Loses old new
 joins_loses to frame old new j =
     record {
@@ -107,12 +111,15 @@ joins_loses to frame old new j =
 pub not_member : (b : Bool) (z : ℤ) (s : Span) → IsTrue b ↔ IsMember z s → z ≡ pos 0 → b ≡ false → IsMember (pos 0) s → ⊥
 not_member b z s h e f m = let t : IsTrue false = subst IsTrue f (h.1 (subst (λ (x : ℤ). IsMember x s) (sym e) m)) in cc
 
+-- the same of a test that holds: 0 is a member
 pub is_member : (b : Bool) (z : ℤ) (s : Span) → IsTrue b ↔ IsMember z s → z ≡ pos 0 → b ≡ true → IsMember (pos 0) s
 is_member b z s h e f = subst (λ (x : ℤ). IsMember x s) e (h.0 (subst IsTrue (sym f) refl))
 
+-- ends that a test finds equal are equal
 pub same_ends : (x y : ℤ) → true ≡ int_eq x y → x ≡ y
 same_ends x y e = (Decides-int_eq x y).0 (sym e)
 
+-- ends that a test finds different are different
 pub other_ends : (x y : ℤ) → false ≡ int_eq x y → x ≡ y → ⊥
 other_ends x y e same = let t = (Decides-int_eq x y).1 same in absurd cc
 
@@ -151,6 +158,7 @@ branches_mine next to frame old new (may_jump {s = s} {rest = rest} {between = b
     let kept = joins_loses to rest between new k in
     (t.0, t.1, t.2, either t.0 to next new t.1 ls (joins_mine to rest between new k t.1 ls i) (kept.nothing next t.1 ls (joins_mine next rest old between j t.1 ls i)))
 
+-- a jump at 0 loses nothing that was held
 pub branches_loses : (next to : ℕ) (frame : SpanFrame) (old new : List (Option SpanFrame)) → Branches next to frame old new → Loses old new
 branches_loses next to frame old new (goes_on {s = s} {rest = rest} p without j) = joins_loses next rest old new j
 branches_loses next to frame old new (jumps {s = s} {rest = rest} p holds single j) = joins_loses to rest old new j
@@ -163,51 +171,28 @@ may_jump_copied next to s frame rest copy old between new p e holds two j k = ma
 
 -- ---- the first place
 
-unset_locals : (n k : ℕ) → slice_index_or (replicate n (let o : Option Span = None in o)) k None ≡ None
-unset_locals zero k = refl
-unset_locals (suc n) zero = refl
-unset_locals (suc n) (suc k) = unset_locals n k
-
 start_in : (count : ℕ) (frame : SpanFrame) → IsUnset count frame → AreIn frame [] (replicate 256 None)
 start_in count frame u =
     record {
       on_stack = rw u.stack tt;
       set = record {
         long = length-replicate {A = Option ℤ} 256 None;
-        each = λ k. rw (u.locals, unset_locals count k) tt;
+        each = λ k. rw (u.locals, unset_none count k) tt;
       };
     }
 
+-- every run begins at the first place, and is held there by a frame with nothing on the stack and no local set
 pub comes_first : (bits : ℕ) (code : List Instr) (inputs : List Span) (count : ℕ) (frame : SpanFrame) (old new : List (Option SpanFrame)) → IsUnset count frame → Joins 0 frame old new → Comes bits code inputs 0 new
 comes_first bits code inputs count frame old new u j =
     record { each = λ xs m. record { n = 0; state = start; reached = refl; from = omega arith; within = omega arith; held = joins_mine 0 frame old new j [] (replicate 256 None) (start_in count frame u) } }
 
 -- ---- a place is passed
 
--- with no frame
-pub comes_past : (bits : ℕ) (code : List Instr) (inputs : List Span) (here : ℕ) (old new : List (Option SpanFrame)) → Comes bits code inputs here old → Takes here None old new → Comes bits code inputs (here + 1) new
-comes_past bits code inputs here old new c t =
-    record {
-      each = λ xs m.
-          let a = c.each xs m in
-          let n : a.state.pc ≢ here = λ e.
-          let there : frame_at old here ≡ Some a.held.frame = subst (λ (i : ℕ). frame_at old i ≡ Some a.held.frame) e a.held.there in
-          let none = t.taken in
-          absurd cc in
-          record {
-            n = a.n;
-            state = a.state;
-            reached = a.reached;
-            from = omega (arith, a.from, n);
-            within = a.within;
-            held = record { frame = a.held.frame; there = t.others a.state.pc n ∙ a.held.there; within = a.held.within };
-          };
-    }
-
 -- what an instruction at a place with this frame does: from any state there the run goes on, and is held
 pub record Passes (bits : ℕ) (code : List Instr) (inputs : List Span) (here : ℕ) (frame : SpanFrame) (i : Instr) (new : List (Option SpanFrame)) : Type 0 where
   pub each : (xs ys : List ℤ) (ls : List (Option ℤ)) → AreInputsOf xs inputs → AreIn frame ys ls → (t : State) × (act bits i xs here ys ls ≡ Ok t) × Holds new t.pc t.stack t.locals
 
+-- where the instruction at a place passes its frame on, and nothing else that was held is lost, all runs come to some place after it
 pub comes_on : (bits : ℕ) (code : List Instr) (inputs : List Span) (here : ℕ) (i : Instr) (frame : SpanFrame) (old between new : List (Option SpanFrame)) → IsCode code → Comes bits code inputs here old → slice_get code here ≡ Some i → Takes here (Some frame) old between → Passes bits code inputs here frame i new → Loses between new
     → Comes bits code inputs (here + 1) new
 comes_on bits code inputs here i frame old between new is c at_code t p l =
@@ -230,6 +215,7 @@ comes_on bits code inputs here i frame old between new is c at_code t p l =
           (cases_eq a.state.pc here);
     }
 
+-- an instruction that doesn't jump passes its frame on where the frame that it leads to joins the next place
 pub passes_plain : (bits : ℕ) (code : List Instr) (inputs : List Span) (here : ℕ) (frame frame' : SpanFrame) (i : Instr) (old new : List (Option SpanFrame)) → Follows bits i inputs frame frame' → Joins (here + 1) frame' old new → Passes bits code inputs here frame i new
 passes_plain bits code inputs here frame frame' i old new f j =
     record {
@@ -238,10 +224,12 @@ passes_plain bits code inputs here frame frame' i old new f j =
           (record { pc = here + 1; stack = a.0; locals = a.1 }, a.2, joins_mine (here + 1) frame' old new j a.0 a.1 a.3);
     }
 
+-- a jump passes its frame on where this joins the target
 pub passes_jump : (bits : ℕ) (code : List Instr) (inputs : List Span) (here to : ℕ) (frame : SpanFrame) (old new : List (Option SpanFrame)) → Joins to frame old new → Passes bits code inputs here frame (Jump to) new
 passes_jump bits code inputs here to frame old new j =
     record { each = λ xs ys ls hx h. (record { pc = to; stack = ys; locals = ls }, refl, joins_mine to frame old new j ys ls h) }
 
+-- a jump at 0 passes its frame on where the rest of it joins each place that its top may send it to
 pub passes_branch : (bits : ℕ) (code : List Instr) (inputs : List Span) (here to : ℕ) (frame : SpanFrame) (old new : List (Option SpanFrame)) → Branches (here + 1) to frame old new → Passes bits code inputs here frame (JumpIfZero to) new
 passes_branch bits code inputs here to frame old new b =
     record {
@@ -254,6 +242,7 @@ passes_branch bits code inputs here to frame old new b =
 pub jump_within : (code : List Instr) (here to : ℕ) → IsCode code → slice_get code here ≡ Some (Jump to) → to ≤ length code
 jump_within code here to is at = leb-true to (length code) (and_parts (nat_lt here to) (nat_le to (length code)) (is.forward here (Jump to) at)).1
 
+-- the same of a jump at 0
 pub branch_within : (code : List Instr) (here to : ℕ) → IsCode code → slice_get code here ≡ Some (JumpIfZero to) → to ≤ length code
 branch_within code here to is at = leb-true to (length code) (and_parts (nat_lt here to) (nat_le to (length code)) (is.forward here (JumpIfZero to) at)).1
 

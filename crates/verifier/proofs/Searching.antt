@@ -26,15 +26,14 @@ use Rattle.verifier.specs.Verdicts.{Answer, HasFault, IsAtOne, IsFirstRefused, I
 
 -- ---- want of memory
 
+-- where each refusal of the one kind is one of the other, a failure that is a refusal of the one, or want of memory, is so of the other
 pub unless_err : (P Q : Answer → Type 0) (failure : Failure VerifyFault) → ((f : VerifyFault) → P (Err f) → Q (Err f)) → UnlessMemory P (Err failure) → UnlessMemory Q (Err failure)
 unless_err P Q (Refused f) g h = g f h
 unless_err P Q Memory g h = tt
 
 -- ---- answers in their order
 
-pub greatest_none : (A : ℕ → Answer → Type 0) → IsGreatest A 0 0
-greatest_none A = record { each = λ i lt. absurd (omega (arith, lt)); attained = inl refl }
-
+-- the greater of two magnitudes, of the answers so far and of the next one, is the greatest of them all
 pub greatest_more : (A : ℕ → Answer → Type 0) (n x y z : ℕ) → IsGreatest A n x → A n (Ok y) → z ≡ max x y → IsGreatest A (n + 1) z
 greatest_more A n x y z g h e = record { each = each; attained = attained }
   where
@@ -62,14 +61,17 @@ greatest_more A n x y z g h e = record { each = each; attained = attained }
         g.attained)
         (cases_lt x y)
 
+-- the greatest magnitude of n answers is that of as many under an equal number
 pub greatest_all : (A : ℕ → Answer → Type 0) (n m x : ℕ) → IsGreatest A n x → n ≡ m → IsGreatest A m x
 greatest_all A n m x g e = subst (λ (k : ℕ). IsGreatest A k x) e g
 
+-- a refusal behind answers that are all magnitudes is the first
 pub first_refused : (A : ℕ → Answer → Type 0) (i n x : ℕ) (f : VerifyFault) → IsGreatest A i x → i < n → A i (Err f) → IsFirstRefused A n f
 first_refused A i n x f g lt h = record { at = i; within = lt; refuses = h; before = λ j below. let b = g.each j below in (b.0, b.1) }
 
 -- ---- one distance
 
+-- a run that traps in an operation has the refusal that tells types, distance, place and fault
 pub has_fault : (code : List Instr) (t : Table) (a b : ℕ) (r : ℤ) (n : ℕ) (trap : Trap) (kind : Fault) → Ends (bits_of t.frac) code (inputs_of t a b r) n (Err trap) → trap.kind ≡ Operation kind → HasFault code t a b r (fault.Fault a b r trap.pc kind)
 has_fault code t a b r n trap kind ends e =
     let ends' : Ends (bits_of t.frac) code (inputs_of t a b r) n (Err (record { pc = trap.pc; kind = Operation kind })) =
@@ -79,6 +81,7 @@ has_fault code t a b r n trap kind ends e =
 -- ---- pieces
 
 module _ (code : List Instr) (t : Table) (a b : ℕ) where
+  -- the machine's answer at a distance is that of the distances from it to itself, however often they may be cut
   pub one_single : (s : Span) (answer : Answer) → s.hi ≤ℤ s.lo → IsAtOne code t a b s.lo answer → (depth : ℕ) → IsPieceAnswer code t a b depth s answer
   one_single s answer le h depth = single (let o = s.ordered in omega (arith, ints, le, o)) h
 
@@ -86,6 +89,7 @@ module _ (code : List Instr) (t : Table) (a b : ℕ) where
   pub at_depth : (depth : ℕ) (s : Span) (f : VerifyFault) → depth ≡ 0 → IsPieceAnswer code t a b 0 s (Err f) → IsPieceAnswer code t a b depth s (Err f)
   at_depth depth s f e h = rw e h
 
+  -- where distances stop and are cut, a failure in the lower half is that of them all
   pub judged_lower : (depth : ℕ) (s l u : Span) (pc : ℕ) (kind : Fault) (failure : Failure VerifyFault) → depth ≢ 0 → s.lo <ℤ s.hi → IsStopped code t a b s pc kind → AreHalves s l u → UnlessMemory (IsPieceAnswer code t a b (depth - 1) l) (Err failure)
       → UnlessMemory (IsPieceAnswer code t a b depth s) (Err failure)
   judged_lower zero s l u pc kind failure n two stop cut h = absurd (n refl)
@@ -94,6 +98,7 @@ module _ (code : List Instr) (t : Table) (a b : ℕ) where
       let h' = subst (λ (k : ℕ). UnlessMemory (IsPieceAnswer code t a b k l) (Err failure)) e h in
       unless_err (IsPieceAnswer code t a b d l) (IsPieceAnswer code t a b (suc d) s) failure (λ f p. lower two stop cut p) h'
 
+  -- the same of a failure in the upper half, where the lower one has a magnitude
   pub judged_upper : (depth : ℕ) (s l u : Span) (pc : ℕ) (kind : Fault) (x : ℕ) (failure : Failure VerifyFault) → depth ≢ 0 → s.lo <ℤ s.hi → IsStopped code t a b s pc kind → AreHalves s l u → IsPieceAnswer code t a b (depth - 1) l (Ok x)
       → UnlessMemory (IsPieceAnswer code t a b (depth - 1) u) (Err failure) → UnlessMemory (IsPieceAnswer code t a b depth s) (Err failure)
   judged_upper zero s l u pc kind x failure n two stop cut g h = absurd (n refl)
@@ -103,6 +108,7 @@ module _ (code : List Instr) (t : Table) (a b : ℕ) where
       let h' = subst (λ (k : ℕ). UnlessMemory (IsPieceAnswer code t a b k u) (Err failure)) e h in
       unless_err (IsPieceAnswer code t a b d u) (IsPieceAnswer code t a b (suc d) s) failure (λ f p. upper two stop cut g' p) h'
 
+  -- where distances stop and are cut, the greater magnitude of both halves is that of them all
   pub judged_both : (depth : ℕ) (s l u : Span) (pc : ℕ) (kind : Fault) (x y z : ℕ) → depth ≢ 0 → s.lo <ℤ s.hi → IsStopped code t a b s pc kind → AreHalves s l u → IsPieceAnswer code t a b (depth - 1) l (Ok x) → IsPieceAnswer code t a b (depth - 1) u (Ok y)
       → z ≡ max x y → IsPieceAnswer code t a b depth s (Ok z)
   judged_both zero s l u pc kind x y z n two stop cut g h m = absurd (n refl)
@@ -114,9 +120,11 @@ module _ (code : List Instr) (t : Table) (a b : ℕ) where
 
 -- ---- slices
 
+-- a slice without distances has the magnitude 0
 pub empty_slice : (code : List Instr) (t : Table) (g : Range) (a b i width : ℕ) → (g.core +ℤ pos width) ≡ g.cutoff → width * (i + 1) / g.slices ≤ width * i / g.slices → IsSliceAnswer code t g a b i (Ok 0)
 empty_slice code t g a b i width wide none = empty (record { width = width; wide = wide; none = none })
 
+-- the answer on all distances of a slice is that of the slice
 pub full_slice : (code : List Instr) (t : Table) (g : Range) (a b i width from end : ℕ) (s : Span) (answer : Answer) → (g.core +ℤ pos width) ≡ g.cutoff → from ≡ width * i / g.slices → end ≡ width * (i + 1) / g.slices → s.lo ≡ (g.core +ℤ pos from) → s.hi ≡ (g.core +ℤ pos end -ℤ pos 1)
     → IsPieceAnswer code t a b g.depth s answer → IsSliceAnswer code t g a b i answer
 full_slice code t g a b i width from end s answer wide ef ee lo hi h =
@@ -138,16 +146,20 @@ found_verdict code t g from last limit (fault.DepthOver64 pc) is m found h = abs
 found_verdict code t g from last limit (fault.Fault a b r pc kind) is m found h = record { is_code = is; misses = m; found = h }
 found_verdict code t g from last limit (fault.Undecided a b lo hi pc kind) is m found h = record { is_code = is; misses = m; found = h }
 
+-- the bound that is found of code that does well is its verdict
 pub accepted_verdict : (code : List Instr) (t : Table) (g : Range) (inputs steps bound : ℕ) → IsCode code → DoesWell code inputs steps → inputs ≡ input_count t → IsFoundOf code t g (Ok bound) → IsVerdict code t g (Ok bound)
 accepted_verdict code t g inputs steps bound is d e h = record { is_code = is; misses = subst (λ (n : ℕ). MissesNothing code n) e d.misses; found = h }
 
+-- a refusal that is found of code that does well is its verdict
 pub refused_verdict : (code : List Instr) (t : Table) (g : Range) (from last : ℤ) (limit inputs steps : ℕ) (failure : Failure VerifyFault) → IsCode code → DoesWell code inputs steps → inputs ≡ input_count t → IfRefused failure (IsFound code t from last limit)
     → UnlessMemory (IsFoundOf code t g) (Err failure) → IfRefused failure (λ f. IsVerdict code t g (Err f))
 refused_verdict code t g from last limit inputs steps (Refused f) is d e found h = found_verdict code t g from last limit f is (subst (λ (n : ℕ). MissesNothing code n) e d.misses) found h
 refused_verdict code t g from last limit inputs steps Memory is d e found h = tt
 
+-- where the lowest misfit of code is a malformed place, the refusal with this place is the verdict
 pub first_malformed : (code : List Instr) (t : Table) (g : Range) (inputs pc : ℕ) → IsFirstMalformed code inputs pc → inputs ≡ input_count t → IsVerdict code t g (Err (fault.Malformed pc))
 first_malformed code t g inputs pc first e = subst (λ (n : ℕ). IsFirstMalformed code n pc) e first
 
+-- where the lowest misfit of code is a 65th value, the refusal with its place is the verdict
 pub first_overfull : (code : List Instr) (t : Table) (g : Range) (inputs pc : ℕ) → IsFirstOverfull code inputs pc → inputs ≡ input_count t → IsVerdict code t g (Err (fault.DepthOver64 pc))
 first_overfull code t g inputs pc first e = subst (λ (n : ℕ). IsFirstOverfull code n pc) e first

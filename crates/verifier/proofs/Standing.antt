@@ -17,12 +17,15 @@ use Rattle.verifier.specs.Slices.{frame_at, Takes, IsJoined, Joins, Branches, go
 
 -- ---- spans within spans
 
+-- a span is within itself
 pub span_refl : (s : Span) → IsWithin s s
 span_refl s = record { members = λ x m. m }
 
+-- a span within one that is within a third is within the third
 pub span_trans : (s t u : Span) → IsWithin s t → IsWithin t u → IsWithin s u
 span_trans s t u p q = record { members = λ x m. q.members x (p.members x m) }
 
+-- the spans of a stack are within themselves
 pub stack_refl : (ss : List Span) → AreWithin ss ss
 stack_refl [] = tt
 stack_refl (s ∷ ss) = (span_refl s, stack_refl ss)
@@ -44,9 +47,11 @@ local_trans o None (Some t) h k = absurd k
 local_trans None (Some s) (Some t) h k = absurd h
 local_trans (Some r) (Some s) (Some t) h k = span_trans r s t h k
 
+-- a frame is within itself
 pub frame_refl : (f : SpanFrame) → IsFrameWithin f f
 frame_refl f = record { stack' = stack_refl f.stack; locals' = λ k. local_refl (local_of f k) }
 
+-- a frame within one that is within a third is within the third
 pub frame_trans : (f g h : SpanFrame) → IsFrameWithin f g → IsFrameWithin g h → IsFrameWithin f h
 frame_trans f g h p q = record { stack' = stack_trans f.stack g.stack h.stack p.stack' q.stack'; locals' = λ k. local_trans (local_of f k) (local_of g k) (local_of h k) (p.locals' k) (q.locals' k) }
 
@@ -56,12 +61,15 @@ frame_trans f g h p q = record { stack' = stack_trans f.stack g.stack h.stack p.
 pub record AreInputsWithin (xs ys : List Span) : Type 0 where
   pub each : (k : ℕ) (s : Span) → slice_get xs k ≡ Some s → (t : Span) × (slice_get ys k ≡ Some t) × IsWithin s t
 
+-- the spans of inputs are within themselves
 pub inputs_refl : (xs : List Span) → AreInputsWithin xs xs
 inputs_refl xs = record { each = λ k s e. (s, e, span_refl s) }
 
+-- the span of one number alone is within that of an equal number alone
 pub ones_within : (v w : ℤ) (s t : Span) → v ≡ w → IsOne v s → IsOne w t → IsWithin s t
 ones_within v w s t e p q = record { members = λ x m. record { at_least = omega (arith, ints, e, p.lo', q.lo', m.at_least); at_most = omega (arith, ints, e, p.hi', q.hi', m.at_most) } }
 
+-- a stack within another is so by the lists that both equal
 pub same_stacks : (f g : SpanFrame) (ss ts : List Span) → f.stack ≡ ss → g.stack ≡ ts → AreWithin f.stack g.stack → AreWithin ss ts
 same_stacks f g ss ts p q w = subst (λ (l : List Span). AreWithin l ts) p (subst (AreWithin f.stack) q w)
 
@@ -111,6 +119,7 @@ sets_within k s t f f' g g' w i p q =
 pub outcome_of_two : (op : ℤ → ℤ → Result ℤ Fault) (a b a' b' : Span) (r : Result ℤ Fault) → IsWithin a a' → IsWithin b b' → IsOutcomeOfTwo op a b r → IsOutcomeOfTwo op a' b' r
 outcome_of_two op a b a' b' r p q o = record { first = o.first; second = o.second; first_member = p.members o.first o.first_member; second_member = q.members o.second o.second_member; outcome = o.outcome }
 
+-- an outcome of an operation on members of a span is one on members of a span that it is within
 pub outcome_of_one : (op : ℤ → Result ℤ Fault) (a a' : Span) (r : Result ℤ Fault) → IsWithin a a' → IsOutcome op a r → IsOutcome op a' r
 outcome_of_one op a a' r p o = record { argument = o.argument; member = p.members o.argument o.member; outcome = o.outcome }
 
@@ -181,6 +190,7 @@ joined_place led led' g (Some e) (Some new) up down mine before j =
       least = λ h all. j.least h (before.least h (λ f x. all f (up f x))) (all g mine);
     }
 
+-- where the same frames are led to a place, it has the same frame
 pub same_place : (led led' : SpanFrame → Type 0) (o : Option SpanFrame) → ((f : SpanFrame) → led f → led' f) → ((f : SpanFrame) → led' f → led f) → IsFrameOf led o → IsFrameOf led' o
 same_place led led' None up down before = λ f l. before f (down f l)
 same_place led led' (Some e) up down before =
@@ -282,6 +292,7 @@ module _ (bits : ℕ) (code : List Instr) (inputs : List Span) where
         locals' = λ k. subst (IsLocalWithin (local_of f k)) (sym (t.unset k)) tt;
       }
 
+  -- at the start the frames stand: the first place has the start's frame, and no other has any
   pub stands_first : (frame : SpanFrame) (old new : List (Option SpanFrame)) → IsStart frame → ((at : ℕ) → frame_at old at ≡ None) → Joins 0 frame old new → Stands bits code inputs 0 new
   stands_first frame old new start none j =
       let F : ℕ → Option SpanFrame = λ k. None in
@@ -307,6 +318,7 @@ module _ (bits : ℕ) (code : List Instr) (inputs : List Span) where
 
   -- ---- a place is passed
 
+  -- where a place has no frame, the frames stand from the next place on
   pub stands_past : (here : ℕ) (old new : List (Option SpanFrame)) → Stands bits code inputs here old → Takes here None old new → Stands bits code inputs (here + 1) new
   stands_past here old new s t =
       let now : IsFrameOf (comes_from bits code inputs s.frames here here) None = subst (IsFrameOf (comes_from bits code inputs s.frames here here)) t.taken (s.ahead here (omega arith)) in
@@ -373,6 +385,7 @@ module _ (bits : ℕ) (code : List Instr) (inputs : List Span) where
           let first = joined_place old new led o between up down (mine comes) before j in
           joined_place new new led between o' (λ f l. l) (λ f l. inl l) (mine comes) first k
 
+  -- where a place's frame is led on to each place ahead to which its instruction may go, the frames stand from the next place on
   pub stands_on : (here : ℕ) (i : Instr) (frame led : SpanFrame) (old between new : List (Option SpanFrame)) → Stands bits code inputs here old → Takes here (Some frame) old between → slice_get code here ≡ Some i → IsBehind bits i inputs frame led
       → ((at : ℕ) → here < at → IsSpread i here at frame led (frame_at between at) (frame_at new at)) → Stands bits code inputs (here + 1) new
   stands_on here i frame led old between new s t there behind spread =
@@ -419,11 +432,13 @@ module _ (bits : ℕ) (code : List Instr) (inputs : List Span) where
       (λ (n : at ≢ to). not (λ m. n (g m)) (j.others at n))
       (cases_eq at to)
 
+  -- when an instruction that doesn't jump is passed, and its frame joins the next place, the frames stand from there on
   pub stands_plain : (here : ℕ) (i : Instr) (frame led : SpanFrame) (old between new : List (Option SpanFrame)) → Stands bits code inputs here old → Takes here (Some frame) old between → slice_get code here ≡ Some i → IsPlain i → IsBehind bits i inputs frame led → Joins (here + 1) led between new
       → Stands bits code inputs (here + 1) new
   stands_plain here i frame led old between new s t there p b j =
       stands_on here i frame led old between new s t there b (λ at lt. spread_by i here (here + 1) at frame led between new (λ e. plain_comes i here at frame p e) (λ m. plain_only i here at frame p m) j)
 
+  -- when a jump is passed, and its frame joins the target, the frames stand from the next place on
   pub stands_jump : (here to : ℕ) (frame : SpanFrame) (old between new : List (Option SpanFrame)) → Stands bits code inputs here old → Takes here (Some frame) old between → slice_get code here ≡ Some (Jump to) → Joins to frame between new → Stands bits code inputs (here + 1) new
   stands_jump here to frame old between new s t there j = stands_on here (Jump to) frame frame old between new s t there refl (λ at lt. spread_by (Jump to) here to at frame frame between new (λ e. e) (λ m. m) j)
 
@@ -516,6 +531,7 @@ module _ (bits : ℕ) (code : List Instr) (inputs : List Span) where
     λ at lt. spread_both here target at frame rest old between new (has_top HasOther s frame rest p (two_other s two)) (has_top HasZero s frame rest p holds) j k,
   )
 
+  -- when a jump at 0 is passed, and the rest of its frame joins each place that the top may send it to, the frames stand from the next place on
   pub stands_branch : (here target : ℕ) (frame : SpanFrame) (old between new : List (Option SpanFrame)) → Stands bits code inputs here old → Takes here (Some frame) old between → slice_get code here ≡ Some (JumpIfZero target) → Branches (here + 1) target frame between new
       → Stands bits code inputs (here + 1) new
   stands_branch here target frame old between new s t there b =
@@ -541,12 +557,14 @@ module _ (bits : ℕ) (code : List Instr) (inputs : List Span) where
         put_here s.frames here (Some frame),
       )
 
+  -- frames that stand at the end of the code give the span that is alone on the stack there
   pub gives_span : (s : Span) (frame rest : SpanFrame) (old new : List (Option SpanFrame)) → Stands bits code inputs (length code) old → Takes (length code) (Some frame) old new → Pops s frame rest → length frame.stack ≡ 1 → GivesSpan bits code inputs s
   gives_span s frame rest old new st t p one =
       let f = frames_to (length code) frame old new st t in
       let none : length rest.stack ≡ 0 = omega (arith, ap length p.stack, one) in
       record { frames = f.0; are = f.1; frame = frame; there = f.2; alone = p.stack ∙ ap (λ (l : List Span). s ∷ l) (no_spans rest.stack none) }
 
+  -- where the frames stand at a place, and its operation stops on its frame, the code stops at this place for this cause
   pub stops_at : (here : ℕ) (i : Instr) (fault : Fault) (frame : SpanFrame) (old new : List (Option SpanFrame)) → Stands bits code inputs here old → Takes here (Some frame) old new → slice_get code here ≡ Some i → Stops bits i frame fault → StopsAt bits code inputs here fault
   stops_at here i fault frame old new st t there stop =
       let f = frames_to here frame old new st t in
@@ -554,10 +572,12 @@ module _ (bits : ℕ) (code : List Instr) (inputs : List Span) where
 
 -- ---- the start
 
-unset_none : (n k : ℕ) → slice_index_or (replicate n (let o : Option Span = None in o)) k None ≡ None
+-- no local of a list without spans has one
+pub unset_none : (n k : ℕ) → slice_index_or (replicate n (let o : Option Span = None in o)) k None ≡ None
 unset_none zero k = refl
 unset_none (suc n) zero = refl
 unset_none (suc n) (suc k) = unset_none n k
 
+-- a frame with nothing on its stack, and none of so many locals set, is the start's
 pub is_start : (count : ℕ) (frame : SpanFrame) → IsUnset count frame → IsStart frame
 is_start count frame u = record { stack = u.stack; unset = λ k. ap (λ (l : List (Option Span)). slice_index_or l k None) u.locals ∙ unset_none count k }

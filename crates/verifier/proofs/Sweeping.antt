@@ -13,9 +13,7 @@ use Rattle.verifier.proofs.Judging.{gives_weaker, found_within}
 
 -- ---- distances
 
-pub safe_none : (code : List Instr) (t : Table) (a b : ℕ) (core to : ℤ) (bound : ℕ) → to ≤ℤ core → IsSafeFrom code t a b core to bound
-safe_none code t a b core to bound e = record { each = λ r low high. absurd (omega (arith, ints, e, low, high)) }
-
+-- code that is safe up to a slice, and in the slice, is safe up to its end with the greater of both bounds
 pub safe_more : (code : List Instr) (t : Table) (a b : ℕ) (core : ℤ) (from end : ℕ) (s : Span) (x y z : ℕ) → IsSafeFrom code t a b core (core +ℤ pos from) x → IsSafeAt code t a b s y → s.lo ≡ (core +ℤ pos from) → s.hi ≡ (core +ℤ pos end -ℤ pos 1) → z ≡ max x y → IsSafeFrom code t a b core (core +ℤ pos end) z
 safe_more code t a b core from end s x y z h k el eh e =
     record {
@@ -25,6 +23,7 @@ safe_more code t a b core from end s x y z h k el eh e =
           (λ le. gives_weaker code t a b r y z (omega (arith, e)) (k.each r (record { at_least = omega (arith, ints, el, le); at_most = omega (arith, ints, eh, high) })));
     }
 
+-- code that is safe up to one distance is so up to a lower one, with any greater bound
 pub safe_less : (code : List Instr) (t : Table) (a b : ℕ) (core to to' : ℤ) (x y : ℕ) → IsSafeFrom code t a b core to x → to' ≤ℤ to → x ≤ y → IsSafeFrom code t a b core to' y
 safe_less code t a b core to to' x y h e w = record { each = λ r low high. gives_weaker code t a b r x y w (h.each r low (omega (arith, ints, e, high))) }
 
@@ -39,9 +38,11 @@ share_short w i s k p h =
     let short : w * (i + 1) / s < w * i / s + k + 1 = (div-lt_iff_lt-mul p).1 far in
     omega (arith, short)
 
+-- the share of as many slices as there are is the whole width, or more
 pub share_all : (w i s : ℕ) → 0 < s → i ≡ s → w ≤ w * i / s
 share_all w i s p e = rw e ((le-div_iff_mul-le p).1 (omega arith))
 
+-- a refusal found in one of s slices is found in all distances, where s times as many are always decided
 pub found_more : (code : List Instr) (t : Table) (core cutoff : ℤ) (w i s k from end : ℕ) (span : Span) (f : VerifyFault) → 0 < s → core +ℤ pos w ≡ cutoff → from ≡ w * i / s → end ≡ w * (i + 1) / s → end ≤ w → span.lo ≡ (core +ℤ pos from) → span.hi ≡ (core +ℤ pos end -ℤ pos 1) → IsFound code t span.lo span.hi k f
     → IsFound code t core (cutoff -ℤ pos 1) (s * k) f
 found_more code t core cutoff w i s k from end span f p e ef ee within el eh found =
@@ -55,9 +56,7 @@ found_more code t core cutoff w i s k from end span f p e ef ee within el eh fou
 
 -- ---- pairs
 
-pub row_none : (code : List Instr) (t : Table) (a : ℕ) (core cutoff : ℤ) → IsSafeRow code t a 0 core cutoff 0
-row_none code t a core cutoff = record { each = λ b lt. absurd (omega (arith, lt)) }
-
+-- a row that is safe with n second types, and with the next one, is safe with both under the greater bound
 pub row_more : (code : List Instr) (t : Table) (a n : ℕ) (core cutoff : ℤ) (x y z : ℕ) → IsSafeRow code t a n core cutoff x → IsSafeFrom code t a n core cutoff y → z ≡ max x y → IsSafeRow code t a (n + 1) core cutoff z
 row_more code t a n core cutoff x y z h k e =
     record {
@@ -71,9 +70,7 @@ row_more code t a n core cutoff x y z h k e =
 row_weaker : (code : List Instr) (t : Table) (a n : ℕ) (core cutoff : ℤ) (x z : ℕ) → IsSafeRow code t a n core cutoff x → x ≤ z → IsSafeRow code t a n core cutoff z
 row_weaker code t a n core cutoff x z h w = record { each = λ b lt. safe_less code t a b core cutoff cutoff x z (h.each b lt) (omega (arith, ints)) w }
 
-pub all_none : (code : List Instr) (t : Table) (core cutoff : ℤ) → IsSafe code t 0 core cutoff 0
-all_none code t core cutoff = record { each = λ a lt. absurd (omega (arith, lt)) }
-
+-- code that is safe for n first types, and for the next one, is safe for both under the greater bound
 pub all_more : (code : List Instr) (t : Table) (n : ℕ) (core cutoff : ℤ) (x y z : ℕ) → IsSafe code t n core cutoff x → IsSafeRow code t n (length t.rows) core cutoff y → z ≡ max x y → IsSafe code t (n + 1) core cutoff z
 all_more code t n core cutoff x y z h k e =
     record {

@@ -40,28 +40,27 @@ pub enum VerifyFault {
     },
 }
 
-impl fmt::Display for VerifyFault {
-    fn fmt<W: fmt::Write>(&self, f: &mut fmt::Formatter<W>) -> fmt::Result {
+impl VerifyFault {
+    /// Writes the refusal with these words for the two types, where it speaks of types.
+    pub fn tell<W: fmt::Write, T: fmt::Display + Copy>(
+        &self,
+        f: &mut fmt::Formatter<W>,
+        first: T,
+        second: T,
+    ) -> fmt::Result {
         match *self {
             VerifyFault::Malformed { pc } => write!(f, "V1 Malformed {pc}"),
             VerifyFault::DepthOver64 { pc } => write!(f, "V4 DepthOver64 {pc}"),
-            VerifyFault::Fault {
-                first,
-                second,
-                r,
-                pc,
-                fault,
-            } => {
+            VerifyFault::Fault { r, pc, fault, .. } => {
                 let raw = r.raw();
                 write!(f, "V2 Fault {first} {second} r {raw} pc {pc} {fault}")
             }
             VerifyFault::Undecided {
-                first,
-                second,
                 lo,
                 hi,
                 pc,
                 fault,
+                ..
             } => {
                 let from = lo.raw();
                 let to = hi.raw();
@@ -71,6 +70,22 @@ impl fmt::Display for VerifyFault {
                 )
             }
         }
+    }
+
+    // The numbers of the two types; 0 and 0 where it speaks of none.
+    fn types(&self) -> (u32, u32) {
+        match *self {
+            VerifyFault::Fault { first, second, .. }
+            | VerifyFault::Undecided { first, second, .. } => (first, second),
+            VerifyFault::Malformed { .. } | VerifyFault::DepthOver64 { .. } => (0, 0),
+        }
+    }
+}
+
+impl fmt::Display for VerifyFault {
+    fn fmt<W: fmt::Write>(&self, f: &mut fmt::Formatter<W>) -> fmt::Result {
+        let (first, second) = self.types();
+        self.tell(f, first, second)
     }
 }
 

@@ -2,7 +2,7 @@ use Rattle.std.proofs.Common.{◌∙◌, ◌++◌, [], ◌∷◌, ap, arith, set
 use Rattle.std.proofs.lemmas.Result.{err_from_is_err_and}
 use Rattle.std.proofs.lemmas.Bool.{cases_eq}
 use Rattle.std.proofs.lemmas.List.{get_or_default}
-use Rattle.ring_box.specs.Cells.{ArePlaces}
+use Rattle.ring_box.specs.Places.{ArePlaces, nowhere}
 use Rattle.cell_tiles.specs.Cells.{cell_number, first_members}
 use Rattle.cell_tiles.specs.Tiles.{members_at}
 use Rattle.cell_tiles.proofs.MemberLemmas.{few_members, length_members, next_member, no_members}
@@ -42,7 +42,7 @@ loop-atom-preserved g c =
       put =
           c.in_ok-put.ensures.ok
           ∙ (ap (λ ms. set ms c.cell_of.result (members_at ms c.cell_of.result ++ c.loop-atom.atom ∷ [])) c.loop-atom.invariant.put
-          ∙ next_member bits frame c.loop-atom.atom c.cell_of.result (c.cell_of.ensures.value ∙ ap (cell_number bits) (get_or_default frame c.loop-atom.atom _ [] (omega arith))) c.cell_of.ensures.bound);
+          ∙ next_member bits frame c.loop-atom.atom c.cell_of.result (c.cell_of.ensures.value ∙ ap (cell_number bits) (get_or_default frame c.loop-atom.atom _ nowhere (omega arith))) c.cell_of.ensures.bound);
       on_ring = λ k d h. elim (cases_eq k c.loop-atom.atom) [
         | inl e ↦ rw e (subst ArePlaces (get_or_default frame c.loop-atom.atom _ d (omega arith)) c.cell_of.ensures.on_ring)
         | inr o ↦ c.loop-atom.invariant.on_ring k d (omega arith)

@@ -3,6 +3,4 @@ use Rattle.cli.proofs.Printing.{written}
 use Rattle.cli.proofs.execution.report.Goals as goal
 
 pub returns-in-Err : goal.returns-in-Err
-returns-in-Err g c =
-    let w = c.write_all-in-Err.ensures in
-    inr (c.code-in-Err.ensures.code, written c.write_all-in-Err.result _ _ _ _ _ w.taken w.count w.fault_taken w.fault_count)
+returns-in-Err g c = inr (c.code-in-Err.ensures.code, written c.write_all-in-Err.result c.write_all-in-Err.ensures)

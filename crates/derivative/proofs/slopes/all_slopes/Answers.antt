@@ -2,7 +2,7 @@ use Rattle.std.proofs.Common.{[], ap, sym, subst, ◌∙◌, arith, get_or, true
 use Rattle.std.specs.Bool.{IsTrue}
 use Rattle.std.proofs.lemmas.Result.{IfOk-from_err}
 use Rattle.fixed.specs.Fractions.{bits_of}
-use Rattle.energy_program.specs.Tree.{are_scoped, inputs_of, tree_of}
+use Rattle.energy_program.specs.Tree.{are_scoped, variable_count, tree_of}
 use Rattle.derivative.specs.Written.{slope_tree, moved}
 use Rattle.derivative.proofs.Scoped.{writable_at}
 use Rattle.derivative.proofs.Pushed.{pushed, all_pushed}
@@ -12,9 +12,9 @@ pub slope-requires : goal.slope-requires
 slope-requires g c =
     let few = c.args.program.now.few_definitions in
     let counted = c.requires ∙ ap length (sym c.as_slice-definitions.ensures.value) in
-    writable_at (inputs_of c.args.program.now.parameters c.args.program.now.globals) c.args.by c.loop-definition.definition-index c.as_slice-definitions.result.now c.definition-item.result
+    writable_at (variable_count c.args.program.now.parameters c.args.program.now.globals) c.args.by c.loop-definition.definition-index c.as_slice-definitions.result.now c.definition-item.result
     counted (omega arith) c.loop-definition-test.true c.definition-item.is
-    (subst (λ x. IsTrue (are_scoped (inputs_of c.args.program.now.parameters c.args.program.now.globals) 0 (map tree_of x))) (sym c.as_slice-definitions.ensures.value) c.args.program.now.definitions_scoped)
+    (subst (λ x. IsTrue (are_scoped (variable_count c.args.program.now.parameters c.args.program.now.globals) 0 (map tree_of x))) (sym c.as_slice-definitions.ensures.value) c.args.program.now.definitions_scoped)
 
 pub loop-definition-preserved : goal.loop-definition-preserved
 loop-definition-preserved g c =
@@ -26,9 +26,9 @@ pub moved-requires : goal.moved-requires
 moved-requires g c =
     let few = c.args.program.now.few_definitions in
     let counted = c.requires ∙ ap length (sym c.as_slice-definitions.ensures.value) in
-    writable_at (inputs_of c.args.program.now.parameters c.args.program.now.globals) c.args.by c.loop-definition-2.definition-index c.as_slice-definitions.result.now c.definition-item-in-loop-definition-2.result
+    writable_at (variable_count c.args.program.now.parameters c.args.program.now.globals) c.args.by c.loop-definition-2.definition-index c.as_slice-definitions.result.now c.definition-item-in-loop-definition-2.result
     counted (omega arith) c.loop-definition-2-test.true c.definition-item-in-loop-definition-2.is
-    (subst (λ x. IsTrue (are_scoped (inputs_of c.args.program.now.parameters c.args.program.now.globals) 0 (map tree_of x))) (sym c.as_slice-definitions.ensures.value) c.args.program.now.definitions_scoped)
+    (subst (λ x. IsTrue (are_scoped (variable_count c.args.program.now.parameters c.args.program.now.globals) 0 (map tree_of x))) (sym c.as_slice-definitions.ensures.value) c.args.program.now.definitions_scoped)
 
 pub returns : goal.returns
 returns g c =

@@ -1,14 +1,14 @@
 use Rattle.std.proofs.Common.{◌≡◌, arith, sym, subst, ◌∙◌, map, length, length-set, zero}
 use Rattle.std.specs.Bool.{IsTrue}
 use Rattle.std.proofs.lemmas.List.{length-map}
-use Rattle.energy_program.specs.Tree.{are_scoped, inputs_of, tree_of}
+use Rattle.energy_program.specs.Tree.{are_scoped, variable_count, tree_of}
 use Rattle.derivative.specs.Written.{IsFreeTable}
 use Rattle.derivative.proofs.Table.{IsTableFrom, table_step, table_all}
 use Rattle.derivative.proofs.slopes.free_table.Goals as goal
 
 pub loop-i-preserved : goal.loop-i-preserved
 loop-i-preserved g c =
-    let inputs = inputs_of c.args.program.now.parameters c.args.program.now.globals in
+    let inputs = variable_count c.args.program.now.parameters c.args.program.now.globals in
     let scoped = subst (λ x. IsTrue (are_scoped inputs 0 (map tree_of x))) (sym c.as_slice-definitions.ensures.value) c.args.program.now.definitions_scoped in
     record {
       below = omega arith;

@@ -1,6 +1,6 @@
 use Rattle.std.proofs.Common.{◌≡◌, arith, rules, length}
 use Rattle.fixed.specs.Fractions.{bits_of}
-use Rattle.energy_program.specs.Tree.{inputs_of, tree_of}
+use Rattle.energy_program.specs.Tree.{variable_count, tree_of}
 use Rattle.derivative.proofs.Scoped.{writable_body}
 use Rattle.derivative.proofs.Whole.{written}
 use Rattle.derivative.proofs.slopes.with_all.Goals as goal
@@ -9,7 +9,7 @@ pub slope-requires : goal.slope-requires
 slope-requires g c =
     let few = c.args.program.now.few_definitions in
     let counted : c.len-by.result ≡ length c.args.program.now.definitions.items = search rules in
-    writable_body (inputs_of c.args.program.now.parameters c.args.program.now.globals) c.len-by.result (length c.args.program.now.definitions.items) (tree_of c.args.program.now.body)
+    writable_body (variable_count c.args.program.now.parameters c.args.program.now.globals) c.len-by.result (length c.args.program.now.definitions.items) (tree_of c.args.program.now.body)
     counted (omega arith) c.args.program.now.body_scoped
 
 pub returns : goal.returns

@@ -34,9 +34,8 @@ returns-in_err-write-clause-refused g c =
       record {
         text = state_text reached.state;
         run = record { start = after.start; starts = after.starts; after = reached.state; ran = after.ran; written = refl };
-        beginning = rw c.state.ensures at c.in_err-write.ensures.fault_taken;
+        beginning = rw c.state.ensures at c.in_err-write.ensures.writes;
       },
-      c.in_err-write.ensures.fault_count,
     )
 
 -- no other answer, at each exit
@@ -80,7 +79,7 @@ returns-clause-ran g c =
     record {
       text = state_text reached.state;
       run = record { start = after.start; starts = after.starts; after = reached.state; ran = after.ran; written = refl };
-      appended' = rw c.state.ensures at c.in_ok-write.ensures.taken;
+      appends = rw c.state.ensures at c.in_ok-write.ensures.writes;
     }
 
 -- by the page
@@ -95,7 +94,7 @@ returns-clause-told g c =
       text = state_text reached.state;
       run = told job state c.args.direction c.args.steps reached.state once ran;
       only = only_told job state c.args.direction c.args.steps reached.state once ran;
-      appended' = rw c.state.ensures at c.in_ok-write.ensures.taken;
+      appends = rw c.state.ensures at c.in_ok-write.ensures.writes;
     }
 
 -- the way back, by the page, at each exit

@@ -1,7 +1,8 @@
-use Rattle.std.proofs.Common.{◌≡◌, ℕ, List, length, arith, ap, refl, subst, sym, ◌∙◌}
+use Rattle.std.proofs.Common.{◌≡◌, ℕ, List, Ok, length, arith, ap, subst, sym, ◌∙◌}
 use Rattle.std.specs.Prelude.{map}
 use Rattle.std.proofs.lemmas.List.{length-map}
-use Rattle.energy_program.specs.Programs.{program_tree}
+use Rattle.energy_program.specs.Programs.{program_tree, trees_of}
+use Rattle.energy_program.specs.declared.programs.Program.{Program}
 use Rattle.job.specs.Views.{job_value}
 use Rattle.state.specs.StateViews.{atom_view, state_view}
 use Rattle.integrator.specs.StartViews.{energy_view, ready_view}
@@ -34,6 +35,9 @@ motion-requires-clause-energy g c =
     let parts = system_parts (job_value c.args.job.now) (state_view c.args.state.now) (ready_view c.in-Ok.ready) c.in-Ok.ensures.value in
     ap program_tree c.in-Ok-safe_kernel.ensures.energy ∙ sym (job_tree_is (job_value c.args.job.now) (energy_view c.in-Ok.ready.parts) parts.energy_read)
 
+pub motion-requires-clause-program : goal.motion-requires-clause-program
+motion-requires-clause-program g c = c.in-Ok.ensures.program ∙ ap (λ (p : Program g.row.A.Denot). Ok (trees_of p)) (sym c.in-Ok-safe_kernel.ensures.energy)
+
 pub motion-requires-clause-room : goal.motion-requires-clause-room
 motion-requires-clause-room g c =
     let parts = system_parts (job_value c.args.job.now) (state_view c.args.state.now) (ready_view c.in-Ok.ready) c.in-Ok.ensures.value in
@@ -50,11 +54,10 @@ returns-clause-of g c =
       safe = is_safe (job_value c.args.job.now) c.in-Ok.ready.parts.code c.in-Ok-safe_kernel.kernel.verified c.fits.result c.bound.result c.len.result _ kernel.certified kernel.code kernel.table kernel.core kernel.cutoff c.fits.ensures c.bound.ensures count c.if-not-fits.false kernel.bound;
     }
 
--- the slope's parts hold the program of the energy's text
 pub returns-clause-says : goal.returns-clause-says
 returns-clause-says g c =
     let j = job_value c.args.job.now in
     let parts = c.in-Ok.ready.parts in
     let energy = energy_view parts in
     let read = (system_parts j (state_view c.args.state.now) (ready_view c.in-Ok.ready) c.in-Ok.ensures.value).energy_read in
-    subst (SaysOnly j) (sym (job_tree_is j energy read)) (says_energy j energy parts.energy read refl)
+    subst (SaysOnly j) (sym (job_tree_is j energy read)) (says_energy j energy read)

@@ -30,6 +30,7 @@ returns-clause-engine g c =
     record {
       dynamics = rw (c.requires.table, c.requires.masses, c.requires.energy) refl;
       energy = c.requires.energy;
+      program = c.requires.program;
       atoms = sym size;
       table = c.requires.table;
       parameters = c.requires.parameters;

@@ -1,7 +1,7 @@
 use Rattle.std.proofs.Common.{◌+◌, ◌-◌, IsTrue, Ok, ap, subst, sym, ◌∙◌, drop, length, length-append, length-drop, map, arith}
 use Rattle.std.proofs.lemmas.List.{drop_all, length-map, map_push, take_all}
 use Rattle.std.proofs.lemmas.Result.{err_from_is_err_and, IfOk-from_err}
-use Rattle.energy_program.specs.Tree.{inputs_of, is_scoped, tree_of}
+use Rattle.energy_program.specs.Tree.{variable_count, is_scoped, tree_of}
 use Rattle.energy_program.specs.Variables.{names_of}
 use Rattle.expr.specs.Syntax.{definition_of}
 use Rattle.expr.proofs.Resolving.{fails, more, ends, scoped_more, all_scoped}
@@ -20,7 +20,7 @@ loop-number-preserved g c =
     let count = length-map c.loop-number.trees.items tree_of in
     let later = length-drop (c.loop-number.number + 1) c.args.definitions.now in
     let whole = take_all (length c.args.definitions.now - (c.loop-number.number + 1)) (drop (c.loop-number.number + 1) c.args.definitions.now) (omega (arith, later)) in
-    let inputs = inputs_of c.args.names.now.parameters c.args.names.now.globals in
+    let inputs = variable_count c.args.names.now.parameters c.args.names.now.globals in
     record {
       count = ap length c.in_ok-push.ensures.items ∙ length-append c.loop-number.trees.items _ ∙ ap (λ n. n + 1) c.loop-number.invariant.count;
       left =
@@ -41,7 +41,7 @@ returns-clause-value g c =
 pub returns-clause-scoped : goal.returns-clause-scoped
 returns-clause-scoped g c =
     let count = length-map c.loop-number.trees.items tree_of in
-    all_scoped (inputs_of c.args.names.now.parameters c.args.names.now.globals) 0 (length c.args.definitions.now) (map tree_of c.loop-number.trees.items)
+    all_scoped (variable_count c.args.names.now.parameters c.args.names.now.globals) 0 (length c.args.definitions.now) (map tree_of c.loop-number.trees.items)
     (omega (arith, count, c.loop-number.invariant.count, c.loop-number-test.false, c.loop-number.auto.number-end)) c.loop-number.invariant.scoped
 
 pub returns-in_err-tree-clause-scoped : goal.returns-in_err-tree-clause-scoped

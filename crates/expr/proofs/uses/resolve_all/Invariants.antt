@@ -1,6 +1,6 @@
 -- The trees so far are the first, and those of the definitions that are left stand behind them.
 use Rattle.std.proofs.Common.{◌≡◌, IsTrue, drop, length, map}
-use Rattle.energy_program.specs.Tree.{inputs_of, tree_of}
+use Rattle.energy_program.specs.Tree.{variable_count, tree_of}
 use Rattle.energy_program.specs.Variables.{names_of}
 use Rattle.expr.specs.Syntax.{definition_of}
 use Rattle.expr.specs.Uses.{all_resolved}
@@ -11,5 +11,5 @@ abbrev pub invariant-loop-number : goal.invariant-loop-number
 invariant-loop-number g l = record {
   count : length l.trees.items ≡ l.number;
   left : all_resolved (names_of l.names) 0 (map definition_of l.definitions) ≡ behind (map tree_of l.trees.items) (all_resolved (names_of l.names) l.number (map definition_of (drop l.number l.definitions)));
-  scoped : IsTrue (scoped_to (inputs_of l.names.parameters l.names.globals) 0 (length l.definitions) (map tree_of l.trees.items));
+  scoped : IsTrue (scoped_to (variable_count l.names.parameters l.names.globals) 0 (length l.definitions) (map tree_of l.trees.items));
 }

@@ -1,10 +1,11 @@
-use Rattle.std.proofs.Common.{◌≡◌, get_or, [], arith, ap, sym, ◌∙◌}
+use Rattle.std.proofs.Common.{◌≡◌, get_or, length, arith, ap, sym, ◌∙◌}
 use Rattle.std.specs.Prelude.{map}
 use Rattle.std.proofs.lemmas.List.{length-map, map-set, get_or-map}
 use Rattle.state.specs.StateViews.{atom_view}
-use Rattle.integrator.specs.Frames.{frames}
-use Rattle.integrator.specs.States.{nobody, placed}
-use Rattle.integrator.proofs.StateLaws.{all_placed, kept_more, placed_more}
+use Rattle.integrator.specs.Frames.{frames, places_of}
+use Rattle.integrator.specs.States.{nobody, placed, placed_at}
+use Rattle.integrator.proofs.NumberLaws.{made_of_numbers}
+use Rattle.integrator.proofs.StateLaws.{kept_more, placed_more}
 use Rattle.integrator.proofs.states.place.Goals as goal
 
 pub loop-k-preserved : goal.loop-k-preserved
@@ -16,7 +17,7 @@ loop-k-preserved c =
     let old = c.index-atoms-k.result in
     let here : atom_view old ≡ get_or before i nobody =
     ap atom_view c.index-atoms-k.is ∙ sym (get_or-map atom_view c.loop-k.atoms i old nobody (omega arith)) ∙ c.loop-k.invariant.kept i (omega arith) in
-    let new = c.placed.ensures ∙ ap (λ a. placed a (get_or c.args.previous.now i []) (get_or c.args.current.now i [])) here in
+    let new = c.placed.ensures ∙ ap (λ a. placed a (places_of f.previous i) (places_of f.current i)) here in
     record {
       placed' = λ k h. rw (map-set atom_view c.loop-k.atoms i c.placed.result)
           (placed_more atoms before f i (atom_view c.placed.result) (omega (arith, length-map c.loop-k.atoms atom_view)) new c.loop-k.invariant.placed' k h);
@@ -27,6 +28,6 @@ loop-k-preserved c =
 pub returns : goal.returns
 returns c =
     let before = map atom_view c.args.atoms.now in
-    all_placed before (map atom_view c.loop-k.atoms) (frames c.args.previous.now c.args.current.now)
+    made_of_numbers (placed_at before (frames c.args.previous.now c.args.current.now)) nobody (length before) (map atom_view c.loop-k.atoms)
     (omega (arith, length-map c.loop-k.atoms atom_view, length-map c.args.atoms.now atom_view))
     (λ k h. c.loop-k.invariant.placed' k (omega (arith, length-map c.args.atoms.now atom_view)))

@@ -5,6 +5,7 @@ use Rattle.std.specs.List.{flat_map}
 use mir.Syntax.{w32}
 use Rattle.line_text.specs.Parts.{word, right_in, left_in}
 use Rattle.line_text.specs.Names.{name_text}
+use Rattle.state.specs.StateText.{numbers_of}
 use Rattle.state.proofs.Pieces.{in_five}
 use Rattle.line_text.proofs.ResidueNumbers.{number_short, number_fits_32}
 use Rattle.state.proofs.lines.put_atom.Goals as goal
@@ -20,7 +21,7 @@ returns-clause-items c =
     let number : c.as_bytes.result.now ≡ signed_decimal a.residue_number =
     c.as_bytes.ensures.value ∙ c.format.ensures.text ∙ ap signed_decimal (to_z-of_z w32 a.residue_number (number_fits_32 a.residue_number a.low a.high)) in
     in_five c.args.line.now.items c.put_right.new.line.items c.put_left.new.line.items c.put_right-2.new.line.items c.put_place.new.line.items c.put_place-2.new.line.items
-    (right_in 5 (signed_decimal a.residue_number)) (left_in 5 (name_text a.residue)) (right_in 5 (name_text a.name)) (flat_map word a.previous) (flat_map word a.current)
+    (right_in 5 (signed_decimal a.residue_number)) (left_in 5 (name_text a.residue)) (right_in 5 (name_text a.name)) (flat_map word (numbers_of a.previous)) (flat_map word (numbers_of a.current))
     (c.put_right.ensures.items ∙ ap (λ t. c.args.line.now.items ++ right_in 5 t) number)
     (c.put_left.ensures.items ∙ ap (λ t. c.put_right.new.line.items ++ left_in 5 t) c.as_bytes-2.ensures.text)
     (c.put_right-2.ensures.items ∙ ap (λ t. c.put_left.new.line.items ++ right_in 5 t) c.as_bytes-3.ensures.text)

@@ -1,6 +1,7 @@
 use Rattle.std.proofs.Common.{◌≡◌, ◌^◌, ◌-◌, ◌*◌, length}
 use Rattle.std.specs.List.{All}
-use Rattle.integrator.specs.Forces.{IsWithin, pairs_from, pairs_of}
+use Rattle.ring_box.specs.Forces.{IsWithin}
+use Rattle.integrator.specs.Forces.{pairs_from, pairs_of}
 use Rattle.tested_run.specs.Adding.{with_pairs}
 use Rattle.integrator.specs.Frames.{pair_force}
 use Rattle.integrator.specs.Systems.{dynamics_of}

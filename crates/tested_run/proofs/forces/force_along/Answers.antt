@@ -1,8 +1,7 @@
 use Rattle.std.proofs.Common.{rules}
-use Rattle.std.specs.Prelude.{unsigned_abs}
-use Rattle.integrator.proofs.SumLemmas.{within-from_all}
+use Rattle.std.specs.Prelude.{◌^◌}
+use Rattle.integrator.proofs.BoundLaws.{within-weaker}
 use Rattle.tested_run.proofs.forces.force_along.Goals as goal
 
 pub returns-clause-within : goal.returns-clause-within
-returns-clause-within c =
-    within-from_all _ (unsigned_abs c.args.minus_slope) c.force_along.result (search rules) c.requires (search rules)
+returns-clause-within c = within-weaker _ (2 ^ 63) (search rules) c.force_along.ensures.bound

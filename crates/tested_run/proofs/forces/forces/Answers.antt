@@ -1,10 +1,10 @@
 use Rattle.std.proofs.Common.{◌≡◌, ◌≤◌, ◌^◌, ◌-◌, ◌*◌, length, replicate, arith, ap, sym, ◌∙◌, Some}
 use Rattle.std.proofs.lemmas.Result.{on_ok_weaker, MatchResult-weaker}
-use Rattle.integrator.specs.Forces.{none, pairs_of, forces_of}
+use Rattle.integrator.specs.Forces.{pairs_of, forces_of}
 use Rattle.tested_run.specs.Adding.{with_pairs}
 use Rattle.integrator.specs.Frames.{pair_force, places_of}
 use Rattle.integrator.specs.Systems.{dynamics_of}
-use Rattle.ring_box.specs.Forces.{acting_distance_of}
+use Rattle.ring_box.specs.Forces.{acting_distance_of, no_force}
 use Rattle.std.specs.Prelude.{slice_index}
 use Rattle.tested_run.proofs.BoundLaws.{all_within-weaker, force_at_within, found_within}
 use Rattle.tested_run.proofs.AddingLaws.{forces_found, fault_found}
@@ -14,7 +14,7 @@ pub returns-clause-value : goal.returns-clause-value
 returns-clause-value g c =
     let force = pair_force (dynamics_of g.K.TestedSlope.slope c.args.system.now) c.args.frame.now in
     let n = length c.args.frame.now in
-    let start : c.clear.new.sums ≡ replicate n none = c.clear.ensures ∙ ap (λ m. replicate m none) c.requires.sums in
+    let start : c.clear.new.sums ≡ replicate n no_force = c.clear.ensures ∙ ap (λ m. replicate m no_force) c.requires.sums in
     on_ok_weaker c.add_rows.result (λ e. forces_found force n c.add_rows.new.sums (sym (ap (λ s. with_pairs force s (pairs_of n)) start) ∙ e)) c.add_rows.ensures.value
 
 pub returns-clause-within : goal.returns-clause-within
@@ -25,7 +25,7 @@ returns-clause-within g c =
     let n = length frame in
     let few : length s.masses.items ≤ 65536 = s.most_atoms in
     let same = s.atoms in
-    let start : c.clear.new.sums ≡ replicate n none = c.clear.ensures ∙ ap (λ m. replicate m none) c.requires.sums in
+    let start : c.clear.new.sums ≡ replicate n no_force = c.clear.ensures ∙ ap (λ m. replicate m no_force) c.requires.sums in
     on_ok_weaker c.add_rows.result (λ e.
     let found : forces_of force n ≡ Some c.add_rows.new.sums = forces_found force n c.add_rows.new.sums (sym (ap (λ s. with_pairs force s (pairs_of n)) start) ∙ e) in
     all_within-weaker (2 ^ 63 * (n - 1)) (2 ^ 80) c.add_rows.new.sums (omega arith)

@@ -17,14 +17,12 @@ pub returns-in_err-write-clause-refused : goal.returns-in_err-write-clause-refus
 returns-in_err-write-clause-refused g c =
     let p = err_from_is_err_and c.from_residual-in_err-write.result c.from_residual-in_err-write.ensures.1 in
     let after = c.in_ok-after.ensures.value in
-    rw (p.1, p.2) (
-      record {
-        text = state_text (state_view c.in_ok-after.after);
-        run = record { start = after.start; starts = after.starts; after = state_view c.in_ok-after.after; ran = after.ran; written = refl };
-        beginning = c.in_err-write.ensures.fault_taken;
-      },
-      c.in_err-write.ensures.fault_count,
-    )
+    rw (p.1, p.2)
+    (record {
+      text = state_text (state_view c.in_ok-after.after);
+      run = record { start = after.start; starts = after.starts; after = state_view c.in_ok-after.after; ran = after.ran; written = refl };
+      beginning = c.in_err-write.ensures.writes;
+    })
 
 pub returns-in_err-after-clause-only : goal.returns-in_err-after-clause-only
 returns-in_err-after-clause-only g c =

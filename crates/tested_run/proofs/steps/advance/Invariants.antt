@@ -1,7 +1,5 @@
-use Rattle.std.proofs.Common.{◌≡◌, ℕ, ◌<◌, ◌≤◌, get_or, []}
-use Rattle.std.specs.Prelude.{slice_index}
-use Rattle.integrator.specs.Forces.{none}
-use Rattle.integrator.specs.Frames.{next_places}
+use Rattle.std.proofs.Common.{◌≡◌, ℕ, ◌<◌, ◌≤◌}
+use Rattle.integrator.specs.Frames.{next_at, places_of}
 use Rattle.integrator.specs.Systems.{dynamics_of}
 use Rattle.tested_run.proofs.steps.advance.Given as goal
 
@@ -9,6 +7,6 @@ use Rattle.tested_run.proofs.steps.advance.Given as goal
 abbrev pub invariant-loop-atom : goal.invariant-loop-atom
 invariant-loop-atom g l =
     record {
-      moved : (k : ℕ) → k < l.atom → get_or l.before k [] ≡ next_places (dynamics_of g.K.TestedSlope.slope l.system) (slice_index l.system.masses.items k) (get_or l.fn.before k []) (get_or l.middle k []) (get_or l.forces k none);
-      kept : (k : ℕ) → l.atom ≤ k → get_or l.before k [] ≡ get_or l.fn.before k [];
+      moved : (k : ℕ) → k < l.atom → places_of l.before k ≡ next_at (dynamics_of g.K.TestedSlope.slope l.system) l.fn.before l.middle l.forces k;
+      kept : (k : ℕ) → l.atom ≤ k → places_of l.before k ≡ places_of l.fn.before k;
     }

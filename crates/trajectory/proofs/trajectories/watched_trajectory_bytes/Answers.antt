@@ -28,8 +28,8 @@ pub returns-in_err-write_frames-clause-refused : goal.returns-in_err-write_frame
 returns-in_err-write_frames-clause-refused g c =
     let p = err_from_is_err_and c.from_residual-in_err-write_frames.result c.from_residual-in_err-write_frames.ensures.1 in
     rw (p.1, p.2)
-    (frames_unwritten _ c.args.job.now c.args.state.now c.args.direction c.args.steps c.args.every c.in_ok-engine.engine (g.O.Out.taken c.args.out.now, g.O.Out.failed c.args.out.now)
-    (g.O.Out.taken c.write_frames.new.out, g.O.Out.failed c.write_frames.new.out) c.in_err-write_frames.field-0.0 c.in_ok-engine.ensures.opens c.in_err-write_frames.ensures.left)
+    (frames_unwritten _ c.args.job.now c.args.state.now c.args.direction c.args.steps c.args.every c.in_ok-engine.engine (g.O.Out.output c.args.out.now)
+    (g.O.Out.output c.write_frames.new.out) c.in_err-write_frames.field-0.0 c.in_ok-engine.ensures.opens c.in_err-write_frames.ensures.left)
 
 -- what the watcher was told then
 pub returns-in_err-engine-clause-told_some : goal.returns-in_err-engine-clause-told_some

@@ -7,11 +7,9 @@ use Rattle.trajectory.proofs.trajectories.write_frame.Goals as goal
 pub returns-in_err-write-clause-unwritten : goal.returns-in_err-write-clause-unwritten
 returns-in_err-write-clause-unwritten g c =
     let p = err_from_is_err_and c.from_residual.result c.from_residual.ensures.1 in
-    rw (p.1, p.2) (
-      record {
-        text = frame_text (frame_view c.in-Ok.frame);
-        shown = record { frame = frame_view c.in-Ok.frame; timed = c.in-Ok.ensures; written = refl };
-        beginning = c.in_err-write.ensures.fault_taken;
-      },
-      c.in_err-write.ensures.fault_count,
-    )
+    rw (p.1, p.2)
+    (record {
+      text = frame_text (frame_view c.in-Ok.frame);
+      shown = record { frame = frame_view c.in-Ok.frame; timed = c.in-Ok.ensures; written = refl };
+      beginning = c.in_err-write.ensures.writes;
+    })

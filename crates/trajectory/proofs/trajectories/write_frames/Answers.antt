@@ -1,4 +1,4 @@
-use Rattle.std.proofs.Common.{◌≡◌, ◌+◌, ◌*◌, ◌∙◌, arith, subst, sym, Option, List, ℕ}
+use Rattle.std.proofs.Common.{◌≡◌, ◌+◌, ◌*◌, arith, subst, sym}
 use Rattle.std.proofs.lemmas.Result.{err_from_is_err_and}
 use Rattle.state.specs.StateViews.{state_view}
 use Rattle.trajectory.specs.Trajectories.{IsFrameOnWay}
@@ -12,8 +12,8 @@ returns-in_err-write_frame-clause-left g c =
     let p = err_from_is_err_and c.from_residual.result c.from_residual.ensures.1 in
     let state = c.state.result.now in
     let fits = fits_now c.args.direction c.args.engine.now.state.step (c.requires.fits 0 (omega arith)) in
-    let before : Option (List ℕ) × ℕ = (g.O.Out.taken c.args.out.now, g.O.Out.failed c.args.out.now) in
-    let after : Option (List ℕ) × ℕ = (g.O.Out.taken c.write_frame.new.out, g.O.Out.failed c.write_frame.new.out) in
+    let before = g.O.Out.output c.args.out.now in
+    let after = g.O.Out.output c.write_frame.new.out in
     rw (p.1, p.2)
     (first_left c.args.direction c.args.every c.args.most c.args.engine.now (state_view state) c.time_step-time_step.result before after c.in_err-write_frame.field-0.0 fits c.state.ensures c.time_step-time_step.ensures.exact c.in_err-write_frame.ensures.unwritten)
 
@@ -25,7 +25,7 @@ loop-number-init g c =
     let state = c.state.result.now in
     let fits = fits_now c.args.direction c.args.engine.now.state.step (c.requires.fits 0 (omega arith)) in
     let first = first_written c.args.direction c.args.every c.args.engine.now (state_view state) c.time_step-time_step.result _ _ fits c.state.ensures c.time_step-time_step.ensures.exact c.in_ok-write_frame.ensures.wrote in
-    record { went = first.0; wrote = first.1; failed = c.in_ok-write_frame.ensures.kept; told = told_first }
+    record { went = first.0; wrote = first.1; told = told_first }
 
 pub advance-requires-clause-fits : goal.advance-requires-clause-fits
 advance-requires-clause-fits g c =
@@ -39,20 +39,20 @@ advance-requires-clause-within g c = λ _ _. within c.args.every c.args.most c.l
 pub returns-in_err-advance-clause-left : goal.returns-in_err-advance-clause-left
 returns-in_err-advance-clause-left g c =
     let p = err_from_is_err_and c.from_residual-in_err-advance.result c.from_residual-in_err-advance.ensures.1 in
-    let before : Option (List ℕ) × ℕ = (g.O.Out.taken c.args.out.now, g.O.Out.failed c.args.out.now) in
-    let after : Option (List ℕ) × ℕ = (g.O.Out.taken c.loop-number.out, g.O.Out.failed c.loop-number.out) in
+    let before = g.O.Out.output c.args.out.now in
+    let after = g.O.Out.output c.loop-number.out in
     rw (p.1, p.2)
     (steps_left (IsFrameOnWay c.args.direction c.args.every c.args.engine.now) c.args.every c.args.most c.loop-number.number before after c.in_err-advance.field-0.0 c.loop-number-test.true c.loop-number.invariant.wrote c.in_err-advance.ensures.stopped)
 
 pub returns-in_err-write_frame-2-clause-left : goal.returns-in_err-write_frame-2-clause-left
 returns-in_err-write_frame-2-clause-left g c =
     let p = err_from_is_err_and c.from_residual-in_err-write_frame-2.result c.from_residual-in_err-write_frame-2.ensures.1 in
-    let before : Option (List ℕ) × ℕ = (g.O.Out.taken c.args.out.now, g.O.Out.failed c.args.out.now) in
-    let on_way : Option (List ℕ) × ℕ = (g.O.Out.taken c.loop-number.out, g.O.Out.failed c.loop-number.out) in
-    let after : Option (List ℕ) × ℕ = (g.O.Out.taken c.write_frame-in-loop-number.new.out, g.O.Out.failed c.write_frame-in-loop-number.new.out) in
+    let before = g.O.Out.output c.args.out.now in
+    let on_way = g.O.Out.output c.loop-number.out in
+    let after = g.O.Out.output c.write_frame-in-loop-number.new.out in
     rw (p.1, p.2)
     (next_left c.args.direction c.args.every c.args.most c.loop-number.number c.args.engine.now c.loop-number.engine c.advance.new.engine (state_view c.state-in-loop-number.result.now) c.time_step-time_step.result before on_way after
-    c.in_err-write_frame-2.field-0.0 c.loop-number-test.true c.loop-number.invariant.went c.in_ok-advance.ensures.went c.state-in-loop-number.ensures c.time_step-time_step.ensures.exact c.loop-number.invariant.wrote c.loop-number.invariant.failed
+    c.in_err-write_frame-2.field-0.0 c.loop-number-test.true c.loop-number.invariant.went c.in_ok-advance.ensures.went c.state-in-loop-number.ensures c.time_step-time_step.ensures.exact c.loop-number.invariant.wrote
     c.in_err-write_frame-2.ensures.unwritten)
 
 pub loop-number-preserved : goal.loop-number-preserved
@@ -65,7 +65,6 @@ loop-number-preserved g c =
     record {
       went = next.0;
       wrote = next.1;
-      failed = c.in_ok-write_frame-2.ensures.kept ∙ c.loop-number.invariant.failed;
       told = subst (λ k. g.W.Watch.told c.args.watch.now c.advance.new.watch (hundredths_behind (c.args.most * every) 0 k)) (sym steps)
           (more_told g.W.Watch.told g.met.W.Watch.told_more (c.args.most * every) (number * every) every _ _ _ c.loop-number.invariant.told c.in_ok-advance.ensures.told);
     }

@@ -1,4 +1,4 @@
-use Rattle.std.proofs.Common.{◌≡◌, false, true, ap, refl, rules, sym, ◌∙◌, Option, List, ℕ}
+use Rattle.std.proofs.Common.{◌≡◌, false, true, ap, refl, rules, sym, ◌∙◌}
 use Rattle.std.specs.Prelude.{is_none}
 use Rattle.std.proofs.lemmas.Result.{err_from_is_err_and}
 use Rattle.state.specs.StateText.{StateView, state_text}
@@ -30,7 +30,7 @@ returns-then-is_none-clause-refused g c =
 pub returns-in_err-advance-clause-refused : goal.returns-in_err-advance-clause-refused
 returns-in_err-advance-clause-refused g c =
     let p = err_from_is_err_and c.from_residual-in_err-advance.result c.from_residual-in_err-advance.ensures.1 in
-    let output : Option (List ℕ) × ℕ = (g.O.Out.taken c.args.out.now, g.O.Out.failed c.args.out.now) in
+    let output = g.O.Out.output c.args.out.now in
     rw (p.1, p.2)
     (steps_stopped _ c.args.job.now c.args.state.now c.args.direction c.args.steps c.in_ok-engine.engine output output c.in_err-advance.field-0.0 c.in_ok-engine.ensures.opens c.in_err-advance.ensures.stopped refl)
 
@@ -47,9 +47,8 @@ returns-in_err-write-clause-refused g c =
       record {
         text = state_text reached.state;
         run = record { start = after.start; starts = after.starts; after = reached.state; ran = after.ran; written = refl };
-        beginning = rw c.state-2.ensures at c.in_err-write.ensures.fault_taken;
+        beginning = rw c.state-2.ensures at c.in_err-write.ensures.writes;
       },
-      c.in_err-write.ensures.fault_count,
     )
 
 -- no other answer, at each exit
@@ -121,7 +120,7 @@ returns-clause-ran g c =
     record {
       text = state_text reached.state;
       run = record { start = after.start; starts = after.starts; after = reached.state; ran = after.ran; written = refl };
-      appended' = rw c.state-2.ensures at c.in_ok-write.ensures.taken;
+      appends = rw c.state-2.ensures at c.in_ok-write.ensures.writes;
     }
 
 -- by the page
@@ -136,5 +135,5 @@ returns-clause-wrote g c =
       text = state_text reached.state;
       run = told job state c.args.direction c.args.steps reached.state once ran;
       only = only_told job state c.args.direction c.args.steps reached.state once ran;
-      appended' = rw c.state-2.ensures at c.in_ok-write.ensures.taken;
+      appends = rw c.state-2.ensures at c.in_ok-write.ensures.writes;
     }

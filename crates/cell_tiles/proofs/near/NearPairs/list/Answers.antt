@@ -2,16 +2,15 @@ use Rattle.std.proofs.Common.{◌≡◌, ℕ, zero, suc, ◌+◌, ◌<◌, ◌�
 use Rattle.std.specs.Prelude.{None}
 use Rattle.std.specs.List.{All}
 use Rattle.std.proofs.lemmas.List.{get_or-map, length-map, length-take-le, take-map}
-use Rattle.std.proofs.lemmas.List.Elements.{All-get_or}
 use Rattle.std.proofs.lemmas.Grind.{common_steps}
 use Rattle.ring_box.specs.Acting.{acting_of}
-use Rattle.ring_box.specs.Cells.{ArePlaces}
+use Rattle.ring_box.specs.Places.{nowhere}
 use Rattle.cell_tiles.specs.Cells.{places_of}
 use Rattle.cell_tiles.specs.declared.pairs.AtomPair.{AtomPair}
 use Rattle.cell_tiles.specs.Near.{IsPairOf, act}
 use Rattle.cell_tiles.specs.Tiles.{pair_of, pairs_with}
 use Rattle.cell_tiles.proofs.MarkedLemmas.{IsReached, marked_act, number_below, pairs_at, reached_all, reached_some}
-use Rattle.cell_tiles.proofs.NearLemmas.{all_listed, first_inside, listed_next, pair_idle, pair_inside, second_inside}
+use Rattle.cell_tiles.proofs.NearLemmas.{all_listed, first_inside, listed_next, pair_idle, pair_inside}
 use Rattle.cell_tiles.proofs.near.NearPairs.list.Goals as goal
 use Rattle.cell_tiles.proofs.near.NearPairs.list.Goals.{then-taken-near, else-taken-near}
 
@@ -64,6 +63,21 @@ loop-e-preserved c =
       wide = length-set xs place x ∙ kept.wide;
     }
 
+-- the numbers have room for those that are near
+long_enough : (c : goal.Joined-taken-near) → c.near_numbers-near.result ≤ length c.near_numbers-near.new.numbers
+long_enough c = omega (arith, c.near_numbers-near.array_long, c.near_numbers-near.ensures.few, c.together-row.ensures.few)
+
+-- those that were taken are the marked ones below the answer
+reached_by : (c : goal.Joined-taken-near) → IsReached c.mark_near.new.near c.near_numbers-near.new.numbers c.near_numbers-near.result c.together-row.result c.near_numbers-near.ensures.numbers (long_enough c) c.min-taken.result c.if-taken-near.result
+reached_by c =
+    let near = c.near_numbers-near in
+    let marks = c.mark_near.new.near in
+    let row = c.together-row.result in
+    elim c.if-taken-near.branch [
+      | then-taken-near w ↦ reached_all marks near.new.numbers near.result row near.ensures.numbers (long_enough c) c.min-taken.result c.if-taken-near.result (omega (arith, w.if-taken-near.true)) w.result-is
+      | else-taken-near w ↦ reached_some marks near.new.numbers near.result row near.ensures.numbers (long_enough c) c.min-taken.result c.if-taken-near.result (omega (arith, w.if-taken-near.false, c.min-taken.ensures)) w.result-is
+    ]
+
 pub returns-clause-acting : goal.returns-clause-acting
 returns-clause-acting c =
     let frame = c.args.frame.now.places.now in
@@ -80,25 +94,18 @@ returns-clause-acting c =
     let ps = pairs_with a others in
     let acts = act d b frame in
     let at : ℕ → ℕ × ℕ = λ k. get_or ps k (0, 0) in
-    let long : near.result ≤ length numbers = omega (arith, near.array_long, near.ensures.few, c.together-row.ensures.few) in
-    let reached : IsReached marks numbers near.result row near.ensures.numbers long taken r =
-    elim c.if-taken-near.branch [
-      | then-taken-near w ↦ reached_all marks numbers near.result row near.ensures.numbers long taken r (omega (arith, w.if-taken-near.true)) w.result-is
-      | else-taken-near w ↦ reached_some marks numbers near.result row near.ensures.numbers long taken r (omega (arith, w.if-taken-near.false, c.min-taken.ensures)) w.result-is
-    ] in
+    let reached = reached_by c in
     let idle : (j : ℕ) → j < row → get_or marks j false ≡ false → acts (get_or ps j (0, 0)) ≡ false = λ j lt unmarked.
     let inside : j < length others = omega (arith, c.together-row.ensures.within, lt) in
     let other = get_or others j 0 in
     let here : get_or ps j (0, 0) ≡ pair_of a other = get_or-map (pair_of a) others j 0 (0, 0) inside in
     let marked' : get_or marks j true ≡ false = same_mark marks j (omega (arith, c.mark_near.array_long, lt, c.together-row.ensures.few)) ∙ unmarked in
-    let first : ArePlaces (get_or frame a _) = All-get_or ArePlaces frame a _ (first_inside (length frame) a others j c.requires.pairs inside) c.requires.places in
-    let second : ArePlaces (get_or frame other _) = All-get_or ArePlaces frame other _ (second_inside (length frame) a others j c.requires.pairs inside) c.requires.places in
     let wide : length c.args.places.now ≡ length others = ap length c.requires.beside ∙ length-map others (places_of frame) in
-    let cut : get_or (take row c.args.places.now) j [] ≡ get_or c.args.places.now j [] = get_or-take row c.args.places.now j [] lt in
-    let beside : get_or c.args.places.now j [] ≡ places_of frame other = ap (λ zs. get_or zs j []) c.requires.beside ∙ get_or-map (places_of frame) others j 0 [] inside in
+    let cut : get_or (take row c.args.places.now) j nowhere ≡ get_or c.args.places.now j nowhere = get_or-take row c.args.places.now j nowhere lt in
+    let beside : get_or c.args.places.now j nowhere ≡ places_of frame other = ap (λ zs. get_or zs j nowhere) c.requires.beside ∙ get_or-map (places_of frame) others j 0 nowhere inside in
     let apart : acting_of d b (places_of frame a) (places_of frame other) ≡ None =
     subst (λ y. acting_of d b (places_of frame a) y ≡ None) (cut ∙ beside) (c.mark_near.ensures j (omega (arith, length-take row c.args.places.now, wide, inside, lt)) marked') in
-    ap acts here ∙ pair_idle d b frame a other first second apart
+    ap acts here ∙ pair_idle d b frame a other c.args.frame.now.on_ring apart
     in
     let within : row ≤ length ps = omega (arith, length-map others (pair_of a), c.together-row.ensures.within) in
     let done : c.loop-e.e ≡ taken = omega (arith, c.loop-e-test.false, c.loop-e.auto.e-end) in
@@ -113,54 +120,18 @@ returns-clause-listed c all =
     subst (λ n. All (IsPairOf (length c.args.frame.now.places.now)) (map (λ (p : AtomPair). (p.low, p.high)) (take (c.self.inside.count + n) c.loop-e.self-inside.pairs))) done (c.loop-e.invariant.listed all)
 
 pub returns-clause-within : goal.returns-clause-within
-returns-clause-within c =
-    let near = c.near_numbers-near in
-    let marks = c.mark_near.new.near in
-    let numbers = near.new.numbers in
-    let row = c.together-row.result in
-    let taken = c.min-taken.result in
-    let r = c.if-taken-near.result in
-    let long : near.result ≤ length numbers = omega (arith, near.array_long, near.ensures.few, c.together-row.ensures.few) in
-    let reached : IsReached marks numbers near.result row near.ensures.numbers long taken r =
-    elim c.if-taken-near.branch [
-      | then-taken-near w ↦ reached_all marks numbers near.result row near.ensures.numbers long taken r (omega (arith, w.if-taken-near.true)) w.result-is
-      | else-taken-near w ↦ reached_some marks numbers near.result row near.ensures.numbers long taken r (omega (arith, w.if-taken-near.false, c.min-taken.ensures)) w.result-is
-    ] in
-    let past = reached.within in
-    omega (arith, past, c.together-row.ensures.within)
+returns-clause-within c = let past = (reached_by c).within in omega (arith, past, c.together-row.ensures.within)
 
 pub returns-clause-few : goal.returns-clause-few
-returns-clause-few c =
-    let near = c.near_numbers-near in
-    let marks = c.mark_near.new.near in
-    let numbers = near.new.numbers in
-    let row = c.together-row.result in
-    let taken = c.min-taken.result in
-    let r = c.if-taken-near.result in
-    let long : near.result ≤ length numbers = omega (arith, near.array_long, near.ensures.few, c.together-row.ensures.few) in
-    let reached : IsReached marks numbers near.result row near.ensures.numbers long taken r =
-    elim c.if-taken-near.branch [
-      | then-taken-near w ↦ reached_all marks numbers near.result row near.ensures.numbers long taken r (omega (arith, w.if-taken-near.true)) w.result-is
-      | else-taken-near w ↦ reached_some marks numbers near.result row near.ensures.numbers long taken r (omega (arith, w.if-taken-near.false, c.min-taken.ensures)) w.result-is
-    ] in
-    let past = reached.past in
-    grind (arith, common_steps)
+returns-clause-few c = let past = (reached_by c).past in grind (arith, common_steps)
 
 pub returns-clause-onward : goal.returns-clause-onward
 returns-clause-onward c =
-    let near = c.near_numbers-near in
-    let marks = c.mark_near.new.near in
-    let numbers = near.new.numbers in
-    let row = c.together-row.result in
-    let taken = c.min-taken.result in
-    let r = c.if-taken-near.result in
-    let long : near.result ≤ length numbers = omega (arith, near.array_long, near.ensures.few, c.together-row.ensures.few) in
     let some = c.together-row.ensures.some c.requires.there in
     elim c.if-taken-near.branch [
       | then-taken-near w ↦ λ room. omega (arith, some, w.result-is)
       | else-taken-near w ↦
-          let less : taken < near.result = omega (arith, w.if-taken-near.false, c.min-taken.ensures) in
-          let reached : IsReached marks numbers near.result row near.ensures.numbers long taken r = reached_some marks numbers near.result row near.ensures.numbers long taken r less w.result-is in
-          let past = reached.past in
+          let less : c.min-taken.result < c.near_numbers-near.result = omega (arith, w.if-taken-near.false, c.min-taken.ensures) in
+          let past = (reached_by c).past in
           grind (arith, common_steps)
     ]

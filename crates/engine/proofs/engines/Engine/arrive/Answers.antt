@@ -1,4 +1,4 @@
-use Rattle.std.proofs.Common.{◌≡◌, length, false, ap, sym, ◌∙◌, arith, rules, to_z, of_z, w64}
+use Rattle.std.proofs.Common.{◌≡◌, false, ap, sym, ◌∙◌, arith, rules, to_z, of_z, w64}
 use mir.Val.{SFits}
 use Rattle.std.specs.Prelude.{is_none}
 use Rattle.std.proofs.lemmas.List.{length-map}
@@ -10,7 +10,6 @@ use Rattle.integrator.specs.States.{counter_after, moved_state}
 use Rattle.integrator.proofs.Constructors.{none_is_no_some}
 use Rattle.integrator.proofs.ReturnLaws.{in_range_is}
 use Rattle.engine.proofs.EngineLaws.{counter_reached, went_on}
-use Rattle.engine.proofs.CourseLaws.{lengths_along}
 use Rattle.engine.proofs.engines.Engine.arrive.Goals as goal
 
 pub unreachable-requires : goal.unreachable-requires
@@ -21,44 +20,32 @@ unreachable-requires g c =
     none_is_no_some _ (sym c.in_default.is ∙ c.counter_after.ensures.value ∙ counter_reached c.args.direction z c.args.done c.args.steps (in_range_is z signed.sfits) c.requires.few fits)
 
 pub advance-requires-clause-previous : goal.advance-requires-clause-previous
-advance-requires-clause-previous g c =
-    let atoms = c.self.inside.state.atoms.items in
-    let before : length c.args.course.before.items ≡ length atoms = (rw (← c.self.view_is) at c.requires.before) ∙ length-map atoms atom_view in
-    let middle : length c.args.course.middle.items ≡ length atoms = (rw (← c.self.view_is) at c.requires.middle) ∙ length-map atoms atom_view in
-    (lengths_along c.args.direction c.turned.result.previous.items c.turned.result.current.items c.args.course.before.items c.args.course.middle.items (length atoms) c.turned.ensures before middle).0
+advance-requires-clause-previous g c = (rw (← c.self.view_is) at c.requires.previous) ∙ length-map c.self.inside.state.atoms.items atom_view
 
 pub advance-requires-clause-current : goal.advance-requires-clause-current
-advance-requires-clause-current g c =
-    let atoms = c.self.inside.state.atoms.items in
-    let before : length c.args.course.before.items ≡ length atoms = (rw (← c.self.view_is) at c.requires.before) ∙ length-map atoms atom_view in
-    let middle : length c.args.course.middle.items ≡ length atoms = (rw (← c.self.view_is) at c.requires.middle) ∙ length-map atoms atom_view in
-    (lengths_along c.args.direction c.turned.result.previous.items c.turned.result.current.items c.args.course.before.items c.args.course.middle.items (length atoms) c.turned.ensures before middle).1
+advance-requires-clause-current g c = (rw (← c.self.view_is) at c.requires.current) ∙ length-map c.self.inside.state.atoms.items atom_view
 
 pub returns-then-done-steps-clause-stopped : goal.returns-then-done-steps-clause-stopped
 returns-then-done-steps-clause-stopped g c =
     let i = c.self.inside in
     let e = engine_view i.job i.state i.motion.system in
-    let turned = c.turned.result in
-    let course = c.args.course in
+    let turned = c.args.turned in
     let k = c.in-Some.counter in
     let counter : to_z w64 (of_z w64 k) ≡ k = search rules in
     let moved : state_view c.advance.new.state ≡ moved_state (state_view i.state) (frames turned.previous.items turned.current.items) k = rw counter at c.advance.ensures.value in
     rw (← c.self.view_is) (
       omega (arith, c.if-done-steps.true),
-      went_on c.args.direction c.args.done e _ course.before.items course.middle.items turned.previous.items turned.current.items k (rw (← c.self.view_is) at c.requires.turned) c.turned.ensures (sym c.in-Some.ensures.value)
-          (ap (λ (s : StateView). record e { state = s }) moved),
+      went_on c.args.direction c.args.done e _ turned.previous.items turned.current.items k (rw (← c.self.view_is) at c.requires.turned) (sym c.in-Some.ensures.value) (ap (λ (s : StateView). record e { state = s }) moved),
     )
 
 pub returns-clause-went : goal.returns-clause-went
 returns-clause-went g c =
     let i = c.self.inside in
     let e = engine_view i.job i.state i.motion.system in
-    let turned = c.turned.result in
-    let course = c.args.course in
+    let turned = c.args.turned in
     let k = c.in-Some.counter in
     let counter : to_z w64 (of_z w64 k) ≡ k = search rules in
     let moved : state_view c.advance.new.state ≡ moved_state (state_view i.state) (frames turned.previous.items turned.current.items) k = rw counter at c.advance.ensures.value in
     let whole : c.args.steps ≡ c.args.done = omega (arith, c.requires.few, c.if-done-steps.false) in
     rw (← c.self.view_is, whole)
-    (went_on c.args.direction c.args.done e _ course.before.items course.middle.items turned.previous.items turned.current.items k (rw (← c.self.view_is) at c.requires.turned) c.turned.ensures (sym c.in-Some.ensures.value)
-    (ap (λ (s : StateView). record e { state = s }) moved))
+    (went_on c.args.direction c.args.done e _ turned.previous.items turned.current.items k (rw (← c.self.view_is) at c.requires.turned) (sym c.in-Some.ensures.value) (ap (λ (s : StateView). record e { state = s }) moved))

@@ -1,4 +1,4 @@
-use Rattle.std.proofs.Common.{◌≡◌, ℕ, List, length, ap, sym, ◌∙◌, rules, to_z, of_z}
+use Rattle.std.proofs.Common.{◌≡◌, length, ap, sym, ◌∙◌, rules, to_z, of_z}
 use mir.Syntax.{w128}
 use Rattle.std.specs.Prelude.{map}
 use Rattle.std.proofs.lemmas.List.{length-map}
@@ -7,6 +7,7 @@ use Rattle.state.specs.StateViews.{atom_view}
 use Rattle.engine.specs.EngineViews.{engine_view}
 use Rattle.engine.specs.Engines.{engine_dynamics}
 use Rattle.integrator.specs.Forces.{pairs_of}
+use Rattle.integrator.specs.Frames.{Frame}
 use Rattle.engine.specs.PairEnergies.{energy_sum, engine_value, pair_energy}
 use Rattle.integrator.specs.States.{current_frame}
 use Rattle.engine.proofs.EngineEnergyLaws.{energy_gives, engine_energy, not_accepted, too_large}
@@ -17,14 +18,14 @@ pub returns-in-Err-clause-refused : goal.returns-in-Err-clause-refused
 returns-in-Err-clause-refused g c =
     let i = c.self.inside in
     let e = engine_view i.job i.state i.motion.system in
-    rw (c.of_energy.ensures, ← c.self.view_is) (too_large e i.motion.system.kernel.energy c.in-Err.failure c.self.invariant.0.energy c.in-Err.ensures.exact)
+    rw (c.of_energy.ensures, ← c.self.view_is) (too_large e i.motion.system.kernel.energy c.in-Err.failure c.self.invariant.0.program c.in-Err.ensures.exact)
 
 pub returns-in-Err-verdict-clause-refused : goal.returns-in-Err-verdict-clause-refused
 returns-in-Err-verdict-clause-refused g c =
     let i = c.self.inside in
     let e = engine_view i.job i.state i.motion.system in
     rw (c.of_kernel.ensures, ← c.self.view_is)
-    (not_accepted {A = g.row.A.Denot} e i.motion.system.kernel.energy c.in-Ok.code c.in-Err-verdict.failure c.self.invariant.0.energy c.in-Ok.ensures.exact c.in-Err-verdict.ensures.refused)
+    (not_accepted {A = g.row.A.Denot} e i.motion.system.kernel.energy c.in-Ok.code c.in-Err-verdict.failure c.self.invariant.0.program c.in-Ok.ensures.exact c.in-Err-verdict.ensures.refused)
 
 pub new-requires-clause-table : goal.new-requires-clause-table
 new-requires-clause-table g c = c.in-Ok-verdict.ensures.table ∙ sym c.self.invariant.0.table
@@ -59,4 +60,4 @@ returns-clause-value g c =
     let same : to_z w128 (of_z w128 c.in_ok-sum.sum) ≡ c.in_ok-sum.sum = search rules in
     let energy = pair_energy (engine_dynamics e) (engine_value e) in
     rw (same, ← c.self.view_is)
-    (sym (ap (λ (f : List (List ℕ)). energy_sum (energy f) (pairs_of (length f))) frame ∙ ap (λ n. energy_sum (energy (current_frame (map atom_view atoms))) (pairs_of n)) size) ∙ sum)
+    (sym (ap (λ (f : Frame). energy_sum (energy f) (pairs_of (length f))) frame ∙ ap (λ n. energy_sum (energy (current_frame (map atom_view atoms))) (pairs_of n)) size) ∙ sum)

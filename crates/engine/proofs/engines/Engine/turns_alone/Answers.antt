@@ -1,13 +1,14 @@
-use Rattle.std.proofs.Common.{refl, rules, subst, sym, w64}
+use Rattle.std.proofs.Common.{◌∙◌, ap, refl, rules, subst, sym, w64}
 use mir.Val.{SFits}
 use Rattle.std.proofs.lemmas.Result.{err_from_is_err_and}
 use Rattle.state.specs.StateViews.{state_view}
 use Rattle.engine.specs.EngineViews.{engine_view}
 use Rattle.engine.specs.Engines.{engine_dynamics}
 use Rattle.engine.specs.SafeKernels.{safe_dynamics}
+use Rattle.integrator.specs.Frames.{frames}
 use Rattle.integrator.specs.States.{frames_of}
 use Rattle.integrator.proofs.ReturnLaws.{in_range_is}
-use Rattle.engine.specs.Tilings.{IsUnstarted}
+use Rattle.engine.specs.Courses.{IsUnstarted}
 use Rattle.engine.proofs.EngineLaws.{unstarted}
 use Rattle.engine.proofs.CourseLaws.{turned_along}
 use Rattle.engine.proofs.engines.Engine.turns_alone.Goals as goal
@@ -24,9 +25,11 @@ pub arrive-requires-clause-turned : goal.arrive-requires-clause-turned
 arrive-requires-clause-turned g c =
     let i = c.self.inside in
     let from = c.in_ok-course.course in
-    let to = c.turns_alone-done.new.course in
-    turned_along c.args.direction (safe_dynamics i.motion.system) (engine_dynamics (engine_view i.job i.state i.motion.system)) c.turns_alone-done.result
-    from.before.items from.middle.items to.before.items to.middle.items (frames_of (state_view i.state)) c.self.invariant.0.dynamics c.in_ok-course.ensures.frames c.turns_alone-done.ensures.value
+    let to = c.turns_alone-done.new.self in
+    let turned = c.turned-turned.result in
+    turned_along c.args.direction (safe_dynamics from.motion.now.system) (engine_dynamics (engine_view i.job i.state i.motion.system)) c.turns_alone-done.result
+    from.before.items from.middle.items to.before.items to.middle.items (frames_of (state_view i.state)) (frames turned.previous.items turned.current.items)
+    (ap (λ m. safe_dynamics m.system) c.in_ok-course.ensures.motion ∙ c.self.invariant.0.dynamics) c.in_ok-course.ensures.frames c.turned-turned.ensures.frames c.turns_alone-done.ensures.gone.turned
 
 pub returns-in_err-scratch-clause-stopped : goal.returns-in_err-scratch-clause-stopped
 returns-in_err-scratch-clause-stopped g c =
@@ -42,3 +45,6 @@ returns-clause-went g c = rw (← c.self.view_is) c.arrive.ensures.went
 
 pub returns-clause-stopped : goal.returns-clause-stopped
 returns-clause-stopped g c = rw (← c.self.view_is) c.arrive.ensures.stopped
+
+pub invariant_of-self-2 : goal.invariant_of-self-2
+invariant_of-self-2 g c = (c.self.invariant.0, rw c.in_ok-course.ensures.motion at c.turns_alone-done.ensures.tiling)

@@ -1,5 +1,6 @@
-use Rattle.std.proofs.Common.{◌≡◌, ℕ, ◌<◌, ◌≤◌, get_or, []}
+use Rattle.std.proofs.Common.{◌≡◌, ℕ, ◌<◌, ◌≤◌, get_or}
 use Rattle.std.specs.Prelude.{slice_index}
+use Rattle.ring_box.specs.Places.{nowhere}
 use Rattle.integrator.specs.Frames.{next_places}
 use Rattle.engine.specs.Rounds.{forces_in}
 use Rattle.engine.specs.SafeKernels.{safe_dynamics}
@@ -9,6 +10,6 @@ use Rattle.engine.proofs.safe_systems.SafeSystem.advance.Given as goal
 abbrev pub invariant-loop-atom : goal.invariant-loop-atom
 invariant-loop-atom g l =
     record {
-      moved : (k : ℕ) → k < l.atom → get_or l.before k [] ≡ next_places (safe_dynamics l.self.system) (slice_index l.self.system.masses.items k) (get_or l.fn.before k []) (get_or l.middle k []) (forces_in l.sums k);
-      kept : (k : ℕ) → l.atom ≤ k → get_or l.before k [] ≡ get_or l.fn.before k [];
+      moved : (k : ℕ) → k < l.atom → get_or l.before k nowhere ≡ next_places (safe_dynamics l.self.system) (slice_index l.self.system.masses.items k) (get_or l.fn.before k nowhere) (get_or l.middle k nowhere) (forces_in l.sums k);
+      kept : (k : ℕ) → l.atom ≤ k → get_or l.before k nowhere ≡ get_or l.fn.before k nowhere;
     }

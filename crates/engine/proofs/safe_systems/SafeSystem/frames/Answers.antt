@@ -1,5 +1,4 @@
-use Rattle.std.proofs.Common.{length, ap, refl, sym, ◌∙◌}
-use Rattle.std.proofs.lemmas.List.{length-map}
+use Rattle.std.proofs.Common.{refl, sym, ◌∙◌}
 use Rattle.integrator.proofs.StateLaws.{current_frame-views, previous_frame-views}
 use Rattle.engine.proofs.safe_systems.SafeSystem.frames.Goals as goal
 
@@ -16,15 +15,3 @@ returns-in-Back-clause-frames g c =
     let previous = rw c.deref.ensures.value at c.in_ok-previous.ensures ∙ sym (previous_frame-views atoms) in
     let current = rw c.deref-2.ensures.value at c.in_ok-current.ensures ∙ sym (current_frame-views atoms) in
     rw (c.in-Back.is, ← previous, ← current) refl
-
-pub returns-in-Forward-clause-before : goal.returns-in-Forward-clause-before
-returns-in-Forward-clause-before g c = ap length (rw c.deref.ensures.value at c.in_ok-previous.ensures) ∙ length-map c.args.state.now.atoms.items (λ a. a.previous)
-
-pub returns-in-Forward-clause-middle : goal.returns-in-Forward-clause-middle
-returns-in-Forward-clause-middle g c = ap length (rw c.deref-2.ensures.value at c.in_ok-current.ensures) ∙ length-map c.args.state.now.atoms.items (λ a. a.current)
-
-pub returns-in-Back-clause-before : goal.returns-in-Back-clause-before
-returns-in-Back-clause-before g c = ap length (rw c.deref-2.ensures.value at c.in_ok-current.ensures) ∙ length-map c.args.state.now.atoms.items (λ a. a.current)
-
-pub returns-in-Back-clause-middle : goal.returns-in-Back-clause-middle
-returns-in-Back-clause-middle g c = ap length (rw c.deref.ensures.value at c.in_ok-previous.ensures) ∙ length-map c.args.state.now.atoms.items (λ a. a.previous)

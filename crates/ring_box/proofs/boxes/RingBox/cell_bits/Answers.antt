@@ -1,9 +1,9 @@
-use Rattle.std.proofs.Common.{rules, [], ◌∷◌}
-use Rattle.ring_box.specs.Cells.{AreCellBits}
+use Rattle.std.proofs.Common.{rules}
+use Rattle.ring_box.specs.declared.vectors.CellBits.{CellBits}
 use Rattle.ring_box.proofs.CellLemmas.{near_are_neighbours}
 use Rattle.ring_box.proofs.boxes.RingBox.cell_bits.Goals as goal
 
 pub returns-clause-neighbours : goal.returns-clause-neighbours
 returns-clause-neighbours c =
-    let t : AreCellBits c.args.frac c.args.self.now c.args.cutoff (c.axis_bits.result ∷ c.axis_bits-2.result ∷ c.axis_bits-3.result ∷ []) = search rules in
-    near_are_neighbours c.args.frac c.args.self.now c.args.cutoff (c.axis_bits.result ∷ c.axis_bits-2.result ∷ c.axis_bits-3.result ∷ []) c.requires.positive t
+    let bits : CellBits = record { x = c.axis_bits.result; y = c.axis_bits-2.result; z = c.axis_bits-3.result } in
+    near_are_neighbours c.args.frac c.args.self.now c.args.cutoff bits c.requires.positive (search rules)

@@ -12,33 +12,33 @@ use Rattle.ring_box.proofs.boxes.RingBox.pair_force.Goals as goal
 pub minus_slope-minus_slope-requires : goal.minus_slope-minus_slope-requires
 minus_slope-minus_slope-requires g c =
     let d : Reach = record { frac = c.args.frac; core = c.args.core; cutoff = c.args.cutoff } in
-    let found : acting_of d c.args.self.now c.args.x c.args.y ≡ Some c.in_ok-acting.acting = search rules in
-    let t = taken d c.args.self.now c.args.x c.args.y c.in_ok-acting.acting found in
+    let found : acting_of d c.args.self.now c.args.p c.args.q ≡ Some c.in_ok-acting.acting = search rules in
+    let t = taken d c.args.self.now c.args.p c.args.q c.in_ok-acting.acting found in
     rw (c.distance.ensures, t.1) (c.requires.takes _ (max_low _ c.args.core) (max_high _ c.args.core c.args.cutoff t.0 c.requires.order))
 
 pub returns-clause-value : goal.returns-clause-value
 returns-clause-value g c =
     let d : Reach = record { frac = c.args.frac; core = c.args.core; cutoff = c.args.cutoff } in
     let m = g.P.PairForce.slope (g.P.PairForce.held c.args.f.now) c.args.a c.args.b in
-    let found : acting_of d c.args.self.now c.args.x c.args.y ≡ Some c.in_ok-acting.acting = search rules in
+    let found : acting_of d c.args.self.now c.args.p c.args.q ≡ Some c.in_ok-acting.acting = search rules in
     let slope : c.minus_slope-minus_slope.result ≡ m c.in_ok-acting.acting.distance = rw (← c.distance.ensures) c.minus_slope-minus_slope.ensures.value in
-    whole d c.args.self.now m c.args.x c.args.y c.in_ok-acting.acting c.force.result found (rw (← slope) c.force.ensures.value)
+    whole d c.args.self.now m c.args.p c.args.q c.in_ok-acting.acting c.force.result found (rw (← slope) c.force.ensures.value)
 
 pub returns-clause-far : goal.returns-clause-far
 returns-clause-far g c =
     let d : Reach = record { frac = c.args.frac; core = c.args.core; cutoff = c.args.cutoff } in
-    let found : acting_of d c.args.self.now c.args.x c.args.y ≡ Some c.in_ok-acting.acting = search rules in
-    let t = taken d c.args.self.now c.args.x c.args.y c.in_ok-acting.acting found in
-    let l : pos (distance_at c.args.frac (square_of c.args.self.now c.args.x c.args.y)) <ℤ c.args.cutoff = below_cutoff _ c.args.cutoff t.0 in
+    let found : acting_of d c.args.self.now c.args.p c.args.q ≡ Some c.in_ok-acting.acting = search rules in
+    let t = taken d c.args.self.now c.args.p c.args.q c.in_ok-acting.acting found in
+    let l : pos (distance_at c.args.frac (square_of c.args.self.now c.args.p c.args.q)) <ℤ c.args.cutoff = below_cutoff _ c.args.cutoff t.0 in
     (λ e. absurd (true≢false e), λ h. absurd (omega (arith, ints, l, h)))
 
 pub returns-clause-bound : goal.returns-clause-bound
 returns-clause-bound g c =
     let d : Reach = record { frac = c.args.frac; core = c.args.core; cutoff = c.args.cutoff } in
     let m = g.P.PairForce.slope (g.P.PairForce.held c.args.f.now) c.args.a c.args.b in
-    let found : acting_of d c.args.self.now c.args.x c.args.y ≡ Some c.in_ok-acting.acting = search rules in
-    let t = taken d c.args.self.now c.args.x c.args.y c.in_ok-acting.acting found in
-    let slope : c.minus_slope-minus_slope.result ≡ m (taken_distance_of c.args.frac c.args.self.now c.args.core c.args.x c.args.y) =
+    let found : acting_of d c.args.self.now c.args.p c.args.q ≡ Some c.in_ok-acting.acting = search rules in
+    let t = taken d c.args.self.now c.args.p c.args.q c.in_ok-acting.acting found in
+    let slope : c.minus_slope-minus_slope.result ≡ m (taken_distance_of c.args.frac c.args.self.now c.args.core c.args.p c.args.q) =
     rw (← t.1, ← c.distance.ensures) c.minus_slope-minus_slope.ensures.value in
     rw (← slope) c.force.ensures.bound
 

@@ -1,60 +1,39 @@
-use Rattle.std.proofs.Common.{◌≡◌, List, ℕ, ◌++◌, ◌∙◌, ap, sym, length, arith}
+use Rattle.std.proofs.Common.{◌≡◌, ◌∙◌, arith}
 use Rattle.std.proofs.lemmas.List.{length-map}
-use Rattle.std.proofs.lemmas.Result.{on_ok_weaker, on_err_weaker}
-use Rattle.fallible.proofs.Appends.{appended_after, beginning_of_more, beginning_after, beginning_between, OnErr_of}
-use Rattle.state.specs.StateText.{StateView, IsState, atom_lines}
+use Rattle.std.proofs.lemmas.Result.{on_ok_weaker}
+use Rattle.fallible.proofs.Appends.{at_last, hands_on, has_all}
+use Rattle.state.specs.StateText.{IsState, atom_lines}
 use Rattle.state.specs.StateViews.{atom_view, state_view}
-use Rattle.state.specs.Middle.{front, middle}
-use Rattle.state.proofs.Pieces.{in_pieces}
+use Rattle.state.specs.Middle.{front}
+use Rattle.state.proofs.Pieces.{fields, from_fields, from_title, in_pieces, front_written, title_written, fields_written}
 use Rattle.state.proofs.StateReadsAgain.{state_reads_again}
 use Rattle.state.proofs.states.State.write.Goals as goal
 
-abbrev fields : StateView → List ℕ
-fields s = middle s.step s.frac (length s.atoms) s.sides
-
-pub returns-in_err-write_all-clause-fault_taken : goal.returns-in_err-write_all-clause-fault_taken
-returns-in_err-write_all-clause-fault_taken g c =
+pub returns-in_err-write_all-clause-writes : goal.returns-in_err-write_all-clause-writes
+returns-in_err-write_all-clause-writes g c =
     let s = state_view c.args.self.now in
-    OnErr_of c.from_residual.result (rw (in_pieces s)
-    (beginning_of_more _ _ (front s.frac ++ s.title ++ fields s) (atom_lines s.atoms)
-    (beginning_of_more _ _ (front s.frac ++ s.title) (fields s)
-    (beginning_of_more _ _ (front s.frac) s.title (rw c.front.ensures at c.in_err-write_all.ensures.fault_taken)))))
+    hands_on _ (front s.frac) (from_title s) c.from_residual.result c.from_residual.ensures.1 (has_all _ (in_pieces s)) (rw c.front.ensures at c.in_err-write_all.ensures)
 
-pub returns-in_err-write_all-2-clause-fault_taken : goal.returns-in_err-write_all-2-clause-fault_taken
-returns-in_err-write_all-2-clause-fault_taken g c =
+pub returns-in_err-write_all-2-clause-writes : goal.returns-in_err-write_all-2-clause-writes
+returns-in_err-write_all-2-clause-writes g c =
     let s = state_view c.args.self.now in
-    OnErr_of c.from_residual-in_err-write_all-2.result (rw (in_pieces s)
-    (beginning_of_more _ _ (front s.frac ++ s.title ++ fields s) (atom_lines s.atoms)
-    (beginning_between _ _ _ (front s.frac) s.title (fields s) (rw c.front.ensures at c.in_ok-write_all.ensures.taken) (rw c.deref.ensures.value at c.in_err-write_all-2.ensures.fault_taken))))
+    hands_on _ s.title (from_fields s) c.from_residual-in_err-write_all-2.result c.from_residual-in_err-write_all-2.ensures.1
+    (front_written s (rw c.front.ensures at c.in_ok-write_all.ensures)) (rw c.deref.ensures.value at c.in_err-write_all-2.ensures)
 
-pub returns-in_err-write_all-3-clause-fault_taken : goal.returns-in_err-write_all-3-clause-fault_taken
-returns-in_err-write_all-3-clause-fault_taken g c =
+pub returns-in_err-write_all-3-clause-writes : goal.returns-in_err-write_all-3-clause-writes
+returns-in_err-write_all-3-clause-writes g c =
     let s = state_view c.args.self.now in
-    let titled = appended_after _ _ _ (front s.frac) s.title (rw c.front.ensures at c.in_ok-write_all.ensures.taken) (rw c.deref.ensures.value at c.in_ok-write_all-2.ensures.taken) in
-    let line : c.as_slice.result.now ≡ fields s =
-    c.as_slice.ensures.value ∙ c.middle_line-line.ensures.items ∙ ap (λ n. middle s.step s.frac n s.sides) (sym (length-map c.args.self.now.atoms.items atom_view)) in
-    OnErr_of c.from_residual-in_err-write_all-3.result (rw (in_pieces s)
-    (beginning_between _ _ _ (front s.frac ++ s.title) (fields s) (atom_lines s.atoms) titled (rw line at c.in_err-write_all-3.ensures.fault_taken)))
+    let line : c.as_slice.result.now ≡ fields s = c.as_slice.ensures.value ∙ c.middle_line-line.ensures.items in
+    hands_on _ (fields s) (atom_lines s.atoms) c.from_residual-in_err-write_all-3.result c.from_residual-in_err-write_all-3.ensures.1
+    (title_written s (rw c.front.ensures at c.in_ok-write_all.ensures) (rw c.deref.ensures.value at c.in_ok-write_all-2.ensures)) (rw line at c.in_err-write_all-3.ensures)
 
-pub returns-clause-taken : goal.returns-clause-taken
-returns-clause-taken g c =
+pub returns-clause-writes : goal.returns-clause-writes
+returns-clause-writes g c =
     let s = state_view c.args.self.now in
-    let titled = appended_after _ _ _ (front s.frac) s.title (rw c.front.ensures at c.in_ok-write_all.ensures.taken) (rw c.deref.ensures.value at c.in_ok-write_all-2.ensures.taken) in
-    let line : c.as_slice.result.now ≡ fields s =
-    c.as_slice.ensures.value ∙ c.middle_line-line.ensures.items ∙ ap (λ n. middle s.step s.frac n s.sides) (sym (length-map c.args.self.now.atoms.items atom_view)) in
-    let more = appended_after _ _ _ (front s.frac ++ s.title) (fields s) titled (rw line at c.in_ok-write_all-3.ensures.taken) in
-    on_ok_weaker c.write_atoms.result
-    (λ e. rw (in_pieces s) (appended_after _ _ _ (front s.frac ++ s.title ++ fields s) (atom_lines s.atoms) more (rw c.as_slice-2.ensures.value at e))) c.write_atoms.ensures.taken
-
-pub returns-clause-fault_taken : goal.returns-clause-fault_taken
-returns-clause-fault_taken g c =
-    let s = state_view c.args.self.now in
-    let titled = appended_after _ _ _ (front s.frac) s.title (rw c.front.ensures at c.in_ok-write_all.ensures.taken) (rw c.deref.ensures.value at c.in_ok-write_all-2.ensures.taken) in
-    let line : c.as_slice.result.now ≡ fields s =
-    c.as_slice.ensures.value ∙ c.middle_line-line.ensures.items ∙ ap (λ n. middle s.step s.frac n s.sides) (sym (length-map c.args.self.now.atoms.items atom_view)) in
-    let more = appended_after _ _ _ (front s.frac ++ s.title) (fields s) titled (rw line at c.in_ok-write_all-3.ensures.taken) in
-    on_err_weaker c.write_atoms.result
-    (λ e. rw (in_pieces s) (beginning_after _ _ _ (front s.frac ++ s.title ++ fields s) (atom_lines s.atoms) more (rw c.as_slice-2.ensures.value at e))) c.write_atoms.ensures.fault_taken
+    let line : c.as_slice.result.now ≡ fields s = c.as_slice.ensures.value ∙ c.middle_line-line.ensures.items in
+    at_last _ (atom_lines s.atoms) c.write_atoms.result
+    (fields_written s (rw c.front.ensures at c.in_ok-write_all.ensures) (rw c.deref.ensures.value at c.in_ok-write_all-2.ensures) (rw line at c.in_ok-write_all-3.ensures))
+    (rw c.as_slice-2.ensures.value at c.write_atoms.ensures.writes)
 
 pub returns-clause-again : goal.returns-clause-again
 returns-clause-again g c =

@@ -1,0 +1,128 @@
+-- The model's runs and the headline's page are one: what a run writes is on the page, and what is on the page a run writes, where the energy's slope isn't too large.
+use Rattle.std.proofs.Common.{◌≡◌, ℕ, suc, ◌<◌, ◌*◌, ◌^◌, Bool, true, false, List, [], ◌∷◌, length, get_or, Option, Some, None, Ok, ℤ, arith, refl, ap, sym, subst, ◌∙◌}
+use Rattle.std.specs.Prelude.{map, bytes_eq, unsigned_abs, if◌then◌else◌}
+use Rattle.std.specs.List.{All}
+use Rattle.std.proofs.lemmas.Bool.{and_from, eq-eqb, le-leb, lt-ltb}
+use Rattle.std.proofs.lemmas.List.Elements.{All-head, All-tail}
+use Rattle.std.proofs.lemmas.List.Sums.{position_or_len_is}
+use Rattle.std.proofs.lemmas.Slice.Eq.{bytes_eq-Decides}
+use Rattle.fixed.specs.Arithmetic.{in_range}
+use Rattle.fixed.specs.Fractions.{bits_of}
+use Rattle.energy_program.specs.Tree.{Tree}
+use Rattle.job.specs.JobText.{AreApart, HasNamesOnce, limits, reading_of}
+use Rattle.job.specs.Values.{JobValue, TypeValue}
+use Rattle.job.proofs.ApartLemmas.{names_once}
+use Rattle.job.proofs.TextLemmas.{reading_again, reading_ok}
+use Rattle.state.specs.StateText.{AtomView, StateView}
+use Rattle.state.proofs.StateReadsAgain.{one_text}
+use Rattle.integrator.specs.Energies.{energy_of}
+use Rattle.integrator.specs.Frames.{turns}
+use Rattle.integrator.specs.Runs.{IsAfter}
+use Rattle.integrator.specs.Starts.{are_alike, as_written, atom_types, has_room, no_type, plain, ring_of, start_at, type_with}
+use Rattle.integrator.specs.States.{counter_after, counter_at, frames_of}
+use Rattle.integrator.specs.declared.direction.Direction.{Direction}
+use Rattle.integrator.proofs.Constructors.{ok_same}
+use Rattle.integrator.proofs.ReturnLaws.{in_range_is, parts_of, start_from}
+use Rattle.integrator.proofs.StartLaws.{started}
+use Rattle.engine.specs.Engines.{AreReadOnce, SaysOnly}
+use Rattle.engine.specs.Headline.{HasRoom, IsLevesqueVerletRun, box_of}
+use Rattle.engine.specs.Turns.{RunsAreTold, ToldAreRun}
+use Rattle.engine.proofs.EngineLaws.{job_tree_is}
+use Rattle.engine.proofs.HeadlineLaws.{only_told, told}
+use Rattle.engine.proofs.HeadlineSteps.{led_to}
+use Rattle.engine.proofs.HeadlineTexts.{moved_again, one_type, says_energy}
+
+-- ---- runs are on the page
+
+names_of_text : (job : List ℕ) (j : JobValue) → reading_of limits job ≡ Ok j → HasNamesOnce j
+names_of_text job j read = let t = reading_ok limits job j read in names_once limits j.frac t.lines j t.faultless t.tells
+
+-- texts that have a run are read in one way
+read_once : (job state : List ℕ) (w : Direction) (n : ℕ) (after : StateView) → IsAfter plain job state w n after → AreReadOnce job state
+read_once job state w n after ran =
+    let p = parts_of plain job state w n ran.start ran.starts in
+    record {
+      j = p.j;
+      s = p.s;
+      job_read = p.job_read;
+      state_read = p.state_read;
+      it = (names_of_text job p.j p.job_read, subst (SaysOnly p.j) (sym (job_tree_is p.j p.energy p.energy_read)) (says_energy p.j p.energy p.energy_read));
+    }
+
+pub runs_are_told : RunsAreTold
+runs_are_told job state w n text r =
+    let ran : IsAfter plain job state w n r.after = record { start = r.start; starts = r.starts; ran = r.ran } in
+    let once = read_once job state w n r.after ran in
+    (subst (IsLevesqueVerletRun job state w n) (sym r.written) (told job state w n r.after once ran), λ other h. only_told job state w n r.after once ran other h ∙ sym r.written)
+
+-- ---- what is on the page is a run
+
+unequal : (a b : List ℕ) → (a ≡ b → ⊥) → bytes_eq a b ≡ false
+unequal a b differ = at (bytes_eq a b) (bytes_eq-Decides a b).0
+  where
+    at : (c : Bool) → (c ≡ true → a ≡ b) → c ≡ false
+    at true is = absurd (differ (is refl))
+    at false is = refl
+
+module _ (j : JobValue) (apart : AreApart (map (λ t. t.name) j.types)) where
+  abbrev type_name : ℕ → List ℕ
+  type_name t = (get_or j.types t no_type).name
+
+  abbrev IsKnown : ℕ → Type 0
+  IsKnown t = t < length j.types
+
+  -- a type is found by its name
+  found_again : (name : List ℕ) (t : ℕ) → IsKnown t → type_name t ≡ name → type_with j.types name ≡ Some t
+  found_again name t l e =
+      let first = position_or_len_is (λ (u : TypeValue). bytes_eq u.name name) j.types t no_type (omega (arith, l))
+      (λ k below. unequal (type_name k) name (λ same. let one = one_type j apart k t (omega (arith, l, below)) l (same ∙ sym e) in omega (arith, one, below)))
+      (λ within. (bytes_eq-Decides (type_name t) name).1 e) in
+      rw (first, lt-ltb t (length j.types) l) refl
+
+  parts_same : {X : Type 0} (x y : X) (xs ys : List X) → x ∷ xs ≡ y ∷ ys → (x ≡ y) × (xs ≡ ys)
+  parts_same x y xs ys e = (cc, cc)
+
+  -- types that have the atoms' names are those that are found
+  types_again : (k : ℕ) (atoms : List AtomView) (types : List ℕ) → All IsKnown types → map type_name types ≡ map (λ a. a.name) atoms → atom_types j.types k atoms ≡ Ok types
+  unfolding atom_types
+  types_again k [] [] h e = refl
+  types_again k [] (t ∷ ts) h e = absurd cc
+  types_again k (a ∷ atoms) [] h e = absurd cc
+  types_again k (a ∷ atoms) (t ∷ ts) h e =
+      let e' = parts_same (type_name t) a.name (map type_name ts) (map (λ a. a.name) atoms) e in
+      rw (found_again a.name t (All-head IsKnown t ts h) e'.0, types_again (suc k) atoms ts (All-tail IsKnown t ts h) e'.1) refl
+
+room_again : (j : JobValue) (sides : List ℕ) → HasRoom j (box_of sides).x × HasRoom j (box_of sides).y × HasRoom j (box_of sides).z → has_room j.frac j.cutoff (ring_of sides) ≡ true
+room_again j sides h =
+    let ring = ring_of sides in
+    let two = 200000 * unsigned_abs j.cutoff in
+    and_from _ _ (le-leb two (ring.x * 2 ^ bits_of j.frac) h.0) (and_from _ _ (le-leb two (ring.y * 2 ^ bits_of j.frac) h.1) (le-leb two (ring.z * 2 ^ bits_of j.frac) h.2))
+
+counted_again : (z k : ℤ) → k ≡ z → in_range k ≡ true → ◌≡◌ {A = Option ℤ} (if in_range z then Some z else None) (Some k)
+counted_again z k e h = rw (← e, h) refl
+
+pub told_are_run : ToldAreRun
+told_are_run job state w n text j energy job_read energy_read r =
+    let s = r.before in
+    let t = r.after in
+    let same : r.j ≡ j = ok_same r.j j (sym (reading_again limits job r.j r.job_text) ∙ job_read) in
+    let read : reading_of limits job ≡ Ok r.j = reading_again limits job r.j r.job_text in
+    let made : energy_of r.j ≡ Ok energy = ap energy_of same ∙ energy_read in
+    let tree : r.tree ≡ energy.tree = (says_energy r.j energy made).only r.tree r.energy in
+    let led = led_to w r.j r.tree r.types n s t r.leads in
+    let typed = types_again r.j (names_of_text job r.j read).types 1 s.atoms r.types r.typed.known r.typed.named in
+    let alike : are_alike r.j.frac s.frac ≡ true = ap (are_alike r.j.frac) r.alike ∙ eq-eqb (bits_of r.j.frac) (bits_of r.j.frac) refl in
+    let counted : counter_after w s.step n ≡ Some t.step = counted_again (counter_at w s.step n) t.step led.1 (in_range_is t.step r.after_text.fits.step) in
+    record {
+      start = start_at plain r.j s (energy, r.types) t.step;
+      starts =
+          start_from plain job state w n r.j s read ((one_text state s).1 (r.state_text'.fits, r.state_text'.is))
+          ∙ started plain w n r.j s energy r.types t.step made typed alike (room_again r.j s.sides r.room) counted;
+      after = t;
+      ran = record {
+        frames' = frames_of t;
+        turned = ap (λ (x : Tree). turns w (as_written r.j s.sides x r.types) n (frames_of s)) (sym tree) ∙ led.0;
+        moved = moved_again s t r.same r.kept;
+      };
+      written = r.after_text.is;
+    }

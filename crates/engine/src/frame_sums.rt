@@ -1,0 +1,136 @@
+//! The sums of the forces on the atoms of a frame, on the caller's thread or by a pool's workers.
+
+ghost use Rattle.std.specs.Prelude.{◌≡◌};
+
+use crate::frame_works::FrameWork;
+use crate::pools::{Crew, Pool};
+use crate::rows::Scratch;
+use crate::safe_systems::SafeSystem;
+use cell_tiles::{Cells, Grid, Tiles};
+use ring_box::Place3;
+use std::alloc::{AllocError, Allocator};
+use std::thread::Threads;
+use tile_pool::{Forces, Gate, forces_alone};
+use tile_round::Memory;
+
+/// The cells of a box and their tiles.
+#[derive(Drop)]
+pub(crate) struct Tiling<A: Allocator + Copy> {
+    pub tiles: Tiles<A>,
+    pub cells: Cells<A>,
+    pub ghost alike: { cells.bits ≡ tiles.grid.bits },
+}
+
+/// What sums are made with: the cells of a box, and what the caller alone, or each of a pool's workers, keeps at hand.
+#[derive(Drop)]
+pub(crate) struct Desk<A: Allocator + Copy, S: Drop> {
+    pub tiling: Tiling<A>,
+    pub scratch: S,
+}
+
+impl<A: Allocator + Copy> SafeSystem<A> {
+    ghost use Rattle.std.specs.Prelude.{◌≡◌, length, IfOk, IfSome, OnOk};
+    ghost use Rattle.std.specs.List.{All};
+    ghost use Rattle.cell_tiles.specs.Cells.{member_places, members_of};
+    ghost use Rattle.ring_box.specs.Places.{ArePlaces};
+    ghost use Rattle.engine.specs.Rounds.{AreForces, grid_of};
+    ghost use Rattle.engine.specs.Tilings.{IsTilingOf};
+
+    /// The cells of the system's box and their tiles.
+    pub(crate) fn tiling(&self, alloc: A) -> Result<Tiling<A>, AllocError>
+        ensures { IfOk result (IsTilingOf self.now.system) }
+    {
+        let system = &self.system;
+        let grid = Grid::new(system.ring.cell_bits(system.frac, system.cutoff));
+        let tiles = Tiles::new(alloc, grid)?;
+        let cells = Cells::new(alloc, grid)?;
+        Ok(Tiling { tiles, cells })
+    }
+
+    /// The same, or those that are kept.
+    pub(crate) fn kept_tiling(
+        &self,
+        alloc: A,
+        kept: Option<Tiling<A>>,
+    ) -> Result<Tiling<A>, AllocError>
+        requires { IfSome kept (IsTilingOf self.now.system) }
+        ensures { IfOk result (IsTilingOf self.now.system) }
+    {
+        match kept {
+            Some(tiling) => Ok(tiling),
+            None => self.tiling(alloc),
+        }
+    }
+
+    /// Puts the atoms of a frame into their cells.
+    pub(crate) fn fill(&self, tiling: &mut Tiling<A>, frame: &[Place3]) -> Result<(), AllocError>
+        requires atoms { length frame.now ≡ length self.now.system.masses.items }
+        requires tiling { IsTilingOf self.now.system tiling.old }
+        ensures members { OnOk result (tiling.new.cells.members ≡ members_of (grid_of self.now.system) frame.now) }
+        ensures beside { OnOk result (tiling.new.cells.places ≡ member_places frame.now tiling.new.cells.members) }
+        ensures places { OnOk result (All ArePlaces frame.now) }
+        ensures tiling { IsTilingOf self.now.system tiling.new }
+    {
+        tiling.cells.fill(frame)?;
+        Ok(())
+    }
+
+    /// The pairs of a frame whose atoms stand in these cells.
+    pub(crate) fn work<'a>(&'a self, tiling: &'a Tiling<A>, frame: &'a [Place3]) -> FrameWork<'a, A>
+        requires atoms { length frame.now ≡ length self.now.system.masses.items }
+        requires tiling { IsTilingOf self.now.system tiling.now }
+        requires places { All ArePlaces frame.now }
+        requires members { tiling.now.cells.members ≡ members_of (grid_of self.now.system) frame.now }
+        requires beside { tiling.now.cells.places ≡ member_places frame.now tiling.now.cells.members }
+        ensures motion { result.motion.now ≡ self.now }
+        ensures frame { result.frame.now ≡ frame.now }
+    {
+        FrameWork {
+            motion: self,
+            frame,
+            tiles: &tiling.tiles,
+            cells: &tiling.cells,
+        }
+    }
+
+    /// The sums of the forces on the atoms of a frame, on the caller's thread.
+    pub(crate) fn sums_alone<B: Allocator>(
+        &self,
+        alloc: A,
+        desk: &mut Desk<A, Scratch<B>>,
+        frame: &[Place3],
+    ) -> Result<Forces<A>, Memory>
+        requires atoms { length frame.now ≡ length self.now.system.masses.items }
+        requires tiling { IsTilingOf self.now.system desk.old.tiling }
+        ensures forces { IfOk result (AreForces self.now.system frame.now) }
+        ensures tiling { IsTilingOf self.now.system desk.new.tiling }
+    {
+        self.fill(&mut desk.tiling, frame)?;
+        let work = self.work(&desk.tiling, frame);
+        forces_alone(alloc, &work, &mut desk.scratch, work.frame.len() as u32)
+    }
+}
+
+impl<A: Allocator + Copy + Sync> SafeSystem<A> {
+    ghost use Rattle.std.specs.Prelude.{◌≡◌, length, IfOk};
+    ghost use Rattle.engine.specs.Rounds.{AreForces};
+    ghost use Rattle.engine.specs.Tilings.{IsTilingOf};
+
+    /// The same by a pool's workers: at most one for each scratch, and no more than there are tiles with pairs.
+    pub(crate) fn sums_pooled<R: Threads + Sync, G: Gate + Sync, B: Allocator + Send>(
+        &self,
+        alloc: A,
+        pool: &Pool<R, G>,
+        desk: &mut Desk<A, Crew<B>>,
+        frame: &[Place3],
+    ) -> Result<Forces<A>, Memory>
+        requires atoms { length frame.now ≡ length self.now.system.masses.items }
+        requires tiling { IsTilingOf self.now.system desk.old.tiling }
+        ensures forces { IfOk result (AreForces self.now.system frame.now) }
+        ensures tiling { IsTilingOf self.now.system desk.new.tiling }
+    {
+        self.fill(&mut desk.tiling, frame)?;
+        let work = self.work(&desk.tiling, frame);
+        pool.sums(alloc, &work, &mut desk.scratch)
+    }
+}

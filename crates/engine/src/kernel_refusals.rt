@@ -1,0 +1,27 @@
+//! Why the verifier refuses a job's code, told with the names of the job's types.
+
+use line_text::Name;
+use std::error::Error;
+use std::fmt;
+use verifier::VerifyFault;
+
+/// A refusal of the verifier. It prints as the verifier's own, with the types' names in place of their numbers, as in
+/// `V2 Fault AR AR r 858993459 pc 2 F2 ZeroDivisor`.
+#[derive(Clone, Copy, Debug)]
+pub struct KernelRefusal {
+    /// What the verifier found. Its types are numbers of the job's, counted from 0.
+    pub fault: VerifyFault,
+    /// The names of these types, where the fault speaks of two.
+    pub types: Option<(Name, Name)>,
+}
+
+impl fmt::Display for KernelRefusal {
+    fn fmt<W: fmt::Write>(&self, f: &mut fmt::Formatter<W>) -> fmt::Result {
+        match self.types {
+            Some((first, second)) => self.fault.tell(f, first, second),
+            None => self.fault.fmt(f),
+        }
+    }
+}
+
+impl Error for KernelRefusal {}
