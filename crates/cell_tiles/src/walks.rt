@@ -9,21 +9,21 @@ use std::marker::Model;
 
 // Where a pair stands: its row and column, and how many columns the row has.
 #[derive(Clone, Copy)]
-struct Place {
+struct WalkPlace {
     row: u64,
     column: u64,
     width: u64,
 }
 
 // The beginning of the next row. Each row of one cell has a column more than the row before it.
-fn next_row(place: Place, one_cell: bool) -> Place
+fn next_row(place: WalkPlace, one_cell: bool) -> WalkPlace
     requires { place.row < 65536 }
     ensures row { result.row ≡ place.row + 1 }
     ensures column { result.column ≡ 0 }
     ensures width { (ys : List ℕ) → place.width ≡ width_of one_cell ys place.row → result.width ≡ width_of one_cell ys (place.row + 1) }
 {
     let row = place.row + 1;
-    Place {
+    WalkPlace {
         row,
         column: 0,
         width: if one_cell { row } else { place.width },
@@ -54,7 +54,7 @@ pub struct TileRows<'a> {
     atoms: &'a [u32],
     others: &'a [u32],
     one_cell: bool,
-    place: Place,
+    place: WalkPlace,
     left: u64,
 }
 
@@ -79,7 +79,7 @@ pub(crate) fn walk_among(atoms: &[u32], k: u64) -> TileRows<'_>
         atoms,
         others: atoms,
         one_cell: true,
-        place: Place {
+        place: WalkPlace {
             row,
             column,
             width: row,
@@ -105,7 +105,7 @@ pub(crate) fn walk_between<'a>(atoms: &'a [u32], others: &'a [u32], k: u64) -> T
         atoms,
         others,
         one_cell: false,
-        place: Place { row, column, width },
+        place: WalkPlace { row, column, width },
         left: count_between(atoms, others) - k,
     }
 }

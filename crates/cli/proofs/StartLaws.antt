@@ -10,7 +10,7 @@ use Rattle.gro.specs.Frames.{FrameView}
 use Rattle.gro.specs.GroReading.{frames_of}
 use Rattle.job.specs.Values.{JobValue}
 use Rattle.ring_box.specs.declared.faults.BoxFault.{BoxFault}
-use Rattle.state.specs.Starts.{start_of}
+use Rattle.state.specs.Starts.{start_of_frame}
 use Rattle.cli.specs.Conversions.{IsFrameOf}
 use Rattle.cli.specs.Failures.{command_fault}
 use Rattle.cli.specs.Refusals.{RefusesFrame}
@@ -27,7 +27,7 @@ picked view frames number f is = record {
 
 -- a frame that is there is refused for its box, or memory is wanted for its state
 pub box_refused : (A : Type 0) (gro : List ℕ) (number : ℕ) (job : JobValue) (frames : List FrameView) (frame : FrameView) (failure : Failure BoxFault) → frames_of gro ≡ Ok frames
-    → IsFrameOf frames number frame → Fails (λ f. f) failure (start_of job.frac job.time_step frame) → RefusesFrame {A = A} gro number job (command_fault fault.Box failure)
+    → IsFrameOf frames number frame → Fails (λ f. f) failure (start_of_frame job.frac job.time_step frame) → RefusesFrame {A = A} gro number job (command_fault fault.Box failure)
 box_refused A gro number job frames frame (Refused f) gro_read is h = record { frames = frames; frame = frame; gro_read = gro_read; picked = is; refused = h }
 box_refused A gro number job frames frame Memory gro_read is h = tt
 

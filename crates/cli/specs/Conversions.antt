@@ -9,7 +9,7 @@ use Rattle.job.specs.JobText.{reading_of, limits}
 use Rattle.job.specs.Values.{JobValue}
 use Rattle.kernel_code.specs.Listing.{listing_of}
 use Rattle.kernel_code.specs.declared.instructions.Instr.{Instr}
-use Rattle.state.specs.Starts.{start_of}
+use Rattle.state.specs.Starts.{start_of_frame}
 use Rattle.state.specs.StateFrames.{frame_of}
 use Rattle.state.specs.StateReading.{state_of}
 use Rattle.state.specs.StateText.{StateView, state_text}
@@ -26,7 +26,7 @@ pub record IsStartOf (frac : Frac) (time_step : ℕ) (gro : List ℕ) (number : 
   pub frame : FrameView
   pub gro_read : frames_of gro ≡ Ok frames
   pub picked : IsFrameOf frames number frame
-  pub started : start_of frac time_step frame ≡ Ok state
+  pub started : start_of_frame frac time_step frame ≡ Ok state
 
 -- the text of the state that begins at a frame of these texts was written
 pub record IsStartText (job gro : List ℕ) (number : ℕ) (Wrote : List ℕ → Type 0) : Type 0 where

@@ -27,7 +27,7 @@ use Rattle.job.specs.Views as jobs
 use Rattle.kernel_code.specs.ListingReading.{code_of}
 use Rattle.kernel_code.specs.declared.instructions.Instr.{Instr}
 use Rattle.ring_box.specs.declared.faults.BoxFault.{BoxFault}
-use Rattle.state.specs.Starts.{start_of}
+use Rattle.state.specs.Starts.{start_of_frame}
 use Rattle.state.specs.StateReading.{state_of}
 use Rattle.trajectory.specs.Trajectories.{AreFramesUnwritten}
 use Rattle.cli.specs.Asked.{also_asked}
@@ -64,7 +64,7 @@ pub record HasNoBox (gro : List ℕ) (number : ℕ) (job : JobValue) (f : BoxFau
   pub frame : FrameView
   pub gro_read : frames_of gro ≡ Ok frames
   pub picked : IsFrameOf frames number frame
-  pub refused : start_of job.frac job.time_step frame ≡ Err f
+  pub refused : start_of_frame job.frac job.time_step frame ≡ Err f
 
 -- the GRO text is judged first, then the number of the frame, and its box
 abbrev pub RefusesFrame : {A : Type 0} → List ℕ → ℕ → JobValue → CommandFault A → Type 0

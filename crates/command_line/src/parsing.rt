@@ -248,16 +248,16 @@ fn direction_of(name: &str) -> Option<Direction>
 }
 
 /// A command, unless memory runs out. What builds on one takes it as it is, so that no command waits while another is built.
-type Built<'a> = Result<clap::Command<'a>, AllocError>;
+type BuiltCommand<'a> = Result<clap::Command<'a>, AllocError>;
 
-fn program<'a>(alloc: Global) -> Built<'a>
+fn program<'a>(alloc: Global) -> BuiltCommand<'a>
     ensures { IfOk result (λ c. app_of c ≡ program) }
 {
     with_command(judging(alloc), listing(alloc))
 }
 
 /// The program that starts states, and runs them forwards.
-fn forward<'a>(alloc: Global) -> Built<'a>
+fn forward<'a>(alloc: Global) -> BuiltCommand<'a>
     ensures { IsBuilt result forward }
 {
     let run = stepping(alloc, "run", "Prints the state after so many steps");
@@ -265,7 +265,7 @@ fn forward<'a>(alloc: Global) -> Built<'a>
 }
 
 /// The program that runs states back too, and prints frames of runs and of states.
-fn returning<'a>(alloc: Global) -> Built<'a>
+fn returning<'a>(alloc: Global) -> BuiltCommand<'a>
     ensures { IsBuilt result returning }
 {
     let back = stepping(alloc, "back", "Prints the state so many steps back");
@@ -274,7 +274,7 @@ fn returning<'a>(alloc: Global) -> Built<'a>
 }
 
 /// The program that weighs states too, and judges code.
-fn judging<'a>(alloc: Global) -> Built<'a>
+fn judging<'a>(alloc: Global) -> BuiltCommand<'a>
     ensures { IsBuilt result judging }
 {
     with_command(
@@ -284,7 +284,7 @@ fn judging<'a>(alloc: Global) -> Built<'a>
 }
 
 /// The program without its commands.
-fn bare<'a>(alloc: Global) -> Built<'a>
+fn bare<'a>(alloc: Global) -> BuiltCommand<'a>
     ensures { IsBuilt result bare }
 {
     clap::Command::new(alloc, "pairmd")
@@ -296,7 +296,7 @@ fn bare<'a>(alloc: Global) -> Built<'a>
 }
 
 /// The command that takes a job, a GRO file and the number of a frame.
-fn starting<'a>(alloc: Global) -> Built<'a>
+fn starting<'a>(alloc: Global) -> BuiltCommand<'a>
     ensures { IsShaped result starting }
 {
     let command = of_job(
@@ -309,14 +309,14 @@ fn starting<'a>(alloc: Global) -> Built<'a>
 }
 
 /// A command that takes a job, a state, a number of steps, one of workers, and whether it tells how far it has come.
-fn stepping<'a>(alloc: Global, name: &'a str, about: &'a str) -> Built<'a>
+fn stepping<'a>(alloc: Global, name: &'a str, about: &'a str) -> BuiltCommand<'a>
     ensures { IsShaped result (stepping name.entry.now) }
 {
     stepped(alloc, name, about)
 }
 
 /// Such a command, so far.
-fn stepped<'a>(alloc: Global, name: &'a str, about: &'a str) -> Built<'a>
+fn stepped<'a>(alloc: Global, name: &'a str, about: &'a str) -> BuiltCommand<'a>
     ensures { IsBuilt result (stepped name.entry.now) }
 {
     let command = of_state(alloc, of_job(alloc, name, about));
@@ -325,7 +325,7 @@ fn stepped<'a>(alloc: Global, name: &'a str, about: &'a str) -> Built<'a>
 }
 
 /// The command that takes besides how many steps lie between frames, and whether the run goes back.
-fn filming<'a>(alloc: Global) -> Built<'a>
+fn filming<'a>(alloc: Global) -> BuiltCommand<'a>
     ensures { IsShaped result filming }
 {
     let command = stepped(alloc, "trajectory", "Prints frames of a run as a GRO file");
@@ -333,7 +333,7 @@ fn filming<'a>(alloc: Global) -> Built<'a>
 }
 
 /// The command that takes a state alone.
-fn framing<'a>(alloc: Global) -> Built<'a>
+fn framing<'a>(alloc: Global) -> BuiltCommand<'a>
     ensures { IsShaped result framing }
 {
     let command = clap::Command::new(alloc, "frame").about(
@@ -343,7 +343,7 @@ fn framing<'a>(alloc: Global) -> Built<'a>
 }
 
 /// The command that takes a job and a state.
-fn weighing<'a>(alloc: Global) -> Built<'a>
+fn weighing<'a>(alloc: Global) -> BuiltCommand<'a>
     ensures { IsShaped result weighing }
 {
     of_state(
@@ -353,7 +353,7 @@ fn weighing<'a>(alloc: Global) -> Built<'a>
 }
 
 /// The command that takes a job and may take a listing.
-fn checking<'a>(alloc: Global) -> Built<'a>
+fn checking<'a>(alloc: Global) -> BuiltCommand<'a>
     ensures { IsShaped result checking }
 {
     let command = of_job(
@@ -365,14 +365,14 @@ fn checking<'a>(alloc: Global) -> Built<'a>
 }
 
 /// The command that takes a job alone.
-fn listing<'a>(alloc: Global) -> Built<'a>
+fn listing<'a>(alloc: Global) -> BuiltCommand<'a>
     ensures { IsShaped result listing }
 {
     of_job(alloc, "code", "Prints the code of a job's slope")
 }
 
 /// A command that takes a job, so far.
-fn of_job<'a>(alloc: Global, name: &'a str, about: &'a str) -> Built<'a>
+fn of_job<'a>(alloc: Global, name: &'a str, about: &'a str) -> BuiltCommand<'a>
     ensures { IsBuilt result (with_rule (new_app name.entry.now) (path_rule (codes "JOB"))) }
 {
     let command = clap::Command::new(alloc, name).about(about);
@@ -380,14 +380,14 @@ fn of_job<'a>(alloc: Global, name: &'a str, about: &'a str) -> Built<'a>
 }
 
 /// A command that takes a state besides what it takes.
-fn of_state<'a>(alloc: Global, command: Built<'a>) -> Built<'a>
+fn of_state<'a>(alloc: Global, command: BuiltCommand<'a>) -> BuiltCommand<'a>
     ensures { (app : App) → IsBuilt command.entry app → IsBuilt result (with_rule app (path_rule (codes "STATE"))) }
 {
     with_arg(command, path(alloc, "STATE", "The file of the state"))
 }
 
 /// A command with one argument more.
-fn with_arg<'a>(command: Built<'a>, arg: Arg<'a>) -> Built<'a>
+fn with_arg<'a>(command: BuiltCommand<'a>, arg: Arg<'a>) -> BuiltCommand<'a>
     ensures { (app : App) (rule : Rule) → IsBuilt command.entry app → rule_of arg.entry ≡ rule → arg.entry.global ≡ false
         → IsBuilt result (with_rule app rule) }
 {
@@ -398,7 +398,7 @@ fn with_arg<'a>(command: Built<'a>, arg: Arg<'a>) -> Built<'a>
 }
 
 /// A program with one command more.
-fn with_command<'a>(program: Built<'a>, command: Built<'a>) -> Built<'a>
+fn with_command<'a>(program: BuiltCommand<'a>, command: BuiltCommand<'a>) -> BuiltCommand<'a>
     ensures { (app : App) (shape : Shape) → IsBuilt program.entry app → IsShaped command.entry shape
         → IsBuilt result (with_subcommand app shape) }
 {

@@ -3,7 +3,7 @@ ghost use Rattle.fallible.specs.declared.failure.Failure.TheVariants.{Refused};
 ghost use Rattle.energy_program.specs.Faults.{Says, RepeatedDefinition, ReservedName, UnknownName, WrongArgumentCount};
 ghost use Rattle.energy_program.specs.Names.{call_refusal};
 
-use crate::names::{Name, is_left_out};
+use crate::names::{EnergyName, is_left_out};
 use fallible::Failure;
 use std::alloc::{AllocError, Allocator};
 use thiserror::Error;
@@ -23,10 +23,10 @@ pub enum ExprFault<A: Allocator> {
     UnexpectedToken { at: usize },
     /// The name stands for nothing, or stands before a parenthesis and is no function's.
     #[error("E04 UnknownName {name}")]
-    UnknownName { name: Name<A> },
+    UnknownName { name: EnergyName<A> },
     /// A function stands before another number of arguments than it takes.
     #[error("E05 WrongArgumentCount {name}")]
-    WrongArgumentCount { name: Name<A> },
+    WrongArgumentCount { name: EnergyName<A> },
     /// No whole number from 1 to 32, written in digits alone, follows the `^`, with or without a minus before it and
     /// parentheses around it.
     #[error("E06 BadExponent {at}")]
@@ -36,10 +36,10 @@ pub enum ExprFault<A: Allocator> {
     NumberRange { at: usize },
     /// A name is defined twice, or stands twice among the parameters or among the globals.
     #[error("E08 RepeatedDefinition {name}")]
-    RepeatedDefinition { name: Name<A> },
+    RepeatedDefinition { name: EnergyName<A> },
     /// A variable or a reserved name is defined, or the variable has the name of another one or a reserved name.
     #[error("E09 ReservedName {name}")]
-    ReservedName { name: Name<A> },
+    ReservedName { name: EnergyName<A> },
     /// The text has more than 4,096 tokens, an operand inside more than 64 parentheses and minus signs, or more than 64
     /// definitions; there are more than 8 parameters or more than 16 globals; the program of the slope has more than 128
     /// definitions; or code has more than 16,384 instructions.
@@ -47,14 +47,14 @@ pub enum ExprFault<A: Allocator> {
     TooLarge,
     /// The function before a parenthesis is left out of the language.
     #[error("E11 LeftOutFunction {name}")]
-    LeftOutFunction { name: Name<A> },
+    LeftOutFunction { name: EnergyName<A> },
 }
 
 // The name's own copy.
-fn copied<A: Allocator + Copy>(alloc: A, name: &[u8]) -> Result<Name<A>, AllocError>
+fn copied<A: Allocator + Copy>(alloc: A, name: &[u8]) -> Result<EnergyName<A>, AllocError>
     ensures { IfOk result (λ copy. copy.bytes.items ≡ name.now) }
 {
-    Ok(Name {
+    Ok(EnergyName {
         bytes: Vec::from_slice(alloc, name)?,
     })
 }

@@ -18,7 +18,7 @@ mod variables;
 pub use build::{Built, applied, binary, negated, power, select};
 pub use callees::{Callee, function_of};
 pub use faults::ExprFault;
-pub use names::{Name, is_reserved};
+pub use names::{EnergyName, is_reserved};
 pub use powers::Exponent;
 pub use programs::{MAX_DEFINITIONS, Program};
 pub use trees::{Expr, Function, Operator};

@@ -25,9 +25,9 @@ use Rattle.integrator.proofs.NumberLaws.{length-numbers, at_number}
 use Rattle.integrator.specs.Energies.{Energy, energy_of, job_tree}
 use Rattle.engine.specs.Engines.{AreSafe, AreStopped, EngineView, HasNoEngine, HasNoEngineOfTexts, IsEngineOfTexts, Stopped, Went, engine_dynamics}
 use Rattle.ring_box.specs.Places.{nowhere}
-use Rattle.integrator.specs.Frames.{Frame, frames, places_of, turns}
+use Rattle.integrator.specs.Frames.{Frame, frames, places_of, steps_in}
 use Rattle.integrator.specs.Runs.{IsAfter}
-use Rattle.integrator.specs.Starts.{has_room, holds_two, plain, start_of, start_with, step_range, system_of, table_of}
+use Rattle.integrator.specs.Starts.{has_room, holds_two, plain, start_of_run, start_with, step_range, system_of, table_of}
 use Rattle.integrator.specs.StartViews.{system_refusal}
 use Rattle.integrator.specs.States.{counter_after, counter_at, current_frame, frames_of, moved_state, nobody, placed, placed_atoms, previous_frame}
 use Rattle.engine.specs.Courses.{IsUnstarted}
@@ -71,19 +71,19 @@ stays w z h = rw (no_way w z, h) refl
 
 -- after no step an engine is as it was
 pub went_nowhere : (w : Direction) (e : EngineView) → in_range e.state.step ≡ true → Went w 0 e e
-unfolding turns
+unfolding steps_in
 went_nowhere w e h = record {
   frames' = frames_of e.state;
-  turned = refl;
+  stepped = refl;
   counter = e.state.step;
   counted = stays w e.state.step h;
   moved = ap (λ atoms. record e { state = record e.state { atoms = atoms } }) (sym (at_home e.state.atoms));
 }
 
 -- an engine whose atoms stand at the frames that its steps come to
-pub went_on : (w : Direction) (n : ℕ) (e f : EngineView) (p q : Frame) (k : ℤ) → turns w (engine_dynamics e) n (frames_of e.state) ≡ Some (frames p q)
+pub went_on : (w : Direction) (n : ℕ) (e f : EngineView) (p q : Frame) (k : ℤ) → steps_in w (engine_dynamics e) n (frames_of e.state) ≡ Some (frames p q)
     → counter_after w e.state.step n ≡ Some k → f ≡ record e { state = moved_state e.state (frames p q) k } → Went w n e f
-went_on w n e f p q k turned counted moved = record { frames' = frames p q; turned = turned; counter = k; counted = counted; moved = moved }
+went_on w n e f p q k stepped counted moved = record { frames' = frames p q; stepped = stepped; counter = k; counted = counted; moved = moved }
 
 -- steps that don't start leave an engine as it was
 pub unstarted : (w : Direction) (n : ℕ) (e : EngineView) (fault : StepFault) → in_range e.state.step ≡ true → IsUnstarted w n e.state.step fault → Stopped w n e e fault
@@ -126,7 +126,7 @@ job_tree_is j energy e = rw e refl
 
 -- a start of an engine's texts, with the counter at its end
 engine_start : (job state : List ℕ) (w : Direction) (n : ℕ) (e : EngineView) (counter : ℤ) → (t : IsEngineOfTexts job state e) → counter_after w e.state.step n ≡ Some counter
-    → start_of plain job state w n ≡ Ok (record { state = e.state; dynamics = engine_dynamics e; counter = counter })
+    → start_of_run plain job state w n ≡ Ok (record { state = e.state; dynamics = engine_dynamics e; counter = counter })
 engine_start job state w n e counter t h =
     let parts = system_parts t.j t.s t.it.system t.it.made in
     let k = rw t.it.is at h in
@@ -139,11 +139,11 @@ pub engine_ran : (job state : List ℕ) (w : Direction) (n : ℕ) (e f : EngineV
 engine_ran job state w n e f t h = record {
   start = record { state = e.state; dynamics = engine_dynamics e; counter = h.counter };
   starts = engine_start job state w n e h.counter t h.counted;
-  ran = record { frames' = h.frames'; turned = h.turned; moved = ap (λ (e : EngineView). e.state) h.moved };
+  ran = record { frames' = h.frames'; stepped = h.stepped; moved = ap (λ (e : EngineView). e.state) h.moved };
 }
 
 no_counter : (job state : List ℕ) (w : Direction) (n : ℕ) (j : JobValue) (s : StateView) (system : Energy × List ℕ) → reading_of limits job ≡ Ok j → state_of state ≡ Ok s → system_of j s ≡ Ok system
-    → counter_after w s.step n ≡ None → start_of plain job state w n ≡ Err step_range
+    → counter_after w s.step n ≡ None → start_of_run plain job state w n ≡ Err step_range
 unfolding start_with
 no_counter job state w n j s system p q r h = start_from plain job state w n j s p q ∙ rw (r, h) refl
 

@@ -10,7 +10,7 @@ use Rattle.job.proofs.TextLemmas.{reading_again, reading_ok}
 use Rattle.state.specs.StateText.{AtomView, IsState, StateView, state_text}
 use Rattle.state.proofs.StateReadsAgain.{one_text}
 use Rattle.integrator.specs.Energies.{job_tree}
-use Rattle.integrator.specs.Frames.{Dynamics, Frames, opposite, turns}
+use Rattle.integrator.specs.Frames.{Dynamics, Frames, opposite, steps_in}
 use Rattle.integrator.specs.Runs.{IsAfter}
 use Rattle.integrator.specs.Starts.{as_written, plain}
 use Rattle.integrator.specs.States.{counter_after, counter_at, frames_of, moved_state}
@@ -18,7 +18,7 @@ use Rattle.integrator.specs.declared.direction.Direction.{Direction}
 use Rattle.integrator.specs.declared.direction.Direction.TheVariants.{Back, Forward}
 use Rattle.integrator.proofs.Constructors.{none_is_no_some, ok_same, some_same}
 use Rattle.integrator.proofs.ReturnLaws.{Parts, frames_are, moved_is, parts_of}
-use Rattle.integrator.proofs.TurnLaws.{returned}
+use Rattle.integrator.proofs.MotionLaws.{returned}
 use Rattle.engine.specs.Engines.{AreReadOnce, SaysOnly}
 use Rattle.engine.specs.Headline.{AreTypes, HasRoom, IsJobEnergy, IsLevesqueVerletRun, Leads, box_of, who}
 use Rattle.engine.proofs.EngineLaws.{job_tree_is}
@@ -55,8 +55,8 @@ module _ (job state : List ℕ) (w : Direction) (n : ℕ) (after : StateView) (o
   read : IsState p.s × (state ≡ state_text p.s)
   read = (one_text state p.s).0 p.state_read
 
-  reached : turns w law n (frames_of p.s) ≡ Some f
-  reached = rw p.start_is at ran.ran.turned
+  reached : steps_in w law n (frames_of p.s) ≡ Some f
+  reached = rw p.start_is at ran.ran.stepped
 
   after_is : after ≡ moved_state p.s f p.counter
   after_is = rw p.start_is at ran.ran.moved
@@ -151,7 +151,7 @@ told_back job state w n text r =
       after_text = r.state_text';
       leads =
           leads (opposite w) r.j r.tree r.types n t s
-          (subst (λ (x : List ℕ). turns (opposite w) (as_written r.j x r.tree r.types) n (frames_of t) ≡ Some (frames_of s)) sides back.back)
+          (subst (λ (x : List ℕ). steps_in (opposite w) (as_written r.j x r.tree r.types) n (frames_of t) ≡ Some (frames_of s)) sides back.back)
           (counter_back w s.step t.step n l.1);
       same = sym (ap (λ (u : StateView). record u { step = s.step; atoms = s.atoms }) r.same);
       kept = sym r.kept;

@@ -19,14 +19,14 @@ use Rattle.ring_box.specs.declared.boxes.RingBox.{RingBox}
 use Rattle.ring_box.specs.declared.vectors.Force.{Force}
 use Rattle.ring_box.specs.declared.vectors.Place3.{Place3}
 use Rattle.integrator.specs.Forces.{force_or_none, numbers_from, pairs_of, plus, share_of, sum_of_shares}
-use Rattle.integrator.specs.Frames.{Dynamics, Frame, Frames, exchanged, force_at, frames, moved_frame, next_frame, next_places, pair_force, places_of, turns}
+use Rattle.integrator.specs.Frames.{Dynamics, Frame, Frames, exchanged, force_at, frames, moved_frame, next_frame, next_places, pair_force, places_of, steps_in}
 use Rattle.integrator.specs.Starts.{as_written, global_values, no_type, pair_inputs}
 use Rattle.integrator.specs.States.{counter_at, frames_of}
 use Rattle.integrator.specs.declared.direction.Direction.{Direction}
 use Rattle.integrator.specs.declared.direction.Direction.TheVariants.{Back, Forward}
 use Rattle.integrator.proofs.Constructors.{none_is_no_some, some_same}
 use Rattle.integrator.proofs.NumberLaws.{at_number, length-numbers}
-use Rattle.integrator.proofs.TurnLaws.{back_from_forward, exchanged_turns}
+use Rattle.integrator.proofs.MotionLaws.{back_from_forward, exchanged_steps}
 use Rattle.engine.specs.Headline.{Follows, IsPairForce, Lead, Leads, far, inputs, near, next_of, together}
 
 -- ---- the force of a pair
@@ -174,8 +174,8 @@ module _ (j : JobValue) (tree : Tree) (sides types : List ℕ) where
   stepped p c m f n first second h each zero l = subst (λ x. Follows j tree sides types p x (f 1)) (sym first) (subst (λ x. Follows j tree sides types p c x) (sym second) h)
   stepped p c m f n first second h each (suc k) l = each k (omega (arith, l))
 
-  lead_on : (n : ℕ) (p c q e : Frame) (o : Option Frame) → next_frame motion p c ≡ o → option_and_then (turns Forward motion n) (option_map (frames c) o) ≡ Some (frames q e)
-      → ((m : Frame) → turns Forward motion n (frames c m) ≡ Some (frames q e) → Lead j tree sides types n c m q e) → Lead j tree sides types (suc n) p c q e
+  lead_on : (n : ℕ) (p c q e : Frame) (o : Option Frame) → next_frame motion p c ≡ o → option_and_then (steps_in Forward motion n) (option_map (frames c) o) ≡ Some (frames q e)
+      → ((m : Frame) → steps_in Forward motion n (frames c m) ≡ Some (frames q e) → Lead j tree sides types n c m q e) → Lead j tree sides types (suc n) p c q e
   lead_on n p c q e None h t more = absurd (none_is_no_some (frames q e) t)
   lead_on n p c q e (Some m) h t more =
       let r = more m t in
@@ -186,8 +186,8 @@ module _ (j : JobValue) (tree : Tree) (sides types : List ℕ) where
         ends = r.ends;
       }
 
-  lead : (n : ℕ) (p c q e : Frame) → turns Forward motion n (frames p c) ≡ Some (frames q e) → Lead j tree sides types n p c q e
-  unfolding turns
+  lead : (n : ℕ) (p c q e : Frame) → steps_in Forward motion n (frames p c) ≡ Some (frames q e) → Lead j tree sides types n p c q e
+  unfolding steps_in
   lead zero p c q e h =
       let same : frames p c ≡ frames q e = some_same (frames p c) (frames q e) h in
       record {
@@ -199,17 +199,17 @@ module _ (j : JobValue) (tree : Tree) (sides types : List ℕ) where
   lead (suc n) p c q e h = lead_on n p c q e (next_frame motion p c) refl h (λ m t. lead n c m q e t)
 
   led : (n : ℕ) (f : ℕ → Frame) → ((k : ℕ) → k < n → Follows j tree sides types (f k) (f (suc k)) (f (suc (suc k))))
-      → turns Forward motion n (frames (f 0) (f 1)) ≡ Some (frames (f n) (f (suc n)))
-  unfolding turns
+      → steps_in Forward motion n (frames (f 0) (f 1)) ≡ Some (frames (f n) (f (suc n)))
+  unfolding steps_in
   led zero f each = refl
   led (suc n) f each =
-      ap (λ o. option_and_then (turns Forward motion n) (option_map (frames (f 1)) o)) (followed (f 0) (f 1) (f 2) (each 0 (omega arith)))
+      ap (λ o. option_and_then (steps_in Forward motion n) (option_map (frames (f 1)) o)) (followed (f 0) (f 1) (f 2) (each 0 (omega arith)))
       ∙ led n (λ k. f (suc k)) (λ k l. each (suc k) (omega (arith, l)))
 
-  led_from : (n : ℕ) (a b x y p c q e : Frame) → a ≡ p → b ≡ c → x ≡ q → y ≡ e → turns Forward motion n (frames a b) ≡ Some (frames x y) → turns Forward motion n (frames p c) ≡ Some (frames q e)
+  led_from : (n : ℕ) (a b x y p c q e : Frame) → a ≡ p → b ≡ c → x ≡ q → y ≡ e → steps_in Forward motion n (frames a b) ≡ Some (frames x y) → steps_in Forward motion n (frames p c) ≡ Some (frames q e)
   led_from n a b x y p c q e ap' bc xq ye h = rw (← ap', ← bc, ← xq, ← ye) h
 
-  led_by : (n : ℕ) (p c q e : Frame) → Lead j tree sides types n p c q e → turns Forward motion n (frames p c) ≡ Some (frames q e)
+  led_by : (n : ℕ) (p c q e : Frame) → Lead j tree sides types n p c q e → steps_in Forward motion n (frames p c) ≡ Some (frames q e)
   led_by n p c q e r = led_from n (r.frame 0) (r.frame 1) (r.frame n) (r.frame (suc n)) p c q e r.begins.0 r.begins.1 r.ends.0 r.ends.1 (led n r.frame r.steps)
 
 exchanged_from : (q e : Frame) (o : Option Frames) → option_map exchanged o ≡ Some (frames q e) → o ≡ Some (frames e q)
@@ -217,18 +217,18 @@ exchanged_from q e None h = absurd (none_is_no_some (frames q e) h)
 exchanged_from q e (Some f) h = ap Some (ap exchanged (some_same (exchanged f) (frames q e) h))
 
 -- steps that the model makes in a direction are those of the page
-pub leads : (w : Direction) (j : JobValue) (tree : Tree) (types : List ℕ) (n : ℕ) (s t : StateView) → turns w (as_written j s.sides tree types) n (frames_of s) ≡ Some (frames_of t) → t.step ≡ counter_at w s.step n
+pub leads : (w : Direction) (j : JobValue) (tree : Tree) (types : List ℕ) (n : ℕ) (s t : StateView) → steps_in w (as_written j s.sides tree types) n (frames_of s) ≡ Some (frames_of t) → t.step ≡ counter_at w s.step n
     → Leads w j tree types n s t
 leads Forward j tree types n s t h k = (lead j tree s.sides types n (frames_of s).previous (frames_of s).current (frames_of t).previous (frames_of t).current h, k)
 leads Back j tree types n s t h k =
     let d = as_written j s.sides tree types in
     let f = frames_of s in
     let g = frames_of t in
-    (lead j tree s.sides types n f.current f.previous g.current g.previous (exchanged_from g.previous g.current (turns Forward d n (frames f.current f.previous)) (sym (exchanged_turns d n (frames f.current f.previous)) ∙ h)), k)
+    (lead j tree s.sides types n f.current f.previous g.current g.previous (exchanged_from g.previous g.current (steps_in Forward d n (frames f.current f.previous)) (sym (exchanged_steps d n (frames f.current f.previous)) ∙ h)), k)
 
 -- and those of the page the model makes
 pub led_to : (w : Direction) (j : JobValue) (tree : Tree) (types : List ℕ) (n : ℕ) (s t : StateView) → Leads w j tree types n s t
-    → (turns w (as_written j s.sides tree types) n (frames_of s) ≡ Some (frames_of t)) × (t.step ≡ counter_at w s.step n)
+    → (steps_in w (as_written j s.sides tree types) n (frames_of s) ≡ Some (frames_of t)) × (t.step ≡ counter_at w s.step n)
 led_to Forward j tree types n s t l = (led_by j tree s.sides types n (frames_of s).previous (frames_of s).current (frames_of t).previous (frames_of t).current l.0, l.1)
 led_to Back j tree types n s t l =
     let f = frames_of s in

@@ -8,7 +8,7 @@ use Rattle.integrator.specs.States.{frames_of, moved_state}
 use Rattle.integrator.proofs.Constructors.{ok_same}
 use Rattle.integrator.proofs.ReturnLaws.{system-placed}
 use Rattle.engine.specs.Headline.{who}
-use Rattle.engine.specs.Turns.{RunsStaySafe}
+use Rattle.engine.specs.EngineSteps.{RunsStaySafe}
 use Rattle.engine.specs.Verdicts.{IsSafeFor}
 use Rattle.engine.proofs.HeadlineTexts.{moved_again}
 

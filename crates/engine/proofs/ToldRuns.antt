@@ -16,7 +16,7 @@ use Rattle.job.proofs.TextLemmas.{reading_again, reading_ok}
 use Rattle.state.specs.StateText.{AtomView, StateView}
 use Rattle.state.proofs.StateReadsAgain.{one_text}
 use Rattle.integrator.specs.Energies.{energy_of}
-use Rattle.integrator.specs.Frames.{turns}
+use Rattle.integrator.specs.Frames.{steps_in}
 use Rattle.integrator.specs.Runs.{IsAfter}
 use Rattle.integrator.specs.Starts.{are_alike, as_written, atom_types, has_room, no_type, plain, ring_of, start_at, type_with}
 use Rattle.integrator.specs.States.{counter_after, counter_at, frames_of}
@@ -26,7 +26,7 @@ use Rattle.integrator.proofs.ReturnLaws.{in_range_is, parts_of, start_from}
 use Rattle.integrator.proofs.StartLaws.{started}
 use Rattle.engine.specs.Engines.{AreReadOnce, SaysOnly}
 use Rattle.engine.specs.Headline.{HasRoom, IsLevesqueVerletRun, box_of}
-use Rattle.engine.specs.Turns.{RunsAreTold, ToldAreRun}
+use Rattle.engine.specs.EngineSteps.{RunsAreTold, ToldAreRun}
 use Rattle.engine.proofs.EngineLaws.{job_tree_is}
 use Rattle.engine.proofs.HeadlineLaws.{only_told, told}
 use Rattle.engine.proofs.HeadlineSteps.{led_to}
@@ -121,7 +121,7 @@ told_are_run job state w n text j energy job_read energy_read r =
       after = t;
       ran = record {
         frames' = frames_of t;
-        turned = ap (λ (x : Tree). turns w (as_written r.j s.sides x r.types) n (frames_of s)) (sym tree) ∙ led.0;
+        stepped = ap (λ (x : Tree). steps_in w (as_written r.j s.sides x r.types) n (frames_of s)) (sym tree) ∙ led.0;
         moved = moved_again s t r.same r.kept;
       };
       written = r.after_text.is;

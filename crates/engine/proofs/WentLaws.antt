@@ -7,7 +7,7 @@ use Rattle.std.proofs.lemmas.List.{ext_get_or, length-map}
 use Rattle.state.specs.StateText.{AtomView, StateView}
 use Rattle.ring_box.specs.Forces.{no_force}
 use Rattle.ring_box.specs.declared.vectors.Force.{Force}
-use Rattle.integrator.specs.Frames.{Dynamics, Frame, Frames, frame_forces, frames, moved_frame, next_frame, next_places, opposite, places_of, turn, turns}
+use Rattle.integrator.specs.Frames.{Dynamics, Frame, Frames, frame_forces, frames, moved_frame, next_frame, next_places, opposite, places_of, step_in, steps_in}
 use Rattle.fixed.specs.Arithmetic.{in_range}
 use Rattle.integrator.specs.States.{counter_at, frames_of, moved_state, nobody, placed, placed_atoms}
 use Rattle.integrator.specs.declared.direction.Direction.{Direction}
@@ -15,9 +15,9 @@ use Rattle.integrator.specs.declared.direction.Direction.TheVariants.{Back, Forw
 use Rattle.integrator.proofs.Constructors.{none_is_no_some, some_same}
 use Rattle.integrator.proofs.ReturnLaws.{frames_are, in_range_is}
 use Rattle.integrator.proofs.NumberLaws.{length-numbers}
-use Rattle.integrator.proofs.TurnLaws.{returned}
+use Rattle.integrator.proofs.MotionLaws.{returned}
 use Rattle.engine.specs.Engines.{EngineView, Went, engine_dynamics}
-use Rattle.engine.specs.Turns.{StepsAdd, StepsReturn}
+use Rattle.engine.specs.EngineSteps.{StepsAdd, StepsReturn}
 use Rattle.engine.proofs.HeadlineLaws.{counter_back, counter_is}
 use Rattle.engine.proofs.HeadlineTexts.{frames_moved, get_or-placed, length-placed, moved_again}
 
@@ -40,34 +40,34 @@ back_sized : (d : Dynamics) (p c : Frame) (g : Frames) (n : ℕ) (o : Option Fra
 back_sized d p c g n None a e h = absurd (none_is_no_some g h)
 back_sized d p c g n (Some m) a e h = subst (Sized n) (some_same (frames m p) g h) (moved_size d c p m (frame_forces d p) e ∙ a, a)
 
-turn_sized : (w : Direction) (d : Dynamics) (f g : Frames) (n : ℕ) → Sized n f → turn w d f ≡ Some g → Sized n g
-turn_sized Forward d f g n s h = step_sized d f.previous f.current g n (next_frame d f.previous f.current) s.1 refl h
-turn_sized Back d f g n s h = back_sized d f.previous f.current g n (next_frame d f.current f.previous) s.0 refl h
+one_step_sized : (w : Direction) (d : Dynamics) (f g : Frames) (n : ℕ) → Sized n f → step_in w d f ≡ Some g → Sized n g
+one_step_sized Forward d f g n s h = step_sized d f.previous f.current g n (next_frame d f.previous f.current) s.1 refl h
+one_step_sized Back d f g n s h = back_sized d f.previous f.current g n (next_frame d f.current f.previous) s.0 refl h
 
-turns_sized_at : (w : Direction) (d : Dynamics) (k : ℕ) (f g : Frames) (n : ℕ) (o : Option Frames) → Sized n f → turn w d f ≡ o → option_and_then (turns w d k) o ≡ Some g
-    → ((e : Frames) → Sized n e → turns w d k e ≡ Some g → Sized n g) → Sized n g
-turns_sized_at w d k f g n None s e h more = absurd (none_is_no_some g h)
-turns_sized_at w d k f g n (Some m) s e h more = more m (turn_sized w d f m n s e) h
+steps_sized_at : (w : Direction) (d : Dynamics) (k : ℕ) (f g : Frames) (n : ℕ) (o : Option Frames) → Sized n f → step_in w d f ≡ o → option_and_then (steps_in w d k) o ≡ Some g
+    → ((e : Frames) → Sized n e → steps_in w d k e ≡ Some g → Sized n g) → Sized n g
+steps_sized_at w d k f g n None s e h more = absurd (none_is_no_some g h)
+steps_sized_at w d k f g n (Some m) s e h more = more m (one_step_sized w d f m n s e) h
 
 -- steps keep the number of atoms
-turns_sized : (w : Direction) (d : Dynamics) (k : ℕ) (f g : Frames) (n : ℕ) → Sized n f → turns w d k f ≡ Some g → Sized n g
-unfolding turns
-turns_sized w d zero f g n s h = subst (Sized n) (some_same f g h) s
-turns_sized w d (suc k) f g n s h = turns_sized_at w d k f g n (turn w d f) s refl h (λ e t i. turns_sized w d k e g n t i)
+steps_sized : (w : Direction) (d : Dynamics) (k : ℕ) (f g : Frames) (n : ℕ) → Sized n f → steps_in w d k f ≡ Some g → Sized n g
+unfolding steps_in
+steps_sized w d zero f g n s h = subst (Sized n) (some_same f g h) s
+steps_sized w d (suc k) f g n s h = steps_sized_at w d k f g n (step_in w d f) s refl h (λ e t i. steps_sized w d k e g n t i)
 
 -- ---- steps and more steps
 
-turns_add_at : (w : Direction) (d : Dynamics) (k m : ℕ) (o : Option Frames) → ((f : Frames) → turns w d (k + m) f ≡ option_and_then (turns w d m) (turns w d k f))
-    → option_and_then (turns w d (k + m)) o ≡ option_and_then (turns w d m) (option_and_then (turns w d k) o)
-turns_add_at w d k m None more = refl
-turns_add_at w d k m (Some f) more = more f
+steps_add_at : (w : Direction) (d : Dynamics) (k m : ℕ) (o : Option Frames) → ((f : Frames) → steps_in w d (k + m) f ≡ option_and_then (steps_in w d m) (steps_in w d k f))
+    → option_and_then (steps_in w d (k + m)) o ≡ option_and_then (steps_in w d m) (option_and_then (steps_in w d k) o)
+steps_add_at w d k m None more = refl
+steps_add_at w d k m (Some f) more = more f
 
-pub turns_add : (w : Direction) (d : Dynamics) (k m : ℕ) (f : Frames) → turns w d (k + m) f ≡ option_and_then (turns w d m) (turns w d k f)
-unfolding turns
-turns_add w d zero m f = ap (λ i. turns w d i f) (zero-add m)
-turns_add w d (suc k) m f =
+pub steps_added : (w : Direction) (d : Dynamics) (k m : ℕ) (f : Frames) → steps_in w d (k + m) f ≡ option_and_then (steps_in w d m) (steps_in w d k f)
+unfolding steps_in
+steps_added w d zero m f = ap (λ i. steps_in w d i f) (zero-add m)
+steps_added w d (suc k) m f =
     let e : suc k + m ≡ suc (k + m) = omega arith in
-    ap (λ i. turns w d i f) e ∙ turns_add_at w d k m (turn w d f) (turns_add w d k m)
+    ap (λ i. steps_in w d i f) e ∙ steps_add_at w d k m (step_in w d f) (steps_added w d k m)
 
 -- a counter that many steps further, and then more
 pub counters_add : (w : Direction) (z : ℤ) (k m : ℕ) → counter_at w (counter_at w z k) m ≡ counter_at w z (k + m)
@@ -94,7 +94,7 @@ module _ (w : Direction) (n : ℕ) (a b : EngineView) (g : Went w n a b) where
   arrived : frames_of b.state ≡ g.frames'
   arrived =
       let s = a.state in
-      let sized = turns_sized w (engine_dynamics a) n (frames_of s) g.frames' (length s.atoms) (length-map s.atoms (λ (x : AtomView). x.previous), length-map s.atoms (λ (x : AtomView). x.current)) g.turned in
+      let sized = steps_sized w (engine_dynamics a) n (frames_of s) g.frames' (length s.atoms) (length-map s.atoms (λ (x : AtomView). x.previous), length-map s.atoms (λ (x : AtomView). x.current)) g.stepped in
       ap (λ (e : EngineView). frames_of e.state) g.moved ∙ frames_moved s g.frames' g.counter sized.0 sized.1
 
 -- k steps and m more are k + m
@@ -104,9 +104,9 @@ steps_add w k m a b c g h =
     let fits = λ (z : ℤ). if in_range z then Some z else None in
     record {
       frames' = h.frames';
-      turned =
-          turns_add w d k m (frames_of a.state) ∙ ap (option_and_then (turns w d m)) g.turned
-          ∙ ap (turns w d m) (sym (arrived w k a b g)) ∙ ap (λ (e : Dynamics). turns w e m (frames_of b.state)) (sym (same_motion w k a b g)) ∙ h.turned;
+      stepped =
+          steps_added w d k m (frames_of a.state) ∙ ap (option_and_then (steps_in w d m)) g.stepped
+          ∙ ap (steps_in w d m) (sym (arrived w k a b g)) ∙ ap (λ (e : Dynamics). steps_in w e m (frames_of b.state)) (sym (same_motion w k a b g)) ∙ h.stepped;
       counter = h.counter;
       counted = ap fits (sym (counters_add w a.state.step k m) ∙ ap (λ z. counter_at w z m) (sym (step_is w k a b g))) ∙ h.counted;
       moved =
@@ -119,11 +119,11 @@ pub steps_return : StepsReturn
 steps_return w n a b fits g =
     let s = a.state in
     let d = engine_dynamics a in
-    let back = returned w d n (frames_of s) g.frames' (frames_are s fits) g.turned in
+    let back = returned w d n (frames_of s) g.frames' (frames_are s fits) g.stepped in
     let whole : counter_at (opposite w) b.state.step n ≡ s.step = sym (counter_back w s.step b.state.step n (step_is w n a b g)) in
     record {
       frames' = frames_of s;
-      turned = ap (turns (opposite w) (engine_dynamics b) n) (arrived w n a b g) ∙ ap (λ (e : Dynamics). turns (opposite w) e n g.frames') (same_motion w n a b g) ∙ back.back;
+      stepped = ap (steps_in (opposite w) (engine_dynamics b) n) (arrived w n a b g) ∙ ap (λ (e : Dynamics). steps_in (opposite w) e n g.frames') (same_motion w n a b g) ∙ back.back;
       counter = s.step;
       counted = rw (whole, in_range_is s.step fits.step) refl;
       moved =

@@ -2,7 +2,7 @@
 use Rattle.std.specs.Prelude.{◌≡◌, ℕ, ℤ, List, length, Some, None, Result, IfOk}
 use Rattle.std.specs.Borrow.{Bor, MutBor}
 use Rattle.std.specs.Fn.{Shared}
-use Rattle.integrator.specs.Frames.{Frame, Frames, exchanged, frames, turns}
+use Rattle.integrator.specs.Frames.{Frame, Frames, exchanged, frames, steps_in}
 use Rattle.integrator.specs.States.{counter_after}
 use Rattle.integrator.specs.declared.direction.Direction.{Direction}
 use Rattle.integrator.specs.declared.direction.Direction.TheVariants.{Back, Forward}
@@ -27,7 +27,7 @@ IsUnstarted direction n counter (step.Memory done) = done ≡ 0
 -- n steps of one system lead from one to the other
 pub record HasGone {A : Type 0} (n : ℕ) (from to : Course A) : Type 0 where
   pub motion : to.motion.now ≡ from.motion.now
-  pub turned : turns Forward (safe_dynamics from.motion.now.system) n (frames from.before.items from.middle.items) ≡ Some (frames to.before.items to.middle.items)
+  pub stepped : steps_in Forward (safe_dynamics from.motion.now.system) n (frames from.before.items from.middle.items) ≡ Some (frames to.before.items to.middle.items)
 
 -- ---- sums, by what is called for each frame and keeps something for it
 

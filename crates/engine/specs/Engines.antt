@@ -11,8 +11,8 @@ use Rattle.kernel_code.specs.declared.instructions.Instr.{Instr}
 use Rattle.state.specs.StateReading.{state_of}
 use Rattle.state.specs.StateText.{StateView}
 use Rattle.integrator.specs.Energies.{Energy, job_tree}
-use Rattle.integrator.specs.Frames.{Dynamics, Frames, turns}
-use Rattle.integrator.specs.Starts.{as_written, plain, start_of, step_range, system_of}
+use Rattle.integrator.specs.Frames.{Dynamics, Frames, steps_in}
+use Rattle.integrator.specs.Starts.{as_written, plain, start_of_run, step_range, system_of}
 use Rattle.integrator.specs.Runs.{WroteBeginning}
 use Rattle.integrator.specs.StartViews.{system_refusal}
 use Rattle.integrator.specs.States.{counter_after, frames_of, moved_state}
@@ -64,7 +64,7 @@ HasNoEngine j s engine.ForceRange = OfSlope j s (λ code. PassesRange j code (le
 -- after n whole steps in a direction
 pub record Went (direction : Direction) (n : ℕ) (before after : EngineView) : Type 0 where
   pub frames' : Frames
-  pub turned : turns direction (engine_dynamics before) n (frames_of before.state) ≡ Some frames'
+  pub stepped : steps_in direction (engine_dynamics before) n (frames_of before.state) ≡ Some frames'
   pub counter : ℤ
   pub counted : counter_after direction before.state.step n ≡ Some counter
   pub moved : after ≡ record before { state = moved_state before.state frames' counter }
@@ -109,7 +109,7 @@ HasNoEngineOfTexts job state (opened.Engine f) = OfTexts job state (λ j s. HasN
 
 -- why steps of the engine of texts stop: the counter would leave 64 bits, or memory ran out after some of them, and not after the last
 abbrev pub AreStopped : List ℕ → List ℕ → Direction → ℕ → StepFault → Type 0
-AreStopped job state direction steps step.StepRange = (start_of plain job state direction steps ≡ Err step_range) × AreSafe job state
+AreStopped job state direction steps step.StepRange = (start_of_run plain job state direction steps ≡ Err step_range) × AreSafe job state
 AreStopped job state direction steps (step.Memory done) = (done ≤ steps - 1) × AreSafe job state
 
 -- why the text of a run was not written, and what the output is left with: only a failed output is left with a beginning of the text

@@ -2,7 +2,7 @@ pub mod SafeKernels
 pub mod Verdicts
 pub mod Engines
 pub mod Headline
-pub mod Turns
+pub mod EngineSteps
 pub mod EngineViews
 pub mod PairEnergies
 pub mod EnergySums

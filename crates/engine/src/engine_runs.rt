@@ -84,7 +84,7 @@ pub fn run_bytes<R: Threads + Sync, A: Allocator + Copy + Send + Sync, O: Out>(
     ensures returns { (text : List ℕ) → IsRun plain job.now state.now direction steps text → IsRun plain job.now text (opposite direction) steps state.now }
 {
     let mut engine = open(alloc, job, state)?;
-    engine.turns_ungated(rt, direction, steps, workers)?;
+    engine.make_steps(rt, direction, steps, workers)?;
     engine.state().write(out)?;
     Ok(())
 }

@@ -11,7 +11,7 @@ ghost use Rattle.state.specs.StateViews.{state_view};
 ghost use Rattle.engine.specs.Engines.{engine_dynamics, HasNoEngine, IsEngineOf, SaysOnly, Stopped, Went};
 ghost use Rattle.engine.specs.EngineViews.{IsEngine, engine_view};
 ghost use Rattle.engine.specs.PairEnergies.{HasNoEnergy, IsEnergy};
-ghost use Rattle.integrator.specs.Frames.{frames, turns};
+ghost use Rattle.integrator.specs.Frames.{frames, steps_in};
 ghost use Rattle.integrator.specs.Starts.{mass_of, table_of};
 ghost use Rattle.integrator.specs.States.{counter_after, frames_of};
 ghost use Rattle.integrator.specs.declared.direction.Direction.TheVariants.{Back, Forward};
@@ -27,7 +27,7 @@ use crate::safe_systems::SafeSystem;
 use crate::verdicts::{safe_kernel, verdict};
 use fallible::Failure;
 use integrator::{
-    Direction, StepFault, System, Turned, TypedAtoms, advance, counter_after, current_frame, ready,
+    Direction, StepFault, System, Stepped, TypedAtoms, advance, counter_after, current_frame, ready,
 };
 use job::Job;
 use kernel_compiler::compile;
@@ -209,20 +209,20 @@ impl<A: Allocator + Copy> Engine<A> {
         direction: Direction,
         steps: u64,
         done: u64,
-        turned: Turned<A>,
+        stepped: Stepped<A>,
     ) -> Result<(), StepFault>
-        requires previous { length turned.previous.items ≡ length self.old.state.atoms }
-        requires current { length turned.current.items ≡ length self.old.state.atoms }
+        requires previous { length stepped.previous.items ≡ length self.old.state.atoms }
+        requires current { length stepped.current.items ≡ length self.old.state.atoms }
         requires fits { is_none (counter_after direction self.old.state.step steps) ≡ false }
         requires few { done ≤ steps }
-        requires turned { turns direction (engine_dynamics self.old) done (frames_of self.old.state) ≡ Some (frames turned.previous.items turned.current.items) }
+        requires stepped { steps_in direction (engine_dynamics self.old) done (frames_of self.old.state) ≡ Some (frames stepped.previous.items stepped.current.items) }
         ensures went { IfOk result (λ _. Went direction steps self.old self.new) }
         ensures stopped { IfErr result (Stopped direction steps self.old self.new) }
     {
         let Some(counter) = counter_after(direction, &self.state, done) else {
             unreachable!()
         };
-        advance(&mut self.state, &turned, counter);
+        advance(&mut self.state, &stepped, counter);
         if done < steps {
             return Err(StepFault::Memory { done });
         }
@@ -230,7 +230,7 @@ impl<A: Allocator + Copy> Engine<A> {
     }
 
     /// So many steps in a direction, on one thread.
-    pub(crate) fn turns_alone(&mut self, direction: Direction, steps: u64) -> Result<(), StepFault>
+    pub(crate) fn steps_alone(&mut self, direction: Direction, steps: u64) -> Result<(), StepFault>
         ensures went { IfOk result (λ _. Went direction steps self.old self.new) }
         ensures stopped { IfErr result (Stopped direction steps self.old self.new) }
     {
@@ -241,11 +241,11 @@ impl<A: Allocator + Copy> Engine<A> {
             .course(alloc, direction, &self.state, steps, kept)?;
         let scratch = at_start(Scratch::new(alloc))?;
         let mut desk = Desk { tiling, scratch };
-        let done = course.turns_alone(alloc, steps, &mut desk);
-        let turned = course.turned(direction);
+        let done = course.steps_alone(alloc, steps, &mut desk);
+        let stepped = course.stepped(direction);
         let Desk { tiling, .. } = desk;
         self.tiling = Some(tiling);
-        self.arrive(direction, steps, done, turned)
+        self.arrive(direction, steps, done, stepped)
     }
 
     /// So many steps forward, on one thread, at most 1,000,000,000,000: Levesque and Verlet's (J. Stat. Phys. 72, 519,
@@ -257,7 +257,7 @@ impl<A: Allocator + Copy> Engine<A> {
         ensures went { IfOk result (λ _. Went Forward steps self.old self.new) }
         ensures stopped { IfErr result (Stopped Forward steps self.old self.new) }
     {
-        self.turns_alone(Direction::Forward, steps)
+        self.steps_alone(Direction::Forward, steps)
     }
 
     /// So many steps back, on one thread, as `forward_alone`.
@@ -265,7 +265,7 @@ impl<A: Allocator + Copy> Engine<A> {
         ensures went { IfOk result (λ _. Went Back steps self.old self.new) }
         ensures stopped { IfErr result (Stopped Back steps self.old self.new) }
     {
-        self.turns_alone(Direction::Back, steps)
+        self.steps_alone(Direction::Back, steps)
     }
 }
 
@@ -275,7 +275,7 @@ impl<A: Allocator + Copy + Send + Sync> Engine<A> {
     ghost use Rattle.integrator.specs.declared.direction.Direction.TheVariants.{Back, Forward};
 
     /// So many steps in a direction by so many workers, 1 to 64, of which the caller's thread is the first.
-    pub(crate) fn turns_pooled<R: Threads + Sync, G: Gate + Sync>(
+    pub(crate) fn steps_pooled<R: Threads + Sync, G: Gate + Sync>(
         &mut self,
         rt: &R,
         direction: Direction,
@@ -299,16 +299,16 @@ impl<A: Allocator + Copy + Send + Sync> Engine<A> {
             scratch: Crew { scratches },
         };
         let pool = Pool { rt, gate };
-        let done = course.turns_pooled(alloc, &pool, steps, &mut desk);
-        let turned = course.turned(direction);
+        let done = course.steps_pooled(alloc, &pool, steps, &mut desk);
+        let stepped = course.stepped(direction);
         let Desk { tiling, .. } = desk;
         self.tiling = Some(tiling);
-        self.arrive(direction, steps, done, turned)
+        self.arrive(direction, steps, done, stepped)
     }
 
     /// So many steps in a direction by so many workers, 1 to 64, of which the caller's thread is the first: as `forward` and `back`, but that
     /// workers pass no gate. One worker waits for nobody.
-    pub fn turns_ungated<R: Threads + Sync>(
+    pub fn make_steps<R: Threads + Sync>(
         &mut self,
         rt: &R,
         direction: Direction,
@@ -321,9 +321,9 @@ impl<A: Allocator + Copy + Send + Sync> Engine<A> {
         ensures stopped { IfErr result (Stopped direction steps self.old self.new) }
     {
         if workers == 1 {
-            return self.turns_alone(direction, steps);
+            return self.steps_alone(direction, steps);
         }
-        self.turns_pooled(rt, direction, steps, workers, &NoGate)
+        self.steps_pooled(rt, direction, steps, workers, &NoGate)
     }
 
     /// So many steps forward by so many workers, 1 to 64, of which the caller's thread is the first: the same states and the same
@@ -341,7 +341,7 @@ impl<A: Allocator + Copy + Send + Sync> Engine<A> {
         ensures went { IfOk result (λ _. Went Forward steps self.old self.new) }
         ensures stopped { IfErr result (Stopped Forward steps self.old self.new) }
     {
-        self.turns_pooled(rt, Direction::Forward, steps, workers, gate)
+        self.steps_pooled(rt, Direction::Forward, steps, workers, gate)
     }
 
     /// So many steps back by so many workers, as `forward`.
@@ -357,6 +357,6 @@ impl<A: Allocator + Copy + Send + Sync> Engine<A> {
         ensures went { IfOk result (λ _. Went Back steps self.old self.new) }
         ensures stopped { IfErr result (Stopped Back steps self.old self.new) }
     {
-        self.turns_pooled(rt, Direction::Back, steps, workers, gate)
+        self.steps_pooled(rt, Direction::Back, steps, workers, gate)
     }
 }

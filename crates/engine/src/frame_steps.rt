@@ -9,7 +9,7 @@ use crate::frame_sums::{Desk, Tiling};
 use crate::pools::{Crew, Pool};
 use crate::rows::Scratch;
 use crate::safe_systems::SafeSystem;
-use integrator::{Direction, StepFault, Turned, counter_after, current_frame, previous_frame};
+use integrator::{Direction, StepFault, Stepped, counter_after, current_frame, previous_frame};
 use ring_box::{Force, Place3};
 use state::State;
 use std::alloc::{AllocError, Allocator};
@@ -168,7 +168,7 @@ impl<'a, A: Allocator + Copy> Course<'a, A> {
     }
 
     /// One step, by what sums the forces of a frame and keeps `desk` for it. The frames stay where memory is wanted.
-    fn turn<S, T: AsSlice<i64> + Drop, F: Fn(&[Place3], &mut S) -> Result<T, Memory>>(
+    fn make_step<S, T: AsSlice<i64> + Drop, F: Fn(&[Place3], &mut S) -> Result<T, Memory>>(
         &mut self,
         desk: &mut S,
         sums: &F,
@@ -185,7 +185,7 @@ impl<'a, A: Allocator + Copy> Course<'a, A> {
     }
 
     /// So many steps. It answers how many were made: fewer only where memory is wanted.
-    fn turns<S, T: AsSlice<i64> + Drop, F: Fn(&[Place3], &mut S) -> Result<T, Memory>>(
+    fn make_steps<S, T: AsSlice<i64> + Drop, F: Fn(&[Place3], &mut S) -> Result<T, Memory>>(
         &mut self,
         steps: u64,
         desk: &mut S,
@@ -198,7 +198,7 @@ impl<'a, A: Allocator + Copy> Course<'a, A> {
         ensures may { MaySum F.Fn sums self.new.middle.items desk.new }
     {
         for done in 0..steps {
-            match self.turn(desk, &sums) {
+            match self.make_step(desk, &sums) {
                 Ok(()) => {}
                 Err(_) => return done,
             }
@@ -207,7 +207,7 @@ impl<'a, A: Allocator + Copy> Course<'a, A> {
     }
 
     /// So many steps on the caller's thread.
-    pub(crate) fn turns_alone<B: Allocator>(
+    pub(crate) fn steps_alone<B: Allocator>(
         &mut self,
         alloc: A,
         steps: u64,
@@ -219,7 +219,7 @@ impl<'a, A: Allocator + Copy> Course<'a, A> {
         ensures tiling { IsTilingOf self.old.motion.now.system desk.new.tiling }
     {
         let motion = self.motion;
-        self.turns(
+        self.make_steps(
             steps,
             desk,
             |frame: &[Place3], desk: &mut Desk<A, Scratch<B>>|
@@ -232,18 +232,18 @@ impl<'a, A: Allocator + Copy> Course<'a, A> {
     }
 
     /// The frames by their times, of a course that is over.
-    pub(crate) fn turned(self, direction: Direction) -> Turned<A>
+    pub(crate) fn stepped(self, direction: Direction) -> Stepped<A>
         ensures frames { frames result.previous.items result.current.items ≡ frames_along direction self.entry.before.items self.entry.middle.items }
         ensures previous { length result.previous.items ≡ length self.entry.motion.now.system.masses.items }
         ensures current { length result.current.items ≡ length self.entry.motion.now.system.masses.items }
     {
         let Course { before, middle, .. } = self;
         match direction {
-            Direction::Forward => Turned {
+            Direction::Forward => Stepped {
                 previous: before,
                 current: middle,
             },
-            Direction::Back => Turned {
+            Direction::Back => Stepped {
                 previous: middle,
                 current: before,
             },
@@ -258,7 +258,7 @@ impl<'a, A: Allocator + Copy + Sync> Course<'a, A> {
     ghost use Rattle.engine.specs.Tilings.{IsTilingOf};
 
     /// So many steps by a pool's workers.
-    pub(crate) fn turns_pooled<R: Threads + Sync, G: Gate + Sync, B: Allocator + Send>(
+    pub(crate) fn steps_pooled<R: Threads + Sync, G: Gate + Sync, B: Allocator + Send>(
         &mut self,
         alloc: A,
         pool: &Pool<R, G>,
@@ -271,7 +271,7 @@ impl<'a, A: Allocator + Copy + Sync> Course<'a, A> {
         ensures tiling { IsTilingOf self.old.motion.now.system desk.new.tiling }
     {
         let motion = self.motion;
-        self.turns(
+        self.make_steps(
             steps,
             desk,
             |frame: &[Place3], desk: &mut Desk<A, Crew<B>>|

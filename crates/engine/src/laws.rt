@@ -1,6 +1,6 @@
 //! What holds of the steps of an engine, and of runs, whatever the job and the state.
 
-ghost use Rattle.engine.specs.Turns.{RunsAreTold, RunsStaySafe, StepsAdd, StepsReturn, ToldAreRun};
+ghost use Rattle.engine.specs.EngineSteps.{RunsAreTold, RunsStaySafe, StepsAdd, StepsReturn, ToldAreRun};
 
 /// Some steps of an engine, and then more the same way, are the steps of both counts: an engine can go on.
 pub fn steps_add()

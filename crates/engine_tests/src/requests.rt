@@ -61,12 +61,12 @@ fn goes_on<R: Threads + Sync + AllocGlobal>(
     requires some { 0 < workers }
     requires few { workers ≤ 64 }
 {
-    match engine.turns_ungated(rt, direction, 3, workers) {
+    match engine.make_steps(rt, direction, 3, workers) {
         Ok(()) => stands_at(rt.alloc(), engine, states, 3),
         Err(StepFault::Memory { done }) => {
             stands_at(rt.alloc(), engine, states, done)
                 && engine
-                    .turns_ungated(rt, direction, 3u64.saturating_sub(done), 1)
+                    .make_steps(rt, direction, 3u64.saturating_sub(done), 1)
                     .is_ok()
                 && stands_at(rt.alloc(), engine, states, 3)
         }

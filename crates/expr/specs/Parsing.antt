@@ -1,8 +1,8 @@
 -- Reading tokens from left to right, as far as the first fault.
 use Rattle.std.specs.Prelude.{◌≡◌, ℕ, zero, suc, ℤ, pos, neg_ℤ, Bool, true, false, if◌then◌else◌, List, [], ◌∷◌, length, Option, Some, None, Result, Ok, Err, Box}
 use Rattle.std.specs.Borrow.{Bor}
-use Rattle.expr.specs.declared.parser.Start.{Start}
-use Rattle.expr.specs.declared.parser.Start.TheVariants as begin
+use Rattle.expr.specs.declared.parser.OperandStart.{OperandStart}
+use Rattle.expr.specs.declared.parser.OperandStart.TheVariants as begin
 use Rattle.energy_program.specs.declared.trees.Operator.{Operator}
 use Rattle.energy_program.specs.declared.trees.Operator.TheVariants as op
 use Rattle.expr.specs.declared.calls.Arguments as call
@@ -130,7 +130,7 @@ pub data Beginning : Type 0 where
   Word : List ℕ → Beginning
   Group : Beginning
 
-abbrev pub beginning : Start → Beginning
+abbrev pub beginning : OperandStart → Beginning
 beginning (begin.Number z) = Numeral z
 beginning (begin.Name name) = Word name.now
 beginning begin.Open = Group
@@ -150,11 +150,11 @@ abbrev pub start : List Placed → SignOf Beginning
 start [] = None
 start ((k, at) ∷ rest) = with_rest rest (beginning_of k)
 
-abbrev pub ShowsBeginning : Option Start → Option Beginning → Type 0
+abbrev pub ShowsBeginning : Option OperandStart → Option Beginning → Type 0
 ShowsBeginning None first = first ≡ None
 ShowsBeginning (Some x) first = first ≡ Some (beginning x)
 
-abbrev pub ShowsStart : Option (Start × Bor (List Token)) → SignOf Beginning → Type 0
+abbrev pub ShowsStart : Option (OperandStart × Bor (List Token)) → SignOf Beginning → Type 0
 ShowsStart None first = first ≡ None
 ShowsStart (Some x) first = first ≡ Some (beginning x.0, placed x.1.now)
 

@@ -157,26 +157,26 @@ pub fn begins_operand(kind: Kind<'_>) -> bool
 }
 
 /// What an atom begins with.
-enum Start<'a> {
+enum OperandStart<'a> {
     Number(i64),
     Name(&'a [u8]),
     Open,
 }
 
 // How a token begins an atom.
-fn start_of(kind: Kind<'_>) -> Option<Start<'_>>
+fn start_of(kind: Kind<'_>) -> Option<OperandStart<'_>>
     ensures { ShowsBeginning result (beginning_of (lexeme kind.entry)) }
 {
     match kind {
-        Kind::Number(raw, _) => Some(Start::Number(raw)),
-        Kind::Name(name) => Some(Start::Name(name)),
-        Kind::Open => Some(Start::Open),
+        Kind::Number(raw, _) => Some(OperandStart::Number(raw)),
+        Kind::Name(name) => Some(OperandStart::Name(name)),
+        Kind::Open => Some(OperandStart::Open),
         _ => None,
     }
 }
 
 // What an atom begins with, and the tokens after that.
-fn read_start<'a>(tokens: &'a [Token<'a>]) -> Option<(Start<'a>, &'a [Token<'a>])>
+fn read_start<'a>(tokens: &'a [Token<'a>]) -> Option<(OperandStart<'a>, &'a [Token<'a>])>
     ensures { ShowsStart result (start (placed tokens.now)) }
 {
     match tokens {
@@ -332,12 +332,12 @@ impl<A: Allocator + Copy> Parser<A> {
             None => Err(Failure::Refused(ExprFault::UnexpectedToken {
                 at: self.offset(tokens),
             })),
-            Some((Start::Number(raw), rest)) => self.put(Syntax::Number(Fx::from_raw(raw)), rest),
-            Some((Start::Name(name), rest)) => match open_sign(rest) {
+            Some((OperandStart::Number(raw), rest)) => self.put(Syntax::Number(Fx::from_raw(raw)), rest),
+            Some((OperandStart::Name(name), rest)) => match open_sign(rest) {
                 None => self.put(Syntax::Name(name), rest),
                 Some(inside) => self.call(name, inside, levels),
             },
-            Some((Start::Open, rest)) => self.closed(rest, levels),
+            Some((OperandStart::Open, rest)) => self.closed(rest, levels),
         }
     }
 

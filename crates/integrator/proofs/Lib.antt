@@ -3,7 +3,7 @@ pub mod StepLemmas
 pub mod ForceLaws
 pub mod BoundLaws
 pub mod NumberLaws
-pub mod TurnLaws
+pub mod MotionLaws
 pub mod StateLaws
 pub mod StartLaws
 pub mod ReturnLaws

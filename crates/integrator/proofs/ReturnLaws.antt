@@ -16,15 +16,15 @@ use Rattle.ring_box.specs.Places.{ArePlaces, nowhere}
 use Rattle.state.specs.StateReading.{state_of}
 use Rattle.state.specs.StateText.{AtomView, StateView, IsAtom, IsState, state_text}
 use Rattle.integrator.proofs.Constructors.{err_is_no_ok, none_is_no_some, some_same}
-use Rattle.integrator.specs.Frames.{AreFrames, Frames, opposite, turns}
+use Rattle.integrator.specs.Frames.{AreOfSameAtoms, Frames, opposite, steps_in}
 use Rattle.integrator.specs.States.{counter_after, counter_at, frames_of, moved_state, nobody, placed_atoms}
 use Rattle.integrator.specs.Energies.{Energy, energy_of}
-use Rattle.integrator.specs.Starts.{Refusal, Start, are_alike, atom_types, bits_differ, Law, cutoff_too_long, energy_refused, has_room, in_counter, job_refused, known, or_refused, require, ring_of, state_refused, step_range, type_with, start_at, start_of, start_with, system_of, types_of}
+use Rattle.integrator.specs.Starts.{Refusal, Start, are_alike, atom_types, bits_differ, Law, cutoff_too_long, energy_refused, has_room, in_counter, job_refused, known, or_refused, require, ring_of, state_refused, step_range, type_with, start_at, start_of_run, start_with, system_of, types_of}
 use Rattle.integrator.specs.Runs.{IsRun}
 use Rattle.state.proofs.StateReadsAgain.{one_text}
 use Rattle.integrator.proofs.StartLaws.{started}
 use Rattle.integrator.proofs.StateLaws.{at_home, frames_moved, get_or-placed, length-placed, part_placed, placed_twice}
-use Rattle.integrator.proofs.TurnLaws.{returned}
+use Rattle.integrator.proofs.MotionLaws.{returned}
 use Rattle.integrator.specs.declared.direction.Direction.{Direction}
 use Rattle.integrator.specs.declared.direction.Direction.TheVariants.{Forward, Back}
 
@@ -57,7 +57,7 @@ system-placed j s f k = rw (types-placed j.types 1 s.atoms f) refl
 -- ---- a state's frames are frames, and at frames it is a state
 
 -- a state's two frames are frames of the same atoms
-pub frames_are : (s : StateView) → IsState s → AreFrames (frames_of s)
+pub frames_are : (s : StateView) → IsState s → AreOfSameAtoms (frames_of s)
 frames_are s h =
     let each = All-from_recursion IsAtom s.atoms h.atoms in
     record {
@@ -66,7 +66,7 @@ frames_are s h =
       current = All-map ArePlaces (λ a. a.current) s.atoms (λ k d l. (each k d l).current);
     }
 
-placed_are : (atoms : List AtomView) (f : Frames) → AllByRecursion IsAtom atoms → AreFrames f → length f.previous ≡ length atoms → AllByRecursion IsAtom (placed_atoms atoms f)
+placed_are : (atoms : List AtomView) (f : Frames) → AllByRecursion IsAtom atoms → AreOfSameAtoms f → length f.previous ≡ length atoms → AllByRecursion IsAtom (placed_atoms atoms f)
 placed_are atoms f h frames' same =
     let each = All-from_recursion IsAtom atoms h in
     recursion_from_All IsAtom (placed_atoms atoms f) (All-from_get_or IsAtom (placed_atoms atoms f) nobody (λ k l.
@@ -92,7 +92,7 @@ in_range_is (pos n) h = lt-ltb n (2 ^ 63) h
 in_range_is (negsuc n) h = lt-ltb n (2 ^ 63) h
 
 -- a state with frames of its atoms and a counter in range is a state again
-pub moved_is : (s : StateView) (f : Frames) (k : ℤ) → IsState s → AreFrames f → length f.previous ≡ length s.atoms → in_range k ≡ true → IsState (moved_state s f k)
+pub moved_is : (s : StateView) (f : Frames) (k : ℤ) → IsState s → AreOfSameAtoms f → length f.previous ≡ length s.atoms → in_range k ≡ true → IsState (moved_state s f k)
 moved_is s f k h frames' same fits = record {
   title = h.title;
   step = fits_is k fits;
@@ -182,8 +182,8 @@ system_parts j s system e =
     })
 
 -- a start is made of the job and the state of the texts, their system and a counter in range
-pub parts_of : (law : Law) (job state : List ℕ) (w : Direction) (n : ℕ) (start : Start) → start_of law job state w n ≡ Ok start → Parts law job state w n start
-unfolding start_of start_with
+pub parts_of : (law : Law) (job state : List ℕ) (w : Direction) (n : ℕ) (start : Start) → start_of_run law job state w n ≡ Ok start → Parts law job state w n start
+unfolding start_of_run start_with
 parts_of law job state w n start e =
     let a = bind_ok _ _ start e in
     let b = bind_ok _ _ start a.2 in
@@ -208,8 +208,8 @@ parts_of law job state w n start e =
 
 -- texts that are read as a job and a state have the start of these
 pub start_from : (law : Law) (job state : List ℕ) (w : Direction) (n : ℕ) (j : JobValue) (s : StateView)
-    → reading_of limits job ≡ Ok j → state_of state ≡ Ok s → start_of law job state w n ≡ start_with law w n j s
-unfolding start_of
+    → reading_of limits job ≡ Ok j → state_of state ≡ Ok s → start_of_run law job state w n ≡ start_with law w n j s
+unfolding start_of_run
 start_from law job state w n j s p q = rw (p, q) refl
 
 -- ---- the way back
@@ -222,8 +222,8 @@ run_back law job state w n text r =
     let d = law p.j s.sides p.energy p.types in
     let f = r.ran.frames' in
     let read = (one_text state s).0 p.state_read in
-    let turned = rw p.start_is at r.ran.turned in
-    let back = returned w d n (frames_of s) f (frames_are s read.0) turned in
+    let stepped = rw p.start_is at r.ran.stepped in
+    let back = returned w d n (frames_of s) f (frames_are s read.0) stepped in
     let previous : length f.previous ≡ length s.atoms = back.atoms ∙ length-map s.atoms (λ a. a.previous) in
     let current : length f.current ≡ length s.atoms = sym back.frames'.alike ∙ previous in
     let reached = counter_reached w s.step p.counter n p.counted in
@@ -241,7 +241,7 @@ run_back law job state w n text r =
       after = s;
       ran = record {
         frames' = frames_of s;
-        turned = ap (turns (opposite w) d n) (frames_moved s f p.counter previous current) ∙ back.back;
+        stepped = ap (steps_in (opposite w) d n) (frames_moved s f p.counter previous current) ∙ back.back;
         moved = ap (λ atoms. record s { atoms = atoms }) (sym (placed_twice s.atoms f (frames_of s) ∙ at_home s.atoms));
       };
       written = read.1;

@@ -20,7 +20,7 @@ use Rattle.fallible.proofs.FailureLaws.{fails_as}
 use Rattle.integrator.specs.declared.faults.SystemFault.{SystemFault}
 use Rattle.integrator.specs.StartViews.{system_refusal}
 use Rattle.integrator.specs.Energies.{Energy, energy_of}
-use Rattle.integrator.specs.Starts.{Law, Refusal, are_alike, start_at, start_of, atom_types, has_room, ring_of, start_with, system_of, types_of, type_with, unknown_type}
+use Rattle.integrator.specs.Starts.{Law, Refusal, are_alike, start_at, start_of_run, atom_types, has_room, ring_of, start_with, system_of, types_of, type_with, unknown_type}
 use Rattle.integrator.specs.States.{counter_after}
 use Rattle.integrator.specs.declared.direction.Direction.{Direction}
 
@@ -91,6 +91,6 @@ system_refused j s energy failure r h =
     rw r (fails_as system_refusal failure (types_of j s) (types_of j s >>= λ types. Ok (energy, types)) (λ fault e. bind_err (types_of j s) (λ types. Ok (energy, types)) fault e) h)
 
 -- since they have no atoms that can be run
-pub system_unready : (law : Law) (job state : List ℕ) (w : Direction) (n : ℕ) (j : JobValue) (s : StateView) (r : Refusal) → reading_of limits job ≡ Ok j → state_of state ≡ Ok s → system_of j s ≡ Err r → start_of law job state w n ≡ Err r
-unfolding start_of start_with
+pub system_unready : (law : Law) (job state : List ℕ) (w : Direction) (n : ℕ) (j : JobValue) (s : StateView) (r : Refusal) → reading_of limits job ≡ Ok j → state_of state ≡ Ok s → system_of j s ≡ Err r → start_of_run law job state w n ≡ Err r
+unfolding start_of_run start_with
 system_unready law job state w n j s r e d h = rw (e, d, h) refl

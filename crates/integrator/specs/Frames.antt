@@ -82,14 +82,14 @@ abbrev pub back : Dynamics → Frames → Option Frames
 back dynamics f = option_map (λ n. frames n f.previous) (next_frame dynamics f.current f.previous)
 
 -- one step in a direction
-abbrev pub turn : Direction → Dynamics → Frames → Option Frames
-turn Forward dynamics f = step dynamics f
-turn Back dynamics f = back dynamics f
+abbrev pub step_in : Direction → Dynamics → Frames → Option Frames
+step_in Forward dynamics f = step dynamics f
+step_in Back dynamics f = back dynamics f
 
 -- n steps in a direction
-unfoldable pub turns : Direction → Dynamics → ℕ → Frames → Option Frames
-turns direction dynamics zero f = Some f
-turns direction dynamics (suc n) f = option_and_then (turns direction dynamics n) (turn direction dynamics f)
+unfoldable pub steps_in : Direction → Dynamics → ℕ → Frames → Option Frames
+steps_in direction dynamics zero f = Some f
+steps_in direction dynamics (suc n) f = option_and_then (steps_in direction dynamics n) (step_in direction dynamics f)
 
 -- the two frames exchanged
 abbrev pub exchanged : Frames → Frames
@@ -100,7 +100,7 @@ opposite Forward = Back
 opposite Back = Forward
 
 -- two frames of the same atoms
-pub record AreFrames (f : Frames) : Type 0 where
+pub record AreOfSameAtoms (f : Frames) : Type 0 where
   pub alike : length f.previous ≡ length f.current
   pub previous : All ArePlaces f.previous
   pub current : All ArePlaces f.current

@@ -1,22 +1,22 @@
 -- A run from bytes to bytes: the texts of a job and a state, a number of steps and a direction give the text of the state after them.
 use Rattle.std.specs.Prelude.{◌≡◌, ℕ, List, Some, Ok}
 use Rattle.state.specs.StateText.{StateView, state_text}
-use Rattle.integrator.specs.Frames.{Frames, turns}
+use Rattle.integrator.specs.Frames.{Frames, steps_in}
 use Rattle.integrator.specs.States.{frames_of, moved_state}
-use Rattle.integrator.specs.Starts.{Law, Start, start_of}
+use Rattle.integrator.specs.Starts.{Law, Start, start_of_run}
 use Rattle.fallible.specs.Out.{Output, Appends, AppendsBeginning}
 use Rattle.integrator.specs.declared.direction.Direction.{Direction}
 
 -- the state after the steps
 pub record Ran (direction : Direction) (steps : ℕ) (start : Start) (after : StateView) : Type 0 where
   pub frames' : Frames
-  pub turned : turns direction start.dynamics steps (frames_of start.state) ≡ Some frames'
+  pub stepped : steps_in direction start.dynamics steps (frames_of start.state) ≡ Some frames'
   pub moved : after ≡ moved_state start.state frames' start.counter
 
 -- the text of the state after the steps
 pub record IsRun (law : Law) (job state : List ℕ) (direction : Direction) (steps : ℕ) (text : List ℕ) : Type 0 where
   pub start : Start
-  pub starts : start_of law job state direction steps ≡ Ok start
+  pub starts : start_of_run law job state direction steps ≡ Ok start
   pub after : StateView
   pub ran : Ran direction steps start after
   pub written : text ≡ state_text after
@@ -24,7 +24,7 @@ pub record IsRun (law : Law) (job state : List ℕ) (direction : Direction) (ste
 -- a state that the texts lead to
 pub record IsAfter (law : Law) (job state : List ℕ) (direction : Direction) (steps : ℕ) (after : StateView) : Type 0 where
   pub start : Start
-  pub starts : start_of law job state direction steps ≡ Ok start
+  pub starts : start_of_run law job state direction steps ≡ Ok start
   pub ran : Ran direction steps start after
 
 -- ---- the output

@@ -153,8 +153,8 @@ start_with law direction steps j s = do
   counter ← in_counter (counter_after direction s.step steps)
   Ok (start_at law j s system counter)
 
-unfoldable pub start_of : Law → List ℕ → List ℕ → Direction → ℕ → Result Start Refusal
-start_of law job state direction steps = do
+unfoldable pub start_of_run : Law → List ℕ → List ℕ → Direction → ℕ → Result Start Refusal
+start_of_run law job state direction steps = do
   j ← or_refused job_refused (reading_of limits job)
   s ← or_refused state_refused (state_of state)
   start_with law direction steps j s

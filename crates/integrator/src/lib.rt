@@ -21,6 +21,6 @@ pub use laws::inputs_have_names;
 pub use prepared::{Ready, TypedAtoms};
 pub use slope_parts::SlopeParts;
 pub use starts::{ready, slope_code};
-pub use states::{Turned, advance, counter_after, current_frame, previous_frame};
+pub use states::{Stepped, advance, counter_after, current_frame, previous_frame};
 pub use systems::System;
 pub use tables::type_table;

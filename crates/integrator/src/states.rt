@@ -71,7 +71,7 @@ fn place(atoms: &mut [Atom], previous: &[Place3], current: &[Place3])
 
 /// Two frames that follow one another.
 #[derive(Drop)]
-pub struct Turned<A: Allocator> {
+pub struct Stepped<A: Allocator> {
     /// Where each atom was one step earlier.
     pub previous: Vec<Place3, A>,
     /// Where each atom is.
@@ -79,13 +79,13 @@ pub struct Turned<A: Allocator> {
 }
 
 /// Puts a state's atoms at the places of these frames, and gives it this counter.
-pub fn advance<A: Allocator>(state: &mut State<A>, turned: &Turned<A>, counter: i64)
-    requires previous { length turned.now.previous.items ≡ length state.old.atoms.items }
-    requires current { length turned.now.current.items ≡ length state.old.atoms.items }
-    ensures value { state_view state.new ≡ moved_state (state_view state.old) (frames turned.now.previous.items turned.now.current.items) counter }
+pub fn advance<A: Allocator>(state: &mut State<A>, stepped: &Stepped<A>, counter: i64)
+    requires previous { length stepped.now.previous.items ≡ length state.old.atoms.items }
+    requires current { length stepped.now.current.items ≡ length state.old.atoms.items }
+    ensures value { state_view state.new ≡ moved_state (state_view state.old) (frames stepped.now.previous.items stepped.now.current.items) counter }
     ensures ring { state.new.ring ≡ state.old.ring }
     ensures atoms { length state.new.atoms.items ≡ length state.old.atoms.items }
 {
-    place(&mut state.atoms, &turned.previous, &turned.current);
+    place(&mut state.atoms, &stepped.previous, &stepped.current);
     state.step = counter;
 }

@@ -11,7 +11,7 @@ ghost use Rattle.ring_box.specs.declared.vectors.Place3.{Place3};
 use crate::boxes::RingBox;
 use crate::distances::distance_by_root;
 use crate::forces::outside_core;
-use crate::lines::Line;
+use crate::lines::PairLine;
 use crate::places::diff;
 use crate::reaches::Reach;
 use crate::sides::Side;
@@ -76,7 +76,7 @@ impl ActingPair {
         ensures value { result ≡ force_of self minus_slope }
         ensures bound { IsWithin (unsigned_abs minus_slope) result }
     {
-        let line = Line {
+        let line = PairLine {
             x: self.x,
             y: self.y,
             z: self.z,

@@ -11,7 +11,7 @@ use fixed::{floor_div, isqrt};
 
 /// The line through two atoms that are apart: its parts along the axes, and its length rounded down, which no part passes.
 #[derive(Clone, Copy)]
-pub(crate) struct Line {
+pub(crate) struct PairLine {
     pub x: i64,
     pub y: i64,
     pub z: i64,
@@ -70,14 +70,14 @@ fn length_near(s: u128, estimate: u64) -> u64
 
 impl Separation {
     /// The line of this separation, whose square is `s`; one of the length 1 where both atoms are at one place.
-    pub(crate) fn line(self, s: u128) -> Line
+    pub(crate) fn line(self, s: u128) -> PairLine
         requires square { s ≡ square self.x + square self.y + square self.z }
         ensures x { result.x ≡ self.x }
         ensures y { result.y ≡ self.y }
         ensures z { result.z ≡ self.z }
         ensures length { result.length ≡ length_of s }
     {
-        Line {
+        PairLine {
             x: self.x,
             y: self.y,
             z: self.z,
@@ -87,14 +87,14 @@ impl Separation {
 
     /// The same where the root of the square is estimated.
     #[inline(always)]
-    pub(crate) fn line_near(self, s: u128, estimate: u64) -> Line
+    pub(crate) fn line_near(self, s: u128, estimate: u64) -> PairLine
         requires square { s ≡ square self.x + square self.y + square self.z }
         ensures x { result.x ≡ self.x }
         ensures y { result.y ≡ self.y }
         ensures z { result.z ≡ self.z }
         ensures length { result.length ≡ length_of s }
     {
-        Line {
+        PairLine {
             x: self.x,
             y: self.y,
             z: self.z,
@@ -121,7 +121,7 @@ fn component(g: i128, a: i64, d: u64) -> i128
     floor_div(product(g, a), i128::from(d))
 }
 
-impl Line {
+impl PairLine {
     pub(crate) fn length(self) -> u64
         ensures { result ≡ self.length }
     {

@@ -21,7 +21,7 @@ use Rattle.ring_box.proofs.PlaceLemmas.{place_is, place_of_pm_is}
 use Rattle.state.specs.StateText.{StateView}
 use Rattle.state.specs.StateViews.{sides_view, state_view}
 use Rattle.state.specs.Velocities.{places_moved, place_before}
-use Rattle.state.specs.Starts.{BeginsAt, IsStartOfAtom, IsStartOnSide, on_box, start_in, start_of, started_atom}
+use Rattle.state.specs.Starts.{BeginsAt, IsStartOfAtom, IsStartOnSide, on_box, start_in, start_of_frame, started_atom}
 use Rattle.state.specs.declared.states.State.{State}
 
 -- ---- the box
@@ -93,7 +93,7 @@ all_start dt ring (g ∷ gs) p q r =
 -- ---- the state
 
 -- the state that is made of a frame begins at that frame
-pub begins_at : (frac : Frac) (dt : ℕ) (f : gro.FrameView) (s : StateView) → start_of frac dt f ≡ Ok s → BeginsAt frac dt f s
+pub begins_at : (frac : Frac) (dt : ℕ) (f : gro.FrameView) (s : StateView) → start_of_frame frac dt f ≡ Ok s → BeginsAt frac dt f s
 begins_at frac dt f s e =
     let b = box_found (box_of f.sides) (start_in frac dt f) s e in
     let ring = b.0 in
@@ -110,6 +110,6 @@ begins_at frac dt f s e =
     subst (λ (t : StateView). BeginsAt frac dt f t) b.2 it
 
 -- so does the state that a call returned
-pub start_begins : {A : Type 0} (frac : Frac) (dt : ℕ) (f : gro.FrameView) (r : Result (State A) (Failure BoxFault)) → Gives state_view (λ (e : BoxFault). e) r (start_of frac dt f) → IfOk r (λ s. BeginsAt frac dt f (state_view s))
+pub start_begins : {A : Type 0} (frac : Frac) (dt : ℕ) (f : gro.FrameView) (r : Result (State A) (Failure BoxFault)) → Gives state_view (λ (e : BoxFault). e) r (start_of_frame frac dt f) → IfOk r (λ s. BeginsAt frac dt f (state_view s))
 start_begins frac dt f (Ok s) h = begins_at frac dt f (state_view s) h
 start_begins frac dt f (Err e) h = tt

@@ -45,8 +45,8 @@ on_box (Ok ring) start = Ok (start ring)
 on_box (Err fault) start = Err fault
 
 -- the state of so many fraction bits that begins at a frame with a time step of dt fs, or why its sides are no box's
-abbrev pub start_of : Frac → ℕ → gro.FrameView → Result StateView BoxFault
-start_of frac dt f = on_box (box_of f.sides) (start_in frac dt f)
+abbrev pub start_of_frame : Frac → ℕ → gro.FrameView → Result StateView BoxFault
+start_of_frame frac dt f = on_box (box_of f.sides) (start_in frac dt f)
 
 -- ---- the same as a relation
 

@@ -3,7 +3,7 @@
 ghost use Rattle.std.specs.Prelude.{◌≡◌, ◌≤◌, map, IfOk};
 ghost use Rattle.fallible.specs.Failures.{Gives};
 ghost use Rattle.gro.specs.Frames as gro;
-ghost use Rattle.state.specs.Starts.{current_place, previous_place, start_of, started_atom};
+ghost use Rattle.state.specs.Starts.{current_place, previous_place, start_of_frame, started_atom};
 ghost use Rattle.state.specs.StateViews.{atom_view, state_view};
 
 use crate::states::{Atom, State};
@@ -19,7 +19,7 @@ impl<A: Allocator + Copy> State<A> {
     ghost use Rattle.fallible.specs.Failures.{Gives};
     ghost use Rattle.gro.specs.Frames.{frame_view};
     ghost use Rattle.state.specs.StateViews.{state_view};
-    ghost use Rattle.state.specs.Starts.{BeginsAt, start_of};
+    ghost use Rattle.state.specs.Starts.{BeginsAt, start_of_frame};
 
     /// The state that begins at a frame: its counter is 0, its fraction bits are the job's, and title, residue numbers, names and sides are the frame's. Each coordinate's current place is the one nearest to its position, and its previous place is as many places before that as its velocity leads in the job's time step.
     ///
@@ -30,7 +30,7 @@ impl<A: Allocator + Copy> State<A> {
         frame: &GroFrame<F>,
     ) -> Result<State<A>, Failure<BoxFault>>
         // The state, or the fault of the sides.
-        ensures exact { Gives state_view (λ f. f) result (start_of job.now.frac job.now.time_step (frame_view frame.now)) }
+        ensures exact { Gives state_view (λ f. f) result (start_of_frame job.now.frac job.now.time_step (frame_view frame.now)) }
         // Each place is nearest to where the frame, or the velocity one time step before it, has the atom.
         ensures begins { IfOk result (λ s. BeginsAt job.now.frac job.now.time_step (frame_view frame.now) (state_view s)) }
     {
@@ -45,7 +45,7 @@ fn started<A: Allocator + Copy, F: Allocator>(
     frame: &GroFrame<F>,
 ) -> Result<State<A>, Failure<BoxFault>>
     requires { time_step ≤ 1000 }
-    ensures { Gives state_view (λ f. f) result (start_of frac time_step (gro.frame_view frame.now)) }
+    ensures { Gives state_view (λ f. f) result (start_of_frame frac time_step (gro.frame_view frame.now)) }
 {
     let ring = RingBox::new(frame.sides).map_err(Failure::Refused)?;
     let title = Vec::from_slice(alloc, &frame.title)?;

@@ -16,7 +16,7 @@ use Rattle.integrator.proofs.Constructors.{none_is_no_some}
 use Rattle.integrator.specs.Energies.{Energy}
 use Rattle.tested_run.specs.Outcomes.{where_given}
 use Rattle.integrator.specs.Forces.{plus, share_of, sum_of_shares, pairs_of, force_or_none, forces_of, numbers_from}
-use Rattle.integrator.specs.Frames.{Frame, Frames, force_at, frame_forces, frames, moved_frame, next_frame, pair_force, places_of, turn, turns}
+use Rattle.integrator.specs.Frames.{Frame, Frames, force_at, frame_forces, frames, moved_frame, next_frame, pair_force, places_of, step_in, steps_in}
 use Rattle.integrator.specs.Starts.{Start, dynamics_by, pair_inputs, plain, start_at}
 use Rattle.tested_run.specs.TestedStarts.{pair_outcome, tested}
 use Rattle.integrator.specs.States.{frames_of}
@@ -117,19 +117,19 @@ module _ (s t : ℕ × ℕ → ℤ → Option ℤ) (j : JobValue) (sides types :
       (λ q. at_kept d.ring (s q) (t q) (acting_distance_of d.frac d.ring d.core d.cutoff (places_of c q.0) (places_of c q.1)) (places_of c q.0) (places_of c q.1) (kept q))
       (length c))
 
-  turn_kept : (w : Direction) (f : Frames) → Keeps (turn w (dynamics_by s j sides types) f) (turn w (dynamics_by t j sides types) f)
-  turn_kept Forward f =
+  step_kept : (w : Direction) (f : Frames) → Keeps (step_in w (dynamics_by s j sides types) f) (step_in w (dynamics_by t j sides types) f)
+  step_kept Forward f =
       map_kept (frames f.current) (next_frame (dynamics_by s j sides types) f.previous f.current) (next_frame (dynamics_by t j sides types) f.previous f.current) (frame_kept f.previous f.current)
-  turn_kept Back f =
+  step_kept Back f =
       map_kept (λ n. frames n f.previous) (next_frame (dynamics_by s j sides types) f.current f.previous) (next_frame (dynamics_by t j sides types) f.current f.previous) (frame_kept f.current f.previous)
 
   -- where each slope is also the other's, so are the frames after n steps
-  pub turns_kept : (w : Direction) (n : ℕ) (f : Frames) → Keeps (turns w (dynamics_by s j sides types) n f) (turns w (dynamics_by t j sides types) n f)
-  unfolding turns Keeps
+  pub turns_kept : (w : Direction) (n : ℕ) (f : Frames) → Keeps (steps_in w (dynamics_by s j sides types) n f) (steps_in w (dynamics_by t j sides types) n f)
+  unfolding steps_in Keeps
   turns_kept w zero f g e = e
   turns_kept w (suc n) f g e =
-      then_kept (turns w (dynamics_by s j sides types) n) (turns w (dynamics_by t j sides types) n) (turn w (dynamics_by s j sides types) f) (turn w (dynamics_by t j sides types) f)
-      (turns_kept w n) (turn_kept w f) g e
+      then_kept (steps_in w (dynamics_by s j sides types) n) (steps_in w (dynamics_by t j sides types) n) (step_in w (dynamics_by s j sides types) f) (step_in w (dynamics_by t j sides types) f)
+      (turns_kept w n) (step_kept w f) g e
 
 -- ---- runs
 
@@ -146,7 +146,7 @@ plain_run job state w n text run =
     let p = parts_of tested job state w n run.start run.starts in
     let system : Energy × List ℕ = (p.energy, p.types) in
     let start : Start = start_at plain p.j p.s system p.counter in
-    let turned = rw p.start_is at run.ran.turned in
+    let stepped = rw p.start_is at run.ran.stepped in
     record {
       start = start;
       starts =
@@ -155,10 +155,10 @@ plain_run job state w n text run =
       after = run.after;
       ran = record {
         frames' = run.ran.frames';
-        turned =
+        stepped =
             turns_kept (tested p.j p.s.sides p.energy p.types).slope (plain p.j p.s.sides p.energy p.types).slope p.j p.s.sides p.types
             (λ q r. given_kept (pair_outcome p.j p.energy p.types q r) (slope_of (bits_of p.j.frac) (pair_inputs p.j p.types q r) p.energy.tree))
-            w n (frames_of p.s) run.ran.frames' turned;
+            w n (frames_of p.s) run.ran.frames' stepped;
         moved = rw p.start_is at run.ran.moved;
       };
       written = run.written;

@@ -7,7 +7,7 @@ use Rattle.job.specs.Values.{JobValue}
 use Rattle.state.specs.StateText.{StateView}
 use Rattle.line_text.specs.Steps.{◌>>=◌}
 use Rattle.line_text.proofs.StepLaws.{bind_err}
-use Rattle.integrator.specs.Starts.{Law, Start, in_counter, start_at, start_of, start_with, system_of}
+use Rattle.integrator.specs.Starts.{Law, Start, in_counter, start_at, start_of_run, start_with, system_of}
 use Rattle.integrator.specs.StartViews.{system_refusal}
 use Rattle.integrator.specs.States.{counter_after}
 use Rattle.integrator.specs.declared.direction.Direction.{Direction}
@@ -28,12 +28,12 @@ system_handed_on law w n j s (Refused f) h = bind_err (system_of j s) (λ system
 system_handed_on law w n j s Memory h = tt
 
 -- texts that have no start have no tested run
-pub start_handed_on : {A : Type 0} → (job state : List ℕ) (w : Direction) (n : ℕ) (failure : Failure (StartFault A)) → Fails start_refusal failure (start_of tested job state w n) → IfRefused (refused_as fault.Start failure) (IsRefusal job state w n)
+pub start_handed_on : {A : Type 0} → (job state : List ℕ) (w : Direction) (n : ℕ) (failure : Failure (StartFault A)) → Fails start_refusal failure (start_of_run tested job state w n) → IfRefused (refused_as fault.Start failure) (IsRefusal job state w n)
 start_handed_on job state w n (Refused f) h = h
 start_handed_on job state w n Memory h = tt
 
 -- nor have those whose run stops on the way
-pub stop_handed_on : (A : Type 0) (job state : List ℕ) (w : Direction) (n : ℕ) (start : Start) (faults : Faults) (failure : Failure KernelFault) → start_of tested job state w n ≡ Ok start → HaveFaults job state faults
+pub stop_handed_on : (A : Type 0) (job state : List ℕ) (w : Direction) (n : ℕ) (start : Start) (faults : Faults) (failure : Failure KernelFault) → start_of_run tested job state w n ≡ Ok start → HaveFaults job state faults
     → IfRefused failure (IsStop w n start faults) → IfRefused (refused_as {S = TestedFault A} fault.Kernel failure) (IsRefusal job state w n)
 stop_handed_on A job state w n start faults (Refused f) e d h = record { start = start; starts = e; faults = faults; known = d; stopped = h }
 stop_handed_on A job state w n start faults Memory e d h = tt

@@ -4,14 +4,14 @@ use Rattle.std.specs.Prelude.{option_map}
 use Rattle.std.specs.Option.{option_and_then}
 use Rattle.state.specs.StateText.{StateView}
 use Rattle.integrator.proofs.Constructors.{none_is_no_some, ok_same}
-use Rattle.integrator.specs.Frames.{Dynamics, Frame, Frames, frames, moved_frame, next_frame, step, turn, turns, exchanged, pair_force}
+use Rattle.integrator.specs.Frames.{Dynamics, Frame, Frames, frames, moved_frame, next_frame, step, step_in, steps_in, exchanged, pair_force}
 use Rattle.tested_run.specs.declared.slope_faults.SlopeFault.{SlopeFault}
 use Rattle.integrator.specs.declared.direction.Direction.{Direction}
 use Rattle.integrator.specs.declared.direction.Direction.TheVariants.{Forward, Back}
 use Rattle.integrator.specs.States.{frames_of}
 use Rattle.integrator.specs.Starts.{Start}
 use Rattle.integrator.specs.Runs.{IsRun, Ran}
-use Rattle.integrator.proofs.TurnLaws.{turns-more, exchanged_turns}
+use Rattle.integrator.proofs.MotionLaws.{steps_more, exchanged_steps}
 use Rattle.integrator.proofs.RunLaws.{run_starts, start_moves}
 use Rattle.tested_run.specs.Stops.{Faults, StopsAt, first_without_force, middle}
 use Rattle.tested_run.specs.TestedStarts.{tested}
@@ -35,7 +35,7 @@ pub stops_exchanged : (d : Dynamics) (faults : Faults) (n : ℕ) (p c : Frame) (
 stops_exchanged d faults n p c done pair why h =
     record {
       reached = exchanged h.reached;
-      steps = exchanged_turns d done (frames c p) ∙ ap (option_map exchanged) h.steps;
+      steps = exchanged_steps d done (frames c p) ∙ ap (option_map exchanged) h.steps;
       early = h.early;
       first = h.first;
       why = h.why;
@@ -46,27 +46,27 @@ stops_exchanged d faults n p c done pair why h =
 no_frame : (d : Dynamics) (p c : Frame) (pair : ℕ × ℕ) → first_without_force (pair_force d c) (length c) ≡ Some pair → next_frame d p c ≡ None
 no_frame d p c pair e = ap (option_map (moved_frame d p c)) (no_forces (pair_force d c) (length c) pair e)
 
-no_turn : (w : Direction) (d : Dynamics) (f : Frames) (pair : ℕ × ℕ) → first_without_force (pair_force d (middle w f)) (length (middle w f)) ≡ Some pair → turn w d f ≡ None
-no_turn Forward d f pair e = ap (option_map (frames f.current)) (no_frame d f.previous f.current pair e)
-no_turn Back d f pair e = ap (option_map (λ n. frames n f.previous)) (no_frame d f.current f.previous pair e)
+no_step : (w : Direction) (d : Dynamics) (f : Frames) (pair : ℕ × ℕ) → first_without_force (pair_force d (middle w f)) (length (middle w f)) ≡ Some pair → step_in w d f ≡ None
+no_step Forward d f pair e = ap (option_map (frames f.current)) (no_frame d f.previous f.current pair e)
+no_step Back d f pair e = ap (option_map (λ n. frames n f.previous)) (no_frame d f.current f.previous pair e)
 
-stays_none : (w : Direction) (d : Dynamics) (f : Frames) (m k : ℕ) → turns w d m f ≡ None → turns w d (m + k) f ≡ None
+stays_none : (w : Direction) (d : Dynamics) (f : Frames) (m k : ℕ) → steps_in w d m f ≡ None → steps_in w d (m + k) f ≡ None
 stays_none w d f m zero e = let z : m + zero ≡ m = omega arith in rw z e
 stays_none w d f m (suc k) e =
     let s : m + suc k ≡ m + k + 1 = omega arith in
-    rw s (turns-more w d (m + k) f ∙ ap (option_and_then (turn w d)) (stays_none w d f m k e))
+    rw s (steps_more w d (m + k) f ∙ ap (option_and_then (step_in w d)) (stays_none w d f m k e))
 
-never_ends : (w : Direction) (d : Dynamics) (faults : Faults) (n : ℕ) (f : Frames) (done : ℕ) (pair : ℕ × ℕ) (why : SlopeFault) → StopsAt w d faults n f done pair why → turns w d n f ≡ None
+never_ends : (w : Direction) (d : Dynamics) (faults : Faults) (n : ℕ) (f : Frames) (done : ℕ) (pair : ℕ × ℕ) (why : SlopeFault) → StopsAt w d faults n f done pair why → steps_in w d n f ≡ None
 never_ends w d faults n f done pair why h =
-    let next : turns w d (done + 1) f ≡ None =
-    turns-more w d done f ∙ ap (option_and_then (turn w d)) h.steps ∙ no_turn w d h.reached pair h.first in
+    let next : steps_in w d (done + 1) f ≡ None =
+    steps_more w d done f ∙ ap (option_and_then (step_in w d)) h.steps ∙ no_step w d h.reached pair h.first in
     let early : done < n = h.early in
     let size : done + 1 + (n - (done + 1)) ≡ n = omega arith in
     rw size at (stays_none w d f (done + 1) (n - (done + 1)) next)
 
 stopped_or_ran : (w : Direction) (n : ℕ) (s : Start) (faults : Faults) (f : KernelFault) (a : StateView) → IsStop w n s faults f → Ran w n s a → ⊥
 stopped_or_ran w n s faults f a p q =
-    none_is_no_some q.frames' (sym (never_ends w s.dynamics faults n (frames_of s.state) p.done p.pair (record { pc = f.pc; fault = f.fault }) p.stops) ∙ q.turned)
+    none_is_no_some q.frames' (sym (never_ends w s.dynamics faults n (frames_of s.state) p.done p.pair (record { pc = f.pc; fault = f.fault }) p.stops) ∙ q.stepped)
 
 -- ---- no refusal where there is a run
 

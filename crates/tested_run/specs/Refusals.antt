@@ -5,7 +5,7 @@ use Rattle.fallible.specs.Out.{Output}
 use Rattle.fallible.specs.declared.failure.Failure.TheVariants.{Memory}
 use Rattle.job.specs.Views as job
 use Rattle.integrator.specs.States.{frames_of}
-use Rattle.integrator.specs.Starts.{Refusal, Start, job_refused, start_of, state_refused, step_range}
+use Rattle.integrator.specs.Starts.{Refusal, Start, job_refused, start_of_run, state_refused, step_range}
 use Rattle.integrator.specs.StartViews.{system_refusal}
 use Rattle.integrator.specs.Runs.{WroteBeginning}
 use Rattle.integrator.specs.declared.direction.Direction.{Direction}
@@ -39,14 +39,14 @@ pub record IsStop (direction : Direction) (steps : ℕ) (start : Start) (faults 
 -- a kernel's fault on the way from these texts
 pub record IsKernelFault (job state : List ℕ) (direction : Direction) (steps : ℕ) (f : KernelFault) : Type 0 where
   pub start : Start
-  pub starts : start_of tested job state direction steps ≡ Ok start
+  pub starts : start_of_run tested job state direction steps ≡ Ok start
   pub faults : Faults
   pub known : HaveFaults job state faults
   pub stopped : IsStop direction steps start faults f
 
 -- why texts have no tested run
 abbrev pub IsRefusal : {A : Type 0} → List ℕ → List ℕ → Direction → ℕ → TestedFault A → Type 0
-IsRefusal job state direction steps (fault.Start f) = start_of tested job state direction steps ≡ Err (start_refusal f)
+IsRefusal job state direction steps (fault.Start f) = start_of_run tested job state direction steps ≡ Err (start_refusal f)
 IsRefusal job state direction steps (fault.Kernel f) = IsKernelFault job state direction steps f
 
 -- why the text of a tested run was not written, and what the output is left with: only a failed output has a beginning of the text

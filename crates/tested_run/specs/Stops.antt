@@ -8,7 +8,7 @@ use Rattle.integrator.specs.declared.systems.System.{System}
 use Rattle.tested_run.specs.declared.slope_faults.SlopeFault.{SlopeFault}
 use Rattle.integrator.specs.declared.direction.Direction.{Direction}
 use Rattle.integrator.specs.declared.direction.Direction.TheVariants.{Forward, Back}
-use Rattle.integrator.specs.Frames.{Frame, Frames, places_of, Dynamics, pair_force, turns}
+use Rattle.integrator.specs.Frames.{Frame, Frames, places_of, Dynamics, pair_force, steps_in}
 use Rattle.integrator.specs.Forces.{pairs_of}
 
 -- the first pair without a force, by the lower index, then by the higher
@@ -36,7 +36,7 @@ middle Back f = f.previous
 -- of n steps from the frames f, `done` can be made, and in the frame whose forces the next one wants `pair` is the first pair without a force, because of this fault
 pub record StopsAt (direction : Direction) (dynamics : Dynamics) (faults : Faults) (n : ℕ) (f : Frames) (done : ℕ) (pair : ℕ × ℕ) (fault : SlopeFault) : Type 0 where
   pub reached : Frames
-  pub steps : turns direction dynamics done f ≡ Some reached
+  pub steps : steps_in direction dynamics done f ≡ Some reached
   pub early : done < n
   pub first : first_without_force (pair_force dynamics (middle direction reached)) (length (middle direction reached)) ≡ Some pair
   pub why : pair_fault dynamics faults (middle direction reached) pair ≡ Some fault

@@ -9,7 +9,7 @@ ghost use Rattle.fixed.specs.Arithmetic.{in_range};
 ghost use Rattle.integrator.specs.Runs.{IsAfter, IsRun, Ran, Wrote};
 ghost use Rattle.integrator.specs.Starts.{plain};
 ghost use Rattle.integrator.specs.States.{counter_at, current_frame, frames_of, moved_state, previous_frame};
-ghost use Rattle.integrator.specs.Frames.{frames, opposite, turns};
+ghost use Rattle.integrator.specs.Frames.{frames, opposite, steps_in};
 ghost use Rattle.integrator.specs.Systems.{dynamics_of};
 ghost use Rattle.tested_run.specs.Refusals.{IsRefusal, IsStop, IsTestedUnwritten, Wants};
 ghost use Rattle.tested_run.specs.Stops.{faults_of, forced_counter, StopsAt};
@@ -19,17 +19,17 @@ use crate::faults::{KernelFault, TestedFault, TestedRunFault};
 use crate::prepared::Prepared;
 use crate::slopes::TestedSlope;
 use crate::starts::start;
-use crate::steps::turns;
+use crate::steps::make_steps;
 use crate::stops::Stop;
 use crate::sums::NO_FORCE;
 use fallible::{Failure, Out};
-use integrator::{Direction, System, Turned, advance, current_frame, previous_frame};
+use integrator::{Direction, System, Stepped, advance, current_frame, previous_frame};
 use ring_box::{Force, Place3};
 use state::{Atom, State};
 use std::alloc::Allocator;
 
 /// So many steps of two frames in a direction.
-fn turn_frames<K: TestedSlope + Drop, A: Allocator>(
+fn step_frames<K: TestedSlope + Drop, A: Allocator>(
     system: &System<K, A>,
     direction: Direction,
     steps: u64,
@@ -41,14 +41,14 @@ fn turn_frames<K: TestedSlope + Drop, A: Allocator>(
     requires current { length current.old.items ≡ length system.now.masses.items }
     requires sums { length sums.old ≡ length system.now.masses.items }
     requires known { All (λ t. t < K.types system.now.kernel) system.now.types.items }
-    ensures value { OnOk result (turns direction (dynamics_of K.slope system.now) steps (frames previous.old.items current.old.items) ≡ Some (frames previous.new.items current.new.items)) }
+    ensures value { OnOk result (steps_in direction (dynamics_of K.slope system.now) steps (frames previous.old.items current.old.items) ≡ Some (frames previous.new.items current.new.items)) }
     ensures previous { length previous.new.items ≡ length previous.old.items }
     ensures current { length current.new.items ≡ length current.old.items }
     ensures fault { IfErr result (λ s. StopsAt direction (dynamics_of K.slope system.now) (faults_of K.fault system.now) steps (frames previous.old.items current.old.items) s.done (s.pair.low, s.pair.high) s.pair.fault) }
 {
     match direction {
-        Direction::Forward => turns(system, steps, previous, current, sums),
-        Direction::Back => turns(system, steps, current, previous, sums),
+        Direction::Forward => make_steps(system, steps, previous, current, sums),
+        Direction::Back => make_steps(system, steps, current, previous, sums),
     }
 }
 
@@ -59,10 +59,10 @@ fn frames_after<K: TestedSlope + Drop, A: Allocator + Copy>(
     direction: Direction,
     steps: u64,
     atoms: &[Atom],
-) -> Result<Turned<A>, Failure<Stop>>
+) -> Result<Stepped<A>, Failure<Stop>>
     requires atoms { length atoms.now ≡ length system.now.masses.items }
     requires known { All (λ t. t < K.types system.now.kernel) system.now.types.items }
-    ensures value { IfOk result (λ t. turns direction (dynamics_of K.slope system.now) steps (frames (previous_frame (map atom_view atoms.now)) (current_frame (map atom_view atoms.now))) ≡ Some (frames t.previous.items t.current.items)) }
+    ensures value { IfOk result (λ t. steps_in direction (dynamics_of K.slope system.now) steps (frames (previous_frame (map atom_view atoms.now)) (current_frame (map atom_view atoms.now))) ≡ Some (frames t.previous.items t.current.items)) }
     ensures previous { IfOk result (λ t. length t.previous.items ≡ length atoms.now) }
     ensures current { IfOk result (λ t. length t.current.items ≡ length atoms.now) }
     ensures stops { IfErr result (λ failure. IfRefused failure (λ s. StopsAt direction (dynamics_of K.slope system.now) (faults_of K.fault system.now) steps (frames (previous_frame (map atom_view atoms.now)) (current_frame (map atom_view atoms.now))) s.done (s.pair.low, s.pair.high) s.pair.fault)) }
@@ -70,7 +70,7 @@ fn frames_after<K: TestedSlope + Drop, A: Allocator + Copy>(
     let mut previous = previous_frame(alloc, atoms)?;
     let mut current = current_frame(alloc, atoms)?;
     let mut sums = vec![in alloc; NO_FORCE; atoms.len()]?;
-    match turn_frames(
+    match step_frames(
         system,
         direction,
         steps,
@@ -78,7 +78,7 @@ fn frames_after<K: TestedSlope + Drop, A: Allocator + Copy>(
         &mut current,
         &mut sums,
     ) {
-        Ok(()) => Ok(Turned { previous, current }),
+        Ok(()) => Ok(Stepped { previous, current }),
         Err(stop) => Err(Failure::Refused(stop)),
     }
 }
@@ -140,16 +140,16 @@ fn run_frames<A: Allocator + Copy>(
     direction: Direction,
     steps: u64,
     prepared: &Prepared<A>,
-) -> Result<Turned<A>, Failure<KernelFault>>
+) -> Result<Stepped<A>, Failure<KernelFault>>
     requires { in_range (counter_at direction prepared.now.state.step steps) ≡ true }
-    ensures value { IfOk result (λ t. turns direction (start_view prepared.now).dynamics steps (frames_of (start_view prepared.now).state) ≡ Some (frames t.previous.items t.current.items)) }
+    ensures value { IfOk result (λ t. steps_in direction (start_view prepared.now).dynamics steps (frames_of (start_view prepared.now).state) ≡ Some (frames t.previous.items t.current.items)) }
     ensures previous { IfOk result (λ t. length t.previous.items ≡ length prepared.now.state.atoms.items) }
     ensures current { IfOk result (λ t. length t.current.items ≡ length prepared.now.state.atoms.items) }
     ensures stop { IfErr result (λ failure. IfRefused failure (IsStop direction steps (start_view prepared.now) (faults_view prepared.now))) }
 {
     let Prepared { state, system, .. } = prepared;
     match frames_after(alloc, system, direction, steps, &state.atoms) {
-        Ok(turned) => Ok(turned),
+        Ok(stepped) => Ok(stepped),
         Err(Failure::Memory) => Err(Failure::Memory),
         Err(Failure::Refused(stop)) => Err(Failure::Refused(kernel_fault(
             direction, state, steps, stop,
@@ -158,17 +158,17 @@ fn run_frames<A: Allocator + Copy>(
 }
 
 /// The state at the end of a run whose frames have come to these.
-fn arrived<A: Allocator>(prepared: Prepared<A>, turned: &Turned<A>) -> State<A>
-    requires previous { length turned.now.previous.items ≡ length prepared.state.atoms.items }
-    requires current { length turned.now.current.items ≡ length prepared.state.atoms.items }
-    ensures { state_view result ≡ moved_state (state_view prepared.state) (frames turned.now.previous.items turned.now.current.items) prepared.counter }
+fn arrived<A: Allocator>(prepared: Prepared<A>, stepped: &Stepped<A>) -> State<A>
+    requires previous { length stepped.now.previous.items ≡ length prepared.state.atoms.items }
+    requires current { length stepped.now.current.items ≡ length prepared.state.atoms.items }
+    ensures { state_view result ≡ moved_state (state_view prepared.state) (frames stepped.now.previous.items stepped.now.current.items) prepared.counter }
 {
     let Prepared {
         mut state,
         counter,
         ..
     } = prepared;
-    advance(&mut state, turned, counter);
+    advance(&mut state, stepped, counter);
     state
 }
 
@@ -183,8 +183,8 @@ fn run<A: Allocator + Copy>(
     ensures value { IfOk result (λ s. Ran direction steps (start_view prepared) (state_view s)) }
     ensures stop { IfErr result (λ failure. IfRefused failure (IsStop direction steps (start_view prepared) (faults_view prepared))) }
 {
-    let turned = run_frames(alloc, direction, steps, &prepared)?;
-    Ok(arrived(prepared, &turned))
+    let stepped = run_frames(alloc, direction, steps, &prepared)?;
+    Ok(arrived(prepared, &stepped))
 }
 
 /// The state that these texts lead to.

@@ -7,7 +7,7 @@ ghost use Rattle.fixed.specs.Fractions.{bits_of};
 ghost use Rattle.job.specs.Views.{job_value, type_value};
 ghost use Rattle.state.specs.StateViews.{state_view};
 ghost use Rattle.integrator.specs.Energies.{IsCompiled};
-ghost use Rattle.integrator.specs.Starts.{mass_of, start_at, start_of, start_with, table_of};
+ghost use Rattle.integrator.specs.Starts.{mass_of, start_at, start_of_run, start_with, table_of};
 ghost use Rattle.integrator.specs.States.{counter_at};
 ghost use Rattle.integrator.specs.StartViews.{energy_view};
 ghost use Rattle.fallible.specs.Failures.{Gives};
@@ -95,7 +95,7 @@ fn started<A: Allocator + Copy>(
 }
 
 /// What a tested run of these texts starts from.
-#[tactic(auto, unfolding(integrator::specs::Starts::start_of))]
+#[tactic(auto, unfolding(integrator::specs::Starts::start_of_run))]
 pub(crate) fn start<A: Allocator + Copy>(
     alloc: A,
     direction: Direction,
@@ -103,7 +103,7 @@ pub(crate) fn start<A: Allocator + Copy>(
     job: &[u8],
     state: &[u8],
 ) -> Result<Prepared<A>, Failure<StartFault<A>>>
-    ensures value { Gives start_view start_refusal result (start_of tested job.now state.now direction steps) }
+    ensures value { Gives start_view start_refusal result (start_of_run tested job.now state.now direction steps) }
     ensures faults { IfOk result (λ p. HaveFaults job.now state.now (faults_view p)) }
     ensures fits { IfOk result (λ p. in_range (counter_at direction p.state.step steps) ≡ true) }
 {

@@ -3,7 +3,7 @@
 ghost use Rattle.std.specs.Prelude.{◌≡◌, ◌<◌, ◌≤◌, ◌^◌, length, Some, OnOk, IfErr};
 ghost use Rattle.std.specs.List.{All};
 ghost use Rattle.ring_box.specs.Forces.{IsWithin};
-ghost use Rattle.integrator.specs.Frames.{frames, moved_frame, next_frame, pair_force, step, turns};
+ghost use Rattle.integrator.specs.Frames.{frames, moved_frame, next_frame, pair_force, step, steps_in};
 ghost use Rattle.integrator.specs.declared.direction.Direction.TheVariants.{Forward};
 ghost use Rattle.integrator.specs.Systems.{dynamics_of};
 ghost use Rattle.tested_run.specs.Stops.{faults_of, first_without_force, pair_fault, StopsAt};
@@ -62,7 +62,7 @@ fn follow<K: TestedSlope + Drop, A: Allocator>(
 
 /// One step: the frames `before` and `middle` become `middle` and the frame after it. Where a pair has no force
 /// they stay.
-fn turn<K: TestedSlope + Drop, A: Allocator>(
+fn make_step<K: TestedSlope + Drop, A: Allocator>(
     system: &System<K, A>,
     before: &mut Vec<Place3, A>,
     middle: &mut Vec<Place3, A>,
@@ -84,7 +84,7 @@ fn turn<K: TestedSlope + Drop, A: Allocator>(
 }
 
 /// So many steps from the frames `before` and `middle`.
-pub(crate) fn turns<K: TestedSlope + Drop, A: Allocator>(
+pub(crate) fn make_steps<K: TestedSlope + Drop, A: Allocator>(
     system: &System<K, A>,
     steps: u64,
     before: &mut Vec<Place3, A>,
@@ -95,13 +95,13 @@ pub(crate) fn turns<K: TestedSlope + Drop, A: Allocator>(
     requires middle { length middle.old.items ≡ length system.now.masses.items }
     requires sums { length sums.old ≡ length system.now.masses.items }
     requires known { All (λ t. t < K.types system.now.kernel) system.now.types.items }
-    ensures value { OnOk result (turns Forward (dynamics_of K.slope system.now) steps (frames before.old.items middle.old.items) ≡ Some (frames before.new.items middle.new.items)) }
+    ensures value { OnOk result (steps_in Forward (dynamics_of K.slope system.now) steps (frames before.old.items middle.old.items) ≡ Some (frames before.new.items middle.new.items)) }
     ensures before { length before.new.items ≡ length before.old.items }
     ensures middle { length middle.new.items ≡ length middle.old.items }
     ensures fault { IfErr result (λ s. StopsAt Forward (dynamics_of K.slope system.now) (faults_of K.fault system.now) steps (frames before.old.items middle.old.items) s.done (s.pair.low, s.pair.high) s.pair.fault) }
 {
     for done in 0..steps {
-        match turn(system, before, middle, sums) {
+        match make_step(system, before, middle, sums) {
             Ok(()) => {}
             Err(pair) => return Err(Stop { done, pair }),
         }

@@ -14,8 +14,8 @@ use Rattle.tile_round.specs.declared.events.Outcome.{Outcome}
 use Rattle.tile_round.specs.declared.events.Outcome.TheVariants.{Drew, Ended, Added}
 use Rattle.tile_round.specs.declared.faults.RoundFault.TheVariants.{Busy, Idle}
 use Rattle.tile_round.specs.declared.places.Task.{Task}
-use Rattle.tile_round.specs.declared.places.Place.{Place}
-use Rattle.tile_round.specs.declared.places.Place.TheVariants.{Resting, Adding, Stopped}
+use Rattle.tile_round.specs.declared.places.WorkerPlace.{WorkerPlace}
+use Rattle.tile_round.specs.declared.places.WorkerPlace.TheVariants.{Resting, Adding, Stopped}
 use Rattle.tile_round.specs.Tiles.{Addition, additions_of, tile_of, tiles_of, tile_at, pairs_at, IsPairOf}
 use Rattle.tile_round.specs.Interleaving.{State, Stand, Progress, opening, stand_at, outcome_at, on_claim, on_deposit}
 use Rattle.tile_round.specs.Interleaving.Stand.{doing, ended}
@@ -137,14 +137,14 @@ entry_inside atoms p (suc (suc (suc (suc (suc zero))))) a pair at = let e : 3 * 
 entry_inside atoms p (suc (suc (suc (suc (suc (suc part)))))) a pair at = absurd (cc at)
 
 -- a worker that may go on and has no task rests
-pub rests_at : (o : Option Place) → task_at o ≡ Ok None → o ≡ Some Resting
+pub rests_at : (o : Option WorkerPlace) → task_at o ≡ Ok None → o ≡ Some Resting
 rests_at None is = absurd (cc is)
 rests_at (Some Stopped) is = absurd (cc is)
 rests_at (Some Resting) is = refl
 rests_at (Some (Adding task)) is = absurd (cc is)
 
 -- a worker that has a task is adding
-pub adds_at : (o : Option Place) (task : Task) → task_at o ≡ Ok (Some task) → o ≡ Some (Adding task)
+pub adds_at : (o : Option WorkerPlace) (task : Task) → task_at o ≡ Ok (Some task) → o ≡ Some (Adding task)
 adds_at None task is = absurd (cc is)
 adds_at (Some Stopped) task is = absurd (cc is)
 adds_at (Some Resting) task is = absurd (cc is)
@@ -152,33 +152,33 @@ adds_at (Some (Adding other)) task is = ap (λ (t : Task). Some (Adding t)) (let
 
 module _ (plan : List (List (Option PairAdd))) where
   -- the machine's state
-  abbrev pub state_of : List ℕ → List Place → List ℤ → State
+  abbrev pub state_of : List ℕ → List WorkerPlace → List ℤ → State
   state_of drawn places sums = record { drawn = drawn; stands = stands_of plan places; sums = map (cast_unsigned w64) sums }
 
   -- how a worker stands in the machine's state is told by its place
-  pub standing : (places : List Place) (w : ℕ) (o : Option Place) → slice_get places w ≡ o → slice_get (stands_of plan places) w ≡ option_map (stand_of plan) o
+  pub standing : (places : List WorkerPlace) (w : ℕ) (o : Option WorkerPlace) → slice_get places w ≡ o → slice_get (stands_of plan places) w ≡ option_map (stand_of plan) o
   standing places w o e = slice_get-map (stand_of plan) places w ∙ ap (option_map (stand_of plan)) e
 
   -- what a round is seen as
-  abbrev pub progress_of : List ℕ → List Place → List ℤ → Progress
+  abbrev pub progress_of : List ℕ → List WorkerPlace → List ℤ → Progress
   progress_of drawn places sums = record { tiles = tiles_of plan; state = state_of drawn places sums }
 
   -- refusals of a worker that has additions left, and of one that has none
-  pub claim_busy : (now : Progress) (drawn : List ℕ) (places : List Place) (sums : List ℤ) (w : ℕ) (a : Addition) (rest : List Addition) → progress_of drawn places sums ≡ now
+  pub claim_busy : (now : Progress) (drawn : List ℕ) (places : List WorkerPlace) (sums : List ℤ) (w : ℕ) (a : Addition) (rest : List Addition) → progress_of drawn places sums ≡ now
       → slice_get (stands_of plan places) w ≡ Some (doing (a ∷ rest)) → (now.state, Err Busy) ≡ on_claim now.tiles now.state w (slice_get now.state.stands w)
   claim_busy now drawn places sums w a rest seen at =
       let stands : slice_get now.state.stands w ≡ Some (doing (a ∷ rest)) = ap (λ (v : Progress). slice_get v.state.stands w) (sym seen) ∙ at in
       sym (ap (on_claim now.tiles now.state w) stands)
 
   -- a worker at rest has nothing to add, and its deposit is refused as idle
-  pub deposit_idle : (now : Progress) (drawn : List ℕ) (places : List Place) (sums : List ℤ) (w : ℕ) → progress_of drawn places sums ≡ now
+  pub deposit_idle : (now : Progress) (drawn : List ℕ) (places : List WorkerPlace) (sums : List ℤ) (w : ℕ) → progress_of drawn places sums ≡ now
       → slice_get places w ≡ Some Resting → (now.state, Err Idle) ≡ on_deposit now.tiles now.state w (slice_get now.state.stands w)
   deposit_idle now drawn places sums w seen at =
       let stands : slice_get now.state.stands w ≡ Some (doing []) = ap (λ (v : Progress). slice_get v.state.stands w) (sym seen) ∙ standing places w (Some Resting) at in
       sym (ap (on_deposit now.tiles now.state w) stands)
 
   -- the place of a worker that has drawn a ticket
-  pub drew_tile : (t : ℕ) (p : Place) → t < length plan → stand_of plan p ≡ doing (tile_of (drop 0 (pairs_at plan t))) → stand_of plan p ≡ stand_at (tiles_of plan) t
+  pub drew_tile : (t : ℕ) (p : WorkerPlace) → t < length plan → stand_of plan p ≡ doing (tile_of (drop 0 (pairs_at plan t))) → stand_of plan p ≡ stand_at (tiles_of plan) t
   drew_tile t p lt e =
       e ∙ (ap doing (sym (tile_at-tiles_of plan t)) ∙ sym (stand_below (tiles_of plan) t (omega (arith, length-map plan tile_of))))
 
@@ -195,7 +195,7 @@ module _ (plan : List (List (Option PairAdd))) where
   outcome_none t le = let past : length (tiles_of plan) ≤ t = omega (arith, length-map plan tile_of) in sym (outcome_past (tiles_of plan) t past)
 
   -- a claim of a worker at rest
-  pub claims_so : (drawn drawn' : List ℕ) (places : List Place) (sums : List ℤ) (w : ℕ) (p : Place) (outcome : Outcome)
+  pub claims_so : (drawn drawn' : List ℕ) (places : List WorkerPlace) (sums : List ℤ) (w : ℕ) (p : WorkerPlace) (outcome : Outcome)
       → drawn' ≡ drawn ++ w ∷ [] → slice_get places w ≡ Some Resting → stand_of plan p ≡ stand_at (tiles_of plan) (length drawn) → outcome ≡ outcome_at (tiles_of plan) (length drawn)
       → (state_of drawn' (set places w p) sums, Ok outcome) ≡ on_claim (tiles_of plan) (state_of drawn places sums) w (slice_get (stands_of plan places) w)
   claims_so drawn drawn' places sums w p outcome longer at stand is =
@@ -208,14 +208,14 @@ module _ (plan : List (List (Option PairAdd))) where
   rest_of task = drop (task.part + 1) (additions_of (Some task.add)) ++ later plan task
 
   -- a worker with a task stands before its next addition
-  pub stands_before : (places : List Place) (w : ℕ) (task : Task) (a : Addition) → slice_get places w ≡ Some (Adding task) → slice_get (additions_of (Some task.add)) task.part ≡ Some a
+  pub stands_before : (places : List WorkerPlace) (w : ℕ) (task : Task) (a : Addition) → slice_get places w ≡ Some (Adding task) → slice_get (additions_of (Some task.add)) task.part ≡ Some a
       → slice_get (stands_of plan places) w ≡ Some (doing (a ∷ rest_of task))
   stands_before places w task a at next =
       standing places w (Some (Adding task)) at
       ∙ ap (λ (xs : List Addition). Some (doing (xs ++ later plan task))) (drop_at (additions_of (Some task.add)) task.part a next)
 
   -- a deposit of a worker with a task
-  pub deposits_so : (drawn : List ℕ) (places : List Place) (sums sums' : List ℤ) (w : ℕ) (task : Task) (p : Place) (a : Addition)
+  pub deposits_so : (drawn : List ℕ) (places : List WorkerPlace) (sums sums' : List ℤ) (w : ℕ) (task : Task) (p : WorkerPlace) (a : Addition)
       → slice_get places w ≡ Some (Adding task) → slice_get (additions_of (Some task.add)) task.part ≡ Some a → stand_of plan p ≡ doing (rest_of task)
       → map (cast_unsigned w64) sums' ≡ set (map (cast_unsigned w64) sums) a.0 ((slice_index (map (cast_unsigned w64) sums) a.0 + a.1) % 2 ^ 64)
       → (state_of drawn (set places w p) sums', Ok (Added (1 + a.0))) ≡ on_deposit (tiles_of plan) (state_of drawn places sums) w (slice_get (stands_of plan places) w)
@@ -225,12 +225,12 @@ module _ (plan : List (List (Option PairAdd))) where
       ∙ sym (ap (on_deposit (tiles_of plan) (state_of drawn places sums) w) (stands_before places w task a at next))
 
   module _ (atoms : ℕ) where
-    within_set : (places : List Place) (w : ℕ) (p : Place) → IsPlace atoms plan p → ((v : ℕ) (q : Place) → slice_get places v ≡ Some q → IsPlace atoms plan q)
-        → (v : ℕ) (q : Place) → slice_get (set places w p) v ≡ Some q → IsPlace atoms plan q
+    within_set : (places : List WorkerPlace) (w : ℕ) (p : WorkerPlace) → IsPlace atoms plan p → ((v : ℕ) (q : WorkerPlace) → slice_get places v ≡ Some q → IsPlace atoms plan q)
+        → (v : ℕ) (q : WorkerPlace) → slice_get (set places w p) v ≡ Some q → IsPlace atoms plan q
     within_set places w p is within v q e = ⊎_elim (λ t. subst (IsPlace atoms plan) t.1 is) (λ t. within v q t.1) (at_set places w v p q e)
 
     -- there is room for the ticket of a worker at rest
-    pub has_room : (drawn : List ℕ) (room : ℕ) (places : List Place) (sums : List ℤ) (w : ℕ) → IsSound atoms plan drawn room places sums → slice_get places w ≡ Some Resting → length drawn < room
+    pub has_room : (drawn : List ℕ) (room : ℕ) (places : List WorkerPlace) (sums : List ℤ) (w : ℕ) → IsSound atoms plan drawn room places sums → slice_get places w ≡ Some Resting → length drawn < room
     has_room drawn room places sums w sound at =
         let few = sound.few in
         let enough = sound.enough in
@@ -239,7 +239,7 @@ module _ (plan : List (List (Option PairAdd))) where
         omega arith
 
     -- a round is sound still once a worker at rest has drawn a ticket
-    pub claim_sound : (drawn drawn' : List ℕ) (room room' : ℕ) (places : List Place) (sums : List ℤ) (w : ℕ) (p : Place) → IsSound atoms plan drawn room places sums → slice_get places w ≡ Some Resting → IsPlace atoms plan p
+    pub claim_sound : (drawn drawn' : List ℕ) (room room' : ℕ) (places : List WorkerPlace) (sums : List ℤ) (w : ℕ) (p : WorkerPlace) → IsSound atoms plan drawn room places sums → slice_get places w ≡ Some Resting → IsPlace atoms plan p
         → drawn' ≡ drawn ++ w ∷ [] → room' ≡ room → stand_of plan p ≡ stand_at (tiles_of plan) (length drawn) → IsSound atoms plan drawn' room' (set places w p) sums
     claim_sound drawn drawn' room room' places sums w p sound at is longer same stand = record {
       within = within_set places w p is sound.within;
@@ -257,7 +257,7 @@ module _ (plan : List (List (Option PairAdd))) where
     }
 
     -- a round is sound still once a worker has made its task's next addition
-    pub deposit_sound : (drawn : List ℕ) (room : ℕ) (places : List Place) (sums sums' : List ℤ) (w : ℕ) (task : Task) (p : Place) (a : Addition) → IsSound atoms plan drawn room places sums → slice_get places w ≡ Some (Adding task) → IsPlace atoms plan p
+    pub deposit_sound : (drawn : List ℕ) (room : ℕ) (places : List WorkerPlace) (sums sums' : List ℤ) (w : ℕ) (task : Task) (p : WorkerPlace) (a : Addition) → IsSound atoms plan drawn room places sums → slice_get places w ≡ Some (Adding task) → IsPlace atoms plan p
         → slice_get (additions_of (Some task.add)) task.part ≡ Some a → stand_of plan p ≡ doing (rest_of task)
         → length sums' ≡ length sums → map (cast_signed w64) (map (cast_unsigned w64) sums') ≡ sums' → IsSound atoms plan drawn room (set places w p) sums'
     deposit_sound drawn room places sums sums' w task p a sound at is next stand same signed = record {
@@ -274,14 +274,14 @@ module _ (plan : List (List (Option PairAdd))) where
     }
 
     -- a worker with a task has an addition left
-    pub stands_adding : (drawn : List ℕ) (room : ℕ) (places : List Place) (sums : List ℤ) (w : ℕ) (task : Task) → IsSound atoms plan drawn room places sums → slice_get places w ≡ Some (Adding task)
+    pub stands_adding : (drawn : List ℕ) (room : ℕ) (places : List WorkerPlace) (sums : List ℤ) (w : ℕ) (task : Task) → IsSound atoms plan drawn room places sums → slice_get places w ≡ Some (Adding task)
         → (a : Addition) × (slice_get (stands_of plan places) w ≡ Some (doing (a ∷ rest_of task)))
     stands_adding drawn room places sums w task sound at =
         let a = next_addition task.add task.part (sound.within w (Adding task) at).part in
         (a.0, stands_before places w task a.0 at a.1)
 
   -- the opening of a round
-  module _ (atoms workers entries room : ℕ) (drawn : List ℕ) (places : List Place) (sums : List ℤ) (drawn_is : drawn ≡ []) (places_are : places ≡ replicate workers Resting) (sums_are : sums ≡ replicate entries (pos 0)) where
+  module _ (atoms workers entries room : ℕ) (drawn : List ℕ) (places : List WorkerPlace) (sums : List ℤ) (drawn_is : drawn ≡ []) (places_are : places ≡ replicate workers Resting) (sums_are : sums ≡ replicate entries (pos 0)) where
     -- a round as it is made is the machine's opening
     pub opens_so : state_of drawn places sums ≡ opening workers entries
     opens_so =

@@ -8,24 +8,24 @@ use Rattle.tile_round.specs.declared.work.PairAdd.{PairAdd}
 use Rattle.tile_round.specs.declared.faults.RoundFault.{RoundFault}
 use Rattle.tile_round.specs.declared.faults.RoundFault.TheVariants.{NoSuchWorker, Stopped as StoppedFault}
 use Rattle.tile_round.specs.declared.places.Task.{Task}
-use Rattle.tile_round.specs.declared.places.Place.{Place}
-use Rattle.tile_round.specs.declared.places.Place.TheVariants.{Resting, Adding, Stopped}
+use Rattle.tile_round.specs.declared.places.WorkerPlace.{WorkerPlace}
+use Rattle.tile_round.specs.declared.places.WorkerPlace.TheVariants.{Resting, Adding, Stopped}
 
 module _ (plan : List (List (Option PairAdd))) where
   -- the additions of the pairs after the one at hand
   abbrev pub later : Task → List Addition
   later task = tile_of (drop task.next (pairs_at plan task.tile))
 
-  abbrev pub stand_of : Place → Stand
+  abbrev pub stand_of : WorkerPlace → Stand
   stand_of Resting = doing []
   stand_of (Adding task) = doing (drop task.part (additions_of (Some task.add)) ++ later task)
   stand_of Stopped = ended
 
-  abbrev pub stands_of : List Place → List Stand
+  abbrev pub stands_of : List WorkerPlace → List Stand
   stands_of places = map stand_of places
 
 -- what a worker at this place has left, or why each of its events is refused
-abbrev pub task_at : Option Place → Result (Option Task) RoundFault
+abbrev pub task_at : Option WorkerPlace → Result (Option Task) RoundFault
 task_at None = Err NoSuchWorker
 task_at (Some Stopped) = Err StoppedFault
 task_at (Some Resting) = Ok None
@@ -44,14 +44,14 @@ module _ (atoms : ℕ) (plan : List (List (Option PairAdd))) where
     pub tile : task.tile < length plan
     pub next : task.next ≤ length (pairs_at plan task.tile)
 
-  abbrev pub IsPlace : Place → Type 0
+  abbrev pub IsPlace : WorkerPlace → Type 0
   IsPlace (Adding task) = IsTask task
   IsPlace _ = Unit {0}
 
   -- what a round keeps of what it holds
-  pub record IsSound (drawn : List ℕ) (room : ℕ) (places : List Place) (sums : List ℤ) : Type 0 where
+  pub record IsSound (drawn : List ℕ) (room : ℕ) (places : List WorkerPlace) (sums : List ℤ) : Type 0 where
     -- the workers' places are within the plan
-    pub within : (w : ℕ) (p : Place) → slice_get places w ≡ Some p → IsPlace p
+    pub within : (w : ℕ) (p : WorkerPlace) → slice_get places w ≡ Some p → IsPlace p
     -- there are sums for all atoms, each a number of 64 bits
     pub wide : 3 * atoms ≤ length sums
     pub signed : map (cast_signed w64) (map (cast_unsigned w64) sums) ≡ sums

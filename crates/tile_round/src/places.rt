@@ -8,7 +8,7 @@ use crate::work::{PairAdd, Work};
 
 /// Where a worker stands.
 #[derive(Clone, Copy, PartialEq, Eq, Debug)]
-pub(crate) enum Place {
+pub(crate) enum WorkerPlace {
     /// It has nothing left to add.
     Resting,
     /// It has additions left.
@@ -37,7 +37,7 @@ impl Task {
     }
 
     // Where the worker stands after it.
-    pub(crate) fn after<W: Work>(self, work: &W) -> Place
+    pub(crate) fn after<W: Work>(self, work: &W) -> WorkerPlace
         requires { IsTask (W.atoms work.now) (W.plan work.now) self }
         ensures stand { stand_of (W.plan work.now) result
             ≡ doing (drop (self.part + 1) (additions_of (Some self.add)) ++ later (W.plan work.now) self) }
@@ -45,7 +45,7 @@ impl Task {
     {
         let part = self.part + 1;
         if part < PairAdd::PARTS {
-            Place::Adding(Task {
+            WorkerPlace::Adding(Task {
                 tile: self.tile,
                 next: self.next,
                 add: self.add,
@@ -59,19 +59,19 @@ impl Task {
 
 // What a worker has left to add, and nothing where it is at rest. It is refused where there is no
 // worker of this number, and else where the worker has stopped.
-pub(crate) fn task_of(places: &[Place], worker: u32) -> Result<Option<Task>, RoundFault>
+pub(crate) fn task_of(places: &[WorkerPlace], worker: u32) -> Result<Option<Task>, RoundFault>
     ensures { result ≡ task_at (slice_get places.now worker) }
 {
     match places.get(worker as usize) {
         None => Err(RoundFault::NoSuchWorker),
-        Some(Place::Stopped) => Err(RoundFault::Stopped),
-        Some(Place::Resting) => Ok(None),
-        Some(Place::Adding(task)) => Ok(Some(*task)),
+        Some(WorkerPlace::Stopped) => Err(RoundFault::Stopped),
+        Some(WorkerPlace::Resting) => Ok(None),
+        Some(WorkerPlace::Adding(task)) => Ok(Some(*task)),
     }
 }
 
 // The place at the first pair that acts, from this one of the tile on.
-pub(crate) fn place_from<W: Work>(work: &W, tile: u64, first: u64) -> Place
+pub(crate) fn place_from<W: Work>(work: &W, tile: u64, first: u64) -> WorkerPlace
     requires tile { tile < length (W.plan work.now) }
     requires first { first ≤ length (pairs_at (W.plan work.now) tile) }
     ensures stand { stand_of (W.plan work.now) result
@@ -81,7 +81,7 @@ pub(crate) fn place_from<W: Work>(work: &W, tile: u64, first: u64) -> Place
     for k in first..work.pairs(tile) {
         match work.pair(tile, k) {
             Some(add) => {
-                return Place::Adding(Task {
+                return WorkerPlace::Adding(Task {
                     tile,
                     next: k + 1,
                     add,
@@ -91,5 +91,5 @@ pub(crate) fn place_from<W: Work>(work: &W, tile: u64, first: u64) -> Place
             None => {}
         }
     }
-    Place::Resting
+    WorkerPlace::Resting
 }

@@ -5,7 +5,7 @@ ghost use Rattle.tile_round.specs.Interleaving.{on_claim, on_deposit, opening, s
 
 use crate::events::{Event, Outcome};
 use crate::faults::{Memory, RoundFault};
-use crate::places::{Place, place_from, task_of};
+use crate::places::{WorkerPlace, place_from, task_of};
 use crate::work::Work;
 use std::alloc::Allocator;
 use std::marker::Model;
@@ -18,7 +18,7 @@ pub struct Round<'w, W: Work, A: Allocator + Copy> {
     // who drew each ticket
     drawn: Vec<u32, A>,
     // where each worker stands
-    places: Vec<Place, A>,
+    places: Vec<WorkerPlace, A>,
     sums: Vec<i64, A>,
 }
 
@@ -59,7 +59,7 @@ impl<'w, W: Work, A: Allocator + Copy> Round<'w, W, A> {
     {
         let tickets = work.tiles() as usize + workers as usize;
         let drawn = Vec::with_capacity(alloc, tickets)?;
-        let places = vec![in alloc; Place::Resting; workers as usize]?;
+        let places = vec![in alloc; WorkerPlace::Resting; workers as usize]?;
         let sums = vec![in alloc; 0i64; 3 * atoms as usize]?;
         Ok(Round {
             work,
@@ -114,7 +114,7 @@ impl<'w, W: Work, A: Allocator + Copy> Round<'w, W, A> {
                     self.places[worker as usize] = place_from(work, ticket, 0);
                     Ok(Outcome::Drew(ticket))
                 } else {
-                    self.places[worker as usize] = Place::Stopped;
+                    self.places[worker as usize] = WorkerPlace::Stopped;
                     Ok(Outcome::Ended)
                 }
             }

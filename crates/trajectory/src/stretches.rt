@@ -31,7 +31,7 @@ fn go_on<R: Threads + Sync, A: Allocator + Copy + Send + Sync>(
     ensures went { OnOk result (Went direction steps engine.old engine.new) }
     ensures stopped { IfErr result (IsStopped before steps) }
 {
-    match engine.turns_ungated(rt, direction, steps, workers) {
+    match engine.make_steps(rt, direction, steps, workers) {
         Ok(()) => Ok(()),
         Err(StepFault::Memory { done }) => Err(Halt::Memory {
             done: before + done,

@@ -10,7 +10,7 @@ use Rattle.kernel_code.specs.Paths.{CanAct, MayGo, height_after, set_after}
 use Rattle.kernel_paths.specs.Misfits.{DoesWell}
 use Rattle.kernel_paths.specs.Attained.{IsAttained}
 use Rattle.kernel_paths.proofs.AttainedLaws.{attained_first, attained_on, attained_both, attained_level, attained_end, attained_acts}
-use Rattle.verifier.specs.Frames.{SpanFrame, HasSet, IsOfSize, IsUnset, IsAtHand, IsPlain, Pops, Follows, Widens}
+use Rattle.verifier.specs.Frames.{SpanFrameView, HasSet, IsOfSize, IsUnset, IsAtHand, IsPlain, Pops, Follows, Widens}
 use Rattle.verifier.specs.Slices.{frame_at, Takes, CanMeet, IsJoined, Joins, Branches, goes_on, jumps, may_jump, AreEnoughLocals, IsAttainedFrame, AreAttainedFrames, AreAttained}
 
 -- ---- sets
@@ -39,13 +39,13 @@ both_members (x ∷ xs) (y ∷ ys) e (suc k) = both_members xs ys (omega (arith,
 -- ---- frames of one place
 
 -- two of them have one size
-attained_size : (code : List Instr) (inputs steps locals at : ℕ) (a b : SpanFrame) → DoesWell code inputs steps → IsAttainedFrame code locals at a → IsAttainedFrame code locals at b → IsOfSize (length b.stack) (length b.locals) a
+attained_size : (code : List Instr) (inputs steps locals at : ℕ) (a b : SpanFrameView) → DoesWell code inputs steps → IsAttainedFrame code locals at a → IsAttainedFrame code locals at b → IsOfSize (length b.stack) (length b.locals) a
 attained_size code inputs steps locals at a b d x y = record {
   height' = attained_level code inputs steps at (length a.stack) (length b.stack) x.set y.set d x.attained y.attained;
   locals' = x.long ∙ sym y.long;
 }
 
-attained_wide : (code : List Instr) (inputs steps locals at : ℕ) (a b wide : SpanFrame) → DoesWell code inputs steps → IsAttainedFrame code locals at a → IsAttainedFrame code locals at b → Widens a b wide → IsAttainedFrame code locals at wide
+attained_wide : (code : List Instr) (inputs steps locals at : ℕ) (a b wide : SpanFrameView) → DoesWell code inputs steps → IsAttainedFrame code locals at a → IsAttainedFrame code locals at b → Widens a b wide → IsAttainedFrame code locals at wide
 attained_wide code inputs steps locals at a b wide d x y w =
     let long : length x.set ≡ length y.set = x.has.long ∙ sym y.has.long in
     let long' : length (both x.set y.set) ≡ 256 = both_long x.set y.set long ∙ y.has.long in
@@ -70,7 +70,7 @@ unset_spans zero k = refl
 unset_spans (suc n) zero = refl
 unset_spans (suc n) (suc k) = unset_spans n k
 
-start_attained : (code : List Instr) (locals : ℕ) (frame : SpanFrame) → IsUnset locals frame → IsAttainedFrame code locals 0 frame
+start_attained : (code : List Instr) (locals : ℕ) (frame : SpanFrameView) → IsUnset locals frame → IsAttainedFrame code locals 0 frame
 start_attained code locals frame u =
     record {
       long = ap length u.locals ∙ length-replicate {A = Option Span} locals None;
@@ -79,19 +79,19 @@ start_attained code locals frame u =
       attained = subst (λ (h : ℕ). IsAttained code 0 h (replicate 256 false)) (sym (ap length u.stack)) (attained_first code);
     }
 
-joined_frame : (code : List Instr) (inputs steps locals to : ℕ) (frame f : SpanFrame) (o o' : Option SpanFrame) → DoesWell code inputs steps → ((e : SpanFrame) → o ≡ Some e → IsAttainedFrame code locals to e) → IsAttainedFrame code locals to frame
+joined_frame : (code : List Instr) (inputs steps locals to : ℕ) (frame f : SpanFrameView) (o o' : Option SpanFrameView) → DoesWell code inputs steps → ((e : SpanFrameView) → o ≡ Some e → IsAttainedFrame code locals to e) → IsAttainedFrame code locals to frame
     → IsJoined o frame o' → o' ≡ Some f → IsAttainedFrame code locals to f
 joined_frame code inputs steps locals to frame f None None d before x j e = absurd j
 joined_frame code inputs steps locals to frame f None (Some new) d before x j e =
     let same : frame ≡ f = cc in
-    subst (λ (g : SpanFrame). IsAttainedFrame code locals to g) same x
+    subst (λ (g : SpanFrameView). IsAttainedFrame code locals to g) same x
 joined_frame code inputs steps locals to frame f (Some earlier) None d before x j e = absurd j
 joined_frame code inputs steps locals to frame f (Some earlier) (Some new) d before x j e =
     let same : new ≡ f = cc in
-    subst (λ (g : SpanFrame). IsAttainedFrame code locals to g) same (attained_wide code inputs steps locals to earlier frame new d (before earlier refl) x j)
+    subst (λ (g : SpanFrameView). IsAttainedFrame code locals to g) same (attained_wide code inputs steps locals to earlier frame new d (before earlier refl) x j)
 
 -- where paths attain all frames, they do so after a frame that they attain at its place has joined there
-pub joins_attained : (code : List Instr) (inputs steps locals to : ℕ) (frame : SpanFrame) (old new : List (Option SpanFrame)) → DoesWell code inputs steps → AreAttainedFrames code locals old → IsAttainedFrame code locals to frame → Joins to frame old new → AreAttainedFrames code locals new
+pub joins_attained : (code : List Instr) (inputs steps locals to : ℕ) (frame : SpanFrameView) (old new : List (Option SpanFrameView)) → DoesWell code inputs steps → AreAttainedFrames code locals old → IsAttainedFrame code locals to frame → Joins to frame old new → AreAttainedFrames code locals new
 joins_attained code inputs steps locals to frame old new d a x j =
     record {
       each = λ at f e.
@@ -104,7 +104,7 @@ joins_attained code inputs steps locals to frame old new d a x j =
     }
 
 -- frames that paths attain are still attained when a place's frame is taken
-pub takes_attained : (code : List Instr) (locals here : ℕ) (o : Option SpanFrame) (old new : List (Option SpanFrame)) → AreAttainedFrames code locals old → Takes here o old new → AreAttainedFrames code locals new
+pub takes_attained : (code : List Instr) (locals here : ℕ) (o : Option SpanFrameView) (old new : List (Option SpanFrameView)) → AreAttainedFrames code locals old → Takes here o old new → AreAttainedFrames code locals new
 takes_attained code locals here o old new a t =
     record {
       each = λ at f e.
@@ -118,30 +118,30 @@ takes_attained code locals here o old new a t =
     }
 
 -- the first place, where there is no other frame
-pub first_attained : (code : List Instr) (inputs steps locals : ℕ) (frame : SpanFrame) (old new : List (Option SpanFrame)) → DoesWell code inputs steps → AreEnoughLocals code locals → ((at : ℕ) → frame_at old at ≡ None) → IsUnset locals frame → Joins 0 frame old new
+pub first_attained : (code : List Instr) (inputs steps locals : ℕ) (frame : SpanFrameView) (old new : List (Option SpanFrameView)) → DoesWell code inputs steps → AreEnoughLocals code locals → ((at : ℕ) → frame_at old at ≡ None) → IsUnset locals frame → Joins 0 frame old new
     → AreAttained code new
 first_attained code inputs steps locals frame old new d enough none u j =
     let nothing : AreAttainedFrames code locals old = record { each = λ at f e. let n = none at in absurd cc } in
     record { locals = locals; enough = enough; frames = joins_attained code inputs steps locals 0 frame old new d nothing (start_attained code locals frame u) j }
 
 -- where no place has a frame yet, a frame of any size can meet there
-pub first_meets : (old : List (Option SpanFrame)) (height locals at : ℕ) → ((k : ℕ) → frame_at old k ≡ None) → CanMeet (frame_at old at) height locals
+pub first_meets : (old : List (Option SpanFrameView)) (height locals at : ℕ) → ((k : ℕ) → frame_at old k ≡ None) → CanMeet (frame_at old at) height locals
 first_meets old height locals at none = rw (none at) tt
 
 -- ---- where frames may join
 
-meets : (code : List Instr) (inputs steps locals at : ℕ) (frame : SpanFrame) (o : Option SpanFrame) → DoesWell code inputs steps → ((e : SpanFrame) → o ≡ Some e → IsAttainedFrame code locals at e) → IsAttainedFrame code locals at frame → CanMeet o (length frame.stack) (length frame.locals)
+meets : (code : List Instr) (inputs steps locals at : ℕ) (frame : SpanFrameView) (o : Option SpanFrameView) → DoesWell code inputs steps → ((e : SpanFrameView) → o ≡ Some e → IsAttainedFrame code locals at e) → IsAttainedFrame code locals at frame → CanMeet o (length frame.stack) (length frame.locals)
 meets code inputs steps locals at frame None d before x = tt
 meets code inputs steps locals at frame (Some e) d before x = attained_size code inputs steps locals at e frame d (before e refl) x
 
 -- a frame that paths attain can meet the one at its place: both have one size
-pub meets_there : (code : List Instr) (inputs steps locals at : ℕ) (frame : SpanFrame) (places : List (Option SpanFrame)) → DoesWell code inputs steps → AreAttainedFrames code locals places → IsAttainedFrame code locals at frame → CanMeet (frame_at places at) (length frame.stack) (length frame.locals)
+pub meets_there : (code : List Instr) (inputs steps locals at : ℕ) (frame : SpanFrameView) (places : List (Option SpanFrameView)) → DoesWell code inputs steps → AreAttainedFrames code locals places → IsAttainedFrame code locals at frame → CanMeet (frame_at places at) (length frame.stack) (length frame.locals)
 meets_there code inputs steps locals at frame places d a x = meets code inputs steps locals at frame (frame_at places at) d (a.each at) x
 
 -- ---- one instruction
 
 -- what it leads to is attained too
-goes_attained : (code : List Instr) (locals here to : ℕ) (i : Instr) (frame frame' : SpanFrame) (x : IsAttainedFrame code locals here frame) → slice_get code here ≡ Some i → MayGo i here to → IsOfSize (height_after i (length frame.stack)) (length frame.locals) frame' → HasSet frame'.locals (set_after i x.set)
+goes_attained : (code : List Instr) (locals here to : ℕ) (i : Instr) (frame frame' : SpanFrameView) (x : IsAttainedFrame code locals here frame) → slice_get code here ≡ Some i → MayGo i here to → IsOfSize (height_after i (length frame.stack)) (length frame.locals) frame' → HasSet frame'.locals (set_after i x.set)
     → IsAttainedFrame code locals to frame'
 goes_attained code locals here to i frame frame' x there go size set =
     record {
@@ -152,7 +152,7 @@ goes_attained code locals here to i frame frame' x there go size set =
     }
 
 -- a place without a frame is passed
-pub past_attained : (code : List Instr) (here : ℕ) (old between : List (Option SpanFrame)) → AreAttained code old → Takes here None old between → AreAttained code between
+pub past_attained : (code : List Instr) (here : ℕ) (old between : List (Option SpanFrameView)) → AreAttained code old → Takes here None old between → AreAttained code between
 past_attained code here old between a t = record { locals = a.locals; enough = a.enough; frames = takes_attained code a.locals here None old between a.frames t }
 
 -- ---- one that doesn't jump
@@ -179,7 +179,7 @@ plain_next (JumpIfZero to) here p = absurd p
 plain_next (Jump to) here p = absurd p
 
 -- an instruction has what it needs
-pub at_hand : (code : List Instr) (inputs : List Span) (steps here : ℕ) (i : Instr) (frame : SpanFrame) (old between : List (Option SpanFrame)) → DoesWell code (length inputs) steps → AreAttained code old → Takes here (Some frame) old between → slice_get code here ≡ Some i → IsAtHand i inputs frame
+pub at_hand : (code : List Instr) (inputs : List Span) (steps here : ℕ) (i : Instr) (frame : SpanFrameView) (old between : List (Option SpanFrameView)) → DoesWell code (length inputs) steps → AreAttained code old → Takes here (Some frame) old between → slice_get code here ≡ Some i → IsAtHand i inputs frame
 at_hand code inputs steps here i frame old between d a t there = at i there (attained_acts code (length inputs) here (length frame.stack) x.set i d.misses x.attained there)
   where
     x : IsAttainedFrame code a.locals here frame
@@ -195,11 +195,11 @@ at_hand code inputs steps here i frame old between d a t there = at i there (att
     at (JumpIfZero to) there can = can.supplied
     at (Jump to) there can = tt
 
-plain_on : (bits : ℕ) (code : List Instr) (inputs : List Span) (locals here : ℕ) (i : Instr) (frame frame' : SpanFrame) → IsAttainedFrame code locals here frame → slice_get code here ≡ Some i → IsPlain i → Follows bits i inputs frame frame' → IsAttainedFrame code locals (here + 1) frame'
+plain_on : (bits : ℕ) (code : List Instr) (inputs : List Span) (locals here : ℕ) (i : Instr) (frame frame' : SpanFrameView) → IsAttainedFrame code locals here frame → slice_get code here ≡ Some i → IsPlain i → Follows bits i inputs frame frame' → IsAttainedFrame code locals (here + 1) frame'
 plain_on bits code inputs locals here i frame frame' x there p f = goes_attained code locals here (here + 1) i frame frame' x there (plain_next i here p) f.size (f.set x.set x.has)
 
 -- an instruction that doesn't jump leads to a frame that can meet the one at the next place
-pub plain_meets : (bits : ℕ) (code : List Instr) (inputs : List Span) (steps here : ℕ) (i : Instr) (frame frame' : SpanFrame) (old between : List (Option SpanFrame)) → DoesWell code (length inputs) steps → AreAttained code old → Takes here (Some frame) old between → slice_get code here ≡ Some i → IsPlain i → Follows bits i inputs frame frame'
+pub plain_meets : (bits : ℕ) (code : List Instr) (inputs : List Span) (steps here : ℕ) (i : Instr) (frame frame' : SpanFrameView) (old between : List (Option SpanFrameView)) → DoesWell code (length inputs) steps → AreAttained code old → Takes here (Some frame) old between → slice_get code here ≡ Some i → IsPlain i → Follows bits i inputs frame frame'
     → CanMeet (frame_at between (here + 1)) (length frame'.stack) (length frame'.locals)
 plain_meets bits code inputs steps here i frame frame' old between d a t there p f =
     let x = a.frames.each here frame t.taken in
@@ -207,7 +207,7 @@ plain_meets bits code inputs steps here i frame frame' old between d a t there p
     meets_there code (length inputs) steps a.locals (here + 1) frame' between d b (plain_on bits code inputs a.locals here i frame frame' x there p f)
 
 -- paths still attain all frames when a place is passed by an instruction that doesn't jump
-pub plain_attained : (bits : ℕ) (code : List Instr) (inputs : List Span) (steps here : ℕ) (i : Instr) (frame frame' : SpanFrame) (old between new : List (Option SpanFrame)) → DoesWell code (length inputs) steps → AreAttained code old → Takes here (Some frame) old between → slice_get code here ≡ Some i → IsPlain i → Follows bits i inputs frame frame'
+pub plain_attained : (bits : ℕ) (code : List Instr) (inputs : List Span) (steps here : ℕ) (i : Instr) (frame frame' : SpanFrameView) (old between new : List (Option SpanFrameView)) → DoesWell code (length inputs) steps → AreAttained code old → Takes here (Some frame) old between → slice_get code here ≡ Some i → IsPlain i → Follows bits i inputs frame frame'
     → Joins (here + 1) frame' between new → AreAttained code new
 plain_attained bits code inputs steps here i frame frame' old between new d a t there p f j =
     let x = a.frames.each here frame t.taken in
@@ -216,11 +216,11 @@ plain_attained bits code inputs steps here i frame frame' old between new d a t 
 
 -- ---- a jump
 
-jump_on : (code : List Instr) (locals here to : ℕ) (frame : SpanFrame) → IsAttainedFrame code locals here frame → slice_get code here ≡ Some (Jump to) → IsAttainedFrame code locals to frame
+jump_on : (code : List Instr) (locals here to : ℕ) (frame : SpanFrameView) → IsAttainedFrame code locals here frame → slice_get code here ≡ Some (Jump to) → IsAttainedFrame code locals to frame
 jump_on code locals here to frame x there = goes_attained code locals here to (Jump to) frame frame x there refl (record { height' = refl; locals' = refl }) x.has
 
 -- the frame before a jump can meet the one at its target
-pub jump_meets : (code : List Instr) (inputs steps here to : ℕ) (frame : SpanFrame) (old between : List (Option SpanFrame)) → DoesWell code inputs steps → AreAttained code old → Takes here (Some frame) old between → slice_get code here ≡ Some (Jump to)
+pub jump_meets : (code : List Instr) (inputs steps here to : ℕ) (frame : SpanFrameView) (old between : List (Option SpanFrameView)) → DoesWell code inputs steps → AreAttained code old → Takes here (Some frame) old between → slice_get code here ≡ Some (Jump to)
     → CanMeet (frame_at between to) (length frame.stack) (length frame.locals)
 jump_meets code inputs steps here to frame old between d a t there =
     let x = a.frames.each here frame t.taken in
@@ -228,7 +228,7 @@ jump_meets code inputs steps here to frame old between d a t there =
     meets_there code inputs steps a.locals to frame between d b (jump_on code a.locals here to frame x there)
 
 -- paths still attain all frames when a place is passed by a jump
-pub jump_attained : (code : List Instr) (inputs steps here to : ℕ) (frame : SpanFrame) (old between new : List (Option SpanFrame)) → DoesWell code inputs steps → AreAttained code old → Takes here (Some frame) old between → slice_get code here ≡ Some (Jump to) → Joins to frame between new → AreAttained code new
+pub jump_attained : (code : List Instr) (inputs steps here to : ℕ) (frame : SpanFrameView) (old between new : List (Option SpanFrameView)) → DoesWell code inputs steps → AreAttained code old → Takes here (Some frame) old between → slice_get code here ≡ Some (Jump to) → Joins to frame between new → AreAttained code new
 jump_attained code inputs steps here to frame old between new d a t there j =
     let x = a.frames.each here frame t.taken in
     let b = takes_attained code a.locals here (Some frame) old between a.frames t in
@@ -237,13 +237,13 @@ jump_attained code inputs steps here to frame old between new d a t there j =
 -- ---- a jump at 0
 
 -- the frame of which it popped the top
-popped_on : (code : List Instr) (locals here target to : ℕ) (s : Span) (frame rest : SpanFrame) → IsAttainedFrame code locals here frame → slice_get code here ≡ Some (JumpIfZero target) → MayGo (JumpIfZero target) here to → Pops s frame rest → IsAttainedFrame code locals to rest
+popped_on : (code : List Instr) (locals here target to : ℕ) (s : Span) (frame rest : SpanFrameView) → IsAttainedFrame code locals here frame → slice_get code here ≡ Some (JumpIfZero target) → MayGo (JumpIfZero target) here to → Pops s frame rest → IsAttainedFrame code locals to rest
 popped_on code locals here target to s frame rest x there go p =
     let high : length rest.stack ≡ length frame.stack - 1 = omega (arith, ap length p.stack) in
     goes_attained code locals here to (JumpIfZero target) frame rest x there go (record { height' = high; locals' = ap length p.locals }) (rw p.locals x.has)
 
 -- each place that it may go to can be met with one value less
-pub branch_meets : (code : List Instr) (inputs steps here target to : ℕ) (frame : SpanFrame) (old between : List (Option SpanFrame)) → DoesWell code inputs steps → AreAttained code old → Takes here (Some frame) old between → slice_get code here ≡ Some (JumpIfZero target) → MayGo (JumpIfZero target) here to
+pub branch_meets : (code : List Instr) (inputs steps here target to : ℕ) (frame : SpanFrameView) (old between : List (Option SpanFrameView)) → DoesWell code inputs steps → AreAttained code old → Takes here (Some frame) old between → slice_get code here ≡ Some (JumpIfZero target) → MayGo (JumpIfZero target) here to
     → CanMeet (frame_at between to) (length frame.stack - 1) (length frame.locals)
 branch_meets code inputs steps here target to frame old between d a t there go = met (frame_at between to) (b.each to)
   where
@@ -253,14 +253,14 @@ branch_meets code inputs steps here target to frame old between d a t there go =
     b : AreAttainedFrames code a.locals between
     b = takes_attained code a.locals here (Some frame) old between a.frames t
 
-    met : (o : Option SpanFrame) → ((e : SpanFrame) → o ≡ Some e → IsAttainedFrame code a.locals to e) → CanMeet o (length frame.stack - 1) (length frame.locals)
+    met : (o : Option SpanFrameView) → ((e : SpanFrameView) → o ≡ Some e → IsAttainedFrame code a.locals to e) → CanMeet o (length frame.stack - 1) (length frame.locals)
     met None before = tt
     met (Some e) before =
         let y = before e refl in
         let on = attained_on code here (length frame.stack) x.set (JumpIfZero target) to x.attained there go in
         record { height' = attained_level code inputs steps to (length e.stack) (length frame.stack - 1) y.set x.set d y.attained on; locals' = y.long ∙ sym x.long }
 
-branched : (code : List Instr) (inputs steps locals here target : ℕ) (frame : SpanFrame) (old new : List (Option SpanFrame)) → DoesWell code inputs steps → AreAttainedFrames code locals old → IsAttainedFrame code locals here frame → slice_get code here ≡ Some (JumpIfZero target)
+branched : (code : List Instr) (inputs steps locals here target : ℕ) (frame : SpanFrameView) (old new : List (Option SpanFrameView)) → DoesWell code inputs steps → AreAttainedFrames code locals old → IsAttainedFrame code locals here frame → slice_get code here ≡ Some (JumpIfZero target)
     → Branches (here + 1) target frame old new → AreAttainedFrames code locals new
 branched code inputs steps locals here target frame old new d a x there (goes_on {s = s} {rest = rest} p without j) =
     joins_attained code inputs steps locals (here + 1) rest old new d a (popped_on code locals here target (here + 1) s frame rest x there (inl refl) p) j
@@ -271,7 +271,7 @@ branched code inputs steps locals here target frame old new d a x there (may_jum
     joins_attained code inputs steps locals target rest between new d b (popped_on code locals here target target s frame rest x there (inr refl) p) k
 
 -- paths still attain all frames when a place is passed by a jump at 0, whichever ways it may go
-pub branch_attained : (code : List Instr) (inputs steps here target : ℕ) (frame : SpanFrame) (old between new : List (Option SpanFrame)) → DoesWell code inputs steps → AreAttained code old → Takes here (Some frame) old between → slice_get code here ≡ Some (JumpIfZero target)
+pub branch_attained : (code : List Instr) (inputs steps here target : ℕ) (frame : SpanFrameView) (old between new : List (Option SpanFrameView)) → DoesWell code inputs steps → AreAttained code old → Takes here (Some frame) old between → slice_get code here ≡ Some (JumpIfZero target)
     → Branches (here + 1) target frame between new → AreAttained code new
 branch_attained code inputs steps here target frame old between new d a t there b =
     let x = a.frames.each here frame t.taken in
@@ -281,7 +281,7 @@ branch_attained code inputs steps here target frame old between new d a t there 
 -- ---- the end
 
 -- a frame at the end of code that does well has one span on its stack
-pub one_left : (code : List Instr) (inputs steps : ℕ) (frame : SpanFrame) (places : List (Option SpanFrame)) → DoesWell code inputs steps → AreAttained code places → frame_at places (length code) ≡ Some frame → length frame.stack ≡ 1
+pub one_left : (code : List Instr) (inputs steps : ℕ) (frame : SpanFrameView) (places : List (Option SpanFrameView)) → DoesWell code inputs steps → AreAttained code places → frame_at places (length code) ≡ Some frame → length frame.stack ≡ 1
 one_left code inputs steps frame places d a e =
     let x = a.frames.each (length code) frame e in
     attained_end code inputs (length frame.stack) x.set d.misses x.attained

@@ -9,13 +9,13 @@ use Rattle.interval_domain.specs.Spans.{IsWithin, IsOutcome, IsOutcomeOfTwo}
 use Rattle.kernel_code.specs.declared.instructions.Instr.{Instr}
 use Rattle.kernel_code.specs.declared.instructions.Instr.TheVariants.{Push, Input, Keep, Get, Binary, Unary, JumpIfZero, Jump}
 use Rattle.kernel_code.specs.Machine.{binary_of, unary_of}
-use Rattle.verifier.specs.Frames.{SpanFrame, IsFrameWithin}
-use Rattle.verifier.specs.Places.{IsBehind, HasOther, HasZero, HasTop, MayCome, IsCause, Stops, comes_from, IsLeastFrame, IsFrameOf, AreFrames, GivesSpan, StopsAt}
+use Rattle.verifier.specs.Frames.{SpanFrameView, IsFrameWithin}
+use Rattle.verifier.specs.Places.{IsBehind, HasOther, HasZero, HasTop, MayCome, IsCause, Stops, comes_from, IsLeastFrame, IsFrameOf, AreSpanFrames, GivesSpan, StopsAt}
 use Rattle.verifier.proofs.Standing.{AreInputsWithin, behind_within, frame_refl, frame_trans, outcome_of_one, outcome_of_two, same_stacks, tops_within}
 
 -- ---- where a smaller frame leads
 
-top_within : (P : Span → Type 0) (f g : SpanFrame) → IsFrameWithin f g → ((s t : Span) → IsWithin s t → P s → P t) → HasTop P f → HasTop P g
+top_within : (P : Span → Type 0) (f g : SpanFrameView) → IsFrameWithin f g → ((s t : Span) → IsWithin s t → P s → P t) → HasTop P f → HasTop P g
 top_within P f g w mono h = at g.stack refl
   where
     at : (l : List Span) → g.stack ≡ l → HasTop P g
@@ -28,7 +28,7 @@ other_within s t w h = record { number = h.number; member = w.members h.number h
 zero_within : (s t : Span) → IsWithin s t → HasZero s → HasZero t
 zero_within s t w h = w.members (pos 0) h
 
-come_within : (i : Instr) (from to : ℕ) (f g : SpanFrame) → IsFrameWithin f g → MayCome i from to f → MayCome i from to g
+come_within : (i : Instr) (from to : ℕ) (f g : SpanFrameView) → IsFrameWithin f g → MayCome i from to f → MayCome i from to g
 come_within (Push v) from to f g w m = m
 come_within (Input k) from to f g w m = m
 come_within (Keep k) from to f g w m = m
@@ -43,7 +43,7 @@ come_within (Jump target) from to f g w m = m
 no_value : (f : Fault) (z : ℤ) → (let r : Result ℤ Fault = Err f in r) ≡ Ok z → ⊥
 no_value f z e = absurd cc
 
-stop_goes : (bits : ℕ) (i : Instr) (ys : List Span) (f g new : SpanFrame) (fault : Fault) → IsFrameWithin f g → Stops bits i f fault → IsBehind bits i ys g new → ⊥
+stop_goes : (bits : ℕ) (i : Instr) (ys : List Span) (f g new : SpanFrameView) (fault : Fault) → IsFrameWithin f g → Stops bits i f fault → IsBehind bits i ys g new → ⊥
 stop_goes bits (Push v) ys f g new fault w s b = s
 stop_goes bits (Input k) ys f g new fault w s b = s
 stop_goes bits (Keep k) ys f g new fault w s b = s
@@ -67,7 +67,7 @@ cause_same P Q Overflow NegativeRoot up down p q = p.negative (down (Err Negativ
 cause_same P Q ZeroDivisor g up down p q = sym (q.zero (up (Err ZeroDivisor) p.may))
 cause_same P Q NegativeRoot g up down p q = sym (q.negative (up (Err NegativeRoot) p.may))
 
-same_fault : (bits : ℕ) (i : Instr) (f g : SpanFrame) (fault fault' : Fault) → IsFrameWithin f g → IsFrameWithin g f → Stops bits i f fault → Stops bits i g fault' → fault ≡ fault'
+same_fault : (bits : ℕ) (i : Instr) (f g : SpanFrameView) (fault fault' : Fault) → IsFrameWithin f g → IsFrameWithin g f → Stops bits i f fault → Stops bits i g fault' → fault ≡ fault'
 same_fault bits (Push v) f g fault fault' w v' s t = absurd s
 same_fault bits (Input k) f g fault fault' w v s t = absurd s
 same_fault bits (Keep k) f g fault fault' w v s t = absurd s
@@ -93,11 +93,11 @@ same_fault bits (Jump to) f g fault fault' w v s t = absurd s
 
 module _ (bits : ℕ) (code : List Instr) where
   -- a place's frame is within that of another's inputs
-  abbrev IsHeld : (F G : ℕ → Option SpanFrame) → ℕ → Type 0
-  IsHeld F G k = (f : SpanFrame) → F k ≡ Some f → (g : SpanFrame) × (G k ≡ Some g) × IsFrameWithin f g
+  abbrev IsHeld : (F G : ℕ → Option SpanFrameView) → ℕ → Type 0
+  IsHeld F G k = (f : SpanFrameView) → F k ≡ Some f → (g : SpanFrameView) × (G k ≡ Some g) × IsFrameWithin f g
 
-  lifted : (xs ys : List Span) (F G : ℕ → Option SpanFrame) (last m : ℕ) → AreInputsWithin xs ys → AreFrames bits code ys last G → m ≤ last → ((k : ℕ) → k < m → IsHeld F G k) → (h : SpanFrame) → comes_from bits code xs F m m h
-      → (h' : SpanFrame) × comes_from bits code ys G m m h' × IsFrameWithin h h'
+  lifted : (xs ys : List Span) (F G : ℕ → Option SpanFrameView) (last m : ℕ) → AreInputsWithin xs ys → AreSpanFrames bits code ys last G → m ≤ last → ((k : ℕ) → k < m → IsHeld F G k) → (h : SpanFrameView) → comes_from bits code xs F m m h
+      → (h' : SpanFrameView) × comes_from bits code ys G m m h' × IsFrameWithin h h'
   lifted xs ys F G last m n b le below h (inl s) = (h, inl s, frame_refl h)
   lifted xs ys F G last m n b le below h (inr l) =
       let up = below l.from l.lower l.frame l.there in
@@ -111,16 +111,16 @@ module _ (bits : ℕ) (code : List Instr) where
         behind_within bits l.instr xs ys l.frame up.0 h on.new n up.2 l.behind behind,
       )
 
-  held : (xs ys : List Span) (F G : ℕ → Option SpanFrame) (last last' m : ℕ) → AreInputsWithin xs ys → AreFrames bits code xs last F → AreFrames bits code ys last' G → m ≤ last → m ≤ last' → ((k : ℕ) → k < m → IsHeld F G k) → IsHeld F G m
+  held : (xs ys : List Span) (F G : ℕ → Option SpanFrameView) (last last' m : ℕ) → AreInputsWithin xs ys → AreSpanFrames bits code xs last F → AreSpanFrames bits code ys last' G → m ≤ last → m ≤ last' → ((k : ℕ) → k < m → IsHeld F G k) → IsHeld F G m
   held xs ys F G last last' m n a b le le' below f e = at (G m) refl
     where
-      up : (h : SpanFrame) → comes_from bits code xs F m m h → (h' : SpanFrame) × comes_from bits code ys G m m h' × IsFrameWithin h h'
+      up : (h : SpanFrameView) → comes_from bits code xs F m m h → (h' : SpanFrameView) × comes_from bits code ys G m m h' × IsFrameWithin h h'
       up = lifted xs ys F G last' m n b le' below
 
       mine : IsLeastFrame (comes_from bits code xs F m m) f
       mine = subst (IsFrameOf (comes_from bits code xs F m m)) e (a.each m le)
 
-      at : (o : Option SpanFrame) → G m ≡ o → (g : SpanFrame) × (G m ≡ Some g) × IsFrameWithin f g
+      at : (o : Option SpanFrameView) → G m ≡ o → (g : SpanFrameView) × (G m ≡ Some g) × IsFrameWithin f g
       at None e' =
           let none : IsFrameOf (comes_from bits code ys G m m) None = subst (IsFrameOf (comes_from bits code ys G m m)) e' (b.each m le') in
           let h = up mine.some.0 mine.some.1 in
@@ -129,13 +129,13 @@ module _ (bits : ℕ) (code : List Instr) where
           let theirs : IsLeastFrame (comes_from bits code ys G m m) g = subst (IsFrameOf (comes_from bits code ys G m m)) e' (b.each m le') in
           (g, e', mine.least g (λ h l. let x = up h l in frame_trans h x.0 g x.2 (theirs.holds x.0 x.1)))
 
-  held_below : (xs ys : List Span) (F G : ℕ → Option SpanFrame) (last last' n : ℕ) → AreInputsWithin xs ys → AreFrames bits code xs last F → AreFrames bits code ys last' G → (m : ℕ) → m < n → m ≤ last → m ≤ last' → IsHeld F G m
+  held_below : (xs ys : List Span) (F G : ℕ → Option SpanFrameView) (last last' n : ℕ) → AreInputsWithin xs ys → AreSpanFrames bits code xs last F → AreSpanFrames bits code ys last' G → (m : ℕ) → m < n → m ≤ last → m ≤ last' → IsHeld F G m
   held_below xs ys F G last last' zero w a b m lt le le' = absurd (omega (arith, lt))
   held_below xs ys F G last last' (suc n) w a b m lt le le' =
       held xs ys F G last last' m w a b le le' (λ k below. held_below xs ys F G last last' n w a b k (omega (arith, below, lt)) (omega (arith, below, le)) (omega (arith, below, le')))
 
   -- where inputs are within others, a place's frame lies within the frame that the others' place has, as far as both lists of frames go
-  pub held_at : (xs ys : List Span) (F G : ℕ → Option SpanFrame) (last last' m : ℕ) → AreInputsWithin xs ys → AreFrames bits code xs last F → AreFrames bits code ys last' G → m ≤ last → m ≤ last' → IsHeld F G m
+  pub held_at : (xs ys : List Span) (F G : ℕ → Option SpanFrameView) (last last' m : ℕ) → AreInputsWithin xs ys → AreSpanFrames bits code xs last F → AreSpanFrames bits code ys last' G → m ≤ last → m ≤ last' → IsHeld F G m
   held_at xs ys F G last last' m w a b le le' = held_below xs ys F G last last' (suc m) w a b m (omega arith) le le'
 
   -- ---- spans
@@ -153,7 +153,7 @@ module _ (bits : ℕ) (code : List Instr) where
   -- ---- stops
 
   -- where one stops, another that goes on there doesn't
-  stop_past : (xs ys : List Span) (G : ℕ → Option SpanFrame) (last pc : ℕ) (fault : Fault) → AreInputsWithin xs ys → (a : StopsAt bits code xs pc fault) → AreFrames bits code ys last G → pc < last → ⊥
+  stop_past : (xs ys : List Span) (G : ℕ → Option SpanFrameView) (last pc : ℕ) (fault : Fault) → AreInputsWithin xs ys → (a : StopsAt bits code xs pc fault) → AreSpanFrames bits code ys last G → pc < last → ⊥
   stop_past xs ys G last pc fault w a b lt =
       let h = held_at xs ys a.frames G pc last pc w a.are b (omega arith) (omega (arith, lt)) a.frame a.there in
       let on = b.goes pc h.0 lt h.1 in

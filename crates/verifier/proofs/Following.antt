@@ -17,7 +17,7 @@ use Rattle.kernel_code.specs.declared.traps.TrapKind.TheVariants.{MissingInput, 
 use Rattle.kernel_code.specs.Machine.{pushed, pushed_if, kept, given, on_two, on_one, binary_of, unary_of}
 use Rattle.fixed.specs.declared.faults.Fault.{Fault}
 use Rattle.verifier.specs.Places.{IsCause, KeepsTop, PushesNumber, StopsOnOne, StopsOnTwo}
-use Rattle.verifier.specs.Frames.{SpanFrame, AreMembers, IsLocalOf, AreLocalsOf, AreIn, HasSet, IsOfSize, Pushes, Pops, Keeps, AppliesBinary, AppliesUnary, Follows}
+use Rattle.verifier.specs.Frames.{SpanFrameView, AreMembers, IsLocalOf, AreLocalsOf, AreIn, HasSet, IsOfSize, Pushes, Pops, Keeps, AppliesBinary, AppliesUnary, Follows}
 
 -- what a call says at `Ok`, passed on
 pub on_ok : {T E : Type 0} (r : Result T E) (P Q : Type 0) → OnOk r P → (P → Q) → OnOk r Q
@@ -39,7 +39,7 @@ tops [] s rest h = absurd h
 tops (y ∷ ys) s rest h = (y, ys, refl, h.0, h.1)
 
 -- a stack in a frame whose top is popped is a member of that span and, below it, a stack in the frame that is left
-pub popped : (s : Span) (old new : SpanFrame) (ys : List ℤ) → Pops s old new → AreMembers ys old.stack → (y : ℤ) × (ys' : List ℤ) × (ys ≡ y ∷ ys') × IsMember y s × AreMembers ys' new.stack
+pub popped : (s : Span) (old new : SpanFrameView) (ys : List ℤ) → Pops s old new → AreMembers ys old.stack → (y : ℤ) × (ys' : List ℤ) × (ys ≡ y ∷ ys') × IsMember y s × AreMembers ys' new.stack
 popped s old new ys p h = tops ys s new.stack (subst (AreMembers ys) p.stack h)
 
 -- locals that are in some spans are in equal ones
@@ -51,7 +51,7 @@ same_locals ls a b e h = rw e h
 same_set : (a b : List (Option Span)) (set : List Bool) → b ≡ a → HasSet a set → HasSet b set
 same_set a b set e h = rw e h
 
-pushes_size : (s : Span) (old new : SpanFrame) → Pushes s old new → IsOfSize (length old.stack + 1) (length old.locals) new
+pushes_size : (s : Span) (old new : SpanFrameView) → Pushes s old new → IsOfSize (length old.stack + 1) (length old.locals) new
 pushes_size s old new p =
     let e : length new.stack ≡ suc (length old.stack) = ap length p.stack in
     record { height' = omega arith; locals' = ap length p.locals }
@@ -72,14 +72,14 @@ set_with l set k s fits within h =
 
 -- ---- one instruction
 
-push_leads : (x : ℤ) (s : Span) (pc : ℕ) (ys : List ℤ) (ls : List (Option ℤ)) (old new : SpanFrame) → AreIn old ys ls → Pushes s old new → IsMember x s → (pushed x pc ys ls ≡ Ok (record { pc = pc + 1; stack = x ∷ ys; locals = ls })) × AreIn new (x ∷ ys) ls
+push_leads : (x : ℤ) (s : Span) (pc : ℕ) (ys : List ℤ) (ls : List (Option ℤ)) (old new : SpanFrameView) → AreIn old ys ls → Pushes s old new → IsMember x s → (pushed x pc ys ls ≡ Ok (record { pc = pc + 1; stack = x ∷ ys; locals = ls })) × AreIn new (x ∷ ys) ls
 push_leads x s pc ys ls old new h p i =
     let room : length ys < 64 = omega (arith, length_members ys old.stack h.on_stack, p.room) in
     let test : nat_lt (length ys) 64 ≡ true = lt-ltb (length ys) 64 room in
     (rw test refl, record { on_stack = subst (AreMembers (x ∷ ys)) (sym p.stack) (i, h.on_stack); set = same_locals ls old.locals new.locals p.locals h.set })
 
 -- where a frame has a number's own span pushed, Push of this number leads from the old frame to the new one
-pub follows_push : (bits : ℕ) (v : ℤ) (s : Span) (inputs : List Span) (old new : SpanFrame) → s.lo ≡ v → s.hi ≡ v → Pushes s old new → Follows bits (Push v) inputs old new
+pub follows_push : (bits : ℕ) (v : ℤ) (s : Span) (inputs : List Span) (old new : SpanFrameView) → s.lo ≡ v → s.hi ≡ v → Pushes s old new → Follows bits (Push v) inputs old new
 follows_push bits v s inputs old new lo hi p =
     record {
       leads = λ xs pc ys ls hx h.
@@ -91,7 +91,7 @@ follows_push bits v s inputs old new lo hi p =
     }
 
 -- the same of Input, with the span of its input
-pub follows_input : (bits k : ℕ) (s : Span) (inputs : List Span) (old new : SpanFrame) → slice_get inputs k ≡ Some s → Pushes s old new → Follows bits (Input k) inputs old new
+pub follows_input : (bits k : ℕ) (s : Span) (inputs : List Span) (old new : SpanFrameView) → slice_get inputs k ≡ Some s → Pushes s old new → Follows bits (Input k) inputs old new
 follows_input bits k s inputs old new e p =
     record {
       leads = λ xs pc ys ls hx h.
@@ -107,7 +107,7 @@ local_set None s h = absurd h
 local_set (Some x) s h = (x, refl, h)
 
 -- the same of Get, with the span of its local
-pub follows_get : (bits k : ℕ) (s : Span) (inputs : List Span) (old new : SpanFrame) → slice_index_or old.locals k None ≡ Some s → Pushes s old new → Follows bits (Get k) inputs old new
+pub follows_get : (bits k : ℕ) (s : Span) (inputs : List Span) (old new : SpanFrameView) → slice_index_or old.locals k None ≡ Some s → Pushes s old new → Follows bits (Get k) inputs old new
 follows_get bits k s inputs old new e p =
     record {
       leads = λ xs pc ys ls hx h.
@@ -137,7 +137,7 @@ locals_kept ls l k x s h within i =
     }
 
 -- Keep leads from a frame to the one without its top, in which the local has the top's span
-pub follows_keep : (bits k : ℕ) (s : Span) (inputs : List Span) (old between new : SpanFrame) → k < 256 → k < length old.locals → Pops s old between → Keeps k s between new → Follows bits (Keep k) inputs old new
+pub follows_keep : (bits k : ℕ) (s : Span) (inputs : List Span) (old between new : SpanFrameView) → k < 256 → k < length old.locals → Pops s old between → Keeps k s between new → Follows bits (Keep k) inputs old new
 follows_keep bits k s inputs old between new fits within p n =
     record {
       leads = λ xs pc ys ls hx h.
@@ -155,17 +155,17 @@ follows_keep bits k s inputs old between new fits within p n =
     }
 
 -- popping two spans and pushing the least span of an operation's outcomes on them is the operation on the frame
-pub applies_binary : (bits : ℕ) (op : BinaryOperation) (a b s : Span) (old one two new : SpanFrame) → Pops b old one → Pops a one two → IsLeastSpan (IsOutcomeOfTwo (binary_of bits op) a b) s → Pushes s two new → AppliesBinary bits op old new
+pub applies_binary : (bits : ℕ) (op : BinaryOperation) (a b s : Span) (old one two new : SpanFrameView) → Pops b old one → Pops a one two → IsLeastSpan (IsOutcomeOfTwo (binary_of bits op) a b) s → Pushes s two new → AppliesBinary bits op old new
 applies_binary bits op a b s old one two new pb pa l p =
     record { a = a; b = b; s = s; rest = two.stack; taken = pb.stack ∙ ap (λ t. b ∷ t) pa.stack; least = l; given = p.stack; locals = p.locals ∙ pa.locals ∙ pb.locals }
 
 -- the same of an operation on one span
-pub applies_unary : (bits : ℕ) (op : UnaryOperation) (a s : Span) (old one new : SpanFrame) → Pops a old one → IsLeastSpan (IsOutcome (unary_of bits op) a) s → Pushes s one new → AppliesUnary bits op old new
+pub applies_unary : (bits : ℕ) (op : UnaryOperation) (a s : Span) (old one new : SpanFrameView) → Pops a old one → IsLeastSpan (IsOutcome (unary_of bits op) a) s → Pushes s one new → AppliesUnary bits op old new
 applies_unary bits op a s old one new pa l p =
     record { a = a; s = s; rest = one.stack; taken = pa.stack; least = l; given = p.stack; locals = p.locals ∙ pa.locals }
 
 -- an operation on two numbers leads to the frame in which it is applied to the spans on top
-pub follows_binary : (bits : ℕ) (op : BinaryOperation) (inputs : List Span) (old new : SpanFrame) → AppliesBinary bits op old new → Follows bits (Binary op) inputs old new
+pub follows_binary : (bits : ℕ) (op : BinaryOperation) (inputs : List Span) (old new : SpanFrameView) → AppliesBinary bits op old new → Follows bits (Binary op) inputs old new
 follows_binary bits op inputs old new f =
     record {
       leads = λ xs pc ys ls hx h.
@@ -185,7 +185,7 @@ follows_binary bits op inputs old new f =
     }
 
 -- the same of an operation on one number
-pub follows_unary : (bits : ℕ) (op : UnaryOperation) (inputs : List Span) (old new : SpanFrame) → AppliesUnary bits op old new → Follows bits (Unary op) inputs old new
+pub follows_unary : (bits : ℕ) (op : UnaryOperation) (inputs : List Span) (old new : SpanFrameView) → AppliesUnary bits op old new → Follows bits (Unary op) inputs old new
 follows_unary bits op inputs old new f =
     record {
       leads = λ xs pc ys ls hx h.
@@ -206,11 +206,11 @@ follows_unary bits op inputs old new f =
 -- ---- the frame behind it
 
 -- a frame with the span of one number alone pushed is the one behind Push of that number
-pub behind_push : (v : ℤ) (s : Span) (old new : SpanFrame) → s.lo ≡ v → s.hi ≡ v → Pushes s old new → PushesNumber v old new
+pub behind_push : (v : ℤ) (s : Span) (old new : SpanFrameView) → s.lo ≡ v → s.hi ≡ v → Pushes s old new → PushesNumber v old new
 behind_push v s old new lo hi p = record { span = s; one = record { lo' = lo; hi' = hi }; pushes = p }
 
 -- a frame whose top is popped, and then kept as a local's span, is the one behind Keep
-pub behind_keep : (k : ℕ) (s : Span) (old between new : SpanFrame) → k < length old.locals → Pops s old between → Keeps k s between new → KeepsTop k old new
+pub behind_keep : (k : ℕ) (s : Span) (old between new : SpanFrameView) → k < length old.locals → Pops s old between → Keeps k s between new → KeepsTop k old new
 behind_keep k s old between new within p n =
     let within' : k < length between.locals = omega (arith, ap length p.locals, within) in
     record {
@@ -227,11 +227,11 @@ behind_keep k s old between new within p n =
 -- ---- why it stops
 
 -- an operation with a cause to fault on the two spans popped from a frame stops on the frame
-pub stops_on_two : (bits : ℕ) (op : BinaryOperation) (a b : Span) (old one two : SpanFrame) (fault : Fault) → Pops b old one → Pops a one two → IsCause (IsOutcomeOfTwo (binary_of bits op) a b) fault → StopsOnTwo bits op old fault
+pub stops_on_two : (bits : ℕ) (op : BinaryOperation) (a b : Span) (old one two : SpanFrameView) (fault : Fault) → Pops b old one → Pops a one two → IsCause (IsOutcomeOfTwo (binary_of bits op) a b) fault → StopsOnTwo bits op old fault
 stops_on_two bits op a b old one two fault pb pa cause = record { a = a; b = b; rest = two.stack; taken = pb.stack ∙ ap (λ t. b ∷ t) pa.stack; cause = cause }
 
 -- the same of an operation on one span
-pub stops_on_one : (bits : ℕ) (op : UnaryOperation) (a : Span) (old one : SpanFrame) (fault : Fault) → Pops a old one → IsCause (IsOutcome (unary_of bits op) a) fault → StopsOnOne bits op old fault
+pub stops_on_one : (bits : ℕ) (op : UnaryOperation) (a : Span) (old one : SpanFrameView) (fault : Fault) → Pops a old one → IsCause (IsOutcome (unary_of bits op) a) fault → StopsOnOne bits op old fault
 stops_on_one bits op a old one fault pa cause = record { a = a; rest = one.stack; taken = pa.stack; cause = cause }
 
 -- what follows from what a refusal says

@@ -8,7 +8,7 @@ use Rattle.std.proofs.Math.ListN.{length-set}
 use mathlib.Core.List.{reverse_aux}
 use Rattle.interval_domain.specs.declared.span.Span.{Span}
 use Rattle.interval_domain.specs.Spans.{IsMember, IsWithin, IsHull}
-use Rattle.verifier.specs.Frames.{SpanFrame, AreMembers, AreWithin, IsLocalOf, IsLocalWithin, IsOfSize, local_of, WidensSpans, WidensFirst, WidensLocal, WidensLocals, WidensFirstLocals, Widens}
+use Rattle.verifier.specs.Frames.{SpanFrameView, AreMembers, AreWithin, IsLocalOf, IsLocalWithin, IsOfSize, local_of, WidensSpans, WidensFirst, WidensLocal, WidensLocals, WidensFirstLocals, Widens}
 
 -- ---- spans
 
@@ -227,22 +227,22 @@ frame_widens s t n ls ms ns w long l long' =
       };
     }
 
-same_height : (old other : SpanFrame) (s t : List Span) (ls ms : List (Option Span)) → old ≡ record { stack = reverse s; locals = ls } → other ≡ record { stack = reverse t; locals = ms } → IsOfSize (length other.stack) (length other.locals) old
+same_height : (old other : SpanFrameView) (s t : List Span) (ls ms : List (Option Span)) → old ≡ record { stack = reverse s; locals = ls } → other ≡ record { stack = reverse t; locals = ms } → IsOfSize (length other.stack) (length other.locals) old
     → (length s ≡ length t) × (length ls ≡ length ms)
 same_height old other s t ls ms eo ep size =
-    let a : length old.stack ≡ length s = ap (λ (f : SpanFrame). length f.stack) eo ∙ length-reverse s in
-    let b : length other.stack ≡ length t = ap (λ (f : SpanFrame). length f.stack) ep ∙ length-reverse t in
-    let c : length old.locals ≡ length ls = ap (λ (f : SpanFrame). length f.locals) eo in
-    let d : length other.locals ≡ length ms = ap (λ (f : SpanFrame). length f.locals) ep in
+    let a : length old.stack ≡ length s = ap (λ (f : SpanFrameView). length f.stack) eo ∙ length-reverse s in
+    let b : length other.stack ≡ length t = ap (λ (f : SpanFrameView). length f.stack) ep ∙ length-reverse t in
+    let c : length old.locals ≡ length ls = ap (λ (f : SpanFrameView). length f.locals) eo in
+    let d : length other.locals ≡ length ms = ap (λ (f : SpanFrameView). length f.locals) ep in
     (sym a ∙ size.height' ∙ b, sym c ∙ size.locals' ∙ d)
 
 -- the same by equal names
-pub frame_widens_so : (old other : SpanFrame) (s s' t t' n : List Span) (ls ls' ms ms' ns : List (Option Span)) → old ≡ record { stack = reverse s; locals = ls } → other ≡ record { stack = reverse t; locals = ms } → s' ≡ s → t' ≡ t → ls' ≡ ls → ms' ≡ ms
+pub frame_widens_so : (old other : SpanFrameView) (s s' t t' n : List Span) (ls ls' ms ms' ns : List (Option Span)) → old ≡ record { stack = reverse s; locals = ls } → other ≡ record { stack = reverse t; locals = ms } → s' ≡ s → t' ≡ t → ls' ≡ ls → ms' ≡ ms
     → IsOfSize (length other.stack) (length other.locals) old → WidensSpans s' t' n → length n ≡ length s' → WidensLocals ls' ms' ns → length ns ≡ length ls' → Widens old other (record { stack = reverse n; locals = ns })
 frame_widens_so old other s s' t t' n ls ls' ms ms' ns eo ep es et el em size w long l long' =
     let high = same_height old other s t ls ms eo ep size in
     let w' = subst (λ (x : List Span). WidensSpans x t n) es (subst (λ (x : List Span). WidensSpans s' x n) et w) in
     let l' = subst (λ (x : List (Option Span)). WidensLocals x ms ns) el (subst (λ (x : List (Option Span)). WidensLocals ls' x ns) em l) in
-    let to : SpanFrame = record { stack = reverse n; locals = ns } in
+    let to : SpanFrameView = record { stack = reverse n; locals = ns } in
     let mid : Widens (record { stack = reverse s; locals = ls }) (record { stack = reverse t; locals = ms }) to = frame_widens s t n ls ms ns w' (long ∙ ap length es ∙ high.0) l' (long' ∙ ap length el ∙ high.1) in
-    subst (λ (x : SpanFrame). Widens x other to) (sym eo) (subst (λ (x : SpanFrame). Widens (record { stack = reverse s; locals = ls }) x to) (sym ep) mid)
+    subst (λ (x : SpanFrameView). Widens x other to) (sym eo) (subst (λ (x : SpanFrameView). Widens (record { stack = reverse s; locals = ls }) x to) (sym ep) mid)

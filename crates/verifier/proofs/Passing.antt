@@ -15,7 +15,7 @@ use Rattle.kernel_code.specs.declared.instructions.Instr.TheVariants.{JumpIfZero
 use Rattle.kernel_code.specs.Code.{IsCode}
 use Rattle.kernel_code.specs.Machine.{State, act, after, start, branched, at_zero}
 use Rattle.kernel_code.proofs.Runs.{after_more, ends_there, turn_leads}
-use Rattle.verifier.specs.Frames.{SpanFrame, AreInputsOf, AreMembers, AreLocalsOf, AreIn, IsOfSize, IsUnset, Pops, Follows, Widens}
+use Rattle.verifier.specs.Frames.{SpanFrameView, AreInputsOf, AreMembers, AreLocalsOf, AreIn, IsOfSize, IsUnset, Pops, Follows, Widens}
 use Rattle.verifier.specs.Slices.{frame_at, Holds, Takes, CanMeet, IsJoined, Joins, Branches, goes_on, jumps, may_jump, Comes, AllGiveIn}
 use Rattle.verifier.proofs.Following.{popped}
 use Rattle.verifier.proofs.Standing.{unset_none}
@@ -23,18 +23,18 @@ use Rattle.verifier.proofs.Standing.{unset_none}
 -- ---- places
 
 -- nothing that was held is held no more
-pub record Loses (old new : List (Option SpanFrame)) : Type 0 where
+pub record Loses (old new : List (Option SpanFrameView)) : Type 0 where
   pub nothing : (at : ℕ) (ys : List ℤ) (ls : List (Option ℤ)) → Holds old at ys ls → Holds new at ys ls
 
-loses_both : (a b c : List (Option SpanFrame)) → Loses a b → Loses b c → Loses a c
+loses_both : (a b c : List (Option SpanFrameView)) → Loses a b → Loses b c → Loses a c
 loses_both a b c x y = record { nothing = λ at ys ls h. y.nothing at ys ls (x.nothing at ys ls h) }
 
-set_again : (l : List (Option SpanFrame)) (k : ℕ) (a b : Option SpanFrame) → slice_set (slice_set l k a) k b ≡ slice_set l k b
+set_again : (l : List (Option SpanFrameView)) (k : ℕ) (a b : Option SpanFrameView) → slice_set (slice_set l k a) k b ≡ slice_set l k b
 set_again [] k a b = refl
 set_again (x ∷ l) zero a b = refl
-set_again (x ∷ l) (suc k) a b = ap (λ (t : List (Option SpanFrame)). x ∷ t) (set_again l k a b)
+set_again (x ∷ l) (suc k) a b = ap (λ (t : List (Option SpanFrameView)). x ∷ t) (set_again l k a b)
 
-joins_set : (to : ℕ) (frame new : SpanFrame) (o : Option SpanFrame) (old : List (Option SpanFrame)) → to < length old → frame_at old to ≡ o → IsJoined o frame (Some new) → Joins to frame old (slice_set old to (Some new))
+joins_set : (to : ℕ) (frame new : SpanFrameView) (o : Option SpanFrameView) (old : List (Option SpanFrameView)) → to < length old → frame_at old to ≡ o → IsJoined o frame (Some new) → Joins to frame old (slice_set old to (Some new))
 joins_set to frame new o old within was j =
     record {
       long = length-set old to (Some new);
@@ -43,24 +43,24 @@ joins_set to frame new o old within was j =
     }
 
 -- a place's frame was taken, and another is put there: the list of frames goes by two names
-pub joins_new : (to : ℕ) (frame : SpanFrame) (old items : List (Option SpanFrame)) (o : Option SpanFrame) → old ≡ items → to < length old → None ≡ frame_at items to → Joins to frame old (slice_set (slice_set items to o) to (Some frame))
+pub joins_new : (to : ℕ) (frame : SpanFrameView) (old items : List (Option SpanFrameView)) (o : Option SpanFrameView) → old ≡ items → to < length old → None ≡ frame_at items to → Joins to frame old (slice_set (slice_set items to o) to (Some frame))
 joins_new to frame old items o e within was =
-    let j : Joins to frame old (slice_set old to (Some frame)) = joins_set to frame frame None old within (ap (λ (l : List (Option SpanFrame)). frame_at l to) e ∙ sym was) refl in
-    subst (Joins to frame old) (ap (λ (l : List (Option SpanFrame)). slice_set l to (Some frame)) e ∙ sym (set_again items to o (Some frame))) j
+    let j : Joins to frame old (slice_set old to (Some frame)) = joins_set to frame frame None old within (ap (λ (l : List (Option SpanFrameView)). frame_at l to) e ∙ sym was) refl in
+    subst (Joins to frame old) (ap (λ (l : List (Option SpanFrameView)). slice_set l to (Some frame)) e ∙ sym (set_again items to o (Some frame))) j
 
 -- the same where an earlier frame was taken, and the one widened by the new frame is put there
-pub joins_wide : (to : ℕ) (frame earlier wide : SpanFrame) (old items : List (Option SpanFrame)) (o : Option SpanFrame) → old ≡ items → to < length old → Some earlier ≡ frame_at items to → Widens earlier frame wide → Joins to frame old (slice_set (slice_set items to o) to (Some wide))
+pub joins_wide : (to : ℕ) (frame earlier wide : SpanFrameView) (old items : List (Option SpanFrameView)) (o : Option SpanFrameView) → old ≡ items → to < length old → Some earlier ≡ frame_at items to → Widens earlier frame wide → Joins to frame old (slice_set (slice_set items to o) to (Some wide))
 joins_wide to frame earlier wide old items o e within was w =
-    let j : Joins to frame old (slice_set old to (Some wide)) = joins_set to frame wide (Some earlier) old within (ap (λ (l : List (Option SpanFrame)). frame_at l to) e ∙ sym was) w in
-    subst (Joins to frame old) (ap (λ (l : List (Option SpanFrame)). slice_set l to (Some wide)) e ∙ sym (set_again items to o (Some wide))) j
+    let j : Joins to frame old (slice_set old to (Some wide)) = joins_set to frame wide (Some earlier) old within (ap (λ (l : List (Option SpanFrameView)). frame_at l to) e ∙ sym was) w in
+    subst (Joins to frame old) (ap (λ (l : List (Option SpanFrameView)). slice_set l to (Some wide)) e ∙ sym (set_again items to o (Some wide))) j
 
 -- the earlier frame there has the size that it may meet
-pub met_size : (to height locals : ℕ) (earlier : SpanFrame) (old items : List (Option SpanFrame)) → old ≡ items → CanMeet (frame_at old to) height locals → Some earlier ≡ frame_at items to → IsOfSize height locals earlier
+pub met_size : (to height locals : ℕ) (earlier : SpanFrameView) (old items : List (Option SpanFrameView)) → old ≡ items → CanMeet (frame_at old to) height locals → Some earlier ≡ frame_at items to → IsOfSize height locals earlier
 met_size to height locals earlier old items e m was =
-    subst (λ (o : Option SpanFrame). CanMeet o height locals) (ap (λ (l : List (Option SpanFrame)). frame_at l to) e ∙ sym was) m
+    subst (λ (o : Option SpanFrameView). CanMeet o height locals) (ap (λ (l : List (Option SpanFrameView)). frame_at l to) e ∙ sym was) m
 
 -- one place after another is cleared
-pub takes_none : (at : ℕ) (o : Option SpanFrame) (old new : List (Option SpanFrame)) → Takes at o old new → ((k : ℕ) → k < at → frame_at old k ≡ None) → (k : ℕ) → k < at + 1 → frame_at new k ≡ None
+pub takes_none : (at : ℕ) (o : Option SpanFrameView) (old new : List (Option SpanFrameView)) → Takes at o old new → ((k : ℕ) → k < at → frame_at old k ≡ None) → (k : ℕ) → k < at + 1 → frame_at new k ≡ None
 takes_none at o old new t none k lt =
     ⊎_elim
     (λ (e : k ≡ at). subst (λ (i : ℕ). frame_at new i ≡ None) (sym e) t.none)
@@ -68,32 +68,32 @@ takes_none at o old new t none k lt =
     (cases_eq k at)
 
 -- where no place below the end of the list has a frame, no place has one
-pub none_past : (at : ℕ) (places : List (Option SpanFrame)) → ((k : ℕ) → k < at → frame_at places k ≡ None) → length places ≤ at → (k : ℕ) → frame_at places k ≡ None
+pub none_past : (at : ℕ) (places : List (Option SpanFrameView)) → ((k : ℕ) → k < at → frame_at places k ≡ None) → length places ≤ at → (k : ℕ) → frame_at places k ≡ None
 none_past at places none past k =
     ⊎_elim
     (λ (lt : k < at). none k lt)
     (λ (le : at ≤ k). get_or_past places k None (omega (arith, le, past)))
     (cases_lt k at)
 
-held_mine : (to : ℕ) (frame : SpanFrame) (new : List (Option SpanFrame)) (o o' : Option SpanFrame) → frame_at new to ≡ o' → IsJoined o frame o' → (ys : List ℤ) (ls : List (Option ℤ)) → AreIn frame ys ls → Holds new to ys ls
+held_mine : (to : ℕ) (frame : SpanFrameView) (new : List (Option SpanFrameView)) (o o' : Option SpanFrameView) → frame_at new to ≡ o' → IsJoined o frame o' → (ys : List ℤ) (ls : List (Option ℤ)) → AreIn frame ys ls → Holds new to ys ls
 held_mine to frame new None None e j ys ls m = absurd j
-held_mine to frame new None (Some f) e j ys ls m = record { frame = f; there = e; within = subst (λ (x : SpanFrame). AreIn x ys ls) (sym j) m }
+held_mine to frame new None (Some f) e j ys ls m = record { frame = f; there = e; within = subst (λ (x : SpanFrameView). AreIn x ys ls) (sym j) m }
 held_mine to frame new (Some earlier) None e j ys ls m = absurd j
 held_mine to frame new (Some earlier) (Some f) e j ys ls m = record { frame = f; there = e; within = j.others ys ls m }
 
 -- the place holds what is in the frame
-pub joins_mine : (to : ℕ) (frame : SpanFrame) (old new : List (Option SpanFrame)) → Joins to frame old new → (ys : List ℤ) (ls : List (Option ℤ)) → AreIn frame ys ls → Holds new to ys ls
+pub joins_mine : (to : ℕ) (frame : SpanFrameView) (old new : List (Option SpanFrameView)) → Joins to frame old new → (ys : List ℤ) (ls : List (Option ℤ)) → AreIn frame ys ls → Holds new to ys ls
 joins_mine to frame old new j ys ls m = held_mine to frame new (frame_at old to) (frame_at new to) refl j.there ys ls m
 
-held_still : (to : ℕ) (frame f : SpanFrame) (new : List (Option SpanFrame)) (o o' : Option SpanFrame) → o ≡ Some f → frame_at new to ≡ o' → IsJoined o frame o' → (ys : List ℤ) (ls : List (Option ℤ)) → AreIn f ys ls → Holds new to ys ls
+held_still : (to : ℕ) (frame f : SpanFrameView) (new : List (Option SpanFrameView)) (o o' : Option SpanFrameView) → o ≡ Some f → frame_at new to ≡ o' → IsJoined o frame o' → (ys : List ℤ) (ls : List (Option ℤ)) → AreIn f ys ls → Holds new to ys ls
 held_still to frame f new None o' was e j ys ls m = absurd cc
 held_still to frame f new (Some earlier) None was e j ys ls m = absurd j
 held_still to frame f new (Some earlier) (Some wide) was e j ys ls m =
     let same : f ≡ earlier = cc in
-    record { frame = wide; there = e; within = j.mine ys ls (subst (λ (x : SpanFrame). AreIn x ys ls) same m) }
+    record { frame = wide; there = e; within = j.mine ys ls (subst (λ (x : SpanFrameView). AreIn x ys ls) same m) }
 
 -- a frame that joins a place loses nothing that was held
-pub joins_loses : (to : ℕ) (frame : SpanFrame) (old new : List (Option SpanFrame)) → Joins to frame old new → Loses old new
+pub joins_loses : (to : ℕ) (frame : SpanFrameView) (old new : List (Option SpanFrameView)) → Joins to frame old new → Loses old new
 joins_loses to frame old new j =
     record {
       nothing = λ at ys ls h.
@@ -131,16 +131,16 @@ nonzero (negsuc k) to next n = refl
 only_zero : (v : ℤ) (s : Span) → IsMember (pos 0) s → s.lo ≡ s.hi → IsMember v s → v ≡ pos 0
 only_zero v s z e m = omega (arith, ints, z.at_least, z.at_most, e, m.at_least, m.at_most)
 
-either : (v : ℤ) (to next : ℕ) (new : List (Option SpanFrame)) (ys : List ℤ) (ls : List (Option ℤ)) → Holds new to ys ls → Holds new next ys ls → Holds new (at_zero v to next) ys ls
+either : (v : ℤ) (to next : ℕ) (new : List (Option SpanFrameView)) (ys : List ℤ) (ls : List (Option ℤ)) → Holds new to ys ls → Holds new next ys ls → Holds new (at_zero v to next) ys ls
 either (pos zero) to next new ys ls a b = a
 either (pos (suc n)) to next new ys ls a b = b
 either (negsuc n) to next new ys ls a b = b
 
-rest_in : (s : Span) (frame rest : SpanFrame) (ys : List ℤ) (ls : List (Option ℤ)) → Pops s frame rest → AreMembers ys rest.stack → AreLocalsOf ls frame.locals → AreIn rest ys ls
+rest_in : (s : Span) (frame rest : SpanFrameView) (ys : List ℤ) (ls : List (Option ℤ)) → Pops s frame rest → AreMembers ys rest.stack → AreLocalsOf ls frame.locals → AreIn rest ys ls
 rest_in s frame rest ys ls p m l = record { on_stack = m; set = subst (AreLocalsOf ls) (sym p.locals) l }
 
 -- what is in the frame goes on as the value on its top says, and is held there
-pub branches_mine : (next to : ℕ) (frame : SpanFrame) (old new : List (Option SpanFrame)) → Branches next to frame old new → (ys : List ℤ) (ls : List (Option ℤ)) → AreIn frame ys ls
+pub branches_mine : (next to : ℕ) (frame : SpanFrameView) (old new : List (Option SpanFrameView)) → Branches next to frame old new → (ys : List ℤ) (ls : List (Option ℤ)) → AreIn frame ys ls
     → (v : ℤ) × (ys' : List ℤ) × (ys ≡ v ∷ ys') × Holds new (at_zero v to next) ys' ls
 branches_mine next to frame old new (goes_on {s = s} {rest = rest} p without j) ys ls m =
     let t = popped s frame rest ys p m.on_stack in
@@ -159,19 +159,19 @@ branches_mine next to frame old new (may_jump {s = s} {rest = rest} {between = b
     (t.0, t.1, t.2, either t.0 to next new t.1 ls (joins_mine to rest between new k t.1 ls i) (kept.nothing next t.1 ls (joins_mine next rest old between j t.1 ls i)))
 
 -- a jump at 0 loses nothing that was held
-pub branches_loses : (next to : ℕ) (frame : SpanFrame) (old new : List (Option SpanFrame)) → Branches next to frame old new → Loses old new
+pub branches_loses : (next to : ℕ) (frame : SpanFrameView) (old new : List (Option SpanFrameView)) → Branches next to frame old new → Loses old new
 branches_loses next to frame old new (goes_on {s = s} {rest = rest} p without j) = joins_loses next rest old new j
 branches_loses next to frame old new (jumps {s = s} {rest = rest} p holds single j) = joins_loses to rest old new j
 branches_loses next to frame old new (may_jump {s = s} {rest = rest} {between = between} p holds two j k) =
     loses_both old between new (joins_loses next rest old between j) (joins_loses to rest between new k)
 
 -- a copy of the frame goes on, and the frame itself jumps
-pub may_jump_copied : (next to : ℕ) (s : Span) (frame rest copy : SpanFrame) (old between new : List (Option SpanFrame)) → Pops s frame rest → copy ≡ rest → IsMember (pos 0) s → (s.lo ≡ s.hi → ⊥) → Joins next copy old between → Joins to rest between new → Branches next to frame old new
-may_jump_copied next to s frame rest copy old between new p e holds two j k = may_jump p holds two (subst (λ (f : SpanFrame). Joins next f old between) e j) k
+pub may_jump_copied : (next to : ℕ) (s : Span) (frame rest copy : SpanFrameView) (old between new : List (Option SpanFrameView)) → Pops s frame rest → copy ≡ rest → IsMember (pos 0) s → (s.lo ≡ s.hi → ⊥) → Joins next copy old between → Joins to rest between new → Branches next to frame old new
+may_jump_copied next to s frame rest copy old between new p e holds two j k = may_jump p holds two (subst (λ (f : SpanFrameView). Joins next f old between) e j) k
 
 -- ---- the first place
 
-start_in : (count : ℕ) (frame : SpanFrame) → IsUnset count frame → AreIn frame [] (replicate 256 None)
+start_in : (count : ℕ) (frame : SpanFrameView) → IsUnset count frame → AreIn frame [] (replicate 256 None)
 start_in count frame u =
     record {
       on_stack = rw u.stack tt;
@@ -182,18 +182,18 @@ start_in count frame u =
     }
 
 -- every run begins at the first place, and is held there by a frame with nothing on the stack and no local set
-pub comes_first : (bits : ℕ) (code : List Instr) (inputs : List Span) (count : ℕ) (frame : SpanFrame) (old new : List (Option SpanFrame)) → IsUnset count frame → Joins 0 frame old new → Comes bits code inputs 0 new
+pub comes_first : (bits : ℕ) (code : List Instr) (inputs : List Span) (count : ℕ) (frame : SpanFrameView) (old new : List (Option SpanFrameView)) → IsUnset count frame → Joins 0 frame old new → Comes bits code inputs 0 new
 comes_first bits code inputs count frame old new u j =
     record { each = λ xs m. record { n = 0; state = start; reached = refl; from = omega arith; within = omega arith; held = joins_mine 0 frame old new j [] (replicate 256 None) (start_in count frame u) } }
 
 -- ---- a place is passed
 
 -- what an instruction at a place with this frame does: from any state there the run goes on, and is held
-pub record Passes (bits : ℕ) (code : List Instr) (inputs : List Span) (here : ℕ) (frame : SpanFrame) (i : Instr) (new : List (Option SpanFrame)) : Type 0 where
+pub record Passes (bits : ℕ) (code : List Instr) (inputs : List Span) (here : ℕ) (frame : SpanFrameView) (i : Instr) (new : List (Option SpanFrameView)) : Type 0 where
   pub each : (xs ys : List ℤ) (ls : List (Option ℤ)) → AreInputsOf xs inputs → AreIn frame ys ls → (t : State) × (act bits i xs here ys ls ≡ Ok t) × Holds new t.pc t.stack t.locals
 
 -- where the instruction at a place passes its frame on, and nothing else that was held is lost, all runs come to some place after it
-pub comes_on : (bits : ℕ) (code : List Instr) (inputs : List Span) (here : ℕ) (i : Instr) (frame : SpanFrame) (old between new : List (Option SpanFrame)) → IsCode code → Comes bits code inputs here old → slice_get code here ≡ Some i → Takes here (Some frame) old between → Passes bits code inputs here frame i new → Loses between new
+pub comes_on : (bits : ℕ) (code : List Instr) (inputs : List Span) (here : ℕ) (i : Instr) (frame : SpanFrameView) (old between new : List (Option SpanFrameView)) → IsCode code → Comes bits code inputs here old → slice_get code here ≡ Some i → Takes here (Some frame) old between → Passes bits code inputs here frame i new → Loses between new
     → Comes bits code inputs (here + 1) new
 comes_on bits code inputs here i frame old between new is c at_code t p l =
     record {
@@ -206,7 +206,7 @@ comes_on bits code inputs here i frame old between new is c at_code t p l =
           let there : frame_at old here ≡ Some a.held.frame = subst (λ (i : ℕ). frame_at old i ≡ Some a.held.frame) e a.held.there in
           let taken = t.taken in
           let same : a.held.frame ≡ frame = cc in
-          let u = p.each xs a.state.stack a.state.locals m (subst (λ (f : SpanFrame). AreIn f a.state.stack a.state.locals) same a.held.within) in
+          let u = p.each xs a.state.stack a.state.locals m (subst (λ (f : SpanFrameView). AreIn f a.state.stack a.state.locals) same a.held.within) in
           let k = turn_leads bits code xs s u.0 i is.forward (slice_get_within code here i at_code) at_code u.1 in
           record { n = suc a.n; state = u.0; reached = after_more bits code xs a.n s u.0 i reached at_code u.1; from = omega (arith, k.0); within = k.1; held = u.2 })
           (λ (n : a.state.pc ≢ here).
@@ -216,7 +216,7 @@ comes_on bits code inputs here i frame old between new is c at_code t p l =
     }
 
 -- an instruction that doesn't jump passes its frame on where the frame that it leads to joins the next place
-pub passes_plain : (bits : ℕ) (code : List Instr) (inputs : List Span) (here : ℕ) (frame frame' : SpanFrame) (i : Instr) (old new : List (Option SpanFrame)) → Follows bits i inputs frame frame' → Joins (here + 1) frame' old new → Passes bits code inputs here frame i new
+pub passes_plain : (bits : ℕ) (code : List Instr) (inputs : List Span) (here : ℕ) (frame frame' : SpanFrameView) (i : Instr) (old new : List (Option SpanFrameView)) → Follows bits i inputs frame frame' → Joins (here + 1) frame' old new → Passes bits code inputs here frame i new
 passes_plain bits code inputs here frame frame' i old new f j =
     record {
       each = λ xs ys ls hx h.
@@ -225,12 +225,12 @@ passes_plain bits code inputs here frame frame' i old new f j =
     }
 
 -- a jump passes its frame on where this joins the target
-pub passes_jump : (bits : ℕ) (code : List Instr) (inputs : List Span) (here to : ℕ) (frame : SpanFrame) (old new : List (Option SpanFrame)) → Joins to frame old new → Passes bits code inputs here frame (Jump to) new
+pub passes_jump : (bits : ℕ) (code : List Instr) (inputs : List Span) (here to : ℕ) (frame : SpanFrameView) (old new : List (Option SpanFrameView)) → Joins to frame old new → Passes bits code inputs here frame (Jump to) new
 passes_jump bits code inputs here to frame old new j =
     record { each = λ xs ys ls hx h. (record { pc = to; stack = ys; locals = ls }, refl, joins_mine to frame old new j ys ls h) }
 
 -- a jump at 0 passes its frame on where the rest of it joins each place that its top may send it to
-pub passes_branch : (bits : ℕ) (code : List Instr) (inputs : List Span) (here to : ℕ) (frame : SpanFrame) (old new : List (Option SpanFrame)) → Branches (here + 1) to frame old new → Passes bits code inputs here frame (JumpIfZero to) new
+pub passes_branch : (bits : ℕ) (code : List Instr) (inputs : List Span) (here to : ℕ) (frame : SpanFrameView) (old new : List (Option SpanFrameView)) → Branches (here + 1) to frame old new → Passes bits code inputs here frame (JumpIfZero to) new
 passes_branch bits code inputs here to frame old new b =
     record {
       each = λ xs ys ls hx h.
@@ -258,7 +258,7 @@ no_spans [] e = refl
 no_spans (x ∷ l) e = absurd (omega (arith, e))
 
 -- the span of the one value that is left at the end
-pub gives_at_end : (bits : ℕ) (code : List Instr) (inputs : List Span) (s : Span) (frame rest : SpanFrame) (old new : List (Option SpanFrame)) → Comes bits code inputs (length code) old → Takes (length code) (Some frame) old new → Pops s frame rest → length frame.stack ≡ 1 → AllGiveIn bits code inputs s
+pub gives_at_end : (bits : ℕ) (code : List Instr) (inputs : List Span) (s : Span) (frame rest : SpanFrameView) (old new : List (Option SpanFrameView)) → Comes bits code inputs (length code) old → Takes (length code) (Some frame) old new → Pops s frame rest → length frame.stack ≡ 1 → AllGiveIn bits code inputs s
 gives_at_end bits code inputs s frame rest old new c t p one =
     let none : length rest.stack ≡ 0 = omega (arith, ap length p.stack, one) in
     record {
@@ -268,7 +268,7 @@ gives_at_end bits code inputs s frame rest old new c t p one =
           let there : frame_at old (length code) ≡ Some a.held.frame = subst (λ (i : ℕ). frame_at old i ≡ Some a.held.frame) last a.held.there in
           let taken = t.taken in
           let same : a.held.frame ≡ frame = cc in
-          let on : AreMembers a.state.stack frame.stack = subst (λ (f : SpanFrame). AreMembers a.state.stack f.stack) same a.held.within.on_stack in
+          let on : AreMembers a.state.stack frame.stack = subst (λ (f : SpanFrameView). AreMembers a.state.stack f.stack) same a.held.within.on_stack in
           let top : frame.stack ≡ s ∷ [] = p.stack ∙ ap (λ (l : List Span). s ∷ l) (no_spans rest.stack none) in
           let o = one_member a.state.stack s (subst (AreMembers a.state.stack) top on) in
           let st : State = record { pc = a.state.pc; stack = o.0 ∷ []; locals = a.state.locals } in
@@ -290,7 +290,7 @@ least_in (t ∷ ss) zero s e =
 least_in (t ∷ ss) (suc k) s e = least_in ss k s e
 
 -- so some run comes to the end
-pub some_end : (bits : ℕ) (code : List Instr) (inputs : List Span) (old new : List (Option SpanFrame)) → Comes bits code inputs (length code) old → Takes (length code) None old new → ⊥
+pub some_end : (bits : ℕ) (code : List Instr) (inputs : List Span) (old new : List (Option SpanFrameView)) → Comes bits code inputs (length code) old → Takes (length code) None old new → ⊥
 some_end bits code inputs old new c t =
     let a = c.each (least inputs) (record { each = least_in inputs }) in
     let last : a.state.pc ≡ length code = omega (arith, a.from, a.within) in

@@ -11,8 +11,8 @@ use Rattle.kernel_code.specs.declared.instructions.Instr.TheVariants.{Push, Inpu
 use Rattle.kernel_code.specs.declared.instructions.BinaryOperation.{BinaryOperation}
 use Rattle.kernel_code.specs.declared.instructions.UnaryOperation.{UnaryOperation}
 use Rattle.kernel_code.specs.Machine.{binary_of, unary_of}
-use Rattle.verifier.specs.Frames.{SpanFrame, AreWithin, IsLocalWithin, IsFrameWithin, local_of, IsPlain, IsUnset, Pushes, Pops, AppliesBinary, AppliesUnary}
-use Rattle.verifier.specs.Places.{IsOne, Sets, IsBehind, HasOther, HasZero, HasTop, MayCome, IsStart, IsLed, comes_from, IsLeastFrame, IsFrameOf, GoesOn, AreFrames, GivesSpan, StopsAt, Stops}
+use Rattle.verifier.specs.Frames.{SpanFrameView, AreWithin, IsLocalWithin, IsFrameWithin, local_of, IsPlain, IsUnset, Pushes, Pops, AppliesBinary, AppliesUnary}
+use Rattle.verifier.specs.Places.{IsOne, Sets, IsBehind, HasOther, HasZero, HasTop, MayCome, IsStart, IsLed, comes_from, IsLeastFrame, IsFrameOf, GoesOn, AreSpanFrames, GivesSpan, StopsAt, Stops}
 use Rattle.verifier.specs.Slices.{frame_at, Takes, IsJoined, Joins, Branches, goes_on, jumps, may_jump, Stands}
 
 -- ---- spans within spans
@@ -48,11 +48,11 @@ local_trans None (Some s) (Some t) h k = absurd h
 local_trans (Some r) (Some s) (Some t) h k = span_trans r s t h k
 
 -- a frame is within itself
-pub frame_refl : (f : SpanFrame) → IsFrameWithin f f
+pub frame_refl : (f : SpanFrameView) → IsFrameWithin f f
 frame_refl f = record { stack' = stack_refl f.stack; locals' = λ k. local_refl (local_of f k) }
 
 -- a frame within one that is within a third is within the third
-pub frame_trans : (f g h : SpanFrame) → IsFrameWithin f g → IsFrameWithin g h → IsFrameWithin f h
+pub frame_trans : (f g h : SpanFrameView) → IsFrameWithin f g → IsFrameWithin g h → IsFrameWithin f h
 frame_trans f g h p q = record { stack' = stack_trans f.stack g.stack h.stack p.stack' q.stack'; locals' = λ k. local_trans (local_of f k) (local_of g k) (local_of h k) (p.locals' k) (q.locals' k) }
 
 -- ---- an instruction on a frame within another
@@ -70,19 +70,19 @@ pub ones_within : (v w : ℤ) (s t : Span) → v ≡ w → IsOne v s → IsOne w
 ones_within v w s t e p q = record { members = λ x m. record { at_least = omega (arith, ints, e, p.lo', q.lo', m.at_least); at_most = omega (arith, ints, e, p.hi', q.hi', m.at_most) } }
 
 -- a stack within another is so by the lists that both equal
-pub same_stacks : (f g : SpanFrame) (ss ts : List Span) → f.stack ≡ ss → g.stack ≡ ts → AreWithin f.stack g.stack → AreWithin ss ts
+pub same_stacks : (f g : SpanFrameView) (ss ts : List Span) → f.stack ≡ ss → g.stack ≡ ts → AreWithin f.stack g.stack → AreWithin ss ts
 same_stacks f g ss ts p q w = subst (λ (l : List Span). AreWithin l ts) p (subst (AreWithin f.stack) q w)
 
-from_stacks : (f g : SpanFrame) (ss ts : List Span) → f.stack ≡ ss → g.stack ≡ ts → AreWithin ss ts → AreWithin f.stack g.stack
+from_stacks : (f g : SpanFrameView) (ss ts : List Span) → f.stack ≡ ss → g.stack ≡ ts → AreWithin ss ts → AreWithin f.stack g.stack
 from_stacks f g ss ts p q w = subst (λ (l : List Span). AreWithin l g.stack) (sym p) (subst (AreWithin ss) (sym q) w)
 
-same_local : (f g f' g' : SpanFrame) (k : ℕ) → local_of f' k ≡ local_of f k → local_of g' k ≡ local_of g k → IsLocalWithin (local_of f k) (local_of g k) → IsLocalWithin (local_of f' k) (local_of g' k)
+same_local : (f g f' g' : SpanFrameView) (k : ℕ) → local_of f' k ≡ local_of f k → local_of g' k ≡ local_of g k → IsLocalWithin (local_of f k) (local_of g k) → IsLocalWithin (local_of f' k) (local_of g' k)
 same_local f g f' g' k p q w = subst (λ (o : Option Span). IsLocalWithin o (local_of g' k)) (sym p) (subst (IsLocalWithin (local_of f k)) (sym q) w)
 
-same_locals_of : (f g : SpanFrame) (k : ℕ) → g.locals ≡ f.locals → local_of g k ≡ local_of f k
+same_locals_of : (f g : SpanFrameView) (k : ℕ) → g.locals ≡ f.locals → local_of g k ≡ local_of f k
 same_locals_of f g k e = ap (λ (l : List (Option Span)). slice_index_or l k None) e
 
-pushes_within : (s t : Span) (f f' g g' : SpanFrame) → IsFrameWithin f f' → IsWithin s t → Pushes s f g → Pushes t f' g' → IsFrameWithin g g'
+pushes_within : (s t : Span) (f f' g g' : SpanFrameView) → IsFrameWithin f f' → IsWithin s t → Pushes s f g → Pushes t f' g' → IsFrameWithin g g'
 pushes_within s t f f' g g' w i p q =
     record {
       stack' = from_stacks g g' (s ∷ f.stack) (t ∷ f'.stack) p.stack q.stack (i, w.stack');
@@ -90,10 +90,10 @@ pushes_within s t f f' g g' w i p q =
     }
 
 -- a span on top, and the rest
-pub tops_within : (s t : Span) (ss ts : List Span) (f f' : SpanFrame) → IsFrameWithin f f' → f.stack ≡ s ∷ ss → f'.stack ≡ t ∷ ts → IsWithin s t × AreWithin ss ts
+pub tops_within : (s t : Span) (ss ts : List Span) (f f' : SpanFrameView) → IsFrameWithin f f' → f.stack ≡ s ∷ ss → f'.stack ≡ t ∷ ts → IsWithin s t × AreWithin ss ts
 tops_within s t ss ts f f' w p q = same_stacks f f' (s ∷ ss) (t ∷ ts) p q w.stack'
 
-pops_within : (s t : Span) (f f' g g' : SpanFrame) → IsFrameWithin f f' → Pops s f g → Pops t f' g' → IsWithin s t × IsFrameWithin g g'
+pops_within : (s t : Span) (f f' g g' : SpanFrameView) → IsFrameWithin f f' → Pops s f g → Pops t f' g' → IsWithin s t × IsFrameWithin g g'
 pops_within s t f f' g g' w p q =
     let tops = tops_within s t g.stack g'.stack f f' w p.stack q.stack in
     (tops.0, record { stack' = tops.1; locals' = λ k. same_local f f' g g' k (same_locals_of f g k p.locals) (same_locals_of f' g' k q.locals) (w.locals' k) })
@@ -104,7 +104,7 @@ some_within s t o p e f w = let h : IsLocalWithin (Some s) (Some t) = subst (λ 
 within_some : (s t : Span) (o p : Option Span) → o ≡ Some s → p ≡ Some t → IsWithin s t → IsLocalWithin o p
 within_some s t o p e f w = subst (λ (x : Option Span). IsLocalWithin x p) (sym e) (subst (IsLocalWithin (Some s)) (sym f) w)
 
-sets_within : (k : ℕ) (s t : Span) (f f' g g' : SpanFrame) → IsFrameWithin f f' → IsWithin s t → Sets k s f g → Sets k t f' g' → IsFrameWithin g g'
+sets_within : (k : ℕ) (s t : Span) (f f' g g' : SpanFrameView) → IsFrameWithin f f' → IsWithin s t → Sets k s f g → Sets k t f' g' → IsFrameWithin g g'
 sets_within k s t f f' g g' w i p q =
     record {
       stack' = from_stacks g g' f.stack f'.stack p.stack q.stack w.stack';
@@ -134,7 +134,7 @@ least_within P Q s t f p q =
     let at_hi : IsMember s.hi t = held_end hi.0 s.hi t hi.1 hi.2 in
     record { members = λ x m. record { at_least = omega (arith, ints, at_lo.at_least, m.at_least); at_most = omega (arith, ints, at_hi.at_most, m.at_most) } }
 
-binary_within : (bits : ℕ) (op : BinaryOperation) (f f' g g' : SpanFrame) → IsFrameWithin f f' → AppliesBinary bits op f g → AppliesBinary bits op f' g' → IsFrameWithin g g'
+binary_within : (bits : ℕ) (op : BinaryOperation) (f f' g g' : SpanFrameView) → IsFrameWithin f f' → AppliesBinary bits op f g → AppliesBinary bits op f' g' → IsFrameWithin g g'
 binary_within bits op f f' g g' w p q =
     let top = tops_within p.b q.b (p.a ∷ p.rest) (q.a ∷ q.rest) f f' w p.taken q.taken in
     let i : IsWithin p.s q.s = least_within (IsOutcomeOfTwo (binary_of bits op) p.a p.b) (IsOutcomeOfTwo (binary_of bits op) q.a q.b) p.s q.s (λ r o. outcome_of_two (binary_of bits op) p.a p.b q.a q.b r top.1.0 top.0 o) p.least q.least in
@@ -143,7 +143,7 @@ binary_within bits op f f' g g' w p q =
       locals' = λ k. same_local f f' g g' k (same_locals_of f g k p.locals) (same_locals_of f' g' k q.locals) (w.locals' k);
     }
 
-unary_within : (bits : ℕ) (op : UnaryOperation) (f f' g g' : SpanFrame) → IsFrameWithin f f' → AppliesUnary bits op f g → AppliesUnary bits op f' g' → IsFrameWithin g g'
+unary_within : (bits : ℕ) (op : UnaryOperation) (f f' g g' : SpanFrameView) → IsFrameWithin f f' → AppliesUnary bits op f g → AppliesUnary bits op f' g' → IsFrameWithin g g'
 unary_within bits op f f' g g' w p q =
     let top = tops_within p.a q.a p.rest q.rest f f' w p.taken q.taken in
     let i : IsWithin p.s q.s = least_within (IsOutcome (unary_of bits op) p.a) (IsOutcome (unary_of bits op) q.a) p.s q.s (λ r o. outcome_of_one (unary_of bits op) p.a q.a r top.0 o) p.least q.least in
@@ -153,7 +153,7 @@ unary_within bits op f f' g g' w p q =
     }
 
 -- a smaller frame leads to a smaller one
-pub behind_within : (bits : ℕ) (i : Instr) (xs ys : List Span) (f f' g g' : SpanFrame) → AreInputsWithin xs ys → IsFrameWithin f f' → IsBehind bits i xs f g → IsBehind bits i ys f' g' → IsFrameWithin g g'
+pub behind_within : (bits : ℕ) (i : Instr) (xs ys : List Span) (f f' g g' : SpanFrameView) → AreInputsWithin xs ys → IsFrameWithin f f' → IsBehind bits i xs f g → IsBehind bits i ys f' g' → IsFrameWithin g g'
 behind_within bits (Push v) xs ys f f' g g' n w p q = pushes_within p.span q.span f f' g g' w (ones_within v v p.span q.span refl p.one q.one) p.pushes q.pushes
 behind_within bits (Input k) xs ys f f' g g' n w p q =
     let h = n.each k p.span p.there in
@@ -168,12 +168,12 @@ behind_within bits (Get k) xs ys f f' g g' n w p q = pushes_within p.span q.span
 behind_within bits (Binary op) xs ys f f' g g' n w p q = binary_within bits op f f' g g' w p q
 behind_within bits (Unary op) xs ys f f' g g' n w p q = unary_within bits op f f' g g' w p q
 behind_within bits (JumpIfZero to) xs ys f f' g g' n w p q = (pops_within p.span q.span f f' g g' w p.pops q.pops).1
-behind_within bits (Jump to) xs ys f f' g g' n w p q = subst (λ (x : SpanFrame). IsFrameWithin x g') (sym p) (subst (IsFrameWithin f) (sym q) w)
+behind_within bits (Jump to) xs ys f f' g g' n w p q = subst (λ (x : SpanFrameView). IsFrameWithin x g') (sym p) (subst (IsFrameWithin f) (sym q) w)
 
 -- ---- joins
 
 -- what comes to a place, and one frame more
-pub joined_place : (led led' : SpanFrame → Type 0) (g : SpanFrame) (o o' : Option SpanFrame) → ((f : SpanFrame) → led f → led' f) → ((f : SpanFrame) → led' f → led f ⊎ IsFrameWithin f g) → led' g → IsFrameOf led o → IsJoined o g o' → IsFrameOf led' o'
+pub joined_place : (led led' : SpanFrameView → Type 0) (g : SpanFrameView) (o o' : Option SpanFrameView) → ((f : SpanFrameView) → led f → led' f) → ((f : SpanFrameView) → led' f → led f ⊎ IsFrameWithin f g) → led' g → IsFrameOf led o → IsJoined o g o' → IsFrameOf led' o'
 joined_place led led' g None None up down mine before j = absurd j
 joined_place led led' g None (Some new) up down mine before j =
     subst (IsLeastFrame led') (sym j)
@@ -191,7 +191,7 @@ joined_place led led' g (Some e) (Some new) up down mine before j =
     }
 
 -- where the same frames are led to a place, it has the same frame
-pub same_place : (led led' : SpanFrame → Type 0) (o : Option SpanFrame) → ((f : SpanFrame) → led f → led' f) → ((f : SpanFrame) → led' f → led f) → IsFrameOf led o → IsFrameOf led' o
+pub same_place : (led led' : SpanFrameView → Type 0) (o : Option SpanFrameView) → ((f : SpanFrameView) → led f → led' f) → ((f : SpanFrameView) → led' f → led f) → IsFrameOf led o → IsFrameOf led' o
 same_place led led' None up down before = λ f l. before f (down f l)
 same_place led led' (Some e) up down before =
     record {
@@ -203,20 +203,20 @@ same_place led led' (Some e) up down before =
 -- ---- one place more
 
 -- the frames so far, and one from a place on
-put : (ℕ → Option SpanFrame) → ℕ → Option SpanFrame → ℕ → Option SpanFrame
+put : (ℕ → Option SpanFrameView) → ℕ → Option SpanFrameView → ℕ → Option SpanFrameView
 put frames here o k = if nat_lt k here then frames k else o
 
-put_below : (frames : ℕ → Option SpanFrame) (here k : ℕ) (o : Option SpanFrame) → k < here → put frames here o k ≡ frames k
+put_below : (frames : ℕ → Option SpanFrameView) (here k : ℕ) (o : Option SpanFrameView) → k < here → put frames here o k ≡ frames k
 unfolding put
 put_below frames here k o lt = let t : nat_lt k here ≡ true = lt-ltb k here lt in rw t refl
 
-put_here : (frames : ℕ → Option SpanFrame) (here : ℕ) (o : Option SpanFrame) → put frames here o here ≡ o
+put_here : (frames : ℕ → Option SpanFrameView) (here : ℕ) (o : Option SpanFrameView) → put frames here o here ≡ o
 unfolding put
 put_here frames here o = let t : nat_lt here here ≡ false = le-ltb here here (omega arith) in rw t refl
 
 -- what the instruction at a place with this frame leads to another
-pub record IsLedHere (bits : ℕ) (code : List Instr) (inputs : List Span) (here to : ℕ) (o : Option SpanFrame) (led : SpanFrame) : Type 0 where
-  pub frame : SpanFrame
+pub record IsLedHere (bits : ℕ) (code : List Instr) (inputs : List Span) (here to : ℕ) (o : Option SpanFrameView) (led : SpanFrameView) : Type 0 where
+  pub frame : SpanFrameView
   pub there : o ≡ Some frame
   pub instr : Instr
   pub at : slice_get code here ≡ Some instr
@@ -224,15 +224,15 @@ pub record IsLedHere (bits : ℕ) (code : List Instr) (inputs : List Span) (here
   pub behind : IsBehind bits instr inputs frame led
 
 module _ (bits : ℕ) (code : List Instr) (inputs : List Span) where
-  led_up : (F G : ℕ → Option SpanFrame) (bound bound' to : ℕ) (f : SpanFrame) → bound ≤ bound' → ((k : ℕ) → k < bound → G k ≡ F k) → comes_from bits code inputs F bound to f → comes_from bits code inputs G bound' to f
+  led_up : (F G : ℕ → Option SpanFrameView) (bound bound' to : ℕ) (f : SpanFrameView) → bound ≤ bound' → ((k : ℕ) → k < bound → G k ≡ F k) → comes_from bits code inputs F bound to f → comes_from bits code inputs G bound' to f
   led_up F G bound bound' to f le same (inl s) = inl s
   led_up F G bound bound' to f le same (inr l) =
       inr (record { from = l.from; lower = omega (arith, l.lower, le); frame = l.frame; there = same l.from l.lower ∙ l.there; instr = l.instr; at = l.at; comes = l.comes; behind = l.behind })
 
-  led_more : (F : ℕ → Option SpanFrame) (here to : ℕ) (o : Option SpanFrame) (f : SpanFrame) → comes_from bits code inputs F here to f → comes_from bits code inputs (put F here o) (here + 1) to f
+  led_more : (F : ℕ → Option SpanFrameView) (here to : ℕ) (o : Option SpanFrameView) (f : SpanFrameView) → comes_from bits code inputs F here to f → comes_from bits code inputs (put F here o) (here + 1) to f
   led_more F here to o f l = led_up F (put F here o) here (here + 1) to f (omega arith) (λ k lt. put_below F here k o lt) l
 
-  led_less : (F : ℕ → Option SpanFrame) (here to : ℕ) (o : Option SpanFrame) (f : SpanFrame) → comes_from bits code inputs (put F here o) (here + 1) to f → comes_from bits code inputs F here to f ⊎ IsLedHere bits code inputs here to o f
+  led_less : (F : ℕ → Option SpanFrameView) (here to : ℕ) (o : Option SpanFrameView) (f : SpanFrameView) → comes_from bits code inputs (put F here o) (here + 1) to f → comes_from bits code inputs F here to f ⊎ IsLedHere bits code inputs here to o f
   led_less F here to o f (inl s) = inl (inl s)
   led_less F here to o f (inr l) =
       ⊎_elim
@@ -250,15 +250,15 @@ module _ (bits : ℕ) (code : List Instr) (inputs : List Span) where
       }))
       (cases_lt l.from here)
 
-  led_here : (F : ℕ → Option SpanFrame) (here to : ℕ) (o : Option SpanFrame) (f : SpanFrame) → IsLedHere bits code inputs here to o f → comes_from bits code inputs (put F here o) (here + 1) to f
+  led_here : (F : ℕ → Option SpanFrameView) (here to : ℕ) (o : Option SpanFrameView) (f : SpanFrameView) → IsLedHere bits code inputs here to o f → comes_from bits code inputs (put F here o) (here + 1) to f
   led_here F here to o f l = inr (record { from = here; lower = omega arith; frame = l.frame; there = put_here F here o ∙ l.there; instr = l.instr; at = l.at; comes = l.comes; behind = l.behind })
 
   -- the frames so far, and the one that was taken here
-  past_more : (F : ℕ → Option SpanFrame) (here at : ℕ) (o : Option SpanFrame) → ((k : ℕ) → k < here → IsFrameOf (comes_from bits code inputs F k k) (F k)) → IsFrameOf (comes_from bits code inputs F here here) o → at ≤ here
+  past_more : (F : ℕ → Option SpanFrameView) (here at : ℕ) (o : Option SpanFrameView) → ((k : ℕ) → k < here → IsFrameOf (comes_from bits code inputs F k k) (F k)) → IsFrameOf (comes_from bits code inputs F here here) o → at ≤ here
       → IsFrameOf (comes_from bits code inputs (put F here o) at at) (put F here o at)
   past_more F here at o past now le =
-      let up = λ (f : SpanFrame). led_up F (put F here o) at at at f (omega arith) (λ k lt. put_below F here k o (omega (arith, lt, le))) in
-      let down = λ (f : SpanFrame). led_up (put F here o) F at at at f (omega arith) (λ k lt. sym (put_below F here k o (omega (arith, lt, le)))) in
+      let up = λ (f : SpanFrameView). led_up F (put F here o) at at at f (omega arith) (λ k lt. put_below F here k o (omega (arith, lt, le))) in
+      let down = λ (f : SpanFrameView). led_up (put F here o) F at at at f (omega arith) (λ k lt. sym (put_below F here k o (omega (arith, lt, le)))) in
       ⊎_elim
       (λ (lt : at < here).
       subst (IsFrameOf (comes_from bits code inputs (put F here o) at at)) (sym (put_below F here at o lt)) (same_place (comes_from bits code inputs F at at) (comes_from bits code inputs (put F here o) at at) (F at) up down (past at lt)))
@@ -269,7 +269,7 @@ module _ (bits : ℕ) (code : List Instr) (inputs : List Span) where
       (same_place (comes_from bits code inputs F at at) (comes_from bits code inputs (put F here o) at at) o up down (subst (λ (k : ℕ). IsFrameOf (comes_from bits code inputs F k k) o) e now)))
       (cases_lt at here)
 
-  goes_more : (F : ℕ → Option SpanFrame) (here at : ℕ) (o : Option SpanFrame) (frame : SpanFrame) → ((k : ℕ) (f : SpanFrame) → k < here → F k ≡ Some f → GoesOn bits code inputs k f) → ((f : SpanFrame) → o ≡ Some f → GoesOn bits code inputs here f) → at < here + 1
+  goes_more : (F : ℕ → Option SpanFrameView) (here at : ℕ) (o : Option SpanFrameView) (frame : SpanFrameView) → ((k : ℕ) (f : SpanFrameView) → k < here → F k ≡ Some f → GoesOn bits code inputs k f) → ((f : SpanFrameView) → o ≡ Some f → GoesOn bits code inputs here f) → at < here + 1
       → put F here o at ≡ Some frame → GoesOn bits code inputs at frame
   goes_more F here at o frame goes now lt e =
       ⊎_elim
@@ -282,10 +282,10 @@ module _ (bits : ℕ) (code : List Instr) (inputs : List Span) where
 
   -- ---- the first place
 
-  no_led : (F : ℕ → Option SpanFrame) (to : ℕ) (f : SpanFrame) → IsLed bits code inputs F 0 to f → ⊥
+  no_led : (F : ℕ → Option SpanFrameView) (to : ℕ) (f : SpanFrameView) → IsLed bits code inputs F 0 to f → ⊥
   no_led F to f l = absurd (omega (arith, l.lower))
 
-  start_within : (f g : SpanFrame) → IsStart f → IsStart g → IsFrameWithin f g
+  start_within : (f g : SpanFrameView) → IsStart f → IsStart g → IsFrameWithin f g
   start_within f g s t =
       record {
         stack' = from_stacks f g [] [] s.stack t.stack tt;
@@ -293,9 +293,9 @@ module _ (bits : ℕ) (code : List Instr) (inputs : List Span) where
       }
 
   -- at the start the frames stand: the first place has the start's frame, and no other has any
-  pub stands_first : (frame : SpanFrame) (old new : List (Option SpanFrame)) → IsStart frame → ((at : ℕ) → frame_at old at ≡ None) → Joins 0 frame old new → Stands bits code inputs 0 new
+  pub stands_first : (frame : SpanFrameView) (old new : List (Option SpanFrameView)) → IsStart frame → ((at : ℕ) → frame_at old at ≡ None) → Joins 0 frame old new → Stands bits code inputs 0 new
   stands_first frame old new start none j =
-      let F : ℕ → Option SpanFrame = λ k. None in
+      let F : ℕ → Option SpanFrameView = λ k. None in
       record {
         frames = F;
         past = λ at lt. absurd (omega (arith, lt));
@@ -319,7 +319,7 @@ module _ (bits : ℕ) (code : List Instr) (inputs : List Span) where
   -- ---- a place is passed
 
   -- where a place has no frame, the frames stand from the next place on
-  pub stands_past : (here : ℕ) (old new : List (Option SpanFrame)) → Stands bits code inputs here old → Takes here None old new → Stands bits code inputs (here + 1) new
+  pub stands_past : (here : ℕ) (old new : List (Option SpanFrameView)) → Stands bits code inputs here old → Takes here None old new → Stands bits code inputs (here + 1) new
   stands_past here old new s t =
       let now : IsFrameOf (comes_from bits code inputs s.frames here here) None = subst (IsFrameOf (comes_from bits code inputs s.frames here here)) t.taken (s.ahead here (omega arith)) in
       let F = put s.frames here None in
@@ -336,39 +336,39 @@ module _ (bits : ℕ) (code : List Instr) (inputs : List Span) where
       }
 
   -- to each place ahead the frame is led where the instruction may come to it, and to no other
-  pub data IsSpread (i : Instr) (here at : ℕ) (frame led : SpanFrame) (old new : Option SpanFrame) : Type 0 where
+  pub data IsSpread (i : Instr) (here at : ℕ) (frame led : SpanFrameView) (old new : Option SpanFrameView) : Type 0 where
     not : (MayCome i here at frame → ⊥) → new ≡ old → IsSpread i here at frame led old new
     once : MayCome i here at frame → IsJoined old led new → IsSpread i here at frame led old new
-    twice : (between : Option SpanFrame) → MayCome i here at frame → IsJoined old led between → IsJoined between led new → IsSpread i here at frame led old new
+    twice : (between : Option SpanFrameView) → MayCome i here at frame → IsJoined old led between → IsJoined between led new → IsSpread i here at frame led old new
 
-  spread_place : (F : ℕ → Option SpanFrame) (here at : ℕ) (i : Instr) (frame led : SpanFrame) (o o' : Option SpanFrame) → slice_get code here ≡ Some i → IsBehind bits i inputs frame led → IsFrameOf (comes_from bits code inputs F here at) o
+  spread_place : (F : ℕ → Option SpanFrameView) (here at : ℕ) (i : Instr) (frame led : SpanFrameView) (o o' : Option SpanFrameView) → slice_get code here ≡ Some i → IsBehind bits i inputs frame led → IsFrameOf (comes_from bits code inputs F here at) o
       → IsSpread i here at frame led o o' → IsFrameOf (comes_from bits code inputs (put F here (Some frame)) (here + 1) at) o'
   spread_place F here at i frame led o o' there behind before spread = by spread
     where
-      G : ℕ → Option SpanFrame
+      G : ℕ → Option SpanFrameView
       G = put F here (Some frame)
 
-      old : SpanFrame → Type 0
+      old : SpanFrameView → Type 0
       old = comes_from bits code inputs F here at
 
-      new : SpanFrame → Type 0
+      new : SpanFrameView → Type 0
       new = comes_from bits code inputs (put F here (Some frame)) (here + 1) at
 
-      up : (f : SpanFrame) → old f → new f
+      up : (f : SpanFrameView) → old f → new f
       up f l = led_more F here at (Some frame) f l
 
       -- what is led from here is the one frame
-      only : (f : SpanFrame) → IsLedHere bits code inputs here at (Some frame) f → MayCome i here at frame × IsFrameWithin f led
+      only : (f : SpanFrameView) → IsLedHere bits code inputs here at (Some frame) f → MayCome i here at frame × IsFrameWithin f led
       only f x =
           let at' = x.at in
           let there' = x.there in
           let same : x.instr ≡ i = cc in
           let frame' : x.frame ≡ frame = cc in
-          let comes = subst (λ (j : Instr). MayCome j here at frame) same (subst (λ (g : SpanFrame). MayCome x.instr here at g) frame' x.comes) in
-          let b = subst (λ (j : Instr). IsBehind bits j inputs frame f) same (subst (λ (g : SpanFrame). IsBehind bits x.instr inputs g f) frame' x.behind) in
+          let comes = subst (λ (j : Instr). MayCome j here at frame) same (subst (λ (g : SpanFrameView). MayCome x.instr here at g) frame' x.comes) in
+          let b = subst (λ (j : Instr). IsBehind bits j inputs frame f) same (subst (λ (g : SpanFrameView). IsBehind bits x.instr inputs g f) frame' x.behind) in
           (comes, behind_within bits i inputs inputs frame frame f led (inputs_refl inputs) (frame_refl frame) b behind)
 
-      down : (f : SpanFrame) → new f → old f ⊎ IsFrameWithin f led
+      down : (f : SpanFrameView) → new f → old f ⊎ IsFrameWithin f led
       down f l = ⊎_elim (λ (x : old f). inl x) (λ (x : IsLedHere bits code inputs here at (Some frame) f). inr (only f x).1) (led_less F here at (Some frame) f l)
 
       mine : MayCome i here at frame → new led
@@ -386,7 +386,7 @@ module _ (bits : ℕ) (code : List Instr) (inputs : List Span) where
           joined_place new new led between o' (λ f l. l) (λ f l. inl l) (mine comes) first k
 
   -- where a place's frame is led on to each place ahead to which its instruction may go, the frames stand from the next place on
-  pub stands_on : (here : ℕ) (i : Instr) (frame led : SpanFrame) (old between new : List (Option SpanFrame)) → Stands bits code inputs here old → Takes here (Some frame) old between → slice_get code here ≡ Some i → IsBehind bits i inputs frame led
+  pub stands_on : (here : ℕ) (i : Instr) (frame led : SpanFrameView) (old between new : List (Option SpanFrameView)) → Stands bits code inputs here old → Takes here (Some frame) old between → slice_get code here ≡ Some i → IsBehind bits i inputs frame led
       → ((at : ℕ) → here < at → IsSpread i here at frame led (frame_at between at) (frame_at new at)) → Stands bits code inputs (here + 1) new
   stands_on here i frame led old between new s t there behind spread =
       let now : IsFrameOf (comes_from bits code inputs s.frames here here) (Some frame) = subst (IsFrameOf (comes_from bits code inputs s.frames here here)) t.taken (s.ahead here (omega arith)) in
@@ -395,7 +395,7 @@ module _ (bits : ℕ) (code : List Instr) (inputs : List Span) where
         past = λ at lt. past_more s.frames here at (Some frame) s.past now (omega (arith, lt));
         goes = λ at f lt e.
             goes_more s.frames here at (Some frame) f s.goes
-            (λ g h. let same : frame ≡ g = cc in record { instr = i; at = there; new = led; behind = subst (λ (x : SpanFrame). IsBehind bits i inputs x led) same behind })
+            (λ g h. let same : frame ≡ g = cc in record { instr = i; at = there; new = led; behind = subst (λ (x : SpanFrameView). IsBehind bits i inputs x led) same behind })
             lt e;
         ahead = λ at le.
             let before : IsFrameOf (comes_from bits code inputs s.frames here at) (frame_at between at) =
@@ -405,7 +405,7 @@ module _ (bits : ℕ) (code : List Instr) (inputs : List Span) where
 
   -- one that doesn't jump
 
-  plain_comes : (i : Instr) (here to : ℕ) (frame : SpanFrame) → IsPlain i → to ≡ here + 1 → MayCome i here to frame
+  plain_comes : (i : Instr) (here to : ℕ) (frame : SpanFrameView) → IsPlain i → to ≡ here + 1 → MayCome i here to frame
   plain_comes (Push v) here to frame p e = e
   plain_comes (Input k) here to frame p e = e
   plain_comes (Keep k) here to frame p e = e
@@ -415,7 +415,7 @@ module _ (bits : ℕ) (code : List Instr) (inputs : List Span) where
   plain_comes (JumpIfZero target) here to frame p e = absurd p
   plain_comes (Jump target) here to frame p e = absurd p
 
-  plain_only : (i : Instr) (here to : ℕ) (frame : SpanFrame) → IsPlain i → MayCome i here to frame → to ≡ here + 1
+  plain_only : (i : Instr) (here to : ℕ) (frame : SpanFrameView) → IsPlain i → MayCome i here to frame → to ≡ here + 1
   plain_only (Push v) here to frame p e = e
   plain_only (Input k) here to frame p e = e
   plain_only (Keep k) here to frame p e = e
@@ -425,7 +425,7 @@ module _ (bits : ℕ) (code : List Instr) (inputs : List Span) where
   plain_only (JumpIfZero target) here to frame p e = absurd p
   plain_only (Jump target) here to frame p e = absurd p
 
-  spread_by : (i : Instr) (here to at : ℕ) (frame led : SpanFrame) (old new : List (Option SpanFrame)) → (at ≡ to → MayCome i here at frame) → (MayCome i here at frame → at ≡ to) → Joins to led old new → IsSpread i here at frame led (frame_at old at) (frame_at new at)
+  spread_by : (i : Instr) (here to at : ℕ) (frame led : SpanFrameView) (old new : List (Option SpanFrameView)) → (at ≡ to → MayCome i here at frame) → (MayCome i here at frame → at ≡ to) → Joins to led old new → IsSpread i here at frame led (frame_at old at) (frame_at new at)
   spread_by i here to at frame led old new f g j =
       ⊎_elim
       (λ (e : at ≡ to). once (f e) (subst (λ (k : ℕ). IsJoined (frame_at old k) led (frame_at new k)) (sym e) j.there))
@@ -433,25 +433,25 @@ module _ (bits : ℕ) (code : List Instr) (inputs : List Span) where
       (cases_eq at to)
 
   -- when an instruction that doesn't jump is passed, and its frame joins the next place, the frames stand from there on
-  pub stands_plain : (here : ℕ) (i : Instr) (frame led : SpanFrame) (old between new : List (Option SpanFrame)) → Stands bits code inputs here old → Takes here (Some frame) old between → slice_get code here ≡ Some i → IsPlain i → IsBehind bits i inputs frame led → Joins (here + 1) led between new
+  pub stands_plain : (here : ℕ) (i : Instr) (frame led : SpanFrameView) (old between new : List (Option SpanFrameView)) → Stands bits code inputs here old → Takes here (Some frame) old between → slice_get code here ≡ Some i → IsPlain i → IsBehind bits i inputs frame led → Joins (here + 1) led between new
       → Stands bits code inputs (here + 1) new
   stands_plain here i frame led old between new s t there p b j =
       stands_on here i frame led old between new s t there b (λ at lt. spread_by i here (here + 1) at frame led between new (λ e. plain_comes i here at frame p e) (λ m. plain_only i here at frame p m) j)
 
   -- when a jump is passed, and its frame joins the target, the frames stand from the next place on
-  pub stands_jump : (here to : ℕ) (frame : SpanFrame) (old between new : List (Option SpanFrame)) → Stands bits code inputs here old → Takes here (Some frame) old between → slice_get code here ≡ Some (Jump to) → Joins to frame between new → Stands bits code inputs (here + 1) new
+  pub stands_jump : (here to : ℕ) (frame : SpanFrameView) (old between new : List (Option SpanFrameView)) → Stands bits code inputs here old → Takes here (Some frame) old between → slice_get code here ≡ Some (Jump to) → Joins to frame between new → Stands bits code inputs (here + 1) new
   stands_jump here to frame old between new s t there j = stands_on here (Jump to) frame frame old between new s t there refl (λ at lt. spread_by (Jump to) here to at frame frame between new (λ e. e) (λ m. m) j)
 
   -- a jump at 0
 
-  top_of : (P Q : Span → Type 0) (s : Span) (frame rest : SpanFrame) → Pops s frame rest → HasTop P frame → P s
+  top_of : (P Q : Span → Type 0) (s : Span) (frame rest : SpanFrameView) → Pops s frame rest → HasTop P frame → P s
   top_of P Q s frame rest p h =
       let stack = p.stack in
       let top = h.top in
       let same : h.span ≡ s = cc in
       subst P same h.it
 
-  has_top : (P : Span → Type 0) (s : Span) (frame rest : SpanFrame) → Pops s frame rest → P s → HasTop P frame
+  has_top : (P : Span → Type 0) (s : Span) (frame rest : SpanFrameView) → Pops s frame rest → P s → HasTop P frame
   has_top P s frame rest p h = record { span = s; rest = rest.stack; top = p.stack; it = h }
 
   -- a member that isn't 0
@@ -486,7 +486,7 @@ module _ (bits : ℕ) (code : List Instr) (inputs : List Span) where
       h.other (omega (arith, ints, z.at_least, z.at_most, e, m.at_least, m.at_most))
 
   -- both ways
-  spread_both : (here target at : ℕ) (frame rest : SpanFrame) (old between new : List (Option SpanFrame)) → HasTop HasOther frame → HasTop HasZero frame → Joins (here + 1) rest old between → Joins target rest between new
+  spread_both : (here target at : ℕ) (frame rest : SpanFrameView) (old between new : List (Option SpanFrameView)) → HasTop HasOther frame → HasTop HasZero frame → Joins (here + 1) rest old between → Joins target rest between new
       → IsSpread (JumpIfZero target) here at frame rest (frame_at old at) (frame_at new at)
   spread_both here target at frame rest old between new away here' j k =
       ⊎_elim
@@ -501,12 +501,12 @@ module _ (bits : ℕ) (code : List Instr) (inputs : List Span) where
       ⊎_elim
       (λ (f : at ≡ target).
       let second : IsJoined (frame_at between at) rest (frame_at new at) = subst (λ (n : ℕ). IsJoined (frame_at between n) rest (frame_at new n)) (sym f) k.there in
-      once (inr (f, here')) (subst (λ (o : Option SpanFrame). IsJoined o rest (frame_at new at)) (j.others at m) second))
+      once (inr (f, here')) (subst (λ (o : Option SpanFrameView). IsJoined o rest (frame_at new at)) (j.others at m) second))
       (λ (n : at ≢ target). not (λ c. ⊎_elim (λ (x : (at ≡ here + 1) × HasTop HasOther frame). m x.0) (λ (x : (at ≡ target) × HasTop HasZero frame). n x.0) c) (k.others at n ∙ j.others at m))
       (cases_eq at target))
       (cases_eq at (here + 1))
 
-  spread_branch : (here target at : ℕ) (frame : SpanFrame) (old new : List (Option SpanFrame)) → Branches (here + 1) target frame old new → (led : SpanFrame) × IsBehind bits (JumpIfZero target) inputs frame led × ((at : ℕ) → here < at → IsSpread (JumpIfZero target) here at frame led (frame_at old at) (frame_at new at))
+  spread_branch : (here target at : ℕ) (frame : SpanFrameView) (old new : List (Option SpanFrameView)) → Branches (here + 1) target frame old new → (led : SpanFrameView) × IsBehind bits (JumpIfZero target) inputs frame led × ((at : ℕ) → here < at → IsSpread (JumpIfZero target) here at frame led (frame_at old at) (frame_at new at))
   spread_branch here target at frame old new (goes_on {s = s} {rest = rest} p without j) = (
     rest,
     record { span = s; pops = p },
@@ -532,7 +532,7 @@ module _ (bits : ℕ) (code : List Instr) (inputs : List Span) where
   )
 
   -- when a jump at 0 is passed, and the rest of its frame joins each place that the top may send it to, the frames stand from the next place on
-  pub stands_branch : (here target : ℕ) (frame : SpanFrame) (old between new : List (Option SpanFrame)) → Stands bits code inputs here old → Takes here (Some frame) old between → slice_get code here ≡ Some (JumpIfZero target) → Branches (here + 1) target frame between new
+  pub stands_branch : (here target : ℕ) (frame : SpanFrameView) (old between new : List (Option SpanFrameView)) → Stands bits code inputs here old → Takes here (Some frame) old between → slice_get code here ≡ Some (JumpIfZero target) → Branches (here + 1) target frame between new
       → Stands bits code inputs (here + 1) new
   stands_branch here target frame old between new s t there b =
       let spread = spread_branch here target here frame between new b in
@@ -545,8 +545,8 @@ module _ (bits : ℕ) (code : List Instr) (inputs : List Span) where
   no_spans (x ∷ l) e = absurd (omega (arith, e))
 
   -- the frames up to a place whose frame was taken
-  frames_to : (here : ℕ) (frame : SpanFrame) (old new : List (Option SpanFrame)) → Stands bits code inputs here old → Takes here (Some frame) old new
-      → (F : ℕ → Option SpanFrame) × AreFrames bits code inputs here F × (F here ≡ Some frame)
+  frames_to : (here : ℕ) (frame : SpanFrameView) (old new : List (Option SpanFrameView)) → Stands bits code inputs here old → Takes here (Some frame) old new
+      → (F : ℕ → Option SpanFrameView) × AreSpanFrames bits code inputs here F × (F here ≡ Some frame)
   frames_to here frame old new s t =
       let now : IsFrameOf (comes_from bits code inputs s.frames here here) (Some frame) = subst (IsFrameOf (comes_from bits code inputs s.frames here here)) t.taken (s.ahead here (omega arith)) in (
         put s.frames here (Some frame),
@@ -558,14 +558,14 @@ module _ (bits : ℕ) (code : List Instr) (inputs : List Span) where
       )
 
   -- frames that stand at the end of the code give the span that is alone on the stack there
-  pub gives_span : (s : Span) (frame rest : SpanFrame) (old new : List (Option SpanFrame)) → Stands bits code inputs (length code) old → Takes (length code) (Some frame) old new → Pops s frame rest → length frame.stack ≡ 1 → GivesSpan bits code inputs s
+  pub gives_span : (s : Span) (frame rest : SpanFrameView) (old new : List (Option SpanFrameView)) → Stands bits code inputs (length code) old → Takes (length code) (Some frame) old new → Pops s frame rest → length frame.stack ≡ 1 → GivesSpan bits code inputs s
   gives_span s frame rest old new st t p one =
       let f = frames_to (length code) frame old new st t in
       let none : length rest.stack ≡ 0 = omega (arith, ap length p.stack, one) in
       record { frames = f.0; are = f.1; frame = frame; there = f.2; alone = p.stack ∙ ap (λ (l : List Span). s ∷ l) (no_spans rest.stack none) }
 
   -- where the frames stand at a place, and its operation stops on its frame, the code stops at this place for this cause
-  pub stops_at : (here : ℕ) (i : Instr) (fault : Fault) (frame : SpanFrame) (old new : List (Option SpanFrame)) → Stands bits code inputs here old → Takes here (Some frame) old new → slice_get code here ≡ Some i → Stops bits i frame fault → StopsAt bits code inputs here fault
+  pub stops_at : (here : ℕ) (i : Instr) (fault : Fault) (frame : SpanFrameView) (old new : List (Option SpanFrameView)) → Stands bits code inputs here old → Takes here (Some frame) old new → slice_get code here ≡ Some i → Stops bits i frame fault → StopsAt bits code inputs here fault
   stops_at here i fault frame old new st t there stop =
       let f = frames_to here frame old new st t in
       record { frames = f.0; are = f.1; frame = frame; there = f.2; instr = i; at = there; stops = stop }
@@ -579,5 +579,5 @@ unset_none (suc n) zero = refl
 unset_none (suc n) (suc k) = unset_none n k
 
 -- a frame with nothing on its stack, and none of so many locals set, is the start's
-pub is_start : (count : ℕ) (frame : SpanFrame) → IsUnset count frame → IsStart frame
+pub is_start : (count : ℕ) (frame : SpanFrameView) → IsUnset count frame → IsStart frame
 is_start count frame u = record { stack = u.stack; unset = λ k. ap (λ (l : List (Option Span)). slice_index_or l k None) u.locals ∙ unset_none count k }

@@ -10,7 +10,7 @@ use Rattle.kernel_code.specs.Machine.{act, binary_of, unary_of}
 use Rattle.kernel_code.specs.Paths.{height_after, set_after}
 
 -- a span for each value on the stack, its top first, and for each local that is set on all paths
-pub record SpanFrame : Type 0 where
+pub record SpanFrameView : Type 0 where
   pub stack : List Span
   pub locals : List (Option Span)
 
@@ -38,18 +38,18 @@ pub record AreLocalsOf (locals : List (Option ℤ)) (spans : List (Option Span))
   pub each : (k : ℕ) → IsLocalOf (slice_index_or locals k None) (slice_index_or spans k None)
 
 -- the stack and the locals are within the frame
-pub record AreIn (frame : SpanFrame) (stack : List ℤ) (locals : List (Option ℤ)) : Type 0 where
+pub record AreIn (frame : SpanFrameView) (stack : List ℤ) (locals : List (Option ℤ)) : Type 0 where
   pub on_stack : AreMembers stack frame.stack
   pub set : AreLocalsOf locals frame.locals
 
 -- nothing on the stack, and none of so many locals set
-pub record IsUnset (count : ℕ) (frame : SpanFrame) : Type 0 where
+pub record IsUnset (count : ℕ) (frame : SpanFrameView) : Type 0 where
   pub stack : frame.stack ≡ []
   pub locals : frame.locals ≡ replicate count None
 
 -- ---- frames within frames
 
-abbrev pub local_of : SpanFrame → ℕ → Option Span
+abbrev pub local_of : SpanFrameView → ℕ → Option Span
 local_of frame k = slice_index_or frame.locals k None
 
 -- each span is within the one at its place
@@ -65,7 +65,7 @@ IsLocalWithin s None = Unit {0}
 IsLocalWithin None (Some t) = ⊥
 IsLocalWithin (Some s) (Some t) = IsWithin s t
 
-pub record IsFrameWithin (f g : SpanFrame) : Type 0 where
+pub record IsFrameWithin (f g : SpanFrameView) : Type 0 where
   pub stack' : AreWithin f.stack g.stack
   pub locals' : (k : ℕ) → IsLocalWithin (local_of f k) (local_of g k)
 
@@ -77,7 +77,7 @@ pub record HasSet (locals : List (Option Span)) (set : List Bool) : Type 0 where
   pub same : (k : ℕ) → slice_index_or set k false ≡ is_some (slice_index_or locals k None)
 
 -- the frame has so many spans on its stack, and follows so many locals
-pub record IsOfSize (height locals : ℕ) (frame : SpanFrame) : Type 0 where
+pub record IsOfSize (height locals : ℕ) (frame : SpanFrameView) : Type 0 where
   pub height' : length frame.stack ≡ height
   pub locals' : length frame.locals ≡ locals
 
@@ -119,31 +119,31 @@ pub record WidensFirstLocals (k : ℕ) (old other now : List (Option Span)) : Ty
 
 -- whatever is in one of two frames of one size is in a third, where the locals have a span that have one in both; the
 -- third is the least frame that holds both
-pub record Widens (old other new : SpanFrame) : Type 0 where
+pub record Widens (old other new : SpanFrameView) : Type 0 where
   pub mine : (ys : List ℤ) (ls : List (Option ℤ)) → AreIn old ys ls → AreIn new ys ls
   pub others : (ys : List ℤ) (ls : List (Option ℤ)) → AreIn other ys ls → AreIn new ys ls
   pub size : IsOfSize (length other.stack) (length other.locals) new
   pub set : (k : ℕ) → is_some (slice_index_or new.locals k None) ≡ (is_some (slice_index_or old.locals k None) && is_some (slice_index_or other.locals k None))
   pub first : IsFrameWithin old new
   pub second : IsFrameWithin other new
-  pub least : (g : SpanFrame) → IsFrameWithin old g → IsFrameWithin other g → IsFrameWithin new g
+  pub least : (g : SpanFrameView) → IsFrameWithin old g → IsFrameWithin other g → IsFrameWithin new g
 
 -- ---- changes of a frame
 
-pub record Pushes (s : Span) (old new : SpanFrame) : Type 0 where
+pub record Pushes (s : Span) (old new : SpanFrameView) : Type 0 where
   pub room : length old.stack < 64
   pub stack : new.stack ≡ s ∷ old.stack
   pub locals : new.locals ≡ old.locals
 
-pub record Pops (s : Span) (old new : SpanFrame) : Type 0 where
+pub record Pops (s : Span) (old new : SpanFrameView) : Type 0 where
   pub stack : old.stack ≡ s ∷ new.stack
   pub locals : new.locals ≡ old.locals
 
-pub record Keeps (k : ℕ) (s : Span) (old new : SpanFrame) : Type 0 where
+pub record Keeps (k : ℕ) (s : Span) (old new : SpanFrameView) : Type 0 where
   pub stack : new.stack ≡ old.stack
   pub locals : new.locals ≡ slice_set old.locals k (Some s)
 
-pub record AppliesBinary (bits : ℕ) (op : BinaryOperation) (old new : SpanFrame) : Type 0 where
+pub record AppliesBinary (bits : ℕ) (op : BinaryOperation) (old new : SpanFrameView) : Type 0 where
   pub a : Span
   pub b : Span
   pub s : Span
@@ -153,7 +153,7 @@ pub record AppliesBinary (bits : ℕ) (op : BinaryOperation) (old new : SpanFram
   pub given : new.stack ≡ s ∷ rest
   pub locals : new.locals ≡ old.locals
 
-pub record AppliesUnary (bits : ℕ) (op : UnaryOperation) (old new : SpanFrame) : Type 0 where
+pub record AppliesUnary (bits : ℕ) (op : UnaryOperation) (old new : SpanFrameView) : Type 0 where
   pub a : Span
   pub s : Span
   pub rest : List Span
@@ -176,7 +176,7 @@ IsPlain (JumpIfZero to) = ⊥
 IsPlain (Jump to) = ⊥
 
 -- what the instruction needs is there: its operands, its input or its local, and room for what it pushes
-abbrev pub IsAtHand : Instr → List Span → SpanFrame → Type 0
+abbrev pub IsAtHand : Instr → List Span → SpanFrameView → Type 0
 IsAtHand (Push v) inputs frame = length frame.stack < 64
 IsAtHand (Input k) inputs frame = (k < length inputs) × (length frame.stack < 64)
 IsAtHand (Keep k) inputs frame = (1 ≤ length frame.stack) × (k < length frame.locals)
@@ -188,7 +188,7 @@ IsAtHand (Jump to) inputs frame = Unit {0}
 
 -- where inputs, stack and locals are within the old frame, the instruction goes on to the next place, within the new one,
 -- which has the height and the locals that any path has there
-pub record Follows (bits : ℕ) (i : Instr) (inputs : List Span) (old new : SpanFrame) : Type 0 where
+pub record Follows (bits : ℕ) (i : Instr) (inputs : List Span) (old new : SpanFrameView) : Type 0 where
   pub leads : (xs : List ℤ) (pc : ℕ) (ys : List ℤ) (ls : List (Option ℤ)) → AreInputsOf xs inputs → AreIn old ys ls →
       (ys' : List ℤ) × (ls' : List (Option ℤ)) × (act bits i xs pc ys ls ≡ Ok (record { pc = pc + 1; stack = ys'; locals = ls' })) × AreIn new ys' ls'
   pub size : IsOfSize (height_after i (length old.stack)) (length old.locals) new

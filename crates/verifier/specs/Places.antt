@@ -10,7 +10,7 @@ use Rattle.kernel_code.specs.declared.instructions.Instr.TheVariants.{Push, Inpu
 use Rattle.kernel_code.specs.declared.instructions.BinaryOperation.{BinaryOperation}
 use Rattle.kernel_code.specs.declared.instructions.UnaryOperation.{UnaryOperation}
 use Rattle.kernel_code.specs.Machine.{binary_of, unary_of}
-use Rattle.verifier.specs.Frames.{SpanFrame, Pushes, Pops, AppliesBinary, AppliesUnary, IsFrameWithin, local_of}
+use Rattle.verifier.specs.Frames.{SpanFrameView, Pushes, Pops, AppliesBinary, AppliesUnary, IsFrameWithin, local_of}
 
 -- ---- what an instruction makes of a frame
 
@@ -19,39 +19,39 @@ pub record IsOne (v : ℤ) (s : Span) : Type 0 where
   pub lo' : s.lo ≡ v
   pub hi' : s.hi ≡ v
 
-pub record PushesNumber (v : ℤ) (old new : SpanFrame) : Type 0 where
+pub record PushesNumber (v : ℤ) (old new : SpanFrameView) : Type 0 where
   pub span : Span
   pub one : IsOne v span
   pub pushes : Pushes span old new
 
-pub record PushesInput (k : ℕ) (inputs : List Span) (old new : SpanFrame) : Type 0 where
+pub record PushesInput (k : ℕ) (inputs : List Span) (old new : SpanFrameView) : Type 0 where
   pub span : Span
   pub there : slice_get inputs k ≡ Some span
   pub pushes : Pushes span old new
 
-pub record PushesLocal (k : ℕ) (old new : SpanFrame) : Type 0 where
+pub record PushesLocal (k : ℕ) (old new : SpanFrameView) : Type 0 where
   pub span : Span
   pub there : local_of old k ≡ Some span
   pub pushes : Pushes span old new
 
 -- the local has this span, and each other what it had
-pub record Sets (k : ℕ) (s : Span) (old new : SpanFrame) : Type 0 where
+pub record Sets (k : ℕ) (s : Span) (old new : SpanFrameView) : Type 0 where
   pub stack : new.stack ≡ old.stack
   pub here : local_of new k ≡ Some s
   pub others : (j : ℕ) → j ≢ k → local_of new j ≡ local_of old j
 
-pub record KeepsTop (k : ℕ) (old new : SpanFrame) : Type 0 where
+pub record KeepsTop (k : ℕ) (old new : SpanFrameView) : Type 0 where
   pub span : Span
-  pub between : SpanFrame
+  pub between : SpanFrameView
   pub pops : Pops span old between
   pub sets : Sets k span between new
 
-pub record PopsTop (old new : SpanFrame) : Type 0 where
+pub record PopsTop (old new : SpanFrameView) : Type 0 where
   pub span : Span
   pub pops : Pops span old new
 
 -- each operation gives the least span of what it comes to on the members of its operands
-abbrev pub IsBehind : ℕ → Instr → List Span → (old new : SpanFrame) → Type 0
+abbrev pub IsBehind : ℕ → Instr → List Span → (old new : SpanFrameView) → Type 0
 IsBehind bits (Push v) inputs old new = PushesNumber v old new
 IsBehind bits (Input k) inputs old new = PushesInput k inputs old new
 IsBehind bits (Keep k) inputs old new = KeepsTop k old new
@@ -73,14 +73,14 @@ abbrev pub HasZero : Span → Type 0
 HasZero s = IsMember (pos 0) s
 
 -- the span on top
-pub record HasTop (P : Span → Type 0) (frame : SpanFrame) : Type 0 where
+pub record HasTop (P : Span → Type 0) (frame : SpanFrameView) : Type 0 where
   pub span : Span
   pub rest : List Span
   pub top : frame.stack ≡ span ∷ rest
   pub it : P span
 
 -- from this frame; a jump at 0 goes where some member of the span on top sends it
-abbrev pub MayCome : Instr → (from to : ℕ) → SpanFrame → Type 0
+abbrev pub MayCome : Instr → (from to : ℕ) → SpanFrameView → Type 0
 MayCome (Push v) from to frame = to ≡ from + 1
 MayCome (Input k) from to frame = to ≡ from + 1
 MayCome (Keep k) from to frame = to ≡ from + 1
@@ -98,21 +98,21 @@ pub record IsCause (Outcome : Result ℤ Fault → Type 0) (fault : Fault) : Typ
   pub zero : MayFault Outcome ZeroDivisor → fault ≡ ZeroDivisor
   pub negative : MayFault Outcome NegativeRoot → fault ≡ NegativeRoot
 
-pub record StopsOnTwo (bits : ℕ) (op : BinaryOperation) (frame : SpanFrame) (fault : Fault) : Type 0 where
+pub record StopsOnTwo (bits : ℕ) (op : BinaryOperation) (frame : SpanFrameView) (fault : Fault) : Type 0 where
   pub a : Span
   pub b : Span
   pub rest : List Span
   pub taken : frame.stack ≡ b ∷ (a ∷ rest)
   pub cause : IsCause (IsOutcomeOfTwo (binary_of bits op) a b) fault
 
-pub record StopsOnOne (bits : ℕ) (op : UnaryOperation) (frame : SpanFrame) (fault : Fault) : Type 0 where
+pub record StopsOnOne (bits : ℕ) (op : UnaryOperation) (frame : SpanFrameView) (fault : Fault) : Type 0 where
   pub a : Span
   pub rest : List Span
   pub taken : frame.stack ≡ a ∷ rest
   pub cause : IsCause (IsOutcome (unary_of bits op) a) fault
 
 -- the operation has no value on some members of its operands
-abbrev pub Stops : ℕ → Instr → SpanFrame → Fault → Type 0
+abbrev pub Stops : ℕ → Instr → SpanFrameView → Fault → Type 0
 Stops bits (Push v) frame fault = ⊥
 Stops bits (Input k) frame fault = ⊥
 Stops bits (Keep k) frame fault = ⊥
@@ -125,15 +125,15 @@ Stops bits (Jump to) frame fault = ⊥
 -- ---- what comes to a place
 
 -- nothing on the stack, and no local set
-pub record IsStart (frame : SpanFrame) : Type 0 where
+pub record IsStart (frame : SpanFrameView) : Type 0 where
   pub stack : frame.stack ≡ []
   pub unset : (k : ℕ) → local_of frame k ≡ None
 
 -- some place below a bound leads this frame here
-pub record IsLed (bits : ℕ) (code : List Instr) (inputs : List Span) (frames : ℕ → Option SpanFrame) (bound to : ℕ) (led : SpanFrame) : Type 0 where
+pub record IsLed (bits : ℕ) (code : List Instr) (inputs : List Span) (frames : ℕ → Option SpanFrameView) (bound to : ℕ) (led : SpanFrameView) : Type 0 where
   pub from : ℕ
   pub lower : from < bound
-  pub frame : SpanFrame
+  pub frame : SpanFrameView
   pub there : frames from ≡ Some frame
   pub instr : Instr
   pub at : slice_get code from ≡ Some instr
@@ -141,49 +141,49 @@ pub record IsLed (bits : ℕ) (code : List Instr) (inputs : List Span) (frames :
   pub behind : IsBehind bits instr inputs frame led
 
 -- so it does, or runs begin so
-abbrev pub comes_from : ℕ → List Instr → List Span → (ℕ → Option SpanFrame) → (bound to : ℕ) → SpanFrame → Type 0
+abbrev pub comes_from : ℕ → List Instr → List Span → (ℕ → Option SpanFrameView) → (bound to : ℕ) → SpanFrameView → Type 0
 comes_from bits code inputs frames bound to led = ((to ≡ 0) × IsStart led) ⊎ IsLed bits code inputs frames bound to led
 
 -- the least frame that holds all these
-pub record IsLeastFrame (led : SpanFrame → Type 0) (frame : SpanFrame) : Type 0 where
-  pub some : (f : SpanFrame) × led f
-  pub holds : (f : SpanFrame) → led f → IsFrameWithin f frame
-  pub least : (g : SpanFrame) → ((f : SpanFrame) → led f → IsFrameWithin f g) → IsFrameWithin frame g
+pub record IsLeastFrame (led : SpanFrameView → Type 0) (frame : SpanFrameView) : Type 0 where
+  pub some : (f : SpanFrameView) × led f
+  pub holds : (f : SpanFrameView) → led f → IsFrameWithin f frame
+  pub least : (g : SpanFrameView) → ((f : SpanFrameView) → led f → IsFrameWithin f g) → IsFrameWithin frame g
 
 -- and none where there is nothing
-abbrev pub IsFrameOf : (SpanFrame → Type 0) → Option SpanFrame → Type 0
-IsFrameOf led None = (f : SpanFrame) → led f → ⊥
+abbrev pub IsFrameOf : (SpanFrameView → Type 0) → Option SpanFrameView → Type 0
+IsFrameOf led None = (f : SpanFrameView) → led f → ⊥
 IsFrameOf led (Some frame) = IsLeastFrame led frame
 
 -- ---- all places
 
 -- the instruction here doesn't stop
-pub record GoesOn (bits : ℕ) (code : List Instr) (inputs : List Span) (here : ℕ) (frame : SpanFrame) : Type 0 where
+pub record GoesOn (bits : ℕ) (code : List Instr) (inputs : List Span) (here : ℕ) (frame : SpanFrameView) : Type 0 where
   pub instr : Instr
   pub at : slice_get code here ≡ Some instr
-  pub new : SpanFrame
+  pub new : SpanFrameView
   pub behind : IsBehind bits instr inputs frame new
 
 -- these are the frames of the places up to the last, and none below it stops
-pub record AreFrames (bits : ℕ) (code : List Instr) (inputs : List Span) (last : ℕ) (frames : ℕ → Option SpanFrame) : Type 0 where
+pub record AreSpanFrames (bits : ℕ) (code : List Instr) (inputs : List Span) (last : ℕ) (frames : ℕ → Option SpanFrameView) : Type 0 where
   pub each : (at : ℕ) → at ≤ last → IsFrameOf (comes_from bits code inputs frames at at) (frames at)
-  pub goes : (at : ℕ) (frame : SpanFrame) → at < last → frames at ≡ Some frame → GoesOn bits code inputs at frame
+  pub goes : (at : ℕ) (frame : SpanFrameView) → at < last → frames at ≡ Some frame → GoesOn bits code inputs at frame
 
 -- ---- what is found of inputs in some spans
 
 -- the span of the value at the end
 pub record GivesSpan (bits : ℕ) (code : List Instr) (inputs : List Span) (s : Span) : Type 0 where
-  pub frames : ℕ → Option SpanFrame
-  pub are : AreFrames bits code inputs (length code) frames
-  pub frame : SpanFrame
+  pub frames : ℕ → Option SpanFrameView
+  pub are : AreSpanFrames bits code inputs (length code) frames
+  pub frame : SpanFrameView
   pub there : frames (length code) ≡ Some frame
   pub alone : frame.stack ≡ s ∷ []
 
 -- the lowest place at which an operation may have no value, and why
 pub record StopsAt (bits : ℕ) (code : List Instr) (inputs : List Span) (pc : ℕ) (fault : Fault) : Type 0 where
-  pub frames : ℕ → Option SpanFrame
-  pub are : AreFrames bits code inputs pc frames
-  pub frame : SpanFrame
+  pub frames : ℕ → Option SpanFrameView
+  pub are : AreSpanFrames bits code inputs pc frames
+  pub frame : SpanFrameView
   pub there : frames pc ≡ Some frame
   pub instr : Instr
   pub at : slice_get code pc ≡ Some instr

@@ -15,43 +15,43 @@ use std::marker::Model;
 ///
 /// A contract sees the stack with its top first.
 #[derive(Drop)]
-pub struct Frame<A: Allocator> {
+pub struct SpanFrame<A: Allocator> {
     // the top last
     stack: Vec<Span, A>,
     locals: Vec<Option<Span>, A>,
 }
 
-impl<A: Allocator> Model for Frame<A> {
+impl<A: Allocator> Model for SpanFrame<A> {
     ghost use Rattle.std.specs.Prelude.{reverse, length, ◌≤◌};
-    ghost use Rattle.verifier.specs.Frames.{SpanFrame};
+    ghost use Rattle.verifier.specs.Frames.{SpanFrameView};
 
-    ghost Value = { SpanFrame };
+    ghost Value = { SpanFrameView };
 
     ghost view = { λ f. record { stack = reverse f.stack.items; locals = f.locals.items } };
 
     ghost invariant = { λ f. length f.stack.items ≤ 64 };
 }
 
-impl<A: Allocator> Frame<A> {
+impl<A: Allocator> SpanFrame<A> {
     /// The frame before the first instruction, where so many locals are followed: an empty stack, and no local is set.
-    pub fn start(alloc: A, locals: usize) -> Result<Frame<A>, AllocError>
+    pub fn start(alloc: A, locals: usize) -> Result<SpanFrame<A>, AllocError>
     where
         A: Copy,
         ensures { IfOk result (IsUnset locals) }
     {
-        Ok(Frame {
+        Ok(SpanFrame {
             stack: Vec::new(alloc),
             locals: vec![in alloc; None; locals]?,
         })
     }
 
     /// The frame once more.
-    pub fn copy(&self, alloc: A) -> Result<Frame<A>, AllocError>
+    pub fn copy(&self, alloc: A) -> Result<SpanFrame<A>, AllocError>
     where
         A: Copy,
         ensures { IfOk result (λ copy. copy ≡ self.now) }
     {
-        Ok(Frame {
+        Ok(SpanFrame {
             stack: Vec::from_slice(alloc, self.stack.as_slice())?,
             locals: Vec::from_slice(alloc, self.locals.as_slice())?,
         })
@@ -59,7 +59,7 @@ impl<A: Allocator> Frame<A> {
 
     /// Widens the frame by another of its size: each span to the least that holds both, and a local
     /// that isn't set in both is set no more.
-    pub fn widen(&mut self, other: &Frame<A>)
+    pub fn widen(&mut self, other: &SpanFrame<A>)
         requires { IsOfSize (length other.now.stack) (length other.now.locals) self.old }
         ensures { Widens self.old other.now self.new }
     {

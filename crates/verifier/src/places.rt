@@ -4,7 +4,7 @@ ghost use Rattle.std.specs.Prelude.{◌≡◌, ◌+◌, ◌-◌, ◌<◌, ◌≤
 ghost use Rattle.fallible.specs.declared.failure.Failure.TheVariants.{Memory};
 ghost use Rattle.verifier.specs.Slices.{Branches, CanMeet, Joins, Takes, frame_at};
 
-use crate::frames::Frame;
+use crate::frames::SpanFrame;
 use fallible::Failure;
 use fixed::{Fault, Fx};
 use std::alloc::{AllocError, Allocator};
@@ -13,14 +13,14 @@ use std::marker::Model;
 /// For each place of a code, its end too, the frame of the runs that come to it, where there are any.
 #[derive(Drop)]
 pub struct Places<A: Allocator> {
-    frames: Vec<Option<Frame<A>>, A>,
+    frames: Vec<Option<SpanFrame<A>>, A>,
 }
 
 impl<A: Allocator> Model for Places<A> {
     ghost use Rattle.std.specs.Prelude.{List, Option};
-    ghost use Rattle.verifier.specs.Frames.{SpanFrame};
+    ghost use Rattle.verifier.specs.Frames.{SpanFrameView};
 
-    ghost Value = { List (Option SpanFrame) };
+    ghost Value = { List (Option SpanFrameView) };
 
     ghost view = { λ p. p.frames.items };
 }
@@ -39,7 +39,7 @@ impl<A: Allocator> Places<A> {
     }
 
     /// Takes the frame of a place.
-    pub fn take(&mut self, at: usize) -> Option<Frame<A>>
+    pub fn take(&mut self, at: usize) -> Option<SpanFrame<A>>
         requires { at < length self.old }
         ensures { Takes at result self.old self.new }
     {
@@ -47,7 +47,7 @@ impl<A: Allocator> Places<A> {
     }
 
     /// Joins the runs of a frame to those that come to a place.
-    pub fn join(&mut self, to: usize, frame: Frame<A>)
+    pub fn join(&mut self, to: usize, frame: SpanFrame<A>)
         requires place { to < length self.old }
         requires meet { CanMeet (frame_at self.old to) (length frame.stack) (length frame.locals) }
         ensures { Joins to frame self.old self.new }
@@ -68,7 +68,7 @@ pub fn branch<A: Allocator + Copy>(
     alloc: A,
     next: usize,
     target: usize,
-    mut frame: Frame<A>,
+    mut frame: SpanFrame<A>,
     places: &mut Places<A>,
 ) -> Result<(), Failure<Fault>>
     requires next { next < length places.old }

@@ -8,7 +8,7 @@ ghost use Rattle.kernel_paths.specs.Misfits.{DoesWell};
 ghost use Rattle.verifier.specs.Places.{GivesSpan, StopsAt};
 ghost use Rattle.verifier.specs.Slices.{AllGiveIn, AreAttained, AreEnoughLocals, Comes, Stands, frame_at};
 
-use crate::frames::Frame;
+use crate::frames::SpanFrame;
 use crate::instructions::follow;
 use crate::places::{Places, branch};
 use fallible::Failure;
@@ -112,7 +112,7 @@ pub fn follow_slice<A: Allocator + Copy>(
     ensures stops { IfErr result (λ failure. IfRefused failure (λ stopped. StopsAt (bits_of frac) code.now inputs.now stopped.pc stopped.fault)) }
     ensures long { length places.new ≡ length code.now + 1 }
 {
-    let Ok(start) = Frame::start(alloc, locals) else {
+    let Ok(start) = SpanFrame::start(alloc, locals) else {
         return Err(Failure::Memory);
     };
     clear(code, places);

@@ -15,11 +15,11 @@ returns-in_err-engine-clause-refused g c =
     let p = err_from_is_err_and c.from_residual.result c.from_residual.ensures.1 in
     rw (p.1, p.2) (c.in_err-engine.ensures.refused, refl)
 
-pub returns-in_err-turns_ungated-clause-refused : goal.returns-in_err-turns_ungated-clause-refused
-returns-in_err-turns_ungated-clause-refused g c =
-    let p = err_from_is_err_and c.from_residual-in_err-turns_ungated.result c.from_residual-in_err-turns_ungated.ensures.1 in
+pub returns-in_err-make_steps-clause-refused : goal.returns-in_err-make_steps-clause-refused
+returns-in_err-make_steps-clause-refused g c =
+    let p = err_from_is_err_and c.from_residual-in_err-make_steps.result c.from_residual-in_err-make_steps.ensures.1 in
     rw (p.1, p.2)
-    (engine_stops c.args.job.now c.args.state.now c.args.direction c.args.steps c.in_ok-engine.engine c.turns_ungated.new.self c.in_err-turns_ungated.field-0.0 c.in_ok-engine.ensures.opens c.in_err-turns_ungated.ensures.stopped, refl)
+    (engine_stops c.args.job.now c.args.state.now c.args.direction c.args.steps c.in_ok-engine.engine c.make_steps.new.self c.in_err-make_steps.field-0.0 c.in_ok-engine.ensures.opens c.in_err-make_steps.ensures.stopped, refl)
 
 -- a beginning of the text, of texts that are safe
 pub returns-in_err-write-clause-refused : goal.returns-in_err-write-clause-refused
@@ -27,8 +27,8 @@ returns-in_err-write-clause-refused g c =
     let p = err_from_is_err_and c.from_residual-in_err-write.result c.from_residual-in_err-write.ensures.1 in
     let job = c.args.job.now in
     let state = c.args.state.now in
-    let reached = c.turns_ungated.new.self in
-    let after = engine_ran job state c.args.direction c.args.steps c.in_ok-engine.engine reached c.in_ok-engine.ensures.opens c.in_ok-turns_ungated.ensures.went in
+    let reached = c.make_steps.new.self in
+    let after = engine_ran job state c.args.direction c.args.steps c.in_ok-engine.engine reached c.in_ok-engine.ensures.opens c.in_ok-make_steps.ensures.went in
     rw (p.1, p.2) (
       safe_texts job state c.in_ok-engine.engine c.in_ok-engine.ensures.opens,
       record {
@@ -44,11 +44,11 @@ returns-in_err-engine-clause-only g c = λ text r a.
     let p = err_from_is_err_and c.from_residual.result c.from_residual.ensures.1 in
     rw (p.1, p.2) (only_memory c.args.job.now c.args.state.now c.args.direction c.args.steps text c.in_err-engine.field-0.0 r a c.in_err-engine.ensures.refused)
 
-pub returns-in_err-turns_ungated-clause-only : goal.returns-in_err-turns_ungated-clause-only
-returns-in_err-turns_ungated-clause-only g c = λ text r a.
-    let p = err_from_is_err_and c.from_residual-in_err-turns_ungated.result c.from_residual-in_err-turns_ungated.ensures.1 in
-    let stops = engine_stops c.args.job.now c.args.state.now c.args.direction c.args.steps c.in_ok-engine.engine c.turns_ungated.new.self c.in_err-turns_ungated.field-0.0 c.in_ok-engine.ensures.opens c.in_err-turns_ungated.ensures.stopped in
-    rw (p.1, p.2) (only_stops c.args.job.now c.args.state.now c.args.direction c.args.steps text c.in_err-turns_ungated.field-0.0 r stops)
+pub returns-in_err-make_steps-clause-only : goal.returns-in_err-make_steps-clause-only
+returns-in_err-make_steps-clause-only g c = λ text r a.
+    let p = err_from_is_err_and c.from_residual-in_err-make_steps.result c.from_residual-in_err-make_steps.ensures.1 in
+    let stops = engine_stops c.args.job.now c.args.state.now c.args.direction c.args.steps c.in_ok-engine.engine c.make_steps.new.self c.in_err-make_steps.field-0.0 c.in_ok-engine.ensures.opens c.in_err-make_steps.ensures.stopped in
+    rw (p.1, p.2) (only_stops c.args.job.now c.args.state.now c.args.direction c.args.steps text c.in_err-make_steps.field-0.0 r stops)
 
 pub returns-in_err-write-clause-only : goal.returns-in_err-write-clause-only
 returns-in_err-write-clause-only g c = λ text r a.
@@ -59,8 +59,8 @@ returns-in_err-write-clause-only g c = λ text r a.
 pub returns-in_err-engine-clause-returns : goal.returns-in_err-engine-clause-returns
 returns-in_err-engine-clause-returns g c = run_back plain c.args.job.now c.args.state.now c.args.direction c.args.steps
 
-pub returns-in_err-turns_ungated-clause-returns : goal.returns-in_err-turns_ungated-clause-returns
-returns-in_err-turns_ungated-clause-returns g c = run_back plain c.args.job.now c.args.state.now c.args.direction c.args.steps
+pub returns-in_err-make_steps-clause-returns : goal.returns-in_err-make_steps-clause-returns
+returns-in_err-make_steps-clause-returns g c = run_back plain c.args.job.now c.args.state.now c.args.direction c.args.steps
 
 pub returns-in_err-write-clause-returns : goal.returns-in_err-write-clause-returns
 returns-in_err-write-clause-returns g c = run_back plain c.args.job.now c.args.state.now c.args.direction c.args.steps
@@ -74,8 +74,8 @@ returns-clause-safe g c = safe_texts c.args.job.now c.args.state.now c.in_ok-eng
 
 pub returns-clause-ran : goal.returns-clause-ran
 returns-clause-ran g c =
-    let reached = c.turns_ungated.new.self in
-    let after = engine_ran c.args.job.now c.args.state.now c.args.direction c.args.steps c.in_ok-engine.engine reached c.in_ok-engine.ensures.opens c.in_ok-turns_ungated.ensures.went in
+    let reached = c.make_steps.new.self in
+    let after = engine_ran c.args.job.now c.args.state.now c.args.direction c.args.steps c.in_ok-engine.engine reached c.in_ok-engine.ensures.opens c.in_ok-make_steps.ensures.went in
     record {
       text = state_text reached.state;
       run = record { start = after.start; starts = after.starts; after = reached.state; ran = after.ran; written = refl };
@@ -87,9 +87,9 @@ pub returns-clause-told : goal.returns-clause-told
 returns-clause-told g c =
     let job = c.args.job.now in
     let state = c.args.state.now in
-    let reached = c.turns_ungated.new.self in
+    let reached = c.make_steps.new.self in
     let once = c.in_ok-engine.ensures.once in
-    let ran : IsAfter plain job state c.args.direction c.args.steps reached.state = engine_ran job state c.args.direction c.args.steps c.in_ok-engine.engine reached c.in_ok-engine.ensures.opens c.in_ok-turns_ungated.ensures.went in
+    let ran : IsAfter plain job state c.args.direction c.args.steps reached.state = engine_ran job state c.args.direction c.args.steps c.in_ok-engine.engine reached c.in_ok-engine.ensures.opens c.in_ok-make_steps.ensures.went in
     record {
       text = state_text reached.state;
       run = told job state c.args.direction c.args.steps reached.state once ran;
@@ -101,8 +101,8 @@ returns-clause-told g c =
 pub returns-in_err-engine-clause-told_back : goal.returns-in_err-engine-clause-told_back
 returns-in_err-engine-clause-told_back g c = told_back c.args.job.now c.args.state.now c.args.direction c.args.steps
 
-pub returns-in_err-turns_ungated-clause-told_back : goal.returns-in_err-turns_ungated-clause-told_back
-returns-in_err-turns_ungated-clause-told_back g c = told_back c.args.job.now c.args.state.now c.args.direction c.args.steps
+pub returns-in_err-make_steps-clause-told_back : goal.returns-in_err-make_steps-clause-told_back
+returns-in_err-make_steps-clause-told_back g c = told_back c.args.job.now c.args.state.now c.args.direction c.args.steps
 
 pub returns-in_err-write-clause-told_back : goal.returns-in_err-write-clause-told_back
 returns-in_err-write-clause-told_back g c = told_back c.args.job.now c.args.state.now c.args.direction c.args.steps

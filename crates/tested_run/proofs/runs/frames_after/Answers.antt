@@ -15,14 +15,14 @@ returns-in-Err-clause-stops g c =
     let current = c.in_ok-current.ensures ∙ sym (current_frame-views c.args.atoms.now) in
     rw (← previous, ← current) c.in-Err.ensures.fault
 
-pub turn_frames-requires-clause-previous : goal.turn_frames-requires-clause-previous
-turn_frames-requires-clause-previous g c = ap length c.in_ok-previous.ensures ∙ length-map c.args.atoms.now (λ a. a.previous) ∙ c.requires.atoms
+pub step_frames-requires-clause-previous : goal.step_frames-requires-clause-previous
+step_frames-requires-clause-previous g c = ap length c.in_ok-previous.ensures ∙ length-map c.args.atoms.now (λ a. a.previous) ∙ c.requires.atoms
 
-pub turn_frames-requires-clause-current : goal.turn_frames-requires-clause-current
-turn_frames-requires-clause-current g c = ap length c.in_ok-current.ensures ∙ length-map c.args.atoms.now (λ a. a.current) ∙ c.requires.atoms
+pub step_frames-requires-clause-current : goal.step_frames-requires-clause-current
+step_frames-requires-clause-current g c = ap length c.in_ok-current.ensures ∙ length-map c.args.atoms.now (λ a. a.current) ∙ c.requires.atoms
 
 pub returns-in-Ok-clause-previous : goal.returns-in-Ok-clause-previous
-returns-in-Ok-clause-previous g c = c.turn_frames.ensures.previous ∙ ap length c.in_ok-previous.ensures ∙ length-map c.args.atoms.now (λ a. a.previous)
+returns-in-Ok-clause-previous g c = c.step_frames.ensures.previous ∙ ap length c.in_ok-previous.ensures ∙ length-map c.args.atoms.now (λ a. a.previous)
 
 pub returns-in-Ok-clause-current : goal.returns-in-Ok-clause-current
-returns-in-Ok-clause-current g c = c.turn_frames.ensures.current ∙ ap length c.in_ok-current.ensures ∙ length-map c.args.atoms.now (λ a. a.current)
+returns-in-Ok-clause-current g c = c.step_frames.ensures.current ∙ ap length c.in_ok-current.ensures ∙ length-map c.args.atoms.now (λ a. a.current)

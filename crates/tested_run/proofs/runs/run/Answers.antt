@@ -3,5 +3,5 @@ use Rattle.tested_run.proofs.runs.run.Goals as goal
 
 pub returns-clause-value : goal.returns-clause-value
 returns-clause-value g c =
-    let turned = c.in_ok-turned.turned in
-    record { frames' = frames turned.previous.items turned.current.items; turned = c.in_ok-turned.ensures.value; moved = c.arrived.ensures }
+    let stepped = c.in_ok-stepped.stepped in
+    record { frames' = frames stepped.previous.items stepped.current.items; stepped = c.in_ok-stepped.ensures.value; moved = c.arrived.ensures }

@@ -29,23 +29,23 @@ pub returns-then-done-steps-clause-stopped : goal.returns-then-done-steps-clause
 returns-then-done-steps-clause-stopped g c =
     let i = c.self.inside in
     let e = engine_view i.job i.state i.motion.system in
-    let turned = c.args.turned in
+    let stepped = c.args.stepped in
     let k = c.in-Some.counter in
     let counter : to_z w64 (of_z w64 k) ≡ k = search rules in
-    let moved : state_view c.advance.new.state ≡ moved_state (state_view i.state) (frames turned.previous.items turned.current.items) k = rw counter at c.advance.ensures.value in
+    let moved : state_view c.advance.new.state ≡ moved_state (state_view i.state) (frames stepped.previous.items stepped.current.items) k = rw counter at c.advance.ensures.value in
     rw (← c.self.view_is) (
       omega (arith, c.if-done-steps.true),
-      went_on c.args.direction c.args.done e _ turned.previous.items turned.current.items k (rw (← c.self.view_is) at c.requires.turned) (sym c.in-Some.ensures.value) (ap (λ (s : StateView). record e { state = s }) moved),
+      went_on c.args.direction c.args.done e _ stepped.previous.items stepped.current.items k (rw (← c.self.view_is) at c.requires.stepped) (sym c.in-Some.ensures.value) (ap (λ (s : StateView). record e { state = s }) moved),
     )
 
 pub returns-clause-went : goal.returns-clause-went
 returns-clause-went g c =
     let i = c.self.inside in
     let e = engine_view i.job i.state i.motion.system in
-    let turned = c.args.turned in
+    let stepped = c.args.stepped in
     let k = c.in-Some.counter in
     let counter : to_z w64 (of_z w64 k) ≡ k = search rules in
-    let moved : state_view c.advance.new.state ≡ moved_state (state_view i.state) (frames turned.previous.items turned.current.items) k = rw counter at c.advance.ensures.value in
+    let moved : state_view c.advance.new.state ≡ moved_state (state_view i.state) (frames stepped.previous.items stepped.current.items) k = rw counter at c.advance.ensures.value in
     let whole : c.args.steps ≡ c.args.done = omega (arith, c.requires.few, c.if-done-steps.false) in
     rw (← c.self.view_is, whole)
-    (went_on c.args.direction c.args.done e _ turned.previous.items turned.current.items k (rw (← c.self.view_is) at c.requires.turned) (sym c.in-Some.ensures.value) (ap (λ (s : StateView). record e { state = s }) moved))
+    (went_on c.args.direction c.args.done e _ stepped.previous.items stepped.current.items k (rw (← c.self.view_is) at c.requires.stepped) (sym c.in-Some.ensures.value) (ap (λ (s : StateView). record e { state = s }) moved))

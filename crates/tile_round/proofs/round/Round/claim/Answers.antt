@@ -2,7 +2,7 @@ use Rattle.std.proofs.Common.{◌≡◌, ◌<◌, ◌≤◌, ◌∙◌, Some, le
 use Rattle.std.proofs.lemmas.Option.{slice_get_within}
 use Rattle.std.specs.Vec.{vec_capacity}
 use Rattle.tile_round.specs.declared.events.Outcome.TheVariants.{Drew, Ended}
-use Rattle.tile_round.specs.declared.places.Place.TheVariants.{Resting, Adding, Stopped}
+use Rattle.tile_round.specs.declared.places.WorkerPlace.TheVariants.{Resting, Adding, Stopped}
 use Rattle.tile_round.specs.Tiles.{tiles_of}
 use Rattle.tile_round.specs.Interleaving.{Progress, stand_at, outcome_at, on_claim}
 use Rattle.tile_round.proofs.PlaceLemmas.{rests_at, adds_at, stands_adding, claim_busy, rest_of, has_room, drew_tile, drew_none, outcome_tile, outcome_none, claim_sound, claims_so}

@@ -3,7 +3,7 @@ use Rattle.std.proofs.lemmas.Option.{slice_get_within}
 use Rattle.std.proofs.Math.ListN.{length-set}
 use Rattle.std.specs.Vec.{vec_capacity}
 use Rattle.std.specs.Int.{w64, cast_signed, cast_unsigned}
-use Rattle.tile_round.specs.declared.places.Place.TheVariants.{Resting, Adding}
+use Rattle.tile_round.specs.declared.places.WorkerPlace.TheVariants.{Resting, Adding}
 use Rattle.tile_round.specs.Interleaving.{Progress, on_deposit}
 use Rattle.tile_round.proofs.PlaceLemmas.{deposit_idle, rests_at, adds_at, entry_inside, stored_added, stored_signed, deposit_sound, deposits_so}
 use Rattle.tile_round.proofs.round.Round.deposit.Goals as goal

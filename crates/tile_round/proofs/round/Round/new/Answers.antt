@@ -2,7 +2,7 @@ use Rattle.std.proofs.Common.{◌≡◌, ◌*◌, pos, ap, replicate, arith, rul
 use Rattle.std.specs.Vec.{vec_capacity}
 use Rattle.tile_round.specs.Tiles.{tiles_of}
 use Rattle.tile_round.specs.Interleaving.{State, Progress}
-use Rattle.tile_round.specs.declared.places.Place.TheVariants.{Resting}
+use Rattle.tile_round.specs.declared.places.WorkerPlace.TheVariants.{Resting}
 use Rattle.tile_round.proofs.PlaceLemmas.{opens_so, opening_sound}
 use Rattle.tile_round.proofs.round.Round.new.Goals as goal
 

@@ -1,5 +1,5 @@
 use Rattle.engine.specs.Courses.{HasGone, MaySum}
-use Rattle.engine.proofs.frame_steps.Course.turns.Given as goal
+use Rattle.engine.proofs.frame_steps.Course.make_steps.Given as goal
 
 -- the frames after the steps so far
 abbrev pub invariant-loop-done : goal.invariant-loop-done

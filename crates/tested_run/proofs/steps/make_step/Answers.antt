@@ -3,7 +3,7 @@ use Rattle.std.proofs.lemmas.List.{with_items_is}
 use Rattle.std.proofs.lemmas.Result.{err_from_is_err_and}
 use Rattle.integrator.specs.Systems.{dynamics_of}
 use Rattle.tested_run.proofs.StopLaws.{step_from}
-use Rattle.tested_run.proofs.steps.turn.Goals as goal
+use Rattle.tested_run.proofs.steps.make_step.Goals as goal
 
 pub returns-in_err-follow-clause-fault : goal.returns-in_err-follow-clause-fault
 returns-in_err-follow-clause-fault g c =

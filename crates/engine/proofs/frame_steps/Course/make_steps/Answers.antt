@@ -1,6 +1,6 @@
 use Rattle.std.proofs.Common.{add-zero, refl}
 use Rattle.engine.proofs.CourseLaws.{goes_on, stays}
-use Rattle.engine.proofs.frame_steps.Course.turns.Goals as goal
+use Rattle.engine.proofs.frame_steps.Course.make_steps.Goals as goal
 
 pub loop-done-init : goal.loop-done-init
 loop-done-init g c = record { gone = stays c.args.self.now; may = c.requires.may }

@@ -11,7 +11,7 @@ use Rattle.integrator.proofs.ReturnLaws.{in_range_is}
 use Rattle.engine.specs.Courses.{IsUnstarted}
 use Rattle.engine.proofs.EngineLaws.{unstarted}
 use Rattle.engine.proofs.CourseLaws.{turned_along}
-use Rattle.engine.proofs.engines.Engine.turns_pooled.Goals as goal
+use Rattle.engine.proofs.engines.Engine.steps_alone.Goals as goal
 
 pub returns-in_err-course-clause-stopped : goal.returns-in_err-course-clause-stopped
 returns-in_err-course-clause-stopped g c =
@@ -21,24 +21,24 @@ returns-in_err-course-clause-stopped g c =
     rw (p.1, p.2, ← c.self.view_is)
     (unstarted c.args.direction c.args.steps (engine_view i.job i.state i.motion.system) c.in_err-course.field-0.0 (in_range_is i.state.step signed.sfits) c.in_err-course.ensures.refused)
 
-pub arrive-requires-clause-turned : goal.arrive-requires-clause-turned
-arrive-requires-clause-turned g c =
+pub arrive-requires-clause-stepped : goal.arrive-requires-clause-stepped
+arrive-requires-clause-stepped g c =
     let i = c.self.inside in
     let from = c.in_ok-course.course in
-    let to = c.turns_pooled-done.new.self in
-    let turned = c.turned-turned.result in
-    turned_along c.args.direction (safe_dynamics from.motion.now.system) (engine_dynamics (engine_view i.job i.state i.motion.system)) c.turns_pooled-done.result
-    from.before.items from.middle.items to.before.items to.middle.items (frames_of (state_view i.state)) (frames turned.previous.items turned.current.items)
-    (ap (λ m. safe_dynamics m.system) c.in_ok-course.ensures.motion ∙ c.self.invariant.0.dynamics) c.in_ok-course.ensures.frames c.turned-turned.ensures.frames c.turns_pooled-done.ensures.gone.turned
+    let to = c.steps_alone-done.new.self in
+    let stepped = c.stepped-stepped.result in
+    turned_along c.args.direction (safe_dynamics from.motion.now.system) (engine_dynamics (engine_view i.job i.state i.motion.system)) c.steps_alone-done.result
+    from.before.items from.middle.items to.before.items to.middle.items (frames_of (state_view i.state)) (frames stepped.previous.items stepped.current.items)
+    (ap (λ m. safe_dynamics m.system) c.in_ok-course.ensures.motion ∙ c.self.invariant.0.dynamics) c.in_ok-course.ensures.frames c.stepped-stepped.ensures.frames c.steps_alone-done.ensures.gone.stepped
 
-pub returns-in_err-scratches-clause-stopped : goal.returns-in_err-scratches-clause-stopped
-returns-in_err-scratches-clause-stopped g c =
-    let p = err_from_is_err_and c.from_residual-in_err-scratches.result c.from_residual-in_err-scratches.ensures.1 in
+pub returns-in_err-scratch-clause-stopped : goal.returns-in_err-scratch-clause-stopped
+returns-in_err-scratch-clause-stopped g c =
+    let p = err_from_is_err_and c.from_residual-in_err-scratch.result c.from_residual-in_err-scratch.ensures.1 in
     let i = c.self.inside in
     let signed : SFits w64 i.state.step = search rules in
     rw (p.1, p.2, ← c.self.view_is)
-    (unstarted c.args.direction c.args.steps (engine_view i.job i.state i.motion.system) c.in_err-scratches.field-0.0 (in_range_is i.state.step signed.sfits)
-    (subst (IsUnstarted c.args.direction c.args.steps i.state.step) (sym c.in_err-scratches.ensures.refused) refl))
+    (unstarted c.args.direction c.args.steps (engine_view i.job i.state i.motion.system) c.in_err-scratch.field-0.0 (in_range_is i.state.step signed.sfits)
+    (subst (IsUnstarted c.args.direction c.args.steps i.state.step) (sym c.in_err-scratch.ensures.refused) refl))
 
 pub returns-clause-went : goal.returns-clause-went
 returns-clause-went g c = rw (← c.self.view_is) c.arrive.ensures.went
@@ -47,4 +47,4 @@ pub returns-clause-stopped : goal.returns-clause-stopped
 returns-clause-stopped g c = rw (← c.self.view_is) c.arrive.ensures.stopped
 
 pub invariant_of-self-2 : goal.invariant_of-self-2
-invariant_of-self-2 g c = (c.self.invariant.0, rw c.in_ok-course.ensures.motion at c.turns_pooled-done.ensures.tiling)
+invariant_of-self-2 g c = (c.self.invariant.0, rw c.in_ok-course.ensures.motion at c.steps_alone-done.ensures.tiling)

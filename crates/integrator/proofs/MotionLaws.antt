@@ -3,7 +3,7 @@ use Rattle.std.proofs.Common.{◌≡◌, ℕ, zero, suc, ◌+◌, ◌<◌, ◌^�
 use Rattle.std.specs.Prelude.{option_map, slice_index}
 use Rattle.std.specs.Option.{option_and_then}
 use Rattle.integrator.proofs.Constructors.{none_is_no_some, some_same}
-use Rattle.integrator.specs.Frames.{AreFrames, Dynamics, Frame, Frames, frame_forces, frames, moved_frame, next_at, next_frame, next_places, places_of, turn, turns, exchanged, opposite}
+use Rattle.integrator.specs.Frames.{AreOfSameAtoms, Dynamics, Frame, Frames, frame_forces, frames, moved_frame, next_at, next_frame, next_places, places_of, step_in, steps_in, exchanged, opposite}
 use Rattle.integrator.specs.Forces.{numbers_from}
 use Rattle.integrator.proofs.NumberLaws.{length-numbers, made_of_numbers, number_at}
 use Rattle.integrator.proofs.StepLemmas.{there_and_back}
@@ -18,8 +18,8 @@ use Rattle.integrator.specs.declared.direction.Direction.TheVariants.{Forward, B
 
 -- n steps and one more
 more_after : (w : Direction) (d : Dynamics) (n : ℕ) (o : Option Frames)
-    → ((f : Frames) → turns w d (suc n) f ≡ option_and_then (turn w d) (turns w d n f))
-    → option_and_then (turns w d (suc n)) o ≡ option_and_then (turn w d) (option_and_then (turns w d n) o)
+    → ((f : Frames) → steps_in w d (suc n) f ≡ option_and_then (step_in w d) (steps_in w d n f))
+    → option_and_then (steps_in w d (suc n)) o ≡ option_and_then (step_in w d) (option_and_then (steps_in w d n) o)
 more_after w d n None h = refl
 more_after w d n (Some f) h = h f
 
@@ -27,14 +27,14 @@ only_one : (o : Option Frames) → option_and_then (λ f. Some f) o ≡ o
 only_one None = refl
 only_one (Some f) = refl
 
-more : (w : Direction) (d : Dynamics) (n : ℕ) (f : Frames) → turns w d (suc n) f ≡ option_and_then (turn w d) (turns w d n f)
-unfolding turns
-more w d zero f = only_one (turn w d f)
-more w d (suc n) f = more_after w d n (turn w d f) (more w d n)
+more : (w : Direction) (d : Dynamics) (n : ℕ) (f : Frames) → steps_in w d (suc n) f ≡ option_and_then (step_in w d) (steps_in w d n f)
+unfolding steps_in
+more w d zero f = only_one (step_in w d f)
+more w d (suc n) f = more_after w d n (step_in w d f) (more w d n)
 
 -- n + 1 steps are n steps and one more
-pub turns-more : (w : Direction) (d : Dynamics) (n : ℕ) (f : Frames) → turns w d (n + 1) f ≡ option_and_then (turn w d) (turns w d n f)
-turns-more w d n f = rw add-one (more w d n f)
+pub steps_more : (w : Direction) (d : Dynamics) (n : ℕ) (f : Frames) → steps_in w d (n + 1) f ≡ option_and_then (step_in w d) (steps_in w d n f)
+steps_more w d n f = rw add-one (more w d n f)
 
 -- ---- the way back
 
@@ -85,88 +85,88 @@ followed d p c q same h e =
 -- ---- the way back, step by step
 
 -- a step's frames are frames again, and one step the other way leads back
-pub record Turned (w : Direction) (d : Dynamics) (f g : Frames) : Type 0 where
-  pub back : turn (opposite w) d g ≡ Some f
-  pub frames' : AreFrames g
+pub record Stepped (w : Direction) (d : Dynamics) (f g : Frames) : Type 0 where
+  pub back : step_in (opposite w) d g ≡ Some f
+  pub frames' : AreOfSameAtoms g
   pub atoms : length g.previous ≡ length f.previous
 
-stepped_at : (d : Dynamics) (p c : Frame) (g : Frames) (o : Option Frame) → AreFrames (frames p c) → next_frame d p c ≡ o
-    → option_map (frames c) o ≡ Some g → Turned Forward d (frames p c) g
+stepped_at : (d : Dynamics) (p c : Frame) (g : Frames) (o : Option Frame) → AreOfSameAtoms (frames p c) → next_frame d p c ≡ o
+    → option_map (frames c) o ≡ Some g → Stepped Forward d (frames p c) g
 stepped_at d p c g None h e k = absurd (none_is_no_some g k)
 stepped_at d p c g (Some q) h e k =
     let same : frames c q ≡ g = some_same (frames c q) g k in
     let f = followed d p c q h.alike h.previous e in
-    let turned : Turned Forward d (frames p c) (frames c q) = record {
+    let stepped : Stepped Forward d (frames p c) (frames c q) = record {
       back = ap (option_map (λ n. frames n c)) f.back;
       frames' = record { alike = sym f.alike; previous = h.current; current = f.on_ring };
       atoms = sym h.alike;
     } in
-    rw (← same) turned
+    rw (← same) stepped
 
-backed_at : (d : Dynamics) (p c : Frame) (g : Frames) (o : Option Frame) → AreFrames (frames p c) → next_frame d c p ≡ o
-    → option_map (λ n. frames n p) o ≡ Some g → Turned Back d (frames p c) g
+backed_at : (d : Dynamics) (p c : Frame) (g : Frames) (o : Option Frame) → AreOfSameAtoms (frames p c) → next_frame d c p ≡ o
+    → option_map (λ n. frames n p) o ≡ Some g → Stepped Back d (frames p c) g
 backed_at d p c g None h e k = absurd (none_is_no_some g k)
 backed_at d p c g (Some q) h e k =
     let same : frames q p ≡ g = some_same (frames q p) g k in
     let f = followed d c p q (sym h.alike) h.current e in
-    let turned : Turned Back d (frames p c) (frames q p) = record {
+    let stepped : Stepped Back d (frames p c) (frames q p) = record {
       back = ap (option_map (frames p)) f.back;
       frames' = record { alike = f.alike; previous = f.on_ring; current = h.previous };
       atoms = f.alike;
     } in
-    rw (← same) turned
+    rw (← same) stepped
 
 -- a step from frames leads to frames from which one step the other way leads back
-pub turned : (w : Direction) (d : Dynamics) (f g : Frames) → AreFrames f → turn w d f ≡ Some g → Turned w d f g
-turned Forward d f g h e = stepped_at d f.previous f.current g (next_frame d f.previous f.current) h refl e
-turned Back d f g h e = backed_at d f.previous f.current g (next_frame d f.current f.previous) h refl e
+pub stepped : (w : Direction) (d : Dynamics) (f g : Frames) → AreOfSameAtoms f → step_in w d f ≡ Some g → Stepped w d f g
+stepped Forward d f g h e = stepped_at d f.previous f.current g (next_frame d f.previous f.current) h refl e
+stepped Back d f g h e = backed_at d f.previous f.current g (next_frame d f.current f.previous) h refl e
 
 -- the law of return: n steps one way, and then n the other, lead to the frames of the start
 pub record Returned (w : Direction) (d : Dynamics) (n : ℕ) (f g : Frames) : Type 0 where
-  pub back : turns (opposite w) d n g ≡ Some f
-  pub frames' : AreFrames g
+  pub back : steps_in (opposite w) d n g ≡ Some f
+  pub frames' : AreOfSameAtoms g
   pub atoms : length g.previous ≡ length f.previous
 
-return_step : (w : Direction) (d : Dynamics) (n : ℕ) (f g : Frames) (o : Option Frames) → AreFrames f → turn w d f ≡ o → option_and_then (turns w d n) o ≡ Some g
-    → ((e : Frames) → AreFrames e → turns w d n e ≡ Some g → Returned w d n e g)
+return_step : (w : Direction) (d : Dynamics) (n : ℕ) (f g : Frames) (o : Option Frames) → AreOfSameAtoms f → step_in w d f ≡ o → option_and_then (steps_in w d n) o ≡ Some g
+    → ((e : Frames) → AreOfSameAtoms e → steps_in w d n e ≡ Some g → Returned w d n e g)
     → Returned w d (suc n) f g
 return_step w d n f g None h e k again = absurd (none_is_no_some g k)
 return_step w d n f g (Some m) h e k again =
-    let t = turned w d f m h e in
+    let t = stepped w d f m h e in
     let r = again m t.frames' k in
     record {
-      back = more (opposite w) d n g ∙ ap (option_and_then (turn (opposite w) d)) r.back ∙ t.back;
+      back = more (opposite w) d n g ∙ ap (option_and_then (step_in (opposite w) d)) r.back ∙ t.back;
       frames' = r.frames';
       atoms = r.atoms ∙ t.atoms;
     }
 
 -- n steps one way from frames lead to frames from which n steps the other way lead back
-pub returned : (w : Direction) (d : Dynamics) (n : ℕ) (f g : Frames) → AreFrames f → turns w d n f ≡ Some g → Returned w d n f g
-unfolding turns
+pub returned : (w : Direction) (d : Dynamics) (n : ℕ) (f g : Frames) → AreOfSameAtoms f → steps_in w d n f ≡ Some g → Returned w d n f g
+unfolding steps_in
 returned w d zero f g h e =
     let same : f ≡ g = some_same f g e in
     record { back = ap Some (sym same); frames' = rw (← same) h; atoms = ap (λ (f : Frames). length f.previous) (sym same) }
-returned w d (suc n) f g h e = return_step w d n f g (turn w d f) h refl e (λ m k l. returned w d n m g k l)
+returned w d (suc n) f g h e = return_step w d n f g (step_in w d f) h refl e (λ m k l. returned w d n m g k l)
 
 -- ---- back is forward with the frames exchanged
 
-exchanged_turn_at : (d : Dynamics) (p : Frame) (o : Option Frame) → option_map (λ n. frames n p) o ≡ option_map exchanged (option_map (frames p) o)
-exchanged_turn_at d p None = refl
-exchanged_turn_at d p (Some q) = refl
+exchanged_step_at : (d : Dynamics) (p : Frame) (o : Option Frame) → option_map (λ n. frames n p) o ≡ option_map exchanged (option_map (frames p) o)
+exchanged_step_at d p None = refl
+exchanged_step_at d p (Some q) = refl
 
-exchanged_turns_at : (d : Dynamics) (n : ℕ) (o : Option Frames) → ((f : Frames) → turns Back d n (exchanged f) ≡ option_map exchanged (turns Forward d n f))
-    → option_and_then (turns Back d n) (option_map exchanged o) ≡ option_map exchanged (option_and_then (turns Forward d n) o)
-exchanged_turns_at d n None h = refl
-exchanged_turns_at d n (Some f) h = h f
+exchanged_steps_at : (d : Dynamics) (n : ℕ) (o : Option Frames) → ((f : Frames) → steps_in Back d n (exchanged f) ≡ option_map exchanged (steps_in Forward d n f))
+    → option_and_then (steps_in Back d n) (option_map exchanged o) ≡ option_map exchanged (option_and_then (steps_in Forward d n) o)
+exchanged_steps_at d n None h = refl
+exchanged_steps_at d n (Some f) h = h f
 
 -- steps back are steps forward with the two frames exchanged
-pub exchanged_turns : (d : Dynamics) (n : ℕ) (f : Frames) → turns Back d n (exchanged f) ≡ option_map exchanged (turns Forward d n f)
-unfolding turns
-exchanged_turns d zero f = refl
-exchanged_turns d (suc n) f =
-    ap (option_and_then (turns Back d n)) (exchanged_turn_at d f.current (next_frame d f.previous f.current))
-    ∙ exchanged_turns_at d n (turn Forward d f) (exchanged_turns d n)
+pub exchanged_steps : (d : Dynamics) (n : ℕ) (f : Frames) → steps_in Back d n (exchanged f) ≡ option_map exchanged (steps_in Forward d n f)
+unfolding steps_in
+exchanged_steps d zero f = refl
+exchanged_steps d (suc n) f =
+    ap (option_and_then (steps_in Back d n)) (exchanged_step_at d f.current (next_frame d f.previous f.current))
+    ∙ exchanged_steps_at d n (step_in Forward d f) (exchanged_steps d n)
 
 -- frames that were reached, exchanged
-pub back_from_forward : (d : Dynamics) (n : ℕ) (p c q e : Frame) → turns Forward d n (frames c p) ≡ Some (frames e q) → turns Back d n (frames p c) ≡ Some (frames q e)
-back_from_forward d n p c q e h = exchanged_turns d n (frames c p) ∙ ap (option_map exchanged) h
+pub back_from_forward : (d : Dynamics) (n : ℕ) (p c q e : Frame) → steps_in Forward d n (frames c p) ≡ Some (frames e q) → steps_in Back d n (frames p c) ≡ Some (frames q e)
+back_from_forward d n p c q e h = exchanged_steps d n (frames c p) ∙ ap (option_map exchanged) h

@@ -3,7 +3,7 @@ use Rattle.std.specs.Prelude.{IfOk}
 use Rattle.std.proofs.lemmas.Result.{err_from_is_err_and}
 use Rattle.engine.proofs.CourseLaws.{stays}
 use Rattle.engine.specs.Rounds.{AreForces}
-use Rattle.engine.proofs.frame_steps.Course.turn.Goals as goal
+use Rattle.engine.proofs.frame_steps.Course.make_step.Goals as goal
 
 pub returns-in_err-sums-clause-left : goal.returns-in_err-sums-clause-left
 returns-in_err-sums-clause-left g c = let p = err_from_is_err_and c.from_residual.result c.from_residual.ensures.1 in rw p.1 (stays c.args.self.now)

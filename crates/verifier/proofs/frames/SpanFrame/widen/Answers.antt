@@ -1,7 +1,7 @@
 use Rattle.std.proofs.Common.{sym, ap, ◌∙◌, length}
 use Rattle.std.proofs.lemmas.List.{with_items_is}
 use Rattle.verifier.proofs.Joining.{frame_widens_so}
-use Rattle.verifier.proofs.frames.Frame.widen.Goals as goal
+use Rattle.verifier.proofs.frames.SpanFrame.widen.Goals as goal
 
 pub returns : goal.returns
 returns g c =

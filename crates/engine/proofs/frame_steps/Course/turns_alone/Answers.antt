@@ -1,6 +1,0 @@
-use Rattle.std.proofs.Common.{refl}
-use denote.Param.Members.{lent, lentᵐ}
-use Rattle.engine.proofs.frame_steps.Course.turns_alone.Goals as goal
-
-pub returns-clause-tiling : goal.returns-clause-tiling
-returns-clause-tiling g c = (c.turns.ensures.may (lent c.turns.new.self.middle.items) (lentᵐ c.turns.new.desk) refl refl).1
