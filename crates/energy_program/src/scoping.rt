@@ -1,4 +1,4 @@
-//! What a program's trees may name.
+//! The scope of a program's trees: inputs, and later definitions.
 
 ghost use Rattle.std.specs.Prelude.{◌≡◌, ◌≤◌, ◌+◌, ◌&&◌, length, map, nat_le, is_some, IfSome};
 ghost use Rattle.energy_program.specs.Programs.{trees_of};
