@@ -9,7 +9,7 @@ use std::test::*;
 use std::thread::Threads;
 use tested_run::{TestedRunFault, run_bytes_checked};
 
-/// What a tested run writes, or the line of its fault.
+/// The text that a tested run writes, or the line of its fault.
 fn tested(
     alloc: Global,
     job: &[u8],
