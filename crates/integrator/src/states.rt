@@ -50,6 +50,7 @@ pub fn current_frame<A: Allocator>(alloc: A, atoms: &[Atom]) -> Result<Vec<Place
     Ok(frame)
 }
 
+/// The atom at these places in the previous and the current frame.
 fn placed(mut atom: Atom, previous: Place3, current: Place3) -> Atom
     ensures { atom_view result ≡ placed (atom_view atom) previous current }
 {
@@ -69,12 +70,12 @@ fn place(atoms: &mut [Atom], previous: &[Place3], current: &[Place3])
     }
 }
 
-/// Two frames that follow one another.
+/// Two frames that follow one another, of places below 2^32 along each axis.
 #[derive(Drop)]
 pub struct Stepped<A: Allocator> {
-    /// Where each atom was one step earlier.
+    /// The place of each atom one step earlier.
     pub previous: Vec<Place3, A>,
-    /// Where each atom is.
+    /// The place of each atom.
     pub current: Vec<Place3, A>,
 }
 
