@@ -82,7 +82,7 @@ fn bad(line: u64) -> CodeFault
     CodeFault::BadLine { line }
 }
 
-/// What stands after the first line, if that begins a listing.
+/// The lines after the first, if that begins a listing.
 #[tactic(auto, unfolding(crate::specs::ListingReading::below_head))]
 fn below_head(bytes: &[u8]) -> Option<&[u8]>
     ensures { option_map (λ x. x.now) result ≡ below_head bytes.now }
