@@ -40,7 +40,7 @@ fn follow(
     }
 }
 
-/// What the paths that come to the end, the place `len`, come to.
+/// The verdict on the paths at the end, the place `len`: the instructions on the longest, or the misfit there.
 fn judge_end(end: &Meeting, len: usize) -> Result<u32, Misfit>
     requires some { end.now ≡ Nothing → ⊥ }
     requires short { len < 2 ^ 32 }

@@ -5,7 +5,7 @@ ghost use Rattle.kernel_paths.specs.Meetings.{IsJoin, IsJoinAt};
 
 use crate::locals::Locals;
 
-/// What paths to a place have in common.
+/// A shape, which the paths to a place have in common.
 #[derive(Clone, Copy)]
 pub struct Shape {
     /// How many values stand on the stack, on each path.
