@@ -178,7 +178,7 @@ fn passes_the_gate_before_each_tile(rt: HostRuntime) -> Result<(), Fail> {
     Ok(())
 }
 
-/// What three workers come to in a heap of so many bytes.
+/// The outcome of three workers in a heap of n bytes.
 #[derive(Clone, Copy, PartialEq, Eq)]
 enum Outcome {
     Summed,
