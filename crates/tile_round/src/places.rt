@@ -17,7 +17,7 @@ pub(crate) enum WorkerPlace {
     Stopped,
 }
 
-/// What a worker has left of its tile: the additions of the pair at hand from `part` on, and then
+/// The rest of a worker's tile: the additions of the pair at hand from `part` on, and then
 /// the pairs from `next` on.
 #[derive(Clone, Copy, PartialEq, Eq, Debug)]
 pub(crate) struct Task {
