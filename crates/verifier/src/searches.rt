@@ -153,8 +153,8 @@ impl<'a, A: Allocator + Copy, B: Allocator> Search<'a, A, B> {
         }
     }
 
-    /// What is said of distances of which some may meet a fault at this place: the fault at the least
-    /// or at the greatest of them, if the code meets one there.
+    /// The verdict on distances of which some may meet a fault at this place: the fault at the least
+    /// or at the greatest of them, if the code meets one there, else `Undecided`.
     fn judge_ends(&self, pair: Pair, distances: &Span, pc: u32, fault: Fault) -> VerifyFault
         requires first { pair.first < length self.now.table.rows }
         requires second { pair.second < length self.now.table.rows }
