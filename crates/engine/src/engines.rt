@@ -71,7 +71,7 @@ fn fits(bound: u64, atoms: usize) -> bool
     u128::from(bound) * (others as u128) < 9_223_372_036_854_775_808
 }
 
-/// What moves these atoms by this slope, in the box of the state.
+/// The system of these atoms under this slope, in the box of the state.
 fn motion<A: Allocator>(
     job: &Job<A>,
     state: &State<A>,
@@ -107,7 +107,7 @@ fn motion<A: Allocator>(
     SafeSystem { system }
 }
 
-/// What moves the atoms of a state under a job, where no force on one of them can pass 64 bits.
+/// The system of a state's atoms under a job; refused where a force on one of them might not fit 64 bits.
 fn job_motion<A: Allocator + Copy>(
     alloc: A,
     job: &Job<A>,
