@@ -15,7 +15,7 @@ use fixed::{Frac, NumFault, numeral_front};
 use line_text::{digits_up_to, is_identifier_continue, is_identifier_start};
 use std::alloc::Allocator;
 
-/// What is wrong at the front of a text.
+/// The fault at the front of a text.
 #[derive(Clone, Copy, Debug, PartialEq, Eq)]
 pub enum Wrong {
     /// The byte begins no token.

@@ -20,10 +20,10 @@ use std::alloc::Allocator;
 /// Fewer parentheses and minus signs than these may stand open around a token.
 pub const LEVELS: usize = 65;
 
-/// What is read, and the tokens after it.
+/// The result of reading an expression: its tree, and the tokens after it.
 pub type Read<'a, A> = Result<(Boxed<'a, A>, &'a [Token<'a>]), Failure<ExprFault<A>>>;
 
-/// What arguments are read, and the tokens after them.
+/// The result of reading arguments: these, and the tokens after them.
 type ReadArguments<'a, A> = Result<(Arguments<'a, A>, &'a [Token<'a>]), Failure<ExprFault<A>>>;
 
 /// Reads the tokens of a text, which ends at a place.
@@ -156,7 +156,7 @@ pub fn begins_operand(kind: Kind<'_>) -> bool
     }
 }
 
-/// What an atom begins with.
+/// The first token of an atom.
 enum OperandStart<'a> {
     Number(i64),
     Name(&'a [u8]),

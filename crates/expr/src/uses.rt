@@ -16,7 +16,7 @@ use energy_program::{Expr, ExprFault, Names, Program};
 use fallible::Failure;
 use std::alloc::Allocator;
 
-/// What an expression may name: the variables, and the later definitions, which are numbered from the first.
+/// The scope of an expression: the variables, and the later definitions, which are numbered from `first`.
 #[derive(Drop)]
 pub struct Scope<'a, 'b, 'c, A: Allocator> {
     pub names: &'a Names<A>,
