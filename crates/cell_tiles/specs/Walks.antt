@@ -28,7 +28,7 @@ pub record IsWalk (one : Bool) (xs ys : List ℕ) (row column width left : ℕ) 
   pub width_is : width ≡ width_of one ys row
   pub place : 0 < left → IsPlaceOf one xs ys row column (length (pairs_over one xs ys) - left)
 
--- what is left of a tile: its pairs, and the atoms of its second cell, of which the rows are cut
+-- the rest of a tile: its pairs, and the atoms of its second cell, of which the rows are cut
 pub record Walk : Type 0 where
   pub pairs : List (ℕ × ℕ)
   pub others : List ℕ
