@@ -1,4 +1,4 @@
--- What was done where all went well: what was printed, of which files.
+-- The results of commands where all went well: the texts that were printed, of which files.
 use Rattle.std.specs.Prelude.{◌≡◌, ◌⊎◌, ◌/◌, ℕ, suc, List, Option, Some, None}
 use Rattle.std.specs.Borrow.{Bor}
 use Rattle.engine.specs.Headline.{WroteLevesqueVerletRun}
@@ -28,7 +28,7 @@ HasPrinted held (command.Energy energy) before after = OfTwo held energy.job.now
 HasPrinted held (command.Check check) before after = HasVerdict held check.job.now check.listing (Appends before after)
 HasPrinted held (command.Code l) before after = OfOne held l.job.now (λ job. IsCodeText job (Appends before after))
 
--- What the words ask for was done: help or the version, and no file was asked for; or a command, which asked for its files and printed what they say.
+-- The words were carried out: help or the version, and no file was asked for; or a command, which asked for its files and printed what they say.
 abbrev pub IsDone : List (List ℕ) → (List ℕ → Option (List ℕ)) → (asked_before asked_after : Option (List (List ℕ))) → (before after : Output) → Type 0
 IsDone words held asked_before asked_after before after = ((AsksForHelp words ⊎ AsksForVersion words) × (asked_after ≡ asked_before))
     ⊎ ((c : Command) × IsCommand words c × (asked_after ≡ asked_by asked_before c) × HasPrinted held c before after)

@@ -1,4 +1,4 @@
--- What is printed of a fault.
+-- The line that is printed of a fault.
 use Rattle.std.specs.Prelude.{◌≡◌, ◌⊎◌, ℕ, List, [], ◌∷◌, ◌++◌, codes}
 use Rattle.fallible.specs.Out.{Output, Appends, AppendsBeginning}
 use Rattle.cli.specs.Statuses.{status_number, status_of}
