@@ -34,7 +34,7 @@ pub record EngineView : Type 0 where
   pub types : List ℕ
   pub state : StateView
 
--- what moves its atoms: the energy's slope as it is written
+-- the dynamics of its atoms: by the energy's slope as it is written
 abbrev pub engine_dynamics : EngineView → Dynamics
 engine_dynamics e = as_written e.job e.state.sides (job_tree e.job) e.types
 
@@ -47,7 +47,7 @@ pub record IsEngineOf (j : JobValue) (s : StateView) (e : EngineView) : Type 0 w
   pub is : e ≡ record { job = j; types = system.1; state = s }
   pub safe : IsSafeFor j system.0.code (length s.atoms)
 
--- what a fault says of the code of the slope of the energy of a job and a state
+-- a statement on the code of the slope of the energy of a job and a state, which a fault makes
 pub record OfSlope (j : JobValue) (s : StateView) (holds : List Instr → Type 0) : Type 0 where
   pub system : Energy × List ℕ
   pub made : system_of j s ≡ Ok system
@@ -76,7 +76,7 @@ Stopped direction n before after (step.Memory done) = (done ≤ n - 1) × Went d
 
 -- ---- from bytes to bytes
 
--- what the texts of a job and a state say
+-- a statement on the job and the state of two texts
 pub record OfTexts (job state : List ℕ) (holds : JobValue → StateView → Type 0) : Type 0 where
   pub j : JobValue
   pub s : StateView

@@ -39,7 +39,7 @@ module _ {A : Type 0} (s : System (SafeKernel A) A) where
     pub within : n ≤ length pairs
     pub acting : acting (map (found_of frame) (take n pairs)) ≡ acting (map (found_of frame) (take k pairs)) ++ found
 
-  -- what is asked for it
+  -- the ask for it: its types and its distance
   abbrev pub ask_of : FoundPair → Ask
   ask_of f = record { a = slice_index s.types.items f.low; b = slice_index s.types.items f.high; r = f.acting.distance }
 
@@ -56,6 +56,6 @@ module _ {A : Type 0} (s : System (SafeKernel A) A) where
   abbrev pub AreSlopes : List Ask → List ℤ → Type 0
   AreSlopes asks slopes = (l : ℕ) → l < length asks → IsSlope (ask_at asks l) (slice_index_or slopes l (pos 0))
 
-  -- what a pair adds
+  -- the force of a pair that was found
   abbrev pub add_found : FoundPair → PairAdd
   add_found f = pair_add f.low f.high (force_of f.acting (minus_slope_for (ask_of f)))
