@@ -1,4 +1,4 @@
--- What a call makes of its arguments.
+-- Calls of functions, by their arguments.
 use Rattle.std.specs.Prelude.{ℕ, List, Result, Ok, Err}
 use Rattle.energy_program.specs.declared.callees.Callee.{Callee}
 use Rattle.energy_program.specs.declared.callees.Callee.TheVariants as takes

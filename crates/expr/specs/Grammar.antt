@@ -64,7 +64,7 @@ mutual
     first : {n : ℕ} {a : List Placed} {x : Syntax} → IsExpr n a x → IsList n a (One x)
     next : {n : ℕ} {a b : List Placed} {xs : Arguments} {y : Syntax} (at : ℕ) → IsList n a xs → IsExpr n b y → IsList n (a ++ ((t.Comma, at) ∷ b)) (with_argument xs y)
 
--- what stands behind the body: semicolons, each with a definition behind it or with none
+-- the tail behind the body: semicolons, each with a definition behind it or with none
 pub data IsTail : ℕ → List Placed → List Definition → Type 0 where
   end : {n : ℕ} → IsTail n [] []
   empty : {n : ℕ} {b : List Placed} {ds : List Definition} (at : ℕ) → IsTail n b ds → IsTail n ((t.Semicolon, at) ∷ b) ds
