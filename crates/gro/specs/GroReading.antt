@@ -10,7 +10,7 @@ use Rattle.gro.specs.GroText.{are_spaces, is_blank, IsGroText}
 use Rattle.gro.specs.declared.faults.GroFault.{GroFault}
 use Rattle.gro.specs.declared.faults.GroFault.TheVariants.{Truncated, BadCount, BadColumns, Precision, BadBox, Triclinic, TooManyAtoms, NoSuchFrame}
 
--- what is said, or this fault
+-- the value, or this fault where there is none
 abbrev pub said : {X : Type 0} → GroFault → Option X → Result X GroFault
 said fault None = Err fault
 said fault (Some x) = Ok x

@@ -1,4 +1,4 @@
--- What a GRO file says (GROMACS manual, gro file format): which texts stand for which frames.
+-- Texts of GRO files (GROMACS manual, gro file format): which texts stand for which frames.
 use Rattle.std.specs.Prelude.{◌≡◌, ℕ, ◌+◌, ◌*◌, ◌^◌, ◌-◌, ◌<◌, ◌≤◌, ◌⊎◌, Bool, ◌||◌, ◌==◌, List, [], ◌∷◌, ◌++◌, length, drop, replicate, ℤ, pos, negsuc, ◌≤ℤ◌, IsTrue}
 use Rattle.std.specs.List.{list_all, slice_range}
 use Rattle.line_text.specs.Parts.{is_title, is_printable}
