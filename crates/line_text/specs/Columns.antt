@@ -25,7 +25,7 @@ signed_by read text = if slice_index text 0 == 45 then option_map (λ n. neg_ℤ
 unfoldable pub decimal_column_of : ℕ → List ℕ → Option ℤ
 decimal_column_of places column = signed_by (decimals_of places) (without_spaces column)
 
--- what a column of five bytes holds: -9999 to 99999
+-- a residue number, which fits a column of five bytes: -9999 to 99999
 abbrev pub is_residue_number : ℤ → Bool
 is_residue_number z = int_le (negsuc 9998) z && int_le z (pos 99999)
 

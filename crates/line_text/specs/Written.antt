@@ -1,4 +1,4 @@
--- What parts of a line write, by their form.
+-- The values that parts of a line write, by their form.
 use Rattle.std.specs.Prelude.{◌≡◌, ℕ, ◌+◌, ◌*◌, ◌^◌, ◌<◌, List, ◌∷◌, ◌++◌, length, replicate, ℤ, pos, neg_ℤ, IsTrue}
 use Rattle.std.specs.Str.{all_ascii_digits}
 use Rattle.std.specs.Str.Parse.{digits_value}
