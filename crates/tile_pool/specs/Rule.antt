@@ -50,7 +50,7 @@ abbrev pub first_of : List Worker → Worker
 first_of [] = fresh 0
 first_of (w ∷ ws) = w
 
--- what a seat knows: its view, and the slots that it holds, of which there are none
+-- the knowledge of a seat: its view, and the slots that it holds, of which there are none
 abbrev pub Seen : Type 0
 Seen = Me (Unit {0}) (List Worker)
 
