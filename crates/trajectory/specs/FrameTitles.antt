@@ -4,7 +4,7 @@ use Rattle.std.specs.Fmt.{signed_decimal}
 use Rattle.line_text.specs.Columns.{decimals_text}
 use Rattle.line_text.specs.Parts.{right_in}
 
--- what stands between a frame's own title and its time
+-- the mark between a frame's own title and its time
 abbrev pub mark : List ℕ
 mark = codes " t= "
 

@@ -95,7 +95,7 @@ pub record LeftBeginning (IsText : ℕ → List ℕ → Type 0) (most : ℕ) (be
   pub few : count ≤ most
   pub began : BeganFrames IsText (suc count) before after
 
--- what a run that was ended leaves of the frames after 0, k, 2k, .. up to `most` times k steps
+-- the output that a run that was ended leaves, of the frames after 0, k, 2k, .. up to `most` times k steps
 abbrev pub Halts : (ℕ → List ℕ → Type 0) → (every most : ℕ) → (before after : Output) → Halt → Type 0
 Halts IsText every most before after (halt.Memory done) = LeftWhole IsText every most done before after
 Halts IsText every most before after (halt.Out f) = LeftBeginning IsText most before after
