@@ -175,7 +175,7 @@ IsPlain (Unary op) = Unit {0}
 IsPlain (JumpIfZero to) = ⊥
 IsPlain (Jump to) = ⊥
 
--- what the instruction needs is there: its operands, its input or its local, and room for what it pushes
+-- the operands, the input or the local that the instruction needs are there, and room for what it pushes
 abbrev pub IsAtHand : Instr → List Span → SpanFrameView → Type 0
 IsAtHand (Push v) inputs frame = length frame.stack < 64
 IsAtHand (Input k) inputs frame = (k < length inputs) × (length frame.stack < 64)

@@ -1,4 +1,4 @@
--- What it means that code never goes wrong, and what its refusals say.
+-- Certified code, which never goes wrong, and the meaning of refusals.
 use Rattle.std.specs.Prelude.{ℕ, ◌+◌, ◌<◌, ◌≤◌, List, length, ℤ, pos, ◌≤ℤ◌, ◌<ℤ◌, ◌+ℤ◌, ◌-ℤ◌, ◌*◌, Ok, Err, unsigned_abs}
 use Rattle.fixed.specs.Fractions.{bits_of}
 use Rattle.kernel_code.specs.declared.instructions.Instr.{Instr}
@@ -52,7 +52,7 @@ pub record IsUndecided (code : List Instr) (t : Table) (from last : ℤ) (limit 
   pub at_hi : GivesValue code t a b hi
   pub wide : (from +ℤ pos limit) ≤ℤ last
 
--- what a refusal at the distances from one to another says, where so many are always decided
+-- the meaning of a refusal at the distances from one to another, where `limit` of them are always decided
 abbrev pub IsFound : List Instr → Table → (from last : ℤ) → (limit : ℕ) → VerifyFault → Type 0
 IsFound code t from last limit (Malformed pc) = ⊥
 IsFound code t from last limit (DepthOver64 pc) = ⊥
@@ -91,7 +91,7 @@ pub record IsCertified (code : List Instr) (t : Table) (core cutoff : ℤ) (step
   pub longest : IsLongest code steps
   pub misses : MissesNothing code (input_count t)
 
--- what a refusal says
+-- the meaning of a refusal
 abbrev pub IsRefusal : List Instr → Table → (core cutoff : ℤ) → (limit : ℕ) → VerifyFault → Type 0
 IsRefusal code t core cutoff limit (Malformed pc) = GoesWrong code (input_count t)
 IsRefusal code t core cutoff limit (DepthOver64 pc) = Overfills code pc

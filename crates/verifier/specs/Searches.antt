@@ -1,4 +1,4 @@
--- What is searched for values and faults.
+-- Searches for values and faults.
 use Rattle.std.specs.Prelude.{◌≡◌, ℕ, ◌<◌, List, length, ℤ, pos, ◌≤ℤ◌, ◌<ℤ◌}
 use Rattle.kernel_code.specs.declared.instructions.Instr.{Instr}
 use Rattle.kernel_code.specs.Tables.{Table, IsTable, inputs_of}

@@ -19,7 +19,7 @@ use Rattle.verifier.specs.declared.faults.VerifyFault.TheVariants as fault
 use Rattle.verifier.specs.Safety.{input_count}
 use Rattle.verifier.specs.Places.{IsOne, GivesSpan, StopsAt}
 
--- what is found: the greatest magnitude, or why there is none
+-- the answer of a search: the greatest magnitude, or why there is none
 abbrev pub Answer : Type 0
 Answer = Result ℕ VerifyFault
 
