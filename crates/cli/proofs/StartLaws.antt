@@ -31,7 +31,7 @@ pub box_refused : (A : Type 0) (gro : List ℕ) (number : ℕ) (job : JobValue) 
 box_refused A gro number job frames frame (Refused f) gro_read is h = record { frames = frames; frame = frame; gro_read = gro_read; picked = is; refused = h }
 box_refused A gro number job frames frame Memory gro_read is h = tt
 
--- what holds of the error that a result is holds of it, if it is one
+-- a property of the error that a result is holds of it, if it is one
 pub if_err : {T E : Type 0} (r : Result T E) (P : E → Type 0) → IsErrAnd r P → IfErr r P
 if_err (Ok x) P h = tt
 if_err (Err e) P h = h

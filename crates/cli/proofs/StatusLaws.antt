@@ -1,4 +1,4 @@
--- What statuses faults have: none has that of a command that was done, and only those of words have that of the command line.
+-- Laws of statuses: no fault has that of a command that was done, and only those of words have that of the command line.
 use Rattle.std.proofs.Common.{◌≡◌, ◌≢◌, ◌⊎◌, ◌∙◌, ap, arith, inl, inr, refl, sym}
 use Rattle.clap.specs.declared.error.Error.{Error}
 use Rattle.fallible.specs.declared.failure.Failure.TheVariants.{Refused, Memory}
