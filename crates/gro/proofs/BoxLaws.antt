@@ -18,7 +18,7 @@ use Rattle.gro.specs.GroText.{WritesFew, WritesLength, whole, pointed, AreValues
 use Rattle.gro.specs.GroReading.{LineView, few_digits_of, length_parts, length_of, value_of, values_of, is_zero, rectangular, sides_in}
 use Rattle.gro.proofs.CountLaws.{test_ok, first_digit}
 
--- what was read before, and what is still read
+-- the values that were read before, and those that are still read
 abbrev pub with_front : List ℤ → Option (List ℤ) → Option (List ℤ)
 with_front front read = option_map (λ vs. front ++ vs) read
 
