@@ -8,7 +8,7 @@ use Rattle.kernel_code.specs.declared.instructions.Instr.{Instr}
 use Rattle.kernel_code.specs.declared.instructions.Instr.TheVariants.{Push, Keep, Get, Binary, Unary}
 use Rattle.kernel_code.specs.Paths.{IsSupplied, HasRoom, CanAct, height_after, set_after, MayGo, IsPath, begins, goes, MissesNothing}
 
--- what an instruction needs, and room for what it pushes
+-- an instruction whose needs are there, and room for what it pushes, can act
 can : (i : Instr) (inputs height : ℕ) (set : List Bool) → IsSupplied i inputs height set → HasRoom i height → CanAct i inputs height set
 can i inputs height set h g = record { supplied = h; room = g }
 
