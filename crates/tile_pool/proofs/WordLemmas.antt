@@ -112,7 +112,7 @@ from_nothing n xs sums (len, goes) =
     let zero_len : length (replicate n (pos 0)) ≡ n = length-replicate n (pos 0) in
     subst (λ m. AreSums xs m sums) zero_len (goes [] (subst (λ m. AreSums [] m (replicate n (pos 0))) (sym zero_len) (sums_open n)))
 
--- what the tiles' additions come to is the total
+-- the sum of the tiles' additions is the total
 pub tiles_total : (plan : List (List (Option PairAdd))) (k : ℕ) → on_entry k (flat_map tile_of plan) ≡ total (tiles_of plan) k
 tiles_total plan k = sum_flat_map (amount_on k) tile_of plan ∙ in_map plan
   where
