@@ -196,7 +196,7 @@ frame_of_texts job state w every e t number text h =
     let job : e.job ≡ t.j = ap (λ (v : EngineView). v.job) t.it.is in
     record { said = e.job; after = h.reached.state; job_read = t.job_read ∙ ap Ok (sym job); run = engine_ran _ state w (number * every) e h.reached t h.went; shown = h.shown }
 
--- what ends the frames of an engine of texts leaves of the frames of the texts
+-- the output after a halt of the frames of an engine of texts, as one of the frames of the texts
 pub frames_unwritten : (A : Type 0) (job state : List ℕ) (w : Direction) (steps every : ℕ) (e : EngineView) (before after : Output) (h : Halt) → IsEngineOfTexts job state e
     → Halts (IsFrameOnWay w every e) every (steps / every) before after h → AreFramesUnwritten job state w steps every before after (run_fault_of {A = A} h)
 frames_unwritten A job state w steps every e before after (halt.Memory done) t left =
