@@ -18,7 +18,7 @@ pub const MAX_WORKERS: u64 = 64;
 pub enum Command<'a> {
     /// `start`: the state that begins at a frame of a GRO file.
     Start(Start<'a>),
-    /// `run` and `back`: the state after so many steps.
+    /// `run` and `back`: the state after n steps.
     Run(Run<'a>),
     /// `trajectory`: frames of a run as a GRO file.
     Trajectory(Trajectory<'a>),
