@@ -187,7 +187,7 @@ impl<'a, A: Allocator + Copy> Course<'a, A> {
         Ok(())
     }
 
-    /// So many steps. It answers how many were made: fewer only where memory is wanted.
+    /// n steps. It answers how many were made: fewer only where an allocation is refused.
     fn make_steps<S, T: AsSlice<i64> + Drop, F: Fn(&[Place3], &mut S) -> Result<T, Memory>>(
         &mut self,
         steps: u64,
@@ -209,7 +209,7 @@ impl<'a, A: Allocator + Copy> Course<'a, A> {
         steps
     }
 
-    /// So many steps on the caller's thread.
+    /// n steps on the caller's thread.
     pub(crate) fn steps_alone<B: Allocator>(
         &mut self,
         alloc: A,
@@ -260,7 +260,7 @@ impl<'a, A: Allocator + Copy + Sync> Course<'a, A> {
     ghost use Rattle.engine.specs.Rounds.{AreForces};
     ghost use Rattle.engine.specs.Tilings.{IsTilingOf};
 
-    /// So many steps by a pool's workers.
+    /// n steps by a pool's workers.
     pub(crate) fn steps_pooled<R: Threads + Sync, G: Gate + Sync, B: Allocator + Send>(
         &mut self,
         alloc: A,

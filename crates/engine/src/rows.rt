@@ -73,7 +73,7 @@ impl<A: Allocator + Copy> Scratch<A> {
     }
 }
 
-/// One for each of so many workers. `AllocError` only where memory is refused.
+/// One for each of `count` workers. `AllocError` only where memory is refused.
 pub(crate) fn scratches<A: Allocator + Copy>(
     alloc: A,
     count: u32,
