@@ -113,7 +113,7 @@ fn the_first_pair_without_a_slope(rt: HostRuntime) -> Result<(), Fail> {
     Ok(())
 }
 
-/// Whether a tested run writes what an engine's run does, and so many steps back lead to the state again.
+/// Whether a tested run writes what an engine's run does, and n steps back lead to the state again.
 fn goes_as_an_engine<R: Threads + Sync + AllocGlobal>(
     rt: &R,
     job: &[u8],
