@@ -218,7 +218,7 @@ impl<A: Allocator + Copy> Parser<A> {
         }
     }
 
-    /// An expression in front, inside which there are so many levels, and the tokens after it.
+    /// An expression in front, inside which there are `levels` levels, and the tokens after it.
     #[cycle(parser)]
     pub fn expr<'a>(&self, tokens: &'a [Token<'a>], levels: usize) -> Read<'a, A>
         ensures { Gives seen result (expr_at self.now.end levels (placed tokens.now)) }
@@ -323,7 +323,7 @@ impl<A: Allocator + Copy> Parser<A> {
         }
     }
 
-    // A number, a name, or a parenthesis, inside which there are so many levels.
+    // A number, a name, or a parenthesis, inside which there are `levels` levels.
     #[cycle(parser)]
     fn atom<'a>(&self, tokens: &'a [Token<'a>], levels: usize) -> Read<'a, A>
         ensures { Gives seen result (atom_at self.now.end levels (placed tokens.now)) }
