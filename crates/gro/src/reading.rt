@@ -134,7 +134,7 @@ fn line_count(number: u64, text: &[u8]) -> Result<u64, GroFault>
     Ok(count)
 }
 
-/// So many atoms, the first on the line with this number, and what stands after them.
+/// `count` atoms, the first on the line with this number, and what stands after them.
 fn atoms<A: Allocator + Copy>(
     alloc: A,
     number: u64,
