@@ -38,7 +38,7 @@ fn global_values<A: Allocator + Copy>(
     Ok(values)
 }
 
-/// The table of a job's types and globals. Want of memory is its only refusal.
+/// The table of a job's types and globals. `AllocError` is its only refusal.
 pub fn type_table<A: Allocator + Copy>(alloc: A, job: &Job<A>) -> Result<TypeTable<A>, AllocError>
     ensures value { IfOk result (λ t. t ≡ table_of (job_value job.now)) }
 {
