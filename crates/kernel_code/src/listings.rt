@@ -40,7 +40,7 @@ pub fn read<A: Allocator + Copy>(alloc: A, bytes: &[u8]) -> Result<Code<A>, Fail
 
 /// The listing of the code. It is read as this code again.
 ///
-/// `AllocError` comes only where a growth was refused.
+/// `AllocError` comes only where an allocation was refused.
 pub fn print<A: Allocator + Copy, B: Allocator>(
     alloc: A,
     code: &Code<B>,
