@@ -53,7 +53,7 @@ fn judge_end(end: &Meeting, len: usize) -> Result<u32, Misfit>
     }
 }
 
-/// The number of instructions on the longest path of the code, where so many inputs are at hand and every path does
+/// The number of instructions on the longest path of the code, where `inputs` inputs are at hand and every path does
 /// well: none misses an operand, a local or an input, pushes a 65th value, or ends with other than one value, and paths
 /// that meet have stacks of one height. Each conditional jump may go either way, whatever the values.
 ///
