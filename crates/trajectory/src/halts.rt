@@ -12,7 +12,7 @@ use std::alloc::Allocator;
 /// The halt of a run that has begun, before its last frame or its last step.
 #[derive(Clone, Copy)]
 pub(crate) enum Halt {
-    /// An allocation was refused after so many whole steps.
+    /// An allocation was refused after `done` whole steps.
     Memory { done: u64 },
     /// The output failed. A beginning of what was to be written was.
     Out(OutFault),

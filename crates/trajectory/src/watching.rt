@@ -11,7 +11,7 @@ pub trait Watch {
     fn watches(&self) -> bool
         ensures { result ≡ false → (counts : List ℕ) → told self.now self.now counts };
 
-    /// So many steps are made.
+    /// The watcher is told that `done` steps are made.
     fn tell(&mut self, done: u64)
         ensures { told self.old self.new (done ∷ []) };
 
