@@ -12,7 +12,7 @@ use std::thread::Threads;
 
 const WORKERS: [&str; 4] = ["1", "2", "3", "64"];
 
-/// No command makes so many requests for memory.
+/// More requests for memory than any command makes.
 const REQUESTS: u64 = 1_000_000;
 
 impl<'a, R: Files + Threads + Sync + AllocGlobal> Shell<'a, R> {
@@ -86,7 +86,7 @@ impl<'a, R: Files + Threads + Sync + AllocGlobal> Shell<'a, R> {
         Ok(ranges)
     }
 
-    /// The summary of what a command comes to where a file has these bytes.
+    /// The summary of a command's outcome where a file has these bytes.
     fn summary_over(
         &mut self,
         name: &str,
@@ -169,7 +169,7 @@ impl<'a, R: Files + Threads + Sync + AllocGlobal> Shell<'a, R> {
         (outcome, memory)
     }
 
-    /// Adds what a command comes to where the request of this number is refused, and tells whether there was such a request.
+    /// Adds the outcome of a command where the request of this number is refused, and tells whether there was such a request.
     fn without_request(
         &mut self,
         number: u64,
@@ -211,7 +211,7 @@ impl<'a, R: Files + Threads + Sync + AllocGlobal> Shell<'a, R> {
     }
 }
 
-/// The words with so many workers.
+/// The words with `workers` workers.
 fn by_workers<S: AsStr>(
     alloc: Global,
     words: &[S],
@@ -249,7 +249,7 @@ fn summary_beside(alloc: Global, outcome: Outcome, whole: &Outcome) -> Result<Ve
     outcome.summary(alloc)
 }
 
-/// Which part of the whole output stands on an output that takes so many bytes, and the line of the refusal.
+/// Which part of the whole output stands on an output that takes `left` bytes, and the line of the refusal.
 fn beginning_of(
     alloc: Global,
     outcome: Outcome,
@@ -326,7 +326,7 @@ impl Ranges {
         }
     }
 
-    /// The next command came to this.
+    /// The next command had this summary.
     fn note(&mut self, alloc: Global, summary: Vec<u8>) -> Result<(), AllocError> {
         if summary != self.summary {
             self.tell(alloc)?;
