@@ -26,7 +26,7 @@ impl<A: Allocator> Model for Places<A> {
 }
 
 impl<A: Allocator> Places<A> {
-    /// The places of so many instructions, and the end, without frames.
+    /// The places of `instructions` instructions, and the end, without frames.
     pub fn new(alloc: A, instructions: usize) -> Result<Places<A>, AllocError>
         ensures { IfOk result (λ places. length places ≡ instructions + 1) }
     {

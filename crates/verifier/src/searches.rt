@@ -180,7 +180,7 @@ impl<'a, A: Allocator + Copy, B: Allocator> Search<'a, A, B> {
     }
 
     /// The greatest magnitude that the code's values may have at the distances, which are cut in two
-    /// so many times where some run may meet a fault.
+    /// `depth` times where some run may meet a fault.
     ///
     /// `Fault` and `Undecided` as they say; never `Undecided` where the depth suffices to come to
     /// single distances. `Memory`: an allocation was refused.

@@ -84,7 +84,7 @@ impl<A: Allocator> Verified<A> {
 }
 
 /// Accepts code that gives a value for every two types of the table, at every distance from `core`
-/// to before `cutoff`. The distances are cut into so many slices, and a slice on which some run may
+/// to before `cutoff`. The distances are cut into `slices` slices, and a slice on which some run may
 /// meet a fault, by the spans of the code's values, is cut in two again and again, at most 24 times
 /// deep.
 ///
