@@ -99,7 +99,7 @@ kept_run job state direction steps before after (run.Open failure) h = inl h.1
 kept_run job state direction steps before after (run.Steps f) h = inl h.1
 kept_run job state direction steps before after (run.Out o) h = inr h.1.beginning.failed
 
--- of its frames whole ones may be left where memory is wanted
+-- of its frames whole ones may be left where an allocation is refused
 kept_frames : {A : Type 0} (job state : List ℕ) (direction : Direction) (steps every : ℕ) (before after : Output) (f : RunFault A) → AreFramesUnwritten job state direction steps every before after f
     → IsKept before after ⊎ (run_status f ≡ status.Memory)
 kept_frames job state direction steps every before after (run.Open failure) h = inl (inl h.1)
@@ -138,7 +138,7 @@ kept_faulty words held asked asked' before after f (inl h) = inl (kept_unanswere
 kept_faulty words held asked asked' before after f (inr (c, is, inl h)) = inl (inl h.1)
 kept_faulty words held asked asked' before after f (inr (c, is, inr h)) = kept_refused words held c before after f is h.1
 
--- the status is the fault's, or that of want of memory
+-- the status is the fault's, or that of out of memory
 abbrev HasStatus : {A : Type 0} → CommandFault A → ℕ → Type 0 → Type 0 → Type 0
 HasStatus f result Text Memory = ((result ≡ status_number (status_of f)) × Text) ⊎ ((result ≡ status_number status.Memory) × Memory)
 
@@ -266,7 +266,7 @@ pub line_unwritten : {A : Type 0} (Why Began : Type 0) (text : List ℕ) (before
 line_unwritten Why Began text before after f memory began (inl h) = inl (memory h.0, h.1)
 line_unwritten Why Began text before after f memory began (inr h) = inr (h.0, h.1, began h.2)
 
--- want of memory is told of any text
+-- out of memory is told of any text
 pub slope_memory : {A : Type 0} (job : List ℕ) (f : CommandFault A) → f ≡ fault.Memory → RefusesUnder job RefusesSlope f
 slope_memory job f is = subst (λ g. RefusesUnder job RefusesSlope g) (sym is) (inl tt)
 

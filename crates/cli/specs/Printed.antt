@@ -17,7 +17,7 @@ abbrev pub HasVerdict : (List ℕ → Option (List ℕ)) → List ℕ → Option
 HasVerdict held job None Wrote = OfOne held job (λ j. IsSlopeVerdict j Wrote)
 HasVerdict held job (Some listing) Wrote = OfTwo held job listing.now (λ j l. IsListingVerdict j l Wrote)
 
--- A command has printed what it is for, of the bytes of its files: a started state, the text of a state that so many steps lead to, frames on the way (with `--progress` as without), a
+-- A command has printed what it is for, of the bytes of its files: a started state, the text of a state after n steps, frames on the way (with `--progress` as without), a
 -- state's frame or energy, a verdict, or a listing.
 abbrev pub HasPrinted : (List ℕ → Option (List ℕ)) → Command → Output → Output → Type 0
 HasPrinted held (command.Start start) before after = OfTwo held start.job.now start.gro.now (λ job gro. IsStartText job gro start.frame (Appends before after))

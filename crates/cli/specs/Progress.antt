@@ -32,11 +32,11 @@ abbrev pub PrintsEach : List (List ℕ) → Output → Output → Type 0
 PrintsEach [] before after = after ≡ before
 PrintsEach (text ∷ texts) before after = (between : Output) × PrintsIfCounted before between text × PrintsEach texts between after
 
--- for each of these numbers the line that tells that so many of the steps are made
+-- for each of these numbers the line that tells that as many of the steps are made
 abbrev pub PrintsProgress : (steps : ℕ) → Output → Output → List ℕ → Type 0
 PrintsProgress steps before after counts = PrintsEach (map (progress_line steps) counts) before after
 
--- how far a run of so many steps has come was told at each hundredth; nothing where it isn't to be told
+-- how far a run of n steps has come was told at each hundredth; nothing where it isn't to be told
 abbrev pub TellsAll : Option ℕ → Output → Output → Type 0
 TellsAll None before after = after ≡ before
 TellsAll (Some steps) before after = PrintsProgress steps before after (hundredths steps)
