@@ -71,6 +71,6 @@ module _ {V : Type 0} (k : Numbers V) (inputs : List V) where
       (v s : V) → IsNear (substituted program.0 program.1) (v, s)
       ↔ ((exact_value k inputs (substituted program.0 program.1) ≡ Some v) × (exact_value k inputs (substituted slope.0 slope.1) ≡ Some s))
 
--- each variable of a program is one of so many inputs, each definition that is used a later one, and each power one that there is
+-- each variable of a program is one of `inputs` inputs, each definition that is used a later one, and each power one that there is
 abbrev pub IsScoped : ℕ → Trees → Type 0
 IsScoped inputs program = IsTrue (is_scoped inputs 0 (length program.1) program.0) × IsTrue (are_scoped inputs 0 program.1)

@@ -98,7 +98,7 @@ whole_numbers =
       number = λ z. z;
     }
 
--- a number of a tree, with so many bits behind the point, stands for its raw value over 2^bits
+-- a number of a tree, with `bits` bits behind the point, stands for its raw value over 2^bits
 abbrev pub StandsForFraction : {V : Type 0} → Numbers V → ℕ → ℤ → Type 0
 StandsForFraction k bits z = k.ring.times (k.number z) (whole k.ring (2 ^ bits)) ≡ integer k.ring z
 
