@@ -19,7 +19,7 @@ abbrev pub frames_along : Direction → Frame → Frame → Frames
 frames_along Forward before middle = frames before middle
 frames_along Back before middle = exchanged (frames before middle)
 
--- why so many steps from this counter don't start: it would leave 64 bits, or memory is wanted before the first
+-- why n steps from this counter don't start: it would leave 64 bits, or an allocation is refused before the first
 abbrev pub IsUnstarted : Direction → ℕ → ℤ → StepFault → Type 0
 IsUnstarted direction n counter step.StepRange = counter_after direction counter n ≡ None
 IsUnstarted direction n counter (step.Memory done) = done ≡ 0

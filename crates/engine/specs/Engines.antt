@@ -69,7 +69,7 @@ pub record Went (direction : Direction) (n : ℕ) (before after : EngineView) : 
   pub counted : counter_after direction before.state.step n ≡ Some counter
   pub moved : after ≡ record before { state = moved_state before.state frames' counter }
 
--- where the counter would leave 64 bits nothing is done; where memory is wanted, so many steps are, and not the last (none of none)
+-- where the counter would leave 64 bits nothing is done; where an allocation is refused, as many steps as are told are made, and not the last (none of none)
 abbrev pub Stopped : Direction → ℕ → EngineView → EngineView → StepFault → Type 0
 Stopped direction n before after step.StepRange = (counter_after direction before.state.step n ≡ None) × (after ≡ before)
 Stopped direction n before after (step.Memory done) = (done ≤ n - 1) × Went direction done before after

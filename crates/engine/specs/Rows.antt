@@ -22,7 +22,7 @@ module _ {A : Type 0} (s : System (SafeKernel A) A) where
   abbrev pub found_of : Frame → ℕ × ℕ → Option FoundPair
   found_of frame p = option_map (λ a. record { low = p.0; high = p.1; acting = a }) (acting_of reach_of s.ring (places_of frame p.0) (places_of frame p.1))
 
-  -- its atoms are two of so many, the lower first, and its force is taken within reach
+  -- its atoms are two of `atoms`, the lower first, and its force is taken within reach
   pub record IsFound (atoms : ℕ) (f : FoundPair) : Type 0 where
     pub ordered : f.low < f.high
     pub inside : f.high < atoms
