@@ -43,7 +43,7 @@ mutual
     negative : {n : ℕ} {a : List Placed} {x : Syntax} (at : ℕ) → IsUnary n a x → IsUnary (suc n) ((t.Minus, at) ∷ a) (Negated x)
     power : {n : ℕ} {a : List Placed} {x : Syntax} → IsPower n a x → IsUnary (suc n) a x
 
-  -- with so many levels inside its parentheses
+  -- with n levels inside its parentheses
   pub data IsPower : ℕ → List Placed → Syntax → Type 0 where
     atom : {n : ℕ} {a : List Placed} {x : Syntax} → IsAtom n a x → IsPower n a x
     raised : {n : ℕ} {a b : List Placed} {x : Syntax} {k : ℤ} (at : ℕ) → IsAtom n a x → IsExponent n b k → IsPower n (a ++ ((t.Caret, at) ∷ b)) (Power x k)

@@ -289,7 +289,7 @@ abbrev pub unary_by : (List Placed → Reading) → Reading → Option (List Pla
 unary_by operand other (Some rest) = operand rest >>= λ x. Ok (s.Negated x.0, x.1)
 unary_by operand other None = other
 
--- on so many levels
+-- on n levels
 unfoldable pub unary_at : ℕ → ℕ → List Placed → Reading
 unary_at end zero ts = Err (misplaced end ts)
 unary_at end (suc n) ts =
