@@ -3,7 +3,7 @@ use Rattle.std.specs.Prelude.{◌≡◌, Result, Ok, Err}
 use Rattle.fallible.specs.declared.failure.Failure.{Failure}
 use Rattle.fallible.specs.declared.failure.Failure.TheVariants.{Refused, Memory}
 
--- The input is refused for what the definition says. Want of memory says nothing of the input.
+-- The input is refused for what the definition says. Out of memory says nothing of the input.
 abbrev pub Fails : {Y R S : Type 0} → (R → S) → Failure R → Result Y S → Type 0
 Fails seen (Refused fault) said = said ≡ Err (seen fault)
 Fails seen Memory said = Unit {0}
