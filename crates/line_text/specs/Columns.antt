@@ -9,7 +9,7 @@ use Rattle.line_text.specs.Parts.{◌>>=◌, without_spaces}
 unfoldable pub digits_of : List ℕ → Option ℕ
 digits_of text = if all_ascii_digits text then Some (digits_value 10 text) else None
 
--- one or more digits, a point and so many digits
+-- one or more digits, a point and `places` digits
 unfoldable pub decimals_of : ℕ → List ℕ → Option ℕ
 decimals_of places text = if nat_lt (length text) (places + 2) then None else (
     if slice_index text (length text - (places + 1)) == 46 then (
