@@ -204,7 +204,7 @@ atoms_fail_later : (n k : ℕ) (a : AtomView) (bytes : List ℕ) (e : StateFault
 unfolding atoms_at atom_at
 atoms_fail_later n k a bytes e is failed = rw (field_again n atom_of (atom_line a) a bytes (atom_lacks a is) (atom_again a is)) (bind_err _ _ e failed)
 
--- a text that begins with some atoms of so many, and fails with those that are left, has a cause
+-- a text that begins with some atoms of n, and fails with those that are left, has a cause
 abbrev AtomsCause : List ℕ → ℕ → StateFault → ℕ → Type 0
 AtomsCause box count e k = (n lines : ℕ) (first : List AtomView) (front bytes : List ℕ) → n ≡ suc lines → AreLines lines front → front ≡ box ++ atom_lines first → AllByRecursion IsAtom first
     → length first + k ≡ count → Fails front (atoms_at n k) → atoms_at n k bytes ≡ Err e → IsCause (front ++ bytes) e

@@ -85,7 +85,7 @@ field_at n read bytes = do
 unfoldable pub atom_at : ℕ → List ℕ → Result (AtomView × List ℕ) StateFault
 atom_at n bytes = field_at n atom_of bytes
 
--- so many atoms, the first on line n
+-- this many atoms, the first on line n
 unfoldable pub atoms_at : ℕ → ℕ → List ℕ → Result (List AtomView × List ℕ) StateFault
 atoms_at n zero bytes = Ok ([], bytes)
 atoms_at n (suc k) bytes = do

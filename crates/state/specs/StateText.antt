@@ -20,7 +20,7 @@ pub record AtomView : Type 0 where
   pub previous : Place3
   pub current : Place3
 
--- a state; its numbers have so many bits behind the point, and its sides are three numbers, x, y and z
+-- a state; its numbers have the fraction bits `frac`, and its sides are three numbers, x, y and z
 pub record StateView : Type 0 where
   pub title : List ℕ
   pub step : ℤ
