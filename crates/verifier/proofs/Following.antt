@@ -239,6 +239,6 @@ pub refused_weaker : {R : Type 0} (P Q : R → Type 0) (failure : Failure R) →
 refused_weaker P Q (Refused fault) g h = g fault h
 refused_weaker P Q Memory g h = tt
 
--- want of memory says nothing
+-- out of memory says nothing
 pub refused_memory : {R : Type 0} (P : R → Type 0) (failure : Failure R) → failure ≡ Memory → IfRefused failure P
 refused_memory P failure e = rw e tt

@@ -75,7 +75,7 @@ pub record IsSafe (code : List Instr) (t : Table) (types : ℕ) (core cutoff : �
 abbrev pub input_count : Table → ℕ
 input_count t = 2 * t.parameters + length t.globals + 1
 
--- on the inputs of these types at this distance the code gives a value, of at most this magnitude, in at most so many
+-- on the inputs of these types at this distance the code gives a value, of at most this magnitude, in at most `steps`
 -- instructions
 pub record GivesInSteps (code : List Instr) (t : Table) (a b : ℕ) (r : ℤ) (steps bound : ℕ) : Type 0 where
   pub value : ℤ
@@ -85,7 +85,7 @@ pub record GivesInSteps (code : List Instr) (t : Table) (a b : ℕ) (r : ℤ) (s
   pub small : unsigned_abs value ≤ bound
 
 -- so it does for every two types at each distance from core to before cutoff; no path misses anything, and the longest
--- has so many instructions
+-- has `steps` instructions
 pub record IsCertified (code : List Instr) (t : Table) (core cutoff : ℤ) (steps bound : ℕ) : Type 0 where
   pub each : (a b : ℕ) (r : ℤ) → a < length t.rows → b < length t.rows → core ≤ℤ r → r <ℤ cutoff → GivesInSteps code t a b r steps bound
   pub longest : IsLongest code steps

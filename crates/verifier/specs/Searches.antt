@@ -10,7 +10,7 @@ use Rattle.verifier.specs.Slices.{AreEnoughLocals}
 use Rattle.verifier.specs.Safety.{GivesWithin, input_count}
 use Rattle.verifier.specs.Verdicts.{Range}
 
--- a code under a table, the distances from core to before cutoff in so many slices, how often one is cut, and how many
+-- a code under a table, the distances from core to before cutoff in n slices, how often one is cut, and how many
 -- locals are followed
 pub record Searched : Type 0 where
   pub code : List Instr
