@@ -9,7 +9,7 @@ use Rattle.trajectory.specs.Watching.{SomeHundredths, hundredths}
 use Rattle.cli.specs.Reports.{IsReported, Prints}
 use Rattle.cli.specs.declared.faults.CommandFault.{CommandFault}
 
--- the line that tells that so many of the steps are made
+-- the line that tells that `made` of the steps are made
 abbrev pub progress_line : (steps made : ℕ) → List ℕ
 progress_line steps made = codes "pairmd: " ++ decimal made ++ codes " of " ++ decimal steps ++ codes " steps\n"
 
