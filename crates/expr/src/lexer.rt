@@ -102,7 +102,7 @@ fn token_at<'a>(frac: Frac, text: &'a [u8]) -> Result<(Kind<'a>, &'a [u8]), Wron
     }
 }
 
-// What is wrong, as the fault at a place.
+// The fault at a place.
 fn wrong_at<A: Allocator>(wrong: Wrong, at: usize) -> ExprFault<A>
     ensures { refusal_of result ≡ refusal_at at wrong }
 {

@@ -175,7 +175,7 @@ fn start_of(kind: Kind<'_>) -> Option<OperandStart<'_>>
     }
 }
 
-// What an atom begins with, and the tokens after that.
+// The beginning of an atom, and the tokens after it.
 fn read_start<'a>(tokens: &'a [Token<'a>]) -> Option<(OperandStart<'a>, &'a [Token<'a>])>
     ensures { ShowsStart result (start (placed tokens.now)) }
 {
