@@ -149,7 +149,7 @@ pub fn slope_code<A: Allocator + Copy>(
 ) -> Result<Code<A>, Failure<ExprFault<A>>>
     // Which answer it is.
     ensures exact { Gives (λ code. code) refusal_of result (slope_code_of (job_value job.now)) }
-    // What the code gives.
+    // The value of the code.
     ensures computes { IfOk result (IsSlopeCode (job_value job.now)) }
 {
     let parts = job_slope(alloc, job)?;
