@@ -14,7 +14,7 @@ use fallible::Failure;
 use kernel_code::{Code, Instr};
 use std::alloc::Allocator;
 
-/// Follows the paths that come to the place `here` by its instruction.
+/// Follows the paths that reach the place `here` by its instruction.
 fn follow(
     code: &[Instr],
     here: usize,
@@ -59,7 +59,7 @@ fn judge_end(end: &Meeting, len: usize) -> Result<u32, Misfit>
 ///
 /// Otherwise the lowest place that is wrong decides. `Malformed` where a path lacks an operand, a local or an input,
 /// where paths meet with stacks of different heights, or at the end, the place that is the code's length, where a path
-/// has other than one value; else `DepthOver64` where a path pushes a 65th value. Instructions that no path comes to
+/// has other than one value; else `DepthOver64` where a path pushes a 65th value. Instructions that no path reaches
 /// are passed over. `Memory`: an allocation was refused.
 pub fn longest_path<A: Allocator, B: Allocator>(
     alloc: A,

@@ -1,4 +1,4 @@
-//! How the paths that come to a place stand there.
+//! Meetings of the paths that reach a place.
 
 ghost use Rattle.std.specs.Prelude.{◌≡◌, ◌<◌, false, replicate, length, slice_index_or, slice_set};
 ghost use Rattle.kernel_paths.specs.Meetings.{IsJoin, IsJoinAt};
@@ -31,7 +31,7 @@ impl Shape {
     }
 }
 
-/// The paths that come to a place.
+/// The paths that reach a place.
 #[derive(Clone, Copy)]
 pub enum Meeting {
     /// There are none.
