@@ -86,7 +86,7 @@ impl ActingPair {
     }
 }
 
-/// A length along an axis in 2^40 of its units, some 0.0026 nm, rounded down: where so many places lie between two on a ring of this side.
+/// A length along an axis in 2^40 of its units, some 0.0026 nm, rounded down: where n places lie between two on a ring of this side.
 fn coarse_length(places: u32, side: Side) -> u32
     requires { places ≤ 2 ^ 31 }
     ensures below { result * 2 ^ 40 ≤ places * side }
