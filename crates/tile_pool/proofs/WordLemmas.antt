@@ -51,7 +51,7 @@ words_told found told n m xs are len same = record {
   each = λ k lt. are.each k (omega arith) ∙ ap (cast_signed w64) (same k lt);
 }
 
--- words that are made all zero, for so many atoms
+-- words that are made all zero, for n atoms
 pub zero_words : (words items : List ℕ) (atoms same : ℕ) → words ≡ items → items ≡ replicate (3 * atoms + 1) zero → same ≡ atoms → words ≡ replicate (3 * same + 1) zero
 zero_words words items atoms same shown made e = shown ∙ (made ∙ ap (λ (n : ℕ). replicate (3 * n + 1) zero) (sym e))
 
