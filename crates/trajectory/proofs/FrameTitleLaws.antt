@@ -19,7 +19,7 @@ abbrev pub sign : ℤ → List ℕ
 sign (pos n) = []
 sign (negsuc n) = 45 ∷ []
 
--- so many fs in ps, with five decimals
+-- n fs in ps, with five decimals
 abbrev pub picoseconds : ℕ → List ℕ
 picoseconds n = decimal (n / 1000) ++ 46 ∷ zeros_in 5 (decimal (n % 1000 * 100))
 

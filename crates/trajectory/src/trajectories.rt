@@ -1,4 +1,4 @@
-//! Trajectories from bytes to bytes: the frames of a run, every so many steps.
+//! Trajectories from bytes to bytes: the frames of a run, one every k steps.
 
 ghost use Rattle.std.specs.Prelude.{◌≡◌, ◌<◌, ◌≤◌, ◌+◌, ◌-◌, ◌*◌, ◌/◌, ◌^◌, ℕ, suc, is_none, false, IfOk, OnOk, IfErr};
 ghost use Rattle.gro.specs.Frames.{frame_view};
