@@ -578,6 +578,6 @@ unset_none zero k = refl
 unset_none (suc n) zero = refl
 unset_none (suc n) (suc k) = unset_none n k
 
--- a frame with nothing on its stack, and none of so many locals set, is the start's
+-- a frame with nothing on its stack, and none of n locals set, is the start's
 pub is_start : (count : ℕ) (frame : SpanFrameView) → IsUnset count frame → IsStart frame
 is_start count frame u = record { stack = u.stack; unset = λ k. ap (λ (l : List (Option Span)). slice_index_or l k None) u.locals ∙ unset_none count k }

@@ -36,7 +36,7 @@ fn clear<A: Allocator>(code: &[Instr], places: &mut Places<A>)
     }
 }
 
-/// Follows the runs that come to the place `here` by its instruction.
+/// Follows the runs that reach the place `here` by its instruction.
 fn pass<A: Allocator + Copy>(
     alloc: A,
     frac: Frac,

@@ -106,7 +106,7 @@ pub fn verify<A: Allocator, B: Allocator>(
     ensures table { IfOk result (λ v. v.table ≡ table) }
     ensures core { IfOk result (λ v. v.core ≡ core) }
     ensures cutoff { IfOk result (λ v. v.cutoff ≡ cutoff) }
-    // What a refusal says of the code's runs and paths.
+    // The meaning of a refusal, for the code's runs and paths.
     ensures refused { IfErr result (λ failure. IfRefused failure (IsRefusal code table core cutoff (slices * 2 ^ 24))) }
     // The bound, and the refusal: which there is, is the definition's.
     ensures bound { IfOk result (λ v. IsVerdict code table (range core cutoff slices 24) (Ok v.bound)) }
