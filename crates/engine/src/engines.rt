@@ -107,7 +107,7 @@ fn motion<A: Allocator>(
     SafeSystem { system }
 }
 
-/// The system of a state's atoms under a job; refused where a force on one of them might not fit 64 bits.
+/// The system of a state's atoms under a job, or the engine's fault: `ForceRange` where a force on one of them might not fit 64 bits.
 fn job_motion<A: Allocator + Copy>(
     alloc: A,
     job: &Job<A>,
