@@ -122,7 +122,7 @@ same_here x y e = grind (arith, nat_tests)
 pub same_else : (x y : ℕ) → x ≢ y → same x y ≡ 0
 same_else x y ne = grind (arith, nat_tests)
 
--- what is nothing but at one number
+-- the sum of a function that is 0 but at one number
 pub sum_below_one : (f : ℕ → ℕ) (a n : ℕ) → ((c : ℕ) → c ≢ a → f c ≡ 0) → sum_by f (numbers_below n) ≡ cond (ltb a n) (f a) 0
 sum_below_one f a zero h = sum_below_zero f ∙ grind (arith, nat_tests)
 sum_below_one f a (suc n) h =

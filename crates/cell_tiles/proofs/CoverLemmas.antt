@@ -38,7 +38,7 @@ count_members bits frame n a c =
 
 -- ---- how often a pair stands in a tile
 
--- what two atoms come to in a tile, of which the first is in the cells by x and the second by y
+-- the count of two atoms in a tile, of which the first is in the cells by x and the second by y
 abbrev in_tile : ℕ → ℕ → (ℕ → ℕ) → (ℕ → ℕ) → ℕ
 in_tile c d x y = cond (eqb c d) (x c * y c) (x c * y d + y c * x d)
 
@@ -121,7 +121,7 @@ over_tiles bits f =
         sum_map f (λ c. (c, d)) (filter (λ c. are_near bits c d) (numbers_below (suc d)))
         ∙ sum_filter (λ c. f (c, d)) (λ c. are_near bits c d) (numbers_below (suc d))
 
--- what is nothing on each tile
+-- the sum of a function that is 0 on each tile
 pub no_tiles : (bits : CellBits) (f : ℕ × ℕ → ℕ) → ((c d : ℕ) → c < cells_of bits → d < cells_of bits → f (c, d) ≡ 0) → sum_by f (tiles_of bits) ≡ 0
 no_tiles bits f h =
     over_tiles bits f
@@ -137,7 +137,7 @@ no_tiles bits f h =
         sum_below_same (λ c. cond (are_near bits c d) (f (c, d)) 0) (λ _. 0) (suc d) (λ c le. nothing (are_near bits c d) (f (c, d)) (h c d (omega arith) lt))
         ∙ sum_nothing (λ _. 0) (numbers_below (suc d)) (λ _. refl)
 
--- what is 1 on the tile of the cells p and q, p the lower, and nothing on others
+-- the sum of a function that is 1 on the tile of the cells p and q, p the lower, and 0 on others
 pub one_tile : (bits : CellBits) (f : ℕ × ℕ → ℕ) (p q : ℕ) → p ≤ q → q < cells_of bits → ((c d : ℕ) → c ≤ d → d < cells_of bits → f (c, d) ≡ same p c * same q d) → sum_by f (tiles_of bits) ≡ cond (are_near bits p q) 1 0
 one_tile bits f p q le below h =
     over_tiles bits f

@@ -94,7 +94,7 @@ module _ (marks : List Bool) (numbers : List ℕ) (near row : ℕ) (written : ta
   pub number_below : (e : ℕ) → e < near → get_or numbers e 0 < row
   number_below e lt = (number_at e lt).below
 
-  -- the first so many are the marked ones below r
+  -- the first `taken` are the marked ones below r
   pub record IsReached (taken r : ℕ) : Type 0 where
     pub within : r ≤ row
     pub past : taken ≤ r

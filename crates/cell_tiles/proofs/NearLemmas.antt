@@ -99,7 +99,7 @@ pub row_passed : (ps row rest : List (ℕ × ℕ)) (next seen : ℕ) → drop ne
 row_passed ps row rest next seen here all =
     sym (sym (drop-drop seen next ps) ∙ (ap (drop seen) here ∙ (drop-append-le seen row rest (omega arith) ∙ ap (λ ys. ys ++ rest) (drop_all seen row (omega arith)))))
 
--- what holds of all pairs from a number on holds of a row there
+-- a property of all pairs from a number on is one of a row there
 pub row_all : (P : ℕ × ℕ → Type 0) (ps row rest : List (ℕ × ℕ)) (next : ℕ) → All P ps → drop next ps ≡ row ++ rest → All P row
 row_all P ps row rest next all here =
     let behind : All P (row ++ rest) = subst (All P) here (All-drop P next ps all) in

@@ -52,7 +52,7 @@ module _ {T : Type 0} (view : T → List ℕ) where
   pub length_seen : (xs : List T) (ms : List (List ℕ)) (n : ℕ) → map view xs ≡ ms → length ms ≡ n → length xs ≡ n
   length_seen xs ms n e l = sym (length-map xs view) ∙ (ap length e ∙ l)
 
-  -- what holds of each list holds of what is seen as it
+  -- a property of each list is one of each value that is seen as it
   pub all_seen : (P : List ℕ → Type 0) (xs : List T) (ms : List (List ℕ)) → map view xs ≡ ms → All P ms → All (λ x. P (view x)) xs
   all_seen P xs ms e all k d lt =
       let l : length (map view xs) ≡ length xs = length-map xs view in

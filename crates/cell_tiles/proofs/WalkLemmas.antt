@@ -40,7 +40,7 @@ row_columns true xs ys row column k p h =
     (p.1.0, omega arith)
 row_columns false xs ys row column k p h = (p.0, omega arith)
 
--- what is left of a row isn't more than what is left of the pairs
+-- the rest of a row isn't more than the rest of the pairs
 row_within : (one : Bool) (xs ys : List ℕ) (row column k : ℕ) → IsPlaceOf one xs ys row column k → k < length (pairs_over one xs ys) → k + (width_of one ys row - column) ≤ length (pairs_over one xs ys)
 row_within true xs ys row column k p h =
     let r : row < length xs = place_row true xs ys row column k p h in
@@ -101,7 +101,7 @@ walk_columns {one} {xs} {ys} {row} {column} {width} {left} w h =
     let l : left ≤ length (pairs_over one xs ys) = w.within in
     rw w.width_is (row_columns one xs ys row column (length (pairs_over one xs ys) - left) (w.place h) (omega arith))
 
--- what is left of the row isn't more than what is left of the walk
+-- the rest of the row isn't more than the rest of the walk
 pub walk_within : {one : Bool} {xs ys : List ℕ} {row column width left : ℕ} → IsWalk one xs ys row column width left → 0 < left → width - column ≤ left
 walk_within {one} {xs} {ys} {row} {column} {width} {left} w h =
     let l : left ≤ length (pairs_over one xs ys) = w.within in

@@ -64,7 +64,7 @@ members_of bits frame = first_members bits frame (length frame)
 abbrev pub member_places : List Place3 → List (List ℕ) → List (List Place3)
 member_places frame members = map (map (places_of frame)) members
 
--- what cells hold: how the box is cut, the atoms of each cell, and beside each atom its places
+-- the atoms of the cells: how the box is cut, the atoms of each cell, and beside each atom its places
 pub record CellAtoms : Type 0 where
   pub bits : CellBits
   pub members : List (List ℕ)

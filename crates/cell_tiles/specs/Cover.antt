@@ -1,4 +1,4 @@
--- What the tiles come to: each pair of atoms that lie in one cell or in neighbouring cells stands in one tile, once, and no other pair stands in any.
+-- The cover of the tiles: each pair of atoms that lie in one cell or in neighbouring cells stands in one tile, once, and no other pair stands in any.
 use Rattle.std.specs.Prelude.{◌≡◌, ℕ, ◌==◌, Bool, false, ◌&&◌, nat_lt, if◌then◌else◌, List, length, sum_by, count_by}
 use Rattle.ring_box.specs.Cells.{are_neighbours}
 use Rattle.ring_box.specs.declared.vectors.CellBits.{CellBits}
@@ -33,7 +33,7 @@ Covers bits frame = (p : ℕ × ℕ)
 abbrev pub ArePairs : ℕ → List (ℕ × ℕ) → Type 0
 ArePairs n ps = (p : ℕ × ℕ) → times p ps ≡ (if is_pair n p then 1 else 0)
 
--- What is nothing for atoms that are not close comes to the same over the tiles as over all pairs.
+-- The sum over the tiles equals that over all pairs, for each amount that is 0 for atoms that are not close.
 abbrev pub SumsAsAll : CellBits → List Place3 → Type 0
 SumsAsAll bits frame = (f : ℕ × ℕ → ℕ) (pairs : List (ℕ × ℕ)) → ArePairs (length frame) pairs
     → ((p : ℕ × ℕ) → are_close bits frame p ≡ false → f p ≡ 0)

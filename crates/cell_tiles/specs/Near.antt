@@ -23,7 +23,7 @@ pub record AreNear (d : Reach) (b : RingBox) (frame : List Place3) (pairs : List
   pub within : n ≤ length pairs
   pub acting : those_acting d b frame (drop k pairs) ≡ those_acting d b frame near ++ those_acting d b frame (drop n pairs)
 
--- the numbers of those that are marked, of the first so many
+-- the numbers below this one of those that are marked
 unfoldable pub marked : List Bool → ℕ → List ℕ
 marked marks zero = []
 marked marks (suc j) = if slice_index_or marks j false then marked marks j ++ (j ∷ []) else marked marks j

@@ -21,14 +21,14 @@ abbrev pub IsPlaceOf : Bool → List ℕ → List ℕ → ℕ → ℕ → ℕ �
 IsPlaceOf true xs ys row column k = (ys ≡ xs) × ((column < row) × (2 * k + row ≡ row * row + 2 * column))
 IsPlaceOf false xs ys row column k = (column < length ys) × (k ≡ row * length ys + column)
 
--- a walk with so many pairs left stands at the first of them
+-- a walk with `left` pairs left stands at the first of them
 pub record IsWalk (one : Bool) (xs ys : List ℕ) (row column width left : ℕ) : Type 0 where
   pub few : length xs ≤ 65536
   pub within : left ≤ length (pairs_over one xs ys)
   pub width_is : width ≡ width_of one ys row
   pub place : 0 < left → IsPlaceOf one xs ys row column (length (pairs_over one xs ys) - left)
 
--- what is left of a tile: its pairs, and the atoms of its second cell, of which the rows are cut
+-- the rest of a tile: its pairs, and the atoms of its second cell, of which the rows are cut
 pub record Walk : Type 0 where
   pub pairs : List (ℕ × ℕ)
   pub others : List ℕ

@@ -1,4 +1,4 @@
-//! What the tiles come to.
+//! Law of the tiles: their sums are those over all pairs of close atoms.
 
 ghost use Rattle.std.specs.Prelude.{List};
 ghost use Rattle.std.specs.List.{All};
@@ -14,7 +14,7 @@ pub fn each_pair_once()
     ensures { (bits : CellBits) (frame : List Place3) → IsGrid bits → All ArePlaces frame → Covers bits frame }
 {}
 
-/// What is nothing for atoms that are not close comes to the same over the tiles as over all pairs of atoms.
+/// Sum over the tiles: equal to the sum over all pairs of atoms, for each amount that is 0 for atoms that are not close.
 pub fn sums_as_all()
     ensures { (bits : CellBits) (frame : List Place3) → IsGrid bits → All ArePlaces frame → SumsAsAll bits frame }
 {}

@@ -46,7 +46,7 @@ fn together(count: usize) -> usize
     count.min(128)
 }
 
-/// Writes the numbers of those that are marked, of the first so many, one behind the other, and tells how many they are. Each number is written, and counted where
+/// Writes the numbers of those that are marked, of the first `row`, one behind the other, and tells how many they are. Each number is written, and counted where
 /// it's marked, so that no branch has to be foreseen.
 fn near_numbers(marks: &[bool; 128], row: usize, numbers: &mut [u8; 128]) -> usize
     requires { row ≤ 128 }

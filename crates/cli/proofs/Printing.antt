@@ -1,4 +1,4 @@
--- What a whole write has printed.
+-- Laws of whole writes: the text is printed.
 use Rattle.std.proofs.Common.{◌≡◌, ◌≢◌, ℕ, List, inl, inr, refl}
 use Rattle.std.specs.Prelude.{Result, Ok, Err}
 use Rattle.fallible.specs.Out.{Output, Writes}

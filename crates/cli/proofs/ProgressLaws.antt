@@ -1,4 +1,4 @@
--- What was printed of how far a run has come, and what is printed in all.
+-- Laws of progress: the lines that a run has printed, and those that it prints in all.
 use Rattle.std.proofs.Common.{◌≡◌, ◌<◌, ◌-◌, ◌^◌, ℕ, List, Option, Some, None, arith, inl, inr, refl, subst, sym}
 use Rattle.std.specs.Prelude.{OnErr, OnOk, Result, Ok, Err}
 use Rattle.fallible.specs.Out.{Output}
@@ -24,7 +24,7 @@ begun : (words : List (List ℕ)) (c : Command) (steps : Option ℕ) (before aft
 begun words c None before after e is told = inl told
 begun words c (Some steps) before after e is told = inr (c, steps, is, e, told)
 
--- what a command has told that was not done is what its words begin with
+-- the progress that a command which was not done has told begins what its words print
 pub begun_by_words : {T E : Type 0} (r : Result T E) (words : List (List ℕ)) (c : Command) (before after : Output) → IsCommand words c
     → OnErr r (TellsSome (told_of c) before after) → OnErr r (IsBegun words before after)
 begun_by_words (Ok x) words c before after is told = tt
@@ -35,7 +35,7 @@ pub on_ok_both : {T E : Type 0} (r : Result T E) (P Q : Type 0) → OnOk r P →
 on_ok_both (Ok x) P Q p q = (p, q)
 on_ok_both (Err e) P Q p q = tt
 
--- what a command has told that was done is all that its words print
+-- the progress that a command which was done has told is all that its words print
 pub quiet_by_words : {T E : Type 0} (r : Result T E) (words : List (List ℕ)) (c : Command) (before after : Output) → IsCommand words c
     → OnOk r (TellsAll (told_of c) before after) → OnOk r (IsQuiet words before after)
 quiet_by_words (Ok x) words c before after is told = inr (c, is, told)

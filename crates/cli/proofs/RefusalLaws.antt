@@ -1,4 +1,4 @@
--- What follows from why a command was not done: which files it asked for, what is left of its output, and what its status tells.
+-- Laws of refused commands: which files they asked for, what is left of their output, and what their status tells.
 use Rattle.std.proofs.Common.{◌≡◌, ◌≢◌, ◌⊎◌, ◌∙◌, ◌<◌, ◌-◌, ◌^◌, ℕ, List, Option, Some, None, ap, arith, inl, inr, refl, subst, sym}
 use Rattle.std.specs.Borrow.{Bor}
 use Rattle.command_line.specs.CommandLine.{AsksForHelp, AsksForTrajectory, AsksForVersion, IsCommand, IsMisuse, faults_of}
@@ -71,7 +71,7 @@ asks_undone : {A : Type 0} (held : List ℕ → Option (List ℕ)) (asked asked'
 asks_undone held asked asked' c before after f (inl h) = asks_without_bytes held c asked asked' f h.0
 asks_undone held asked asked' c before after f (inr h) = asks_all c asked asked' h.0
 
--- what is asked for where the words' wish was done, and where it was not
+-- the files that are asked for where the words were carried out, and where they were not
 pub asks_done : (words : List (List ℕ)) (held : List ℕ → Option (List ℕ)) (asked asked' : Paths) (before after : Output) → IsDone words held asked asked' before after
     → (asked' ≡ asked) ⊎ ((c : Command) × IsCommand words c × AsksFor c asked asked')
 asks_done words held asked asked' before after (inl h) = inl h.1
@@ -99,7 +99,7 @@ kept_run job state direction steps before after (run.Open failure) h = inl h.1
 kept_run job state direction steps before after (run.Steps f) h = inl h.1
 kept_run job state direction steps before after (run.Out o) h = inr h.1.beginning.failed
 
--- of its frames whole ones may be left where memory is wanted
+-- of its frames whole ones may be left where an allocation is refused
 kept_frames : {A : Type 0} (job state : List ℕ) (direction : Direction) (steps every : ℕ) (before after : Output) (f : RunFault A) → AreFramesUnwritten job state direction steps every before after f
     → IsKept before after ⊎ (run_status f ≡ status.Memory)
 kept_frames job state direction steps every before after (run.Open failure) h = inl (inl h.1)
@@ -112,7 +112,7 @@ kept_verdict : {A : Type 0} (held : List ℕ → Option (List ℕ)) (job : List 
 kept_verdict held job None before after f h = kept_unwritten _ _ before after f h.2 (λ b. b.written.failed)
 kept_verdict held job (Some listing) before after f h = kept_unwritten _ _ before after f h.4 (λ b. b.written.failed)
 
--- what a command leaves that was refused: a trajectory may leave whole frames where memory is wanted
+-- the output of a command that was refused: a trajectory may leave whole frames where an allocation is refused
 kept_refused : {A : Type 0} (words : List (List ℕ)) (held : List ℕ → Option (List ℕ)) (c : Command) (before after : Output) (f : CommandFault A) → IsCommand words c
     → IsCommandRefused held c before after f → IsKept before after ⊎ ((status_of f ≡ status.Memory) × AsksForTrajectory words)
 kept_refused words held (command.Start start) before after f is h = inl (kept_unwritten _ _ before after f h.4 (λ b. b.written.failed))
@@ -138,7 +138,7 @@ kept_faulty words held asked asked' before after f (inl h) = inl (kept_unanswere
 kept_faulty words held asked asked' before after f (inr (c, is, inl h)) = inl (inl h.1)
 kept_faulty words held asked asked' before after f (inr (c, is, inr h)) = kept_refused words held c before after f is h.1
 
--- the status is the fault's, or that of want of memory
+-- the status is the fault's, or that of out of memory
 abbrev HasStatus : {A : Type 0} → CommandFault A → ℕ → Type 0 → Type 0 → Type 0
 HasStatus f result Text Memory = ((result ≡ status_number (status_of f)) × Text) ⊎ ((result ≡ status_number status.Memory) × Memory)
 
@@ -184,7 +184,7 @@ bytes_of_words held (command.Energy energy) before after f of_words h = two_of_w
 bytes_of_words held (command.Check check) before after f of_words h = some_of_words held _ check.listing _ _ f of_words h
 bytes_of_words held (command.Code l) before after f of_words h = unread_of_words held _ _ _ f of_words h
 
--- what texts are refused for isn't a fault of the words, nor is a failed output
+-- a refusal of texts isn't a fault of the words, nor is a failed output
 unwritten_of_words : {A : Type 0} (Why Began : Type 0) (before after : Output) (f : CommandFault A) → IsOfWords f → (Why → ⊥) → Unwritten Why Began before after f → ⊥
 unwritten_of_words Why Began before after f of_words none (inl h) = none h.0
 unwritten_of_words Why Began before after f of_words none (inr h) = of_files_alone (fault.Out h.0) file_failed (subst IsOfWords h.1 of_words)
@@ -266,7 +266,7 @@ pub line_unwritten : {A : Type 0} (Why Began : Type 0) (text : List ℕ) (before
 line_unwritten Why Began text before after f memory began (inl h) = inl (memory h.0, h.1)
 line_unwritten Why Began text before after f memory began (inr h) = inr (h.0, h.1, began h.2)
 
--- want of memory is told of any text
+-- out of memory is told of any text
 pub slope_memory : {A : Type 0} (job : List ℕ) (f : CommandFault A) → f ≡ fault.Memory → RefusesUnder job RefusesSlope f
 slope_memory job f is = subst (λ g. RefusesUnder job RefusesSlope g) (sym is) (inl tt)
 

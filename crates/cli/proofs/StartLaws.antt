@@ -25,13 +25,13 @@ picked view frames number f is = record {
   there = ap view is.2 ∙ sym (get_or-map view frames (number - 1) f (view f) (omega (arith, is.0, is.1)));
 }
 
--- a frame that is there is refused for its box, or memory is wanted for its state
+-- a frame that is there is refused for its box, or an allocation is refused for its state
 pub box_refused : (A : Type 0) (gro : List ℕ) (number : ℕ) (job : JobValue) (frames : List FrameView) (frame : FrameView) (failure : Failure BoxFault) → frames_of gro ≡ Ok frames
     → IsFrameOf frames number frame → Fails (λ f. f) failure (start_of_frame job.frac job.time_step frame) → RefusesFrame {A = A} gro number job (command_fault fault.Box failure)
 box_refused A gro number job frames frame (Refused f) gro_read is h = record { frames = frames; frame = frame; gro_read = gro_read; picked = is; refused = h }
 box_refused A gro number job frames frame Memory gro_read is h = tt
 
--- what holds of the error that a result is holds of it, if it is one
+-- a property of the error that a result is holds of it, if it is one
 pub if_err : {T E : Type 0} (r : Result T E) (P : E → Type 0) → IsErrAnd r P → IfErr r P
 if_err (Ok x) P h = tt
 if_err (Err e) P h = h

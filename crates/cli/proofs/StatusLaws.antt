@@ -1,4 +1,4 @@
--- What statuses faults have: none has that of a command that was done, and only those of words have that of the command line.
+-- Laws of statuses: no fault has that of a command that was done, and only those of words have that of the command line.
 use Rattle.std.proofs.Common.{◌≡◌, ◌≢◌, ◌⊎◌, ◌∙◌, ap, arith, inl, inr, refl, sym}
 use Rattle.clap.specs.declared.error.Error.{Error}
 use Rattle.fallible.specs.declared.failure.Failure.TheVariants.{Refused, Memory}
@@ -17,7 +17,7 @@ use Rattle.cli.specs.declared.faults.CommandFault.TheVariants as fault
 use Rattle.cli.specs.declared.faults.Status.{Status}
 use Rattle.cli.specs.declared.faults.Status.TheVariants as status
 
--- the status of a refusal, of want of memory, of a file or of the output
+-- the status of a refusal, of out of memory, of a file or of the output
 abbrev pub IsOfFiles : Status → Type 0
 IsOfFiles s = (s ≢ status.Done) × (s ≢ status.CommandLine)
 
@@ -27,7 +27,7 @@ data_refused = (λ e. cc, λ e. cc)
 kernel_refused : IsOfFiles status.RefusedKernel
 kernel_refused = (λ e. cc, λ e. cc)
 
--- the status of want of memory is neither that of a command that was done nor that of the command line
+-- the status of out of memory is neither that of a command that was done nor that of the command line
 pub memory_wanted : IsOfFiles status.Memory
 memory_wanted = (λ e. cc, λ e. cc)
 

@@ -1,4 +1,4 @@
--- What was written of code that is accepted.
+-- Laws of the lines of accepted code, and of energies.
 use Rattle.std.proofs.Common.{◌≡◌, ℕ, List, Ok, ℤ}
 use Rattle.integrator.specs.Starts.{table_of}
 use Rattle.engine.specs.Verdicts.{IsJudged, IsSlopeKernel}
@@ -43,11 +43,11 @@ listing_verdict job listing said k read code table core cutoff accepted judged s
 
 -- ---- energies
 
--- what an engine of texts tells is the energy of the texts
+-- the energy of an engine of texts is the energy of the texts
 pub energy_told : (job state : List ℕ) (e : EngineView) (z : ℤ) → IsEngineOfTexts job state e → IsEnergy e z → IsEnergyOfTexts job state z
 energy_told job state e z opens is = record { engine = e; opens = opens; is = is }
 
--- what it doesn't tell is refused
+-- an energy that it doesn't tell is refused
 pub energy_untold : {A : Type 0} (job state : List ℕ) (e : EngineView) (failure : Failure (EnergyFault A)) → IsEngineOfTexts job state e → IfRefused failure (HasNoEnergy e) → RefusesEnergy job state (command_fault command.Energy failure)
 energy_untold job state e (Refused f) opens why = record { engine = e; opens = opens; why = why }
 energy_untold job state e Memory opens why = tt

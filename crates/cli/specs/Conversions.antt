@@ -20,7 +20,7 @@ pub record IsFrameOf (frames : List FrameView) (number : ℕ) (frame : FrameView
   pub within : number ≤ length frames
   pub there : frame ≡ slice_index_or frames (number - 1) frame
 
--- the state of so many fraction bits that begins, with this time step, at the frame of this number of this text
+-- the state with these fraction bits that begins, with this time step, at the frame of this number of this text
 pub record IsStartOf (frac : Frac) (time_step : ℕ) (gro : List ℕ) (number : ℕ) (state : StateView) : Type 0 where
   pub frames : List FrameView
   pub frame : FrameView

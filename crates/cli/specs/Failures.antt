@@ -1,4 +1,4 @@
--- What the failures of calls are to a command.
+-- The failures of calls, as faults of a command.
 use Rattle.fallible.specs.declared.failure.Failure.{Failure}
 use Rattle.fallible.specs.declared.failure.Failure.TheVariants.{Refused, Memory}
 use Rattle.cli.specs.declared.faults.CommandFault.{CommandFault}

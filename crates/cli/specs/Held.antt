@@ -1,4 +1,4 @@
--- What files hold, where they tell it.
+-- The bytes of files, where they are told.
 use Rattle.std.specs.Prelude.{◌≡◌, ℕ, List, Option, IfSome}
 
 -- these are the bytes of the file at this path, as far as that is told

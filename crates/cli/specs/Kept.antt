@@ -1,4 +1,4 @@
--- What an output was left with.
+-- Outputs that are left as they were, unless a write failed.
 use Rattle.std.specs.Prelude.{◌≡◌, ◌⊎◌, ◌<◌}
 use Rattle.fallible.specs.Out.{Output}
 

@@ -1,4 +1,4 @@
--- What is printed of how far a run has come.
+-- The lines of progress that are printed of a run.
 use Rattle.std.specs.Prelude.{◌≡◌, ◌⊎◌, ◌≤◌, ◌-◌, ◌*◌, ◌/◌, ◌^◌, ℕ, List, [], ◌∷◌, ◌++◌, Bool, true, false, Option, Some, None, map, codes, decimal}
 use Rattle.std.proofs.Common.{subst}
 use Rattle.fallible.specs.Out.{Output}
@@ -9,7 +9,7 @@ use Rattle.trajectory.specs.Watching.{SomeHundredths, hundredths}
 use Rattle.cli.specs.Reports.{IsReported, Prints}
 use Rattle.cli.specs.declared.faults.CommandFault.{CommandFault}
 
--- the line that tells that so many of the steps are made
+-- the line that tells that `made` of the steps are made
 abbrev pub progress_line : (steps made : ℕ) → List ℕ
 progress_line steps made = codes "pairmd: " ++ decimal made ++ codes " of " ++ decimal steps ++ codes " steps\n"
 
@@ -32,11 +32,11 @@ abbrev pub PrintsEach : List (List ℕ) → Output → Output → Type 0
 PrintsEach [] before after = after ≡ before
 PrintsEach (text ∷ texts) before after = (between : Output) × PrintsIfCounted before between text × PrintsEach texts between after
 
--- for each of these numbers the line that tells that so many of the steps are made
+-- for each of these numbers the line that tells that as many of the steps are made
 abbrev pub PrintsProgress : (steps : ℕ) → Output → Output → List ℕ → Type 0
 PrintsProgress steps before after counts = PrintsEach (map (progress_line steps) counts) before after
 
--- how far a run of so many steps has come was told at each hundredth; nothing where it isn't to be told
+-- how far a run of n steps has come was told at each hundredth; nothing where it isn't to be told
 abbrev pub TellsAll : Option ℕ → Output → Output → Type 0
 TellsAll None before after = after ≡ before
 TellsAll (Some steps) before after = PrintsProgress steps before after (hundredths steps)
@@ -46,17 +46,17 @@ abbrev pub TellsSome : Option ℕ → Output → Output → Type 0
 TellsSome None before after = after ≡ before
 TellsSome (Some steps) before after = SomeHundredths steps (PrintsProgress steps before after)
 
--- what is printed where all is done: of a command how far it has come, if it has `--progress`; else nothing
+-- the error output where all is done: the progress of a command with `--progress`, else nothing
 abbrev pub IsQuiet : List (List ℕ) → Output → Output → Type 0
 IsQuiet words before after = ((AsksForHelp words ⊎ AsksForVersion words) × (after ≡ before))
     ⊎ ((c : Command) × IsCommand words c × TellsAll (told_of c) before after)
 
--- what is printed before a fault's text: of a command with `--progress` how far it had come, else nothing
+-- the error output before a fault's text: the progress of a command with `--progress`, else nothing
 abbrev pub IsBegun : List (List ℕ) → Output → Output → Type 0
 IsBegun words before after = (after ≡ before)
     ⊎ ((c : Command) × (steps : ℕ) × IsCommand words c × (told_of c ≡ Some steps) × SomeHundredths steps (PrintsProgress steps before after))
 
--- what is printed where something was not done: a text, and of a command with `--progress` maybe before it how far it had come
+-- the error output where something was not done: a text, and before it maybe the progress of a command with `--progress`
 abbrev pub Says : List (List ℕ) → Output → Output → List ℕ → Type 0
 Says words before after text = Prints before after text
     ⊎ ((c : Command) × (steps : ℕ) × (between : Output) × IsCommand words c × (told_of c ≡ Some steps)
@@ -66,7 +66,7 @@ Says words before after text = Prints before after text
 abbrev pub IsTold : {A : Type 0} → List (List ℕ) → CommandFault A → ℕ → Output → Output → Type 0
 IsTold words f result before after = IsReported f result (Says words before after)
 
--- what was printed and then was printed
+-- progress that was printed, and then more of it, is progress that was printed
 pub prints_more : (steps : ℕ) (first more : List ℕ) (before between after : Output) → PrintsProgress steps before between first
     → PrintsProgress steps between after more → PrintsProgress steps before after (first ++ more)
 prints_more steps [] more before between after begun ended = subst (λ o. PrintsProgress steps o after more) begun ended

@@ -1,4 +1,4 @@
--- What commands read, and what they say of a file that gave no bytes.
+-- The files that commands read, and the faults of files that gave no bytes.
 use Rattle.std.specs.Prelude.{◌≡◌, ◌⊎◌, ℕ, List, Option, Some, None}
 use Rattle.std.specs.Borrow.{Bor}
 use Rattle.cli.specs.Asked.{also_asked}

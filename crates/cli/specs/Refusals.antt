@@ -1,4 +1,4 @@
--- Why a command was not done: its fault, by what its files hold, and what its output is left with. Want of memory says nothing of the files.
+-- Why a command was not done: its fault, by what its files hold, and what its output is left with. Out of memory says nothing of the files.
 use Rattle.std.specs.Prelude.{◌≡◌, ◌≢◌, ◌⊎◌, ◌<◌, ℕ, List, length, Option, Some, None, Ok, Err}
 use Rattle.std.specs.Borrow.{Bor}
 use Rattle.clap.specs.declared.error.Error.{Error}
@@ -139,7 +139,7 @@ IsEnergyUndone job state before after f = IsTextUnwritten (RefusesEnergy job sta
 abbrev pub IsRunUndone : {A : Type 0} → (job state : List ℕ) → Run → Output → Output → CommandFault A → Type 0
 IsRunUndone {A} job state run before after f = (g : RunFault A) × (f ≡ fault.Run g) × IsRunUnwritten job state run.direction run.steps before after g
 
--- why not all frames of a run were written: where memory is wanted in it whole frames may have been, and a failed output is left with a beginning of them
+-- why not all frames of a run were written: where an allocation is refused in it whole frames may have been, and a failed output is left with a beginning of them
 abbrev pub IsTrajectoryUndone : {A : Type 0} → (job state : List ℕ) → Trajectory → Output → Output → CommandFault A → Type 0
 IsTrajectoryUndone {A} job state t before after f = (g : RunFault A) × (f ≡ fault.Run g) × AreFramesUnwritten job state t.direction t.steps t.every before after g
 
@@ -195,13 +195,13 @@ abbrev pub IsUndone : {A : Type 0} → (List ℕ → Option (List ℕ)) → (ask
 IsUndone held asked_before asked_after c before after f = (HasNoBytes held c asked_before asked_after f × (after ≡ before))
     ⊎ ((asked_after ≡ asked_by asked_before c) × IsCommandRefused held c before after f)
 
--- why an error of the parser was not answered on standard output, by its kind: it is one of words that ask for nothing that there is; or the output failed; or memory was wanted
+-- why an error of the parser was not answered on standard output, by its kind: it is one of words that ask for nothing that there is; or the output failed; or memory ran out
 abbrev pub IsNoAnswer : {A : Type 0} → ErrorKind → Output → Output → CommandFault A → Type 0
 IsNoAnswer kind before after f = ((e : Error) × (f ≡ fault.CommandLine e) × (kind ≢ OutOfMemory) × (kind ≢ DisplayHelp) × (kind ≢ DisplayVersion) × (after ≡ before))
     ⊎ ((o : OutFault) × (f ≡ fault.Out o) × ((kind ≡ DisplayHelp) ⊎ (kind ≡ DisplayVersion)) × (before.failed < after.failed))
     ⊎ ((f ≡ fault.Memory) × (after ≡ before))
 
--- why words that name no command were not answered on standard output: they ask for nothing that there is; or they ask for help or the version, and the output failed; or memory was wanted
+-- why words that name no command were not answered on standard output: they ask for nothing that there is; or they ask for help or the version, and the output failed; or memory ran out
 abbrev pub IsUnanswered : {A : Type 0} → List (List ℕ) → Output → Output → CommandFault A → Type 0
 IsUnanswered words before after f = ((e : Error) × (f ≡ fault.CommandLine e) × IsMisuse words × (after ≡ before))
     ⊎ ((o : OutFault) × (f ≡ fault.Out o) × (AsksForHelp words ⊎ AsksForVersion words) × (before.failed < after.failed))

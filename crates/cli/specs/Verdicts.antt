@@ -1,4 +1,4 @@
--- What is printed of code that is judged, and of energies: from the bytes that are read to those that are printed. How a text went to an output is told by what it is asked to meet.
+-- The lines that are printed of code that is judged, and of energies: from the bytes that are read to those that are printed. How a text went to an output is told by what it is asked to meet.
 use Rattle.std.specs.Prelude.{◌≡◌, ℕ, ℤ, List, ◌++◌, [], ◌∷◌, Ok, codes, decimal}
 use Rattle.std.specs.Fmt.{signed_decimal}
 use Rattle.engine.specs.PairEnergies.{IsEnergyOfTexts}

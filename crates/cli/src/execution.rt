@@ -398,7 +398,7 @@ fn report_if_counted<A: Allocator + Copy, E: Out>(
 
 /// Prints what a fault says, and answers its status.
 ///
-/// Where memory for the text is refused, the fault is want of memory. An output that fails is left with a beginning of the text.
+/// Where memory for the text is refused, the fault is `Memory`. An output that fails is left with a beginning of the text.
 pub fn report<A: Allocator + Copy, E: Out>(alloc: A, fault: &CommandFault<'_, A>, err: &mut E) -> u8
     requires { (E.output err.old).failed < 2 ^ 64 - 1 }
     ensures { IsReported fault.now result (Prints (E.output err.old) (E.output err.new)) }

@@ -16,7 +16,7 @@ pub enum ReadFault {
     Memory,
 }
 
-/// What holds files by their paths.
+/// A store of files, by their paths.
 pub trait Files {
     /// The paths that were asked for so far, in order. The system's own files tell none.
     ghost asked: { Self → Option (List (List ℕ)) };

@@ -54,7 +54,7 @@ pub fn read_all<A: Allocator, R: Read>(alloc: A, reader: &mut R) -> Result<Vec<u
     }
 }
 
-/// A file whose bytes find no memory is want of memory; any other failure is a file that can't be read.
+/// A file whose bytes find no memory is out of memory; any other failure is a file that can't be read.
 fn read_fault(error: &io::Error) -> ReadFault
     ensures { result ≡ read_fault_of (error_kind error.now) }
 {

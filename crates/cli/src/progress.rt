@@ -15,7 +15,7 @@ use std::alloc::Allocator;
 use std::thread::Threads;
 use trajectory::{Watch, watched_run_bytes, watched_trajectory_bytes};
 
-/// Tells an output how far a run of so many steps has come, in a line each time: `pairmd: 1200 of 10000 steps`.
+/// Tells an output how far a run of n steps has come, in a line each time: `pairmd: 1200 of 10000 steps`.
 ///
 /// It takes no memory. A write that fails is passed over.
 #[derive(Drop)]

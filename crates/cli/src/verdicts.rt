@@ -1,4 +1,4 @@
-//! What is printed of a job's code, of other code under a job, and of a state's energy.
+//! The lines that `check` and `energy` print: the verdict on a job's code, or on other code under a job, and a state's energy.
 
 ghost use Rattle.std.specs.Prelude.{◌≡◌, ◌-◌, ◌<◌, ◌^◌, IfErr, IfOk, Ok, OnOk, string_bytes};
 ghost use Rattle.engine.specs.PairEnergies.{IsEnergyOfTexts};

@@ -1,4 +1,4 @@
--- What the parser's contracts say of this program's command line.
+-- Laws of this program's command line, from the parser's contracts.
 use Rattle.std.proofs.Common.{◌≡◌, ◌≢◌, ◌⊎◌, ◌∙◌, ◌<◌, ◌^◌, ℕ, List, [], ◌∷◌, Option, Some, None, MatchOption, ap, refl, sym, subst, true, inl, inr, arith}
 use Rattle.std.proofs.lemmas.Result.{IfOk-weaker}
 use Rattle.std.specs.Prelude.{Result}
@@ -20,7 +20,7 @@ use Rattle.command_line.specs.declared.commands.Command.{Command}
 
 -- ---- building the program
 
--- what stands below another command is told by its shape alone
+-- the commands below another are told by its shape alone
 pub shaped : (built : Result parser.Command AllocError) (app : App) → IsBuilt built app → IsShaped built app.top
 shaped built app is = IfOk-weaker built _ _ (λ c h. (ap (λ (a : App). a.top) h.0, h.1)) is
 
@@ -66,7 +66,7 @@ or_else_none (x ∷ xs) k e none is = cc
 pub faultless_has_kind : (words : List Text) (e : Error) → fault_of program words ≡ [] → kind_of e ≡ MissingRequiredArgument → HasKind (faults_of words) e
 faultless_has_kind words e none is = or_else_none (fault_of program words) MissingRequiredArgument e none is
 
--- what the parser's clauses say of a command that is this program
+-- the parser's clauses, of a command that is this program
 pub program_fails : (a : App) (words : List Text) (e : Error) → a ≡ program
     → (is_simple_and_free a ≡ true → HasKind (fault_of a words) e) → HasKind (fault_of program words) e
 program_fails a words e is fails = subst (λ b. HasKind (fault_of b words) e) is (fails (ap is_simple_and_free is ∙ program_is_free))
@@ -86,7 +86,7 @@ pub silent_names_none : (words : List Text) (said : Option (Text × List Row)) �
     → ((c : Command) → IsNamedOf said c → ⊥) → (c : Command) → IsCommand words c → ⊥
 silent_names_none words said is none c names = none c (subst (λ o. IsNamedOf o c) (sym is) names.1)
 
--- what a fault of the words says that is neither want of memory nor a wish for help or for the version
+-- a fault of the words that is neither out of memory nor a wish for help or for the version is misuse
 pub is_misuse : (words : List Text) (e : Error) → (kind_of e ≢ OutOfMemory) → (kind_of e ≢ DisplayHelp) → (kind_of e ≢ DisplayVersion) → HasKind (faults_of words) e
     → (kind_of e ≡ OutOfMemory) ⊎ ((c : Command) → IsCommand words c → ⊥) → IsMisuse words
 is_misuse words e memory help version (inl h) none = absurd (memory h)
@@ -107,7 +107,7 @@ asks_for_version words e version (inr among) = subst (λ k. IsAmong k (faults_of
 abbrev pub NumberGives : List ℕ → Result ℕ ParseIntError → Type 0
 NumberGives t r = ParsesUnsigned 64 10 t r × ExplainsUnsignedError 10 t r × HasUnsignedDigitsIfOk t r
 
--- what a read of a number gives, by the text that was read
+-- the result of reading a number, by the text that was read
 number_read : (o : Option Text) (r : Option ℕ)
     → (o ≡ None → r ≡ None) → ((t : Text) → o ≡ Some t → ReadsOne NumberGives t r)
     → MatchOption r ((n : ℕ) → n < 2 ^ 64 → ((t : Text) × (o ≡ Some t) × WritesNumber t n) → ⊥)
@@ -124,7 +124,7 @@ number_read (Some t) (Some n) none some =
     let read = some t refl in
     (t, refl, (read.0.0.0, sym read.0.1))
 
--- what `get_one` gives of a number's argument
+-- the result of `get_one` for a number's argument
 pub said_read : (name : Text) (f : Found) (r : Option ℕ) → (one_text f name ≡ None → r ≡ None)
     → ((t : Text) → one_text f name ≡ Some t → ReadsOne NumberGives t r)
     → MatchOption r ((n : ℕ) → n < 2 ^ 64 → SaysNumber name (rows_of f) n → ⊥) (SaysNumber name (rows_of f))

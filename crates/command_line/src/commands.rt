@@ -1,4 +1,4 @@
-//! What the program can be asked for.
+//! The commands of the program.
 
 ghost use Rattle.std.specs.Prelude.{◌≤◌, ◌<◌, ◌^◌};
 
@@ -13,12 +13,12 @@ pub const MAX_STEPS: u64 = 1_000_000_000_000;
 /// The most workers that one command takes.
 pub const MAX_WORKERS: u64 = 64;
 
-/// What the words ask for.
+/// A command, as the words name it.
 #[derive(Clone, Copy)]
 pub enum Command<'a> {
     /// `start`: the state that begins at a frame of a GRO file.
     Start(Start<'a>),
-    /// `run` and `back`: the state after so many steps.
+    /// `run` and `back`: the state after n steps.
     Run(Run<'a>),
     /// `trajectory`: frames of a run as a GRO file.
     Trajectory(Trajectory<'a>),

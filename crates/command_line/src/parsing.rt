@@ -22,7 +22,7 @@ use std::convert::AsStr;
 
 /// The command that the words name. They begin after the program's own name.
 ///
-/// Where they name none, the answer is the parser's own error, and of the kind `DisplayHelp` where they ask for help, `DisplayVersion` where they ask for the version. Want of memory is the kind `OutOfMemory`.
+/// Where they name none, the answer is the parser's own error, and of the kind `DisplayHelp` where they ask for help, `DisplayVersion` where they ask for the version. Out of memory is the kind `OutOfMemory`.
 pub fn parse<'a, S: AsStr>(alloc: Global, words: &'a [S]) -> Result<Command<'a>, Error>
     ensures command { IfOk result (IsCommand (map S.text words.entry.now)) }
     ensures none { IfErr result (λ e. (kind_of e ≡ OutOfMemory)

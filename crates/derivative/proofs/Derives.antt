@@ -13,7 +13,7 @@ use Rattle.derivative.proofs.Bool.{left_of, right_of}
 use Rattle.derivative.proofs.Readings.{Reads, free_slope}
 use Rattle.derivative.proofs.Table.{free_put, from_uses}
 
--- What is put in a written tree.
+-- Substitution in a written tree.
 module _ (new : ℕ → Tree) where
   put_unless : (b : Bool) (x : Tree) → put new (unless_free b x) ≡ unless_free b (put new x)
   put_unless true x = refl
@@ -48,7 +48,7 @@ module _ (new : ℕ → Tree) where
   put_power bits (pos n) u du = put_if (n == 1) du _
   put_power bits (negsuc m) u du = refl
 
--- What a use stood for (`old`), and what it and its slope stand for now (`new`).
+-- The meaning of a use before (`old`), and of it and its slope now (`new`).
 pub record Follows {V : Type 0} (on : Operations V) (value : Tree → Option V) (free : ℕ → Bool) (n first : ℕ) (new old : ℕ → Tree) : Type 0 where
   pub is_free : (j : ℕ) → first ≤ j → j < n → free j ≡ is_free_of_distance (old j)
   pub same : (j : ℕ) → first ≤ j → j < n → new (n + j) ≡ old j
@@ -89,7 +89,7 @@ module _ {V : Type 0} (bits : ℕ) (on : Operations V) (value : Tree → Option 
   at_use j true h e = reads.zero ∙ sym (free_slope on value (old j) (sym h))
   at_use j false h e = e
 
-  -- what is written for a tree's slope has that slope as its value
+  -- the tree that is written for a tree's slope has that slope as its value
   pub slope_value : (e : Tree) → IsTrue (is_scoped count first n e) → value (put new (slope_tree bits free n e)) ≡ slope_by on value (put old e)
   slope_value (Number z) h = reads.zero
   slope_value (Input i) h = value_input (i == 0)

@@ -21,7 +21,7 @@ use Rattle.derivative.proofs.DualSound.{constant_slope, sound}
 module _ {V : Type 0} (k : Numbers V) (h : AreExact k) (inputs : List V) where
   open k.ring use {zero as o, one as i, plus, times, negative as neg}
 
-  -- what is to be shown of a tree
+  -- the claim on a tree: the dual number of its value and its slope is near it
   abbrev IsComplete : Tree → Type 0
   IsComplete t = (v s : V) → exact_value k inputs t ≡ Some v → exact_slope k inputs t ≡ Some s → IsNear k inputs t (v, s)
 

@@ -122,7 +122,7 @@ module _ {V : Type 0} (k : Numbers V) (h : AreExact k) where
   pub base_not_zero : (m : ℕ) (x : V) → power k.ring x (suc m) ≢ o → x ≢ o
   base_not_zero m x some e = some (ap (times (power k.ring x m)) e ∙ ring.times_zero k.ring h.is_ring (power k.ring x m))
 
-  -- what has a reciprocal is not 0
+  -- a number with a reciprocal is not 0
   pub divisor_not_zero : (y p : V) → times y p ≡ i → p ≢ o
   divisor_not_zero y p e ep = one_not_zero k h (sym e ∙ ap (times y) ep ∙ ring.times_zero k.ring h.is_ring y)
 

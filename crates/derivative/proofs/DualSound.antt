@@ -1,4 +1,4 @@
--- What a tree is near a distance has its value and its slope.
+-- Soundness of dual numbers: a tree's value near a distance has its value and its slope.
 use Rattle.std.proofs.Common.{◌≡◌, ◌≢◌, ℕ, suc, ℤ, pos, negsuc, true, false, ◌&&◌, List, Option, Some, refl, sym, ap, ◌∙◌}
 use Rattle.std.proofs.lemmas.Option.{same_Some}
 use Rattle.energy_program.specs.declared.trees.Operator.{Operator}
@@ -22,7 +22,7 @@ module _ {V : Type 0} (k : Numbers V) (inputs : List V) where
   pub constant_slope : (t : Tree) (s : V) → exact_slope k inputs t ≡ Some s → is_free_of_distance t ≡ true → s ≡ o
   constant_slope t s e free = same_Some s o (sym e ∙ free_slope (exact k) (exact_value k inputs) t free)
 
-  -- what is to be shown of a tree
+  -- the claim on a tree: a dual number that it is near has its value and its slope
   pub record Sound (t : Tree) (x : V × V) : Type 0 where
     pub value : exact_value k inputs t ≡ Some x.0
     pub slope : exact_slope k inputs t ≡ Some x.1

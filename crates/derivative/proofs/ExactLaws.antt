@@ -31,7 +31,7 @@ pub unless : {V : Type 0} (o : V) (b : Bool) (s : V) → (b ≡ true → s ≡ o
 unless o true s e = ap Some (sym (e refl))
 unless o false s e = refl
 
--- what is no constant has its row's slope
+-- a tree that is no constant has its row's slope
 pub varying : {V : Type 0} (o : V) (b : Bool) (x : Option V) (s : V) → b ≡ false → unless_constant o b x ≡ Some s → x ≡ Some s
 varying o true x s h e = absurd (cc)
 varying o false x s h e = e
@@ -47,7 +47,7 @@ module _ {V : Type 0} (k : Numbers V) (h : AreExact k) where
   pub two_not_zero : whole k.ring 2 ≢ o
   two_not_zero e = h.two (ap (λ s. plus s i) (sym (ring.zero_plus k.ring h.is_ring i)) ∙ e)
 
-  -- what is equal times z, which is not 0, is equal
+  -- numbers that are equal times z, which is not 0, are equal
   pub cancel_times : (x y z : V) → z ≢ o → times x z ≡ times y z → x ≡ y
   cancel_times x y z some e =
       let nothing : times (minus k.ring x y) z ≡ o =
@@ -64,7 +64,7 @@ module _ {V : Type 0} (k : Numbers V) (h : AreExact k) where
   power_not_zero zero x hx = one_not_zero
   power_not_zero (suc n) x hx = product_not_zero (power k.ring x n) x (power_not_zero n x hx) hx
 
-  -- what is not 0 isn't taken for 0
+  -- a number that is not 0 isn't taken for 0
   pub not_found : (x : V) → x ≢ o → k.is_zero x ≡ false
   not_found x hx = by_test (k.is_zero x) refl
     where

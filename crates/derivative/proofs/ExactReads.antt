@@ -1,4 +1,4 @@
--- What is written for a slope, read over exact numbers.
+-- The trees that are written for a slope, read over exact numbers.
 use Rattle.std.proofs.Common.{◌≡◌, ◌≢◌, ℕ, zero, suc, ◌+◌, ◌-◌, ◌*◌, ◌^◌, ◌==◌, ℤ, pos, negsuc, neg_ℤ, Bool, true, false, if◌then◌else◌, List, Option, Some, None, refl, sym, ap, ◌∙◌, arith}
 use Rattle.fixed.specs.Arithmetic.{one}
 use Rattle.energy_program.specs.declared.trees.Operator.{Operator}
@@ -129,7 +129,7 @@ module _ {V : Type 0} (k : Numbers V) (h : AreExact k) where
       exact_power (negsuc m) u du =
           ap (λ s. (exact k).negative ((exact k).quotient ((exact k).product (Some s) (value du)) ((exact k).power (value u) (pos (m + 2))))) (number_whole (m + 1))
 
-      -- what is written for the rows has the rows' exact values
+      -- the trees that are written for the rows have the rows' exact values
       pub exact_reads : Reads bits (exact k) value
       exact_reads =
           record {

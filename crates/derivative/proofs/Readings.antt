@@ -12,7 +12,7 @@ use Rattle.derivative.specs.Slope.{Operations, fixed_point, operation_row, appli
 use Rattle.derivative.specs.Written.{operation_tree, applied_tree, power_tree}
 use Rattle.derivative.proofs.Ranges.{Fits, slope_fits, sign_times}
 
--- what is written for the rows has the rows' values
+-- the trees that are written for the rows have the rows' values
 pub record Reads {V : Type 0} (bits : ℕ) (on : Operations V) (value : Tree → Option V) : Type 0 where
   pub zero : value (Number (pos 0)) ≡ Some on.zero
   pub one : value (Number (one bits)) ≡ Some on.one
@@ -82,7 +82,7 @@ module _ (bits : ℕ) (one_fits : IsTrue (in_range (one bits))) (inputs : List �
   fixed_power (pos n) u du = value_if (value_of bits inputs) (n == 1) du _
   fixed_power (negsuc m) u du = refl
 
-  -- what is written for the rows has the rows' fixed-point values
+  -- the trees that are written for the rows have the rows' fixed-point values
   pub fixed_reads : Reads bits (fixed_point bits) (value_of bits inputs)
   fixed_reads =
       record {

@@ -25,11 +25,11 @@ module _ {V : Type 0} (r : Ring V) (h : IsRing r) where
   pub minus_plus : (x y : V) → plus (minus r x y) y ≡ x
   minus_plus x y = h.plus_assoc x (neg y) y ∙ ap (plus x) (negative_plus y) ∙ h.plus_zero x
 
-  -- what is equal with z added is equal
+  -- numbers that are equal with z added are equal
   pub cancel : (x y z : V) → plus x z ≡ plus y z → x ≡ y
   cancel x y z e = sym (plus_minus x z) ∙ ap (λ s. minus r s z) e ∙ plus_minus y z
 
-  -- what makes y nothing is its negative
+  -- a number whose sum with y is 0 is its negative
   pub negative_unique : (x y : V) → plus x y ≡ o → x ≡ neg y
   negative_unique x y e = cancel x (neg y) y (e ∙ sym (negative_plus y))
 

@@ -30,7 +30,7 @@ from_below inputs n i (d ∷ ds) e h =
     let within : IsTrue (is_scoped inputs (i + 1) (i + (1 + length ds)) d) = subst (λ k. IsTrue (is_scoped inputs (i + 1) k d)) end (left_of _ _ h) in
     both _ _ within (from_below inputs n (i + 1) ds (omega arith) (right_of (is_scoped inputs (i + 1) n d) _ h))
 
--- what is known of the definitions from k on
+-- the scope of the definitions from k on
 pub below_from : (inputs n i k : ℕ) (ds : List Tree) → IsTrue (scoped_below inputs n i ds) → IsTrue (scoped_below inputs n (k + i) (drop k ds))
 below_from inputs n i zero ds h = let e : i ≡ 0 + i = omega arith in subst (λ x. IsTrue (scoped_below inputs n x ds)) e h
 below_from inputs n i (suc k) [] h = refl

@@ -1,4 +1,4 @@
--- What the definitions stand for, in the program and in that of its slope.
+-- The meaning of definitions, in the program and in that of its slope.
 use Rattle.std.proofs.Common.{◌≡◌, ℕ, ◌+◌, ◌<◌, ◌≤◌, ◌==◌, Bool, true, false, List, [], ◌∷◌, ◌++◌, map, length, Option, refl, ap, ◌∙◌, arith}
 use Rattle.std.specs.Bool.{IsTrue}
 use Rattle.std.proofs.lemmas.List.{length-map}

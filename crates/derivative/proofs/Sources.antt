@@ -83,7 +83,7 @@ module _ (count : ℕ) (body : Tree) (ds : List Tree) (hb : IsTrue (is_scoped co
   abbrev marks : List Bool
   marks = marks_of body ds
 
-  -- what is needed is needed under its new number
+  -- a definition that is needed is needed under its new number
   needs_kept : (k : ℕ) → Needs body ds k → Needs (renumbered (rank marks) body) (kept_from marks 0 ds) (rank marks k)
   needs_kept k (directly u) = directly (uses_renumbered (rank marks) body k u)
   needs_kept k (through {i = i} {d = d} n is u) =

@@ -37,7 +37,7 @@ module _ (free : ℕ → Bool) (inputs n first : ℕ) (g : ℕ → Tree) (known 
       let hb = free_put b (right_of (is_scoped inputs first n a) _ hab) in
       rw (hc, ha, hb) refl
 
--- what the table says of the definitions from i on
+-- the table tells which of the definitions from i on are free of the distance
 abbrev pub IsTableFrom : List Bool → ℕ → List Tree → Type 0
 IsTableFrom t i ds = (j : ℕ) → i ≤ j → j < length ds → get_or t j true ≡ is_free_of_distance (meaning i (drop i ds) j)
 

@@ -44,7 +44,7 @@ module _ (t : List Bool) where
   kept_end es w i goal h so_far =
       sym (append-nil (map tree_of w)) ∙ ap (λ x. map tree_of w ++ kept_from t i (map tree_of x)) (sym (drop_all i es h)) ∙ so_far
 
--- what is left, in the words of the code
+-- the definitions that are left, in the words of the code
 pub left : {A : Type 0} (t1 t2 : List Bool) (body new_body : Expr A) (ds ds1 new_ds : List (Expr A))
     → t1 ≡ marks_of (tree_of body) (map tree_of ds) → t2 ≡ marks_of (tree_of body) (map tree_of ds) → ds1 ≡ ds
     → map tree_of new_ds ≡ kept_from t1 0 (map tree_of ds1) → tree_of new_body ≡ renumbered (rank t2) (tree_of body)

@@ -1,4 +1,4 @@
--- What the code wrote by its table is what the definitions say.
+-- The program that the code wrote by its table is the one of the definitions in `specs`.
 use Rattle.std.proofs.Common.{◌≡◌, ℕ, Bool, true, List, [], ◌∷◌, ◌++◌, map, length, get_or, refl, sym, ap, ◌∙◌, subst}
 use Rattle.std.specs.Bool.{IsTrue}
 use Rattle.std.proofs.lemmas.List.{length-map}

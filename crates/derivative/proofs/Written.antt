@@ -1,4 +1,4 @@
--- What is written at each kind of tree.
+-- The tree that is written at each kind of tree.
 use Rattle.std.proofs.Common.{◌≡◌, ℕ, ℤ, Bool, ◌&&◌, Result, Ok, Err, IfOk, refl, ◌∙◌}
 use Rattle.energy_program.specs.declared.trees.Operator.{Operator}
 use Rattle.energy_program.specs.declared.trees.Function.{Function}

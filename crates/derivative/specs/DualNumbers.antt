@@ -34,7 +34,7 @@ module _ {V : Type 0} (k : Numbers V) (inputs : List V) where
   abbrev duals : Ring (V × V)
   duals = dual k.ring
 
-  -- What a tree is where the distance is r + e, and the other inputs are as they are. A tree without the distance is a
+  -- The value of a tree in dual numbers: the distance is r + e, the other inputs are as they are. A tree without the distance is a
   -- constant. Sums, products, quotients, roots and powers are those of dual numbers: a quotient times the divisor is the
   -- dividend, a root times itself is what it is the root of, a power is a product, and below 0 one over it. `min`, `max`,
   -- `abs` and `select` are the part whose value they have, the first where both parts have it. What is flat changes only by
@@ -71,6 +71,6 @@ module _ {V : Type 0} (k : Numbers V) (inputs : List V) where
       (v s : V) → IsNear (substituted program.0 program.1) (v, s)
       ↔ ((exact_value k inputs (substituted program.0 program.1) ≡ Some v) × (exact_value k inputs (substituted slope.0 slope.1) ≡ Some s))
 
--- each variable of a program is one of so many inputs, each definition that is used a later one, and each power one that there is
+-- each variable of a program is one of `inputs` inputs, each definition that is used a later one, and each power one that there is
 abbrev pub IsScoped : ℕ → Trees → Type 0
 IsScoped inputs program = IsTrue (is_scoped inputs 0 (length program.1) program.0) × IsTrue (are_scoped inputs 0 program.1)

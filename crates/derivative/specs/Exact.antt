@@ -9,7 +9,7 @@ use Rattle.energy_program.specs.declared.trees.Function.TheVariants as f
 use Rattle.energy_program.specs.Tree.{Tree, Number, Input, Definition, Negated, Binary, Applied, Power, Select}
 use Rattle.derivative.specs.Slope.{Operations, slope_by}
 
--- what adds and multiplies
+-- the operations of a ring, and its 0 and 1
 pub record Ring (V : Type 0) : Type 0 where
   pub zero : V
   pub one : V
@@ -57,7 +57,7 @@ pub record Numbers (V : Type 0) : Type 0 where
   pub ceiling : V → V
   pub number : ℤ → V
 
--- What is asked of them, as it holds of fractions and of real numbers: a commutative ring without zero divisors, in which 2 is
+-- The laws of exact numbers, which hold of fractions and of real numbers: a commutative ring without zero divisors, in which 2 is
 -- not 0 and sums keep the order. A quotient is the number that times the divisor is the dividend; the square of a root is
 -- the number that it is the root of. No more is asked of roots, of the order, and of floors and ceilings.
 pub record AreExact {V : Type 0} (k : Numbers V) : Type 0 where
@@ -98,7 +98,7 @@ whole_numbers =
       number = λ z. z;
     }
 
--- a number of a tree, with so many bits behind the point, stands for its raw value over 2^bits
+-- a number of a tree, with `bits` bits behind the point, stands for its raw value over 2^bits
 abbrev pub StandsForFraction : {V : Type 0} → Numbers V → ℕ → ℤ → Type 0
 StandsForFraction k bits z = k.ring.times (k.number z) (whole k.ring (2 ^ bits)) ≡ integer k.ring z
 

@@ -125,6 +125,6 @@ power_slope bits u n du = power_row (fixed_point bits) u n du
 abbrev pub zero_or : Bool → Option ℤ → Option ℤ
 zero_or free slope = unless_constant (pos 0) free slope
 
--- the slope of a tree, with so many bits behind the point, where these are the inputs: the distance, then the others
+-- the slope of a tree, with `bits` bits behind the point, where these are the inputs: the distance, then the others
 abbrev pub slope_of : ℕ → List ℤ → Tree → Option ℤ
 slope_of bits inputs tree = slope_by (fixed_point bits) (value_of bits inputs) tree

@@ -98,7 +98,7 @@ slope_tree bits free n (Select x a b) =
     unless_free (is_free_given free x && (is_free_given free a && is_free_given free b))
     (Select (moved n x) (slope_tree bits free n a) (slope_tree bits free n b))
 
--- what these definitions stand for is free of the distance
+-- the tree that definition j stands for is free of the distance
 abbrev pub free_among : List Tree → ℕ → Bool
 free_among definitions j = is_free_of_distance (meaning 0 definitions j)
 

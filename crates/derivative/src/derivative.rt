@@ -27,7 +27,7 @@ pub fn derive<A: Allocator + Copy>(
     frac: Frac,
     program: &Program<A>,
 ) -> Result<Program<A>, Failure<ExprFault<A>>>
-    // Its value is the slope, and the one is there exactly where the other is.
+    // Its value is the slope, and one is defined iff the other is.
     ensures value { IfOk result (λ p. (inputs : List ℤ) → value_of (bits_of frac) inputs (program_tree p) ≡ slope_of (bits_of frac) inputs (program_tree program.now)) }
     // The body needs each definition: it uses it, directly or through another.
     ensures needed { IfOk result (λ p. AllNeeded (trees_of p).0 (trees_of p).1) }

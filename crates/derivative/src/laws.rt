@@ -1,4 +1,4 @@
-//! What the table of slopes is, whatever the tree.
+//! Laws of the table of slopes, for every tree.
 
 ghost use Rattle.std.specs.Prelude.{◌≡◌, ℕ, ℤ, List, Ok};
 ghost use Rattle.energy_program.specs.Tree.{Tree};

@@ -18,7 +18,7 @@ use std::alloc::{AllocError, Allocator};
 /// The slope of a tree, and whether that is 0 because the distance doesn't occur in the tree.
 #[derive(Drop)]
 pub struct Slope<A: Allocator> {
-    /// What is written for the slope.
+    /// The expression of the slope.
     pub tree: Expr<A>,
     /// The distance doesn't occur.
     pub free: bool,

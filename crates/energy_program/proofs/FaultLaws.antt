@@ -8,7 +8,7 @@ use Rattle.fallible.specs.declared.failure.Failure.TheVariants.{Refused, Memory}
 use Rattle.energy_program.specs.declared.faults.ExprFault.{ExprFault}
 use Rattle.energy_program.specs.Faults.{Refusal, Fails, Says, refusal_of}
 
--- what fails, fails with more steps behind it
+-- a reading that fails, fails with more steps behind it
 pub fails_then : {C A B : Type 0} (e : Failure (ExprFault C)) (r : Result A Refusal) (f : A → Result B Refusal) → Fails e r → Fails e (r >>= f)
 fails_then e r f h = fails_as refusal_of e r (r >>= f) (λ said is. bind_err r f said is) h
 

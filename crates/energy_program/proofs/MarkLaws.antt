@@ -126,7 +126,7 @@ all_below inputs j count m [] valid k le = refl
 all_below inputs j count m (d ∷ ds) valid k le =
     all_below inputs (j + 1) count _ ds valid.1 k (omega arith) ∙ if_below (slice_index_or m j false) inputs (j + 1) count m d valid.0 k (omega arith)
 
--- what each marked definition uses is marked
+-- the definitions that each marked definition uses are marked
 abbrev pub AreMarked : List Bool → ℕ → List Tree → Type 0
 AreMarked m j [] = Unit {0}
 AreMarked m j (d ∷ ds) = (slice_index_or m j false ≡ true → (k : ℕ) → Uses d k → slice_index_or m k false ≡ true) × AreMarked m (j + 1) ds
@@ -174,7 +174,7 @@ unfolding marks_of
 marked_needed body ds k h =
     all_needed body ds 0 _ ds [] refl refl (λ i marked. ⊎_elim (λ a. absurd (none_marked (length ds) i a)) (λ u. directly u) (mark_only (replicate (length ds) false) body i marked)) k h
 
--- What the body uses is marked, and what each marked definition uses.
+-- The definitions that the body uses are marked, and those that each marked definition uses.
 module _ (inputs : ℕ) (body : Tree) (ds : List Tree) (whole : IsTrue (is_scoped inputs 0 (length ds) body)) (each : IsTrue (are_scoped inputs 0 ds)) where
   -- each definition that the body uses is marked
   pub body_marked : (k : ℕ) → Uses body k → slice_index_or (marks_of body ds) k false ≡ true

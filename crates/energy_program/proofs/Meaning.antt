@@ -1,4 +1,4 @@
--- What definitions stand for: the first of a list, the later ones, and what is past them all.
+-- The meaning of definitions: of the first of a list, of the later ones, and of a number past them all.
 use Rattle.std.proofs.Common.{◌≡◌, ℕ, ◌+◌, ◌≤◌, ◌==◌, pos, false, true, List, [], ◌∷◌, length, refl, ◌∙◌, arith}
 use Rattle.std.proofs.lemmas.Bool.{ne_eqb, eq-eqb}
 use Rattle.energy_program.specs.Tree.{Tree, Number, put, meaning}

@@ -140,7 +140,7 @@ module _ {X Y : Type 0} (h : X → List ℕ) (k : Y → List ℕ) (ps : List X) 
   pub all_filled : (a b c : List (List ℕ)) → filled names (map (λ p. h p ++ 49 ∷ []) ps) ≡ Ok a → filled a (map (λ p. h p ++ 50 ∷ []) ps) ≡ Ok b → filled b (map k gs) ≡ Ok c → all ≡ Ok c
   all_filled a b c first second third = rw (steps, first, second) third
 
--- what a program's names are, case by case
+-- the names of a program, case by case
 module _ (ps gs : List (List ℕ)) where
   abbrev checked : Bool → Option (List ℕ) → Option (List ℕ) → Result (List (List ℕ)) Refusal
   checked few first second =

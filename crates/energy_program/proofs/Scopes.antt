@@ -1,4 +1,4 @@
--- What trees may name, as facts on each part.
+-- The scope of trees, as facts on each part.
 use Rattle.std.proofs.Common.{◌≡◌, ℕ, ◌+◌, ◌<◌, ◌≤◌, List, [], ◌∷◌, length, IsTrue, arith, subst}
 use Rattle.std.specs.Prelude.{◌&&◌, nat_lt, nat_le}
 use Rattle.std.proofs.lemmas.Bool.{and_parts, ltb-true, leb-true}

@@ -1,4 +1,4 @@
--- What is wrong with a text, and how calls tell it.
+-- The faults of an energy's text, and how calls tell them.
 use Rattle.std.specs.Prelude.{◌≡◌, ℕ, List, Result}
 use Rattle.fallible.specs.Failures.{IfRefused}
 use Rattle.fallible.specs.Failures as fallible
@@ -20,7 +20,7 @@ pub data Refusal : Type 0 where
   TooLarge : Refusal
   LeftOutFunction : List ℕ → Refusal
 
--- what a fault says of the text
+-- the refusal that a fault tells
 abbrev pub refusal_of : {A : Type 0} → ExprFault A → Refusal
 refusal_of (fault.BadCharacter at) = BadCharacter at
 refusal_of (fault.BadNumber at) = BadNumber at

@@ -82,8 +82,8 @@ put f (Applied g a) = Applied g (put f a)
 put f (Power a n) = Power (put f a) n
 put f (Select x a b) = Select (put f x) (put f a) (put f b)
 
--- What a definition stands for, of these, which are numbered from i: its tree with what the later ones stand for. A number
--- that none has stands for 0.
+-- The meaning of definition j, of these, which are numbered from i: its tree with the meanings of the later ones. A number
+-- that none has means 0.
 abbrev pub meaning : ℕ → List Tree → ℕ → Tree
 meaning i [] j = Number (pos 0)
 meaning i (d ∷ ds) j = if j == i then put (meaning (i + 1) ds) d else meaning (i + 1) ds j

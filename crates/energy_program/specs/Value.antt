@@ -79,7 +79,7 @@ abbrev pub selected : Option ℤ → Option ℤ → Option ℤ → Option ℤ
 selected None y z = None
 selected (Some x) y z = if is_zero x then z else y
 
--- The value of a tree, with so many bits behind the point, where these are the inputs: the distance, then the others. A
+-- The value of a tree, with `bits` bits behind the point, where these are the inputs: the distance, then the others. A
 -- definition has none: values are those of trees with all definitions put in place.
 abbrev pub value_of : ℕ → List ℤ → Tree → Option ℤ
 value_of bits inputs (Number z) = Some z

@@ -9,13 +9,13 @@ use std::alloc::Allocator;
 /// How many definitions a program may have.
 pub const MAX_DEFINITIONS: usize = 128;
 
-/// What an energy text says. Each use in it is a variable or a definition that comes later; to the body all come later. It
+/// The program of an energy text. Each use in it is a variable or a definition that comes later; to the body all come later. It
 /// owns its trees, in the memory of the allocator that `parse` was given.
 #[derive(Drop)]
 pub struct Program<A: Allocator> {
     /// The expression whose value is the energy, in kJ/mol.
     pub body: Expr<A>,
-    /// What the defined names stand for, in the order of the text, at most 128.
+    /// The definitions, in the order of the text, at most 128.
     pub definitions: Vec<Expr<A>, A>,
     /// How many parameters a particle has, at most 8.
     pub parameters: u32,

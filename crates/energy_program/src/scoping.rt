@@ -1,4 +1,4 @@
-//! What a program's trees may name.
+//! The scope of a program's trees: inputs, and later definitions.
 
 ghost use Rattle.std.specs.Prelude.{◌≡◌, ◌≤◌, ◌+◌, ◌&&◌, length, map, nat_le, is_some, IfSome};
 ghost use Rattle.energy_program.specs.Programs.{trees_of};
@@ -19,7 +19,7 @@ fn is_exponent(exponent: i8) -> bool
     }
 }
 
-// Whether each use in a tree is one of so many inputs, or a definition from `first` up to, not with, `end`.
+// Whether each use in a tree is one of `inputs` inputs, or a definition from `first` up to, not with, `end`.
 fn is_scoped<A: Allocator>(inputs: u32, first: usize, end: usize, tree: &Expr<A>) -> bool
     ensures { result ≡ is_scoped inputs first end (tree_of tree.now) }
 {
@@ -54,7 +54,7 @@ fn are_scoped<A: Allocator>(inputs: u32, number: usize, definitions: &[Expr<A>])
 }
 
 impl<A: Allocator> Program<A> {
-    /// The program of a body and definitions, for particles with so many parameters and for so many globals. There is none
+    /// The program of a body and definitions, for particles with `parameters` parameters and for `globals` globals. There is none
     /// where there are more than 128 definitions, 8 parameters or 16 globals, or where a tree uses another input than these or
     /// another definition than a later one, or has a power of 0, below -32 or above 33.
     pub fn new(

@@ -1,4 +1,4 @@
--- What steps make of a course, in the direction of the steps and by the frames' times.
+-- Laws of courses: the frames after steps, in the direction of the steps and by the frames' times.
 use Rattle.std.proofs.Common.{◌≡◌, ℕ, ◌+◌, Some, ap, refl, subst, sym, ◌∙◌}
 use Rattle.std.specs.Option.{option_and_then}
 use Rattle.integrator.specs.Frames.{Dynamics, Frame, Frames, frames, steps_in}

@@ -82,7 +82,7 @@ module _ {A : Type 0} (s : System (SafeKernel A) A) where
   has_energies k certified few table core cutoff gives a b r first second low high =
       rw (← table) (small_energies k (program_tree s.kernel.energy) certified few gives a b r (rw table first) (rw table second) (rw core low) (rw cutoff high))
 
-  -- what is served by the slope's code is served by the energy's
+  -- an ask that is served by the slope's code is served by the energy's
   pub served_too : (k : Kernel) → IsAccepted s → k.table ≡ s.kernel.verified.table → k.core ≡ s.core → k.cutoff ≡ s.cutoff → (ask : Ask) → IsServed s.kernel.verified ask → IsServed k ask
   served_too k accepted table core cutoff ask h = record {
     first = rw table h.first;

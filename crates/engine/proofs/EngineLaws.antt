@@ -221,7 +221,7 @@ pub state_refuses : (A : Type 0) (job state : List ℕ) (j : JobValue) (failure 
 state_refuses A job state j (Refused f) p h = (j, p, h)
 state_refuses A job state j Memory p h = tt
 
--- what they say has none
+-- their job and state have no engine
 pub engine_refuses : {A : Type 0} (job state : List ℕ) (j : JobValue) (s : StateView) (failure : Failure (EngineFault A)) → reading_of limits job ≡ Ok j → state_of state ≡ Ok s → IfRefused failure (HasNoEngine j s) → IfRefused (refused_as opened.Engine failure) (HasNoEngineOfTexts job state)
 engine_refuses job state j s (Refused f) p q h = record { j = j; s = s; job_read = p; state_read = q; it = h }
 engine_refuses job state j s Memory p q h = tt

@@ -125,7 +125,7 @@ names_in : (atoms : List AtomView) → map (λ (w : ℤ × List ℕ × List ℕ)
 names_in [] = refl
 names_in (a ∷ atoms) = ap (λ names. a.name ∷ names) (names_in atoms)
 
--- what the page relates it relates the other way round, in the other direction
+-- the texts that the page relates it relates the other way round, in the other direction
 pub told_back : (job state : List ℕ) (w : Direction) (n : ℕ) (text : List ℕ) → IsLevesqueVerletRun job state w n text → IsLevesqueVerletRun job text (opposite w) n state
 told_back job state w n text r =
     let s = r.before in

@@ -1,4 +1,4 @@
--- What texts say by the headline's page is what they are read as.
+-- The meaning of texts by the headline's page is the one that the readers find.
 use Rattle.std.proofs.Common.{◌≡◌, ℕ, zero, suc, ◌<◌, ◌≤◌, ◌*◌, ◌^◌, Bool, true, false, ltb, List, [], ◌∷◌, ◌++◌, length, get_or, Option, Some, None, Result, Ok, Err, ℤ, arith, refl, ap, sym, subst, ◌∙◌, zero-add, append_assoc}
 use Rattle.std.specs.Prelude.{map, bytes_eq, unsigned_abs, codes, ◌&&◌, ◌||◌, if◌then◌else◌}
 use Rattle.std.specs.List.{All}
@@ -78,7 +78,7 @@ names_clear ps gs vs e =
 
 -- ---- the energy
 
--- what the energy of a job was made of
+-- the parts that the energy of a job was made of
 record Made (j : JobValue) (energy : Energy) : Type 0 where
   names : List (List ℕ)
   named : names_from j.parameters (global_names j) ≡ Ok names

@@ -1,4 +1,4 @@
--- Where texts have a run and the code of the slope is accepted, no other answer is left but want of memory and a failed output.
+-- Where texts have a run and the code of the slope is accepted, no other answer is left but out of memory and a failed output.
 use Rattle.std.proofs.Common.{◌≡◌, ℕ, ◌-◌, ◌*◌, ◌^◌, ◌≤◌, List, length, Ok, Err, arith, refl, subst, sym, ◌∙◌}
 use Rattle.job.specs.Values.{JobValue}
 use Rattle.kernel_code.specs.declared.instructions.Instr.{Instr}
@@ -71,7 +71,7 @@ has_engine job state w n text (opened.Engine (engine.System f)) r a h =
 has_engine job state w n text (opened.Engine (engine.Kernel k)) r a h = not_refused a.j a.s k a.it (same_texts job state (λ j s. OfSlope j s (λ code. IsRefused j code k)) a h)
 has_engine job state w n text (opened.Engine engine.ForceRange) r a h = not_passed a.j a.s a.it (same_texts job state (λ j s. OfSlope j s (λ code. PassesRange j code (length s.atoms))) a h)
 
--- so it isn't missing but for want of memory
+-- so it isn't missing but for lack of memory
 pub only_memory : {A : Type 0} (job state : List ℕ) (w : Direction) (n : ℕ) (text : List ℕ) (failure : Failure (OpenFault A)) → IsRun plain job state w n text → AreSafe job state → IfRefused failure (HasNoEngineOfTexts job state) → failure ≡ Memory
 only_memory job state w n text (Refused f) r a h = absurd (has_engine job state w n text f r a h)
 only_memory job state w n text Memory r a h = refl

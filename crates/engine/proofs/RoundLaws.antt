@@ -45,7 +45,7 @@ total_weight add e (t ∷ ts) =
 
 -- ---- the force of each pair, as it is added and as it acts
 
--- what a pair adds is its force, on its lower atom and turned on its higher one
+-- a pair adds its force to its lower atom, and the negative to its higher one
 pub record AddsForce (force : ℕ × ℕ → Option (Force ℤ)) (add : ℕ × ℕ → Option PairAdd) (p : ℕ × ℕ) : Type 0 where
   pub acting : Option (Force ℤ)
   pub adds : add p ≡ option_map (pair_add p.0 p.1) acting
@@ -92,7 +92,7 @@ chosen_none false false axis = sym (none_part axis)
 one_of_two : (i j a : ℕ) → i < j → (i == a) ≡ true → (j == a) ≡ false
 one_of_two i j a h e = grind (arith, nat_tests)
 
--- what a pair adds to an atom
+-- the share of an atom in what a pair adds
 share_added : (force : ℕ × ℕ → Option (Force ℤ)) (add : ℕ × ℕ → Option PairAdd) (p : ℕ × ℕ) (a axis : ℕ) → p.0 < p.1 → axis < 3 → (acting : Option (Force ℤ))
     → add p ≡ option_map (pair_add p.0 p.1) acting → force p ≡ Some (unwrap_or acting no_force)
     → force_on a axis (add p) ≡ part (share_of p (force_or_none force p) a) axis

@@ -36,7 +36,7 @@ sieve_one : {P X Y : Type 0} (f : P → Option X) (g : P → X → Y) (p : P) (p
 sieve_one f g p ps qs same None e = rw e same
 sieve_one f g p ps qs same (Some x) e = rw e (ap (λ ys. g p x ∷ ys) same)
 
--- what is there of all is what is there of those that have something
+-- the values of all are the values of those that have one
 sieve : {P X Y : Type 0} (f : P → Option X) (g : P → X → Y) (ps : List P) → acting (map (λ p. option_map (g p) (f p)) ps) ≡ acting (map (λ p. option_map (g p) (f p)) (filter (λ p. is_some (f p)) ps))
 sieve f g [] = refl
 sieve f g (p ∷ ps) = sieve_one f g p ps (filter (λ q. is_some (f q)) ps) (sieve f g ps) (f p) refl
@@ -69,7 +69,7 @@ module _ {A : Type 0} (s : System (SafeKernel A) A) where
   twice None p = refl
   twice (Some a) p = refl
 
-  -- what is added for the pair that is found is what the pair adds
+  -- the force of a pair that is found is the force of the pair
   pub found_adds : (frame : Frame) (p : ℕ × ℕ) → option_map (add_found s) (found_of s frame p) ≡ add_of s frame p
   found_adds frame p =
       let x = places_of frame p.0 in
@@ -77,7 +77,7 @@ module _ {A : Type 0} (s : System (SafeKernel A) A) where
       let slope = λ (r : ℤ). minus (slope_at (potential_of s.kernel) (slice_index s.types.items p.0) (slice_index s.types.items p.1) r) in
       twice (acting_of (reach_of s) s.ring x y) p ∙ ap (option_map (pair_add p.0 p.1)) (halves (reach_of s) s.ring slope x y)
 
-  -- what pairs add is what is added for those of them that are found
+  -- the forces of pairs are the forces of those of them that are found
   pub all_found : (frame : Frame) (ps : List (ℕ × ℕ)) → acting (map (add_of s frame) ps) ≡ map (add_found s) (acting (map (found_of s frame) ps))
   all_found frame ps =
       ap acting (sym (mapped_twice (found_of s frame) (add_found s) (add_of s frame) (found_adds frame) ps)) ∙ acting_mapped (add_found s) (map (found_of s frame) ps)
@@ -135,7 +135,7 @@ module _ {A : Type 0} (s : System (SafeKernel A) A) where
 
   -- ---- what is added
 
-  -- what is asked for one of the pairs
+  -- the ask for one of the pairs
   pub asked_at : (found : List FoundPair) (l : ℕ) (f : FoundPair) → l < length found → f ≡ get_or found l f → ask_at (map (ask_of s) found) l ≡ ask_of s f
   asked_at found l f lt is = get_or-map (ask_of s) found l f (record { a = 0; b = 0; r = pos 0 }) lt ∙ ap (ask_of s) (sym is)
 

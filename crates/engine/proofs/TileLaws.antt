@@ -215,7 +215,7 @@ tile_listed s frame t tile e =
     let m = members_of (grid_of s) frame in
     found_at (tile_pairs (grid_of s) frame) t (pairs_in m tile) [] (mapped_at (pairs_in m) (tiles_of (grid_of s)) t tile e)
 
--- what is planned for a tile is as long as its list
+-- the plan of a tile is as long as its list
 pub tile_size : {A : Type 0} (s : System (SafeKernel A) A) (frame : Frame) (t : ℕ) → t < length (plan_of s frame) → length (pairs_at (plan_of s frame) t) ≡ length (tile_at s frame t)
 tile_size s frame t lt =
     let add = λ (ps : List (ℕ × ℕ)). map (add_of s frame) ps in
@@ -246,7 +246,7 @@ bound_by_pair s frame t k accepted covers atoms at_tile at_pair =
     let pair = is_listed_pair (grid_of s) frame t k tile p covers there (slice_get-get_or (pairs_in m tile) k (0, 0) listed) in
     bound_fits s accepted p.0 p.1 pair.0 (omega (arith, pair.1, atoms))
 
--- what a pair adds is a pair of atoms
+-- the force of a pair names a pair of atoms
 some_pair_of : (n : ℕ) (p : ℕ × ℕ) (o : Option (Force ℤ)) → p.0 < p.1 → p.1 < n → IfSome (option_map (pair_add p.0 p.1) o) (IsPairOf n)
 some_pair_of n p None apart below = tt
 some_pair_of n p (Some v) apart below = record { ordered = apart; inside = below }

@@ -19,7 +19,7 @@ abbrev pub frames_along : Direction → Frame → Frame → Frames
 frames_along Forward before middle = frames before middle
 frames_along Back before middle = exchanged (frames before middle)
 
--- why so many steps from this counter don't start: it would leave 64 bits, or memory is wanted before the first
+-- why n steps from this counter don't start: it would leave 64 bits, or an allocation is refused before the first
 abbrev pub IsUnstarted : Direction → ℕ → ℤ → StepFault → Type 0
 IsUnstarted direction n counter step.StepRange = counter_after direction counter n ≡ None
 IsUnstarted direction n counter (step.Memory done) = done ≡ 0
@@ -36,7 +36,7 @@ module _ {F S T E : Type 0} (g : Shared F (Bor Frame × (MutBor S × Unit {0})) 
   abbrev pub MaySum : F → Frame → S → Type 0
   MaySum f frame desk = (p : Bor Frame) (q : MutBor S) → p.now ≡ frame → q.now ≡ desk → g.pre f (p, (q, tt))
 
-  -- what it answers are the forces on the atoms of the frame, and for as many atoms it may be called again with what it left
+  -- a call answers the forces on the atoms of the frame, and for as many atoms it may be called again with what it left
   pub record SumsForces {A : Type 0} (items : T → List ℤ) (s : System (SafeKernel A) A) (f : F) : Type 0 where
     pub forces : (p : Bor Frame) (q left : MutBor S) (r : Result T E) → g.pre f (p, (q, tt)) → g.post f (p, (q, tt)) (r, (left, tt)) → IfOk r (λ t. AreForces s p.now (items t))
     pub again : (p next : Bor Frame) (q left lent : MutBor S) (r : Result T E) → g.pre f (p, (q, tt)) → g.post f (p, (q, tt)) (r, (left, tt)) → length next.now ≡ length p.now → lent.now ≡ left.now → g.pre f (next, (lent, tt))

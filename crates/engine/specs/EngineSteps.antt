@@ -19,11 +19,11 @@ StepsAdd = (direction : Direction) (k m : ℕ) (before between after : EngineVie
 abbrev pub StepsReturn : Type 0
 StepsReturn = (direction : Direction) (n : ℕ) (before after : EngineView) → IsState before.state → Went direction n before after → Went (opposite direction) n after before
 
--- what a run writes is safe under its job where what it began with is: the code is certified for the way on, and for the way back
+-- the state that a run writes is safe under its job where the one that it began with is: the code is certified for the way on, and for the way back
 abbrev pub RunsStaySafe : Type 0
 RunsStaySafe = (job state : List ℕ) (direction : Direction) (n : ℕ) (text : List ℕ) → IsLevesqueVerletRun job state direction n text → AreSafe job state → AreSafe job text
 
--- What a run of the model writes, the headline's page relates to its texts, and nothing else, whether or not the verifier accepts their code.
+-- The text that a run of the model writes, and no other, is related to its texts by the headline's page, whether or not the verifier accepts their code.
 abbrev pub RunsAreTold : Type 0
 RunsAreTold = (job state : List ℕ) (direction : Direction) (n : ℕ) (text : List ℕ) → IsRun plain job state direction n text
     → IsLevesqueVerletRun job state direction n text × ((other : List ℕ) → IsLevesqueVerletRun job state direction n other → other ≡ text)

@@ -34,7 +34,7 @@ pub record EngineView : Type 0 where
   pub types : List ℕ
   pub state : StateView
 
--- what moves its atoms: the energy's slope as it is written
+-- the dynamics of its atoms: by the energy's slope as it is written
 abbrev pub engine_dynamics : EngineView → Dynamics
 engine_dynamics e = as_written e.job e.state.sides (job_tree e.job) e.types
 
@@ -47,7 +47,7 @@ pub record IsEngineOf (j : JobValue) (s : StateView) (e : EngineView) : Type 0 w
   pub is : e ≡ record { job = j; types = system.1; state = s }
   pub safe : IsSafeFor j system.0.code (length s.atoms)
 
--- what a fault says of the code of the slope of the energy of a job and a state
+-- a statement on the code of the slope of the energy of a job and a state, which a fault makes
 pub record OfSlope (j : JobValue) (s : StateView) (holds : List Instr → Type 0) : Type 0 where
   pub system : Energy × List ℕ
   pub made : system_of j s ≡ Ok system
@@ -69,14 +69,14 @@ pub record Went (direction : Direction) (n : ℕ) (before after : EngineView) : 
   pub counted : counter_after direction before.state.step n ≡ Some counter
   pub moved : after ≡ record before { state = moved_state before.state frames' counter }
 
--- where the counter would leave 64 bits nothing is done; where memory is wanted, so many steps are, and not the last (none of none)
+-- where the counter would leave 64 bits nothing is done; where an allocation is refused, as many steps as are told are made, and not the last (none of none)
 abbrev pub Stopped : Direction → ℕ → EngineView → EngineView → StepFault → Type 0
 Stopped direction n before after step.StepRange = (counter_after direction before.state.step n ≡ None) × (after ≡ before)
 Stopped direction n before after (step.Memory done) = (done ≤ n - 1) × Went direction done before after
 
 -- ---- from bytes to bytes
 
--- what the texts of a job and a state say
+-- a statement on the job and the state of two texts
 pub record OfTexts (job state : List ℕ) (holds : JobValue → StateView → Type 0) : Type 0 where
   pub j : JobValue
   pub s : StateView

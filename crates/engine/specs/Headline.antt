@@ -57,7 +57,7 @@ box_of sides = record { x = slice_index sides 0; y = slice_index sides 1; z = sl
 
 -- Under a job whose energy is the tree, in a box with these sides, for atoms of these types. A frame has the place of each atom.
 module _ (j : JobValue) (tree : Tree) (sides types : List ℕ) where
-  -- What the variables stand for, for a pair of atoms at a distance: the distance, the parameters of the first, of the second, the globals.
+  -- The values of the variables, for a pair of atoms at a distance: the distance, the parameters of the first, of the second, the globals.
   abbrev pub inputs : ℕ × ℕ → ℤ → List ℤ
   inputs p r = r ∷ ((type_at j (slice_index types p.0)).values ++ ((type_at j (slice_index types p.1)).values ++ map (λ g. g.value) j.globals))
 

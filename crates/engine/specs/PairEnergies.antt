@@ -47,7 +47,7 @@ engine_value e p r = value_of (bits_of e.job.frac) (pair_inputs e.job e.types p 
 abbrev pub IsEnergy : EngineView → ℤ → Type 0
 IsEnergy e z = energy_sum (pair_energy (engine_dynamics e) (engine_value e) (current_frame e.state.atoms)) (pairs_of (length e.state.atoms)) ≡ Some z
 
--- what is said of the code of its energy: that of the program of its job's text
+-- a statement on the code of its energy: that of the program of its job's text
 pub record OfEnergy (e : EngineView) (holds : Result (List Instr) energy.Refusal → Type 0) : Type 0 where
   pub program : Trees
   pub its : job_program e.job ≡ Ok program

@@ -13,7 +13,7 @@ use Rattle.integrator.specs.declared.systems.System.{System}
 use Rattle.engine.specs.SafeKernels.{minus, potential_of, safe_dynamics, slope_at}
 use Rattle.engine.specs.declared.safe_kernels.SafeKernel.{SafeKernel}
 
--- what a pair of atoms adds that has this force
+-- the force of a pair of atoms, as it is added
 abbrev pub pair_add : ℕ → ℕ → Force ℤ → PairAdd
 pair_add low high f = record { low = low; high = high; force = f.x ∷ f.y ∷ f.z ∷ [] }
 
@@ -28,11 +28,11 @@ module _ {A : Type 0} (s : System (SafeKernel A) A) where
       pair_force_of s.frac s.ring (λ r. minus (slope_at (potential_of s.kernel) (slice_index s.types.items p.0) (slice_index s.types.items p.1) r))
       s.core s.cutoff (places_of frame p.0) (places_of frame p.1)
 
-  -- what a pair adds
+  -- the force of a pair, where it acts
   abbrev pub add_of : Frame → ℕ × ℕ → Option PairAdd
   add_of frame p = option_map (pair_add p.0 p.1) (acting_force frame p)
 
-  -- what the pairs of each tile add
+  -- the forces of the pairs of each tile
   abbrev pub plan_of : Frame → List (List (Option PairAdd))
   plan_of frame = map (λ ps. map (add_of frame) ps) (tile_pairs grid_of frame)
 

@@ -22,7 +22,7 @@ module _ {A : Type 0} (s : System (SafeKernel A) A) where
   abbrev pub found_of : Frame → ℕ × ℕ → Option FoundPair
   found_of frame p = option_map (λ a. record { low = p.0; high = p.1; acting = a }) (acting_of reach_of s.ring (places_of frame p.0) (places_of frame p.1))
 
-  -- its atoms are two of so many, the lower first, and its force is taken within reach
+  -- its atoms are two of `atoms`, the lower first, and its force is taken within reach
   pub record IsFound (atoms : ℕ) (f : FoundPair) : Type 0 where
     pub ordered : f.low < f.high
     pub inside : f.high < atoms
@@ -39,7 +39,7 @@ module _ {A : Type 0} (s : System (SafeKernel A) A) where
     pub within : n ≤ length pairs
     pub acting : acting (map (found_of frame) (take n pairs)) ≡ acting (map (found_of frame) (take k pairs)) ++ found
 
-  -- what is asked for it
+  -- the ask for it: its types and its distance
   abbrev pub ask_of : FoundPair → Ask
   ask_of f = record { a = slice_index s.types.items f.low; b = slice_index s.types.items f.high; r = f.acting.distance }
 
@@ -56,6 +56,6 @@ module _ {A : Type 0} (s : System (SafeKernel A) A) where
   abbrev pub AreSlopes : List Ask → List ℤ → Type 0
   AreSlopes asks slopes = (l : ℕ) → l < length asks → IsSlope (ask_at asks l) (slice_index_or slopes l (pos 0))
 
-  -- what a pair adds
+  -- the force of a pair that was found
   abbrev pub add_found : FoundPair → PairAdd
   add_found f = pair_add f.low f.high (force_of f.acting (minus_slope_for (ask_of f)))

@@ -40,7 +40,7 @@ is_taken k a b r =
 abbrev pub potential_of : {A : Type 0} → SafeKernel A → Potential
 potential_of k = record { table = k.verified.table; energy = program_tree k.energy; core = k.verified.core; cutoff = k.verified.cutoff; bound = k.verified.bound }
 
--- what moves the atoms of a system whose slope is accepted: it always has a slope where it is asked
+-- the dynamics of a system whose slope is accepted: it has a slope wherever it is asked for one
 abbrev pub safe_dynamics : {A : Type 0} → System (SafeKernel A) A → Dynamics
 safe_dynamics s = dynamics_of (λ k a b r. slope_at (potential_of k) a b r) s
 

@@ -44,11 +44,11 @@ pub fn open<A: Allocator + Copy>(
     }
 }
 
-/// Runs a state so many steps in a direction, by so many workers, and writes the new state.
+/// Runs a state n steps in a direction, by `workers` workers, and writes the new state.
 ///
 /// `job` and `state` are the bytes of a job and a state file, `steps` at most 1,000,000,000,000, `workers` 1 to 64, the
 /// first of them the caller's thread. For every job and state that are accepted, all numbers of steps and of workers and every order of
-/// the workers' claims and additions, the frames are those of so many Levesque-Verlet steps (J. Stat. Phys. 72, 519, 1993) with the
+/// the workers' claims and additions, the frames are those of n Levesque-Verlet steps (J. Stat. Phys. 72, 519, 1993) with the
 /// energy's slope as written and exact sums over all pairs; and the same number of steps the other way over the written bytes gives
 /// the starting bytes again. The slope's code is accepted by the verifier (`Engine::new`), so that none of its instructions faults and
 /// each pair takes at most the certified steps (`kernel_lanes::run_lanes`, `lane_paths::run_paths`): a fault of a kernel is no refusal here.
@@ -77,9 +77,9 @@ pub fn run_bytes<R: Threads + Sync, A: Allocator + Copy + Send + Sync, O: Out>(
     ensures ran { OnOk result (Wrote plain job.now state.now direction steps (O.output out.old) (O.output out.new)) }
     // Why it is not: only a failed output is left with a beginning of it.
     ensures refused { IfErr result (IsRunUnwritten job.now state.now direction steps (O.output out.old) (O.output out.new)) }
-    // Where there is such a text and the code is accepted, no other refusal is left but want of memory and a failed output.
+    // Where there is such a text and the code is accepted, no other refusal is left but out of memory and a failed output.
     ensures only { (text : List ℕ) → IsRun plain job.now state.now direction steps text → AreSafe job.now state.now → IfErr result Wants }
-    // So many steps the other way over the written text give the starting text.
+    // n steps the other way over the written text give the starting text.
     ensures told_back { (text : List ℕ) → IsLevesqueVerletRun job.now state.now direction steps text → IsLevesqueVerletRun job.now text (opposite direction) steps state.now }
     ensures returns { (text : List ℕ) → IsRun plain job.now state.now direction steps text → IsRun plain job.now text (opposite direction) steps state.now }
 {

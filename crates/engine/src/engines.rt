@@ -37,7 +37,7 @@ use std::marker::Model;
 use std::thread::Threads;
 use tile_pool::Gate;
 
-/// A job and a state that can be run with no fault but want of memory and the end of the step counter: for every two
+/// A job and a state that can be run with no fault but a refused allocation and the end of the step counter: for every two
 /// types of atoms, and at each distance at which two atoms act, the code of the energy's slope gives that slope.
 #[derive(Drop)]
 pub struct Engine<A: Allocator + Copy> {
@@ -63,7 +63,7 @@ impl<A: Allocator + Copy> Model for Engine<A> {
     ghost invariant = { λ e. IsEngine e.job e.state e.motion.system × IfSome e.tiling (IsTilingOf e.motion.system) };
 }
 
-/// Whether no force on one of so many atoms can pass 64 bits, where no slope passes `bound`.
+/// Whether no force on one of `atoms` atoms can pass 64 bits, where no slope passes `bound`.
 fn fits(bound: u64, atoms: usize) -> bool
     ensures { result ≡ nat_lt (bound * (atoms - 1)) (2 ^ 63) }
 {
@@ -71,7 +71,7 @@ fn fits(bound: u64, atoms: usize) -> bool
     u128::from(bound) * (others as u128) < 9_223_372_036_854_775_808
 }
 
-/// What moves these atoms by this slope, in the box of the state.
+/// The system of these atoms under this slope, in the box of the state.
 fn motion<A: Allocator>(
     job: &Job<A>,
     state: &State<A>,
@@ -107,7 +107,7 @@ fn motion<A: Allocator>(
     SafeSystem { system }
 }
 
-/// What moves the atoms of a state under a job, where no force on one of them can pass 64 bits.
+/// The system of a state's atoms under a job, or the engine's fault: `ForceRange` where a force on one of them might not fit 64 bits.
 fn job_motion<A: Allocator + Copy>(
     alloc: A,
     job: &Job<A>,
@@ -203,7 +203,7 @@ impl<A: Allocator + Copy> Engine<A> {
         Ok(sum)
     }
 
-    /// Takes over the frames that so many steps came to, of all those that were asked for.
+    /// Takes over the frames after the steps that were made, of all those that were asked for.
     fn arrive(
         &mut self,
         direction: Direction,
@@ -229,7 +229,7 @@ impl<A: Allocator + Copy> Engine<A> {
         Ok(())
     }
 
-    /// So many steps in a direction, on one thread.
+    /// n steps in a direction, on one thread.
     pub(crate) fn steps_alone(&mut self, direction: Direction, steps: u64) -> Result<(), StepFault>
         ensures went { IfOk result (λ _. Went direction steps self.old self.new) }
         ensures stopped { IfErr result (Stopped direction steps self.old self.new) }
@@ -248,11 +248,11 @@ impl<A: Allocator + Copy> Engine<A> {
         self.arrive(direction, steps, done, stepped)
     }
 
-    /// So many steps forward, on one thread, at most 1,000,000,000,000: Levesque and Verlet's (J. Stat. Phys. 72, 519,
+    /// n steps forward, on one thread, at most 1,000,000,000,000: Levesque and Verlet's (J. Stat. Phys. 72, 519,
     /// 1993) by the exact sums of the forces of all pairs, with the energy's slope as it is written.
     ///
-    /// `StepRange` exactly where the step counter would leave an i64, and then nothing is done. `Memory` where a growth
-    /// is refused: the state is that after so many whole steps.
+    /// `StepRange` exactly where the step counter would leave an i64, and then nothing is done. `Memory` where an allocation
+    /// is refused: the state is that after `done` whole steps.
     pub fn forward_alone(&mut self, steps: u64) -> Result<(), StepFault>
         ensures went { IfOk result (λ _. Went Forward steps self.old self.new) }
         ensures stopped { IfErr result (Stopped Forward steps self.old self.new) }
@@ -260,7 +260,7 @@ impl<A: Allocator + Copy> Engine<A> {
         self.steps_alone(Direction::Forward, steps)
     }
 
-    /// So many steps back, on one thread, as `forward_alone`.
+    /// n steps back, on one thread, as `forward_alone`.
     pub fn back_alone(&mut self, steps: u64) -> Result<(), StepFault>
         ensures went { IfOk result (λ _. Went Back steps self.old self.new) }
         ensures stopped { IfErr result (Stopped Back steps self.old self.new) }
@@ -274,7 +274,7 @@ impl<A: Allocator + Copy + Send + Sync> Engine<A> {
     ghost use Rattle.engine.specs.Engines.{Stopped, Went};
     ghost use Rattle.integrator.specs.declared.direction.Direction.TheVariants.{Back, Forward};
 
-    /// So many steps in a direction by so many workers, 1 to 64, of which the caller's thread is the first.
+    /// n steps in a direction by `workers` workers, 1 to 64, of which the caller's thread is the first.
     pub(crate) fn steps_pooled<R: Threads + Sync, G: Gate + Sync>(
         &mut self,
         rt: &R,
@@ -306,7 +306,7 @@ impl<A: Allocator + Copy + Send + Sync> Engine<A> {
         self.arrive(direction, steps, done, stepped)
     }
 
-    /// So many steps in a direction by so many workers, 1 to 64, of which the caller's thread is the first: as `forward` and `back`, but that
+    /// n steps in a direction by `workers` workers, 1 to 64, of which the caller's thread is the first: as `forward` and `back`, but that
     /// workers pass no gate. One worker waits for nobody.
     pub fn make_steps<R: Threads + Sync>(
         &mut self,
@@ -326,7 +326,7 @@ impl<A: Allocator + Copy + Send + Sync> Engine<A> {
         self.steps_pooled(rt, direction, steps, workers, &NoGate)
     }
 
-    /// So many steps forward by so many workers, 1 to 64, of which the caller's thread is the first: the same states and the same
+    /// n steps forward by `workers` workers, 1 to 64, of which the caller's thread is the first: the same states and the same
     /// refusals as `forward_alone`, in whatever order the workers take their tiles and add their forces. A worker passes `gate`
     /// before each tile that it has drawn. A worker whose thread can't be started is run by the caller's.
     pub fn forward<R: Threads + Sync, G: Gate + Sync>(
@@ -344,7 +344,7 @@ impl<A: Allocator + Copy + Send + Sync> Engine<A> {
         self.steps_pooled(rt, Direction::Forward, steps, workers, gate)
     }
 
-    /// So many steps back by so many workers, as `forward`.
+    /// n steps back by `workers` workers, as `forward`.
     pub fn back<R: Threads + Sync, G: Gate + Sync>(
         &mut self,
         rt: &R,

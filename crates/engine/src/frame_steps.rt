@@ -1,4 +1,4 @@
-//! Steps of a system whose slope is accepted, which nothing stops but want of memory.
+//! Steps of a system whose slope is accepted: only a refused allocation stops them.
 
 ghost use Rattle.std.specs.Prelude.{◌≡◌, ◌+◌, ◌*◌, ◌<◌, ◌^◌, length, Ok, IfOk, IfErr};
 ghost use Rattle.ring_box.specs.Forces.{IsWithin};
@@ -22,8 +22,11 @@ use tile_round::Memory;
 /// Two frames of a system that follow one another in the direction of the steps.
 #[derive(Drop)]
 pub(crate) struct Course<'a, A: Allocator + Copy> {
+    /// The system whose atoms move.
     pub motion: &'a SafeSystem<A>,
+    /// The frame before `middle` in the direction of the steps: a place of each atom, three whole numbers below 2^32 on the rings of the sides.
     pub before: Vec<Place3, A>,
+    /// The frame whose forces the next step wants, in the same units.
     pub middle: Vec<Place3, A>,
     pub ghost before_atoms: { length before.items ≡ length motion.now.system.masses.items },
     pub ghost middle_atoms: { length middle.items ≡ length motion.now.system.masses.items },
@@ -53,7 +56,7 @@ fn force_in(sums: &[i64], atom: usize) -> Force<i64>
     }
 }
 
-/// What steps want before the first: `Memory` after no step where a growth was refused.
+/// An allocation before the first step: `Memory` after 0 steps where it was refused.
 pub(crate) fn at_start<T: Drop>(made: Result<T, AllocError>) -> Result<T, StepFault>
     ensures ok { IfOk result (λ wanted. made ≡ Ok wanted) }
     ensures refused { IfErr result (λ e. e ≡ fault.Memory 0) }
@@ -124,8 +127,8 @@ impl<A: Allocator + Copy> SafeSystem<A> {
         }
     }
 
-    /// What so many steps in a direction start from, and the cells that are kept or new ones: `StepRange` where the counter would leave an i64,
-    /// `Memory` after no step where a growth is refused.
+    /// The two frames from which `steps` steps in a direction start, and the cells, kept or new: `StepRange` where the counter would leave an i64,
+    /// `Memory` after 0 steps where an allocation is refused.
     pub(crate) fn course(
         &self,
         alloc: A,
@@ -167,7 +170,7 @@ impl<'a, A: Allocator + Copy> Course<'a, A> {
         mem::swap(&mut self.before, &mut self.middle);
     }
 
-    /// One step, by what sums the forces of a frame and keeps `desk` for it. The frames stay where memory is wanted.
+    /// One step by forces from `sums`, which keeps `desk` for it. The frames stay where an allocation is refused.
     fn make_step<S, T: AsSlice<i64> + Drop, F: Fn(&[Place3], &mut S) -> Result<T, Memory>>(
         &mut self,
         desk: &mut S,
@@ -184,7 +187,7 @@ impl<'a, A: Allocator + Copy> Course<'a, A> {
         Ok(())
     }
 
-    /// So many steps. It answers how many were made: fewer only where memory is wanted.
+    /// n steps. It answers how many were made: fewer only where an allocation is refused.
     fn make_steps<S, T: AsSlice<i64> + Drop, F: Fn(&[Place3], &mut S) -> Result<T, Memory>>(
         &mut self,
         steps: u64,
@@ -206,7 +209,7 @@ impl<'a, A: Allocator + Copy> Course<'a, A> {
         steps
     }
 
-    /// So many steps on the caller's thread.
+    /// n steps on the caller's thread.
     pub(crate) fn steps_alone<B: Allocator>(
         &mut self,
         alloc: A,
@@ -257,7 +260,7 @@ impl<'a, A: Allocator + Copy + Sync> Course<'a, A> {
     ghost use Rattle.engine.specs.Rounds.{AreForces};
     ghost use Rattle.engine.specs.Tilings.{IsTilingOf};
 
-    /// So many steps by a pool's workers.
+    /// n steps by a pool's workers.
     pub(crate) fn steps_pooled<R: Threads + Sync, G: Gate + Sync, B: Allocator + Send>(
         &mut self,
         alloc: A,

@@ -21,7 +21,7 @@ pub(crate) struct Tiling<A: Allocator + Copy> {
     pub ghost alike: { cells.bits ≡ tiles.grid.bits },
 }
 
-/// What sums are made with: the cells of a box, and what the caller alone, or each of a pool's workers, keeps at hand.
+/// The work space of the sums of forces: the cells of a box, and the scratch of the caller alone or of each of a pool's workers.
 #[derive(Drop)]
 pub(crate) struct Desk<A: Allocator + Copy, S: Drop> {
     pub tiling: Tiling<A>,

@@ -33,7 +33,7 @@ pub(crate) struct FrameWork<'a, A: Allocator + Copy> {
 }
 
 impl<'a, A: Allocator + Copy> FrameWork<'a, A> {
-    // What a pair adds that has this number in the tile of these cells.
+    // The force of the pair with this number in the tile of these cells.
     fn add_of(&self, tile: u64, cells: Tile, k: u64, pair: AtomPair) -> Option<PairAdd>
         requires tile { slice_get (tiles_of self.now.tiles.now.grid.bits) tile ≡ Some (cells.first, cells.second) }
         requires pair { slice_get (pairs_in self.now.cells.now.members (cells.first, cells.second)) k ≡ Some (pair.low, pair.high) }
@@ -94,7 +94,7 @@ impl<'a, A: Allocator + Copy> FrameWork<'a, A> {
 
 // The allocators are two, so that the one of the work has only to be shared by threads, and that of what a worker keeps only to go to one.
 impl<'a, A: Allocator + Copy, B: Allocator> RowWork<Scratch<B>> for FrameWork<'a, A> {
-    // What the atoms have between them is found for a row of pairs, then their slopes, then their forces.
+    // Lines and distances are found for a row of pairs, then their slopes, then their forces.
     fn next_adds(
         &self,
         scratch: &mut Scratch<B>,

@@ -9,7 +9,7 @@ use verifier::VerifyFault;
 /// `V2 Fault AR AR r 858993459 pc 2 F2 ZeroDivisor`.
 #[derive(Clone, Copy, Debug)]
 pub struct KernelRefusal {
-    /// What the verifier found. Its types are numbers of the job's, counted from 0.
+    /// The verifier's fault. Its types are numbers of the job's, counted from 0.
     pub fault: VerifyFault,
     /// The names of these types, where the fault speaks of two.
     pub types: Option<(Name, Name)>,

@@ -1,4 +1,4 @@
-//! What holds of the steps of an engine, and of runs, whatever the job and the state.
+//! Laws of the steps of an engine, and of runs, for every job and state.
 
 ghost use Rattle.engine.specs.EngineSteps.{RunsAreTold, RunsStaySafe, StepsAdd, StepsReturn, ToldAreRun};
 
@@ -12,7 +12,7 @@ pub fn steps_return()
     ensures { StepsReturn }
 {}
 
-/// What a run writes is safe under its job where what it began with is: no instruction of the slope's code goes wrong on the way
+/// The state that a run writes is safe under its job where the one that it began with is: no instruction of the slope's code goes wrong on the way
 /// on, nor on the way back, and no pair takes more of them than the certified number. So the verifier refuses no text of a run.
 pub fn runs_stay_safe()
     ensures { RunsStaySafe }

@@ -20,7 +20,7 @@ impl Gate for NoGate {
     fn before_tile(&self, _worker: u32, _tile: u64) {}
 }
 
-/// What workers keep at hand, 1 to 64 of them.
+/// The scratch of 1 to 64 workers.
 #[derive(Drop)]
 pub(crate) struct Crew<A: Allocator> {
     pub scratches: Vec<Scratch<A>, A>,
@@ -28,7 +28,7 @@ pub(crate) struct Crew<A: Allocator> {
     pub ghost few: { length scratches.items ≤ 64 },
 }
 
-/// What starts workers, the first of which is the caller's thread, and the gate that each passes before each tile that it has drawn.
+/// The runtime that starts workers, of which the first is the caller's thread, and the gate that each passes before each tile that it has drawn.
 #[derive(Drop)]
 pub(crate) struct Pool<'a, R, G> {
     pub rt: &'a R,

@@ -23,7 +23,7 @@ pub(crate) struct FoundPair {
 impl FoundPair {
     ghost use Rattle.engine.specs.Rounds.{pair_add};
 
-    /// What the pair adds, where this is the slope of its energy.
+    /// The force of the pair, in 2^-bits kJ/mol/nm, where this is the slope of its energy.
     pub(crate) fn add(&self, slope: Fx) -> PairAdd
         requires { unsigned_abs slope < 2 ^ 63 }
         ensures { result ≡ pair_add self.now.low self.now.high (force_of self.now.acting (neg_ℤ slope)) }
@@ -45,7 +45,7 @@ fn opposite(slope: Fx) -> Fx
     Fx::from_raw(-slope.raw())
 }
 
-/// What a worker keeps at hand for a row: pairs that may act, those found that do, what is asked for them, the slopes that are answered, and room for runs
+/// The scratch of a worker for a row: pairs that may act, those found that do, their asks, the slopes that answer these, and room for runs
 /// in lanes, of flat code or of code that jumps.
 #[derive(Drop)]
 pub(crate) struct Scratch<A: Allocator> {
@@ -73,7 +73,7 @@ impl<A: Allocator + Copy> Scratch<A> {
     }
 }
 
-/// One for each of so many workers. `AllocError` only where memory is refused.
+/// One for each of `count` workers. `AllocError` only where memory is refused.
 pub(crate) fn scratches<A: Allocator + Copy>(
     alloc: A,
     count: u32,

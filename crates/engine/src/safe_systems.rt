@@ -95,7 +95,7 @@ impl<A: Allocator> SafeSystem<A> {
     ghost use Rattle.kernel_lanes.specs.Lanes.{IsServed};
     ghost use Rattle.engine.specs.Rows.{AreSlopes, IsFound, IsSlope, ask_of};
 
-    /// What is asked for a pair.
+    /// The ask for a pair: its two types and its distance.
     fn ask(&self, pair: &FoundPair) -> Ask
         requires { IsFound self.now.system (length self.now.system.types.items) pair.now }
         ensures value { result ≡ ask_of self.now.system pair.now }
@@ -108,7 +108,7 @@ impl<A: Allocator> SafeSystem<A> {
         }
     }
 
-    /// What is asked for these pairs.
+    /// The asks for these pairs, in their order, at most 64.
     pub(crate) fn ask_all(&self, found: &[FoundPair], asks: &mut ArrayVec<Ask, 64>)
         requires few { length found.now ≤ 64 }
         requires found { All (IsFound self.now.system (length self.now.system.types.items)) found.now }
@@ -197,7 +197,7 @@ impl<A: Allocator> SafeSystem<A> {
     ghost use Rattle.engine.specs.Rounds.{add_of};
     ghost use Rattle.engine.specs.Rows.{AreSlopes, IsFound, add_found, ask_of};
 
-    /// What a pair adds that was found.
+    /// The force of a pair that was found.
     fn add(&self, pair: &FoundPair) -> PairAdd
         requires found { IsFound self.now.system (length self.now.system.types.items) pair.now }
         requires bound { self.now.system.kernel.verified.bound < 2 ^ 63 }
@@ -207,7 +207,7 @@ impl<A: Allocator> SafeSystem<A> {
         pair.add(slope)
     }
 
-    /// What a pair adds to the forces; `None` where it doesn't act.
+    /// The force of a pair of atoms of a frame; `None` where it doesn't act.
     pub(crate) fn pair_add(&self, frame: &[Place3], low: u32, high: u32) -> Option<PairAdd>
         requires apart { low < high }
         requires high { high < length frame.now }
@@ -220,7 +220,7 @@ impl<A: Allocator> SafeSystem<A> {
         }
     }
 
-    /// What pairs of these slopes add.
+    /// The forces of the pairs found, by their slopes, at most 64.
     fn add_all(&self, found: &[FoundPair], slopes: &[Fx], adds: &mut ArrayVec<PairAdd, 64>)
         requires few { length found.now ≤ 64 }
         requires room { length found.now ≤ length slopes.now }
@@ -233,7 +233,7 @@ impl<A: Allocator> SafeSystem<A> {
         }
     }
 
-    /// What the pairs found add.
+    /// The forces of the pairs found.
     pub(crate) fn adds<B: Allocator>(
         &self,
         scratch: &mut Scratch<B>,

@@ -13,10 +13,10 @@ use std::test::*;
 use std::thread::Threads;
 use tested_run::{TestedRunFault, run_bytes_checked};
 
-/// No run of a test makes so many requests for memory.
+/// More requests for memory than any run of a test makes.
 const REQUESTS: u64 = 100_000;
 
-/// A tested run where the request with this number is refused: it ends with the text of its state, or wants memory and writes
+/// A tested run where the request with this number is refused: it ends with the text of its state, or runs out of memory and writes
 /// nothing. Tells whether that request was made, and nothing where the run ends otherwise.
 fn run_without(alloc: Global, number: u64) -> Option<bool> {
     let memory = RefusingAllocator::new(alloc, number);
@@ -49,7 +49,7 @@ fn each_request_of_a_tested_run(rt: HostRuntime) {
     assert!(rt; requests.unwrap_or(0) > 10, "{requests:?} requests");
 }
 
-/// Whether an engine stands at the last of these states after three steps; and where a step wants memory, first at that after so many
+/// Whether an engine stands at the last of these states after three steps; and where a step runs out of memory, first at that after so many
 /// whole steps as it says, from which it makes the others.
 fn goes_on<R: Threads + Sync + AllocGlobal>(
     rt: &R,

@@ -9,7 +9,7 @@ use std::test::*;
 use std::thread::Threads;
 use tested_run::{TestedRunFault, run_bytes_checked};
 
-/// What a tested run writes, or the line of its fault.
+/// The text that a tested run writes, or the line of its fault.
 fn tested(
     alloc: Global,
     job: &[u8],
@@ -113,7 +113,7 @@ fn the_first_pair_without_a_slope(rt: HostRuntime) -> Result<(), Fail> {
     Ok(())
 }
 
-/// Whether a tested run writes what an engine's run does, and so many steps back lead to the state again.
+/// Whether a tested run writes what an engine's run does, and n steps back lead to the state again.
 fn goes_as_an_engine<R: Threads + Sync + AllocGlobal>(
     rt: &R,
     job: &[u8],

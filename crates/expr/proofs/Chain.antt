@@ -22,7 +22,7 @@ done x = Ok x
 pub record IsSign {S : Type 0} (sign : List Placed → SignOf S) : Type 0 where
   pub token : (ts : List Placed) (o : S) (rest : List Placed) → sign ts ≡ Some (o, rest) → length ts ≡ suc (length rest)
 
--- what is read takes a token at least
+-- an operand takes a token at least
 pub record Takes {X : Type 0} (operand : List Placed → ReadingOf X) : Type 0 where
   pub token : (ts : List Placed) (x : X × List Placed) → operand ts ≡ Ok x → length x.1 < length ts
 

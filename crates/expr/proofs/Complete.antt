@@ -1,4 +1,4 @@
--- What is in the grammar is read, unless it nests deeper than allowed.
+-- Completeness of reading: a text of the grammar is read, unless it nests deeper than allowed.
 use Rattle.std.proofs.Common.{◌≡◌, ◌⊎◌, inl, inr, ℕ, zero, suc, ℤ, ◌<◌, true, List, [], ◌∷◌, ◌++◌, length, Option, Some, None, Result, Ok, Err, refl, sym, ap, subst, ◌∙◌, append_assoc, arith}
 use Rattle.energy_program.specs.declared.callees.Callee.{Callee}
 use Rattle.energy_program.specs.declared.trees.Operator.{Operator}
@@ -185,7 +185,7 @@ call_reads end n d w f ts xs x rest s c h =
     subst (λ (o : Option Callee). Answers n d (called_by end (expr_at end d) w ts o) (Ok (x, rest))) (sym s)
     (answers_then n d (arguments_at end d ts) (xs, rest) (λ y. called w f y.0 >>= λ z. Ok (z, y.1)) (Ok (x, rest)) (ap (λ (r : Result Syntax Refusal). r >>= λ z. reading z rest) c) h)
 
--- what begins an expression closes no parenthesis
+-- the first token of an expression closes no parenthesis
 abbrev Opens : List Placed → Type 0
 Opens ts = close_sign ts ≡ None
 

@@ -1,4 +1,4 @@
--- What each level reads, as the code takes it apart.
+-- The levels of the grammar, as the code takes them apart.
 use Rattle.std.proofs.Common.{◌≡◌, ℕ, zero, suc, ◌-◌, ◌<◌, List, length, Option, Some, None, Result, Ok, Err, refl, ap, ◌∙◌, arith}
 use Rattle.fallible.specs.declared.failure.Failure.{Failure}
 use Rattle.energy_program.specs.declared.faults.ExprFault.{ExprFault}
@@ -13,7 +13,7 @@ use Rattle.fallible.proofs.FailureLaws.{fails_as}
 use Rattle.energy_program.proofs.FaultLaws.{fails_same, fails_then}
 use Rattle.expr.proofs.Chain.{turn, turn_fails, turn_ends, sum_signs, product_signs, comma_signs, unary_takes, term_takes, expr_takes}
 
--- what a call gave stands for what is equal
+-- a call's result gives each value that is equal
 pub gives_same : {C X Y : Type 0} (view : X → Y) (r : Result X (Failure (ExprFault C))) (s u : Result Y Refusal) → u ≡ s → Gives view r s → Gives view r u
 gives_same view r s u same h = rw same h
 

@@ -1,4 +1,4 @@
--- What is made of parts whose names are resolved.
+-- Trees that are made of parts whose names are resolved.
 use Rattle.std.proofs.Common.{◌≡◌, ℕ, List, Result, Ok, Err, refl}
 use Rattle.std.specs.Prelude.{Box}
 use Rattle.fallible.specs.declared.failure.Failure.{Failure}

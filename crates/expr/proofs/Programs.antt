@@ -53,7 +53,7 @@ name_is ((t.Name v, at) ∷ ts) w rest e =
     record { at = at; parts = ap (λ (z : List ℕ × List Placed). (t.Name z.0, at) ∷ z.1) k }
 name_is _ w rest e = absurd cc
 
--- what holds of tokens behind a semicolon holds behind more of them
+-- a property of the tokens behind a semicolon is one of those behind more of them
 skip : (P : Rest) → ((at : ℕ) (b : List Placed) → P b → P ((t.Semicolon, at) ∷ b)) → (rest : List Placed) → ((at : ℕ) → P ((t.Semicolon, at) ∷ after_semicolons rest)) → (at : ℕ) → P ((t.Semicolon, at) ∷ rest)
 unfolding after_semicolons
 skip P step [] holds at = holds at
@@ -81,7 +81,7 @@ record Headed (ts : List Placed) (w : List ℕ) (after : List Placed) : Type 0 w
   parts : ts ≡ (t.Semicolon, at) ∷ rest
   named : after_semicolons rest ≡ (t.Name w, from) ∷ (t.Equals, to) ∷ after
 
--- what a heading says of the tokens
+-- the meaning of a heading for the tokens
 abbrev Says : List Placed → Heading → Type 0
 Says ts None = IsTail 65 ts []
 Says ts (Some x) = Headed ts x.0 x.1

@@ -1,4 +1,4 @@
--- What is read is in the grammar.
+-- Soundness of reading: a text that is read is in the grammar.
 use Rattle.std.proofs.Common.{◌≡◌, ℕ, zero, suc, ℤ, pos, Bool, true, false, List, [], ◌∷◌, ◌++◌, length, Option, Some, None, Ok, refl, sym, ap, subst, ◌∙◌, append_assoc}
 use Rattle.std.specs.Prelude.{neg_ℤ, if◌then◌else◌}
 use Rattle.std.proofs.lemmas.List.{append-nil}
@@ -31,7 +31,7 @@ pub record Spells {X : Type 0} (P : RuleOf X) (ts : List Placed) (e : X) (rest :
   pub parts : ts ≡ front ++ rest
   pub holds : P front e
 
--- what is read is spelled so
+-- a value that is read is spelled so
 pub record Sound {X : Type 0} (P : RuleOf X) (operand : List Placed → ReadingOf X) : Type 0 where
   pub spells : (ts : List Placed) (e : X) (rest : List Placed) → operand ts ≡ Ok (e, rest) → Spells P ts e rest
 
@@ -167,7 +167,7 @@ start_is ((t.Name w, at) ∷ ts) b rest e = start_same (Word w) ((t.Name w, at) 
 start_is ((t.Open, at) ∷ ts) b rest e = start_same Group ((t.Open, at) ∷ ts) ts b rest (begins_with t.Open at ts ts refl) e
 start_is (_ ∷ ts) b rest e = absurd cc
 
--- what a rule says of one thing, it says of what is equal
+-- a rule holds of equal things alike
 moved : {X : Type 0} (P : RuleOf X) (front ts : List Placed) (x e : X) (r rest : List Placed) → ts ≡ front ++ r → P front x → ◌≡◌ {A = ReadingOf X} (Ok (x, r)) (Ok (e, rest)) → Spells P ts e rest
 moved {X} P front ts x e r rest s p h =
     let k = ok_is (x, r) (e, rest) h in
@@ -273,7 +273,7 @@ exponent_sound end n at ts k rest e = by_open (open_sign ts) refl e
     by_open None h e = let q = signed_sound ts k rest (bad_is at (signed_sign ts) k rest e) in record { front = q.front; parts = q.parts; holds = g.bare q.holds }
     by_open (Some inside) h e = grouped_sound end n at ts inside k rest (open_is ts inside h) e
 
--- what is read behind an atom
+-- the power that is read behind an atom
 raised_sound : (end n : ℕ) (front : List Placed) (x : Syntax) (ts : List Placed) (e : Syntax) (rest : List Placed) → IsAtom n front x → raised_at end n x ts ≡ Ok (e, rest) → Spells (IsPower n) (front ++ ts) e rest
 unfolding raised_at
 raised_sound end n front x ts e rest p h = by_caret (caret_sign ts) refl h
@@ -295,7 +295,7 @@ powered_sound end n atom ts e rest sound h =
 
 -- ---- atoms
 
--- what is in parentheses, and the one behind it
+-- the part in parentheses, and the closing one behind it
 pub record Closed {X : Type 0} (Q : RuleOf X) (ts : List Placed) (e : X) (rest : List Placed) : Type 0 where
   pub front : List Placed
   pub to : ℕ

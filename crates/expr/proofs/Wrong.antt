@@ -167,7 +167,7 @@ numeral_too_great bits b rest true e =
     record { numeral = n.1.numeral; rest = n.0; begins = n.1.front; too_great = n.1.value }
 numeral_too_great bits b rest false e = absurd e
 
--- what a text that is stuck begins with
+-- the beginning of a text at which its reading is stuck
 abbrev pub Lexical : ℕ → List ℕ → Refusal → Type 0
 Lexical bits text (BadCharacter at) = IsWrongAt bits BeginsBadly text at
 Lexical bits text (BadNumber at) = IsWrongAt bits BeginsMalformed text at

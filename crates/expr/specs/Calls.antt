@@ -1,11 +1,11 @@
--- What a call makes of its arguments.
+-- Calls of functions, by their arguments.
 use Rattle.std.specs.Prelude.{ℕ, List, Result, Ok, Err}
 use Rattle.energy_program.specs.declared.callees.Callee.{Callee}
 use Rattle.energy_program.specs.declared.callees.Callee.TheVariants as takes
 use Rattle.energy_program.specs.Faults.{Refusal, WrongArgumentCount}
 use Rattle.expr.specs.Syntax.{Syntax, Binary, Applied, Select, Arguments, One, Two, Three}
 
--- the function with this name, of so many arguments as it takes
+-- the function with this name, of as many arguments as it takes
 abbrev pub called : List ℕ → Callee → Arguments → Result Syntax Refusal
 called name (takes.One f) (One x) = Ok (Applied f x)
 called name (takes.Two o) (Two x y) = Ok (Binary o x y)

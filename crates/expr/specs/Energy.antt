@@ -118,7 +118,7 @@ trees_in bits variables text = do
   names ← checked variables [] (names_in source.1)
   trees variables source
 
--- what a text is read as
+-- the tree of a text, or its first fault
 unfoldable pub program_of : ℕ → List (List ℕ) → List ℕ → Result Tree Refusal
 program_of bits variables text = in_place (trees_in bits variables text)
 

@@ -43,7 +43,7 @@ mutual
     negative : {n : ℕ} {a : List Placed} {x : Syntax} (at : ℕ) → IsUnary n a x → IsUnary (suc n) ((t.Minus, at) ∷ a) (Negated x)
     power : {n : ℕ} {a : List Placed} {x : Syntax} → IsPower n a x → IsUnary (suc n) a x
 
-  -- with so many levels inside its parentheses
+  -- with n levels inside its parentheses
   pub data IsPower : ℕ → List Placed → Syntax → Type 0 where
     atom : {n : ℕ} {a : List Placed} {x : Syntax} → IsAtom n a x → IsPower n a x
     raised : {n : ℕ} {a b : List Placed} {x : Syntax} {k : ℤ} (at : ℕ) → IsAtom n a x → IsExponent n b k → IsPower n (a ++ ((t.Caret, at) ∷ b)) (Power x k)
@@ -64,7 +64,7 @@ mutual
     first : {n : ℕ} {a : List Placed} {x : Syntax} → IsExpr n a x → IsList n a (One x)
     next : {n : ℕ} {a b : List Placed} {xs : Arguments} {y : Syntax} (at : ℕ) → IsList n a xs → IsExpr n b y → IsList n (a ++ ((t.Comma, at) ∷ b)) (with_argument xs y)
 
--- what stands behind the body: semicolons, each with a definition behind it or with none
+-- the tail behind the body: semicolons, each with a definition behind it or with none
 pub data IsTail : ℕ → List Placed → List Definition → Type 0 where
   end : {n : ℕ} → IsTail n [] []
   empty : {n : ℕ} {b : List Placed} {ds : List Definition} (at : ℕ) → IsTail n b ds → IsTail n ((t.Semicolon, at) ∷ b) ds

@@ -10,7 +10,7 @@ use Rattle.expr.specs.Syntax.{Syntax, Arguments}
 use Rattle.expr.specs.Grammar.{IsExpr, IsTerm, IsAtom, IsList}
 use Rattle.expr.specs.Parsing.{begins_operand}
 
--- reading halts right at these tokens, with so many levels left
+-- reading halts right at these tokens, with n levels left
 pub data Halts : Refusal → ℕ → List Placed → Type 0 where
   too_deep : {k : Lexeme} {rest : List Placed} (at : ℕ) → begins_operand k ≡ true → Halts TooLarge zero ((k, at) ∷ rest)
   unknown : {n : ℕ} {w : List ℕ} {rest : List Placed} (at to : ℕ) → function_of w ≡ None → is_left_out w ≡ false → Halts (UnknownName w) (suc n) ((t.Name w, at) ∷ (t.Open, to) ∷ rest)
@@ -39,7 +39,7 @@ mutual
     first : {f : Refusal} {n : ℕ} {b : List Placed} → HaltsExpr f n b → HaltsList f n b
     next : {f : Refusal} {n : ℕ} {a b : List Placed} {xs : Arguments} (at : ℕ) → IsList n a xs → HaltsExpr f n b → HaltsList f n (a ++ ((t.Comma, at) ∷ b))
 
--- So many definitions may come. At the name of one that is too many reading halts as well.
+-- At most `many` definitions may come. At the name of one that is too many reading halts as well.
 pub data HaltsTail : Refusal → ℕ → ℕ → List Placed → Type 0 where
   too_many : {n : ℕ} {w : List ℕ} {rest : List Placed} (at from : ℕ) → HaltsTail TooLarge n zero ((t.Semicolon, at) ∷ (t.Name w, from) ∷ rest)
   empty : {f : Refusal} {n many : ℕ} {b : List Placed} (at : ℕ) → HaltsTail f n many b → HaltsTail f n many ((t.Semicolon, at) ∷ b)

@@ -20,7 +20,7 @@ use Rattle.expr.specs.Tokens.{Lexeme, Placed, placed}
 use Rattle.energy_program.specs.Tree.{is_whole}
 use Rattle.expr.specs.Tokens as t
 
--- what is read, and the tokens after it
+-- the result of reading: a part, and the tokens after it
 abbrev pub ReadingOf : Type 0 → Type 0
 ReadingOf X = Result (X × List Placed) Refusal
 
@@ -41,7 +41,7 @@ abbrev pub beside : {X Y E : Type 0} → X → Result Y E → Result (X × Y) E
 beside x (Ok y) = Ok (x, y)
 beside x (Err e) = Err e
 
--- what is made, in front of these tokens
+-- the part that was made, in front of these tokens
 abbrev pub followed : {X : Type 0} → Result X Refusal → List Placed → ReadingOf X
 followed made rest = made >>= λ x. Ok (x, rest)
 
@@ -55,7 +55,7 @@ offset end ((k, at) ∷ rest) = at
 
 -- ---- what stands first
 
--- what a sign says, and the tokens after it
+-- the meaning of a sign, and the tokens after it
 abbrev pub SignOf : Type 0 → Type 0
 SignOf S = Option (S × List Placed)
 
@@ -145,7 +145,7 @@ abbrev pub with_rest : List Placed → Option Beginning → SignOf Beginning
 with_rest rest None = None
 with_rest rest (Some b) = Some (b, rest)
 
--- what an atom begins with, and the tokens after that
+-- the beginning of an atom, and the tokens after it
 abbrev pub start : List Placed → SignOf Beginning
 start [] = None
 start ((k, at) ∷ rest) = with_rest rest (beginning_of k)
@@ -289,7 +289,7 @@ abbrev pub unary_by : (List Placed → Reading) → Reading → Option (List Pla
 unary_by operand other (Some rest) = operand rest >>= λ x. Ok (s.Negated x.0, x.1)
 unary_by operand other None = other
 
--- on so many levels
+-- on n levels
 unfoldable pub unary_at : ℕ → ℕ → List Placed → Reading
 unary_at end zero ts = Err (misplaced end ts)
 unary_at end (suc n) ts =

@@ -80,7 +80,7 @@ abbrev pub defined : (List Placed → Reading) → (List Placed → Definitions)
 defined value others None = Ok []
 defined value others (Some h) = value h.1 >>= λ x. before ((h.0, x.0) ∷ []) (others x.1)
 
--- the definitions behind the body: so many may come
+-- the definitions behind the body, at most n
 unfoldable pub definitions_at : ℕ → ℕ → List Placed → Definitions
 definitions_at end zero ts = heading_at end true ts >>= λ h. Ok []
 definitions_at end (suc n) ts = heading_at end false ts >>= λ h. defined (expr_at end 65) (definitions_at end n) h

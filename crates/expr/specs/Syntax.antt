@@ -1,4 +1,4 @@
--- What the grammar makes of a text: a tree with names as they are written.
+-- Syntax trees of texts: names stand as they are written.
 use Rattle.std.specs.Prelude.{ℕ, ℤ, List, map}
 use Rattle.std.specs.declared.vec.Vec.{Vec}
 use Rattle.energy_program.specs.declared.trees.Operator.{Operator}

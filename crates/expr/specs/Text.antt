@@ -17,7 +17,7 @@ Stops test [] = Unit {0}
 Stops test (b ∷ bs) = test b ≡ false
 
 -- The bytes are the token, where the rest follows them: a numeral and a name are as long as they can be. Numbers have
--- so many bits behind the point.
+-- `bits` bits behind the point.
 pub data IsToken (bits : ℕ) (rest : List ℕ) : List ℕ → Lexeme → Type 0 where
   plus : IsToken bits rest (43 ∷ []) t.Plus
   minus : IsToken bits rest (45 ∷ []) t.Minus

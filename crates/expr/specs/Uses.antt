@@ -15,7 +15,7 @@ use Rattle.energy_program.specs.Tree.{Tree, substituted, tree_of}
 use Rattle.energy_program.specs.Tree as t
 use Rattle.energy_program.specs.Programs.{Trees}
 
--- what is made of a part, unless there is no part or memory runs out
+-- a tree that is made of a part, unless there is no part or memory runs out
 abbrev pub Grows : {A : Type 0} → (Tree → Tree) → Result (Box (code.Expr A) A) (Failure (ExprFault A)) → Result (Box (code.Expr A) A) (Failure (ExprFault A)) → Type 0
 Grows make (Ok part) result = IsOrMemory (λ e. tree_of e.value ≡ make (tree_of part.value)) result
 Grows make (Err e) result = result ≡ Err e

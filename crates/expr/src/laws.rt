@@ -1,4 +1,4 @@
-//! What holds of every text of an energy.
+//! Law of energy texts: reading agrees with the grammar.
 
 ghost use Rattle.expr.specs.Energy.{ReadsEnergyTexts};
 

@@ -15,7 +15,7 @@ use fixed::{Frac, NumFault, numeral_front};
 use line_text::{digits_up_to, is_identifier_continue, is_identifier_start};
 use std::alloc::Allocator;
 
-/// What is wrong at the front of a text.
+/// The fault at the front of a text.
 #[derive(Clone, Copy, Debug, PartialEq, Eq)]
 pub enum Wrong {
     /// The byte begins no token.
@@ -102,7 +102,7 @@ fn token_at<'a>(frac: Frac, text: &'a [u8]) -> Result<(Kind<'a>, &'a [u8]), Wron
     }
 }
 
-// What is wrong, as the fault at a place.
+// The fault at a place.
 fn wrong_at<A: Allocator>(wrong: Wrong, at: usize) -> ExprFault<A>
     ensures { refusal_of result ≡ refusal_at at wrong }
 {

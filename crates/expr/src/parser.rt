@@ -20,10 +20,10 @@ use std::alloc::Allocator;
 /// Fewer parentheses and minus signs than these may stand open around a token.
 pub const LEVELS: usize = 65;
 
-/// What is read, and the tokens after it.
+/// The result of reading an expression: its tree, and the tokens after it.
 pub type Read<'a, A> = Result<(Boxed<'a, A>, &'a [Token<'a>]), Failure<ExprFault<A>>>;
 
-/// What arguments are read, and the tokens after them.
+/// The result of reading arguments: these, and the tokens after them.
 type ReadArguments<'a, A> = Result<(Arguments<'a, A>, &'a [Token<'a>]), Failure<ExprFault<A>>>;
 
 /// Reads the tokens of a text, which ends at a place.
@@ -156,7 +156,7 @@ pub fn begins_operand(kind: Kind<'_>) -> bool
     }
 }
 
-/// What an atom begins with.
+/// The first token of an atom.
 enum OperandStart<'a> {
     Number(i64),
     Name(&'a [u8]),
@@ -175,7 +175,7 @@ fn start_of(kind: Kind<'_>) -> Option<OperandStart<'_>>
     }
 }
 
-// What an atom begins with, and the tokens after that.
+// The beginning of an atom, and the tokens after it.
 fn read_start<'a>(tokens: &'a [Token<'a>]) -> Option<(OperandStart<'a>, &'a [Token<'a>])>
     ensures { ShowsStart result (start (placed tokens.now)) }
 {
@@ -218,7 +218,7 @@ impl<A: Allocator + Copy> Parser<A> {
         }
     }
 
-    /// An expression in front, inside which there are so many levels, and the tokens after it.
+    /// An expression in front, inside which there are `levels` levels, and the tokens after it.
     #[cycle(parser)]
     pub fn expr<'a>(&self, tokens: &'a [Token<'a>], levels: usize) -> Read<'a, A>
         ensures { Gives seen result (expr_at self.now.end levels (placed tokens.now)) }
@@ -323,7 +323,7 @@ impl<A: Allocator + Copy> Parser<A> {
         }
     }
 
-    // A number, a name, or a parenthesis, inside which there are so many levels.
+    // A number, a name, or a parenthesis, inside which there are `levels` levels.
     #[cycle(parser)]
     fn atom<'a>(&self, tokens: &'a [Token<'a>], levels: usize) -> Read<'a, A>
         ensures { Gives seen result (atom_at self.now.end levels (placed tokens.now)) }

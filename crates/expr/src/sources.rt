@@ -23,7 +23,7 @@ pub struct Definition<'a, A: Allocator> {
     pub value: Boxed<'a, A>,
 }
 
-/// What the grammar makes of a whole text.
+/// The syntax tree of a whole text: its body, and its definitions in the order of the text.
 #[derive(Drop)]
 pub struct Source<'a, A: Allocator> {
     pub body: Boxed<'a, A>,

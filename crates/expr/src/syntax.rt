@@ -2,7 +2,7 @@ use energy_program::{Exponent, Function, Operator};
 use fixed::Fx;
 use std::alloc::Allocator;
 
-/// What the grammar makes of an energy text: names stand as they are written.
+/// A syntax tree of an energy text: names stand as they are written.
 #[derive(Drop)]
 pub enum Syntax<'a, A: Allocator> {
     /// A number.

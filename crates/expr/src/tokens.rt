@@ -1,4 +1,4 @@
-/// What a token is.
+/// The kind of a token, with its value.
 #[derive(Clone, Copy, Debug, PartialEq, Eq)]
 pub enum Kind<'a> {
     /// A numeral's raw value, and the whole number that it writes, as `numerals::whole` says.

@@ -16,7 +16,7 @@ use energy_program::{Expr, ExprFault, Names, Program};
 use fallible::Failure;
 use std::alloc::Allocator;
 
-/// What an expression may name: the variables, and the later definitions, which are numbered from the first.
+/// The scope of an expression: the variables, and the later definitions, which are numbered from `first`.
 #[derive(Drop)]
 pub struct Scope<'a, 'b, 'c, A: Allocator> {
     pub names: &'a Names<A>,
@@ -25,7 +25,7 @@ pub struct Scope<'a, 'b, 'c, A: Allocator> {
     pub ghost few: { first + length later.now ≤ 64 },
 }
 
-// What a name stands for.
+// The meaning of a name.
 fn used<A: Allocator + Copy>(alloc: A, scope: &Scope<A>, name: &[u8]) -> Part<A>
     ensures value { Gives (λ part. tree_of part.value) result (used scope.now.first (names_in (map definition_of scope.now.later.now)) name.now (input_of (names_of scope.now.names.now) name.now)) }
     ensures scoped { IfOk result (λ e. IsTrue (is_scoped (variable_count scope.now.names.now.parameters scope.now.names.now.globals) scope.now.first (scope.now.first + length scope.now.later.now) (tree_of e.value))) }

@@ -9,13 +9,13 @@ pub fails_as : {X Y R S : Type 0} (seen : R → S) (failure : Failure R) (part :
 fails_as seen (Refused fault) part whole hands_on h = hands_on (seen fault) h
 fails_as seen Memory part whole hands_on h = tt
 
--- What holds of whatever the definition refuses holds of what the call is refused for.
+-- A property of whatever the definition refuses is one of the call's refusal.
 pub refused_for : {X Y R S : Type 0} (view : X → Y) (seen : R → S) (holds : R → Type 0) (result : Result X (Failure R)) (said : Result Y S) → ((fault : R) → said ≡ Err (seen fault) → holds fault) → Gives view seen result said → IfErr result (λ failure. IfRefused failure holds)
 refused_for view seen holds (Ok x) said causes h = tt
 refused_for view seen holds (Err (Refused fault)) said causes h = causes fault h
 refused_for view seen holds (Err Memory) said causes h = tt
 
--- What holds anyway holds of a value.
+-- A fact that holds anyway holds of a value.
 pub IfOk_of : {X E P : Type 0} (r : Result X E) → P → IfOk r (λ _. P)
 IfOk_of (Ok x) p = p
 IfOk_of (Err e) p = tt

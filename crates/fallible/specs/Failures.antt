@@ -1,9 +1,9 @@
--- What a call answers that can run out of memory, beside what a definition says of its input.
+-- Answers of calls that can run out of memory, beside what a definition says of their input.
 use Rattle.std.specs.Prelude.{◌≡◌, Result, Ok, Err}
 use Rattle.fallible.specs.declared.failure.Failure.{Failure}
 use Rattle.fallible.specs.declared.failure.Failure.TheVariants.{Refused, Memory}
 
--- The input is refused for what the definition says. Want of memory says nothing of the input.
+-- The input is refused for what the definition says. Out of memory says nothing of the input.
 abbrev pub Fails : {Y R S : Type 0} → (R → S) → Failure R → Result Y S → Type 0
 Fails seen (Refused fault) said = said ≡ Err (seen fault)
 Fails seen Memory said = Unit {0}
@@ -23,7 +23,7 @@ abbrev pub refused_as : {R S : Type 0} → (R → S) → Failure R → Failure S
 refused_as handed_on (Refused fault) = Refused (handed_on fault)
 refused_as handed_on Memory = Memory
 
--- what holds of a refusal; want of memory has no reason
+-- this holds of the reason of a refusal; out of memory has none
 abbrev pub IfRefused : {R : Type 0} → Failure R → (R → Type 0) → Type 0
 IfRefused (Refused fault) holds = holds fault
 IfRefused Memory holds = Unit {0}

@@ -22,7 +22,7 @@ whole_is bits a q e =
     let l = h.at_most in
     rw e (record { multiple = (k, refl); at_most = omega (arith, ints); greatest = λ m low. floor_greatest a (2 ^ bits) k m h low })
 
--- what is the greatest below the negatives is the least above
+-- the negative of the greatest multiple below the negative is the least above
 mirrored : (d : ℕ) (a q : ℤ) → IsGreatestMultiple (pos d) (neg_ℤ a) q → IsLeastMultiple (pos d) a (neg_ℤ q)
 mirrored d a q h =
     let l = h.at_most in

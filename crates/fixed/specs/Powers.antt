@@ -3,7 +3,7 @@ use Rattle.std.specs.Prelude.{ℕ, suc, ℤ, pos, negsuc, ◌≡◌, ◌+◌, �
 use Rattle.fixed.specs.declared.faults.Fault.{Fault}
 use Rattle.fixed.specs.Arithmetic.{one, product_of, quotient_of, square_of, then_apply}
 
--- r is what the power n of x comes to, or the first fault on the way
+-- r is the power n of x, or the first fault on the way
 pub data IsPower (bits : ℕ) (x : ℤ) : ℕ → Result ℤ Fault → Type 0 where
   once : IsPower bits x 1 (Ok x)
   even : (k : ℕ) (r : Result ℤ Fault) → 0 < k → IsPower bits x k r → IsPower bits x (2 * k) (then_apply r (square_of bits))

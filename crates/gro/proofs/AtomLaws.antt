@@ -77,7 +77,7 @@ three_read places text (x ∷ y ∷ z ∷ []) h =
 
 -- ---- points
 
--- a column has one point, so many digits before its end
+-- a column has one point, `places` digits before its end
 pub record HasPoint (places : ℕ) (column : List ℕ) : Type 0 where
   pub front : List ℕ
   pub part : List ℕ
@@ -86,7 +86,7 @@ pub record HasPoint (places : ℕ) (column : List ℕ) : Type 0 where
   pub part_lacks : lacks 46 part ≡ true
   pub part_length : length part ≡ places
 
--- a column that writes a number with so many decimals has one point, so many digits before its end
+-- a column that writes a number with n decimals has one point, n digits before its end
 pub has_point : (places : ℕ) (column : List ℕ) (z : ℤ) → WritesColumn places column z → HasPoint places column
 has_point places column z h = at h.number
   where

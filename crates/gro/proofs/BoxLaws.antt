@@ -18,7 +18,7 @@ use Rattle.gro.specs.GroText.{WritesFew, WritesLength, whole, pointed, AreValues
 use Rattle.gro.specs.GroReading.{LineView, few_digits_of, length_parts, length_of, value_of, values_of, is_zero, rectangular, sides_in}
 use Rattle.gro.proofs.CountLaws.{test_ok, first_digit}
 
--- what was read before, and what is still read
+-- the values that were read before, and those that are still read
 abbrev pub with_front : List ℤ → Option (List ℤ) → Option (List ℤ)
 with_front front read = option_map (λ vs. front ++ vs) read
 
@@ -49,7 +49,7 @@ or_false : (a b : Bool) → (a || b) ≡ false → (a ≡ false) × (b ≡ false
 or_false true b e = absurd cc
 or_false false b e = (refl, e)
 
--- a text that is read as few digits is 1 to so many digits that write the number
+-- a text that is read as few digits is 1 to n digits that write the number
 pub few_written : (most : ℕ) (text : List ℕ) (n : ℕ) → few_digits_of most text ≡ Some n → WritesFew most text n
 unfolding few_digits_of
 few_written most text n e =
@@ -59,7 +59,7 @@ few_written most text n e =
     let d = digits_written text n a.1 in
     record { number = record { form = record { some = omega arith; digits = d.0 }; value = d.1 }; few = ltb-false most (length text) b.1 }
 
--- 1 to so many digits that write a number are read as it
+-- 1 to n digits that write a number are read as it
 pub few_read : (most : ℕ) (text : List ℕ) (n : ℕ) → WritesFew most text n → few_digits_of most text ≡ Some n
 unfolding few_digits_of
 few_read most text n h =

@@ -51,7 +51,7 @@ line_unfinished bytes p e ended = at (eqb (length bytes) 0) (cut_at 10 bytes) re
     at false None c d = cut_none 10 bytes c
     at false (Some q) c d = let same : parted bytes (Some q) ≡ p = cc in let wrong : true ≡ false = ap (λ (q : LineView × List ℕ). q.0.ended) same ∙ ended in absurd cc
 
--- what a line says, and what is left after it
+-- the value of a line, and the bytes after it
 abbrev said_of : {X : Type 0} → (LineView → Result X GroFault) → LineView × List ℕ → Result (X × List ℕ) GroFault
 said_of {X} read line = ◌>>=◌ {B = X × List ℕ} (read line.0) (λ x. Ok (x, line.1))
 

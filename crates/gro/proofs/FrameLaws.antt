@@ -18,7 +18,7 @@ use Rattle.gro.proofs.FrameLoops.{frame_shorter}
 pub ok_is : {A : Type 0} {x y : A} → ◌≡◌ {A = Result A GroFault} (Ok x) (Ok y) → x ≡ y
 ok_is e = cc
 
--- what a line says, and what is left after it
+-- the value of a line, and the bytes after it
 abbrev with_rest : {X : Type 0} → List ℕ → Result X GroFault → Result (X × List ℕ) GroFault
 with_rest rest r = r >>= λ x. Ok (x, rest)
 

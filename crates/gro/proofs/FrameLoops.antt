@@ -14,7 +14,7 @@ use Rattle.gro.proofs.LineLaws.{line_shorter}
 
 -- ---- atoms
 
--- what was read before, and what is still read
+-- the atoms that were read before, and those that are still read
 abbrev pub with_atoms : List AtomView → Result (List AtomView × List ℕ) GroFault → Result (List AtomView × List ℕ) GroFault
 with_atoms front read = read >>= λ x. Ok (front ++ x.0, x.1)
 

@@ -7,7 +7,7 @@ use Rattle.line_text.specs.Parts.{ended}
 use Rattle.gro.specs.Frames.{FrameView}
 use Rattle.gro.specs.GroWriting.{count_line, atom_lines, box_line, frame_text}
 
--- what stands between the title and the atoms: the end of the title's line, and the line of the number of atoms
+-- the text between the title and the atoms: the end of the title's line, and the line of the number of atoms
 abbrev pub between : FrameView → List ℕ
 between f = 10 ∷ ended (count_line (length f.atoms))
 

@@ -1,4 +1,4 @@
--- What is written of a frame stands for that one frame.
+-- Written frames: the text of a frame stands for that one frame.
 use Rattle.std.proofs.Common.{◌≡◌, ℕ, zero, suc, ◌+◌, ◌-◌, ◌*◌, ◌/◌, ◌%◌, ◌^◌, ◌<◌, ◌≤◌, true, ◌&&◌, eqb, leb, not, List, [], ◌∷◌, ◌++◌, length, take, drop, get_or, replicate, ℤ, pos, negsuc, ◌≤ℤ◌, decimal, Ok, IsTrue, refl, sym, ap, subst, ◌∙◌, append_assoc, arith, inl, lit<}
 use Rattle.std.specs.List.{list_all, slice_range, flat_map, AllByRecursion}
 use Rattle.std.specs.Fmt.{signed_decimal}

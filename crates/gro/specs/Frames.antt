@@ -1,4 +1,4 @@
--- What a frame of a GRO file is, without where it lies in memory (GROMACS manual, gro file format).
+-- Frames of GRO files, without where they lie in memory (GROMACS manual, gro file format).
 use Rattle.std.specs.Prelude.{ℕ, ℤ, List, map}
 use Rattle.line_text.specs.Names.{name_text}
 use Rattle.gro.specs.declared.frames.GroAtom.{GroAtom}

@@ -59,7 +59,7 @@ IsBoxFault n bytes text _ = ⊥
 
 -- ---- which line it is
 
--- a frame's title on line n, and its number of atoms, stand there, and then so many of its atoms
+-- a frame's title on line n, and its number of atoms, stand there, and then `count` of its atoms
 pub record HasAtoms (bytes : List ℕ) (count : ℕ) (atoms : List AtomView) (rest : List ℕ) : Type 0 where
   pub title : List ℕ
   pub count_text : List ℕ

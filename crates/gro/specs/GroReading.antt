@@ -10,7 +10,7 @@ use Rattle.gro.specs.GroText.{are_spaces, is_blank, IsGroText}
 use Rattle.gro.specs.declared.faults.GroFault.{GroFault}
 use Rattle.gro.specs.declared.faults.GroFault.TheVariants.{Truncated, BadCount, BadColumns, Precision, BadBox, Triclinic, TooManyAtoms, NoSuchFrame}
 
--- what is said, or this fault
+-- the value, or this fault where there is none
 abbrev pub said : {X : Type 0} → GroFault → Option X → Result X GroFault
 said fault None = Err fault
 said fault (Some x) = Ok x
@@ -92,7 +92,7 @@ atom_in n line =
 
 -- ---- the box
 
--- the number that 1 to so many digits write
+-- the number that 1 to `most` digits write
 unfoldable pub few_digits_of : ℕ → List ℕ → Option ℕ
 few_digits_of most text = if length text == 0 || nat_lt most (length text) then None else digits_of text
 
@@ -149,7 +149,7 @@ atom_at n bytes = do
   atom ← atom_in n line.0
   Ok (atom, line.1)
 
--- so many atoms, the first on line n
+-- this many atoms, the first on line n
 unfoldable pub atoms_at : ℕ → ℕ → List ℕ → Result (List AtomView × List ℕ) GroFault
 atoms_at n zero bytes = Ok ([], bytes)
 atoms_at n (suc k) bytes = do
@@ -189,7 +189,7 @@ frame_at n bytes = do
 abbrev pub and_more : FrameView → List ℕ → Result (List FrameView) GroFault → Result (List FrameView) GroFault
 and_more f rest more = if is_blank rest then Ok (f ∷ []) else (more >>= λ frames. Ok (f ∷ frames))
 
--- at most so many frames
+-- at most `most` frames
 unfoldable pub frames_at : ℕ → ℕ → List ℕ → Result (List FrameView) GroFault
 frames_at zero n bytes = Err Truncated
 frames_at (suc most) n bytes = do

@@ -1,4 +1,4 @@
--- What a GRO file says (GROMACS manual, gro file format): which texts stand for which frames.
+-- Texts of GRO files (GROMACS manual, gro file format): which texts stand for which frames.
 use Rattle.std.specs.Prelude.{◌≡◌, ℕ, ◌+◌, ◌*◌, ◌^◌, ◌-◌, ◌<◌, ◌≤◌, ◌⊎◌, Bool, ◌||◌, ◌==◌, List, [], ◌∷◌, ◌++◌, length, drop, replicate, ℤ, pos, negsuc, ◌≤ℤ◌, IsTrue}
 use Rattle.std.specs.List.{list_all, slice_range}
 use Rattle.line_text.specs.Parts.{is_title, is_printable}
@@ -32,7 +32,7 @@ pub record IsResidueNumber (column : List ℕ) (z : ℤ) : Type 0 where
   pub low : negsuc 9998 ≤ℤ z
   pub high : z ≤ℤ pos 99999
 
--- three columns of eight bytes, with so many decimals
+-- three columns of eight bytes, with `places` decimals
 abbrev pub AreColumns : ℕ → List ℕ → List ℤ → Type 0
 AreColumns places text (x ∷ y ∷ z ∷ []) = WritesColumn places (slice_range text 0 8) x × WritesColumn places (slice_range text 8 16) y × WritesColumn places (slice_range text 16 24) z
 AreColumns places text _ = ⊥
@@ -57,7 +57,7 @@ pub record IsAtomLine (text : List ℕ) (a : AtomView) : Type 0 where
 
 -- ---- the box
 
--- 1 to so many digits
+-- 1 to `most` digits
 pub record WritesFew (most : ℕ) (text : List ℕ) (n : ℕ) : Type 0 where
   pub number : WritesWhole text n
   pub few : length text ≤ most

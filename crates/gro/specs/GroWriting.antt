@@ -45,7 +45,7 @@ pub record FitsAtom (a : AtomView) : Type 0 where
   pub at : AreThree FitsPosition a.at
   pub velocity : a.velocity ≡ pos 0 ∷ pos 0 ∷ pos 0 ∷ []
 
--- what every atom has by its type
+-- the form that every atom has by its type
 pub record HasForm (a : AtomView) : Type 0 where
   pub low : negsuc 9998 ≤ℤ a.number
   pub high : a.number ≤ℤ pos 99999

@@ -102,7 +102,7 @@ fn whole(text: &[u8]) -> Option<u64>
     digits(text)
 }
 
-/// Three numbers with so many decimals, each in a column of eight bytes.
+/// Three numbers with `places` decimals, each in a column of eight bytes.
 #[tactic(auto, unfolding(crate::specs::GroReading::three_columns_of))]
 fn three_columns(places: usize, text: &[u8]) -> Option<[i64; 3]>
     requires few { places ≤ 5 }

@@ -105,7 +105,7 @@ fn unsigned_length(text: &[u8]) -> Option<u64>
     }
 }
 
-/// The number that 1 to so many digits write.
+/// The number that 1 to `most` digits write.
 #[tactic(auto, unfolding(crate::specs::GroReading::few_digits_of))]
 fn few_digits(most: usize, text: &[u8]) -> Option<u64>
     requires { most ≤ 12 }

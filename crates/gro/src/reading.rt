@@ -117,7 +117,7 @@ fn count(number: u64, bytes: &[u8]) -> Result<(u64, &[u8]), GroFault>
     Ok((count, rest))
 }
 
-/// What a line with spaces, digits and spaces says.
+/// The number of atoms, 0 to 65,536, of a line of spaces, digits and spaces; or the line's fault.
 #[tactic(auto, unfolding(crate::specs::GroReading::count_in))]
 fn line_count(number: u64, text: &[u8]) -> Result<u64, GroFault>
     ensures exact { Answers (λ n. n) (λ f. f) result (count_in number text.now) }
@@ -134,7 +134,7 @@ fn line_count(number: u64, text: &[u8]) -> Result<u64, GroFault>
     Ok(count)
 }
 
-/// So many atoms, the first on the line with this number, and what stands after them.
+/// `count` atoms, the first on the line with this number, and what stands after them.
 fn atoms<A: Allocator + Copy>(
     alloc: A,
     number: u64,

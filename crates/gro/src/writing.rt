@@ -96,7 +96,7 @@ fn whole_box_line(sides: &[i64; 3]) -> Line
     line
 }
 
-/// Appends three numbers, each right in a column of so many bytes and with so many decimals.
+/// Appends three numbers, each right in a column of `width` bytes and with `places` decimals.
 fn put_three(line: &mut Line, width: usize, places: usize, numbers: &[i64; 3])
     requires narrow { width ≤ 10 }
     requires room { array_vec_len line.old + 126 ≤ 160 }

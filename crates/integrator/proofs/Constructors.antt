@@ -1,4 +1,4 @@
--- What equal options and results are made of, and that their two kinds differ.
+-- Constructors of options and results: equal ones have equal parts, and the two kinds differ.
 use Rattle.std.proofs.Common.{◌≡◌, Option, Some, None, Result, Ok, Err}
 
 -- equal options that have values have equal values

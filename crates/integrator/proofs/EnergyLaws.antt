@@ -17,7 +17,7 @@ use Rattle.integrator.proofs.KernelLaws.{enough, gives}
 use Rattle.fixed.specs.Fractions.{bits_of}
 use Rattle.fixed.specs.declared.frac.Frac.{Frac}
 
--- what holds of what a function gives, at each element
+-- a property of a function's values, at each element
 pub all_of_map : {X Y : Type 0} (P : X → Type 0) (f : Y → X) (ys : List Y) → All P (map f ys) → All (λ y. P (f y)) ys
 all_of_map P f [] h = All-nil (λ y. P (f y))
 all_of_map P f (y ∷ ys) h = All-cons (λ y. P (f y)) y ys (All-head P (f y) (map f ys) h) (all_of_map P f ys (All-tail P (f y) (map f ys) h))

@@ -63,7 +63,7 @@ moved_back d p c forces same h =
     let v = get_or forces a no_force in
     sym (ap (λ q. next_places d m q (places_of c a) v) (number_at (next_at d p c forces) nowhere (length c) a l) ∙ places_back d m (places_of p a) (places_of c a) v (h a nowhere (omega arith)))))
 
--- what a step makes
+-- the frame that a step makes
 pub record Followed (d : Dynamics) (p c q : Frame) : Type 0 where
   pub back : next_frame d q c ≡ Some p
   pub alike : length q ≡ length c

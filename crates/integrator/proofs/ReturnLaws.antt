@@ -1,4 +1,4 @@
--- A run leads back: so many steps the other way over the text that was written give the text of the start.
+-- A run leads back: n steps the other way over the text that was written give the text of the start.
 use Rattle.std.proofs.Common.{◌≡◌, ℕ, suc, ◌<◌, ◌^◌, Bool, true, false, List, [], ◌∷◌, length, ℤ, pos, negsuc, Option, Some, None, Result, Ok, Err, arith, refl, ap, sym, ◌∙◌}
 use Rattle.std.specs.Prelude.{map, if◌then◌else◌}
 use Rattle.std.specs.List.{AllByRecursion}
@@ -121,7 +121,7 @@ counter_returns w step k n fits e =
 
 -- ---- the start
 
--- what a start was made of
+-- the parts that a start was made of
 pub record Parts (law : Law) (job state : List ℕ) (w : Direction) (n : ℕ) (start : Start) : Type 0 where
   pub j : JobValue
   pub s : StateView
@@ -155,7 +155,7 @@ counted_ok : (o : Option ℤ) (k : ℤ) → in_counter o ≡ Ok k → o ≡ Some
 counted_ok (Some z) k e = cc
 counted_ok None k e = absurd (err_is_no_ok step_range k e)
 
--- what a system was made of
+-- the parts that a system was made of
 pub record SystemParts (j : JobValue) (s : StateView) (system : Energy × List ℕ) : Type 0 where
   pub energy_read : energy_of j ≡ Ok system.0
   pub typed : atom_types j.types 1 s.atoms ≡ Ok system.1

@@ -14,7 +14,7 @@ displacement_of frac F dt m L = nearest_of (F *ℤ pos (dt * dt * 10000 * 2 ^ 32
 abbrev pub next_place_of : ℕ → ℕ → ℤ → ℕ
 next_place_of p c d = place_at (pos (2 * c) -ℤ pos p +ℤ d)
 
--- what is left of 2^32 / 2^bits once the common powers of two are cancelled: a factor above, and one below
+-- the quotient 2^32 / 2^bits in lowest terms: a factor above, and one below
 abbrev pub factor_above : Frac → ℕ
 factor_above F24 = 256
 factor_above F32 = 1

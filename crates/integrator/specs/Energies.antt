@@ -22,7 +22,7 @@ pub record Energy : Type 0 where
 abbrev pub global_names : List GlobalValue → List (List ℕ)
 global_names globals = map (λ g. g.name) globals
 
--- a program's slope, with so many bits behind the point, and its code
+-- a program's slope, with `bits` bits behind the point, and its code
 unfoldable pub energy_from : ℕ → Trees → Result Energy Refusal
 energy_from bits program = do
   slope ← slope_program bits program

@@ -25,7 +25,7 @@ pairs_from i (suc n) = pairs_with i (suc i) n ++ pairs_from (suc i) n
 abbrev pub pairs_of : ℕ → List (ℕ × ℕ)
 pairs_of n = pairs_from 0 n
 
--- what the force f of the pair p, which acts on its lower atom, is for the atom a
+-- the share of the atom a in the force f of the pair p, which acts on its lower atom
 abbrev pub share_of : ℕ × ℕ → Force ℤ → ℕ → Force ℤ
 share_of p f a = if p.0 == a then f else if p.1 == a then negative f else no_force
 

@@ -19,7 +19,7 @@ use Rattle.integrator.specs.declared.direction.Direction.TheVariants.{Forward, B
 abbrev pub Frame : Type 0
 Frame = List Place3
 
--- what moves the atoms: the box, the pair potential by its slope at a pair of atoms and a distance, where it has one, and each atom's mass in 10^-5 u
+-- the dynamics of the atoms: the box, core and cutoff, the time step in fs, the pair potential by its slope at a pair of atoms and a distance, where it has one, and each atom's mass in 10^-5 u
 pub record Dynamics : Type 0 where
   pub frac : Frac
   pub ring : RingBox

@@ -34,7 +34,7 @@ pub record GivesSlope (bits : ℕ) (energy : Tree) (code : List Instr) (inputs :
   pub value : (n : ℕ) (v : ℤ) → Ends bits code inputs n (Ok v) → slope_of bits inputs energy ≡ Some v
   pub operation : (n : ℕ) (trap : Trap) → Ends bits code inputs n (Err trap) → is_operation trap.kind ≡ true
 
--- What a run of the code on these inputs comes to, where `slope` is the program of the energy's slope, a body and its
+-- The code computes the slope on these inputs, where `slope` is the program of the energy's slope, a body and its
 -- definitions.
 pub record ComputesSlope (bits : ℕ) (energy : Tree) (slope : Trees) (code : List Instr) (inputs : List ℤ) : Type 0 where
   pub forward : JumpsForward code

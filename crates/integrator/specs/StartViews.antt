@@ -1,4 +1,4 @@
--- What calls answer, as what a run starts from.
+-- The answers of calls, as starts of a run.
 use Rattle.std.specs.Prelude.{ℕ, List}
 use Rattle.energy_program.specs.Programs.{program_tree, trees_of}
 use Rattle.energy_program.specs.Faults as energies

@@ -1,4 +1,4 @@
--- What a run starts from: a job's text, a state's text, a number of steps and a direction give the state and what moves its atoms, or the first refusal.
+-- The start of a run: a job's text, a state's text, a number of steps and a direction give the state and the dynamics of its atoms, or the first refusal.
 use Rattle.std.specs.Prelude.{◌≡◌, ℕ, suc, ℤ, ◌*◌, ◌^◌, nat_le, ◌==◌, ◌&&◌, Bool, true, false, List, [], ◌∷◌, length, map, Option, Some, None, Result, Ok, Err, slice_index, slice_index_or, unsigned_abs, bytes_eq}
 use Rattle.std.specs.List.{position}
 use Rattle.fixed.specs.Fractions.{bits_of}
@@ -84,7 +84,7 @@ type_rows types = map (λ t. t.values) types
 abbrev pub global_values : List GlobalValue → List ℤ
 global_values globals = map (λ g. g.value) globals
 
--- what the energy's variables stand for
+-- the values of the energy's variables
 abbrev pub table_of : JobValue → Table
 table_of j = record { frac = j.frac; parameters = length j.parameters; rows = type_rows j.types; globals = global_values j.globals }
 
@@ -92,7 +92,7 @@ table_of j = record { frac = j.frac; parameters = length j.parameters; rows = ty
 abbrev pub pair_inputs : JobValue → List ℕ → ℕ × ℕ → ℤ → List ℤ
 pair_inputs j types p r = inputs_of (table_of j) (slice_index types p.0) (slice_index types p.1) r
 
--- what moves the atoms of these types by these slopes, in a box with these sides
+-- the dynamics of atoms of these types by these slopes, in a box with these sides
 abbrev pub dynamics_by : (ℕ × ℕ → ℤ → Option ℤ) → JobValue → (sides types : List ℕ) → Dynamics
 dynamics_by slope j sides types = record {
   frac = j.frac;

@@ -7,6 +7,7 @@ ghost use Rattle.integrator.specs.Displacement.{displacement_of, factor_above, f
 use fixed::{Frac, round_div};
 use ring_box::{Side, place_at};
 
+/// The factor `dt² 10^4` of a displacement, of a time step in fs, at most 1,000.
 fn time_factor(time_step: u32) -> u64
     requires { time_step ≤ 1000 }
     ensures value { result ≡ time_step * time_step * 10000 }
@@ -16,6 +17,7 @@ fn time_factor(time_step: u32) -> u64
     time_step * time_step * 10_000
 }
 
+/// The factor `dt² 10^4 2^32 / 2^bits` of a displacement, but for powers of two that `inertia` has below the line; `time_step` in fs.
 fn factor(frac: Frac, time_step: u32) -> u64
     requires { time_step ≤ 1000 }
     ensures value { result ≡ time_step * time_step * 10000 * factor_above frac }
@@ -27,6 +29,7 @@ fn factor(frac: Frac, time_step: u32) -> u64
     }
 }
 
+/// The dividend of a displacement: a force in 2^-bits kJ/mol/nm times the factor of the time step.
 fn impulse(force: i128, factor: u64) -> i128
     requires force { unsigned_abs force ≤ 2 ^ 80 }
     requires factor { factor ≤ 256 * 10 ^ 10 }
@@ -36,6 +39,7 @@ fn impulse(force: i128, factor: u64) -> i128
     force * i128::from(factor)
 }
 
+/// The divisor of a displacement: a mass in 10^-5 u, 1 to 100,000,000, times a side in 10^-5 nm; at 40 bits also times 256.
 fn inertia(frac: Frac, mass: u32, side: Side) -> i128
     requires positive { 0 < mass }
     requires bound { mass ≤ 100000000 }
@@ -50,6 +54,7 @@ fn inertia(frac: Frac, mass: u32, side: Side) -> i128
     })
 }
 
+/// The whole number nearest to `a / b`, a half upward.
 #[tactic(auto, using(fixed::proofs::NearestLemmas::nearest_small))]
 fn nearest(a: i128, b: i128) -> i128
     requires a { unsigned_abs a < 2 ^ 122 }
@@ -77,6 +82,7 @@ pub(crate) fn displacement(frac: Frac, force: i128, time_step: u32, mass: u32, s
     )
 }
 
+/// `2 middle - before + displacement` in places, not yet taken round the ring.
 fn onward(before: u32, middle: u32, displacement: i128) -> i128
     requires { unsigned_abs displacement < 2 ^ 123 }
     ensures { result ≡ pos (2 * middle) -ℤ pos before +ℤ displacement }

@@ -21,6 +21,7 @@ use job::{Global, Job};
 use kernel_compiler::compile;
 use std::alloc::{AllocError, Allocator};
 
+/// The names of a job's parameters, in their order.
 fn parameter_names<A: Allocator + Copy>(alloc: A, job: &Job<A>) -> Result<Vec<&[u8], A>, AllocError>
     ensures value { IfOk result (λ v. map (λ p. p.now) v.items ≡ map (λ p. p.items) job.now.parameters.items) }
 {
@@ -31,6 +32,7 @@ fn parameter_names<A: Allocator + Copy>(alloc: A, job: &Job<A>) -> Result<Vec<&[
     Ok(names)
 }
 
+/// The names of these globals, in their order.
 fn global_names<A: Allocator + Copy>(
     alloc: A,
     globals: &[Global<A>],

@@ -33,7 +33,7 @@ pub enum StepFault {
     /// The step counter would leave an i64. No step was done.
     #[error("A4 StepRange")]
     StepRange,
-    /// An allocation was refused after so many whole steps.
+    /// An allocation was refused after `done` whole steps.
     #[error("Memory after {done} steps")]
     Memory { done: u64 },
 }

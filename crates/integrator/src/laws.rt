@@ -1,4 +1,4 @@
-//! What holds of the inputs of every energy.
+//! Law of the inputs of an energy: they stand in the order of the names.
 
 ghost use Rattle.integrator.specs.InputNames.{InputsHaveNames};
 

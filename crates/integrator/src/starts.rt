@@ -1,4 +1,4 @@
-//! What a run starts from.
+//! The start of a run: the state, the system and the counter at the end, or the first refusal.
 
 ghost use Rattle.std.specs.Prelude.{◌≡◌, ◌*◌, ◌^◌, ◌<◌, ◌≤◌, length, map, IfOk, Ok};
 ghost use Rattle.std.specs.List.{All};
@@ -44,6 +44,7 @@ fn atom_types<A: Allocator + Copy>(
     Ok(types)
 }
 
+/// The mass of the type with this number, in 10^-5 u, 1 to 100,000,000.
 fn mass_of<A: Allocator>(kinds: &[AtomType<A>], number: u32) -> u32
     requires { number < length kinds.now }
     ensures value { result ≡ mass_of (map type_value kinds.now) number }
@@ -53,6 +54,7 @@ fn mass_of<A: Allocator>(kinds: &[AtomType<A>], number: u32) -> u32
     kinds[number as usize].mass
 }
 
+/// The mass of each atom in 10^-5 u, by the number of its type.
 fn atom_masses<A: Allocator + Copy>(
     alloc: A,
     kinds: &[AtomType<A>],
@@ -70,6 +72,7 @@ fn atom_masses<A: Allocator + Copy>(
     Ok(masses)
 }
 
+/// Whether a side is two cutoffs long or longer.
 fn holds_two(frac: Frac, cutoff: Fx, side: Side) -> bool
     ensures { result ≡ holds_two frac cutoff side }
 {
@@ -77,6 +80,7 @@ fn holds_two(frac: Frac, cutoff: Fx, side: Side) -> bool
     two <= u128::from(side.get()) << frac.bits()
 }
 
+/// Whether each side of the box is two cutoffs long or longer.
 fn has_room(frac: Frac, cutoff: Fx, ring: &RingBox) -> bool
     ensures { result ≡ has_room frac cutoff ring.now }
 {
@@ -145,7 +149,7 @@ pub fn slope_code<A: Allocator + Copy>(
 ) -> Result<Code<A>, Failure<ExprFault<A>>>
     // Which answer it is.
     ensures exact { Gives (λ code. code) refusal_of result (slope_code_of (job_value job.now)) }
-    // What the code gives.
+    // The value of the code.
     ensures computes { IfOk result (IsSlopeCode (job_value job.now)) }
 {
     let parts = job_slope(alloc, job)?;

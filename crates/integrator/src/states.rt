@@ -11,7 +11,7 @@ use ring_box::Place3;
 use state::{Atom, State};
 use std::alloc::{AllocError, Allocator};
 
-/// A state's counter after so many steps, where it fits.
+/// A state's counter after n steps, where it fits.
 pub fn counter_after<A: Allocator>(
     direction: Direction,
     state: &State<A>,
@@ -28,7 +28,7 @@ pub fn counter_after<A: Allocator>(
     i64::try_from(after).ok()
 }
 
-/// Where the atoms were one step earlier. Want of memory is its only refusal.
+/// The places of the atoms one step earlier. `AllocError` is its only refusal.
 pub fn previous_frame<A: Allocator>(alloc: A, atoms: &[Atom]) -> Result<Vec<Place3, A>, AllocError>
     ensures { IfOk result (λ v. v.items ≡ map (λ a. a.previous) atoms.now) }
 {
@@ -39,7 +39,7 @@ pub fn previous_frame<A: Allocator>(alloc: A, atoms: &[Atom]) -> Result<Vec<Plac
     Ok(frame)
 }
 
-/// Where the atoms are. Want of memory is its only refusal.
+/// The places of the atoms. `AllocError` is its only refusal.
 pub fn current_frame<A: Allocator>(alloc: A, atoms: &[Atom]) -> Result<Vec<Place3, A>, AllocError>
     ensures { IfOk result (λ v. v.items ≡ map (λ a. a.current) atoms.now) }
 {
@@ -50,6 +50,7 @@ pub fn current_frame<A: Allocator>(alloc: A, atoms: &[Atom]) -> Result<Vec<Place
     Ok(frame)
 }
 
+/// The atom at these places in the previous and the current frame.
 fn placed(mut atom: Atom, previous: Place3, current: Place3) -> Atom
     ensures { atom_view result ≡ placed (atom_view atom) previous current }
 {
@@ -69,12 +70,12 @@ fn place(atoms: &mut [Atom], previous: &[Place3], current: &[Place3])
     }
 }
 
-/// Two frames that follow one another.
+/// Two frames that follow one another, of places below 2^32 along each axis.
 #[derive(Drop)]
 pub struct Stepped<A: Allocator> {
-    /// Where each atom was one step earlier.
+    /// The place of each atom one step earlier.
     pub previous: Vec<Place3, A>,
-    /// Where each atom is.
+    /// The place of each atom.
     pub current: Vec<Place3, A>,
 }
 

@@ -12,6 +12,8 @@ impl<K: Drop, A: Allocator> System<K, A> {
     ghost use Rattle.integrator.specs.Frames.{next_places};
     ghost use Rattle.integrator.specs.Systems.{forceless};
 
+    /// The place along one axis that follows `before` and `middle`, of an atom of this mass in 10^-5 u on this side, that feels `force` in 2^-bits
+    /// kJ/mol/nm at `middle`.
     fn next_coordinate(&self, mass: u32, side: Side, before: u32, middle: u32, force: i128) -> u32
         requires some_mass { 0 < mass }
         requires most_mass { mass ≤ 100000000 }

@@ -1,4 +1,4 @@
-//! What moves the atoms of a run.
+//! The system of a run: types, masses, box and pair potential.
 
 ghost use Rattle.std.specs.Prelude.{◌≡◌, ◌*◌, ◌<◌, ◌≤◌, ◌^◌, pos, ◌≤ℤ◌, ◌<ℤ◌, length};
 ghost use Rattle.std.specs.List.{All};
@@ -8,21 +8,24 @@ use fixed::{Frac, Fx};
 use ring_box::RingBox;
 use std::alloc::Allocator;
 
-/// The atoms' types and masses, the box, and the pair potential.
+/// The system of a run: the types and masses of at most 65,536 atoms, the box, the time step, and the pair potential with core and cutoff.
 #[derive(Drop)]
 pub struct System<K: Drop, A: Allocator> {
+    /// The fraction bits of distances in nm, energies in kJ/mol and forces in kJ/mol/nm: 24, 32 or 40.
     pub frac: Frac,
+    /// The box: a ring of 2^32 places along each side.
     pub ring: RingBox,
-    /// Closer pairs are taken to be at this distance.
+    /// The core in nm, at least 0: closer pairs are taken to be at this distance.
     pub core: Fx,
-    /// Pairs act below this distance.
+    /// The cutoff in nm, more than the core and at most 80: pairs act below this distance.
     pub cutoff: Fx,
-    /// In fs.
+    /// The time step in fs, at most 1,000.
     pub time_step: u32,
-    /// The number of each atom's type.
+    /// The number of each atom's type, from 0.
     pub types: Vec<u32, A>,
-    /// Each atom's mass, in 10^-5 u.
+    /// Each atom's mass in 10^-5 u, 1 to 100,000,000.
     pub masses: Vec<u32, A>,
+    /// The pair potential, by its slope.
     pub kernel: K,
     pub ghost least_core: { pos 0 ≤ℤ core },
     pub ghost below_cutoff: { core <ℤ cutoff },

@@ -10,6 +10,7 @@ use job::{AtomType, Global, Job};
 use kernel_code::TypeTable;
 use std::alloc::{AllocError, Allocator};
 
+/// The parameter values of each type, in the order of the types.
 fn rows<A: Allocator + Copy>(
     alloc: A,
     types: &[AtomType<A>],
@@ -23,6 +24,7 @@ fn rows<A: Allocator + Copy>(
     Ok(rows)
 }
 
+/// The values of these globals, in their order.
 fn global_values<A: Allocator + Copy>(
     alloc: A,
     globals: &[Global<A>],
@@ -36,7 +38,7 @@ fn global_values<A: Allocator + Copy>(
     Ok(values)
 }
 
-/// The table of a job's types and globals. Want of memory is its only refusal.
+/// The table of a job's types and globals. `AllocError` is its only refusal.
 pub fn type_table<A: Allocator + Copy>(alloc: A, job: &Job<A>) -> Result<TypeTable<A>, AllocError>
     ensures value { IfOk result (λ t. t ≡ table_of (job_value job.now)) }
 {

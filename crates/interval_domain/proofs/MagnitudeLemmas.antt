@@ -1,4 +1,4 @@
--- What falls up to 0 and rises from there has its extremes at the ends and at 0.
+-- Functions that fall up to 0 and rise from there have their extremes at the ends and at 0.
 use Rattle.std.proofs.Common.{◌≡◌, ◌≢◌, ℕ, zero, suc, ◌/◌, ◌^◌, ◌≤◌, refl, sym, ◌∙◌, ap, subst, ⊎_elim, arith, Bool, true, false, if◌then◌else◌, Result, Ok, ℤ, pos, negsuc, ◌*ℤ◌, ◌≤ℤ◌, ◌<ℤ◌, unsigned_abs}
 use Rattle.std.specs.Int.{int_min}
 use Rattle.std.proofs.lemmas.Int.{ints, clamps, by_lt_z}

@@ -1,4 +1,4 @@
--- What rises or falls in each argument alone has its extremes at the ends.
+-- Functions that rise or fall in each argument alone have their extremes at the ends.
 use Rattle.std.proofs.Common.{◌≡◌, sym, ◌∙◌, subst, ⊎_elim, arith, Result, Ok, ℤ, ◌≤ℤ◌}
 use Rattle.std.specs.Prelude.{◌⊎◌}
 use Rattle.std.specs.Int.{int_max, int_min}

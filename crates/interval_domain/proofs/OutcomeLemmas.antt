@@ -62,7 +62,7 @@ at_hi_hi f a b r e = record { first = a.hi; second = b.hi; first_member = hi_mem
 
 -- ---- narrowing: to a number, where there is one; and with no limit
 
--- what narrow gives of a number that it keeps is that number, and it keeps each number between two that it keeps
+-- a narrowing gives each number that it keeps as that number, and keeps each number between two that it keeps
 pub record IsNarrowing (narrow : ℤ → Result ℤ Fault) : Type 0 where
   pub same : (z w : ℤ) → narrow z ≡ Ok w → z ≡ w
   pub between : (lo z hi : ℤ) → narrow lo ≡ Ok lo → narrow hi ≡ Ok hi → lo ≤ℤ z → z ≤ℤ hi → narrow z ≡ Ok z
@@ -139,7 +139,7 @@ least_of_two f narrow e a b s n w ol oh =
 
 -- ---- the least and the greatest of two numbers
 
--- what holds of both holds of the least and the greatest
+-- a property of both is one of the least and of the greatest
 pub min_keeps : (P : ℤ → Type 0) (x y : ℤ) → P x → P y → P (int_min x y)
 min_keeps P x y px py = elim (int_lt y x) as (λ b. P (cond b y x)) [ true ↦ py | false ↦ px ]
 

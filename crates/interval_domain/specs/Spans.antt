@@ -1,4 +1,4 @@
--- Spans: their members, and what an operation comes to on them. R. E. Moore, Interval Analysis (1966): the range of an operation over intervals.
+-- Spans: their members, and the values of an operation on them. R. E. Moore, Interval Analysis (1966): the range of an operation over intervals.
 use Rattle.std.specs.Prelude.{◌≡◌, ℤ, pos, ◌+ℤ◌, ◌-ℤ◌, ◌≤ℤ◌, ◌⊎◌, ◌↔◌, Result, Ok, Err}
 use Rattle.fixed.specs.Arithmetic.{floor_over}
 use Rattle.fixed.specs.declared.faults.Fault.{Fault}
@@ -9,7 +9,7 @@ pub record IsMember (x : ℤ) (s : Span) : Type 0 where
   pub at_least : s.lo ≤ℤ x
   pub at_most : x ≤ℤ s.hi
 
--- r is what the operation comes to, a number or a fault, on some member of a
+-- r is the result of the operation, a number or a fault, on some member of a
 pub record IsOutcome (operation : ℤ → Result ℤ Fault) (a : Span) (r : Result ℤ Fault) : Type 0 where
   pub argument : ℤ
   pub member : IsMember argument a

@@ -1,4 +1,4 @@
--- What the next line of a key that many lines may have adds.
+-- Drafts after one more line of a key that many lines may have.
 use Rattle.std.proofs.Common.{◌≡◌, ℕ, ◌<◌, ◌≤◌, ℤ, true, false, List, [], ◌∷◌, ◌++◌, length, map, Option, Some, None, Result, Ok, Err, ok_or, option_map, refl, sym, ap, ◌∙◌, lt-ltb, le-ltb}
 use Rattle.std.proofs.lemmas.List.{map-append}
 use Rattle.std.specs.Prelude.{IsErr, IsErrAnd}
@@ -84,7 +84,7 @@ by_pair most n s (w ∷ x ∷ []) name word r e is read =
     let second : x ≡ word = ap (λ (p : List ℕ × List ℕ). p.1) pair in
     rw (first, second, is, ← read) refl
 
--- what is well formed has a new name, or not
+-- a well-formed line has a new name, or not
 pub global_by_value : (most : Counts) (n : ℕ) (s : Said) (ws : List (List ℕ)) (name word : List ℕ) (r : Reading ℤ) (v : Option ℤ) → two ws ≡ Some (name, word) → is_identifier name ≡ true → r ≡ signed_of s.frac word
     → ok_or (well_formed r) (bad_line n) ≡ Ok v → global_into most n s ws ≡ global_new most s name v
 global_by_value most n s ws name word r v e is read ok = by_pair most n s ws name word r e is read ∙ by_value most n s name (well_formed r) v ok

@@ -33,7 +33,7 @@ abbrev pub and_one : {X : Type 0} → List X → Option X → List X
 and_one xs None = xs
 and_one xs (Some x) = xs ++ x ∷ []
 
--- what lines have said, and one more
+-- the draft of lines, and of one more
 abbrev pub joined : ℕ → Said → Option Statement → Said
 joined n s e = record {
   frac = s.frac;
@@ -131,7 +131,7 @@ listed_out : (known : Bool) (repetition : Refusal) (key : Key) (t : Said) → (i
 listed_out true repetition key t = refl
 listed_out false repetition key t = refl
 
--- what a line adds, or its fault, by what it says
+-- the draft with a line, or the line's fault, by its statement
 abbrev result_of : Counts → ℕ → Said → Option Statement → Result Said Refusal
 result_of most n s e = outcome (entry_fault most n s e) (joined n s e)
 

@@ -1,4 +1,4 @@
--- What the forms of names allow.
+-- Laws of the forms of names.
 use Rattle.std.proofs.Common.{◌≡◌, ℕ, nat_le, ◌<◌, ◌≤◌, Bool, true, ◌&&◌, ◌||◌, List, Some, None, not, get_or, ◌==◌, ◌-◌, [], ◌∷◌, length, map, IsAscii, bytes_eq, refl, ap, sym, ◌∙◌, arith}
 use Rattle.std.proofs.lemmas.Bool.{and_parts, and_from, or_right, cond-true, leb-true, le-leb, ne_eqb}
 use Rattle.std.proofs.lemmas.List.Sums.{AllPass-from_list_all, list_all-from_AllPass}
@@ -24,7 +24,7 @@ knows_through : {X Y : Type 0} (h : X → Y) (f : Y → List ℕ) (xs : List X) 
 knows_through h f [] name = refl
 knows_through h f (x ∷ xs) name = ap (λ (b : Bool). bytes_eq (f (h x)) name || b) (knows_through h f xs name)
 
--- what a search of a list of the code's values told
+-- the result of a search of a list of the code's values
 pub known_is : {X : Type 0} (f : X → List ℕ) (xs ys : List X) (name : List ℕ) (r b : Bool) → ys ≡ xs → r ≡ list_any (λ x. bytes_eq (f x) name) ys → r ≡ b → knows (map f xs) name ≡ b
 known_is f xs ys name r b e h v = sym (knows_map f xs name) ∙ ap (list_any (λ x. bytes_eq (f x) name)) (sym e) ∙ sym h ∙ v
 

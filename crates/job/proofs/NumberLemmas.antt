@@ -1,4 +1,4 @@
--- What numerals, whole numbers and masses are read as.
+-- Readings of numerals, whole numbers and masses.
 use Rattle.std.proofs.Common.{◌≡◌, ℕ, ◌+◌, ◌-◌, ◌*◌, ◌^◌, ◌<◌, ◌≤◌, ◌&&◌, ltb, leb, ℤ, Bool, true, false, cond, min, List, [], ◌∷◌, ◌++◌, length, Option, Some, None, Ok, Err, option_map, refl, sym, ap, ◌∙◌, arith, append-nil, append_assoc, inl, inr}
 use Rattle.std.specs.Str.{all_ascii_digits}
 use Rattle.std.specs.Str.Parse.{digits_value}
@@ -95,7 +95,7 @@ none_in : (limit : ℕ) (o : Option ℕ) → None ≡ option_map (λ n. min n li
 none_in limit None e = refl
 none_in limit (Some n) e = absurd cc
 
--- what digits up to a limit write
+-- the number that digits up to a limit write
 digits_in : (limit r : ℕ) (text : List ℕ) → Some r ≡ option_map (λ n. min n limit) (digits_of text) → (all_ascii_digits text ≡ true) × (r ≡ min (digits_value 10 text) limit)
 digits_in limit r text e =
     let c = capped_in limit r (digits_of text) e in

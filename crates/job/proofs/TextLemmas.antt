@@ -1,4 +1,4 @@
--- What is read from a text is its job, and a text of a job is read as that job.
+-- Texts of jobs: the job that is read from a text is its job, and a text of a job is read as that job.
 use Rattle.std.proofs.Common.{◌≡◌, ℕ, ℤ, int_lt, Bool, true, false, List, [], ◌∷◌, ◌++◌, length, map, Option, Some, None, Result, Ok, Err, IfOk, All, bytes_eq, refl, sym, ap, subst, ◌∙◌, append_assoc, append-nil, eqb, eq-eqb, eqb-true, if◌then◌else◌}
 use Rattle.std.specs.Option.{unwrap_or}
 use Rattle.std.proofs.lemmas.List.Elements.{All-nil, All-cons, All-head, All-tail}
@@ -211,7 +211,7 @@ reading_again most text job r =
 pub reads_texts : ReadsJobTexts
 reads_texts most text job = (reading_ok most text job, reading_again most text job)
 
--- what a call gave, as the reading of its text
+-- the result of a call, as the reading of its text
 pub lines_job_from : (most : Counts) (all lines : List (List ℕ)) (line : List ℕ) (frac : Frac) (s : Said) → all ≡ line ∷ lines → bytes_eq line header ≡ true → frac ≡ frac_in lines
     → lines_into most 2 (nothing frac) lines ≡ Ok s → lines_job most all ≡ job_from s
 lines_job_from most all lines line frac s e h f l = rw (e, h, ← f, l) refl

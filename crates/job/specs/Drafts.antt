@@ -116,7 +116,7 @@ unfoldable pub lines_into : Counts → ℕ → Said → List (List ℕ) → Resu
 lines_into most n s [] = Ok s
 lines_into most n s (line ∷ lines) = line_into most n s line >>= λ t. lines_into most (n + 1) t lines
 
--- what no lines say
+-- the draft of no lines
 abbrev pub nothing : Frac → Said
 nothing frac = record { frac = frac; energy = None; core = None; cutoff = None; time_step = None; slices = None; parameters = []; globals = []; types = []; bits = None }
 

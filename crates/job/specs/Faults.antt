@@ -94,7 +94,7 @@ summary_of frac statements types = record {
   bits = first (filter_map bits_in statements);
 }
 
--- what lines say that stand below the first line of a text, their numerals read at these fraction bits
+-- the values of the lines below the first line of a text, their numerals read at these fraction bits
 unfoldable pub summary : Frac → List (List ℕ) → Said
 summary frac lines = summary_of frac (filter_map (entry_of frac) lines) (type_lines frac 2 lines)
 

@@ -86,7 +86,7 @@ unfoldable pub whole_types : ℕ → List TypeLine → Result (List TypeValue) R
 whole_types k [] = Ok []
 whole_types k (t ∷ ts) = if length t.value.values == k then (whole_types k ts >>= λ us. Ok (t.value ∷ us)) else Err (bad_line t.line)
 
--- what the lines as a whole lack, in this order, or their job
+-- the job of the lines, or the first part that they lack, in this order
 unfoldable pub job_from : Said → Result JobValue Refusal
 job_from s = do
   energy ← needed keys.Energy s.energy

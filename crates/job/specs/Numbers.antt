@@ -89,7 +89,7 @@ mass_parts word (Some parts) = if length parts.1 == 0 then Err BadNumber else ma
 unfoldable pub mass_of : List ℕ → Reading ℕ
 mass_of word = mass_parts word (cut_at 46 word)
 
--- what a call read that may have wanted memory
+-- the reading of a call that may have run out of memory
 abbrev pub HasRead : {X Y E : Type 0} → (X → Y) → Result (Reading X) E → Reading Y → Type 0
 HasRead view (Ok r) reading = mapped view r ≡ reading
 HasRead view (Err e) reading = Unit {0}

@@ -1,4 +1,4 @@
--- What a line of a job says, by its words.
+-- The statements of a job's lines, by their words.
 use Rattle.std.specs.Prelude.{ℕ, ℤ, List, [], ◌∷◌, Option, Some, None, Ok, Err, option_map, ◌==◌, slice_index, codes, bytes_eq, if◌then◌else◌}
 use Rattle.fixed.specs.declared.frac.Frac.{Frac}
 use Rattle.fixed.specs.declared.faults.NumFault.TheVariants.{BadNumber, NumberRange}
@@ -78,6 +78,6 @@ abbrev pub words_statement : Frac → List (List ℕ) → List ℕ → Option St
 words_statement frac [] text = Some skipped
 words_statement frac (word ∷ ws) text = key_statement frac (key_of word) text
 
--- what a line says, None where it is malformed; a line that begins with `#` and one of blanks alone are skipped
+-- the statement of a line, None where it is malformed; a line that begins with `#` and one of blanks alone are skipped
 unfoldable pub entry_of : Frac → List ℕ → Option Statement
 entry_of frac line = if slice_index line 0 == 35 then Some skipped else words_statement frac (words line) (after_word line)

@@ -52,7 +52,7 @@ said_of d = record {
   bits = d.bits;
 }
 
--- what the text is refused for
+-- the refusal that a fault tells
 abbrev pub refusal_of : {A : Type 0} → JobFault A → plain.Refusal
 refusal_of (faults.BadLine n) = plain.bad_line n
 refusal_of (faults.Missing key) = plain.missing key

@@ -1,4 +1,4 @@
-//! What the lines so far have said.
+//! Drafts of a job: the values of the lines read so far.
 
 ghost use Rattle.std.specs.Prelude.{◌≡◌, ◌≤◌, ◌≤ℤ◌, ◌*◌, ◌^◌, pos, length, IfSome, IsTrue};
 ghost use Rattle.std.specs.List.{All};
@@ -10,7 +10,7 @@ use crate::jobs::{AtomType, Global};
 use fixed::{Frac, Fx};
 use std::alloc::Allocator;
 
-/// What a type's line says behind its name.
+/// The numbers on a type's line: its mass and its parameters.
 #[derive(Drop)]
 pub struct TypeNumbers<A: Allocator> {
     /// The mass in 10^-5 u, 1 to 100,000,000.
@@ -30,7 +30,7 @@ pub struct TypeLine<A: Allocator> {
     pub value: AtomType<A>,
 }
 
-/// What the lines so far have said, each value as in the job; `None` where no line has its key.
+/// A draft of a job: the values of the lines so far, each as in the job; `None` where no line has its key.
 #[derive(Drop)]
 pub struct Draft<A: Allocator> {
     /// At how many fraction bits numerals are read, which a line still to come may say.
@@ -69,7 +69,7 @@ impl<A: Allocator + Copy> Draft<A> {
     ghost use Rattle.job.specs.Drafts.{nothing};
     ghost use Rattle.job.specs.Views.{said_of};
 
-    /// What no lines say.
+    /// The draft of no lines.
     pub fn new(alloc: A, frac: Frac) -> Draft<A>
         ensures { said_of result ≡ nothing frac }
     {

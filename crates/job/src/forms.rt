@@ -7,6 +7,7 @@ ghost use Rattle.job.specs.Statements.{key_of};
 
 use crate::faults::Key;
 
+/// Whether all bytes are 33 to 126.
 fn are_graphic(bytes: &[u8]) -> bool
     ensures { result ≡ list_all is_graphic bytes.now }
 {

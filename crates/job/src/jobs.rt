@@ -1,4 +1,4 @@
-//! What a job says.
+//! Jobs: energy, core, cutoff, time step, slices, parameters, globals and types.
 
 ghost use Rattle.std.specs.Prelude.{◌≡◌, ◌≤◌, ◌≤ℤ◌, ◌<ℤ◌, ◌*◌, ◌^◌, pos, length, IsTrue};
 ghost use Rattle.std.specs.List.{All};

@@ -1,4 +1,4 @@
-//! What holds of every text of a job.
+//! Law of job texts: reading agrees with the definition.
 
 ghost use Rattle.job.specs.JobText.{ReadsJobTexts};
 

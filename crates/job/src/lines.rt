@@ -1,4 +1,4 @@
-//! What one line adds to what the lines above it have said.
+//! The lines of a job, one after the other: each is added to the draft of those above it, or is refused.
 
 ghost use Rattle.std.specs.Prelude.{◌≡◌, ◌≤◌, ◌≤ℤ◌, ◌*◌, ◌^◌, pos, map, true, length, option_map, IfOk, IsTrue, IsAscii, string_bytes, bytes_eq, ok_or};
 ghost use Rattle.std.specs.List.{list_any};
@@ -34,6 +34,7 @@ const MAX_GLOBALS: usize = 16;
 
 const MAX_TYPES: usize = 64;
 
+/// The core in nm of a text of one word: a numeral, at least 0.
 fn core_in(frac: Frac, text: &[u8]) -> Result<Fx, NumFault>
     ensures value { result ≡ alone (numeral_of frac) (words text.now) }
     ensures least { IfOk result (λ v. pos 0 ≤ℤ v) }
@@ -41,6 +42,7 @@ fn core_in(frac: Frac, text: &[u8]) -> Result<Fx, NumFault>
     numeral(frac, only_word(text)?)
 }
 
+/// The cutoff in nm of a text of one word: a numeral, more than 0 and at most 80.
 fn cutoff_in(frac: Frac, text: &[u8]) -> Result<Fx, NumFault>
     ensures value { result ≡ alone (cutoff_of frac) (words text.now) }
     ensures most { IfOk result (λ v. v ≤ℤ pos (80 * 2 ^ bits_of frac)) }
@@ -48,6 +50,7 @@ fn cutoff_in(frac: Frac, text: &[u8]) -> Result<Fx, NumFault>
     cutoff(frac, only_word(text)?)
 }
 
+/// The whole number, 1 to `most`, of a text of one word.
 fn whole_in(most: u32, text: &[u8]) -> Result<u32, NumFault>
     requires { most ≤ 65536 }
     ensures value { result ≡ alone (whole_of 1 most) (words text.now) }
@@ -74,6 +77,7 @@ fn number_of<T: Copy, A: Allocator>(
     }
 }
 
+/// The draft with this line's energy. `BadLine` where the line has none, `Repeated` where a line before it has one.
 fn take_energy<A: Allocator>(
     alloc: A,
     mut draft: Draft<A>,
@@ -93,6 +97,7 @@ fn take_energy<A: Allocator>(
     Ok(draft)
 }
 
+/// The draft with this line's core, in nm. Refused where it is malformed, repeated or out of range.
 fn take_core<A: Allocator>(
     mut draft: Draft<A>,
     number: u64,
@@ -105,6 +110,7 @@ fn take_core<A: Allocator>(
     Ok(draft)
 }
 
+/// The draft with this line's cutoff, in nm. Refused where it is malformed, repeated or out of range.
 fn take_cutoff<A: Allocator>(
     mut draft: Draft<A>,
     number: u64,
@@ -122,6 +128,7 @@ fn take_cutoff<A: Allocator>(
     Ok(draft)
 }
 
+/// The draft with this line's time step, 1 to 1,000 fs. Refused where it is malformed, repeated or out of range.
 fn take_time_step<A: Allocator>(
     mut draft: Draft<A>,
     number: u64,
@@ -134,6 +141,7 @@ fn take_time_step<A: Allocator>(
     Ok(draft)
 }
 
+/// The draft with this line's number of slices, 1 to 65,536. Refused where it is malformed, repeated or out of range.
 fn take_slices<A: Allocator>(
     mut draft: Draft<A>,
     number: u64,
@@ -146,6 +154,7 @@ fn take_slices<A: Allocator>(
     Ok(draft)
 }
 
+/// The draft with this line's fraction bits, 24, 32 or 40. Refused where they are malformed, repeated or out of range.
 fn take_bits<A: Allocator>(
     mut draft: Draft<A>,
     number: u64,
@@ -158,6 +167,7 @@ fn take_bits<A: Allocator>(
     Ok(draft)
 }
 
+/// A name as text.
 fn text_of<A: Allocator>(alloc: A, name: &[u8]) -> Result<String<A>, AllocError>
     requires { IsAscii name.now }
     ensures { IfOk result (λ s. string_bytes s ≡ name.now) }
@@ -168,6 +178,7 @@ fn text_of<A: Allocator>(alloc: A, name: &[u8]) -> Result<String<A>, AllocError>
     }
 }
 
+/// The refusal of a second `parameter` or `global` line with this name.
 #[tactic(auto, using(line_text::proofs::IdentifierLaws::ascii_identifier))]
 fn repeated_name<A: Allocator>(alloc: A, name: &[u8]) -> Failure<JobFault<A>>
     requires { is_identifier name.now ≡ true }
@@ -179,6 +190,7 @@ fn repeated_name<A: Allocator>(alloc: A, name: &[u8]) -> Failure<JobFault<A>>
     }
 }
 
+/// The refusal of a second `type` line with this name.
 #[tactic(auto, using(crate::proofs::FormLemmas::ascii_type_name))]
 fn repeated_type<A: Allocator>(alloc: A, name: &[u8]) -> Failure<JobFault<A>>
     requires { is_type_name name.now ≡ true }
@@ -190,24 +202,28 @@ fn repeated_type<A: Allocator>(alloc: A, name: &[u8]) -> Failure<JobFault<A>>
     }
 }
 
+/// Whether one of these parameters has the name.
 fn knows_parameter<A: Allocator>(parameters: &[Vec<u8, A>], name: &[u8]) -> bool
     ensures { result ≡ list_any (λ p. bytes_eq p.items name.now) parameters.now }
 {
     parameters.iter().any(|p| p.as_slice() == name)
 }
 
+/// Whether one of these globals has the name.
 fn knows_global<A: Allocator>(globals: &[Global<A>], name: &[u8]) -> bool
     ensures { result ≡ list_any (λ g. bytes_eq g.name.items name.now) globals.now }
 {
     globals.iter().any(|g| g.name.as_slice() == name)
 }
 
+/// Whether one of these types has the name.
 fn knows_type<A: Allocator>(types: &[TypeLine<A>], name: &[u8]) -> bool
     ensures { result ≡ list_any (λ t. bytes_eq (name_text t.value.name) name.now) types.now }
 {
     types.iter().any(|t| t.value.name.as_bytes() == name)
 }
 
+/// The draft with a parameter of this name. `RepeatedName` where it has one already, `Range` where it has 8 parameters.
 fn add_parameter<A: Allocator + Copy>(
     alloc: A,
     mut draft: Draft<A>,
@@ -229,6 +245,7 @@ fn add_parameter<A: Allocator + Copy>(
     Ok(draft)
 }
 
+/// The draft with this line's parameter. `BadLine` where its text is no identifier; else refused as by `add_parameter`.
 fn take_parameter<A: Allocator + Copy>(
     alloc: A,
     draft: Draft<A>,
@@ -243,6 +260,8 @@ fn take_parameter<A: Allocator + Copy>(
     }
 }
 
+/// The draft with a global of this name and value. `RepeatedName` where it has one already, `Range` where the value is out of range (`None`) or it
+/// has 16 globals.
 fn add_global<A: Allocator + Copy>(
     alloc: A,
     mut draft: Draft<A>,
@@ -280,6 +299,7 @@ fn well_formed<T, A: Allocator>(
     }
 }
 
+/// The draft with this line's global. `BadLine` where its text is no identifier and numeral; else refused as by `add_global`.
 fn take_global<A: Allocator + Copy>(
     alloc: A,
     draft: Draft<A>,
@@ -297,6 +317,7 @@ fn take_global<A: Allocator + Copy>(
     }
 }
 
+/// The mass in `mass_word` and the parameter values in `text`. `BadNumber` where one of them is malformed, else `NumberRange` where one is out of range.
 fn type_numbers<A: Allocator>(
     alloc: A,
     frac: Frac,
@@ -313,6 +334,8 @@ fn type_numbers<A: Allocator>(
     })
 }
 
+/// The draft with a type of this name and these numbers, from the line `number`. `RepeatedType` where it has one already, `Range` where the numbers
+/// are out of range (`None`) or it has 64 types.
 fn add_type<A: Allocator + Copy>(
     alloc: A,
     mut draft: Draft<A>,
@@ -344,6 +367,7 @@ fn add_type<A: Allocator + Copy>(
     Ok(draft)
 }
 
+/// The name of a type, 1 to 5 bytes of 33 to 126.
 #[tactic(auto, using(crate::proofs::FormLemmas::type_name_is))]
 fn type_name(word: &[u8]) -> Name
     requires { is_type_name word.now ≡ true }
@@ -355,6 +379,7 @@ fn type_name(word: &[u8]) -> Name
     }
 }
 
+/// The draft with this line's type. `BadLine` where name or mass is lacking, or name, mass or a value is malformed; else refused as by `add_type`.
 fn take_type<A: Allocator + Copy>(
     alloc: A,
     draft: Draft<A>,
@@ -376,6 +401,7 @@ fn take_type<A: Allocator + Copy>(
     add_type(alloc, draft, number, name, numbers)
 }
 
+/// The draft with the line of this key and text. `BadLine` where it has no key of a job; else refused as by the key's own function.
 #[tactic(auto, unfolding(crate::specs::Drafts::key_into))]
 fn take_key<A: Allocator + Copy>(
     alloc: A,
@@ -400,7 +426,7 @@ fn take_key<A: Allocator + Copy>(
     }
 }
 
-/// What the lines so far and this one have said, or this line's fault.
+/// The draft of the lines so far and this one, or this line's fault.
 #[tactic(auto, unfolding(crate::specs::Drafts::line_into))]
 pub fn take_line<A: Allocator + Copy>(
     alloc: A,

@@ -23,6 +23,7 @@ use std::alloc::{AllocError, Allocator};
 /// The number of slices of a job that names none.
 const SLICES: u32 = 64;
 
+/// The draft of the lines below the first, which are numbered from 2; or the fault of the first line that is refused.
 fn take_lines<A: Allocator + Copy>(
     alloc: A,
     frac: Frac,
@@ -43,6 +44,7 @@ fn take_lines<A: Allocator + Copy>(
     Ok(draft)
 }
 
+/// The value of a key that each job has. `Missing` where no line has it.
 fn needed<T, A: Allocator>(key: Key, value: Option<T>) -> Result<T, JobFault<A>>
     ensures value { Answers (λ x. x) refusal_of result (needed key value) }
     ensures found { IfOk result (λ x. value ≡ Some x) }
@@ -63,6 +65,7 @@ fn check_counts<A: Allocator>(count: usize, types: &[TypeLine<A>]) -> Result<(),
     Ok(())
 }
 
+/// The types without the numbers of their lines.
 fn without_lines<A: Allocator>(
     alloc: A,
     lines: Vec<TypeLine<A>, A>,
@@ -98,6 +101,7 @@ fn ordered<A: Allocator>(core: Fx, cutoff: Fx) -> Result<Fx, JobFault<A>>
     }
 }
 
+/// The number of slices, 1 to 65,536; 64 where no line says it.
 fn slices_or_default(slices: Option<u32>) -> u32
     requires some { IfSome slices (λ n. 1 ≤ n) }
     requires most { IfSome slices (λ n. n ≤ 65536) }
@@ -146,6 +150,7 @@ fn finish<A: Allocator + Copy>(alloc: A, draft: Draft<A>) -> Result<Job<A>, Fail
     })
 }
 
+/// The number of the first type with this name, from 0; `None` where there is none.
 fn place_of<A: Allocator>(types: &[AtomType<A>], name: &[u8]) -> Option<usize>
     ensures place { result ≡ position (λ t. bytes_eq (name_text t.name) name.now) types.now }
     ensures within { IfSome result (λ i. i < length types.now) }
@@ -153,12 +158,14 @@ fn place_of<A: Allocator>(types: &[AtomType<A>], name: &[u8]) -> Option<usize>
     types.iter().position(|t| t.name.as_bytes() == name)
 }
 
+/// Whether the line is a job's first.
 fn is_header(line: &[u8]) -> bool
     ensures { result ≡ bytes_eq line.now header }
 {
     line == b"pairmd job 1".as_slice()
 }
 
+/// The job of a text, or the fault of the first line that is refused, or what the lines as a whole lack.
 fn read_lines<A: Allocator + Copy>(alloc: A, bytes: &[u8]) -> Result<Job<A>, Failure<JobFault<A>>>
     ensures { Gives job_value refusal_of result (lines_job limits (lines_of bytes.now)) }
 {

@@ -8,6 +8,7 @@ ghost use Rattle.job.specs.Numbers.{only, mapped};
 use fixed::NumFault;
 use line_text::{cut, next_word};
 
+/// A line without its last CR, if it ends in one.
 fn without_return(line: &[u8]) -> &[u8]
     ensures value { result.now ≡ without_return line.now }
     ensures shorter { length result.now ≤ length line.now }

@@ -8,16 +8,16 @@ use Rattle.kernel_code.specs.declared.instructions.Instr.{Instr}
 use Rattle.kernel_code.specs.declared.instructions.Instr.TheVariants.{Push, Keep, Get, Binary, Unary}
 use Rattle.kernel_code.specs.Paths.{IsSupplied, HasRoom, CanAct, height_after, set_after, MayGo, IsPath, begins, goes, MissesNothing}
 
--- what an instruction needs, and room for what it pushes
+-- an instruction whose needs are there, and room for what it pushes, can act
 can : (i : Instr) (inputs height : ℕ) (set : List Bool) → IsSupplied i inputs height set → HasRoom i height → CanAct i inputs height set
 can i inputs height set h g = record { supplied = h; room = g }
 
--- the first so many turns of every path from here
+-- the first n turns of every path from here
 abbrev pub FineAt : Option Instr → (inputs len pc height : ℕ) → List Bool → (ℕ → ℕ → List Bool → Type 0) → Type 0
 FineAt None inputs len pc height set next = height ≡ 1
 FineAt (Some i) inputs len pc height set next = CanAct i inputs height set × ((to : ℕ) → MayGo i pc to → next to (height_after i height) (set_after i set))
 
--- no path from here misses anything within so many turns
+-- no path from here misses anything within n turns
 abbrev pub Fine : List Instr → (inputs fuel pc height : ℕ) → List Bool → Type 0
 Fine code inputs zero pc height set = Unit {0}
 Fine code inputs (suc n) pc height set = FineAt (slice_get code pc) inputs (length code) pc height set (Fine code inputs n)

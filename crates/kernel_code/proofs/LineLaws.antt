@@ -23,7 +23,7 @@ said_found n (Some y) x e = cc
 
 -- ---- one line
 
--- what a line and the lines after it give
+-- the instructions of a line and of the lines after it
 abbrev with_first : ℕ → List ℕ → List (List ℕ) → Result (List Instr) CodeFault
 with_first n line parts = said n (instruction_of line) >>= λ i. instructions_of (n + 1) parts >>= λ is. Ok (i ∷ is)
 
@@ -53,7 +53,7 @@ instructions_none n = refl
 
 -- ---- line by line, as a loop does
 
--- what was read before, and what is still read
+-- the instructions that were read before, and those that are still read
 abbrev pub with_front : List Instr → Result (List Instr) CodeFault → Result (List Instr) CodeFault
 with_front front read = read >>= λ is. Ok (front ++ is)
 

@@ -70,7 +70,7 @@ unless_long : (b : Bool) (is code : List Instr) (r : Result (List Instr) CodeFau
 unless_long true is code r e = absurd cc
 unless_long false is code r e = (refl, e)
 
--- what passed the tests is code
+-- a list of instructions that passed the tests is code
 pub is_code : (is : List Instr) → length is ≤ 16384 → targets_checked (length is) 0 is ≡ Ok tt → IsCode is
 is_code is short e = record {
   short = short;

@@ -61,7 +61,7 @@ HasOperands (Unary op) = Unit {0}
 HasOperands (JumpIfZero to) = to < 2 ^ 32
 HasOperands (Jump to) = to < 2 ^ 32
 
--- what has a listing
+-- code with a listing
 pub record IsListed (code : List Instr) : Type 0 where
   pub code' : IsCode code
   pub operands : AllByRecursion HasOperands code

@@ -54,7 +54,7 @@ jump_with name target =
     else if bytes_eq name (codes "jump") then option_map Jump (natural_of (2 ^ 32) target)
     else None
 
--- what moves a value onto the stack or off it
+-- an instruction that moves a value onto the stack or off it, by its name and its operand
 unfoldable pub transfer_with : List ℕ → List ℕ → Option Instr
 transfer_with name operand =
     if bytes_eq name (codes "push") then option_map Push (integer_of operand)
@@ -71,7 +71,7 @@ transfer_or None jump = jump
 abbrev pub instruction_with : List ℕ → List ℕ → Option Instr
 instruction_with name operand = transfer_or (transfer_with name operand) (jump_with name operand)
 
--- what stands before the first space is the name
+-- the instruction of a line, whose name stands before the first space
 abbrev pub instruction_cut : List ℕ → Option (List ℕ × List ℕ) → Option Instr
 instruction_cut line None = operation_of line
 instruction_cut line (Some x) = instruction_with x.0 x.1
@@ -81,7 +81,7 @@ instruction_of line = instruction_cut line (cut_at 32 line)
 
 -- ---- the lines from the top
 
--- what the line with this number says
+-- the value of the line with this number, which is its fault where there is none
 abbrev pub said : {X : Type 0} → ℕ → Option X → Result X CodeFault
 said n None = Err (BadLine n)
 said n (Some x) = Ok x
@@ -106,7 +106,7 @@ instructions_of n (line ∷ next ∷ parts) =
     instructions_of (n + 1) (next ∷ parts) >>= λ is.
     Ok (i ∷ is)
 
--- what stands behind the first line, if that begins a listing
+-- the lines behind the first, if that begins a listing
 unfoldable pub below_head : List ℕ → Option (List ℕ)
 below_head text = cut_at 10 text |> λ x. if bytes_eq x.0 head_line then Some x.1 else None
 

@@ -65,7 +65,7 @@ fn check(instructions: &[Instr]) -> Result<(), CodeFault>
     check_targets(instructions)
 }
 
-/// Whether an instruction at this place, of so many, goes on forwards and at most to the end.
+/// Whether an instruction at this place, of `len`, goes on forwards and at most to the end.
 fn goes_forward(instr: &Instr, pc: usize, len: usize) -> bool
     ensures { result ≡ goes_forward len pc instr.now }
 {

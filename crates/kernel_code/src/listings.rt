@@ -40,7 +40,7 @@ pub fn read<A: Allocator + Copy>(alloc: A, bytes: &[u8]) -> Result<Code<A>, Fail
 
 /// The listing of the code. It is read as this code again.
 ///
-/// `AllocError` comes only where a growth was refused.
+/// `AllocError` comes only where an allocation was refused.
 pub fn print<A: Allocator + Copy, B: Allocator>(
     alloc: A,
     code: &Code<B>,
@@ -82,7 +82,7 @@ fn bad(line: u64) -> CodeFault
     CodeFault::BadLine { line }
 }
 
-/// What stands after the first line, if that begins a listing.
+/// The lines after the first, if that begins a listing.
 #[tactic(auto, unfolding(crate::specs::ListingReading::below_head))]
 fn below_head(bytes: &[u8]) -> Option<&[u8]>
     ensures { option_map (λ x. x.now) result ≡ below_head bytes.now }

@@ -1,4 +1,4 @@
--- What is computed names only what is there.
+-- Computed trees name only definitions that are there.
 use Rattle.std.proofs.Common.{◌≡◌, ℕ, ◌+◌, List, [], ◌∷◌, length, refl, inl, inr, Bool, true, false, IsTrue, arith}
 use Rattle.std.specs.Prelude.{slice_index_or}
 use Rattle.energy_program.specs.Tree.{Tree, is_scoped, are_scoped}
@@ -8,7 +8,7 @@ use Rattle.energy_program.proofs.Scopes.{IsValid, AreValid, valid_of, are_valid}
 use Rattle.energy_program.proofs.MarkLaws.{AreMarked, body_marked, definitions_marked}
 use Rattle.kernel_compiler.proofs.Runs.{IsFine}
 
--- what a valid tree uses is fine under marks that hold its uses
+-- a valid tree is fine under marks that hold its uses
 fine_marked : (inputs j count : ℕ) (m : List Bool) (e : Tree) → IsValid inputs j count e → ((k : ℕ) → Uses e k → slice_index_or m k false ≡ true) → IsFine inputs m j e
 fine_marked inputs j count m (t.Number z) valid h = tt
 fine_marked inputs j count m (t.Input k) valid h = valid

@@ -139,7 +139,7 @@ all_local : (len pc : ℕ) (is : List Instr) → AllGood len pc is → list_all 
 all_local len pc [] h = refl
 all_local len pc (i ∷ is) h = rw (h.1, all_local len (pc + 1) is h.2) refl
 
--- what is within the limits is code
+-- a program's code within the limits is code
 pub program_is_code : (bits : ℕ) (body : Tree) (ds : List Tree) → IsEmittable body → AllEmittable 0 (marks_of body ds) ds → definitions_size 0 (marks_of body ds) ds + size body ≤ 16384 → IsCode (program_code bits body ds)
 program_is_code bits body ds whole each short = record {
   short = omega (arith, length-program bits body ds);

@@ -1,4 +1,4 @@
--- What the code of a tree asks for, of trees that programs keep.
+-- The needs of a tree's code, for trees that programs keep.
 use Rattle.std.proofs.Common.{◌≡◌, ℕ, ◌+◌, ◌<◌, ◌≤◌, List, [], ◌∷◌, arith, Bool, true}
 use Rattle.energy_program.specs.Tree.{Tree}
 use Rattle.energy_program.specs.Tree as t

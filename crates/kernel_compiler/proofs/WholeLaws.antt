@@ -1,4 +1,4 @@
--- What is known of a whole program.
+-- Laws of whole programs.
 use Rattle.std.proofs.Common.{◌≡◌, ◌⊎◌, inl, inr, true≢false, ℕ, ◌+◌, ◌<◌, ◌≤◌, List, [], ◌∷◌, ◌++◌, length, IsTrue, refl, sym, ap, ◌∙◌, subst, arith, ℤ, Bool, true, false, Option, Some, None, Ok, Err}
 use Rattle.std.specs.Prelude.{is_some}
 use Rattle.std.proofs.lemmas.Bool.{cases_lt}
@@ -66,7 +66,7 @@ module _ {A : Type 0} (p : Program A) where
   fine : IsFine inputs (marks_of body ds) 0 body × AreFine inputs (marks_of body ds) 0 ds
   fine = program_fine inputs body ds scoped p.definitions_scoped
 
-  -- what the code asks for, if it is within the limits
+  -- the needs of the code, if it is within the limits
   pub record Fits : Type 0 where
     pub short : definitions_size 0 (marks_of body ds) ds + size body ≤ 16384
 
@@ -129,7 +129,7 @@ module _ {A : Type 0} (p : Program A) where
   pub misses_nothing : (bits : ℕ) → is_within_limits (program_code bits body ds) ≡ true → MissesNothing (program_code bits body ds) inputs
   misses_nothing bits h = let f = fits bits h in program_misses_nothing bits inputs body ds have fine.0 fine.1 (lows f) (low f)
 
-  -- what the walk finds
+  -- the result of the walk
   pub measured : (bits : ℕ) (o : Option Extent) (rest : ℕ) → rest + definitions_size 0 (marks_of body ds) ds ≡ 16384 → Measured o rest body → is_within_limits (program_code bits body ds) ≡ is_some o
   measured bits None rest e m = within_not bits (λ f. let s = f.short in omega arith)
   measured bits (Some x) rest e m = within bits (record { short = omega (arith, m.0) })

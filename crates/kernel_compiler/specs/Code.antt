@@ -110,7 +110,7 @@ choice_code at condition first second =
     let two = one + length (first one) + 1 in
     condition ++ (JumpIfZero two ∷ (first one ++ (Jump (two + length (second two)) ∷ second two)))
 
--- the code of a tree, with so many bits behind the point, that begins at this place
+-- the code of a tree, with `bits` bits behind the point, that begins at this place
 abbrev pub tree_code : (bits at : ℕ) → Tree → List Instr
 tree_code bits at (t.Number z) = Push z ∷ []
 tree_code bits at (t.Input i) = Input i ∷ []

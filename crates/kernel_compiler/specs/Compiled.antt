@@ -1,4 +1,4 @@
--- What the code of a program is to do.
+-- The meaning of a program's code.
 use Rattle.std.specs.Prelude.{◌≡◌, ℕ, ◌⊎◌, ℤ, List, Some, None, IsSome, Result, Ok, Err}
 use Rattle.kernel_code.specs.declared.instructions.Instr.{Instr}
 use Rattle.kernel_code.specs.declared.traps.Trap.{Trap}
@@ -17,7 +17,7 @@ pub record LacksDefinition (bits : ℕ) (body : Tree) (definitions : List Tree) 
   pub needed : Needs body definitions number
   pub lacking : value_of bits inputs (meaning 0 definitions number) ≡ None
 
--- what a run of the code on these inputs comes to, with so many bits behind the point
+-- the code computes the program's value on these inputs, with `bits` bits behind the point
 pub record Computes (bits : ℕ) (body : Tree) (definitions : List Tree) (code : List Instr) (inputs : List ℤ) : Type 0 where
   -- a value is the tree's
   pub value : (n : ℕ) (v : ℤ) → Ends bits code inputs n (Ok v) → value_of bits inputs (substituted body definitions) ≡ Some v

@@ -34,7 +34,7 @@ abbrev pub definitions_size : ℕ → List Bool → List Tree → ℕ
 definitions_size j marks [] = 0
 definitions_size j marks (d ∷ ds) = definitions_size (j + 1) marks ds + kept_size (is_marked marks j) d
 
--- what is left of some room for instructions
+-- the rest of some room for instructions, None where more are taken
 abbrev pub Left : Option ℕ → (room taken : ℕ) → Type 0
 Left (Some rest) room taken = rest + taken ≡ room
 Left None room taken = room < taken
@@ -64,7 +64,7 @@ abbrev pub AllHavePowers : List Tree → Type 0
 AllHavePowers [] = Unit {0}
 AllHavePowers (d ∷ ds) = HasPowers d × AllHavePowers ds
 
--- what an instruction can hold: inputs to 32, locals to 255
+-- a tree whose numbers fit instructions: inputs to 32, locals to 255
 abbrev pub IsEmittable : Tree → Type 0
 IsEmittable (t.Number z) = Unit {0}
 IsEmittable (t.Input i) = i ≤ 32

@@ -8,7 +8,7 @@ ghost use Rattle.kernel_compiler.specs.Sizes.{pair_size, raised_size, definition
 use energy_program::Expr;
 use std::alloc::Allocator;
 
-/// What the code of an expression takes.
+/// The size of an expression's code: instructions and stack.
 #[derive(Clone, Copy)]
 pub(crate) struct Extent {
     /// The instructions that are left of the room for them.
@@ -97,7 +97,7 @@ fn raised_size(exponent: i8) -> usize
     if exponent < 0 { power + 3 } else { power + 1 }
 }
 
-/// What code takes that needs so much of the stack, if the room that is left has so many instructions.
+/// The size of `own` instructions that need `need` values of the stack; `None` where the room has fewer instructions.
 fn taken(room: usize, own: usize, need: usize) -> Option<Extent>
     ensures { Taken result room own need }
 {
@@ -107,7 +107,7 @@ fn taken(room: usize, own: usize, need: usize) -> Option<Extent>
     })
 }
 
-/// What the code of an expression takes, if there is room for so many instructions.
+/// The size of an expression's code; `None` where it has more than `room` instructions.
 pub(crate) fn measure<A: Allocator>(e: &Expr<A>, room: usize) -> Option<Extent>
     requires { HasPowers (tree_of e.now) }
     ensures { Measured result room (tree_of e.now) }
@@ -139,7 +139,8 @@ pub(crate) fn measure<A: Allocator>(e: &Expr<A>, room: usize) -> Option<Extent>
     }
 }
 
-/// What is left of the room after the code of the marked ones of these definitions. The first of these has this number.
+/// The instructions that are left of the room after the code of the marked ones of these definitions, of which the first has the number
+/// `number`; `None` where the room has fewer.
 pub(crate) fn definitions_left<A: Allocator>(
     marks: &[bool],
     number: usize,

@@ -1,4 +1,4 @@
-//! What runs write to.
+//! The stack and the locals of runs.
 
 ghost use Rattle.std.specs.Prelude.{◌≡◌};
 

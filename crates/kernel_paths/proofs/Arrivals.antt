@@ -118,7 +118,7 @@ kept_before a k j e =
     (λ (at : (j ≡ k) × (k < length a)). let t = get_or-set_at a k j true false at.0 at.1 in absurd (cc))
     (kept_bit a k j)
 
--- what is set on more paths before an instruction is set on more after it
+-- a local that is set on more paths before an instruction is set on more after it
 pub more_after : (i : Instr) (a b : List Bool) (j : ℕ) → length a ≡ length b → (slice_index_or a j false ≡ true → slice_index_or b j false ≡ true)
     → slice_index_or (set_after i a) j false ≡ true → slice_index_or (set_after i b) j false ≡ true
 more_after (Push v) a b j long more e = more e

@@ -1,4 +1,4 @@
--- What paths have in common when others join them, and when they follow an instruction.
+-- The shape that paths have in common when others join them, and when they follow an instruction.
 use Rattle.std.proofs.Common.{◌≡◌, ◌≢◌, ℕ, suc, ◌+◌, ◌⊎◌, inl, inr, max, Bool, true, false, ◌&&◌, List, length, refl, sym, ap, subst, ◌∙◌, arith, slice_index_or, ⊎_elim}
 use Rattle.std.proofs.lemmas.Bool.{and_cases, and_parts, cases_eq}
 use Rattle.kernel_code.specs.declared.instructions.Instr.{Instr}

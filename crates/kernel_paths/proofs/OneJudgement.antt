@@ -10,7 +10,7 @@ use Rattle.kernel_paths.specs.declared.faults.Misfit.{Misfit}
 use Rattle.kernel_paths.specs.declared.faults.Misfit.TheVariants.{Malformed, DepthOver64}
 use Rattle.kernel_paths.specs.Misfits.{IsLevel, AreSupplied, Fits, Lacks, EndsBadly, MeetUnevenly, Overfills, DoesWell, IsFirstMalformed, IsFirstOverfull, IsJudged}
 
--- what is wrong at a place
+-- a place is malformed: something is lacking there, paths meet unevenly, or they end badly
 abbrev IsMalformed : List Instr → (inputs pc : ℕ) → Type 0
 IsMalformed code inputs pc = Lacks code inputs pc ⊎ (MeetUnevenly code pc ⊎ EndsBadly code pc)
 

@@ -1,4 +1,4 @@
--- What each refusal says of the paths of a code.
+-- The meaning of each refusal, for the paths of a code.
 use Rattle.std.proofs.Common.{◌≡◌, ◌≢◌, ℕ, zero, suc, ◌+◌, ◌<◌, ◌≤◌, ◌⊎◌, inl, inr, Bool, true, false, List, [], ◌∷◌, length, Some, Err, refl, sym, ap, subst, ◌∙◌, arith, slice_index_or, ⊎_elim}
 use Rattle.std.specs.Prelude.{slice_get}
 use Rattle.std.proofs.lemmas.Bool.{cases_lt, cases_eq}

@@ -18,7 +18,7 @@ use Rattle.kernel_paths.proofs.Joins.{IsUnion, Leads, leads_summary, describes_s
 
 -- ---- one place more
 
--- what arrived from below a place arrives from below the next
+-- a path that arrives from below a place arrives from below the next
 arrives_later : (code : List Instr) {here n pc height : ℕ} {set : List Bool} → Arrives code here n pc height set → Arrives code (here + 1) n pc height set
 arrives_later code first = first
 arrives_later code (later path there go lt) = later path there go (omega arith)
@@ -75,7 +75,7 @@ may_go (Jump target) from to = cases_eq to target
 
 -- ---- a place that is followed
 
--- what is supplied on all paths
+-- an instruction is supplied where more locals are set
 pub supplied_more : (i : Instr) (inputs height : ℕ) (a b : List Bool) → ((k : ℕ) → slice_index_or a k false ≡ true → slice_index_or b k false ≡ true) → IsSupplied i inputs height a → IsSupplied i inputs height b
 supplied_more (Push v) inputs height a b more h = tt
 supplied_more (Input k) inputs height a b more h = h
@@ -133,7 +133,7 @@ stands_on code inputs here i s t old new forward there st at_here can height set
         (describes_same (arrivals code here at) (arrivals code (here + 1) at) u.left
         (λ n h b p. ⊎_elim (λ (q : arrivals code here at n h b). q) (λ (q : Leads code here i at n h b). absurd (stays q.go)) (u.either n h b p)) (meeting_at old at) (st.held at le within))
 
--- what is read at a place
+-- the meeting that is read at a place
 pub met_here : (code : List Instr) (inputs here : ℕ) (meetings : List Meeting) (read m : Meeting) → here ≤ length code → Stands code inputs here meetings → read ≡ slice_index_or meetings here read → read ≡ m → meeting_at meetings here ≡ m
 met_here code inputs here meetings read m within st is e =
     let within' : here < length meetings = omega (arith, st.long) in

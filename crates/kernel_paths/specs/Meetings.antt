@@ -1,4 +1,4 @@
--- What is known of the paths to a place when all places below another were followed.
+-- Meetings of the paths to a place, when all places below another were followed.
 use Rattle.std.specs.Prelude.{◌≡◌, ◌≢◌, ℕ, suc, ◌+◌, ◌<◌, ◌≤◌, max, List, length, Some, Bool, true, false, ◌&&◌, Result, Ok, Err, slice_get, slice_index_or, replicate}
 use Rattle.kernel_code.specs.declared.instructions.Instr.{Instr}
 use Rattle.kernel_code.specs.Paths.{IsSupplied, HasRoom, CanAct, MayGo, IsPath, height_after, set_after}
@@ -11,7 +11,7 @@ use Rattle.kernel_paths.specs.Misfits.{Fits}
 
 -- ---- one instruction
 
--- what a check of an instruction at this place finds
+-- the results of the check of an instruction at this place
 pub record IsOverfull (i : Instr) (inputs height : ℕ) (set : List Bool) : Type 0 where
   pub supplied : IsSupplied i inputs height set
   pub full : HasRoom i height → ⊥
@@ -62,7 +62,7 @@ pub record IsLed (i : Instr) (here : ℕ) (s : Shape) (old new : List Meeting) :
   pub there : (at : ℕ) → MayGo i here at → IsJoin (meeting_at old at) s (meeting_at new at)
   pub others : (at : ℕ) → (MayGo i here at → ⊥) → meeting_at new at ≡ meeting_at old at
 
--- what a meeting at the end, this place, comes to
+-- the verdict on a meeting at the end, this place
 abbrev pub IsEnd : Meeting → ℕ → Result ℕ Misfit → Type 0
 IsEnd Nothing len r = ⊥
 IsEnd (Level s) len (Ok steps) = (s.height ≡ 1) × (steps ≡ s.steps)
@@ -85,7 +85,7 @@ pub data Arrives (code : List Instr) (below : ℕ) : (n pc height : ℕ) → Lis
 abbrev pub arrivals : List Instr → (below at : ℕ) → (n height : ℕ) → List Bool → Type 0
 arrivals code below at n height set = Arrives code below n at height set
 
--- what these paths, each of a number of instructions, a height and a set, have in common
+-- the shape that these paths, each of a number of instructions, a height and a set, have in common
 pub record IsSummary (paths : ℕ → ℕ → List Bool → Type 0) (s : Shape) : Type 0 where
   pub long : length s.set ≡ 256
   pub level : (n height : ℕ) (set : List Bool) → paths n height set → height ≡ s.height

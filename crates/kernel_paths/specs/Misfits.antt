@@ -69,7 +69,7 @@ pub record Overfills (code : List Instr) (pc : ℕ) : Type 0 where
 
 -- ---- the judgement
 
--- every path does well, those that meet have stacks of one height, and the longest has so many instructions
+-- every path does well, those that meet have stacks of one height, and the longest has `steps` instructions
 pub record DoesWell (code : List Instr) (inputs steps : ℕ) : Type 0 where
   pub misses : MissesNothing code inputs
   pub level : (pc : ℕ) → IsLevel code pc

@@ -14,7 +14,7 @@ use fallible::Failure;
 use kernel_code::{Code, Instr};
 use std::alloc::Allocator;
 
-/// Follows the paths that come to the place `here` by its instruction.
+/// Follows the paths that reach the place `here` by its instruction.
 fn follow(
     code: &[Instr],
     here: usize,
@@ -40,7 +40,7 @@ fn follow(
     }
 }
 
-/// What the paths that come to the end, the place `len`, come to.
+/// The verdict on the paths at the end, the place `len`: the instructions on the longest, or the misfit there.
 fn judge_end(end: &Meeting, len: usize) -> Result<u32, Misfit>
     requires some { end.now ≡ Nothing → ⊥ }
     requires short { len < 2 ^ 32 }
@@ -53,13 +53,13 @@ fn judge_end(end: &Meeting, len: usize) -> Result<u32, Misfit>
     }
 }
 
-/// The number of instructions on the longest path of the code, where so many inputs are at hand and every path does
+/// The number of instructions on the longest path of the code, where `inputs` inputs are at hand and every path does
 /// well: none misses an operand, a local or an input, pushes a 65th value, or ends with other than one value, and paths
 /// that meet have stacks of one height. Each conditional jump may go either way, whatever the values.
 ///
 /// Otherwise the lowest place that is wrong decides. `Malformed` where a path lacks an operand, a local or an input,
 /// where paths meet with stacks of different heights, or at the end, the place that is the code's length, where a path
-/// has other than one value; else `DepthOver64` where a path pushes a 65th value. Instructions that no path comes to
+/// has other than one value; else `DepthOver64` where a path pushes a 65th value. Instructions that no path reaches
 /// are passed over. `Memory`: an allocation was refused.
 pub fn longest_path<A: Allocator, B: Allocator>(
     alloc: A,

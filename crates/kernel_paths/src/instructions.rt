@@ -1,4 +1,4 @@
-//! What one instruction needs, and what it makes of a shape.
+//! Instructions on shapes: what each needs, and the shape behind it.
 
 ghost use Rattle.std.specs.Prelude.{◌≡◌, ◌+◌, ◌-◌, ◌^◌, ◌<◌, ◌↔◌, IsTrue, length, true};
 ghost use Rattle.kernel_code.specs.Code.{goes_forward};

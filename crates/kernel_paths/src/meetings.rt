@@ -1,11 +1,11 @@
-//! How the paths that come to a place stand there.
+//! Meetings of the paths that reach a place.
 
 ghost use Rattle.std.specs.Prelude.{◌≡◌, ◌<◌, false, replicate, length, slice_index_or, slice_set};
 ghost use Rattle.kernel_paths.specs.Meetings.{IsJoin, IsJoinAt};
 
 use crate::locals::Locals;
 
-/// What paths to a place have in common.
+/// A shape, which the paths to a place have in common.
 #[derive(Clone, Copy)]
 pub struct Shape {
     /// How many values stand on the stack, on each path.
@@ -31,7 +31,7 @@ impl Shape {
     }
 }
 
-/// The paths that come to a place.
+/// The paths that reach a place.
 #[derive(Clone, Copy)]
 pub enum Meeting {
     /// There are none.

@@ -71,7 +71,7 @@ fn tested(kernel: &Verified<Global>, a: u32, b: u32, r: i64) -> Option<i64> {
     Some(value.raw())
 }
 
-/// Whether both come to the same on some pairs.
+/// Whether both give the same on some pairs.
 fn agree(alloc: Global, stack: &mut Stack, lines: &str) -> Result<bool, Fail> {
     let kernel = accepted(alloc, lines)?;
     for (a, b, r) in [

@@ -1,4 +1,4 @@
-//! What the tested machine stops at, and prints of it.
+//! Traps of the tested machine, and their lines.
 
 use fallible::Failure;
 use fixed::{Frac, Fx};

@@ -96,7 +96,7 @@ struct Draft {
 }
 
 impl Draft {
-    /// Appends an instruction, after which so many values stand on the stack.
+    /// Appends an instruction, after which n values stand on the stack.
     fn put(&mut self, instr: Instr, height: usize) -> Result<(), AllocError> {
         self.height = height;
         self.instructions.push(instr)?;
@@ -127,7 +127,7 @@ impl Draft {
         }
     }
 
-    /// A few instructions that don't jump, after which so many values stand on the stack, at least one.
+    /// A few instructions that don't jump, after which n values stand on the stack, at least one.
     fn stretch(&mut self, numbers: &mut Numbers, height: usize) -> Result<(), AllocError> {
         for _ in 0..numbers.below(8) {
             self.step(numbers)?;

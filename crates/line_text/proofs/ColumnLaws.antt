@@ -54,7 +54,7 @@ length-zeros_in width text h = omega (arith, length-append (replicate (width - l
 mod_small : (n m : ℕ) → n % m ≤ n
 mod_small n m = omega (arith, div-add-mod' n m)
 
--- digits, a point and so many digits are read as a number in units of the last decimal
+-- digits, a point and n digits are read as a number in units of the last decimal
 pub parts_read : (places : ℕ) (front back : List ℕ) (whole part : ℕ) → 0 < length front → length back ≡ places → digits_of front ≡ Some whole → digits_of back ≡ Some part
     → decimals_of places (front ++ 46 ∷ back) ≡ Some (whole * 10 ^ places + part)
 unfolding decimals_of

@@ -116,7 +116,7 @@ cut_again c a b l =
     let lt : ltb (length a) (length (a ++ c ∷ b)) ≡ true = lt-ltb _ _ (omega (arith, length-append a (c ∷ b))) in
     rw (at, lt, take_at a (c ∷ b) (length a) refl, drop-append-add a (c ∷ b) 1) refl
 
--- what cut_at answers, by whether the byte was found
+-- the answer of cut_at, by whether the byte was found
 abbrev halves_if : ℕ → List ℕ → Bool → Option (List ℕ × List ℕ)
 halves_if c text found = cond found (Some (before_first (λ x. x == c) text, after_first (λ x. x == c) text)) None
 
@@ -311,7 +311,7 @@ front_found c (x ∷ xs) =
       | inl e ↦ (suc (front_found c xs).0, rw e (ap (λ (b : ℕ). b ∷ xs) (eqb-true x c e) ∙ ap (λ (t : List ℕ). c ∷ t) (front_found c xs).1))
     ]
 
--- what is left does not begin with the byte
+-- the rest does not begin with the byte
 pub front_dropped : (c : ℕ) (text : List ℕ) → 0 < c → get_or (without_front c text) 0 0 ≡ c → ⊥
 front_dropped c [] some e = omega arith
 front_dropped c (x ∷ xs) some e = at (eqb x c) refl (front_dropped c xs some) e

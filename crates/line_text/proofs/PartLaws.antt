@@ -1,4 +1,4 @@
--- What is read is spelled so, and what is spelled so is read.
+-- Parts of lines: one that is read is spelled so, and one that is spelled so is read.
 use Rattle.std.proofs.Common.{◌≡◌, ℕ, suc, ◌^◌, ◌<◌, ◌≤◌, Bool, true, false, ◌&&◌, cond, eqb, ltb, List, get_or, Option, Some, None, ℤ, pos, negsuc, MatchOption, decimal, bytes_eq, refl, sym, ap, subst, ◌∙◌, arith}
 use Rattle.std.specs.Fmt.{signed_decimal}
 use Rattle.std.specs.Str.Parse.{digits_value, signed_digits_value}
@@ -52,7 +52,7 @@ natural_again limit n lt fits =
     let v : digits_value 10 (decimal n) ≡ n = (decimal_is_IsNumeral n fits).1 in
     rw v (cond-true _ _ _ (and_from _ _ (bytes_same (decimal n) (decimal n) refl) (lt-ltb n limit lt)))
 
--- what a function that reads a number says, as one equation
+-- the result of a function that reads a number, as one equation
 pub natural_is : (limit : ℕ) (text : List ℕ) (r : Option ℕ) → limit ≤ 2 ^ 64
     → MatchOption r ((n : ℕ) → n < limit → text ≡ decimal n → ⊥) (λ n. (n < limit) × (text ≡ decimal n)) → r ≡ natural_of limit text
 natural_is limit text (Some n) small h = sym (ap (natural_of limit) h.1 ∙ natural_again limit n h.0 (omega (arith, h.0)))

@@ -86,14 +86,14 @@ whole_first text h = digit_in text 0 h.some h.digits
 
 -- ---- decimals
 
--- a text that writes a number with so many decimals is read as that number
+-- a text that writes a number with n decimals is read as that number
 pub decimal_read : (places : ℕ) (text : List ℕ) (n : ℕ) → WritesDecimal places text n → decimals_of places text ≡ Some n
 decimal_read places text n h =
     ap (decimals_of places) h.parts
     ∙ parts_read places h.whole h.part (digits_value 10 h.whole) (digits_value 10 h.part) h.whole_form.some h.part_length (digits_read h.whole _ h.whole_form.digits refl) (digits_read h.part _ h.part_digits refl)
     ∙ ap (λ (m : ℕ). Some m) h.value
 
--- a text that is read as a number with so many decimals writes it
+-- a text that is read as a number with n decimals writes it
 pub decimal_written : (places : ℕ) (text : List ℕ) (n : ℕ) → decimals_of places text ≡ Some n → WritesDecimal places text n
 unfolding decimals_of
 decimal_written places text n e =
@@ -168,7 +168,7 @@ signed_first P first text z (minus magnitude n whole p e) s =
 
 -- ---- columns
 
--- a column that is read as a number with so many decimals writes it
+-- a column that is read as a number with n decimals writes it
 pub column_written : (places : ℕ) (column : List ℕ) (z : ℤ) → decimal_column_of places column ≡ Some z → WritesColumn places column z
 unfolding decimal_column_of
 column_written places column z e = record {
@@ -177,7 +177,7 @@ column_written places column z e = record {
   number = signed_written (WritesDecimal places) (decimals_of places) (decimal_written places) (without_spaces column) z e;
 }
 
--- a column that writes a number with so many decimals is read as that number
+-- a column that writes a number with n decimals is read as that number
 pub column_read : (places : ℕ) (column : List ℕ) (z : ℤ) → WritesColumn places column z → decimal_column_of places column ≡ Some z
 unfolding decimal_column_of
 column_read places column z h =

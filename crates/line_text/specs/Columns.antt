@@ -9,7 +9,7 @@ use Rattle.line_text.specs.Parts.{◌>>=◌, without_spaces}
 unfoldable pub digits_of : List ℕ → Option ℕ
 digits_of text = if all_ascii_digits text then Some (digits_value 10 text) else None
 
--- one or more digits, a point and so many digits
+-- one or more digits, a point and `places` digits
 unfoldable pub decimals_of : ℕ → List ℕ → Option ℕ
 decimals_of places text = if nat_lt (length text) (places + 2) then None else (
     if slice_index text (length text - (places + 1)) == 46 then (
@@ -25,7 +25,7 @@ signed_by read text = if slice_index text 0 == 45 then option_map (λ n. neg_ℤ
 unfoldable pub decimal_column_of : ℕ → List ℕ → Option ℤ
 decimal_column_of places column = signed_by (decimals_of places) (without_spaces column)
 
--- what a column of five bytes holds: -9999 to 99999
+-- a residue number, which fits a column of five bytes: -9999 to 99999
 abbrev pub is_residue_number : ℤ → Bool
 is_residue_number z = int_le (negsuc 9998) z && int_le z (pos 99999)
 

@@ -19,7 +19,7 @@ abbrev pub without_blanks : List ℕ → List ℕ
 without_blanks [] = []
 without_blanks (b ∷ bs) = if is_blank b then without_blanks bs else b ∷ bs
 
--- what stands behind the first word
+-- the text behind the first word
 unfoldable pub after_word : List ℕ → List ℕ
 after_word text = drop (position_or_len is_blank (without_blanks text)) (without_blanks text)
 

@@ -1,4 +1,4 @@
--- What parts of a line write, by their form.
+-- The values that parts of a line write, by their form.
 use Rattle.std.specs.Prelude.{◌≡◌, ℕ, ◌+◌, ◌*◌, ◌^◌, ◌<◌, List, ◌∷◌, ◌++◌, length, replicate, ℤ, pos, neg_ℤ, IsTrue}
 use Rattle.std.specs.Str.{all_ascii_digits}
 use Rattle.std.specs.Str.Parse.{digits_value}
@@ -34,7 +34,7 @@ pub record WritesWhole (text : List ℕ) (n : ℕ) : Type 0 where
   pub form : IsDigits text
   pub value : digits_value 10 text ≡ n
 
--- digits, a point and so many digits write a number in units of the last digit
+-- digits, a point and `places` digits write a number in units of the last digit
 pub record WritesDecimal (places : ℕ) (text : List ℕ) (n : ℕ) : Type 0 where
   pub whole : List ℕ
   pub part : List ℕ

@@ -20,7 +20,7 @@ pub fn put(line: &mut Line, text: &[u8])
     let _ = line.try_extend_from_slice(text);
 }
 
-/// Appends the byte, so many times.
+/// Appends the byte `count` times.
 pub(crate) fn put_copies(line: &mut Line, count: usize, byte: u8)
     requires { array_vec_len line.old + count ≤ 160 }
     ensures items { line.new.items ≡ line.old.items ++ replicate count byte }
@@ -31,7 +31,7 @@ pub(crate) fn put_copies(line: &mut Line, count: usize, byte: u8)
     }
 }
 
-/// Appends the text, with so many spaces before and after it.
+/// Appends the text, with `before` spaces before it and `after` behind it.
 fn put_between(line: &mut Line, before: usize, text: &[u8], after: usize)
     requires { array_vec_len line.old + before + length text.now + after ≤ 160 }
     ensures items { line.new.items ≡ line.old.items ++ (replicate before 32 ++ text.now ++ replicate after 32) }

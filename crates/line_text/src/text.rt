@@ -66,7 +66,7 @@ fn first_place(byte: u8, text: &[u8]) -> usize
     text.len()
 }
 
-/// What stands before and after the first such byte; `None` where the text has none.
+/// The parts of a text before and after the first such byte; `None` where the text has none.
 #[tactic(auto, unfolding(crate::specs::Parts::cut_at))]
 pub fn cut(byte: u8, text: &[u8]) -> Option<(&[u8], &[u8])>
     ensures { option_map (λ x. (x.0.now, x.1.now)) result ≡ cut_at byte text.now }
@@ -79,7 +79,7 @@ pub fn cut(byte: u8, text: &[u8]) -> Option<(&[u8], &[u8])>
     }
 }
 
-/// What stands after this front; `None` where the text does not begin with it.
+/// The text after this front; `None` where the text does not begin with it.
 #[tactic(auto, unfolding(crate::specs::Parts::after))]
 pub fn strip<'a>(front: &[u8], text: &'a [u8]) -> Option<&'a [u8]>
     ensures { option_map (λ x. x.now) result ≡ after front.now text.now }

@@ -57,7 +57,7 @@ fn frame() -> [Place3; 14] {
     ]
 }
 
-/// Whether the cells of two places are one or follow one another, where a side has so many.
+/// Whether the cells of two places are one or follow one another, where a side has n.
 fn are_near(cells: u64, x: u32, y: u32) -> bool {
     let i = u64::from(x).wrapping_mul(cells) >> 32;
     let j = u64::from(y).wrapping_mul(cells) >> 32;

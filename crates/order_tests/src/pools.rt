@@ -22,7 +22,7 @@ impl Gate for Open {
     fn before_tile(&self, _worker: u32, _tile: u64) {}
 }
 
-/// Whether so many workers come to these sums.
+/// Whether `workers` workers give these sums.
 fn come_to<R: Threads + Sync + AllocGlobal, W: RowWork<()> + Sync>(
     rt: &R,
     work: &W,
@@ -44,7 +44,7 @@ fn come_to<R: Threads + Sync + AllocGlobal, W: RowWork<()> + Sync>(
     }
 }
 
-/// Whether one thread comes to these sums.
+/// Whether one thread gives these sums.
 fn comes_to<W: RowWork<()>>(alloc: Global, work: &W, atoms: u32, sums: &[i64]) -> bool
     requires { W.atoms work.now ≤ atoms }
 {
@@ -83,7 +83,7 @@ fn sums_wrap_on_the_way(rt: HostRuntime) -> Result<(), Fail> {
     Ok(())
 }
 
-/// So many tiles of so many pairs, which push the atoms 0 and 1 apart.
+/// `tiles` tiles of `pairs` pairs, which push the atoms 0 and 1 apart.
 fn pushes(alloc: Global, tiles: u32, pairs: usize) -> Result<Listed, AllocError>
     ensures { IfOk result (λ w. w.atoms ≡ 2) }
 {
@@ -129,7 +129,7 @@ fn asks_for_rows_alone(rt: HostRuntime) -> Result<(), Fail> {
     Ok(())
 }
 
-/// Whether so many workers are in pairs of a tile each at once.
+/// Whether n workers are in pairs of a tile each at once.
 fn meet<R: Threads + Sync + AllocGlobal>(rt: &R, workers: u32) -> Result<bool, AllocError>
     requires some { 0 < workers }
     requires few { workers < 64 }
@@ -154,7 +154,7 @@ fn workers_are_in_pairs_at_once(rt: HostRuntime) -> Result<(), Fail> {
     Ok(())
 }
 
-/// Whether so many workers pass the gate once for each of six tiles, before they ask for a pair of it.
+/// Whether n workers pass the gate once for each of six tiles, before they ask for a pair of it.
 fn pass<R: Threads + Sync + AllocGlobal>(rt: &R, workers: u32) -> Result<bool, AllocError>
     requires some { 0 < workers }
     requires few { workers ≤ 64 }
@@ -178,7 +178,7 @@ fn passes_the_gate_before_each_tile(rt: HostRuntime) -> Result<(), Fail> {
     Ok(())
 }
 
-/// What three workers come to in a heap of so many bytes.
+/// The outcome of three workers in a heap of n bytes.
 #[derive(Clone, Copy, PartialEq, Eq)]
 enum Outcome {
     Summed,

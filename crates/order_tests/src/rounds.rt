@@ -7,7 +7,7 @@ use std::alloc::{AllocError, Global};
 use std::test::Fail;
 use tile_round::{Event, Outcome, Round, RoundFault, Work};
 
-/// Events in their order, and what each comes to.
+/// Events in their order, and the outcome of each.
 const SCRIPT: &str = "claim 0: drew 0
 claim 1: drew 1
 deposit 1: added 1

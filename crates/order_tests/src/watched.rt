@@ -22,7 +22,7 @@ pub(crate) struct Watched<W: Work + Drop> {
 impl<W: Work + Drop> Watched<W> {
     ghost use Rattle.std.specs.Prelude.{◌≡◌, ◌<◌};
 
-    /// The pairs of so many tiles wait for one another.
+    /// The pairs of n tiles wait for one another.
     pub(crate) fn new(work: W, tiles: u32) -> Watched<W>
         requires { tiles < 64 }
         ensures { result.work ≡ work }

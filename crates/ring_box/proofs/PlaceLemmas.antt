@@ -16,11 +16,11 @@ pub place_and_turns : (z : ℤ) → (turns : ℤ) × (z ≡ pos (place_at z) +�
 place_and_turns (pos n) = (pos (n / 2 ^ 32), ap pos (omega arith))
 place_and_turns (negsuc n) = (negsuc (n / 2 ^ 32), omega (arith, ints))
 
--- place_at is the place that is reached by so many places
+-- place_at is the place that is reached by z places
 pub place_is : (z : ℤ) (x : ℕ) → x ≡ place_at z → IsPlace z x
 place_is z x e = rw e (record { below = place_below z; turned = place_and_turns z })
 
--- the place of the nearest whole number of places is the place of so many picometres
+-- the place of the nearest whole number of places is the place of p picometres
 pub place_of_pm_is : (p q : ℤ) (L : ℕ) (z : ℤ) (x : ℕ) → q ≡ p *ℤ pos (100 * 2 ^ 32) → IsNearest q (pos L) z → IsPlace z x → IsPlaceOfPm p L x
 place_of_pm_is p q L z x e n h = record { nearest = (z, rw (← e) n, h) }
 

@@ -86,7 +86,7 @@ impl ActingPair {
     }
 }
 
-/// A length along an axis in 2^40 of its units, some 0.0026 nm, rounded down: where so many places lie between two on a ring of this side.
+/// A length along an axis in 2^40 of its units, some 0.0026 nm, rounded down: where n places lie between two on a ring of this side.
 fn coarse_length(places: u32, side: Side) -> u32
     requires { places ≤ 2 ^ 31 }
     ensures below { result * 2 ^ 40 ≤ places * side }
@@ -152,7 +152,7 @@ impl RingBox {
         }
     }
 
-    /// What two atoms at `p` and `q` have between them; `None` where their distance isn't below the cutoff: they don't act.
+    /// The pair of two atoms at `p` and `q`, its line and its distance; `None` where the distance isn't below the cutoff: they don't act.
     pub fn acting(&self, reach: &Reach, p: Place3, q: Place3) -> Option<ActingPair>
         ensures value { result ≡ acting_of reach.now self.now p q }
         ensures low { IfSome result (λ a. reach.now.core ≤ℤ a.distance) }

@@ -7,7 +7,7 @@ use crate::places::diff;
 use crate::sides::Side;
 use crate::vectors::Place3;
 
-/// What lies between two atoms along each axis, in units of 10^-5 nm over 2^32.
+/// The separation of two atoms along each axis, in units of 10^-5 nm over 2^32.
 #[derive(Clone, Copy)]
 pub(crate) struct Separation {
     pub x: i64,

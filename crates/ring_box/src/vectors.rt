@@ -1,6 +1,6 @@
-//! Where an atom is, and forces, by their parts along the axes.
+//! Places, forces and cells, by their components along the axes.
 
-/// Where an atom is: its place along each axis, one of the 2^32 of a ring.
+/// The position of an atom: its place along each axis, a whole number below 2^32 on the ring of the side.
 #[derive(Clone, Copy, PartialEq, Eq, Debug)]
 pub struct Place3 {
     pub x: u32,
@@ -8,7 +8,7 @@ pub struct Place3 {
     pub z: u32,
 }
 
-/// A force by its components along the axes.
+/// A force by its components along the axes, in 2^-bits kJ/mol/nm, bits of the job.
 #[derive(Clone, Copy, PartialEq, Eq, Debug)]
 pub struct Force<T> {
     pub x: T,

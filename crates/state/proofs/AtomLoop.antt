@@ -6,7 +6,7 @@ use Rattle.state.specs.StateText.{AtomView}
 use Rattle.line_text.specs.Steps.{◌>>=◌}
 use Rattle.state.specs.StateReading.{atom_at, atoms_at}
 
--- what was read before, and what is still read
+-- the atoms that were read before, and those that are still read
 abbrev pub with_front : List AtomView → Result (List AtomView × List ℕ) StateFault → Result (List AtomView × List ℕ) StateFault
 with_front front read = read >>= λ x. Ok (front ++ x.0, x.1)
 

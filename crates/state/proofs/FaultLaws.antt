@@ -188,7 +188,7 @@ whole_text s = in_turn (ended (head_line (version_of s.frac))) (ended (title_lin
 
 -- ---- atoms
 
--- what is known when some atoms were read
+-- the facts on a state of which some atoms were read
 abbrev HasFirst : (Agrees : StateView → Type 0) → (title : List ℕ) (step : ℤ) (frac : Frac) (sides : List ℕ) → ℕ → Type 0
 HasFirst Agrees title step frac sides count = (atoms : List AtomView) → length atoms ≡ count → AllByRecursion IsAtom atoms → IsState (seen title step frac sides atoms) × Agrees (seen title step frac sides atoms)
 
@@ -204,7 +204,7 @@ atoms_fail_later : (n k : ℕ) (a : AtomView) (bytes : List ℕ) (e : StateFault
 unfolding atoms_at atom_at
 atoms_fail_later n k a bytes e is failed = rw (field_again n atom_of (atom_line a) a bytes (atom_lacks a is) (atom_again a is)) (bind_err _ _ e failed)
 
--- a text that begins with some atoms of so many, and fails with those that are left, has a cause
+-- a text that begins with some atoms of n, and fails with those that are left, has a cause
 abbrev AtomsCause : List ℕ → ℕ → StateFault → ℕ → Type 0
 AtomsCause box count e k = (n lines : ℕ) (first : List AtomView) (front bytes : List ℕ) → n ≡ suc lines → AreLines lines front → front ≡ box ++ atom_lines first → AllByRecursion IsAtom first
     → length first + k ≡ count → Fails front (atoms_at n k) → atoms_at n k bytes ≡ Err e → IsCause (front ++ bytes) e
@@ -260,7 +260,7 @@ atoms_cause title step frac sides count Agrees box has fits (suc k) e n lines fi
 
 -- ---- the parts before the atoms
 
--- what is known of a text of which this much was read, and of which the rest fails
+-- the facts on a text of which this much was read, and of which the rest fails
 record Read (Agrees : StateView → Type 0) (rest : StateView → List ℕ) (next : List ℕ → Result StateView StateFault) (count : ℕ) (front : List ℕ) : Type 0 where
   lines : AreLines count front
   fits : Fits Agrees rest front
@@ -298,7 +298,7 @@ second_again F24 is = frac_again F24 (lit< tt) refl
 second_again F32 is = let wrong : First ≡ Second = is in absurd cc
 second_again F40 is = frac_again F40 (lit< tt) refl
 
--- what is known of the states that begin so, by how many lines were read
+-- the facts on the states that begin so, by how many lines were read
 abbrev KnowsVersion : Version → StateView → Type 0
 KnowsVersion v s = version_of s.frac ≡ v
 

@@ -39,7 +39,7 @@ said_found : {X : Type 0} (n : ℕ) (o : Option X) (x : X) → said n o ≡ Ok x
 said_found n None x e = absurd cc
 said_found n (Some y) x e = cc
 
--- what a reader of lines takes is spelled so, and is so
+-- a line that a reader takes is spelled so, and its value is so
 abbrev pub Spells : {X : Type 0} → (List ℕ → Option X) → (X → List ℕ) → (X → Type 0) → Type 0
 Spells {X = X} read spell P = (line : List ℕ) (x : X) → lacks 10 line ≡ true → read line ≡ Some x → (line ≡ spell x) × P x
 

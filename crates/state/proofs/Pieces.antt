@@ -8,7 +8,7 @@ use Rattle.line_text.specs.Parts.{word}
 use Rattle.state.specs.StateText.{StateView, version_of, head_line, bits_in, atom_lines, state_text}
 use Rattle.state.specs.Middle.{front, middle}
 
--- what stands between the title and the atoms
+-- the text between the title and the atoms
 abbrev pub fields : StateView → List ℕ
 fields s = middle s.step s.frac (length s.atoms) s.sides
 
@@ -31,7 +31,7 @@ in_pieces s =
         ≡ ((h ++ lf) ++ k) ++ (t ++ (((lf ++ s) ++ n ++ lf ++ d ++ m ++ c ++ (lf ++ b) ++ w ++ lf) ++ a))
     plain lf h k t s n d m c b w a = simp append_assoc
 
--- what stands before the title is written, and then the title, and then what stands before the atoms
+-- the text before the title is written, and then the title, and then the text before the atoms
 pub front_written : {o m : Output} (s : StateView) → Appends o m (front s.frac) → HasToWrite o m (state_text s) (from_title s)
 front_written s = and_then (front s.frac) (from_title s) (has_all _ (in_pieces s))
 

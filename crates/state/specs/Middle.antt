@@ -6,11 +6,11 @@ use Rattle.fixed.specs.declared.frac.Frac.{Frac}
 use Rattle.line_text.specs.Parts.{ended, word}
 use Rattle.state.specs.StateText.{bits_in, head_line, version_of}
 
--- what stands before the title
+-- the text before the title
 abbrev pub front : Frac → List ℕ
 front frac = ended (head_line (version_of frac)) ++ codes "title "
 
--- what stands between the title and the atoms
+-- the text between the title and the atoms
 abbrev pub middle : ℤ → Frac → ℕ → List ℕ → List ℕ
 middle step frac count sides =
     codes "\nstep " ++ signed_decimal step ++ codes "\n" ++ bits_in (version_of frac) frac

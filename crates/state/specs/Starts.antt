@@ -44,7 +44,7 @@ abbrev pub on_box : Result RingBox BoxFault → (RingBox → StateView) → Resu
 on_box (Ok ring) start = Ok (start ring)
 on_box (Err fault) start = Err fault
 
--- the state of so many fraction bits that begins at a frame with a time step of dt fs, or why its sides are no box's
+-- the state with these fraction bits that begins at a frame with a time step of dt fs, or why its sides are no box's
 abbrev pub start_of_frame : Frac → ℕ → gro.FrameView → Result StateView BoxFault
 start_of_frame frac dt f = on_box (box_of f.sides) (start_in frac dt f)
 
@@ -64,7 +64,7 @@ pub record IsStartOfAtom (dt : ℕ) (sides : List ℕ) (g : gro.AtomView) (a : A
   pub y : IsStartOnSide dt (slice_index sides 1) (slice_index_or g.at 1 (pos 0)) (slice_index_or g.velocity 1 (pos 0)) a.previous.y a.current.y
   pub z : IsStartOnSide dt (slice_index sides 2) (slice_index_or g.at 2 (pos 0)) (slice_index_or g.velocity 2 (pos 0)) a.previous.z a.current.z
 
--- the state s of so many fraction bits begins at the frame f
+-- the state s with these fraction bits begins at the frame f
 pub record BeginsAt (frac : Frac) (dt : ℕ) (f : gro.FrameView) (s : StateView) : Type 0 where
   pub title : s.title ≡ f.title
   pub counter : s.step ≡ pos 0

@@ -6,7 +6,7 @@ use Rattle.state.specs.StateText.{IsState, StateView, state_text}
 use Rattle.state.specs.declared.faults.StateFault.{StateFault}
 use Rattle.state.specs.declared.faults.StateFault.TheVariants.{BadLine, Truncated, Trailing}
 
--- so many lines, each with its LF
+-- `count` lines, each with its LF
 pub record AreLines (count : ℕ) (text : List ℕ) : Type 0 where
   pub lines : List (List ℕ)
   pub many : length lines ≡ count

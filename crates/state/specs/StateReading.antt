@@ -70,12 +70,12 @@ needed (Some p) = Ok p
 abbrev pub line_at : List ℕ → Result (List ℕ × List ℕ) StateFault
 line_at bytes = needed (cut_at 10 bytes)
 
--- what the line with this number says
+-- the value of the line with this number, which is its fault where there is none
 abbrev pub said : {X : Type 0} → ℕ → Option X → Result X StateFault
 said n None = Err (BadLine n)
 said n (Some x) = Ok x
 
--- what the needed line with this number says, and what stands after it
+-- the value of the needed line with this number, and the bytes after it
 abbrev pub field_at : {X : Type 0} → ℕ → (List ℕ → Option X) → List ℕ → Result (X × List ℕ) StateFault
 field_at n read bytes = do
   line ← line_at bytes
@@ -85,7 +85,7 @@ field_at n read bytes = do
 unfoldable pub atom_at : ℕ → List ℕ → Result (AtomView × List ℕ) StateFault
 atom_at n bytes = field_at n atom_of bytes
 
--- so many atoms, the first on line n
+-- this many atoms, the first on line n
 unfoldable pub atoms_at : ℕ → ℕ → List ℕ → Result (List AtomView × List ℕ) StateFault
 atoms_at n zero bytes = Ok ([], bytes)
 atoms_at n (suc k) bytes = do

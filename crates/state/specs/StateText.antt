@@ -1,4 +1,4 @@
--- What a state is, without where it lies in memory, and the one text of each state.
+-- States, without where they lie in memory, and the one text of each state.
 use Rattle.std.specs.Prelude.{ℕ, ◌<◌, ◌≤◌, ◌^◌, List, [], ◌∷◌, ◌++◌, length, codes, ℤ, pos, negsuc, ◌≤ℤ◌, IsTrue}
 use Rattle.std.specs.Fmt.{signed_decimal}
 use Rattle.std.specs.List.{flat_map, AllByRecursion}
@@ -20,7 +20,7 @@ pub record AtomView : Type 0 where
   pub previous : Place3
   pub current : Place3
 
--- a state; its numbers have so many bits behind the point, and its sides are three numbers, x, y and z
+-- a state; its numbers have the fraction bits `frac`, and its sides are three numbers, x, y and z
 pub record StateView : Type 0 where
   pub title : List ℕ
   pub step : ℤ
@@ -55,7 +55,7 @@ count_line count = codes "atoms" ++ word count
 abbrev pub box_line : List ℕ → List ℕ
 box_line sides = codes "box" ++ flat_map word sides
 
--- what a line says of a place
+-- the numbers of a place on an atom's line
 abbrev pub numbers_of : Place3 → List ℕ
 numbers_of p = p.x ∷ p.y ∷ p.z ∷ []
 

@@ -22,7 +22,7 @@ impl<A: Allocator + Copy> State<A> {
 
     /// The frame of the current places, as a GRO file has it: title, residue numbers, names and sides are the state's, each position is the whole picometre nearest to its place, and velocities are zero.
     ///
-    /// It is refused only where a growth was.
+    /// It is refused only where an allocation was.
     pub fn frame(&self) -> Result<GroFrame<A>, AllocError>
         ensures value { IfOk result (λ f. frame_view f ≡ frame_of (state_view self.now)) }
         // Atoms at rest in a box.

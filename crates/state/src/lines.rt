@@ -149,7 +149,7 @@ fn is_spelled(atom: &Atom, line: &[u8]) -> bool
     line == spelled.as_slice()
 }
 
-/// Appends the line of the fraction bits with its LF, where a state of so many has one.
+/// Appends the line of the fraction bits with its LF, where a state has one: at 24 and at 40.
 pub fn put_bits(line: &mut Line, frac: Frac)
     requires { array_vec_len line.old + 26 ≤ 160 }
     ensures items { line.new.items ≡ line.old.items ++ bits_in (version_of frac) frac }

@@ -120,7 +120,7 @@ fn bad(line: u64) -> StateFault
     StateFault::BadLine { line }
 }
 
-/// So many atoms, the first on the line with this number, and what stands after them.
+/// `count` atoms, the first on the line with this number, and what stands after them.
 fn atoms<A: Allocator + Copy>(
     alloc: A,
     first: u64,

@@ -42,7 +42,7 @@ fn behind(current: u32, moved: i128) -> i128
     i128::from(current) - moved
 }
 
-/// The place from which an atom of this velocity comes to its current place in one time step, round the ring.
+/// The place from which an atom of this velocity moves to its current place in one time step, round the ring.
 pub(crate) fn place_before(current: u32, velocity: i64, time_step: u32, side: Side) -> u32
     requires { time_step ≤ 1000 }
     ensures value { result ≡ place_before current velocity time_step side }

@@ -16,7 +16,7 @@ pub enum Version {
 }
 
 impl Version {
-    /// The version that a state of so many fraction bits has.
+    /// The version of a state with these fraction bits.
     pub fn of(frac: Frac) -> Version
         ensures { result ≡ version_of frac }
     {

@@ -54,7 +54,7 @@ fn write_atoms<O: Out>(atoms: &[Atom], out: &mut O) -> Result<(), OutFault>
     Ok(())
 }
 
-/// What stands before the title.
+/// The text before the title.
 fn front(frac: Frac) -> &'static [u8]
     ensures { result.now ≡ front frac }
 {
@@ -64,7 +64,7 @@ fn front(frac: Frac) -> &'static [u8]
     }
 }
 
-/// What stands between the title and the atoms.
+/// The text between the title and the atoms: step, bits if they are not 32, number of atoms, box.
 fn middle_line<A: Allocator>(state: &State<A>) -> Line
     ensures items { result.items ≡ middle state.now.step state.now.frac (length (state_view state.now).atoms) (sides_view state.now.ring) }
     ensures step { mag state.now.step < 2 ^ 63 }

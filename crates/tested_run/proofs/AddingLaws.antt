@@ -64,7 +64,7 @@ entry_after sums i j v a h k =
 
 -- ---- all pairs
 
--- what is known of the pairs p ∷ ps once the sums are known
+-- the forces of the pairs p ∷ ps, once the sums are known
 pub record Added (force : ℕ × ℕ → Option (Force ℤ)) (sums out : List (Force ℤ)) (p : ℕ × ℕ) (ps : List (ℕ × ℕ)) : Type 0 where
   pub v : Force ℤ
   pub has : force p ≡ Some v

@@ -26,7 +26,7 @@ use Rattle.integrator.specs.declared.direction.Direction.TheVariants.{Forward, B
 use Rattle.integrator.proofs.ReturnLaws.{parts_of, start_from}
 use Rattle.integrator.proofs.StartLaws.{started}
 
--- what the one gives the other gives too
+-- each value of the one is the value of the other too
 pub Keeps : {X : Type 0} → Option X → Option X → Type 0
 Keeps {X} o p = (x : X) → o ≡ Some x → p ≡ Some x
 
@@ -53,7 +53,7 @@ at_kept ring s t (Some r) p q h v e = apart_kept ring (square_of ring p q == 0) 
 false_is_not_true : ◌≡◌ {A = Bool} false true → ⊥
 false_is_not_true e = cc
 
--- what a pair and the pairs after it have, where all have a force
+-- the forces of a pair and of the pairs after it, where all have one
 record Forced (force : ℕ × ℕ → Option (Force ℤ)) (p : ℕ × ℕ) (ps : List (ℕ × ℕ)) : Type 0 where
   v : Force ℤ
   has : force p ≡ Some v

@@ -1,4 +1,4 @@
--- What a tested run's start is refused for.
+-- Refusals of a tested run's start.
 use Rattle.std.proofs.Common.{◌≡◌, ℕ, List, Ok}
 use Rattle.fallible.specs.Failures.{Fails, IfRefused, refused_as}
 use Rattle.fallible.specs.declared.failure.Failure.{Failure}

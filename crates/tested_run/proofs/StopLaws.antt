@@ -77,7 +77,7 @@ tested_runs job state w n text (fault.Kernel f) r h =
     let same : r.start ≡ h.start = ok_same r.start h.start (sym r.starts ∙ h.starts) in
     stopped_or_ran w n h.start h.faults f r.after h.stopped (start_moves w n r.start h.start r.after same r.ran)
 
--- so of these texts a tested run has no failure but want of memory
+-- so of these texts a tested run has no failure but out of memory
 pub tested_lacks : {A : Type 0} → (job state : List ℕ) (w : Direction) (n : ℕ) (text : List ℕ) (failure : Failure (TestedFault A)) → IsRun tested job state w n text → IfRefused failure (IsRefusal job state w n) → failure ≡ Memory
 tested_lacks job state w n text (Refused f) r h = absurd (tested_runs job state w n text f r h)
 tested_lacks job state w n text Memory r h = refl

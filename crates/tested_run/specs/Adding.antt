@@ -12,7 +12,7 @@ with_force sums a v = slice_set sums a (plus (slice_index_or sums a no_force) v)
 abbrev pub with_pair : List (Force ℤ) → ℕ × ℕ → Force ℤ → List (Force ℤ)
 with_pair sums p v = with_force (with_force sums p.0 v) p.1 (negative v)
 
--- what is made of the force of a pair, where it has one; else the pair
+-- a result by the force of a pair, where it has one; else the pair, as the error
 abbrev pub on_force : {X : Type 0} → ℕ × ℕ → Option (Force ℤ) → (Force ℤ → Result X (ℕ × ℕ)) → Result X (ℕ × ℕ)
 on_force p None f = Err p
 on_force p (Some v) f = f v

@@ -19,7 +19,7 @@ abbrev pub or_else : {X : Type 0} → Option X → Option X → Option X
 or_else (Some x) other = Some x
 or_else None other = other
 
--- the first value among f n, f (n + 1), .., so many
+-- the first value among the `count` of f n, f (n + 1), ..
 unfoldable pub first_from : {X : Type 0} → (ℕ → Option X) → (count n : ℕ) → Option X
 first_from f zero n = None
 first_from f (suc count) n = or_else (f n) (first_from f count (suc n))

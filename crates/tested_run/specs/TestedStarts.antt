@@ -1,4 +1,4 @@
--- What a tested run starts from: its slope is the energy's where the run of the slope's code gives a value.
+-- The start of a tested run: its slope is the energy's where the run of the slope's code gives a value.
 use Rattle.std.specs.Prelude.{◌≡◌, ℕ, ℤ, List, Option, Result, Ok}
 use Rattle.fixed.specs.Fractions.{bits_of}
 use Rattle.derivative.specs.Slope.{slope_of}

@@ -1,4 +1,4 @@
-//! What holds of runs on the tested machine.
+//! Law of the tested machine: each run has one outcome.
 
 ghost use Rattle.tested_run.specs.Outcomes.{OutcomesAreEnds};
 

@@ -28,7 +28,7 @@ use ring_box::{Force, Place3};
 use state::{Atom, State};
 use std::alloc::Allocator;
 
-/// So many steps of two frames in a direction.
+/// n steps of two frames in a direction.
 fn step_frames<K: TestedSlope + Drop, A: Allocator>(
     system: &System<K, A>,
     direction: Direction,
@@ -52,7 +52,7 @@ fn step_frames<K: TestedSlope + Drop, A: Allocator>(
     }
 }
 
-/// The frames of these atoms after so many steps in a direction.
+/// The frames of these atoms after n steps in a direction.
 fn frames_after<K: TestedSlope + Drop, A: Allocator + Copy>(
     alloc: A,
     system: &System<K, A>,
@@ -102,7 +102,7 @@ fn narrow(counter: i128) -> i64
     counter as i64
 }
 
-/// The counter of the frame whose forces are wanted after so many whole steps.
+/// The counter of the frame whose forces are wanted after n whole steps.
 fn forced_counter(direction: Direction, step: i64, steps: u64, done: u64) -> i64
     requires fits { in_range (counter_at direction step steps) ≡ true }
     requires early { done < steps }
@@ -134,7 +134,7 @@ fn kernel_fault<A: Allocator>(
     }
 }
 
-/// The frames that a run comes to.
+/// The frames at the end of a run.
 fn run_frames<A: Allocator + Copy>(
     alloc: A,
     direction: Direction,
@@ -157,7 +157,7 @@ fn run_frames<A: Allocator + Copy>(
     }
 }
 
-/// The state at the end of a run whose frames have come to these.
+/// The state at the end of a run with these frames.
 fn arrived<A: Allocator>(prepared: Prepared<A>, stepped: &Stepped<A>) -> State<A>
     requires previous { length stepped.now.previous.items ≡ length prepared.state.atoms.items }
     requires current { length stepped.now.current.items ≡ length prepared.state.atoms.items }
@@ -172,7 +172,7 @@ fn arrived<A: Allocator>(prepared: Prepared<A>, stepped: &Stepped<A>) -> State<A
     state
 }
 
-/// Runs so many steps in a direction.
+/// Runs n steps in a direction.
 fn run<A: Allocator + Copy>(
     alloc: A,
     direction: Direction,
@@ -208,7 +208,7 @@ fn state_after<A: Allocator + Copy>(
     }
 }
 
-/// Runs a state so many steps in a direction, on one thread with every operation tested, and writes the new state.
+/// Runs a state n steps in a direction, on one thread with every operation tested, and writes the new state.
 ///
 /// `job` and `state` are the bytes of a job and a state file, `steps` at most 1,000,000,000,000. The step is Levesque
 /// and Verlet's (J. Stat. Phys. 72, 519, 1993), the forces are the energy's slope as written, summed exactly over all
@@ -237,7 +237,7 @@ pub fn run_bytes_checked<A: Allocator + Copy, O: Out>(
     ensures only { (text : List ℕ) → IsRun tested job.now state.now direction steps text → MatchResult result (λ _. Appends (O.output out.old) (O.output out.new) text) Wants }
     // The texts that have a tested run have it with the plain slope.
     ensures same { (text : List ℕ) → IsRun tested job.now state.now direction steps text → IsRun plain job.now state.now direction steps text }
-    // So many steps the other way over the written text give the starting text.
+    // n steps the other way over the written text give the starting text.
     ensures returns { (text : List ℕ) → IsRun tested job.now state.now direction steps text → IsRun tested job.now text (opposite direction) steps state.now }
 {
     let after = state_after(alloc, job, state, steps, direction)?;

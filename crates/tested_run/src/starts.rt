@@ -1,4 +1,4 @@
-//! What a tested run starts from.
+//! The start of a tested run.
 
 ghost use Rattle.std.specs.Prelude.{◌≡◌, ◌<◌, length, map, true, IfOk};
 ghost use Rattle.std.specs.List.{All};
@@ -37,7 +37,7 @@ fn kernel<A: Allocator + Copy>(
     Ok(CodeKernel { parts, table })
 }
 
-/// What the run of this job starts from, with its kernel.
+/// The start of a run of this job, with its kernel.
 fn prepare<A: Allocator + Copy>(
     job: &Job<A>,
     state: State<A>,
@@ -70,7 +70,7 @@ fn prepare<A: Allocator + Copy>(
     }
 }
 
-/// What a tested run of this job and state starts from.
+/// The start of a tested run of this job and state, or its refusal.
 #[tactic(auto, unfolding(integrator::specs::Starts::start_with))]
 fn started<A: Allocator + Copy>(
     alloc: A,
@@ -94,7 +94,7 @@ fn started<A: Allocator + Copy>(
     Ok(prepare(job, state, kernel, ready.atoms, counter))
 }
 
-/// What a tested run of these texts starts from.
+/// The start of a tested run of these texts, or its refusal.
 #[tactic(auto, unfolding(integrator::specs::Starts::start_of_run))]
 pub(crate) fn start<A: Allocator + Copy>(
     alloc: A,

@@ -83,7 +83,7 @@ fn make_step<K: TestedSlope + Drop, A: Allocator>(
     Ok(())
 }
 
-/// So many steps from the frames `before` and `middle`.
+/// n steps from the frames `before` and `middle`.
 pub(crate) fn make_steps<K: TestedSlope + Drop, A: Allocator>(
     system: &System<K, A>,
     steps: u64,

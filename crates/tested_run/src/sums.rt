@@ -8,7 +8,7 @@ ghost use Rattle.tested_run.specs.Adding.{with_force, with_pair};
 
 use ring_box::Force;
 
-/// What the sums begin at.
+/// The force 0, with which the sums begin.
 pub(crate) const NO_FORCE: Force<i128> = Force { x: 0, y: 0, z: 0 };
 
 fn add(a: i128, b: i128) -> i128

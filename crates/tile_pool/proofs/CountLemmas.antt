@@ -1,4 +1,4 @@
--- What holds of each element of a list, sums over lists, and sums over numbers of which each stands once in a list.
+-- Properties of each element of a list, sums over lists, and sums over numbers of which each stands once in a list.
 use Rattle.std.proofs.Common.{get_or, replicate, ◌≡◌, ℕ, zero, suc, ◌+◌, ◌*◌, ◌<◌, ◌≤◌, ◌≢◌, cond, nat_lt, List, [], ◌∷◌, ◌++◌, length, take, drop, set, sum_by, refl, sym, ap, subst, ◌∙◌, ⊎_elim, arith, add-mul, one-mul}
 use Rattle.std.proofs.lemmas.Bool.Decides.{nat_tests}
 use Rattle.std.proofs.lemmas.Bool.{cases_lt, cases_eq}
@@ -234,7 +234,7 @@ module _ (f : ℕ → ℕ) where
       below_same (λ t. count t (x ∷ xs) * f t) (λ t. (same t x + count t xs) * f t) n (λ t lt. ap (λ m. m * f t) (sum_by-cons (same t) x xs)) in
       sum_by-cons f x xs ∙ (sym (omega arith) ∙ sym (split ∙ both))
 
--- what stands at most as often as the numbers below the bound is below it
+-- a number that stands at most as often as the numbers below the bound is below it
 counted_below : (n : ℕ) (xs : List ℕ) → ((t : ℕ) → count t xs ≤ once_below n t) → Each (λ x. x < n) xs
 counted_below n [] h = tt
 counted_below n (x ∷ xs) h =

@@ -66,7 +66,7 @@ module _ (tiles : List (List Addition)) (atoms workers : ℕ) where
   over_push : (f : Worker → ℕ) (views : List (List Worker)) (v : List Worker) → over_views f (views ++ v ∷ []) ≡ over_views f views + sum_by f v
   over_push f views v = sum_by_push (λ u. sum_by f u) views v
 
-  -- what holds of each worker does so when a view is cut, and when two are joined
+  -- a property of each worker holds when a view is cut, and when two are joined
   pub each_cut : (P : Worker → Type 0) (views : List (List Worker)) (id : ℕ) (v : List Worker) → get_elem? views id ≡ some v → Each (Each P) views → Each (Each P) (set views id (drop 1 v) ++ take 1 v ∷ [])
   each_cut P views id v at h =
       let of : Each P v = each_at (Each P) views id v h at in

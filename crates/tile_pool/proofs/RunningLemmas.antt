@@ -1,4 +1,4 @@
--- What holds between any two steps is kept by each: the rule, and that words and views are a state that the machine
+-- The invariant between any two steps is kept by each: the rule, and that words and views are a state that the machine
 -- reaches.
 use Rattle.std.proofs.Common.{◌≡◌, ℕ, zero, suc, ◌+◌, ◌*◌, ◌%◌, ◌^◌, ◌<◌, List, [], ◌∷◌, ◌++◌, length, take, drop, set, replicate, slice_index, refl, sym, ap, subst, ◌∙◌, arith}
 use mathlib.Core.Option.{none}

@@ -51,7 +51,7 @@ words_told found told n m xs are len same = record {
   each = λ k lt. are.each k (omega arith) ∙ ap (cast_signed w64) (same k lt);
 }
 
--- words that are made all zero, for so many atoms
+-- words that are made all zero, for n atoms
 pub zero_words : (words items : List ℕ) (atoms same : ℕ) → words ≡ items → items ≡ replicate (3 * atoms + 1) zero → same ≡ atoms → words ≡ replicate (3 * same + 1) zero
 zero_words words items atoms same shown made e = shown ∙ (made ∙ ap (λ (n : ℕ). replicate (3 * n + 1) zero) (sym e))
 
@@ -112,7 +112,7 @@ from_nothing n xs sums (len, goes) =
     let zero_len : length (replicate n (pos 0)) ≡ n = length-replicate n (pos 0) in
     subst (λ m. AreSums xs m sums) zero_len (goes [] (subst (λ m. AreSums [] m (replicate n (pos 0))) (sym zero_len) (sums_open n)))
 
--- what the tiles' additions come to is the total
+-- the sum of the tiles' additions is the total
 pub tiles_total : (plan : List (List (Option PairAdd))) (k : ℕ) → on_entry k (flat_map tile_of plan) ≡ total (tiles_of plan) k
 tiles_total plan k = sum_flat_map (amount_on k) tile_of plan ∙ in_map plan
   where

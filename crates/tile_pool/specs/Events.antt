@@ -45,7 +45,7 @@ module _ (tiles : List (List Addition)) where
     pub same : words ≡ words_of (run tiles (opening workers (3 * atoms)) events)
     pub stands : Each (Each (StandsIn (run tiles (opening workers (3 * atoms)) events))) views
 
-  -- what holds of words and views between any two steps
+  -- the invariant of words and views, which holds between any two steps
   pub record IsRunning (atoms workers : ℕ) (words : List ℕ) (views : List (List Worker)) : Type 0 where
     pub rule : IsPool tiles atoms workers words views
     pub reached : IsReached atoms workers words views

@@ -50,7 +50,7 @@ abbrev pub first_of : List Worker → Worker
 first_of [] = fresh 0
 first_of (w ∷ ws) = w
 
--- what a seat knows: its view, and the slots that it holds, of which there are none
+-- the knowledge of a seat: its view, and the slots that it holds, of which there are none
 abbrev pub Seen : Type 0
 Seen = Me (Unit {0}) (List Worker)
 
@@ -66,7 +66,7 @@ draws s me n now = (now ≡ (drew (first_of me.0) n ∷ [], me.1)) × Each (λ t
 abbrev pub adds : Step (Unit {0}) → Seen → ℕ → Seen → Type 0
 adds s me n now = (k : ℕ) → s.word ≡ 1 + k → now ≡ (added (first_of me.0) ((k, s.first) ∷ []) ∷ [], me.1)
 
--- a table of so many words, on which no ticket wraps
+-- a table with a word for the tickets and three for each atom, on which no ticket wraps
 pub record IsSized (table : TableId) (atoms workers tiles : ℕ) : Type 0 where
   pub width : table.words ≡ 3 * atoms + 1
   pub few : atoms < 2 ^ 32

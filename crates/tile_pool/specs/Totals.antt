@@ -8,7 +8,7 @@ pub record AreWords (found : ℕ → ℕ) (entries : ℕ) (sums : List ℤ) : Ty
   pub count : length sums ≡ entries
   pub each : (k : ℕ) → k < entries → slice_index_or sums k (pos 0) ≡ cast_signed w64 (found k % 2 ^ 64)
 
--- what these additions come to on each entry
+-- the sums of these additions, one for each entry
 abbrev pub AreSums : List Addition → ℕ → List ℤ → Type 0
 AreSums xs entries sums = AreWords (λ k. on_entry k xs) entries sums
 
@@ -17,6 +17,6 @@ abbrev pub GoesOn : List ℤ → List Addition → List ℤ → Type 0
 GoesOn before xs after = (length after ≡ length before)
     × ((done : List Addition) → AreSums done (length before) before → AreSums (done ++ xs) (length before) after)
 
--- what all tiles come to on the three entries of each atom
+-- the sums of all tiles, on the three entries of each atom
 abbrev pub AreTotals : List (List Addition) → ℕ → List ℤ → Type 0
 AreTotals tiles atoms sums = AreWords (total tiles) (3 * atoms) sums

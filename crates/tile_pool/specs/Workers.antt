@@ -1,4 +1,4 @@
--- What one worker has drawn and added, and where it stands.
+-- The history of one worker: what it has drawn and added, and where it stands.
 use Rattle.std.specs.Prelude.{◌≡◌, ◌⊎◌, ℕ, ◌<◌, ◌≤◌, List, [], ◌∷◌, ◌++◌, length}
 use Rattle.std.specs.List.{flat_map}
 use Rattle.tile_round.specs.Tiles.{Addition, tile_at}

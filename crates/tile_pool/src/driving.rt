@@ -9,7 +9,7 @@ use crate::steps::{claim, deposit_pairs};
 use arrayvec::ArrayVec;
 use tile_round::{PairAdd, RowWork};
 
-/// What a worker passes before each tile that it has drawn.
+/// A gate, which a worker passes before each tile that it has drawn.
 pub trait Gate {
     /// It is called once for each tile that is drawn, by the worker that drew it, after its claim
     /// and before the tile's first pair is asked for.

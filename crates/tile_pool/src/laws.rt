@@ -1,4 +1,4 @@
-//! What the table has to do with the machine of a round.
+//! Law of the table: it is the machine of a round.
 ghost use Rattle.std.specs.Prelude.{List};
 ghost use Rattle.tile_round.specs.Tiles.{Addition};
 ghost use Rattle.tile_pool.specs.Events.{Opens, ClaimsAccepted, DepositsAccepted, CutsKeep, JoinsKeep};

@@ -1,7 +1,7 @@
 //! Workers in threads, which draw tiles of pairs of atoms and add their forces into one table of
 //! shared words: a word that counts the tickets, and one for each component of each atom. Each
 //! step on the table is a single `fetch_add`. Whatever the order in which the steps of all workers
-//! fall, the words come to the same sums.
+//! fall, the words hold the same sums.
 #![tactic(auto)]
 
 mod alone;

@@ -88,7 +88,7 @@ fn read_words<A: Allocator + Copy>(
     sums
 }
 
-/// The sum of all forces on each component of each atom: what all tiles come to on it, modulo
+/// The sum of all forces on each component of each atom: the sum of all tiles on it, modulo
 /// 2^64 and read as a signed number, whatever the number of workers and the order of their steps.
 /// Each worker has one of the scratches. It answers `Memory` where memory is refused. The caller's thread is worker 0, and each other
 /// worker has a thread, which is joined. A worker whose thread can't be started is run by the

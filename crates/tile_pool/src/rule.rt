@@ -1,4 +1,4 @@
-//! What is known at each seat of the table, the rule between any two steps, and what a step tells.
+//! The rule of the table: what is known at each seat, what holds between any two steps, and what a step tells.
 use atomic_table::{Join, Play, Seat, Shared, Split, TableRule};
 use std::alloc::Global;
 use std::collections::LinkedList;
@@ -6,20 +6,20 @@ use std::marker::PhantomData;
 use std::snapshot::Snapshot;
 use tile_round::Work;
 
-/// What one worker has drawn and added so far, in order. It stands in proofs alone: no value of it
-/// is made.
+/// The history of one worker: what it has drawn and added so far, in order. It stands in proofs alone:
+/// no value of it is made.
 pub struct Worker {
     pub number: u64,
     /// The tickets that it drew.
     pub tickets: LinkedList<u64, Global>,
-    /// What it added: the entry of the sums, and the amount modulo 2^64.
+    /// Its additions: the entry of the sums, and the amount modulo 2^64.
     pub deposits: LinkedList<(u64, u64), Global>,
 }
 
 /// The workers that a seat stands for.
 pub type View = LinkedList<Worker, Global>;
 
-/// What a table is made for: the work as it was then, and how many atoms and workers there are.
+/// The setting of a table: the work as it was when the table was made, and the numbers of atoms and workers.
 pub struct Setting<W> {
     pub work: Snapshot<W>,
     pub atoms: u64,

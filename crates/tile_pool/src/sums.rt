@@ -4,8 +4,8 @@ use std::alloc::Allocator;
 use std::convert::AsSlice;
 use std::marker::Model;
 
-/// The forces on all atoms, a sum for each component: entry `3a + axis` is that of atom `a`. It is
-/// seen as the list of its entries.
+/// The forces on all atoms, in 2^-bits kJ/mol/nm, bits of the job: entry `3a + axis` is the sum of
+/// that component on atom `a`, counted from 0. It is seen as the list of its entries.
 #[derive(Drop)]
 pub struct Forces<A: Allocator + Copy> {
     pub(crate) sums: Vec<i64, A>,

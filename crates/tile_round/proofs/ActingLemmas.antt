@@ -72,12 +72,12 @@ pub acts_on : (ps : List (Option PairAdd)) (k m n : ℕ) (adds : List PairAdd) (
 acts_on ps k m n adds add before first =
     first_acts ps m n add first ∙ (ap (λ xs. xs ++ add ∷ []) before ∙ append_assoc (acting (take k ps)) adds (add ∷ []))
 
--- what a tile adds is what its pairs that act add
+-- the additions of a tile are those of its pairs that act
 pub tile_of_acting : (ps : List (Option PairAdd)) → tile_of ps ≡ additions_of_all (acting ps)
 tile_of_acting [] = refl
 tile_of_acting (None ∷ ps) = tile_of_acting ps
 tile_of_acting (Some add ∷ ps) = ap (λ xs. additions_of (Some add) ++ xs) (tile_of_acting ps)
 
--- what holds of all elements and of one more
+-- a property of all elements, and of one more
 pub all_push : {A : Type 0} (P : A → Type 0) (xs : List A) (x : A) → All P xs → P x → All P (xs ++ x ∷ [])
 all_push P xs x all one = All-append P xs (x ∷ []) all (search rules)

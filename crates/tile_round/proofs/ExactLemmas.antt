@@ -42,7 +42,7 @@ residue_of_negative z fits =
     let P : ℤ → Type 0 = λ y. IsResidue (cast_unsigned w64 y) (neg_ℤ z) in
     subst P (sym is) (residue_of_word (int_wrap w64 (neg_ℤ z)) wrapped ∙ int_wrap_fits w64 (int_wrap w64 (neg_ℤ z)) wrapped)
 
--- what three components on an atom come to on one of its entries, and on another atom's
+-- the sum of three components on an atom, on one of its entries, and on another atom's
 three_here : (atom axis : ℕ) (f : ℕ → ℕ) → axis < 3 → on_entry (3 * atom + axis) (three_on atom (f 0) (f 1) (f 2)) ≡ f axis
 three_here atom zero f lt =
     let k = 3 * atom + 0 in

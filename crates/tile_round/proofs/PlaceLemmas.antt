@@ -1,4 +1,4 @@
--- What a round keeps of its workers is the machine's state.
+-- The places that a round keeps of its workers are the machine's state.
 use Rattle.std.proofs.Common.{◌≡◌, ℕ, zero, suc, ◌+◌, ◌*◌, ◌%◌, ◌^◌, ◌<◌, ◌≤◌, List, [], ◌∷◌, ◌++◌, map, drop, length, get_or, set, replicate, Option, Some, None, Ok, Err, slice_get, slice_index, sum_by, ℤ, pos, refl, sym, ap, subst, ◌∙◌, ⊎_elim, arith, add-one}
 use Rattle.std.proofs.lemmas.Option.{slice_get-map}
 use Rattle.std.proofs.lemmas.List.{length-map}
@@ -159,7 +159,7 @@ module _ (plan : List (List (Option PairAdd))) where
   pub standing : (places : List WorkerPlace) (w : ℕ) (o : Option WorkerPlace) → slice_get places w ≡ o → slice_get (stands_of plan places) w ≡ option_map (stand_of plan) o
   standing places w o e = slice_get-map (stand_of plan) places w ∙ ap (option_map (stand_of plan)) e
 
-  -- what a round is seen as
+  -- the view of a round
   abbrev pub progress_of : List ℕ → List WorkerPlace → List ℤ → Progress
   progress_of drawn places sums = record { tiles = tiles_of plan; state = state_of drawn places sums }
 

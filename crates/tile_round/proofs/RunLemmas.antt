@@ -20,7 +20,7 @@ use Rattle.tile_round.specs.declared.events.Outcome.{Outcome}
 use Rattle.tile_round.specs.declared.events.Outcome.TheVariants.{Drew, Ended}
 use Rattle.tile_round.proofs.SumLemmas.{below, sum_at_set, sum_none, below_tiles}
 
--- what a worker has left
+-- the additions that a worker has left
 abbrev pub left_of : Stand → List Addition
 left_of (doing xs) = xs
 left_of ended = []

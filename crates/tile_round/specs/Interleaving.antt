@@ -78,7 +78,7 @@ module _ (tiles : List (List Addition)) where
   step s (Claim w) = on_claim s w (slice_get s.stands w)
   step s (Deposit w) = on_deposit s w (slice_get s.stands w)
 
-  -- what a list of events leaves
+  -- the state after a list of events
   abbrev pub run : State → List Event → State
   run s [] = s
   run s (e ∷ es) = run (step s e).0 es

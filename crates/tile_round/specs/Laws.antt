@@ -1,4 +1,4 @@
--- What is said of every list of events.
+-- Laws of every list of events.
 use Rattle.std.specs.Prelude.{◌≡◌, ℕ, suc, ◌+◌, ◌%◌, ◌^◌, ◌<◌, ◌==◌, if◌then◌else◌, List, [], ◌∷◌, ◌++◌, length, slice_get, Option, Some, Result, Ok, Err, Contains}
 use Rattle.tile_round.specs.Tiles.{Addition, on_entry, total}
 use Rattle.tile_round.specs.Interleaving.{State, Stand, run, step, word}

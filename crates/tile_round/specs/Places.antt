@@ -1,4 +1,4 @@
--- What a round keeps of its workers, and what that says of the machine's state.
+-- The places of workers that a round keeps, and the machine's state that they tell.
 use Rattle.std.specs.Prelude.{◌≡◌, ℕ, ◌+◌, ◌*◌, ◌<◌, ◌≤◌, List, [], ◌++◌, length, map, drop, slice_get, sum_by, Option, Some, None, Result, Ok, Err, ℤ}
 use Rattle.std.specs.Int.{w64, cast_signed, cast_unsigned}
 use Rattle.tile_round.specs.Tiles.{Addition, additions_of, tile_of, pairs_at, IsPairOf}
@@ -24,7 +24,7 @@ module _ (plan : List (List (Option PairAdd))) where
   abbrev pub stands_of : List WorkerPlace → List Stand
   stands_of places = map stand_of places
 
--- what a worker at this place has left, or why each of its events is refused
+-- the task that a worker at this place has left, or why each of its events is refused
 abbrev pub task_at : Option WorkerPlace → Result (Option Task) RoundFault
 task_at None = Err NoSuchWorker
 task_at (Some Stopped) = Err StoppedFault
@@ -48,7 +48,7 @@ module _ (atoms : ℕ) (plan : List (List (Option PairAdd))) where
   IsPlace (Adding task) = IsTask task
   IsPlace _ = Unit {0}
 
-  -- what a round keeps of what it holds
+  -- the invariant of a round
   pub record IsSound (drawn : List ℕ) (room : ℕ) (places : List WorkerPlace) (sums : List ℤ) : Type 0 where
     -- the workers' places are within the plan
     pub within : (w : ℕ) (p : WorkerPlace) → slice_get places w ≡ Some p → IsPlace p

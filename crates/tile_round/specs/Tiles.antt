@@ -11,11 +11,11 @@ Addition = ℕ × ℕ
 abbrev pub amount_on : ℕ → Addition → ℕ
 amount_on entry a = if a.0 == entry then a.1 else 0
 
--- what the additions come to on an entry
+-- the sum of the additions on an entry
 abbrev pub on_entry : ℕ → List Addition → ℕ
 on_entry entry xs = sum_by (amount_on entry) xs
 
--- what all tiles come to on an entry
+-- the sum of all tiles on an entry
 abbrev pub total : List (List Addition) → ℕ → ℕ
 total tiles entry = sum_by (on_entry entry) tiles
 
@@ -65,7 +65,7 @@ pub record ActsFirst (pairs : List (Option PairAdd)) (k n : ℕ) (add : PairAdd)
   pub idle : AreIdle pairs k n
   pub acts : slice_get pairs n ≡ Some (Some add)
 
--- what the first pair from k on that acts adds, and the number of the pair after it; None where all that are left are idle
+-- the force of the first pair from k on that acts, and the number of the pair after it; None where all that are left are idle
 abbrev pub IsNextActing : List (Option PairAdd) → ℕ → Option (PairAdd × ℕ) → Type 0
 IsNextActing pairs k None = AreIdle pairs k (length pairs)
 IsNextActing pairs k (Some found) = (n : ℕ) × (found.1 ≡ n + 1) × ActsFirst pairs k n found.0
@@ -76,7 +76,7 @@ acting [] = []
 acting (None ∷ pairs) = acting pairs
 acting (Some pair ∷ pairs) = pair ∷ acting pairs
 
--- what they add, one after the other
+-- their additions, one after the other
 abbrev pub additions_of_all : List PairAdd → List Addition
 additions_of_all adds = flat_map (λ add. additions_of (Some add)) adds
 

@@ -1,4 +1,4 @@
-//! What workers do in a round, and what it answers.
+//! Events of a round, and their outcomes.
 
 /// One atomic step of a worker, named by its number from 0 on.
 #[derive(Clone, Copy, PartialEq, Eq, Debug)]
@@ -9,7 +9,7 @@ pub enum Event {
     Deposit(u32),
 }
 
-/// What an accepted event did.
+/// The outcome of an accepted event.
 #[derive(Clone, Copy, PartialEq, Eq, Debug)]
 pub enum Outcome {
     /// The claim drew this tile.

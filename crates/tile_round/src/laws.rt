@@ -1,4 +1,4 @@
-//! What holds after any list of events, in any order.
+//! Law of a round: its sums after any list of events, in any order.
 ghost use Rattle.std.specs.Prelude.{◌≡◌, ◌≤◌, ◌+◌, ◌*◌, ℕ, List, Option, length};
 ghost use Rattle.tile_round.specs.declared.events.Event.{Event};
 ghost use Rattle.tile_round.specs.declared.work.PairAdd.{PairAdd};
@@ -7,8 +7,8 @@ ghost use Rattle.tile_round.specs.Interleaving.{opening, run, word};
 ghost use Rattle.tile_round.specs.Laws.{claims, SumsDeposits, IsOver, IsWhole};
 ghost use Rattle.tile_round.specs.ExactSums.{PlanHasWords, TotalsComeOut, WordsComeOut};
 
-/// What holds of the state that any list of events leads to from the opening one, whatever the
-/// tiles and the number of workers.
+/// Law of the state to which any list of events leads from the opening one, for all tiles and
+/// every number of workers.
 ///
 /// - Word 0 is the number of accepted claims, and at most tiles plus workers.
 /// - Each other word is the sum of the deposits made, modulo 2^64.

@@ -17,7 +17,7 @@ pub(crate) enum WorkerPlace {
     Stopped,
 }
 
-/// What a worker has left of its tile: the additions of the pair at hand from `part` on, and then
+/// The rest of a worker's tile: the additions of the pair at hand from `part` on, and then
 /// the pairs from `next` on.
 #[derive(Clone, Copy, PartialEq, Eq, Debug)]
 pub(crate) struct Task {
@@ -57,7 +57,7 @@ impl Task {
     }
 }
 
-// What a worker has left to add, and nothing where it is at rest. It is refused where there is no
+// The task that a worker has left, and none where it is at rest. It is refused where there is no
 // worker of this number, and else where the worker has stopped.
 pub(crate) fn task_of(places: &[WorkerPlace], worker: u32) -> Result<Option<Task>, RoundFault>
     ensures { result ≡ task_at (slice_get places.now worker) }

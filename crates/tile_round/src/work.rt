@@ -5,12 +5,15 @@ ghost use Rattle.tile_round.specs.Tiles.{additions_of, along, against, pairs_at,
 
 use arrayvec::ArrayVec;
 
-/// What a pair of atoms that acts adds: the force to the atom `low`, and its negative to the atom
-/// `high`, each along the axes x, y and z.
+/// The force of a pair of atoms that acts, as it is added: the force itself to the atom `low`, its negative to the
+/// atom `high`.
 #[derive(Clone, Copy, PartialEq, Eq, Default, Debug)]
 pub struct PairAdd {
+    /// The number of the atom on which the force acts, from 0: the lower of the two.
     pub low: u32,
+    /// The number of the atom on which its negative acts: the higher of the two.
     pub high: u32,
+    /// The components of the force on `low` along x, y and z, in 2^-bits kJ/mol/nm, bits of the job.
     pub force: [i64; 3],
 }
 
@@ -77,7 +80,7 @@ pub trait Work {
         ensures planned { slice_get (pairs_at (plan self.now) tile) k ≡ Some result }
         ensures atoms { IfSome result (IsPairOf (atoms self.now)) };
 
-    /// What the first pair from the number `k` on that acts adds, and the number after its own; `None` where none of
+    /// The force of the first pair from the number `k` on that acts, and the number after its own; `None` where none of
     /// them does. Work that finds pairs faster in order than by number has a body of its own. The caller's condition:
     /// there is such a tile, and it has at least `k` pairs.
     fn next_acting(&self, tile: u64, k: u64) -> Option<(PairAdd, u64)>
@@ -96,7 +99,7 @@ pub trait Work {
     }
 }
 
-/// What the pairs from the number `k` on that act add, each asked for by itself, as `RowWork::next_adds`.
+/// The forces of the pairs from the number `k` on that act, each asked for by itself, as `RowWork::next_adds`.
 pub fn next_adds_by_pair<W: Work>(
     work: &W,
     tile: u64,
@@ -124,7 +127,7 @@ pub fn next_adds_by_pair<W: Work>(
 
 /// Work that hands out what its pairs add row by row. A worker keeps an `S` at hand for it, which changes no answer.
 pub trait RowWork<S>: Work {
-    /// What the pairs from the number `k` on that act add, in order: at most 64 of them in place of what `adds`
+    /// The forces of the pairs from the number `k` on that act, in order: at most 64 of them in place of what `adds`
     /// held. The answer is the number of the pair with which the next call goes on. Work that finds the forces of many pairs
     /// together has a body of its own. The caller's condition: there is such a tile, and it has more than `k` pairs.
     fn next_adds(

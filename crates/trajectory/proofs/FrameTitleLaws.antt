@@ -19,7 +19,7 @@ abbrev pub sign : ℤ → List ℕ
 sign (pos n) = []
 sign (negsuc n) = 45 ∷ []
 
--- so many fs in ps, with five decimals
+-- n fs in ps, with five decimals
 abbrev pub picoseconds : ℕ → List ℕ
 picoseconds n = decimal (n / 1000) ++ 46 ∷ zeros_in 5 (decimal (n % 1000 * 100))
 
@@ -51,7 +51,7 @@ sign_above : (z : ℤ) → lt_z z (pos 0) ≡ false → sign z ≡ []
 sign_above (pos n) h = refl
 sign_above (negsuc n) h = absurd cc
 
--- what was written part by part
+-- the time that was written part by part
 pub time_below : (line : List ℕ) (time_step : ℕ) (step : ℤ) → 0 < time_step → lt_z step (pos 0) ≡ true
     → line ≡ (45 ∷ []) ++ decimal (unsigned_abs step * time_step / 1000) ++ 46 ∷ zeros_in 5 (decimal (unsigned_abs step * time_step % 1000 * 100)) → line ≡ decimals_text 5 (time_of time_step step)
 time_below line time_step step some h e = e ∙ ap (λ (s : List ℕ). s ++ picoseconds (unsigned_abs step * time_step)) (sym (sign_below step h)) ∙ sym (time_parts time_step step some)

@@ -72,7 +72,7 @@ pub no_more_hundredth : (n first made more k : ℕ) → IsNextHundredth n (first
 no_more_hundredth n first made more k h few =
     hundredths-add n first made k ∙ ap (λ l. hundredths_behind n first made ++ l) (none_before n (first + made) more k h few) ∙ append-nil (hundredths_behind n first made)
 
--- what was told of the first steps, and then of the stretch behind them
+-- the counts that were told of the first steps, and then of the stretch behind them
 pub more_told : {W : Type 0} (told : W → W → List ℕ → Type 0) → ((u v w : W) (first more : List ℕ) → told u v first → told v w more → told u w (first ++ more))
     → (n a b : ℕ) (u v w : W) → told u v (hundredths_behind n 0 a) → told v w (hundredths_behind n a b) → told u w (hundredths_behind n 0 (a + b))
 more_told told both n a b u v w x y = subst (told u w) (sym (hundredths-next n a b)) (both u v w (hundredths_behind n 0 a) (hundredths_behind n a b) x y)

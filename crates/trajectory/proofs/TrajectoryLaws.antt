@@ -43,11 +43,11 @@ fits_further w n m e f a h =
 pub no_frame : (P : ℕ → List ℕ → Type 0) (o : Output) → WroteFrames P 0 o o
 no_frame P o = record { text = []; frames = refl; appends = appends_nothing o }
 
--- so many frames, and then the next
+-- n frames, and then the next
 pub one_more : (P : ℕ → List ℕ → Type 0) (n : ℕ) (o m r : Output) (text : List ℕ) → WroteFrames P n o m → P n text → Appends m r text → WroteFrames P (suc n) o r
 one_more P n o m r text h p e = record { text = h.text ++ text; frames = (h.text, text, h.frames, p, refl); appends = appends_both h.appends e }
 
--- so many frames, and then a beginning of the next
+-- n frames, and then a beginning of the next
 pub began_more : (P : ℕ → List ℕ → Type 0) (n : ℕ) (o m r : Output) (text : List ℕ) → WroteFrames P n o m → P n text → AppendsBeginning m r text → BeganFrames P (suc n) o r
 began_more P n o m r text h p e = record { text = h.text ++ text; frames = (h.text, text, h.frames, p, refl); beginning = begins_next h.appends e }
 
@@ -80,7 +80,7 @@ pub frame_reached : (w : Direction) (every number : ℕ) (e f : EngineView) (tim
 frame_reached w every number e f time_step o m r went same wrote frame =
     one_more (IsFrameOnWay w every e) number o m r frame.text wrote (record { reached = f; went = went; shown = rw (← same) frame.shown }) frame.appends
 
--- a frame that was not written, after so many whole ones
+-- a frame that was not written, after n whole ones
 frame_left : (w : Direction) (every most number : ℕ) (e f : EngineView) (time_step : ℕ) (o m r : Output) (h : Halt) → number ≤ most → Went w (number * every) e f → time_step ≡ e.job.time_step
     → WroteFrames (IsFrameOnWay w every e) number o m → IsFrameUnwritten time_step f.state (number * every) m r h → Halts (IsFrameOnWay w every e) every most o r h
 frame_left w every most number e f time_step o m r (halt.Memory done) few went same wrote left =
@@ -99,7 +99,7 @@ frame_left w every most number e f time_step o m r (halt.Out g) few went same wr
       began = began_more (IsFrameOnWay w every e) number o m r left.text wrote (record { reached = f; went = went; shown = rw (← same) left.shown }) left.beginning;
     }
 
--- want of memory in one of the steps behind so many frames
+-- an allocation refused in one of the steps behind n frames
 pub steps_left : (P : ℕ → List ℕ → Type 0) (every most number : ℕ) (o m : Output) (h : Halt) → number < most → WroteFrames P (suc number) o m → IsStopped (number * every) every h → Halts P every most o m h
 steps_left P every most number o m h few wrote stopped =
     let l : suc number * every ≤ most * every = mul-le-mul_right every few in
@@ -107,7 +107,7 @@ steps_left P every most number o m h few wrote stopped =
     rw stopped.is
     (record { count = suc number; within = omega (arith, l, one, stopped.few); up_to = omega (arith, one, stopped.few); no_more = omega (arith, one); wrote = wrote })
 
--- want of memory in a later stretch of the steps
+-- an allocation refused in a later stretch of the steps
 pub stopped_later : (before made steps more : ℕ) (h : Halt) → 1 ≤ more → made + more ≤ steps → IsStopped (before + made) more h → IsStopped before steps h
 stopped_later before made steps more h some few stopped =
     let all : before + made + stopped.more ≡ before + (made + stopped.more) = omega arith in
@@ -170,7 +170,7 @@ first_left w every most e s time_step o r h fits is same left =
 at_next : (w : Direction) (every number : ℕ) (e f g : EngineView) → Went w (number * every) e f → Went w every f g → Went w (suc number * every) e g
 at_next w every number e f g a b = let same : suc number * every ≡ number * every + every = omega arith in rw same (steps_add w (number * every) every e f g a b)
 
--- so many more steps, and the next frame
+-- `every` more steps, and the next frame
 pub next_written : (w : Direction) (every number : ℕ) (e f g : EngineView) (s : StateView) (time_step : ℕ) (o m r : Output) → Went w (number * every) e f → Went w every f g → s ≡ g.state
     → time_step ≡ e.job.time_step → WroteFrames (IsFrameOnWay w every e) (suc number) o m → WroteFrame time_step s m r
     → Went w ((number + 1) * every) e g × WroteFrames (IsFrameOnWay w every e) (suc (number + 1)) o r
@@ -196,7 +196,7 @@ frame_of_texts job state w every e t number text h =
     let job : e.job ≡ t.j = ap (λ (v : EngineView). v.job) t.it.is in
     record { said = e.job; after = h.reached.state; job_read = t.job_read ∙ ap Ok (sym job); run = engine_ran _ state w (number * every) e h.reached t h.went; shown = h.shown }
 
--- what ends the frames of an engine of texts leaves of the frames of the texts
+-- the output after a halt of the frames of an engine of texts, as one of the frames of the texts
 pub frames_unwritten : (A : Type 0) (job state : List ℕ) (w : Direction) (steps every : ℕ) (e : EngineView) (before after : Output) (h : Halt) → IsEngineOfTexts job state e
     → Halts (IsFrameOnWay w every e) every (steps / every) before after h → AreFramesUnwritten job state w steps every before after (run_fault_of {A = A} h)
 frames_unwritten A job state w steps every e before after (halt.Memory done) t left =
@@ -208,11 +208,11 @@ frames_unwritten A job state w steps every e before after (halt.Out f) t left =
 pub out_of_range : (job state : List ℕ) (w : Direction) (steps : ℕ) (e : EngineView) (o : Option ℤ) → IsEngineOfTexts job state e → o ≡ counter_after w e.state.step steps → is_none o ≡ true → AreStopped job state w steps step.StepRange
 out_of_range job state w steps e o t counted none = engine_stops job state w steps e e step.StepRange t (sym counted ∙ none_is o none, refl)
 
--- want of memory in the steps of a run from texts
+-- an allocation refused in the steps of a run from texts
 pub steps_stopped : (A : Type 0) (job state : List ℕ) (w : Direction) (steps : ℕ) (e : EngineView) (before after : Output) (h : Halt) → IsEngineOfTexts job state e → IsStopped 0 steps h → after ≡ before
     → IsRunUnwritten job state w steps before after (run_fault_of {A = A} h)
 steps_stopped A job state w steps e before after h t stopped kept = rw stopped.is ((omega (arith, stopped.few), safe_texts job state e t), kept)
 
--- a run that was stopped in its steps, for want of memory, answers that memory is wanted
+-- a run that was stopped in its steps, for lack of memory, answers that memory ran out
 pub stopped_wants : (A : Type 0) (steps : ℕ) (h : Halt) → IsStopped 0 steps h → Wants (run_fault_of {A = A} h)
 stopped_wants A steps h stopped = rw stopped.is (0 + stopped.more, refl)

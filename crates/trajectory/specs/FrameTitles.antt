@@ -4,7 +4,7 @@ use Rattle.std.specs.Fmt.{signed_decimal}
 use Rattle.line_text.specs.Columns.{decimals_text}
 use Rattle.line_text.specs.Parts.{right_in}
 
--- what stands between a frame's own title and its time
+-- the mark between a frame's own title and its time
 abbrev pub mark : List ℕ
 mark = codes " t= "
 
@@ -17,7 +17,7 @@ pub record IsOwnEnd (title : List ℕ) (at : ℕ) : Type 0 where
   pub ends : (at ≡ length title) ⊎ HasMark title at
   pub first : (k : ℕ) → k < at → HasMark title k → ⊥
 
--- the time of a step in 10^-5 ps, the time step being so many fs
+-- the time of a step in 10^-5 ps, the time step being in fs
 abbrev pub time_of : ℕ → ℤ → ℤ
 time_of time_step (pos n) = pos (n * time_step * 100)
 time_of time_step (negsuc n) = neg_ℤ (pos (suc n * time_step * 100))

@@ -26,7 +26,7 @@ abbrev pub run_fault_of : {A : Type 0} → Halt → RunFault A
 run_fault_of (halt.Memory done) = run.Steps (step.Memory done)
 run_fault_of (halt.Out f) = run.Out f
 
--- want of memory in one of so many more steps: the last of them isn't made then
+-- an allocation refused in one of `steps` more steps: the last of them isn't made then
 pub record IsStopped (before steps : ℕ) (h : Halt) : Type 0 where
   pub more : ℕ
   pub few : more ≤ steps - 1
@@ -48,18 +48,18 @@ pub record IsTimedText (time_step : ℕ) (s : StateView) (text : List ℕ) : Typ
 
 -- ---- frames one after the other
 
--- So many texts one after the other. What each is, its number from 0 says.
+-- n texts one after the other. What each is, its number from 0 says.
 abbrev pub AreJoined : (ℕ → List ℕ → Type 0) → ℕ → List ℕ → Type 0
 AreJoined IsText zero text = text ≡ []
 AreJoined IsText (suc n) text = (front : List ℕ) × (last : List ℕ) × AreJoined IsText n front × IsText n last × (text ≡ front ++ last)
 
--- the text of the frame that an engine comes to by this many times so many steps
+-- the text of the frame that an engine comes to by this many times `every` steps
 pub record IsFrameOnWay (direction : Direction) (every : ℕ) (e : EngineView) (number : ℕ) (text : List ℕ) : Type 0 where
   pub reached : EngineView
   pub went : Went direction (number * every) e reached
   pub shown : IsTimedText e.job.time_step reached.state text
 
--- the text of the frame of the state after this many times so many steps of the run from these texts
+-- the text of the frame of the state after this many times `every` steps of the run from these texts
 pub record IsFrameOfRun (job state : List ℕ) (direction : Direction) (every number : ℕ) (text : List ℕ) : Type 0 where
   pub said : JobValue
   pub after : StateView
@@ -69,19 +69,19 @@ pub record IsFrameOfRun (job state : List ℕ) (direction : Direction) (every nu
 
 -- ---- the output
 
--- so many frames were written
+-- `count` frames were written
 pub record WroteFrames (IsText : ℕ → List ℕ → Type 0) (count : ℕ) (before after : Output) : Type 0 where
   pub text : List ℕ
   pub frames : AreJoined IsText count text
   pub appends : Appends before after text
 
--- a write failed, after a beginning of so many frames
+-- a write failed, after a beginning of `count` frames
 pub record BeganFrames (IsText : ℕ → List ℕ → Type 0) (count : ℕ) (before after : Output) : Type 0 where
   pub text : List ℕ
   pub frames : AreJoined IsText count text
   pub beginning : AppendsBeginning before after text
 
--- whole frames are left where memory ran out after so many steps: those up to there, maybe without that after just so many
+-- whole frames are left where memory ran out after `done` steps: those up to there, maybe without that after just `done`
 pub record LeftWhole (IsText : ℕ → List ℕ → Type 0) (every most done : ℕ) (before after : Output) : Type 0 where
   pub count : ℕ
   pub within : done ≤ most * every
@@ -95,7 +95,7 @@ pub record LeftBeginning (IsText : ℕ → List ℕ → Type 0) (most : ℕ) (be
   pub few : count ≤ most
   pub began : BeganFrames IsText (suc count) before after
 
--- what a run that was ended leaves of the frames after 0, k, 2k, .. up to `most` times k steps
+-- the output that a run that was ended leaves, of the frames after 0, k, 2k, .. up to `most` times k steps
 abbrev pub Halts : (ℕ → List ℕ → Type 0) → (every most : ℕ) → (before after : Output) → Halt → Type 0
 Halts IsText every most before after (halt.Memory done) = LeftWhole IsText every most done before after
 Halts IsText every most before after (halt.Out f) = LeftBeginning IsText most before after
@@ -114,7 +114,7 @@ pub record BeganFrame (time_step : ℕ) (s : StateView) (before after : Output) 
   pub shown : IsTimedText time_step s text
   pub beginning : AppendsBeginning before after text
 
--- why it was not, after so many steps, and what the output is left with
+-- why it was not, after `steps` steps, and what the output is left with
 abbrev pub IsFrameUnwritten : ℕ → StateView → ℕ → (before after : Output) → Halt → Type 0
 IsFrameUnwritten time_step s steps before after (halt.Memory done) = (done ≡ steps) × (after ≡ before)
 IsFrameUnwritten time_step s steps before after (halt.Out f) = BeganFrame time_step s before after

@@ -10,7 +10,7 @@ complete n s = 100 * s / n
 abbrev pub completes : ℕ → ℕ → Bool
 completes n s = ltb (complete n (s - 1)) (complete n s)
 
--- such steps of n, among so many behind the first ones: their numbers, in order
+-- such steps of n, among the `count` behind the first ones: their numbers, in order
 abbrev pub hundredths_behind : (n first count : ℕ) → List ℕ
 hundredths_behind n first count = filter (completes n) (numbers_from (suc first) count)
 
@@ -22,7 +22,7 @@ hundredths n = hundredths_behind n 0 n
 abbrev pub SomeHundredths : ℕ → (List ℕ → Type 0) → Type 0
 SomeHundredths n told = (made : ℕ) × (made ≤ n) × told (hundredths_behind n 0 made)
 
--- Behind the first steps of n, the next hundredth is complete with the step that comes so many later.
+-- Behind the first steps of n, the next hundredth is complete with the step that comes `more` later.
 pub record IsNextHundredth (n first more : ℕ) : Type 0 where
   pub some : 1 ≤ more
   pub within : first + more ≤ n

@@ -1,4 +1,4 @@
-//! What ends a run that has begun.
+//! Halts: the ends of a run that has begun.
 
 ghost use Rattle.std.specs.Prelude.{◌≡◌};
 ghost use Rattle.trajectory.specs.Trajectories.{run_fault_of};
@@ -9,10 +9,10 @@ use fallible::OutFault;
 use integrator::StepFault;
 use std::alloc::Allocator;
 
-/// What ends a run that has begun before its last frame, or its last step.
+/// The halt of a run that has begun, before its last frame or its last step.
 #[derive(Clone, Copy)]
 pub(crate) enum Halt {
-    /// An allocation was refused after so many whole steps.
+    /// An allocation was refused after `done` whole steps.
     Memory { done: u64 },
     /// The output failed. A beginning of what was to be written was.
     Out(OutFault),

@@ -13,9 +13,9 @@ use integrator::{Direction, StepFault};
 use std::alloc::Allocator;
 use std::thread::Threads;
 
-/// Makes so many steps, after those that were made before.
+/// Makes n steps, after those that were made before.
 ///
-/// `Memory`: an allocation was refused after so many steps, those before counted, and before the last.
+/// `Memory`: an allocation was refused after `done` steps, those before counted, and before the last.
 fn go_on<R: Threads + Sync, A: Allocator + Copy + Send + Sync>(
     rt: &R,
     engine: &mut Engine<A>,
@@ -49,9 +49,9 @@ fn until_hundredth(done: u64, of: u64) -> u64
     (next * u128::from(of)).div_ceil(100) as u64 - done
 }
 
-/// Makes so many steps of a run of `of` steps, after those that were made before, and tells the watcher of each hundredth.
+/// Makes n steps of a run of `of` steps, after those that were made before, and tells the watcher of each hundredth.
 ///
-/// `Memory`: an allocation was refused after so many steps, those before counted, and before the last.
+/// `Memory`: an allocation was refused after `done` steps, those before counted, and before the last.
 pub(crate) fn advance<R: Threads + Sync, A: Allocator + Copy + Send + Sync, W: Watch>(
     rt: &R,
     engine: &mut Engine<A>,

@@ -1,4 +1,4 @@
-//! Trajectories from bytes to bytes: the frames of a run, every so many steps.
+//! Trajectories from bytes to bytes: the frames of a run, one every k steps.
 
 ghost use Rattle.std.specs.Prelude.{◌≡◌, ◌<◌, ◌≤◌, ◌+◌, ◌-◌, ◌*◌, ◌/◌, ◌^◌, ℕ, suc, is_none, false, IfOk, OnOk, IfErr};
 ghost use Rattle.gro.specs.Frames.{frame_view};
@@ -42,7 +42,7 @@ fn timed_frame<A: Allocator + Copy>(
     })
 }
 
-/// Writes the frame of a state that so many steps have led to.
+/// Writes the frame of a state after n steps.
 ///
 /// `Memory`: an allocation was refused; it tells the steps, and nothing is written. `Out`: a write failed, after a beginning of the frame.
 fn write_frame<A: Allocator + Copy, O: Out>(
@@ -64,9 +64,9 @@ fn write_frame<A: Allocator + Copy, O: Out>(
     Ok(())
 }
 
-/// Writes the frame of an engine, and then so many times the frame after `every` more steps.
+/// Writes the frame of an engine, and then `most` times the frame after `every` more steps.
 ///
-/// `Memory`: an allocation was refused after so many steps, and whole frames are written. `Out`: a write failed, after a beginning of the frames.
+/// `Memory`: an allocation was refused after `done` steps, and whole frames are written. `Out`: a write failed, after a beginning of the frames.
 fn write_frames<R: Threads + Sync, A: Allocator + Copy + Send + Sync, W: Watch, O: Out>(
     rt: &R,
     engine: &mut Engine<A>,
@@ -98,19 +98,19 @@ fn write_frames<R: Threads + Sync, A: Allocator + Copy + Send + Sync, W: Watch, 
     Ok(())
 }
 
-/// Runs a state so many steps in a direction, by so many workers, and writes the frames after 0, k, 2k, .. of the steps, for k = `every`,
+/// Runs a state n steps in a direction, by `workers` workers, and writes the frames after 0, k, 2k, .. of the steps, for k = `every`,
 /// as frames of a GRO file, one after the other.
 ///
 /// `job` and `state` are the bytes of a job and a state file, `steps` at most 1,000,000,000,000, `every` at least 1, `workers` 1 to 64, the
 /// first of them the caller's thread. For every job and state that are accepted, all numbers of steps and of workers and every order of the
-/// workers' claims and additions, each frame is that of `State::frame` of the state after so many Levesque-Verlet steps, as `run_bytes`
+/// workers' claims and additions, each frame is that of `State::frame` of the state after that many Levesque-Verlet steps, as `run_bytes`
 /// writes it; its title is the state's own up to the first ` t= ` in it, and then ` t= %9.5f step= %d`: the time in ps and the step counter
 /// (GROMACS manual, gro file format). Steps behind the last frame are not made.
 ///
 /// The refusals come in this order: `Open` with those of the job, of the state and of `Engine::new`, or where an allocation was refused
 /// before there was an engine; `Steps` with `StepRange` where the counter would leave an i64 within the steps; nothing is written then.
-/// `Steps` with `Memory` where an allocation was refused after so many steps: the frames up to there are written whole, maybe without
-/// that after just so many. `Out` comes only where a write failed, after a beginning of the frames.
+/// `Steps` with `Memory` where an allocation was refused after `done` steps: the frames up to there are written whole, maybe without
+/// that after just `done`. `Out` comes only where a write failed, after a beginning of the frames.
 pub fn trajectory_bytes<R: Threads + Sync, A: Allocator + Copy + Send + Sync, O: Out>(
     rt: &R,
     alloc: A,

@@ -42,7 +42,7 @@ pub fn watched_run_bytes<R: Threads + Sync, A: Allocator + Copy + Send + Sync, W
     ensures told_some { IfErr result (λ _. SomeHundredths steps (W.told watch.old watch.new)) }
     // Why there is no such text: only a failed output is left with a beginning of it.
     ensures refused { IfErr result (IsRunUnwritten job.now state.now direction steps (O.output out.old) (O.output out.new)) }
-    // Where there is such a text and the code is accepted, no other refusal is left but want of memory and a failed output.
+    // Where there is such a text and the code is accepted, no other refusal is left but out of memory and a failed output.
     ensures only { (text : List ℕ) → IsRun plain job.now state.now direction steps text → AreSafe job.now state.now → IfErr result Wants }
 {
     let mut engine = open(alloc, job, state)?;

@@ -4,21 +4,21 @@ ghost use Rattle.std.specs.Prelude.{◌≡◌, ◌++◌, ◌∷◌, [], ℕ, Lis
 
 /// One who is told how far a run has come.
 pub trait Watch {
-    /// What the watcher was told between one value of it and a later one: numbers of steps that were made, in order.
+    /// The numbers of steps that the watcher was told between one value of it and a later one, in order.
     ghost told: { Self → Self → List ℕ → Type 0 };
 
     /// Whether the watcher wants to be told. What one who doesn't is told makes no difference.
     fn watches(&self) -> bool
         ensures { result ≡ false → (counts : List ℕ) → told self.now self.now counts };
 
-    /// So many steps are made.
+    /// The watcher is told that `done` steps are made.
     fn tell(&mut self, done: u64)
         ensures { told self.old self.new (done ∷ []) };
 
     /// A watcher was told nothing before it is told something.
     ghost told_nothing: { (w : Self) → told w w [] };
 
-    /// What it was told, and then was told.
+    /// Two lists that it was told, one after the other, are one.
     ghost told_more: { (u v w : Self) (first more : List ℕ) → told u v first → told v w more → told u w (first ++ more) };
 }
 

@@ -2,7 +2,7 @@
 
 use std::alloc::AllocError;
 
-/// What a line of a transcript is.
+/// A line of a transcript, by its kind.
 #[derive(Clone, Copy)]
 pub(crate) enum Line<'a> {
     /// A line that is for readers alone.
@@ -15,7 +15,7 @@ pub(crate) enum Line<'a> {
     Printed,
 }
 
-/// What this line is.
+/// The kind of this line.
 pub(crate) fn line_of(line: &str) -> Line<'_> {
     let Some(inner) = line.strip_prefix("  ") else {
         return Line::Prose;

@@ -1,4 +1,4 @@
-//! What a command comes to, and the writers that it prints to.
+//! Outcomes of commands, and the writers that they print to.
 
 use crate::files::Memory;
 use crate::lines::{put_line, put_printed};
@@ -9,7 +9,7 @@ use std::fs::Files;
 use std::io::{self, Write};
 use std::thread::Threads;
 
-/// What a command printed, and the status that it ended with.
+/// The outcome of a command: what it printed, and the status that it ended with.
 #[derive(PartialEq, Eq, Drop)]
 pub(crate) struct Outcome {
     pub(crate) out: Vec<u8>,
@@ -50,7 +50,7 @@ impl Outcome {
         put_line(transcript, ended.as_bytes())
     }
 
-    /// What was printed, without its last end of a line, and behind it the status if it isn't 0.
+    /// The text that was printed, without its last end of a line, and behind it the status if it isn't 0.
     pub(crate) fn summary(&self, alloc: Global) -> Result<Vec<u8>, AllocError> {
         let mut text = Vec::new(alloc);
         text.extend_from_slice(&self.out)?;
@@ -67,7 +67,7 @@ impl Outcome {
     }
 }
 
-/// What the program comes to on these words, where all but the words takes its memory of `short`.
+/// The outcome of the program on these words, where all but the words takes its memory of `short`.
 pub(crate) fn outcome_of<
     R: Files + Threads + Sync + AllocGlobal,
     A: Allocator + Copy + Send + Sync,
@@ -79,7 +79,7 @@ pub(crate) fn outcome_of<
     Outcome { out, err, status }
 }
 
-/// What the program comes to on these words, on an output that takes so many bytes, one at a time, and then fails.
+/// The outcome of the program on these words, on an output that takes `left` bytes, one at a time, and then fails.
 pub(crate) fn outcome_onto<R: Files + Threads + Sync + AllocGlobal>(
     rt: &R,
     left: usize,
@@ -96,7 +96,7 @@ pub(crate) fn outcome_onto<R: Files + Threads + Sync + AllocGlobal>(
     }
 }
 
-/// What the program comes to on these words, with an error output that takes so many bytes, one at a time, and then fails: once or for good.
+/// The outcome of the program on these words, with an error output that takes `left` bytes, one at a time, and then fails: once or for good.
 pub(crate) fn outcome_beside<R: Files + Threads + Sync + AllocGlobal>(
     rt: &R,
     left: usize,

@@ -10,7 +10,7 @@ use std::convert::AsStr;
 use std::fs::Files;
 use std::thread::Threads;
 
-/// What runs programs over files in memory.
+/// A shell that runs programs over files in memory.
 #[derive(Drop)]
 pub(crate) struct Shell<'a, R: Files> {
     pub(crate) rt: &'a R,
@@ -26,7 +26,7 @@ impl<'a, R: Files + Threads + Sync + AllocGlobal> Shell<'a, R> {
         }
     }
 
-    /// What these words come to. Each `with FILE N TEXT` before them puts the text in the place of line N of that file, and each
+    /// The outcome of these words. Each `with FILE N TEXT` before them puts the text in the place of line N of that file, and each
     /// `listing LINES` makes a listing of what stands between commas; once the command is done, the files are as they were.
     pub(crate) fn call(&mut self, words: &[&str]) -> Result<Outcome, AllocError> {
         let alloc = self.rt.alloc();
@@ -93,7 +93,7 @@ impl<'a, R: Files + Threads + Sync + AllocGlobal> Shell<'a, R> {
         }
     }
 
-    /// What a program comes to.
+    /// The outcome of a program.
     fn program(&mut self, words: &[&str]) -> Result<Outcome, AllocError> {
         match words {
             ["pairmd", "$", _] => Ok(self.no_text()),
@@ -109,12 +109,12 @@ impl<'a, R: Files + Threads + Sync + AllocGlobal> Shell<'a, R> {
         }
     }
 
-    /// What `pairmd` comes to.
+    /// The outcome of `pairmd`.
     pub(crate) fn pairmd<S: AsStr>(&mut self, words: &[S]) -> Outcome {
         outcome_of(self.rt, self.rt.alloc(), words, &mut self.files)
     }
 
-    /// What `pairmd` comes to where a word is no text.
+    /// The outcome of `pairmd` where a word is no text.
     fn no_text(&self) -> Outcome {
         let alloc = self.rt.alloc();
         let mut err = Collected::new(alloc);
@@ -127,7 +127,7 @@ impl<'a, R: Files + Threads + Sync + AllocGlobal> Shell<'a, R> {
         }
     }
 
-    /// What a program that makes or compares files comes to.
+    /// The outcome of a program that makes or compares files.
     fn make(&mut self, words: &[&str]) -> Result<Outcome, AllocError> {
         match words {
             ["cat", names @ ..] => self.joined(names),

@@ -62,7 +62,7 @@ fn digit(byte: u8) -> u8 {
 #[derive(Clone, Copy)]
 pub(crate) struct Change<'a> {
     line: usize,
-    /// What stands in the place of the line, if anything does.
+    /// The text in the place of the line; `None` where nothing stands there.
     text: Option<&'a str>,
 }
 

@@ -12,11 +12,11 @@ use std::thread::Threads;
 
 const WORKERS: [&str; 4] = ["1", "2", "3", "64"];
 
-/// No command makes so many requests for memory.
+/// More requests for memory than any command makes.
 const REQUESTS: u64 = 1_000_000;
 
 impl<'a, R: Files + Threads + Sync + AllocGlobal> Shell<'a, R> {
-    /// What a command comes to, where it is the same by 1, 2, 3 and 64 workers.
+    /// The outcome of a command, where it is the same by 1, 2, 3 and 64 workers.
     pub(crate) fn with_workers<S: AsStr>(&mut self, words: &[S]) -> Result<Outcome, AllocError> {
         let alone = self.pairmd(words);
         for workers in WORKERS {
@@ -42,7 +42,7 @@ impl<'a, R: Files + Threads + Sync + AllocGlobal> Shell<'a, R> {
         Outcome::complaining(self.rt.alloc(), line.as_str())
     }
 
-    /// What `run` or `back` comes to, by 1, 2, 3 and 64 workers, where as many steps the other way lead to the state's bytes.
+    /// The outcome of `run` or `back`, by 1, 2, 3 and 64 workers, where as many steps the other way lead to the state's bytes.
     pub(crate) fn returning(&mut self, words: &[&str]) -> Result<Outcome, AllocError> {
         let there = self.with_workers(words)?;
         if self.comes_back(&there, words)? {
@@ -60,7 +60,7 @@ impl<'a, R: Files + Threads + Sync + AllocGlobal> Shell<'a, R> {
         Ok(again.status == 0 && Some(again.out) == self.files.bytes(alloc, state)?)
     }
 
-    /// What a command comes to where this file is cut off after each of its bytes, from none to all.
+    /// The outcomes of a command where this file is cut off after each of its bytes, from none to all.
     pub(crate) fn beginnings(&mut self, name: &str, words: &[&str]) -> Result<Outcome, AllocError> {
         let alloc = self.rt.alloc();
         let Some(whole) = self.files.bytes(alloc, name)? else {
@@ -70,7 +70,7 @@ impl<'a, R: Files + Threads + Sync + AllocGlobal> Shell<'a, R> {
         Ok(Outcome::printing(alloc, ranges.told(alloc)?))
     }
 
-    /// What it comes to over each beginning of these bytes; the file has all of them in the end.
+    /// Its outcomes over each beginning of these bytes; the file has all of them in the end.
     fn over_beginnings(
         &mut self,
         name: &str,
@@ -86,7 +86,7 @@ impl<'a, R: Files + Threads + Sync + AllocGlobal> Shell<'a, R> {
         Ok(ranges)
     }
 
-    /// The summary of what a command comes to where a file has these bytes.
+    /// The summary of a command's outcome where a file has these bytes.
     fn summary_over(
         &mut self,
         name: &str,
@@ -99,7 +99,7 @@ impl<'a, R: Files + Threads + Sync + AllocGlobal> Shell<'a, R> {
         self.pairmd(words).summary(alloc)
     }
 
-    /// What a command comes to on an output that takes so many bytes and then fails, from none to all.
+    /// The outcomes of a command on an output that takes n bytes and then fails, n from none to all.
     pub(crate) fn failing_outputs(&mut self, words: &[&str]) -> Result<Outcome, AllocError> {
         let whole = self.pairmd(words);
         let ranges = self.over_outputs(words, &whole)?;
@@ -118,7 +118,7 @@ impl<'a, R: Files + Threads + Sync + AllocGlobal> Shell<'a, R> {
         Ok(ranges)
     }
 
-    /// What a command comes to beside an error output that takes so many bytes and then fails, once and for good, from none to all.
+    /// The outcomes of a command beside an error output that takes n bytes and then fails, once and for good, n from none to all.
     pub(crate) fn failing_errors(&mut self, words: &[&str]) -> Result<Outcome, AllocError> {
         let alloc = self.rt.alloc();
         let whole = self.pairmd(words);
@@ -131,7 +131,7 @@ impl<'a, R: Files + Threads + Sync + AllocGlobal> Shell<'a, R> {
         Ok(Outcome::printing(alloc, ranges.told(alloc)?))
     }
 
-    /// What a command comes to where one of its requests for memory is refused, for each request: every outcome once, in the
+    /// The outcomes of a command where one of its requests for memory is refused, for each request: every outcome once, in the
     /// order in which they come, and `all` for the outcome with none refused.
     pub(crate) fn refused_requests(&mut self, words: &[&str]) -> Result<Outcome, AllocError> {
         let alloc = self.rt.alloc();
@@ -158,7 +158,7 @@ impl<'a, R: Files + Threads + Sync + AllocGlobal> Shell<'a, R> {
         Ok(told)
     }
 
-    /// What a command comes to where the request of this number is refused, and the allocator that counted its requests.
+    /// The outcome of a command where the request of this number is refused, and the allocator that counted its requests.
     fn refusing<S: AsStr>(
         &mut self,
         number: u64,
@@ -169,7 +169,7 @@ impl<'a, R: Files + Threads + Sync + AllocGlobal> Shell<'a, R> {
         (outcome, memory)
     }
 
-    /// Adds what a command comes to where the request of this number is refused, and tells whether there was such a request.
+    /// Adds the outcome of a command where the request of this number is refused, and tells whether there was such a request.
     fn without_request(
         &mut self,
         number: u64,
@@ -211,7 +211,7 @@ impl<'a, R: Files + Threads + Sync + AllocGlobal> Shell<'a, R> {
     }
 }
 
-/// The words with so many workers.
+/// The words with `workers` workers.
 fn by_workers<S: AsStr>(
     alloc: Global,
     words: &[S],
@@ -249,7 +249,7 @@ fn summary_beside(alloc: Global, outcome: Outcome, whole: &Outcome) -> Result<Ve
     outcome.summary(alloc)
 }
 
-/// Which part of the whole output stands on an output that takes so many bytes, and the line of the refusal.
+/// Which part of the whole output stands on an output that takes `left` bytes, and the line of the refusal.
 fn beginning_of(
     alloc: Global,
     outcome: Outcome,
@@ -277,8 +277,9 @@ fn beginning_of(
     Ok(text)
 }
 
-/// What was told to an error output that took so many bytes and then failed, once and for good: all that the whole outcome tells up to there, and
-/// where it failed once the lines behind that of the failure as well. All else is as in the whole outcome.
+/// The judgement on an error output that took `left` bytes and then failed, once and for good: `each line as far as it is taken` where it has all
+/// that the whole outcome tells up to there, and where it failed once the lines behind that of the failure as well, and all else is as in the
+/// whole outcome; `all` where nothing was cut off; else `something else`.
 fn told_beside(
     alloc: Global,
     once: &Outcome,
@@ -306,7 +307,7 @@ fn told_beside(
     Vec::from_slice(alloc, told)
 }
 
-/// What commands came to that have the numbers from 0 on; those that follow one another and came to the same are told once.
+/// Outcomes of commands that have the numbers from 0 on; equal ones that follow one another are told once.
 #[derive(Drop)]
 struct Ranges {
     text: Vec<u8>,
@@ -325,7 +326,7 @@ impl Ranges {
         }
     }
 
-    /// The next command came to this.
+    /// The next command had this summary.
     fn note(&mut self, alloc: Global, summary: Vec<u8>) -> Result<(), AllocError> {
         if summary != self.summary {
             self.tell(alloc)?;

@@ -140,7 +140,7 @@ meets_there code inputs steps locals at frame places d a x = meets code inputs s
 
 -- ---- one instruction
 
--- what it leads to is attained too
+-- the frame that it leads to is attained too
 goes_attained : (code : List Instr) (locals here to : ℕ) (i : Instr) (frame frame' : SpanFrameView) (x : IsAttainedFrame code locals here frame) → slice_get code here ≡ Some i → MayGo i here to → IsOfSize (height_after i (length frame.stack)) (length frame.locals) frame' → HasSet frame'.locals (set_after i x.set)
     → IsAttainedFrame code locals to frame'
 goes_attained code locals here to i frame frame' x there go size set =

@@ -38,7 +38,7 @@ overflow_of_one op a f only may = record {
   negative = λ m. absurd (not_negative_root NegativeRoot (only m.argument NegativeRoot m.outcome) refl);
 }
 
--- what a call says at `Err`, for operations that only overflow
+-- the clause of a call at `Err`, for operations that only overflow
 pub two_overflow : (op : ℤ → ℤ → Result ℤ Fault) (a b : Span) (r : Result Span Fault) → ((x y : ℤ) (e : Fault) → op x y ≡ Err e → e ≡ Overflow) → IfErr r (MayFault (IsOutcomeOfTwo op a b)) → IfErr r (IsCause (IsOutcomeOfTwo op a b))
 two_overflow op a b (Ok s) only h = tt
 two_overflow op a b (Err f) only h = overflow_of_two op a b f only h

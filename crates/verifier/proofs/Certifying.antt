@@ -67,7 +67,7 @@ locals_more code at count count' item within is before more here pc k lt there =
     (λ (n : pc ≢ at). let h = before pc k (omega (arith, lt, n)) there in omega (arith, h, more))
     (cases_eq pc at)
 
--- where each local that the instructions before a place keep is among so many, and the code ends there, these are enough for the code
+-- where each local that the instructions before a place keep is among the first n, and the code ends there, these are enough for the code
 pub locals_all : (code : List Instr) (at count : ℕ) → ((pc k : ℕ) → pc < at → slice_get code pc ≡ Some (Keep k) → k < count) → length code ≤ at → AreEnoughLocals code count
 locals_all code at count before past = record { kept = λ pc k there. let w = slice_get_within code pc (Keep k) there in before pc k (omega (arith, w, past)) there }
 

@@ -19,7 +19,7 @@ use Rattle.fixed.specs.declared.faults.Fault.{Fault}
 use Rattle.verifier.specs.Places.{IsCause, KeepsTop, PushesNumber, StopsOnOne, StopsOnTwo}
 use Rattle.verifier.specs.Frames.{SpanFrameView, AreMembers, IsLocalOf, AreLocalsOf, AreIn, HasSet, IsOfSize, Pushes, Pops, Keeps, AppliesBinary, AppliesUnary, Follows}
 
--- what a call says at `Ok`, passed on
+-- the clause of a call at `Ok`, passed on
 pub on_ok : {T E : Type 0} (r : Result T E) (P Q : Type 0) → OnOk r P → (P → Q) → OnOk r Q
 on_ok (Ok x) P Q h f = f h
 on_ok (Err e) P Q h f = tt
@@ -234,11 +234,11 @@ stops_on_two bits op a b old one two fault pb pa cause = record { a = a; b = b; 
 pub stops_on_one : (bits : ℕ) (op : UnaryOperation) (a : Span) (old one : SpanFrameView) (fault : Fault) → Pops a old one → IsCause (IsOutcome (unary_of bits op) a) fault → StopsOnOne bits op old fault
 stops_on_one bits op a old one fault pa cause = record { a = a; rest = one.stack; taken = pa.stack; cause = cause }
 
--- what follows from what a refusal says
+-- a consequence of a refusal's meaning
 pub refused_weaker : {R : Type 0} (P Q : R → Type 0) (failure : Failure R) → ((fault : R) → P fault → Q fault) → IfRefused failure P → IfRefused failure Q
 refused_weaker P Q (Refused fault) g h = g fault h
 refused_weaker P Q Memory g h = tt
 
--- want of memory says nothing
+-- out of memory says nothing
 pub refused_memory : {R : Type 0} (P : R → Type 0) (failure : Failure R) → failure ≡ Memory → IfRefused failure P
 refused_memory P failure e = rw e tt

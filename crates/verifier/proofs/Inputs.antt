@@ -39,7 +39,7 @@ get_past [] k e = omega arith
 get_past (x ∷ xs) zero e = absurd cc
 get_past (x ∷ xs) (suc k) e = let h = get_past xs k e in omega (arith, h)
 
--- each of so many is there
+-- each of n is there
 pub input_there : (t : Table) (a b k k' : ℕ) (r : ℤ) → IsTable t → a < length t.rows → b < length t.rows → None ≡ slice_get (inputs_of t a b r) k' → k' ≡ k → k < input_count t → ⊥
 input_there t a b k k' r is first second none same lt =
     let past = get_past (inputs_of t a b r) k' (sym none) in

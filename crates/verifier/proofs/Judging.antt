@@ -1,4 +1,4 @@
--- What is judged of some distances.
+-- Judgements on some distances.
 use Rattle.std.proofs.Common.{◌≡◌, ℕ, zero, suc, ◌+◌, ◌-◌, ◌*◌, ◌^◌, ◌≤◌, List, refl, subst, arith, ◌≢◌, ℤ, pos, negsuc, ◌≤ℤ◌, ◌<ℤ◌, ◌+ℤ◌, ◌-ℤ◌, ⊎_elim, max, lit<}
 use Rattle.std.specs.Prelude.{unsigned_abs}
 use Rattle.std.proofs.Math.Nat.{pow-suc}
@@ -43,7 +43,7 @@ gives_weaker code t a b r x y h g = record { value = g.value; n = g.n; ends = g.
 
 -- ---- refusals
 
--- what was found at some distances is found at more of them
+-- a fault that was found at some distances is found at more of them
 pub found_within : (code : List Instr) (t : Table) (from last from' last' : ℤ) (limit limit' : ℕ) (f : VerifyFault) → from' ≤ℤ from → last ≤ℤ last' → ((from +ℤ pos limit) ≤ℤ last → (from' +ℤ pos limit') ≤ℤ last') → IsFound code t from last limit f → IsFound code t from' last' limit' f
 found_within code t from last from' last' limit limit' (Malformed pc) a b w h = h
 found_within code t from last from' last' limit limit' (DepthOver64 pc) a b w h = h

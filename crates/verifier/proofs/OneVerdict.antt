@@ -146,7 +146,7 @@ module _ (code : List Instr) (t : Table) (a b : ℕ) where
       let h : n ≡ n' = same_number n n' (db (Ok n) (Ok n') r s) in
       ap (λ (k : ℕ). g k n) e ∙ ap (g m') h ∙ dg m' n'
 
-  -- what distances that stop come to
+  -- the answer on distances that stop
   abbrev rest : ℕ → Span → ℕ → Fault → Answer → Type 0
   rest zero s pc kind answer = InTurn (IsAtOne code t a b s.lo) (IsAtOne code t a b s.hi) (λ x y. Err (fault.Undecided a b s.lo s.hi pc kind)) answer
   rest (suc d) s pc kind answer = (l : Span) × (u : Span) × AreHalves s l u × InTurn (IsPieceAnswer code t a b d l) (IsPieceAnswer code t a b d u) (λ x y. Ok (max x y)) answer
@@ -171,7 +171,7 @@ module _ (code : List Instr) (t : Table) (a b : ℕ) where
       let middle : l.hi ≡ l'.hi = p.middle ∙ rw (e, f) refl ∙ sym q.middle in
       (p.from ∙ e ∙ sym q.from, middle, p.next ∙ ap (λ (z : ℤ). z +ℤ pos 1) middle ∙ sym q.next, p.to ∙ f ∙ sym q.to)
 
-  -- what distances of these ends that stop so come to is determined
+  -- the answer on distances of these ends that stop so is determined
   abbrev IsRestSame : ℕ → Type 0
   IsRestSame depth = (s s' : Span) (pc : ℕ) (kind : Fault) (x y : Answer) → s.lo ≡ s'.lo → s.hi ≡ s'.hi → rest depth s pc kind x → rest depth s' pc kind y → x ≡ y
 

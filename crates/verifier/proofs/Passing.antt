@@ -107,7 +107,7 @@ joins_loses to frame old new j =
 
 -- ---- branches
 
--- what a test for 0 says
+-- a test for 0 that fails: 0 is no member
 pub not_member : (b : Bool) (z : ℤ) (s : Span) → IsTrue b ↔ IsMember z s → z ≡ pos 0 → b ≡ false → IsMember (pos 0) s → ⊥
 not_member b z s h e f m = let t : IsTrue false = subst IsTrue f (h.1 (subst (λ (x : ℤ). IsMember x s) (sym e) m)) in cc
 
@@ -139,7 +139,7 @@ either (negsuc n) to next new ys ls a b = b
 rest_in : (s : Span) (frame rest : SpanFrameView) (ys : List ℤ) (ls : List (Option ℤ)) → Pops s frame rest → AreMembers ys rest.stack → AreLocalsOf ls frame.locals → AreIn rest ys ls
 rest_in s frame rest ys ls p m l = record { on_stack = m; set = subst (AreLocalsOf ls) (sym p.locals) l }
 
--- what is in the frame goes on as the value on its top says, and is held there
+-- a state in the frame goes on as the value on its top says, and is held there
 pub branches_mine : (next to : ℕ) (frame : SpanFrameView) (old new : List (Option SpanFrameView)) → Branches next to frame old new → (ys : List ℤ) (ls : List (Option ℤ)) → AreIn frame ys ls
     → (v : ℤ) × (ys' : List ℤ) × (ys ≡ v ∷ ys') × Holds new (at_zero v to next) ys' ls
 branches_mine next to frame old new (goes_on {s = s} {rest = rest} p without j) ys ls m =
@@ -188,7 +188,7 @@ comes_first bits code inputs count frame old new u j =
 
 -- ---- a place is passed
 
--- what an instruction at a place with this frame does: from any state there the run goes on, and is held
+-- an instruction passes at a place with this frame: from any state there the run goes on, and is held
 pub record Passes (bits : ℕ) (code : List Instr) (inputs : List Span) (here : ℕ) (frame : SpanFrameView) (i : Instr) (new : List (Option SpanFrameView)) : Type 0 where
   pub each : (xs ys : List ℤ) (ls : List (Option ℤ)) → AreInputsOf xs inputs → AreIn frame ys ls → (t : State) × (act bits i xs here ys ls ≡ Ok t) × Holds new t.pc t.stack t.locals
 

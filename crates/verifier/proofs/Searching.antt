@@ -1,4 +1,4 @@
--- What is found of pieces, of slices and of pairs, one after another.
+-- Searches of pieces, of slices and of pairs, one after another.
 use Rattle.std.proofs.Common.{◌≡◌, ◌≢◌, ℕ, zero, suc, ◌+◌, ◌-◌, ◌*◌, ◌/◌, ◌<◌, ◌≤◌, List, Ok, Err, refl, sym, ap, ◌∙◌, subst, arith, ⊎_elim, inl, inr, ℤ, pos, ◌+ℤ◌, ◌-ℤ◌, ◌≤ℤ◌, ◌<ℤ◌, max}
 use Rattle.std.specs.Prelude.{◌⊎◌}
 use Rattle.std.proofs.lemmas.Int.{ints}
@@ -24,9 +24,9 @@ use Rattle.verifier.specs.declared.faults.VerifyFault.TheVariants as fault
 use Rattle.verifier.specs.Safety.{IsFound, input_count}
 use Rattle.verifier.specs.Verdicts.{Answer, HasFault, IsAtOne, IsFirstRefused, IsFoundOf, IsGreatest, IsPieceAnswer, IsSliceAnswer, IsStopped, IsVerdict, Range, UnlessMemory, both, empty, full, lower, single, upper}
 
--- ---- want of memory
+-- ---- out of memory
 
--- where each refusal of the one kind is one of the other, a failure that is a refusal of the one, or want of memory, is so of the other
+-- where each refusal of the one kind is one of the other, a failure that is a refusal of the one, or out of memory, is so of the other
 pub unless_err : (P Q : Answer → Type 0) (failure : Failure VerifyFault) → ((f : VerifyFault) → P (Err f) → Q (Err f)) → UnlessMemory P (Err failure) → UnlessMemory Q (Err failure)
 unless_err P Q (Refused f) g h = g f h
 unless_err P Q Memory g h = tt

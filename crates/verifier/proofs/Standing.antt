@@ -172,7 +172,7 @@ behind_within bits (Jump to) xs ys f f' g g' n w p q = subst (λ (x : SpanFrameV
 
 -- ---- joins
 
--- what comes to a place, and one frame more
+-- the frames that come to a place, and one more
 pub joined_place : (led led' : SpanFrameView → Type 0) (g : SpanFrameView) (o o' : Option SpanFrameView) → ((f : SpanFrameView) → led f → led' f) → ((f : SpanFrameView) → led' f → led f ⊎ IsFrameWithin f g) → led' g → IsFrameOf led o → IsJoined o g o' → IsFrameOf led' o'
 joined_place led led' g None None up down mine before j = absurd j
 joined_place led led' g None (Some new) up down mine before j =
@@ -214,7 +214,7 @@ put_here : (frames : ℕ → Option SpanFrameView) (here : ℕ) (o : Option Span
 unfolding put
 put_here frames here o = let t : nat_lt here here ≡ false = le-ltb here here (omega arith) in rw t refl
 
--- what the instruction at a place with this frame leads to another
+-- the frame `led`, to which the instruction leads from the frame at this place
 pub record IsLedHere (bits : ℕ) (code : List Instr) (inputs : List Span) (here to : ℕ) (o : Option SpanFrameView) (led : SpanFrameView) : Type 0 where
   pub frame : SpanFrameView
   pub there : o ≡ Some frame
@@ -357,7 +357,7 @@ module _ (bits : ℕ) (code : List Instr) (inputs : List Span) where
       up : (f : SpanFrameView) → old f → new f
       up f l = led_more F here at (Some frame) f l
 
-      -- what is led from here is the one frame
+      -- the one frame that is led from here
       only : (f : SpanFrameView) → IsLedHere bits code inputs here at (Some frame) f → MayCome i here at frame × IsFrameWithin f led
       only f x =
           let at' = x.at in
@@ -578,6 +578,6 @@ unset_none zero k = refl
 unset_none (suc n) zero = refl
 unset_none (suc n) (suc k) = unset_none n k
 
--- a frame with nothing on its stack, and none of so many locals set, is the start's
+-- a frame with nothing on its stack, and none of n locals set, is the start's
 pub is_start : (count : ℕ) (frame : SpanFrameView) → IsUnset count frame → IsStart frame
 is_start count frame u = record { stack = u.stack; unset = λ k. ap (λ (l : List (Option Span)). slice_index_or l k None) u.locals ∙ unset_none count k }

@@ -42,7 +42,7 @@ pub record AreIn (frame : SpanFrameView) (stack : List ℤ) (locals : List (Opti
   pub on_stack : AreMembers stack frame.stack
   pub set : AreLocalsOf locals frame.locals
 
--- nothing on the stack, and none of so many locals set
+-- nothing on the stack, and none of `count` locals set
 pub record IsUnset (count : ℕ) (frame : SpanFrameView) : Type 0 where
   pub stack : frame.stack ≡ []
   pub locals : frame.locals ≡ replicate count None
@@ -76,7 +76,7 @@ pub record HasSet (locals : List (Option Span)) (set : List Bool) : Type 0 where
   pub long : length set ≡ 256
   pub same : (k : ℕ) → slice_index_or set k false ≡ is_some (slice_index_or locals k None)
 
--- the frame has so many spans on its stack, and follows so many locals
+-- the frame has `height` spans on its stack, and follows `locals` locals
 pub record IsOfSize (height locals : ℕ) (frame : SpanFrameView) : Type 0 where
   pub height' : length frame.stack ≡ height
   pub locals' : length frame.locals ≡ locals
@@ -175,7 +175,7 @@ IsPlain (Unary op) = Unit {0}
 IsPlain (JumpIfZero to) = ⊥
 IsPlain (Jump to) = ⊥
 
--- what the instruction needs is there: its operands, its input or its local, and room for what it pushes
+-- the operands, the input or the local that the instruction needs are there, and room for what it pushes
 abbrev pub IsAtHand : Instr → List Span → SpanFrameView → Type 0
 IsAtHand (Push v) inputs frame = length frame.stack < 64
 IsAtHand (Input k) inputs frame = (k < length inputs) × (length frame.stack < 64)

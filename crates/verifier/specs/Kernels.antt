@@ -1,4 +1,4 @@
--- What accepted code is seen as.
+-- Views of accepted code.
 use Rattle.std.specs.Prelude.{ℕ, List, ℤ}
 use Rattle.kernel_code.specs.declared.instructions.Instr.{Instr}
 use Rattle.kernel_code.specs.Tables.{Table}

@@ -50,7 +50,7 @@ pub record PopsTop (old new : SpanFrameView) : Type 0 where
   pub span : Span
   pub pops : Pops span old new
 
--- each operation gives the least span of what it comes to on the members of its operands
+-- each operation gives the least span of its values on the members of its operands
 abbrev pub IsBehind : ℕ → Instr → List Span → (old new : SpanFrameView) → Type 0
 IsBehind bits (Push v) inputs old new = PushesNumber v old new
 IsBehind bits (Input k) inputs old new = PushesInput k inputs old new

@@ -1,4 +1,4 @@
--- What it means that code never goes wrong, and what its refusals say.
+-- Certified code, which never goes wrong, and the meaning of refusals.
 use Rattle.std.specs.Prelude.{ℕ, ◌+◌, ◌<◌, ◌≤◌, List, length, ℤ, pos, ◌≤ℤ◌, ◌<ℤ◌, ◌+ℤ◌, ◌-ℤ◌, ◌*◌, Ok, Err, unsigned_abs}
 use Rattle.fixed.specs.Fractions.{bits_of}
 use Rattle.kernel_code.specs.declared.instructions.Instr.{Instr}
@@ -52,7 +52,7 @@ pub record IsUndecided (code : List Instr) (t : Table) (from last : ℤ) (limit 
   pub at_hi : GivesValue code t a b hi
   pub wide : (from +ℤ pos limit) ≤ℤ last
 
--- what a refusal at the distances from one to another says, where so many are always decided
+-- the meaning of a refusal at the distances from one to another, where `limit` of them are always decided
 abbrev pub IsFound : List Instr → Table → (from last : ℤ) → (limit : ℕ) → VerifyFault → Type 0
 IsFound code t from last limit (Malformed pc) = ⊥
 IsFound code t from last limit (DepthOver64 pc) = ⊥
@@ -75,7 +75,7 @@ pub record IsSafe (code : List Instr) (t : Table) (types : ℕ) (core cutoff : �
 abbrev pub input_count : Table → ℕ
 input_count t = 2 * t.parameters + length t.globals + 1
 
--- on the inputs of these types at this distance the code gives a value, of at most this magnitude, in at most so many
+-- on the inputs of these types at this distance the code gives a value, of at most this magnitude, in at most `steps`
 -- instructions
 pub record GivesInSteps (code : List Instr) (t : Table) (a b : ℕ) (r : ℤ) (steps bound : ℕ) : Type 0 where
   pub value : ℤ
@@ -85,13 +85,13 @@ pub record GivesInSteps (code : List Instr) (t : Table) (a b : ℕ) (r : ℤ) (s
   pub small : unsigned_abs value ≤ bound
 
 -- so it does for every two types at each distance from core to before cutoff; no path misses anything, and the longest
--- has so many instructions
+-- has `steps` instructions
 pub record IsCertified (code : List Instr) (t : Table) (core cutoff : ℤ) (steps bound : ℕ) : Type 0 where
   pub each : (a b : ℕ) (r : ℤ) → a < length t.rows → b < length t.rows → core ≤ℤ r → r <ℤ cutoff → GivesInSteps code t a b r steps bound
   pub longest : IsLongest code steps
   pub misses : MissesNothing code (input_count t)
 
--- what a refusal says
+-- the meaning of a refusal
 abbrev pub IsRefusal : List Instr → Table → (core cutoff : ℤ) → (limit : ℕ) → VerifyFault → Type 0
 IsRefusal code t core cutoff limit (Malformed pc) = GoesWrong code (input_count t)
 IsRefusal code t core cutoff limit (DepthOver64 pc) = Overfills code pc

@@ -1,4 +1,4 @@
--- What is searched for values and faults.
+-- Searches for values and faults.
 use Rattle.std.specs.Prelude.{◌≡◌, ℕ, ◌<◌, List, length, ℤ, pos, ◌≤ℤ◌, ◌<ℤ◌}
 use Rattle.kernel_code.specs.declared.instructions.Instr.{Instr}
 use Rattle.kernel_code.specs.Tables.{Table, IsTable, inputs_of}
@@ -10,7 +10,7 @@ use Rattle.verifier.specs.Slices.{AreEnoughLocals}
 use Rattle.verifier.specs.Safety.{GivesWithin, input_count}
 use Rattle.verifier.specs.Verdicts.{Range}
 
--- a code under a table, the distances from core to before cutoff in so many slices, how often one is cut, and how many
+-- a code under a table, the distances from core to before cutoff in n slices, how often one is cut, and how many
 -- locals are followed
 pub record Searched : Type 0 where
   pub code : List Instr

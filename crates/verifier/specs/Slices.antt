@@ -55,7 +55,7 @@ pub data Branches (next target : ℕ) (frame : SpanFrameView) (old new : List (O
 
 -- ---- paths
 
--- the code keeps no local that isn't among so many
+-- the code keeps no local that isn't among the first `locals`
 pub record AreEnoughLocals (code : List Instr) (locals : ℕ) : Type 0 where
   pub kept : (pc k : ℕ) → slice_get code pc ≡ Some (Keep k) → k < locals
 

@@ -19,7 +19,7 @@ use Rattle.verifier.specs.declared.faults.VerifyFault.TheVariants as fault
 use Rattle.verifier.specs.Safety.{input_count}
 use Rattle.verifier.specs.Places.{IsOne, GivesSpan, StopsAt}
 
--- what is found: the greatest magnitude, or why there is none
+-- the answer of a search: the greatest magnitude, or why there is none
 abbrev pub Answer : Type 0
 Answer = Result ℕ VerifyFault
 
@@ -73,7 +73,7 @@ abbrev pub IsAtOne : List Instr → Table → (a b : ℕ) → ℤ → Answer →
 IsAtOne code t a b r (Ok bound) = HasMagnitude code t a b r bound
 IsAtOne code t a b r (Err f) = HasFault code t a b r f
 
--- ---- some distances, cut in two so many times where they stop
+-- ---- some distances, cut in two at most `depth` times where they stop
 
 pub data IsPieceAnswer (code : List Instr) (t : Table) (a b : ℕ) : (depth : ℕ) → Span → Answer → Type 0 where
   -- one distance
@@ -110,7 +110,7 @@ pub data IsPieceAnswer (code : List Instr) (t : Table) (a b : ℕ) : (depth : �
 
 -- ---- answers in their order
 
--- the first so many have none but magnitudes, of which this is the greatest; 0 where there are none
+-- the first `count` have none but magnitudes, of which this is the greatest; 0 where there are none
 pub record IsGreatest (answers : ℕ → Answer → Type 0) (count bound : ℕ) : Type 0 where
   pub each : (i : ℕ) → i < count → (x : ℕ) × answers i (Ok x) × (x ≤ bound)
   pub attained : (bound ≡ 0) ⊎ ((i : ℕ) × (i < count) × answers i (Ok bound))
@@ -138,7 +138,7 @@ pub record Range : Type 0 where
 abbrev pub range : (core cutoff : ℤ) → (slices depth : ℕ) → Range
 range core cutoff slices depth = record { core = core; cutoff = cutoff; slices = slices; depth = depth }
 
--- of so many distances, those of the slice i
+-- of n distances, those of the slice i
 pub record IsSlice (g : Range) (i : ℕ) (s : Span) : Type 0 where
   pub width : ℕ
   pub wide : (g.core +ℤ pos width) ≡ g.cutoff
@@ -182,7 +182,7 @@ IsVerdict code t g (Err (fault.DepthOver64 pc)) = IsFirstOverfull code (input_co
 IsVerdict code t g (Err (fault.Fault a b r pc kind)) = IsSearched code t g (Err (fault.Fault a b r pc kind))
 IsVerdict code t g (Err (fault.Undecided a b lo hi pc kind)) = IsSearched code t g (Err (fault.Undecided a b lo hi pc kind))
 
--- ---- want of memory
+-- ---- out of memory
 
 -- the answer is so, or memory ran out before there was one
 abbrev pub UnlessMemory : (Answer → Type 0) → Result ℕ (Failure VerifyFault) → Type 0

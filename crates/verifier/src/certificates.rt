@@ -16,7 +16,7 @@ use kernel_code::{Code, Instr, TypeTable};
 use kernel_paths::{Misfit, longest_path};
 use std::alloc::Allocator;
 
-/// What is known of code that never goes wrong.
+/// The certificate of code that never goes wrong.
 #[derive(Clone, Copy, PartialEq, Eq, Debug)]
 pub struct Certificate {
     /// The number of instructions on the longest path.
@@ -38,7 +38,7 @@ fn locals_of(code: &[Instr]) -> usize
     count
 }
 
-/// What is known of the code, as `verify` judges it, where a slice is cut in two at most so many times.
+/// The certificate of the code, as `verify` judges it, where a slice is cut in two at most `depth` times.
 pub fn certify_to<A: Allocator + Copy, B: Allocator>(
     alloc: A,
     code: &Code<B>,

@@ -33,7 +33,7 @@ impl<A: Allocator> Model for SpanFrame<A> {
 }
 
 impl<A: Allocator> SpanFrame<A> {
-    /// The frame before the first instruction, where so many locals are followed: an empty stack, and no local is set.
+    /// The frame before the first instruction, where `locals` locals are followed: an empty stack, and no local is set.
     pub fn start(alloc: A, locals: usize) -> Result<SpanFrame<A>, AllocError>
     where
         A: Copy,

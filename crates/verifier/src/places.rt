@@ -10,7 +10,7 @@ use fixed::{Fault, Fx};
 use std::alloc::{AllocError, Allocator};
 use std::marker::Model;
 
-/// For each place of a code, its end too, the frame of the runs that come to it, where there are any.
+/// For each place of a code, its end too, the frame of the runs that reach it, where there are any.
 #[derive(Drop)]
 pub struct Places<A: Allocator> {
     frames: Vec<Option<SpanFrame<A>>, A>,
@@ -26,7 +26,7 @@ impl<A: Allocator> Model for Places<A> {
 }
 
 impl<A: Allocator> Places<A> {
-    /// The places of so many instructions, and the end, without frames.
+    /// The places of `instructions` instructions, and the end, without frames.
     pub fn new(alloc: A, instructions: usize) -> Result<Places<A>, AllocError>
         ensures { IfOk result (λ places. length places ≡ instructions + 1) }
     {
@@ -46,7 +46,7 @@ impl<A: Allocator> Places<A> {
         self.frames[at].take()
     }
 
-    /// Joins the runs of a frame to those that come to a place.
+    /// Joins the runs of a frame to those that reach a place.
     pub fn join(&mut self, to: usize, frame: SpanFrame<A>)
         requires place { to < length self.old }
         requires meet { CanMeet (frame_at self.old to) (length frame.stack) (length frame.locals) }
@@ -62,7 +62,7 @@ impl<A: Allocator> Places<A> {
     }
 }
 
-/// Joins the runs of a frame, each by the value that it pops, to those that come to `target` at 0,
+/// Joins the runs of a frame, each by the value that it pops, to those that reach `target` at 0,
 /// and else to `next`. Only memory can stop it.
 pub fn branch<A: Allocator + Copy>(
     alloc: A,

@@ -5,7 +5,7 @@ ghost use Rattle.std.specs.Prelude.{◌≡◌, ◌+◌, ◌*◌, ◌/◌, ◌^�
 use fixed::Fx;
 use interval_domain::Span;
 
-/// How many of so many distances lie before the slice `i`.
+/// How many of `width` distances lie before the slice `i`.
 pub fn share(width: u64, i: u32, slices: u32) -> u64
     requires slice { i ≤ slices }
     requires slices { 0 < slices }
@@ -15,7 +15,7 @@ pub fn share(width: u64, i: u32, slices: u32) -> u64
     (width as u128 * i as u128 / slices as u128) as u64
 }
 
-/// The distances from the one that so many lie before, up to another.
+/// The distances from the one with `from` before it, up to the one with `end` before it, which isn't among them.
 pub fn slice_span(core: Fx, from: u64, end: u64) -> Span
     requires core { pos 0 ≤ℤ core }
     requires some { from < end }

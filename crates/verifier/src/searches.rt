@@ -153,8 +153,8 @@ impl<'a, A: Allocator + Copy, B: Allocator> Search<'a, A, B> {
         }
     }
 
-    /// What is said of distances of which some may meet a fault at this place: the fault at the least
-    /// or at the greatest of them, if the code meets one there.
+    /// The verdict on distances of which some may meet a fault at this place: the fault at the least
+    /// or at the greatest of them, if the code meets one there, else `Undecided`.
     fn judge_ends(&self, pair: Pair, distances: &Span, pc: u32, fault: Fault) -> VerifyFault
         requires first { pair.first < length self.now.table.rows }
         requires second { pair.second < length self.now.table.rows }
@@ -180,7 +180,7 @@ impl<'a, A: Allocator + Copy, B: Allocator> Search<'a, A, B> {
     }
 
     /// The greatest magnitude that the code's values may have at the distances, which are cut in two
-    /// so many times where some run may meet a fault.
+    /// `depth` times where some run may meet a fault.
     ///
     /// `Fault` and `Undecided` as they say; never `Undecided` where the depth suffices to come to
     /// single distances. `Memory`: an allocation was refused.

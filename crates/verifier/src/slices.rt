@@ -36,7 +36,7 @@ fn clear<A: Allocator>(code: &[Instr], places: &mut Places<A>)
     }
 }
 
-/// Follows the runs that come to the place `here` by its instruction.
+/// Follows the runs that reach the place `here` by its instruction.
 fn pass<A: Allocator + Copy>(
     alloc: A,
     frac: Frac,
@@ -94,7 +94,7 @@ fn answer<A: Allocator>(frac: Frac, code: &[Instr], inputs: &[Span], places: &mu
 }
 
 /// The span of the values that the code gives on all inputs in these spans, or the first place at
-/// which the operation of some run may have no value. So many locals are followed.
+/// which the operation of some run may have no value. `locals` locals are followed.
 pub fn follow_slice<A: Allocator + Copy>(
     alloc: A,
     frac: Frac,

@@ -84,7 +84,7 @@ impl<A: Allocator> Verified<A> {
 }
 
 /// Accepts code that gives a value for every two types of the table, at every distance from `core`
-/// to before `cutoff`. The distances are cut into so many slices, and a slice on which some run may
+/// to before `cutoff`. The distances are cut into `slices` slices, and a slice on which some run may
 /// meet a fault, by the spans of the code's values, is cut in two again and again, at most 24 times
 /// deep.
 ///
@@ -106,7 +106,7 @@ pub fn verify<A: Allocator, B: Allocator>(
     ensures table { IfOk result (λ v. v.table ≡ table) }
     ensures core { IfOk result (λ v. v.core ≡ core) }
     ensures cutoff { IfOk result (λ v. v.cutoff ≡ cutoff) }
-    // What a refusal says of the code's runs and paths.
+    // The meaning of a refusal, for the code's runs and paths.
     ensures refused { IfErr result (λ failure. IfRefused failure (IsRefusal code table core cutoff (slices * 2 ^ 24))) }
     // The bound, and the refusal: which there is, is the definition's.
     ensures bound { IfOk result (λ v. IsVerdict code table (range core cutoff slices 24) (Ok v.bound)) }

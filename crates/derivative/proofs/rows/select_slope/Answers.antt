@@ -1,4 +1,4 @@
--- What `choice` says of trees that aren't named in the goal isn't found by a search.
+-- The clauses of `choice` on trees that aren't named in the goal aren't found by a search.
 use Rattle.std.proofs.Common.{◌≡◌, ◌&&◌, false, refl, rules}
 use Rattle.energy_program.specs.Tree.{tree_of}
 use Rattle.derivative.specs.Written.{moved}

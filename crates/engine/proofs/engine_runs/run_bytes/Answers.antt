@@ -68,7 +68,7 @@ returns-in_err-write-clause-returns g c = run_back plain c.args.job.now c.args.s
 pub returns-clause-returns : goal.returns-clause-returns
 returns-clause-returns g c = run_back plain c.args.job.now c.args.state.now c.args.direction c.args.steps
 
--- what is written
+-- the text that is written
 pub returns-clause-safe : goal.returns-clause-safe
 returns-clause-safe g c = safe_texts c.args.job.now c.args.state.now c.in_ok-engine.engine c.in_ok-engine.ensures.opens
 

@@ -1,4 +1,4 @@
--- What the line says is named here, one fact after the other: a search looks for it for seconds.
+-- The facts on the line are named here, one after the other: a search looks for them for seconds.
 use Rattle.std.proofs.lemmas.Grind.{common_steps}
 use Rattle.std.proofs.Common.{◌≡◌, ◌==◌, false, slice_index, sym, arith}
 use Rattle.job.specs.Drafts.{line_into}

@@ -7,7 +7,7 @@ use Rattle.integrator.specs.Frames.{pair_force}
 use Rattle.integrator.specs.Systems.{dynamics_of}
 use Rattle.tested_run.proofs.forces.add_rows.Given as goal
 
--- what is left of the pairs makes of these sums what all pairs make of the first
+-- the rest of the pairs makes of these sums what all pairs make of the first
 abbrev pub invariant-loop-low : goal.invariant-loop-low
 invariant-loop-low g l =
     let force = pair_force (dynamics_of g.K.TestedSlope.slope l.system) l.frame in

@@ -3,7 +3,7 @@ use Rattle.engine.specs.Engines.{Went}
 use Rattle.trajectory.specs.Watching.{hundredths_behind}
 use Rattle.trajectory.proofs.stretches.advance.Given as goal
 
--- so many steps are made, and the watcher was told of the hundredths among them
+-- these steps are made, and the watcher was told of the hundredths among them
 abbrev pub invariant-loop-made : goal.invariant-loop-made
 invariant-loop-made g l = record {
   within : l.made ≤ l.steps;

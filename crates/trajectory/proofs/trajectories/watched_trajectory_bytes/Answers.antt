@@ -31,7 +31,7 @@ returns-in_err-write_frames-clause-refused g c =
     (frames_unwritten _ c.args.job.now c.args.state.now c.args.direction c.args.steps c.args.every c.in_ok-engine.engine (g.O.Out.output c.args.out.now)
     (g.O.Out.output c.write_frames.new.out) c.in_err-write_frames.field-0.0 c.in_ok-engine.ensures.opens c.in_err-write_frames.ensures.left)
 
--- what the watcher was told then
+-- the counts that the watcher was told then
 pub returns-in_err-engine-clause-told_some : goal.returns-in_err-engine-clause-told_some
 returns-in_err-engine-clause-told_some g c =
     let p = err_from_is_err_and c.from_residual.result c.from_residual.ensures.1 in
@@ -64,7 +64,7 @@ invariant_of-engine-inside-2 g c =
     let d = c.engine-2.inside.motion.system.kernel in
     record { flattened = d.flattened; free = d.free; bounded = d.bounded; gives = d.gives }
 
--- what is written
+-- the text that is written
 pub returns-clause-safe : goal.returns-clause-safe
 returns-clause-safe g c = safe_texts c.args.job.now c.args.state.now c.in_ok-engine.engine c.in_ok-engine.ensures.opens
 

@@ -69,7 +69,7 @@ loop-number-preserved g c =
           (more_told g.W.Watch.told g.met.W.Watch.told_more (c.args.most * every) (number * every) every _ _ _ c.loop-number.invariant.told c.in_ok-advance.ensures.told);
     }
 
--- what the watcher was told where no more frame comes
+-- the counts that the watcher was told where no more frame comes
 
 pub returns-in_err-write_frame-clause-told_some : goal.returns-in_err-write_frame-clause-told_some
 returns-in_err-write_frame-clause-told_some g c =

@@ -76,7 +76,7 @@ returns-in_err-write-clause-only g c = λ text r a.
     let p = err_from_is_err_and c.from_residual-in_err-write.result c.from_residual-in_err-write.ensures.1 in
     rw (p.1, p.2) tt
 
--- what the watcher was told then
+-- the counts that the watcher was told then
 pub returns-in_err-engine-clause-told_some : goal.returns-in_err-engine-clause-told_some
 returns-in_err-engine-clause-told_some g c =
     let p = err_from_is_err_and c.from_residual.result c.from_residual.ensures.1 in
@@ -109,7 +109,7 @@ invariant_of-engine-inside-2 g c =
     let d = c.engine-2.inside.motion.system.kernel in
     record { flattened = d.flattened; free = d.free; bounded = d.bounded; gives = d.gives }
 
--- what is written
+-- the text that is written
 pub returns-clause-safe : goal.returns-clause-safe
 returns-clause-safe g c = safe_texts c.args.job.now c.args.state.now c.in_ok-engine.engine c.in_ok-engine.ensures.opens
 

@@ -1,4 +1,4 @@
--- What the call found is named here, one fact after the other: a search looks for it for seconds, in vain.
+-- The facts that the call found are named here, one after the other: a search looks for them for seconds, in vain.
 use Rattle.std.proofs.Common.{position, bytes_eq, sym, ap, ◌∙◌}
 use Rattle.line_text.specs.Names.{name_text}
 use Rattle.job.specs.declared.jobs.AtomType.{AtomType}
