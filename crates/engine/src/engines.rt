@@ -27,7 +27,7 @@ use crate::safe_systems::SafeSystem;
 use crate::verdicts::{safe_kernel, verdict};
 use fallible::Failure;
 use integrator::{
-    Direction, StepFault, System, Stepped, TypedAtoms, advance, counter_after, current_frame, ready,
+    Direction, StepFault, Stepped, System, TypedAtoms, advance, counter_after, current_frame, ready,
 };
 use job::Job;
 use kernel_compiler::compile;

@@ -332,7 +332,10 @@ impl<A: Allocator + Copy> Parser<A> {
             None => Err(Failure::Refused(ExprFault::UnexpectedToken {
                 at: self.offset(tokens),
             })),
-            Some((OperandStart::Number(raw), rest)) => self.put(Syntax::Number(Fx::from_raw(raw)), rest),
+            Some((OperandStart::Number(raw), rest)) => self.put(
+                Syntax::Number(Fx::from_raw(raw)),
+                rest,
+            ),
             Some((OperandStart::Name(name), rest)) => match open_sign(rest) {
                 None => self.put(Syntax::Name(name), rest),
                 Some(inside) => self.call(name, inside, levels),

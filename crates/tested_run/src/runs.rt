@@ -23,7 +23,7 @@ use crate::steps::make_steps;
 use crate::stops::Stop;
 use crate::sums::NO_FORCE;
 use fallible::{Failure, Out};
-use integrator::{Direction, System, Stepped, advance, current_frame, previous_frame};
+use integrator::{Direction, Stepped, System, advance, current_frame, previous_frame};
 use ring_box::{Force, Place3};
 use state::{Atom, State};
 use std::alloc::Allocator;
