@@ -41,12 +41,12 @@ class Build:
         self.crates, self.log = crates, log
         self.began, self.done, self.printing = time.monotonic(), 0, threading.Lock()
 
-    def prove(self, crate, jobs):
-        """Returns whether the library was proved and built, by so many copies of the prover."""
+    def prove(self, crate):
+        """Returns whether the library was proved and built, by one copy of the prover: each further copy reads all libraries below again."""
         began = time.monotonic()
         crate.out = open(f"{self.log}.{crate.name}", "w+", encoding="utf-8", errors="replace")
         with crate.out:
-            status = crate.build_rlib(["--jobs", str(jobs)], anew=False)
+            status = crate.build_rlib(["--jobs", "1"], anew=False)
             crate.out.seek(0)
             said = crate.out.read()
         os.remove(f"{self.log}.{crate.name}")
@@ -65,22 +65,19 @@ class Build:
                 print("".join(line for line in said.splitlines(True) if ": error" in line)[:4000], end="", flush=True)
 
     def run(self, lanes):
-        """Proves each crate once those below it are proved, and returns whether all were. Lanes that no other crate waits for go to those that can begin."""
+        """Proves each crate once those below it are proved, and returns whether all were."""
         behind = longest_chains(self.crates)
         left, running = sorted(self.crates, key=lambda it: -behind[it]), {}
         proved = {dep for it in left for dep in it.below()} - set(left)
         with ThreadPoolExecutor(lanes) as pool:
             while left or running:
-                free = lanes - sum(jobs for _, jobs in running.values())
-                ready = [it for it in left if proved.issuperset(it.below())][:free]
-                for it in ready:
+                for it in [it for it in left if proved.issuperset(it.below())][: lanes - len(running)]:
                     left.remove(it)
-                    jobs = free // len(ready)
-                    running[pool.submit(self.prove, it, jobs)] = it, jobs
+                    running[pool.submit(self.prove, it)] = it
                 if not running:
                     return False
                 for it in wait(running, return_when=FIRST_COMPLETED).done:
-                    crate, _ = running.pop(it)
+                    crate = running.pop(it)
                     proved |= {crate} if it.result() else set()
         return True
 
@@ -114,7 +111,7 @@ def link(named):
     began, program = time.monotonic(), f"{named.folder}/out/{named.name}"
     was = os.stat(program).st_mtime_ns if os.path.exists(program) else None
     with open(log_of(named), "ab") as log:
-        ran = subprocess.run(["rt", "run", "--", "--help"], cwd=named.folder, stdin=subprocess.DEVNULL, stdout=log, stderr=log)
+        ran = subprocess.run(["rt", "run", "--jobs", "1", "--", "--help"], cwd=named.folder, stdin=subprocess.DEVNULL, stdout=log, stderr=log)
     if ran.returncode:
         print(f"{named.name} was NOT proved and linked: {os.path.relpath(log_of(named))} says why")
     elif os.stat(program).st_mtime_ns != was:
