@@ -7,6 +7,7 @@ ghost use Rattle.fixed.specs.Fractions.{bits_of};
 ghost use Rattle.line_text.specs.Identifiers.{is_identifier};
 
 use crate::jobs::{AtomType, Global};
+use crate::time_steps::TimeStep;
 use fixed::{Frac, Fx};
 use std::alloc::Allocator;
 
@@ -41,8 +42,8 @@ pub struct Draft<A: Allocator> {
     pub core: Option<Fx>,
     /// The cutoff in nm, at most 80.
     pub cutoff: Option<Fx>,
-    /// The time step in fs, 1 to 1,000.
-    pub time_step: Option<u32>,
+    /// The time step.
+    pub time_step: Option<TimeStep>,
     /// The number of slices, 1 to 65,536.
     pub slices: Option<u32>,
     /// The parameters' names, at most 8.
@@ -55,8 +56,6 @@ pub struct Draft<A: Allocator> {
     pub bits: Option<Frac>,
     ghost least_core: { IfSome core (λ v. pos 0 ≤ℤ v) } by { Prim.hlevel props },
     ghost most_cutoff: { IfSome cutoff (λ v. v ≤ℤ pos (80 * 2 ^ bits_of frac)) } by { Prim.hlevel props },
-    ghost some_time_step: { IfSome time_step (λ n. 1 ≤ n) } by { Prim.hlevel props },
-    ghost most_time_step: { IfSome time_step (λ n. n ≤ 1000) } by { Prim.hlevel props },
     ghost some_slices: { IfSome slices (λ n. 1 ≤ n) } by { Prim.hlevel props },
     ghost most_slices: { IfSome slices (λ n. n ≤ 65536) } by { Prim.hlevel props },
     ghost named: { All (λ p. IsTrue (is_identifier p.items)) parameters.items },

@@ -7,6 +7,7 @@ ghost use Rattle.line_text.specs.Names.{name_text};
 ghost use Rattle.line_text.specs.Identifiers.{is_identifier};
 ghost use Rattle.job.specs.Forms.{is_type_name};
 
+use crate::time_steps::TimeStep;
 use fixed::{Frac, Fx};
 use line_text::Name;
 use std::alloc::Allocator;
@@ -46,8 +47,7 @@ pub struct Job<A: Allocator> {
     pub core: Fx,
     /// The distance in nm from which on pairs don't act: more than `core`, at most 80.
     pub cutoff: Fx,
-    /// The time step in fs, 1 to 1,000.
-    pub time_step: u32,
+    pub time_step: TimeStep,
     /// Into how many slices of distances the kernel's proof is first cut, 1 to 65,536.
     pub slices: u32,
     /// The names of what each type has a value for, at most 8.
@@ -59,8 +59,6 @@ pub struct Job<A: Allocator> {
     pub ghost least_core: { pos 0 ≤ℤ core },
     pub ghost below_cutoff: { core <ℤ cutoff },
     pub ghost most_cutoff: { cutoff ≤ℤ pos (80 * 2 ^ bits_of frac) },
-    pub ghost some_time_step: { 1 ≤ time_step },
-    pub ghost most_time_step: { time_step ≤ 1000 },
     pub ghost some_slices: { 1 ≤ slices },
     pub ghost most_slices: { slices ≤ 65536 },
     pub ghost named: { All (λ p. IsTrue (is_identifier p.items)) parameters.items },

@@ -10,8 +10,10 @@ mod laws;
 mod lines;
 mod numbers;
 mod reading;
+mod time_steps;
 mod words;
 
 pub use faults::{JobFault, Key};
 pub use jobs::{AtomType, Global, Job};
 pub use laws::reads_job_texts;
+pub use time_steps::TimeStep;

@@ -21,6 +21,7 @@ use crate::faults::{JobFault, Key};
 use crate::forms::{is_type_name, key_of};
 use crate::jobs::{AtomType, Global};
 use crate::numbers::{cutoff, mass, numeral, signed_numeral, values, whole};
+use crate::time_steps::TimeStep;
 use crate::words::{only_word, two_words};
 use fallible::Failure;
 use fixed::{Frac, Fx, NumFault};
@@ -57,6 +58,12 @@ fn whole_in(most: u32, text: &[u8]) -> Result<u32, NumFault>
     ensures range { IfOk result (λ n. (1 ≤ n) × (n ≤ most)) }
 {
     whole(1, most, only_word(text)?)
+}
+
+fn time_step_in(text: &[u8]) -> Result<TimeStep, NumFault>
+    ensures { result ≡ alone (whole_of 1 1000) (words text.now) }
+{
+    Ok(TimeStep::new(whole_in(1000, text)?))
 }
 
 // The number of a key that one line may have.
@@ -136,7 +143,7 @@ fn take_time_step<A: Allocator>(
 ) -> Result<Draft<A>, JobFault<A>>
     ensures { Answers said_of refusal_of result (time_step_into number (said_of draft) (alone (whole_of 1 1000) (words text.now))) }
 {
-    let value = number_of(number, Key::TimeStep, draft.time_step, whole_in(1000, text))?;
+    let value = number_of(number, Key::TimeStep, draft.time_step, time_step_in(text))?;
     draft.time_step = Some(value);
     Ok(draft)
 }

@@ -1,6 +1,6 @@
 //! The state that begins at a frame of a GRO file.
 
-ghost use Rattle.std.specs.Prelude.{◌≡◌, ◌≤◌, map, IfOk};
+ghost use Rattle.std.specs.Prelude.{◌≡◌, map, IfOk};
 ghost use Rattle.fallible.specs.Failures.{Gives};
 ghost use Rattle.gro.specs.Frames as gro;
 ghost use Rattle.state.specs.Starts.{current_place, previous_place, start_of_frame, started_atom};
@@ -11,7 +11,7 @@ use crate::velocities::place_before;
 use fallible::Failure;
 use fixed::Frac;
 use gro::{GroAtom, GroFrame};
-use job::Job;
+use job::{Job, TimeStep};
 use ring_box::{BoxFault, Place3, RingBox, place_of_pm};
 use std::alloc::{AllocError, Allocator};
 
@@ -41,10 +41,9 @@ impl<A: Allocator + Copy> State<A> {
 fn started<A: Allocator + Copy, F: Allocator>(
     alloc: A,
     frac: Frac,
-    time_step: u32,
+    time_step: TimeStep,
     frame: &GroFrame<F>,
 ) -> Result<State<A>, Failure<BoxFault>>
-    requires { time_step ≤ 1000 }
     ensures { Gives state_view (λ f. f) result (start_of_frame frac time_step (gro.frame_view frame.now)) }
 {
     let ring = RingBox::new(frame.sides).map_err(Failure::Refused)?;
@@ -61,11 +60,10 @@ fn started<A: Allocator + Copy, F: Allocator>(
 
 fn started_atoms<A: Allocator>(
     alloc: A,
-    time_step: u32,
+    time_step: TimeStep,
     ring: &RingBox,
     atoms: &[GroAtom],
 ) -> Result<Vec<Atom, A>, AllocError>
-    requires { time_step ≤ 1000 }
     ensures { IfOk result (λ v. map atom_view v.items ≡ map (started_atom time_step ring.now) (map gro.atom_view atoms.now)) }
 {
     let mut started = Vec::new(alloc);
@@ -75,8 +73,7 @@ fn started_atoms<A: Allocator>(
     Ok(started)
 }
 
-fn started_atom(time_step: u32, ring: &RingBox, atom: &GroAtom) -> Atom
-    requires { time_step ≤ 1000 }
+fn started_atom(time_step: TimeStep, ring: &RingBox, atom: &GroAtom) -> Atom
     ensures { atom_view result ≡ started_atom time_step ring.now (gro.atom_view atom.now) }
 {
     let current = current_place(ring, &atom.at);
@@ -100,8 +97,12 @@ fn current_place(ring: &RingBox, at: &[i64; 3]) -> Place3
     }
 }
 
-fn previous_place(time_step: u32, ring: &RingBox, current: Place3, velocity: &[i64; 3]) -> Place3
-    requires { time_step ≤ 1000 }
+fn previous_place(
+    time_step: TimeStep,
+    ring: &RingBox,
+    current: Place3,
+    velocity: &[i64; 3],
+) -> Place3
     ensures { result ≡ previous_place time_step ring.now current velocity.now }
 {
     Place3 {

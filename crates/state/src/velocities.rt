@@ -1,18 +1,18 @@
 //! Velocities in whole places.
 
-ghost use Rattle.std.specs.Prelude.{◌≡◌, ◌≤◌, ◌<◌, ◌*◌, ◌^◌, pos, ◌-ℤ◌, ◌*ℤ◌, ◌<ℤ◌, unsigned_abs};
+ghost use Rattle.std.specs.Prelude.{◌≡◌, ◌<◌, ◌*◌, ◌^◌, pos, ◌-ℤ◌, ◌*ℤ◌, ◌<ℤ◌, unsigned_abs};
 ghost use Rattle.state.specs.Velocities.{IsPlaceBefore, IsWay, place_before, places_moved};
 
 use fixed::round_div;
+use job::TimeStep;
 use ring_box::{Side, place_at};
 
 /// The way of a velocity in a time step, in 10^-7 nm / 2^32.
-fn way(velocity: i64, time_step: u32) -> i128
-    requires { time_step ≤ 1000 }
+fn way(velocity: i64, time_step: TimeStep) -> i128
     ensures value { result ≡ velocity *ℤ pos (time_step * 2 ^ 32) }
     ensures bound { unsigned_abs result < 2 ^ 106 }
 {
-    i128::from(velocity) * i128::from(u64::from(time_step) * 4_294_967_296)
+    i128::from(velocity) * i128::from(u64::from(time_step.femtoseconds()) * 4_294_967_296)
 }
 
 /// A side in 10^-7 nm.
@@ -24,10 +24,9 @@ fn length(side: Side) -> i128
     100 * i128::from(side.get())
 }
 
-/// The whole number of places nearest to the way of an atom along a side in one time step, of two the upper one: `velocity` in 10^-4 nm/ps, `time_step` in fs, at most 1,000.
+/// The whole number of places nearest to the way of an atom along a side in one time step, of two the upper one: `velocity` in 10^-4 nm/ps.
 #[tactic(auto, using(fixed::proofs::NearestLemmas::nearest_small))]
-fn places_moved(velocity: i64, time_step: u32, side: Side) -> i128
-    requires { time_step ≤ 1000 }
+fn places_moved(velocity: i64, time_step: TimeStep, side: Side) -> i128
     ensures value { result ≡ places_moved velocity time_step side }
     ensures nearest { IsWay velocity time_step side result }
     ensures bound { unsigned_abs result < 2 ^ 107 }
@@ -43,8 +42,7 @@ fn behind(current: u32, moved: i128) -> i128
 }
 
 /// The place from which an atom of this velocity moves to its current place in one time step, round the ring.
-pub(crate) fn place_before(current: u32, velocity: i64, time_step: u32, side: Side) -> u32
-    requires { time_step ≤ 1000 }
+pub(crate) fn place_before(current: u32, velocity: i64, time_step: TimeStep, side: Side) -> u32
     ensures value { result ≡ place_before current velocity time_step side }
     ensures before { IsPlaceBefore current velocity time_step side result }
 {

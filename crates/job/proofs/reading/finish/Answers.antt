@@ -16,13 +16,13 @@ invariant_of-result-clause-whole g c = λ k d h. c.in_ok-types.ensures.whole k d
 
 -- the draft is dropped as it was passed
 pub invariant_of-draft : goal.invariant_of-draft
-invariant_of-draft g c = let d = c.args.draft in record { least_core = d.least_core; most_cutoff = d.most_cutoff; some_time_step = d.some_time_step; most_time_step = d.most_time_step; some_slices = d.some_slices; most_slices = d.most_slices; named = d.named; few_parameters = d.few_parameters; few_globals = d.few_globals; few_types = d.few_types }
+invariant_of-draft g c = let d = c.args.draft in record { least_core = d.least_core; most_cutoff = d.most_cutoff; some_slices = d.some_slices; most_slices = d.most_slices; named = d.named; few_parameters = d.few_parameters; few_globals = d.few_globals; few_types = d.few_types }
 
 pub invariant_of-draft-2 : goal.invariant_of-draft-2
-invariant_of-draft-2 g c = let d = c.args.draft in record { least_core = d.least_core; most_cutoff = d.most_cutoff; some_time_step = d.some_time_step; most_time_step = d.most_time_step; some_slices = d.some_slices; most_slices = d.most_slices; named = d.named; few_parameters = d.few_parameters; few_globals = d.few_globals; few_types = d.few_types }
+invariant_of-draft-2 g c = let d = c.args.draft in record { least_core = d.least_core; most_cutoff = d.most_cutoff; some_slices = d.some_slices; most_slices = d.most_slices; named = d.named; few_parameters = d.few_parameters; few_globals = d.few_globals; few_types = d.few_types }
 
 pub invariant_of-draft-3 : goal.invariant_of-draft-3
-invariant_of-draft-3 g c = let d = c.args.draft in record { least_core = d.least_core; most_cutoff = d.most_cutoff; some_time_step = d.some_time_step; most_time_step = d.most_time_step; some_slices = d.some_slices; most_slices = d.most_slices; named = d.named; few_parameters = d.few_parameters; few_globals = d.few_globals; few_types = d.few_types }
+invariant_of-draft-3 g c = let d = c.args.draft in record { least_core = d.least_core; most_cutoff = d.most_cutoff; some_slices = d.some_slices; most_slices = d.most_slices; named = d.named; few_parameters = d.few_parameters; few_globals = d.few_globals; few_types = d.few_types }
 
 -- Without this answer the check searches for seconds, in vain, before `grind` closes the goal.
 pub returns-in_err-energy : goal.returns-in_err-energy
