@@ -37,7 +37,7 @@ goes_by : (bits : ℕ) (code : List Instr) (inputs : List ℤ) (s t : State) (i 
     → act bits i inputs s.pc s.stack s.locals ≡ turn → goes_on (Some turn) ≡ Some t → (s.pc < t.pc) × (t.pc ≤ length code)
 goes_by bits code inputs s t i (Ok next) forward here is e =
     let same : next ≡ t = same_Some next t e in
-    turn_leads bits code inputs s t i forward (slice_get_within code s.pc i here) here (is ∙ ap Ok same)
+    turn_leads bits code inputs s.pc s.stack s.locals t i forward (slice_get_within code s.pc i here) here (is ∙ ap Ok same)
 goes_by bits code inputs s t i (Err kind) forward here is e = absurd (none_is_no_some t e)
 
 goes_from : (bits : ℕ) (code : List Instr) (inputs : List ℤ) (s t : State) (i : Option Instr) → JumpsForward code → slice_get code s.pc ≡ i → goes_on (turn_at bits code inputs s) ≡ Some t

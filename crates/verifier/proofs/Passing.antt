@@ -207,7 +207,7 @@ comes_on bits code inputs here i frame old between new is c at_code t p l =
           let taken = t.taken in
           let same : a.held.frame ≡ frame = cc in
           let u = p.each xs a.state.stack a.state.locals m (subst (λ (f : SpanFrameView). AreIn f a.state.stack a.state.locals) same a.held.within) in
-          let k = turn_leads bits code xs s u.0 i is.forward (slice_get_within code here i at_code) at_code u.1 in
+          let k = turn_leads bits code xs s.pc s.stack s.locals u.0 i is.forward (slice_get_within code here i at_code) at_code u.1 in
           record { n = suc a.n; state = u.0; reached = after_more bits code xs a.n s u.0 i reached at_code u.1; from = omega (arith, k.0); within = k.1; held = u.2 })
           (λ (n : a.state.pc ≢ here).
           let kept : Holds between a.state.pc a.state.stack a.state.locals = record { frame = a.held.frame; there = t.others a.state.pc n ∙ a.held.there; within = a.held.within } in

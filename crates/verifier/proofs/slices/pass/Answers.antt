@@ -1,7 +1,6 @@
-use Rattle.std.proofs.Common.{◌≡◌, ℕ, ◌<◌, List, arith, refl, length, get_or, slice_get, ◌∙◌, ap, inl, inr, Some}
-use Rattle.std.proofs.lemmas.Option.{slice_get_read}
+use Rattle.std.proofs.Common.{arith, refl, ◌∙◌, inl, inr}
 use Rattle.fixed.specs.Fractions.{bits_of}
-use Rattle.kernel_code.specs.declared.instructions.Instr.{Instr}
+use Rattle.kernel_code.proofs.Runs.{instruction_at}
 use Rattle.std.proofs.lemmas.Result.{IfErr-weaker, err_from_is_err_and}
 use Rattle.verifier.specs.Places.{Stops, StopsAt}
 use Rattle.verifier.proofs.Following.{on_ok, refused_memory, refused_weaker}
@@ -9,10 +8,6 @@ use Rattle.verifier.proofs.Standing.{stands_branch, stands_jump, stands_past, st
 use Rattle.verifier.proofs.Passing.{jump_within, branch_within, comes_on, passes_jump, passes_branch, passes_plain, joins_loses, branches_loses}
 use Rattle.verifier.proofs.Attaining.{past_attained, is_plain, at_hand, plain_meets, plain_attained, jump_meets, jump_attained, branch_meets, branch_attained}
 use Rattle.verifier.proofs.slices.pass.Goals as goal
-
--- the instruction at the place in hand
-here : (code : List Instr) (at : ℕ) (i j : Instr) → at < length code → i ≡ get_or code at i → i ≡ j → slice_get code at ≡ Some j
-here code at i j within is same = slice_get_read code (length code) at i refl within is ∙ ap Some same
 
 -- ---- no run comes here
 
@@ -25,57 +20,57 @@ returns-in_default-clause-stands g c = stands_past _ _ _ _ _ _ c.requires.stands
 -- ---- a jump
 
 pub returns-in-Jump-clause-stands : goal.returns-in-Jump-clause-stands
-returns-in-Jump-clause-stands g c = stands_jump _ _ _ _ _ _ _ _ _ c.requires.stands c.in-Some.ensures (here _ _ _ _ c.requires.within c.index-code-here.is c.in-Jump.is) c.join.ensures
+returns-in-Jump-clause-stands g c = stands_jump _ _ _ _ _ _ _ _ _ c.requires.stands c.in-Some.ensures (instruction_at _ _ _ _ c.requires.within c.index-code-here.is c.in-Jump.is) c.join.ensures
 
 pub join-requires-clause-place : goal.join-requires-clause-place
 join-requires-clause-place g c =
-    omega (arith, jump_within _ _ _ c.requires.code (here _ _ _ _ c.requires.within c.index-code-here.is c.in-Jump.is), c.take.ensures.long, c.requires.long)
+    omega (arith, jump_within _ _ _ c.requires.code (instruction_at _ _ _ _ c.requires.within c.index-code-here.is c.in-Jump.is), c.take.ensures.long, c.requires.long)
 
 pub join-requires-clause-meet : goal.join-requires-clause-meet
-join-requires-clause-meet g c = jump_meets _ _ _ _ _ _ _ _ c.requires.well.1 c.requires.attained c.in-Some.ensures (here _ _ _ _ c.requires.within c.index-code-here.is c.in-Jump.is)
+join-requires-clause-meet g c = jump_meets _ _ _ _ _ _ _ _ c.requires.well.1 c.requires.attained c.in-Some.ensures (instruction_at _ _ _ _ c.requires.within c.index-code-here.is c.in-Jump.is)
 
 pub returns-in-Jump-clause-on : goal.returns-in-Jump-clause-on
 returns-in-Jump-clause-on g c =
-    comes_on _ _ _ _ _ _ _ _ _ c.requires.code c.requires.comes (here _ _ _ _ c.requires.within c.index-code-here.is c.in-Jump.is) c.in-Some.ensures
+    comes_on _ _ _ _ _ _ _ _ _ c.requires.code c.requires.comes (instruction_at _ _ _ _ c.requires.within c.index-code-here.is c.in-Jump.is) c.in-Some.ensures
     (passes_jump _ _ _ _ _ _ c.take.new.self _ c.join.ensures) (joins_loses _ _ _ _ c.join.ensures)
 
 pub returns-in-Jump-clause-attained : goal.returns-in-Jump-clause-attained
 returns-in-Jump-clause-attained g c =
-    jump_attained _ _ _ _ _ _ _ _ _ c.requires.well.1 c.requires.attained c.in-Some.ensures (here _ _ _ _ c.requires.within c.index-code-here.is c.in-Jump.is) c.join.ensures
+    jump_attained _ _ _ _ _ _ _ _ _ c.requires.well.1 c.requires.attained c.in-Some.ensures (instruction_at _ _ _ _ c.requires.within c.index-code-here.is c.in-Jump.is) c.join.ensures
 
 -- ---- a jump at 0
 
 pub branch-alloc-requires-clause-target : goal.branch-alloc-requires-clause-target
 branch-alloc-requires-clause-target g c =
-    omega (arith, branch_within _ _ _ c.requires.code (here _ _ _ _ c.requires.within c.index-code-here.is c.in-JumpIfZero.is), c.take.ensures.long, c.requires.long)
+    omega (arith, branch_within _ _ _ c.requires.code (instruction_at _ _ _ _ c.requires.within c.index-code-here.is c.in-JumpIfZero.is), c.take.ensures.long, c.requires.long)
 
 pub branch-alloc-requires-clause-operand : goal.branch-alloc-requires-clause-operand
 branch-alloc-requires-clause-operand g c =
-    at_hand _ _ _ _ _ _ _ _ c.requires.well.1 c.requires.attained c.in-Some.ensures (here _ _ _ _ c.requires.within c.index-code-here.is c.in-JumpIfZero.is)
+    at_hand _ _ _ _ _ _ _ _ c.requires.well.1 c.requires.attained c.in-Some.ensures (instruction_at _ _ _ _ c.requires.within c.index-code-here.is c.in-JumpIfZero.is)
 
 pub branch-alloc-requires-clause-meet_next : goal.branch-alloc-requires-clause-meet_next
 branch-alloc-requires-clause-meet_next g c =
-    branch_meets _ _ _ _ _ _ _ _ _ c.requires.well.1 c.requires.attained c.in-Some.ensures (here _ _ _ _ c.requires.within c.index-code-here.is c.in-JumpIfZero.is) (inl refl)
+    branch_meets _ _ _ _ _ _ _ _ _ c.requires.well.1 c.requires.attained c.in-Some.ensures (instruction_at _ _ _ _ c.requires.within c.index-code-here.is c.in-JumpIfZero.is) (inl refl)
 
 pub branch-alloc-requires-clause-meet_target : goal.branch-alloc-requires-clause-meet_target
 branch-alloc-requires-clause-meet_target g c =
-    branch_meets _ _ _ _ _ _ _ _ _ c.requires.well.1 c.requires.attained c.in-Some.ensures (here _ _ _ _ c.requires.within c.index-code-here.is c.in-JumpIfZero.is) (inr refl)
+    branch_meets _ _ _ _ _ _ _ _ _ c.requires.well.1 c.requires.attained c.in-Some.ensures (instruction_at _ _ _ _ c.requires.within c.index-code-here.is c.in-JumpIfZero.is) (inr refl)
 
 pub returns-in-JumpIfZero-clause-on : goal.returns-in-JumpIfZero-clause-on
 returns-in-JumpIfZero-clause-on g c =
     on_ok c.branch-alloc.result _ _ c.branch-alloc.ensures.branches (λ b.
-    comes_on _ _ _ _ _ _ _ _ _ c.requires.code c.requires.comes (here _ _ _ _ c.requires.within c.index-code-here.is c.in-JumpIfZero.is) c.in-Some.ensures
+    comes_on _ _ _ _ _ _ _ _ _ c.requires.code c.requires.comes (instruction_at _ _ _ _ c.requires.within c.index-code-here.is c.in-JumpIfZero.is) c.in-Some.ensures
     (passes_branch _ _ _ _ _ _ c.take.new.self _ b) (branches_loses _ _ _ _ _ b))
 
 pub returns-in-JumpIfZero-clause-attained : goal.returns-in-JumpIfZero-clause-attained
 returns-in-JumpIfZero-clause-attained g c =
     on_ok c.branch-alloc.result _ _ c.branch-alloc.ensures.branches
-    (branch_attained _ _ _ _ _ _ _ _ _ c.requires.well.1 c.requires.attained c.in-Some.ensures (here _ _ _ _ c.requires.within c.index-code-here.is c.in-JumpIfZero.is))
+    (branch_attained _ _ _ _ _ _ _ _ _ c.requires.well.1 c.requires.attained c.in-Some.ensures (instruction_at _ _ _ _ c.requires.within c.index-code-here.is c.in-JumpIfZero.is))
 
 pub returns-in-JumpIfZero-clause-stands : goal.returns-in-JumpIfZero-clause-stands
 returns-in-JumpIfZero-clause-stands g c =
     on_ok c.branch-alloc.result _ _ c.branch-alloc.ensures.branches
-    (stands_branch _ _ _ _ _ _ _ _ _ c.requires.stands c.in-Some.ensures (here _ _ _ _ c.requires.within c.index-code-here.is c.in-JumpIfZero.is))
+    (stands_branch _ _ _ _ _ _ _ _ _ c.requires.stands c.in-Some.ensures (instruction_at _ _ _ _ c.requires.within c.index-code-here.is c.in-JumpIfZero.is))
 
 pub returns-in-JumpIfZero-clause-stops : goal.returns-in-JumpIfZero-clause-stops
 returns-in-JumpIfZero-clause-stops g c = IfErr-weaker c.branch-alloc.result _ _ (λ e same. refused_memory _ e same) c.branch-alloc.ensures.memory
@@ -87,20 +82,20 @@ returns-in_err-follow-in_default-instr-clause-stops g c =
     let p = err_from_is_err_and c.from_residual.result c.from_residual.ensures.1 in
     rw (p.1, p.2)
     (refused_weaker (Stops (bits_of c.args.frac) c.index-code-here.result c.in-Some.frame) (StopsAt (bits_of c.args.frac) c.args.code.now c.args.inputs.now c.args.here) c.in_err-follow-in_default-instr.field-0.0
-    (λ f x. stops_at _ _ _ _ _ f _ _ _ c.requires.stands c.in-Some.ensures (here _ _ _ _ c.requires.within c.index-code-here.is refl) x)
+    (λ f x. stops_at _ _ _ _ _ f _ _ _ c.requires.stands c.in-Some.ensures (instruction_at _ _ _ _ c.requires.within c.index-code-here.is refl) x)
     c.in_err-follow-in_default-instr.ensures.stops)
 
 pub follow-requires-clause-at_hand : goal.follow-requires-clause-at_hand
-follow-requires-clause-at_hand g c = at_hand _ _ _ _ _ _ _ _ c.requires.well.1 c.requires.attained c.in-Some.ensures (here _ _ _ _ c.requires.within c.index-code-here.is refl)
+follow-requires-clause-at_hand g c = at_hand _ _ _ _ _ _ _ _ c.requires.well.1 c.requires.attained c.in-Some.ensures (instruction_at _ _ _ _ c.requires.within c.index-code-here.is refl)
 
 pub join-requires-in_default-instr-clause-meet : goal.join-requires-in_default-instr-clause-meet
 join-requires-in_default-instr-clause-meet g c =
-    plain_meets _ _ _ _ _ _ _ _ _ _ c.requires.well.1 c.requires.attained c.in-Some.ensures (here _ _ _ _ c.requires.within c.index-code-here.is refl)
+    plain_meets _ _ _ _ _ _ _ _ _ _ c.requires.well.1 c.requires.attained c.in-Some.ensures (instruction_at _ _ _ _ c.requires.within c.index-code-here.is refl)
     (is_plain _ c.in_default-instr.not-JumpIfZero c.in_default-instr.not-Jump) c.in_ok-follow-in_default-instr.ensures.follows
 
 pub returns-in_ok-follow-in_default-instr : goal.returns-in_ok-follow-in_default-instr
 returns-in_ok-follow-in_default-instr g c =
-    let there = here _ _ _ _ c.requires.within c.index-code-here.is refl in
+    let there = instruction_at _ _ _ _ c.requires.within c.index-code-here.is refl in
     let plain = is_plain c.index-code-here.result c.in_default-instr.not-JumpIfZero c.in_default-instr.not-Jump in
     let follows = c.in_ok-follow-in_default-instr.ensures.follows in
     let j = c.join-in_default-instr.ensures in
