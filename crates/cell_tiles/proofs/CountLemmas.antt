@@ -38,6 +38,10 @@ module _ {A : Type 0} where
       first true = sum_by-cons f x (filter p xs)
       first false = omega arith
 
+-- of a list of one number, by what the test says of it
+pub one_filtered : (p : ℕ → Bool) (n : ℕ) (b : Bool) → p n ≡ b → filter p (n ∷ []) ≡ cond b (n ∷ []) []
+one_filtered p n b e = rw e refl
+
 -- the sum over images is the sum of the function of the image
 pub sum_map : {A B : Type 0} (f : B → ℕ) (g : A → B) (xs : List A) → sum_by f (map g xs) ≡ sum_by (λ x. f (g x)) xs
 sum_map f g [] = refl

@@ -17,6 +17,10 @@ use Rattle.cell_tiles.proofs.PairLemmas.{not_both, one_way, times_among, times_b
 
 -- ---- how often an atom stands in a cell
 
+counts_nothing : (b : Bool) (x : ℕ) → x ≡ 0 → cond b x 0 ≡ 0
+counts_nothing true x e = e
+counts_nothing false x e = refl
+
 -- 1 where the atom a of n is in the cell c, which has the number k
 abbrev inside : ℕ → ℕ → ℕ → ℕ → ℕ
 inside n a k c = cond (ltb a n) (same k c) 0
@@ -25,13 +29,9 @@ count_members : (bits : CellBits) (frame : List Place3) (n a c : ℕ) → count 
 count_members bits frame n a c =
     let p : ℕ → Bool = λ b. eqb (cell_number bits (places_of frame b)) c in
     sum_filter (same a) p (numbers_below n)
-    ∙ (sum_below_one (λ b. cond (p b) (same a b) 0) a n (λ b ne. let s = same_else a b (λ e. ne (sym e)) in none (p b) (same a b) s)
+    ∙ (sum_below_one (λ b. cond (p b) (same a b) 0) a n (λ b ne. let s = same_else a b (λ e. ne (sym e)) in counts_nothing (p b) (same a b) s)
     ∙ ap (λ m. cond (ltb a n) m 0) (let s = same_here a a refl in one (p a) (same a a) s))
   where
-    none : (b : Bool) (x : ℕ) → x ≡ 0 → cond b x 0 ≡ 0
-    none true x e = e
-    none false x e = refl
-
     one : (b : Bool) (x : ℕ) → x ≡ 1 → cond b x 0 ≡ cond b 1 0
     one true x e = e
     one false x e = refl
@@ -128,13 +128,9 @@ no_tiles bits f h =
     ∙ (sum_below_same (λ d. sum_by (λ c. cond (are_near bits c d) (f (c, d)) 0) (numbers_below (suc d))) (λ _. 0) (cells_of bits) row
     ∙ sum_nothing (λ _. 0) (numbers_below (cells_of bits)) (λ _. refl))
   where
-    nothing : (b : Bool) (x : ℕ) → x ≡ 0 → cond b x 0 ≡ 0
-    nothing true x e = e
-    nothing false x e = refl
-
     row : (d : ℕ) → d < cells_of bits → sum_by (λ c. cond (are_near bits c d) (f (c, d)) 0) (numbers_below (suc d)) ≡ 0
     row d lt =
-        sum_below_same (λ c. cond (are_near bits c d) (f (c, d)) 0) (λ _. 0) (suc d) (λ c le. nothing (are_near bits c d) (f (c, d)) (h c d (omega arith) lt))
+        sum_below_same (λ c. cond (are_near bits c d) (f (c, d)) 0) (λ _. 0) (suc d) (λ c le. counts_nothing (are_near bits c d) (f (c, d)) (h c d (omega arith) lt))
         ∙ sum_nothing (λ _. 0) (numbers_below (suc d)) (λ _. refl)
 
 -- the sum of a function that is 1 on the tile of the cells p and q, p the lower, and 0 on others

@@ -1,5 +1,5 @@
 -- The atoms of each cell, as one atom after another is put into its cell.
-use Rattle.std.proofs.Common.{◌≡◌, ℕ, ◌+◌, ◌<◌, ◌≤◌, ◌≢◌, Bool, true, false, cond, eqb, List, [], ◌∷◌, ◌++◌, length, filter, get_or, set, replicate, refl, sym, ap, ◌∙◌, ⊎_elim, arith, append-nil}
+use Rattle.std.proofs.Common.{◌≡◌, ℕ, ◌+◌, ◌<◌, ◌≤◌, ◌≢◌, Bool, true, false, cond, eqb, List, [], ◌∷◌, ◌++◌, length, filter, get_or, set, replicate, sym, ap, ◌∙◌, ⊎_elim, arith, append-nil}
 use Rattle.std.specs.List.{All}
 use Rattle.std.proofs.lemmas.Bool.{cases_eq, eq-eqb, ne_eqb}
 use Rattle.std.proofs.lemmas.List.{ext_get_or, get_or-map, get_or-replicate, get_or-set_other, get_or-set_same, length-map, length-replicate, length-set}
@@ -9,7 +9,7 @@ use Rattle.ring_box.specs.declared.vectors.CellBits.{CellBits}
 use Rattle.ring_box.specs.declared.vectors.Place3.{Place3}
 use Rattle.cell_tiles.specs.Cells.{cell_number, cells_of, first_members, members_among, members_of, numbers_below, places_of}
 use Rattle.cell_tiles.specs.Tiles.{members_at}
-use Rattle.cell_tiles.proofs.CountLemmas.{below_more, below_zero, get_below, length_below}
+use Rattle.cell_tiles.proofs.CountLemmas.{below_more, below_zero, get_below, length_below, one_filtered}
 
 -- there is a list of atoms for each cell
 pub length_members : (bits : CellBits) (frame : List Place3) (n : ℕ) → length (first_members bits frame n) ≡ cells_of bits
@@ -24,9 +24,6 @@ members_here bits frame n c h =
 
 among_none : (bits : CellBits) (frame : List Place3) (c : ℕ) → members_among bits frame 0 c ≡ []
 among_none bits frame c = ap (filter (λ a. eqb (cell_number bits (places_of frame a)) c)) below_zero
-
-one_filtered : (p : ℕ → Bool) (n : ℕ) (b : Bool) → p n ≡ b → filter p (n ∷ []) ≡ cond b (n ∷ []) []
-one_filtered p n b e = rw e refl
 
 among_more : (bits : CellBits) (frame : List Place3) (n c : ℕ) (b : Bool) → eqb (cell_number bits (places_of frame n)) c ≡ b →
     members_among bits frame (n + 1) c ≡ members_among bits frame n c ++ cond b (n ∷ []) []

@@ -73,7 +73,7 @@ module _ (acts : ℕ × ℕ → Bool) where
       ∙ (sym (filter-append acts (take j ps) (get_or ps j (0, 0) ∷ [])) ∙ ap (filter acts) (sym (take_more ps j (0, 0) lt))))))))
 
   -- some of a row are come past
-  pub come_past : (ps near new row rest : List (ℕ × ℕ)) (k next seen : ℕ) → drop next ps ≡ row ++ rest → seen ≤ length row → filter acts new ≡ filter acts near ++ filter acts (take seen row)
+  come_past : (ps near new row rest : List (ℕ × ℕ)) (k next seen : ℕ) → drop next ps ≡ row ++ rest → seen ≤ length row → filter acts new ≡ filter acts near ++ filter acts (take seen row)
       → filter acts (drop k ps) ≡ filter acts near ++ filter acts (drop next ps) → filter acts (drop k ps) ≡ filter acts new ++ filter acts (drop (next + seen) ps)
   come_past ps near new row rest k next seen here within listed before =
       let behind : drop (next + seen) ps ≡ drop seen row ++ rest = sym (drop-drop seen next ps) ∙ (ap (drop seen) here ∙ drop-append-le seen row rest within) in
@@ -91,8 +91,17 @@ all_listed P pair xs x count room all one =
 -- ---- rows
 
 -- a row is no longer than what is left
-pub row_fits : (ps row rest : List (ℕ × ℕ)) (next : ℕ) → next ≤ length ps → drop next ps ≡ row ++ rest → next + length row ≤ length ps
+row_fits : (ps row rest : List (ℕ × ℕ)) (next : ℕ) → next ≤ length ps → drop next ps ≡ row ++ rest → next + length row ≤ length ps
 row_fits ps row rest next h here = omega (arith, length-drop next ps, ap length here, length-append row rest)
+
+-- so many pairs of an atom with others are of those that are left, and are come past
+pub row_seen : (acts : ℕ × ℕ → Bool) (ps near new rest : List (ℕ × ℕ)) (atom : ℕ) (others : List ℕ) (k next seen : ℕ) → next ≤ length ps → drop next ps ≡ pairs_with atom others ++ rest → seen ≤ length others
+    → filter acts new ≡ filter acts near ++ filter acts (take seen (pairs_with atom others)) → filter acts (drop k ps) ≡ filter acts near ++ filter acts (drop next ps)
+    → (next + seen ≤ length ps) × (filter acts (drop k ps) ≡ filter acts new ++ filter acts (drop (next + seen) ps))
+row_seen acts ps near new rest atom others k next seen within here some listed before =
+    let many = length-map others (pair_of atom) in
+    (omega (arith, row_fits ps (pairs_with atom others) rest next within here, many, some),
+    come_past acts ps near new (pairs_with atom others) rest k next seen here (omega (arith, many, some)) listed before)
 
 -- behind a row the rest begins
 pub row_passed : (ps row rest : List (ℕ × ℕ)) (next seen : ℕ) → drop next ps ≡ row ++ rest → seen ≡ length row → rest ≡ drop (next + seen) ps
@@ -123,6 +132,10 @@ pub places_at : (f : ℕ → Place3) (members : List (List ℕ)) (c : ℕ) → g
 places_at f [] c = refl
 places_at f (m ∷ members) zero = refl
 places_at f (m ∷ members) (suc c) = places_at f members c
+
+-- the places that are kept of a cell are those of its atoms
+pub cell_places : (f : ℕ → Place3) (members : List (List ℕ)) (places : List (List Place3)) (c : ℕ) (kept : List Place3) → kept ≡ get_or places c [] → places ≡ map (map f) members → kept ≡ map f (members_at members c)
+cell_places f members places c kept is are = is ∙ (ap (λ ps. get_or ps c []) are ∙ places_at f members c)
 
 take_map : (f : ℕ → Place3) (n : ℕ) (xs : List ℕ) → take n (map f xs) ≡ map f (take n xs)
 take_map f zero xs = refl

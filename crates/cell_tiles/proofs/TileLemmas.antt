@@ -10,7 +10,7 @@ use Rattle.std.specs.Option.{option_map}
 use Rattle.ring_box.specs.declared.vectors.CellBits.{CellBits}
 use Rattle.cell_tiles.specs.Cells.{are_near, cells_of, numbers_below}
 use Rattle.cell_tiles.specs.Tiles.{tiles_of, tiles_with}
-use Rattle.cell_tiles.proofs.CountLemmas.{below_more, below_suc, below_zero}
+use Rattle.cell_tiles.proofs.CountLemmas.{below_more, below_suc, below_zero, one_filtered}
 
 -- the tiles of the cell d with the cells below n, and those of the cells below n with the cells up to them
 abbrev pub with_below : CellBits → ℕ → ℕ → List (ℕ × ℕ)
@@ -27,9 +27,6 @@ pub with_none : (bits : CellBits) (d : ℕ) (ts : List (ℕ × ℕ)) → ts ≡ 
 with_none bits d ts =
     let e : with_below bits d 0 ≡ [] = ap (λ xs. map (λ c. (c, d)) (filter (λ c. are_near bits c d) xs)) below_zero in
     sym (ap (λ us. ts ++ us) e ∙ append-nil ts)
-
-one_filtered : (p : ℕ → Bool) (n : ℕ) (b : Bool) → p n ≡ b → filter p (n ∷ []) ≡ cond b (n ∷ []) []
-one_filtered p n b e = rw e refl
 
 with_more : (bits : CellBits) (d n : ℕ) (b : Bool) → are_near bits n d ≡ b → with_below bits d (n + 1) ≡ with_below bits d n ++ map (λ c. (c, d)) (cond b (n ∷ []) [])
 with_more bits d n b e =

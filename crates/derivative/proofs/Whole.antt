@@ -1,12 +1,10 @@
 -- The program that the code wrote by its table is the one of the definitions in `specs`.
-use Rattle.std.proofs.Common.{◌≡◌, ℕ, Bool, true, List, [], ◌∷◌, ◌++◌, map, length, get_or, refl, sym, ap, ◌∙◌, subst}
-use Rattle.std.specs.Bool.{IsTrue}
+use Rattle.std.proofs.Common.{◌≡◌, ℕ, Bool, true, List, [], ◌∷◌, ◌++◌, map, length, get_or, refl, sym, ap, ◌∙◌}
 use Rattle.std.proofs.lemmas.List.{length-map}
 use Rattle.energy_program.specs.declared.trees.Expr.{Expr}
-use Rattle.energy_program.specs.Tree.{Tree, Number, Input, Definition, Negated, Binary, Applied, Power, Select, tree_of, is_scoped, are_scoped}
+use Rattle.energy_program.specs.Tree.{Tree, Number, Input, Definition, Negated, Binary, Applied, Power, Select, tree_of}
 use Rattle.derivative.specs.Written.{is_free_given, moved, slope_tree, free_among, all_slopes, IsFreeTable}
 use Rattle.derivative.specs.Derive.{with_all}
-use Rattle.derivative.proofs.Uses.{body_scoped, definitions_scoped}
 
 module _ (free known : ℕ → Bool) (same : (j : ℕ) → free j ≡ known j) where
   same_free : (e : Tree) → is_free_given free e ≡ is_free_given known e

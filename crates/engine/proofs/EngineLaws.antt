@@ -1,9 +1,8 @@
 -- Engines: what their parts make them, and their steps as runs.
-use Rattle.std.proofs.Common.{◌≡◌, ℕ, ◌-◌, ◌*◌, ◌^◌, ◌<◌, ◌≤◌, Bool, true, false, List, length, get_or, ℤ, pos, negsuc, ◌+ℤ◌, ◌-ℤ◌, ◌≤ℤ◌, Some, None, Ok, Err, arith, refl, ap, sym, ◌∙◌, zero-add}
-use Rattle.std.specs.Prelude.{nat_lt, is_none, unsigned_abs, ◌&&◌, if◌then◌else◌}
+use Rattle.std.proofs.Common.{◌≡◌, ℕ, ◌-◌, ◌*◌, ◌^◌, ◌≤◌, Bool, true, false, List, ℤ, pos, negsuc, ◌+ℤ◌, ◌-ℤ◌, ◌≤ℤ◌, Some, None, Ok, Err, arith, refl, ap, sym, ◌∙◌}
+use Rattle.std.specs.Prelude.{nat_lt, is_none, unsigned_abs, ◌&&◌}
 use Rattle.std.proofs.lemmas.Int.{ints}
 use Rattle.std.proofs.lemmas.Bool.{and_parts, leb-true, lt-ltb, ltb-false, ltb-true}
-use Rattle.std.proofs.lemmas.List.{ext_get_or, get_or-map}
 use Rattle.fixed.specs.Arithmetic.{in_range}
 use Rattle.fixed.specs.Fractions.{bits_of}
 use Rattle.fixed.specs.declared.frac.Frac.{Frac}
@@ -18,18 +17,18 @@ use Rattle.job.specs.Values.{JobValue}
 use Rattle.kernel_code.specs.declared.instructions.Instr.{Instr}
 use Rattle.state.specs.StateReading.{state_of}
 use Rattle.state.specs.declared.faults.StateFault.{StateFault}
-use Rattle.state.specs.StateText.{AtomView, StateView}
+use Rattle.state.specs.StateText.{StateView}
 use Rattle.integrator.proofs.ReturnLaws.{start_from, system_parts}
 use Rattle.integrator.proofs.StartLaws.{started}
-use Rattle.integrator.proofs.NumberLaws.{length-numbers, at_number}
+use Rattle.integrator.proofs.CounterLaws.{counter_fits, counter_stays}
+use Rattle.integrator.proofs.StateLaws.{at_home}
 use Rattle.integrator.specs.Energies.{Energy, energy_of, job_tree}
 use Rattle.engine.specs.Engines.{AreSafe, AreStopped, EngineView, HasNoEngine, HasNoEngineOfTexts, IsEngineOfTexts, Stopped, Went, engine_dynamics}
-use Rattle.ring_box.specs.Places.{nowhere}
-use Rattle.integrator.specs.Frames.{Frame, frames, places_of, steps_in}
+use Rattle.integrator.specs.Frames.{Frame, frames, steps_in}
 use Rattle.integrator.specs.Runs.{IsAfter}
 use Rattle.integrator.specs.Starts.{has_room, holds_two, plain, start_of_run, start_with, step_range, system_of, table_of}
 use Rattle.integrator.specs.StartViews.{system_refusal}
-use Rattle.integrator.specs.States.{counter_after, counter_at, current_frame, frames_of, moved_state, nobody, placed, placed_atoms, previous_frame}
+use Rattle.integrator.specs.States.{counter_after, counter_at, frames_of, moved_state}
 use Rattle.engine.specs.Courses.{IsUnstarted}
 use Rattle.engine.specs.Verdicts.{IsJudged, IsRefused, IsSafeFor, PassesRange}
 use Rattle.integrator.specs.declared.direction.Direction.{Direction}
@@ -46,28 +45,10 @@ use Rattle.engine.specs.declared.faults.OpenFault.TheVariants as opened
 use Rattle.integrator.specs.declared.faults.StepFault.{StepFault}
 use Rattle.integrator.specs.declared.faults.StepFault.TheVariants as step
 
-no_fault : ◌≡◌ {A = Bool} false true → ⊥
-no_fault e = cc
-
 -- ---- no step
 
--- atoms at their own places are themselves
-at_home : (atoms : List AtomView) → placed_atoms atoms (frames (previous_frame atoms) (current_frame atoms)) ≡ atoms
-at_home atoms =
-    let home = frames (previous_frame atoms) (current_frame atoms) in
-    let g = λ (a : ℕ). placed (get_or atoms a nobody) (places_of home.previous a) (places_of home.current a) in
-    ext_get_or nobody (placed_atoms atoms home) atoms (length-numbers g 0 (length atoms)) (λ k h.
-    let l : k < length atoms = omega (arith, length-numbers g 0 (length atoms)) in
-    at_number g nobody 0 (length atoms) k l ∙ ap g (zero-add k)
-    ∙ ap (λ p. placed (get_or atoms k nobody) p (places_of home.current k)) (get_or-map (λ (a : AtomView). a.previous) atoms k nobody nowhere l)
-    ∙ ap (λ p. placed (get_or atoms k nobody) (get_or atoms k nobody).previous p) (get_or-map (λ (a : AtomView). a.current) atoms k nobody nowhere l))
-
-no_way : (w : Direction) (z : ℤ) → counter_at w z 0 ≡ z
-no_way Forward z = omega (arith, ints)
-no_way Back z = omega (arith, ints)
-
 stays : (w : Direction) (z : ℤ) → in_range z ≡ true → counter_after w z 0 ≡ Some z
-stays w z h = rw (no_way w z, h) refl
+stays w z h = rw (counter_stays w z, h) refl
 
 -- after no step an engine is as it was
 pub went_nowhere : (w : Direction) (e : EngineView) → in_range e.state.step ≡ true → Went w 0 e e
@@ -108,14 +89,10 @@ fits_between : (w : Direction) (z : ℤ) (k n : ℕ) → in_range z ≡ true →
 fits_between Forward z k n h f l = between z (z +ℤ pos k) (z +ℤ pos n) h f (omega (arith, ints)) (omega (arith, ints))
 fits_between Back z k n h f l = between (z -ℤ pos n) (z -ℤ pos k) z f h (omega (arith, ints)) (omega (arith, ints))
 
-some_fits : (b : Bool) (z : ℤ) → is_none (if b then Some z else None) ≡ false → b ≡ true
-some_fits true z h = refl
-some_fits false z h = absurd (no_fault (sym h))
-
 -- where the counter fits after all steps it does after some of them
 pub counter_reached : (w : Direction) (z : ℤ) (k n : ℕ) → in_range z ≡ true → k ≤ n → is_none (counter_after w z n) ≡ false → counter_after w z k ≡ Some (counter_at w z k)
 counter_reached w z k n h l s =
-    let fits = fits_between w z k n h (some_fits (in_range (counter_at w z n)) (counter_at w z n) s) l in
+    let fits = fits_between w z k n h (counter_fits w z n s) l in
     rw fits refl
 
 -- ---- runs of texts

@@ -1,8 +1,8 @@
 -- The headline's page tells runs: what a run writes is related to its texts by the page, nothing else is, and the page leads back.
-use Rattle.std.proofs.Common.{◌≡◌, ℕ, Bool, true, false, List, [], ◌∷◌, length, Option, Some, None, ℤ, arith, refl, ap, sym, subst, ◌∙◌}
-use Rattle.std.specs.Prelude.{map, if◌then◌else◌}
-use Rattle.std.proofs.lemmas.Int.{ints}
+use Rattle.std.proofs.Common.{◌≡◌, ℕ, true, List, [], ◌∷◌, length, Some, ℤ, refl, ap, sym, subst, ◌∙◌}
+use Rattle.std.specs.Prelude.{map}
 use Rattle.std.proofs.lemmas.List.{length-map}
+use Rattle.std.proofs.lemmas.Option.{same_Some}
 use Rattle.fixed.specs.Arithmetic.{in_range}
 use Rattle.job.specs.JobText.{HasNamesOnce, limits}
 use Rattle.job.specs.Values.{JobValue}
@@ -13,32 +13,18 @@ use Rattle.integrator.specs.Energies.{job_tree}
 use Rattle.integrator.specs.Frames.{Dynamics, Frames, opposite, steps_in}
 use Rattle.integrator.specs.Runs.{IsAfter}
 use Rattle.integrator.specs.Starts.{as_written, plain}
-use Rattle.integrator.specs.States.{counter_after, counter_at, frames_of, moved_state}
+use Rattle.integrator.specs.States.{counter_at, frames_of, moved_state}
 use Rattle.integrator.specs.declared.direction.Direction.{Direction}
-use Rattle.integrator.specs.declared.direction.Direction.TheVariants.{Back, Forward}
-use Rattle.integrator.proofs.Constructors.{none_is_no_some, ok_same, some_same}
+use Rattle.integrator.proofs.Constructors.{ok_same}
+use Rattle.integrator.proofs.CounterLaws.{counter_back, counter_is}
+use Rattle.integrator.proofs.StateLaws.{frames_moved}
 use Rattle.integrator.proofs.ReturnLaws.{Parts, frames_are, moved_is, parts_of}
 use Rattle.integrator.proofs.MotionLaws.{returned}
 use Rattle.engine.specs.Engines.{AreReadOnce, SaysOnly}
 use Rattle.engine.specs.Headline.{AreTypes, HasRoom, IsJobEnergy, IsLevesqueVerletRun, Leads, box_of, who}
 use Rattle.engine.proofs.EngineLaws.{job_tree_is}
 use Rattle.engine.proofs.HeadlineSteps.{leads, led_to}
-use Rattle.engine.proofs.HeadlineTexts.{alike_is, frames_moved, moved_again, only_types, room_is, types_are, who_placed}
-
--- ---- counters
-
-some_counter : (fits : Bool) (z k : ℤ) → in_range z ≡ fits → ◌≡◌ {A = Option ℤ} (if fits then Some z else None) (Some k) → (k ≡ z) × (in_range k ≡ true)
-some_counter true z k h e = let same : z ≡ k = some_same z k e in (sym same, rw (← same) h)
-some_counter false z k h e = absurd (none_is_no_some k e)
-
--- a counter that was reached is the start's, that many steps further
-pub counter_is : (w : Direction) (step k : ℤ) (n : ℕ) → counter_after w step n ≡ Some k → (k ≡ counter_at w step n) × (in_range k ≡ true)
-counter_is w step k n e = some_counter (in_range (counter_at w step n)) (counter_at w step n) k refl e
-
--- and the start's is that many steps back from it
-pub counter_back : (w : Direction) (step k : ℤ) (n : ℕ) → k ≡ counter_at w step n → step ≡ counter_at (opposite w) k n
-counter_back Forward step k n e = rw e (omega (arith, ints))
-counter_back Back step k n e = rw e (omega (arith, ints))
+use Rattle.engine.proofs.HeadlineTexts.{alike_is, moved_again, only_types, room_is, types_are, who_placed}
 
 -- ---- a state that texts lead to
 
@@ -111,7 +97,7 @@ module _ (job state : List ℕ) (w : Direction) (n : ℕ) (after : StateView) (o
       (subst (λ types. Leads w r.j r.tree types n s r.after) same_types
       (subst (λ b. Leads w r.j r.tree r.types n b r.after) same_state r.leads))) in
       let l = led_to w p.j p.energy.tree p.types n s r.after led in
-      let frames' : frames_of r.after ≡ f = some_same (frames_of r.after) f (sym l.0 ∙ reached) in
+      let frames' : frames_of r.after ≡ f = same_Some (frames_of r.after) f (sym l.0 ∙ reached) in
       let counter : r.after.step ≡ p.counter = l.1 ∙ sym counted.0 in
       let same : r.after ≡ record s { step = r.after.step; atoms = r.after.atoms } = subst (λ (b : StateView). r.after ≡ record b { step = r.after.step; atoms = r.after.atoms }) same_state r.same in
       let kept : map who r.after.atoms ≡ map who s.atoms = subst (λ (b : StateView). map who r.after.atoms ≡ map who b.atoms) same_state r.kept in

@@ -6,6 +6,7 @@ use Rattle.std.specs.List.{All, list_all}
 use Rattle.std.proofs.lemmas.Bool.{and_parts, eqb-true}
 use Rattle.std.proofs.lemmas.List.{ext_get_or}
 use Rattle.std.proofs.lemmas.List.Elements.{All-cons, All-head, All-nil, All-tail, All-weaker}
+use Rattle.std.proofs.lemmas.Option.{same_Some}
 use Rattle.fixed.specs.Fractions.{bits_of}
 use Rattle.fixed.specs.Roots.{root}
 use Rattle.energy_program.specs.Tree.{Tree}
@@ -24,7 +25,7 @@ use Rattle.integrator.specs.Starts.{as_written, global_values, no_type, pair_inp
 use Rattle.integrator.specs.States.{counter_at, frames_of}
 use Rattle.integrator.specs.declared.direction.Direction.{Direction}
 use Rattle.integrator.specs.declared.direction.Direction.TheVariants.{Back, Forward}
-use Rattle.integrator.proofs.Constructors.{none_is_no_some, some_same}
+use Rattle.integrator.proofs.Constructors.{none_is_no_some}
 use Rattle.integrator.proofs.NumberLaws.{at_number, length-numbers}
 use Rattle.integrator.proofs.MotionLaws.{back_from_forward, exchanged_steps}
 use Rattle.engine.specs.Headline.{Follows, IsPairForce, Lead, Leads, far, inputs, near, next_of, together}
@@ -72,7 +73,7 @@ module _ (force : ℕ × ℕ → Option (Force ℤ)) where
   forced : (n : ℕ) (b : Bool) (move : List (Force ℤ) → Frame) (m : Frame) → list_all (λ p. is_some (force p)) (pairs_of n) ≡ b
       → option_map move (if b then Some (map (sum_of_shares (force_or_none force) (pairs_of n)) (numbers_from 0 n)) else None) ≡ Some m
       → (list_all (λ p. is_some (force p)) (pairs_of n) ≡ true) × (move (map (sum_of_shares (force_or_none force) (pairs_of n)) (numbers_from 0 n)) ≡ m)
-  forced n true move m h e = (h, some_same (move (map (sum_of_shares (force_or_none force) (pairs_of n)) (numbers_from 0 n))) m e)
+  forced n true move m h e = (h, same_Some (move (map (sum_of_shares (force_or_none force) (pairs_of n)) (numbers_from 0 n))) m e)
   forced n false move m h e = absurd (none_is_no_some m e)
 
   module _ (given : ℕ × ℕ → Force ℤ) where
@@ -116,12 +117,12 @@ module _ (j : JobValue) (tree : Tree) (sides types : List ℕ) where
 
   force_within : (p : ℕ × ℕ) (x y : Place3) (v : Force ℤ) (r : ℤ) (b : Bool) (o : Option ℤ) → reached x y ≡ Some r → (square_of motion.ring x y == 0) ≡ b → motion.slope p r ≡ o
       → (if b then Some no_force else option_map (λ g. force_along_of motion.ring (neg_ℤ g) x y) o) ≡ Some v → IsPairForce j tree sides types p x y v
-  force_within p x y v r true o h z s e = together (eqb-true (square_of motion.ring x y) 0 z) (sym (some_same no_force v e))
+  force_within p x y v r true o h z s e = together (eqb-true (square_of motion.ring x y) 0 z) (sym (same_Some no_force v e))
   force_within p x y v r false None h z s e = absurd (none_is_no_some v e)
-  force_within p x y v r false (Some g) h z s e = near r g h (sym (slope_is p r) ∙ s) (sym (some_same (force_along_of motion.ring (neg_ℤ g) x y) v e))
+  force_within p x y v r false (Some g) h z s e = near r g h (sym (slope_is p r) ∙ s) (sym (same_Some (force_along_of motion.ring (neg_ℤ g) x y) v e))
 
   is_force : (p : ℕ × ℕ) (x y : Place3) (v : Force ℤ) (o : Option ℤ) → reached x y ≡ o → force_at motion.ring (motion.slope p) o x y ≡ Some v → IsPairForce j tree sides types p x y v
-  is_force p x y v None h e = far h (sym (some_same no_force v e))
+  is_force p x y v None h e = far h (sym (same_Some no_force v e))
   is_force p x y v (Some r) h e = force_within p x y v r (square_of motion.ring x y == 0) (motion.slope p r) h refl refl e
 
   -- ---- a step
@@ -189,7 +190,7 @@ module _ (j : JobValue) (tree : Tree) (sides types : List ℕ) where
   lead : (n : ℕ) (p c q e : Frame) → steps_in Forward motion n (frames p c) ≡ Some (frames q e) → Lead j tree sides types n p c q e
   unfolding steps_in
   lead zero p c q e h =
-      let same : frames p c ≡ frames q e = some_same (frames p c) (frames q e) h in
+      let same : frames p c ≡ frames q e = same_Some (frames p c) (frames q e) h in
       record {
         frame = before p (λ k. c);
         begins = (refl, refl);
@@ -214,7 +215,7 @@ module _ (j : JobValue) (tree : Tree) (sides types : List ℕ) where
 
 exchanged_from : (q e : Frame) (o : Option Frames) → option_map exchanged o ≡ Some (frames q e) → o ≡ Some (frames e q)
 exchanged_from q e None h = absurd (none_is_no_some (frames q e) h)
-exchanged_from q e (Some f) h = ap Some (ap exchanged (some_same (exchanged f) (frames q e) h))
+exchanged_from q e (Some f) h = ap Some (ap exchanged (same_Some (exchanged f) (frames q e) h))
 
 -- steps that the model makes in a direction are those of the page
 pub leads : (w : Direction) (j : JobValue) (tree : Tree) (types : List ℕ) (n : ℕ) (s t : StateView) → steps_in w (as_written j s.sides tree types) n (frames_of s) ≡ Some (frames_of t) → t.step ≡ counter_at w s.step n

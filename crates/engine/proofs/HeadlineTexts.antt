@@ -1,6 +1,6 @@
 -- The meaning of texts by the headline's page is the one that the readers find.
-use Rattle.std.proofs.Common.{◌≡◌, ℕ, zero, suc, ◌<◌, ◌≤◌, ◌*◌, ◌^◌, Bool, true, false, ltb, List, [], ◌∷◌, ◌++◌, length, get_or, Option, Some, None, Result, Ok, Err, ℤ, arith, refl, ap, sym, subst, ◌∙◌, zero-add, append_assoc}
-use Rattle.std.specs.Prelude.{map, bytes_eq, unsigned_abs, codes, ◌&&◌, ◌||◌, if◌then◌else◌}
+use Rattle.std.proofs.Common.{◌≡◌, ℕ, zero, suc, ◌<◌, ◌≤◌, ◌*◌, ◌^◌, Bool, true, false, ltb, List, [], ◌∷◌, ◌++◌, length, get_or, Option, Some, None, Ok, ℤ, arith, refl, ap, sym, subst, ◌∙◌, append_assoc}
+use Rattle.std.specs.Prelude.{map, bytes_eq, unsigned_abs, codes, ◌&&◌, ◌||◌}
 use Rattle.std.specs.List.{All}
 use Rattle.std.proofs.lemmas.Bool.{and_parts, or_parts, eqb-true, leb-true, ltb-false, ltb-true}
 use Rattle.std.proofs.lemmas.List.{append-nil, ext_get_or, get_or-map, length-map}
@@ -13,8 +13,7 @@ use Rattle.fixed.specs.declared.frac.Frac.TheVariants.{F24, F32, F40}
 use Rattle.line_text.proofs.StepLaws.{bind_ok}
 use Rattle.derivative.specs.Derive.{slope_program}
 use Rattle.kernel_compiler.specs.Code.{compiled}
-use Rattle.energy_program.specs.Faults.{Refusal, RepeatedDefinition, ReservedName, TooLarge}
-use Rattle.energy_program.specs.Names.{are_few, first_clash, first_repeated, is_among, is_reserved, names_from, parameters_and_globals, refused_for, variables_of}
+use Rattle.energy_program.specs.Names.{first_clash, is_among, is_reserved, names_from, parameters_and_globals, variables_of}
 use Rattle.expr.specs.Energy.{program_of, trees_in}
 use Rattle.expr.specs.Uses.{in_place}
 use Rattle.expr.proofs.Parsing.{reads_texts}
@@ -26,8 +25,9 @@ use Rattle.ring_box.specs.Places.{nowhere}
 use Rattle.integrator.specs.Frames.{Frames, frames, places_of}
 use Rattle.integrator.specs.Starts.{are_alike, atom_types, has_room, holds_two, known, no_type, ring_of, type_with, unknown_type}
 use Rattle.integrator.specs.States.{frames_of, moved_state, nobody, placed, placed_atoms, previous_frame, current_frame}
-use Rattle.integrator.proofs.Constructors.{err_is_no_ok, ok_same}
-use Rattle.integrator.proofs.NumberLaws.{at_number, length-numbers}
+use Rattle.integrator.proofs.Constructors.{err_is_no_ok, ok_same, parts_same}
+use Rattle.integrator.proofs.InputLaws.{are_variables, no_more}
+use Rattle.integrator.proofs.StateLaws.{get_or-placed, length-placed, part_placed}
 use Rattle.engine.specs.Engines.{SaysOnly}
 use Rattle.engine.specs.Headline.{AreTypes, HasRoom, box_of, global_names, who}
 
@@ -41,40 +41,16 @@ all_differ [] name e k d l = absurd (omega arith)
 all_differ (n ∷ ns) name e zero d l = differs name n (or_parts (bytes_eq name n) (is_among ns name) e).0
 all_differ (n ∷ ns) name e (suc k) d l = all_differ ns name (or_parts (bytes_eq name n) (is_among ns name) e).1 k d (omega arith)
 
-clear_of : (b : Bool) (v : List ℕ) (o : Option (List ℕ)) → (if b then Some v else o) ≡ None → (b ≡ false) × (o ≡ None)
-clear_of true v o e = absurd cc
-clear_of false v o e = (refl, e)
-
 clear : (names vs : List (List ℕ)) → first_clash names vs ≡ None → AreApart names → AreApart (names ++ vs) × All (λ v. is_reserved v ≡ false) vs
 clear names [] e apart = (subst AreApart (sym (append-nil names)) apart, All-nil (λ v. is_reserved v ≡ false))
 clear names (v ∷ vs) e apart =
-    let c = clear_of (is_reserved v || is_among names v) v (first_clash (names ++ v ∷ []) vs) e in
+    let c = no_more (is_reserved v || is_among names v) v (first_clash (names ++ v ∷ []) vs) e in
     let b = or_parts (is_reserved v) (is_among names v) c.0 in
     let rest = clear (names ++ v ∷ []) vs c.1 (all_pairs_push (λ a b. a ≡ b → ⊥) names v apart (all_differ names v b.1)) in
     (subst AreApart (append_assoc names (v ∷ []) vs) rest.0, All-cons (λ v. is_reserved v ≡ false) v vs b.0 rest.1)
 
 one_name : (name : List ℕ) → AreApart (name ∷ [])
 one_name name i j d l below = absurd (omega arith)
-
-passed : (why : List ℕ → Refusal) (o : Option (List ℕ)) (r : Result (List (List ℕ)) Refusal) (vs : List (List ℕ)) → refused_for why o r ≡ Ok vs → (o ≡ None) × (r ≡ Ok vs)
-passed why None r vs e = (refl, e)
-passed why (Some n) r vs e = absurd (err_is_no_ok (why n) vs e)
-
-few : (b : Bool) (r : Result (List (List ℕ)) Refusal) (vs : List (List ℕ)) → (if b then r else Err TooLarge) ≡ Ok vs → r ≡ Ok vs
-few true r vs e = e
-few false r vs e = absurd (err_is_no_ok TooLarge vs e)
-
--- names that are taken as a program's variables
-names_clear : (ps gs vs : List (List ℕ)) → names_from ps gs ≡ Ok vs → (first_clash (codes "r" ∷ []) (parameters_and_globals ps gs) ≡ None) × (variables_of ps gs ≡ vs)
-unfolding names_from
-names_clear ps gs vs e =
-    let clash = refused_for ReservedName (first_clash (codes "r" ∷ []) (parameters_and_globals ps gs)) (Ok (variables_of ps gs)) in
-    let globals = refused_for RepeatedDefinition (first_repeated gs) clash in
-    let a = few (are_few ps gs) (refused_for RepeatedDefinition (first_repeated ps) globals) vs e in
-    let b = passed RepeatedDefinition (first_repeated ps) globals vs a in
-    let c = passed RepeatedDefinition (first_repeated gs) clash vs b.1 in
-    let d = passed ReservedName (first_clash (codes "r" ∷ []) (parameters_and_globals ps gs)) (Ok (variables_of ps gs)) vs c.1 in
-    (d.0, ok_same (variables_of ps gs) vs d.1)
 
 -- ---- the energy
 
@@ -99,7 +75,7 @@ pub says_energy : (j : JobValue) (energy : Energy) → energy_of j ≡ Ok energy
 says_energy j energy e =
     let bits = bits_of j.frac in
     let m = made j energy e in
-    let n = names_clear j.parameters (global_names j) m.names m.named in
+    let n = are_variables j.parameters (global_names j) m.names m.named in
     let c = clear (codes "r" ∷ []) (parameters_and_globals j.parameters (global_names j)) n.0 (one_name (codes "r")) in
     let vs = variables_of j.parameters (global_names j) in
     let read : program_of bits vs j.energy ≡ Ok energy.tree = ap (λ vs. program_of bits vs j.energy) n.1 ∙ m.tree in
@@ -150,9 +126,6 @@ module _ (j : JobValue) where
       (λ l. apart a b [] l (omega (arith, size, lb)) (at a la ∙ e ∙ sym (at b lb)))
       (λ l. apart b a [] l (omega (arith, size, la)) (at b lb ∙ sym e ∙ sym (at a la)))
 
-  parts_same : {X : Type 0} (x y : X) (xs ys : List X) → x ∷ xs ≡ y ∷ ys → (x ≡ y) × (xs ≡ ys)
-  parts_same x y xs ys e = (cc, cc)
-
   types_same : AreApart (map (λ t. t.name) j.types) → (us ts : List ℕ) → All (λ t. t < length j.types) us → All (λ t. t < length j.types) ts → map type_name us ≡ map type_name ts → us ≡ ts
   types_same apart [] [] h k e = refl
   types_same apart [] (t ∷ ts) h k e = absurd cc
@@ -199,38 +172,9 @@ room_is j sides h =
 
 -- ---- atoms at other places
 
-module _ (atoms : List AtomView) (f : Frames) where
-  abbrev placed_at : ℕ → AtomView
-  placed_at a = placed (get_or atoms a nobody) (places_of f.previous a) (places_of f.current a)
-
-  -- they are as many
-  pub length-placed : length (placed_atoms atoms f) ≡ length atoms
-  length-placed = length-numbers placed_at 0 (length atoms)
-
-  -- and each is the atom of that number, placed
-  pub get_or-placed : (k : ℕ) → k < length atoms → get_or (placed_atoms atoms f) k nobody ≡ placed_at k
-  get_or-placed k l = at_number placed_at nobody 0 (length atoms) k l ∙ ap placed_at (zero-add k)
-
-  -- a part of each atom, where that of the placed atom is known
-  part_placed : {X : Type 0} (part : AtomView → X) (d : X) (xs : List X) → length xs ≡ length atoms → ((k : ℕ) → k < length atoms → part (placed_at k) ≡ get_or xs k d) → map part (placed_atoms atoms f) ≡ xs
-  part_placed part d xs size each =
-      ext_get_or d (map part (placed_atoms atoms f)) xs (length-map (placed_atoms atoms f) part ∙ length-placed ∙ sym size) (λ k h.
-      let l : k < length atoms = omega (arith, length-map (placed_atoms atoms f) part, length-placed) in
-      get_or-map part (placed_atoms atoms f) k nobody d (omega (arith, length-placed)) ∙ ap part (get_or-placed k l) ∙ each k l)
-
-  -- they stay who they are
-  pub who_placed : map who (placed_atoms atoms f) ≡ map who atoms
-  who_placed = part_placed who (who nobody) (map who atoms) (length-map atoms who) (λ k l. sym (get_or-map who atoms k nobody (who nobody) l))
-
-  previous_placed : length f.previous ≡ length atoms → previous_frame (placed_atoms atoms f) ≡ f.previous
-  previous_placed size = part_placed (λ a. a.previous) nowhere f.previous size (λ k l. refl)
-
-  current_placed : length f.current ≡ length atoms → current_frame (placed_atoms atoms f) ≡ f.current
-  current_placed size = part_placed (λ a. a.current) nowhere f.current size (λ k l. refl)
-
--- the frames of the state that is at these frames
-pub frames_moved : (s : StateView) (f : Frames) (k : ℤ) → length f.previous ≡ length s.atoms → length f.current ≡ length s.atoms → frames_of (moved_state s f k) ≡ f
-frames_moved s f k p c = ap (λ q. frames q (current_frame (placed_atoms s.atoms f))) (previous_placed s.atoms f p) ∙ ap (frames f.previous) (current_placed s.atoms f c)
+-- they stay who they are
+pub who_placed : (atoms : List AtomView) (f : Frames) → map who (placed_atoms atoms f) ≡ map who atoms
+who_placed atoms f = part_placed atoms f who (who nobody) (map who atoms) (length-map atoms who) (λ k l. get_or-map who atoms k nobody (who nobody) l)
 
 -- an atom is who it is and where it is
 atom_is : (a b : AtomView) → who a ≡ who b → a ≡ placed b a.previous a.current

@@ -8,6 +8,8 @@ use Rattle.std.proofs.lemmas.List.Sums.{sum_by-append, sum_by-cons}
 use Rattle.std.proofs.lemmas.Bool.Decides.{nat_tests}
 use Rattle.std.proofs.lemmas.List.{ext_get_or}
 use Rattle.std.proofs.lemmas.Nat.{mul-le}
+use Rattle.std.proofs.lemmas.Option.{same_Some}
+use Rattle.std.proofs.lemmas.Bool.{true≢false}
 use Rattle.tile_round.specs.ExactSums.{PlanHasWords, TileHasWords, TotalsComeOut, exact_force, force_on, tile_force}
 use Rattle.tile_round.specs.Tiles.{additions_of, amount_on, component, on_entry, tile_of, tiles_of, total}
 use Rattle.tile_round.specs.declared.work.PairAdd.{PairAdd}
@@ -16,7 +18,6 @@ use Rattle.ring_box.specs.Forces.{IsWithin, no_force}
 use Rattle.ring_box.specs.declared.vectors.Force.{Force}
 use Rattle.integrator.specs.Forces.{force_or_none, forces_of, negative, numbers_from, pairs_of, plus, share_of, sum_of_shares}
 use Rattle.integrator.proofs.BoundLaws.{forces_within}
-use Rattle.integrator.proofs.Constructors.{some_same}
 use Rattle.integrator.proofs.ForceLaws.{ArePairsOf, frame_pairs, pairs_parts}
 use Rattle.integrator.proofs.NumberLaws.{at_number, length-numbers}
 use Rattle.engine.proofs.SafeLaws.{HasForce}
@@ -73,13 +74,10 @@ plus_part f g (suc zero) h = refl
 plus_part f g (suc (suc zero)) h = refl
 plus_part f g (suc (suc (suc k))) h = absurd (omega arith)
 
-true_is_not_false : ◌≡◌ {A = Bool} true false → ⊥
-true_is_not_false e = cc
-
 chosen_part : (low high : Bool) (f : Force ℤ) (axis : ℕ) → axis < 3 → (low ≡ true → high ≡ false)
     → (if low then part f axis else pos 0) +ℤ (if high then neg_ℤ (part f axis) else pos 0)
     ≡ part (if low then f else if high then negative f else no_force) axis
-chosen_part true true v axis h apart = absurd (true_is_not_false (apart refl))
+chosen_part true true v axis h apart = absurd (true≢false (apart refl))
 chosen_part true false v axis h apart = omega (arith, ints)
 chosen_part false true v axis h apart = omega (arith, ints, negative_part v axis h)
 chosen_part false false v axis h apart = sym (none_part axis)
@@ -137,7 +135,7 @@ module _ (b n : ℕ) (force : ℕ × ℕ → Option (Force ℤ)) (add : ℕ × �
       let q = pairs_parts n p ps h in
       let f = has p.0 p.1 q.0.apart q.0.below in
       let a = adds p.0 p.1 q.0.apart q.0.below in
-      let same : f.v ≡ unwrap_or a.acting no_force = some_same f.v (unwrap_or a.acting no_force) (sym f.has ∙ a.is) in
+      let same : f.v ≡ unwrap_or a.acting no_force = same_Some f.v (unwrap_or a.acting no_force) (sym f.has ∙ a.is) in
       rw a.adds (added_words b p a.acting (map add ps) (pair_fits p.0 p.1 q.0.apart q.0.below) (rw (← same) f.small) (words ps q.1))
 
   shares_added : (ps : List (ℕ × ℕ)) (a axis : ℕ) → ArePairsOf n ps → axis < 3 → tile_force a axis (map add ps) ≡ part (sum_of_shares (force_or_none force) ps a) axis
@@ -165,7 +163,7 @@ module _ (b n : ℕ) (force : ℕ × ℕ → Option (Force ℤ)) (add : ℕ × �
   share_fits : (a axis : ℕ) → axis < 3 → FitsSigned w64 (exact_force a axis one_tile)
   share_fits a axis lt =
       let small = forces_within b force n
-      (λ i j v apart below e. let f = has i j apart below in let same : f.v ≡ v = some_same f.v v (sym f.has ∙ e) in rw (← same) f.small)
+      (λ i j v apart below e. let f = has i j apart below in let same : f.v ≡ v = same_Some f.v v (sym f.has ∙ e) in rw (← same) f.small)
       a in
       rw (one_tile_is a axis lt) (fits_from_within (b * (n - 1)) (sum_of_shares (force_or_none force) (pairs_of n) a) axis fits small lt)
 

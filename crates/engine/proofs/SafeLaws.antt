@@ -3,7 +3,8 @@ use Rattle.std.proofs.Common.{◌≡◌, ℕ, ◌-◌, ◌*◌, ◌^◌, ◌<◌
 use Rattle.std.specs.Prelude.{unsigned_abs, neg_ℤ, unwrap_or, option_map, ◌≤ℤ◌, ◌<ℤ◌, int_lt, nat_lt, not, ◌&&◌, ◌==◌, if◌then◌else◌, IfSome, slice_index}
 use Rattle.std.proofs.lemmas.Nat.{mul-le}
 use Rattle.std.proofs.lemmas.Int.{ints}
-use Rattle.std.proofs.lemmas.Bool.{and_from, and_parts, le-leb, leb-true, lt-ltb, ltb-true, not_from_false, not-true}
+use Rattle.std.proofs.lemmas.Bool.{and_from, and_parts, le-leb, leb-true, lt-ltb, ltb-true, not_from_false, not-true, false≢true}
+use Rattle.std.proofs.lemmas.Option.{same_Some}
 use Rattle.fixed.specs.declared.frac.Frac.{Frac}
 use Rattle.ring_box.specs.declared.boxes.RingBox.{RingBox}
 use Rattle.ring_box.specs.declared.vectors.Force.{Force}
@@ -12,7 +13,7 @@ use Rattle.ring_box.specs.Distances.{distance_at, is_near, square_of}
 use Rattle.ring_box.specs.Forces.{IsWithin, acting_distance_of, force_along_of, no_force, taken_distance_of}
 use Rattle.ring_box.proofs.ForceLemmas.{max_high, max_low}
 use Rattle.integrator.proofs.BoundLaws.{along_within, none_within, within-weaker}
-use Rattle.integrator.proofs.Constructors.{none_is_no_some, some_same}
+use Rattle.integrator.proofs.Constructors.{none_is_no_some}
 use Rattle.integrator.specs.Frames.{Frame, force_at, pair_force, places_of}
 use Rattle.integrator.specs.Kernels.{is_small}
 use Rattle.engine.specs.SafeKernels.{IsAccepted, Potential, is_taken, minus, potential_of, safe_dynamics, slope_at}
@@ -71,11 +72,8 @@ pub record HasNumber (bound : ℕ) (o : Option ℤ) : Type 0 where
   pub has : o ≡ Some v
   pub small : unsigned_abs v ≤ bound
 
-false_is_not_true : ◌≡◌ {A = Bool} false true → ⊥
-false_is_not_true e = cc
-
 pub small_parts : (b : ℕ) (o : Option ℤ) → is_small b o ≡ true → HasNumber b o
-small_parts b None h = absurd (false_is_not_true h)
+small_parts b None h = absurd (false≢true h)
 small_parts b (Some v) h = record { v = v; has = refl; small = leb-true (unsigned_abs v) b h }
 
 pub is_small_value : (b : ℕ) (o : Option ℤ) (v : ℤ) → o ≡ Some v → unsigned_abs v ≤ b → is_small b o ≡ true
@@ -94,7 +92,7 @@ in_range_at : (f : Frac) (ring : RingBox) (core cutoff : ℤ) (p q : Place3) (r 
     → (if near then Some (taken_distance_of f ring core p q) else None) ≡ Some r → (core ≤ℤ r) × (r <ℤ cutoff)
 in_range_at f ring core cutoff p q r true h e s =
     let d = pos (distance_at f (square_of ring p q)) in
-    rw (← some_same (taken_distance_of f ring core p q) r s) (max_low d core, max_high d core cutoff e h)
+    rw (← same_Some (taken_distance_of f ring core p q) r s) (max_low d core, max_high d core cutoff e h)
 in_range_at f ring core cutoff p q r false h e s = absurd (none_is_no_some r s)
 
 pub in_range : (f : Frac) (ring : RingBox) (core cutoff : ℤ) (p q : Place3) (r : ℤ) → core <ℤ cutoff → acting_distance_of f ring core cutoff p q ≡ Some r → (core ≤ℤ r) × (r <ℤ cutoff)

@@ -2,11 +2,11 @@
 use Rattle.std.proofs.Common.{◌≡◌, ◌≢◌, ℕ, zero, suc, ◌+◌, ◌^◌, ◌<◌, ◌≤◌, Bool, true, false, cond, List, [], ◌∷◌, length, get_or, ℤ, Option, Some, None, inl, inr, arith, refl, ap, subst, sym, ◌∙◌}
 use Rattle.std.specs.Prelude.{IfSome, map, slice_get, option_map, nat_lt, ◌&&◌, if◌then◌else◌, slice_index, slice_index_or}
 use Rattle.std.specs.List.{All}
-use Rattle.std.proofs.lemmas.Bool.{and_parts, cases_eq, cases_lt, ltb-true}
+use Rattle.std.proofs.lemmas.Bool.{and_parts, cases_eq, cases_lt, ltb-true, true≢false}
 use Rattle.std.proofs.lemmas.Bool.Decides.{nat_tests}
 use Rattle.std.proofs.lemmas.List.{get_or-map, length-map}
 use Rattle.std.proofs.lemmas.List.Elements.{All-from_get_or}
-use Rattle.std.proofs.lemmas.Option.{slice_get-get_or}
+use Rattle.std.proofs.lemmas.Option.{slice_get-get_or, same_Some}
 use Rattle.std.proofs.lemmas.List.Sums.{sum_by-append, sum_by-cons}
 use Rattle.cell_tiles.specs.Cells.{IsGrid, members_of}
 use Rattle.cell_tiles.specs.Cover.{ArePairs, Covers, SumsAsAll, are_close, is_pair, is_same, times, times_in_all}
@@ -26,7 +26,7 @@ use Rattle.tile_round.specs.ExactSums.{PlanHasWords, TotalsComeOut}
 use Rattle.tile_round.specs.Tiles.{IsPairOf, additions_of, on_entry, pairs_at}
 use Rattle.tile_round.specs.Tiles as round
 use Rattle.tile_round.specs.declared.work.PairAdd.{PairAdd}
-use Rattle.integrator.proofs.Constructors.{none_is_no_some, some_same}
+use Rattle.integrator.proofs.Constructors.{none_is_no_some}
 use Rattle.integrator.specs.Forces.{pairs_from, pairs_of, pairs_with}
 use Rattle.integrator.specs.Frames.{Frame, pair_force, places_of}
 use Rattle.integrator.specs.declared.systems.System.{System}
@@ -36,9 +36,6 @@ use Rattle.engine.specs.Rounds.{AreForces, acting_force, add_of, grid_of, pair_a
 use Rattle.engine.specs.Rows.{tile_at}
 use Rattle.engine.specs.SafeKernels.{IsAccepted, minus, potential_of, safe_dynamics, slope_at}
 use Rattle.engine.specs.declared.safe_kernels.SafeKernel.{SafeKernel}
-
-true_is_not_false : ◌≡◌ {A = Bool} true false → ⊥
-true_is_not_false e = cc
 
 -- ---- each pair stands once among all pairs
 
@@ -159,18 +156,18 @@ are_pairs n p = pair_once p n
 
 pub mapped_at : {X Y : Type 0} → (f : X → Y) (xs : List X) (k : ℕ) (x : X) → slice_get xs k ≡ Some x → slice_get (map f xs) k ≡ Some (f x)
 mapped_at f [] k x e = absurd (none_is_no_some x e)
-mapped_at f (y ∷ ys) zero x e = ap (λ z. Some (f z)) (some_same y x e)
+mapped_at f (y ∷ ys) zero x e = ap (λ z. Some (f z)) (same_Some y x e)
 mapped_at f (y ∷ ys) (suc k) x e = mapped_at f ys k x e
 
 found_at : {X : Type 0} → (xs : List X) (k : ℕ) (x d : X) → slice_get xs k ≡ Some x → slice_index_or xs k d ≡ x
 found_at [] k x d e = absurd (none_is_no_some x e)
-found_at (y ∷ ys) zero x d e = some_same y x e
+found_at (y ∷ ys) zero x d e = same_Some y x e
 found_at (y ∷ ys) (suc k) x d e = found_at ys k x d e
 
 listed : (p : ℕ × ℕ) (ps : List (ℕ × ℕ)) (k : ℕ) → slice_get ps k ≡ Some p → 1 ≤ times p ps
 listed p [] k e = absurd (none_is_no_some p e)
 listed p (q ∷ ps) zero e =
-    let same : q ≡ p = some_same q p e in
+    let same : q ≡ p = same_Some q p e in
     let own : once p q ≡ 1 = rw same (hit p p.0 p.1 refl refl) in
     omega (arith, sum_by-cons (once p) q ps)
 listed p (q ∷ ps) (suc k) e =
@@ -180,7 +177,7 @@ listed p (q ∷ ps) (suc k) e =
 listed_in_all : (p : ℕ × ℕ) (tiles : List (List (ℕ × ℕ))) (t : ℕ) (ps : List (ℕ × ℕ)) → slice_get tiles t ≡ Some ps → 1 ≤ times p ps → 1 ≤ times_in_all p tiles
 listed_in_all p [] t ps e h = absurd (none_is_no_some ps e)
 listed_in_all p (qs ∷ tiles) zero ps e h =
-    let same : qs ≡ ps = some_same qs ps e in
+    let same : qs ≡ ps = same_Some qs ps e in
     let own : 1 ≤ times p qs = rw same h in
     omega (arith, sum_by-cons (times p) qs tiles)
 listed_in_all p (qs ∷ tiles) (suc t) ps e h =
@@ -257,7 +254,7 @@ add_is_of_pair s frame p apart below = some_pair_of (length frame) p (acting_for
 -- ---- atoms that are not close add nothing
 
 far_is_apart : (near close : Bool) → (near ≡ true → close ≡ true) → close ≡ false → near ≡ false
-far_is_apart true close h e = absurd (true_is_not_false (sym (h refl) ∙ e))
+far_is_apart true close h e = absurd (true≢false (sym (h refl) ∙ e))
 far_is_apart false close h e = refl
 
 module _ {A : Type 0} (s : System (SafeKernel A) A) (frame : Frame) where
@@ -274,7 +271,7 @@ module _ {A : Type 0} (s : System (SafeKernel A) A) (frame : Frame) where
       (option_map (λ r. force_along_of s.ring (minus (slope_at (potential_of s.kernel) (slice_index s.types.items p.0) (slice_index s.types.items p.1) r)) (places_of frame p.0) (places_of frame p.1))
       (if near then Some (taken_distance_of s.frac s.ring s.core (places_of frame p.0) (places_of frame p.1)) else None))
       ≡ None
-  adds_nothing p true e = absurd (true_is_not_false e)
+  adds_nothing p true e = absurd (true≢false e)
   adds_nothing p false e = refl
 
   far_adds_nothing : (e : ℕ) (p : ℕ × ℕ) → NearAreNeighbours s.frac s.ring s.cutoff (grid_of s) → All ArePlaces frame → are_close (grid_of s) frame p ≡ false → weight (add_of s frame) e p ≡ 0

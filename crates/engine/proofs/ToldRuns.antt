@@ -21,7 +21,7 @@ use Rattle.integrator.specs.Runs.{IsAfter}
 use Rattle.integrator.specs.Starts.{are_alike, as_written, atom_types, has_room, no_type, plain, ring_of, start_at, type_with}
 use Rattle.integrator.specs.States.{counter_after, counter_at, frames_of}
 use Rattle.integrator.specs.declared.direction.Direction.{Direction}
-use Rattle.integrator.proofs.Constructors.{ok_same}
+use Rattle.integrator.proofs.Constructors.{ok_same, parts_same}
 use Rattle.integrator.proofs.ReturnLaws.{in_range_is, parts_of, start_from}
 use Rattle.integrator.proofs.StartLaws.{started}
 use Rattle.engine.specs.Engines.{AreReadOnce, SaysOnly}
@@ -78,9 +78,6 @@ module _ (j : JobValue) (apart : AreApart (map (λ t. t.name) j.types)) where
       (λ k below. unequal (type_name k) name (λ same. let one = one_type j apart k t (omega (arith, l, below)) l (same ∙ sym e) in omega (arith, one, below)))
       (λ within. (bytes_eq-Decides (type_name t) name).1 e) in
       rw (first, lt-ltb t (length j.types) l) refl
-
-  parts_same : {X : Type 0} (x y : X) (xs ys : List X) → x ∷ xs ≡ y ∷ ys → (x ≡ y) × (xs ≡ ys)
-  parts_same x y xs ys e = (cc, cc)
 
   -- types that have the atoms' names are those that are found
   types_again : (k : ℕ) (atoms : List AtomView) (types : List ℕ) → All IsKnown types → map type_name types ≡ map (λ a. a.name) atoms → atom_types j.types k atoms ≡ Ok types

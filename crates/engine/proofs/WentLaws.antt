@@ -1,25 +1,28 @@
 -- Steps of an engine, one after the other and back.
-use Rattle.std.proofs.Common.{◌≡◌, ℕ, zero, suc, ◌+◌, ◌<◌, List, length, get_or, Option, Some, None, ℤ, arith, refl, ap, sym, subst, ◌∙◌, zero-add}
+use Rattle.std.proofs.Common.{◌≡◌, ℕ, zero, suc, ◌+◌, List, length, get_or, Option, Some, None, ℤ, arith, refl, ap, sym, subst, ◌∙◌, zero-add}
 use Rattle.std.specs.Prelude.{option_map, slice_index, if◌then◌else◌}
 use Rattle.std.specs.Option.{option_and_then}
 use Rattle.std.proofs.lemmas.Int.{ints}
-use Rattle.std.proofs.lemmas.List.{ext_get_or, length-map}
+use Rattle.std.proofs.lemmas.List.{length-map}
+use Rattle.std.proofs.lemmas.Option.{same_Some}
 use Rattle.state.specs.StateText.{AtomView, StateView}
 use Rattle.ring_box.specs.Forces.{no_force}
 use Rattle.ring_box.specs.declared.vectors.Force.{Force}
 use Rattle.integrator.specs.Frames.{Dynamics, Frame, Frames, frame_forces, frames, moved_frame, next_frame, next_places, opposite, places_of, step_in, steps_in}
 use Rattle.fixed.specs.Arithmetic.{in_range}
-use Rattle.integrator.specs.States.{counter_at, frames_of, moved_state, nobody, placed, placed_atoms}
+use Rattle.fixed.proofs.IntegerLaws.{in_range_is}
+use Rattle.integrator.specs.States.{counter_at, frames_of, moved_state}
 use Rattle.integrator.specs.declared.direction.Direction.{Direction}
 use Rattle.integrator.specs.declared.direction.Direction.TheVariants.{Back, Forward}
-use Rattle.integrator.proofs.Constructors.{none_is_no_some, some_same}
-use Rattle.integrator.proofs.ReturnLaws.{frames_are, in_range_is}
+use Rattle.integrator.proofs.Constructors.{none_is_no_some}
+use Rattle.integrator.proofs.CounterLaws.{counter_back, counter_is}
+use Rattle.integrator.proofs.StateLaws.{frames_moved, placed_twice}
+use Rattle.integrator.proofs.ReturnLaws.{frames_are}
 use Rattle.integrator.proofs.NumberLaws.{length-numbers}
 use Rattle.integrator.proofs.MotionLaws.{returned}
 use Rattle.engine.specs.Engines.{EngineView, Went, engine_dynamics}
 use Rattle.engine.specs.EngineSteps.{StepsAdd, StepsReturn}
-use Rattle.engine.proofs.HeadlineLaws.{counter_back, counter_is}
-use Rattle.engine.proofs.HeadlineTexts.{frames_moved, get_or-placed, length-placed, moved_again}
+use Rattle.engine.proofs.HeadlineTexts.{moved_again}
 
 -- ---- how many atoms
 
@@ -29,16 +32,16 @@ Sized n f = (length f.previous ≡ n) × (length f.current ≡ n)
 moved_size : (d : Dynamics) (p c m : Frame) (o : Option (List (Force ℤ))) → option_map (moved_frame d p c) o ≡ Some m → length m ≡ length c
 moved_size d p c m None h = absurd (none_is_no_some m h)
 moved_size d p c m (Some forces) h =
-    ap length (sym (some_same (moved_frame d p c forces) m h))
+    ap length (sym (same_Some (moved_frame d p c forces) m h))
     ∙ length-numbers (λ a. next_places d (slice_index d.masses a) (places_of p a) (places_of c a) (get_or forces a no_force)) 0 (length c)
 
 step_sized : (d : Dynamics) (p c : Frame) (g : Frames) (n : ℕ) (o : Option Frame) → length c ≡ n → next_frame d p c ≡ o → option_map (frames c) o ≡ Some g → Sized n g
 step_sized d p c g n None b e h = absurd (none_is_no_some g h)
-step_sized d p c g n (Some m) b e h = subst (Sized n) (some_same (frames c m) g h) (b, moved_size d p c m (frame_forces d c) e ∙ b)
+step_sized d p c g n (Some m) b e h = subst (Sized n) (same_Some (frames c m) g h) (b, moved_size d p c m (frame_forces d c) e ∙ b)
 
 back_sized : (d : Dynamics) (p c : Frame) (g : Frames) (n : ℕ) (o : Option Frame) → length p ≡ n → next_frame d c p ≡ o → option_map (λ n. frames n p) o ≡ Some g → Sized n g
 back_sized d p c g n None a e h = absurd (none_is_no_some g h)
-back_sized d p c g n (Some m) a e h = subst (Sized n) (some_same (frames m p) g h) (moved_size d c p m (frame_forces d p) e ∙ a, a)
+back_sized d p c g n (Some m) a e h = subst (Sized n) (same_Some (frames m p) g h) (moved_size d c p m (frame_forces d p) e ∙ a, a)
 
 one_step_sized : (w : Direction) (d : Dynamics) (f g : Frames) (n : ℕ) → Sized n f → step_in w d f ≡ Some g → Sized n g
 one_step_sized Forward d f g n s h = step_sized d f.previous f.current g n (next_frame d f.previous f.current) s.1 refl h
@@ -52,7 +55,7 @@ steps_sized_at w d k f g n (Some m) s e h more = more m (one_step_sized w d f m 
 -- steps keep the number of atoms
 steps_sized : (w : Direction) (d : Dynamics) (k : ℕ) (f g : Frames) (n : ℕ) → Sized n f → steps_in w d k f ≡ Some g → Sized n g
 unfolding steps_in
-steps_sized w d zero f g n s h = subst (Sized n) (some_same f g h) s
+steps_sized w d zero f g n s h = subst (Sized n) (same_Some f g h) s
 steps_sized w d (suc k) f g n s h = steps_sized_at w d k f g n (step_in w d f) s refl h (λ e t i. steps_sized w d k e g n t i)
 
 -- ---- steps and more steps
@@ -73,14 +76,6 @@ steps_added w d (suc k) m f =
 pub counters_add : (w : Direction) (z : ℤ) (k m : ℕ) → counter_at w (counter_at w z k) m ≡ counter_at w z (k + m)
 counters_add Forward z k m = omega (arith, ints)
 counters_add Back z k m = omega (arith, ints)
-
--- atoms that were placed, placed again
-placed_twice : (atoms : List AtomView) (f g : Frames) → placed_atoms (placed_atoms atoms f) g ≡ placed_atoms atoms g
-placed_twice atoms f g =
-    let size = length-placed atoms f in
-    ext_get_or nobody (placed_atoms (placed_atoms atoms f) g) (placed_atoms atoms g) (length-placed (placed_atoms atoms f) g ∙ size ∙ sym (length-placed atoms g)) (λ k h.
-    let l : k < length atoms = omega (arith, size, length-placed (placed_atoms atoms f) g) in
-    get_or-placed (placed_atoms atoms f) g k (omega (arith, size)) ∙ ap (λ a. placed a (places_of g.previous k) (places_of g.current k)) (get_or-placed atoms f k l) ∙ sym (get_or-placed atoms g k l))
 
 -- ---- engines
 

@@ -2,9 +2,10 @@
 use Rattle.std.proofs.Common.{◌≡◌, ℕ, zero, suc, ◌+◌, ◌-◌, ◌*◌, ◌^◌, Bool, true, false, ◌&&◌, ◌||◌, cond, eqb, ltb, not, ℤ, pos, negsuc, List, [], ◌∷◌, ◌++◌, length, take, drop, get_or, replicate, Option, Some, None, option_map, Result, Ok, Err, refl, sym, ap, subst, ◌∙◌, append_assoc, arith, lit<}
 use Rattle.std.specs.List.{list_all}
 use Rattle.std.specs.Int.{IsInRange}
-use Rattle.std.proofs.lemmas.Bool.{and_parts, eqb-true, eqb-false, ltb-false, le-ltb, ne_eqb}
+use Rattle.std.proofs.lemmas.Bool.{and_parts, eqb-true, eqb-false, ltb-false, le-ltb, ne_eqb, or_parts}
 use Rattle.std.proofs.lemmas.List.{append-nil, take-append-drop, take_at, drop_at, length-append, length-replicate, get_or_append_left}
 use Rattle.std.proofs.Common.{length-take, length-drop}
+use Rattle.std.proofs.lemmas.Option.{same_Some}
 use Rattle.line_text.specs.Parts.{◌>>=◌, cut_at}
 use Rattle.line_text.specs.Columns.{digits_of}
 use Rattle.line_text.specs.Words.{words}
@@ -45,16 +46,12 @@ values_done front total so_far = ap (λ (xs : List ℤ). Some xs) (sym (append-n
 
 -- ---- values
 
-or_false : (a b : Bool) → (a || b) ≡ false → (a ≡ false) × (b ≡ false)
-or_false true b e = absurd cc
-or_false false b e = (refl, e)
-
 -- a text that is read as few digits is 1 to n digits that write the number
 pub few_written : (most : ℕ) (text : List ℕ) (n : ℕ) → few_digits_of most text ≡ Some n → WritesFew most text n
 unfolding few_digits_of
 few_written most text n e =
     let a = none_or (eqb (length text) 0 || ltb most (length text)) (digits_of text) n e in
-    let b = or_false (eqb (length text) 0) (ltb most (length text)) a.0 in
+    let b = or_parts (eqb (length text) 0) (ltb most (length text)) a.0 in
     let some : length text ≡ 0 → ⊥ = eqb-false (length text) 0 b.0 in
     let d = digits_written text n a.1 in
     record { number = record { form = record { some = omega arith; digits = d.0 }; value = d.1 }; few = ltb-false most (length text) b.1 }
@@ -65,9 +62,6 @@ unfolding few_digits_of
 few_read most text n h =
     rw (ne_eqb (length text) 0 (λ e. omega (arith, h.number.form.some)), le-ltb most (length text) h.few) (digits_read text n h.number.form.digits h.number.value)
 
-some_is : {A : Type 0} {x y : A} → ◌≡◌ {A = Option A} (Some x) (Some y) → x ≡ y
-some_is e = cc
-
 length_written : (text : List ℕ) (n : ℕ) → length_of text ≡ Some n → WritesLength text n
 unfolding length_of
 length_written text n e = at (cut_at 46 text) refl e
@@ -75,11 +69,11 @@ length_written text n e = at (cut_at 46 text) refl e
     at : (o : Option (List ℕ × List ℕ)) → cut_at 46 text ≡ o → length_parts text o ≡ Some n → WritesLength text n
     at None c d =
         let a = bind_some (few_digits_of 12 text) (λ m. Some (m * 10 ^ 5)) n d in
-        whole a.0 (few_written 12 text a.0 a.1) (some_is a.2)
+        whole a.0 (few_written 12 text a.0 a.1) (same_Some _ _ a.2)
     at (Some p) c d =
         let a = bind_some (few_digits_of 12 p.0) (λ m. few_digits_of 5 p.1 >>= λ part. Some (m * 10 ^ 5 + part * 10 ^ (5 - length p.1))) n d in
         let b = bind_some (few_digits_of 5 p.1) (λ part. Some (a.0 * 10 ^ 5 + part * 10 ^ (5 - length p.1))) n a.2 in
-        pointed p.0 p.1 a.0 b.0 (cut_found 46 text p.0 p.1 c).0 (few_written 12 p.0 a.0 a.1) (few_written 5 p.1 b.0 b.1) (some_is b.2)
+        pointed p.0 p.1 a.0 b.0 (cut_found 46 text p.0 p.1 c).0 (few_written 12 p.0 a.0 a.1) (few_written 5 p.1 b.0 b.1) (same_Some _ _ b.2)
 
 length_read : (text : List ℕ) (n : ℕ) → WritesLength text n → length_of text ≡ Some n
 unfolding length_of
@@ -112,7 +106,7 @@ values_written [] (v ∷ vs) e = absurd cc
 values_written (w ∷ ws) vs e =
     let a = bind_some (value_of w) (λ v. values_of ws >>= λ us. Some (v ∷ us)) vs e in
     let b = bind_some (values_of ws) (λ us. Some (a.0 ∷ us)) vs a.2 in
-    subst (λ (us : List ℤ). AreValues (w ∷ ws) us) (some_is b.2) (value_written w a.0 a.1, values_written ws b.0 b.1)
+    subst (λ (us : List ℤ). AreValues (w ∷ ws) us) (same_Some _ _ b.2) (value_written w a.0 a.1, values_written ws b.0 b.1)
 
 -- words that write values are read as them
 pub values_read : (ws : List (List ℕ)) (vs : List ℤ) → AreValues ws vs → values_of ws ≡ Some vs

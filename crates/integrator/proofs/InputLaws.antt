@@ -3,7 +3,7 @@ use Rattle.std.proofs.Common.{◌≡◌, ℕ, zero, suc, ◌+◌, ℤ, Bool, tru
 use Rattle.std.specs.List.{list_any, position_or_len}
 use Rattle.std.specs.Str.{bytes_eq}
 use Rattle.std.proofs.lemmas.Slice.Eq.{bytes_eq-Decides}
-use Rattle.std.proofs.lemmas.Bool.{lt-ltb}
+use Rattle.std.proofs.lemmas.Bool.{lt-ltb, or_parts}
 use Rattle.std.proofs.lemmas.List.{length-map}
 use Rattle.std.proofs.lemmas.Option.{slice_get-map, slice_get_within}
 use Rattle.energy_program.specs.Faults.{Refusal, RepeatedDefinition, ReservedName, TooLarge}
@@ -28,18 +28,15 @@ get_right (w ∷ ws) ys n k e =
 
 -- ---- the number of a variable
 
-neither : (p q : Bool) → (p || q) ≡ false → (p ≡ false) × (q ≡ false)
-neither true q e = absurd (cc)
-neither false q e = (refl, e)
-
-no_more : (b : Bool) (w : List ℕ) (rest : Option (List ℕ)) → (if b then Some w else rest) ≡ None → (b ≡ false) × (rest ≡ None)
+-- where no variable clashes the first doesn't, and none of the others
+pub no_more : (b : Bool) (w : List ℕ) (rest : Option (List ℕ)) → (if b then Some w else rest) ≡ None → (b ≡ false) × (rest ≡ None)
 no_more true w rest e = absurd (cc)
 no_more false w rest e = (refl, e)
 
 any_parts : (p : List ℕ → Bool) (xs : List (List ℕ)) (w : List ℕ) → list_any p (xs ++ w ∷ []) ≡ false → (list_any p xs ≡ false) × (p w ≡ false)
-any_parts p [] w e = (refl, (neither (p w) false e).0)
+any_parts p [] w e = (refl, (or_parts (p w) false e).0)
 any_parts p (x ∷ xs) w e =
-    let parts = neither (p x) (list_any p (xs ++ w ∷ [])) e in
+    let parts = or_parts (p x) (list_any p (xs ++ w ∷ [])) e in
     let rest = any_parts p xs w parts.1 in
     (rw (parts.0, rest.0) refl, rest.1)
 
@@ -50,7 +47,7 @@ place taken [] k v free e = absurd (cc)
 place taken (w ∷ ws) zero v free e =
     let same : w ≡ v = cc in
     let parts = no_more (is_reserved w || is_among taken w) w (first_clash (taken ++ w ∷ []) ws) free in
-    let other : list_any (bytes_eq w) taken ≡ false = (neither (is_reserved w) (is_among taken w) parts.0).1 in
+    let other : list_any (bytes_eq w) taken ≡ false = (or_parts (is_reserved w) (is_among taken w) parts.0).1 in
     (subst (λ u. list_any (bytes_eq u) taken ≡ false) same other, rw ((bytes_eq-Decides v w).1 (sym same)) refl)
 place taken (w ∷ ws) (suc k) v free e =
     let parts = no_more (is_reserved w || is_among taken w) w (first_clash (taken ++ w ∷ []) ws) free in
@@ -70,7 +67,7 @@ module _ (vs : List (List ℕ)) (xs : List ℤ) (r : ℤ) (free : first_clash (c
   stands : (k : ℕ) (v : List ℕ) (z : ℤ) → slice_get vs k ≡ Some v → slice_get xs k ≡ Some z → StandsFor (codes "r" ∷ vs) (r ∷ xs) v z
   stands k v z named valued =
       let at = place (codes "r" ∷ []) vs k v free named in
-      let other : bytes_eq v (codes "r") ≡ false = (neither (bytes_eq v (codes "r")) false at.0).0 in
+      let other : bytes_eq v (codes "r") ≡ false = (or_parts (bytes_eq v (codes "r")) false at.0).0 in
       let next : 1 + k ≡ suc k = omega arith in
       let is : position_or_len (bytes_eq v) (codes "r" ∷ vs) ≡ suc k = rw (other, at.1) next in
       (suc k, number (bytes_eq v) (codes "r" ∷ vs) (suc k) v is named, valued)
@@ -86,7 +83,8 @@ few : {A : Type 0} (b : Bool) (r : Result A Refusal) (x : A) → (if b then r el
 few true r x e = e
 few false r x e = absurd (cc)
 
-are_variables : (parameters globals variables : List (List ℕ)) → names_from parameters globals ≡ Ok variables
+-- names that are taken as a program's variables: none is that of the distance or of one before it
+pub are_variables : (parameters globals variables : List (List ℕ)) → names_from parameters globals ≡ Ok variables
     → (first_clash (codes "r" ∷ []) (parameters_and_globals parameters globals) ≡ None) × (variables_of parameters globals ≡ variables)
 unfolding names_from
 are_variables parameters globals variables e =

@@ -4,6 +4,7 @@ pub mod ForceLaws
 pub mod BoundLaws
 pub mod NumberLaws
 pub mod MotionLaws
+pub mod CounterLaws
 pub mod StateLaws
 pub mod StartLaws
 pub mod ReturnLaws

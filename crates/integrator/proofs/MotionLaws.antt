@@ -1,18 +1,20 @@
 -- Steps one after another, and back.
-use Rattle.std.proofs.Common.{◌≡◌, ℕ, zero, suc, ◌+◌, ◌<◌, ◌^◌, List, length, Option, Some, None, ℤ, pos, negsuc, get_or, arith, refl, ap, sym, ◌∙◌, add-one}
+use Rattle.std.proofs.Common.{◌≡◌, ℕ, zero, suc, ◌+◌, List, length, Option, Some, None, ℤ, get_or, arith, refl, ap, sym, ◌∙◌, add-one}
 use Rattle.std.specs.Prelude.{option_map, slice_index}
 use Rattle.std.specs.Option.{option_and_then}
-use Rattle.integrator.proofs.Constructors.{none_is_no_some, some_same}
+use Rattle.integrator.proofs.Constructors.{none_is_no_some}
 use Rattle.integrator.specs.Frames.{AreOfSameAtoms, Dynamics, Frame, Frames, frame_forces, frames, moved_frame, next_at, next_frame, next_places, places_of, step_in, steps_in, exchanged, opposite}
 use Rattle.integrator.specs.Forces.{numbers_from}
 use Rattle.integrator.proofs.NumberLaws.{length-numbers, made_of_numbers, number_at}
 use Rattle.integrator.proofs.StepLemmas.{there_and_back}
 use Rattle.ring_box.specs.Forces.{no_force}
-use Rattle.ring_box.specs.Places.{ArePlaces, nowhere, place_at}
+use Rattle.ring_box.specs.Places.{ArePlaces, nowhere}
+use Rattle.ring_box.proofs.PlaceLemmas.{place_below}
 use Rattle.ring_box.specs.declared.vectors.Force.{Force}
 use Rattle.ring_box.specs.declared.vectors.Place3.{Place3}
 use Rattle.std.specs.List.{All}
 use Rattle.std.proofs.lemmas.List.Elements.{All-map}
+use Rattle.std.proofs.lemmas.Option.{same_Some}
 use Rattle.integrator.specs.declared.direction.Direction.{Direction}
 use Rattle.integrator.specs.declared.direction.Direction.TheVariants.{Forward, Back}
 
@@ -42,12 +44,8 @@ steps_more w d n f = rw add-one (more w d n f)
 places_back : (d : Dynamics) (m : ℕ) (p c : Place3) (f : Force ℤ) → ArePlaces p → next_places d m (next_places d m p c f) c f ≡ p
 places_back d m p c f h = simp (there_and_back, h.x, h.y, h.z)
 
-on_ring : (z : ℤ) → place_at z < 2 ^ 32
-on_ring (pos n) = omega arith
-on_ring (negsuc n) = omega arith
-
 next_on_ring : (d : Dynamics) (p c : Frame) (forces : List (Force ℤ)) (a : ℕ) → ArePlaces (next_at d p c forces a)
-next_on_ring d p c forces a = record { x = on_ring _; y = on_ring _; z = on_ring _ }
+next_on_ring d p c forces a = record { x = place_below _; y = place_below _; z = place_below _ }
 
 -- a frame
 moved_on_ring : (d : Dynamics) (p c : Frame) (forces : List (Force ℤ)) → All ArePlaces (moved_frame d p c forces)
@@ -74,7 +72,7 @@ followed_at : (d : Dynamics) (p c q : Frame) (o : Option (List (Force ℤ))) →
     → (option_map (moved_frame d q c) o ≡ Some p) × (length q ≡ length c) × All ArePlaces q
 followed_at d p c q None same h e = absurd (none_is_no_some q e)
 followed_at d p c q (Some forces) same h e =
-    let made : moved_frame d p c forces ≡ q = some_same (moved_frame d p c forces) q e in
+    let made : moved_frame d p c forces ≡ q = same_Some (moved_frame d p c forces) q e in
     rw (← made) (ap Some (moved_back d p c forces same h), length-moved_frame d p c forces, moved_on_ring d p c forces)
 
 followed : (d : Dynamics) (p c q : Frame) → length p ≡ length c → All ArePlaces p → next_frame d p c ≡ Some q → Followed d p c q
@@ -94,7 +92,7 @@ stepped_at : (d : Dynamics) (p c : Frame) (g : Frames) (o : Option Frame) → Ar
     → option_map (frames c) o ≡ Some g → Stepped Forward d (frames p c) g
 stepped_at d p c g None h e k = absurd (none_is_no_some g k)
 stepped_at d p c g (Some q) h e k =
-    let same : frames c q ≡ g = some_same (frames c q) g k in
+    let same : frames c q ≡ g = same_Some (frames c q) g k in
     let f = followed d p c q h.alike h.previous e in
     let stepped : Stepped Forward d (frames p c) (frames c q) = record {
       back = ap (option_map (λ n. frames n c)) f.back;
@@ -107,7 +105,7 @@ backed_at : (d : Dynamics) (p c : Frame) (g : Frames) (o : Option Frame) → Are
     → option_map (λ n. frames n p) o ≡ Some g → Stepped Back d (frames p c) g
 backed_at d p c g None h e k = absurd (none_is_no_some g k)
 backed_at d p c g (Some q) h e k =
-    let same : frames q p ≡ g = some_same (frames q p) g k in
+    let same : frames q p ≡ g = same_Some (frames q p) g k in
     let f = followed d c p q (sym h.alike) h.current e in
     let stepped : Stepped Back d (frames p c) (frames q p) = record {
       back = ap (option_map (frames p)) f.back;
@@ -144,7 +142,7 @@ return_step w d n f g (Some m) h e k again =
 pub returned : (w : Direction) (d : Dynamics) (n : ℕ) (f g : Frames) → AreOfSameAtoms f → steps_in w d n f ≡ Some g → Returned w d n f g
 unfolding steps_in
 returned w d zero f g h e =
-    let same : f ≡ g = some_same f g e in
+    let same : f ≡ g = same_Some f g e in
     record { back = ap Some (sym same); frames' = rw (← same) h; atoms = ap (λ (f : Frames). length f.previous) (sym same) }
 returned w d (suc n) f g h e = return_step w d n f g (step_in w d f) h refl e (λ m k l. returned w d n m g k l)
 

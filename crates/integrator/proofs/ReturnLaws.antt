@@ -1,21 +1,21 @@
 -- A run leads back: n steps the other way over the text that was written give the text of the start.
 use Rattle.std.proofs.Common.{◌≡◌, ℕ, suc, ◌<◌, ◌^◌, Bool, true, false, List, [], ◌∷◌, length, ℤ, pos, negsuc, Option, Some, None, Result, Ok, Err, arith, refl, ap, sym, ◌∙◌}
-use Rattle.std.specs.Prelude.{map, if◌then◌else◌}
+use Rattle.std.specs.Prelude.{map}
 use Rattle.std.specs.List.{AllByRecursion}
-use Rattle.std.proofs.lemmas.Int.{ints}
 use Rattle.std.proofs.lemmas.List.{length-map, get_or-map}
 use Rattle.std.proofs.lemmas.List.Elements.{All-from_recursion, recursion_from_All, All-from_get_or, All-map}
 use Rattle.fixed.specs.Arithmetic.{in_range}
+use Rattle.fixed.proofs.IntegerLaws.{in_range_is}
 use Rattle.job.specs.JobText.{reading_of, limits}
 use Rattle.job.specs.Values.{JobValue, TypeValue}
 use Rattle.line_text.specs.Steps.{◌>>=◌}
 use Rattle.line_text.proofs.StepLaws.{bind_ok}
 use lib.Signed.{mag}
-use Rattle.std.proofs.lemmas.Bool.{ltb-true, lt-ltb}
+use Rattle.std.proofs.lemmas.Bool.{ltb-true}
 use Rattle.ring_box.specs.Places.{ArePlaces, nowhere}
 use Rattle.state.specs.StateReading.{state_of}
 use Rattle.state.specs.StateText.{AtomView, StateView, IsAtom, IsState, state_text}
-use Rattle.integrator.proofs.Constructors.{err_is_no_ok, none_is_no_some, some_same}
+use Rattle.integrator.proofs.Constructors.{err_is_no_ok, ok_same}
 use Rattle.integrator.specs.Frames.{AreOfSameAtoms, Frames, opposite, steps_in}
 use Rattle.integrator.specs.States.{counter_after, counter_at, frames_of, moved_state, nobody, placed_atoms}
 use Rattle.integrator.specs.Energies.{Energy, energy_of}
@@ -23,13 +23,10 @@ use Rattle.integrator.specs.Starts.{Refusal, Start, are_alike, atom_types, bits_
 use Rattle.integrator.specs.Runs.{IsRun}
 use Rattle.state.proofs.StateReadsAgain.{one_text}
 use Rattle.integrator.proofs.StartLaws.{started}
+use Rattle.integrator.proofs.CounterLaws.{counter_back, counter_is}
 use Rattle.integrator.proofs.StateLaws.{at_home, frames_moved, get_or-placed, length-placed, part_placed, placed_twice}
 use Rattle.integrator.proofs.MotionLaws.{returned}
 use Rattle.integrator.specs.declared.direction.Direction.{Direction}
-use Rattle.integrator.specs.declared.direction.Direction.TheVariants.{Forward, Back}
-
-ok_same : (x y : Start) → ◌≡◌ {A = Result Start Refusal} (Ok y) (Ok x) → x ≡ y
-ok_same x y e = cc
 
 -- ---- types go by names
 
@@ -86,11 +83,6 @@ fits_is : (z : ℤ) → in_range z ≡ true → mag z < 2 ^ 63
 fits_is (pos n) h = ltb-true n (2 ^ 63) h
 fits_is (negsuc n) h = ltb-true n (2 ^ 63) h
 
--- a number whose magnitude is below 2^63 is in range
-pub in_range_is : (z : ℤ) → mag z < 2 ^ 63 → in_range z ≡ true
-in_range_is (pos n) h = lt-ltb n (2 ^ 63) h
-in_range_is (negsuc n) h = lt-ltb n (2 ^ 63) h
-
 -- a state with frames of its atoms and a counter in range is a state again
 pub moved_is : (s : StateView) (f : Frames) (k : ℤ) → IsState s → AreOfSameAtoms f → length f.previous ≡ length s.atoms → in_range k ≡ true → IsState (moved_state s f k)
 moved_is s f k h frames' same fits = record {
@@ -101,22 +93,9 @@ moved_is s f k h frames' same fits = record {
   atoms = placed_are s.atoms f h.atoms frames' same;
 }
 
--- ---- the counter
-
-counter_back : (w : Direction) (step k : ℤ) (n : ℕ) → k ≡ counter_at w step n → counter_at (opposite w) k n ≡ step
-counter_back Forward step k n e = rw e (omega (arith, ints))
-counter_back Back step k n e = rw e (omega (arith, ints))
-
-some_counter : (fits : Bool) (z k : ℤ) → in_range z ≡ fits → ◌≡◌ {A = Option ℤ} (if fits then Some z else None) (Some k) → (k ≡ z) × (in_range k ≡ true)
-some_counter true z k h e = let same : z ≡ k = some_same z k e in (sym same, rw (← same) h)
-some_counter false z k h e = absurd (none_is_no_some k e)
-
-counter_reached : (w : Direction) (step k : ℤ) (n : ℕ) → counter_after w step n ≡ Some k → (k ≡ counter_at w step n) × (in_range k ≡ true)
-counter_reached w step k n e = some_counter (in_range (counter_at w step n)) (counter_at w step n) k refl e
-
 counter_returns : (w : Direction) (step k : ℤ) (n : ℕ) → in_range step ≡ true → counter_after w step n ≡ Some k → counter_after (opposite w) k n ≡ Some step
 counter_returns w step k n fits e =
-    let back : counter_at (opposite w) k n ≡ step = counter_back w step k n (counter_reached w step k n e).0 in
+    let back : counter_at (opposite w) k n ≡ step = sym (counter_back w step k n (counter_is w step k n e).0) in
     rw (back, fits) refl
 
 -- ---- the start
@@ -145,12 +124,6 @@ required : (b : Bool) (refusal : Refusal) (u : Unit {0}) → require b refusal �
 required true refusal u e = refl
 required false refusal u e = absurd (err_is_no_ok refusal u e)
 
-pair_same : {X Y : Type 0} → (x y : X × Y) → ◌≡◌ {A = Result (X × Y) Refusal} (Ok x) (Ok y) → x ≡ y
-pair_same x y e = cc
-
-list_same : (x y : List ℕ) → ◌≡◌ {A = Result (List ℕ) Refusal} (Ok x) (Ok y) → x ≡ y
-list_same x y e = cc
-
 counted_ok : (o : Option ℤ) (k : ℤ) → in_counter o ≡ Ok k → o ≡ Some k
 counted_ok (Some z) k e = cc
 counted_ok None k e = absurd (err_is_no_ok step_range k e)
@@ -171,8 +144,8 @@ system_parts j s system e =
     let f = bind_ok _ _ b.0 b.1 in
     let c = bind_ok _ _ b.0 f.2 in
     let d = bind_ok _ _ b.0 c.2 in
-    let types : c.0 ≡ b.0 = list_same c.0 b.0 d.2 in
-    let same : (a.0, b.0) ≡ system = pair_same (a.0, b.0) system b.2 in
+    let types : c.0 ≡ b.0 = ok_same c.0 b.0 d.2 in
+    let same : (a.0, b.0) ≡ system = ok_same (a.0, b.0) system b.2 in
     rw (← same)
     (record {
       energy_read = refused_ok energy_refused (energy_of j) a.0 a.1;
@@ -203,7 +176,7 @@ parts_of law job state w n start e =
       alike = parts.alike;
       room = parts.room;
       counted = counted_ok (counter_after w b.0.step n) k.0 k.1;
-      start_is = ok_same start _ k.2;
+      start_is = sym (ok_same _ start k.2);
     }
 
 -- texts that are read as a job and a state have the start of these
@@ -226,7 +199,7 @@ run_back law job state w n text r =
     let back = returned w d n (frames_of s) f (frames_are s read.0) stepped in
     let previous : length f.previous ≡ length s.atoms = back.atoms ∙ length-map s.atoms (λ a. a.previous) in
     let current : length f.current ≡ length s.atoms = sym back.frames'.alike ∙ previous in
-    let reached = counter_reached w s.step p.counter n p.counted in
+    let reached = counter_is w s.step p.counter n p.counted in
     let after = moved_state s f p.counter in
     let is_after : r.after ≡ after = rw p.start_is at r.ran.moved in
     let again : state_of text ≡ Ok after =

@@ -118,7 +118,8 @@ uneven code inputs here meetings within st e =
 
 -- ---- to the end
 
-some_way : (i : Instr) (from : ℕ) → (to : ℕ) × MayGo i from to
+-- from each instruction there is a way on
+pub some_way : (i : Instr) (from : ℕ) → (to : ℕ) × MayGo i from to
 some_way (Push v) from = (from + 1, refl)
 some_way (Input k) from = (from + 1, refl)
 some_way (Keep k) from = (from + 1, refl)

@@ -7,7 +7,8 @@ use Rattle.std.proofs.lemmas.Bool.Decides.{nat_tests}
 use Rattle.fixed.specs.Rounding.{IsNearest}
 use Rattle.ring_box.specs.Places.{IsMinimumImage, IsPlace, IsPlaceOfPm, difference, place_at, signed}
 
-place_below : (z : ℤ) → place_at z < 2 ^ 32
+-- a place is below 2^32
+pub place_below : (z : ℤ) → place_at z < 2 ^ 32
 place_below (pos n) = omega arith
 place_below (negsuc n) = omega arith
 

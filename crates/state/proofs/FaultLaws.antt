@@ -23,7 +23,7 @@ use Rattle.state.specs.declared.versions.Version.TheVariants.{First, Second}
 use Rattle.state.proofs.AtomLaws.{atom_again, atom_found, atom_lacks}
 use Rattle.state.proofs.AtomListLaws.{atoms_found}
 use Rattle.state.proofs.LineLaws.{count_again, count_found, count_lacks, field_again, field_found, frac_again, frac_found, frac_lacks, head_again, head_found, head_lacks, line_again, sides_again, sides_found, sides_lack, step_again, step_found, step_lacks, title_again, title_found, title_lacks}
-use Rattle.state.proofs.StateReadsAgain.{state_reads_again}
+use Rattle.state.proofs.StateReadsAgain.{in_turn, state_reads_again}
 
 -- ---- lines
 
@@ -177,9 +177,6 @@ behind_title s = ended (step_line s.step) ++ behind_step s
 
 abbrev behind_head : StateView → List ℕ
 behind_head s = ended (title_line s.title) ++ behind_title s
-
-in_turn : (a b c d e f g : List ℕ) → a ++ b ++ c ++ d ++ e ++ f ++ g ≡ a ++ (b ++ (c ++ (d ++ (e ++ (f ++ g)))))
-in_turn a b c d e f g = simp append_assoc
 
 whole_text : (s : StateView) → state_text s ≡ ended (head_line (version_of s.frac)) ++ behind_head s
 unfolding state_text

@@ -13,7 +13,8 @@ use Rattle.state.proofs.LineLaws.{field_again, head_again, head_lacks, title_aga
 use Rattle.state.proofs.AtomListLaws.{atoms_again}
 use Rattle.state.proofs.StateFound.{state_found}
 
-in_turn : (a b c d e f g : List ℕ) → a ++ b ++ c ++ d ++ e ++ f ++ g ≡ a ++ (b ++ (c ++ (d ++ (e ++ (f ++ g)))))
+-- seven parts of a text, however they are joined
+pub in_turn : (a b c d e f g : List ℕ) → a ++ b ++ c ++ d ++ e ++ f ++ g ≡ a ++ (b ++ (c ++ (d ++ (e ++ (f ++ g)))))
 in_turn a b c d e f g = simp append_assoc
 
 -- the text of a state is read as that state

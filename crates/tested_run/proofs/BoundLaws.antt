@@ -3,13 +3,14 @@ use Rattle.std.proofs.Common.{ℕ, ◌<◌, ◌≤◌, List, ℤ, ◌≡◌, ◌
 use Rattle.std.specs.Prelude.{unsigned_abs, neg_ℤ, option_map, is_some, map, ◌==◌, if◌then◌else◌}
 use Rattle.std.specs.List.{All, list_all}
 use Rattle.std.proofs.lemmas.List.Elements.{All-weaker, All-map}
+use Rattle.std.proofs.lemmas.Option.{same_Some}
 use Rattle.ring_box.specs.declared.boxes.RingBox.{RingBox}
 use Rattle.ring_box.specs.Distances.{square_of}
 use Rattle.ring_box.specs.Forces.{IsWithin, force_along_of, no_force}
 use Rattle.ring_box.specs.declared.vectors.Force.{Force}
 use Rattle.ring_box.specs.declared.vectors.Place3.{Place3}
 use Rattle.integrator.specs.Forces.{sum_of_shares, pairs_of, force_or_none, forces_of, numbers_from}
-use Rattle.integrator.proofs.Constructors.{none_is_no_some, some_same}
+use Rattle.integrator.proofs.Constructors.{none_is_no_some}
 use Rattle.integrator.specs.Frames.{force_at}
 use Rattle.integrator.proofs.BoundLaws.{along_within, forces_within, none_within, within-weaker}
 
@@ -20,17 +21,17 @@ all_within-weaker b c sums h = All-weaker (IsWithin b) (IsWithin c) (λ v. withi
 mapped_within : (b : ℕ) (ring : RingBox) (o : Option ℤ) (p q : Place3) (v : Force ℤ) → ((g : ℤ) → o ≡ Some g → unsigned_abs g ≤ b)
     → option_map (λ g. force_along_of ring (neg_ℤ g) p q) o ≡ Some v → IsWithin b v
 mapped_within b ring None p q v h e = absurd (none_is_no_some v e)
-mapped_within b ring (Some g) p q v h e = rw (← some_same (force_along_of ring (neg_ℤ g) p q) v e) (along_within b ring g p q (h g refl))
+mapped_within b ring (Some g) p q v h e = rw (← same_Some (force_along_of ring (neg_ℤ g) p q) v e) (along_within b ring g p q (h g refl))
 
 apart_within : (b : ℕ) (ring : RingBox) (together : Bool) (o : Option ℤ) (p q : Place3) (v : Force ℤ) → ((g : ℤ) → o ≡ Some g → unsigned_abs g ≤ b)
     → (if together then Some no_force else option_map (λ g. force_along_of ring (neg_ℤ g) p q) o) ≡ Some v → IsWithin b v
-apart_within b ring true o p q v h e = rw (← some_same no_force v e) (none_within b)
+apart_within b ring true o p q v h e = rw (← same_Some no_force v e) (none_within b)
 apart_within b ring false o p q v h e = mapped_within b ring o p q v h e
 
 -- a pair's force is at most the greatest slope
 pub force_at_within : (b : ℕ) (ring : RingBox) (slope : ℤ → Option ℤ) (r : Option ℤ) (p q : Place3) (v : Force ℤ) → ((r g : ℤ) → slope r ≡ Some g → unsigned_abs g ≤ b)
     → force_at ring slope r p q ≡ Some v → IsWithin b v
-force_at_within b ring slope None p q v h e = rw (← some_same no_force v e) (none_within b)
+force_at_within b ring slope None p q v h e = rw (← same_Some no_force v e) (none_within b)
 force_at_within b ring slope (Some r) p q v h e = apart_within b ring (square_of ring p q == 0) (slope r) p q v (h r) e
 
 -- ---- the forces of a frame

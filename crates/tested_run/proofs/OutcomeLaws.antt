@@ -3,7 +3,7 @@ use Rattle.std.proofs.Common.{◌≡◌, ℕ, zero, suc, ◌+◌, ◌<◌, ◌�
 use Rattle.std.specs.Prelude.{slice_get}
 use Rattle.std.specs.Option.{option_and_then}
 use Rattle.std.proofs.lemmas.Bool.{cases_lt}
-use Rattle.std.proofs.lemmas.Option.{slice_get_within}
+use Rattle.std.proofs.lemmas.Option.{slice_get_within, same_Some}
 use Rattle.derivative.specs.Slope.{slope_of}
 use Rattle.energy_program.specs.Tree.{Tree}
 use Rattle.kernel_code.specs.declared.instructions.Instr.{Instr}
@@ -11,7 +11,7 @@ use Rattle.kernel_code.specs.declared.traps.Trap.{Trap}
 use Rattle.kernel_code.specs.Code.{JumpsForward}
 use Rattle.kernel_code.specs.Machine.{State, Turn, act, after, end_of, goes_on, next_state, start, turn_at, Ends}
 use Rattle.kernel_code.proofs.Runs.{one_end, turn_leads}
-use Rattle.integrator.proofs.Constructors.{none_is_no_some, some_same}
+use Rattle.integrator.proofs.Constructors.{none_is_no_some}
 use Rattle.integrator.specs.Kernels.{GivesSlope, is_operation}
 use Rattle.tested_run.specs.declared.slope_faults.SlopeFault.{SlopeFault}
 use Rattle.tested_run.specs.Outcomes.{OutcomesAreEnds, end_after, fault_of, first_from, operation_fault, or_else, outcome_of, where_given}
@@ -36,8 +36,8 @@ first_is f x m (suc count) n h only low high = first_at f x m count n (f n) refl
 goes_by : (bits : ℕ) (code : List Instr) (inputs : List ℤ) (s t : State) (i : Instr) (turn : Turn) → JumpsForward code → slice_get code s.pc ≡ Some i
     → act bits i inputs s.pc s.stack s.locals ≡ turn → goes_on (Some turn) ≡ Some t → (s.pc < t.pc) × (t.pc ≤ length code)
 goes_by bits code inputs s t i (Ok next) forward here is e =
-    let same : next ≡ t = some_same next t e in
-    turn_leads bits code inputs s t i forward (slice_get_within code s.pc i here) here (is ∙ ap Ok same)
+    let same : next ≡ t = same_Some next t e in
+    turn_leads bits code inputs s.pc s.stack s.locals t i forward (slice_get_within code s.pc i here) here (is ∙ ap Ok same)
 goes_by bits code inputs s t i (Err kind) forward here is e = absurd (none_is_no_some t e)
 
 goes_from : (bits : ℕ) (code : List Instr) (inputs : List ℤ) (s t : State) (i : Option Instr) → JumpsForward code → slice_get code s.pc ≡ i → goes_on (turn_at bits code inputs s) ≡ Some t
@@ -56,7 +56,7 @@ far_by bits code inputs n s (Some t) forward e before =
 
 far : (bits : ℕ) (code : List Instr) (inputs : List ℤ) (n : ℕ) (s : State) → JumpsForward code → after bits code inputs n ≡ Some s → (n ≤ s.pc) × (s.pc ≤ length code)
 far bits code inputs zero s forward e =
-    let same : start ≡ s = some_same start s e in
+    let same : start ≡ s = same_Some start s e in
     let place : 0 ≡ s.pc = ap (λ (s : State). s.pc) same in
     (omega arith, omega arith)
 far bits code inputs (suc n) s forward e =

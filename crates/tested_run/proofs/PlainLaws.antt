@@ -3,6 +3,7 @@ use Rattle.std.proofs.Common.{◌≡◌, ℕ, zero, suc, Bool, true, false, List
 use Rattle.std.specs.Prelude.{is_some, option_map, unwrap_or, map, neg_ℤ, ◌==◌, if◌then◌else◌}
 use Rattle.std.specs.Option.{option_and_then}
 use Rattle.std.specs.List.{list_all}
+use Rattle.std.proofs.lemmas.Bool.{false≢true}
 use Rattle.kernel_code.specs.declared.traps.Trap.{Trap}
 use Rattle.job.specs.Values.{JobValue}
 use Rattle.ring_box.specs.declared.boxes.RingBox.{RingBox}
@@ -50,9 +51,6 @@ at_kept ring s t (Some r) p q h v e = apart_kept ring (square_of ring p q == 0) 
 
 -- ---- a frame
 
-false_is_not_true : ◌≡◌ {A = Bool} false true → ⊥
-false_is_not_true e = cc
-
 -- the forces of a pair and of the pairs after it, where all have one
 record Forced (force : ℕ × ℕ → Option (Force ℤ)) (p : ℕ × ℕ) (ps : List (ℕ × ℕ)) : Type 0 where
   v : Force ℤ
@@ -60,7 +58,7 @@ record Forced (force : ℕ × ℕ → Option (Force ℤ)) (p : ℕ × ℕ) (ps :
   rest : list_all (λ p. is_some (force p)) ps ≡ true
 
 forced : (force : ℕ × ℕ → Option (Force ℤ)) (p : ℕ × ℕ) (ps : List (ℕ × ℕ)) (o : Option (Force ℤ)) → force p ≡ o → list_all (λ p. is_some (force p)) (p ∷ ps) ≡ true → Forced force p ps
-forced force p ps None h e = absurd (false_is_not_true (rw h at e))
+forced force p ps None h e = absurd (false≢true (rw h at e))
 forced force p ps (Some v) h e = record { v = v; has = h; rest = rw h at e }
 
 module _ (force other : ℕ × ℕ → Option (Force ℤ)) (kept : (p : ℕ × ℕ) → Keeps (force p) (other p)) where

@@ -1,6 +1,6 @@
 -- The places that a round keeps of its workers are the machine's state.
 use Rattle.std.proofs.Common.{◌≡◌, ℕ, zero, suc, ◌+◌, ◌*◌, ◌%◌, ◌^◌, ◌<◌, ◌≤◌, List, [], ◌∷◌, ◌++◌, map, drop, length, get_or, set, replicate, Option, Some, None, Ok, Err, slice_get, slice_index, sum_by, ℤ, pos, refl, sym, ap, subst, ◌∙◌, ⊎_elim, arith, add-one}
-use Rattle.std.proofs.lemmas.Option.{slice_get-map}
+use Rattle.std.proofs.lemmas.Option.{slice_get-map, slice_get_within}
 use Rattle.std.proofs.lemmas.List.{length-map}
 use Rattle.std.proofs.lemmas.List.Concat.{flat_map-cons}
 use Rattle.std.specs.Int.{w64, cast_signed, cast_unsigned}
@@ -19,7 +19,7 @@ use Rattle.tile_round.specs.declared.places.WorkerPlace.TheVariants.{Resting, Ad
 use Rattle.tile_round.specs.Tiles.{Addition, additions_of, tile_of, tiles_of, tile_at, pairs_at, IsPairOf}
 use Rattle.tile_round.specs.Interleaving.{State, Stand, Progress, opening, stand_at, outcome_at, on_claim, on_deposit}
 use Rattle.tile_round.specs.Interleaving.Stand.{doing, ended}
-use Rattle.tile_round.specs.Places.{task_at, later, stand_of, stands_of, stops, IsPlace, IsSound}
+use Rattle.tile_round.specs.Places.{task_at, later, stand_of, stands_of, stops, IsPlace, IsSound, IsTask}
 use Rattle.tile_round.proofs.RunLemmas.{at_set, replicated, stand_below, stand_past, outcome_below, outcome_past, stops_most, claim_few, deposit_stops}
 
 -- a list from the place of an element on is that element and what comes behind it
@@ -127,7 +127,7 @@ module _ (sums : List ℤ) (k amount bits : ℕ) (old result : ℤ) (lt : k < le
       ∙ (sum_signed sums k n (mod_below (cast_unsigned w64 old + amount) (2 ^ 64) (omega arith)) signed ∙ ap (set sums k) (sym stored))
 
 -- an addition of a pair goes to an entry of one of its atoms
-pub entry_inside : (atoms : ℕ) (p : PairAdd) (part : ℕ) (a : Addition) → IsPairOf atoms p → slice_get (additions_of (Some p)) part ≡ Some a → a.0 < 3 * atoms
+entry_inside : (atoms : ℕ) (p : PairAdd) (part : ℕ) (a : Addition) → IsPairOf atoms p → slice_get (additions_of (Some p)) part ≡ Some a → a.0 < 3 * atoms
 entry_inside atoms p zero a pair at = let e : 3 * p.low ≡ a.0 = cc at in omega (arith, pair.ordered, pair.inside)
 entry_inside atoms p (suc zero) a pair at = let e : 3 * p.low + 1 ≡ a.0 = cc at in omega (arith, pair.ordered, pair.inside)
 entry_inside atoms p (suc (suc zero)) a pair at = let e : 3 * p.low + 2 ≡ a.0 = cc at in omega (arith, pair.ordered, pair.inside)
@@ -149,6 +149,24 @@ adds_at None task is = absurd (cc is)
 adds_at (Some Stopped) task is = absurd (cc is)
 adds_at (Some Resting) task is = absurd (cc is)
 adds_at (Some (Adding other)) task is = ap (λ (t : Task). Some (Adding t)) (let same : other ≡ task = cc is in same)
+
+-- a worker that has a task, or rests, is one of those that there are
+pub is_worker : (places : List WorkerPlace) (w : ℕ) (o : Option Task) → task_at (slice_get places w) ≡ Ok o → w < length places
+is_worker places w None is = slice_get_within places w Resting (rests_at (slice_get places w) is)
+is_worker places w (Some task) is = slice_get_within places w (Adding task) (adds_at (slice_get places w) task is)
+
+-- the task of a worker of a sound round is within the plan
+pub is_task : {atoms room : ℕ} {plan : List (List (Option PairAdd))} {drawn : List ℕ} {places : List WorkerPlace} {sums : List ℤ} → IsSound atoms plan drawn room places sums
+    → (w : ℕ) (task : Task) → task_at (slice_get places w) ≡ Ok (Some task) → IsTask atoms plan task
+is_task {places = places} sound w task is = sound.within w (Adding task) (adds_at (slice_get places w) task is)
+
+-- there is a sum for the entry of its next addition
+pub has_sum : {atoms room : ℕ} {plan : List (List (Option PairAdd))} {drawn : List ℕ} {places : List WorkerPlace} {sums : List ℤ} → IsSound atoms plan drawn room places sums
+    → (w : ℕ) (task : Task) → task_at (slice_get places w) ≡ Ok (Some task) → (a : Addition) → slice_get (additions_of (Some task.add)) task.part ≡ Some a → a.0 < length sums
+has_sum {atoms} sound w task is a next =
+    let inside = entry_inside atoms task.add task.part a (is_task sound w task is).pair next in
+    let wide = sound.wide in
+    omega arith
 
 module _ (plan : List (List (Option PairAdd))) where
   -- the machine's state
@@ -177,22 +195,20 @@ module _ (plan : List (List (Option PairAdd))) where
       let stands : slice_get now.state.stands w ≡ Some (doing []) = ap (λ (v : Progress). slice_get v.state.stands w) (sym seen) ∙ standing places w (Some Resting) at in
       sym (ap (on_deposit now.tiles now.state w) stands)
 
-  -- the place of a worker that has drawn a ticket
-  pub drew_tile : (t : ℕ) (p : WorkerPlace) → t < length plan → stand_of plan p ≡ doing (tile_of (drop 0 (pairs_at plan t))) → stand_of plan p ≡ stand_at (tiles_of plan) t
-  drew_tile t p lt e =
-      e ∙ (ap doing (sym (tile_at-tiles_of plan t)) ∙ sym (stand_below (tiles_of plan) t (omega (arith, length-map plan tile_of))))
+  -- a worker that drew the next ticket, of a tile: its place, and the answer
+  pub drew_tile : (drawn : List ℕ) (t : ℕ) (p : WorkerPlace) → t ≡ length drawn → t < length plan → stand_of plan p ≡ doing (tile_of (drop 0 (pairs_at plan t)))
+      → (stand_of plan p ≡ stand_at (tiles_of plan) (length drawn)) × (Drew t ≡ outcome_at (tiles_of plan) (length drawn))
+  drew_tile drawn t p next lt e =
+      let below : t < length (tiles_of plan) = omega (arith, length-map plan tile_of) in (
+        e ∙ (ap doing (sym (tile_at-tiles_of plan t)) ∙ (sym (stand_below (tiles_of plan) t below) ∙ ap (stand_at (tiles_of plan)) next)),
+        sym (outcome_below (tiles_of plan) t below) ∙ ap (outcome_at (tiles_of plan)) next,
+      )
 
-  -- a worker that drew a ticket past the tiles has stopped
-  pub drew_none : (t : ℕ) → length plan ≤ t → stand_of plan Stopped ≡ stand_at (tiles_of plan) t
-  drew_none t le = sym (stand_past (tiles_of plan) t (omega (arith, length-map plan tile_of)))
-
-  -- a ticket of a tile is answered as drawn
-  pub outcome_tile : (t : ℕ) → t < length plan → Drew t ≡ outcome_at (tiles_of plan) t
-  outcome_tile t lt = let below : t < length (tiles_of plan) = omega (arith, length-map plan tile_of) in sym (outcome_below (tiles_of plan) t below)
-
-  -- a ticket past the tiles is answered as the end
-  pub outcome_none : (t : ℕ) → length plan ≤ t → Ended ≡ outcome_at (tiles_of plan) t
-  outcome_none t le = let past : length (tiles_of plan) ≤ t = omega (arith, length-map plan tile_of) in sym (outcome_past (tiles_of plan) t past)
+  -- a worker that drew a ticket past the tiles
+  pub drew_none : (drawn : List ℕ) → length plan ≤ length drawn → (stand_of plan Stopped ≡ stand_at (tiles_of plan) (length drawn)) × (Ended ≡ outcome_at (tiles_of plan) (length drawn))
+  drew_none drawn le =
+      let past : length (tiles_of plan) ≤ length drawn = omega (arith, length-map plan tile_of) in
+      (sym (stand_past (tiles_of plan) (length drawn) past), sym (outcome_past (tiles_of plan) (length drawn) past))
 
   -- a claim of a worker at rest
   pub claims_so : (drawn drawn' : List ℕ) (places : List WorkerPlace) (sums : List ℤ) (w : ℕ) (p : WorkerPlace) (outcome : Outcome)

@@ -1,24 +1,23 @@
 -- Trajectories: what frames one after the other are, and what is left of them where a run ends early.
-use Rattle.std.proofs.Common.{◌≡◌, ℕ, zero, suc, ◌+◌, ◌*◌, ◌/◌, ◌<◌, ◌≤◌, Bool, true, false, List, [], ◌++◌, ℤ, Option, Some, None, Ok, arith, refl, ap, sym, subst, ◌∙◌}
+use Rattle.std.proofs.Common.{◌≡◌, ℕ, zero, suc, ◌+◌, ◌*◌, ◌/◌, ◌<◌, ◌≤◌, true, false, List, [], ◌++◌, ℤ, Option, Some, None, Ok, arith, refl, ap, sym, subst, ◌∙◌}
 use Rattle.std.specs.Prelude.{is_none, if◌then◌else◌}
-use Rattle.std.proofs.lemmas.Int.{ints}
 use Rattle.fixed.specs.Arithmetic.{in_range}
+use Rattle.fixed.proofs.IntegerLaws.{in_range_is}
 use Rattle.fallible.specs.Out.{Output, Appends, AppendsBeginning}
 use Rattle.fallible.proofs.Appends.{appends_both, appends_nothing, begins_next}
 use Rattle.state.specs.StateText.{StateView}
-use Rattle.integrator.proofs.ReturnLaws.{in_range_is}
 use Rattle.state.proofs.StateReadsAgain.{one_text}
 use Rattle.integrator.specs.States.{counter_after, counter_at}
+use Rattle.integrator.proofs.CounterLaws.{counter_fits, counter_is, counter_stays}
 use Rattle.integrator.specs.declared.direction.Direction.{Direction}
-use Rattle.integrator.specs.declared.direction.Direction.TheVariants.{Back, Forward}
 use Rattle.integrator.specs.declared.faults.StepFault.TheVariants as step
 use Rattle.engine.specs.Engines.{AreStopped, EngineView, IsEngineOfTexts, IsRunUnwritten, Wants, Went}
 use Rattle.trajectory.specs.Trajectories.{AreFramesUnwritten, AreJoined, BeganFrames, Halts, IsFrameOfRun, IsFrameOnWay, IsFrameUnwritten, IsStopped, LeftBeginning, LeftWhole, WroteFrame, WroteFrames, run_fault_of}
 use Rattle.trajectory.specs.declared.halts.Halt.{Halt}
 use Rattle.trajectory.specs.declared.halts.Halt.TheVariants as halt
 use Rattle.std.proofs.Math.Nat.{mul-le-mul_right}
+use Rattle.std.proofs.lemmas.Bool.{false≢true}
 use Rattle.engine.proofs.EngineLaws.{counter_reached, engine_ran, engine_stops, safe_texts, went_nowhere}
-use Rattle.engine.proofs.HeadlineLaws.{counter_is}
 use Rattle.engine.proofs.WentLaws.{counters_add, steps_add}
 
 -- ---- the counter
@@ -115,25 +114,14 @@ stopped_later before made steps more h some few stopped =
 
 -- ---- counters that fit
 
-no_truth : ◌≡◌ {A = Bool} false true → ⊥
-no_truth e = cc
-
 -- a number that is told to be missing is missing
 pub none_is : (o : Option ℤ) → is_none o ≡ true → o ≡ None
 none_is None h = refl
-none_is (Some z) h = absurd (no_truth h)
-
-some_in : (b : Bool) (z : ℤ) → is_none (if b then Some z else None) ≡ false → b ≡ true
-some_in true z h = refl
-some_in false z h = absurd (no_truth (sym h))
-
-no_way : (w : Direction) (z : ℤ) → counter_at w z 0 ≡ z
-no_way Forward z = omega (arith, ints)
-no_way Back z = omega (arith, ints)
+none_is (Some z) h = absurd (false≢true h)
 
 -- a counter that fits after no step
 pub fits_now : (w : Direction) (z : ℤ) → is_none (counter_after w z 0) ≡ false → in_range z ≡ true
-fits_now w z h = subst (λ (x : ℤ). in_range x ≡ true) (no_way w z) (some_in (in_range (counter_at w z 0)) (counter_at w z 0) h)
+fits_now w z h = subst (λ (x : ℤ). in_range x ≡ true) (counter_stays w z) (counter_fits w z 0 h)
 
 -- the counter of an engine of texts
 engine_in_range : (job state : List ℕ) (e : EngineView) → IsEngineOfTexts job state e → in_range e.state.step ≡ true

@@ -1,12 +1,12 @@
 -- Runs on inputs in some spans, place by place.
 use Rattle.std.proofs.Common.{◌≡◌, ◌≢◌, ℕ, zero, suc, ◌+◌, ◌<◌, ◌≤◌, List, [], ◌∷◌, length, Option, Some, None, Ok, refl, sym, ap, ◌∙◌, subst, arith, ℤ, pos, negsuc, ⊎_elim, replicate, Bool, true, false, IsTrue, ◌↔◌}
-use Rattle.std.specs.Prelude.{slice_get, slice_set, slice_index_or, nat_lt, nat_le}
+use Rattle.std.specs.Prelude.{slice_get, slice_set, nat_lt, nat_le}
 use Rattle.std.proofs.lemmas.Bool.{cases_eq, cases_lt, and_parts, leb-true}
 use Rattle.std.proofs.lemmas.Int.{ints}
 use Rattle.std.proofs.lemmas.Bool.Decides.{Decides-int_eq}
 use Rattle.std.specs.Ordering.{int_eq}
 use Rattle.std.proofs.lemmas.Option.{slice_get_within}
-use Rattle.std.proofs.lemmas.List.{get_or-set_same, get_or-set_other, get_or_past, length-replicate}
+use Rattle.std.proofs.lemmas.List.{get_or-set_same, get_or-set_other, get_or_past, length-replicate, nil_from_length}
 use Rattle.std.proofs.Math.ListN.{length-set}
 use Rattle.interval_domain.specs.declared.span.Span.{Span}
 use Rattle.interval_domain.specs.Spans.{IsMember}
@@ -207,7 +207,7 @@ comes_on bits code inputs here i frame old between new is c at_code t p l =
           let taken = t.taken in
           let same : a.held.frame ≡ frame = cc in
           let u = p.each xs a.state.stack a.state.locals m (subst (λ (f : SpanFrameView). AreIn f a.state.stack a.state.locals) same a.held.within) in
-          let k = turn_leads bits code xs s u.0 i is.forward (slice_get_within code here i at_code) at_code u.1 in
+          let k = turn_leads bits code xs s.pc s.stack s.locals u.0 i is.forward (slice_get_within code here i at_code) at_code u.1 in
           record { n = suc a.n; state = u.0; reached = after_more bits code xs a.n s u.0 i reached at_code u.1; from = omega (arith, k.0); within = k.1; held = u.2 })
           (λ (n : a.state.pc ≢ here).
           let kept : Holds between a.state.pc a.state.stack a.state.locals = record { frame = a.held.frame; there = t.others a.state.pc n ∙ a.held.there; within = a.held.within } in
@@ -253,10 +253,6 @@ one_member [] s h = absurd h
 one_member (y ∷ []) s h = (y, refl, h.0)
 one_member (y ∷ z ∷ zs) s h = absurd h.1
 
-no_spans : (l : List Span) → length l ≡ 0 → l ≡ []
-no_spans [] e = refl
-no_spans (x ∷ l) e = absurd (omega (arith, e))
-
 -- the span of the one value that is left at the end
 pub gives_at_end : (bits : ℕ) (code : List Instr) (inputs : List Span) (s : Span) (frame rest : SpanFrameView) (old new : List (Option SpanFrameView)) → Comes bits code inputs (length code) old → Takes (length code) (Some frame) old new → Pops s frame rest → length frame.stack ≡ 1 → AllGiveIn bits code inputs s
 gives_at_end bits code inputs s frame rest old new c t p one =
@@ -269,7 +265,7 @@ gives_at_end bits code inputs s frame rest old new c t p one =
           let taken = t.taken in
           let same : a.held.frame ≡ frame = cc in
           let on : AreMembers a.state.stack frame.stack = subst (λ (f : SpanFrameView). AreMembers a.state.stack f.stack) same a.held.within.on_stack in
-          let top : frame.stack ≡ s ∷ [] = p.stack ∙ ap (λ (l : List Span). s ∷ l) (no_spans rest.stack none) in
+          let top : frame.stack ≡ s ∷ [] = p.stack ∙ ap (λ (l : List Span). s ∷ l) (nil_from_length rest.stack none) in
           let o = one_member a.state.stack s (subst (AreMembers a.state.stack) top on) in
           let st : State = record { pc = a.state.pc; stack = o.0 ∷ []; locals = a.state.locals } in
           let reached : after bits code xs a.n ≡ Some st = a.reached ∙ ap (λ (l : List ℤ). Some (record { pc = a.state.pc; stack = l; locals = a.state.locals })) o.1 in

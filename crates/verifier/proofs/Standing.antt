@@ -3,6 +3,7 @@ use Rattle.std.proofs.Common.{◌≡◌, ◌≢◌, ℕ, zero, suc, ◌+◌, ◌
 use Rattle.std.specs.Prelude.{◌⊎◌, slice_get, slice_index_or, nat_lt}
 use Rattle.std.proofs.lemmas.Bool.{cases_eq, cases_lt, lt-ltb, le-ltb}
 use Rattle.std.proofs.lemmas.Int.{ints}
+use Rattle.std.proofs.lemmas.List.{nil_from_length}
 use Rattle.fixed.specs.declared.faults.Fault.{Fault}
 use Rattle.interval_domain.specs.declared.span.Span.{Span}
 use Rattle.interval_domain.specs.Spans.{IsMember, IsWithin, IsLeastSpan, IsOutcome, IsOutcomeOfTwo}
@@ -540,10 +541,6 @@ module _ (bits : ℕ) (code : List Instr) (inputs : List Span) where
 
   -- ---- what is found
 
-  no_spans : (l : List Span) → length l ≡ 0 → l ≡ []
-  no_spans [] e = refl
-  no_spans (x ∷ l) e = absurd (omega (arith, e))
-
   -- the frames up to a place whose frame was taken
   frames_to : (here : ℕ) (frame : SpanFrameView) (old new : List (Option SpanFrameView)) → Stands bits code inputs here old → Takes here (Some frame) old new
       → (F : ℕ → Option SpanFrameView) × AreSpanFrames bits code inputs here F × (F here ≡ Some frame)
@@ -562,7 +559,7 @@ module _ (bits : ℕ) (code : List Instr) (inputs : List Span) where
   gives_span s frame rest old new st t p one =
       let f = frames_to (length code) frame old new st t in
       let none : length rest.stack ≡ 0 = omega (arith, ap length p.stack, one) in
-      record { frames = f.0; are = f.1; frame = frame; there = f.2; alone = p.stack ∙ ap (λ (l : List Span). s ∷ l) (no_spans rest.stack none) }
+      record { frames = f.0; are = f.1; frame = frame; there = f.2; alone = p.stack ∙ ap (λ (l : List Span). s ∷ l) (nil_from_length rest.stack none) }
 
   -- where the frames stand at a place, and its operation stops on its frame, the code stops at this place for this cause
   pub stops_at : (here : ℕ) (i : Instr) (fault : Fault) (frame : SpanFrameView) (old new : List (Option SpanFrameView)) → Stands bits code inputs here old → Takes here (Some frame) old new → slice_get code here ≡ Some i → Stops bits i frame fault → StopsAt bits code inputs here fault

@@ -1,7 +1,6 @@
-use Rattle.std.proofs.Common.{arith, refl, length, ◌∙◌, ◌+◌, ap, inl, inr, Some}
-use Rattle.std.proofs.lemmas.Option.{slice_get_read}
+use Rattle.std.proofs.Common.{arith, refl, ◌∙◌, inl, inr}
 use Rattle.fixed.specs.Fractions.{bits_of}
-use Rattle.kernel_code.specs.declared.instructions.Instr.TheVariants.{JumpIfZero, Jump}
+use Rattle.kernel_code.proofs.Runs.{instruction_at}
 use Rattle.std.proofs.lemmas.Result.{IfErr-weaker, err_from_is_err_and}
 use Rattle.verifier.specs.Places.{Stops, StopsAt}
 use Rattle.verifier.proofs.Following.{on_ok, refused_memory, refused_weaker}
@@ -13,81 +12,65 @@ use Rattle.verifier.proofs.slices.pass.Goals as goal
 -- ---- no run comes here
 
 pub returns-in_default-clause-attained : goal.returns-in_default-clause-attained
-returns-in_default-clause-attained g c = past_attained c.args.code.now c.args.here c.args.places.now c.take.new.self c.requires.attained c.in_default.ensures
+returns-in_default-clause-attained g c = past_attained _ _ _ _ c.requires.attained c.in_default.ensures
 
 pub returns-in_default-clause-stands : goal.returns-in_default-clause-stands
-returns-in_default-clause-stands g c = stands_past (bits_of c.args.frac) c.args.code.now c.args.inputs.now c.args.here c.args.places.now c.take.new.self c.requires.stands c.in_default.ensures
+returns-in_default-clause-stands g c = stands_past _ _ _ _ _ _ c.requires.stands c.in_default.ensures
 
 -- ---- a jump
 
 pub returns-in-Jump-clause-stands : goal.returns-in-Jump-clause-stands
-returns-in-Jump-clause-stands g c =
-    let there = slice_get_read c.args.code.now (length c.args.code.now) c.args.here c.index-code-here.result refl c.requires.within c.index-code-here.is in
-    stands_jump (bits_of c.args.frac) c.args.code.now c.args.inputs.now c.args.here c.in-Jump.target c.in-Some.frame c.args.places.now c.take.new.self c.join.new.self c.requires.stands c.in-Some.ensures (there ∙ ap Some c.in-Jump.is) c.join.ensures
+returns-in-Jump-clause-stands g c = stands_jump _ _ _ _ _ _ _ _ _ c.requires.stands c.in-Some.ensures (instruction_at _ _ _ _ c.requires.within c.index-code-here.is c.in-Jump.is) c.join.ensures
 
 pub join-requires-clause-place : goal.join-requires-clause-place
 join-requires-clause-place g c =
-    let there = slice_get_read c.args.code.now (length c.args.code.now) c.args.here c.index-code-here.result refl c.requires.within c.index-code-here.is in
-    let w = jump_within c.args.code.now c.args.here c.in-Jump.target c.requires.code (there ∙ ap Some c.in-Jump.is) in
-    omega (arith, w, c.take.ensures.long, c.requires.long)
+    omega (arith, jump_within _ _ _ c.requires.code (instruction_at _ _ _ _ c.requires.within c.index-code-here.is c.in-Jump.is), c.take.ensures.long, c.requires.long)
 
 pub join-requires-clause-meet : goal.join-requires-clause-meet
-join-requires-clause-meet g c =
-    let there = slice_get_read c.args.code.now (length c.args.code.now) c.args.here c.index-code-here.result refl c.requires.within c.index-code-here.is in
-    jump_meets c.args.code.now (length c.args.inputs.now) c.requires.well.0 c.args.here c.in-Jump.target c.in-Some.frame c.args.places.now c.take.new.self c.requires.well.1 c.requires.attained c.in-Some.ensures (there ∙ ap Some c.in-Jump.is)
+join-requires-clause-meet g c = jump_meets _ _ _ _ _ _ _ _ c.requires.well.1 c.requires.attained c.in-Some.ensures (instruction_at _ _ _ _ c.requires.within c.index-code-here.is c.in-Jump.is)
 
 pub returns-in-Jump-clause-on : goal.returns-in-Jump-clause-on
 returns-in-Jump-clause-on g c =
-    let there = slice_get_read c.args.code.now (length c.args.code.now) c.args.here c.index-code-here.result refl c.requires.within c.index-code-here.is in
-    comes_on (bits_of c.args.frac) c.args.code.now c.args.inputs.now c.args.here (Jump c.in-Jump.target) c.in-Some.frame c.args.places.now c.take.new.self c.join.new.self c.requires.code c.requires.comes (there ∙ ap Some c.in-Jump.is)
-    c.in-Some.ensures (passes_jump _ _ _ _ _ _ c.take.new.self _ c.join.ensures) (joins_loses _ _ _ _ c.join.ensures)
+    comes_on _ _ _ _ _ _ _ _ _ c.requires.code c.requires.comes (instruction_at _ _ _ _ c.requires.within c.index-code-here.is c.in-Jump.is) c.in-Some.ensures
+    (passes_jump _ _ _ _ _ _ c.take.new.self _ c.join.ensures) (joins_loses _ _ _ _ c.join.ensures)
 
 pub returns-in-Jump-clause-attained : goal.returns-in-Jump-clause-attained
 returns-in-Jump-clause-attained g c =
-    let there = slice_get_read c.args.code.now (length c.args.code.now) c.args.here c.index-code-here.result refl c.requires.within c.index-code-here.is in
-    jump_attained c.args.code.now (length c.args.inputs.now) c.requires.well.0 c.args.here c.in-Jump.target c.in-Some.frame c.args.places.now c.take.new.self c.join.new.self c.requires.well.1 c.requires.attained c.in-Some.ensures (there ∙ ap Some c.in-Jump.is) c.join.ensures
+    jump_attained _ _ _ _ _ _ _ _ _ c.requires.well.1 c.requires.attained c.in-Some.ensures (instruction_at _ _ _ _ c.requires.within c.index-code-here.is c.in-Jump.is) c.join.ensures
 
 -- ---- a jump at 0
 
 pub branch-alloc-requires-clause-target : goal.branch-alloc-requires-clause-target
 branch-alloc-requires-clause-target g c =
-    let there = slice_get_read c.args.code.now (length c.args.code.now) c.args.here c.index-code-here.result refl c.requires.within c.index-code-here.is in
-    let w = branch_within c.args.code.now c.args.here c.in-JumpIfZero.target c.requires.code (there ∙ ap Some c.in-JumpIfZero.is) in
-    omega (arith, w, c.take.ensures.long, c.requires.long)
+    omega (arith, branch_within _ _ _ c.requires.code (instruction_at _ _ _ _ c.requires.within c.index-code-here.is c.in-JumpIfZero.is), c.take.ensures.long, c.requires.long)
 
 pub branch-alloc-requires-clause-operand : goal.branch-alloc-requires-clause-operand
 branch-alloc-requires-clause-operand g c =
-    let there = slice_get_read c.args.code.now (length c.args.code.now) c.args.here c.index-code-here.result refl c.requires.within c.index-code-here.is in
-    at_hand c.args.code.now c.args.inputs.now c.requires.well.0 c.args.here (JumpIfZero c.in-JumpIfZero.target) c.in-Some.frame c.args.places.now c.take.new.self c.requires.well.1 c.requires.attained c.in-Some.ensures (there ∙ ap Some c.in-JumpIfZero.is)
+    at_hand _ _ _ _ _ _ _ _ c.requires.well.1 c.requires.attained c.in-Some.ensures (instruction_at _ _ _ _ c.requires.within c.index-code-here.is c.in-JumpIfZero.is)
 
 pub branch-alloc-requires-clause-meet_next : goal.branch-alloc-requires-clause-meet_next
 branch-alloc-requires-clause-meet_next g c =
-    let there = slice_get_read c.args.code.now (length c.args.code.now) c.args.here c.index-code-here.result refl c.requires.within c.index-code-here.is in
-    branch_meets c.args.code.now (length c.args.inputs.now) c.requires.well.0 c.args.here c.in-JumpIfZero.target (c.args.here + 1) c.in-Some.frame c.args.places.now c.take.new.self c.requires.well.1 c.requires.attained c.in-Some.ensures (there ∙ ap Some c.in-JumpIfZero.is) (inl refl)
+    branch_meets _ _ _ _ _ _ _ _ _ c.requires.well.1 c.requires.attained c.in-Some.ensures (instruction_at _ _ _ _ c.requires.within c.index-code-here.is c.in-JumpIfZero.is) (inl refl)
 
 pub branch-alloc-requires-clause-meet_target : goal.branch-alloc-requires-clause-meet_target
 branch-alloc-requires-clause-meet_target g c =
-    let there = slice_get_read c.args.code.now (length c.args.code.now) c.args.here c.index-code-here.result refl c.requires.within c.index-code-here.is in
-    branch_meets c.args.code.now (length c.args.inputs.now) c.requires.well.0 c.args.here c.in-JumpIfZero.target c.in-JumpIfZero.target c.in-Some.frame c.args.places.now c.take.new.self c.requires.well.1 c.requires.attained c.in-Some.ensures (there ∙ ap Some c.in-JumpIfZero.is) (inr refl)
+    branch_meets _ _ _ _ _ _ _ _ _ c.requires.well.1 c.requires.attained c.in-Some.ensures (instruction_at _ _ _ _ c.requires.within c.index-code-here.is c.in-JumpIfZero.is) (inr refl)
 
 pub returns-in-JumpIfZero-clause-on : goal.returns-in-JumpIfZero-clause-on
 returns-in-JumpIfZero-clause-on g c =
-    let there = slice_get_read c.args.code.now (length c.args.code.now) c.args.here c.index-code-here.result refl c.requires.within c.index-code-here.is in
     on_ok c.branch-alloc.result _ _ c.branch-alloc.ensures.branches (λ b.
-    comes_on (bits_of c.args.frac) c.args.code.now c.args.inputs.now c.args.here (JumpIfZero c.in-JumpIfZero.target) c.in-Some.frame c.args.places.now c.take.new.self c.branch-alloc.new.places c.requires.code c.requires.comes (there ∙ ap Some c.in-JumpIfZero.is)
-    c.in-Some.ensures (passes_branch _ _ _ _ _ _ c.take.new.self _ b) (branches_loses _ _ _ _ _ b))
+    comes_on _ _ _ _ _ _ _ _ _ c.requires.code c.requires.comes (instruction_at _ _ _ _ c.requires.within c.index-code-here.is c.in-JumpIfZero.is) c.in-Some.ensures
+    (passes_branch _ _ _ _ _ _ c.take.new.self _ b) (branches_loses _ _ _ _ _ b))
 
 pub returns-in-JumpIfZero-clause-attained : goal.returns-in-JumpIfZero-clause-attained
 returns-in-JumpIfZero-clause-attained g c =
-    let there = slice_get_read c.args.code.now (length c.args.code.now) c.args.here c.index-code-here.result refl c.requires.within c.index-code-here.is in
-    on_ok c.branch-alloc.result _ _ c.branch-alloc.ensures.branches (λ b.
-    branch_attained c.args.code.now (length c.args.inputs.now) c.requires.well.0 c.args.here c.in-JumpIfZero.target c.in-Some.frame c.args.places.now c.take.new.self c.branch-alloc.new.places c.requires.well.1 c.requires.attained c.in-Some.ensures (there ∙ ap Some c.in-JumpIfZero.is) b)
+    on_ok c.branch-alloc.result _ _ c.branch-alloc.ensures.branches
+    (branch_attained _ _ _ _ _ _ _ _ _ c.requires.well.1 c.requires.attained c.in-Some.ensures (instruction_at _ _ _ _ c.requires.within c.index-code-here.is c.in-JumpIfZero.is))
 
 pub returns-in-JumpIfZero-clause-stands : goal.returns-in-JumpIfZero-clause-stands
 returns-in-JumpIfZero-clause-stands g c =
-    let there = slice_get_read c.args.code.now (length c.args.code.now) c.args.here c.index-code-here.result refl c.requires.within c.index-code-here.is in
-    on_ok c.branch-alloc.result _ _ c.branch-alloc.ensures.branches (λ b.
-    stands_branch (bits_of c.args.frac) c.args.code.now c.args.inputs.now c.args.here c.in-JumpIfZero.target c.in-Some.frame c.args.places.now c.take.new.self c.branch-alloc.new.places c.requires.stands c.in-Some.ensures (there ∙ ap Some c.in-JumpIfZero.is) b)
+    on_ok c.branch-alloc.result _ _ c.branch-alloc.ensures.branches
+    (stands_branch _ _ _ _ _ _ _ _ _ c.requires.stands c.in-Some.ensures (instruction_at _ _ _ _ c.requires.within c.index-code-here.is c.in-JumpIfZero.is))
 
 pub returns-in-JumpIfZero-clause-stops : goal.returns-in-JumpIfZero-clause-stops
 returns-in-JumpIfZero-clause-stops g c = IfErr-weaker c.branch-alloc.result _ _ (λ e same. refused_memory _ e same) c.branch-alloc.ensures.memory
@@ -96,35 +79,30 @@ returns-in-JumpIfZero-clause-stops g c = IfErr-weaker c.branch-alloc.result _ _ 
 
 pub returns-in_err-follow-in_default-instr-clause-stops : goal.returns-in_err-follow-in_default-instr-clause-stops
 returns-in_err-follow-in_default-instr-clause-stops g c =
-    let there = slice_get_read c.args.code.now (length c.args.code.now) c.args.here c.index-code-here.result refl c.requires.within c.index-code-here.is in
     let p = err_from_is_err_and c.from_residual.result c.from_residual.ensures.1 in
     rw (p.1, p.2)
     (refused_weaker (Stops (bits_of c.args.frac) c.index-code-here.result c.in-Some.frame) (StopsAt (bits_of c.args.frac) c.args.code.now c.args.inputs.now c.args.here) c.in_err-follow-in_default-instr.field-0.0
-    (λ f x. stops_at (bits_of c.args.frac) c.args.code.now c.args.inputs.now c.args.here c.index-code-here.result f c.in-Some.frame c.args.places.now c.take.new.self c.requires.stands c.in-Some.ensures there x)
+    (λ f x. stops_at _ _ _ _ _ f _ _ _ c.requires.stands c.in-Some.ensures (instruction_at _ _ _ _ c.requires.within c.index-code-here.is refl) x)
     c.in_err-follow-in_default-instr.ensures.stops)
 
 pub follow-requires-clause-at_hand : goal.follow-requires-clause-at_hand
-follow-requires-clause-at_hand g c =
-    let there = slice_get_read c.args.code.now (length c.args.code.now) c.args.here c.index-code-here.result refl c.requires.within c.index-code-here.is in
-    at_hand c.args.code.now c.args.inputs.now c.requires.well.0 c.args.here c.index-code-here.result c.in-Some.frame c.args.places.now c.take.new.self c.requires.well.1 c.requires.attained c.in-Some.ensures there
+follow-requires-clause-at_hand g c = at_hand _ _ _ _ _ _ _ _ c.requires.well.1 c.requires.attained c.in-Some.ensures (instruction_at _ _ _ _ c.requires.within c.index-code-here.is refl)
 
 pub join-requires-in_default-instr-clause-meet : goal.join-requires-in_default-instr-clause-meet
 join-requires-in_default-instr-clause-meet g c =
-    let there = slice_get_read c.args.code.now (length c.args.code.now) c.args.here c.index-code-here.result refl c.requires.within c.index-code-here.is in
-    plain_meets (bits_of c.args.frac) c.args.code.now c.args.inputs.now c.requires.well.0 c.args.here c.index-code-here.result c.in-Some.frame c.follow.new.frame c.args.places.now c.take.new.self c.requires.well.1 c.requires.attained c.in-Some.ensures there
+    plain_meets _ _ _ _ _ _ _ _ _ _ c.requires.well.1 c.requires.attained c.in-Some.ensures (instruction_at _ _ _ _ c.requires.within c.index-code-here.is refl)
     (is_plain _ c.in_default-instr.not-JumpIfZero c.in_default-instr.not-Jump) c.in_ok-follow-in_default-instr.ensures.follows
 
 pub returns-in_ok-follow-in_default-instr : goal.returns-in_ok-follow-in_default-instr
 returns-in_ok-follow-in_default-instr g c =
-    let there = slice_get_read c.args.code.now (length c.args.code.now) c.args.here c.index-code-here.result refl c.requires.within c.index-code-here.is in
+    let there = instruction_at _ _ _ _ c.requires.within c.index-code-here.is refl in
+    let plain = is_plain c.index-code-here.result c.in_default-instr.not-JumpIfZero c.in_default-instr.not-Jump in
+    let follows = c.in_ok-follow-in_default-instr.ensures.follows in
     let j = c.join-in_default-instr.ensures in
     record {
-      on = comes_on (bits_of c.args.frac) c.args.code.now c.args.inputs.now c.args.here c.index-code-here.result c.in-Some.frame c.args.places.now c.take.new.self c.join-in_default-instr.new.self c.requires.code c.requires.comes there
-          c.in-Some.ensures (passes_plain _ _ _ _ _ c.follow.new.frame _ c.take.new.self _ c.in_ok-follow-in_default-instr.ensures.follows j) (joins_loses _ _ _ _ j);
-      attained = plain_attained (bits_of c.args.frac) c.args.code.now c.args.inputs.now c.requires.well.0 c.args.here c.index-code-here.result c.in-Some.frame c.follow.new.frame c.args.places.now c.take.new.self c.join-in_default-instr.new.self c.requires.well.1 c.requires.attained c.in-Some.ensures there
-          (is_plain _ c.in_default-instr.not-JumpIfZero c.in_default-instr.not-Jump) c.in_ok-follow-in_default-instr.ensures.follows j;
-      stands = stands_plain (bits_of c.args.frac) c.args.code.now c.args.inputs.now c.args.here c.index-code-here.result c.in-Some.frame c.follow.new.frame c.args.places.now c.take.new.self c.join-in_default-instr.new.self c.requires.stands c.in-Some.ensures there
-          (is_plain _ c.in_default-instr.not-JumpIfZero c.in_default-instr.not-Jump) c.in_ok-follow-in_default-instr.ensures.behind j;
+      on = comes_on _ _ _ _ _ _ _ _ _ c.requires.code c.requires.comes there c.in-Some.ensures (passes_plain _ _ _ _ _ c.follow.new.frame _ c.take.new.self _ follows j) (joins_loses _ _ _ _ j);
+      attained = plain_attained _ _ _ _ _ _ _ _ _ _ _ c.requires.well.1 c.requires.attained c.in-Some.ensures there plain follows j;
+      stands = stands_plain _ _ _ _ _ _ _ _ _ _ c.requires.stands c.in-Some.ensures there plain c.in_ok-follow-in_default-instr.ensures.behind j;
       stops = tt;
       long = j.long ∙ c.take.ensures.long ∙ c.requires.long;
     }

@@ -1,4 +1,5 @@
-use Rattle.std.proofs.Common.{◌≡◌, ℕ, ◌++◌, ◌∷◌, [], Some, None, append-nil, ap, arith, length, map, sym, ◌∙◌}
+use Rattle.std.proofs.Common.{◌≡◌, ℕ, ◌<◌, List, ◌++◌, ◌∷◌, [], Some, None, append-nil, ap, arith, get_or, length, map, sym, ◌∙◌}
+use Rattle.std.specs.List.{All}
 use Rattle.std.specs.Prelude.{slice_get, slice_index_or}
 use Rattle.std.proofs.lemmas.List.{get_or-map, length-map}
 use Rattle.std.proofs.lemmas.List.Elements.{All-get_or}
@@ -11,19 +12,18 @@ use Rattle.engine.specs.Rows.{IsFound, found_of}
 use Rattle.engine.proofs.safe_systems.SafeSystem.find_all.Goals as goal
 use Rattle.engine.proofs.safe_systems.SafeSystem.find_all.Goals.{in-Some, in-None}
 
-pub found-requires-clause-apart : goal.found-requires-clause-apart
-found-requires-clause-apart g c =
+-- where the pairs of a list are pairs of n atoms, so is the one that is read
+reads : (n : ℕ) (near : List AtomPair) (l : ℕ) → l < length near → All (IsPairOf n) (map (λ p. (p.low, p.high)) near)
+    → IsPairOf n ((get_or near l (record { low = 0; high = 0 })).low, (get_or near l (record { low = 0; high = 0 })).high)
+reads n near l lt pairs =
     let pair : AtomPair → ℕ × ℕ = λ p. (p.low, p.high) in
-    let near = c.args.near.now in
-    let n = length c.args.frame.now in
-    (rw (get_or-map pair near c.loop-l.l (record { low = 0; high = 0 }) (0, 0) c.loop-l-test.true) at (All-get_or (IsPairOf n) (map pair near) c.loop-l.l (0, 0) (omega (arith, length-map near pair, c.loop-l-test.true)) c.requires.pairs)).0
+    rw (get_or-map pair near l (record { low = 0; high = 0 }) (0, 0) lt) at (All-get_or (IsPairOf n) (map pair near) l (0, 0) (omega (arith, length-map near pair, lt)) pairs)
+
+pub found-requires-clause-apart : goal.found-requires-clause-apart
+found-requires-clause-apart g c = (reads _ _ _ c.loop-l-test.true c.requires.pairs).0
 
 pub found-requires-clause-high : goal.found-requires-clause-high
-found-requires-clause-high g c =
-    let pair : AtomPair → ℕ × ℕ = λ p. (p.low, p.high) in
-    let near = c.args.near.now in
-    let n = length c.args.frame.now in
-    (rw (get_or-map pair near c.loop-l.l (record { low = 0; high = 0 }) (0, 0) c.loop-l-test.true) at (All-get_or (IsPairOf n) (map pair near) c.loop-l.l (0, 0) (omega (arith, length-map near pair, c.loop-l-test.true)) c.requires.pairs)).1
+found-requires-clause-high g c = (reads _ _ _ c.loop-l-test.true c.requires.pairs).1
 
 pub loop-l-preserved : goal.loop-l-preserved
 loop-l-preserved g c =
