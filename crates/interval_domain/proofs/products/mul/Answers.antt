@@ -1,8 +1,11 @@
 use Rattle.std.proofs.Common.{rules, sym}
 use Rattle.fixed.specs.Fractions.{bits_of}
-use Rattle.interval_domain.proofs.OutcomeLemmas.{at_hi_hi, at_hi_lo, at_lo_hi}
+use Rattle.interval_domain.proofs.OutcomeLemmas.{at_hi_hi, at_hi_lo, at_lo_hi, at_lo_lo}
 use Rattle.interval_domain.proofs.ProductLemmas.{least_product}
 use Rattle.interval_domain.proofs.products.mul.Goals as goal
+
+pub returns-in_err-checked_mul-clause-fault : goal.returns-in_err-checked_mul-clause-fault
+returns-in_err-checked_mul-clause-fault c = search (rules, at_lo_lo)
 
 pub returns-in_err-checked_mul-2-clause-fault : goal.returns-in_err-checked_mul-2-clause-fault
 returns-in_err-checked_mul-2-clause-fault c = search (rules, at_lo_hi)
