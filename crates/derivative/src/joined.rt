@@ -1,12 +1,23 @@
 //! Trees put together of parts that may not have been built. They are taken apart here alone: so their callers hold no tree
 //! where a part is missing.
 
-ghost use Rattle.std.specs.Prelude.{◌≡◌, IfOk};
+ghost use Rattle.std.specs.Prelude.{◌≡◌, Ok, IfOk};
 ghost use Rattle.energy_program.specs.Tree as t;
 ghost use Rattle.energy_program.specs.Tree.{Tree, tree_of};
 
 use energy_program::{Built, Operator, binary, select};
-use std::alloc::Allocator;
+use std::alloc::{AllocError, Allocator};
+
+// Both values, if both are there.
+fn pair<S: Drop, T: Drop>(
+    first: Result<S, AllocError>,
+    second: Result<T, AllocError>,
+) -> Result<(S, T), AllocError>
+    ensures { IfOk result (λ both. (first ≡ Ok both.0) × (second ≡ Ok both.1)) }
+{
+    let first = first?;
+    Ok((first, second?))
+}
 
 /// An operation on two trees, if both were built.
 pub fn both<A: Allocator + Copy>(
@@ -17,8 +28,7 @@ pub fn both<A: Allocator + Copy>(
 ) -> Built<A>
     ensures { (l r : Tree) → IfOk left (λ e. tree_of e ≡ l) → IfOk right (λ e. tree_of e ≡ r) → IfOk result (λ e. tree_of e ≡ t.Binary operator l r) }
 {
-    let left = left?;
-    let right = right?;
+    let (left, right) = pair(left, right)?;
     binary(alloc, operator, left, right)
 }
 
@@ -31,8 +41,6 @@ pub fn choice<A: Allocator + Copy>(
 ) -> Built<A>
     ensures { (x l r : Tree) → IfOk condition (λ e. tree_of e ≡ x) → IfOk chosen (λ e. tree_of e ≡ l) → IfOk otherwise (λ e. tree_of e ≡ r) → IfOk result (λ e. tree_of e ≡ t.Select x l r) }
 {
-    let condition = condition?;
-    let chosen = chosen?;
-    let otherwise = otherwise?;
+    let ((condition, chosen), otherwise) = pair(pair(condition, chosen), otherwise)?;
     select(alloc, condition, chosen, otherwise)
 }

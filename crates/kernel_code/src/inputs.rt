@@ -4,7 +4,7 @@ use std::marker::Model;
 
 /// The number of an input, 0 to 32. Input 0 is the distance `r`; then come the parameters of particle 1, those of
 /// particle 2, and the globals.
-#[derive(Clone, Copy, PartialEq, Eq, Debug)]
+#[derive(Clone, Copy, PartialEq, Eq)]
 pub struct InputNumber(u8);
 
 impl Model for InputNumber {

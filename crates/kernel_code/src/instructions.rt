@@ -2,7 +2,7 @@ use crate::inputs::InputNumber;
 use fixed::Fx;
 
 /// An operation that pops `b`, then `a`, and pushes its value.
-#[derive(Clone, Copy, PartialEq, Eq, Debug)]
+#[derive(Clone, Copy, PartialEq, Eq)]
 pub enum BinaryOperation {
     /// `a + b`.
     Add,
@@ -19,7 +19,7 @@ pub enum BinaryOperation {
 }
 
 /// An operation that pops `a` and pushes its value.
-#[derive(Clone, Copy, PartialEq, Eq, Debug)]
+#[derive(Clone, Copy, PartialEq, Eq)]
 pub enum UnaryOperation {
     /// `-a`.
     Negate,
@@ -40,7 +40,7 @@ pub enum UnaryOperation {
 }
 
 /// One instruction of the stack machine. It goes on at the next one unless it jumps.
-#[derive(Clone, Copy, PartialEq, Eq, Debug)]
+#[derive(Clone, Copy)]
 pub enum Instr {
     /// Pushes the number.
     Push(Fx),

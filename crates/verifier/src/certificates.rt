@@ -17,7 +17,7 @@ use kernel_paths::{Misfit, longest_path};
 use std::alloc::Allocator;
 
 /// The certificate of code that never goes wrong.
-#[derive(Clone, Copy, PartialEq, Eq, Debug)]
+#[derive(Clone, Copy)]
 pub struct Certificate {
     /// The number of instructions on the longest path.
     pub steps: u32,

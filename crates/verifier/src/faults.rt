@@ -40,6 +40,11 @@ pub enum VerifyFault {
     },
 }
 
+/// Writes at which place an operation has which fault.
+fn tell_place<W: fmt::Write>(f: &mut fmt::Formatter<W>, pc: u32, fault: Fault) -> fmt::Result {
+    write!(f, " pc {pc} {fault}")
+}
+
 impl VerifyFault {
     /// Writes the refusal with these words for the two types, where it speaks of types.
     pub fn tell<W: fmt::Write, T: fmt::Display + Copy>(
@@ -53,7 +58,8 @@ impl VerifyFault {
             VerifyFault::DepthOver64 { pc } => write!(f, "V4 DepthOver64 {pc}"),
             VerifyFault::Fault { r, pc, fault, .. } => {
                 let raw = r.raw();
-                write!(f, "V2 Fault {first} {second} r {raw} pc {pc} {fault}")
+                write!(f, "V2 Fault {first} {second} r {raw}")?;
+                tell_place(f, pc, fault)
             }
             VerifyFault::Undecided {
                 lo,
@@ -64,10 +70,8 @@ impl VerifyFault {
             } => {
                 let from = lo.raw();
                 let to = hi.raw();
-                write!(
-                    f,
-                    "V3 Undecided {first} {second} {from} {to} pc {pc} {fault}"
-                )
+                write!(f, "V3 Undecided {first} {second} {from} {to}")?;
+                tell_place(f, pc, fault)
             }
         }
     }

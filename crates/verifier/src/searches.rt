@@ -20,7 +20,7 @@ use std::alloc::{AllocError, Allocator};
 use std::marker::Model;
 
 /// Two types of the table, counted from 0.
-#[derive(Clone, Copy, PartialEq, Eq, Debug)]
+#[derive(Clone, Copy)]
 pub struct Pair {
     pub first: u32,
     pub second: u32,

@@ -19,7 +19,7 @@ use std::alloc::Allocator;
 
 /// Why the runs of a slice aren't followed to their end: the operation at this place may have no
 /// value, for this reason.
-#[derive(Clone, Copy, PartialEq, Eq, Debug)]
+#[derive(Clone, Copy)]
 pub struct Stopped {
     pub pc: u32,
     pub fault: Fault,
