@@ -31,6 +31,10 @@ path_rule name = record (new_rule name) { required = true }
 abbrev pub option_rule : Text → Rule
 option_rule name = record (new_rule name) { long = Some name; value_names = 1 }
 
+-- such an argument that says a number in this range
+abbrev pub number_rule : Text → (least most : ℕ) → Rule
+number_rule name least most = record (option_rule name) { parser = Some (Unsigned least most) }
+
 -- `--frame k`, from 1; 1 where it isn't given
 abbrev pub frame_rule : Rule
 frame_rule = record (new_rule (codes "frame")) {

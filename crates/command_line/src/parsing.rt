@@ -3,7 +3,7 @@
 ghost use Rattle.std.specs.Prelude.{◌≡◌, ◌≤◌, ◌<◌, ◌^◌, ◌⊎◌, ℕ, IfOk, IfErr, MatchOption, codes, option_map, map, false};
 ghost use Rattle.clap.specs.Words.{App, HasKind, Rule, Shape, app_of, first_of, found_of, kind_of, new_app, rows_of, rule_of, subcommand_rows_of, with_rule, with_subcommand};
 ghost use Rattle.clap.specs.declared.error.kind.ErrorKind.TheVariants.{OutOfMemory};
-ghost use Rattle.command_line.specs.CommandLine.{IsBuilt, SaysCheck, IsCommand, SaysEnergy, IsEvery, SaysFrame, IsFrameNumber, IsGiven, IsListing, IsNamed, IsNamedOf, SaysRun, IsShaped, SaysStart, IsSteps, SaysTrajectory, IsTurned, IsWorkers, back_rule, bare, checking, code_rule, command_name, every_rule, faults_of, filming, flag_rule, forward, frame_rule, framing, judging, listing, option_rule, path_rule, program, progress_rule, returning, starting, stepped, steps_rule, stepping, weighing, workers_rule};
+ghost use Rattle.command_line.specs.CommandLine.{IsBuilt, SaysCheck, IsCommand, SaysEnergy, SaysFrame, IsGiven, IsListing, IsNamed, IsNamedOf, SaysRun, IsShaped, SaysNumber, SaysStart, SaysTrajectory, IsTurned, back_rule, bare, checking, code_rule, command_name, every_rule, faults_of, filming, flag_rule, forward, frame_rule, framing, judging, listing, number_rule, option_rule, path_rule, program, progress_rule, returning, starting, stepped, steps_rule, stepping, weighing, workers_rule};
 ghost use Rattle.command_line.specs.declared.commands.Start.{Start};
 ghost use Rattle.command_line.specs.declared.commands.Frame.{Frame};
 ghost use Rattle.command_line.specs.declared.commands.Listing.{Listing};
@@ -14,8 +14,9 @@ ghost use Rattle.command_line.specs.declared.commands.Trajectory.{Trajectory};
 use crate::commands::{
     Check, Command, Energy, Frame, Listing, MAX_STEPS, MAX_WORKERS, Run, Start, Trajectory, VERSION,
 };
+use clap::builder::ValueParser;
 use clap::error::ErrorKind;
-use clap::{Arg, ArgAction, ArgMatches, Error, value_parser};
+use clap::{Arg, ArgAction, ArgMatches, Error};
 use integrator::Direction;
 use std::alloc::{AllocError, Global};
 use std::convert::AsStr;
@@ -84,7 +85,7 @@ fn start_of<'a>(matches: &ArgMatches<'a>) -> Option<Command<'a>>
 {
     let job = path_of(matches, "JOB")?;
     let gro = path_of(matches, "GRO")?;
-    let frame = frame_number_of(matches)?;
+    let frame = number_of(matches, "frame", 1, u64::MAX)?;
     Some(Command::Start(Start { job, gro, frame }))
 }
 
@@ -96,8 +97,8 @@ fn run_by<'a>(name: &str, matches: &ArgMatches<'a>) -> Option<Command<'a>>
     let direction = direction_of(name)?;
     let job = path_of(matches, "JOB")?;
     let state = path_of(matches, "STATE")?;
-    let steps = steps_of(matches)?;
-    let workers = workers_of(matches)?;
+    let steps = number_of(matches, "steps", 0, MAX_STEPS)?;
+    let workers = number_of(matches, "workers", 1, MAX_WORKERS)? as u32;
     let progress = is_given(matches, "progress");
     Some(Command::Run(Run {
         direction,
@@ -117,9 +118,9 @@ fn trajectory_of<'a>(matches: &ArgMatches<'a>) -> Option<Command<'a>>
     let direction = turned_of(matches);
     let job = path_of(matches, "JOB")?;
     let state = path_of(matches, "STATE")?;
-    let steps = steps_of(matches)?;
-    let every = every_of(matches)?;
-    let workers = workers_of(matches)?;
+    let steps = number_of(matches, "steps", 0, MAX_STEPS)?;
+    let every = number_of(matches, "every", 1, MAX_STEPS)?;
+    let workers = number_of(matches, "workers", 1, MAX_WORKERS)? as u32;
     let progress = is_given(matches, "progress");
     Some(Command::Trajectory(Trajectory {
         direction,
@@ -176,43 +177,16 @@ fn path_of<'a>(matches: &ArgMatches<'a>, name: &str) -> Option<&'a str>
     matches.get_str(name)
 }
 
-fn frame_number_of(matches: &ArgMatches<'_>) -> Option<u64>
-    ensures { MatchOption result ((n : ℕ) → 1 ≤ n → n < 2 ^ 64 → IsFrameNumber (rows_of (found_of matches.now)) n → ⊥)
-        (λ n. (1 ≤ n) × IsFrameNumber (rows_of (found_of matches.now)) n) }
+/// The number that the argument with this name says, if it lies in this range.
+fn number_of(matches: &ArgMatches<'_>, name: &str, least: u64, most: u64) -> Option<u64>
+    ensures { MatchOption result ((n : ℕ) → least ≤ n → n ≤ most → SaysNumber name.now (rows_of (found_of matches.now)) n → ⊥)
+        (λ n. (least ≤ n) × (n ≤ most) × SaysNumber name.now (rows_of (found_of matches.now)) n) }
 {
-    let frame = matches.get_one("frame")?;
-    if frame >= 1 { Some(frame) } else { None }
-}
-
-fn steps_of(matches: &ArgMatches<'_>) -> Option<u64>
-    ensures { MatchOption result ((n : ℕ) → n ≤ MAX_STEPS → IsSteps (rows_of (found_of matches.now)) n → ⊥)
-        (λ n. (n ≤ MAX_STEPS) × IsSteps (rows_of (found_of matches.now)) n) }
-{
-    let steps = matches.get_one("steps")?;
-    if steps <= MAX_STEPS {
-        Some(steps)
+    let number = matches.get_one(name)?;
+    if least <= number && number <= most {
+        Some(number)
     } else {
         None
-    }
-}
-
-fn every_of(matches: &ArgMatches<'_>) -> Option<u64>
-    ensures { MatchOption result ((n : ℕ) → 1 ≤ n → n ≤ MAX_STEPS → IsEvery (rows_of (found_of matches.now)) n → ⊥)
-        (λ n. (1 ≤ n) × (n ≤ MAX_STEPS) × IsEvery (rows_of (found_of matches.now)) n) }
-{
-    match matches.get_one("every")? {
-        every @ 1..=MAX_STEPS => Some(every),
-        _ => None,
-    }
-}
-
-fn workers_of(matches: &ArgMatches<'_>) -> Option<u32>
-    ensures { MatchOption result ((n : ℕ) → 1 ≤ n → n ≤ MAX_WORKERS → IsWorkers (rows_of (found_of matches.now)) n → ⊥)
-        (λ n. (1 ≤ n) × (n ≤ MAX_WORKERS) × IsWorkers (rows_of (found_of matches.now)) n) }
-{
-    match matches.get_one("workers")? {
-        workers @ 1..=MAX_WORKERS => Some(workers as u32),
-        _ => None,
     }
 }
 
@@ -427,13 +401,20 @@ fn option<'a>(alloc: Global, name: &'a str, value: &'a str) -> Arg<'a>
     Arg::new(alloc, name).long(name).value_name(value)
 }
 
+/// Such an argument that says a number in this range.
+fn number<'a>(alloc: Global, name: &'a str, value: &'a str, least: u64, most: u64) -> Arg<'a>
+    ensures rule { rule_of result ≡ number_rule name.entry.now least most }
+    ensures local { result.global ≡ false }
+{
+    option(alloc, name, value).value_parser(ValueParser::unsigned(least, most))
+}
+
 fn frame_number<'a>(alloc: Global) -> Arg<'a>
     ensures rule { rule_of result ≡ frame_rule }
     ensures local { result.global ≡ false }
 {
-    option(alloc, "frame", "k")
+    number(alloc, "frame", "k", 1, u64::MAX)
         .default_value("1")
-        .value_parser(value_parser!(u64).range(1..))
         .help("Which frame of the GRO file, from 1")
 }
 
@@ -448,9 +429,8 @@ fn steps<'a>(alloc: Global) -> Arg<'a>
     ensures rule { rule_of result ≡ steps_rule }
     ensures local { result.global ≡ false }
 {
-    option(alloc, "steps", "n")
+    number(alloc, "steps", "n", 0, MAX_STEPS)
         .required(true)
-        .value_parser(value_parser!(u64).range(0..=MAX_STEPS as i64))
         .help("How many steps, from 0 to 1000000000000")
 }
 
@@ -458,9 +438,8 @@ fn every<'a>(alloc: Global) -> Arg<'a>
     ensures rule { rule_of result ≡ every_rule }
     ensures local { result.global ≡ false }
 {
-    option(alloc, "every", "k")
+    number(alloc, "every", "k", 1, MAX_STEPS)
         .required(true)
-        .value_parser(value_parser!(u64).range(1..=MAX_STEPS as i64))
         .help("How many steps from frame to frame, from 1 to 1000000000000")
 }
 
@@ -490,8 +469,7 @@ fn workers<'a>(alloc: Global) -> Arg<'a>
     ensures rule { rule_of result ≡ workers_rule }
     ensures local { result.global ≡ false }
 {
-    option(alloc, "workers", "w")
+    number(alloc, "workers", "w", 1, MAX_WORKERS)
         .default_value("1")
-        .value_parser(value_parser!(u64).range(1..=MAX_WORKERS as i64))
         .help("How many workers, from 1 to 64")
 }
