@@ -11,7 +11,8 @@ use Rattle.job.specs.Values.{JobValue, TypeValue}
 use Rattle.line_text.specs.Steps.{◌>>=◌}
 use Rattle.line_text.proofs.StepLaws.{bind_ok}
 use lib.Signed.{mag}
-use Rattle.std.proofs.lemmas.Bool.{ltb-true}
+use Rattle.std.proofs.lemmas.Bool.{ltb-true, lt-ltb}
+use Rattle.ring_box.specs.Cells.{has_room}
 use Rattle.ring_box.specs.Places.{ArePlaces, nowhere}
 use Rattle.state.specs.StateReading.{state_of}
 use Rattle.state.specs.StateText.{AtomView, StateView, IsAtom, IsState, state_text}
@@ -19,7 +20,7 @@ use Rattle.integrator.proofs.Constructors.{err_is_no_ok, ok_same}
 use Rattle.integrator.specs.Frames.{AreOfSameAtoms, Frames, opposite, steps_in}
 use Rattle.integrator.specs.States.{counter_after, counter_at, frames_of, moved_state, nobody, placed_atoms}
 use Rattle.integrator.specs.Energies.{Energy, energy_of}
-use Rattle.integrator.specs.Starts.{Refusal, Start, are_alike, atom_types, bits_differ, Law, cutoff_too_long, energy_refused, has_room, in_counter, job_refused, known, or_refused, require, ring_of, state_refused, step_range, type_with, start_at, start_of_run, start_with, system_of, types_of}
+use Rattle.integrator.specs.Starts.{Refusal, Start, are_alike, atom_types, bits_differ, Law, cutoff_too_long, energy_refused, in_counter, job_refused, known, or_refused, require, ring_of, state_refused, step_range, type_with, start_at, start_of_run, start_with, system_of, types_of}
 use Rattle.integrator.specs.Runs.{IsRun}
 use Rattle.state.proofs.StateReadsAgain.{one_text}
 use Rattle.integrator.proofs.StartLaws.{started}
@@ -112,7 +113,7 @@ pub record Parts (law : Law) (job state : List ℕ) (w : Direction) (n : ℕ) (s
   pub energy_read : energy_of j ≡ Ok energy
   pub typed : atom_types j.types 1 s.atoms ≡ Ok types
   pub alike : are_alike j.frac s.frac ≡ true
-  pub room : has_room j.frac j.cutoff (ring_of s.sides) ≡ true
+  pub room : has_room j.frac (ring_of s.sides) j.cutoff ≡ true
   pub counted : counter_after w s.step n ≡ Some counter
   pub start_is : start ≡ start_at law j s (energy, types) counter
 
@@ -133,7 +134,7 @@ pub record SystemParts (j : JobValue) (s : StateView) (system : Energy × List �
   pub energy_read : energy_of j ≡ Ok system.0
   pub typed : atom_types j.types 1 s.atoms ≡ Ok system.1
   pub alike : are_alike j.frac s.frac ≡ true
-  pub room : has_room j.frac j.cutoff (ring_of s.sides) ≡ true
+  pub room : has_room j.frac (ring_of s.sides) j.cutoff ≡ true
 
 -- a system is made of the job's energy and of the types of the state's atoms, which have room
 pub system_parts : (j : JobValue) (s : StateView) (system : Energy × List ℕ) → system_of j s ≡ Ok system → SystemParts j s system
@@ -151,7 +152,7 @@ system_parts j s system e =
       energy_read = refused_ok energy_refused (energy_of j) a.0 a.1;
       typed = c.1 ∙ ap Ok types;
       alike = required (are_alike j.frac s.frac) bits_differ f.0 f.1;
-      room = required (has_room j.frac j.cutoff (ring_of s.sides)) cutoff_too_long d.0 d.1;
+      room = required (has_room j.frac (ring_of s.sides) j.cutoff) cutoff_too_long d.0 d.1;
     })
 
 -- a start is made of the job and the state of the texts, their system and a counter in range

@@ -14,13 +14,14 @@ use Rattle.job.specs.Values.{JobValue, TypeValue}
 use Rattle.state.specs.StateText.{AtomView, StateView}
 use Rattle.job.specs.JobText.{reading_of, limits}
 use Rattle.state.specs.StateReading.{state_of}
+use Rattle.ring_box.specs.Cells.{has_room}
 use Rattle.fallible.specs.Failures.{Fails}
 use Rattle.fallible.specs.declared.failure.Failure.{Failure}
 use Rattle.fallible.proofs.FailureLaws.{fails_as}
 use Rattle.integrator.specs.declared.faults.SystemFault.{SystemFault}
 use Rattle.integrator.specs.StartViews.{system_refusal}
 use Rattle.integrator.specs.Energies.{Energy, energy_of}
-use Rattle.integrator.specs.Starts.{Law, Refusal, are_alike, start_at, start_of_run, atom_types, has_room, ring_of, start_with, system_of, types_of, type_with, unknown_type}
+use Rattle.integrator.specs.Starts.{Law, Refusal, are_alike, start_at, start_of_run, atom_types, ring_of, start_with, system_of, types_of, type_with, unknown_type}
 use Rattle.integrator.specs.States.{counter_after}
 use Rattle.integrator.specs.declared.direction.Direction.{Direction}
 
@@ -77,7 +78,7 @@ found_type types name bytes r e h =
 
 -- a start whose parts are known
 pub started : (law : Law) (direction : Direction) (steps : ℕ) (j : JobValue) (s : StateView) (energy : Energy) (types : List ℕ) (counter : ℤ)
-    → energy_of j ≡ Ok energy → atom_types j.types 1 s.atoms ≡ Ok types → are_alike j.frac s.frac ≡ true → has_room j.frac j.cutoff (ring_of s.sides) ≡ true → counter_after direction s.step steps ≡ Some counter
+    → energy_of j ≡ Ok energy → atom_types j.types 1 s.atoms ≡ Ok types → are_alike j.frac s.frac ≡ true → has_room j.frac (ring_of s.sides) j.cutoff ≡ true → counter_after direction s.step steps ≡ Some counter
     → start_with law direction steps j s ≡ Ok (start_at law j s (energy, types) counter)
 unfolding start_with system_of types_of
 started law direction steps j s energy types counter e t a h k = rw (e, a, t, h, k) refl

@@ -1,5 +1,5 @@
 -- The start of a run: a job's text, a state's text, a number of steps and a direction give the state and the dynamics of its atoms, or the first refusal.
-use Rattle.std.specs.Prelude.{◌≡◌, ℕ, suc, ℤ, ◌*◌, ◌^◌, nat_le, ◌==◌, ◌&&◌, Bool, true, false, List, [], ◌∷◌, length, map, Option, Some, None, Result, Ok, Err, slice_index, slice_index_or, unsigned_abs, bytes_eq}
+use Rattle.std.specs.Prelude.{◌≡◌, ℕ, suc, ℤ, ◌==◌, Bool, true, false, List, [], ◌∷◌, length, map, Option, Some, None, Result, Ok, Err, slice_index, slice_index_or, bytes_eq}
 use Rattle.std.specs.List.{position}
 use Rattle.fixed.specs.Fractions.{bits_of}
 use Rattle.fixed.specs.declared.frac.Frac.{Frac}
@@ -12,6 +12,7 @@ use Rattle.job.specs.Values.{GlobalValue, JobValue, TypeValue}
 use Rattle.line_text.specs.Steps.{◌>>=◌}
 use Rattle.kernel_code.specs.Tables.{Table, inputs_of}
 use Rattle.kernel_code.specs.declared.instructions.Instr.{Instr}
+use Rattle.ring_box.specs.Cells.{has_room}
 use Rattle.ring_box.specs.declared.boxes.RingBox.{RingBox}
 use Rattle.state.specs.StateReading.{state_of}
 use Rattle.state.specs.StateText.{AtomView, StateView}
@@ -59,20 +60,11 @@ no_type = record { name = []; mass = 0; values = [] }
 abbrev pub mass_of : List TypeValue → ℕ → ℕ
 mass_of types t = (slice_index_or types t no_type).mass
 
--- ---- the range of the forces
-
--- a side holds two cutoffs, the cutoff in 2^-bits nm and the side in 10^-5 nm
-abbrev pub holds_two : Frac → ℤ → ℕ → Bool
-holds_two frac cutoff side = nat_le (200000 * unsigned_abs cutoff) (side * 2 ^ bits_of frac)
-
-abbrev pub has_room : Frac → ℤ → RingBox → Bool
-has_room frac cutoff ring = holds_two frac cutoff ring.x && (holds_two frac cutoff ring.y && holds_two frac cutoff ring.z)
+-- ---- all together
 
 abbrev pub require : Bool → Refusal → Result (Unit {0}) Refusal
 require true refusal = Ok tt
 require false refusal = Err refusal
-
--- ---- all together
 
 abbrev pub ring_of : List ℕ → RingBox
 ring_of sides = record { x = slice_index sides 0; y = slice_index sides 1; z = slice_index sides 2 }
@@ -134,7 +126,7 @@ unfoldable pub types_of : JobValue → StateView → Result (List ℕ) Refusal
 types_of j s = do
   alike ← require (are_alike j.frac s.frac) bits_differ
   types ← atom_types j.types 1 s.atoms
-  room ← require (has_room j.frac j.cutoff (ring_of s.sides)) cutoff_too_long
+  room ← require (has_room j.frac (ring_of s.sides) j.cutoff) cutoff_too_long
   Ok types
 
 -- a job's energy, and the types of a state's atoms

@@ -5,21 +5,20 @@ ghost use Rattle.fixed.specs.Rounding.{nearest_of};
 ghost use Rattle.integrator.specs.Displacement.{displacement_of, factor_above, factor_below, next_place_of};
 
 use fixed::{Frac, round_div};
+use job::TimeStep;
 use ring_box::{Side, place_at};
 
-/// The factor `dt² 10^4` of a displacement, of a time step in fs, at most 1,000.
-fn time_factor(time_step: u32) -> u64
-    requires { time_step ≤ 1000 }
+/// The factor `dt² 10^4` of a displacement, of a time step.
+fn time_factor(time_step: TimeStep) -> u64
     ensures value { result ≡ time_step * time_step * 10000 }
     ensures bound { result ≤ 10 ^ 10 }
 {
-    let time_step = u64::from(time_step);
-    time_step * time_step * 10_000
+    let femtoseconds = u64::from(time_step.femtoseconds());
+    femtoseconds * femtoseconds * 10_000
 }
 
-/// The factor `dt² 10^4 2^32 / 2^bits` of a displacement, but for powers of two that `inertia` has below the line; `time_step` in fs.
-fn factor(frac: Frac, time_step: u32) -> u64
-    requires { time_step ≤ 1000 }
+/// The factor `dt² 10^4 2^32 / 2^bits` of a displacement, but for powers of two that `inertia` has below the line.
+fn factor(frac: Frac, time_step: TimeStep) -> u64
     ensures value { result ≡ time_step * time_step * 10000 * factor_above frac }
     ensures bound { result ≤ 256 * 10 ^ 10 }
 {
@@ -66,11 +65,16 @@ fn nearest(a: i128, b: i128) -> i128
     round_div(a, b)
 }
 
-/// By how many places a force moves an atom in one step: `force` in 2^-`bits` kJ/mol/nm, `time_step` in fs (at most
-/// 1,000), `mass` in 10^-5 u (1 to 100,000,000).
-pub(crate) fn displacement(frac: Frac, force: i128, time_step: u32, mass: u32, side: Side) -> i128
+/// By how many places a force moves an atom in one step: `force` in 2^-`bits` kJ/mol/nm, `mass` in 10^-5 u (1 to
+/// 100,000,000).
+pub(crate) fn displacement(
+    frac: Frac,
+    force: i128,
+    time_step: TimeStep,
+    mass: u32,
+    side: Side,
+) -> i128
     requires force { unsigned_abs force ≤ 2 ^ 80 }
-    requires time_step { time_step ≤ 1000 }
     requires positive { 0 < mass }
     requires mass { mass ≤ 100000000 }
     ensures value { result ≡ displacement_of frac force time_step mass side }

@@ -1,6 +1,6 @@
 //! The start of a run: the state, the system and the counter at the end, or the first refusal.
 
-ghost use Rattle.std.specs.Prelude.{◌≡◌, ◌*◌, ◌^◌, ◌<◌, ◌≤◌, length, map, IfOk, Ok};
+ghost use Rattle.std.specs.Prelude.{◌≡◌, ◌<◌, ◌≤◌, length, map, IfOk, Ok};
 ghost use Rattle.std.specs.List.{All};
 ghost use Rattle.energy_program.specs.Faults.{refusal_of};
 ghost use Rattle.energy_program.specs.Programs.{trees_of};
@@ -8,7 +8,7 @@ ghost use Rattle.fallible.specs.Failures.{Gives};
 ghost use Rattle.job.specs.Views.{job_value, type_value};
 ghost use Rattle.state.specs.StateViews.{atom_view, state_view};
 ghost use Rattle.integrator.specs.Energies.{IsCompiled, job_program};
-ghost use Rattle.integrator.specs.Starts.{atom_types, has_room, holds_two, mass_of, system_of, types_of, IsSlopeCode, slope_code_of};
+ghost use Rattle.integrator.specs.Starts.{atom_types, mass_of, system_of, types_of, IsSlopeCode, slope_code_of};
 ghost use Rattle.fixed.specs.Fractions.{bits_of};
 ghost use Rattle.integrator.specs.StartViews.{energy_view, ready_view, system_refusal};
 
@@ -17,10 +17,8 @@ use crate::faults::SystemFault;
 use crate::prepared::{Ready, TypedAtoms};
 use energy_program::ExprFault;
 use fallible::Failure;
-use fixed::{Frac, Fx};
 use job::{AtomType, Job};
 use kernel_code::Code;
-use ring_box::{RingBox, Side};
 use state::{Atom, State};
 use std::alloc::{AllocError, Allocator};
 
@@ -72,23 +70,6 @@ fn atom_masses<A: Allocator + Copy>(
     Ok(masses)
 }
 
-/// Whether a side is two cutoffs long or longer.
-fn holds_two(frac: Frac, cutoff: Fx, side: Side) -> bool
-    ensures { result ≡ holds_two frac cutoff side }
-{
-    let two = 200_000 * u128::from(cutoff.raw().unsigned_abs());
-    two <= u128::from(side.get()) << frac.bits()
-}
-
-/// Whether each side of the box is two cutoffs long or longer.
-fn has_room(frac: Frac, cutoff: Fx, ring: &RingBox) -> bool
-    ensures { result ≡ has_room frac cutoff ring.now }
-{
-    holds_two(frac, cutoff, ring.x)
-        && holds_two(frac, cutoff, ring.y)
-        && holds_two(frac, cutoff, ring.z)
-}
-
 /// The atoms of a state that can be run under this job.
 #[tactic(auto, unfolding(crate::specs::Starts::types_of))]
 fn typed_atoms<A: Allocator + Copy>(
@@ -105,7 +86,7 @@ fn typed_atoms<A: Allocator + Copy>(
         return Err(Failure::Refused(SystemFault::BitsDiffer));
     }
     let types = atom_types(alloc, job, &state.atoms)?;
-    if !has_room(job.frac, job.cutoff, &state.ring) {
+    if !state.ring.has_room(job.frac, job.cutoff) {
         return Err(Failure::Refused(SystemFault::CutoffTooLong));
     }
     let masses = atom_masses(alloc, &job.types, &types)?;

@@ -5,6 +5,7 @@ ghost use Rattle.std.specs.List.{All};
 ghost use Rattle.fixed.specs.Fractions.{bits_of};
 
 use fixed::{Frac, Fx};
+use job::TimeStep;
 use ring_box::RingBox;
 use std::alloc::Allocator;
 
@@ -19,8 +20,8 @@ pub struct System<K: Drop, A: Allocator> {
     pub core: Fx,
     /// The cutoff in nm, more than the core and at most 80: pairs act below this distance.
     pub cutoff: Fx,
-    /// The time step in fs, at most 1,000.
-    pub time_step: u32,
+    /// The time step in fs.
+    pub time_step: TimeStep,
     /// The number of each atom's type, from 0.
     pub types: Vec<u32, A>,
     /// Each atom's mass in 10^-5 u, 1 to 100,000,000.
@@ -30,7 +31,6 @@ pub struct System<K: Drop, A: Allocator> {
     pub ghost least_core: { pos 0 ≤ℤ core },
     pub ghost below_cutoff: { core <ℤ cutoff },
     pub ghost most_cutoff: { cutoff ≤ℤ pos (80 * 2 ^ bits_of frac) },
-    pub ghost most_time_step: { time_step ≤ 1000 },
     pub ghost some_masses: { All (λ m. 0 < m) masses.items },
     pub ghost most_masses: { All (λ m. m ≤ 100000000) masses.items },
     pub ghost atoms: { length types.items ≡ length masses.items },
