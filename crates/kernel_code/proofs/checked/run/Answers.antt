@@ -15,15 +15,15 @@ loop-pc-preserved g c =
     record {
       within = (turn_leads _ _ _ _ _ _ _ _ c.requires.forward (omega arith) there c.in-Ok.ensures).1;
       locals = omega arith;
-      reached = (suc r.0, after_more _ _ _ _ _ _ _ r.1 there c.in-Ok.ensures);
+      reached = (suc r.0, after_more _ _ _ r.0 _ _ _ r.1 there c.in-Ok.ensures);
     }
 
 pub returns-in-Err : goal.returns-in-Err
 returns-in-Err g c =
     let r = c.loop-pc.invariant.reached in
-    (r.0, ends_trapped _ _ _ _ _ _ _ r.1 (instruction_at _ _ _ _ (omega arith) c.index-code-pc.is refl) c.in-Err.ensures)
+    (r.0, ends_trapped _ _ _ r.0 _ _ _ r.1 (instruction_at _ c.loop-pc.pc _ _ (omega arith) c.index-code-pc.is refl) c.in-Err.ensures)
 
 pub returns : goal.returns
 returns g c =
     let r = c.loop-pc.invariant.reached in
-    (r.0, subst (Ends (bits_of c.args.frac) c.args.code.now c.args.inputs.now r.0) (sym c.answer.ensures) (ends_there _ _ _ _ _ r.1 (omega arith)))
+    (r.0, subst (Ends (bits_of c.args.frac) c.args.code.now c.args.inputs.now r.0) (sym c.answer.ensures) (ends_there _ _ _ r.0 _ r.1 (omega arith)))

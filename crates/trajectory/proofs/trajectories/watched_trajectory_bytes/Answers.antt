@@ -1,13 +1,12 @@
-use Rattle.std.proofs.Common.{◌≡◌, ◌*◌, ◌/◌, false, true, ap, arith, refl, rules, sym, ◌∙◌}
+use Rattle.std.proofs.Common.{◌≡◌, ◌*◌, ◌/◌, false, ap, arith, refl, rules, sym, ◌∙◌}
 use Rattle.std.specs.Prelude.{is_none}
 use Rattle.std.proofs.lemmas.Nat.{div-add-mod'}
 use Rattle.std.proofs.lemmas.Result.{err_from_is_err_and}
-use Rattle.state.specs.StateText.{StateView}
 use Rattle.integrator.specs.States.{counter_after}
 use Rattle.trajectory.specs.Trajectories.{IsFrameOfRun, IsFrameOnWay}
 use Rattle.engine.proofs.EngineLaws.{safe_texts}
 use Rattle.trajectory.proofs.HundredthLaws.{nothing_told}
-use Rattle.trajectory.proofs.TrajectoryLaws.{engine_fits, frame_of_texts, frames_unwritten, out_of_range, wrote_map}
+use Rattle.trajectory.proofs.TrajectoryLaws.{counter_of, engine_fits, frame_of_texts, frames_unwritten, out_of_range, wrote_map}
 use Rattle.trajectory.proofs.trajectories.watched_trajectory_bytes.Goals as goal
 
 -- why there are no frames, or not all
@@ -17,12 +16,7 @@ returns-in_err-engine-clause-refused g c =
     rw (p.1, p.2) (c.in_err-engine.ensures.refused, refl)
 
 pub returns-then-is_none-clause-refused : goal.returns-then-is_none-clause-refused
-returns-then-is_none-clause-refused g c =
-    let e = c.in_ok-engine.engine in
-    let none : is_none c.counter_after.result ≡ true = search rules in
-    let counted : c.counter_after.result ≡ counter_after c.args.direction e.state.step c.args.steps =
-    c.counter_after.ensures.value ∙ ap (λ (v : StateView). counter_after c.args.direction v.step c.args.steps) c.state.ensures in
-    (out_of_range c.args.job.now c.args.state.now c.args.direction c.args.steps e c.counter_after.result c.in_ok-engine.ensures.opens counted none, refl)
+returns-then-is_none-clause-refused g c = (out_of_range _ _ _ _ c.in_ok-engine.engine c.counter_after.result c.in_ok-engine.ensures.opens (counter_of _ _ _ _ _ c.counter_after.ensures.value c.state.ensures) (search rules), refl)
 
 pub returns-in_err-write_frames-clause-refused : goal.returns-in_err-write_frames-clause-refused
 returns-in_err-write_frames-clause-refused g c =
@@ -47,11 +41,8 @@ returns-in_err-write_frames-clause-told_some g c =
 
 pub write_frames-requires-clause-fits : goal.write_frames-requires-clause-fits
 write_frames-requires-clause-fits g c = λ _ _ k few.
-    let e = c.in_ok-engine.engine in
     let some : is_none c.counter_after.result ≡ false = search rules in
-    let counted : c.counter_after.result ≡ counter_after c.args.direction e.state.step c.args.steps =
-    c.counter_after.ensures.value ∙ ap (λ (v : StateView). counter_after c.args.direction v.step c.args.steps) c.state.ensures in
-    engine_fits c.args.job.now c.args.state.now e c.args.direction k c.args.steps c.in_ok-engine.ensures.opens (omega (arith, few, div-add-mod' c.args.steps c.args.every)) (ap is_none (sym counted) ∙ some)
+    engine_fits _ _ c.in_ok-engine.engine c.args.direction k c.args.steps c.in_ok-engine.ensures.opens (omega (arith, few, div-add-mod' c.args.steps c.args.every)) (ap is_none (sym (counter_of _ _ _ _ _ c.counter_after.ensures.value c.state.ensures)) ∙ some)
 
 -- the slope's code, in an engine that is dropped as it was passed, at each exit
 pub invariant_of-engine-inside-in_err-write_frames : goal.invariant_of-engine-inside-in_err-write_frames

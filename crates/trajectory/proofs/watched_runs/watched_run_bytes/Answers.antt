@@ -1,7 +1,7 @@
-use Rattle.std.proofs.Common.{◌≡◌, false, true, ap, refl, rules, sym, ◌∙◌}
+use Rattle.std.proofs.Common.{◌≡◌, false, ap, refl, rules, sym, ◌∙◌}
 use Rattle.std.specs.Prelude.{is_none}
 use Rattle.std.proofs.lemmas.Result.{err_from_is_err_and}
-use Rattle.state.specs.StateText.{StateView, state_text}
+use Rattle.state.specs.StateText.{state_text}
 use Rattle.integrator.specs.Runs.{IsAfter}
 use Rattle.integrator.specs.Starts.{plain}
 use Rattle.integrator.specs.States.{counter_after}
@@ -10,7 +10,7 @@ use Rattle.engine.proofs.EngineLaws.{engine_ran, safe_texts}
 use Rattle.engine.proofs.HeadlineLaws.{only_told, told}
 use Rattle.engine.proofs.OneAnswer.{only_memory, only_stops}
 use Rattle.trajectory.proofs.HundredthLaws.{nothing_told}
-use Rattle.trajectory.proofs.TrajectoryLaws.{engine_fits, out_of_range, steps_stopped, stopped_wants}
+use Rattle.trajectory.proofs.TrajectoryLaws.{counter_of, engine_fits, out_of_range, steps_stopped, stopped_wants}
 use Rattle.trajectory.proofs.watched_runs.watched_run_bytes.Goals as goal
 
 -- why nothing is written
@@ -20,12 +20,7 @@ returns-in_err-engine-clause-refused g c =
     rw (p.1, p.2) (c.in_err-engine.ensures.refused, refl)
 
 pub returns-then-is_none-clause-refused : goal.returns-then-is_none-clause-refused
-returns-then-is_none-clause-refused g c =
-    let e = c.in_ok-engine.engine in
-    let none : is_none c.counter_after.result ≡ true = search rules in
-    let counted : c.counter_after.result ≡ counter_after c.args.direction e.state.step c.args.steps =
-    c.counter_after.ensures.value ∙ ap (λ (v : StateView). counter_after c.args.direction v.step c.args.steps) c.state.ensures in
-    (out_of_range c.args.job.now c.args.state.now c.args.direction c.args.steps e c.counter_after.result c.in_ok-engine.ensures.opens counted none, refl)
+returns-then-is_none-clause-refused g c = (out_of_range _ _ _ _ c.in_ok-engine.engine c.counter_after.result c.in_ok-engine.ensures.opens (counter_of _ _ _ _ _ c.counter_after.ensures.value c.state.ensures) (search rules), refl)
 
 pub returns-in_err-advance-clause-refused : goal.returns-in_err-advance-clause-refused
 returns-in_err-advance-clause-refused g c =
@@ -59,12 +54,7 @@ returns-in_err-engine-clause-only g c = λ text r a.
 
 pub returns-then-is_none-clause-only : goal.returns-then-is_none-clause-only
 returns-then-is_none-clause-only g c = λ text r a.
-    let e = c.in_ok-engine.engine in
-    let none : is_none c.counter_after.result ≡ true = search rules in
-    let counted : c.counter_after.result ≡ counter_after c.args.direction e.state.step c.args.steps =
-    c.counter_after.ensures.value ∙ ap (λ (v : StateView). counter_after c.args.direction v.step c.args.steps) c.state.ensures in
-    only_stops c.args.job.now c.args.state.now c.args.direction c.args.steps text step.StepRange r
-    (out_of_range c.args.job.now c.args.state.now c.args.direction c.args.steps e c.counter_after.result c.in_ok-engine.ensures.opens counted none)
+    only_stops _ _ _ _ text step.StepRange r (out_of_range _ _ _ _ c.in_ok-engine.engine c.counter_after.result c.in_ok-engine.ensures.opens (counter_of _ _ _ _ _ c.counter_after.ensures.value c.state.ensures) (search rules))
 
 pub returns-in_err-advance-clause-only : goal.returns-in_err-advance-clause-only
 returns-in_err-advance-clause-only g c = λ text r a.
@@ -87,11 +77,8 @@ returns-then-is_none-clause-told_some g c = nothing_told c.args.steps (g.W.Watch
 
 pub advance-requires-clause-fits : goal.advance-requires-clause-fits
 advance-requires-clause-fits g c = λ _ _ k few.
-    let e = c.in_ok-engine.engine in
     let some : is_none c.counter_after.result ≡ false = search rules in
-    let counted : c.counter_after.result ≡ counter_after c.args.direction e.state.step c.args.steps =
-    c.counter_after.ensures.value ∙ ap (λ (v : StateView). counter_after c.args.direction v.step c.args.steps) c.state.ensures in
-    engine_fits c.args.job.now c.args.state.now e c.args.direction k c.args.steps c.in_ok-engine.ensures.opens few (ap is_none (sym counted) ∙ some)
+    engine_fits _ _ c.in_ok-engine.engine c.args.direction k c.args.steps c.in_ok-engine.ensures.opens few (ap is_none (sym (counter_of _ _ _ _ _ c.counter_after.ensures.value c.state.ensures)) ∙ some)
 
 -- the slope's code, in an engine that is dropped as it was passed, at each exit
 pub invariant_of-engine-inside-in_err-advance : goal.invariant_of-engine-inside-in_err-advance
