@@ -1,5 +1,7 @@
-use Rattle.std.proofs.Common.{◌≡◌, ◌∙◌, [], ap, arith, get_or, length, length-set, map, sym}
+use Rattle.std.specs.List.{All}
+use Rattle.std.proofs.Common.{◌≡◌, ◌<◌, ◌∙◌, [], ap, arith, get_or, length, length-set, map, sym}
 use Rattle.std.proofs.lemmas.List.{get_or-map, length-map}
+use Rattle.std.proofs.lemmas.List.Elements.{All-get_or}
 use Rattle.cell_tiles.specs.Cells.{member_places, places_of}
 use Rattle.cell_tiles.proofs.NearLemmas.{places_at}
 use Rattle.cell_tiles.proofs.VectorLemmas.{laid_more}
@@ -22,3 +24,8 @@ loop-cell-preserved g c =
           (omega (arith, kept.whole, c.requires.cells, c.loop-cell-test.true)) (omega (arith, many, some, c.loop-cell-test.true)) laid kept.laid;
       whole = length-set c.loop-cell.places.items cell c.lay_out.new.places ∙ kept.whole;
     }
+
+pub lay_out-requires : goal.lay_out-requires
+lay_out-requires g c =
+    let inside = All-get_or (λ m. All (λ a. a < length c.args.frame.now) m.items) c.args.members.now c.loop-cell.cell c.index-members-cell.result (omega (arith, c.loop-cell-test.true)) c.requires.inside in
+    rw (c.as_slice.ensures.value, c.index-members-cell.is) inside

@@ -1,7 +1,10 @@
--- Without an answer the check closes the goal too, after a search of seconds.
+-- Without answers the check closes the goals too, after a search of seconds.
 use Rattle.std.proofs.Common.{arith}
 use Rattle.std.proofs.lemmas.Grind.{common_steps}
 use Rattle.fixed.proofs.exact.product.Goals as goal
+
+pub overflow_mul-result : goal.overflow_mul-result
+overflow_mul-result c = grind (arith, common_steps)
 
 pub returns-clause-bound : goal.returns-clause-bound
 returns-clause-bound c = grind (arith, common_steps)

@@ -7,4 +7,4 @@ pub returns-clause-cut : goal.returns-clause-cut
 returns-clause-cut c = record { from = refl; middle = search rules; next = omega (arith, ints); to = refl }
 
 pub returns-clause-members : goal.returns-clause-members
-returns-clause-members c = parts_of c.args.span _ _ (record { from = refl; middle = search rules; next = omega (arith, ints); to = refl })
+returns-clause-members c = parts_of c.args.span _ _ (returns-clause-cut c)
