@@ -1,8 +1,6 @@
 // The names of a program's variables, and which input each is.
 ghost use Rattle.std.specs.Prelude.{◌≡◌, ◌<◌, ◌++◌, ◌∷◌, [], length, codes, map, All, IfErr, IfOk, IfSome, IsSomeAnd, IsTrue, None, OnOk};
-ghost use Rattle.std.specs.List.{list_any};
 ghost use Rattle.std.specs.Option.{option_map};
-ghost use Rattle.std.specs.Str.{bytes_eq};
 ghost use Rattle.line_text.specs.Identifiers.{is_identifier};
 ghost use Rattle.energy_program.specs.Names.{first_repeated, input_of, names_from, parameters_and_globals};
 ghost use Rattle.fallible.specs.Failures.{IsOrMemory};
@@ -11,18 +9,11 @@ ghost use Rattle.energy_program.specs.Tree.{variable_count};
 ghost use Rattle.energy_program.specs.Variables.{added, filled, names_in, names_of};
 
 use crate::faults::ExprFault;
-use crate::names::is_reserved;
+use crate::names::{is_among, is_reserved};
 use crate::variables::{MAX_GLOBALS, MAX_PARAMETERS, NameSet, Names};
 use fallible::Failure;
 use indexmap::IndexSet;
 use std::alloc::Allocator;
-
-// Whether the name is one of these.
-fn is_among(names: &[&[u8]], name: &[u8]) -> bool
-    ensures { result ≡ list_any (λ n. bytes_eq name.now n.now) names.now }
-{
-    names.iter().any(|other| name == *other)
-}
 
 // The first name that comes again.
 fn first_repeated<'a>(names: &[&'a [u8]]) -> Option<&'a [u8]>
