@@ -106,16 +106,21 @@ fn add_all<A: Allocator + Copy>(
     Ok(())
 }
 
-// The distance.
-fn only_distance<A: Allocator + Copy>(alloc: A) -> Result<NameSet<A>, Failure<ExprFault<A>>>
-    ensures { IsOrMemory (λ names. names_in names ≡ codes "r" ∷ []) result }
+// All variables, where there are none yet: the distance, the parameters of both particles and the globals.
+fn add_variables<A: Allocator + Copy>(
+    alloc: A,
+    names: &mut NameSet<A>,
+    parameters: &[&[u8]],
+    globals: &[&[u8]],
+) -> Result<(), Failure<ExprFault<A>>>
+    ensures { names_in names.old ≡ [] → Gives (λ _. names_in names.new) result (filled (codes "r" ∷ []) (parameters_and_globals (map (λ p. p.now) parameters.now) (map (λ g. g.now) globals.now))) }
 {
-    let mut names = IndexSet::new(alloc);
     names.insert(Vec::from_slice(alloc, b"r")?)?;
-    Ok(names)
+    add_particle(alloc, names, parameters, b'1')?;
+    add_particle(alloc, names, parameters, b'2')?;
+    add_all(alloc, names, globals)
 }
 
-// The distance, the parameters of both particles and the globals.
 fn all_variables<A: Allocator + Copy>(
     alloc: A,
     parameters: &[&[u8]],
@@ -123,10 +128,8 @@ fn all_variables<A: Allocator + Copy>(
 ) -> Result<NameSet<A>, Failure<ExprFault<A>>>
     ensures { Gives names_in result (filled (codes "r" ∷ []) (parameters_and_globals (map (λ p. p.now) parameters.now) (map (λ g. g.now) globals.now))) }
 {
-    let mut names = only_distance(alloc)?;
-    add_particle(alloc, &mut names, parameters, b'1')?;
-    add_particle(alloc, &mut names, parameters, b'2')?;
-    add_all(alloc, &mut names, globals)?;
+    let mut names = IndexSet::new(alloc);
+    add_variables(alloc, &mut names, parameters, globals)?;
     Ok(names)
 }
 
