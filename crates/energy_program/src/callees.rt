@@ -5,7 +5,7 @@ ghost use Rattle.energy_program.specs.Names.{function_of, lookup};
 use crate::trees::{Function, Operator};
 
 /// A function, by how many arguments it takes.
-#[derive(Clone, Copy, Debug, PartialEq, Eq)]
+#[derive(Clone, Copy)]
 pub enum Callee {
     /// A function of one argument.
     One(Function),

@@ -8,7 +8,7 @@ use std::alloc::Allocator;
 use std::fmt::{self, Display, Formatter, Write};
 
 /// A name of an energy text, as its own copy of the text's bytes: letters, digits and `_`.
-#[derive(Debug, Drop)]
+#[derive(Drop)]
 pub struct EnergyName<A: Allocator> {
     /// The bytes of the name, one at least.
     pub bytes: Vec<u8, A>,
@@ -17,7 +17,7 @@ pub struct EnergyName<A: Allocator> {
 impl<A: Allocator> Display for EnergyName<A> {
     fn fmt<W: Write>(&self, f: &mut Formatter<W>) -> fmt::Result {
         for byte in &self.bytes {
-            write!(f, "{}", char::from(*byte))?;
+            f.write_char(char::from(*byte))?;
         }
         Ok(())
     }

@@ -16,7 +16,7 @@ use line_text::{digits_up_to, is_identifier_continue, is_identifier_start};
 use std::alloc::Allocator;
 
 /// What is wrong at the front of a text.
-#[derive(Clone, Copy, Debug, PartialEq, Eq)]
+#[derive(Clone, Copy)]
 pub enum Wrong {
     /// The byte begins no token.
     Byte,
