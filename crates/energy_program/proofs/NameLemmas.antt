@@ -73,6 +73,12 @@ module _ {A : Type 0} (keys : List (Vec ℕ A)) (v : Vec ℕ A) (name : List ℕ
       by true e = ap (λ b. if b then Err (ReservedName name) else Ok (map (λ k. k.items) keys ++ name ∷ [])) (tested true e)
       by false e = absurd (true≢false (sym (ap not e) ∙ known))
 
+-- a name that goes into a set without names is its only one
+pub first_in : {A : Type 0} (keys new : List (Vec ℕ A)) (v : Vec ℕ A) (name : List ℕ) → map (λ k. k.items) keys ≡ [] → v.items ≡ name → new ≡ insert_key (λ x y. bytes_eq x.items y.items) keys v
+    → map (λ k. k.items) new ≡ name ∷ []
+first_in [] new v name none named is = ap (map (λ k. k.items)) is ∙ ap (λ n. n ∷ []) named
+first_in (k ∷ keys) new v name none named is = absurd cc
+
 -- Variables that come together one by one: all of them, unless one's name is reserved or taken.
 module _ (v : List ℕ) (names vs : List (List ℕ)) where
   joined : (b : Bool) → filled (names ++ v ∷ []) vs ≡ refused_for ReservedName (first_clash (names ++ v ∷ []) vs) (Ok ((names ++ v ∷ []) ++ vs))
@@ -132,13 +138,9 @@ module _ {X Y : Type 0} (h : X → List ℕ) (k : Y → List ℕ) (ps : List X) 
     pub second_fails : (a : List (List ℕ)) → filled names (map (λ p. h p ++ 49 ∷ []) ps) ≡ Ok a → Fails e (filled a (map (λ p. h p ++ 50 ∷ []) ps)) → Fails e all
     second_fails a first f = rw (steps, first) (fails_then e _ (λ b. filled b (map k gs)) f)
 
-    -- the same at the globals
-    pub third_fails : (a b : List (List ℕ)) → filled names (map (λ p. h p ++ 49 ∷ []) ps) ≡ Ok a → filled a (map (λ p. h p ++ 50 ∷ []) ps) ≡ Ok b → Fails e (filled b (map k gs)) → Fails e all
-    third_fails a b first second f = rw (steps, first, second) f
-
-  -- where all three lists come in, the whole is what they come to
-  pub all_filled : (a b c : List (List ℕ)) → filled names (map (λ p. h p ++ 49 ∷ []) ps) ≡ Ok a → filled a (map (λ p. h p ++ 50 ∷ []) ps) ≡ Ok b → filled b (map k gs) ≡ Ok c → all ≡ Ok c
-  all_filled a b c first second third = rw (steps, first, second) third
+  -- behind the parameters of both particles come the globals
+  pub globals_left : (a b : List (List ℕ)) → filled names (map (λ p. h p ++ 49 ∷ []) ps) ≡ Ok a → filled a (map (λ p. h p ++ 50 ∷ []) ps) ≡ Ok b → filled b (map k gs) ≡ all
+  globals_left a b first second = sym (rw (steps, first, second) refl)
 
 -- the names of a program, case by case
 module _ (ps gs : List (List ℕ)) where

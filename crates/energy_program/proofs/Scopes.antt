@@ -1,5 +1,5 @@
 -- The scope of trees, as facts on each part.
-use Rattle.std.proofs.Common.{◌≡◌, ℕ, ◌+◌, ◌<◌, ◌≤◌, List, [], ◌∷◌, length, IsTrue, arith, subst}
+use Rattle.std.proofs.Common.{◌≡◌, ℕ, Bool, true, ◌+◌, ◌<◌, ◌≤◌, List, [], ◌∷◌, length, IsTrue, arith, subst}
 use Rattle.std.specs.Prelude.{◌&&◌, nat_lt, nat_le}
 use Rattle.std.proofs.lemmas.Bool.{and_parts, ltb-true, leb-true}
 use Rattle.energy_program.specs.Tree.{Tree, is_scoped, are_scoped, is_exponent}
@@ -50,3 +50,13 @@ are_valid inputs j count (d ∷ ds) e h =
       valid_of inputs (j + 1) count d (subst (λ n. IsTrue (is_scoped inputs (j + 1) n d)) here p.0),
       are_valid inputs (j + 1) count ds (omega arith) p.1,
     )
+
+-- what holds of the counts and tests of a program
+pub program_parts : (count parameters globals : ℕ) (body each : Bool) → (nat_le count 128 && nat_le parameters 8 && nat_le globals 16 && body && each) ≡ true
+    → (count ≤ 128) × (parameters ≤ 8) × (globals ≤ 16) × (body ≡ true) × (each ≡ true)
+program_parts count parameters globals body each h =
+    let p = and_parts (nat_le count 128 && nat_le parameters 8 && nat_le globals 16 && body) each h in
+    let q = and_parts (nat_le count 128 && nat_le parameters 8 && nat_le globals 16) body p.0 in
+    let r = and_parts (nat_le count 128 && nat_le parameters 8) (nat_le globals 16) q.0 in
+    let s = and_parts (nat_le count 128) (nat_le parameters 8) r.0 in
+    (leb-true count 128 s.0, leb-true parameters 8 s.1, leb-true globals 16 r.1, q.1, p.1)

@@ -31,27 +31,25 @@ input_of variables name = position (bytes_eq name) variables
 
 -- ---- the functions
 
+-- what the first entry of a table with the name stands for
+abbrev pub lookup : List (List ℕ × Callee) → List ℕ → Option Callee
+lookup [] name = None
+lookup (e ∷ es) name = if bytes_eq name e.0 then Some e.1 else lookup es name
+
 -- the functions of the language
 unfoldable pub function_of : List ℕ → Option Callee
-function_of name =
-    if bytes_eq name (codes "sqrt") then Some (takes.One f.SquareRoot)
-    else (if bytes_eq name (codes "abs") then Some (takes.One f.Absolute)
-    else (if bytes_eq name (codes "step") then Some (takes.One f.Step)
-    else (if bytes_eq name (codes "delta") then Some (takes.One f.Delta)
-    else (if bytes_eq name (codes "floor") then Some (takes.One f.Floor)
-    else (if bytes_eq name (codes "ceil") then Some (takes.One f.Ceiling)
-    else (if bytes_eq name (codes "min") then Some (takes.Two op.Minimum)
-    else (if bytes_eq name (codes "max") then Some (takes.Two op.Maximum)
-    else (if bytes_eq name (codes "select") then Some takes.Three else None))))))))
+function_of name = lookup (
+    (codes "sqrt", takes.One f.SquareRoot) ∷ (codes "abs", takes.One f.Absolute) ∷ (codes "step", takes.One f.Step)
+    ∷ (codes "delta", takes.One f.Delta) ∷ (codes "floor", takes.One f.Floor) ∷ (codes "ceil", takes.One f.Ceiling)
+    ∷ (codes "min", takes.Two op.Minimum) ∷ (codes "max", takes.Two op.Maximum) ∷ (codes "select", takes.Three) ∷ []
+    ) name
 
 -- the functions of custom force expressions (OpenMM User Guide) that the language leaves out
 unfoldable pub is_left_out : List ℕ → Bool
-is_left_out name =
-    bytes_eq name (codes "exp") || bytes_eq name (codes "log") || bytes_eq name (codes "sin") || bytes_eq name (codes "cos")
-    || bytes_eq name (codes "sec") || bytes_eq name (codes "csc") || bytes_eq name (codes "tan") || bytes_eq name (codes "cot")
-    || bytes_eq name (codes "asin") || bytes_eq name (codes "acos") || bytes_eq name (codes "atan") || bytes_eq name (codes "atan2")
-    || bytes_eq name (codes "sinh") || bytes_eq name (codes "cosh") || bytes_eq name (codes "tanh") || bytes_eq name (codes "erf")
-    || bytes_eq name (codes "erfc")
+is_left_out name = list_any (bytes_eq name) (
+    codes "exp" ∷ codes "log" ∷ codes "sin" ∷ codes "cos" ∷ codes "sec" ∷ codes "csc" ∷ codes "tan" ∷ codes "cot" ∷ codes "asin"
+    ∷ codes "acos" ∷ codes "atan" ∷ codes "atan2" ∷ codes "sinh" ∷ codes "cosh" ∷ codes "tanh" ∷ codes "erf" ∷ codes "erfc" ∷ []
+    )
 
 -- why a name that is no function's can't stand before a parenthesis
 abbrev pub call_refusal : List ℕ → Refusal

@@ -1,11 +1,11 @@
 // The functions of the language.
-ghost use Rattle.std.specs.Prelude.{◌≡◌};
-ghost use Rattle.energy_program.specs.Names.{function_of};
+ghost use Rattle.std.specs.Prelude.{◌≡◌, map};
+ghost use Rattle.energy_program.specs.Names.{function_of, lookup};
 
 use crate::trees::{Function, Operator};
 
 /// A function, by how many arguments it takes.
-#[derive(Clone, Copy, Debug, PartialEq, Eq)]
+#[derive(Clone, Copy)]
 pub enum Callee {
     /// A function of one argument.
     One(Function),
@@ -15,30 +15,36 @@ pub enum Callee {
     Three,
 }
 
+// The functions by their names.
+const FUNCTIONS: [(&[u8], Callee); 9] = [
+    (b"sqrt", Callee::One(Function::SquareRoot)),
+    (b"abs", Callee::One(Function::Absolute)),
+    (b"step", Callee::One(Function::Step)),
+    (b"delta", Callee::One(Function::Delta)),
+    (b"floor", Callee::One(Function::Floor)),
+    (b"ceil", Callee::One(Function::Ceiling)),
+    (b"min", Callee::Two(Operator::Minimum)),
+    (b"max", Callee::Two(Operator::Maximum)),
+    (b"select", Callee::Three),
+];
+
+// What the first entry of a table with the name stands for.
+fn lookup(mut table: &[(&[u8], Callee)], name: &[u8]) -> Option<Callee>
+    ensures { result ≡ lookup (map (λ e. (e.0.now, e.1)) table.entry.now) name.now }
+{
+    while let [entry, rest @ ..] = table {
+        if name == entry.0 {
+            return Some(entry.1);
+        }
+        table = rest;
+    }
+    None
+}
+
 /// The function with a name.
 #[tactic(auto, unfolding(crate::specs::Names::function_of))]
 pub fn function_of(name: &[u8]) -> Option<Callee>
     ensures { result ≡ function_of name.now }
 {
-    if name == b"sqrt".as_slice() {
-        Some(Callee::One(Function::SquareRoot))
-    } else if name == b"abs".as_slice() {
-        Some(Callee::One(Function::Absolute))
-    } else if name == b"step".as_slice() {
-        Some(Callee::One(Function::Step))
-    } else if name == b"delta".as_slice() {
-        Some(Callee::One(Function::Delta))
-    } else if name == b"floor".as_slice() {
-        Some(Callee::One(Function::Floor))
-    } else if name == b"ceil".as_slice() {
-        Some(Callee::One(Function::Ceiling))
-    } else if name == b"min".as_slice() {
-        Some(Callee::Two(Operator::Minimum))
-    } else if name == b"max".as_slice() {
-        Some(Callee::Two(Operator::Maximum))
-    } else if name == b"select".as_slice() {
-        Some(Callee::Three)
-    } else {
-        None
-    }
+    lookup(&FUNCTIONS, name)
 }

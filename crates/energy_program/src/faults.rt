@@ -6,10 +6,11 @@ ghost use Rattle.energy_program.specs.Names.{call_refusal};
 use crate::names::{EnergyName, is_left_out};
 use fallible::Failure;
 use std::alloc::{AllocError, Allocator};
+use std::fmt;
 use thiserror::Error;
 
 /// Why an energy text is refused. An offset counts the bytes before the place, from 0.
-#[derive(Debug, Drop, Error)]
+#[derive(Drop, Error)]
 pub enum ExprFault<A: Allocator> {
     /// A byte begins no token.
     #[error("E01 BadCharacter {at}")]
@@ -48,6 +49,13 @@ pub enum ExprFault<A: Allocator> {
     /// The function before a parenthesis is left out of the language.
     #[error("E11 LeftOutFunction {name}")]
     LeftOutFunction { name: EnergyName<A> },
+}
+
+/// A fault prints the same either way.
+impl<A: Allocator> fmt::Debug for ExprFault<A> {
+    fn fmt<W: fmt::Write>(&self, f: &mut fmt::Formatter<W>) -> fmt::Result {
+        fmt::Display::fmt(self, f)
+    }
 }
 
 // The name's own copy.

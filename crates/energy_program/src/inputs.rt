@@ -1,8 +1,6 @@
 // The names of a program's variables, and which input each is.
 ghost use Rattle.std.specs.Prelude.{◌≡◌, ◌<◌, ◌++◌, ◌∷◌, [], length, codes, map, All, IfErr, IfOk, IfSome, IsSomeAnd, IsTrue, None, OnOk};
-ghost use Rattle.std.specs.List.{list_any};
 ghost use Rattle.std.specs.Option.{option_map};
-ghost use Rattle.std.specs.Str.{bytes_eq};
 ghost use Rattle.line_text.specs.Identifiers.{is_identifier};
 ghost use Rattle.energy_program.specs.Names.{first_repeated, input_of, names_from, parameters_and_globals};
 ghost use Rattle.fallible.specs.Failures.{IsOrMemory};
@@ -11,18 +9,11 @@ ghost use Rattle.energy_program.specs.Tree.{variable_count};
 ghost use Rattle.energy_program.specs.Variables.{added, filled, names_in, names_of};
 
 use crate::faults::ExprFault;
-use crate::names::is_reserved;
+use crate::names::{is_among, is_reserved};
 use crate::variables::{MAX_GLOBALS, MAX_PARAMETERS, NameSet, Names};
 use fallible::Failure;
 use indexmap::IndexSet;
 use std::alloc::Allocator;
-
-// Whether the name is one of these.
-fn is_among(names: &[&[u8]], name: &[u8]) -> bool
-    ensures { result ≡ list_any (λ n. bytes_eq name.now n.now) names.now }
-{
-    names.iter().any(|other| name == *other)
-}
 
 // The first name that comes again.
 fn first_repeated<'a>(names: &[&'a [u8]]) -> Option<&'a [u8]>
@@ -115,16 +106,21 @@ fn add_all<A: Allocator + Copy>(
     Ok(())
 }
 
-// The distance.
-fn only_distance<A: Allocator + Copy>(alloc: A) -> Result<NameSet<A>, Failure<ExprFault<A>>>
-    ensures { IsOrMemory (λ names. names_in names ≡ codes "r" ∷ []) result }
+// All variables, where there are none yet: the distance, the parameters of both particles and the globals.
+fn add_variables<A: Allocator + Copy>(
+    alloc: A,
+    names: &mut NameSet<A>,
+    parameters: &[&[u8]],
+    globals: &[&[u8]],
+) -> Result<(), Failure<ExprFault<A>>>
+    ensures { names_in names.old ≡ [] → Gives (λ _. names_in names.new) result (filled (codes "r" ∷ []) (parameters_and_globals (map (λ p. p.now) parameters.now) (map (λ g. g.now) globals.now))) }
 {
-    let mut names = IndexSet::new(alloc);
     names.insert(Vec::from_slice(alloc, b"r")?)?;
-    Ok(names)
+    add_particle(alloc, names, parameters, b'1')?;
+    add_particle(alloc, names, parameters, b'2')?;
+    add_all(alloc, names, globals)
 }
 
-// The distance, the parameters of both particles and the globals.
 fn all_variables<A: Allocator + Copy>(
     alloc: A,
     parameters: &[&[u8]],
@@ -132,10 +128,8 @@ fn all_variables<A: Allocator + Copy>(
 ) -> Result<NameSet<A>, Failure<ExprFault<A>>>
     ensures { Gives names_in result (filled (codes "r" ∷ []) (parameters_and_globals (map (λ p. p.now) parameters.now) (map (λ g. g.now) globals.now))) }
 {
-    let mut names = only_distance(alloc)?;
-    add_particle(alloc, &mut names, parameters, b'1')?;
-    add_particle(alloc, &mut names, parameters, b'2')?;
-    add_all(alloc, &mut names, globals)?;
+    let mut names = IndexSet::new(alloc);
+    add_variables(alloc, &mut names, parameters, globals)?;
     Ok(names)
 }
 

@@ -1,4 +1,6 @@
 ghost use Rattle.std.specs.Prelude.{◌≡◌};
+ghost use Rattle.std.specs.List.{list_any};
+ghost use Rattle.std.specs.Str.{bytes_eq};
 ghost use Rattle.energy_program.specs.Names.{is_left_out, is_reserved};
 
 use crate::callees::function_of;
@@ -6,7 +8,7 @@ use std::alloc::Allocator;
 use std::fmt::{self, Display, Formatter, Write};
 
 /// A name of an energy text, as its own copy of the text's bytes: letters, digits and `_`.
-#[derive(Debug, Drop)]
+#[derive(Drop)]
 pub struct EnergyName<A: Allocator> {
     /// The bytes of the name, one at least.
     pub bytes: Vec<u8, A>,
@@ -15,34 +17,30 @@ pub struct EnergyName<A: Allocator> {
 impl<A: Allocator> Display for EnergyName<A> {
     fn fmt<W: Write>(&self, f: &mut Formatter<W>) -> fmt::Result {
         for byte in &self.bytes {
-            write!(f, "{}", char::from(*byte))?;
+            f.write_char(char::from(*byte))?;
         }
         Ok(())
     }
 }
 
-// Whether the name is one of the functions that the language leaves out.
+// The functions of custom force expressions that the language leaves out.
+const LEFT_OUT: [&[u8]; 17] = [
+    b"exp", b"log", b"sin", b"cos", b"sec", b"csc", b"tan", b"cot", b"asin", b"acos", b"atan",
+    b"atan2", b"sinh", b"cosh", b"tanh", b"erf", b"erfc",
+];
+
+// Whether the name is one of these.
+pub(crate) fn is_among(names: &[&[u8]], name: &[u8]) -> bool
+    ensures { result ≡ list_any (λ n. bytes_eq name.now n.now) names.now }
+{
+    names.iter().any(|other| name == *other)
+}
+
 #[tactic(auto, unfolding(crate::specs::Names::is_left_out))]
 pub(crate) fn is_left_out(name: &[u8]) -> bool
     ensures { result ≡ is_left_out name.now }
 {
-    name == b"exp".as_slice()
-        || name == b"log".as_slice()
-        || name == b"sin".as_slice()
-        || name == b"cos".as_slice()
-        || name == b"sec".as_slice()
-        || name == b"csc".as_slice()
-        || name == b"tan".as_slice()
-        || name == b"cot".as_slice()
-        || name == b"asin".as_slice()
-        || name == b"acos".as_slice()
-        || name == b"atan".as_slice()
-        || name == b"atan2".as_slice()
-        || name == b"sinh".as_slice()
-        || name == b"cosh".as_slice()
-        || name == b"tanh".as_slice()
-        || name == b"erf".as_slice()
-        || name == b"erfc".as_slice()
+    is_among(&LEFT_OUT, name)
 }
 
 /// Whether no definition, and no variable but the distance, may have the name: it is `r`, one of the functions or one of those

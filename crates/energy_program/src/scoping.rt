@@ -53,6 +53,25 @@ fn are_scoped<A: Allocator>(inputs: u32, number: usize, definitions: &[Expr<A>])
     }
 }
 
+// Whether a body and definitions are a program for so many parameters and globals.
+fn is_program<A: Allocator>(
+    body: &Expr<A>,
+    definitions: &[Expr<A>],
+    parameters: u32,
+    globals: u32,
+) -> bool
+    ensures { result ≡ (nat_le (length definitions.now) 128 && nat_le parameters 8 && nat_le globals 16 && is_scoped (variable_count parameters globals) 0 (length definitions.now) (tree_of body.now) && are_scoped (variable_count parameters globals) 0 (map tree_of definitions.now)) }
+{
+    if definitions.len() > MAX_DEFINITIONS
+        || parameters as usize > MAX_PARAMETERS
+        || globals as usize > MAX_GLOBALS
+    {
+        return false;
+    }
+    let inputs = 1 + 2 * parameters + globals;
+    is_scoped(inputs, 0, definitions.len(), body) && are_scoped(inputs, 0, definitions)
+}
+
 impl<A: Allocator> Program<A> {
     /// The program of a body and definitions, for particles with `parameters` parameters and for `globals` globals. There is none
     /// where there are more than 128 definitions, 8 parameters or 16 globals, or where a tree uses another input than these or
@@ -68,14 +87,7 @@ impl<A: Allocator> Program<A> {
         ensures globals { IfSome result (λ p. p.globals ≡ globals) }
         ensures made { is_some result ≡ (nat_le (length definitions.items) 128 && nat_le parameters 8 && nat_le globals 16 && is_scoped (variable_count parameters globals) 0 (length definitions.items) (tree_of body) && are_scoped (variable_count parameters globals) 0 (map tree_of definitions.items)) }
     {
-        if definitions.len() > MAX_DEFINITIONS
-            || parameters as usize > MAX_PARAMETERS
-            || globals as usize > MAX_GLOBALS
-        {
-            return None;
-        }
-        let inputs = 1 + 2 * parameters + globals;
-        if is_scoped(inputs, 0, definitions.len(), &body) && are_scoped(inputs, 0, &definitions) {
+        if is_program(&body, &definitions, parameters, globals) {
             Some(Program {
                 body,
                 definitions,

@@ -4,7 +4,7 @@ use fixed::Fx;
 use std::alloc::Allocator;
 
 /// An operation on two parts.
-#[derive(Clone, Copy, Debug, PartialEq, Eq)]
+#[derive(Clone, Copy)]
 pub enum Operator {
     /// The sum of both.
     Add,
@@ -21,7 +21,7 @@ pub enum Operator {
 }
 
 /// A function of one part.
-#[derive(Clone, Copy, Debug, PartialEq, Eq)]
+#[derive(Clone, Copy)]
 pub enum Function {
     /// The square root.
     SquareRoot,

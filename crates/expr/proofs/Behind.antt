@@ -1,5 +1,5 @@
 -- The definitions behind the body, one after the other.
-use Rattle.std.proofs.Common.{◌≡◌, ℕ, suc, ◌+◌, ◌-◌, ◌<◌, ◌≤◌, Bool, true, false, eqb, List, [], ◌∷◌, ◌++◌, length, Option, Some, None, Result, Ok, Err, refl, sym, ap, ◌∙◌, append_assoc, arith}
+use Rattle.std.proofs.Common.{◌≡◌, ℕ, suc, ◌+◌, ◌-◌, ◌<◌, ◌≤◌, Bool, true, false, eqb, List, [], ◌∷◌, ◌++◌, Option, Some, None, Result, Ok, Err, refl, sym, ap, ◌∙◌, append_assoc, arith}
 use Rattle.std.proofs.lemmas.Bool.{eqb-true, eqb-false}
 use Rattle.std.proofs.lemmas.List.{append-nil}
 use Rattle.fallible.specs.declared.failure.Failure.{Failure}
@@ -10,9 +10,7 @@ use Rattle.expr.specs.Parsing.{SignOf, expr_at}
 use Rattle.expr.specs.Sources.{semicolon_sign, name_sign, after_semicolons, no_heading, named_by, named_at, heading_by, heading_at, Definitions, before, defined, definitions_at, source_at}
 use Rattle.expr.specs.Syntax.{Syntax, Definition, Source}
 use Rattle.expr.specs.Tokens.{Placed}
-use Rattle.expr.specs.Tokens as t
 use Rattle.energy_program.proofs.FaultLaws.{fails_then, fails_same}
-use Rattle.expr.proofs.Results.{some_is}
 
 -- a text with this body, these definitions, and others behind them
 abbrev pub behind : Syntax → List Definition → Definitions → Result Source Refusal

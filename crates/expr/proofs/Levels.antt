@@ -1,5 +1,5 @@
 -- The levels of the grammar, as the code takes them apart.
-use Rattle.std.proofs.Common.{◌≡◌, ℕ, zero, suc, ◌-◌, ◌<◌, List, length, Option, Some, None, Result, Ok, Err, refl, ap, ◌∙◌, arith}
+use Rattle.std.proofs.Common.{◌≡◌, ℕ, zero, suc, ◌-◌, ◌<◌, List, length, Option, Some, None, Result, Ok, Err, refl, sym, ap, ◌∙◌, arith}
 use Rattle.fallible.specs.declared.failure.Failure.{Failure}
 use Rattle.energy_program.specs.declared.faults.ExprFault.{ExprFault}
 use Rattle.energy_program.specs.declared.trees.Operator.{Operator}
@@ -8,9 +8,10 @@ use Rattle.energy_program.specs.Faults.{Refusal, Fails, Gives, refusal_of}
 use Rattle.expr.specs.Tokens.{Placed}
 use Rattle.expr.specs.Syntax.{Syntax, Arguments, One, with_argument}
 use Rattle.expr.specs.Syntax as tree
-use Rattle.expr.specs.Parsing.{ReadingOf, power_at, call_at, list_at, listed, comma_sign, Reading, Beginning, Word, Group, start, misplaced, sum_sign, product_sign, minus_sign, open_sign, chain, chained, atom_by, unary_by, name_by, unary_at, term_at, expr_at, closed_at, atom_at}
+use Rattle.expr.specs.Parsing.{ReadingOf, power_at, call_at, list_at, listed, comma_sign, Reading, Beginning, Word, Group, start, misplaced, sum_sign, product_sign, minus_sign, open_sign, chain, chained, joined, atom_by, unary_by, name_by, unary_at, term_at, expr_at, closed_at, atom_at}
 use Rattle.fallible.proofs.FailureLaws.{fails_as}
 use Rattle.energy_program.proofs.FaultLaws.{fails_same, fails_then}
+use Rattle.expr.proofs.Results.{ok_is}
 use Rattle.expr.proofs.Chain.{turn, turn_fails, turn_ends, sum_signs, product_signs, comma_signs, unary_takes, term_takes, expr_takes}
 
 -- a call's result gives each value that is equal
@@ -68,25 +69,46 @@ pub expr_fails : {C : Type 0} (end n : ℕ) (ts : List Placed) (e : Failure (Exp
 unfolding expr_at chained
 expr_fails end n ts e h = fails_then e (term_at end n ts) (λ x. chain sum_sign (term_at end n) tree.Binary (length x.1) x.0 x.1) h
 
-pub term_turn : (end n : ℕ) (left : Syntax) (ts : List Placed) (o : Operator) (rest : List Placed) (y : Syntax) (after : List Placed) → product_sign ts ≡ Some (o, rest) → unary_at end n rest ≡ Ok (y, after)
-    → chain product_sign (unary_at end n) tree.Binary (length ts) left ts ≡ chain product_sign (unary_at end n) tree.Binary (length after) (tree.Binary o left y) after
-term_turn end n = turn product_sign (unary_at end n) tree.Binary product_signs (unary_takes end n)
+-- what is joined was read
+joined_ok : (o : Operator) (left : Syntax) (r : Reading) (z : Syntax) (after : List Placed) → joined o left r ≡ Ok (z, after) → (y : Syntax) × (r ≡ Ok (y, after)) × (z ≡ tree.Binary o left y)
+joined_ok o left (Ok x) z after e =
+    let k = ok_is (tree.Binary o left x.0, x.1) (z, after) e in
+    (x.0, ap (λ (q : Syntax × List Placed). reading x.0 q.1) k, ap (λ (q : Syntax × List Placed). q.0) (sym k))
+joined_ok o left (Err f) z after e = absurd cc
 
-pub expr_turn : (end n : ℕ) (left : Syntax) (ts : List Placed) (o : Operator) (rest : List Placed) (y : Syntax) (after : List Placed) → sum_sign ts ≡ Some (o, rest) → term_at end n rest ≡ Ok (y, after)
-    → chain sum_sign (term_at end n) tree.Binary (length ts) left ts ≡ chain sum_sign (term_at end n) tree.Binary (length after) (tree.Binary o left y) after
-expr_turn end n = turn sum_sign (term_at end n) tree.Binary sum_signs (term_takes end n)
+joined_err : (o : Operator) (left : Syntax) (r : Reading) (f : Refusal) → joined o left r ≡ Err f → r ≡ Err f
+joined_err o left (Ok x) f e = absurd cc
+joined_err o left (Err k) f e = e
+
+pub term_turn : (end n : ℕ) (left : Syntax) (ts : List Placed) (o : Operator) (rest : List Placed) (z : Syntax) (after : List Placed) → product_sign ts ≡ Some (o, rest) → joined o left (unary_at end n rest) ≡ Ok (z, after)
+    → chain product_sign (unary_at end n) tree.Binary (length ts) left ts ≡ chain product_sign (unary_at end n) tree.Binary (length after) z after
+term_turn end n left ts o rest z after s e =
+    let j = joined_ok o left (unary_at end n rest) z after e in
+    turn product_sign (unary_at end n) tree.Binary product_signs (unary_takes end n) left ts o rest j.0 after s j.1
+    ∙ ap (λ (y : Syntax). chain product_sign (unary_at end n) tree.Binary (length after) y after) (sym j.2)
+
+pub expr_turn : (end n : ℕ) (left : Syntax) (ts : List Placed) (o : Operator) (rest : List Placed) (z : Syntax) (after : List Placed) → sum_sign ts ≡ Some (o, rest) → joined o left (term_at end n rest) ≡ Ok (z, after)
+    → chain sum_sign (term_at end n) tree.Binary (length ts) left ts ≡ chain sum_sign (term_at end n) tree.Binary (length after) z after
+expr_turn end n left ts o rest z after s e =
+    let j = joined_ok o left (term_at end n rest) z after e in
+    turn sum_sign (term_at end n) tree.Binary sum_signs (term_takes end n) left ts o rest j.0 after s j.1
+    ∙ ap (λ (y : Syntax). chain sum_sign (term_at end n) tree.Binary (length after) y after) (sym j.2)
 
 -- a fault of an operand is the loop's
 chain_fails : {C X : Type 0} (e : Failure (ExprFault C)) (operand : Reading) (whole : ReadingOf X) → ((f : Refusal) → operand ≡ Err f → whole ≡ Err f) → Fails e operand → Fails e whole
 chain_fails e operand whole k h = fails_as refusal_of e operand whole k h
 
-pub term_turn_fails : {C : Type 0} (end n : ℕ) (left : Syntax) (ts : List Placed) (o : Operator) (rest : List Placed) (e : Failure (ExprFault C)) → product_sign ts ≡ Some (o, rest) → Fails e (unary_at end n rest)
+pub term_turn_fails : {C : Type 0} (end n : ℕ) (left : Syntax) (ts : List Placed) (o : Operator) (rest : List Placed) (e : Failure (ExprFault C)) → product_sign ts ≡ Some (o, rest) → Fails e (joined o left (unary_at end n rest))
     → Fails e (chain product_sign (unary_at end n) tree.Binary (length ts) left ts)
-term_turn_fails end n left ts o rest e s h = chain_fails e (unary_at end n rest) _ (λ f. turn_fails product_sign (unary_at end n) tree.Binary product_signs (unary_takes end n) left ts o rest f s) h
+term_turn_fails end n left ts o rest e s h =
+    chain_fails e (joined o left (unary_at end n rest)) _
+    (λ f k. turn_fails product_sign (unary_at end n) tree.Binary product_signs (unary_takes end n) left ts o rest f s (joined_err o left (unary_at end n rest) f k)) h
 
-pub expr_turn_fails : {C : Type 0} (end n : ℕ) (left : Syntax) (ts : List Placed) (o : Operator) (rest : List Placed) (e : Failure (ExprFault C)) → sum_sign ts ≡ Some (o, rest) → Fails e (term_at end n rest)
+pub expr_turn_fails : {C : Type 0} (end n : ℕ) (left : Syntax) (ts : List Placed) (o : Operator) (rest : List Placed) (e : Failure (ExprFault C)) → sum_sign ts ≡ Some (o, rest) → Fails e (joined o left (term_at end n rest))
     → Fails e (chain sum_sign (term_at end n) tree.Binary (length ts) left ts)
-expr_turn_fails end n left ts o rest e s h = chain_fails e (term_at end n rest) _ (λ f. turn_fails sum_sign (term_at end n) tree.Binary sum_signs (term_takes end n) left ts o rest f s) h
+expr_turn_fails end n left ts o rest e s h =
+    chain_fails e (joined o left (term_at end n rest)) _
+    (λ f k. turn_fails sum_sign (term_at end n) tree.Binary sum_signs (term_takes end n) left ts o rest f s (joined_err o left (term_at end n rest) f k)) h
 
 pub term_ends : (end n : ℕ) (left : Syntax) (ts : List Placed) → product_sign ts ≡ None → chain product_sign (unary_at end n) tree.Binary (length ts) left ts ≡ Ok (left, ts)
 term_ends end n left ts = turn_ends product_sign (unary_at end n) tree.Binary product_signs (unary_takes end n) (length ts) left ts
@@ -95,11 +117,19 @@ pub expr_ends : (end n : ℕ) (left : Syntax) (ts : List Placed) → sum_sign ts
 expr_ends end n left ts = turn_ends sum_sign (term_at end n) tree.Binary sum_signs (term_takes end n) (length ts) left ts
 
 -- each turn leaves fewer tokens
-pub term_less : (end n : ℕ) (ts : List Placed) (o : Operator) (rest : List Placed) (y : Syntax) (after : List Placed) → product_sign ts ≡ Some (o, rest) → unary_at end n rest ≡ Ok (y, after) → length after < length ts
-term_less end n ts o rest y after s e = let p = product_signs.token ts o rest s in let q = (unary_takes end n).token rest (y, after) e in omega arith
+pub term_less : (end n : ℕ) (left : Syntax) (ts : List Placed) (o : Operator) (rest : List Placed) (z : Syntax) (after : List Placed) → product_sign ts ≡ Some (o, rest) → joined o left (unary_at end n rest) ≡ Ok (z, after) → length after < length ts
+term_less end n left ts o rest z after s e =
+    let j = joined_ok o left (unary_at end n rest) z after e in
+    let p = product_signs.token ts o rest s in
+    let q = (unary_takes end n).token rest (j.0, after) j.1 in
+    omega arith
 
-pub expr_less : (end n : ℕ) (ts : List Placed) (o : Operator) (rest : List Placed) (y : Syntax) (after : List Placed) → sum_sign ts ≡ Some (o, rest) → term_at end n rest ≡ Ok (y, after) → length after < length ts
-expr_less end n ts o rest y after s e = let p = sum_signs.token ts o rest s in let q = (term_takes end n).token rest (y, after) e in omega arith
+pub expr_less : (end n : ℕ) (left : Syntax) (ts : List Placed) (o : Operator) (rest : List Placed) (z : Syntax) (after : List Placed) → sum_sign ts ≡ Some (o, rest) → joined o left (term_at end n rest) ≡ Ok (z, after) → length after < length ts
+expr_less end n left ts o rest z after s e =
+    let j = joined_ok o left (term_at end n rest) z after e in
+    let p = sum_signs.token ts o rest s in
+    let q = (term_takes end n).token rest (j.0, after) j.1 in
+    omega arith
 
 -- ---- atoms
 

@@ -174,6 +174,10 @@ chain sign operand join (suc n) left ts =
 unfoldable pub chained : {S X : Type 0} → (List Placed → SignOf S) → (List Placed → Reading) → (Syntax → X) → (S → X → Syntax → X) → List Placed → ReadingOf X
 chained sign operand first join ts = operand ts >>= λ x. chain sign operand join (length x.1) (first x.0) x.1
 
+-- a part, an operator, and the part that is read behind it
+abbrev pub joined : Operator → Syntax → Reading → Reading
+joined operator left read = read >>= λ x. Ok (s.Binary operator left x.0, x.1)
+
 -- the operands of a rule, with the rule's signs between them
 abbrev pub itself : Syntax → Syntax
 itself x = x

@@ -2,11 +2,12 @@
 ghost use Rattle.std.specs.Prelude.{◌≡◌, ◌≤◌, length};
 ghost use Rattle.std.specs.List.{prefix_len};
 ghost use Rattle.fixed.specs.Fractions.{bits_of};
+ghost use Rattle.fixed.specs.NumeralParts.{front_of};
 ghost use Rattle.energy_program.specs.Faults.{Gives, refusal_of};
 ghost use Rattle.expr.specs.Tokens.{placed_items, whole_in};
 ghost use Rattle.line_text.specs.Identifiers.{is_identifier_continue};
 ghost use Rattle.expr.specs.Bytes.{is_space, begins_number};
-ghost use Rattle.expr.specs.Lexing.{symbol_of, ShowsKind, token_at, ShowsToken, refusal_at, tokens_of};
+ghost use Rattle.expr.specs.Lexing.{number_token, symbol_of, symbol_token, ShowsKind, token_at, ShowsToken, refusal_at, tokens_of};
 
 use crate::tokens::{Kind, Token};
 use energy_program::ExprFault;
@@ -16,7 +17,7 @@ use line_text::{digits_up_to, is_identifier_continue, is_identifier_start};
 use std::alloc::Allocator;
 
 /// The fault at the front of a text.
-#[derive(Clone, Copy, Debug, PartialEq, Eq)]
+#[derive(Clone, Copy)]
 pub enum Wrong {
     /// The byte begins no token.
     Byte,
@@ -75,6 +76,29 @@ fn whole(text: &[u8]) -> u8
     }
 }
 
+// The numeral at the front, and the bytes after it.
+fn number_token<'a>(frac: Frac, text: &'a [u8]) -> Result<(Kind<'a>, &'a [u8]), Wrong>
+    ensures { ShowsToken result (number_token text.now (front_of (bits_of frac) text.now)) }
+{
+    match numeral_front(frac, text) {
+        Ok((value, after)) => {
+            let whole = whole(&text[..text.len() - after.len()]);
+            Ok((Kind::Number(value.raw(), whole), after))
+        }
+        Err(fault) => Err(Wrong::Number(fault)),
+    }
+}
+
+// The symbol that a byte is, in front of others.
+fn symbol_token<'a>(byte: u8, after: &'a [u8]) -> Result<(Kind<'a>, &'a [u8]), Wrong>
+    ensures { ShowsToken result (symbol_token after.now (symbol_of byte)) }
+{
+    match symbol_of(byte) {
+        Some(kind) => Ok((kind, after)),
+        None => Err(Wrong::Byte),
+    }
+}
+
 // The token at the front, and the bytes after it.
 #[tactic(auto, unfolding(crate::specs::Lexing::token_at))]
 fn token_at<'a>(frac: Frac, text: &'a [u8]) -> Result<(Kind<'a>, &'a [u8]), Wrong>
@@ -84,19 +108,12 @@ fn token_at<'a>(frac: Frac, text: &'a [u8]) -> Result<(Kind<'a>, &'a [u8]), Wron
         [] => Err(Wrong::Byte),
         [first, rest @ ..] => {
             if begins_number(*first) {
-                match numeral_front(frac, text) {
-                    Ok((value, after)) => {
-                        let whole = whole(&text[..text.len() - after.len()]);
-                        Ok((Kind::Number(value.raw(), whole), after))
-                    }
-                    Err(fault) => Err(Wrong::Number(fault)),
-                }
+                number_token(frac, text)
             } else if is_identifier_start(*first) {
                 let (name, after) = text.split_at(word_len(text));
                 Ok((Kind::Name(name), after))
             } else {
-                let kind = symbol_of(*first).ok_or(Wrong::Byte)?;
-                Ok((kind, rest))
+                symbol_token(*first, rest)
             }
         }
     }

@@ -1,12 +1,10 @@
 // From tokens to a tree, by recursive descent.
 ghost use Rattle.std.specs.Prelude.{◌≡◌, Ok};
 ghost use Rattle.expr.specs.Tokens.{lexeme, placed};
-ghost use Rattle.fallible.specs.Failures.{IsOrMemory};
 ghost use Rattle.energy_program.specs.Faults.{Answers, Gives, refusal_of};
 ghost use Rattle.expr.specs.Calls.{called};
 ghost use Rattle.expr.specs.Syntax.{arguments_of, syntax_of};
-ghost use Rattle.expr.specs.Syntax as s;
-ghost use Rattle.expr.specs.Parsing.{beside, followed, ShowsBeginning, ShowsStart, Shows, ShowsCaret, ShowsRest, arguments_seen, exponent_seen, seen, rest_seen, offset, begins_operand, misplaced, beginning_of, start, sum_sign, product_sign, minus_sign, open_sign, close_sign, comma_sign, close, expr_at, term_at, unary_at, power_at, raised_at, exponent_at, grouped_at, atom_at, call_at, arguments_at, list_at, closed_at};
+ghost use Rattle.expr.specs.Parsing.{Reading, beside, joined, followed, ShowsBeginning, ShowsStart, Shows, ShowsCaret, ShowsRest, arguments_seen, exponent_seen, seen, rest_seen, offset, begins_operand, misplaced, beginning_of, start, sum_sign, product_sign, minus_sign, open_sign, close_sign, comma_sign, close, expr_at, term_at, unary_at, power_at, raised_at, exponent_at, grouped_at, atom_at, call_at, arguments_at, list_at, closed_at};
 
 use crate::calls::Arguments;
 use crate::exponents::{awaits_operand, caret_sign, signed_sign};
@@ -225,8 +223,8 @@ impl<A: Allocator + Copy> Parser<A> {
     {
         let (mut left, mut rest) = self.term(tokens, levels)?;
         while let Some((operator, after)) = sum_sign(rest) {
-            let (right, beyond) = self.term(after, levels)?;
-            left = self.binary(operator, left, right)?;
+            let (whole, beyond) = self.joined(operator, left, self.term(after, levels))?;
+            left = whole;
             rest = beyond;
         }
         Ok((left, rest))
@@ -238,8 +236,8 @@ impl<A: Allocator + Copy> Parser<A> {
     {
         let (mut left, mut rest) = self.unary(tokens, levels)?;
         while let Some((operator, after)) = product_sign(rest) {
-            let (right, beyond) = self.unary(after, levels)?;
-            left = self.binary(operator, left, right)?;
+            let (whole, beyond) = self.joined(operator, left, self.unary(after, levels))?;
+            left = whole;
             rest = beyond;
         }
         Ok((left, rest))
@@ -318,7 +316,7 @@ impl<A: Allocator + Copy> Parser<A> {
             return Err(ExprFault::TooLarge);
         }
         match signed_sign(tokens) {
-            Some((exponent, rest)) => Ok((exponent, self.close(rest)?)),
+            Some((exponent, rest)) => beside(exponent, self.close(rest)),
             None => Err(ExprFault::BadExponent { at }),
         }
     }
@@ -441,16 +439,12 @@ impl<A: Allocator + Copy> Parser<A> {
         }
     }
 
-    // Two parts and the operator between them.
-    fn binary<'a>(
-        &self,
-        operator: Operator,
-        left: Boxed<'a, A>,
-        right: Boxed<'a, A>,
-    ) -> Result<Boxed<'a, A>, Failure<ExprFault<A>>>
-        ensures { IsOrMemory (λ e. syntax_of e.value ≡ s.Binary operator (syntax_of left.entry.value) (syntax_of right.entry.value)) result }
+    // A part, an operator, and the part that is read behind it.
+    fn joined<'a>(&self, operator: Operator, left: Boxed<'a, A>, right: Read<'a, A>) -> Read<'a, A>
+        ensures { (read : Reading) → Gives seen right.entry read → Gives seen result (joined operator (syntax_of left.entry.value) read) }
     {
-        Ok(Box::new(self.alloc, Syntax::Binary(operator, left, right))?)
+        let (right, rest) = right?;
+        self.put(Syntax::Binary(operator, left, right), rest)
     }
 
     // A part in a block of its own, in front of tokens.

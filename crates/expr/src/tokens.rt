@@ -1,5 +1,5 @@
 /// The kind of a token, with its value.
-#[derive(Clone, Copy, Debug, PartialEq, Eq)]
+#[derive(Clone, Copy)]
 pub enum Kind<'a> {
     /// A numeral's raw value, and the whole number that it writes, as `numerals::whole` says.
     Number(i64, u8),
@@ -17,7 +17,7 @@ pub enum Kind<'a> {
 }
 
 /// A token, and where its first byte stands in the text.
-#[derive(Clone, Copy, Debug, PartialEq, Eq)]
+#[derive(Clone, Copy)]
 pub struct Token<'a> {
     pub kind: Kind<'a>,
     pub at: usize,

@@ -1,34 +1,17 @@
--- Without these answers the check searches for seconds, in vain, before `grind` closes the goals.
-use Rattle.std.proofs.Common.{arith, refl}
-use Rattle.std.proofs.lemmas.Grind.{common_steps}
+use Rattle.std.proofs.Common.{length, refl, sym, ◌∙◌}
+use Rattle.energy_program.proofs.Scopes.{program_parts}
 use Rattle.energy_program.proofs.programs.Program.new.Goals as goal
 
 pub invariant_of-result : goal.invariant_of-result
-invariant_of-result g c = grind (arith, common_steps)
+invariant_of-result g c =
+    let p = program_parts (length c.args.definitions.items) c.args.parameters c.args.globals _ _ (sym (rw c.deref.ensures.value at c.is_program.ensures) ∙ c.if-is_program.true) in
+    record { few_definitions = p.0; few_parameters = p.1; few_globals = p.2; body_scoped = p.3; definitions_scoped = p.4 }
 
-pub returns-then-are_scoped-clause-trees : goal.returns-then-are_scoped-clause-trees
-returns-then-are_scoped-clause-trees g c = refl
+pub returns-then-is_program-clause-trees : goal.returns-then-is_program-clause-trees
+returns-then-is_program-clause-trees g c = refl
 
-pub returns-then-are_scoped-clause-made : goal.returns-then-are_scoped-clause-made
-returns-then-are_scoped-clause-made g c = grind (arith, common_steps)
+pub returns-then-is_program-clause-parameters : goal.returns-then-is_program-clause-parameters
+returns-then-is_program-clause-parameters g c = refl
 
-pub returns-else-is_scoped-clause-made : goal.returns-else-is_scoped-clause-made
-returns-else-is_scoped-clause-made g c = grind (arith, common_steps)
-
-pub returns-then-are_scoped-clause-parameters : goal.returns-then-are_scoped-clause-parameters
-returns-then-are_scoped-clause-parameters g c = refl
-
-pub returns-then-are_scoped-clause-globals : goal.returns-then-are_scoped-clause-globals
-returns-then-are_scoped-clause-globals g c = refl
-
-pub returns-then-len-gt-MAX_DEFINITIONS-clause-made : goal.returns-then-len-gt-MAX_DEFINITIONS-clause-made
-returns-then-len-gt-MAX_DEFINITIONS-clause-made g c = grind (arith, common_steps)
-
-pub overflow_mul-inputs : goal.overflow_mul-inputs
-overflow_mul-inputs g c = grind (arith, common_steps)
-
-pub overflow_add-inputs : goal.overflow_add-inputs
-overflow_add-inputs g c = grind (arith, common_steps)
-
-pub overflow_add-inputs-2 : goal.overflow_add-inputs-2
-overflow_add-inputs-2 g c = grind (arith, common_steps)
+pub returns-then-is_program-clause-globals : goal.returns-then-is_program-clause-globals
+returns-then-is_program-clause-globals g c = refl

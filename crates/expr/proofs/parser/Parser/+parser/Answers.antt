@@ -4,7 +4,7 @@ use Rattle.std.proofs.lemmas.Result.{err_from_is_err_and}
 use Rattle.expr.specs.Tokens.{placed}
 use Rattle.expr.specs.Syntax.{arguments_of, syntax_of}
 use Rattle.expr.specs.Syntax as tree
-use Rattle.expr.specs.Parsing.{beginning, sum_sign, product_sign, comma_sign, listed, chain, expr_at, term_at, unary_at}
+use Rattle.expr.specs.Parsing.{beginning, comma_sign, listed, chain, expr_at}
 use Rattle.expr.proofs.Levels.{unary_none_left, atom_group, atom_name, atom_call, minus_fails, minus_reads, gives_same, atom_start, unary_none, term_starts, expr_starts, term_fails, expr_fails, term_turn, expr_turn, term_turn_fails, expr_turn_fails, term_ends, expr_ends, term_less, expr_less, started, reading, list_starts, list_fails, list_turn, list_turn_fails, list_ends, list_less}
 use Rattle.expr.proofs.Results.{beside_ok, beside_err}
 use Rattle.expr.proofs.parser.Parser.+parser.Goals as goal
@@ -17,21 +17,20 @@ expr-returns-in_err-left g t c =
 pub expr-loop-operator-init : goal.expr-loop-operator-init
 expr-loop-operator-init g t c = expr_starts c.args.self.now.end c.args.levels (placed c.args.tokens.now) _ _ c.in_ok-left.ensures
 
-pub expr-returns-in_err-right : goal.expr-returns-in_err-right
-expr-returns-in_err-right g t c =
-    let p = err_from_is_err_and c.from_residual-in_err-right.result c.from_residual-in_err-right.ensures.1 in
-    rw (p.1, p.2, c.loop-operator.invariant) (expr_turn_fails c.args.self.now.end c.args.levels _ (placed c.loop-operator.rest.now) _ _ _ c.in-Some.ensures c.in_err-right.ensures)
+pub expr-returns-in_err-whole : goal.expr-returns-in_err-whole
+expr-returns-in_err-whole g t c =
+    let p = err_from_is_err_and c.from_residual-in_err-whole.result c.from_residual-in_err-whole.ensures.1 in
+    rw (p.1, p.2, c.loop-operator.invariant) (expr_turn_fails c.args.self.now.end c.args.levels _ (placed c.loop-operator.rest.now) _ _ _ c.in-Some.ensures (c.in_err-whole.ensures _ c.term-in-Some.ensures))
 
 pub expr-loop-operator-smaller : goal.expr-loop-operator-smaller
 expr-loop-operator-smaller g t c =
-    let h = expr_less c.args.self.now.end c.args.levels (placed c.loop-operator.rest.now) _ _ _ _ c.in-Some.ensures c.in_ok-right.ensures in
+    let h = expr_less c.args.self.now.end c.args.levels _ (placed c.loop-operator.rest.now) _ _ _ _ c.in-Some.ensures (c.in_ok-whole.ensures _ c.term-in-Some.ensures) in
     omega (arith, simp length-map at h)
 
 pub expr-loop-operator-preserved : goal.expr-loop-operator-preserved
 expr-loop-operator-preserved g t c =
     c.loop-operator.invariant
-    ∙ expr_turn c.args.self.now.end c.args.levels _ (placed c.loop-operator.rest.now) _ _ _ _ c.in-Some.ensures c.in_ok-right.ensures
-    ∙ ap (λ left. chain sum_sign (term_at c.args.self.now.end c.args.levels) tree.Binary (length (placed c.in_ok-right.beyond.now)) left (placed c.in_ok-right.beyond.now)) (sym c.in_ok-left-2.ensures)
+    ∙ expr_turn c.args.self.now.end c.args.levels _ (placed c.loop-operator.rest.now) _ _ _ _ c.in-Some.ensures (c.in_ok-whole.ensures _ c.term-in-Some.ensures)
 
 pub expr-returns : goal.expr-returns
 expr-returns g t c = c.loop-operator.invariant ∙ expr_ends c.args.self.now.end c.args.levels _ (placed c.loop-operator.rest.now) c.in_default.ensures
@@ -44,21 +43,20 @@ term-returns-in_err-left g t c =
 pub term-loop-operator-init : goal.term-loop-operator-init
 term-loop-operator-init g t c = term_starts c.args.self.now.end c.args.levels (placed c.args.tokens.now) _ _ c.in_ok-left.ensures
 
-pub term-returns-in_err-right : goal.term-returns-in_err-right
-term-returns-in_err-right g t c =
-    let p = err_from_is_err_and c.from_residual-in_err-right.result c.from_residual-in_err-right.ensures.1 in
-    rw (p.1, p.2, c.loop-operator.invariant) (term_turn_fails c.args.self.now.end c.args.levels _ (placed c.loop-operator.rest.now) _ _ _ c.in-Some.ensures c.in_err-right.ensures)
+pub term-returns-in_err-whole : goal.term-returns-in_err-whole
+term-returns-in_err-whole g t c =
+    let p = err_from_is_err_and c.from_residual-in_err-whole.result c.from_residual-in_err-whole.ensures.1 in
+    rw (p.1, p.2, c.loop-operator.invariant) (term_turn_fails c.args.self.now.end c.args.levels _ (placed c.loop-operator.rest.now) _ _ _ c.in-Some.ensures (c.in_err-whole.ensures _ c.unary-in-Some.ensures))
 
 pub term-loop-operator-smaller : goal.term-loop-operator-smaller
 term-loop-operator-smaller g t c =
-    let h = term_less c.args.self.now.end c.args.levels (placed c.loop-operator.rest.now) _ _ _ _ c.in-Some.ensures c.in_ok-right.ensures in
+    let h = term_less c.args.self.now.end c.args.levels _ (placed c.loop-operator.rest.now) _ _ _ _ c.in-Some.ensures (c.in_ok-whole.ensures _ c.unary-in-Some.ensures) in
     omega (arith, simp length-map at h)
 
 pub term-loop-operator-preserved : goal.term-loop-operator-preserved
 term-loop-operator-preserved g t c =
     c.loop-operator.invariant
-    ∙ term_turn c.args.self.now.end c.args.levels _ (placed c.loop-operator.rest.now) _ _ _ _ c.in-Some.ensures c.in_ok-right.ensures
-    ∙ ap (λ left. chain product_sign (unary_at c.args.self.now.end c.args.levels) tree.Binary (length (placed c.in_ok-right.beyond.now)) left (placed c.in_ok-right.beyond.now)) (sym c.in_ok-left-2.ensures)
+    ∙ term_turn c.args.self.now.end c.args.levels _ (placed c.loop-operator.rest.now) _ _ _ _ c.in-Some.ensures (c.in_ok-whole.ensures _ c.unary-in-Some.ensures)
 
 pub term-returns : goal.term-returns
 term-returns g t c = c.loop-operator.invariant ∙ term_ends c.args.self.now.end c.args.levels _ (placed c.loop-operator.rest.now) c.in_default.ensures
