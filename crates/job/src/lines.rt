@@ -83,11 +83,11 @@ fn number_of<T: Copy, A: Allocator>(
 
 fn take_energy<A: Allocator>(
     alloc: A,
-    mut draft: Draft<A>,
+    draft: &mut Draft<A>,
     number: u64,
     text: &[u8],
-) -> Result<Draft<A>, Failure<JobFault<A>>>
-    ensures { Gives said_of refusal_of result (energy_into number (said_of draft) (without_blanks text.now)) }
+) -> Result<(), Failure<JobFault<A>>>
+    ensures { Gives (λ _. said_of draft.new) refusal_of result (energy_into number (said_of draft.old) (without_blanks text.now)) }
 {
     let text = skip_blanks(text);
     if text.is_empty() {
@@ -97,27 +97,27 @@ fn take_energy<A: Allocator>(
         return Err(Failure::Refused(JobFault::Repeated { key: Key::Energy }));
     }
     draft.energy = Some(Vec::from_slice(alloc, text)?);
-    Ok(draft)
+    Ok(())
 }
 
 fn take_core<A: Allocator>(
-    mut draft: Draft<A>,
+    draft: &mut Draft<A>,
     number: u64,
     text: &[u8],
-) -> Result<Draft<A>, JobFault<A>>
-    ensures { Answers said_of refusal_of result (core_into number (said_of draft) (alone (numeral_of draft.frac) (words text.now))) }
+) -> Result<(), JobFault<A>>
+    ensures { Answers (λ _. said_of draft.new) refusal_of result (core_into number (said_of draft.old) (alone (numeral_of draft.old.frac) (words text.now))) }
 {
     let value = number_of(number, Key::Core, draft.core, core_in(draft.frac, text))?;
     draft.core = Some(value);
-    Ok(draft)
+    Ok(())
 }
 
 fn take_cutoff<A: Allocator>(
-    mut draft: Draft<A>,
+    draft: &mut Draft<A>,
     number: u64,
     text: &[u8],
-) -> Result<Draft<A>, JobFault<A>>
-    ensures { Answers said_of refusal_of result (cutoff_into number (said_of draft) (alone (cutoff_of draft.frac) (words text.now))) }
+) -> Result<(), JobFault<A>>
+    ensures { Answers (λ _. said_of draft.new) refusal_of result (cutoff_into number (said_of draft.old) (alone (cutoff_of draft.old.frac) (words text.now))) }
 {
     let value = number_of(
         number,
@@ -126,43 +126,43 @@ fn take_cutoff<A: Allocator>(
         cutoff_in(draft.frac, text),
     )?;
     draft.cutoff = Some(value);
-    Ok(draft)
+    Ok(())
 }
 
 fn take_time_step<A: Allocator>(
-    mut draft: Draft<A>,
+    draft: &mut Draft<A>,
     number: u64,
     text: &[u8],
-) -> Result<Draft<A>, JobFault<A>>
-    ensures { Answers said_of refusal_of result (time_step_into number (said_of draft) (alone (whole_of 1 1000) (words text.now))) }
+) -> Result<(), JobFault<A>>
+    ensures { Answers (λ _. said_of draft.new) refusal_of result (time_step_into number (said_of draft.old) (alone (whole_of 1 1000) (words text.now))) }
 {
     let value = number_of(number, Key::TimeStep, draft.time_step, time_step_in(text))?;
     draft.time_step = Some(value);
-    Ok(draft)
+    Ok(())
 }
 
 fn take_slices<A: Allocator>(
-    mut draft: Draft<A>,
+    draft: &mut Draft<A>,
     number: u64,
     text: &[u8],
-) -> Result<Draft<A>, JobFault<A>>
-    ensures { Answers said_of refusal_of result (slices_into number (said_of draft) (alone (whole_of 1 65536) (words text.now))) }
+) -> Result<(), JobFault<A>>
+    ensures { Answers (λ _. said_of draft.new) refusal_of result (slices_into number (said_of draft.old) (alone (whole_of 1 65536) (words text.now))) }
 {
     let value = number_of(number, Key::Slices, draft.slices, whole_in(65536, text))?;
     draft.slices = Some(value);
-    Ok(draft)
+    Ok(())
 }
 
 fn take_bits<A: Allocator>(
-    mut draft: Draft<A>,
+    draft: &mut Draft<A>,
     number: u64,
     text: &[u8],
-) -> Result<Draft<A>, JobFault<A>>
-    ensures { Answers said_of refusal_of result (bits_into number (said_of draft) (alone frac_of (words text.now))) }
+) -> Result<(), JobFault<A>>
+    ensures { Answers (λ _. said_of draft.new) refusal_of result (bits_into number (said_of draft.old) (alone frac_of (words text.now))) }
 {
     let value = number_of(number, Key::Bits, draft.bits, bits_in(text))?;
     draft.bits = Some(value);
-    Ok(draft)
+    Ok(())
 }
 
 fn text_of<A: Allocator>(alloc: A, name: &[u8]) -> Result<String<A>, AllocError>
@@ -217,11 +217,11 @@ fn knows_type<A: Allocator>(types: &[TypeLine<A>], name: &[u8]) -> bool
 
 fn add_parameter<A: Allocator + Copy>(
     alloc: A,
-    mut draft: Draft<A>,
+    draft: &mut Draft<A>,
     name: &[u8],
-) -> Result<Draft<A>, Failure<JobFault<A>>>
+) -> Result<(), Failure<JobFault<A>>>
     requires { is_identifier name.now ≡ true }
-    ensures { Gives said_of refusal_of result (parameter_new limits (said_of draft) name.now) }
+    ensures { Gives (λ _. said_of draft.new) refusal_of result (parameter_new limits (said_of draft.old) name.now) }
 {
     if knows_parameter(draft.parameters.as_slice(), name) {
         return Err(repeated_name(alloc, name));
@@ -233,16 +233,16 @@ fn add_parameter<A: Allocator + Copy>(
     }
     let name = Vec::from_slice(alloc, name)?;
     draft.parameters.push(name)?;
-    Ok(draft)
+    Ok(())
 }
 
 fn take_parameter<A: Allocator + Copy>(
     alloc: A,
-    draft: Draft<A>,
+    draft: &mut Draft<A>,
     number: u64,
     text: &[u8],
-) -> Result<Draft<A>, Failure<JobFault<A>>>
-    ensures { Gives said_of refusal_of result (parameter_into limits number (said_of draft) (only (words text.now))) }
+) -> Result<(), Failure<JobFault<A>>>
+    ensures { Gives (λ _. said_of draft.new) refusal_of result (parameter_into limits number (said_of draft.old) (only (words text.now))) }
 {
     match only_word(text) {
         Ok(name) if is_identifier(name) => add_parameter(alloc, draft, name),
@@ -252,12 +252,12 @@ fn take_parameter<A: Allocator + Copy>(
 
 fn add_global<A: Allocator + Copy>(
     alloc: A,
-    mut draft: Draft<A>,
+    draft: &mut Draft<A>,
     name: &[u8],
     value: Option<Fx>,
-) -> Result<Draft<A>, Failure<JobFault<A>>>
+) -> Result<(), Failure<JobFault<A>>>
     requires { is_identifier name.now ≡ true }
-    ensures { Gives said_of refusal_of result (global_new limits (said_of draft) name.now value) }
+    ensures { Gives (λ _. said_of draft.new) refusal_of result (global_new limits (said_of draft.old) name.now value) }
 {
     if knows_global(draft.globals.as_slice(), name) {
         return Err(repeated_name(alloc, name));
@@ -270,7 +270,7 @@ fn add_global<A: Allocator + Copy>(
     }
     let name = Vec::from_slice(alloc, name)?;
     draft.globals.push(Global { name, value })?;
-    Ok(draft)
+    Ok(())
 }
 
 // A number that is out of its range is None.
@@ -289,11 +289,11 @@ fn well_formed<T, A: Allocator>(
 
 fn take_global<A: Allocator + Copy>(
     alloc: A,
-    draft: Draft<A>,
+    draft: &mut Draft<A>,
     number: u64,
     text: &[u8],
-) -> Result<Draft<A>, Failure<JobFault<A>>>
-    ensures { Gives said_of refusal_of result (global_into limits number (said_of draft) (words text.now)) }
+) -> Result<(), Failure<JobFault<A>>>
+    ensures { Gives (λ _. said_of draft.new) refusal_of result (global_into limits number (said_of draft.old) (words text.now)) }
 {
     match two_words(text) {
         Some((name, value)) if is_identifier(name) => {
@@ -322,13 +322,13 @@ fn type_numbers<A: Allocator>(
 
 fn add_type<A: Allocator + Copy>(
     alloc: A,
-    mut draft: Draft<A>,
+    draft: &mut Draft<A>,
     number: u64,
     word: &[u8],
     numbers: Option<TypeNumbers<A>>,
-) -> Result<Draft<A>, Failure<JobFault<A>>>
+) -> Result<(), Failure<JobFault<A>>>
     requires { is_type_name word.now ≡ true }
-    ensures { Gives said_of refusal_of result (type_new limits number (said_of draft) word.now (option_map type_numbers_of numbers)) }
+    ensures { Gives (λ _. said_of draft.new) refusal_of result (type_new limits number (said_of draft.old) word.now (option_map type_numbers_of numbers)) }
 {
     if knows_type(draft.types.as_slice(), word) {
         return Err(repeated_type(alloc, word));
@@ -348,7 +348,7 @@ fn add_type<A: Allocator + Copy>(
             values: numbers.values,
         },
     })?;
-    Ok(draft)
+    Ok(())
 }
 
 #[tactic(auto, using(crate::proofs::FormLemmas::type_name_is))]
@@ -364,11 +364,11 @@ fn type_name(word: &[u8]) -> Name
 
 fn take_type<A: Allocator + Copy>(
     alloc: A,
-    draft: Draft<A>,
+    draft: &mut Draft<A>,
     number: u64,
     text: &[u8],
-) -> Result<Draft<A>, Failure<JobFault<A>>>
-    ensures { Gives said_of refusal_of result (type_into limits number (said_of draft) (words text.now)) }
+) -> Result<(), Failure<JobFault<A>>>
+    ensures { Gives (λ _. said_of draft.new) refusal_of result (type_into limits number (said_of draft.old) (words text.now)) }
 {
     let Some((name, rest)) = next_word(text) else {
         return Err(Failure::Refused(JobFault::BadLine { line: number }));
@@ -386,12 +386,12 @@ fn take_type<A: Allocator + Copy>(
 #[tactic(auto, unfolding(crate::specs::Drafts::key_into))]
 fn take_key<A: Allocator + Copy>(
     alloc: A,
-    draft: Draft<A>,
+    draft: &mut Draft<A>,
     number: u64,
     key: Option<Key>,
     text: &[u8],
-) -> Result<Draft<A>, Failure<JobFault<A>>>
-    ensures { Gives said_of refusal_of result (key_into limits number (said_of draft) key text.now) }
+) -> Result<(), Failure<JobFault<A>>>
+    ensures { Gives (λ _. said_of draft.new) refusal_of result (key_into limits number (said_of draft.old) key text.now) }
 {
     match key {
         None => Err(Failure::Refused(JobFault::BadLine { line: number })),
@@ -411,17 +411,17 @@ fn take_key<A: Allocator + Copy>(
 #[tactic(auto, unfolding(crate::specs::Drafts::line_into))]
 pub fn take_line<A: Allocator + Copy>(
     alloc: A,
-    draft: Draft<A>,
+    draft: &mut Draft<A>,
     number: u64,
     line: &[u8],
-) -> Result<Draft<A>, Failure<JobFault<A>>>
-    ensures { Gives said_of refusal_of result (line_into limits number (said_of draft) line.now) }
+) -> Result<(), Failure<JobFault<A>>>
+    ensures { Gives (λ _. said_of draft.new) refusal_of result (line_into limits number (said_of draft.old) line.now) }
 {
     if let [b'#', ..] = line {
-        return Ok(draft);
+        return Ok(());
     }
     match next_word(line) {
-        None => Ok(draft),
+        None => Ok(()),
         Some((word, text)) => take_key(alloc, draft, number, key_of(word), text),
     }
 }

@@ -36,7 +36,7 @@ fn take_lines<A: Allocator + Copy>(
     let mut rest = text;
     while let Some(lines) = rest {
         let (line, after) = next_line(lines);
-        draft = take_line(alloc, draft, number, line)?;
+        take_line(alloc, &mut draft, number, line)?;
         number += 1;
         rest = after;
     }
