@@ -4,10 +4,11 @@ ghost use Rattle.std.specs.Prelude.{◌≡◌};
 ghost use Rattle.fallible.specs.declared.failure.Failure.TheVariants.{Refused};
 
 use fallible::Failure;
+use std::fmt;
 use thiserror::Error;
 
 /// The first fault of a GRO file, from the top. Lines are counted from 1.
-#[derive(Clone, Copy, Debug, PartialEq, Eq, Error)]
+#[derive(Clone, Copy, Error)]
 pub enum GroFault {
     /// A needed line is not there, or the last line, without its LF, was cut off.
     #[error("G1 Truncated")]
@@ -33,6 +34,13 @@ pub enum GroFault {
     /// There is no frame of that number.
     #[error("G8 NoSuchFrame")]
     NoSuchFrame,
+}
+
+/// A fault prints the same either way.
+impl fmt::Debug for GroFault {
+    fn fmt<W: fmt::Write>(&self, f: &mut fmt::Formatter<W>) -> fmt::Result {
+        fmt::Display::fmt(self, f)
+    }
 }
 
 impl From<GroFault> for Failure<GroFault> {

@@ -7,7 +7,7 @@ use line_text::Name;
 use std::alloc::Allocator;
 
 /// An atom of a frame.
-#[derive(Clone, Copy, Debug)]
+#[derive(Clone, Copy)]
 pub struct GroAtom {
     /// The number of its residue, -9999 to 99999.
     pub number: i32,

@@ -1,6 +1,8 @@
 -- Drafts after one more line of a key that many lines may have.
-use Rattle.std.proofs.Common.{◌≡◌, ℕ, ◌<◌, ◌≤◌, ℤ, true, false, List, [], ◌∷◌, ◌++◌, length, map, Option, Some, None, Result, Ok, Err, ok_or, option_map, refl, sym, ap, ◌∙◌, lt-ltb, le-ltb}
+use Rattle.std.proofs.Common.{◌≡◌, ℕ, ◌<◌, ◌≤◌, ℤ, Bool, true, false, if◌then◌else◌, List, [], ◌∷◌, ◌++◌, length, map, Option, Some, None, Result, Ok, Err, ok_or, option_map, refl, sym, ap, ◌∙◌, length-append, arith, lt-ltb, le-ltb}
 use Rattle.std.proofs.lemmas.List.{map-append}
+use Rattle.std.proofs.lemmas.List.Elements.{All-same, All-push}
+use Rattle.std.specs.List.{All}
 use Rattle.std.specs.Prelude.{IsErr, IsErrAnd}
 use Rattle.fallible.specs.Failures.{Fails, Gives, IfRefused}
 use Rattle.fallible.specs.declared.failure.Failure.{Failure}
@@ -30,6 +32,16 @@ passed_on view seen (Err x) failure r p h = rw p.1 h
 -- one element more is seen as its value behind those of the others
 pub pushed : {X Y : Type 0} (view : X → Y) (xs ys : List X) (x : X) (y : Y) → ys ≡ xs ++ x ∷ [] → view x ≡ y → map view ys ≡ map view xs ++ y ∷ []
 pushed view xs ys x y e v = ap (map view) e ∙ map-append view xs (x ∷ []) ∙ ap (λ z. map view xs ++ z ∷ []) v
+
+-- one more, where there is memory, of fewer than the most
+pub pushed_few : {X : Type 0} (b : Bool) (xs ys : List X) (x : X) (most : ℕ) → ys ≡ (if b then xs ++ x ∷ [] else xs) → length xs < most → length ys ≤ most
+pushed_few true xs ys x most e lt = omega (arith, ap length e, length-append xs (x ∷ []), lt)
+pushed_few false xs ys x most e lt = omega (arith, ap length e, lt)
+
+-- what holds of each holds of one more, where there is memory
+pub pushed_all : {X : Type 0} (P : X → Type 0) (b : Bool) (xs ys : List X) (x : X) → ys ≡ (if b then xs ++ x ∷ [] else xs) → All P xs → P x → All P ys
+pushed_all P true xs ys x e all one = All-same P ys _ e (All-push P xs x all one)
+pushed_all P false xs ys x e all one = All-same P ys xs e all
 
 -- a parameter that was said before is a repeated name
 pub parameter_known : (most : Counts) (s : Said) (name : List ℕ) → knows s.parameters name ≡ true → parameter_new most s name ≡ Err (repeated_name name)

@@ -6,6 +6,7 @@ pub mod CountLemmas
 pub mod ViewLemmas
 pub mod FaultLemmas
 pub mod BitsLemmas
+pub mod PartLemmas
 pub mod TextLemmas
 pub mod OnceLemmas
 pub mod ApartLemmas

@@ -81,6 +81,15 @@ needed key (Some x) = Ok x
 abbrev pub ordered : ℤ → ℤ → Result ℤ Refusal
 ordered core cutoff = if int_lt core cutoff then Ok cutoff else Err (out_of_range keys.Cutoff)
 
+-- the core, the cutoff, which is more, and the time step
+unfoldable pub needed_numbers : Option ℤ → Option ℤ → Option ℕ → Result (ℤ × ℤ × ℕ) Refusal
+needed_numbers core cutoff time_step = do
+  core ← needed keys.Core core
+  longest ← needed keys.Cutoff cutoff
+  time_step ← needed keys.TimeStep time_step
+  cutoff ← ordered core longest
+  Ok (core, cutoff, time_step)
+
 -- the types, or the first line of a type with another number of values
 unfoldable pub whole_types : ℕ → List TypeLine → Result (List TypeValue) Refusal
 whole_types k [] = Ok []

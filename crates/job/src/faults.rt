@@ -9,7 +9,7 @@ use std::fmt;
 use thiserror::Error;
 
 /// The word that begins a job's line.
-#[derive(Clone, Copy, PartialEq, Eq, Debug)]
+#[derive(Clone, Copy, PartialEq, Eq)]
 pub enum Key {
     /// `energy`, of which a job has one line.
     Energy,
@@ -51,7 +51,7 @@ impl fmt::Display for Key {
 ///
 /// The lines count from the top, and on each line a malformed line comes before a repeated key or name, and that before
 /// a range. What the whole text lacks comes after all lines.
-#[derive(Debug, Drop, Error)]
+#[derive(Drop, Error)]
 pub enum JobFault<A: Allocator> {
     /// This line, counted from 1, is malformed, or is the first `type` line with another number of values than the job
     /// has parameters.
@@ -72,6 +72,13 @@ pub enum JobFault<A: Allocator> {
     /// A second `type` line has this name.
     #[error("J5 RepeatedType {name}")]
     RepeatedType { name: String<A> },
+}
+
+/// A fault prints the same either way.
+impl<A: Allocator> fmt::Debug for JobFault<A> {
+    fn fmt<W: fmt::Write>(&self, f: &mut fmt::Formatter<W>) -> fmt::Result {
+        fmt::Display::fmt(self, f)
+    }
 }
 
 impl<A: Allocator> From<JobFault<A>> for Failure<JobFault<A>> {

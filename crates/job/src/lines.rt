@@ -84,14 +84,14 @@ fn number_of<T: Copy, A: Allocator>(
     }
 }
 
-/// The draft with this line's energy. `BadLine` where the line has none, `Repeated` where a line before it has one.
+/// Puts this line's energy into the draft. `BadLine` where the line has none, `Repeated` where a line before it has one.
 fn take_energy<A: Allocator>(
     alloc: A,
-    mut draft: Draft<A>,
+    draft: &mut Draft<A>,
     number: u64,
     text: &[u8],
-) -> Result<Draft<A>, Failure<JobFault<A>>>
-    ensures { Gives said_of refusal_of result (energy_into number (said_of draft) (without_blanks text.now)) }
+) -> Result<(), Failure<JobFault<A>>>
+    ensures { Gives (λ _. said_of draft.new) refusal_of result (energy_into number (said_of draft.old) (without_blanks text.now)) }
 {
     let text = skip_blanks(text);
     if text.is_empty() {
@@ -101,29 +101,29 @@ fn take_energy<A: Allocator>(
         return Err(Failure::Refused(JobFault::Repeated { key: Key::Energy }));
     }
     draft.energy = Some(Vec::from_slice(alloc, text)?);
-    Ok(draft)
+    Ok(())
 }
 
-/// The draft with this line's core, in nm. Refused where it is malformed, repeated or out of range.
+/// Puts this line's core into the draft, in nm. Refused where it is malformed, repeated or out of range.
 fn take_core<A: Allocator>(
-    mut draft: Draft<A>,
+    draft: &mut Draft<A>,
     number: u64,
     text: &[u8],
-) -> Result<Draft<A>, JobFault<A>>
-    ensures { Answers said_of refusal_of result (core_into number (said_of draft) (alone (numeral_of draft.frac) (words text.now))) }
+) -> Result<(), JobFault<A>>
+    ensures { Answers (λ _. said_of draft.new) refusal_of result (core_into number (said_of draft.old) (alone (numeral_of draft.old.frac) (words text.now))) }
 {
     let value = number_of(number, Key::Core, draft.core, core_in(draft.frac, text))?;
     draft.core = Some(value);
-    Ok(draft)
+    Ok(())
 }
 
-/// The draft with this line's cutoff, in nm. Refused where it is malformed, repeated or out of range.
+/// Puts this line's cutoff into the draft, in nm. Refused where it is malformed, repeated or out of range.
 fn take_cutoff<A: Allocator>(
-    mut draft: Draft<A>,
+    draft: &mut Draft<A>,
     number: u64,
     text: &[u8],
-) -> Result<Draft<A>, JobFault<A>>
-    ensures { Answers said_of refusal_of result (cutoff_into number (said_of draft) (alone (cutoff_of draft.frac) (words text.now))) }
+) -> Result<(), JobFault<A>>
+    ensures { Answers (λ _. said_of draft.new) refusal_of result (cutoff_into number (said_of draft.old) (alone (cutoff_of draft.old.frac) (words text.now))) }
 {
     let value = number_of(
         number,
@@ -132,46 +132,46 @@ fn take_cutoff<A: Allocator>(
         cutoff_in(draft.frac, text),
     )?;
     draft.cutoff = Some(value);
-    Ok(draft)
+    Ok(())
 }
 
-/// The draft with this line's time step, 1 to 1,000 fs. Refused where it is malformed, repeated or out of range.
+/// Puts this line's time step into the draft, 1 to 1,000 fs. Refused where it is malformed, repeated or out of range.
 fn take_time_step<A: Allocator>(
-    mut draft: Draft<A>,
+    draft: &mut Draft<A>,
     number: u64,
     text: &[u8],
-) -> Result<Draft<A>, JobFault<A>>
-    ensures { Answers said_of refusal_of result (time_step_into number (said_of draft) (alone (whole_of 1 1000) (words text.now))) }
+) -> Result<(), JobFault<A>>
+    ensures { Answers (λ _. said_of draft.new) refusal_of result (time_step_into number (said_of draft.old) (alone (whole_of 1 1000) (words text.now))) }
 {
     let value = number_of(number, Key::TimeStep, draft.time_step, time_step_in(text))?;
     draft.time_step = Some(value);
-    Ok(draft)
+    Ok(())
 }
 
-/// The draft with this line's number of slices, 1 to 65,536. Refused where it is malformed, repeated or out of range.
+/// Puts this line's number of slices into the draft, 1 to 65,536. Refused where it is malformed, repeated or out of range.
 fn take_slices<A: Allocator>(
-    mut draft: Draft<A>,
+    draft: &mut Draft<A>,
     number: u64,
     text: &[u8],
-) -> Result<Draft<A>, JobFault<A>>
-    ensures { Answers said_of refusal_of result (slices_into number (said_of draft) (alone (whole_of 1 65536) (words text.now))) }
+) -> Result<(), JobFault<A>>
+    ensures { Answers (λ _. said_of draft.new) refusal_of result (slices_into number (said_of draft.old) (alone (whole_of 1 65536) (words text.now))) }
 {
     let value = number_of(number, Key::Slices, draft.slices, whole_in(65536, text))?;
     draft.slices = Some(value);
-    Ok(draft)
+    Ok(())
 }
 
-/// The draft with this line's fraction bits, 24, 32 or 40. Refused where they are malformed, repeated or out of range.
+/// Puts this line's fraction bits into the draft, 24, 32 or 40. Refused where they are malformed, repeated or out of range.
 fn take_bits<A: Allocator>(
-    mut draft: Draft<A>,
+    draft: &mut Draft<A>,
     number: u64,
     text: &[u8],
-) -> Result<Draft<A>, JobFault<A>>
-    ensures { Answers said_of refusal_of result (bits_into number (said_of draft) (alone frac_of (words text.now))) }
+) -> Result<(), JobFault<A>>
+    ensures { Answers (λ _. said_of draft.new) refusal_of result (bits_into number (said_of draft.old) (alone frac_of (words text.now))) }
 {
     let value = number_of(number, Key::Bits, draft.bits, bits_in(text))?;
     draft.bits = Some(value);
-    Ok(draft)
+    Ok(())
 }
 
 /// A name as text.
@@ -230,14 +230,14 @@ fn knows_type<A: Allocator>(types: &[TypeLine<A>], name: &[u8]) -> bool
     types.iter().any(|t| t.value.name.as_bytes() == name)
 }
 
-/// The draft with a parameter of this name. `RepeatedName` where it has one already, `Range` where it has 8 parameters.
+/// Puts a parameter of this name into the draft. `RepeatedName` where it has one already, `Range` where it has 8 parameters.
 fn add_parameter<A: Allocator + Copy>(
     alloc: A,
-    mut draft: Draft<A>,
+    draft: &mut Draft<A>,
     name: &[u8],
-) -> Result<Draft<A>, Failure<JobFault<A>>>
+) -> Result<(), Failure<JobFault<A>>>
     requires { is_identifier name.now ≡ true }
-    ensures { Gives said_of refusal_of result (parameter_new limits (said_of draft) name.now) }
+    ensures { Gives (λ _. said_of draft.new) refusal_of result (parameter_new limits (said_of draft.old) name.now) }
 {
     if knows_parameter(draft.parameters.as_slice(), name) {
         return Err(repeated_name(alloc, name));
@@ -249,17 +249,17 @@ fn add_parameter<A: Allocator + Copy>(
     }
     let name = Vec::from_slice(alloc, name)?;
     draft.parameters.push(name)?;
-    Ok(draft)
+    Ok(())
 }
 
-/// The draft with this line's parameter. `BadLine` where its text is no identifier; else refused as by `add_parameter`.
+/// Puts this line's parameter into the draft. `BadLine` where its text is no identifier; else refused as by `add_parameter`.
 fn take_parameter<A: Allocator + Copy>(
     alloc: A,
-    draft: Draft<A>,
+    draft: &mut Draft<A>,
     number: u64,
     text: &[u8],
-) -> Result<Draft<A>, Failure<JobFault<A>>>
-    ensures { Gives said_of refusal_of result (parameter_into limits number (said_of draft) (only (words text.now))) }
+) -> Result<(), Failure<JobFault<A>>>
+    ensures { Gives (λ _. said_of draft.new) refusal_of result (parameter_into limits number (said_of draft.old) (only (words text.now))) }
 {
     match only_word(text) {
         Ok(name) if is_identifier(name) => add_parameter(alloc, draft, name),
@@ -267,16 +267,16 @@ fn take_parameter<A: Allocator + Copy>(
     }
 }
 
-/// The draft with a global of this name and value. `RepeatedName` where it has one already, `Range` where the value is out of range (`None`) or it
+/// Puts a global of this name and value into the draft. `RepeatedName` where it has one already, `Range` where the value is out of range (`None`) or it
 /// has 16 globals.
 fn add_global<A: Allocator + Copy>(
     alloc: A,
-    mut draft: Draft<A>,
+    draft: &mut Draft<A>,
     name: &[u8],
     value: Option<Fx>,
-) -> Result<Draft<A>, Failure<JobFault<A>>>
+) -> Result<(), Failure<JobFault<A>>>
     requires { is_identifier name.now ≡ true }
-    ensures { Gives said_of refusal_of result (global_new limits (said_of draft) name.now value) }
+    ensures { Gives (λ _. said_of draft.new) refusal_of result (global_new limits (said_of draft.old) name.now value) }
 {
     if knows_global(draft.globals.as_slice(), name) {
         return Err(repeated_name(alloc, name));
@@ -289,7 +289,7 @@ fn add_global<A: Allocator + Copy>(
     }
     let name = Vec::from_slice(alloc, name)?;
     draft.globals.push(Global { name, value })?;
-    Ok(draft)
+    Ok(())
 }
 
 // A number that is out of its range is None.
@@ -306,14 +306,14 @@ fn well_formed<T, A: Allocator>(
     }
 }
 
-/// The draft with this line's global. `BadLine` where its text is no identifier and numeral; else refused as by `add_global`.
+/// Puts this line's global into the draft. `BadLine` where its text is no identifier and numeral; else refused as by `add_global`.
 fn take_global<A: Allocator + Copy>(
     alloc: A,
-    draft: Draft<A>,
+    draft: &mut Draft<A>,
     number: u64,
     text: &[u8],
-) -> Result<Draft<A>, Failure<JobFault<A>>>
-    ensures { Gives said_of refusal_of result (global_into limits number (said_of draft) (words text.now)) }
+) -> Result<(), Failure<JobFault<A>>>
+    ensures { Gives (λ _. said_of draft.new) refusal_of result (global_into limits number (said_of draft.old) (words text.now)) }
 {
     match two_words(text) {
         Some((name, value)) if is_identifier(name) => {
@@ -341,17 +341,17 @@ fn type_numbers<A: Allocator>(
     })
 }
 
-/// The draft with a type of this name and these numbers, from the line `number`. `RepeatedType` where it has one already, `Range` where the numbers
+/// Puts a type of this name and these numbers, from the line `number` into the draft. `RepeatedType` where it has one already, `Range` where the numbers
 /// are out of range (`None`) or it has 64 types.
 fn add_type<A: Allocator + Copy>(
     alloc: A,
-    mut draft: Draft<A>,
+    draft: &mut Draft<A>,
     number: u64,
     word: &[u8],
     numbers: Option<TypeNumbers<A>>,
-) -> Result<Draft<A>, Failure<JobFault<A>>>
+) -> Result<(), Failure<JobFault<A>>>
     requires { is_type_name word.now ≡ true }
-    ensures { Gives said_of refusal_of result (type_new limits number (said_of draft) word.now (option_map type_numbers_of numbers)) }
+    ensures { Gives (λ _. said_of draft.new) refusal_of result (type_new limits number (said_of draft.old) word.now (option_map type_numbers_of numbers)) }
 {
     if knows_type(draft.types.as_slice(), word) {
         return Err(repeated_type(alloc, word));
@@ -371,7 +371,7 @@ fn add_type<A: Allocator + Copy>(
             values: numbers.values,
         },
     })?;
-    Ok(draft)
+    Ok(())
 }
 
 /// The name of a type, 1 to 5 bytes of 33 to 126.
@@ -386,14 +386,14 @@ fn type_name(word: &[u8]) -> Name
     }
 }
 
-/// The draft with this line's type. `BadLine` where name or mass is lacking, or name, mass or a value is malformed; else refused as by `add_type`.
+/// Puts this line's type into the draft. `BadLine` where name or mass is lacking, or name, mass or a value is malformed; else refused as by `add_type`.
 fn take_type<A: Allocator + Copy>(
     alloc: A,
-    draft: Draft<A>,
+    draft: &mut Draft<A>,
     number: u64,
     text: &[u8],
-) -> Result<Draft<A>, Failure<JobFault<A>>>
-    ensures { Gives said_of refusal_of result (type_into limits number (said_of draft) (words text.now)) }
+) -> Result<(), Failure<JobFault<A>>>
+    ensures { Gives (λ _. said_of draft.new) refusal_of result (type_into limits number (said_of draft.old) (words text.now)) }
 {
     let Some((name, rest)) = next_word(text) else {
         return Err(Failure::Refused(JobFault::BadLine { line: number }));
@@ -412,12 +412,12 @@ fn take_type<A: Allocator + Copy>(
 #[tactic(auto, unfolding(crate::specs::Drafts::key_into))]
 fn take_key<A: Allocator + Copy>(
     alloc: A,
-    draft: Draft<A>,
+    draft: &mut Draft<A>,
     number: u64,
     key: Option<Key>,
     text: &[u8],
-) -> Result<Draft<A>, Failure<JobFault<A>>>
-    ensures { Gives said_of refusal_of result (key_into limits number (said_of draft) key text.now) }
+) -> Result<(), Failure<JobFault<A>>>
+    ensures { Gives (λ _. said_of draft.new) refusal_of result (key_into limits number (said_of draft.old) key text.now) }
 {
     match key {
         None => Err(Failure::Refused(JobFault::BadLine { line: number })),
@@ -437,17 +437,17 @@ fn take_key<A: Allocator + Copy>(
 #[tactic(auto, unfolding(crate::specs::Drafts::line_into))]
 pub fn take_line<A: Allocator + Copy>(
     alloc: A,
-    draft: Draft<A>,
+    draft: &mut Draft<A>,
     number: u64,
     line: &[u8],
-) -> Result<Draft<A>, Failure<JobFault<A>>>
-    ensures { Gives said_of refusal_of result (line_into limits number (said_of draft) line.now) }
+) -> Result<(), Failure<JobFault<A>>>
+    ensures { Gives (λ _. said_of draft.new) refusal_of result (line_into limits number (said_of draft.old) line.now) }
 {
     if let [b'#', ..] = line {
-        return Ok(draft);
+        return Ok(());
     }
     match next_word(line) {
-        None => Ok(draft),
+        None => Ok(()),
         Some((word, text)) => take_key(alloc, draft, number, key_of(word), text),
     }
 }

@@ -7,7 +7,7 @@ ghost use Rattle.std.specs.List.{All};
 ghost use Rattle.std.specs.Option.{unwrap_or};
 ghost use Rattle.job.specs.Words.{lines_of, more_lines};
 ghost use Rattle.job.specs.Drafts.{nothing, lines_into, lines_job};
-ghost use Rattle.job.specs.JobText.{header, needed, ordered, whole_types, job_from, limits};
+ghost use Rattle.job.specs.JobText.{header, needed, needed_numbers, ordered, whole_types, job_from, limits};
 ghost use Rattle.job.specs.Views.{said_of, type_line, type_value, job_value, refusal_of};
 
 use crate::bits::frac_in;
@@ -15,6 +15,7 @@ use crate::drafts::{Draft, TypeLine};
 use crate::faults::{JobFault, Key};
 use crate::jobs::{AtomType, Job};
 use crate::lines::take_line;
+use crate::time_steps::TimeStep;
 use crate::words::next_line;
 use fallible::Failure;
 use fixed::{Frac, Fx};
@@ -37,7 +38,7 @@ fn take_lines<A: Allocator + Copy>(
     let mut rest = text;
     while let Some(lines) = rest {
         let (line, after) = next_line(lines);
-        draft = take_line(alloc, draft, number, line)?;
+        take_line(alloc, &mut draft, number, line)?;
         number += 1;
         rest = after;
     }
@@ -101,6 +102,24 @@ fn ordered<A: Allocator>(core: Fx, cutoff: Fx) -> Result<Fx, JobFault<A>>
     }
 }
 
+/// The core, the cutoff, which is more, and the time step.
+#[tactic(auto, unfolding(crate::specs::JobText::needed_numbers))]
+fn needed_numbers<A: Allocator>(
+    core: Option<Fx>,
+    cutoff: Option<Fx>,
+    time_step: Option<TimeStep>,
+) -> Result<(Fx, Fx, TimeStep), JobFault<A>>
+    ensures value { Answers (λ x. x) refusal_of result (needed_numbers core cutoff time_step) }
+    ensures found { IfOk result (λ x. (core ≡ Some x.0) × (cutoff ≡ Some x.1) × (time_step ≡ Some x.2)) }
+    ensures above { IfOk result (λ x. x.0 <ℤ x.1) }
+{
+    let core = needed(Key::Core, core)?;
+    let longest = needed(Key::Cutoff, cutoff)?;
+    let time_step = needed(Key::TimeStep, time_step)?;
+    let cutoff = ordered(core, longest)?;
+    Ok((core, cutoff, time_step))
+}
+
 /// The number of slices, 1 to 65,536; 64 where no line says it.
 fn slices_or_default(slices: Option<u32>) -> u32
     requires some { IfSome slices (λ n. 1 ≤ n) }
@@ -132,10 +151,7 @@ fn finish<A: Allocator + Copy>(alloc: A, draft: Draft<A>) -> Result<Job<A>, Fail
         bits: _,
     } = draft;
     let energy = needed(Key::Energy, energy)?;
-    let core = needed(Key::Core, core)?;
-    let longest = needed(Key::Cutoff, cutoff)?;
-    let time_step = needed(Key::TimeStep, time_step)?;
-    let cutoff = ordered(core, longest)?;
+    let (core, cutoff, time_step) = needed_numbers(core, cutoff, time_step)?;
     let types = atom_types(alloc, parameters.as_slice().len(), types)?;
     Ok(Job {
         frac,

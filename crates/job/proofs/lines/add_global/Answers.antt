@@ -1,39 +1,39 @@
-use Rattle.std.proofs.Common.{ap, arith, ◌∙◌, List, ℕ, length}
+use Rattle.std.proofs.Common.{ap, is_ok, arith, ◌∙◌, List, ℕ, length}
 use Rattle.std.proofs.lemmas.List.{length-map}
 use Rattle.job.specs.Values.{GlobalValue}
 use Rattle.job.specs.Drafts.{global_new}
 use Rattle.job.specs.JobText.{limits}
 use Rattle.job.specs.Views.{said_of, refusal_of, global_value}
 use Rattle.job.proofs.FormLemmas.{known_through}
-use Rattle.job.proofs.DraftLemmas.{refused, pushed, global_known, global_out, global_full, global_added}
+use Rattle.job.proofs.DraftLemmas.{refused, pushed, pushed_few, global_known, global_out, global_full, global_added}
 use Rattle.job.proofs.lines.add_global.Goals as goal
 
 pub returns-then-knows_global : goal.returns-then-knows_global
 returns-then-knows_global g c =
     refused (refusal_of {A = g.row.A.Denot}) c.repeated_name.result _ _ c.repeated_name.ensures
-    (global_known limits (said_of c.args.draft) c.args.name.now c.args.value
-    (known_through (global_value {A = g.row.A.Denot}) (λ (v : GlobalValue). v.name) c.args.draft.globals.items _ _ _ _ c.as_slice.ensures.value c.knows_global.ensures c.if-knows_global.true))
+    (global_known limits (said_of c.args.draft.now) c.args.name.now c.args.value
+    (known_through (global_value {A = g.row.A.Denot}) (λ (v : GlobalValue). v.name) c.args.draft.now.globals.items _ _ _ _ c.as_slice.ensures.value c.knows_global.ensures c.if-knows_global.true))
 
 pub returns-in_default : goal.returns-in_default
 returns-in_default g c =
-    ap (global_new limits (said_of c.args.draft) c.args.name.now) c.in_default.is
-    ∙ global_out limits (said_of c.args.draft) c.args.name.now
-    (known_through (global_value {A = g.row.A.Denot}) (λ (v : GlobalValue). v.name) c.args.draft.globals.items _ _ _ _ c.as_slice.ensures.value c.knows_global.ensures c.if-knows_global.false)
+    ap (global_new limits (said_of c.args.draft.now) c.args.name.now) c.in_default.is
+    ∙ global_out limits (said_of c.args.draft.now) c.args.name.now
+    (known_through (global_value {A = g.row.A.Denot}) (λ (v : GlobalValue). v.name) c.args.draft.now.globals.items _ _ _ _ c.as_slice.ensures.value c.knows_global.ensures c.if-knows_global.false)
 
 pub returns-then-as_slice-ge-MAX_GLOBALS : goal.returns-then-as_slice-ge-MAX_GLOBALS
 returns-then-as_slice-ge-MAX_GLOBALS g c =
-    ap (global_new limits (said_of c.args.draft) c.args.name.now) c.in-Some.is
-    ∙ global_full limits (said_of c.args.draft) c.args.name.now _
-    (known_through (global_value {A = g.row.A.Denot}) (λ (v : GlobalValue). v.name) c.args.draft.globals.items _ _ _ _ c.as_slice.ensures.value c.knows_global.ensures c.if-knows_global.false)
-    (omega (arith, length-map c.args.draft.globals.items (global_value {A = g.row.A.Denot}), ap length c.as_slice-2.ensures.value, c.if-as_slice-ge-MAX_GLOBALS.true))
+    ap (global_new limits (said_of c.args.draft.now) c.args.name.now) c.in-Some.is
+    ∙ global_full limits (said_of c.args.draft.now) c.args.name.now _
+    (known_through (global_value {A = g.row.A.Denot}) (λ (v : GlobalValue). v.name) c.args.draft.now.globals.items _ _ _ _ c.as_slice.ensures.value c.knows_global.ensures c.if-knows_global.false)
+    (omega (arith, length-map c.args.draft.now.globals.items (global_value {A = g.row.A.Denot}), ap length c.as_slice-2.ensures.value, c.if-as_slice-ge-MAX_GLOBALS.true))
 
-pub invariant_of-draft-clause-few_globals : goal.invariant_of-draft-clause-few_globals
-invariant_of-draft-clause-few_globals g c = omega (arith, ap length c.in_err-push.ensures.items, c.args.draft.few_globals)
+pub invariant_of-draft : goal.invariant_of-draft
+invariant_of-draft g c = let d = c.args.draft.now in record { least_core = d.least_core; most_cutoff = d.most_cutoff; some_slices = d.some_slices; most_slices = d.most_slices; named = d.named; few_parameters = d.few_parameters; few_globals = pushed_few (is_ok c.push.result) d.globals.items c.push.new.self.items _ 16 c.push.ensures.items (omega (arith, ap length c.as_slice-2.ensures.value, c.if-as_slice-ge-MAX_GLOBALS.false)); few_types = d.few_types }
 
 pub returns : goal.returns
 returns g c =
-    ap (global_new limits (said_of c.args.draft) c.args.name.now) c.in-Some.is
-    ∙ global_added limits (said_of c.args.draft) c.args.name.now _ _
-    (known_through (global_value {A = g.row.A.Denot}) (λ (v : GlobalValue). v.name) c.args.draft.globals.items _ _ _ _ c.as_slice.ensures.value c.knows_global.ensures c.if-knows_global.false)
-    (omega (arith, length-map c.args.draft.globals.items (global_value {A = g.row.A.Denot}), ap length c.as_slice-2.ensures.value, c.if-as_slice-ge-MAX_GLOBALS.false))
-    (pushed (global_value {A = g.row.A.Denot}) c.args.draft.globals.items _ _ _ c.in_ok-push.ensures.items (ap (λ (n : List ℕ). record { name = n; value = c.in-Some.value }) c.in_ok-name.ensures.items))
+    ap (global_new limits (said_of c.args.draft.now) c.args.name.now) c.in-Some.is
+    ∙ global_added limits (said_of c.args.draft.now) c.args.name.now _ _
+    (known_through (global_value {A = g.row.A.Denot}) (λ (v : GlobalValue). v.name) c.args.draft.now.globals.items _ _ _ _ c.as_slice.ensures.value c.knows_global.ensures c.if-knows_global.false)
+    (omega (arith, length-map c.args.draft.now.globals.items (global_value {A = g.row.A.Denot}), ap length c.as_slice-2.ensures.value, c.if-as_slice-ge-MAX_GLOBALS.false))
+    (pushed (global_value {A = g.row.A.Denot}) c.args.draft.now.globals.items _ _ _ c.in_ok-push.ensures.items (ap (λ (n : List ℕ). record { name = n; value = c.in-Some.value }) c.in_ok-name.ensures.items))

@@ -15,14 +15,14 @@ returns-in_default g c = grind (arith, common_steps)
 
 pub returns-in_ok-value-in-Some : goal.returns-in_ok-value-in-Some
 returns-in_ok-value-in-Some g c =
-    subst (λ (r : Result Said Refusal). Gives (said_of {A = g.row.A.Denot}) (refusal_of {A = g.row.A.Denot}) c.add_global.result r)
-    (sym (global_by_value limits c.args.number (said_of c.args.draft) (words c.args.text.now) _ _ c.signed_numeral.result c.in_ok-value-in-Some.value
+    subst (λ (r : Result Said Refusal). Gives (λ _. said_of c.add_global.new.draft) (refusal_of {A = g.row.A.Denot}) c.add_global.result r)
+    (sym (global_by_value limits c.args.number (said_of c.args.draft.now) (words c.args.text.now) _ _ c.signed_numeral.result c.in_ok-value-in-Some.value
     (sym c.two_words.ensures ∙ ap (option_map (λ (x : Bor (List ℕ) × Bor (List ℕ)). (x.0.now, x.1.now))) c.in-Some.is)
     (sym c.is_identifier.ensures ∙ c.if-is_identifier.true) c.signed_numeral.ensures c.in_ok-value-in-Some.ensures)) c.add_global.ensures
 
 pub returns-in_err-value-in-Some : goal.returns-in_err-value-in-Some
 returns-in_err-value-in-Some g c =
-    passed_on (said_of {A = g.row.A.Denot}) (refusal_of {A = g.row.A.Denot}) c.from_residual.result (Refused c.in_err-value-in-Some.field-0.0) _ c.from_residual.ensures
-    (global_malformed limits c.args.number (said_of c.args.draft) (words c.args.text.now) _ _ c.signed_numeral.result (refusal_of c.in_err-value-in-Some.field-0.0)
+    passed_on (λ _. said_of c.args.draft.now) (refusal_of {A = g.row.A.Denot}) c.from_residual.result (Refused c.in_err-value-in-Some.field-0.0) _ c.from_residual.ensures
+    (global_malformed limits c.args.number (said_of c.args.draft.now) (words c.args.text.now) _ _ c.signed_numeral.result (refusal_of c.in_err-value-in-Some.field-0.0)
     (sym c.two_words.ensures ∙ ap (option_map (λ (x : Bor (List ℕ) × Bor (List ℕ)). (x.0.now, x.1.now))) c.in-Some.is)
     (sym c.is_identifier.ensures ∙ c.if-is_identifier.true) c.signed_numeral.ensures c.in_err-value-in-Some.ensures)

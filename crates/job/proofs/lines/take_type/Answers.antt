@@ -27,12 +27,12 @@ add_type-requires g c = sym c.if-not-is_type_name.ensures
 
 pub returns-in_err-numbers : goal.returns-in_err-numbers
 returns-in_err-numbers g c =
-    passed_on (said_of {A = g.row.A.Denot}) (refusal_of {A = g.row.A.Denot}) c.from_residual-in_err-numbers.result (Refused c.in_err-numbers.field-0.0) _ c.from_residual-in_err-numbers.ensures
-    (type_malformed (type_numbers_of {A = g.row.A.Denot}) limits c.args.number (said_of c.args.draft) (words c.args.text.now) _ _ c.in-Some.name.now c.in-Some-next_word.mass.now c.in_ok-type_numbers.field-0
+    passed_on (λ _. said_of c.args.draft.now) (refusal_of {A = g.row.A.Denot}) c.from_residual-in_err-numbers.result (Refused c.in_err-numbers.field-0.0) _ c.from_residual-in_err-numbers.ensures
+    (type_malformed (type_numbers_of {A = g.row.A.Denot}) limits c.args.number (said_of c.args.draft.now) (words c.args.text.now) _ _ c.in-Some.name.now c.in-Some-next_word.mass.now c.in_ok-type_numbers.field-0
     (refusal_of c.in_err-numbers.field-0.0) c.in-Some.ensures.word c.in-Some-next_word.ensures.word (sym c.if-not-is_type_name.ensures) c.in_ok-type_numbers.ensures c.in_err-numbers.ensures)
 
 pub returns : goal.returns
 returns g c =
-    subst (λ (r : Result Said Refusal). Gives (said_of {A = g.row.A.Denot}) (refusal_of {A = g.row.A.Denot}) c.add_type.result r)
-    (sym (type_by_numbers (type_numbers_of {A = g.row.A.Denot}) limits c.args.number (said_of c.args.draft) (words c.args.text.now) _ _ c.in-Some.name.now c.in-Some-next_word.mass.now c.in_ok-type_numbers.field-0
+    subst (λ (r : Result Said Refusal). Gives (λ _. said_of c.add_type.new.draft) (refusal_of {A = g.row.A.Denot}) c.add_type.result r)
+    (sym (type_by_numbers (type_numbers_of {A = g.row.A.Denot}) limits c.args.number (said_of c.args.draft.now) (words c.args.text.now) _ _ c.in-Some.name.now c.in-Some-next_word.mass.now c.in_ok-type_numbers.field-0
     c.in_ok-numbers.numbers c.in-Some.ensures.word c.in-Some-next_word.ensures.word (sym c.if-not-is_type_name.ensures) c.in_ok-type_numbers.ensures c.in_ok-numbers.ensures)) c.add_type.ensures

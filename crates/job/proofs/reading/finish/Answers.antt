@@ -1,14 +1,14 @@
-use Rattle.std.proofs.Common.{arith, length, ap, ◌∙◌}
+use Rattle.std.proofs.Common.{arith, length, option_map, ap, ◌∙◌}
 use Rattle.std.proofs.lemmas.Grind.{common_steps}
 use Rattle.fallible.specs.declared.failure.Failure.TheVariants.{Refused}
 use Rattle.job.specs.JobText.{job_from}
-use Rattle.line_text.proofs.StepLaws.{bind_err}
-use Rattle.job.specs.Views.{job_value, refusal_of}
+use Rattle.job.specs.Views.{said_of, job_value, refusal_of}
 use Rattle.job.proofs.DraftLemmas.{passed_on}
+use Rattle.job.proofs.PartLemmas.{numbers_fault, numbers_found}
 use Rattle.job.proofs.reading.finish.Goals as goal
 
 pub invariant_of-result-clause-least_core : goal.invariant_of-result-clause-least_core
-invariant_of-result-clause-least_core g c = let core = c.in_ok-core.ensures.found in rw core at c.args.draft.least_core
+invariant_of-result-clause-least_core g c = rw c.in_ok-core.ensures.found.0 at c.args.draft.least_core
 
 -- each type has as many values as there are parameters
 pub invariant_of-result-clause-whole : goal.invariant_of-result-clause-whole
@@ -29,35 +29,16 @@ pub returns-in_err-energy : goal.returns-in_err-energy
 unfolding job_from
 returns-in_err-energy g c = grind (arith, common_steps)
 
--- From here on the values that were found are put in first: `grind` would split each step into its two cases.
 pub returns-in_err-core : goal.returns-in_err-core
-unfolding job_from
 returns-in_err-core g c =
-    rw c.in_ok-energy.ensures.found
-    (passed_on (job_value {A = g.row.A.Denot}) (refusal_of {A = g.row.A.Denot}) c.from_residual-in_err-core.result (Refused c.in_err-core.field-0.0) _ c.from_residual-in_err-core.ensures (bind_err _ _ _ c.in_err-core.ensures.value))
+    passed_on (job_value {A = g.row.A.Denot}) (refusal_of {A = g.row.A.Denot}) c.from_residual-in_err-core.result (Refused c.in_err-core.field-0.0) _ c.from_residual-in_err-core.ensures
+    (numbers_fault (said_of c.args.draft) c.in_ok-energy.energy.items _ (ap (option_map (λ v. v.items)) c.in_ok-energy.ensures.found) c.in_err-core.ensures.value)
 
-pub returns-in_err-longest : goal.returns-in_err-longest
-unfolding job_from
-returns-in_err-longest g c =
-    rw (c.in_ok-energy.ensures.found, c.in_ok-core.ensures.found)
-    (passed_on (job_value {A = g.row.A.Denot}) (refusal_of {A = g.row.A.Denot}) c.from_residual-in_err-longest.result (Refused c.in_err-longest.field-0.0) _ c.from_residual-in_err-longest.ensures (bind_err _ _ _ c.in_err-longest.ensures.value))
-
-pub returns-in_err-time_step : goal.returns-in_err-time_step
-unfolding job_from
-returns-in_err-time_step g c =
-    rw (c.in_ok-energy.ensures.found, c.in_ok-core.ensures.found, c.in_ok-longest.ensures.found)
-    (passed_on (job_value {A = g.row.A.Denot}) (refusal_of {A = g.row.A.Denot}) c.from_residual-in_err-time_step.result (Refused c.in_err-time_step.field-0.0) _ c.from_residual-in_err-time_step.ensures (bind_err _ _ _ c.in_err-time_step.ensures.value))
-
-pub returns-in_err-cutoff : goal.returns-in_err-cutoff
-unfolding job_from
-returns-in_err-cutoff g c =
-    rw (c.in_ok-energy.ensures.found, c.in_ok-core.ensures.found, c.in_ok-longest.ensures.found, c.in_ok-time_step.ensures.found)
-    (passed_on (job_value {A = g.row.A.Denot}) (refusal_of {A = g.row.A.Denot}) c.from_residual-in_err-cutoff.result (Refused c.in_err-cutoff.field-0.0) _ c.from_residual-in_err-cutoff.ensures (bind_err _ _ _ c.in_err-cutoff.ensures.value))
-
+-- What was found is put in first: `grind` would split each step into its two cases.
 pub returns-in_err-types : goal.returns-in_err-types
-unfolding job_from
-returns-in_err-types g c = rw (c.in_ok-energy.ensures.found, c.in_ok-core.ensures.found, c.in_ok-longest.ensures.found, c.in_ok-time_step.ensures.found, c.in_ok-cutoff.ensures.value) (grind (arith, common_steps))
+returns-in_err-types g c =
+    rw (numbers_found (said_of c.args.draft) c.in_ok-energy.energy.items _ (ap (option_map (λ v. v.items)) c.in_ok-energy.ensures.found) c.in_ok-core.ensures.value) (grind (arith, common_steps))
 
 pub returns : goal.returns
-unfolding job_from
-returns g c = rw (c.in_ok-energy.ensures.found, c.in_ok-core.ensures.found, c.in_ok-longest.ensures.found, c.in_ok-time_step.ensures.found, c.in_ok-cutoff.ensures.value) (grind (arith, common_steps))
+returns g c =
+    rw (numbers_found (said_of c.args.draft) c.in_ok-energy.energy.items _ (ap (option_map (λ v. v.items)) c.in_ok-energy.ensures.found) c.in_ok-core.ensures.value) (grind (arith, common_steps))

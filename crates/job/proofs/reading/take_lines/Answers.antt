@@ -7,11 +7,11 @@ use Rattle.job.specs.Views.{said_of, refusal_of}
 use Rattle.job.proofs.LineLemmas.{size, size_left, size_within, lines_step, lines_fault, lines_end}
 use Rattle.job.proofs.reading.take_lines.Goals as goal
 
-pub returns-in_err-draft : goal.returns-in_err-draft
-returns-in_err-draft g c =
+pub returns-in_err-take_line : goal.returns-in_err-take_line
+returns-in_err-take_line g c =
     let p = err_from_is_err_and c.from_residual.result c.from_residual.ensures.1 in
-    rw (p.1, p.2) (lines_fault (refusal_of {A = g.row.A.Denot}) c.in_err-draft.field-0.0 limits c.loop-rest.number (said_of c.loop-rest.draft) _ _ (more_lines (option_map (λ (x : Bor (List ℕ)). x.now) c.loop-rest.rest)) _
-    (ap (λ (r : Option (Bor (List ℕ))). more_lines (option_map (λ x. x.now) r)) c.in-Some.is ∙ c.next_line.ensures.lines) c.in_err-draft.ensures c.loop-rest.invariant.lines)
+    rw (p.1, p.2) (lines_fault (refusal_of {A = g.row.A.Denot}) c.in_err-take_line.field-0.0 limits c.loop-rest.number (said_of c.loop-rest.draft) _ _ (more_lines (option_map (λ (x : Bor (List ℕ)). x.now) c.loop-rest.rest)) _
+    (ap (λ (r : Option (Bor (List ℕ))). more_lines (option_map (λ x. x.now) r)) c.in-Some.is ∙ c.next_line.ensures.lines) c.in_err-take_line.ensures c.loop-rest.invariant.lines)
 
 pub overflow_add-number : goal.overflow_add-number
 overflow_add-number g c =
@@ -28,8 +28,8 @@ pub loop-rest-preserved : goal.loop-rest-preserved
 loop-rest-preserved g c =
     let left : size (option_map (λ (x : Bor (List ℕ)). x.now) c.loop-rest.rest) ≡ 1 + length c.in-Some.lines.now = ap (λ (r : Option (Bor (List ℕ))). size (option_map (λ x. x.now) r)) c.in-Some.is in
     record {
-      lines = lines_step limits c.loop-rest.number (said_of c.loop-rest.draft) (said_of c.in_ok-draft.draft) _ _ (more_lines (option_map (λ (x : Bor (List ℕ)). x.now) c.loop-rest.rest)) _
-          (ap (λ (r : Option (Bor (List ℕ))). more_lines (option_map (λ x. x.now) r)) c.in-Some.is ∙ c.next_line.ensures.lines) c.in_ok-draft.ensures c.loop-rest.invariant.lines;
+      lines = lines_step limits c.loop-rest.number (said_of c.loop-rest.draft) (said_of c.take_line.new.draft) _ _ (more_lines (option_map (λ (x : Bor (List ℕ)). x.now) c.loop-rest.rest)) _
+          (ap (λ (r : Option (Bor (List ℕ))). more_lines (option_map (λ x. x.now) r)) c.in-Some.is ∙ c.next_line.ensures.lines) c.in_ok-take_line.ensures c.loop-rest.invariant.lines;
       count = omega (arith, left, size_left (λ (x : Bor (List ℕ)). x.now) c.next_line.result.1 c.next_line.result.0.now c.in-Some.lines.now c.next_line.ensures.shorter, c.loop-rest.invariant.count);
     }
 
