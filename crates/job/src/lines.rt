@@ -104,7 +104,7 @@ fn take_energy<A: Allocator>(
     Ok(())
 }
 
-/// Puts this line's core into the draft, in nm. Refused where it is malformed, repeated or out of range.
+/// Puts this line's core, in nm, into the draft. Refused where it is malformed, repeated or out of range.
 fn take_core<A: Allocator>(
     draft: &mut Draft<A>,
     number: u64,
@@ -117,7 +117,7 @@ fn take_core<A: Allocator>(
     Ok(())
 }
 
-/// Puts this line's cutoff into the draft, in nm. Refused where it is malformed, repeated or out of range.
+/// Puts this line's cutoff, in nm, into the draft. Refused where it is malformed, repeated or out of range.
 fn take_cutoff<A: Allocator>(
     draft: &mut Draft<A>,
     number: u64,
@@ -135,7 +135,7 @@ fn take_cutoff<A: Allocator>(
     Ok(())
 }
 
-/// Puts this line's time step into the draft, 1 to 1,000 fs. Refused where it is malformed, repeated or out of range.
+/// Puts this line's time step, 1 to 1,000 fs, into the draft. Refused where it is malformed, repeated or out of range.
 fn take_time_step<A: Allocator>(
     draft: &mut Draft<A>,
     number: u64,
@@ -148,7 +148,7 @@ fn take_time_step<A: Allocator>(
     Ok(())
 }
 
-/// Puts this line's number of slices into the draft, 1 to 65,536. Refused where it is malformed, repeated or out of range.
+/// Puts this line's number of slices, 1 to 65,536, into the draft. Refused where it is malformed, repeated or out of range.
 fn take_slices<A: Allocator>(
     draft: &mut Draft<A>,
     number: u64,
@@ -161,7 +161,7 @@ fn take_slices<A: Allocator>(
     Ok(())
 }
 
-/// Puts this line's fraction bits into the draft, 24, 32 or 40. Refused where they are malformed, repeated or out of range.
+/// Puts this line's fraction bits, 24, 32 or 40, into the draft. Refused where they are malformed, repeated or out of range.
 fn take_bits<A: Allocator>(
     draft: &mut Draft<A>,
     number: u64,
@@ -341,7 +341,7 @@ fn type_numbers<A: Allocator>(
     })
 }
 
-/// Puts a type of this name and these numbers, from the line `number` into the draft. `RepeatedType` where it has one already, `Range` where the numbers
+/// Puts a type of this name and these numbers, from the line `number`, into the draft. `RepeatedType` where it has one already, `Range` where the numbers
 /// are out of range (`None`) or it has 64 types.
 fn add_type<A: Allocator + Copy>(
     alloc: A,
@@ -408,7 +408,7 @@ fn take_type<A: Allocator + Copy>(
     add_type(alloc, draft, number, name, numbers)
 }
 
-/// The draft with the line of this key and text. `BadLine` where it has no key of a job; else refused as by the key's own function.
+/// Puts what the line of this key and text says into the draft. `BadLine` where it has no key of a job; else refused as by the key's own function.
 #[tactic(auto, unfolding(crate::specs::Drafts::key_into))]
 fn take_key<A: Allocator + Copy>(
     alloc: A,
@@ -433,7 +433,7 @@ fn take_key<A: Allocator + Copy>(
     }
 }
 
-/// The draft of the lines so far and this one, or this line's fault.
+/// Puts what this line says into the draft of the lines before it.
 #[tactic(auto, unfolding(crate::specs::Drafts::line_into))]
 pub fn take_line<A: Allocator + Copy>(
     alloc: A,
