@@ -1,8 +1,10 @@
 //! The lines of a job, one after the other: each is added to the draft of those above it, or is refused.
 
-ghost use Rattle.std.specs.Prelude.{◌≡◌, ◌≤◌, ◌≤ℤ◌, ◌*◌, ◌^◌, pos, map, true, length, option_map, IfOk, IsTrue, IsAscii, string_bytes, bytes_eq, ok_or};
+ghost use Rattle.std.specs.Prelude.{◌≡◌, ◌≤◌, ◌≤ℤ◌, ◌*◌, ◌^◌, pos, map, true, length, option_map, IfOk, IsTrue, IsAscii, string_bytes, bytes_eq, ok_or, Ok, Err};
+ghost use Rattle.std.specs.Result.{MatchResult};
 ghost use Rattle.std.specs.List.{list_any};
 ghost use Rattle.fallible.specs.Failures.{Answers, Gives, IfRefused};
+ghost use Rattle.fallible.specs.declared.failure.Failure.TheVariants.{Refused};
 ghost use Rattle.fixed.specs.Fractions.{bits_of};
 ghost use Rattle.line_text.specs.Names.{name_text};
 ghost use Rattle.line_text.specs.Identifiers.{is_identifier};
@@ -408,6 +410,16 @@ fn take_type<A: Allocator + Copy>(
     add_type(alloc, draft, number, name, numbers)
 }
 
+/// The same answer, of a call that also takes memory.
+fn with_failure<A: Allocator>(answer: Result<(), JobFault<A>>) -> Result<(), Failure<JobFault<A>>>
+    ensures { MatchResult answer (λ x. result ≡ Ok x) (λ fault. result ≡ Err (Refused fault)) }
+{
+    match answer {
+        Ok(()) => Ok(()),
+        Err(fault) => Err(Failure::Refused(fault)),
+    }
+}
+
 /// Puts what the line of this key and text says into the draft. `BadLine` where it has no key of a job; else refused as by the key's own function.
 #[tactic(auto, unfolding(crate::specs::Drafts::key_into))]
 fn take_key<A: Allocator + Copy>(
@@ -422,14 +434,14 @@ fn take_key<A: Allocator + Copy>(
     match key {
         None => Err(Failure::Refused(JobFault::BadLine { line: number })),
         Some(Key::Energy) => take_energy(alloc, draft, number, text),
-        Some(Key::Core) => Ok(take_core(draft, number, text)?),
-        Some(Key::Cutoff) => Ok(take_cutoff(draft, number, text)?),
-        Some(Key::TimeStep) => Ok(take_time_step(draft, number, text)?),
-        Some(Key::Slices) => Ok(take_slices(draft, number, text)?),
+        Some(Key::Core) => with_failure(take_core(draft, number, text)),
+        Some(Key::Cutoff) => with_failure(take_cutoff(draft, number, text)),
+        Some(Key::TimeStep) => with_failure(take_time_step(draft, number, text)),
+        Some(Key::Slices) => with_failure(take_slices(draft, number, text)),
         Some(Key::Parameter) => take_parameter(alloc, draft, number, text),
         Some(Key::Global) => take_global(alloc, draft, number, text),
         Some(Key::Types) => take_type(alloc, draft, number, text),
-        Some(Key::Bits) => Ok(take_bits(draft, number, text)?),
+        Some(Key::Bits) => with_failure(take_bits(draft, number, text)),
     }
 }
 
