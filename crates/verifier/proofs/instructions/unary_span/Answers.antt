@@ -15,6 +15,12 @@ returns-in-SquareRoot c = rw c.in-SquareRoot.is (record { span = c.sqrt.ensures.
 pub returns-in-Absolute : goal.returns-in-Absolute
 returns-in-Absolute c = rw c.in-Absolute.is (record { span = c.abs.ensures.span; fault = one_overflows absolute_of c.args.a c.abs.result absolute_overflows c.abs.ensures.fault })
 
+pub returns-in-Step : goal.returns-in-Step
+returns-in-Step c = rw c.in-Step.is (record { span = c.step.ensures; fault = tt })
+
+pub returns-in-Delta : goal.returns-in-Delta
+returns-in-Delta c = rw c.in-Delta.is (record { span = c.delta.ensures; fault = tt })
+
 pub returns-in-Floor : goal.returns-in-Floor
 returns-in-Floor c = rw c.in-Floor.is (record { span = c.floor.ensures; fault = tt })
 
