@@ -99,9 +99,10 @@ pub row_seen : (acts : ℕ × ℕ → Bool) (ps near new rest : List (ℕ × ℕ
     → filter acts new ≡ filter acts near ++ filter acts (take seen (pairs_with atom others)) → filter acts (drop k ps) ≡ filter acts near ++ filter acts (drop next ps)
     → (next + seen ≤ length ps) × (filter acts (drop k ps) ≡ filter acts new ++ filter acts (drop (next + seen) ps))
 row_seen acts ps near new rest atom others k next seen within here some listed before =
-    let many = length-map others (pair_of atom) in
-    (omega (arith, row_fits ps (pairs_with atom others) rest next within here, many, some),
-    come_past acts ps near new (pairs_with atom others) rest k next seen here (omega (arith, many, some)) listed before)
+    let many = length-map others (pair_of atom) in (
+      omega (arith, row_fits ps (pairs_with atom others) rest next within here, many, some),
+      come_past acts ps near new (pairs_with atom others) rest k next seen here (omega (arith, many, some)) listed before,
+    )
 
 -- behind a row the rest begins
 pub row_passed : (ps row rest : List (ℕ × ℕ)) (next seen : ℕ) → drop next ps ≡ row ++ rest → seen ≡ length row → rest ≡ drop (next + seen) ps
