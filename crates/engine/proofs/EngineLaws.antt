@@ -1,13 +1,10 @@
 -- Engines: what their parts make them, and their steps as runs.
-use Rattle.std.proofs.Common.{◌≡◌, ℕ, ◌-◌, ◌*◌, ◌^◌, ◌≤◌, Bool, true, false, List, ℤ, pos, negsuc, ◌+ℤ◌, ◌-ℤ◌, ◌≤ℤ◌, Some, None, Ok, Err, arith, refl, ap, sym, ◌∙◌}
-use Rattle.std.specs.Prelude.{nat_lt, is_none, unsigned_abs, ◌&&◌}
+use Rattle.std.proofs.Common.{◌≡◌, ℕ, ◌-◌, ◌*◌, ◌^◌, ◌≤◌, Bool, true, false, List, ℤ, pos, negsuc, ◌+ℤ◌, ◌-ℤ◌, ◌≤ℤ◌, Some, None, Ok, Err, arith, refl, ap, sym, ◌∙◌, ◌<◌, length, get_or, zero-add}
+use Rattle.std.specs.Prelude.{nat_lt, is_none, unsigned_abs, ◌&&◌, if◌then◌else◌}
 use Rattle.std.proofs.lemmas.Int.{ints}
 use Rattle.std.proofs.lemmas.Bool.{and_parts, leb-true, lt-ltb, ltb-false, ltb-true}
+use Rattle.std.proofs.lemmas.List.{ext_get_or, get_or-map}
 use Rattle.fixed.specs.Arithmetic.{in_range}
-use Rattle.fixed.specs.Fractions.{bits_of}
-use Rattle.fixed.specs.declared.frac.Frac.{Frac}
-use Rattle.ring_box.specs.Cells.{HasCells}
-use Rattle.ring_box.specs.declared.boxes.RingBox.{RingBox}
 use Rattle.job.specs.Views as jobs
 use Rattle.job.specs.declared.faults.JobFault.{JobFault}
 use Rattle.verifier.specs.Kernels.{IsKernel, Kernel}
@@ -26,7 +23,7 @@ use Rattle.integrator.specs.Energies.{Energy, energy_of, job_tree}
 use Rattle.engine.specs.Engines.{AreSafe, AreStopped, EngineView, HasNoEngine, HasNoEngineOfTexts, IsEngineOfTexts, Stopped, Went, engine_dynamics}
 use Rattle.integrator.specs.Frames.{Frame, frames, steps_in}
 use Rattle.integrator.specs.Runs.{IsAfter}
-use Rattle.integrator.specs.Starts.{has_room, holds_two, plain, start_of_run, start_with, step_range, system_of, table_of}
+use Rattle.integrator.specs.Starts.{plain, start_of_run, start_with, step_range, system_of, table_of}
 use Rattle.integrator.specs.StartViews.{system_refusal}
 use Rattle.integrator.specs.States.{counter_after, counter_at, frames_of, moved_state}
 use Rattle.engine.specs.Courses.{IsUnstarted}
@@ -173,18 +170,6 @@ passes j code k r c m n h a b d e t p q failed judged = record {
   certified = certified_for j code k h a b d e;
   far = ltb-false (k.bound * (n - 1)) (2 ^ 63) (sym (test_is r k.bound c n m t p q) ∙ failed);
 }
-
--- ---- room for cells
-
--- a box with room for two cutoffs along each side can be cut into cells
-pub room_for_cells : (frac : Frac) (cutoff : ℤ) (ring : RingBox) → has_room frac cutoff ring ≡ true → HasCells frac ring cutoff
-room_for_cells frac cutoff ring h =
-    let p = and_parts (holds_two frac cutoff ring.x) (holds_two frac cutoff ring.y && holds_two frac cutoff ring.z) h in
-    let q = and_parts (holds_two frac cutoff ring.y) (holds_two frac cutoff ring.z) p.1 in
-    let x = leb-true (200000 * unsigned_abs cutoff) (ring.x * 2 ^ bits_of frac) p.0 in
-    let y = leb-true (200000 * unsigned_abs cutoff) (ring.y * 2 ^ bits_of frac) q.0 in
-    let z = leb-true (200000 * unsigned_abs cutoff) (ring.z * 2 ^ bits_of frac) q.1 in
-    (omega arith, omega arith, omega arith)
 
 -- ---- texts that have no engine
 

@@ -1,6 +1,6 @@
 -- The meaning of texts by the headline's page is the one that the readers find.
-use Rattle.std.proofs.Common.{◌≡◌, ℕ, zero, suc, ◌<◌, ◌≤◌, ◌*◌, ◌^◌, Bool, true, false, ltb, List, [], ◌∷◌, ◌++◌, length, get_or, Option, Some, None, Ok, ℤ, arith, refl, ap, sym, subst, ◌∙◌, append_assoc}
-use Rattle.std.specs.Prelude.{map, bytes_eq, unsigned_abs, codes, ◌&&◌, ◌||◌}
+use Rattle.std.proofs.Common.{◌≡◌, ℕ, zero, suc, ◌<◌, ◌≤◌, ◌*◌, ◌^◌, Bool, true, false, ltb, List, [], ◌∷◌, ◌++◌, length, get_or, Option, Some, None, Ok, ℤ, arith, refl, ap, sym, subst, ◌∙◌, append_assoc, Result, Err, zero-add}
+use Rattle.std.specs.Prelude.{map, bytes_eq, unsigned_abs, codes, ◌&&◌, ◌||◌, if◌then◌else◌}
 use Rattle.std.specs.List.{All}
 use Rattle.std.proofs.lemmas.Bool.{and_parts, or_parts, eqb-true, leb-true, ltb-false, ltb-true}
 use Rattle.std.proofs.lemmas.List.{append-nil, ext_get_or, get_or-map, length-map}
@@ -21,9 +21,10 @@ use Rattle.job.specs.JobText.{AreApart}
 use Rattle.job.specs.Values.{JobValue, TypeValue}
 use Rattle.state.specs.StateText.{AtomView, StateView}
 use Rattle.integrator.specs.Energies.{Energy, energy_from, energy_of, job_program}
+use Rattle.ring_box.specs.Cells.{has_room, holds_two, need_of, room_of}
 use Rattle.ring_box.specs.Places.{nowhere}
 use Rattle.integrator.specs.Frames.{Frames, frames, places_of}
-use Rattle.integrator.specs.Starts.{are_alike, atom_types, has_room, holds_two, known, no_type, ring_of, type_with, unknown_type}
+use Rattle.integrator.specs.Starts.{are_alike, atom_types, known, no_type, ring_of, type_with, unknown_type}
 use Rattle.integrator.specs.States.{frames_of, moved_state, nobody, placed, placed_atoms, previous_frame, current_frame}
 use Rattle.integrator.proofs.Constructors.{err_is_no_ok, ok_same, parts_same}
 use Rattle.integrator.proofs.InputLaws.{are_variables, no_more}
@@ -160,15 +161,16 @@ pub alike_is : (f g : Frac) → are_alike f g ≡ true → g ≡ f
 alike_is f g e = same_bits f g (eqb-true (bits_of f) (bits_of g) e)
 
 -- a box that has room for two cutoffs has it on each side
-pub room_is : (j : JobValue) (sides : List ℕ) → has_room j.frac j.cutoff (ring_of sides) ≡ true → HasRoom j (box_of sides).x × HasRoom j (box_of sides).y × HasRoom j (box_of sides).z
+pub room_is : (j : JobValue) (sides : List ℕ) → has_room j.frac (ring_of sides) j.cutoff ≡ true → HasRoom j (box_of sides).x × HasRoom j (box_of sides).y × HasRoom j (box_of sides).z
 room_is j sides h =
     let ring = ring_of sides in
-    let p = and_parts (holds_two j.frac j.cutoff ring.x) (holds_two j.frac j.cutoff ring.y && holds_two j.frac j.cutoff ring.z) h in
-    let q = and_parts (holds_two j.frac j.cutoff ring.y) (holds_two j.frac j.cutoff ring.z) p.1 in (
-      leb-true (200000 * unsigned_abs j.cutoff) (ring.x * 2 ^ bits_of j.frac) p.0,
-      leb-true (200000 * unsigned_abs j.cutoff) (ring.y * 2 ^ bits_of j.frac) q.0,
-      leb-true (200000 * unsigned_abs j.cutoff) (ring.z * 2 ^ bits_of j.frac) q.1,
-    )
+    let p = and_parts (holds_two j.frac ring.x j.cutoff) (holds_two j.frac ring.y j.cutoff && holds_two j.frac ring.z j.cutoff) h in
+    let q = and_parts (holds_two j.frac ring.y j.cutoff) (holds_two j.frac ring.z j.cutoff) p.1 in
+    let two = need_of j.cutoff * 2 in
+    let x = leb-true two (room_of j.frac ring.x) p.0 in
+    let y = leb-true two (room_of j.frac ring.y) q.0 in
+    let z = leb-true two (room_of j.frac ring.z) q.1 in
+    (omega arith, omega arith, omega arith)
 
 -- ---- atoms at other places
 

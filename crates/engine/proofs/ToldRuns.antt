@@ -1,6 +1,6 @@
 -- The model's runs and the headline's page are one: what a run writes is on the page, and what is on the page a run writes, where the energy's slope isn't too large.
 use Rattle.std.proofs.Common.{◌≡◌, ℕ, suc, ◌<◌, ◌*◌, ◌^◌, Bool, true, false, List, [], ◌∷◌, length, get_or, Option, Some, None, Ok, ℤ, arith, refl, ap, sym, subst, ◌∙◌}
-use Rattle.std.specs.Prelude.{map, bytes_eq, unsigned_abs, if◌then◌else◌}
+use Rattle.std.specs.Prelude.{map, bytes_eq, if◌then◌else◌}
 use Rattle.std.specs.List.{All}
 use Rattle.std.proofs.lemmas.Bool.{and_from, eq-eqb, le-leb, lt-ltb}
 use Rattle.std.proofs.lemmas.List.Elements.{All-head, All-tail}
@@ -9,6 +9,7 @@ use Rattle.std.proofs.lemmas.Slice.Eq.{bytes_eq-Decides}
 use Rattle.fixed.specs.Arithmetic.{in_range}
 use Rattle.fixed.specs.Fractions.{bits_of}
 use Rattle.energy_program.specs.Tree.{Tree}
+use Rattle.ring_box.specs.Cells.{has_room, need_of, room_of}
 use Rattle.job.specs.JobText.{AreApart, HasNamesOnce, limits, reading_of}
 use Rattle.job.specs.Values.{JobValue, TypeValue}
 use Rattle.job.proofs.ApartLemmas.{names_once}
@@ -18,7 +19,7 @@ use Rattle.state.proofs.StateReadsAgain.{one_text}
 use Rattle.integrator.specs.Energies.{energy_of}
 use Rattle.integrator.specs.Frames.{steps_in}
 use Rattle.integrator.specs.Runs.{IsAfter}
-use Rattle.integrator.specs.Starts.{are_alike, as_written, atom_types, has_room, no_type, plain, ring_of, start_at, type_with}
+use Rattle.integrator.specs.Starts.{are_alike, as_written, atom_types, no_type, plain, ring_of, start_at, type_with}
 use Rattle.integrator.specs.States.{counter_after, counter_at, frames_of}
 use Rattle.integrator.specs.declared.direction.Direction.{Direction}
 use Rattle.integrator.proofs.Constructors.{ok_same, parts_same}
@@ -89,11 +90,11 @@ module _ (j : JobValue) (apart : AreApart (map (λ t. t.name) j.types)) where
       let e' = parts_same (type_name t) a.name (map type_name ts) (map (λ a. a.name) atoms) e in
       rw (found_again a.name t (All-head IsKnown t ts h) e'.0, types_again (suc k) atoms ts (All-tail IsKnown t ts h) e'.1) refl
 
-room_again : (j : JobValue) (sides : List ℕ) → HasRoom j (box_of sides).x × HasRoom j (box_of sides).y × HasRoom j (box_of sides).z → has_room j.frac j.cutoff (ring_of sides) ≡ true
+room_again : (j : JobValue) (sides : List ℕ) → HasRoom j (box_of sides).x × HasRoom j (box_of sides).y × HasRoom j (box_of sides).z → has_room j.frac (ring_of sides) j.cutoff ≡ true
 room_again j sides h =
     let ring = ring_of sides in
-    let two = 200000 * unsigned_abs j.cutoff in
-    and_from _ _ (le-leb two (ring.x * 2 ^ bits_of j.frac) h.0) (and_from _ _ (le-leb two (ring.y * 2 ^ bits_of j.frac) h.1) (le-leb two (ring.z * 2 ^ bits_of j.frac) h.2))
+    let two = need_of j.cutoff * 2 in
+    and_from _ _ (le-leb two (room_of j.frac ring.x) (omega (arith, h.0))) (and_from _ _ (le-leb two (room_of j.frac ring.y) (omega (arith, h.1))) (le-leb two (room_of j.frac ring.z) (omega (arith, h.2))))
 
 counted_again : (z k : ℤ) → k ≡ z → in_range k ≡ true → ◌≡◌ {A = Option ℤ} (if in_range z then Some z else None) (Some k)
 counted_again z k e h = rw (← e, h) refl

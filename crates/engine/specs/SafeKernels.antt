@@ -1,11 +1,11 @@
 -- Slopes whose code is accepted: the code gives the slope for every two types at each distance from the core to before the cutoff.
-use Rattle.std.specs.Prelude.{◌≡◌, ℕ, ◌-◌, ◌*◌, ◌^◌, ◌<◌, ℤ, pos, neg_ℤ, Bool, nat_lt, int_lt, not, ◌&&◌, length, Option, unwrap_or}
+use Rattle.std.specs.Prelude.{◌≡◌, ℕ, ◌-◌, ◌*◌, ◌^◌, ◌<◌, ℤ, pos, neg_ℤ, Bool, true, nat_lt, int_lt, not, ◌&&◌, length, Option, unwrap_or}
 use Rattle.std.specs.List.{All}
 use Rattle.fixed.specs.Fractions.{bits_of}
 use Rattle.derivative.specs.Slope.{slope_of}
 use Rattle.energy_program.specs.Programs.{program_tree}
 use Rattle.energy_program.specs.Tree.{Tree}
-use Rattle.ring_box.specs.Cells.{HasCells}
+use Rattle.ring_box.specs.Cells.{has_room}
 use Rattle.kernel_code.specs.Tables.{Table, inputs_of}
 use Rattle.integrator.specs.Frames.{Dynamics}
 use Rattle.integrator.specs.Systems.{dynamics_of}
@@ -51,4 +51,4 @@ pub record IsAccepted {A : Type 0} (s : System (SafeKernel A) A) : Type 0 where
   pub cutoff : s.kernel.verified.cutoff ≡ s.cutoff
   pub known : All (λ t. t < length s.kernel.verified.table.rows) s.types.items
   pub fits : s.kernel.verified.bound * (length s.masses.items - 1) < 2 ^ 63
-  pub room : HasCells s.frac s.ring s.cutoff
+  pub room : has_room s.frac s.ring s.cutoff ≡ true

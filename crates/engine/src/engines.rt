@@ -1,12 +1,12 @@
 //! Engines: a job and a state, with a slope that the verifier accepts.
 
-ghost use Rattle.std.specs.Prelude.{◌≡◌, ◌<◌, ◌≤◌, ◌-◌, ◌*◌, ◌^◌, nat_lt, length, map, Ok, Some, is_none, false, IfOk, IfErr};
+ghost use Rattle.std.specs.Prelude.{◌≡◌, ◌<◌, ◌≤◌, ◌-◌, ◌*◌, ◌^◌, nat_lt, length, map, Ok, Some, is_none, false, true, IfOk, IfErr};
 ghost use Rattle.std.specs.List.{All};
 ghost use Rattle.energy_program.specs.Programs.{program_tree, trees_of};
 ghost use Rattle.fallible.specs.Failures.{IfRefused};
 ghost use Rattle.job.specs.Views.{job_value, type_value};
 ghost use Rattle.integrator.specs.Energies.{job_program, job_tree};
-ghost use Rattle.ring_box.specs.Cells.{HasCells};
+ghost use Rattle.ring_box.specs.Cells.{has_room};
 ghost use Rattle.state.specs.StateViews.{state_view};
 ghost use Rattle.engine.specs.Engines.{engine_dynamics, HasNoEngine, IsEngineOf, SaysOnly, Stopped, Went};
 ghost use Rattle.engine.specs.EngineViews.{IsEngine, engine_view};
@@ -29,7 +29,7 @@ use fallible::Failure;
 use integrator::{
     Direction, StepFault, Stepped, System, TypedAtoms, advance, counter_after, current_frame, ready,
 };
-use job::Job;
+use job::{Job, TimeStep};
 use kernel_compiler::compile;
 use state::State;
 use std::alloc::Allocator;
@@ -89,7 +89,7 @@ fn motion<A: Allocator>(
     requires masses { atoms.masses.items ≡ map (mass_of (map type_value job.now.types.items)) atoms.types.items }
     requires count { length atoms.types.items ≡ length state.now.atoms.items }
     requires fits { kernel.verified.bound * (length state.now.atoms.items - 1) < 2 ^ 63 }
-    requires room { HasCells job.now.frac state.now.ring job.now.cutoff }
+    requires room { has_room job.now.frac state.now.ring job.now.cutoff ≡ true }
     ensures kernel { result.system.kernel ≡ kernel }
     ensures types { result.system.types.items ≡ atoms.types.items }
     ensures engine { IsEngine job.now state.now result.system }
@@ -162,11 +162,9 @@ impl<A: Allocator + Copy> Engine<A> {
         &self.state
     }
 
-    /// The time step of the engine's job in fs, 1 to 1000.
-    pub fn time_step(&self) -> u32
-        ensures exact { result ≡ self.now.job.time_step }
-        ensures some { 1 ≤ result }
-        ensures most { result ≤ 1000 }
+    /// The time step of the engine's job.
+    pub fn time_step(&self) -> TimeStep
+        ensures { result ≡ self.now.job.time_step }
     {
         self.job.time_step
     }

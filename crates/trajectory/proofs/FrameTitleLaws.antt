@@ -89,12 +89,16 @@ abs_fits (negsuc n) fits = omega arith
 pub time_fits : (m time_step : ℕ) → m ≤ 2 ^ 63 → time_step ≤ 1000 → m * time_step / 1000 < 2 ^ 64
 time_fits m time_step a b = let l : m * time_step ≤ 2 ^ 63 * 1000 = mul-le-mul a b in omega arith
 
-time_lacks : (time_step : ℕ) (step : ℤ) → 0 < time_step → time_step ≤ 1000 → mag step < 2 ^ 63 → lacks 10 (time_and_step time_step step) ≡ true
+-- no line feed stands in a time
+pub time_lacks : (time_step : ℕ) (step : ℤ) → 0 < time_step → time_step ≤ 1000 → mag step < 2 ^ 63 → lacks 10 (decimals_text 5 (time_of time_step step)) ≡ true
 time_lacks time_step step some most fits =
-    let time : List ℕ = decimals_text 5 (time_of time_step step) in
     let fs : ℕ = unsigned_abs step * time_step in
-    let bare : lacks 10 time ≡ true = rw (time_parts time_step step some)
-    (lacks_append 10 (sign step) (picoseconds fs) (sign_lacks 10 step (lit< tt)) (picoseconds_lack 10 fs (lit< tt) (time_fits (unsigned_abs step) time_step (abs_fits step fits) most))) in
+    rw (time_parts time_step step some)
+    (lacks_append 10 (sign step) (picoseconds fs) (sign_lacks 10 step (lit< tt)) (picoseconds_lack 10 fs (lit< tt) (time_fits (unsigned_abs step) time_step (abs_fits step fits) most)))
+
+-- nor in the time and the step
+pub end_lacks : (time : List ℕ) (step : ℤ) → lacks 10 time ≡ true → mag step < 2 ^ 63 → lacks 10 (mark ++ right_in 9 time ++ codes " step= " ++ signed_decimal step) ≡ true
+end_lacks time step bare fits =
     lacks_append 10 (mark ++ right_in 9 time ++ codes " step= ") (signed_decimal step)
     (lacks_append 10 (mark ++ right_in 9 time) (codes " step= ") (lacks_append 10 mark (right_in 9 time) refl (right_lacks 10 9 time (lit< tt) bare)) refl)
     (signed_lacks 10 step (lit< tt) fits)
@@ -117,13 +121,13 @@ ends_well front step bare fits =
     (ap not (ne_eqb _ 13 (λ e. lacks_at 13 number (length number - 1) (lit< tt) (signed_lacks 13 step (lit< tt) fits) (sym last ∙ e))))
 
 -- a beginning of a title, with a time, is a title
-pub timed_is_title : (title : List ℕ) (at time_step : ℕ) (step : ℤ) → IsTrue (is_title title) → 0 < time_step → time_step ≤ 1000 → mag step < 2 ^ 63
+pub timed_is_title : (title : List ℕ) (at time_step : ℕ) (step : ℤ) → IsTrue (is_title title) → lacks 10 (time_and_step time_step step) ≡ true → mag step < 2 ^ 63
     → IsTrue (is_title (take at title ++ time_and_step time_step step))
-timed_is_title title at time_step step is some most fits =
+timed_is_title title at time_step step is end fits =
     let front : List ℕ = take at title in
     let middle : List ℕ = mark ++ right_in 9 (decimals_text 5 (time_of time_step step)) ++ codes " step= " in
     let own : lacks 10 title ≡ true = (and_parts (lacks 10 title) (not (eqb (get_or title (length title - 1) 0) 13)) is).0 in
     let kept : lacks 10 front ≡ true = lacks_front 10 front (drop at title) (rw (take-append-drop at title) own) in
-    let bare : lacks 10 (front ++ (middle ++ signed_decimal step)) ≡ true = lacks_append 10 front (middle ++ signed_decimal step) kept (time_lacks time_step step some most fits) in
+    let bare : lacks 10 (front ++ (middle ++ signed_decimal step)) ≡ true = lacks_append 10 front (middle ++ signed_decimal step) kept end in
     rw (sym (append_assoc front middle (signed_decimal step)))
     (ends_well (front ++ middle) step (rw (append_assoc front middle (signed_decimal step)) bare) fits)

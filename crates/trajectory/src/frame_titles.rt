@@ -1,11 +1,12 @@
 //! Titles of the frames of a trajectory.
 
-ghost use Rattle.std.specs.Prelude.{◌≡◌, ◌+◌, ◌≤◌, ◌<◌, ◌++◌, ◌∷◌, decimal, length, IfOk, IsTrue};
+ghost use Rattle.std.specs.Prelude.{◌≡◌, ◌+◌, ◌≤◌, ◌<◌, ◌++◌, ◌∷◌, decimal, length, true, IfOk, IsTrue};
 ghost use Rattle.arrayvec.specs.ArrayVec.{array_vec_len};
 ghost use Rattle.line_text.specs.Columns.{decimals_text, zeros_in};
-ghost use Rattle.line_text.specs.Parts.{is_title};
+ghost use Rattle.line_text.specs.Parts.{is_title, lacks};
 ghost use Rattle.trajectory.specs.FrameTitles.{IsOwnEnd, IsTimedTitle, time_and_step, time_of};
 
+use job::TimeStep;
 use line_text::{Line, put, put_decimals, put_integer, put_natural, put_right};
 use std::alloc::{AllocError, Allocator};
 
@@ -37,13 +38,12 @@ fn put_part(line: &mut Line, part: u32)
 }
 
 /// The time of a step in ps, with five decimals: it is a whole number of fs.
-fn time(time_step: u32, step: i64) -> Line
-    requires some { 1 ≤ time_step }
-    requires most { time_step ≤ 1000 }
+fn time(time_step: TimeStep, step: i64) -> Line
     ensures items { result.items ≡ decimals_text 5 (time_of time_step step) }
+    ensures bare { lacks 10 result.items ≡ true }
     ensures len { array_vec_len result ≤ 60 }
 {
-    let femtoseconds = u128::from(step.unsigned_abs()) * u128::from(time_step);
+    let femtoseconds = u128::from(step.unsigned_abs()) * u128::from(time_step.femtoseconds());
     let mut line = Line::new();
     if step < 0 {
         put(&mut line, b"-");
@@ -54,10 +54,9 @@ fn time(time_step: u32, step: i64) -> Line
 }
 
 /// The end of a frame's title: ` t= %9.5f step= %d`.
-fn time_and_step(time_step: u32, step: i64) -> Line
-    requires some { 1 ≤ time_step }
-    requires most { time_step ≤ 1000 }
-    ensures { result.items ≡ time_and_step time_step step }
+fn time_and_step(time_step: TimeStep, step: i64) -> Line
+    ensures items { result.items ≡ time_and_step time_step step }
+    ensures bare { lacks 10 result.items ≡ true }
 {
     let time = time(time_step, step);
     let mut line = Line::new();
@@ -69,16 +68,14 @@ fn time_and_step(time_step: u32, step: i64) -> Line
 }
 
 /// The title of a state's frame: its own up to the first ` t= ` in it, and then time and step as
-/// ` t= %9.5f step= %d`. The time step is in fs, the time in ps.
+/// ` t= %9.5f step= %d`, the time in ps.
 ///
 /// `AllocError` only where memory is refused.
 pub(crate) fn timed_title<A: Allocator>(
     mut title: Vec<u8, A>,
-    time_step: u32,
+    time_step: TimeStep,
     step: i64,
 ) -> Result<Vec<u8, A>, AllocError>
-    requires some { 1 ≤ time_step }
-    requires most { time_step ≤ 1000 }
     requires fits { IsTrue (is_title title.items) }
     ensures timed { IfOk result (λ t. IsTimedTitle time_step step title.items t.items) }
     ensures fits { IfOk result (λ t. IsTrue (is_title t.items)) }

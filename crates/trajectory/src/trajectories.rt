@@ -16,6 +16,7 @@ use engine::{Engine, RunFault, open};
 use fallible::Out;
 use gro::{GroFrame, write};
 use integrator::{Direction, StepFault, counter_after};
+use job::TimeStep;
 use state::State;
 use std::alloc::{AllocError, Allocator};
 use std::thread::Threads;
@@ -23,10 +24,8 @@ use std::thread::Threads;
 /// The frame of a state, its title with time and step.
 fn timed_frame<A: Allocator + Copy>(
     state: &State<A>,
-    time_step: u32,
+    time_step: TimeStep,
 ) -> Result<GroFrame<A>, AllocError>
-    requires some { 1 ≤ time_step }
-    requires most { time_step ≤ 1000 }
     ensures { IfOk result (λ f. IsTimedFrame time_step (state_view state.now) (frame_view f)) }
 {
     let GroFrame {
@@ -47,12 +46,10 @@ fn timed_frame<A: Allocator + Copy>(
 /// `Memory`: an allocation was refused; it tells the steps, and nothing is written. `Out`: a write failed, after a beginning of the frame.
 fn write_frame<A: Allocator + Copy, O: Out>(
     state: &State<A>,
-    time_step: u32,
+    time_step: TimeStep,
     steps: u64,
     out: &mut O,
 ) -> Result<(), Halt>
-    requires some { 1 ≤ time_step }
-    requires most { time_step ≤ 1000 }
     requires room { (O.output out.old).failed < 2 ^ 64 - 1 }
     ensures wrote { OnOk result (WroteFrame time_step (state_view state.now) (O.output out.old) (O.output out.new)) }
     ensures unwritten { IfErr result (IsFrameUnwritten time_step (state_view state.now) steps (O.output out.old) (O.output out.new)) }

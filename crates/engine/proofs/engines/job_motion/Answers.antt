@@ -7,7 +7,7 @@ use Rattle.job.specs.Views.{job_value}
 use Rattle.state.specs.StateViews.{atom_view, state_view}
 use Rattle.integrator.specs.StartViews.{energy_view, ready_view}
 use Rattle.engine.specs.Engines.{SaysOnly}
-use Rattle.engine.proofs.EngineLaws.{is_safe, job_tree_is, passes, room_for_cells, system_refuses, verdict_refuses}
+use Rattle.engine.proofs.EngineLaws.{is_safe, job_tree_is, passes, system_refuses, verdict_refuses}
 use Rattle.engine.proofs.HeadlineTexts.{says_energy}
 use Rattle.integrator.proofs.ReturnLaws.{system_parts}
 use Rattle.engine.proofs.engines.job_motion.Goals as goal
@@ -39,9 +39,7 @@ pub motion-requires-clause-program : goal.motion-requires-clause-program
 motion-requires-clause-program g c = c.in-Ok.ensures.program ∙ ap (λ (p : Program g.row.A.Denot). Ok (trees_of p)) (sym c.in-Ok-safe_kernel.ensures.energy)
 
 pub motion-requires-clause-room : goal.motion-requires-clause-room
-motion-requires-clause-room g c =
-    let parts = system_parts (job_value c.args.job.now) (state_view c.args.state.now) (ready_view c.in-Ok.ready) c.in-Ok.ensures.value in
-    room_for_cells c.args.job.now.frac c.args.job.now.cutoff c.args.state.now.ring parts.room
+motion-requires-clause-room g c = (system_parts (job_value c.args.job.now) (state_view c.args.state.now) (ready_view c.in-Ok.ready) c.in-Ok.ensures.value).room
 
 pub returns-clause-of : goal.returns-clause-of
 returns-clause-of g c =

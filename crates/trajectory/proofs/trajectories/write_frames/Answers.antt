@@ -15,7 +15,7 @@ returns-in_err-write_frame-clause-left g c =
     let before = g.O.Out.output c.args.out.now in
     let after = g.O.Out.output c.write_frame.new.out in
     rw (p.1, p.2)
-    (first_left c.args.direction c.args.every c.args.most c.args.engine.now (state_view state) c.time_step-time_step.result before after c.in_err-write_frame.field-0.0 fits c.state.ensures c.time_step-time_step.ensures.exact c.in_err-write_frame.ensures.unwritten)
+    (first_left c.args.direction c.args.every c.args.most c.args.engine.now (state_view state) c.time_step-time_step.result before after c.in_err-write_frame.field-0.0 fits c.state.ensures c.time_step-time_step.ensures c.in_err-write_frame.ensures.unwritten)
 
 pub loop-number-init : goal.loop-number-init
 loop-number-init g c =
@@ -24,7 +24,7 @@ loop-number-init g c =
     let told_first = subst (λ k. g.W.Watch.told c.args.watch.now c.args.watch.now (hundredths_behind all 0 k)) (sym none) (subst (g.W.Watch.told c.args.watch.now c.args.watch.now) (sym (hundredths-zero all 0)) (g.met.W.Watch.told_nothing c.args.watch.now)) in
     let state = c.state.result.now in
     let fits = fits_now c.args.direction c.args.engine.now.state.step (c.requires.fits 0 (omega arith)) in
-    let first = first_written c.args.direction c.args.every c.args.engine.now (state_view state) c.time_step-time_step.result _ _ fits c.state.ensures c.time_step-time_step.ensures.exact c.in_ok-write_frame.ensures.wrote in
+    let first = first_written c.args.direction c.args.every c.args.engine.now (state_view state) c.time_step-time_step.result _ _ fits c.state.ensures c.time_step-time_step.ensures c.in_ok-write_frame.ensures.wrote in
     record { went = first.0; wrote = first.1; told = told_first }
 
 pub advance-requires-clause-fits : goal.advance-requires-clause-fits
@@ -52,13 +52,13 @@ returns-in_err-write_frame-2-clause-left g c =
     let after = g.O.Out.output c.write_frame-in-loop-number.new.out in
     rw (p.1, p.2)
     (next_left c.args.direction c.args.every c.args.most c.loop-number.number c.args.engine.now c.loop-number.engine c.advance.new.engine (state_view c.state-in-loop-number.result.now) c.time_step-time_step.result before on_way after
-    c.in_err-write_frame-2.field-0.0 c.loop-number-test.true c.loop-number.invariant.went c.in_ok-advance.ensures.went c.state-in-loop-number.ensures c.time_step-time_step.ensures.exact c.loop-number.invariant.wrote
+    c.in_err-write_frame-2.field-0.0 c.loop-number-test.true c.loop-number.invariant.went c.in_ok-advance.ensures.went c.state-in-loop-number.ensures c.time_step-time_step.ensures c.loop-number.invariant.wrote
     c.in_err-write_frame-2.ensures.unwritten)
 
 pub loop-number-preserved : goal.loop-number-preserved
 loop-number-preserved g c =
     let next = next_written c.args.direction c.args.every c.loop-number.number c.args.engine.now c.loop-number.engine c.advance.new.engine (state_view c.state-in-loop-number.result.now) c.time_step-time_step.result _ _ _
-    c.loop-number.invariant.went c.in_ok-advance.ensures.went c.state-in-loop-number.ensures c.time_step-time_step.ensures.exact c.loop-number.invariant.wrote c.in_ok-write_frame-2.ensures.wrote in
+    c.loop-number.invariant.went c.in_ok-advance.ensures.went c.state-in-loop-number.ensures c.time_step-time_step.ensures c.loop-number.invariant.wrote c.in_ok-write_frame-2.ensures.wrote in
     let number = c.loop-number.number in
     let every = c.args.every in
     let steps : (number + 1) * every ≡ number * every + every = omega arith in

@@ -1,0 +1,15 @@
+use Rattle.std.proofs.Common.{arith, rules, w64}
+use Rattle.std.proofs.lemmas.Grind.{common_steps}
+use mir.Val.{SFits}
+use Rattle.line_text.specs.Columns.{decimals_text}
+use Rattle.trajectory.specs.FrameTitles.{time_of}
+use Rattle.trajectory.proofs.FrameTitleLaws.{end_lacks}
+use Rattle.trajectory.proofs.frame_titles.time_and_step.Goals as goal
+
+pub returns-clause-items : goal.returns-clause-items
+returns-clause-items c = grind (arith, common_steps)
+
+pub returns-clause-bare : goal.returns-clause-bare
+returns-clause-bare c =
+    let signed : SFits w64 c.args.step = search rules in
+    rw (returns-clause-items c) (end_lacks (decimals_text 5 (time_of c.args.time_step c.args.step)) c.args.step (rw c.time-time.ensures.items at c.time-time.ensures.bare) signed.sfits)
