@@ -1,11 +1,13 @@
 -- Laws of progress: the lines that a run has printed, and those that it prints in all.
 use Rattle.std.proofs.Common.{◌≡◌, ◌<◌, ◌-◌, ◌^◌, ℕ, List, Option, Some, None, arith, inl, inr, refl, subst, sym}
+use Rattle.std.proofs.lemmas.Result.{MatchResult-from_err}
 use Rattle.std.specs.Prelude.{OnErr, OnOk, Result, Ok, Err}
+use Rattle.std.specs.Result.{IsErr}
 use Rattle.fallible.specs.Out.{Output}
 use Rattle.integrator.specs.Forces.{numbers_from}
 use Rattle.command_line.specs.CommandLine.{IsCommand}
 use Rattle.command_line.specs.declared.commands.Command.{Command}
-use Rattle.cli.specs.Progress.{IsBegun, IsQuiet, PrintsIfCounted, Says, TellsAll, TellsSome, told_of}
+use Rattle.cli.specs.Progress.{IsBegun, IsQuiet, PrintsIfCounted, Says, Tells, TellsSome, told_of}
 use Rattle.cli.specs.Reports.{Prints}
 
 -- before the first step nothing is told
@@ -14,10 +16,9 @@ unfolding numbers_from
 nothing_told None o = refl
 nothing_told (Some steps) o = (0, omega arith, refl)
 
--- the same of a command that was not done
-pub nothing_told_yet : {T E : Type 0} (r : Result T E) (steps : Option ℕ) (o : Output) → OnErr r (TellsSome steps o o)
-nothing_told_yet (Ok x) steps o = tt
-nothing_told_yet (Err e) steps o = nothing_told steps o
+-- the same of a command of which a file gave no bytes
+pub nothing_told_yet : {T E : Type 0} (r : Result T E) (steps : Option ℕ) (o : Output) → IsErr r → Tells steps o o r
+nothing_told_yet r steps o failed = MatchResult-from_err r _ _ failed (λ e. nothing_told steps o)
 
 begun : (words : List (List ℕ)) (c : Command) (steps : Option ℕ) (before after : Output) → told_of c ≡ steps → IsCommand words c
     → TellsSome steps before after → IsBegun words before after
@@ -26,18 +27,13 @@ begun words c (Some steps) before after e is told = inr (c, steps, is, e, told)
 
 -- the progress that a command which was not done has told begins what its words print
 pub begun_by_words : {T E : Type 0} (r : Result T E) (words : List (List ℕ)) (c : Command) (before after : Output) → IsCommand words c
-    → OnErr r (TellsSome (told_of c) before after) → OnErr r (IsBegun words before after)
+    → Tells (told_of c) before after r → OnErr r (IsBegun words before after)
 begun_by_words (Ok x) words c before after is told = tt
 begun_by_words (Err e) words c before after is told = begun words c (told_of c) before after refl is told
 
--- two clauses on an answer that isn't an error hold together
-pub on_ok_both : {T E : Type 0} (r : Result T E) (P Q : Type 0) → OnOk r P → OnOk r Q → OnOk r (P × Q)
-on_ok_both (Ok x) P Q p q = (p, q)
-on_ok_both (Err e) P Q p q = tt
-
 -- the progress that a command which was done has told is all that its words print
 pub quiet_by_words : {T E : Type 0} (r : Result T E) (words : List (List ℕ)) (c : Command) (before after : Output) → IsCommand words c
-    → OnOk r (TellsAll (told_of c) before after) → OnOk r (IsQuiet words before after)
+    → Tells (told_of c) before after r → OnOk r (IsQuiet words before after)
 quiet_by_words (Ok x) words c before after is told = inr (c, is, told)
 quiet_by_words (Err e) words c before after is told = tt
 

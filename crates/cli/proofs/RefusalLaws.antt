@@ -1,14 +1,16 @@
 -- Laws of refused commands: which files they asked for, what is left of their output, and what their status tells.
 use Rattle.std.proofs.Common.{◌≡◌, ◌≢◌, ◌⊎◌, ◌∙◌, ◌<◌, ◌-◌, ◌^◌, ℕ, List, Option, Some, None, ap, arith, inl, inr, refl, subst, sym}
 use Rattle.std.specs.Borrow.{Bor}
+use Rattle.std.specs.Prelude.{IfErr, Result, Ok, Err}
 use Rattle.command_line.specs.CommandLine.{AsksForHelp, AsksForTrajectory, AsksForVersion, IsCommand, IsMisuse, faults_of}
 use Rattle.command_line.specs.declared.commands.Command.{Command}
 use Rattle.command_line.specs.declared.commands.Command.TheVariants as command
 use Rattle.command_line.proofs.CommandLineLaws.{asks_for_help, asks_for_version, is_misuse}
 use Rattle.clap.specs.Words.{HasKind, kind_of}
 use Rattle.clap.specs.declared.error.Error.{Error}
+use Rattle.clap.specs.declared.error.kind.ErrorKind.{ErrorKind}
 use Rattle.clap.specs.declared.error.kind.ErrorKind.TheVariants.{DisplayHelp, DisplayVersion, OutOfMemory}
-use Rattle.fallible.specs.Out.{AppendsBeginning, Output}
+use Rattle.fallible.specs.Out.{Appends, AppendsBeginning, Output}
 use Rattle.fallible.specs.declared.output.OutFault.{OutFault}
 use Rattle.job.specs.Values.{JobValue}
 use Rattle.integrator.specs.declared.direction.Direction.{Direction}
@@ -19,10 +21,11 @@ use Rattle.engine.specs.declared.faults.RunFault.TheVariants as run
 use Rattle.trajectory.specs.Trajectories.{AreFramesUnwritten}
 use Rattle.cli.specs.Asked.{also_asked}
 use Rattle.cli.specs.Kept.{IsKept}
+use Rattle.cli.specs.Performed.{WritesLine, WritesText}
 use Rattle.cli.specs.Printed.{IsDone}
 use Rattle.cli.specs.Progress.{IsBegun, IsTold, PrintsIfCounted}
 use Rattle.cli.specs.Reads.{AsksFor, also_asked_if, asked_by, unread}
-use Rattle.cli.specs.Refusals.{HasNoBytes, IsFaultOf, IsLineUndone, IsNoAnswer, IsCommandRefused, IsUnanswered, IsUndone, IsUnread, IsUnreadOfSome, IsUnreadOfTwo, IsVerdictUndone, RefusesCode, RefusesEnergy, RefusesFrame, RefusesJob, RefusesListing, RefusesSlope, RefusesState, RefusesUnder}
+use Rattle.cli.specs.Refusals.{HasNoBytes, IsFaultOf, IsNoAnswer, IsCommandRefused, IsUnanswered, IsUndone, IsUnread, IsUnreadOfSome, IsUnreadOfTwo, IsVerdictUndone, RefusesCode, RefusesEnergy, RefusesFrame, RefusesJob, RefusesListing, RefusesSlope, RefusesState, RefusesUnder}
 use Rattle.cli.specs.Reports.{IsReported}
 use Rattle.cli.specs.Statuses.{status_number, run_status, status_of}
 use Rattle.cli.specs.declared.faults.CommandFault.{CommandFault}
@@ -258,13 +261,22 @@ unanswered words e before after f kind none (inr (inl h)) = inr (inl (h.0, h.1, 
     asked (inr version) = inr (asks_for_version words e version kind)
 unanswered words e before after f kind none (inr (inr h)) = inr (inr h)
 
+-- why a text that was asked for was not printed
+pub no_answer : {T A : Type 0} (r : Result T (CommandFault A)) (kind : ErrorKind) (text : List ℕ) (before after : Output) → (kind ≡ DisplayHelp) ⊎ (kind ≡ DisplayVersion)
+    → WritesLine text before after r → IfErr r (IsNoAnswer kind before after)
+no_answer (Ok x) kind text before after asked h = tt
+no_answer (Err f) kind text before after asked (inl h) = inr (inr h)
+no_answer (Err f) kind text before after asked (inr h) = inr (inl (h.0, h.1, asked, h.2.failed))
+
 -- ---- a line that is written behind what is known
 
--- why the line wasn't written is why what it tells wasn't
-pub line_unwritten : {A : Type 0} (Why Began : Type 0) (text : List ℕ) (before after : Output) (f : CommandFault A) → (f ≡ fault.Memory → Why) → (AppendsBeginning before after text → Began)
-    → IsLineUndone text before after f → Unwritten Why Began before after f
-line_unwritten Why Began text before after f memory began (inl h) = inl (memory h.0, h.1)
-line_unwritten Why Began text before after f memory began (inr h) = inr (h.0, h.1, began h.2)
+-- a line tells what is known
+pub line_written : {T A : Type 0} (r : Result T (CommandFault A)) (Why : CommandFault A → Type 0) (HasText : (List ℕ → Type 0) → Type 0) (text : List ℕ) (before after : Output)
+    → ((f : CommandFault A) → f ≡ fault.Memory → Why f) → (Appends before after text → HasText (Appends before after)) → (AppendsBeginning before after text → HasText (AppendsBeginning before after))
+    → WritesLine text before after r → WritesText Why HasText before after r
+line_written (Ok x) Why HasText text before after memory whole began h = whole h
+line_written (Err f) Why HasText text before after memory whole began (inl h) = inl (memory f h.0, h.1)
+line_written (Err f) Why HasText text before after memory whole began (inr h) = inr (h.0, h.1, began h.2)
 
 -- out of memory is told of any text
 pub slope_memory : {A : Type 0} (job : List ℕ) (f : CommandFault A) → f ≡ fault.Memory → RefusesUnder job RefusesSlope f
@@ -273,3 +285,7 @@ slope_memory job f is = subst (λ g. RefusesUnder job RefusesSlope g) (sym is) (
 -- the same of any job with a listing
 pub listing_memory : {A : Type 0} (job listing : List ℕ) (f : CommandFault A) → f ≡ fault.Memory → RefusesUnder job (RefusesListing listing) f
 listing_memory job listing f is = subst (λ g. RefusesUnder job (RefusesListing listing) g) (sym is) (inl tt)
+
+-- the same of a job and a state
+pub energy_memory : {A : Type 0} (job state : List ℕ) (f : CommandFault A) → f ≡ fault.Memory → RefusesEnergy job state f
+energy_memory job state f is = subst (λ g. RefusesEnergy job state g) (sym is) tt

@@ -3,6 +3,7 @@ pub mod Failures
 pub mod Held
 pub mod Conversions
 pub mod Host
+pub mod Performed
 pub mod Printed
 pub mod Progress
 pub mod Reads

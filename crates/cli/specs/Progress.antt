@@ -1,6 +1,7 @@
 -- The lines of progress that are printed of a run.
-use Rattle.std.specs.Prelude.{◌≡◌, ◌⊎◌, ◌≤◌, ◌-◌, ◌*◌, ◌/◌, ◌^◌, ℕ, List, [], ◌∷◌, ◌++◌, Bool, true, false, Option, Some, None, map, codes, decimal}
+use Rattle.std.specs.Prelude.{◌≡◌, ◌⊎◌, ◌≤◌, ◌-◌, ◌*◌, ◌/◌, ◌^◌, ℕ, List, [], ◌∷◌, ◌++◌, Bool, true, false, Option, Some, None, Result, map, codes, decimal}
 use Rattle.std.proofs.Common.{subst}
+use Rattle.std.specs.Result.{MatchResult}
 use Rattle.fallible.specs.Out.{Output}
 use Rattle.command_line.specs.CommandLine.{AsksForHelp, AsksForVersion, IsCommand}
 use Rattle.command_line.specs.declared.commands.Command.{Command}
@@ -45,6 +46,10 @@ TellsAll (Some steps) before after = PrintsProgress steps before after (hundredt
 abbrev pub TellsSome : Option ℕ → Output → Output → Type 0
 TellsSome None before after = after ≡ before
 TellsSome (Some steps) before after = SomeHundredths steps (PrintsProgress steps before after)
+
+-- the progress that a command which ended with this result has told: all of it, or the first of it
+abbrev pub Tells : {T E : Type 0} → Option ℕ → Output → Output → Result T E → Type 0
+Tells steps before after result = MatchResult result (λ _. TellsAll steps before after) (λ _. TellsSome steps before after)
 
 -- the error output where all is done: the progress of a command with `--progress`, else nothing
 abbrev pub IsQuiet : List (List ℕ) → Output → Output → Type 0

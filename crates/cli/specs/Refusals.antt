@@ -112,10 +112,6 @@ abbrev pub IsTextUnwritten : {A : Type 0} → (CommandFault A → Type 0) → ((
 IsTextUnwritten Why HasText before after f = (Why f × (after ≡ before))
     ⊎ ((o : OutFault) × (f ≡ fault.Out o) × HasText (AppendsBeginning before after))
 
--- why a text that is made was not written
-abbrev pub IsLineUndone : {A : Type 0} → List ℕ → Output → Output → CommandFault A → Type 0
-IsLineUndone text before after f = IsTextUnwritten (λ g. g ≡ fault.Memory) (λ Wrote. Wrote text) before after f
-
 -- why no text was written of the state that begins at a frame, of a state's frame, of a listing, of a verdict, of an energy
 abbrev pub IsStartUndone : {A : Type 0} → (job gro : List ℕ) → ℕ → Output → Output → CommandFault A → Type 0
 IsStartUndone job gro number before after f = IsTextUnwritten (RefusesUnder job (RefusesFrame gro number)) (IsStartText job gro number) before after f

@@ -1,6 +1,6 @@
 //! From GRO files to states and back, and from jobs to listings.
 
-ghost use Rattle.std.specs.Prelude.{◌≡◌, ◌-◌, ◌<◌, ◌^◌, List, Ok, IfErr, IfOk, OnOk};
+ghost use Rattle.std.specs.Prelude.{◌≡◌, ◌-◌, ◌<◌, ◌^◌, List, Ok, IfErr, IfOk};
 ghost use Rattle.gro.specs.Frames.{frame_view};
 ghost use Rattle.integrator.specs.Starts.{slope_code_of};
 ghost use Rattle.job.specs.JobText.{limits, reading_of};
@@ -13,10 +13,10 @@ ghost use Rattle.state.specs.StateText.{StateView};
 ghost use Rattle.state.specs.StateViews.{state_view};
 ghost use Rattle.job.specs.Views.{job_value};
 ghost use Rattle.cli.specs.Conversions.{IsCodeText, IsFrameText, IsStartOf, IsStartText};
-ghost use Rattle.fallible.specs.Out.{Appends};
-ghost use Rattle.cli.specs.Refusals.{IsCodeUndone, IsFrameUndone, IsStartUndone, RefusesCode, RefusesFrame, RefusesState, RefusesUnder};
+ghost use Rattle.cli.specs.Performed.{WritesText};
+ghost use Rattle.cli.specs.Refusals.{RefusesCode, RefusesFrame, RefusesState, RefusesUnder};
 
-use crate::faults::CommandFault;
+use crate::faults::{CommandFault, written};
 use fallible::{Out, write_all};
 use gro::{GroFrame, pick, read_frames};
 use integrator::slope_code;
@@ -36,12 +36,10 @@ pub(crate) fn start_bytes<'a, A: Allocator + Copy, O: Out>(
     out: &mut O,
 ) -> Result<(), CommandFault<'a, A>>
     requires { (O.output out.old).failed < 2 ^ 64 - 1 }
-    ensures written { OnOk result (IsStartText job.now gro.now frame (Appends (O.output out.old) (O.output out.new))) }
-    ensures refused { IfErr result (IsStartUndone job.now gro.now frame (O.output out.old) (O.output out.new)) }
+    ensures { WritesText (RefusesUnder job.now (RefusesFrame gro.now frame)) (IsStartText job.now gro.now frame) (O.output out.old) (O.output out.new) result }
 {
     let state = started(alloc, job, gro, frame)?;
-    state.write(out)?;
-    Ok(())
+    written(state.write(out))
 }
 
 /// The state that begins at the frame with this number of a GRO text, under a job's text.
@@ -81,12 +79,10 @@ pub(crate) fn frame_bytes<'a, A: Allocator + Copy, O: Out>(
     out: &mut O,
 ) -> Result<(), CommandFault<'a, A>>
     requires { (O.output out.old).failed < 2 ^ 64 - 1 }
-    ensures written { OnOk result (IsFrameText state.now (Appends (O.output out.old) (O.output out.new))) }
-    ensures refused { IfErr result (IsFrameUndone state.now (O.output out.old) (O.output out.new)) }
+    ensures { WritesText (RefusesState state.now) (IsFrameText state.now) (O.output out.old) (O.output out.new) result }
 {
     let frame = frame_read(alloc, state)?;
-    gro::write(&frame, out)?;
-    Ok(())
+    written(gro::write(&frame, out))
 }
 
 /// The current frame of a state's text.
@@ -108,12 +104,10 @@ pub(crate) fn code_bytes<'a, A: Allocator + Copy, O: Out>(
     out: &mut O,
 ) -> Result<(), CommandFault<'a, A>>
     requires { (O.output out.old).failed < 2 ^ 64 - 1 }
-    ensures written { OnOk result (IsCodeText job.now (Appends (O.output out.old) (O.output out.new))) }
-    ensures refused { IfErr result (IsCodeUndone job.now (O.output out.old) (O.output out.new)) }
+    ensures { WritesText (RefusesUnder job.now RefusesCode) (IsCodeText job.now) (O.output out.old) (O.output out.new) result }
 {
     let listing = slope_listing(alloc, job)?;
-    write_all(out, &listing)?;
-    Ok(())
+    written(write_all(out, &listing))
 }
 
 /// The listing of the code of the slope of a job's text.

@@ -1,29 +1,29 @@
 //! Doing what the words ask for.
 
-ghost use Rattle.std.specs.Prelude.{◌≡◌, ◌≢◌, ◌⊎◌, ◌≤◌, ◌<◌, ◌-◌, ◌/◌, ◌^◌, ℕ, suc, List, None, IfOk, OnOk, OnErr, IfErr, map, string_bytes};
+ghost use Rattle.std.specs.Prelude.{◌≡◌, ◌≢◌, ◌⊎◌, ◌≤◌, ◌<◌, ◌-◌, ◌^◌, ℕ, List, Some, None, IfOk, OnOk, OnErr, IfErr, map, string_bytes};
+ghost use Rattle.std.specs.Result.{MatchResult};
 ghost use Rattle.clap.specs.Words.{kind_of};
 ghost use Rattle.clap.specs.declared.error.kind.ErrorKind.TheVariants.{DisplayHelp, DisplayVersion};
 ghost use Rattle.command_line.specs.CommandLine.{AsksForTrajectory, IsCommand, IsMisuse};
 ghost use Rattle.command_line.specs.declared.commands.Command.{Command};
-ghost use Rattle.engine.specs.Headline.{WroteLevesqueVerletRun};
-ghost use Rattle.trajectory.specs.Trajectories.{IsFrameOfRun, WroteFrames};
 ghost use Rattle.cli.specs.Asked.{also_asked};
 ghost use Rattle.cli.specs.Held.{IsHeld};
 ghost use Rattle.cli.specs.Kept.{IsKept};
-ghost use Rattle.cli.specs.Printed.{HasPrinted, IsDone};
-ghost use Rattle.cli.specs.Progress.{IsBegun, IsQuiet, IsTold, PrintsIfCounted, TellsAll, TellsSome, told_of};
-ghost use Rattle.cli.specs.Reads.{AsksFor, asked_by, unread};
-ghost use Rattle.cli.specs.Refusals.{IsFaultOf, IsNoAnswer, IsRunUndone, IsTrajectoryUndone, IsUndone, IsUnreadOfTwo};
+ghost use Rattle.cli.specs.Performed.{Performs, WritesFrames, WritesRun};
+ghost use Rattle.cli.specs.Printed.{IsDone};
+ghost use Rattle.cli.specs.Progress.{IsBegun, IsQuiet, IsTold, PrintsIfCounted, Tells, told_of};
+ghost use Rattle.cli.specs.Reads.{AsksFor, unread};
+ghost use Rattle.cli.specs.Refusals.{IsFaultOf, IsNoAnswer, IsUnread, IsUnreadOfTwo};
 ghost use Rattle.cli.specs.Reports.{IsReported, Prints, line, said};
 ghost use Rattle.cli.specs.Statuses.{status_of};
 ghost use Rattle.cli.specs.declared.faults.CommandFault.{CommandFault};
-ghost use Rattle.cli.specs.declared.files.ReadFault.{ReadFault};
 
 use crate::conversions::{code_bytes, frame_bytes, start_bytes};
-use crate::faults::{CommandFault, Status};
+use crate::faults::{CommandFault, Status, ran};
 use crate::files::{Files, ReadFault};
 use crate::progress::{run_watched, trajectory_watched};
 use crate::verdicts::{energy_bytes, listing_verdict_bytes, slope_verdict_bytes};
+use crate::writing::write_line;
 use clap::Error;
 use clap::error::ErrorKind;
 use command_line::{Check, Command, Energy, Frame, Listing, Run, Start, Trajectory, parse};
@@ -104,11 +104,8 @@ fn perform<'a, R: Threads + Sync, A: Allocator + Copy + Send + Sync, F: Files, O
     err: &mut E,
 ) -> Result<(), CommandFault<'a, A>>
     requires { (O.output out.old).failed < 2 ^ 64 - 1 }
-    ensures done { OnOk result (F.asked files.new ≡ asked_by (F.asked files.old) command.entry) }
-    ensures printed { OnOk result (HasPrinted (F.held files.old) command.entry (O.output out.old) (O.output out.new)) }
-    ensures told { OnOk result (TellsAll (told_of command.entry) (E.output err.old) (E.output err.new)) }
-    ensures told_some { OnErr result (TellsSome (told_of command.entry) (E.output err.old) (E.output err.new)) }
-    ensures undone { IfErr result (IsUndone (F.held files.old) (F.asked files.old) (F.asked files.new) command.entry (O.output out.old) (O.output out.new)) }
+    ensures performs { Performs (F.held files.old) (F.asked files.old) (F.asked files.new) command.entry (O.output out.old) (O.output out.new) result }
+    ensures tells { Tells (told_of command.entry) (E.output err.old) (E.output err.new) result }
 {
     match command {
         Command::Start(start) => perform_start(alloc, start, files, out),
@@ -131,12 +128,10 @@ fn perform_start<'a, A: Allocator + Copy, F: Files, O: Out>(
     out: &mut O,
 ) -> Result<(), CommandFault<'a, A>>
     requires { (O.output out.old).failed < 2 ^ 64 - 1 }
-    ensures done { OnOk result (F.asked files.new ≡ asked_by (F.asked files.old) (Command.Start start.entry)) }
-    ensures printed { OnOk result (HasPrinted (F.held files.old) (Command.Start start.entry) (O.output out.old) (O.output out.new)) }
-    ensures undone { IfErr result (IsUndone (F.held files.old) (F.asked files.old) (F.asked files.new) (Command.Start start.entry) (O.output out.old) (O.output out.new)) }
+    ensures { Performs (F.held files.old) (F.asked files.old) (F.asked files.new) (Command.Start start.entry) (O.output out.old) (O.output out.new) result }
 {
     let (job, gro) = read_two(alloc, start.job, start.gro, files)?;
-    start_bytes(alloc, job.as_slice(), gro.as_slice(), start.frame, out)
+    start_bytes(alloc, &job, &gro, start.frame, out)
 }
 
 /// Reads the state, and prints its frame.
@@ -147,12 +142,10 @@ fn perform_frame<'a, A: Allocator + Copy, F: Files, O: Out>(
     out: &mut O,
 ) -> Result<(), CommandFault<'a, A>>
     requires { (O.output out.old).failed < 2 ^ 64 - 1 }
-    ensures done { OnOk result (F.asked files.new ≡ asked_by (F.asked files.old) (Command.Frame frame.entry)) }
-    ensures printed { OnOk result (HasPrinted (F.held files.old) (Command.Frame frame.entry) (O.output out.old) (O.output out.new)) }
-    ensures undone { IfErr result (IsUndone (F.held files.old) (F.asked files.old) (F.asked files.new) (Command.Frame frame.entry) (O.output out.old) (O.output out.new)) }
+    ensures { Performs (F.held files.old) (F.asked files.old) (F.asked files.new) (Command.Frame frame.entry) (O.output out.old) (O.output out.new) result }
 {
     let state = read(alloc, frame.state, files)?;
-    frame_bytes(alloc, state.as_slice(), out)
+    frame_bytes(alloc, &state, out)
 }
 
 /// Reads the job and then the state, and prints its energy.
@@ -163,15 +156,13 @@ fn perform_energy<'a, A: Allocator + Copy, F: Files, O: Out>(
     out: &mut O,
 ) -> Result<(), CommandFault<'a, A>>
     requires { (O.output out.old).failed < 2 ^ 64 - 1 }
-    ensures done { OnOk result (F.asked files.new ≡ asked_by (F.asked files.old) (Command.Energy energy.entry)) }
-    ensures printed { OnOk result (HasPrinted (F.held files.old) (Command.Energy energy.entry) (O.output out.old) (O.output out.new)) }
-    ensures undone { IfErr result (IsUndone (F.held files.old) (F.asked files.old) (F.asked files.new) (Command.Energy energy.entry) (O.output out.old) (O.output out.new)) }
+    ensures { Performs (F.held files.old) (F.asked files.old) (F.asked files.new) (Command.Energy energy.entry) (O.output out.old) (O.output out.new) result }
 {
     let (job, state) = read_two(alloc, energy.job, energy.state, files)?;
-    energy_bytes(alloc, job.as_slice(), state.as_slice(), out)
+    energy_bytes(alloc, &job, &state, out)
 }
 
-/// Reads the job, and then the listing if there is one, and judges the code.
+/// Judges the code of the job's slope, or that of the listing if there is one.
 fn perform_check<'a, A: Allocator + Copy, F: Files, O: Out>(
     alloc: A,
     check: Check<'a>,
@@ -179,18 +170,41 @@ fn perform_check<'a, A: Allocator + Copy, F: Files, O: Out>(
     out: &mut O,
 ) -> Result<(), CommandFault<'a, A>>
     requires { (O.output out.old).failed < 2 ^ 64 - 1 }
-    ensures done { OnOk result (F.asked files.new ≡ asked_by (F.asked files.old) (Command.Check check.entry)) }
-    ensures printed { OnOk result (HasPrinted (F.held files.old) (Command.Check check.entry) (O.output out.old) (O.output out.new)) }
-    ensures undone { IfErr result (IsUndone (F.held files.old) (F.asked files.old) (F.asked files.new) (Command.Check check.entry) (O.output out.old) (O.output out.new)) }
+    ensures { Performs (F.held files.old) (F.asked files.old) (F.asked files.new) (Command.Check check.entry) (O.output out.old) (O.output out.new) result }
 {
-    let job = read(alloc, check.job, files)?;
     match check.listing {
-        None => slope_verdict_bytes(alloc, job.as_slice(), out),
-        Some(path) => {
-            let listing = read(alloc, path, files)?;
-            listing_verdict_bytes(alloc, job.as_slice(), listing.as_slice(), out)
-        }
+        None => judge_slope(alloc, check.job, files, out),
+        Some(listing) => judge_listing(alloc, check.job, listing, files, out),
     }
+}
+
+/// Reads the job, and judges the code of its slope.
+fn judge_slope<'a, A: Allocator + Copy, F: Files, O: Out>(
+    alloc: A,
+    job: &'a str,
+    files: &mut F,
+    out: &mut O,
+) -> Result<(), CommandFault<'a, A>>
+    requires { (O.output out.old).failed < 2 ^ 64 - 1 }
+    ensures { Performs (F.held files.old) (F.asked files.old) (F.asked files.new) (Command.Check (record { job = job.entry; listing = None })) (O.output out.old) (O.output out.new) result }
+{
+    let job = read(alloc, job, files)?;
+    slope_verdict_bytes(alloc, &job, out)
+}
+
+/// Reads the job and then the listing, and judges the listing's code.
+fn judge_listing<'a, A: Allocator + Copy, F: Files, O: Out>(
+    alloc: A,
+    job: &'a str,
+    listing: &'a str,
+    files: &mut F,
+    out: &mut O,
+) -> Result<(), CommandFault<'a, A>>
+    requires { (O.output out.old).failed < 2 ^ 64 - 1 }
+    ensures { Performs (F.held files.old) (F.asked files.old) (F.asked files.new) (Command.Check (record { job = job.entry; listing = Some listing.entry })) (O.output out.old) (O.output out.new) result }
+{
+    let (job, listing) = read_two(alloc, job, listing, files)?;
+    listing_verdict_bytes(alloc, &job, &listing, out)
 }
 
 /// Reads the job, and prints the code of its slope.
@@ -201,12 +215,10 @@ fn perform_code<'a, A: Allocator + Copy, F: Files, O: Out>(
     out: &mut O,
 ) -> Result<(), CommandFault<'a, A>>
     requires { (O.output out.old).failed < 2 ^ 64 - 1 }
-    ensures done { OnOk result (F.asked files.new ≡ asked_by (F.asked files.old) (Command.Code listing.entry)) }
-    ensures printed { OnOk result (HasPrinted (F.held files.old) (Command.Code listing.entry) (O.output out.old) (O.output out.new)) }
-    ensures undone { IfErr result (IsUndone (F.held files.old) (F.asked files.old) (F.asked files.new) (Command.Code listing.entry) (O.output out.old) (O.output out.new)) }
+    ensures { Performs (F.held files.old) (F.asked files.old) (F.asked files.new) (Command.Code listing.entry) (O.output out.old) (O.output out.new) result }
 {
     let job = read(alloc, listing.job, files)?;
-    code_bytes(alloc, job.as_slice(), out)
+    code_bytes(alloc, &job, out)
 }
 
 /// Reads the job and then the state, and runs it.
@@ -219,22 +231,36 @@ fn perform_run<'a, R: Threads + Sync, A: Allocator + Copy + Send + Sync, F: File
     err: &mut E,
 ) -> Result<(), CommandFault<'a, A>>
     requires { (O.output out.old).failed < 2 ^ 64 - 1 }
-    ensures done { OnOk result (F.asked files.new ≡ asked_by (F.asked files.old) (Command.Run run.entry)) }
-    ensures printed { OnOk result (HasPrinted (F.held files.old) (Command.Run run.entry) (O.output out.old) (O.output out.new)) }
-    ensures told { OnOk result (TellsAll (told_of (Command.Run run.entry)) (E.output err.old) (E.output err.new)) }
-    ensures told_some { OnErr result (TellsSome (told_of (Command.Run run.entry)) (E.output err.old) (E.output err.new)) }
-    ensures undone { IfErr result (IsUndone (F.held files.old) (F.asked files.old) (F.asked files.new) (Command.Run run.entry) (O.output out.old) (O.output out.new)) }
+    ensures performs { Performs (F.held files.old) (F.asked files.old) (F.asked files.new) (Command.Run run.entry) (O.output out.old) (O.output out.new) result }
+    ensures tells { Tells (told_of (Command.Run run.entry)) (E.output err.old) (E.output err.new) result }
 {
     let (job, state) = read_two(alloc, run.job, run.state, files)?;
+    run_texts(rt, alloc, &job, &state, &run, out, err)
+}
+
+/// Runs a state under a job, and tells how far the run has come where that is asked for.
+fn run_texts<'a, R: Threads + Sync, A: Allocator + Copy + Send + Sync, O: Out, E: Out>(
+    rt: &R,
+    alloc: A,
+    job: &[u8],
+    state: &[u8],
+    run: &Run<'a>,
+    out: &mut O,
+    err: &mut E,
+) -> Result<(), CommandFault<'a, A>>
+    requires { (O.output out.old).failed < 2 ^ 64 - 1 }
+    ensures writes { WritesRun job.now state.now run.now (O.output out.old) (O.output out.new) result }
+    ensures tells { Tells (told_of (Command.Run run.now)) (E.output err.old) (E.output err.new) result }
+{
     if run.progress {
-        run_watched(rt, alloc, &job, &state, &run, out, err)
+        run_watched(rt, alloc, job, state, run, out, err)
     } else {
-        run_texts(rt, alloc, &job, &state, &run, out)
+        run_unwatched(rt, alloc, job, state, run, out)
     }
 }
 
 /// Runs a state under a job.
-fn run_texts<'a, R: Threads + Sync, A: Allocator + Copy + Send + Sync, O: Out>(
+fn run_unwatched<'a, R: Threads + Sync, A: Allocator + Copy + Send + Sync, O: Out>(
     rt: &R,
     alloc: A,
     job: &[u8],
@@ -243,10 +269,9 @@ fn run_texts<'a, R: Threads + Sync, A: Allocator + Copy + Send + Sync, O: Out>(
     out: &mut O,
 ) -> Result<(), CommandFault<'a, A>>
     requires { (O.output out.old).failed < 2 ^ 64 - 1 }
-    ensures wrote { OnOk result (WroteLevesqueVerletRun job.now state.now run.now.direction run.now.steps (O.output out.old) (O.output out.new)) }
-    ensures refused { IfErr result (IsRunUndone job.now state.now run.now (O.output out.old) (O.output out.new)) }
+    ensures { WritesRun job.now state.now run.now (O.output out.old) (O.output out.new) result }
 {
-    run_bytes(
+    ran(run_bytes(
         rt,
         alloc,
         job,
@@ -255,8 +280,7 @@ fn run_texts<'a, R: Threads + Sync, A: Allocator + Copy + Send + Sync, O: Out>(
         run.direction,
         run.workers,
         out,
-    )?;
-    Ok(())
+    ))
 }
 
 /// Reads the job and then the state, and prints frames of the run.
@@ -276,22 +300,36 @@ fn perform_trajectory<
     err: &mut E,
 ) -> Result<(), CommandFault<'a, A>>
     requires { (O.output out.old).failed < 2 ^ 64 - 1 }
-    ensures done { OnOk result (F.asked files.new ≡ asked_by (F.asked files.old) (Command.Trajectory trajectory.entry)) }
-    ensures printed { OnOk result (HasPrinted (F.held files.old) (Command.Trajectory trajectory.entry) (O.output out.old) (O.output out.new)) }
-    ensures told { OnOk result (TellsAll (told_of (Command.Trajectory trajectory.entry)) (E.output err.old) (E.output err.new)) }
-    ensures told_some { OnErr result (TellsSome (told_of (Command.Trajectory trajectory.entry)) (E.output err.old) (E.output err.new)) }
-    ensures undone { IfErr result (IsUndone (F.held files.old) (F.asked files.old) (F.asked files.new) (Command.Trajectory trajectory.entry) (O.output out.old) (O.output out.new)) }
+    ensures performs { Performs (F.held files.old) (F.asked files.old) (F.asked files.new) (Command.Trajectory trajectory.entry) (O.output out.old) (O.output out.new) result }
+    ensures tells { Tells (told_of (Command.Trajectory trajectory.entry)) (E.output err.old) (E.output err.new) result }
 {
     let (job, state) = read_two(alloc, trajectory.job, trajectory.state, files)?;
+    trajectory_texts(rt, alloc, &job, &state, &trajectory, out, err)
+}
+
+/// Prints frames of the run of a state under a job, and tells how far the run has come where that is asked for.
+fn trajectory_texts<'a, R: Threads + Sync, A: Allocator + Copy + Send + Sync, O: Out, E: Out>(
+    rt: &R,
+    alloc: A,
+    job: &[u8],
+    state: &[u8],
+    trajectory: &Trajectory<'a>,
+    out: &mut O,
+    err: &mut E,
+) -> Result<(), CommandFault<'a, A>>
+    requires { (O.output out.old).failed < 2 ^ 64 - 1 }
+    ensures writes { WritesFrames job.now state.now trajectory.now (O.output out.old) (O.output out.new) result }
+    ensures tells { Tells (told_of (Command.Trajectory trajectory.now)) (E.output err.old) (E.output err.new) result }
+{
     if trajectory.progress {
-        trajectory_watched(rt, alloc, &job, &state, &trajectory, out, err)
+        trajectory_watched(rt, alloc, job, state, trajectory, out, err)
     } else {
-        trajectory_texts(rt, alloc, &job, &state, &trajectory, out)
+        trajectory_unwatched(rt, alloc, job, state, trajectory, out)
     }
 }
 
 /// Prints frames of the run of a state under a job.
-fn trajectory_texts<'a, R: Threads + Sync, A: Allocator + Copy + Send + Sync, O: Out>(
+fn trajectory_unwatched<'a, R: Threads + Sync, A: Allocator + Copy + Send + Sync, O: Out>(
     rt: &R,
     alloc: A,
     job: &[u8],
@@ -300,11 +338,9 @@ fn trajectory_texts<'a, R: Threads + Sync, A: Allocator + Copy + Send + Sync, O:
     out: &mut O,
 ) -> Result<(), CommandFault<'a, A>>
     requires { (O.output out.old).failed < 2 ^ 64 - 1 }
-    ensures wrote { OnOk result (WroteFrames (IsFrameOfRun job.now state.now trajectory.now.direction trajectory.now.every)
-        (suc (trajectory.now.steps / trajectory.now.every)) (O.output out.old) (O.output out.new)) }
-    ensures refused { IfErr result (IsTrajectoryUndone job.now state.now trajectory.now (O.output out.old) (O.output out.new)) }
+    ensures { WritesFrames job.now state.now trajectory.now (O.output out.old) (O.output out.new) result }
 {
-    trajectory_bytes(
+    ran(trajectory_bytes(
         rt,
         alloc,
         job,
@@ -314,8 +350,7 @@ fn trajectory_texts<'a, R: Threads + Sync, A: Allocator + Copy + Send + Sync, O:
         trajectory.direction,
         trajectory.workers,
         out,
-    )?;
-    Ok(())
+    ))
 }
 
 /// Reads one file and then another.
@@ -325,9 +360,9 @@ fn read_two<'a, A: Allocator + Copy, F: Files>(
     second: &'a str,
     files: &mut F,
 ) -> Result<(Vec<u8, A>, Vec<u8, A>), CommandFault<'a, A>>
-    ensures done { OnOk result (F.asked files.new ≡ also_asked (also_asked (F.asked files.old) first.entry.now) second.entry.now) }
-    ensures gives { IfOk result (λ both. IsHeld (F.held files.old) first.entry.now both.0.items × IsHeld (F.held files.old) second.entry.now both.1.items) }
-    ensures unread { IfErr result (IsUnreadOfTwo (F.held files.old) first.entry.now second.entry.now (F.asked files.old) (F.asked files.new)) }
+    ensures { MatchResult result (λ both. (F.asked files.new ≡ also_asked (also_asked (F.asked files.old) first.entry.now) second.entry.now)
+        × IsHeld (F.held files.old) first.entry.now both.0.items × IsHeld (F.held files.old) second.entry.now both.1.items)
+        (IsUnreadOfTwo (F.held files.old) first.entry.now second.entry.now (F.asked files.old) (F.asked files.new)) }
 {
     let first = read(alloc, first, files)?;
     let second = read(alloc, second, files)?;
@@ -339,10 +374,9 @@ fn read<'a, A: Allocator + Copy, F: Files>(
     path: &'a str,
     files: &mut F,
 ) -> Result<Vec<u8, A>, CommandFault<'a, A>>
-    ensures asked { F.asked files.new ≡ also_asked (F.asked files.old) path.entry.now }
-    ensures gives { IfOk result (λ v. IsHeld (F.held files.old) path.entry.now v.items) }
+    ensures reads { MatchResult result (λ v. (F.asked files.new ≡ also_asked (F.asked files.old) path.entry.now) × IsHeld (F.held files.old) path.entry.now v.items)
+        (IsUnread (F.held files.old) path.entry.now (F.asked files.old) (F.asked files.new)) }
     ensures still { F.held files.new ≡ F.held files.old }
-    ensures fault { IfErr result (λ e. (fault : ReadFault) × (e ≡ unread fault path.entry) × (fault ≡ ReadFault.CannotRead → F.held files.old path.entry.now ≡ None)) }
 {
     match files.read(alloc, path) {
         Ok(bytes) => Ok(bytes),
@@ -373,9 +407,7 @@ fn answer<'a, A: Allocator + Copy, O: Out>(
     match error.kind() {
         ErrorKind::OutOfMemory => Err(CommandFault::Memory),
         ErrorKind::DisplayHelp | ErrorKind::DisplayVersion => {
-            let text = error.to_string(alloc)?;
-            write_all(out, text.as_bytes())?;
-            Ok(())
+            write_line(error.to_string(alloc), out)
         }
         _ => Err(CommandFault::CommandLine(error)),
     }

@@ -1,6 +1,7 @@
 //! Why a command was not done, and the statuses of the program.
 
 ghost use Rattle.std.specs.Prelude.{◌≡◌, ◌≤◌};
+ghost use Rattle.std.specs.Result.{result_map_both};
 ghost use Rattle.cli.specs.Failures.{command_fault};
 ghost use Rattle.cli.specs.declared.faults.CommandFault.TheVariants as command;
 ghost use Rattle.engine.specs.declared.faults.EnergyFault.TheVariants as energy;
@@ -15,7 +16,7 @@ use job::JobFault;
 use kernel_code::CodeFault;
 use ring_box::BoxFault;
 use state::StateFault;
-use std::alloc::{AllocError, AllocFailed, Allocator};
+use std::alloc::{AllocError, Allocator};
 use std::fmt;
 use thiserror::Error;
 
@@ -59,7 +60,7 @@ impl Status {
 #[derive(Drop, Error)]
 pub enum CommandFault<'a, A: Allocator> {
     /// The words name no command. It prints the command line parser's own text.
-    #[error("{0}")]
+    #[error(transparent)]
     CommandLine(Error),
     /// A word of the process is no text.
     #[error("error: a word of the command line is not UTF-8 text\n")]
@@ -68,34 +69,34 @@ pub enum CommandFault<'a, A: Allocator> {
     #[error("O1 CannotRead {path}")]
     CannotRead { path: &'a str },
     /// The job of `start`, `check` or `code` is refused.
-    #[error("{0}")]
+    #[error(transparent)]
     Job(JobFault<A>),
     /// The GRO file is refused, or has no such frame.
-    #[error("{0}")]
+    #[error(transparent)]
     Gro(GroFault),
     /// The sides of the frame that a state is to begin at are no box's.
-    #[error("{0}")]
+    #[error(transparent)]
     Box(BoxFault),
     /// The state of `frame` is refused.
-    #[error("{0}")]
+    #[error(transparent)]
     State(StateFault),
     /// The listing to judge is refused.
-    #[error("{0}")]
+    #[error(transparent)]
     Listing(CodeFault),
     /// The job's energy, or its slope, has no accepted code, where `code`, `check` or `energy` asks for one.
-    #[error("{0}")]
+    #[error(transparent)]
     Energy(EnergyFault<A>),
     /// The verifier refuses the code of the listing to judge.
-    #[error("{0}")]
+    #[error(transparent)]
     Kernel(KernelRefusal),
     /// The job and the state of `energy` have no engine.
-    #[error("{0}")]
+    #[error(transparent)]
     Open(OpenFault<A>),
     /// The run, or its frames, was not written.
-    #[error("{0}")]
+    #[error(transparent)]
     Run(RunFault<A>),
     /// The output failed.
-    #[error("{0}")]
+    #[error(transparent)]
     Out(OutFault),
     /// An allocation was refused.
     #[error("Memory")]
@@ -109,27 +110,33 @@ impl<'a, A: Allocator> fmt::Debug for CommandFault<'a, A> {
     }
 }
 
+/// What a command answers that ends with this write.
+pub(crate) fn written<'a, A: Allocator>(
+    wrote: Result<(), OutFault>,
+) -> Result<(), CommandFault<'a, A>>
+    ensures { result ≡ result_map_both (λ x. x) command.Out wrote }
+{
+    match wrote {
+        Ok(()) => Ok(()),
+        Err(fault) => Err(CommandFault::Out(fault)),
+    }
+}
+
+/// What a command answers that ends with this run.
+pub(crate) fn ran<'a, A: Allocator>(run: Result<(), RunFault<A>>) -> Result<(), CommandFault<'a, A>>
+    ensures { result ≡ result_map_both (λ x. x) command.Run run }
+{
+    match run {
+        Ok(()) => Ok(()),
+        Err(fault) => Err(CommandFault::Run(fault)),
+    }
+}
+
 impl<'a, A: Allocator> From<AllocError> for CommandFault<'a, A> {
     ghost from_gives = { λ _ e. e ≡ command.Memory };
 
     fn from(_e: AllocError) -> CommandFault<'a, A> {
         CommandFault::Memory
-    }
-}
-
-impl<'a, T: Drop, A: Allocator> From<AllocFailed<T>> for CommandFault<'a, A> {
-    ghost from_gives = { λ _ e. e ≡ command.Memory };
-
-    fn from(_e: AllocFailed<T>) -> CommandFault<'a, A> {
-        CommandFault::Memory
-    }
-}
-
-impl<'a, A: Allocator> From<OutFault> for CommandFault<'a, A> {
-    ghost from_gives = { λ f e. e ≡ command.Out f };
-
-    fn from(fault: OutFault) -> CommandFault<'a, A> {
-        CommandFault::Out(fault)
     }
 }
 

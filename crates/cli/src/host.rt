@@ -118,11 +118,10 @@ impl<W: Write> Out for Stream<W> {
 pub fn words<R: Env + AllocGlobal>(rt: &R) -> Result<Vec<String>, CommandFault<'static, Global>>
     ensures fault { IfErr result (λ f. (f ≡ Memory) ⊎ (f ≡ NotText)) }
 {
-    let mut words = Vec::new(rt.alloc());
-    for word in env::args(rt).map_err(|error| words_fault(&error))?.skip(1) {
-        words.push(word)?;
+    match env::args(rt) {
+        Ok(words) => Ok(words.skip(1).collect(rt.alloc())?),
+        Err(error) => Err(words_fault(&error)),
     }
-    Ok(words)
 }
 
 fn words_fault(error: &io::Error) -> CommandFault<'static, Global>

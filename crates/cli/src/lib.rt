@@ -10,6 +10,7 @@ mod host;
 mod processes;
 mod progress;
 mod verdicts;
+mod writing;
 
 pub use execution::{execute, report};
 pub use faults::{CommandFault, Status};

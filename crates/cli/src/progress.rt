@@ -1,11 +1,9 @@
 //! Telling how far a run has come.
 
-ghost use Rattle.std.specs.Prelude.{◌≡◌, ◌<◌, ◌*◌, ◌/◌, ◌-◌, ◌^◌, ℕ, suc, Some, OnOk, OnErr, IfErr, refl};
+ghost use Rattle.std.specs.Prelude.{◌≡◌, ◌<◌, ◌*◌, ◌/◌, ◌-◌, ◌^◌, Some, refl};
 ghost use Rattle.std.proofs.Common.{◌∙◌};
-ghost use Rattle.engine.specs.Headline.{WroteLevesqueVerletRun};
-ghost use Rattle.trajectory.specs.Trajectories.{IsFrameOfRun, WroteFrames};
-ghost use Rattle.cli.specs.Progress.{PrintsProgress, TellsAll, TellsSome, prints_also};
-ghost use Rattle.cli.specs.Refusals.{IsRunUndone, IsTrajectoryUndone};
+ghost use Rattle.cli.specs.Performed.{WritesFrames, WritesRun};
+ghost use Rattle.cli.specs.Progress.{PrintsProgress, Tells, prints_also};
 
 use crate::faults::CommandFault;
 use command_line::{Run, Trajectory};
@@ -66,10 +64,8 @@ pub(crate) fn run_watched<'a, R: Threads + Sync, A: Allocator + Copy + Send + Sy
     err: &mut E,
 ) -> Result<(), CommandFault<'a, A>>
     requires { (O.output out.old).failed < 2 ^ 64 - 1 }
-    ensures wrote { OnOk result (WroteLevesqueVerletRun job.now state.now run.now.direction run.now.steps (O.output out.old) (O.output out.new)) }
-    ensures told { OnOk result (TellsAll (Some run.now.steps) (E.output err.old) (E.output err.new)) }
-    ensures told_some { OnErr result (TellsSome (Some run.now.steps) (E.output err.old) (E.output err.new)) }
-    ensures refused { IfErr result (IsRunUndone job.now state.now run.now (O.output out.old) (O.output out.new)) }
+    ensures writes { WritesRun job.now state.now run.now (O.output out.old) (O.output out.new) result }
+    ensures tells { Tells (Some run.now.steps) (E.output err.old) (E.output err.new) result }
 {
     let steps = run.steps;
     let mut watch = ProgressLines { err, steps };
@@ -104,13 +100,9 @@ pub(crate) fn trajectory_watched<
     err: &mut E,
 ) -> Result<(), CommandFault<'a, A>>
     requires { (O.output out.old).failed < 2 ^ 64 - 1 }
-    ensures wrote { OnOk result (WroteFrames (IsFrameOfRun job.now state.now trajectory.now.direction trajectory.now.every)
-        (suc (trajectory.now.steps / trajectory.now.every)) (O.output out.old) (O.output out.new)) }
-    ensures told { OnOk result (TellsAll (Some (trajectory.now.steps / trajectory.now.every * trajectory.now.every))
-        (E.output err.old) (E.output err.new)) }
-    ensures told_some { OnErr result (TellsSome (Some (trajectory.now.steps / trajectory.now.every * trajectory.now.every))
-        (E.output err.old) (E.output err.new)) }
-    ensures refused { IfErr result (IsTrajectoryUndone job.now state.now trajectory.now (O.output out.old) (O.output out.new)) }
+    ensures writes { WritesFrames job.now state.now trajectory.now (O.output out.old) (O.output out.new) result }
+    ensures tells { Tells (Some (trajectory.now.steps / trajectory.now.every * trajectory.now.every))
+        (E.output err.old) (E.output err.new) result }
 {
     let steps = trajectory.steps / trajectory.every * trajectory.every;
     let mut watch = ProgressLines { err, steps };

@@ -1,19 +1,20 @@
 //! The lines that `check` and `energy` print: the verdict on a job's code, or on other code under a job, and a state's energy.
 
-ghost use Rattle.std.specs.Prelude.{◌≡◌, ◌-◌, ◌<◌, ◌^◌, IfErr, IfOk, Ok, OnOk, string_bytes};
+ghost use Rattle.std.specs.Prelude.{◌≡◌, ◌-◌, ◌<◌, ◌^◌, IfErr, IfOk, Ok, string_bytes};
 ghost use Rattle.engine.specs.PairEnergies.{IsEnergyOfTexts};
 ghost use Rattle.engine.specs.Verdicts.{IsJudged, IsSlopeKernel, IsUnder};
-ghost use Rattle.fallible.specs.Out.{Appends};
 ghost use Rattle.job.specs.JobText.{limits, reading_of};
 ghost use Rattle.job.specs.Values.{JobValue};
 ghost use Rattle.kernel_code.specs.ListingReading.{code_of};
 ghost use Rattle.verifier.specs.Kernels.{IsKernel, Kernel};
-ghost use Rattle.cli.specs.Refusals.{IsEnergyUndone, IsLineUndone, IsListingUndone, IsSlopeUndone, RefusesEnergy, RefusesListing, RefusesSlope, RefusesUnder};
+ghost use Rattle.cli.specs.Performed.{WritesLine, WritesText};
+ghost use Rattle.cli.specs.Refusals.{RefusesEnergy, RefusesListing, RefusesSlope, RefusesUnder};
 ghost use Rattle.cli.specs.Verdicts.{IsEnergyText, IsListingVerdict, IsSlopeVerdict, energy_line, verdict_line};
 
 use crate::faults::CommandFault;
+use crate::writing::write_line;
 use engine::{open, verdict, verified_slope};
-use fallible::{Out, write_all};
+use fallible::Out;
 use job::Job;
 use kernel_code::read;
 use std::alloc::{AllocError, Allocator};
@@ -45,12 +46,9 @@ fn write_verdict<'a, A: Allocator + Copy, O: Out>(
     out: &mut O,
 ) -> Result<(), CommandFault<'a, A>>
     requires { (O.output out.old).failed < 2 ^ 64 - 1 }
-    ensures written { OnOk result (Appends (O.output out.old) (O.output out.new) (verdict_line steps bound)) }
-    ensures refused { IfErr result (IsLineUndone (verdict_line steps bound) (O.output out.old) (O.output out.new)) }
+    ensures { WritesLine (verdict_line steps bound) (O.output out.old) (O.output out.new) result }
 {
-    let line = verdict_line(alloc, steps, bound)?;
-    write_all(out, line.as_bytes())?;
-    Ok(())
+    write_line(verdict_line(alloc, steps, bound), out)
 }
 
 /// Writes what is known of the code of a job's slope. A refusal, of the job, its energy or that code, writes nothing, unless a write
@@ -61,8 +59,7 @@ pub(crate) fn slope_verdict_bytes<'a, A: Allocator + Copy, O: Out>(
     out: &mut O,
 ) -> Result<(), CommandFault<'a, A>>
     requires { (O.output out.old).failed < 2 ^ 64 - 1 }
-    ensures written { OnOk result (IsSlopeVerdict job.now (Appends (O.output out.old) (O.output out.new))) }
-    ensures refused { IfErr result (IsSlopeUndone job.now (O.output out.old) (O.output out.new)) }
+    ensures { WritesText (RefusesUnder job.now RefusesSlope) (IsSlopeVerdict job.now) (O.output out.old) (O.output out.new) result }
 {
     let known = slope_known(alloc, job)?;
     write_verdict(alloc, known.0, known.1, out)
@@ -91,8 +88,7 @@ pub(crate) fn listing_verdict_bytes<'a, A: Allocator + Copy, O: Out>(
     out: &mut O,
 ) -> Result<(), CommandFault<'a, A>>
     requires { (O.output out.old).failed < 2 ^ 64 - 1 }
-    ensures written { OnOk result (IsListingVerdict job.now listing.now (Appends (O.output out.old) (O.output out.new))) }
-    ensures refused { IfErr result (IsListingUndone job.now listing.now (O.output out.old) (O.output out.new)) }
+    ensures { WritesText (RefusesUnder job.now (RefusesListing listing.now)) (IsListingVerdict job.now listing.now) (O.output out.old) (O.output out.new) result }
 {
     let known = listing_known(alloc, job, listing)?;
     write_verdict(alloc, known.0, known.1, out)
@@ -123,13 +119,10 @@ pub(crate) fn energy_bytes<'a, A: Allocator + Copy, O: Out>(
     out: &mut O,
 ) -> Result<(), CommandFault<'a, A>>
     requires { (O.output out.old).failed < 2 ^ 64 - 1 }
-    ensures written { OnOk result (IsEnergyText job.now state.now (Appends (O.output out.old) (O.output out.new))) }
-    ensures refused { IfErr result (IsEnergyUndone job.now state.now (O.output out.old) (O.output out.new)) }
+    ensures { WritesText (RefusesEnergy job.now state.now) (IsEnergyText job.now state.now) (O.output out.old) (O.output out.new) result }
 {
     let energy = energy_known(alloc, job, state)?;
-    let line = energy_line(alloc, energy)?;
-    write_all(out, line.as_bytes())?;
-    Ok(())
+    write_line(energy_line(alloc, energy), out)
 }
 
 /// The energy of a state under a job, of their texts.

@@ -1,20 +1,22 @@
 -- no step was made where a file gave no bytes; where both did, what was printed is a run of them
-use Rattle.std.proofs.Common.{inr}
-use Rattle.std.proofs.lemmas.Result.{IfErr-weaker, on_ok_weaker}
+use Rattle.std.proofs.Common.{inl, inr, refl}
+use Rattle.std.proofs.lemmas.Result.{MatchResult-weaker}
+use Rattle.cli.proofs.PerformLaws.{handed_on}
 use Rattle.cli.proofs.ProgressLaws.{nothing_told_yet}
 use Rattle.cli.proofs.execution.perform_trajectory.Goals as goal
 
-pub returns-in_err-job-clause-told_some : goal.returns-in_err-job-clause-told_some
-returns-in_err-job-clause-told_some g c = nothing_told_yet c.from_residual.result _ _
+pub returns-in_err-job-clause-performs : goal.returns-in_err-job-clause-performs
+returns-in_err-job-clause-performs g c = handed_on c.from_residual.result _ _ _ c.from_residual.ensures.1 (inl (c.in_err-job.ensures, refl))
 
-pub returns-then-trajectory-clause-printed : goal.returns-then-trajectory-clause-printed
-returns-then-trajectory-clause-printed g c = on_ok_weaker c.trajectory_watched.result (λ wrote. (_, _, rw c.deref.ensures.value c.in_ok-job.ensures.gives.0, rw c.deref-then-trajectory.ensures.value c.in_ok-job.ensures.gives.1, wrote)) c.trajectory_watched.ensures.wrote
+pub returns-in_err-job-clause-tells : goal.returns-in_err-job-clause-tells
+returns-in_err-job-clause-tells g c = nothing_told_yet c.from_residual.result _ _ c.from_residual.ensures.0
 
-pub returns-clause-printed : goal.returns-clause-printed
-returns-clause-printed g c = on_ok_weaker c.trajectory_texts.result (λ wrote. (_, _, rw c.deref-else-trajectory.ensures.value c.in_ok-job.ensures.gives.0, rw c.deref-else-trajectory-2.ensures.value c.in_ok-job.ensures.gives.1, wrote)) c.trajectory_texts.ensures.wrote
+pub returns-clause-performs : goal.returns-clause-performs
+returns-clause-performs g c =
+    let read = c.in_ok-job.ensures in
+    MatchResult-weaker c.trajectory_texts.result c.trajectory_texts.ensures.writes
+    (λ x printed. (read.0, (_, _, rw c.deref.ensures.value read.1, rw c.deref-2.ensures.value read.2, printed)))
+    (λ f why. inr (read.0, (_, _, rw c.deref.ensures.value read.1, rw c.deref-2.ensures.value read.2, why)))
 
-pub returns-then-trajectory-clause-undone : goal.returns-then-trajectory-clause-undone
-returns-then-trajectory-clause-undone g c = IfErr-weaker c.trajectory_watched.result _ _ (λ f h. inr (c.in_ok-job.ensures.done, (_, _, rw c.deref.ensures.value c.in_ok-job.ensures.gives.0, rw c.deref-then-trajectory.ensures.value c.in_ok-job.ensures.gives.1, h))) c.trajectory_watched.ensures.refused
-
-pub returns-clause-undone : goal.returns-clause-undone
-returns-clause-undone g c = IfErr-weaker c.trajectory_texts.result _ _ (λ f h. inr (c.in_ok-job.ensures.done, (_, _, rw c.deref-else-trajectory.ensures.value c.in_ok-job.ensures.gives.0, rw c.deref-else-trajectory-2.ensures.value c.in_ok-job.ensures.gives.1, h))) c.trajectory_texts.ensures.refused
+pub returns-clause-tells : goal.returns-clause-tells
+returns-clause-tells g c = c.trajectory_texts.ensures.tells

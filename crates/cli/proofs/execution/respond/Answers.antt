@@ -1,22 +1,21 @@
-use Rattle.std.proofs.Common.{inl, inr, map, refl}
-use Rattle.std.proofs.lemmas.Result.{IfErr-weaker, on_ok_weaker}
-use Rattle.cli.proofs.ProgressLaws.{begun_by_words, on_ok_both, quiet_by_words}
+use Rattle.std.proofs.Common.{inl, map, refl}
+use Rattle.std.proofs.lemmas.Result.{IfErr-weaker}
+use Rattle.cli.proofs.PerformLaws.{done_by_words, undone_by_words}
+use Rattle.cli.proofs.ProgressLaws.{begun_by_words, quiet_by_words}
 use Rattle.cli.proofs.RefusalLaws.{unanswered}
 use Rattle.cli.proofs.execution.respond.Goals as goal
 
 pub returns-in-Ok-clause-done : goal.returns-in-Ok-clause-done
-returns-in-Ok-clause-done g c =
-    let both = on_ok_both c.perform.result _ _ c.perform.ensures.done c.perform.ensures.printed in
-    on_ok_weaker c.perform.result (λ h. inr (c.in-Ok.command, c.in-Ok.ensures.command, h.0, h.1)) both
+returns-in-Ok-clause-done g c = done_by_words c.perform.result _ _ _ _ c.in-Ok.command _ _ c.in-Ok.ensures.command c.perform.ensures.performs
 
 pub returns-in-Ok-clause-undone : goal.returns-in-Ok-clause-undone
-returns-in-Ok-clause-undone g c = IfErr-weaker c.perform.result _ _ (λ f h. inr (c.in-Ok.command, c.in-Ok.ensures.command, h)) c.perform.ensures.undone
+returns-in-Ok-clause-undone g c = undone_by_words c.perform.result _ _ _ _ c.in-Ok.command _ _ c.in-Ok.ensures.command c.perform.ensures.performs
 
 pub returns-in-Ok-clause-quiet : goal.returns-in-Ok-clause-quiet
-returns-in-Ok-clause-quiet g c = quiet_by_words c.perform.result _ c.in-Ok.command _ _ c.in-Ok.ensures.command c.perform.ensures.told
+returns-in-Ok-clause-quiet g c = quiet_by_words c.perform.result _ c.in-Ok.command _ _ c.in-Ok.ensures.command c.perform.ensures.tells
 
 pub returns-in-Ok-clause-begun : goal.returns-in-Ok-clause-begun
-returns-in-Ok-clause-begun g c = begun_by_words c.perform.result _ c.in-Ok.command _ _ c.in-Ok.ensures.command c.perform.ensures.told_some
+returns-in-Ok-clause-begun g c = begun_by_words c.perform.result _ c.in-Ok.command _ _ c.in-Ok.ensures.command c.perform.ensures.tells
 
 pub returns-in-Err-clause-undone : goal.returns-in-Err-clause-undone
 returns-in-Err-clause-undone g c =

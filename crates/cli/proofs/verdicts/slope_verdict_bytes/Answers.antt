@@ -1,15 +1,20 @@
 -- where the line was written, or a beginning of it, it is that of the kernel that was accepted
-use Rattle.std.proofs.lemmas.Result.{IfErr-weaker, on_ok_weaker}
-use Rattle.cli.proofs.RefusalLaws.{line_unwritten, slope_memory}
+use Rattle.std.proofs.Common.{inl, refl}
+use Rattle.cli.specs.Refusals.{RefusesSlope, RefusesUnder}
+use Rattle.cli.specs.Verdicts.{IsSlopeVerdict}
+use Rattle.cli.proofs.PerformLaws.{handed_on}
+use Rattle.cli.proofs.RefusalLaws.{line_written, slope_memory}
 use Rattle.cli.proofs.VerdictLaws.{slope_verdict}
 use Rattle.cli.proofs.verdicts.slope_verdict_bytes.Goals as goal
 
-pub returns-clause-written : goal.returns-clause-written
-returns-clause-written g c =
-    let is = c.in_ok-known.ensures.is in
-    on_ok_weaker c.write_verdict.result (λ written. slope_verdict _ is.0 is.1 is.2 is.3 is.4 is.5 _ _ is.6 is.7 _ written) c.write_verdict.ensures.written
+pub returns-in_err-known : goal.returns-in_err-known
+returns-in_err-known g c = handed_on c.from_residual.result _ _ _ c.from_residual.ensures.1 (inl (c.in_err-known.ensures.refused, refl))
 
-pub returns-clause-refused : goal.returns-clause-refused
-returns-clause-refused g c =
+pub returns : goal.returns
+returns g c =
+    let job = c.args.job.now in
     let is = c.in_ok-known.ensures.is in
-    IfErr-weaker c.write_verdict.result _ _ (λ f. line_unwritten _ _ _ _ _ f (slope_memory c.args.job.now f) (λ began. slope_verdict _ is.0 is.1 is.2 is.3 is.4 is.5 _ _ is.6 is.7 _ began)) c.write_verdict.ensures.refused
+    line_written c.write_verdict.result (RefusesUnder job RefusesSlope) (IsSlopeVerdict job) _ _ _ (slope_memory job)
+    (λ written. slope_verdict _ is.0 is.1 is.2 is.3 is.4 is.5 _ _ is.6 is.7 _ written)
+    (λ begun. slope_verdict _ is.0 is.1 is.2 is.3 is.4 is.5 _ _ is.6 is.7 _ begun)
+    c.write_verdict.ensures

@@ -1,0 +1,60 @@
+-- How commands end, by the calls that they end with.
+use Rattle.std.proofs.Common.{◌≡◌, ℕ, List, [], Option, None, inl, inr, refl, subst, sym}
+use Rattle.std.specs.Prelude.{IfErr, IfOk, OnOk, Result, Ok, Err}
+use Rattle.std.specs.Result.{IsErrAnd, MatchResult, result_map_both}
+use Rattle.command_line.specs.CommandLine.{IsCommand}
+use Rattle.command_line.specs.declared.commands.Command.{Command}
+use Rattle.fallible.specs.Out.{Appends, AppendsBeginning, Output, Writes}
+use Rattle.fallible.specs.declared.output.OutFault.{OutFault}
+use Rattle.cli.specs.Performed.{Performs, WritesText}
+use Rattle.cli.specs.Printed.{IsDone}
+use Rattle.cli.specs.Progress.{Tells}
+use Rattle.cli.specs.Refusals.{IsFaultOf}
+use Rattle.cli.specs.declared.faults.CommandFault.{CommandFault}
+use Rattle.cli.specs.declared.faults.CommandFault.TheVariants as fault
+
+-- ---- results that are handed on
+
+-- what holds of an error holds of the result that hands it on
+pub handed_on : {T E : Type 0} (r : Result T E) (f : E) (P : T → Type 0) (Q : E → Type 0) → IsErrAnd r (λ e. e ≡ f) → Q f → MatchResult r P Q
+handed_on (Ok x) f P Q is why = absurd is
+handed_on (Err e) f P Q is why = subst Q (sym is) why
+
+-- the same of a result whose error is told as another
+pub told_as : {T E F : Type 0} (r : Result T E) (s : Result T F) (told : E → F) (P : T → Type 0) (Q : F → Type 0)
+    → s ≡ result_map_both (λ x. x) told r → MatchResult r P (λ e. Q (told e)) → MatchResult s P Q
+told_as (Ok x) s told P Q is h = subst (λ t. MatchResult t P Q) (sym is) h
+told_as (Err e) s told P Q is h = subst (λ t. MatchResult t P Q) (sym is) h
+
+-- ---- texts
+
+-- the text that was made, if one was
+pub text_of : {S E : Type 0} (bytes : S → List ℕ) (r : Result S E) → (text : List ℕ) × IfOk r (λ s. bytes s ≡ text)
+text_of bytes (Ok s) = (bytes s, refl)
+text_of bytes (Err e) = ([], tt)
+
+-- a text went to an output: it is what was to be written
+pub text_written : {T A : Type 0} (wrote : Result T OutFault) (r : Result T (CommandFault A)) (Why : CommandFault A → Type 0) (HasText : (List ℕ → Type 0) → Type 0) (before after : Output) (text : List ℕ)
+    → r ≡ result_map_both (λ x. x) fault.Out wrote → Writes before after text wrote
+    → (Appends before after text → HasText (Appends before after)) → (AppendsBeginning before after text → HasText (AppendsBeginning before after)) → WritesText Why HasText before after r
+text_written (Ok x) r Why HasText before after text is writes whole began = subst (λ t. WritesText Why HasText before after t) (sym is) (whole writes)
+text_written (Err o) r Why HasText before after text is writes whole began = subst (λ t. WritesText Why HasText before after t) (sym is) (inr (o, refl, began writes))
+
+-- ---- commands
+
+-- a command that tells nothing leaves that output as it was
+pub tells_nothing : {T E : Type 0} (r : Result T E) (o : Output) → Tells None o o r
+tells_nothing (Ok x) o = refl
+tells_nothing (Err e) o = refl
+
+-- what a command has done is what its words ask for
+pub done_by_words : {T A : Type 0} (r : Result T (CommandFault A)) (words : List (List ℕ)) (held : List ℕ → Option (List ℕ)) (asked asked' : Option (List (List ℕ))) (c : Command) (before after : Output)
+    → IsCommand words c → Performs held asked asked' c before after r → OnOk r (IsDone words held asked asked' before after)
+done_by_words (Ok x) words held asked asked' c before after is performs = inr (c, is, performs.0, performs.1)
+done_by_words (Err f) words held asked asked' c before after is performs = tt
+
+-- why it was not done is why that was not
+pub undone_by_words : {T A : Type 0} (r : Result T (CommandFault A)) (words : List (List ℕ)) (held : List ℕ → Option (List ℕ)) (asked asked' : Option (List (List ℕ))) (c : Command) (before after : Output)
+    → IsCommand words c → Performs held asked asked' c before after r → IfErr r (IsFaultOf words held asked asked' before after)
+undone_by_words (Ok x) words held asked asked' c before after is performs = tt
+undone_by_words (Err f) words held asked asked' c before after is performs = inr (c, is, performs)

@@ -1,0 +1,37 @@
+-- How a command ends: by what it printed, or by its fault.
+use Rattle.std.specs.Prelude.{◌≡◌, ◌/◌, ℕ, suc, List, Option, Result}
+use Rattle.std.specs.Result.{MatchResult}
+use Rattle.command_line.specs.declared.commands.Command.{Command}
+use Rattle.command_line.specs.declared.commands.Run.{Run}
+use Rattle.command_line.specs.declared.commands.Trajectory.{Trajectory}
+use Rattle.engine.specs.Headline.{WroteLevesqueVerletRun}
+use Rattle.fallible.specs.Out.{Appends, Output}
+use Rattle.trajectory.specs.Trajectories.{IsFrameOfRun, WroteFrames}
+use Rattle.cli.specs.Printed.{HasPrinted}
+use Rattle.cli.specs.Reads.{asked_by}
+use Rattle.cli.specs.Refusals.{IsRunUndone, IsTextUnwritten, IsTrajectoryUndone, IsUndone}
+use Rattle.cli.specs.declared.faults.CommandFault.{CommandFault}
+use Rattle.cli.specs.declared.faults.CommandFault.TheVariants as fault
+
+-- a text was written; or this is why there was none to write; or a write failed, and a beginning of it went out
+abbrev pub WritesText : {T A : Type 0} → (CommandFault A → Type 0) → ((List ℕ → Type 0) → Type 0) → (before after : Output) → Result T (CommandFault A) → Type 0
+WritesText Why HasText before after result = MatchResult result (λ _. HasText (Appends before after)) (IsTextUnwritten Why HasText before after)
+
+-- the same of a text for which nothing but memory can be wanted
+abbrev pub WritesLine : {T A : Type 0} → List ℕ → (before after : Output) → Result T (CommandFault A) → Type 0
+WritesLine text before after result = WritesText (λ f. f ≡ fault.Memory) (λ Wrote. Wrote text) before after result
+
+-- the state was written that a run leads to; or this is why it was not
+abbrev pub WritesRun : {T A : Type 0} → (job state : List ℕ) → Run → (before after : Output) → Result T (CommandFault A) → Type 0
+WritesRun job state run before after result =
+    MatchResult result (λ _. WroteLevesqueVerletRun job state run.direction run.steps before after) (IsRunUndone job state run before after)
+
+-- the frames of a run were written; or this is why not all were
+abbrev pub WritesFrames : {T A : Type 0} → (job state : List ℕ) → Trajectory → (before after : Output) → Result T (CommandFault A) → Type 0
+WritesFrames job state t before after result =
+    MatchResult result (λ _. WroteFrames (IsFrameOfRun job state t.direction t.every) (suc (t.steps / t.every)) before after) (IsTrajectoryUndone job state t before after)
+
+-- a command was done: it asked for its files, and has printed what it is for; or this is why it was not
+abbrev pub Performs : {T A : Type 0} → (List ℕ → Option (List ℕ)) → (asked_before asked_after : Option (List (List ℕ))) → Command → (before after : Output) → Result T (CommandFault A) → Type 0
+Performs held asked_before asked_after c before after result =
+    MatchResult result (λ _. (asked_after ≡ asked_by asked_before c) × HasPrinted held c before after) (IsUndone held asked_before asked_after c before after)

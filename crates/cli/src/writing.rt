@@ -1,0 +1,20 @@
+//! Writing lines that were made.
+
+ghost use Rattle.std.specs.Prelude.{◌≡◌, ◌-◌, ◌<◌, ◌^◌, ℕ, List, IfOk, string_bytes};
+ghost use Rattle.cli.specs.Performed.{WritesLine};
+
+use crate::faults::{CommandFault, written};
+use fallible::{Out, write_all};
+use std::alloc::{AllocError, Allocator};
+
+/// Writes a text, if there was memory to make it.
+pub(crate) fn write_line<'a, A: Allocator, O: Out>(
+    line: Result<String<A>, AllocError>,
+    out: &mut O,
+) -> Result<(), CommandFault<'a, A>>
+    requires { (O.output out.old).failed < 2 ^ 64 - 1 }
+    ensures { (text : List ℕ) → IfOk line (λ s. string_bytes s ≡ text) → WritesLine text (O.output out.old) (O.output out.new) result }
+{
+    let line = line?;
+    written(write_all(out, line.as_bytes()))
+}
