@@ -21,17 +21,17 @@ returns-in_err-verified-clause-refused g c =
     let i = c.self.inside in
     rw (p.1, p.2, ← c.self.view_is) (c.in_err-verified.ensures.refused (engine_view i.job i.state i.motion.system) refl)
 
-pub energy-sum-requires-clause-table : goal.energy-sum-requires-clause-table
-energy-sum-requires-clause-table g c = c.in_ok-verified.ensures.table ∙ sym c.self.invariant.0.table
+pub energy-requires-clause-table : goal.energy-requires-clause-table
+energy-requires-clause-table g c = c.in_ok-verified.ensures.table ∙ sym c.self.invariant.0.table
 
-pub energy-sum-requires-clause-core : goal.energy-sum-requires-clause-core
-energy-sum-requires-clause-core g c = c.in_ok-verified.ensures.core ∙ sym c.self.invariant.0.core
+pub energy-requires-clause-core : goal.energy-requires-clause-core
+energy-requires-clause-core g c = c.in_ok-verified.ensures.core ∙ sym c.self.invariant.0.core
 
-pub energy-sum-requires-clause-cutoff : goal.energy-sum-requires-clause-cutoff
-energy-sum-requires-clause-cutoff g c = c.in_ok-verified.ensures.cutoff ∙ sym c.self.invariant.0.cutoff
+pub energy-requires-clause-cutoff : goal.energy-requires-clause-cutoff
+energy-requires-clause-cutoff g c = c.in_ok-verified.ensures.cutoff ∙ sym c.self.invariant.0.cutoff
 
-pub energy-sum-requires-clause-atoms : goal.energy-sum-requires-clause-atoms
-energy-sum-requires-clause-atoms g c = ap length c.deref.ensures.value ∙ c.self.invariant.0.atoms ∙ sym c.self.inside.motion.system.atoms
+pub energy-requires-clause-atoms : goal.energy-requires-clause-atoms
+energy-requires-clause-atoms g c = ap length c.deref.ensures.value ∙ c.self.invariant.0.atoms ∙ sym c.self.inside.motion.system.atoms
 
 pub returns-clause-value : goal.returns-clause-value
 returns-clause-value g c =
