@@ -23,7 +23,8 @@ use Rattle.integrator.specs.Starts.{are_alike, as_written, atom_types, no_type, 
 use Rattle.integrator.specs.States.{counter_after, counter_at, frames_of}
 use Rattle.integrator.specs.declared.direction.Direction.{Direction}
 use Rattle.integrator.proofs.Constructors.{ok_same, parts_same}
-use Rattle.integrator.proofs.ReturnLaws.{in_range_is, parts_of, start_from}
+use Rattle.fixed.proofs.IntegerLaws.{in_range_is}
+use Rattle.integrator.proofs.ReturnLaws.{parts_of, start_from}
 use Rattle.integrator.proofs.StartLaws.{started}
 use Rattle.engine.specs.Engines.{AreReadOnce, SaysOnly}
 use Rattle.engine.specs.Headline.{HasRoom, IsLevesqueVerletRun, box_of}

@@ -127,7 +127,7 @@ module _ (sums : List ℤ) (k amount bits : ℕ) (old result : ℤ) (lt : k < le
       ∙ (sum_signed sums k n (mod_below (cast_unsigned w64 old + amount) (2 ^ 64) (omega arith)) signed ∙ ap (set sums k) (sym stored))
 
 -- an addition of a pair goes to an entry of one of its atoms
-entry_inside : (atoms : ℕ) (p : PairAdd) (part : ℕ) (a : Addition) → IsPairOf atoms p → slice_get (additions_of (Some p)) part ≡ Some a → a.0 < 3 * atoms
+pub entry_inside : (atoms : ℕ) (p : PairAdd) (part : ℕ) (a : Addition) → IsPairOf atoms p → slice_get (additions_of (Some p)) part ≡ Some a → a.0 < 3 * atoms
 entry_inside atoms p zero a pair at = let e : 3 * p.low ≡ a.0 = cc at in omega (arith, pair.ordered, pair.inside)
 entry_inside atoms p (suc zero) a pair at = let e : 3 * p.low + 1 ≡ a.0 = cc at in omega (arith, pair.ordered, pair.inside)
 entry_inside atoms p (suc (suc zero)) a pair at = let e : 3 * p.low + 2 ≡ a.0 = cc at in omega (arith, pair.ordered, pair.inside)

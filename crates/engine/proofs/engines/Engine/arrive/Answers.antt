@@ -8,7 +8,7 @@ use Rattle.engine.specs.EngineViews.{engine_view}
 use Rattle.integrator.specs.Frames.{frames}
 use Rattle.integrator.specs.States.{counter_after, moved_state}
 use Rattle.integrator.proofs.Constructors.{none_is_no_some}
-use Rattle.integrator.proofs.ReturnLaws.{in_range_is}
+use Rattle.fixed.proofs.IntegerLaws.{in_range_is}
 use Rattle.engine.proofs.EngineLaws.{counter_reached, went_on}
 use Rattle.engine.proofs.engines.Engine.arrive.Goals as goal
 

@@ -7,7 +7,7 @@ use Rattle.engine.specs.Engines.{engine_dynamics}
 use Rattle.engine.specs.SafeKernels.{safe_dynamics}
 use Rattle.integrator.specs.Frames.{frames}
 use Rattle.integrator.specs.States.{frames_of}
-use Rattle.integrator.proofs.ReturnLaws.{in_range_is}
+use Rattle.fixed.proofs.IntegerLaws.{in_range_is}
 use Rattle.engine.proofs.EngineLaws.{unstarted}
 use Rattle.engine.proofs.CourseLaws.{turned_along}
 use Rattle.engine.proofs.engines.Engine.steps_pooled.Goals as goal
