@@ -8,6 +8,7 @@ use Rattle.energy_program.specs.Tree as trees
 use Rattle.energy_program.specs.Value.{value_of}
 use Rattle.energy_program.specs.declared.faults.ExprFault.{ExprFault}
 use Rattle.energy_program.specs.declared.programs.Program.{Program}
+use Rattle.job.specs.Values.{JobValue}
 use Rattle.job.specs.Views.{job_value}
 use Rattle.job.specs.declared.jobs.Job.{Job}
 use Rattle.kernel_code.specs.declared.instructions.Instr.{Instr}
@@ -60,12 +61,13 @@ engine_energy j s y frame z h e =
     ∙ e
 
 -- code that would be too large
-pub too_large : {A : Type 0} (e : EngineView) (p : Program A) (failure : Failure (ExprFault A)) → job_program e.job ≡ Ok (trees_of p) → Fails energy.refusal_of failure (compiled (bits_of e.job.frac) (trees_of p).0 (trees_of p).1) → IfRefused (refused_as fault.Energy failure) (HasNoEnergy e)
-too_large e p (Refused f) same h = record { program = trees_of p; its = same; it = h }
-too_large e p Memory same h = tt
+pub too_large : {A : Type 0} (j : JobValue) (e : EngineView) (p : Program A) (failure : Failure (ExprFault A)) → e.job ≡ j → job_program j ≡ Ok (trees_of p) → Fails energy.refusal_of failure (compiled (bits_of j.frac) (trees_of p).0 (trees_of p).1)
+    → IfRefused (refused_as fault.Energy failure) (HasNoEnergy e)
+too_large j e p (Refused f) of same h = record { program = trees_of p; its = rw of same; it = rw of h }
+too_large j e p Memory of same h = tt
 
 -- code that the verifier refuses
-pub not_accepted : {A : Type 0} (e : EngineView) (p : Program A) (code : List Instr) (failure : Failure KernelRefusal) → job_program e.job ≡ Ok (trees_of p) → compiled (bits_of e.job.frac) (trees_of p).0 (trees_of p).1 ≡ Ok code
-    → IfRefused failure (IsRefused e.job code) → IfRefused (refused_as {S = EnergyFault A} fault.Kernel failure) (HasNoEnergy e)
-not_accepted e p code (Refused r) same c h = record { program = trees_of p; its = same; it = record { code = code; is = c; why = h } }
-not_accepted e p code Memory same c h = tt
+pub not_accepted : {A : Type 0} (j : JobValue) (e : EngineView) (p : Program A) (code : List Instr) (failure : Failure KernelRefusal) → e.job ≡ j → job_program j ≡ Ok (trees_of p)
+    → compiled (bits_of j.frac) (trees_of p).0 (trees_of p).1 ≡ Ok code → IfRefused failure (IsRefused j code) → IfRefused (refused_as {S = EnergyFault A} fault.Kernel failure) (HasNoEnergy e)
+not_accepted j e p code (Refused r) of same c h = record { program = trees_of p; its = rw of same; it = record { code = code; is = rw of c; why = rw of h } }
+not_accepted j e p code Memory of same c h = tt

@@ -6,6 +6,7 @@ pub mod CourseLaws
 pub mod VerdictLaws
 pub mod EngineLaws
 pub mod OneAnswer
+pub mod UnwrittenLaws
 pub mod HeadlineSteps
 pub mod HeadlineTexts
 pub mod HeadlineLaws

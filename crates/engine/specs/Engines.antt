@@ -2,14 +2,14 @@
 use Rattle.std.specs.Prelude.{◌≡◌, ℕ, ◌-◌, ◌≤◌, ℤ, List, length, Some, None, Ok, Err}
 use Rattle.energy_program.specs.Tree.{Tree}
 use Rattle.fallible.specs.Failures.{IfRefused}
-use Rattle.fallible.specs.Out.{Output}
+use Rattle.fallible.specs.Out.{AppendsBeginning, Output}
 use Rattle.fallible.specs.declared.failure.Failure.TheVariants.{Memory}
 use Rattle.job.specs.Views as jobs
 use Rattle.job.specs.JobText.{HasNamesOnce, reading_of, limits}
 use Rattle.job.specs.Values.{JobValue}
 use Rattle.kernel_code.specs.declared.instructions.Instr.{Instr}
 use Rattle.state.specs.StateReading.{state_of}
-use Rattle.state.specs.StateText.{StateView}
+use Rattle.state.specs.StateText.{StateView, state_text}
 use Rattle.integrator.specs.Energies.{Energy, job_tree}
 use Rattle.integrator.specs.Frames.{Dynamics, Frames, steps_in}
 use Rattle.integrator.specs.Starts.{as_written, plain, start_of_run, step_range, system_of}
@@ -73,6 +73,17 @@ pub record Went (direction : Direction) (n : ℕ) (before after : EngineView) : 
 abbrev pub Stopped : Direction → ℕ → EngineView → EngineView → StepFault → Type 0
 Stopped direction n before after step.StepRange = (counter_after direction before.state.step n ≡ None) × (after ≡ before)
 Stopped direction n before after (step.Memory done) = (done ≤ n - 1) × Went direction done before after
+
+-- why n steps of an engine are not all made
+abbrev pub StopsEarly : Direction → ℕ → EngineView → StepFault → Type 0
+StopsEarly direction n e step.StepRange = counter_after direction e.state.step n ≡ None
+StopsEarly direction n e (step.Memory done) = done ≤ n - 1
+
+-- why the text of the state behind n steps is not written, and what the output is left with: where all steps were made, a beginning of the text
+abbrev pub IsStateUnwritten : {A : Type 0} → Direction → ℕ → (from to : EngineView) → (before after : Output) → RunFault A → Type 0
+IsStateUnwritten direction n from to before after (run.Open failure) = ⊥
+IsStateUnwritten direction n from to before after (run.Steps f) = StopsEarly direction n from f × (after ≡ before)
+IsStateUnwritten direction n from to before after (run.Out f) = Went direction n from to × AppendsBeginning before after (state_text to.state)
 
 -- ---- from bytes to bytes
 

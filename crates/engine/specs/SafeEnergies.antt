@@ -6,9 +6,10 @@ use Rattle.energy_program.specs.Value.{value_of}
 use Rattle.kernel_code.specs.Tables.{inputs_of}
 use Rattle.kernel_lanes.specs.Flats.{ask_at}
 use Rattle.kernel_lanes.specs.declared.asks.Ask.{Ask}
+use Rattle.integrator.specs.Forces.{pairs_of}
 use Rattle.integrator.specs.Frames.{Frame}
 use Rattle.integrator.specs.Kernels.{is_small}
-use Rattle.engine.specs.PairEnergies.{pair_energy}
+use Rattle.engine.specs.PairEnergies.{energy_sum, pair_energy}
 use Rattle.engine.specs.Rows.{ask_of}
 use Rattle.engine.specs.SafeKernels.{safe_dynamics}
 use Rattle.engine.specs.declared.rows.FoundPair.{FoundPair}
@@ -41,3 +42,7 @@ module _ {A : Type 0} (s : System (SafeKernel A) A) where
   -- the energy of a pair of a frame
   abbrev pub energy_between : Frame → ℕ × ℕ → ℤ
   energy_between frame p = unwrap_or (pair_energy (safe_dynamics s) safe_value frame p) (pos 0)
+
+  -- the energy of a frame, in 2^-bits kJ/mol
+  abbrev pub IsEnergyOf : Frame → ℤ → Type 0
+  IsEnergyOf frame z = energy_sum (pair_energy (safe_dynamics s) safe_value frame) (pairs_of (length frame)) ≡ Some z

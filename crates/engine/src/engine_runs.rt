@@ -2,7 +2,9 @@
 
 ghost use Rattle.std.specs.Prelude.{◌<◌, ◌≤◌, ◌-◌, ◌^◌, IfOk, OnOk, IfErr, ℕ, List};
 ghost use Rattle.fallible.specs.Failures.{IfRefused};
-ghost use Rattle.engine.specs.Engines.{AreSafe, HasNoEngineOfTexts, IsEngineOfTexts, IsRunUnwritten, Wants};
+ghost use Rattle.fallible.specs.Out.{Appends};
+ghost use Rattle.state.specs.StateText.{state_text};
+ghost use Rattle.engine.specs.Engines.{AreSafe, HasNoEngineOfTexts, IsEngineOfTexts, IsRunUnwritten, IsStateUnwritten, Wants, Went};
 ghost use Rattle.integrator.specs.Frames.{opposite};
 ghost use Rattle.integrator.specs.Runs.{IsRun, Wrote};
 ghost use Rattle.integrator.specs.Starts.{plain};
@@ -84,6 +86,24 @@ pub fn run_bytes<R: Threads + Sync, A: Allocator + Copy + Send + Sync, O: Out>(
     ensures returns { (text : List ℕ) → IsRun plain job.now state.now direction steps text → IsRun plain job.now text (opposite direction) steps state.now }
 {
     let mut engine = open(alloc, job, state)?;
+    run(rt, &mut engine, steps, direction, workers, out)
+}
+
+/// Makes n steps of an engine, and writes the state that it comes to.
+fn run<R: Threads + Sync, A: Allocator + Copy + Send + Sync, O: Out>(
+    rt: &R,
+    engine: &mut Engine<A>,
+    steps: u64,
+    direction: Direction,
+    workers: u32,
+    out: &mut O,
+) -> Result<(), RunFault<A>>
+    requires some { 0 < workers }
+    requires few { workers ≤ 64 }
+    requires count { (O.output out.old).failed < 2 ^ 64 - 1 }
+    ensures wrote { OnOk result (Went direction steps engine.old engine.new × Appends (O.output out.old) (O.output out.new) (state_text engine.new.state)) }
+    ensures unwritten { IfErr result (IsStateUnwritten direction steps engine.old engine.new (O.output out.old) (O.output out.new)) }
+{
     engine.make_steps(rt, direction, steps, workers)?;
     engine.state().write(out)?;
     Ok(())

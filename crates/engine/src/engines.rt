@@ -17,20 +17,17 @@ ghost use Rattle.integrator.specs.States.{counter_after, frames_of};
 ghost use Rattle.integrator.specs.declared.direction.Direction.TheVariants.{Back, Forward};
 
 use crate::faults::{EnergyFault, EngineFault};
-use crate::frame_steps::at_start;
 use crate::frame_sums::{Desk, Tiling};
 use crate::pools::{Crew, NoGate, Pool};
-use crate::rows::{Scratch, scratches};
-use crate::safe_energies::SafeEnergy;
+use crate::rows::Scratch;
 use crate::safe_kernels::SafeKernel;
 use crate::safe_systems::SafeSystem;
-use crate::verdicts::{safe_kernel, verdict};
+use crate::verdicts::{safe_kernel, verified_energy};
 use fallible::Failure;
 use integrator::{
-    Direction, StepFault, Stepped, System, TypedAtoms, advance, counter_after, current_frame, ready,
+    Direction, StepFault, Stepped, System, TypedAtoms, advance, counter_after, ready,
 };
 use job::Job;
-use kernel_compiler::compile;
 use state::State;
 use std::alloc::Allocator;
 use std::marker::Model;
@@ -171,14 +168,6 @@ impl<A: Allocator + Copy> Engine<A> {
         self.job.time_step
     }
 
-    /// That state, of an engine that isn't wanted any more.
-    pub fn into_state(self) -> State<A>
-        ensures { state_view result ≡ self.state }
-    {
-        let Engine { state, .. } = self;
-        state
-    }
-
     /// The energy of the current frame in 2^-bits kJ/mol: the exact sum, over all pairs of atoms that act, of the job's
     /// energy at their distance, or at the core where that is more; also where both are at one place.
     ///
@@ -189,17 +178,8 @@ impl<A: Allocator + Copy> Engine<A> {
         ensures refused { IfErr result (λ failure. IfRefused failure (HasNoEnergy self.now)) }
     {
         let program = &self.motion.system.kernel.energy;
-        let code = match compile(self.alloc, self.job.frac, program) {
-            Ok(code) => code,
-            Err(failure) => return Err(EnergyFault::of_energy(failure)),
-        };
-        let verified = match verdict(self.alloc, &self.job, code) {
-            Ok(verified) => verified,
-            Err(failure) => return Err(EnergyFault::of_kernel(failure)),
-        };
-        let energy = SafeEnergy::new(self.alloc, &self.motion, verified)?;
-        let frame = current_frame(self.alloc, &self.state.atoms)?;
-        let sum = energy.of_frame(self.alloc, &frame)?;
+        let verified = verified_energy(self.alloc, &self.job, program)?;
+        let sum = self.motion.energy(self.alloc, verified, &self.state.atoms)?;
         Ok(sum)
     }
 
@@ -236,11 +216,10 @@ impl<A: Allocator + Copy> Engine<A> {
     {
         let kept = self.tiling.take();
         let alloc = self.alloc;
-        let (mut course, tiling) = self
+        let scratch = Scratch::new(alloc);
+        let (mut course, mut desk) = self
             .motion
-            .course(alloc, direction, &self.state, steps, kept)?;
-        let scratch = at_start(Scratch::new(alloc))?;
-        let mut desk = Desk { tiling, scratch };
+            .course(alloc, direction, &self.state, steps, kept, scratch)?;
         let done = course.steps_alone(alloc, steps, &mut desk);
         let stepped = course.stepped(direction);
         let Desk { tiling, .. } = desk;
@@ -290,14 +269,10 @@ impl<A: Allocator + Copy + Send + Sync> Engine<A> {
     {
         let kept = self.tiling.take();
         let alloc = self.alloc;
-        let (mut course, tiling) = self
+        let crew = Crew::new(alloc, workers);
+        let (mut course, mut desk) = self
             .motion
-            .course(alloc, direction, &self.state, steps, kept)?;
-        let scratches = at_start(scratches(alloc, workers))?;
-        let mut desk = Desk {
-            tiling,
-            scratch: Crew { scratches },
-        };
+            .course(alloc, direction, &self.state, steps, kept, crew)?;
         let pool = Pool { rt, gate };
         let done = course.steps_pooled(alloc, &pool, steps, &mut desk);
         let stepped = course.stepped(direction);

@@ -1,9 +1,8 @@
 //! Steps of a system whose slope is accepted: only a refused allocation stops them.
 
-ghost use Rattle.std.specs.Prelude.{◌≡◌, ◌+◌, ◌*◌, ◌<◌, ◌^◌, length, Ok, IfOk, IfErr};
+ghost use Rattle.std.specs.Prelude.{◌≡◌, ◌+◌, ◌*◌, ◌<◌, ◌^◌, length};
 ghost use Rattle.ring_box.specs.Forces.{IsWithin};
 ghost use Rattle.engine.specs.Rounds.{forces_in};
-ghost use Rattle.integrator.specs.declared.faults.StepFault.TheVariants as fault;
 
 use crate::frame_sums::{Desk, Tiling};
 use crate::pools::{Crew, Pool};
@@ -53,17 +52,6 @@ fn force_in(sums: &[i64], atom: usize) -> Force<i64>
         x: sums[3 * atom],
         y: sums[3 * atom + 1],
         z: sums[3 * atom + 2],
-    }
-}
-
-/// An allocation before the first step: `Memory` after 0 steps where it was refused.
-pub(crate) fn at_start<T: Drop>(made: Result<T, AllocError>) -> Result<T, StepFault>
-    ensures ok { IfOk result (λ wanted. made ≡ Ok wanted) }
-    ensures refused { IfErr result (λ e. e ≡ fault.Memory 0) }
-{
-    match made {
-        Ok(wanted) => Ok(wanted),
-        Err(_) => Err(StepFault::Memory { done: 0 }),
     }
 }
 
@@ -127,30 +115,52 @@ impl<A: Allocator + Copy> SafeSystem<A> {
         }
     }
 
-    /// The two frames from which `steps` steps in a direction start, and the cells, kept or new: `StepRange` where the counter would leave an i64,
-    /// `Memory` after 0 steps where an allocation is refused.
-    pub(crate) fn course(
+    /// The same, and a desk, with cells that are kept or new.
+    fn started<S: Drop>(
+        &self,
+        alloc: A,
+        direction: Direction,
+        state: &State<A>,
+        kept: Option<Tiling<A>>,
+        scratch: Result<S, AllocError>,
+    ) -> Result<(Course<'_, A>, Desk<A, S>), AllocError>
+        requires atoms { length state.now.atoms.items ≡ length self.now.system.masses.items }
+        requires kept { IfSome kept (IsTilingOf self.now.system) }
+        ensures motion { IfOk result (λ p. p.0.motion.now ≡ self.now) }
+        ensures frames { IfOk result (λ p. frames_along direction p.0.before.items p.0.middle.items ≡ frames_of (state_view state.now)) }
+        ensures tiling { IfOk result (λ p. IsTilingOf self.now.system p.1.tiling) }
+    {
+        let desk = self.desk(alloc, kept, scratch)?;
+        let course = self.frames(alloc, direction, state)?;
+        Ok((course, desk))
+    }
+
+    /// The two frames from which `steps` steps in a direction start, and a desk with this scratch, its cells kept or new: `StepRange` where the
+    /// counter would leave an i64, `Memory` after 0 steps where an allocation is refused, or was for the scratch.
+    pub(crate) fn course<S: Drop>(
         &self,
         alloc: A,
         direction: Direction,
         state: &State<A>,
         steps: u64,
         kept: Option<Tiling<A>>,
-    ) -> Result<(Course<'_, A>, Tiling<A>), StepFault>
+        scratch: Result<S, AllocError>,
+    ) -> Result<(Course<'_, A>, Desk<A, S>), StepFault>
         requires atoms { length state.now.atoms.items ≡ length self.now.system.masses.items }
         requires kept { IfSome kept (IsTilingOf self.now.system) }
         ensures motion { IfOk result (λ p. p.0.motion.now ≡ self.now) }
         ensures frames { IfOk result (λ p. frames_along direction p.0.before.items p.0.middle.items ≡ frames_of (state_view state.now)) }
-        ensures tiling { IfOk result (λ p. IsTilingOf self.now.system p.1) }
+        ensures tiling { IfOk result (λ p. IsTilingOf self.now.system p.1.tiling) }
         ensures fits { IfOk result (λ _. is_none (counter_after direction state.now.step steps) ≡ false) }
         ensures refused { IfErr result (IsUnstarted direction steps state.now.step) }
     {
         if counter_after(direction, state, steps).is_none() {
             return Err(StepFault::StepRange);
         }
-        let course = at_start(self.frames(alloc, direction, state))?;
-        let tiling = at_start(self.kept_tiling(alloc, kept))?;
-        Ok((course, tiling))
+        match self.started(alloc, direction, state, kept, scratch) {
+            Ok(start) => Ok(start),
+            Err(_) => Err(StepFault::Memory { done: 0 }),
+        }
     }
 }
 

@@ -37,7 +37,7 @@ impl<A: Allocator + Copy> SafeSystem<A> {
     ghost use Rattle.engine.specs.Tilings.{IsTilingOf};
 
     /// The cells of the system's box and their tiles.
-    pub(crate) fn tiling(&self, alloc: A) -> Result<Tiling<A>, AllocError>
+    fn tiling(&self, alloc: A) -> Result<Tiling<A>, AllocError>
         ensures { IfOk result (IsTilingOf self.now.system) }
     {
         let system = &self.system;
@@ -48,11 +48,7 @@ impl<A: Allocator + Copy> SafeSystem<A> {
     }
 
     /// The same, or those that are kept.
-    pub(crate) fn kept_tiling(
-        &self,
-        alloc: A,
-        kept: Option<Tiling<A>>,
-    ) -> Result<Tiling<A>, AllocError>
+    fn kept_tiling(&self, alloc: A, kept: Option<Tiling<A>>) -> Result<Tiling<A>, AllocError>
         requires { IfSome kept (IsTilingOf self.now.system) }
         ensures { IfOk result (IsTilingOf self.now.system) }
     {
@@ -60,6 +56,21 @@ impl<A: Allocator + Copy> SafeSystem<A> {
             Some(tiling) => Ok(tiling),
             None => self.tiling(alloc),
         }
+    }
+
+    /// A desk with this scratch. `AllocError` only where memory is refused, or was for the scratch.
+    pub(crate) fn desk<S: Drop>(
+        &self,
+        alloc: A,
+        kept: Option<Tiling<A>>,
+        scratch: Result<S, AllocError>,
+    ) -> Result<Desk<A, S>, AllocError>
+        requires { IfSome kept (IsTilingOf self.now.system) }
+        ensures { IfOk result (λ desk. IsTilingOf self.now.system desk.tiling) }
+    {
+        let scratch = scratch?;
+        let tiling = self.kept_tiling(alloc, kept)?;
+        Ok(Desk { tiling, scratch })
     }
 
     /// Puts the atoms of a frame into their cells.

@@ -7,7 +7,7 @@ ghost use Rattle.engine.specs.Rounds.{plan_of};
 
 use crate::frame_works::FrameWork;
 use crate::rows::Scratch;
-use std::alloc::Allocator;
+use std::alloc::{AllocError, Allocator};
 use std::thread::Threads;
 use tile_pool::{Forces, Gate, forces};
 use tile_round::{Memory, Work};
@@ -26,6 +26,20 @@ pub(crate) struct Crew<A: Allocator> {
     pub scratches: Vec<Scratch<A>, A>,
     pub ghost some: { 0 < length scratches.items },
     pub ghost few: { length scratches.items ≤ 64 },
+}
+
+impl<A: Allocator + Copy> Crew<A> {
+    /// Scratch for this many workers. `AllocError` only where memory is refused.
+    pub(crate) fn new(alloc: A, workers: u32) -> Result<Crew<A>, AllocError>
+        requires some { 0 < workers }
+        requires few { workers ≤ 64 }
+    {
+        let mut scratches = Vec::with_capacity(alloc, workers as usize)?;
+        for _ in 0..workers {
+            scratches.push(Scratch::new(alloc)?)?;
+        }
+        Ok(Crew { scratches })
+    }
 }
 
 /// The runtime that starts workers, of which the first is the caller's thread, and the gate that each passes before each tile that it has drawn.

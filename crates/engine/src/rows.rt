@@ -1,6 +1,6 @@
 //! Pairs that act, in rows of at most 64.
 
-ghost use Rattle.std.specs.Prelude.{◌≡◌, ◌<◌, ◌^◌, length, neg_ℤ, unsigned_abs, IfOk};
+ghost use Rattle.std.specs.Prelude.{◌≡◌, ◌<◌, ◌^◌, neg_ℤ, unsigned_abs};
 ghost use Rattle.ring_box.specs.Acting.{force_of};
 
 use arrayvec::ArrayVec;
@@ -71,18 +71,4 @@ impl<A: Allocator + Copy> Scratch<A> {
             paths,
         })
     }
-}
-
-/// One for each of `count` workers. `AllocError` only where memory is refused.
-pub(crate) fn scratches<A: Allocator + Copy>(
-    alloc: A,
-    count: u32,
-) -> Result<Vec<Scratch<A>, A>, AllocError>
-    ensures { IfOk result (λ scratches. length scratches.items ≡ count) }
-{
-    let mut scratches = Vec::with_capacity(alloc, count as usize)?;
-    for _ in 0..count {
-        scratches.push(Scratch::new(alloc)?)?;
-    }
-    Ok(scratches)
 }

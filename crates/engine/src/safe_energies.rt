@@ -11,22 +11,25 @@ ghost use Rattle.kernel_lanes.specs.FreeValues.{AreFreeValues};
 ghost use Rattle.engine.specs.EnergySums.{sum_over};
 ghost use Rattle.engine.specs.SafeEnergies.{HasEnergies};
 
+use crate::frame_sums::Desk;
 use crate::frame_works::FrameWork;
 use crate::rows::Scratch;
 use crate::safe_kernels::LaneCode;
 use crate::safe_systems::SafeSystem;
 use crate::verdicts::lane_code;
 use fixed::Fx;
+use integrator::current_frame;
 use kernel_lanes::{Ask, Rows, run_lanes};
 use lane_paths::{PathRows, run_paths};
 use ring_box::Place3;
+use state::Atom;
 use std::alloc::{AllocError, Allocator};
 use tile_round::Work;
 use verifier::Verified;
 
 /// The accepted code of the energy of a system, whose slope it is that moves the system's atoms; made ready for lanes, if it's flat.
 #[derive(Drop)]
-pub(crate) struct SafeEnergy<'a, A: Allocator> {
+struct SafeEnergy<'a, A: Allocator> {
     pub motion: &'a SafeSystem<A>,
     pub verified: Verified<A>,
     pub lanes: Option<LaneCode<A>>,
@@ -78,7 +81,7 @@ impl<'a, A: Allocator + Copy> SafeEnergy<'a, A> {
     ghost use Rattle.kernel_code.specs.Tables.{inputs_of};
 
     /// The energy of a system by accepted code of it, made ready for runs. `AllocError` only where memory is refused.
-    pub(crate) fn new(
+    fn new(
         alloc: A,
         motion: &'a SafeSystem<A>,
         verified: Verified<A>,
@@ -198,15 +201,16 @@ impl<'a, A: Allocator> SafeEnergy<'a, A> {
 // ---- by tiles
 
 impl<'a, A: Allocator + Copy> SafeEnergy<'a, A> {
-    ghost use Rattle.std.specs.Prelude.{◌≡◌, ◌<◌, ◌≤◌, ◌^◌, length, sum_by, unsigned_abs, Some, IfOk};
+    ghost use Rattle.std.specs.Prelude.{◌≡◌, ◌<◌, ◌≤◌, ◌^◌, length, map, sum_by, unsigned_abs, Some, IfOk};
     ghost use Rattle.ring_box.specs.Cells.{NearAreNeighbours};
     ghost use Rattle.integrator.specs.Forces.{pairs_of};
     ghost use Rattle.engine.specs.EnergySums.{sum_over};
     ghost use Rattle.engine.specs.PairEnergies.{energy_sum, pair_energy};
     ghost use Rattle.engine.specs.Rounds.{grid_of, plan_of};
     ghost use Rattle.engine.specs.Rows.{tile_at};
-    ghost use Rattle.engine.specs.SafeEnergies.{energy_between, safe_value};
+    ghost use Rattle.engine.specs.SafeEnergies.{IsEnergyOf, energy_between, safe_value};
     ghost use Rattle.engine.specs.SafeKernels.{safe_dynamics};
+    ghost use Rattle.engine.specs.Tilings.{IsTilingOf};
 
     /// The energy of the pairs of a tile.
     fn of_tile<B: Allocator>(
@@ -243,15 +247,61 @@ impl<'a, A: Allocator + Copy> SafeEnergy<'a, A> {
         sum
     }
 
-    /// The energy of the frame, in 2^-bits kJ/mol. `AllocError` only where memory is refused.
-    pub(crate) fn of_frame(&self, alloc: A, frame: &[Place3]) -> Result<i128, AllocError>
-        requires { length frame.now ≡ length self.now.motion.now.system.types.items }
-        ensures { IfOk result (λ energy. energy_sum (pair_energy (safe_dynamics self.now.motion.now.system) (safe_value self.now.motion.now.system) frame.now) (pairs_of (length frame.now)) ≡ Some energy) }
+    /// The energy of a frame, with what stands on a desk. `AllocError` only where memory is refused.
+    fn at_desk<B: Allocator>(
+        &self,
+        desk: &mut Desk<A, Scratch<B>>,
+        frame: &[Place3],
+    ) -> Result<i128, AllocError>
+        requires atoms { length frame.now ≡ length self.now.motion.now.system.types.items }
+        requires tiling { IsTilingOf self.now.motion.now.system desk.old.tiling }
+        ensures { IfOk result (IsEnergyOf self.now.motion.now.system frame.now) }
     {
-        let mut tiling = self.motion.tiling(alloc)?;
-        let mut scratch = Scratch::new(alloc)?;
-        self.motion.fill(&mut tiling, frame)?;
-        let work = self.motion.work(&tiling, frame);
-        Ok(self.of_tiles(&work, &mut scratch))
+        self.motion.fill(&mut desk.tiling, frame)?;
+        let work = self.motion.work(&desk.tiling, frame);
+        Ok(self.of_tiles(&work, &mut desk.scratch))
+    }
+
+    /// The energy of a frame, in 2^-bits kJ/mol. `AllocError` only where memory is refused.
+    fn of_frame(&self, alloc: A, frame: &[Place3]) -> Result<i128, AllocError>
+        requires { length frame.now ≡ length self.now.motion.now.system.types.items }
+        ensures { IfOk result (IsEnergyOf self.now.motion.now.system frame.now) }
+    {
+        let mut desk = self.motion.desk(alloc, None, Scratch::new(alloc))?;
+        self.at_desk(&mut desk, frame)
+    }
+
+    /// The energy of the current frame of these atoms, likewise.
+    fn of_atoms(&self, alloc: A, atoms: &[Atom]) -> Result<i128, AllocError>
+        requires { length atoms.now ≡ length self.now.motion.now.system.types.items }
+        ensures { IfOk result (IsEnergyOf self.now.motion.now.system (map (λ a. a.current) atoms.now)) }
+    {
+        let frame = current_frame(alloc, atoms)?;
+        self.of_frame(alloc, &frame)
+    }
+}
+
+impl<A: Allocator + Copy> SafeSystem<A> {
+    ghost use Rattle.std.specs.Prelude.{◌≡◌, length, map, IfOk};
+    ghost use Rattle.energy_program.specs.Programs.{program_tree};
+    ghost use Rattle.engine.specs.SafeEnergies.{IsEnergyOf};
+    ghost use Rattle.engine.specs.Verdicts.{GivesEnergy};
+
+    /// The energy of the current frame of these atoms, by accepted code of it, in 2^-bits kJ/mol. `AllocError` only where memory is refused.
+    pub(crate) fn energy(
+        &self,
+        alloc: A,
+        verified: Verified<A>,
+        atoms: &[Atom],
+    ) -> Result<i128, AllocError>
+        requires table { verified.table ≡ self.now.system.kernel.verified.table }
+        requires core { verified.core ≡ self.now.system.core }
+        requires cutoff { verified.cutoff ≡ self.now.system.cutoff }
+        requires gives { GivesEnergy (program_tree self.now.system.kernel.energy) verified }
+        requires atoms { length atoms.now ≡ length self.now.system.types.items }
+        ensures { IfOk result (IsEnergyOf self.now.system (map (λ a. a.current) atoms.now)) }
+    {
+        let energy = SafeEnergy::new(alloc, self, verified)?;
+        energy.of_atoms(alloc, atoms)
     }
 }

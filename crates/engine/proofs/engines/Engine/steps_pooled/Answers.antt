@@ -1,4 +1,4 @@
-use Rattle.std.proofs.Common.{◌∙◌, ap, refl, rules, subst, sym, w64}
+use Rattle.std.proofs.Common.{◌∙◌, ap, rules, w64}
 use mir.Val.{SFits}
 use Rattle.std.proofs.lemmas.Result.{err_from_is_err_and}
 use Rattle.state.specs.StateViews.{state_view}
@@ -8,7 +8,6 @@ use Rattle.engine.specs.SafeKernels.{safe_dynamics}
 use Rattle.integrator.specs.Frames.{frames}
 use Rattle.integrator.specs.States.{frames_of}
 use Rattle.integrator.proofs.ReturnLaws.{in_range_is}
-use Rattle.engine.specs.Courses.{IsUnstarted}
 use Rattle.engine.proofs.EngineLaws.{unstarted}
 use Rattle.engine.proofs.CourseLaws.{turned_along}
 use Rattle.engine.proofs.engines.Engine.steps_pooled.Goals as goal
@@ -30,15 +29,6 @@ arrive-requires-clause-stepped g c =
     turned_along c.args.direction (safe_dynamics from.motion.now.system) (engine_dynamics (engine_view i.job i.state i.motion.system)) c.steps_pooled-done.result
     from.before.items from.middle.items to.before.items to.middle.items (frames_of (state_view i.state)) (frames stepped.previous.items stepped.current.items)
     (ap (λ m. safe_dynamics m.system) c.in_ok-course.ensures.motion ∙ c.self.invariant.0.dynamics) c.in_ok-course.ensures.frames c.stepped-stepped.ensures.frames c.steps_pooled-done.ensures.gone.stepped
-
-pub returns-in_err-scratches-clause-stopped : goal.returns-in_err-scratches-clause-stopped
-returns-in_err-scratches-clause-stopped g c =
-    let p = err_from_is_err_and c.from_residual-in_err-scratches.result c.from_residual-in_err-scratches.ensures.1 in
-    let i = c.self.inside in
-    let signed : SFits w64 i.state.step = search rules in
-    rw (p.1, p.2, ← c.self.view_is)
-    (unstarted c.args.direction c.args.steps (engine_view i.job i.state i.motion.system) c.in_err-scratches.field-0.0 (in_range_is i.state.step signed.sfits)
-    (subst (IsUnstarted c.args.direction c.args.steps i.state.step) (sym c.in_err-scratches.ensures.refused) refl))
 
 pub returns-clause-went : goal.returns-clause-went
 returns-clause-went g c = rw (← c.self.view_is) c.arrive.ensures.went
