@@ -12,8 +12,10 @@ use Rattle.integrator.specs.States.{counter_after, counter_at}
 use Rattle.integrator.specs.declared.direction.Direction.{Direction}
 use Rattle.integrator.specs.declared.direction.Direction.TheVariants.{Back, Forward}
 use Rattle.integrator.specs.declared.faults.StepFault.TheVariants as step
-use Rattle.engine.specs.Engines.{AreStopped, EngineView, IsEngineOfTexts, IsRunUnwritten, Wants, Went}
-use Rattle.trajectory.specs.Trajectories.{AreFramesUnwritten, AreJoined, BeganFrames, Halts, IsFrameOfRun, IsFrameOnWay, IsFrameUnwritten, IsStopped, LeftBeginning, LeftWhole, WroteFrame, WroteFrames, run_fault_of}
+use Rattle.engine.specs.Engines.{EngineView, IsEngineOfTexts, IsStateUnwritten, Went}
+use Rattle.engine.specs.declared.faults.RunFault.{RunFault}
+use Rattle.engine.specs.declared.faults.RunFault.TheVariants as run
+use Rattle.trajectory.specs.Trajectories.{AreFramesUnwritten, AreJoined, BeganFrames, Halts, IsFrameOfRun, IsFrameOnWay, IsFrameUnwritten, IsStopped, IsWayUnwritten, LeftBeginning, LeftWhole, WroteFrame, WroteFrames, run_fault_of}
 use Rattle.trajectory.specs.declared.halts.Halt.{Halt}
 use Rattle.trajectory.specs.declared.halts.Halt.TheVariants as halt
 use Rattle.std.proofs.Math.Nat.{mul-le-mul_right}
@@ -136,12 +138,12 @@ pub fits_now : (w : Direction) (z : ℤ) → is_none (counter_after w z 0) ≡ f
 fits_now w z h = subst (λ (x : ℤ). in_range x ≡ true) (no_way w z) (some_in (in_range (counter_at w z 0)) (counter_at w z 0) h)
 
 -- the counter of an engine of texts
-engine_in_range : (job state : List ℕ) (e : EngineView) → IsEngineOfTexts job state e → in_range e.state.step ≡ true
+pub engine_in_range : (job state : List ℕ) (e : EngineView) → IsEngineOfTexts job state e → in_range e.state.step ≡ true
 engine_in_range job state e t = rw t.it.is (in_range_is t.s.step ((one_text state t.s).0 t.state_read).0.step)
 
 -- where it fits after all steps it does after some of them
-pub engine_fits : (job state : List ℕ) (e : EngineView) (w : Direction) (k n : ℕ) → IsEngineOfTexts job state e → k ≤ n → is_none (counter_after w e.state.step n) ≡ false → is_none (counter_after w e.state.step k) ≡ false
-engine_fits job state e w k n t few h = ap is_none (counter_reached w e.state.step k n (engine_in_range job state e t) few h)
+pub fits_among : (w : Direction) (z : ℤ) (k n : ℕ) → in_range z ≡ true → k ≤ n → is_none (counter_after w z n) ≡ false → is_none (counter_after w z k) ≡ false
+fits_among w z k n range few h = ap is_none (counter_reached w z k n range few h)
 
 -- ---- from frame to frame
 
@@ -196,23 +198,22 @@ frame_of_texts job state w every e t number text h =
     let job : e.job ≡ t.j = ap (λ (v : EngineView). v.job) t.it.is in
     record { said = e.job; after = h.reached.state; job_read = t.job_read ∙ ap Ok (sym job); run = engine_ran _ state w (number * every) e h.reached t h.went; shown = h.shown }
 
--- the output after a halt of the frames of an engine of texts, as one of the frames of the texts
-pub frames_unwritten : (A : Type 0) (job state : List ℕ) (w : Direction) (steps every : ℕ) (e : EngineView) (before after : Output) (h : Halt) → IsEngineOfTexts job state e
-    → Halts (IsFrameOnWay w every e) every (steps / every) before after h → AreFramesUnwritten job state w steps every before after (run_fault_of {A = A} h)
-frames_unwritten A job state w steps every e before after (halt.Memory done) t left =
+-- what keeps the frames of an engine of texts from being written keeps those of the texts
+pub frames_unwritten : {A : Type 0} (job state : List ℕ) (w : Direction) (steps every : ℕ) (e : EngineView) (before after : Output) → IsEngineOfTexts job state e → (fault : RunFault A)
+    → IsWayUnwritten w steps every e before after fault → AreFramesUnwritten job state w steps every before after fault
+frames_unwritten job state w steps every e before after t (run.Open failure) h = absurd h
+frames_unwritten job state w steps every e before after t (run.Steps step.StepRange) h = (engine_stops job state w steps e e step.StepRange t (h.0, refl), h.1)
+frames_unwritten job state w steps every e before after t (run.Steps (step.Memory done)) left =
     (safe_texts job state e t, left_whole_map (IsFrameOnWay w every e) (IsFrameOfRun job state w every) every (steps / every) done before after (frame_of_texts job state w every e t) left)
-frames_unwritten A job state w steps every e before after (halt.Out f) t left =
+frames_unwritten job state w steps every e before after t (run.Out f) left =
     (safe_texts job state e t, left_beginning_map (IsFrameOnWay w every e) (IsFrameOfRun job state w every) (steps / every) before after (frame_of_texts job state w every e t) left)
 
--- a counter that would leave 64 bits stops the steps of texts
-pub out_of_range : (job state : List ℕ) (w : Direction) (steps : ℕ) (e : EngineView) (o : Option ℤ) → IsEngineOfTexts job state e → o ≡ counter_after w e.state.step steps → is_none o ≡ true → AreStopped job state w steps step.StepRange
-out_of_range job state w steps e o t counted none = engine_stops job state w steps e e step.StepRange t (sym counted ∙ none_is o none, refl)
+-- a halt of the frames on the way of an engine
+pub way_unwritten : (A : Type 0) (w : Direction) (steps every : ℕ) (e : EngineView) (before after : Output) (h : Halt) → Halts (IsFrameOnWay w every e) every (steps / every) before after h
+    → IsWayUnwritten w steps every e before after (run_fault_of {A = A} h)
+way_unwritten A w steps every e before after (halt.Memory done) left = left
+way_unwritten A w steps every e before after (halt.Out f) left = left
 
--- an allocation refused in the steps of a run from texts
-pub steps_stopped : (A : Type 0) (job state : List ℕ) (w : Direction) (steps : ℕ) (e : EngineView) (before after : Output) (h : Halt) → IsEngineOfTexts job state e → IsStopped 0 steps h → after ≡ before
-    → IsRunUnwritten job state w steps before after (run_fault_of {A = A} h)
-steps_stopped A job state w steps e before after h t stopped kept = rw stopped.is ((omega (arith, stopped.few), safe_texts job state e t), kept)
-
--- a run that was stopped in its steps, for lack of memory, answers that memory ran out
-pub stopped_wants : (A : Type 0) (steps : ℕ) (h : Halt) → IsStopped 0 steps h → Wants (run_fault_of {A = A} h)
-stopped_wants A steps h stopped = rw stopped.is (0 + stopped.more, refl)
+-- an allocation refused in the steps of an engine
+pub steps_stopped : (A : Type 0) (w : Direction) (steps : ℕ) (e f : EngineView) (output : Output) (h : Halt) → IsStopped 0 steps h → IsStateUnwritten w steps e f output output (run_fault_of {A = A} h)
+steps_stopped A w steps e f output h stopped = rw stopped.is (omega (arith, stopped.few), refl)

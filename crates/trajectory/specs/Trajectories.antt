@@ -1,5 +1,5 @@
 -- Trajectories: the frames after 0, k, 2k, .. steps of a run, one after the other, as GROMACS writes them (GROMACS manual, gro file format).
-use Rattle.std.specs.Prelude.{◌≡◌, ℕ, zero, suc, ◌+◌, ◌-◌, ◌*◌, ◌/◌, ◌≤◌, List, [], ◌++◌, Ok}
+use Rattle.std.specs.Prelude.{◌≡◌, ℕ, zero, suc, ◌+◌, ◌-◌, ◌*◌, ◌/◌, ◌≤◌, List, [], ◌++◌, None, Ok}
 use Rattle.fallible.specs.Failures.{IfRefused}
 use Rattle.fallible.specs.Out.{Output, Appends, AppendsBeginning}
 use Rattle.gro.specs.Frames.{FrameView}
@@ -10,6 +10,7 @@ use Rattle.state.specs.StateFrames.{frame_of}
 use Rattle.state.specs.StateText.{StateView}
 use Rattle.integrator.specs.Runs.{IsAfter}
 use Rattle.integrator.specs.Starts.{plain}
+use Rattle.integrator.specs.States.{counter_after}
 use Rattle.integrator.specs.declared.direction.Direction.{Direction}
 use Rattle.integrator.specs.declared.faults.StepFault.TheVariants as step
 use Rattle.engine.specs.Engines.{AreSafe, AreStopped, EngineView, HasNoEngineOfTexts, Went}
@@ -118,6 +119,13 @@ pub record BeganFrame (time_step : ℕ) (s : StateView) (before after : Output) 
 abbrev pub IsFrameUnwritten : ℕ → StateView → ℕ → (before after : Output) → Halt → Type 0
 IsFrameUnwritten time_step s steps before after (halt.Memory done) = (done ≡ steps) × (after ≡ before)
 IsFrameUnwritten time_step s steps before after (halt.Out f) = BeganFrame time_step s before after
+
+-- why the frames after 0, k, 2k, .. of n steps of an engine were not all written, and what the output is left with: nothing, where the counter would leave 64 bits
+abbrev pub IsWayUnwritten : {A : Type 0} → Direction → (steps every : ℕ) → EngineView → (before after : Output) → RunFault A → Type 0
+IsWayUnwritten direction steps every e before after (run.Open failure) = ⊥
+IsWayUnwritten direction steps every e before after (run.Steps step.StepRange) = (counter_after direction e.state.step steps ≡ None) × (after ≡ before)
+IsWayUnwritten direction steps every e before after (run.Steps (step.Memory done)) = LeftWhole (IsFrameOnWay direction every e) every (steps / every) done before after
+IsWayUnwritten direction steps every e before after (run.Out f) = LeftBeginning (IsFrameOnWay direction every e) (steps / every) before after
 
 -- ---- from bytes to bytes
 

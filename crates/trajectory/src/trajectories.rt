@@ -1,10 +1,11 @@
 //! Trajectories from bytes to bytes: the frames of a run, one every k steps.
 
-ghost use Rattle.std.specs.Prelude.{◌≡◌, ◌<◌, ◌≤◌, ◌+◌, ◌-◌, ◌*◌, ◌/◌, ◌^◌, ℕ, suc, is_none, false, IfOk, OnOk, IfErr};
+ghost use Rattle.std.specs.Prelude.{◌≡◌, ◌<◌, ◌≤◌, ◌+◌, ◌-◌, ◌*◌, ◌/◌, ◌^◌, ℕ, suc, is_none, true, false, IfOk, OnOk, IfErr};
+ghost use Rattle.fixed.specs.Arithmetic.{in_range};
 ghost use Rattle.gro.specs.Frames.{frame_view};
 ghost use Rattle.state.specs.StateViews.{state_view};
 ghost use Rattle.engine.specs.Engines.{AreSafe};
-ghost use Rattle.trajectory.specs.Trajectories.{AreFramesUnwritten, Halts, IsFrameOfRun, IsFrameOnWay, IsFrameUnwritten, IsTimedFrame, WroteFrame, WroteFrames};
+ghost use Rattle.trajectory.specs.Trajectories.{AreFramesUnwritten, Halts, IsFrameOfRun, IsFrameOnWay, IsFrameUnwritten, IsTimedFrame, IsWayUnwritten, WroteFrame, WroteFrames};
 ghost use Rattle.trajectory.specs.Watching.{SomeHundredths, hundredths};
 ghost use Rattle.integrator.specs.States.{counter_after};
 
@@ -180,18 +181,44 @@ pub fn watched_trajectory_bytes<
     ensures told_some { IfErr result (λ _. SomeHundredths (steps / every * every) (W.told watch.old watch.new)) }
 {
     let mut engine = open(alloc, job, state)?;
-    if counter_after(direction, engine.state(), steps).is_none() {
-        return Err(RunFault::Steps(StepFault::StepRange));
-    }
-    write_frames(
+    write_run(
         rt,
         &mut engine,
+        steps,
         every,
-        steps / every,
         direction,
         workers,
         watch,
         out,
-    )?;
+    )
+}
+
+/// Makes n steps of an engine, tells a watcher of each hundredth of those up to the last frame, and writes the frames after 0, k, 2k, .. of them,
+/// for k = `every`. `StepRange` where the counter would leave an i64 within the n steps.
+fn write_run<R: Threads + Sync, A: Allocator + Copy + Send + Sync, W: Watch, O: Out>(
+    rt: &R,
+    engine: &mut Engine<A>,
+    steps: u64,
+    every: u64,
+    direction: Direction,
+    workers: u32,
+    watch: &mut W,
+    out: &mut O,
+) -> Result<(), RunFault<A>>
+    requires some { 0 < workers }
+    requires few { workers ≤ 64 }
+    requires every { 0 < every }
+    requires range { in_range engine.old.state.step ≡ true }
+    requires count { (O.output out.old).failed < 2 ^ 64 - 1 }
+    ensures wrote { OnOk result (WroteFrames (IsFrameOnWay direction every engine.old) (suc (steps / every)) (O.output out.old) (O.output out.new)) }
+    ensures unwritten { IfErr result (IsWayUnwritten direction steps every engine.old (O.output out.old) (O.output out.new)) }
+    ensures told { OnOk result (W.told watch.old watch.new (hundredths (steps / every * every))) }
+    ensures told_some { IfErr result (λ _. SomeHundredths (steps / every * every) (W.told watch.old watch.new)) }
+{
+    if counter_after(direction, engine.state(), steps).is_none() {
+        return Err(RunFault::Steps(StepFault::StepRange));
+    }
+    let most = steps / every;
+    write_frames(rt, engine, every, most, direction, workers, watch, out)?;
     Ok(())
 }

@@ -1,15 +1,18 @@
 //! Runs from bytes to bytes that are watched.
 
-ghost use Rattle.std.specs.Prelude.{◌<◌, ◌≤◌, ◌-◌, ◌^◌, OnOk, IfErr, List, ℕ};
+ghost use Rattle.std.specs.Prelude.{◌≡◌, ◌<◌, ◌≤◌, ◌-◌, ◌^◌, OnOk, IfErr, List, true, ℕ};
+ghost use Rattle.fallible.specs.Out.{Appends};
+ghost use Rattle.fixed.specs.Arithmetic.{in_range};
+ghost use Rattle.state.specs.StateText.{state_text};
 ghost use Rattle.integrator.specs.Runs.{IsRun, Wrote};
 ghost use Rattle.integrator.specs.Starts.{plain};
-ghost use Rattle.engine.specs.Engines.{AreSafe, IsRunUnwritten, Wants};
+ghost use Rattle.engine.specs.Engines.{AreSafe, IsRunUnwritten, IsStateUnwritten, Wants, Went};
 ghost use Rattle.engine.specs.Headline.{WroteLevesqueVerletRun};
 ghost use Rattle.trajectory.specs.Watching.{SomeHundredths, hundredths};
 
 use crate::stretches::advance;
 use crate::watching::Watch;
-use engine::{RunFault, open};
+use engine::{Engine, RunFault, open};
 use fallible::Out;
 use integrator::{Direction, StepFault, counter_after};
 use std::alloc::Allocator;
@@ -46,10 +49,32 @@ pub fn watched_run_bytes<R: Threads + Sync, A: Allocator + Copy + Send + Sync, W
     ensures only { (text : List ℕ) → IsRun plain job.now state.now direction steps text → AreSafe job.now state.now → IfErr result Wants }
 {
     let mut engine = open(alloc, job, state)?;
+    run(rt, &mut engine, steps, direction, workers, watch, out)
+}
+
+/// Makes n steps of an engine, tells a watcher of each hundredth of them, and writes the state that the engine comes to.
+fn run<R: Threads + Sync, A: Allocator + Copy + Send + Sync, W: Watch, O: Out>(
+    rt: &R,
+    engine: &mut Engine<A>,
+    steps: u64,
+    direction: Direction,
+    workers: u32,
+    watch: &mut W,
+    out: &mut O,
+) -> Result<(), RunFault<A>>
+    requires some { 0 < workers }
+    requires few { workers ≤ 64 }
+    requires range { in_range engine.old.state.step ≡ true }
+    requires count { (O.output out.old).failed < 2 ^ 64 - 1 }
+    ensures wrote { OnOk result (Went direction steps engine.old engine.new × Appends (O.output out.old) (O.output out.new) (state_text engine.new.state)) }
+    ensures told { OnOk result (W.told watch.old watch.new (hundredths steps)) }
+    ensures told_some { IfErr result (λ _. SomeHundredths steps (W.told watch.old watch.new)) }
+    ensures unwritten { IfErr result (IsStateUnwritten direction steps engine.old engine.new (O.output out.old) (O.output out.new)) }
+{
     if counter_after(direction, engine.state(), steps).is_none() {
         return Err(RunFault::Steps(StepFault::StepRange));
     }
-    advance(rt, &mut engine, direction, steps, workers, 0, steps, watch)?;
+    advance(rt, engine, direction, steps, workers, 0, steps, watch)?;
     engine.state().write(out)?;
     Ok(())
 }
