@@ -1,5 +1,5 @@
 -- What keeps an engine of texts from writing the state behind some steps, as what keeps the run of the texts from being written.
-use Rattle.std.proofs.Common.{◌≡◌, ℕ, List, refl}
+use Rattle.std.proofs.Common.{ℕ, List, refl}
 use Rattle.fallible.specs.Out.{Output}
 use Rattle.state.specs.StateText.{state_text}
 use Rattle.integrator.specs.Runs.{IsRun}
@@ -28,8 +28,7 @@ pub run_unwritten : {A : Type 0} (job state : List ℕ) (w : Direction) (n : ℕ
 run_unwritten job state w n e f before after t (run.Open failure) h = absurd h
 run_unwritten job state w n e f before after t (run.Steps fault) h = (texts_stop job state w n e fault t h.0, h.1)
 run_unwritten job state w n e f before after t (run.Out fault) h =
-    let ran = engine_ran job state w n e f t h.0 in
-    (
+    let ran = engine_ran job state w n e f t h.0 in (
       safe_texts job state e t,
       record {
         text = state_text f.state;
