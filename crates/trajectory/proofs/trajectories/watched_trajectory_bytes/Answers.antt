@@ -18,7 +18,7 @@ returns-in_err-engine-clause-told_some g c =
     rw p.1 (nothing_told (c.args.steps / c.args.every * c.args.every) (g.W.Watch.told c.args.watch.now c.args.watch.now) (g.met.W.Watch.told_nothing c.args.watch.now))
 
 pub write_run-requires-clause-range : goal.write_run-requires-clause-range
-write_run-requires-clause-range g c = engine_in_range c.args.job.now c.args.state.now c.in_ok-engine.engine c.in_ok-engine.ensures.opens
+write_run-requires-clause-range g c = λ _ _. engine_in_range c.args.job.now c.args.state.now c.in_ok-engine.engine c.in_ok-engine.ensures.opens
 
 -- why there are not all frames
 pub returns-clause-refused : goal.returns-clause-refused

@@ -28,7 +28,7 @@ returns-in_err-engine-clause-told_some g c =
     rw p.1 (nothing_told c.args.steps (g.W.Watch.told c.args.watch.now c.args.watch.now) (g.met.W.Watch.told_nothing c.args.watch.now))
 
 pub run-requires-clause-range : goal.run-requires-clause-range
-run-requires-clause-range g c = engine_in_range c.args.job.now c.args.state.now c.in_ok-engine.engine c.in_ok-engine.ensures.opens
+run-requires-clause-range g c = λ _ _. engine_in_range c.args.job.now c.args.state.now c.in_ok-engine.engine c.in_ok-engine.ensures.opens
 
 -- why nothing is written, or a beginning of the text
 pub returns-clause-refused : goal.returns-clause-refused
