@@ -60,7 +60,11 @@ pub fn execute<
 {
     match respond(rt, words_alloc, alloc, words, files, out, err) {
         Ok(()) => Status::Done.code(),
-        Err(fault) => report_if_counted(alloc, &fault, err),
+        Err(fault) => {
+            let status = report_if_counted(alloc, &fault, err);
+            drop(fault);
+            status
+        }
     }
 }
 

@@ -51,7 +51,11 @@ pub fn execute_words<'a, R: Threads + Sync + AllocGlobal, F: Files, O: Out, E: O
             out,
             err,
         ),
-        Err(fault) => report(rt.alloc(), &fault, err),
+        Err(fault) => {
+            let status = report(rt.alloc(), &fault, err);
+            drop(fault);
+            status
+        }
     }
 }
 
