@@ -1,4 +1,4 @@
-use Rattle.std.proofs.Common.{arith, rules, w64}
+use Rattle.std.proofs.Common.{◌≡◌, arith, rules, to_z, of_z, w64}
 use Rattle.std.proofs.lemmas.Grind.{common_steps}
 use mir.Val.{SFits}
 use Rattle.line_text.specs.Columns.{decimals_text}
@@ -12,4 +12,5 @@ returns-clause-items c = grind (arith, common_steps)
 pub returns-clause-bare : goal.returns-clause-bare
 returns-clause-bare c =
     let signed : SFits w64 c.args.step = search rules in
-    rw (returns-clause-items c) (end_lacks (decimals_text 5 (time_of c.args.time_step c.args.step)) c.args.step (rw c.time-time.ensures.items at c.time-time.ensures.bare) signed.sfits)
+    let step : to_z w64 (of_z w64 c.args.step) ≡ c.args.step = search rules in
+    rw (returns-clause-items c) (end_lacks (decimals_text 5 (time_of c.args.time_step c.args.step)) c.args.step (rw (c.time-time.ensures.items, step) at c.time-time.ensures.bare) signed.sfits)
