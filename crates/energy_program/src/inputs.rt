@@ -56,7 +56,7 @@ fn add<A: Allocator + Copy>(
     if is_reserved(name) {
         return Err(ExprFault::reserved_name(alloc, name));
     }
-    let (_, is_new) = names.insert_full(Vec::from_slice(alloc, name)?)?;
+    let is_new = names.insert(Vec::from_slice(alloc, name)?)?;
     if is_new {
         Ok(())
     } else {

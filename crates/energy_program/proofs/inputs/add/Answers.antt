@@ -6,7 +6,7 @@ use Rattle.energy_program.proofs.inputs.add.Goals as goal
 pub returns-then-is_new : goal.returns-then-is_new
 returns-then-is_new g c =
     added_new c.args.names.now.keys c.in_ok-from_slice.field-0 c.args.name.now c.in_ok-from_slice.ensures.items (sym c.is_reserved.ensures ∙ c.if-is_reserved.false)
-    c.insert_full.new.self.keys (sym c.in_ok-is_new.ensures.added ∙ c.if-is_new.true) c.in_ok-is_new.ensures.keys
+    c.insert.new.self.keys (sym c.in_ok-is_new.ensures.added ∙ c.if-is_new.true) c.in_ok-is_new.ensures.keys
 
 pub returns-else-is_new : goal.returns-else-is_new
 returns-else-is_new g c =

@@ -8,3 +8,6 @@ overflow_mul-result c = grind (arith, common_steps)
 
 pub returns-clause-bound : goal.returns-clause-bound
 returns-clause-bound c = grind (arith, common_steps)
+
+pub returns-clause-value : goal.returns-clause-value
+returns-clause-value c = grind (arith, common_steps)
