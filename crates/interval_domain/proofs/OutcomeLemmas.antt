@@ -1,5 +1,5 @@
 -- From exact values between two ends to a least span.
-use Rattle.std.proofs.Common.{◌≡◌, refl, sym, inl, inr, ◌∙◌, subst, arith, Bool, true, false, cond, if◌then◌else◌, Result, Ok, Err, ℤ, pos, negsuc, ◌≤ℤ◌, ◌<ℤ◌}
+use Rattle.std.proofs.Common.{◌≡◌, refl, sym, ⊎_elim, inl, inr, ◌∙◌, subst, arith, Bool, true, false, cond, if◌then◌else◌, Result, Ok, Err, ℤ, pos, negsuc, ◌≤ℤ◌, ◌<ℤ◌}
 use Rattle.std.specs.Prelude.{◌⊎◌, int_lt}
 use Rattle.std.specs.Int.{int_max, int_min}
 use Rattle.std.proofs.lemmas.Int.{by_lt_z, ints}
@@ -59,6 +59,19 @@ at_hi_lo f a b r e = record { first = a.hi; second = b.lo; first_member = hi_mem
 -- the same at the two greatest
 pub at_hi_hi : (f : ℤ → ℤ → Result ℤ Fault) (a b : Span) (r : Result ℤ Fault) → f a.hi b.hi ≡ r → IsOutcomeOfTwo f a b r
 at_hi_hi f a b r e = record { first = a.hi; second = b.hi; first_member = hi_member a; second_member = hi_member b; outcome = e }
+
+-- a fault at one of the four pairs of ends is an outcome
+pub at_corner : (f : ℤ → ℤ → Result ℤ Fault) (a b : Span) (p q r s : Result ℤ Fault) (fault : Fault) → p ≡ f a.lo b.lo → q ≡ f a.lo b.hi → r ≡ f a.hi b.lo → s ≡ f a.hi b.hi → (p ≡ Err fault) ⊎ ((q ≡ Err fault) ⊎ ((r ≡ Err fault) ⊎ (s ≡ Err fault))) → IsOutcomeOfTwo f a b (Err fault)
+at_corner f a b p q r s fault ep eq er es h =
+    ⊎_elim
+    (λ (e : p ≡ Err fault). at_lo_lo f a b (Err fault) (sym ep ∙ e))
+    (λ (o : (q ≡ Err fault) ⊎ ((r ≡ Err fault) ⊎ (s ≡ Err fault))).
+    ⊎_elim
+    (λ (e : q ≡ Err fault). at_lo_hi f a b (Err fault) (sym eq ∙ e))
+    (λ (u : (r ≡ Err fault) ⊎ (s ≡ Err fault)).
+    ⊎_elim (λ (e : r ≡ Err fault). at_hi_lo f a b (Err fault) (sym er ∙ e)) (λ (e : s ≡ Err fault). at_hi_hi f a b (Err fault) (sym es ∙ e)) u)
+    o)
+    h
 
 -- ---- narrowing: to a number, where there is one; and with no limit
 

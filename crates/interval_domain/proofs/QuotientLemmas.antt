@@ -1,10 +1,9 @@
 -- Rounded quotients rise or fall in the dividend, and in a divisor on one side of 0.
-use Rattle.std.proofs.Common.{◌≡◌, ◌≢◌, ◌∙◌, sym, Bool, false, if◌then◌else◌, ℕ, zero, suc, ◌^◌, ◌≤◌, refl, ⊎_elim, inl, inr, arith, Result, Ok, Err, ℤ, pos, negsuc, neg_ℤ, ◌*ℤ◌, ◌≤ℤ◌}
-use Rattle.std.specs.Prelude.{◌⊎◌, ◌↔◌}
+use Rattle.std.proofs.Common.{◌≡◌, ◌≢◌, ◌∙◌, sym, Bool, false, if◌then◌else◌, ℕ, zero, suc, ◌^◌, ◌≤◌, refl, ⊎_elim, inl, inr, arith, Ok, Err, ℤ, pos, negsuc, neg_ℤ, ◌*ℤ◌, ◌≤ℤ◌}
+use Rattle.std.specs.Prelude.{◌⊎◌}
 use Rattle.std.proofs.lemmas.Bool.Decides.{nat_tests}
 use Rattle.std.proofs.lemmas.Int.{ints}
 use Rattle.fixed.specs.Arithmetic.{floor_of, floor_over, is_zero, number_or_overflow, one, quotient_of}
-use Rattle.fixed.specs.declared.faults.Fault.{Fault}
 use Rattle.fixed.specs.declared.faults.Fault.TheVariants.{Overflow, ZeroDivisor}
 use Rattle.interval_domain.specs.declared.span.Span.{Span}
 use Rattle.interval_domain.specs.Ends.{IsExtremes}
@@ -100,7 +99,7 @@ least_quotient bits a b p q r s span none fp fq fr fs x =
     least_of_corners (quotient_of bits) number_or_overflow (rounded_quotient bits) a b p q r s span number_narrows (λ x y hx hy. quotient_exact bits x y (nonzero b y none hy)) (quotient_moves bits a b none) fp fq fr fs x
 
 -- where 0 is no divisor, no quotient has a zero divisor
-pub no_zero_divisor : (bits : ℕ) (a b : Span) (x y : ℤ) (fault : Fault) (result : Result Span Fault) → (IsMember (pos 0) b → ⊥) → IsMember y b → quotient_of bits x y ≡ Err fault → result ≡ Err fault → (result ≡ Err ZeroDivisor) ↔ IsMember (pos 0) b
-no_zero_divisor bits a b x y fault result none h e r =
-    let o : fault ≡ Overflow = number_faults (rounded_quotient bits x y) fault (sym (quotient_exact bits x y (nonzero b y none h)) ∙ e) in
-    (λ (z : result ≡ Err ZeroDivisor). absurd (cc), λ m. absurd (none m))
+pub no_zero_divisor : (bits : ℕ) (a b : Span) → (IsMember (pos 0) b → ⊥) → IsOutcomeOfTwo (quotient_of bits) a b (Err ZeroDivisor) → ⊥
+no_zero_divisor bits a b none o =
+    let e : ZeroDivisor ≡ Overflow = number_faults (rounded_quotient bits o.first o.second) ZeroDivisor (sym (quotient_exact bits o.first o.second (nonzero b o.second none o.second_member)) ∙ o.outcome) in
+    cc

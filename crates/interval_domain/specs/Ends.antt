@@ -1,6 +1,7 @@
 -- Which numbers are the ends of a span.
-use Rattle.std.specs.Prelude.{◌≡◌, ℤ, pos, ◌⊎◌}
+use Rattle.std.specs.Prelude.{◌≡◌, ℤ, pos, ◌⊎◌, Result, Ok}
 use Rattle.std.specs.Int.{int_max, int_min}
+use Rattle.fixed.specs.declared.faults.Fault.{Fault}
 use Rattle.interval_domain.specs.declared.span.Span.{Span}
 use Rattle.interval_domain.specs.Spans.{IsMember}
 
@@ -8,6 +9,18 @@ use Rattle.interval_domain.specs.Spans.{IsMember}
 pub record IsExtremes (p q r s lo hi : ℤ) : Type 0 where
   pub low : lo ≡ int_min (int_min p q) (int_min r s)
   pub high : hi ≡ int_max (int_max p q) (int_max r s)
+
+-- these are four numbers, and lo and hi are the least and the greatest of them
+pub record AreExtremes (p q r s : Result ℤ Fault) (lo hi : ℤ) : Type 0 where
+  pub first : ℤ
+  pub second : ℤ
+  pub third : ℤ
+  pub fourth : ℤ
+  pub first_is : p ≡ Ok first
+  pub second_is : q ≡ Ok second
+  pub third_is : r ≡ Ok third
+  pub fourth_is : s ≡ Ok fourth
+  pub extremes : IsExtremes first second third fourth lo hi
 
 -- the ends of what a function gives on the members of a, where it is 0 at 0 and no less elsewhere, from its values p and q at the ends of a
 pub record IsSpanFromZero (a : Span) (p q lo hi : ℤ) : Type 0 where

@@ -1,8 +1,8 @@
 // Products and quotients: each rises or falls in each argument alone, so its extremes are among the four pairs of ends.
-ghost use Rattle.std.specs.Prelude.{◌≡◌, ◌↔◌, pos, IfOk, IfErr, Err};
+ghost use Rattle.std.specs.Prelude.{◌≡◌, ◌≢◌, ◌⊎◌, ◌↔◌, pos, IfOk, IfErr, IsTrue, Err};
 ghost use Rattle.fixed.specs.Fractions.{bits_of};
 ghost use Rattle.fixed.specs.Arithmetic.{product_of, quotient_of};
-ghost use Rattle.interval_domain.specs.Ends.{IsExtremes};
+ghost use Rattle.interval_domain.specs.Ends.{AreExtremes, IsExtremes};
 ghost use Rattle.interval_domain.specs.Spans.{IsLeastSpan, IsMember, IsOutcomeOfTwo, MayFault};
 
 use crate::span::Span;
@@ -18,6 +18,19 @@ fn around(p: Fx, q: Fx, r: Fx, s: Fx) -> Span
     }
 }
 
+// The same of four results, or the first fault among them.
+fn corners(
+    p: Result<Fx, Fault>,
+    q: Result<Fx, Fault>,
+    r: Result<Fx, Fault>,
+    s: Result<Fx, Fault>,
+) -> Result<Span, Fault>
+    ensures span { IfOk result (λ x. AreExtremes p q r s x.lo x.hi) }
+    ensures fault { IfErr result (λ e. (p ≡ Err e) ⊎ ((q ≡ Err e) ⊎ ((r ≡ Err e) ⊎ (s ≡ Err e)))) }
+{
+    Ok(around(p?, q?, r?, s?))
+}
+
 /// The least span of the products `x y`, each rounded down, for members `x` of `a` and `y` of `b`.
 ///
 /// `Overflow` where some rounded product is no number.
@@ -25,12 +38,33 @@ pub fn mul(frac: Frac, a: Span, b: Span) -> Result<Span, Fault>
     ensures span { IfOk result (IsLeastSpan (IsOutcomeOfTwo (product_of (bits_of frac)) a b)) }
     ensures fault { IfErr result (MayFault (IsOutcomeOfTwo (product_of (bits_of frac)) a b)) }
 {
-    Ok(around(
-        checked_mul(frac, a.lo, b.lo)?,
-        checked_mul(frac, a.lo, b.hi)?,
-        checked_mul(frac, a.hi, b.lo)?,
-        checked_mul(frac, a.hi, b.hi)?,
-    ))
+    corners(
+        checked_mul(frac, a.lo, b.lo),
+        checked_mul(frac, a.lo, b.hi),
+        checked_mul(frac, a.hi, b.lo),
+        checked_mul(frac, a.hi, b.hi),
+    )
+}
+
+fn holds_zero(span: &Span) -> bool
+    ensures { IsTrue result ↔ IsMember (pos 0) span.now }
+{
+    span.contains(Fx::from_raw(0))
+}
+
+// The same of the quotients, where 0 is no divisor.
+fn quotients(frac: Frac, a: Span, b: Span) -> Result<Span, Fault>
+    requires { IsMember (pos 0) b → ⊥ }
+    ensures span { IfOk result (IsLeastSpan (IsOutcomeOfTwo (quotient_of (bits_of frac)) a b)) }
+    ensures fault { IfErr result (MayFault (IsOutcomeOfTwo (quotient_of (bits_of frac)) a b)) }
+    ensures nonzero { result ≢ Err Fault.ZeroDivisor }
+{
+    corners(
+        checked_div(frac, a.lo, b.lo),
+        checked_div(frac, a.lo, b.hi),
+        checked_div(frac, a.hi, b.lo),
+        checked_div(frac, a.hi, b.hi),
+    )
 }
 
 /// The least span of the quotients `x / y`, each rounded down, for members `x` of `a` and `y` of `b`.
@@ -41,13 +75,8 @@ pub fn div(frac: Frac, a: Span, b: Span) -> Result<Span, Fault>
     ensures fault { IfErr result (MayFault (IsOutcomeOfTwo (quotient_of (bits_of frac)) a b)) }
     ensures zero { (result ≡ Err Fault.ZeroDivisor) ↔ IsMember (pos 0) b }
 {
-    if b.contains(Fx::from_raw(0)) {
+    if holds_zero(&b) {
         return Err(Fault::ZeroDivisor);
     }
-    Ok(around(
-        checked_div(frac, a.lo, b.lo)?,
-        checked_div(frac, a.lo, b.hi)?,
-        checked_div(frac, a.hi, b.lo)?,
-        checked_div(frac, a.hi, b.hi)?,
-    ))
+    quotients(frac, a, b)
 }

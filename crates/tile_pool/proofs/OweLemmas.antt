@@ -1,5 +1,5 @@
 -- The additions that a worker owes after it has drawn a ticket, and after it has made additions.
-use Rattle.std.proofs.Common.{◌≡◌, ℕ, suc, ◌+◌, ◌<◌, ◌≤◌, List, [], ◌∷◌, ◌++◌, length, take, drop, Option, Some, slice_get, refl, sym, ap, subst, ◌∙◌, append-nil, append_assoc}
+use Rattle.std.proofs.Common.{◌≡◌, ℕ, suc, ◌<◌, ◌≤◌, List, [], ◌∷◌, ◌++◌, length, take, drop, Option, Some, slice_get, refl, sym, ap, subst, ◌∙◌, append-nil, append_assoc}
 use Rattle.std.proofs.lemmas.Grind.{flat_map-append}
 use Rattle.std.proofs.lemmas.List.{get_or_past}
 use Rattle.tile_round.specs.Tiles.{Addition, tile_at, additions_of, additions_of_all, tile_of, tiles_of, pairs_at, AreNextActing}
@@ -9,8 +9,7 @@ use Rattle.tile_pool.specs.declared.rule.Worker.{Worker}
 use Rattle.tile_pool.specs.Workers.{Each, Owes, IsReady, HasDrawn, HasStopped, additions, fresh, drew, added}
 use Rattle.tile_pool.specs.Rule.{Seen, first_of, alone}
 use Rattle.tile_pool.proofs.CountLemmas.{each_append, each_last}
-use Rattle.tile_round.proofs.ActingLemmas.{take_next}
-use Rattle.tile_pool.proofs.TakeLemmas.{split_at, row_adds, row_split, adds_next, adds_split}
+use Rattle.tile_pool.proofs.TakeLemmas.{split_at, row_adds, row_split, adds_split}
 
 added_twice : (h : Worker) (xs ys : List Addition) → added (added h xs) ys ≡ added h (xs ++ ys)
 added_twice h xs ys = ap (λ (ds : List Addition). let k : Worker = record { number = h.number; tickets = h.tickets; deposits = ds } in k) (append_assoc h.deposits xs ys)
@@ -85,6 +84,18 @@ module _ (tiles : List (List Addition)) where
   ready_after me next t d lt e =
       let P : Worker → Type 0 = λ h. IsReady tiles h in
       subst P (sym (first_is next (added (first_of me.0) (tile_at tiles t)) e)) (ready_added (first_of me.0) t d lt)
+
+  -- a worker that has drawn a ticket past the tiles has stopped
+  pub stops : (me : Seen) (t : ℕ) → HasDrawn tiles (first_of me.0) t → length tiles ≤ t → HasStopped tiles (first_of me.0)
+  stops me t d past =
+      let none : tile_at tiles t ≡ [] = get_or_past tiles t [] past in
+      record {
+        earlier = d.earlier;
+        last = t;
+        tickets = d.tickets;
+        past = past;
+        deposits = d.deposits ∙ sym (ap (additions tiles) d.tickets ∙ (additions_push d.earlier t ∙ (ap (λ xs. additions tiles d.earlier ++ xs) none ∙ append-nil (additions tiles d.earlier))));
+      }
 
   -- the next ticket is greater
   pub rises : (me next : Seen) (xs : List Addition) (t n : ℕ) → HasDrawn tiles (first_of me.0) t → next ≡ alone (added (first_of me.0) xs) → Each (λ u. u < n) (first_of next.0).tickets → t < n

@@ -1,5 +1,5 @@
 -- Sums kept as signed numbers.
-use Rattle.std.proofs.Common.{◌*◌, ◌≡◌, ℕ, zero, suc, ◌+◌, ◌%◌, ◌^◌, ◌<◌, ◌≢◌, List, [], ◌∷◌, ◌++◌, length, get_or, set, replicate, slice_index, sum_by, ℤ, pos, refl, sym, ap, subst, ◌∙◌, ⊎_elim, append-nil, append_assoc, Option, arith}
+use Rattle.std.proofs.Common.{◌*◌, ◌≡◌, ℕ, zero, suc, ◌+◌, ◌%◌, ◌^◌, ◌<◌, ◌≢◌, List, [], ◌∷◌, ◌++◌, length, get_or, set, replicate, slice_index, sum_by, ℤ, pos, refl, sym, ap, subst, ◌∙◌, ⊎_elim, append_assoc, Option, arith}
 use Rattle.std.specs.Int.{w64, cast_signed, cast_unsigned}
 use Rattle.std.proofs.lemmas.Int.{of_z-to_z}
 use Rattle.std.proofs.lemmas.Nat.{mod_below}

@@ -1,10 +1,10 @@
 //! The whole pool: its threads, its table, and what it answers.
-ghost use Rattle.std.specs.Prelude.{◌≡◌, ℕ, ◌+◌, ◌*◌, ◌%◌, ◌^◌, ◌<◌, ◌≤◌, [], length, IfOk, vec_len, vec_capacity, slice_index};
+ghost use Rattle.std.specs.Prelude.{◌≡◌, ℕ, ◌+◌, ◌*◌, ◌%◌, ◌^◌, ◌<◌, ◌≤◌, [], ◌++◌, length, take, drop, IfOk, vec_len, vec_capacity, slice_index};
 ghost use Rattle.std.specs.Mem.Slots.{slots_items, slots_len, IsFull};
 ghost use denote.Param.Send.{IsSend, IsSync};
 ghost use Rattle.tile_round.specs.Tiles.{tiles_of};
 ghost use Rattle.tile_pool.specs.Workers.{Each, HasStopped, fresh};
-ghost use Rattle.tile_pool.specs.Rule.{alone, first_of, fresh_workers, IsFor};
+ghost use Rattle.tile_pool.specs.Rule.{alone, first_of, fresh_workers, IsFor, IsSized};
 ghost use Rattle.tile_pool.specs.Totals.{AreTotals, AreWords};
 
 use crate::driving::{Gate, drive};
@@ -14,7 +14,33 @@ use atomic_table::{Closed, Table};
 use std::alloc::Allocator;
 use std::snapshot::Snapshot;
 use std::thread::{Threads, join};
-use tile_round::{Memory, RowWork};
+use tile_round::{Memory, RowWork, Work};
+
+// The first worker of the seat's view, in a seat of its own.
+fn split_first<W: Work>(table: &PoolTable<W>, seat: &mut PoolSeat) -> PoolSeat
+    requires table { seat.old.table_id ≡ table.now.table_id }
+    requires sized { IsSized table.now.table_id table.now.key.atoms table.now.key.workers
+        (length (W.plan table.now.key.work.value)) }
+    ensures table { seat.new.table_id ≡ seat.old.table_id }
+    ensures others { seat.new.me ≡ (drop 1 seat.old.me.0, seat.old.me.1) }
+    ensures first_table { result.table_id ≡ seat.old.table_id }
+    ensures first { result.me ≡ (take 1 seat.old.me.0, []) }
+{
+    table.split_seat::<FirstWorker>(seat)
+}
+
+// Puts the workers of another seat behind those of this one.
+fn join_last<W: Work>(table: &PoolTable<W>, seat: &mut PoolSeat, other: PoolSeat)
+    requires table { seat.old.table_id ≡ table.now.table_id }
+    requires sized { IsSized table.now.table_id table.now.key.atoms table.now.key.workers
+        (length (W.plan table.now.key.work.value)) }
+    requires other { other.table_id ≡ table.now.table_id }
+    requires free { other.me.1 ≡ [] }
+    ensures table { seat.new.table_id ≡ seat.old.table_id }
+    ensures all { seat.new.me ≡ (seat.old.me.0 ++ other.me.0, seat.old.me.1) }
+{
+    table.join_seat::<FirstWorker>(seat, other);
+}
 
 // Runs a worker for each scratch, the last in a thread of its own where one can be made, and the
 // others here. Where none can be made, the last runs here after the others.
@@ -42,7 +68,7 @@ fn run_all<R: Threads + Sync, S: Send, W: RowWork<S> + Sync, G: Gate + Sync>(
     }
     let last = count - 1;
     let (scratches, own) = scratches.split_at_mut(last as usize);
-    let other = table.split_seat::<FirstWorker>(&mut seat);
+    let other = split_first(table, &mut seat);
     let (other, mut seat) = join(
         rt,
         move || -> PoolSeat
@@ -67,7 +93,7 @@ fn run_all<R: Threads + Sync, S: Send, W: RowWork<S> + Sync, G: Gate + Sync>(
                 × Each (HasStopped (tiles_of (W.plan work.entry.now))) result.me.0 }
         { run_all(rt, table, seat, scratches, last, work, gate) },
     );
-    table.join_seat::<FirstWorker>(&mut seat, other);
+    join_last(table, &mut seat, other);
     seat
 }
 

@@ -1,7 +1,7 @@
 //! Events of a round, and their outcomes.
 
 /// One atomic step of a worker, named by its number from 0 on.
-#[derive(Clone, Copy, PartialEq, Eq, Debug)]
+#[derive(Clone, Copy)]
 pub enum Event {
     /// The worker draws the next ticket.
     Claim(u32),
@@ -10,7 +10,7 @@ pub enum Event {
 }
 
 /// The outcome of an accepted event.
-#[derive(Clone, Copy, PartialEq, Eq, Debug)]
+#[derive(Clone, Copy, PartialEq, Eq)]
 pub enum Outcome {
     /// The claim drew this tile.
     Drew(u64),

@@ -7,7 +7,7 @@ use crate::faults::RoundFault;
 use crate::work::{PairAdd, Work};
 
 /// Where a worker stands.
-#[derive(Clone, Copy, PartialEq, Eq, Debug)]
+#[derive(Clone, Copy)]
 pub(crate) enum WorkerPlace {
     /// It has nothing left to add.
     Resting,
@@ -19,7 +19,7 @@ pub(crate) enum WorkerPlace {
 
 /// The rest of a worker's tile: the additions of the pair at hand from `part` on, and then
 /// the pairs from `next` on.
-#[derive(Clone, Copy, PartialEq, Eq, Debug)]
+#[derive(Clone, Copy)]
 pub(crate) struct Task {
     pub(crate) tile: u64,
     pub(crate) next: u64,

@@ -48,3 +48,7 @@ returns-in-Some-clause-event g c =
     (adds_at _ task (search rules)) c.addition-entry.ensures c.after.ensures.stand
     (stored_added r.sums.items a.0 a.1 c.cast_unsigned.result c.index.result.now c.cast_signed.result has c.index.ensures c.self.invariant.signed c.cast_unsigned.ensures c.cast_signed.ensures)
     ∙ ap (λ (v : Progress). on_deposit v.tiles v.state c.args.worker (slice_get v.state.stands c.args.worker)) c.self.view_is
+
+pub overflow_add-result : goal.overflow_add-result
+overflow_add-result g c =
+    omega (arith, has_sum c.self.invariant c.args.worker c.in-Some.task (search rules) c.addition-entry.result c.addition-entry.ensures, c.self.inside.sums.ok.0)
