@@ -4,10 +4,11 @@ ghost use Rattle.std.specs.Prelude.{◌≡◌};
 ghost use Rattle.fallible.specs.declared.failure.Failure.TheVariants.{Refused};
 
 use fallible::Failure;
+use std::fmt;
 use thiserror::Error;
 
 /// The first fault.
-#[derive(Clone, Copy, PartialEq, Eq, Debug, Error)]
+#[derive(Clone, Copy, Error)]
 pub enum CodeFault {
     /// The line with this number, counted from 1, is no instruction's (line 1: not `pairmd code 1`), has an operand out
     /// of its range, or lacks its line feed.
@@ -19,6 +20,13 @@ pub enum CodeFault {
     /// There are more than 16,384 instructions.
     #[error("C3 TooLong")]
     TooLong,
+}
+
+/// A fault prints the same either way.
+impl fmt::Debug for CodeFault {
+    fn fmt<W: fmt::Write>(&self, f: &mut fmt::Formatter<W>) -> fmt::Result {
+        fmt::Display::fmt(self, f)
+    }
 }
 
 impl From<CodeFault> for Failure<CodeFault> {

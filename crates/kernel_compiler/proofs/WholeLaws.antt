@@ -1,19 +1,18 @@
 -- Laws of whole programs.
-use Rattle.std.proofs.Common.{◌≡◌, ◌⊎◌, inl, inr, true≢false, ℕ, ◌+◌, ◌<◌, ◌≤◌, List, [], ◌∷◌, ◌++◌, length, IsTrue, refl, sym, ap, ◌∙◌, subst, arith, ℤ, Bool, true, false, Option, Some, None, Ok, Err}
-use Rattle.std.specs.Prelude.{is_some}
+use Rattle.std.proofs.Common.{◌≡◌, ◌⊎◌, inl, inr, true≢false, ℕ, ◌+◌, ◌<◌, ◌≤◌, List, [], ◌∷◌, ◌++◌, length, IsTrue, refl, sym, ap, ◌∙◌, subst, arith, ℤ, Bool, true, false}
+use Rattle.std.specs.Prelude.{nat_le}
 use Rattle.std.proofs.lemmas.Bool.{cases_lt}
+use Rattle.std.proofs.lemmas.Bool.Decides.{nat_tests}
 use Rattle.kernel_code.specs.declared.instructions.Instr.{Instr}
 use Rattle.kernel_code.specs.Code.{IsCode}
 use Rattle.kernel_code.specs.Paths.{MissesNothing}
-use Rattle.energy_program.specs.Faults.{TooLarge}
 use Rattle.std.proofs.lemmas.List.{length-map}
 use Rattle.energy_program.specs.declared.programs.Program.{Program}
 use Rattle.energy_program.specs.Tree.{Tree, tree_of, is_scoped}
-use Rattle.kernel_compiler.specs.declared.sizes.Extent.{Extent}
 use Rattle.energy_program.specs.Programs.{body_of, definitions_of, input_count_of}
 use Rattle.energy_program.specs.Uses.{marks_of}
-use Rattle.kernel_compiler.specs.Code.{need, definitions_code, tree_code, program_code, is_within_limits, compiled}
-use Rattle.kernel_compiler.specs.Sizes.{size, definitions_size, HasPowers, AllHavePowers, IsEmittable, AllEmittable, Measured}
+use Rattle.kernel_compiler.specs.Code.{need, definitions_code, tree_code, program_code, is_within_limits}
+use Rattle.kernel_compiler.specs.Sizes.{size, definitions_size, HasPowers, AllHavePowers, IsEmittable, AllEmittable, counted}
 use Rattle.kernel_compiler.specs.Compiled.{Computes}
 use Rattle.kernel_compiler.proofs.Runs.{IsFine}
 use Rattle.energy_program.proofs.Scopes.{IsValid, AreValid, valid_of, are_valid}
@@ -29,6 +28,12 @@ fine_emittable : (inputs j : ℕ) (ms : List Bool) (ds : List Tree) → inputs �
 fine_emittable inputs j ms [] few have fine powers = tt
 fine_emittable inputs j ms (d ∷ ds) few have fine powers =
     ((λ on. (have j on, emittable inputs (j + 1) ms d few have (fine.0 on) powers.0)), fine_emittable inputs (j + 1) ms ds few have fine.1 powers.1)
+
+is_le : (n m : ℕ) → n ≤ m → nat_le n m ≡ true
+is_le n m le = grind (arith, nat_tests)
+
+not_le : (n m : ℕ) → m < n → nat_le n m ≡ false
+not_le n m lt = grind (arith, nat_tests)
 
 module _ {A : Type 0} (p : Program A) where
   abbrev inputs : ℕ
@@ -129,10 +134,13 @@ module _ {A : Type 0} (p : Program A) where
   pub misses_nothing : (bits : ℕ) → is_within_limits (program_code bits body ds) ≡ true → MissesNothing (program_code bits body ds) inputs
   misses_nothing bits h = let f = fits bits h in program_misses_nothing bits inputs body ds have fine.0 fine.1 (lows f) (low f)
 
-  -- the result of the walk
-  pub measured : (bits : ℕ) (o : Option Extent) (rest : ℕ) → rest + definitions_size 0 (marks_of body ds) ds ≡ 16384 → Measured o rest body → is_within_limits (program_code bits body ds) ≡ is_some o
-  measured bits None rest e m = within_not bits (λ f. let s = f.short in omega arith)
-  measured bits (Some x) rest e m = within bits (record { short = omega (arith, m.0) })
+  -- the test of how many instructions are counted
+  pub measured : (bits first count : ℕ) → first ≡ counted (definitions_size 0 (marks_of body ds) ds) → count ≡ counted (first + counted (size body)) → is_within_limits (program_code bits body ds) ≡ nat_le count 16384
+  measured bits first count e f = by (cases_lt 16384 count)
+    where
+      by : (16384 < count) ⊎ (count ≤ 16384) → is_within_limits (program_code bits body ds) ≡ nat_le count 16384
+      by (inl long) = within_not bits (λ fit. let s = fit.short in omega (arith, e, f, long, s)) ∙ sym (not_le count 16384 long)
+      by (inr short) = within bits (record { short = omega (arith, e, f, short) }) ∙ sym (is_le count 16384 short)
 
 -- the code of the marked definitions, and behind it that of the body, is the program's code
 pub whole_code : (bits : ℕ) (body : Tree) (ds : List Tree) (m : List Bool) (first code : List Instr) → m ≡ marks_of body ds → first ≡ definitions_code bits 0 m ds → code ≡ first ++ tree_code bits (length first) body → code ≡ program_code bits body ds

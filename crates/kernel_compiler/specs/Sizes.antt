@@ -1,5 +1,5 @@
 -- How many instructions a code has, and what a code asks for.
-use Rattle.std.specs.Prelude.{◌≡◌, ℕ, suc, ◌+◌, ◌<◌, ◌≤◌, ℤ, pos, negsuc, List, [], ◌∷◌, length, Bool, true, false, Option, Some, None, IsTrue}
+use Rattle.std.specs.Prelude.{◌≡◌, ℕ, suc, ◌+◌, ◌<◌, ◌≤◌, ℤ, pos, negsuc, List, [], ◌∷◌, length, min, Bool, true, false, IsTrue}
 use Rattle.energy_program.specs.Tree.{Tree, is_exponent}
 use Rattle.energy_program.specs.Tree as t
 use Rattle.kernel_compiler.specs.declared.sizes.Extent.{Extent}
@@ -34,20 +34,15 @@ abbrev pub definitions_size : ℕ → List Bool → List Tree → ℕ
 definitions_size j marks [] = 0
 definitions_size j marks (d ∷ ds) = definitions_size (j + 1) marks ds + kept_size (is_marked marks j) d
 
--- the rest of some room for instructions, None where more are taken
-abbrev pub Left : Option ℕ → (room taken : ℕ) → Type 0
-Left (Some rest) room taken = rest + taken ≡ room
-Left None room taken = room < taken
+-- a count of instructions, as far as 64 bits go
+abbrev pub counted : ℕ → ℕ
+counted n = min n 18446744073709551615
 
--- the same, with what is needed of the stack
-abbrev pub Taken : Option Extent → (room own need : ℕ) → Type 0
-Taken (Some m) room own need = (m.rest + own ≡ room) × (m.need ≡ need)
-Taken None room own need = room < own
-
--- the same for a tree's code
-abbrev pub Measured : Option Extent → (room : ℕ) → Tree → Type 0
-Measured (Some m) room e = (m.rest + size e ≡ room) × (m.need ≡ need e) × (m.need ≤ 65)
-Measured None room e = room < size e
+-- so many instructions has a tree's code, and so many values on the stack
+pub record Measured (m : Extent) (e : Tree) : Type 0 where
+  pub count' : m.count ≡ counted (size e)
+  pub need' : m.need ≡ need e
+  pub few : m.need ≤ 65
 
 -- powers are of exponents that there are
 abbrev pub HasPowers : Tree → Type 0

@@ -10,7 +10,7 @@ ghost use Rattle.kernel_compiler.specs.Code.{program_code, is_within_limits, com
 ghost use Rattle.kernel_compiler.specs.Compiled.{Computes, IsTooLarge};
 
 use crate::emit::{emit, emit_definitions};
-use crate::sizes::{definitions_left, measure};
+use crate::sizes::{definitions_count, measure};
 use energy_program::{ExprFault, Program, marks_of};
 use fallible::Failure;
 use fixed::Frac;
@@ -22,10 +22,8 @@ fn is_within_limits<A: Allocator>(program: &Program<A>, marks: &[bool]) -> bool
     requires { marks.now ≡ marks_of (body_of program.now) (definitions_of program.now) }
     ensures { (bits : ℕ) → is_within_limits (program_code bits (body_of program.now) (definitions_of program.now)) ≡ result }
 {
-    match definitions_left(marks, 0, &program.definitions, MAX_INSTRUCTIONS) {
-        Some(rest) => measure(&program.body, rest).is_some(),
-        None => false,
-    }
+    let definitions = definitions_count(marks, 0, &program.definitions);
+    definitions.saturating_add(measure(&program.body).count) <= MAX_INSTRUCTIONS
 }
 
 /// The instructions of the program, whose code is within the limits.

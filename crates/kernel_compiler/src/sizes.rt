@@ -1,9 +1,9 @@
 //! How many instructions a code has, and how many values it has on the stack.
 
-ghost use Rattle.std.specs.Prelude.{◌≡◌, ℕ, ◌≤◌, ◌<◌, ◌+◌, ◌*◌, IsTrue, length, map, min};
+ghost use Rattle.std.specs.Prelude.{◌≡◌, ℕ, ◌≤◌, ◌<◌, ◌+◌, ◌*◌, IsTrue, length, map, max, min};
 ghost use Rattle.energy_program.specs.Tree.{tree_of, is_exponent};
 ghost use Rattle.kernel_compiler.specs.Code.{power_code, raised_need, is_second_first, pair_need, need};
-ghost use Rattle.kernel_compiler.specs.Sizes.{pair_size, raised_size, definitions_size, Left, Taken, Measured, HasPowers, AllHavePowers};
+ghost use Rattle.kernel_compiler.specs.Sizes.{pair_size, raised_size, definitions_size, counted, Measured, HasPowers, AllHavePowers};
 
 use energy_program::Expr;
 use std::alloc::Allocator;
@@ -11,8 +11,8 @@ use std::alloc::Allocator;
 /// The size of an expression's code: instructions and stack.
 #[derive(Clone, Copy)]
 pub(crate) struct Extent {
-    /// The instructions that are left of the room for them.
-    pub(crate) rest: usize,
+    /// The instructions, counted as far as 64 bits go.
+    pub(crate) count: usize,
     /// The values on the stack at most, counted up to 65.
     pub(crate) need: usize,
 }
@@ -97,67 +97,94 @@ fn raised_size(exponent: i8) -> usize
     if exponent < 0 { power + 3 } else { power + 1 }
 }
 
-/// The size of `own` instructions that need `need` values of the stack; `None` where the room has fewer instructions.
-fn taken(room: usize, own: usize, need: usize) -> Option<Extent>
-    ensures { Taken result room own need }
+/// The size of a part and one more instruction.
+fn longer(part: Extent) -> Extent
+    ensures count { result.count ≡ counted (part.count + 1) }
+    ensures need { result.need ≡ part.need }
 {
-    Some(Extent {
-        rest: room.checked_sub(own)?,
-        need,
-    })
-}
-
-/// The size of an expression's code; `None` where it has more than `room` instructions.
-pub(crate) fn measure<A: Allocator>(e: &Expr<A>, room: usize) -> Option<Extent>
-    requires { HasPowers (tree_of e.now) }
-    ensures { Measured result room (tree_of e.now) }
-{
-    match e {
-        Expr::Number(_) | Expr::Input(_) | Expr::Definition(_) => taken(room, 1, 1),
-        Expr::Negated(a) | Expr::Applied(_, a) => {
-            let part = measure(a, room)?;
-            taken(part.rest, 1, part.need)
-        }
-        Expr::Binary(_, a, b) => {
-            let first = measure(a, room)?;
-            let second = measure(b, first.rest)?;
-            let own = pair_size(is_second_first(first.need, second.need));
-            taken(second.rest, own, pair_need(first.need, second.need))
-        }
-        Expr::Power(a, exponent) => {
-            let part = measure(a, room)?;
-            let need = part.need.max(raised_need(*exponent));
-            taken(part.rest, raised_size(*exponent), need)
-        }
-        Expr::Select(condition, a, b) => {
-            let condition = measure(condition, room)?;
-            let first = measure(a, condition.rest.checked_sub(1)?)?;
-            let second = measure(b, first.rest.checked_sub(1)?)?;
-            let need = condition.need.max(first.need.max(second.need));
-            taken(second.rest, 0, need)
-        }
+    Extent {
+        count: part.count.saturating_add(1),
+        need: part.need,
     }
 }
 
-/// The instructions that are left of the room after the code of the marked ones of these definitions, of which the first has the number
-/// `number`; `None` where the room has fewer.
-pub(crate) fn definitions_left<A: Allocator>(
+/// The size of an operation on two parts.
+fn paired(first: Extent, second: Extent) -> Extent
+    requires few { first.need ≤ 65 }
+    requires few_more { second.need ≤ 65 }
+    ensures count { result.count ≡ counted (first.count + second.count + pair_size (is_second_first first.need second.need)) }
+    ensures need { result.need ≡ min 65 (pair_need (is_second_first first.need second.need) first.need second.need) }
+    ensures few { result.need ≤ 65 }
+{
+    let own = pair_size(is_second_first(first.need, second.need));
+    Extent {
+        count: first.count.saturating_add(second.count).saturating_add(own),
+        need: pair_need(first.need, second.need),
+    }
+}
+
+/// The size of a power of a part.
+fn raised(base: Extent, exponent: i8) -> Extent
+    requires exponent { IsTrue (is_exponent exponent) }
+    requires few { base.need ≤ 65 }
+    ensures count { result.count ≡ counted (base.count + raised_size exponent) }
+    ensures need { result.need ≡ max base.need (raised_need exponent) }
+    ensures few { result.need ≤ 65 }
+{
+    Extent {
+        count: base.count.saturating_add(raised_size(exponent)),
+        need: base.need.max(raised_need(exponent)),
+    }
+}
+
+/// The size of a choice between two parts, with its two jumps.
+fn chosen(condition: Extent, first: Extent, second: Extent) -> Extent
+    requires few { condition.need ≤ 65 }
+    requires few_more { first.need ≤ 65 }
+    requires few_most { second.need ≤ 65 }
+    ensures count { result.count ≡ counted (condition.count + 1 + first.count + 1 + second.count) }
+    ensures need { result.need ≡ max condition.need (max first.need second.need) }
+    ensures few { result.need ≤ 65 }
+{
+    let branches = first.count.saturating_add(second.count);
+    Extent {
+        count: condition.count.saturating_add(branches).saturating_add(2),
+        need: condition.need.max(first.need.max(second.need)),
+    }
+}
+
+/// The size of an expression's code.
+pub(crate) fn measure<A: Allocator>(e: &Expr<A>) -> Extent
+    requires { HasPowers (tree_of e.now) }
+    ensures { Measured result (tree_of e.now) }
+{
+    match e {
+        Expr::Number(_) | Expr::Input(_) | Expr::Definition(_) => Extent { count: 1, need: 1 },
+        Expr::Negated(a) | Expr::Applied(_, a) => longer(measure(a)),
+        Expr::Binary(_, a, b) => paired(measure(a), measure(b)),
+        Expr::Power(a, exponent) => raised(measure(a), *exponent),
+        Expr::Select(condition, a, b) => chosen(measure(condition), measure(a), measure(b)),
+    }
+}
+
+/// How many instructions the code of the marked ones of these definitions has, of which the first has the number `number`, counted as far
+/// as 64 bits go.
+pub(crate) fn definitions_count<A: Allocator>(
     marks: &[bool],
     number: usize,
     definitions: &[Expr<A>],
-    room: usize,
-) -> Option<usize>
+) -> usize
     requires all { number + length definitions.now ≤ length marks.now }
     requires powers { AllHavePowers (map tree_of definitions.now) }
-    ensures { Left result room (definitions_size number marks.now (map tree_of definitions.now)) }
+    ensures { result ≡ counted (definitions_size number marks.now (map tree_of definitions.now)) }
 {
     let [first, later @ ..] = definitions else {
-        return Some(room);
+        return 0;
     };
-    let rest = definitions_left(marks, number + 1, later, room)?;
+    let rest = definitions_count(marks, number + 1, later);
     if marks[number] {
-        measure(first, rest)?.rest.checked_sub(1)
+        rest.saturating_add(measure(first).count).saturating_add(1)
     } else {
-        Some(rest)
+        rest
     }
 }

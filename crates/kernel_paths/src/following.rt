@@ -53,6 +53,20 @@ fn judge_end(end: &Meeting, len: usize) -> Result<u32, Misfit>
     }
 }
 
+/// The verdict on all paths, where none is followed yet.
+fn judge(code: &[Instr], inputs: usize, meetings: &mut [Meeting]) -> Result<u32, Misfit>
+    requires code { IsCode code.now }
+    requires stands { Stands code.now inputs 0 meetings.old }
+    ensures { IsJudged code.now inputs result }
+{
+    for here in 0..code.len() {
+        if let Err(misfit) = follow(code, here, inputs, meetings) {
+            return Err(misfit);
+        }
+    }
+    judge_end(&meetings[code.len()], code.len())
+}
+
 /// The number of instructions on the longest path of the code, where `inputs` inputs are at hand and every path does
 /// well: none misses an operand, a local or an input, pushes a 65th value, or ends with other than one value, and paths
 /// that meet have stacks of one height. Each conditional jump may go either way, whatever the values.
@@ -75,11 +89,10 @@ pub fn longest_path<A: Allocator, B: Allocator>(
     ensures refused { IfErr result (λ failure. IfRefused failure (GoesWrongSo code.now inputs)) }
 {
     let instructions = code.as_slice();
-    let len = instructions.len();
-    let mut meetings = vec![in alloc; Meeting::Nothing; len + 1]?;
+    let mut meetings = vec![in alloc; Meeting::Nothing; instructions.len() + 1]?;
     meetings[0] = Meeting::Level(Shape::start());
-    for here in 0..len {
-        follow(instructions, here, inputs, &mut meetings)?;
+    match judge(instructions, inputs, &mut meetings) {
+        Ok(steps) => Ok(steps),
+        Err(misfit) => Err(Failure::Refused(misfit)),
     }
-    Ok(judge_end(&meetings[len], len)?)
 }

@@ -1,10 +1,9 @@
 -- Why an operation stops.
-use Rattle.std.proofs.Common.{◌≡◌, ℕ, Bool, true, false, Result, Ok, Err, ℤ, pos, negsuc, refl, subst, if◌then◌else◌, inl, inr, ◌↔◌, ap}
+use Rattle.std.proofs.Common.{◌≡◌, ℕ, Bool, true, false, Result, Ok, Err, ℤ, pos, negsuc, refl, subst, inl, inr, ◌↔◌}
 use Rattle.std.specs.Prelude.{◌⊎◌, ◌<ℤ◌, ◌+ℤ◌, ◌-ℤ◌, ◌*ℤ◌, ◌*◌, ◌^◌, neg_ℤ, unsigned_abs, IfErr}
 use Rattle.std.proofs.lemmas.Int.{ints}
 use Rattle.std.proofs.Common.{arith}
-use Rattle.std.proofs.lemmas.Bool.Decides.{nat_tests}
-use Rattle.fixed.specs.Arithmetic.{in_range, is_zero, number_or_overflow, sum_of, difference_of, negative_of, absolute_of, product_of, square_of, quotient_of, square_root_of, ceiling_of, floor_of, floor_over, whole_of, one}
+use Rattle.fixed.specs.Arithmetic.{is_zero, number_or_overflow, sum_of, difference_of, negative_of, absolute_of, product_of, square_of, quotient_of, square_root_of, ceiling_of, floor_of, floor_over, whole_of, one}
 use Rattle.fixed.specs.Roots.{root}
 use Rattle.fixed.specs.declared.faults.Fault.{Fault}
 use Rattle.fixed.specs.declared.faults.Fault.TheVariants.{Overflow, ZeroDivisor, NegativeRoot}

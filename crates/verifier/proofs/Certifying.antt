@@ -1,5 +1,5 @@
 -- From values at all distances to a certificate.
-use Rattle.std.proofs.Common.{◌≡◌, ◌≢◌, ℕ, zero, suc, ◌+◌, ◌<◌, ◌≤◌, List, [], ◌∷◌, length, Option, Some, None, Ok, Err, refl, sym, ap, ◌∙◌, subst, arith, ⊎_elim, ℤ, pos, ◌-ℤ◌, ◌≤ℤ◌, ◌<ℤ◌}
+use Rattle.std.proofs.Common.{◌≡◌, ◌≢◌, ℕ, zero, suc, ◌+◌, ◌<◌, ◌≤◌, List, [], ◌∷◌, length, Option, Some, None, Ok, Err, refl, sym, ◌∙◌, subst, arith, ⊎_elim, ℤ, pos, ◌≤ℤ◌, ◌<ℤ◌}
 use Rattle.std.specs.Prelude.{slice_get, slice_index_or, option_map}
 use Rattle.std.proofs.lemmas.Bool.{cases_eq}
 use Rattle.std.proofs.lemmas.Option.{slice_get_within}
@@ -12,9 +12,7 @@ use Rattle.kernel_code.specs.Paths.{IsPath, IsLongest, MissesNothing}
 use Rattle.kernel_code.specs.Tables.{Table, IsTable, inputs_of}
 use Rattle.kernel_code.proofs.PathLaws.{at_end, set_of, run_is_path, path_within}
 use Rattle.kernel_paths.specs.Misfits.{DoesWell}
-use Rattle.verifier.specs.declared.faults.VerifyFault.{VerifyFault}
-use Rattle.verifier.specs.declared.faults.VerifyFault.TheVariants.{Malformed, DepthOver64, Fault, Undecided}
-use Rattle.verifier.specs.Safety.{IsSafe, IsCertified, IsFound, IsRefusal, input_count}
+use Rattle.verifier.specs.Safety.{IsSafe, IsCertified, input_count}
 use Rattle.verifier.specs.Slices.{AreEnoughLocals}
 use Rattle.verifier.specs.Searches.{Searched, IsSearch}
 

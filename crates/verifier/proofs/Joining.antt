@@ -8,7 +8,7 @@ use Rattle.std.proofs.Math.ListN.{length-set}
 use mathlib.Core.List.{reverse_aux}
 use Rattle.interval_domain.specs.declared.span.Span.{Span}
 use Rattle.interval_domain.specs.Spans.{IsMember, IsWithin, IsHull}
-use Rattle.verifier.specs.Frames.{SpanFrameView, AreMembers, AreWithin, IsLocalOf, IsLocalWithin, IsOfSize, local_of, WidensSpans, WidensFirst, WidensLocal, WidensLocals, WidensFirstLocals, Widens}
+use Rattle.verifier.specs.Frames.{SpanFrameView, AreMembers, AreWithin, IsLocalWithin, IsOfSize, local_of, WidensSpans, WidensFirst, WidensLocal, WidensLocals, WidensFirstLocals, Widens}
 
 -- ---- spans
 

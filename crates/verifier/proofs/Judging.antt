@@ -1,5 +1,5 @@
 -- Judgements on some distances.
-use Rattle.std.proofs.Common.{◌≡◌, ℕ, zero, suc, ◌+◌, ◌-◌, ◌*◌, ◌^◌, ◌≤◌, List, refl, subst, arith, ◌≢◌, ℤ, pos, negsuc, ◌≤ℤ◌, ◌<ℤ◌, ◌+ℤ◌, ◌-ℤ◌, ⊎_elim, max, lit<}
+use Rattle.std.proofs.Common.{◌≡◌, ℕ, zero, suc, ◌+◌, ◌-◌, ◌*◌, ◌^◌, ◌<◌, ◌≤◌, List, arith, ℤ, pos, negsuc, ◌≤ℤ◌, ◌<ℤ◌, ◌+ℤ◌, ◌-ℤ◌, ⊎_elim, max, lit<}
 use Rattle.std.specs.Prelude.{unsigned_abs}
 use Rattle.std.proofs.Math.Nat.{pow-suc}
 use Rattle.std.proofs.lemmas.Int.{ints}
@@ -59,8 +59,8 @@ found_at code t r from last limit f a b h = found_within code t r r from last 1 
 -- ---- halves
 
 -- 2 to the power d is twice the power one lower, where d isn't 0
-pub twice : (d : ℕ) → d ≢ 0 → 2 ^ d ≡ 2 ^ (d - 1) + 2 ^ (d - 1)
-twice zero n = absurd (n refl)
+pub twice : (d : ℕ) → 0 < d → 2 ^ d ≡ 2 ^ (d - 1) + 2 ^ (d - 1)
+twice zero n = absurd (omega (arith, n))
 twice (suc d) n =
     let e : suc d - 1 ≡ d = omega arith in
     let p : 2 ^ suc d ≡ 2 ^ d * 2 = pow-suc 2 d in

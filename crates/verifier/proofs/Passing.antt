@@ -1,5 +1,5 @@
 -- Runs on inputs in some spans, place by place.
-use Rattle.std.proofs.Common.{◌≡◌, ◌≢◌, ℕ, zero, suc, ◌+◌, ◌<◌, ◌≤◌, List, [], ◌∷◌, length, Option, Some, None, Ok, refl, sym, ap, ◌∙◌, subst, arith, ℤ, pos, negsuc, ⊎_elim, replicate, Bool, true, false, IsTrue, ◌↔◌}
+use Rattle.std.proofs.Common.{◌≡◌, ◌≢◌, ℕ, zero, suc, ◌+◌, ◌-◌, ◌<◌, ◌≤◌, List, [], ◌∷◌, length, Option, Some, None, Ok, refl, sym, ap, ◌∙◌, subst, arith, ℤ, pos, negsuc, ⊎_elim, replicate, Bool, true, false, IsTrue, ◌↔◌}
 use Rattle.std.specs.Prelude.{slice_get, slice_set, nat_lt, nat_le}
 use Rattle.std.proofs.lemmas.Bool.{cases_eq, cases_lt, and_parts, leb-true}
 use Rattle.std.proofs.lemmas.Int.{ints}
@@ -58,6 +58,29 @@ joins_wide to frame earlier wide old items o e within was w =
 pub met_size : (to height locals : ℕ) (earlier : SpanFrameView) (old items : List (Option SpanFrameView)) → old ≡ items → CanMeet (frame_at old to) height locals → Some earlier ≡ frame_at items to → IsOfSize height locals earlier
 met_size to height locals earlier old items e m was =
     subst (λ (o : Option SpanFrameView). CanMeet o height locals) (ap (λ (l : List (Option SpanFrameView)). frame_at l to) e ∙ sym was) m
+
+-- what a frame without its top may meet, the frame that is left may
+pub met_popped : (o : Option SpanFrameView) (s : Span) (old new : SpanFrameView) → Pops s old new → CanMeet o (length old.stack - 1) (length old.locals) → CanMeet o (length new.stack) (length new.locals)
+met_popped o s old new p m =
+    let height : length old.stack - 1 ≡ length new.stack = omega (arith, ap length p.stack) in
+    subst (λ (n : ℕ). CanMeet o n (length new.locals)) height (subst (λ (n : ℕ). CanMeet o (length old.stack - 1) n) (sym (ap length p.locals)) m)
+
+met_joined : (o o' : Option SpanFrameView) (frame : SpanFrameView) → IsJoined o frame o' → CanMeet o' (length frame.stack) (length frame.locals)
+met_joined o None frame j = tt
+met_joined None (Some new) frame j = rw j (record { height' = refl; locals' = refl })
+met_joined (Some earlier) (Some new) frame j = j.size
+
+-- so may its copy
+pub met_copied : (o : Option SpanFrameView) (s : Span) (old new copy : SpanFrameView) → Pops s old new → copy ≡ new → CanMeet o (length old.stack - 1) (length old.locals) → CanMeet o (length copy.stack) (length copy.locals)
+met_copied o s old new copy p same m = subst (λ (f : SpanFrameView). CanMeet o (length f.stack) (length f.locals)) (sym same) (met_popped o s old new p m)
+
+-- a frame that may meet another may still meet it once its copy has joined a place
+pub met_still : (at to : ℕ) (frame copy : SpanFrameView) (old new : List (Option SpanFrameView)) → copy ≡ frame → Joins at copy old new → CanMeet (frame_at old to) (length frame.stack) (length frame.locals) → CanMeet (frame_at new to) (length frame.stack) (length frame.locals)
+met_still at to frame copy old new same j m =
+    ⊎_elim
+    (λ (e : to ≡ at). subst (λ (k : ℕ). CanMeet (frame_at new k) (length frame.stack) (length frame.locals)) (sym e) (subst (λ (f : SpanFrameView). CanMeet (frame_at new at) (length f.stack) (length f.locals)) same (met_joined _ _ copy j.there)))
+    (λ (n : to ≢ at). subst (λ (o : Option SpanFrameView). CanMeet o (length frame.stack) (length frame.locals)) (sym (j.others to n)) m)
+    (cases_eq to at)
 
 -- one place after another is cleared
 pub takes_none : (at : ℕ) (o : Option SpanFrameView) (old new : List (Option SpanFrameView)) → Takes at o old new → ((k : ℕ) → k < at → frame_at old k ≡ None) → (k : ℕ) → k < at + 1 → frame_at new k ≡ None

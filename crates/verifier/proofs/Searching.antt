@@ -1,5 +1,5 @@
 -- Searches of pieces, of slices and of pairs, one after another.
-use Rattle.std.proofs.Common.{◌≡◌, ◌≢◌, ℕ, zero, suc, ◌+◌, ◌-◌, ◌*◌, ◌/◌, ◌<◌, ◌≤◌, List, Ok, Err, refl, sym, ap, ◌∙◌, subst, arith, ⊎_elim, inl, inr, ℤ, pos, ◌+ℤ◌, ◌-ℤ◌, ◌≤ℤ◌, ◌<ℤ◌, max}
+use Rattle.std.proofs.Common.{◌≡◌, ◌≢◌, ℕ, zero, suc, ◌+◌, ◌-◌, ◌*◌, ◌/◌, ◌<◌, ◌≤◌, List, Ok, Err, refl, sym, ap, ◌∙◌, subst, arith, ⊎_elim, inl, inr, ℤ, pos, ◌+ℤ◌, ◌-ℤ◌, ◌≤ℤ◌, max}
 use Rattle.std.specs.Prelude.{◌⊎◌}
 use Rattle.std.proofs.lemmas.Int.{ints}
 use Rattle.std.proofs.lemmas.Bool.{cases_eq, cases_lt}
@@ -22,7 +22,7 @@ use Rattle.kernel_paths.specs.Misfits.{DoesWell, IsFirstMalformed, IsFirstOverfu
 use Rattle.verifier.specs.declared.faults.VerifyFault.{VerifyFault}
 use Rattle.verifier.specs.declared.faults.VerifyFault.TheVariants as fault
 use Rattle.verifier.specs.Safety.{IsFound, input_count}
-use Rattle.verifier.specs.Verdicts.{Answer, HasFault, IsAtOne, IsFirstRefused, IsFoundOf, IsGreatest, IsPieceAnswer, IsSliceAnswer, IsStopped, IsVerdict, Range, UnlessMemory, both, empty, full, lower, single, upper}
+use Rattle.verifier.specs.Verdicts.{Answer, HasFault, IsAtOne, IsFirstRefused, IsFoundOf, IsGreatest, IsPieceAnswer, IsSliceAnswer, IsCut, IsVerdict, Range, UnlessMemory, both, empty, full, lower, single, upper}
 
 -- ---- out of memory
 
@@ -89,34 +89,33 @@ module _ (code : List Instr) (t : Table) (a b : ℕ) where
   pub at_depth : (depth : ℕ) (s : Span) (f : VerifyFault) → depth ≡ 0 → IsPieceAnswer code t a b 0 s (Err f) → IsPieceAnswer code t a b depth s (Err f)
   at_depth depth s f e h = rw e h
 
-  -- where distances stop and are cut, a failure in the lower half is that of them all
-  pub judged_lower : (depth : ℕ) (s l u : Span) (pc : ℕ) (kind : Fault) (failure : Failure VerifyFault) → depth ≢ 0 → s.lo <ℤ s.hi → IsStopped code t a b s pc kind → AreHalves s l u → UnlessMemory (IsPieceAnswer code t a b (depth - 1) l) (Err failure)
+  -- where distances are cut, a failure in the lower half is that of them all
+  pub judged_lower : (depth : ℕ) (s l u : Span) (failure : Failure VerifyFault) → IsCut code t a b depth s → AreHalves s l u → UnlessMemory (IsPieceAnswer code t a b (depth - 1) l) (Err failure)
       → UnlessMemory (IsPieceAnswer code t a b depth s) (Err failure)
-  judged_lower zero s l u pc kind failure n two stop cut h = absurd (n refl)
-  judged_lower (suc d) s l u pc kind failure n two stop cut h =
+  judged_lower zero s l u failure c halves h = absurd (omega (arith, c.deep))
+  judged_lower (suc d) s l u failure c halves h =
       let e : suc d - 1 ≡ d = omega arith in
       let h' = subst (λ (k : ℕ). UnlessMemory (IsPieceAnswer code t a b k l) (Err failure)) e h in
-      unless_err (IsPieceAnswer code t a b d l) (IsPieceAnswer code t a b (suc d) s) failure (λ f p. lower two stop cut p) h'
+      unless_err (IsPieceAnswer code t a b d l) (IsPieceAnswer code t a b (suc d) s) failure (λ f p. lower c.several c.stopped halves p) h'
 
   -- the same of a failure in the upper half, where the lower one has a magnitude
-  pub judged_upper : (depth : ℕ) (s l u : Span) (pc : ℕ) (kind : Fault) (x : ℕ) (failure : Failure VerifyFault) → depth ≢ 0 → s.lo <ℤ s.hi → IsStopped code t a b s pc kind → AreHalves s l u → IsPieceAnswer code t a b (depth - 1) l (Ok x)
-      → UnlessMemory (IsPieceAnswer code t a b (depth - 1) u) (Err failure) → UnlessMemory (IsPieceAnswer code t a b depth s) (Err failure)
-  judged_upper zero s l u pc kind x failure n two stop cut g h = absurd (n refl)
-  judged_upper (suc d) s l u pc kind x failure n two stop cut g h =
+  pub judged_upper : (depth : ℕ) (s l u : Span) (x : ℕ) (failure : Failure VerifyFault) → IsCut code t a b depth s → AreHalves s l u → IsPieceAnswer code t a b (depth - 1) l (Ok x) → UnlessMemory (IsPieceAnswer code t a b (depth - 1) u) (Err failure)
+      → UnlessMemory (IsPieceAnswer code t a b depth s) (Err failure)
+  judged_upper zero s l u x failure c halves g h = absurd (omega (arith, c.deep))
+  judged_upper (suc d) s l u x failure c halves g h =
       let e : suc d - 1 ≡ d = omega arith in
       let g' : IsPieceAnswer code t a b d l (Ok x) = rw e at g in
       let h' = subst (λ (k : ℕ). UnlessMemory (IsPieceAnswer code t a b k u) (Err failure)) e h in
-      unless_err (IsPieceAnswer code t a b d u) (IsPieceAnswer code t a b (suc d) s) failure (λ f p. upper two stop cut g' p) h'
+      unless_err (IsPieceAnswer code t a b d u) (IsPieceAnswer code t a b (suc d) s) failure (λ f p. upper c.several c.stopped halves g' p) h'
 
-  -- where distances stop and are cut, the greater magnitude of both halves is that of them all
-  pub judged_both : (depth : ℕ) (s l u : Span) (pc : ℕ) (kind : Fault) (x y z : ℕ) → depth ≢ 0 → s.lo <ℤ s.hi → IsStopped code t a b s pc kind → AreHalves s l u → IsPieceAnswer code t a b (depth - 1) l (Ok x) → IsPieceAnswer code t a b (depth - 1) u (Ok y)
-      → z ≡ max x y → IsPieceAnswer code t a b depth s (Ok z)
-  judged_both zero s l u pc kind x y z n two stop cut g h m = absurd (n refl)
-  judged_both (suc d) s l u pc kind x y z n two stop cut g h m =
+  -- where distances are cut, the greater magnitude of both halves is that of them all
+  pub judged_both : (depth : ℕ) (s l u : Span) (x y z : ℕ) → IsCut code t a b depth s → AreHalves s l u → IsPieceAnswer code t a b (depth - 1) l (Ok x) → IsPieceAnswer code t a b (depth - 1) u (Ok y) → z ≡ max x y → IsPieceAnswer code t a b depth s (Ok z)
+  judged_both zero s l u x y z c halves g h m = absurd (omega (arith, c.deep))
+  judged_both (suc d) s l u x y z c halves g h m =
       let e : suc d - 1 ≡ d = omega arith in
       let g' : IsPieceAnswer code t a b d l (Ok x) = rw e at g in
       let h' : IsPieceAnswer code t a b d u (Ok y) = rw e at h in
-      subst (λ (w : ℕ). IsPieceAnswer code t a b (suc d) s (Ok w)) (sym m) (both two stop cut g' h')
+      subst (λ (w : ℕ). IsPieceAnswer code t a b (suc d) s (Ok w)) (sym m) (both c.several c.stopped halves g' h')
 
 -- ---- slices
 

@@ -54,6 +54,14 @@ pub record IsStopped (code : List Instr) (t : Table) (a b : ℕ) (distances : Sp
   pub inputs : AreInputSpans t a b distances spans
   pub stops : StopsAt (bits_of t.frac) code spans pc fault
 
+-- so it is of more than one distance, which may be cut in two
+pub record IsCut (code : List Instr) (t : Table) (a b depth : ℕ) (distances : Span) : Type 0 where
+  pub several : distances.lo <ℤ distances.hi
+  pub deep : 0 < depth
+  pub pc : ℕ
+  pub kind : Fault
+  pub stopped : IsStopped code t a b distances pc kind
+
 -- ---- one distance, by the machine
 
 pub record HasMagnitude (code : List Instr) (t : Table) (a b : ℕ) (r : ℤ) (bound : ℕ) : Type 0 where

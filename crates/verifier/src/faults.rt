@@ -9,7 +9,7 @@ use std::error::Error;
 use std::fmt;
 
 /// Why code isn't accepted. Types are numbers of the table, counted from 0.
-#[derive(Clone, Copy, PartialEq, Eq, Debug)]
+#[derive(Clone, Copy, PartialEq, Eq)]
 pub enum VerifyFault {
     /// At this place, an instruction's or the code's length, a path lacks an operand, a local or an
     /// input, or ends with other than one value, or paths meet with stacks of different heights.
@@ -90,6 +90,13 @@ impl fmt::Display for VerifyFault {
     fn fmt<W: fmt::Write>(&self, f: &mut fmt::Formatter<W>) -> fmt::Result {
         let (first, second) = self.types();
         self.tell(f, first, second)
+    }
+}
+
+/// A fault prints the same either way.
+impl fmt::Debug for VerifyFault {
+    fn fmt<W: fmt::Write>(&self, f: &mut fmt::Formatter<W>) -> fmt::Result {
+        fmt::Display::fmt(self, f)
     }
 }
 

@@ -1,12 +1,12 @@
 //! The search for values and faults: all pairs of types, all slices of the distances.
 
-ghost use Rattle.std.specs.Prelude.{◌≡◌, ◌+◌, ◌*◌, ◌<◌, ◌≤◌, ◌^◌, ◌<ℤ◌, ◌≤ℤ◌, pos, ◌-ℤ◌, ℕ, length, max, unsigned_abs, Err, IfOk, IfErr};
+ghost use Rattle.std.specs.Prelude.{◌≡◌, ◌+◌, ◌*◌, ◌<◌, ◌≤◌, ◌^◌, ◌<ℤ◌, ◌≤ℤ◌, pos, ◌-ℤ◌, ℕ, length, max, unsigned_abs, false, Err, IfOk, IfErr, IfSome, IfNone, IsTrue};
 ghost use Rattle.fallible.specs.Failures.{IfRefused};
 ghost use Rattle.kernel_paths.specs.Misfits.{DoesWell};
 ghost use Rattle.verifier.specs.Safety.{GivesWithin, IsFound, IsSafe, IsSafeFrom, IsSafeRow, input_count};
 ghost use Rattle.verifier.specs.Searches.{HoldInputs, IsSafeAt, range_of};
 ghost use Rattle.verifier.specs.Slices.{AreEnoughLocals};
-ghost use Rattle.verifier.specs.Verdicts.{AreInputSpans, IsAtOne, IsBounded, IsFoundOf, IsPieceAnswer, IsStopped, UnlessMemory, pair_answer, row_answer};
+ghost use Rattle.verifier.specs.Verdicts.{AreInputSpans, IsAtOne, IsBounded, IsCut, IsFoundOf, IsPieceAnswer, IsStopped, UnlessMemory, pair_answer, row_answer};
 
 use crate::faults::VerifyFault;
 use crate::places::Places;
@@ -38,6 +38,14 @@ fn greatest(span: &Span) -> u64
     ensures { result ≡ max (unsigned_abs span.now.lo) (unsigned_abs span.now.hi) }
 {
     magnitude(span.lo).max(magnitude(span.hi))
+}
+
+/// Whether these distances are one.
+fn is_single(distances: &Span) -> bool
+    ensures one { IsTrue result → distances.now.hi ≤ℤ distances.now.lo }
+    ensures several { result ≡ false → distances.now.lo <ℤ distances.now.hi }
+{
+    distances.lo.raw() >= distances.hi.raw()
 }
 
 /// Code whose paths all do well, and the distances at which its values are searched for. Where some
@@ -138,18 +146,18 @@ impl<'a, A: Allocator + Copy, B: Allocator> Search<'a, A, B> {
         }
     }
 
-    /// The same at a span's one distance.
-    fn judge_single(&self, pair: Pair, distances: &Span) -> Result<u64, VerifyFault>
+    /// The same at a span's one distance. Memory isn't asked for.
+    fn judge_single(&self, pair: Pair, distances: &Span) -> Result<u64, Failure<VerifyFault>>
         requires first { pair.first < length self.now.table.rows }
         requires second { pair.second < length self.now.table.rows }
         requires single { distances.now.hi ≤ℤ distances.now.lo }
         ensures safe { IfOk result (IsSafeAt self.now.code self.now.table pair.first pair.second distances.now) }
-        ensures fault { (limit : ℕ) → IfErr result (IsFound self.now.code self.now.table distances.now.lo distances.now.hi limit) }
-        ensures answer { (depth : ℕ) → IsPieceAnswer self.now.code self.now.table pair.first pair.second depth distances.now result }
+        ensures fault { (limit : ℕ) → IfErr result (λ failure. IfRefused failure (IsFound self.now.code self.now.table distances.now.lo distances.now.hi limit)) }
+        ensures answer { (depth : ℕ) → UnlessMemory (IsPieceAnswer self.now.code self.now.table pair.first pair.second depth distances.now) result }
     {
         match self.judge_one(pair, distances.lo) {
             Ok(bound) => Ok(bound),
-            Err(found) => Err(found),
+            Err(found) => Err(Failure::Refused(found)),
         }
     }
 
@@ -179,6 +187,40 @@ impl<'a, A: Allocator + Copy, B: Allocator> Search<'a, A, B> {
         }
     }
 
+    /// The answer on distances as they stand: at their one distance, by all of them at once, or where they are cut no more. `None` where they
+    /// are cut in two.
+    fn judge_whole(
+        &self,
+        pair: Pair,
+        distances: &Span,
+        depth: u32,
+        places: &mut Places<A>,
+    ) -> Option<Result<u64, Failure<VerifyFault>>>
+        requires first { pair.first < length self.now.table.rows }
+        requires second { pair.second < length self.now.table.rows }
+        requires long { length places.old ≡ length self.now.code + 1 }
+        ensures safe { IfSome result (λ answer. IfOk answer (IsSafeAt self.now.code self.now.table pair.first pair.second distances.now)) }
+        ensures fault { IfSome result (λ answer. IfErr answer (λ failure. IfRefused failure (IsFound self.now.code self.now.table distances.now.lo distances.now.hi (2 ^ depth)))) }
+        ensures answer { IfSome result (UnlessMemory (IsPieceAnswer self.now.code self.now.table pair.first pair.second depth distances.now)) }
+        ensures cut { IfNone result (IsCut self.now.code self.now.table pair.first pair.second depth distances.now) }
+        ensures long { length places.new ≡ length self.now.code + 1 }
+    {
+        if is_single(distances) {
+            return Some(self.judge_single(pair, distances));
+        }
+        match self.try_slice(pair, distances, places) {
+            Ok(bound) => Some(Ok(bound)),
+            Err(Failure::Memory) => Some(Err(Failure::Memory)),
+            Err(Failure::Refused(stopped)) => {
+                if depth == 0 {
+                    let found = self.judge_ends(pair, distances, stopped.pc, stopped.fault);
+                    return Some(Err(Failure::Refused(found)));
+                }
+                None
+            }
+        }
+    }
+
     /// The greatest magnitude that the code's values may have at the distances, which are cut in two
     /// `depth` times where some run may meet a fault.
     ///
@@ -199,22 +241,18 @@ impl<'a, A: Allocator + Copy, B: Allocator> Search<'a, A, B> {
         ensures answer { UnlessMemory (IsPieceAnswer self.now.code self.now.table pair.first pair.second depth distances.now) result }
         ensures long { length places.new ≡ length self.now.code + 1 }
     {
-        if distances.lo.raw() >= distances.hi.raw() {
-            return Ok(self.judge_single(pair, distances)?);
-        }
-        let stopped = match self.try_slice(pair, distances, places) {
-            Ok(bound) => return Ok(bound),
-            Err(Failure::Memory) => return Err(Failure::Memory),
-            Err(Failure::Refused(stopped)) => stopped,
-        };
-        if depth == 0 {
-            let found = self.judge_ends(pair, distances, stopped.pc, stopped.fault);
-            return Err(Failure::Refused(found));
+        if let Some(answer) = self.judge_whole(pair, distances, depth, places) {
+            return answer;
         }
         let (lower, upper) = halves(*distances);
-        let low = self.judge(pair, &lower, depth - 1, places)?;
-        let high = self.judge(pair, &upper, depth - 1, places)?;
-        Ok(low.max(high))
+        let low = match self.judge(pair, &lower, depth - 1, places) {
+            Ok(low) => low,
+            Err(failure) => return Err(failure),
+        };
+        match self.judge(pair, &upper, depth - 1, places) {
+            Ok(high) => Ok(low.max(high)),
+            Err(failure) => Err(failure),
+        }
     }
 
     /// The greatest magnitude of a pair's values.

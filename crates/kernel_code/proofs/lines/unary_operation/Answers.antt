@@ -1,5 +1,6 @@
 -- The check closes these goals too, after a search of seconds: here the characters are read one after another.
 use Rattle.std.proofs.Common.{◌≡◌, ℕ, List, [], ◌∷◌, length, get_or, refl, arith}
+use Rattle.std.proofs.lemmas.Grind.{common_steps}
 use Rattle.kernel_code.specs.ListingReading.{unary_of_name}
 use Rattle.kernel_code.proofs.lines.unary_operation.Goals as goal
 
@@ -68,3 +69,78 @@ unfolding unary_of_name
 returns-in-ceil c =
     let e = four_read c.args.name.now 99 101 105 108 (omega arith) (omega arith) (omega arith) (omega arith) (omega arith) in
     rw e refl
+
+pub bounds-name-0 : goal.bounds-name-0
+bounds-name-0 c = grind (arith, common_steps)
+
+pub bounds-name-1 : goal.bounds-name-1
+bounds-name-1 c = grind (arith, common_steps)
+
+pub bounds-name-0-then-name-lt4 : goal.bounds-name-0-then-name-lt4
+bounds-name-0-then-name-lt4 c = grind (arith, common_steps)
+
+pub bounds-name-1-in-110-1 : goal.bounds-name-1-in-110-1
+bounds-name-1-in-110-1 c = grind (arith, common_steps)
+
+pub bounds-name-2 : goal.bounds-name-2
+bounds-name-2 c = grind (arith, common_steps)
+
+pub bounds-name-1-in-97-1 : goal.bounds-name-1-in-97-1
+bounds-name-1-in-97-1 c = grind (arith, common_steps)
+
+pub bounds-name-2-in-98-1 : goal.bounds-name-2-in-98-1
+bounds-name-2-in-98-1 c = grind (arith, common_steps)
+
+pub bounds-name-0-then-name-lt5 : goal.bounds-name-0-then-name-lt5
+bounds-name-0-then-name-lt5 c = grind (arith, common_steps)
+
+pub bounds-name-1-in-115-name-8 : goal.bounds-name-1-in-115-name-8
+bounds-name-1-in-115-name-8 c = grind (arith, common_steps)
+
+pub bounds-name-2-in-113-name-9 : goal.bounds-name-2-in-113-name-9
+bounds-name-2-in-113-name-9 c = grind (arith, common_steps)
+
+pub bounds-name-3 : goal.bounds-name-3
+bounds-name-3 c = grind (arith, common_steps)
+
+pub bounds-name-2-in-116-name-9 : goal.bounds-name-2-in-116-name-9
+bounds-name-2-in-116-name-9 c = grind (arith, common_steps)
+
+pub bounds-name-3-in-101-name-12 : goal.bounds-name-3-in-101-name-12
+bounds-name-3-in-101-name-12 c = grind (arith, common_steps)
+
+pub bounds-name-1-in-99-1 : goal.bounds-name-1-in-99-1
+bounds-name-1-in-99-1 c = grind (arith, common_steps)
+
+pub bounds-name-2-in-101-name-14 : goal.bounds-name-2-in-101-name-14
+bounds-name-2-in-101-name-14 c = grind (arith, common_steps)
+
+pub bounds-name-3-in-105-1 : goal.bounds-name-3-in-105-1
+bounds-name-3-in-105-1 c = grind (arith, common_steps)
+
+pub bounds-name-0-then-name-lt6 : goal.bounds-name-0-then-name-lt6
+bounds-name-0-then-name-lt6 c = grind (arith, common_steps)
+
+pub bounds-name-1-in-100-1 : goal.bounds-name-1-in-100-1
+bounds-name-1-in-100-1 c = grind (arith, common_steps)
+
+pub bounds-name-2-in-101-name-18 : goal.bounds-name-2-in-101-name-18
+bounds-name-2-in-101-name-18 c = grind (arith, common_steps)
+
+pub bounds-name-3-in-108-name-19 : goal.bounds-name-3-in-108-name-19
+bounds-name-3-in-108-name-19 c = grind (arith, common_steps)
+
+pub bounds-name-4 : goal.bounds-name-4
+bounds-name-4 c = grind (arith, common_steps)
+
+pub bounds-name-1-in-102-1 : goal.bounds-name-1-in-102-1
+bounds-name-1-in-102-1 c = grind (arith, common_steps)
+
+pub bounds-name-2-in-108-name-22 : goal.bounds-name-2-in-108-name-22
+bounds-name-2-in-108-name-22 c = grind (arith, common_steps)
+
+pub bounds-name-3-in-111-1 : goal.bounds-name-3-in-111-1
+bounds-name-3-in-111-1 c = grind (arith, common_steps)
+
+pub bounds-name-4-in-111-name-24 : goal.bounds-name-4-in-111-name-24
+bounds-name-4-in-111-name-24 c = grind (arith, common_steps)

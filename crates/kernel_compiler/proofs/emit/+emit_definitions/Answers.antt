@@ -29,3 +29,30 @@ returns-else-marks-number-clause-items g t c = grind (arith, common_steps)
 
 pub returns-else-marks-number-clause-len : goal.returns-else-marks-number-clause-len
 returns-else-marks-number-clause-len g t c = grind (arith, common_steps)
+
+pub slice_bounds-later-count : goal.slice_bounds-later-count
+slice_bounds-later-count g t c = grind (arith, common_steps)
+
+pub bounds-definitions-0 : goal.bounds-definitions-0
+bounds-definitions-0 g t c = grind (arith, common_steps)
+
+pub slice_bounds-later-start : goal.slice_bounds-later-start
+slice_bounds-later-start g t c = grind (arith, common_steps)
+
+pub slice_bounds-later-end : goal.slice_bounds-later-end
+slice_bounds-later-end g t c = grind (arith, common_steps)
+
+pub overflow_add-number : goal.overflow_add-number
+overflow_add-number g t c = grind (arith, common_steps)
+
+pub emit_definitions-requires : goal.emit_definitions-requires
+emit_definitions-requires g t c = grind (arith, common_steps)
+
+pub bounds-marks-number : goal.bounds-marks-number
+bounds-marks-number g t c = grind (arith, common_steps)
+
+pub overflow_add-number-then-marks-number : goal.overflow_add-number-then-marks-number
+overflow_add-number-then-marks-number g t c = grind (arith, common_steps)
+
+pub put-requires : goal.put-requires
+put-requires g t c = grind (arith, common_steps)

@@ -26,3 +26,24 @@ returns-in-Get-clause-height g c = grind (arith, common_steps)
 
 pub returns-in-Get-clause-turn : goal.returns-in-Get-clause-turn
 returns-in-Get-clause-turn g c = grind (arith, common_steps)
+
+pub returns-in-Push-clause-turn : goal.returns-in-Push-clause-turn
+returns-in-Push-clause-turn g c = grind (arith, common_steps)
+
+pub returns-in-Some-clause-turn : goal.returns-in-Some-clause-turn
+returns-in-Some-clause-turn g c = grind (arith, common_steps)
+
+pub returns-in-Binary-clause-turn : goal.returns-in-Binary-clause-turn
+returns-in-Binary-clause-turn g c = grind (arith, common_steps)
+
+pub returns-in-Unary-clause-turn : goal.returns-in-Unary-clause-turn
+returns-in-Unary-clause-turn g c = grind (arith, common_steps)
+
+pub returns-after-taken-clause-turn : goal.returns-after-taken-clause-turn
+returns-after-taken-clause-turn g c = grind (arith, common_steps)
+
+pub binary-requires : goal.binary-requires
+binary-requires g c = grind (arith, common_steps)
+
+pub unary-requires : goal.unary-requires
+unary-requires g c = grind (arith, common_steps)

@@ -1,5 +1,6 @@
 use Rattle.std.proofs.Common.{◌≡◌, ◌<◌, List, [], ◌∷◌, ◌++◌, length, Some, arith, sym, ap, ◌∙◌, subst}
 use Rattle.std.specs.Prelude.{slice_get}
+use Rattle.std.proofs.lemmas.Grind.{common_steps}
 use Rattle.interval_domain.specs.declared.span.Span.{Span}
 use Rattle.kernel_code.specs.Tables.{Table, inputs_of}
 use Rattle.verifier.specs.Safety.{input_count}
@@ -36,3 +37,24 @@ returns g c =
       held = hold_all c.args.self.now.table c.args.pair.first c.args.pair.second c.loop-number.number c.args.distances.now c.loop-number.spans.items c.loop-number.invariant count;
       spans = input_spans c.args.self.now.table c.args.pair.first c.args.pair.second c.loop-number.number c.args.distances.now c.loop-number.spans.items c.loop-number.invariant count;
     }
+
+pub overflow_mul-count : goal.overflow_mul-count
+overflow_mul-count g c = grind (arith, common_steps)
+
+pub overflow_add-count : goal.overflow_add-count
+overflow_add-count g c = grind (arith, common_steps)
+
+pub overflow_add-count-2 : goal.overflow_add-count-2
+overflow_add-count-2 g c = grind (arith, common_steps)
+
+pub overflow_cast-number : goal.overflow_cast-number
+overflow_cast-number g c = grind (arith, common_steps)
+
+pub input-requires-clause-first : goal.input-requires-clause-first
+input-requires-clause-first g c = grind (arith, common_steps)
+
+pub input-requires-clause-second : goal.input-requires-clause-second
+input-requires-clause-second g c = grind (arith, common_steps)
+
+pub single-requires : goal.single-requires
+single-requires g c = grind (arith, common_steps)

@@ -1,4 +1,5 @@
 use Rattle.std.proofs.Common.{◌≡◌, ◌<◌, length, arith, subst}
+use Rattle.std.proofs.lemmas.Grind.{common_steps}
 use Rattle.verifier.specs.Searches.{Searched, range_of}
 use Rattle.verifier.specs.Verdicts.{IsFoundOf, row_answer}
 use Rattle.verifier.proofs.Searching.{first_refused, greatest_all, greatest_more, unless_err}
@@ -28,3 +29,27 @@ returns-clause-answer g c =
     let A = row_answer s.code s.table (range_of s) in
     let last : c.loop-first.first ≡ length s.table.rows = subst (λ (x : Searched). c.loop-first.first ≡ length x.table.rows) c.self.view_is (omega (arith, c.loop-first-test.false, c.loop-first.auto.first-end, c.types-first-end.ensures.value)) in
     greatest_all A c.loop-first.first (length s.table.rows) c.loop-first.bound c.loop-first.invariant.greatest last
+
+pub loop-first-init : goal.loop-first-init
+loop-first-init g c = grind (arith, common_steps)
+
+pub judge_row-requires-clause-first : goal.judge_row-requires-clause-first
+judge_row-requires-clause-first g c = grind (arith, common_steps)
+
+pub judge_row-requires-clause-long : goal.judge_row-requires-clause-long
+judge_row-requires-clause-long g c = grind (arith, common_steps)
+
+pub max-bound-requires : goal.max-bound-requires
+max-bound-requires g c = grind (arith, common_steps)
+
+pub returns-in-Err-clause-safe : goal.returns-in-Err-clause-safe
+returns-in-Err-clause-safe g c = grind (arith, common_steps)
+
+pub returns-in-Err-clause-fault : goal.returns-in-Err-clause-fault
+returns-in-Err-clause-fault g c = grind (arith, common_steps)
+
+pub returns-clause-safe : goal.returns-clause-safe
+returns-clause-safe g c = grind (arith, common_steps)
+
+pub returns-clause-fault : goal.returns-clause-fault
+returns-clause-fault g c = grind (arith, common_steps)

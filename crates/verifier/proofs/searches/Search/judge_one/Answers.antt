@@ -1,4 +1,5 @@
-use Rattle.std.proofs.Common.{◌<◌, length, sym, ap, subst}
+use Rattle.std.proofs.Common.{arith, ◌<◌, length, sym, ap, subst}
+use Rattle.std.proofs.lemmas.Grind.{common_steps}
 use Rattle.kernel_code.specs.Tables.{Table}
 use Rattle.verifier.specs.Searches.{Searched}
 use Rattle.verifier.specs.Verdicts.{HasFault, HasMagnitude}
@@ -28,3 +29,24 @@ returns-in-Operation-clause-answer g c =
     let i = c.self.inside in
     subst (λ (s : Searched). HasFault s.code s.table c.args.pair.first c.args.pair.second c.args.r (fault.Fault c.args.pair.first c.args.pair.second c.args.r c.in-Err.trap.pc c.in-Operation.fault)) c.self.view_is
     (has_fault i.code.now i.table.now c.args.pair.first c.args.pair.second c.args.r ends.0 c.in-Err.trap c.in-Operation.fault ends.1 c.in-Operation.is)
+
+pub run_checked-requires-clause-first : goal.run_checked-requires-clause-first
+run_checked-requires-clause-first g c = grind (arith, common_steps)
+
+pub run_checked-requires-clause-second : goal.run_checked-requires-clause-second
+run_checked-requires-clause-second g c = grind (arith, common_steps)
+
+pub magnitude-requires : goal.magnitude-requires
+magnitude-requires g c = grind (arith, common_steps)
+
+pub returns-in-Ok-clause-safe : goal.returns-in-Ok-clause-safe
+returns-in-Ok-clause-safe g c = grind (arith, common_steps)
+
+pub returns-in-Ok-clause-fault : goal.returns-in-Ok-clause-fault
+returns-in-Ok-clause-fault g c = grind (arith, common_steps)
+
+pub returns-in-Operation-clause-safe : goal.returns-in-Operation-clause-safe
+returns-in-Operation-clause-safe g c = grind (arith, common_steps)
+
+pub returns-in-Operation-clause-fault : goal.returns-in-Operation-clause-fault
+returns-in-Operation-clause-fault g c = grind (arith, common_steps)

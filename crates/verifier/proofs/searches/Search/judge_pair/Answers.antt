@@ -1,5 +1,6 @@
 use Rattle.std.proofs.Common.{arith, Ok, Err, ◌<◌, sym, subst, ◌∙◌, ◌^◌, ◌≡◌, ◌+◌, ◌*◌, ◌/◌, pos, ◌+ℤ◌, ◌-ℤ◌}
 use Rattle.std.proofs.lemmas.Int.{ints}
+use Rattle.std.proofs.lemmas.Grind.{common_steps}
 use Rattle.fallible.specs.Failures.{IfRefused}
 use Rattle.verifier.specs.Safety.{IsFound}
 use Rattle.verifier.specs.Searches.{Searched, range_of}
@@ -88,3 +89,54 @@ returns-clause-safe g c =
     let width = subst (λ (s : Searched). (s.core +ℤ pos c.width_of-width.result) ≡ s.cutoff) view c.width_of-width.ensures.width in
     safe_less c.args.self.now.code c.args.self.now.table c.args.pair.first c.args.pair.second c.args.self.now.core _ c.args.self.now.cutoff c.loop-i.bound c.loop-i.bound c.loop-i.invariant.safe
     (omega (arith, ints, all, from, width)) (omega arith)
+
+pub width_of-width-requires-clause-core : goal.width_of-width-requires-clause-core
+width_of-width-requires-clause-core g c = grind (arith, common_steps)
+
+pub width_of-width-requires-clause-range : goal.width_of-width-requires-clause-range
+width_of-width-requires-clause-range g c = grind (arith, common_steps)
+
+pub loop-i-init : goal.loop-i-init
+loop-i-init g c = grind (arith, common_steps)
+
+pub overflow_add-i : goal.overflow_add-i
+overflow_add-i g c = grind (arith, common_steps)
+
+pub share-end-requires-clause-slice : goal.share-end-requires-clause-slice
+share-end-requires-clause-slice g c = grind (arith, common_steps)
+
+pub share-end-requires-clause-slices : goal.share-end-requires-clause-slices
+share-end-requires-clause-slices g c = grind (arith, common_steps)
+
+pub slice_span-distances-requires-clause-core : goal.slice_span-distances-requires-clause-core
+slice_span-distances-requires-clause-core g c = grind (arith, common_steps)
+
+pub slice_span-distances-requires-clause-some : goal.slice_span-distances-requires-clause-some
+slice_span-distances-requires-clause-some g c = grind (arith, common_steps)
+
+pub slice_span-distances-requires-clause-end : goal.slice_span-distances-requires-clause-end
+slice_span-distances-requires-clause-end g c = grind (arith, common_steps)
+
+pub judge-requires-clause-first : goal.judge-requires-clause-first
+judge-requires-clause-first g c = grind (arith, common_steps)
+
+pub judge-requires-clause-second : goal.judge-requires-clause-second
+judge-requires-clause-second g c = grind (arith, common_steps)
+
+pub judge-requires-clause-long : goal.judge-requires-clause-long
+judge-requires-clause-long g c = grind (arith, common_steps)
+
+pub max-bound-requires : goal.max-bound-requires
+max-bound-requires g c = grind (arith, common_steps)
+
+pub returns-in-Err-clause-safe : goal.returns-in-Err-clause-safe
+returns-in-Err-clause-safe g c = grind (arith, common_steps)
+
+pub returns-in-Err-clause-long : goal.returns-in-Err-clause-long
+returns-in-Err-clause-long g c = grind (arith, common_steps)
+
+pub returns-clause-fault : goal.returns-clause-fault
+returns-clause-fault g c = grind (arith, common_steps)
+
+pub returns-clause-long : goal.returns-clause-long
+returns-clause-long g c = grind (arith, common_steps)

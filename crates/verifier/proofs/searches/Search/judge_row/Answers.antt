@@ -1,4 +1,5 @@
 use Rattle.std.proofs.Common.{◌≡◌, ◌<◌, length, arith, subst}
+use Rattle.std.proofs.lemmas.Grind.{common_steps}
 use Rattle.verifier.specs.Searches.{Searched, range_of}
 use Rattle.verifier.specs.Verdicts.{pair_answer, row_answer}
 use Rattle.verifier.proofs.Searching.{first_refused, greatest_all, greatest_more, unless_err}
@@ -28,3 +29,36 @@ returns-clause-answer g c =
     let A = pair_answer s.code s.table (range_of s) c.args.first in
     let last : c.loop-second.second ≡ length s.table.rows = subst (λ (x : Searched). c.loop-second.second ≡ length x.table.rows) c.self.view_is (omega (arith, c.loop-second-test.false, c.loop-second.auto.second-end, c.types-second-end.ensures.value)) in
     greatest_all A c.loop-second.second (length s.table.rows) c.loop-second.bound c.loop-second.invariant.greatest last
+
+pub loop-second-init : goal.loop-second-init
+loop-second-init g c = grind (arith, common_steps)
+
+pub judge_pair-requires-clause-first : goal.judge_pair-requires-clause-first
+judge_pair-requires-clause-first g c = grind (arith, common_steps)
+
+pub judge_pair-requires-clause-second : goal.judge_pair-requires-clause-second
+judge_pair-requires-clause-second g c = grind (arith, common_steps)
+
+pub judge_pair-requires-clause-long : goal.judge_pair-requires-clause-long
+judge_pair-requires-clause-long g c = grind (arith, common_steps)
+
+pub max-bound-requires : goal.max-bound-requires
+max-bound-requires g c = grind (arith, common_steps)
+
+pub returns-in-Err-clause-safe : goal.returns-in-Err-clause-safe
+returns-in-Err-clause-safe g c = grind (arith, common_steps)
+
+pub returns-in-Err-clause-fault : goal.returns-in-Err-clause-fault
+returns-in-Err-clause-fault g c = grind (arith, common_steps)
+
+pub returns-in-Err-clause-long : goal.returns-in-Err-clause-long
+returns-in-Err-clause-long g c = grind (arith, common_steps)
+
+pub returns-clause-safe : goal.returns-clause-safe
+returns-clause-safe g c = grind (arith, common_steps)
+
+pub returns-clause-fault : goal.returns-clause-fault
+returns-clause-fault g c = grind (arith, common_steps)
+
+pub returns-clause-long : goal.returns-clause-long
+returns-clause-long g c = grind (arith, common_steps)

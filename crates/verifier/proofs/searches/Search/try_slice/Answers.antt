@@ -1,4 +1,5 @@
-use Rattle.std.proofs.Common.{sym, ap, subst}
+use Rattle.std.proofs.Common.{arith, sym, ap, subst}
+use Rattle.std.proofs.lemmas.Grind.{common_steps}
 use Rattle.kernel_code.specs.Tables.{Table}
 use Rattle.std.proofs.lemmas.Result.{err_from_is_err_and}
 use Rattle.fallible.specs.Failures.{IfRefused}
@@ -46,3 +47,39 @@ returns-in_err-span-clause-stopped g c =
     (subst (λ (s : Searched). IfRefused c.in_err-span.field-0.0 (λ (x : Stopped). IsStopped s.code s.table c.args.pair.first c.args.pair.second c.args.distances.now x.pc x.fault)) c.self.view_is
     (refused_weaker (λ (x : Stopped). StopsAt (bits_of t.frac) code c.in-Ok.inputs.items x.pc x.fault) (λ (x : Stopped). IsStopped code t c.args.pair.first c.args.pair.second c.args.distances.now x.pc x.fault) c.in_err-span.field-0.0
     (λ x s. record { spans = c.in-Ok.inputs.items; inputs = spans; stops = s }) stops))
+
+pub input_spans-requires-clause-first : goal.input_spans-requires-clause-first
+input_spans-requires-clause-first g c = grind (arith, common_steps)
+
+pub input_spans-requires-clause-second : goal.input_spans-requires-clause-second
+input_spans-requires-clause-second g c = grind (arith, common_steps)
+
+pub returns-in_default-clause-safe : goal.returns-in_default-clause-safe
+returns-in_default-clause-safe g c = grind (arith, common_steps)
+
+pub returns-in_default-clause-bounded : goal.returns-in_default-clause-bounded
+returns-in_default-clause-bounded g c = grind (arith, common_steps)
+
+pub returns-in_default-clause-stopped : goal.returns-in_default-clause-stopped
+returns-in_default-clause-stopped g c = grind (arith, common_steps)
+
+pub returns-in_default-clause-long : goal.returns-in_default-clause-long
+returns-in_default-clause-long g c = grind (arith, common_steps)
+
+pub follow_slice-requires-clause-code : goal.follow_slice-requires-clause-code
+follow_slice-requires-clause-code g c = grind (arith, common_steps)
+
+pub follow_slice-requires-clause-locals : goal.follow_slice-requires-clause-locals
+follow_slice-requires-clause-locals g c = grind (arith, common_steps)
+
+pub follow_slice-requires-clause-long : goal.follow_slice-requires-clause-long
+follow_slice-requires-clause-long g c = grind (arith, common_steps)
+
+pub greatest-requires : goal.greatest-requires
+greatest-requires g c = grind (arith, common_steps)
+
+pub returns-clause-stopped : goal.returns-clause-stopped
+returns-clause-stopped g c = grind (arith, common_steps)
+
+pub returns-clause-long : goal.returns-clause-long
+returns-clause-long g c = grind (arith, common_steps)
