@@ -3,16 +3,17 @@ ghost use Rattle.fixed.specs.Fractions.{bits_of};
 ghost use Rattle.energy_program.specs.Faults.{Gives};
 ghost use Rattle.energy_program.specs.Programs.{program_tree, trees_of};
 ghost use Rattle.energy_program.specs.Value.{value_of};
-ghost use Rattle.derivative.specs.Derive.{slope_program};
+ghost use Rattle.derivative.specs.Derive.{parts_of, pruned, slope_program, with_all};
 ghost use Rattle.derivative.specs.Slope.{slope_of};
 ghost use Rattle.derivative.specs.Used.{AllNeeded};
 
+use crate::parts::Parts;
 use crate::prune::pruned;
 use crate::slopes::with_all;
 use energy_program::{ExprFault, MAX_DEFINITIONS, Program};
 use fallible::Failure;
 use fixed::Frac;
-use std::alloc::Allocator;
+use std::alloc::{AllocError, Allocator};
 
 /// The program of the slope along the distance, in kJ/mol/nm, of a program's energy, with numbers of the given fraction bits.
 ///
@@ -36,8 +37,7 @@ pub fn derive<A: Allocator + Copy>(
     // Which answer it is.
     ensures exact { Gives trees_of result (slope_program (bits_of frac) (trees_of program.now)) }
 {
-    let whole = with_all(alloc, frac, program)?;
-    let slope = pruned(alloc, &whole)?;
+    let slope = needed_parts(alloc, frac, program)?;
     if slope.definitions.len() > MAX_DEFINITIONS {
         return Err(Failure::Refused(ExprFault::TooLarge));
     }
@@ -47,4 +47,16 @@ pub fn derive<A: Allocator + Copy>(
         parameters: program.parameters,
         globals: program.globals,
     })
+}
+
+// The slope's body, and the definitions that it needs.
+fn needed_parts<A: Allocator + Copy>(
+    alloc: A,
+    frac: Frac,
+    program: &Program<A>,
+) -> Result<Parts<A>, AllocError>
+    ensures { IfOk result (λ p. parts_of p ≡ pruned (with_all (bits_of frac) (trees_of program.now))) }
+{
+    let whole = with_all(alloc, frac, program)?;
+    pruned(alloc, &whole)
 }

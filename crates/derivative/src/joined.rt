@@ -5,11 +5,11 @@ ghost use Rattle.std.specs.Prelude.{◌≡◌, Ok, IfOk};
 ghost use Rattle.energy_program.specs.Tree as t;
 ghost use Rattle.energy_program.specs.Tree.{Tree, tree_of};
 
-use energy_program::{Built, Operator, binary, select};
+use energy_program::{Built, Function, Operator, applied, binary, negated, select};
 use std::alloc::{AllocError, Allocator};
 
-// Both values, if both are there.
-fn pair<S: Drop, T: Drop>(
+/// Both values, if both are there.
+pub fn pair<S: Drop, T: Drop>(
     first: Result<S, AllocError>,
     second: Result<T, AllocError>,
 ) -> Result<(S, T), AllocError>
@@ -17,6 +17,20 @@ fn pair<S: Drop, T: Drop>(
 {
     let first = first?;
     Ok((first, second?))
+}
+
+/// The negative of a tree, if that was built.
+pub fn opposite<A: Allocator + Copy>(alloc: A, part: Built<A>) -> Built<A>
+    ensures { (u : Tree) → IfOk part (λ e. tree_of e ≡ u) → IfOk result (λ e. tree_of e ≡ t.Negated u) }
+{
+    negated(alloc, part?)
+}
+
+/// A function of a tree, if that was built.
+pub fn called<A: Allocator + Copy>(alloc: A, function: Function, part: Built<A>) -> Built<A>
+    ensures { (u : Tree) → IfOk part (λ e. tree_of e ≡ u) → IfOk result (λ e. tree_of e ≡ t.Applied function u) }
+{
+    applied(alloc, function, part?)
 }
 
 /// An operation on two trees, if both were built.

@@ -4,8 +4,8 @@ ghost use Rattle.std.specs.Prelude.{◌≡◌, IfOk, IsTrue};
 ghost use Rattle.energy_program.specs.Tree.{tree_of};
 ghost use Rattle.derivative.specs.Written as w;
 
-use crate::joined::{both, choice};
-use energy_program::{Built, Expr, applied, negated, power};
+use crate::joined::{both, called, choice, opposite};
+use energy_program::{Built, Expr, power};
 use std::alloc::Allocator;
 
 /// A copy in which each use of a definition has a number that is higher by `by`.
@@ -17,13 +17,13 @@ pub fn moved<A: Allocator + Copy>(alloc: A, by: u32, tree: &Expr<A>) -> Built<A>
         Expr::Number(value) => Ok(Expr::Number(*value)),
         Expr::Input(input) => Ok(Expr::Input(*input)),
         Expr::Definition(number) => Ok(Expr::Definition(by + *number)),
-        Expr::Negated(part) => negated(alloc, moved(alloc, by, part)?),
+        Expr::Negated(part) => opposite(alloc, moved(alloc, by, part)),
         Expr::Binary(operator, left, right) => {
             let left = moved(alloc, by, left);
             let right = moved(alloc, by, right);
             both(alloc, *operator, left, right)
         }
-        Expr::Applied(function, part) => applied(alloc, *function, moved(alloc, by, part)?),
+        Expr::Applied(function, part) => called(alloc, *function, moved(alloc, by, part)),
         Expr::Power(part, exponent) => power(alloc, moved(alloc, by, part)?, *exponent),
         Expr::Select(condition, chosen, otherwise) => {
             let condition = moved(alloc, by, condition);

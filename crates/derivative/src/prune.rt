@@ -6,9 +6,9 @@ ghost use Rattle.derivative.specs.Derive as d;
 ghost use Rattle.derivative.specs.Derive.{parts_of};
 ghost use Rattle.derivative.specs.Used as u;
 
-use crate::joined::{both, choice};
+use crate::joined::{both, called, choice, opposite};
 use crate::parts::Parts;
-use energy_program::{Built, Expr, applied, is_marked, marks_of, negated, power};
+use energy_program::{Built, Expr, is_marked, marks_of, power};
 use std::alloc::{AllocError, Allocator};
 
 // The new number of a definition: how many before it are marked.
@@ -35,14 +35,14 @@ fn renumbered<A: Allocator + Copy>(alloc: A, marks: &[bool], tree: &Expr<A>) -> 
         Expr::Number(value) => Ok(Expr::Number(*value)),
         Expr::Input(input) => Ok(Expr::Input(*input)),
         Expr::Definition(number) => Ok(Expr::Definition(rank(marks, *number))),
-        Expr::Negated(part) => negated(alloc, renumbered(alloc, marks, part)?),
+        Expr::Negated(part) => opposite(alloc, renumbered(alloc, marks, part)),
         Expr::Binary(operator, left, right) => {
             let left = renumbered(alloc, marks, left);
             let right = renumbered(alloc, marks, right);
             both(alloc, *operator, left, right)
         }
         Expr::Applied(function, part) => {
-            applied(alloc, *function, renumbered(alloc, marks, part)?)
+            called(alloc, *function, renumbered(alloc, marks, part))
         }
         Expr::Power(part, exponent) => power(alloc, renumbered(alloc, marks, part)?, *exponent),
         Expr::Select(condition, chosen, otherwise) => {

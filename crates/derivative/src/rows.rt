@@ -9,9 +9,9 @@ ghost use Rattle.energy_program.specs.Tree.{Tree, is_exponent, tree_of};
 ghost use Rattle.derivative.specs.Written as w;
 ghost use Rattle.derivative.specs.Written.{is_writable, operation_tree, product_tree, quotient_tree, applied_tree, power_tree, unless_free};
 
-use crate::joined::{both, choice};
+use crate::joined::{both, called, choice, opposite};
 use crate::moved::moved;
-use energy_program::{Built, Expr, Function, Operator, applied, binary, negated, power, select};
+use energy_program::{Built, Expr, Function, Operator, binary, negated, power, select};
 use fixed::{Frac, Fx};
 use std::alloc::{AllocError, Allocator};
 
@@ -43,6 +43,14 @@ pub fn varying<A: Allocator>(tree: Expr<A>) -> Slope<A>
     Slope { tree, free: false }
 }
 
+// The slope of what isn't, if its expression was built.
+fn varying_built<A: Allocator>(tree: Built<A>) -> Result<Slope<A>, AllocError>
+    ensures tree { (u : Tree) → IfOk tree (λ e. tree_of e ≡ u) → IfOk result (λ s. tree_of s.tree ≡ u) }
+    ensures free { IfOk result (λ s. s.free ≡ false) }
+{
+    Ok(varying(tree?))
+}
+
 // The whole number `n`.
 fn whole_number<A: Allocator>(frac: Frac, n: u8) -> Expr<A>
     ensures { tree_of result ≡ w.whole_number (bits_of frac) n }
@@ -55,7 +63,7 @@ fn applied_to<A: Allocator + Copy>(alloc: A, by: u32, function: Function, u: &Ex
     requires { IsTrue (is_writable by (tree_of u.now)) }
     ensures { IfOk result (λ e. tree_of e ≡ t.Applied function (w.moved by (tree_of u.now))) }
 {
-    applied(alloc, function, moved(alloc, by, u)?)
+    called(alloc, function, moved(alloc, by, u))
 }
 
 // A power of a part's copy.
@@ -74,15 +82,8 @@ fn is_at_least<A: Allocator + Copy>(alloc: A, by: u32, above: &Expr<A>, below: &
 {
     let above = moved(alloc, by, above);
     let below = moved(alloc, by, below);
-    let difference = both(alloc, Operator::Subtract, above, below)?;
-    applied(alloc, Function::Step, difference)
-}
-
-// The negative of a tree, if that was built.
-fn opposite<A: Allocator + Copy>(alloc: A, part: Built<A>) -> Built<A>
-    ensures { (u : Tree) → IfOk part (λ e. tree_of e ≡ u) → IfOk result (λ e. tree_of e ≡ t.Negated u) }
-{
-    negated(alloc, part?)
+    let difference = both(alloc, Operator::Subtract, above, below);
+    called(alloc, Function::Step, difference)
 }
 
 fn product_row<A: Allocator + Copy>(
@@ -232,7 +233,7 @@ pub fn negated_slope<A: Allocator + Copy>(alloc: A, du: Slope<A>) -> Result<Slop
     if du.free {
         return Ok(zero());
     }
-    Ok(varying(negated(alloc, du.tree)?))
+    varying_built(negated(alloc, du.tree))
 }
 
 /// The slope of an operation on two parts.
@@ -253,7 +254,7 @@ pub fn operation_slope<A: Allocator + Copy>(
     if du.free && dv.free {
         return Ok(zero());
     }
-    Ok(varying(operation_row(alloc, by, operator, u, v, du, dv)?))
+    varying_built(operation_row(alloc, by, operator, u, v, du, dv))
 }
 
 /// The slope of a function of a part.
@@ -272,7 +273,7 @@ pub fn function_slope<A: Allocator + Copy>(
     if du.free {
         return Ok(zero());
     }
-    Ok(varying(function_row(alloc, frac, by, function, u, du.tree)?))
+    varying_built(function_row(alloc, frac, by, function, u, du.tree))
 }
 
 /// The slope of a power.
@@ -292,7 +293,7 @@ pub fn power_slope<A: Allocator + Copy>(
     if du.free {
         return Ok(zero());
     }
-    Ok(varying(power_row(alloc, frac, by, exponent, u, du.tree)?))
+    varying_built(power_row(alloc, frac, by, exponent, u, du.tree))
 }
 
 /// The slope of a choice, whose condition is free of the distance or not.
@@ -312,6 +313,6 @@ pub fn select_slope<A: Allocator + Copy>(
         return Ok(zero());
     }
     let condition = moved(alloc, by, condition);
-    let chosen = choice(alloc, condition, Ok(du.tree), Ok(dv.tree))?;
-    Ok(varying(chosen))
+    let chosen = choice(alloc, condition, Ok(du.tree), Ok(dv.tree));
+    varying_built(chosen)
 }

@@ -9,6 +9,7 @@ ghost use Rattle.derivative.specs.Written as w;
 ghost use Rattle.derivative.specs.Written.{IsFreeTable, is_free_given, is_writable, slope_tree, unless_free};
 ghost use Rattle.derivative.specs.Derive.{parts_of, with_all};
 
+use crate::joined::pair;
 use crate::moved::moved;
 use crate::parts::Parts;
 use crate::rows::{
@@ -92,8 +93,9 @@ fn slope<A: Allocator + Copy>(
             negated_slope(alloc, du)
         }
         Expr::Binary(operator, u, v) => {
-            let du = slope(alloc, frac, free, by, u)?;
-            let dv = slope(alloc, frac, free, by, v)?;
+            let du = slope(alloc, frac, free, by, u);
+            let dv = slope(alloc, frac, free, by, v);
+            let (du, dv) = pair(du, dv)?;
             operation_slope(alloc, by, *operator, u, v, du, dv)
         }
         Expr::Applied(function, u) => {
@@ -105,8 +107,9 @@ fn slope<A: Allocator + Copy>(
             power_slope(alloc, frac, by, *exponent, u, du)
         }
         Expr::Select(condition, u, v) => {
-            let du = slope(alloc, frac, free, by, u)?;
-            let dv = slope(alloc, frac, free, by, v)?;
+            let du = slope(alloc, frac, free, by, u);
+            let dv = slope(alloc, frac, free, by, v);
+            let (du, dv) = pair(du, dv)?;
             select_slope(alloc, by, condition, is_free(free, condition), du, dv)
         }
     }

@@ -5,13 +5,16 @@ use Rattle.energy_program.specs.declared.faults.ExprFault.{ExprFault}
 use Rattle.energy_program.specs.declared.trees.Operator.{Operator}
 use Rattle.line_text.specs.Steps.{◌>>=◌}
 use Rattle.energy_program.specs.Faults.{Refusal, Fails, Gives, refusal_of}
-use Rattle.expr.specs.Tokens.{Placed}
+use Rattle.std.specs.Borrow.{Bor}
+use Rattle.fallible.specs.declared.failure.Failure.TheVariants.{Refused, Memory}
+use Rattle.expr.specs.declared.tokens.Token.{Token}
+use Rattle.expr.specs.Tokens.{Placed, placed}
 use Rattle.expr.specs.Syntax.{Syntax, Arguments, One, with_argument}
 use Rattle.expr.specs.Syntax as tree
-use Rattle.expr.specs.Parsing.{ReadingOf, power_at, call_at, list_at, listed, comma_sign, Reading, Beginning, Word, Group, start, misplaced, sum_sign, product_sign, minus_sign, open_sign, chain, chained, joined, atom_by, unary_by, name_by, unary_at, term_at, expr_at, closed_at, atom_at}
+use Rattle.expr.specs.Parsing.{ReadingOf, Closes, beside, close, closed, power_at, call_at, list_at, listed, comma_sign, Reading, Beginning, Word, Group, start, misplaced, sum_sign, product_sign, minus_sign, open_sign, chain, chained, joined, atom_by, unary_by, name_by, unary_at, term_at, expr_at, closed_at, atom_at}
 use Rattle.fallible.proofs.FailureLaws.{fails_as}
 use Rattle.energy_program.proofs.FaultLaws.{fails_same, fails_then}
-use Rattle.expr.proofs.Results.{ok_is}
+use Rattle.expr.proofs.Results.{ok_is, err_as}
 use Rattle.expr.proofs.Chain.{turn, turn_fails, turn_ends, sum_signs, product_signs, comma_signs, unary_takes, term_takes, expr_takes}
 
 -- a call's result gives each value that is equal
@@ -147,6 +150,29 @@ atom_name end n ts w rest f o = atom_start end n ts _ f ∙ ap (name_by end (exp
 pub atom_call : (end n : ℕ) (ts : List Placed) (w : List ℕ) (rest inside : List Placed) → start ts ≡ Some (Word w, rest) → open_sign rest ≡ Some inside → atom_at end n ts ≡ call_at end n w inside
 unfolding call_at
 atom_call end n ts w rest inside f o = atom_start end n ts _ f ∙ ap (name_by end (expr_at end n) w rest) o
+
+-- ---- parentheses
+
+abbrev pub shown : {T X : Type 0} → (T → X) → T × Bor (List Token) → X × List Placed
+shown view y = (view y.0, placed y.1.now)
+
+abbrev with_view : {T X : Type 0} → (T → X) → T × List Placed → ReadingOf X
+with_view view y = Ok (view y.0, y.1)
+
+closed_by : {A T X : Type 0} (view : T → X) (x : T) (after : Result (List Placed) Refusal) (result : Result (T × Bor (List Token)) (Failure (ExprFault A))) → Gives (shown (λ (y : T). y)) result (beside x after)
+    → Gives (shown view) result (after >>= λ rest. with_view view (x, rest))
+closed_by view x (Ok rest) (Ok y) h = let same = ok_is (x, rest) (shown (λ z. z) y) h in ap (with_view view) same
+closed_by view x (Err f) (Ok y) h = absurd cc
+closed_by view x (Ok rest) (Err (Refused f)) h = absurd cc
+closed_by view x (Err f) (Err (Refused k)) h = err_as f (refusal_of k) h
+closed_by view x after (Err Memory) h = tt
+
+-- what is read before a closing parenthesis is read inside it
+pub closing_gives : {A T X : Type 0} (view : T → X) (end : ℕ) (inner : List Placed → ReadingOf X) (ts : List Placed) (read result : Result (T × Bor (List Token)) (Failure (ExprFault A))) → Closes end read result
+    → Gives (shown view) read (inner ts) → Gives (shown view) result (closed end inner ts)
+unfolding closed
+closing_gives view end inner ts (Ok x) result h k = rw k (closed_by view x.0 (close end (placed x.1.now)) result h)
+closing_gives view end inner ts (Err e) result h k = rw h (fails_then e (inner ts) (λ x. close end x.1 >>= λ after. Ok (x.0, after)) k)
 
 -- ---- arguments
 

@@ -11,7 +11,7 @@ use Rattle.energy_program.specs.declared.trees.Operator.{Operator}
 use Rattle.energy_program.specs.declared.trees.Function.{Function}
 use Rattle.energy_program.specs.declared.programs.Program.{Program}
 use Rattle.line_text.specs.Steps.{◌>>=◌}
-use Rattle.energy_program.specs.Faults.{Refusal, BadCharacter, BadNumber, UnexpectedToken, UnknownName, WrongArgumentCount, BadExponent, NumberRange, RepeatedDefinition, ReservedName, TooLarge, LeftOutFunction, refusal_of, Fails, Gives}
+use Rattle.energy_program.specs.Faults.{Refusal, BadCharacter, BadNumber, UnexpectedToken, UnknownName, WrongArgumentCount, BadExponent, NumberRange, RepeatedDefinition, ReservedName, TooLarge, LeftOutFunction, refusal_of, Gives}
 use Rattle.expr.specs.Tokens.{Placed}
 use Rattle.expr.specs.Syntax.{Syntax, Definition, Source, names_in}
 use Rattle.expr.specs.Syntax as s
@@ -23,9 +23,9 @@ use Rattle.energy_program.specs.Names.{input_of}
 use Rattle.expr.specs.Lexing.{Tokens, tokens_of}
 use Rattle.expr.specs.Definitions.{checked, number_from}
 use Rattle.expr.specs.Sources.{source_at}
-use Rattle.expr.specs.Energy.{IsEnergy, IsRead, IsWritten, IsCause, ReadsEnergyTexts, limited, program_of, trees_in}
+use Rattle.expr.specs.Energy.{IsEnergy, IsRead, IsWritten, IsCause, ReadsEnergyTexts, limited, program_of, trees_in, trees_of_source, trees_of_tokens}
 use Rattle.expr.proofs.Checked.{Why, taken, given, are_new, new_checked, refused}
-use Rattle.energy_program.proofs.FaultLaws.{fails_same, fails_then}
+use Rattle.energy_program.proofs.FaultLaws.{fails_then}
 use Rattle.expr.proofs.Programs.{Is, source_sound, source_complete, source_halts, source_halting}
 use Rattle.expr.proofs.TextLemmas.{text_sound, text_complete}
 use Rattle.expr.proofs.Wrong.{text_wrong}
@@ -69,22 +69,16 @@ program_is bits vs text =
     placed : Trees → Result Tree Refusal
     placed t = Ok (substituted t.0 t.1)
 
-source_is : (bits : ℕ) (vs : List (List ℕ)) (text : List ℕ) (ts : List Placed) (source : Source) → tokens_of bits text ≡ Ok ts → length ts ≤ 4096 → source_at (length text) ts ≡ Ok source
-    → trees_in bits vs text ≡ of_names (trees vs) source (checked vs [] (names_in source.1))
-source_is bits vs text ts source t few s =
+-- a text of few tokens is read as these are
+pub tokens_read : (bits : ℕ) (vs : List (List ℕ)) (text : List ℕ) (ts : List Placed) → tokens_of bits text ≡ Ok ts → length ts ≤ 4096 → trees_in bits vs text ≡ trees_of_tokens vs (length text) ts
+tokens_read bits vs text ts t few =
     trees_is bits vs text
     ∙ ap (λ (r : Tokens). r >>= of_tokens (trees vs) vs (length text)) t
     ∙ ap (λ (c : Bool). of_few (trees vs) vs (length text) (limited c ts)) (le-ltb 4096 (length ts) few)
-    ∙ ap (of_source (trees vs) vs) s
 
-pub named_fails : {A : Type 0} (bits : ℕ) (vs : List (List ℕ)) (text : List ℕ) (ts : List Placed) (source : Source) (e : Failure (ExprFault A)) → tokens_of bits text ≡ Ok ts → length ts ≤ 4096 → source_at (length text) ts ≡ Ok source
-    → Fails e (checked vs [] (names_in source.1)) → Fails e (trees_in bits vs text)
-named_fails bits vs text ts source e t few s h =
-    fails_same e (of_names (trees vs) source (checked vs [] (names_in source.1))) (trees_in bits vs text) (source_is bits vs text ts source t few s) (fails_then e (checked vs [] (names_in source.1)) (λ names. trees vs source) h)
-
-pub named_is : (bits : ℕ) (vs : List (List ℕ)) (text : List ℕ) (ts : List Placed) (source : Source) (all : List (List ℕ)) → tokens_of bits text ≡ Ok ts → length ts ≤ 4096 → source_at (length text) ts ≡ Ok source
-    → checked vs [] (names_in source.1) ≡ Ok all → trees_in bits vs text ≡ trees vs source
-named_is bits vs text ts source all t few s h = source_is bits vs text ts source t few s ∙ ap (of_names (trees vs) source) h
+-- a source with new names is read as its trees
+pub source_read : (vs : List (List ℕ)) (source : Source) (all : List (List ℕ)) → checked vs [] (names_in source.1) ≡ Ok all → trees_of_source vs source ≡ trees vs source
+source_read vs source all h = ap (of_names (trees vs) source) h
 
 -- the program's trees say its tree
 pub in_place_gives : {A : Type 0} (bits : ℕ) (vs : List (List ℕ)) (text : List ℕ) (r : Result (Program A) (Failure (ExprFault A))) → Gives trees_of r (trees_in bits vs text) → Gives program_tree r (program_of bits vs text)

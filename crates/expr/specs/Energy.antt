@@ -11,7 +11,7 @@ use Rattle.expr.specs.Grammar.{IsProgram}
 use Rattle.expr.specs.Halting.{HaltsProgram}
 use Rattle.expr.specs.Lexing.{tokens_of}
 use Rattle.expr.specs.Sources.{source_at}
-use Rattle.expr.specs.Syntax.{Syntax, Definition, names_in}
+use Rattle.expr.specs.Syntax.{Syntax, Definition, Source, names_in}
 use Rattle.expr.specs.Text.{IsText, IsWrongAt, BeginsBadly, BeginsMalformed, BeginsTooGreat}
 use Rattle.expr.specs.Tokens.{Placed}
 use Rattle.energy_program.specs.Programs.{program_tree, Trees}
@@ -108,6 +108,14 @@ IsCause bits variables text (LeftOutFunction name) = IsLeftOut bits text name
 abbrev pub limited : Bool → List Placed → Result (List Placed) Refusal
 limited true tokens = Err TooLarge
 limited false tokens = Ok tokens
+
+-- the trees of a body and definitions, whose names are to be new
+abbrev pub trees_of_source : List (List ℕ) → Source → Result Trees Refusal
+trees_of_source variables source = checked variables [] (names_in source.1) >>= λ names. trees variables source
+
+-- the trees of the tokens of a text that ends at a place
+abbrev pub trees_of_tokens : List (List ℕ) → ℕ → List Placed → Result Trees Refusal
+trees_of_tokens variables end tokens = source_at end tokens >>= trees_of_source variables
 
 -- the trees that a text is read as
 unfoldable pub trees_in : ℕ → List (List ℕ) → List ℕ → Result Trees Refusal

@@ -11,7 +11,9 @@ use Rattle.energy_program.specs.declared.powers.Exponent.{Exponent}
 use Rattle.expr.specs.declared.syntax.Syntax as code
 use Rattle.expr.specs.declared.tokens.Token.{Token}
 use Rattle.line_text.specs.Steps.{◌>>=◌}
-use Rattle.energy_program.specs.Faults.{Refusal, UnexpectedToken, BadExponent, TooLarge}
+use Rattle.fallible.specs.declared.failure.Failure.{Failure}
+use Rattle.energy_program.specs.declared.faults.ExprFault.{ExprFault}
+use Rattle.energy_program.specs.Faults.{Refusal, UnexpectedToken, BadExponent, TooLarge, Gives}
 use Rattle.expr.specs.Calls.{called}
 use Rattle.energy_program.specs.Names.{call_refusal, function_of}
 use Rattle.expr.specs.Syntax.{Syntax, syntax_of, Arguments, Empty, One, arguments_of, with_argument}
@@ -119,6 +121,11 @@ awaits_operand ((k, at) ∷ rest) = begins_operand k
 abbrev pub close : ℕ → List Placed → Result (List Placed) Refusal
 close end ((t.Close, at) ∷ rest) = Ok rest
 close end ts = Err (UnexpectedToken (offset end ts))
+
+-- what was read, and the parenthesis that closes it; or why it wasn't read
+abbrev pub Closes : {A T : Type 0} → ℕ → Result (T × Bor (List Token)) (Failure (ExprFault A)) → Result (T × Bor (List Token)) (Failure (ExprFault A)) → Type 0
+Closes end (Ok x) result = Gives (λ y. (y.0, placed y.1.now)) result (beside x.0 (close end (placed x.1.now)))
+Closes end (Err e) result = result ≡ Err e
 
 -- why no operand is read where no level is left
 abbrev pub misplaced : ℕ → List Placed → Refusal

@@ -20,6 +20,22 @@ abbrev pub Grows : {A : Type 0} → (Tree → Tree) → Result (Box (code.Expr A
 Grows make (Ok part) result = IsOrMemory (λ e. tree_of e.value ≡ make (tree_of part.value)) result
 Grows make (Err e) result = result ≡ Err e
 
+-- and one that is made of two, or of three, unless the first that is lacking says why
+abbrev pub GrowsTwo : {A : Type 0} → (Tree → Tree → Tree) → Result (Box (code.Expr A) A) (Failure (ExprFault A)) → Result (Box (code.Expr A) A) (Failure (ExprFault A)) → Result (Box (code.Expr A) A) (Failure (ExprFault A)) → Type 0
+GrowsTwo make (Ok left) right result = Grows (make (tree_of left.value)) right result
+GrowsTwo make (Err e) right result = result ≡ Err e
+
+abbrev pub GrowsThree : {A : Type 0} → (Tree → Tree → Tree → Tree) → Result (Box (code.Expr A) A) (Failure (ExprFault A)) → Result (Box (code.Expr A) A) (Failure (ExprFault A)) → Result (Box (code.Expr A) A) (Failure (ExprFault A))
+    → Result (Box (code.Expr A) A) (Failure (ExprFault A)) → Type 0
+GrowsThree make (Ok first) second third result = GrowsTwo (make (tree_of first.value)) second third result
+GrowsThree make (Err e) second third result = result ≡ Err e
+
+-- both values, or the first that is lacking says why
+abbrev pub paired : {X Y E : Type 0} → Result X E → Result Y E → Result (X × Y) E
+paired (Ok x) (Ok y) = Ok (x, y)
+paired (Err e) r = Err e
+paired (Ok x) (Err e) = Err e
+
 abbrev pub used_later : List ℕ → Option ℕ → Result Tree Refusal
 used_later name None = Err (UnknownName name)
 used_later name (Some j) = Ok (t.Definition j)

@@ -1,15 +1,19 @@
-ghost use Rattle.std.specs.Prelude.{◌≡◌, ℕ, IfOk, IfErr};
+ghost use Rattle.std.specs.Prelude.{◌≡◌, ◌≤◌, ℕ, IfOk, IfErr, length};
 ghost use Rattle.fixed.specs.Fractions.{bits_of};
 ghost use Rattle.energy_program.specs.Programs.{program_tree, trees_of};
 ghost use Rattle.energy_program.specs.Tree.{Tree};
 ghost use Rattle.energy_program.specs.Variables.{names_of};
 ghost use Rattle.fallible.specs.Failures.{IfRefused};
 ghost use Rattle.energy_program.specs.Faults.{Gives, refusal_of};
-ghost use Rattle.expr.specs.Energy.{IsCause, IsEnergy, IsRead, program_of, trees_in};
+ghost use Rattle.expr.specs.Energy.{IsCause, IsEnergy, IsRead, program_of, trees_in, trees_of_source, trees_of_tokens};
+ghost use Rattle.expr.specs.Syntax.{source_of};
+ghost use Rattle.expr.specs.Tokens.{placed};
 
 use crate::definitions::check_names;
 use crate::lexer::tokens;
 use crate::parser::Parser;
+use crate::sources::Source;
+use crate::tokens::Token;
 use crate::uses::program;
 use energy_program::{ExprFault, Names, Program};
 use fallible::Failure;
@@ -86,11 +90,36 @@ fn read<A: Allocator + Copy>(
     if tokens.len() > MAX_TOKENS {
         return Err(Failure::Refused(ExprFault::TooLarge));
     }
-    let parser = Parser {
-        alloc,
-        end: text.len(),
-    };
-    let source = parser.source(&tokens)?;
+    read_tokens(alloc, text.len(), &tokens, names)
+}
+
+// The program of these tokens, whose text ends at a place.
+fn read_tokens<A: Allocator + Copy>(
+    alloc: A,
+    end: usize,
+    tokens: &[Token],
+    names: &Names<A>,
+) -> Result<Program<A>, Failure<ExprFault<A>>>
+    ensures value { Gives trees_of result (trees_of_tokens (names_of names.now) end (placed tokens.now)) }
+    ensures parameters { IfOk result (λ p. p.parameters ≡ names.now.parameters) }
+    ensures globals { IfOk result (λ p. p.globals ≡ names.now.globals) }
+{
+    let parser = Parser { alloc, end };
+    let source = parser.source(tokens)?;
+    read_source(alloc, names, &source)
+}
+
+// The program of a body and definitions.
+fn read_source<A: Allocator + Copy>(
+    alloc: A,
+    names: &Names<A>,
+    source: &Source<A>,
+) -> Result<Program<A>, Failure<ExprFault<A>>>
+    requires { length source.now.definitions.items ≤ 64 }
+    ensures value { Gives trees_of result (trees_of_source (names_of names.now) (source_of source.now)) }
+    ensures parameters { IfOk result (λ p. p.parameters ≡ names.now.parameters) }
+    ensures globals { IfOk result (λ p. p.globals ≡ names.now.globals) }
+{
     check_names(alloc, names, &source.definitions)?;
-    program(alloc, names, &source)
+    program(alloc, names, source)
 }

@@ -4,7 +4,7 @@ ghost use Rattle.expr.specs.Tokens.{lexeme, placed};
 ghost use Rattle.energy_program.specs.Faults.{Answers, Gives, refusal_of};
 ghost use Rattle.expr.specs.Calls.{called};
 ghost use Rattle.expr.specs.Syntax.{arguments_of, syntax_of};
-ghost use Rattle.expr.specs.Parsing.{Reading, beside, joined, followed, ShowsBeginning, ShowsStart, Shows, ShowsCaret, ShowsRest, arguments_seen, exponent_seen, seen, rest_seen, offset, begins_operand, misplaced, beginning_of, start, sum_sign, product_sign, minus_sign, open_sign, close_sign, comma_sign, close, expr_at, term_at, unary_at, power_at, raised_at, exponent_at, grouped_at, atom_at, call_at, arguments_at, list_at, closed_at};
+ghost use Rattle.expr.specs.Parsing.{Reading, Closes, beside, joined, followed, ShowsBeginning, ShowsStart, Shows, ShowsCaret, ShowsRest, arguments_seen, exponent_seen, seen, rest_seen, offset, begins_operand, misplaced, beginning_of, start, sum_sign, product_sign, minus_sign, open_sign, close_sign, comma_sign, close, expr_at, term_at, unary_at, power_at, raised_at, exponent_at, grouped_at, atom_at, call_at, arguments_at, list_at, closed_at};
 
 use crate::calls::Arguments;
 use crate::exponents::{awaits_operand, caret_sign, signed_sign};
@@ -18,11 +18,14 @@ use std::alloc::Allocator;
 /// Fewer parentheses and minus signs than these may stand open around a token.
 pub const LEVELS: usize = 65;
 
-/// The result of reading an expression: its tree, and the tokens after it.
-pub type Read<'a, A> = Result<(Boxed<'a, A>, &'a [Token<'a>]), Failure<ExprFault<A>>>;
+/// The result of reading: a value, and the tokens after it.
+type ReadOf<'a, T, A> = Result<(T, &'a [Token<'a>]), Failure<ExprFault<A>>>;
 
-/// The result of reading arguments: these, and the tokens after them.
-type ReadArguments<'a, A> = Result<(Arguments<'a, A>, &'a [Token<'a>]), Failure<ExprFault<A>>>;
+/// The result of reading an expression, its tree.
+pub type Read<'a, A> = ReadOf<'a, Boxed<'a, A>, A>;
+
+/// The result of reading arguments.
+type ReadArguments<'a, A> = ReadOf<'a, Arguments<'a, A>, A>;
 
 /// Reads the tokens of a text, which ends at a place.
 #[derive(Drop)]
@@ -359,16 +362,13 @@ impl<A: Allocator + Copy> Parser<A> {
 
     // The arguments of a call, and the parenthesis that closes them.
     #[cycle(parser)]
-    #[tactic(auto, unfolding(crate::specs::Parsing::arguments_at, crate::specs::Parsing::list_at, crate::specs::Parsing::closed))]
+    #[tactic(auto, unfolding(crate::specs::Parsing::arguments_at, crate::specs::Parsing::list_at))]
     fn arguments<'a>(&self, tokens: &'a [Token<'a>], levels: usize) -> ReadArguments<'a, A>
         ensures { Gives arguments_seen result (arguments_at self.now.end levels (placed tokens.now)) }
     {
         match close_sign(tokens) {
             Some(rest) => Ok((Arguments::Empty, rest)),
-            None => {
-                let (arguments, rest) = self.list(tokens, levels)?;
-                Ok(beside(arguments, self.close(rest))?)
-            }
+            None => self.closing(self.list(tokens, levels)),
         }
     }
 
@@ -413,12 +413,19 @@ impl<A: Allocator + Copy> Parser<A> {
 
     // An expression behind a parenthesis, and the parenthesis that closes it.
     #[cycle(parser)]
-    #[tactic(auto, unfolding(crate::specs::Parsing::closed_at, crate::specs::Parsing::closed))]
+    #[tactic(auto, unfolding(crate::specs::Parsing::closed_at))]
     fn closed<'a>(&self, tokens: &'a [Token<'a>], levels: usize) -> Read<'a, A>
         ensures { Gives seen result (closed_at self.now.end levels (placed tokens.now)) }
     {
-        let (inner, rest) = self.expr(tokens, levels)?;
-        Ok(beside(inner, self.close(rest))?)
+        self.closing(self.expr(tokens, levels))
+    }
+
+    // What is read, and the parenthesis that closes it.
+    fn closing<'a, T: Drop>(&self, read: ReadOf<'a, T, A>) -> ReadOf<'a, T, A>
+        ensures { Closes self.now.end read.entry result }
+    {
+        let (value, rest) = read?;
+        Ok(beside(value, self.close(rest))?)
     }
 
     // The tokens after a closing parenthesis.

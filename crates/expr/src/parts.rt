@@ -3,7 +3,7 @@ ghost use Rattle.std.specs.Prelude.{◌≡◌};
 ghost use Rattle.fallible.specs.Failures.{IsOrMemory};
 ghost use Rattle.energy_program.specs.Tree.{tree_of};
 ghost use Rattle.energy_program.specs.Tree as t;
-ghost use Rattle.expr.specs.Uses.{Grows};
+ghost use Rattle.expr.specs.Uses.{Grows, GrowsThree, GrowsTwo, paired};
 
 use energy_program::{Exponent, Expr, ExprFault, Function, Operator};
 use fallible::Failure;
@@ -11,6 +11,20 @@ use std::alloc::Allocator;
 
 /// A tree, or why there is none. It stands in a block of its own, so that one that waits for others is a pointer.
 pub type Part<A> = Result<Box<Expr<A>, A>, Failure<ExprFault<A>>>;
+
+/// Both values, or why one of them isn't there, the first before the second.
+pub fn pair<S: Drop, T: Drop, E: Drop>(
+    first: Result<S, E>,
+    second: Result<T, E>,
+) -> Result<(S, T), E>
+    ensures { result ≡ paired first second }
+{
+    match (first, second) {
+        (Ok(first), Ok(second)) => Ok((first, second)),
+        (Err(fault), _) => Err(fault),
+        (_, Err(fault)) => Err(fault),
+    }
+}
 
 /// A tree without parts.
 pub fn leaf<A: Allocator + Copy>(alloc: A, tree: Expr<A>) -> Part<A>
@@ -28,12 +42,12 @@ pub fn negative<A: Allocator + Copy>(alloc: A, part: Part<A>) -> Part<A>
 pub fn operation<A: Allocator + Copy>(
     alloc: A,
     operator: Operator,
-    left: Box<Expr<A>, A>,
+    left: Part<A>,
     right: Part<A>,
 ) -> Part<A>
-    ensures { Grows (t.Binary operator (tree_of left.value)) right result }
+    ensures { GrowsTwo (t.Binary operator) left right result }
 {
-    let right = right?;
+    let (left, right) = pair(left, right)?;
     leaf(alloc, Expr::Binary(operator, left, right))
 }
 
@@ -51,12 +65,12 @@ pub fn raised<A: Allocator + Copy>(alloc: A, base: Part<A>, exponent: Exponent) 
 
 pub fn choice<A: Allocator + Copy>(
     alloc: A,
-    condition: Box<Expr<A>, A>,
-    chosen: Box<Expr<A>, A>,
+    condition: Part<A>,
+    chosen: Part<A>,
     otherwise: Part<A>,
 ) -> Part<A>
-    ensures { Grows (t.Select (tree_of condition.value) (tree_of chosen.value)) otherwise result }
+    ensures { GrowsThree t.Select condition chosen otherwise result }
 {
-    let otherwise = otherwise?;
+    let ((condition, chosen), otherwise) = pair(pair(condition, chosen), otherwise)?;
     leaf(alloc, Expr::Select(condition, chosen, otherwise))
 }

@@ -9,7 +9,7 @@ ghost use Rattle.expr.specs.Syntax.{definition_of, definitions_of, names_in, sou
 ghost use Rattle.expr.specs.Uses.{all_resolved, resolved, trees, used};
 
 use crate::definitions::number_from;
-use crate::parts::{Part, application, choice, leaf, negative, operation, raised};
+use crate::parts::{Part, application, choice, leaf, negative, operation, pair, raised};
 use crate::sources::{Definition, Source};
 use crate::syntax::Syntax;
 use energy_program::{Expr, ExprFault, Names, Program};
@@ -50,17 +50,19 @@ pub fn resolve<A: Allocator + Copy>(alloc: A, scope: &Scope<A>, syntax: &Syntax<
         Syntax::Name(name) => used(alloc, scope, name),
         Syntax::Negated(part) => negative(alloc, resolve(alloc, scope, part)),
         Syntax::Binary(operator, left, right) => {
-            let left = resolve(alloc, scope, left)?;
-            operation(alloc, *operator, left, resolve(alloc, scope, right))
+            let left = resolve(alloc, scope, left);
+            let right = resolve(alloc, scope, right);
+            operation(alloc, *operator, left, right)
         }
         Syntax::Applied(function, part) => {
             application(alloc, *function, resolve(alloc, scope, part))
         }
         Syntax::Power(base, exponent) => raised(alloc, resolve(alloc, scope, base), *exponent),
         Syntax::Select(condition, chosen, otherwise) => {
-            let condition = resolve(alloc, scope, condition)?;
-            let chosen = resolve(alloc, scope, chosen)?;
-            choice(alloc, condition, chosen, resolve(alloc, scope, otherwise))
+            let condition = resolve(alloc, scope, condition);
+            let chosen = resolve(alloc, scope, chosen);
+            let otherwise = resolve(alloc, scope, otherwise);
+            choice(alloc, condition, chosen, otherwise)
         }
     }
 }
@@ -106,8 +108,9 @@ pub fn program<A: Allocator + Copy>(
         first: 0,
         later: &source.definitions,
     };
-    let body = resolve(alloc, &scope, &source.body)?;
-    let definitions = resolve_all(alloc, names, &source.definitions)?;
+    let body = resolve(alloc, &scope, &source.body);
+    let definitions = resolve_all(alloc, names, &source.definitions);
+    let (body, definitions) = pair(body, definitions)?;
     Ok(Program {
         body: Box::into_inner(body),
         definitions,

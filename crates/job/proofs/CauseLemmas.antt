@@ -10,13 +10,14 @@ use Rattle.line_text.proofs.StepLaws.{Split, split}
 use Rattle.fixed.specs.declared.frac.Frac.{Frac}
 use Rattle.job.specs.Bits.{frac_in}
 use Rattle.job.specs.Faults.{Refusal, Said, TypeLine, bad_line, first_fault, line_fault, missing, or_else, out_of_range, summary}
-use Rattle.job.specs.JobFaults.{IsCause, LacksPart, no_energy, no_core, no_cutoff, no_time_step, short_cutoff, other_values}
-use Rattle.job.specs.JobText.{header, job_from, lines_reading, needed, ordered, reading_at, reading_of, unless, whole_types}
+use Rattle.job.specs.JobFaults.{IsCause, IsThere, LacksPart, no_energy, no_core, no_cutoff, no_time_step, short_cutoff, other_values}
+use Rattle.job.specs.JobText.{header, job_from, lines_reading, needed, needed_numbers, reading_at, reading_of, unless, whole_types}
 use Rattle.job.specs.Values.{Counts, JobValue, TypeValue}
 use Rattle.job.specs.Words.{lines_of}
 use Rattle.job.specs.declared.faults.Key.{Key}
 use Rattle.job.specs.declared.faults.Key.TheVariants as keys
-use Rattle.job.proofs.TextLemmas.{faultless_from, needed_ok, ordered_ok}
+use Rattle.job.proofs.PartLemmas.{numbers_ok}
+use Rattle.job.proofs.TextLemmas.{faultless_from, needed_ok}
 
 -- ---- the line at fault
 
@@ -60,13 +61,6 @@ needed_err : {X : Type 0} (key : Key) (o : Option X) (f : Refusal) → needed ke
 needed_err key None f e = (refl, cc)
 needed_err key (Some x) f e = absurd cc
 
-ordered_err : (core cutoff : ℤ) (f : Refusal) → ordered core cutoff ≡ Err f → (int_lt core cutoff ≡ false) × (f ≡ out_of_range keys.Cutoff)
-ordered_err core cutoff f e = at (int_lt core cutoff) refl e
-  where
-    at : (b : Bool) → int_lt core cutoff ≡ b → ◌≡◌ {A = Result ℤ Refusal} (if b then Ok cutoff else Err (out_of_range keys.Cutoff)) (Err f) → (int_lt core cutoff ≡ false) × (f ≡ out_of_range keys.Cutoff)
-    at true b e = absurd cc
-    at false b e = (b, cc)
-
 -- the first type with another number of values
 abbrev HasOther : ℕ → List TypeLine → Refusal → Type 0
 HasOther k ts f = (before : List TypeLine) × (after : List TypeLine) × (t : TypeLine) × (ts ≡ before ++ t ∷ after) × All (λ u. length u.value.values ≡ k) before × (length t.value.values ≢ k) × (f ≡ bad_line t.line)
@@ -86,70 +80,54 @@ whole_err k (t ∷ ts) f e = at (eqb (length t.value.values) k) refl (λ d. whol
     at false b again r is e = ([], ts, t, refl, All-nil (λ u. length u.value.values ≡ k), eqb-false (length t.value.values) k b, cc)
 
 -- the job of these parts
-abbrev job_of : Said → List ℕ → ℤ → ℕ → ℤ → List TypeValue → Result JobValue Refusal
-job_of s energy core time_step cutoff types = Ok (record {
+abbrev job_of : Said → List ℕ → ℤ × ℤ × ℕ → List TypeValue → Result JobValue Refusal
+job_of s energy numbers types = Ok (record {
   frac = s.frac;
   energy = energy;
-  core = core;
-  cutoff = cutoff;
-  time_step = time_step;
+  core = numbers.0;
+  cutoff = numbers.1;
+  time_step = numbers.2;
   slices = unwrap_or s.slices 64;
   parameters = s.parameters;
   globals = s.globals;
   types = types;
 })
 
+numbers_lack : (s : Said) (f : Refusal) → IsThere s.energy → (core cutoff : Option ℤ) (time_step : Option ℕ) → s.core ≡ core → s.cutoff ≡ cutoff → s.time_step ≡ time_step → needed_numbers core cutoff time_step ≡ Err f → LacksPart s f
+unfolding needed_numbers
+numbers_lack s f energy None cutoff time_step co cu ti e = no_core energy co cc
+numbers_lack s f energy (Some c) None time_step co cu ti e = no_cutoff energy (c, co) cu cc
+numbers_lack s f energy (Some c) (Some l) None co cu ti e = no_time_step energy (c, co) (l, cu) ti cc
+numbers_lack s f energy (Some c) (Some l) (Some t) co cu ti e = at (int_lt c l) refl e
+  where
+    at : (b : Bool) → int_lt c l ≡ b → ◌≡◌ {A = Result (ℤ × ℤ × ℕ) Refusal} ((if b then Ok l else Err (out_of_range keys.Cutoff)) >>= λ u. Ok (c, u, t)) (Err f) → LacksPart s f
+    at true b e = absurd cc
+    at false b e = short_cutoff c l energy co cu (t, ti) (λ less. let wrong : false ≡ true = sym b ∙ T_true (int_lt c l) less.lt in cc) cc
+
 job_lacks : (s : Said) (f : Refusal) → job_from s ≡ Err f → LacksPart s f
 unfolding job_from
 job_lacks s f e = by_energy (split f (needed keys.Energy s.energy) with_energy e)
   where
-    with_cutoff : List ℕ → ℤ → ℕ → ℤ → Result JobValue Refusal
-    with_cutoff energy core time_step cutoff = whole_types (length s.parameters) s.types >>= job_of s energy core time_step cutoff
-
-    with_step : List ℕ → ℤ → ℤ → ℕ → Result JobValue Refusal
-    with_step energy core longest time_step = ordered core longest >>= with_cutoff energy core time_step
-
-    with_longest : List ℕ → ℤ → ℤ → Result JobValue Refusal
-    with_longest energy core longest = needed keys.TimeStep s.time_step >>= with_step energy core longest
-
-    with_core : List ℕ → ℤ → Result JobValue Refusal
-    with_core energy core = needed keys.Cutoff s.cutoff >>= with_longest energy core
+    with_numbers : List ℕ → ℤ × ℤ × ℕ → Result JobValue Refusal
+    with_numbers energy numbers = whole_types (length s.parameters) s.types >>= job_of s energy numbers
 
     with_energy : List ℕ → Result JobValue Refusal
-    with_energy energy = needed keys.Core s.core >>= with_core energy
+    with_energy energy = needed_numbers s.core s.cutoff s.time_step >>= with_numbers energy
 
-    by_types : (energy : List ℕ) (core longest cutoff : ℤ) (step : ℕ) → s.energy ≡ Some energy → s.core ≡ Some core → s.cutoff ≡ Some longest → s.time_step ≡ Some step → int_lt core longest ≡ true
-        → Split {B = JobValue} f (whole_types (length s.parameters) s.types) (job_of s energy core step cutoff) → LacksPart s f
-    by_types energy core longest cutoff step en co lo st long (inr (types, good, wrong)) = absurd cc
-    by_types energy core longest cutoff step en co lo st long (inl bad) =
+    by_types : (energy : List ℕ) (n : ℤ × ℤ × ℕ) → s.energy ≡ Some energy → needed_numbers s.core s.cutoff s.time_step ≡ Ok n → Split {B = JobValue} f (whole_types (length s.parameters) s.types) (job_of s energy n) → LacksPart s f
+    by_types energy n en good (inr (types, whole, wrong)) = absurd cc
+    by_types energy n en good (inl bad) =
+        let k = numbers_ok s.core s.cutoff s.time_step n good in
         let h = whole_err (length s.parameters) s.types f bad in
-        other_values (record { core = core; cutoff = longest; energy' = (energy, en); core' = co; cutoff' = lo; time_step' = (step, st); longer = record { lt = true_T (int_lt core longest) long } }) h.0 h.1 h.2 h.3 h.4 h.5 h.6
+        other_values (record { core = n.0; cutoff = n.1; energy' = (energy, en); core' = k.0; cutoff' = k.1; time_step' = (n.2, k.2); longer = record { lt = true_T (int_lt n.0 n.1) k.3 } }) h.0 h.1 h.2 h.3 h.4 h.5 h.6
 
-    by_order : (energy : List ℕ) (core longest : ℤ) (step : ℕ) → s.energy ≡ Some energy → s.core ≡ Some core → s.cutoff ≡ Some longest → s.time_step ≡ Some step
-        → Split {B = JobValue} f (ordered core longest) (with_cutoff energy core step) → LacksPart s f
-    by_order energy core longest step en co lo st (inl bad) =
-        let h = ordered_err core longest f bad in
-        short_cutoff core longest (energy, en) co lo (step, st) (λ less. let wrong : false ≡ true = sym h.0 ∙ T_true (int_lt core longest) less.lt in cc) h.1
-    by_order energy core longest step en co lo st (inr (cutoff, good, d)) =
-        by_types energy core longest cutoff step en co lo st (ordered_ok core longest cutoff good).1 (split f (whole_types (length s.parameters) s.types) (job_of s energy core step cutoff) d)
-
-    by_step : (energy : List ℕ) (core longest : ℤ) → s.energy ≡ Some energy → s.core ≡ Some core → s.cutoff ≡ Some longest → Split {B = JobValue} f (needed keys.TimeStep s.time_step) (with_step energy core longest) → LacksPart s f
-    by_step energy core longest en co lo (inl bad) = let h = needed_err keys.TimeStep s.time_step f bad in no_time_step (energy, en) (core, co) (longest, lo) h.0 h.1
-    by_step energy core longest en co lo (inr (step, good, d)) =
-        by_order energy core longest step en co lo (needed_ok keys.TimeStep s.time_step step good) (split f (ordered core longest) (with_cutoff energy core step) d)
-
-    by_cutoff : (energy : List ℕ) (core : ℤ) → s.energy ≡ Some energy → s.core ≡ Some core → Split {B = JobValue} f (needed keys.Cutoff s.cutoff) (with_longest energy core) → LacksPart s f
-    by_cutoff energy core en co (inl bad) = let h = needed_err keys.Cutoff s.cutoff f bad in no_cutoff (energy, en) (core, co) h.0 h.1
-    by_cutoff energy core en co (inr (longest, good, d)) =
-        by_step energy core longest en co (needed_ok keys.Cutoff s.cutoff longest good) (split f (needed keys.TimeStep s.time_step) (with_step energy core longest) d)
-
-    by_core : (energy : List ℕ) → s.energy ≡ Some energy → Split {B = JobValue} f (needed keys.Core s.core) (with_core energy) → LacksPart s f
-    by_core energy en (inl bad) = let h = needed_err keys.Core s.core f bad in no_core (energy, en) h.0 h.1
-    by_core energy en (inr (core, good, d)) = by_cutoff energy core en (needed_ok keys.Core s.core core good) (split f (needed keys.Cutoff s.cutoff) (with_longest energy core) d)
+    by_numbers : (energy : List ℕ) → s.energy ≡ Some energy → Split {B = JobValue} f (needed_numbers s.core s.cutoff s.time_step) (with_numbers energy) → LacksPart s f
+    by_numbers energy en (inl bad) = numbers_lack s f (energy, en) s.core s.cutoff s.time_step refl refl refl bad
+    by_numbers energy en (inr (n, good, d)) = by_types energy n en good (split f (whole_types (length s.parameters) s.types) (job_of s energy n) d)
 
     by_energy : Split {B = JobValue} f (needed keys.Energy s.energy) with_energy → LacksPart s f
     by_energy (inl bad) = let h = needed_err keys.Energy s.energy f bad in no_energy h.0 h.1
-    by_energy (inr (energy, good, d)) = by_core energy (needed_ok keys.Energy s.energy energy good) (split f (needed keys.Core s.core) (with_core energy) d)
+    by_energy (inr (energy, good, d)) = by_numbers energy (needed_ok keys.Energy s.energy energy good) (split f (needed_numbers s.core s.cutoff s.time_step) (with_numbers energy) d)
 
 -- ---- the whole
 

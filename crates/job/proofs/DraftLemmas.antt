@@ -1,22 +1,23 @@
--- Drafts after one more line of a key that many lines may have.
-use Rattle.std.proofs.Common.{◌≡◌, ℕ, ◌<◌, ◌≤◌, ℤ, Bool, true, false, if◌then◌else◌, List, [], ◌∷◌, ◌++◌, length, map, Option, Some, None, Result, Ok, Err, ok_or, option_map, refl, sym, ap, ◌∙◌, length-append, arith, lt-ltb, le-ltb}
+-- Drafts after one more line.
+use Rattle.std.proofs.Common.{◌≡◌, inl, inr, IfOk, IfSome, ℕ, ◌<◌, ◌≤◌, ℤ, Bool, true, false, if◌then◌else◌, List, [], ◌∷◌, ◌++◌, length, map, Option, Some, None, Result, Ok, Err, ok_or, refl, sym, ap, ◌∙◌, length-append, arith, lt-ltb, le-ltb, subst}
 use Rattle.std.proofs.lemmas.List.{map-append}
 use Rattle.std.proofs.lemmas.List.Elements.{All-same, All-push}
 use Rattle.std.specs.List.{All}
 use Rattle.std.specs.Prelude.{IsErr, IsErrAnd}
-use Rattle.fallible.specs.Failures.{Fails, Gives, IfRefused}
+use Rattle.fallible.specs.Failures.{Answers, Fails, Gives, IfRefused}
+use Rattle.fallible.proofs.FailureLaws.{fails_as}
 use Rattle.fallible.specs.declared.failure.Failure.{Failure}
 use Rattle.fallible.specs.declared.failure.Failure.TheVariants.{Refused, Memory}
 use Rattle.job.specs.declared.faults.Key.TheVariants as keys
 use Rattle.line_text.specs.Identifiers.{is_identifier}
 use Rattle.job.specs.Words.{two}
-use Rattle.fixed.specs.declared.faults.NumFault.TheVariants.{BadNumber, NumberRange}
-use Rattle.job.specs.Numbers.{Reading, mapped, both, mass_of, values_of, signed_of}
+use Rattle.job.specs.Numbers.{Reading, both, mass_of, values_of, signed_of}
 use Rattle.job.specs.Statements.{well_formed}
 use Rattle.job.specs.Values.{GlobalValue, Counts}
 use Rattle.job.specs.Faults.{Refusal, bad_line, repeated_name, repeated_type, out_of_range, TypeLine, Said, knows}
 use Rattle.job.specs.Forms.{is_type_name}
-use Rattle.job.specs.Drafts.{parameter_new, global_new, global_by, global_into, type_new, type_by, type_into}
+use Rattle.line_text.specs.Steps.{◌>>=◌}
+use Rattle.job.specs.Drafts.{IsPut, parameter_new, global_new, global_by, global_into, type_new, type_by, type_into}
 
 -- a refusal of this fault
 pub refused : {X R S : Type 0} (seen : R → S) (failure : Failure R) (fault : S) (r : Result X S) → IfRefused failure (λ f. seen f ≡ fault) → r ≡ Err fault → Fails seen failure r
@@ -28,6 +29,23 @@ pub passed_on : {X Y R S : Type 0} (view : X → Y) (seen : R → S) (result : R
     → Gives view seen result r
 passed_on view seen (Ok x) failure r p h = absurd p.1
 passed_on view seen (Err x) failure r p h = rw p.1 h
+
+-- ---- keys of one line
+
+-- what holds of the number in a place and of the one that is read holds of the number that is put there
+pub put_holds : {X : Type 0} (P : X → Type 0) (old new : Option X) (reading : Reading X) → IsPut old new reading → IfSome old P → IfOk reading P → IfSome new P
+put_holds P old new reading (inl same) h k = subst (λ o. IfSome o P) (sym same) h
+put_holds P old new reading (inr (v, there, read)) h k = rw there (rw read at k)
+
+-- a draft with the number put into its place, or why it isn't
+pub put_answers : {X R : Type 0} (seen : R → Refusal) (set : Option X → Said) (new : Option X) (result : Result (Unit {0}) R) (number : Result X Refusal) → Answers (λ _. new) seen result (number >>= λ v. Ok (Some v))
+    → Answers (λ _. set new) seen result (number >>= λ v. Ok (set (Some v)))
+put_answers {X = X} seen set new (Ok u) (Ok v) h = let same : ◌≡◌ {A = Option X} (Some v) new = cc in ap (λ o. Ok (set o)) same
+put_answers seen set new (Ok u) (Err e) h = absurd cc
+put_answers seen set new (Err f) (Ok v) h = absurd cc
+put_answers seen set new (Err f) (Err e) h = let same : e ≡ seen f = cc in ap (λ (x : Refusal). Err x) same
+
+-- ---- keys of many lines
 
 -- one element more is seen as its value behind those of the others
 pub pushed : {X Y : Type 0} (view : X → Y) (xs ys : List X) (x : X) (y : Y) → ys ≡ xs ++ x ∷ [] → view x ≡ y → map view ys ≡ map view xs ++ y ∷ []
@@ -132,27 +150,21 @@ by_words : (most : Counts) (n : ℕ) (s : Said) (ws rest values : List (List ℕ
     → r ≡ both (mass_of mass) (values_of s.frac values) → type_into most n s ws ≡ type_by most n s name (well_formed r)
 by_words most n s ws rest values name mass r first second is read = rw (first, second, is, ← read) refl
 
-by_numbers : {X : Type 0} (view : X → ℕ × List ℤ) (most : Counts) (n : ℕ) (s : Said) (name : List ℕ) (r : Reading X) (v : Option X) → ok_or (well_formed r) (bad_line n) ≡ Ok v
-    → type_by most n s name (well_formed (mapped view r)) ≡ type_new most n s name (option_map view v)
-by_numbers view most n s name (Ok x) v e = let same : Some x ≡ v = cc in ap (λ u. type_new most n s name (option_map view u)) same
-by_numbers {X = X} view most n s name (Err NumberRange) v e = let same : ◌≡◌ {A = Option X} None v = cc in ap (λ u. type_new most n s name (option_map view u)) same
-by_numbers view most n s name (Err BadNumber) v e = absurd cc
+by_numbers : (most : Counts) (n : ℕ) (s : Said) (name : List ℕ) (o : Option (Option (ℕ × List ℤ))) (v : Option (ℕ × List ℤ)) → ok_or o (bad_line n) ≡ Ok v → type_by most n s name o ≡ type_new most n s name v
+by_numbers most n s name None v e = absurd cc
+by_numbers most n s name (Some u) v e = let same : u ≡ v = cc in ap (type_new most n s name) same
 
-malformed : {X : Type 0} (view : X → ℕ × List ℤ) (most : Counts) (n : ℕ) (s : Said) (name : List ℕ) (r : Reading X) (f : Refusal) → ok_or (well_formed r) (bad_line n) ≡ Err f
-    → type_by most n s name (well_formed (mapped view r)) ≡ Err f
-malformed view most n s name (Ok x) f e = absurd cc
-malformed view most n s name (Err NumberRange) f e = absurd cc
-malformed view most n s name (Err BadNumber) f e = let same : bad_line n ≡ f = cc in ap (λ (x : Refusal). Err x) same
+malformed : (most : Counts) (n : ℕ) (s : Said) (name : List ℕ) (o : Option (Option (ℕ × List ℤ))) (f : Refusal) → ok_or o (bad_line n) ≡ Err f → type_by most n s name o ≡ Err f
+malformed most n s name (Some u) f e = absurd cc
+malformed most n s name None f e = let same : bad_line n ≡ f = cc in ap (λ (x : Refusal). Err x) same
 
--- numbers that are well formed have a new type, or not
-pub type_by_numbers : {X : Type 0} (view : X → ℕ × List ℤ) (most : Counts) (n : ℕ) (s : Said) (ws rest values : List (List ℕ)) (name mass : List ℕ) (r : Reading X) (v : Option X) → ws ≡ name ∷ rest
-    → rest ≡ mass ∷ values → is_type_name name ≡ true → mapped view r ≡ both (mass_of mass) (values_of s.frac values) → ok_or (well_formed r) (bad_line n) ≡ Ok v
-    → type_into most n s ws ≡ type_new most n s name (option_map view v)
-type_by_numbers view most n s ws rest values name mass r v first second is read ok = by_words most n s ws rest values name mass (mapped view r) first second is read ∙ by_numbers view most n s name r v ok
+module _ (most : Counts) (n : ℕ) (s : Said) (ws rest values : List (List ℕ)) (name mass : List ℕ) (first : ws ≡ name ∷ rest) (second : rest ≡ mass ∷ values) (is : is_type_name name ≡ true) where
+  -- numbers that are well formed have a new type, or not
+  pub type_by_numbers : (v : Option (ℕ × List ℤ)) → ok_or (well_formed (both (mass_of mass) (values_of s.frac values))) (bad_line n) ≡ Ok v → type_into most n s ws ≡ type_new most n s name v
+  type_by_numbers v ok = by_words most n s ws rest values name mass _ first second is refl ∙ by_numbers most n s name (well_formed (both (mass_of mass) (values_of s.frac values))) v ok
 
--- malformed numbers are a fault
-pub type_malformed : {X : Type 0} (view : X → ℕ × List ℤ) (most : Counts) (n : ℕ) (s : Said) (ws rest values : List (List ℕ)) (name mass : List ℕ) (r : Reading X) (f : Refusal) → ws ≡ name ∷ rest
-    → rest ≡ mass ∷ values → is_type_name name ≡ true → mapped view r ≡ both (mass_of mass) (values_of s.frac values) → ok_or (well_formed r) (bad_line n) ≡ Err f
-    → type_into most n s ws ≡ Err f
-type_malformed view most n s ws rest values name mass r f first second is read e =
-    by_words most n s ws rest values name mass (mapped view r) first second is read ∙ malformed view most n s name r f e
+  -- a failure of the numbers is the failure of the line
+  pub type_fails : {R : Type 0} (seen : R → Refusal) (failure : Failure R) → Fails seen failure (ok_or (well_formed (both (mass_of mass) (values_of s.frac values))) (bad_line n)) → Fails seen failure (type_into most n s ws)
+  type_fails seen failure h =
+      fails_as seen failure _ (type_into most n s ws)
+      (λ f e. by_words most n s ws rest values name mass _ first second is refl ∙ malformed most n s name (well_formed (both (mass_of mass) (values_of s.frac values))) f e) h

@@ -1,12 +1,12 @@
 pub mod NumberLemmas
 pub mod FormLemmas
+pub mod PartLemmas
 pub mod DraftLemmas
 pub mod LineLemmas
 pub mod CountLemmas
 pub mod ViewLemmas
 pub mod FaultLemmas
 pub mod BitsLemmas
-pub mod PartLemmas
 pub mod TextLemmas
 pub mod OnceLemmas
 pub mod ApartLemmas

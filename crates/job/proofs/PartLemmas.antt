@@ -1,48 +1,73 @@
--- The job of what all lines have said, its numbers found in one step.
-use Rattle.std.proofs.Common.{◌≡◌, ℕ, ℤ, List, length, Option, Some, None, Result, Ok, Err, refl, sym, ap, ◌∙◌}
+-- The job of what all lines have said, part by part.
+use Rattle.std.proofs.Common.{◌≡◌, ℕ, ℤ, int_lt, ◌<◌, Bool, true, false, List, [], ◌∷◌, length, Option, Some, None, Ok, Err, refl, sym, ap, ◌∙◌, arith, if◌then◌else◌}
 use Rattle.std.specs.Option.{unwrap_or}
 use Rattle.job.specs.declared.faults.Key.TheVariants as keys
 use Rattle.line_text.specs.Steps.{◌>>=◌}
-use Rattle.line_text.proofs.StepLaws.{bind_err}
-use Rattle.job.specs.Values.{JobValue}
-use Rattle.job.specs.Faults.{Refusal, Said}
-use Rattle.job.specs.JobText.{needed, needed_numbers, ordered, whole_types, job_from}
+use Rattle.job.specs.Values.{TypeValue}
+use Rattle.job.specs.Faults.{Refusal, Said, missing, out_of_range}
+use Rattle.job.specs.JobText.{needed_numbers, whole_types, job_from}
+use Rattle.job.specs.Views.{text_said}
 
-bind_bind : {A B C E : Type 0} (r : Result A E) (f : A → Result B E) (g : B → Result C E) → ((r >>= f) >>= g) ≡ (r >>= λ x. f x >>= g)
-bind_bind (Ok x) f g = refl
-bind_bind (Err e) f g = refl
+-- ---- the energy
 
--- the job of this energy and these numbers
-abbrev pub job_with : Said → List ℕ → ℤ × ℤ × ℕ → Result JobValue Refusal
-job_with s energy numbers = whole_types (length s.parameters) s.types >>= λ types. Ok (record {
-  frac = s.frac;
-  energy = energy;
-  core = numbers.0;
-  cutoff = numbers.1;
-  time_step = numbers.2;
-  slices = unwrap_or s.slices 64;
-  parameters = s.parameters;
-  globals = s.globals;
-  types = types;
-})
+-- an empty text is none
+pub text_none : (text : List ℕ) → length text ≡ 0 → text_said text ≡ None
+text_none [] e = refl
+text_none (b ∷ bs) e = absurd (omega arith)
 
--- where an energy was said, the job is that of its numbers
-pub job_from_numbers : (s : Said) (energy : List ℕ) → s.energy ≡ Some energy → job_from s ≡ (needed_numbers s.core s.cutoff s.time_step >>= job_with s energy)
-unfolding job_from needed_numbers
-job_from_numbers s energy e = rw e (at s.core s.cutoff s.time_step)
+-- any other is one
+pub text_some : (text : List ℕ) → 0 < length text → text_said text ≡ Some text
+text_some [] lt = absurd (omega arith)
+text_some (b ∷ bs) lt = refl
+
+-- ---- the numbers
+
+-- numbers that were needed and taken were said, and the cutoff is more than the core
+pub numbers_ok : (core cutoff : Option ℤ) (time_step : Option ℕ) (n : ℤ × ℤ × ℕ) → needed_numbers core cutoff time_step ≡ Ok n
+    → (core ≡ Some n.0) × (cutoff ≡ Some n.1) × (time_step ≡ Some n.2) × (int_lt n.0 n.1 ≡ true)
+unfolding needed_numbers
+numbers_ok None cutoff time_step n e = absurd cc
+numbers_ok (Some c) None time_step n e = absurd cc
+numbers_ok (Some c) (Some l) None n e = absurd cc
+numbers_ok (Some c) (Some l) (Some t) n e = at (int_lt c l) refl e
   where
-    at : (core longest : Option ℤ) (time_step : Option ℕ)
-        → (needed keys.Core core >>= λ c. needed keys.Cutoff longest >>= λ l. needed keys.TimeStep time_step >>= λ t. ordered c l >>= λ u. job_with s energy (c, u, t))
-        ≡ ((needed keys.Core core >>= λ c. needed keys.Cutoff longest >>= λ l. needed keys.TimeStep time_step >>= λ t. ordered c l >>= λ u. Ok (c, u, t)) >>= job_with s energy)
-    at None longest time_step = refl
-    at (Some c) None time_step = refl
-    at (Some c) (Some l) None = refl
-    at (Some c) (Some l) (Some t) = sym (bind_bind (ordered c l) (λ u. Ok (c, u, t)) (job_with s energy))
+    at : (b : Bool) → int_lt c l ≡ b → ((if b then Ok l else Err (out_of_range keys.Cutoff)) >>= λ u. Ok (c, u, t)) ≡ Ok n
+        → (Some c ≡ Some n.0) × (Some l ≡ Some n.1) × (Some t ≡ Some n.2) × (int_lt n.0 n.1 ≡ true)
+    at false less e = absurd cc
+    at true less e =
+        let same : ◌≡◌ {A = ℤ × ℤ × ℕ} (c, l, t) n = cc in
+        (ap (λ (x : ℤ × ℤ × ℕ). Some x.0) same, ap (λ (x : ℤ × ℤ × ℕ). Some x.1) same, ap (λ (x : ℤ × ℤ × ℕ). Some x.2) same, ap (λ (x : ℤ × ℤ × ℕ). int_lt x.0 x.1) (sym same) ∙ less)
 
--- what of the numbers is at fault is the fault of the whole
-pub numbers_fault : (s : Said) (energy : List ℕ) (f : Refusal) → s.energy ≡ Some energy → needed_numbers s.core s.cutoff s.time_step ≡ Err f → job_from s ≡ Err f
-numbers_fault s energy f e h = job_from_numbers s energy e ∙ bind_err (needed_numbers s.core s.cutoff s.time_step) (job_with s energy) f h
+-- ---- the whole
 
--- where the numbers were said too, the job is that of its types
-pub numbers_found : (s : Said) (energy : List ℕ) (numbers : ℤ × ℤ × ℕ) → s.energy ≡ Some energy → needed_numbers s.core s.cutoff s.time_step ≡ Ok numbers → job_from s ≡ job_with s energy numbers
-numbers_found s energy numbers e h = job_from_numbers s energy e ∙ ap (λ r. r >>= job_with s energy) h
+-- without an energy there is no job
+pub energy_lacks : (s : Said) → s.energy ≡ None → job_from s ≡ Err (missing keys.Energy)
+unfolding job_from
+energy_lacks s e = rw e refl
+
+module _ (s : Said) (energy : List ℕ) (said : s.energy ≡ Some energy) where
+  -- a fault of the numbers is the fault of the whole
+  pub numbers_fault : (f : Refusal) → needed_numbers s.core s.cutoff s.time_step ≡ Err f → job_from s ≡ Err f
+  unfolding job_from
+  numbers_fault f h = rw (said, h) refl
+
+  -- and so is one of the types
+  pub types_fault : (n : ℤ × ℤ × ℕ) (f : Refusal) → needed_numbers s.core s.cutoff s.time_step ≡ Ok n → whole_types (length s.parameters) s.types ≡ Err f → job_from s ≡ Err f
+  unfolding job_from
+  types_fault n f h w = rw (said, h, w) refl
+
+  -- where no part is lacking, there is a job
+  pub job_found : (n : ℤ × ℤ × ℕ) (types : List TypeValue) → needed_numbers s.core s.cutoff s.time_step ≡ Ok n → whole_types (length s.parameters) s.types ≡ Ok types
+      → job_from s ≡ Ok (record {
+        frac = s.frac;
+        energy = energy;
+        core = n.0;
+        cutoff = n.1;
+        time_step = n.2;
+        slices = unwrap_or s.slices 64;
+        parameters = s.parameters;
+        globals = s.globals;
+        types = types;
+      })
+  unfolding job_from
+  job_found n types h w = rw (said, h, w) refl

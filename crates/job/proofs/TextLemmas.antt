@@ -3,7 +3,8 @@ use Rattle.std.proofs.Common.{◌≡◌, ℕ, ℤ, int_lt, Bool, true, false, Li
 use Rattle.std.specs.Option.{unwrap_or}
 use Rattle.std.proofs.lemmas.List.Elements.{All-nil, All-cons, All-head, All-tail}
 use Rattle.std.proofs.lemmas.Slice.Eq.{bytes_eq-Decides}
-use Rattle.fallible.specs.Failures.{Gives, IsOrMemory}
+use Rattle.fallible.proofs.FailureLaws.{fails_as}
+use Rattle.fallible.specs.Failures.{Fails, Gives, IsOrMemory}
 use Rattle.fallible.specs.declared.failure.Failure.{Failure}
 use Rattle.fallible.specs.declared.failure.Failure.TheVariants.{Refused, Memory}
 use Rattle.fixed.specs.declared.frac.Frac.{Frac}
@@ -11,12 +12,12 @@ use Rattle.fixed.specs.declared.frac.Frac.TheVariants.{F32}
 use Rattle.job.specs.declared.faults.Key.{Key}
 use Rattle.job.specs.declared.faults.Key.TheVariants as keys
 use Rattle.job.specs.Words.{lines_of}
-use Rattle.job.specs.Faults.{Refusal, bad_line, out_of_range, TypeLine, Said, summary, line_fault, or_else, first_fault}
+use Rattle.job.specs.Faults.{Refusal, bad_line, TypeLine, Said, summary, line_fault, or_else, first_fault}
 use Rattle.job.specs.Bits.{frac_in}
 use Rattle.line_text.specs.Steps.{◌>>=◌}
 use Rattle.line_text.proofs.ResidueNumbers.{T_true, true_T}
 use Rattle.line_text.proofs.StepLaws.{bind_ok}
-use Rattle.job.specs.JobText.{header, IsFaultless, IsJobText, Tells, needed, ordered, whole_types, job_from, unless, reading_at, lines_reading, reading_of, ReadsJobTexts}
+use Rattle.job.specs.JobText.{header, IsFaultless, IsJobText, Tells, needed, needed_numbers, whole_types, job_from, unless, reading_at, lines_reading, reading_of, ReadsJobTexts}
 use Rattle.job.specs.Values.{TypeValue, JobValue, Counts}
 use Rattle.job.specs.declared.jobs.Job.{Job}
 use Rattle.job.specs.declared.faults.JobFault.{JobFault}
@@ -24,6 +25,7 @@ use Rattle.job.specs.Views.{job_value, refusal_of}
 use Rattle.job.specs.Drafts.{nothing, lines_into, lines_job}
 use Rattle.job.proofs.FaultLemmas.{outcome, lines_below}
 use Rattle.job.proofs.BitsLemmas.{frac_said}
+use Rattle.job.proofs.PartLemmas.{numbers_ok}
 
 -- ---- the reader, line by line
 
@@ -80,14 +82,6 @@ pub needed_ok : {X : Type 0} (key : Key) (o : Option X) (x : X) → needed key o
 needed_ok key None x e = absurd cc
 needed_ok key (Some y) x e = cc
 
--- a cutoff that was taken is more than the core
-pub ordered_ok : (core cutoff z : ℤ) → ordered core cutoff ≡ Ok z → (cutoff ≡ z) × (int_lt core cutoff ≡ true)
-ordered_ok core cutoff z e = at (int_lt core cutoff) e
-  where
-    at : (b : Bool) → (if b then Ok cutoff else Err (out_of_range keys.Cutoff)) ≡ Ok z → (cutoff ≡ z) × (b ≡ true)
-    at true h = (cc, refl)
-    at false h = absurd cc
-
 whole_ok : (k : ℕ) (ts : List TypeLine) (us : List TypeValue) → whole_types k ts ≡ Ok us → (map (λ t. t.value) ts ≡ us) × All (λ u. length u.values ≡ k) us
 unfolding whole_types
 whole_ok k [] us e =
@@ -109,34 +103,35 @@ whole_again k [] h = refl
 whole_again k (t ∷ ts) h =
     rw (eq-eqb (length t.value.values) k (All-head (λ u. length u.values ≡ k) t.value (map (λ t. t.value) ts) h), whole_again k ts (All-tail (λ u. length u.values ≡ k) t.value (map (λ t. t.value) ts) h)) refl
 
-abbrev made : Said → List ℕ → ℤ → ℤ → ℕ → List TypeValue → JobValue
-made s energy core cutoff time_step types = record {
+abbrev made : Said → List ℕ → ℤ × ℤ × ℕ → List TypeValue → JobValue
+made s energy numbers types = record {
   frac = s.frac;
   energy = energy;
-  core = core;
-  cutoff = cutoff;
-  time_step = time_step;
+  core = numbers.0;
+  cutoff = numbers.1;
+  time_step = numbers.2;
   slices = unwrap_or s.slices 64;
   parameters = s.parameters;
   globals = s.globals;
   types = types;
 }
 
-tells_made : (s : Said) (energy : List ℕ) (core longest : ℤ) (time_step : ℕ) (job : JobValue) → unwrap_or s.bits F32 ≡ s.frac → s.energy ≡ Some energy → s.core ≡ Some core → s.cutoff ≡ Some longest → s.time_step ≡ Some time_step
-    → (ordered core longest >>= λ cutoff. whole_types (length s.parameters) s.types >>= λ types. Ok (made s energy core cutoff time_step types)) ≡ Ok job → Tells s job
-tells_made s energy core longest time_step job f e1 e2 e3 e4 h =
-    let o = bind_ok (ordered core longest) (λ cutoff. whole_types (length s.parameters) s.types >>= λ types. Ok (made s energy core cutoff time_step types)) job h in
-    let w = bind_ok (whole_types (length s.parameters) s.types) (λ types. Ok (made s energy core o.0 time_step types)) job o.2 in
-    let below = ordered_ok core longest o.0 o.1 in
-    let types = whole_ok (length s.parameters) s.types w.0 w.1 in
-    let same : made s energy core o.0 time_step w.0 ≡ job = let last = w.2 in cc in
+tells : (s : Said) (job : JobValue) → unwrap_or s.bits F32 ≡ s.frac → job_from s ≡ Ok job → Tells s job
+unfolding job_from
+tells s job f e =
+    let a = bind_ok (needed keys.Energy s.energy) _ job e in
+    let b = bind_ok (needed_numbers s.core s.cutoff s.time_step) _ job a.2 in
+    let c = bind_ok (whole_types (length s.parameters) s.types) (λ types. Ok (made s a.0 b.0 types)) job b.2 in
+    let numbers = numbers_ok s.core s.cutoff s.time_step b.0 b.1 in
+    let types = whole_ok (length s.parameters) s.types c.0 c.1 in
+    let same : made s a.0 b.0 c.0 ≡ job = let last = c.2 in cc in
     subst (λ (j : JobValue). Tells s j) same (record {
       frac = f;
-      energy = e1;
-      core = e2;
-      cutoff = e3 ∙ ap (λ (z : ℤ). Some z) below.0;
-      below_cutoff = record { lt = true_T (int_lt core o.0) (ap (int_lt core) (sym below.0) ∙ below.1) };
-      time_step = e4;
+      energy = needed_ok keys.Energy s.energy a.0 a.1;
+      core = numbers.0;
+      cutoff = numbers.1;
+      below_cutoff = record { lt = true_T (int_lt b.0.0 b.0.1) numbers.3 };
+      time_step = numbers.2;
       slices = refl;
       parameters = refl;
       globals = refl;
@@ -144,17 +139,8 @@ tells_made s energy core longest time_step job f e1 e2 e3 e4 h =
       whole = types.1;
     })
 
-tells : (s : Said) (job : JobValue) → unwrap_or s.bits F32 ≡ s.frac → job_from s ≡ Ok job → Tells s job
-unfolding job_from
-tells s job f e =
-    let a = bind_ok (needed keys.Energy s.energy) _ job e in
-    let b = bind_ok (needed keys.Core s.core) _ job a.2 in
-    let c = bind_ok (needed keys.Cutoff s.cutoff) _ job b.2 in
-    let d = bind_ok (needed keys.TimeStep s.time_step) _ job c.2 in
-    tells_made s a.0 b.0 c.0 d.0 job f (needed_ok keys.Energy s.energy a.0 a.1) (needed_ok keys.Core s.core b.0 b.1) (needed_ok keys.Cutoff s.cutoff c.0 c.1) (needed_ok keys.TimeStep s.time_step d.0 d.1) d.2
-
 tells_again : (s : Said) (job : JobValue) → s.frac ≡ job.frac → Tells s job → job_from s ≡ Ok job
-unfolding job_from
+unfolding job_from needed_numbers
 tells_again s job f m =
     let whole : All (λ t. length t.values ≡ length s.parameters) (map (λ t. t.value) s.types) =
     subst (λ (us : List TypeValue). All (λ t. length t.values ≡ length s.parameters) us) (sym m.types) (subst (λ (ps : List (List ℕ)). All (λ t. length t.values ≡ length ps) job.types) (sym m.parameters) m.whole) in
@@ -215,6 +201,11 @@ reads_texts most text job = (reading_ok most text job, reading_again most text j
 pub lines_job_from : (most : Counts) (all lines : List (List ℕ)) (line : List ℕ) (frac : Frac) (s : Said) → all ≡ line ∷ lines → bytes_eq line header ≡ true → frac ≡ frac_in lines
     → lines_into most 2 (nothing frac) lines ≡ Ok s → lines_job most all ≡ job_from s
 lines_job_from most all lines line frac s e h f l = rw (e, h, ← f, l) refl
+
+-- a failure of the lines is the failure of the text
+pub lines_job_fails : {R : Type 0} (seen : R → Refusal) (failure : Failure R) (most : Counts) (all lines : List (List ℕ)) (line : List ℕ) (frac : Frac) → all ≡ line ∷ lines → bytes_eq line header ≡ true → frac ≡ frac_in lines
+    → Fails seen failure (lines_into most 2 (nothing frac) lines) → Fails seen failure (lines_job most all)
+lines_job_fails seen failure most all lines line frac e h f l = rw (e, h, ← f) (fails_as seen failure (lines_into most 2 (nothing frac) lines) _ (λ fault is. rw is refl) l)
 
 -- a call on the lines of a text gives the reading of the text
 pub given : {A : Type 0} (most : Counts) (text : List ℕ) (result : Result (Job A) (Failure (JobFault A))) → Gives job_value refusal_of result (lines_job most (lines_of text))

@@ -1,5 +1,5 @@
 -- Reading line by line: each line adds to what was said so far, or is the first fault.
-use Rattle.std.specs.Prelude.{ℕ, ℤ, List, [], ◌∷◌, ◌++◌, ◌+◌, length, map, Option, Some, None, Result, Ok, Err, ◌==◌, nat_lt, slice_index, bytes_eq, if◌then◌else◌}
+use Rattle.std.specs.Prelude.{◌≡◌, ◌⊎◌, ℕ, ℤ, List, [], ◌∷◌, ◌++◌, ◌+◌, length, map, Option, Some, None, Result, Ok, Err, ◌==◌, nat_lt, slice_index, bytes_eq, if◌then◌else◌}
 use Rattle.fixed.specs.declared.faults.NumFault.TheVariants.{BadNumber, NumberRange}
 use Rattle.fixed.specs.declared.frac.Frac.{Frac}
 use Rattle.job.specs.declared.faults.Key.{Key}
@@ -22,6 +22,14 @@ number_of n key (Some x) (Err NumberRange) = Err (repeated key)
 number_of n key None (Err NumberRange) = Err (out_of_range key)
 number_of n key (Some x) (Ok v) = Err (repeated key)
 number_of n key None (Ok v) = Ok v
+
+-- what then stands in its place
+abbrev pub number_put : {X : Type 0} → ℕ → Key → Option X → Reading X → Result (Option X) Refusal
+number_put n key old r = number_of n key old r >>= λ v. Ok (Some v)
+
+-- the place of a key's number is as it was, or has the number that was read
+abbrev pub IsPut : {X : Type 0} → Option X → Option X → Reading X → Type 0
+IsPut {X = X} old new reading = (new ≡ old) ⊎ ((v : X) × (new ≡ Some v) × (reading ≡ Ok v))
 
 abbrev pub energy_new : Said → Option (List ℕ) → List ℕ → Result Said Refusal
 energy_new s (Some old) text = Err (repeated keys.Energy)

@@ -99,17 +99,14 @@ whole_types k (t ∷ ts) = if length t.value.values == k then (whole_types k ts 
 unfoldable pub job_from : Said → Result JobValue Refusal
 job_from s = do
   energy ← needed keys.Energy s.energy
-  core ← needed keys.Core s.core
-  longest ← needed keys.Cutoff s.cutoff
-  time_step ← needed keys.TimeStep s.time_step
-  cutoff ← ordered core longest
+  numbers ← needed_numbers s.core s.cutoff s.time_step
   types ← whole_types (length s.parameters) s.types
   Ok (record {
     frac = s.frac;
     energy = energy;
-    core = core;
-    cutoff = cutoff;
-    time_step = time_step;
+    core = numbers.0;
+    cutoff = numbers.1;
+    time_step = numbers.2;
     slices = unwrap_or s.slices 64;
     parameters = s.parameters;
     globals = s.globals;

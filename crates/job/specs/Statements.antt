@@ -48,18 +48,17 @@ type_statement frac [] = None
 type_statement frac (name ∷ []) = None
 type_statement frac (name ∷ mass ∷ values) = if is_type_name name then option_map (type_is name) (well_formed (both (mass_of mass) (values_of frac values))) else None
 
+-- the key of the first entry with the word
+abbrev pub key_among : List (List ℕ × Key) → List ℕ → Option Key
+key_among [] word = None
+key_among (e ∷ es) word = if bytes_eq word e.0 then Some e.1 else key_among es word
+
 unfoldable pub key_of : List ℕ → Option Key
-key_of word =
-    if bytes_eq word (codes "energy") then Some keys.Energy
-    else if bytes_eq word (codes "core") then Some keys.Core
-    else if bytes_eq word (codes "cutoff") then Some keys.Cutoff
-    else if bytes_eq word (codes "dt") then Some keys.TimeStep
-    else if bytes_eq word (codes "slices") then Some keys.Slices
-    else if bytes_eq word (codes "parameter") then Some keys.Parameter
-    else if bytes_eq word (codes "global") then Some keys.Global
-    else if bytes_eq word (codes "type") then Some keys.Types
-    else if bytes_eq word (codes "bits") then Some keys.Bits
-    else None
+key_of word = key_among (
+    (codes "energy", keys.Energy) ∷ (codes "core", keys.Core) ∷ (codes "cutoff", keys.Cutoff) ∷ (codes "dt", keys.TimeStep)
+    ∷ (codes "slices", keys.Slices) ∷ (codes "parameter", keys.Parameter) ∷ (codes "global", keys.Global)
+    ∷ (codes "type", keys.Types) ∷ (codes "bits", keys.Bits) ∷ []
+    ) word
 
 -- the line of this key, with this text behind the key, its numerals read at these fraction bits
 abbrev pub key_statement : Frac → Option Key → List ℕ → Option Statement

@@ -1,6 +1,6 @@
 -- The code's values as plain ones.
-use Rattle.std.specs.Prelude.{ℕ, ℤ, List, map, string_bytes}
-use Rattle.std.specs.Option.{option_map}
+use Rattle.std.specs.Prelude.{ℕ, ℤ, List, [], ◌∷◌, Option, Some, None, map, string_bytes}
+use Rattle.std.specs.Option.{unwrap_or}
 use Rattle.line_text.specs.Names.{name_text}
 use Rattle.job.specs.declared.faults.JobFault.{JobFault}
 use Rattle.job.specs.declared.faults.JobFault.TheVariants as faults
@@ -10,6 +10,7 @@ use Rattle.job.specs.declared.jobs.Job.{Job}
 use Rattle.job.specs.declared.drafts.Draft.{Draft}
 use Rattle.job.specs.declared.drafts.TypeLine.{TypeLine}
 use Rattle.job.specs.declared.drafts.TypeNumbers.{TypeNumbers}
+use Rattle.job.specs.declared.reading.Numbers.{Numbers}
 use Rattle.job.specs.Values.{GlobalValue, TypeValue, JobValue}
 use Rattle.job.specs.Faults as plain
 
@@ -38,10 +39,15 @@ type_line t = record { line = t.line; value = type_value t.value }
 abbrev pub type_numbers_of : {A : Type 0} → TypeNumbers A → ℕ × List ℤ
 type_numbers_of t = (t.mass, t.values.items)
 
+-- a text of which no line is empty, where one has it
+abbrev pub text_said : List ℕ → Option (List ℕ)
+text_said [] = None
+text_said (b ∷ bs) = Some (b ∷ bs)
+
 abbrev pub said_of : {A : Type 0} → Draft A → plain.Said
 said_of d = record {
   frac = d.frac;
-  energy = option_map (λ v. v.items) d.energy;
+  energy = text_said d.energy.items;
   core = d.core;
   cutoff = d.cutoff;
   time_step = d.time_step;
@@ -50,6 +56,23 @@ said_of d = record {
   globals = map global_value d.globals.items;
   types = map type_line d.types.items;
   bits = d.bits;
+}
+
+abbrev pub numbers_seen : Numbers → ℤ × ℤ × ℕ
+numbers_seen n = (n.core, n.cutoff, n.time_step)
+
+-- the job of a draft that lacks nothing, with its numbers
+abbrev pub job_said : {A : Type 0} → Draft A → Numbers → JobValue
+job_said d n = record {
+  frac = d.frac;
+  energy = d.energy.items;
+  core = n.core;
+  cutoff = n.cutoff;
+  time_step = n.time_step;
+  slices = unwrap_or d.slices 64;
+  parameters = map (λ p. p.items) d.parameters.items;
+  globals = map global_value d.globals.items;
+  types = map (λ t. t.value) (map type_line d.types.items);
 }
 
 -- the refusal that a fault tells

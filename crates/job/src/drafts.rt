@@ -36,8 +36,8 @@ pub struct TypeLine<A: Allocator> {
 pub struct Draft<A: Allocator> {
     /// At how many fraction bits numerals are read, which a line still to come may say.
     pub frac: Frac,
-    /// The energy's text.
-    pub energy: Option<Vec<u8, A>>,
+    /// The energy's text, empty where no line has it.
+    pub energy: Vec<u8, A>,
     /// The core in nm, at least 0.
     pub core: Option<Fx>,
     /// The cutoff in nm, at most 80.
@@ -74,7 +74,7 @@ impl<A: Allocator + Copy> Draft<A> {
     {
         Draft {
             frac,
-            energy: None,
+            energy: Vec::new(alloc),
             core: None,
             cutoff: None,
             time_step: None,

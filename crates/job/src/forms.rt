@@ -1,9 +1,9 @@
 //! The forms of types' names and of keys.
 
-ghost use Rattle.std.specs.Prelude.{◌≡◌};
+ghost use Rattle.std.specs.Prelude.{◌≡◌, map};
 ghost use Rattle.std.specs.List.{list_all};
 ghost use Rattle.job.specs.Forms.{is_graphic, is_type_name};
-ghost use Rattle.job.specs.Statements.{key_of};
+ghost use Rattle.job.specs.Statements.{key_among, key_of};
 
 use crate::faults::Key;
 
@@ -22,30 +22,36 @@ pub fn is_type_name(word: &[u8]) -> bool
     1 <= word.len() && word.len() <= 5 && are_graphic(word)
 }
 
+// The keys by their words.
+const KEYS: [(&[u8], Key); 9] = [
+    (b"energy", Key::Energy),
+    (b"core", Key::Core),
+    (b"cutoff", Key::Cutoff),
+    (b"dt", Key::TimeStep),
+    (b"slices", Key::Slices),
+    (b"parameter", Key::Parameter),
+    (b"global", Key::Global),
+    (b"type", Key::Types),
+    (b"bits", Key::Bits),
+];
+
+// The key of the first entry of a table with the word.
+fn key_among(mut table: &[(&[u8], Key)], word: &[u8]) -> Option<Key>
+    ensures { result ≡ key_among (map (λ e. (e.0.now, e.1)) table.entry.now) word.now }
+{
+    while let [entry, rest @ ..] = table {
+        if word == entry.0 {
+            return Some(entry.1);
+        }
+        table = rest;
+    }
+    None
+}
+
 /// The key that this word is.
 #[tactic(auto, unfolding(crate::specs::Statements::key_of))]
 pub fn key_of(word: &[u8]) -> Option<Key>
     ensures { result ≡ key_of word.now }
 {
-    if word == b"energy".as_slice() {
-        Some(Key::Energy)
-    } else if word == b"core".as_slice() {
-        Some(Key::Core)
-    } else if word == b"cutoff".as_slice() {
-        Some(Key::Cutoff)
-    } else if word == b"dt".as_slice() {
-        Some(Key::TimeStep)
-    } else if word == b"slices".as_slice() {
-        Some(Key::Slices)
-    } else if word == b"parameter".as_slice() {
-        Some(Key::Parameter)
-    } else if word == b"global".as_slice() {
-        Some(Key::Global)
-    } else if word == b"type".as_slice() {
-        Some(Key::Types)
-    } else if word == b"bits".as_slice() {
-        Some(Key::Bits)
-    } else {
-        None
-    }
+    key_among(&KEYS, word)
 }

@@ -10,10 +10,10 @@ ghost use Rattle.line_text.specs.Names.{name_text};
 ghost use Rattle.line_text.specs.Identifiers.{is_identifier};
 ghost use Rattle.job.specs.Forms.{is_type_name};
 ghost use Rattle.line_text.specs.Words.{words, without_blanks};
-ghost use Rattle.job.specs.Numbers.{alone, only, both, numeral_of, cutoff_of, whole_of, frac_of, mass_of, values_of, mapped, HasRead};
+ghost use Rattle.job.specs.Numbers.{alone, only, both, numeral_of, cutoff_of, whole_of, frac_of, mass_of, values_of};
 ghost use Rattle.job.specs.Statements.{well_formed};
 ghost use Rattle.job.specs.Faults.{bad_line, repeated_name, repeated_type, knows};
-ghost use Rattle.job.specs.Drafts.{number_of, energy_into, core_into, cutoff_into, time_step_into, slices_into, bits_into, parameter_new, parameter_into, global_add, global_new, global_by, global_into, type_add, type_new, type_into, key_into, words_into, line_into};
+ghost use Rattle.job.specs.Drafts.{IsPut, number_put, energy_into, core_into, cutoff_into, time_step_into, slices_into, bits_into, parameter_new, parameter_into, global_add, global_new, global_by, global_into, type_add, type_new, type_into, key_into, words_into, line_into};
 ghost use Rattle.job.specs.JobText.{limits};
 ghost use Rattle.job.specs.Views.{said_of, global_value, type_line, refusal_of, type_numbers_of};
 
@@ -68,21 +68,24 @@ fn time_step_in(text: &[u8]) -> Result<TimeStep, NumFault>
     Ok(TimeStep::new(whole_in(1000, text)?))
 }
 
-// The number of a key that one line may have.
-fn number_of<T: Copy, A: Allocator>(
+/// Puts the number of a key that one line may have into its place. Refused where it is malformed, repeated or out of range.
+fn put_once<T: Copy, A: Allocator>(
     number: u64,
     key: Key,
-    old: Option<T>,
+    place: &mut Option<T>,
     reading: Result<T, NumFault>,
-) -> Result<T, JobFault<A>>
-    ensures value { Answers (λ x. x) refusal_of result (number_of number key old reading) }
-    ensures reading { IfOk result (λ x. reading ≡ Ok x) }
+) -> Result<(), JobFault<A>>
+    ensures value { Answers (λ _. place.new) refusal_of result (number_put number key place.old reading) }
+    ensures place { IsPut place.old place.new reading }
 {
-    match (reading, old) {
+    match (reading, *place) {
         (Err(NumFault::BadNumber), _) => Err(JobFault::BadLine { line: number }),
         (_, Some(_)) => Err(JobFault::Repeated { key }),
         (Err(NumFault::NumberRange), None) => Err(JobFault::Range { key }),
-        (Ok(value), None) => Ok(value),
+        (Ok(value), None) => {
+            *place = Some(value);
+            Ok(())
+        }
     }
 }
 
@@ -99,10 +102,10 @@ fn take_energy<A: Allocator>(
     if text.is_empty() {
         return Err(Failure::Refused(JobFault::BadLine { line: number }));
     }
-    if draft.energy.is_some() {
+    if !draft.energy.is_empty() {
         return Err(Failure::Refused(JobFault::Repeated { key: Key::Energy }));
     }
-    draft.energy = Some(Vec::from_slice(alloc, text)?);
+    draft.energy = Vec::from_slice(alloc, text)?;
     Ok(())
 }
 
@@ -114,9 +117,8 @@ fn take_core<A: Allocator>(
 ) -> Result<(), JobFault<A>>
     ensures { Answers (λ _. said_of draft.new) refusal_of result (core_into number (said_of draft.old) (alone (numeral_of draft.old.frac) (words text.now))) }
 {
-    let value = number_of(number, Key::Core, draft.core, core_in(draft.frac, text))?;
-    draft.core = Some(value);
-    Ok(())
+    let reading = core_in(draft.frac, text);
+    put_once(number, Key::Core, &mut draft.core, reading)
 }
 
 /// Puts this line's cutoff, in nm, into the draft. Refused where it is malformed, repeated or out of range.
@@ -127,14 +129,8 @@ fn take_cutoff<A: Allocator>(
 ) -> Result<(), JobFault<A>>
     ensures { Answers (λ _. said_of draft.new) refusal_of result (cutoff_into number (said_of draft.old) (alone (cutoff_of draft.old.frac) (words text.now))) }
 {
-    let value = number_of(
-        number,
-        Key::Cutoff,
-        draft.cutoff,
-        cutoff_in(draft.frac, text),
-    )?;
-    draft.cutoff = Some(value);
-    Ok(())
+    let reading = cutoff_in(draft.frac, text);
+    put_once(number, Key::Cutoff, &mut draft.cutoff, reading)
 }
 
 /// Puts this line's time step, 1 to 1,000 fs, into the draft. Refused where it is malformed, repeated or out of range.
@@ -145,9 +141,8 @@ fn take_time_step<A: Allocator>(
 ) -> Result<(), JobFault<A>>
     ensures { Answers (λ _. said_of draft.new) refusal_of result (time_step_into number (said_of draft.old) (alone (whole_of 1 1000) (words text.now))) }
 {
-    let value = number_of(number, Key::TimeStep, draft.time_step, time_step_in(text))?;
-    draft.time_step = Some(value);
-    Ok(())
+    let reading = time_step_in(text);
+    put_once(number, Key::TimeStep, &mut draft.time_step, reading)
 }
 
 /// Puts this line's number of slices, 1 to 65,536, into the draft. Refused where it is malformed, repeated or out of range.
@@ -158,9 +153,8 @@ fn take_slices<A: Allocator>(
 ) -> Result<(), JobFault<A>>
     ensures { Answers (λ _. said_of draft.new) refusal_of result (slices_into number (said_of draft.old) (alone (whole_of 1 65536) (words text.now))) }
 {
-    let value = number_of(number, Key::Slices, draft.slices, whole_in(65536, text))?;
-    draft.slices = Some(value);
-    Ok(())
+    let reading = whole_in(65536, text);
+    put_once(number, Key::Slices, &mut draft.slices, reading)
 }
 
 /// Puts this line's fraction bits, 24, 32 or 40, into the draft. Refused where they are malformed, repeated or out of range.
@@ -171,9 +165,8 @@ fn take_bits<A: Allocator>(
 ) -> Result<(), JobFault<A>>
     ensures { Answers (λ _. said_of draft.new) refusal_of result (bits_into number (said_of draft.old) (alone frac_of (words text.now))) }
 {
-    let value = number_of(number, Key::Bits, draft.bits, bits_in(text))?;
-    draft.bits = Some(value);
-    Ok(())
+    let reading = bits_in(text);
+    put_once(number, Key::Bits, &mut draft.bits, reading)
 }
 
 /// A name as text.
@@ -244,7 +237,7 @@ fn add_parameter<A: Allocator + Copy>(
     if knows_parameter(draft.parameters.as_slice(), name) {
         return Err(repeated_name(alloc, name));
     }
-    if draft.parameters.as_slice().len() >= MAX_PARAMETERS {
+    if draft.parameters.len() >= MAX_PARAMETERS {
         return Err(Failure::Refused(JobFault::Range {
             key: Key::Parameter,
         }));
@@ -286,7 +279,7 @@ fn add_global<A: Allocator + Copy>(
     let Some(value) = value else {
         return Err(Failure::Refused(JobFault::Range { key: Key::Global }));
     };
-    if draft.globals.as_slice().len() >= MAX_GLOBALS {
+    if draft.globals.len() >= MAX_GLOBALS {
         return Err(Failure::Refused(JobFault::Range { key: Key::Global }));
     }
     let name = Vec::from_slice(alloc, name)?;
@@ -326,21 +319,22 @@ fn take_global<A: Allocator + Copy>(
     }
 }
 
-/// The mass in `mass_word` and the parameter values in `text`. `BadNumber` where one of them is malformed, else `NumberRange` where one is out of range.
+/// The mass in `mass_word` and the parameter values in `text`; `None` where one of them is out of range. `BadLine` where one is malformed.
 fn type_numbers<A: Allocator>(
     alloc: A,
     frac: Frac,
+    number: u64,
     mass_word: &[u8],
     text: &[u8],
-) -> Result<Result<TypeNumbers<A>, NumFault>, AllocError>
-    ensures { HasRead type_numbers_of result (both (mass_of mass_word.now) (values_of frac (words text.now))) }
+) -> Result<Option<TypeNumbers<A>>, Failure<JobFault<A>>>
+    ensures { Gives (option_map type_numbers_of) refusal_of result (ok_or (well_formed (both (mass_of mass_word.now) (values_of frac (words text.now)))) (bad_line number)) }
 {
-    Ok(match (mass(mass_word), values(alloc, frac, text)?) {
-        (Err(NumFault::BadNumber), _) => Err(NumFault::BadNumber),
-        (_, Err(NumFault::BadNumber)) => Err(NumFault::BadNumber),
-        (Ok(mass), Ok(values)) => Ok(TypeNumbers { mass, values }),
-        _ => Err(NumFault::NumberRange),
-    })
+    match (mass(mass_word), values(alloc, frac, text)?) {
+        (Err(NumFault::BadNumber), _) => Err(Failure::Refused(JobFault::BadLine { line: number })),
+        (_, Err(NumFault::BadNumber)) => Err(Failure::Refused(JobFault::BadLine { line: number })),
+        (Ok(mass), Ok(values)) => Ok(Some(TypeNumbers { mass, values })),
+        _ => Ok(None),
+    }
 }
 
 /// Puts a type of this name and these numbers, from the line `number`, into the draft. `RepeatedType` where it has one already, `Range` where the numbers
@@ -361,7 +355,7 @@ fn add_type<A: Allocator + Copy>(
     let Some(numbers) = numbers else {
         return Err(Failure::Refused(JobFault::Range { key: Key::Types }));
     };
-    if draft.types.as_slice().len() >= MAX_TYPES {
+    if draft.types.len() >= MAX_TYPES {
         return Err(Failure::Refused(JobFault::Range { key: Key::Types }));
     }
     let name = type_name(word);
@@ -406,7 +400,7 @@ fn take_type<A: Allocator + Copy>(
     if !is_type_name(name) {
         return Err(Failure::Refused(JobFault::BadLine { line: number }));
     }
-    let numbers = well_formed(number, type_numbers(alloc, draft.frac, mass, rest)?)?;
+    let numbers = type_numbers(alloc, draft.frac, number, mass, rest)?;
     add_type(alloc, draft, number, name, numbers)
 }
 

@@ -6,9 +6,9 @@ ghost use Rattle.line_text.specs.Names.{name_text};
 ghost use Rattle.std.specs.List.{All};
 ghost use Rattle.std.specs.Option.{unwrap_or};
 ghost use Rattle.job.specs.Words.{lines_of, more_lines};
-ghost use Rattle.job.specs.Drafts.{nothing, lines_into, lines_job};
-ghost use Rattle.job.specs.JobText.{header, needed, needed_numbers, ordered, whole_types, job_from, limits};
-ghost use Rattle.job.specs.Views.{said_of, type_line, type_value, job_value, refusal_of};
+ghost use Rattle.job.specs.Drafts.{lines_into, lines_job};
+ghost use Rattle.job.specs.JobText.{header, needed_numbers, whole_types, job_from, limits};
+ghost use Rattle.job.specs.Views.{said_of, type_line, job_said, job_value, numbers_seen, refusal_of};
 
 use crate::bits::frac_in;
 use crate::drafts::{Draft, TypeLine};
@@ -18,39 +18,69 @@ use crate::lines::take_line;
 use crate::time_steps::TimeStep;
 use crate::words::next_line;
 use fallible::Failure;
-use fixed::{Frac, Fx};
+use fixed::Fx;
 use std::alloc::{AllocError, Allocator};
 
 /// The number of slices of a job that names none.
 const SLICES: u32 = 64;
 
-/// The draft of the lines below the first, which are numbered from 2; or the fault of the first line that is refused.
+/// Puts what the lines below the first say, which are numbered from 2, into the draft; or the fault of the first line that is refused.
 fn take_lines<A: Allocator + Copy>(
     alloc: A,
-    frac: Frac,
+    draft: &mut Draft<A>,
     text: Option<&[u8]>,
-) -> Result<Draft<A>, Failure<JobFault<A>>>
+) -> Result<(), Failure<JobFault<A>>>
     requires { IfSome text (λ t. length t.now + 3 < 2 ^ 64) }
-    ensures { Gives said_of refusal_of result (lines_into limits 2 (nothing frac) (more_lines (option_map (λ x. x.now) text.entry))) }
+    ensures { Gives (λ _. said_of draft.new) refusal_of result (lines_into limits 2 (said_of draft.old) (more_lines (option_map (λ x. x.now) text.entry))) }
 {
-    let mut draft = Draft::new(alloc, frac);
     let mut number = 2;
     let mut rest = text;
     while let Some(lines) = rest {
         let (line, after) = next_line(lines);
-        take_line(alloc, &mut draft, number, line)?;
+        take_line(alloc, draft, number, line)?;
         number += 1;
         rest = after;
     }
-    Ok(draft)
+    Ok(())
 }
 
-/// The value of a key that each job has. `Missing` where no line has it.
-fn needed<T, A: Allocator>(key: Key, value: Option<T>) -> Result<T, JobFault<A>>
-    ensures value { Answers (λ x. x) refusal_of result (needed key value) }
-    ensures found { IfOk result (λ x. value ≡ Some x) }
+/// The numbers of a job that each has one line for.
+#[derive(Clone, Copy)]
+pub struct Numbers {
+    /// The core in nm.
+    pub core: Fx,
+    /// The cutoff in nm.
+    pub cutoff: Fx,
+    pub time_step: TimeStep,
+}
+
+/// These numbers, where each is there and the cutoff is more than the core.
+#[tactic(auto, unfolding(crate::specs::JobText::needed_numbers))]
+fn needed_numbers<A: Allocator>(
+    core: Option<Fx>,
+    cutoff: Option<Fx>,
+    time_step: Option<TimeStep>,
+) -> Result<Numbers, JobFault<A>>
+    ensures value { Answers numbers_seen refusal_of result (needed_numbers core cutoff time_step) }
+    ensures found { IfOk result (λ n. (core ≡ Some n.core) × (cutoff ≡ Some n.cutoff)) }
+    ensures above { IfOk result (λ n. n.core <ℤ n.cutoff) }
 {
-    value.ok_or(JobFault::Missing { key })
+    match (core, cutoff, time_step) {
+        (None, _, _) => Err(JobFault::Missing { key: Key::Core }),
+        (_, None, _) => Err(JobFault::Missing { key: Key::Cutoff }),
+        (_, _, None) => Err(JobFault::Missing { key: Key::TimeStep }),
+        (Some(core), Some(cutoff), Some(time_step)) => {
+            if core.raw() < cutoff.raw() {
+                Ok(Numbers {
+                    core,
+                    cutoff,
+                    time_step,
+                })
+            } else {
+                Err(JobFault::Range { key: Key::Cutoff })
+            }
+        }
+    }
 }
 
 // The first type with another number of values than this is a fault.
@@ -76,48 +106,19 @@ fn without_lines<A: Allocator>(
     lines.into_iter().map(|line| line.value).collect(alloc)
 }
 
-// The types of these lines, each with this many values.
-fn atom_types<A: Allocator>(
-    alloc: A,
-    count: usize,
-    lines: Vec<TypeLine<A>, A>,
-) -> Result<Vec<AtomType<A>, A>, Failure<JobFault<A>>>
-    ensures value { Gives (λ v. map type_value v.items) refusal_of result (whole_types count (map type_line lines.items)) }
-    ensures whole { IfOk result (λ v. All (λ t. length t.values.items ≡ count) v.items) }
-    ensures few { IfOk result (λ v. length v.items ≡ length lines.items) }
+/// The numbers of a draft that lacks nothing.
+fn complete_numbers<A: Allocator>(draft: &Draft<A>) -> Result<Numbers, JobFault<A>>
+    ensures value { Answers (job_said draft.now) refusal_of result (job_from (said_of draft.now)) }
+    ensures found { IfOk result (λ n. (draft.now.core ≡ Some n.core) × (draft.now.cutoff ≡ Some n.cutoff)) }
+    ensures above { IfOk result (λ n. n.core <ℤ n.cutoff) }
+    ensures whole { IfOk result (λ _. All (λ t. length t.value.values.items ≡ length draft.now.parameters.items) draft.now.types.items) }
 {
-    check_counts(count, lines.as_slice())?;
-    Ok(without_lines(alloc, lines)?)
-}
-
-// The cutoff, which is more than the core.
-fn ordered<A: Allocator>(core: Fx, cutoff: Fx) -> Result<Fx, JobFault<A>>
-    ensures value { Answers (λ x. x) refusal_of result (ordered core cutoff) }
-    ensures above { IfOk result (λ x. (x ≡ cutoff) × (core <ℤ x)) }
-{
-    if core.raw() < cutoff.raw() {
-        Ok(cutoff)
-    } else {
-        Err(JobFault::Range { key: Key::Cutoff })
+    if draft.energy.is_empty() {
+        return Err(JobFault::Missing { key: Key::Energy });
     }
-}
-
-/// The core, the cutoff, which is more, and the time step.
-#[tactic(auto, unfolding(crate::specs::JobText::needed_numbers))]
-fn needed_numbers<A: Allocator>(
-    core: Option<Fx>,
-    cutoff: Option<Fx>,
-    time_step: Option<TimeStep>,
-) -> Result<(Fx, Fx, TimeStep), JobFault<A>>
-    ensures value { Answers (λ x. x) refusal_of result (needed_numbers core cutoff time_step) }
-    ensures found { IfOk result (λ x. (core ≡ Some x.0) × (cutoff ≡ Some x.1) × (time_step ≡ Some x.2)) }
-    ensures above { IfOk result (λ x. x.0 <ℤ x.1) }
-{
-    let core = needed(Key::Core, core)?;
-    let longest = needed(Key::Cutoff, cutoff)?;
-    let time_step = needed(Key::TimeStep, time_step)?;
-    let cutoff = ordered(core, longest)?;
-    Ok((core, cutoff, time_step))
+    let numbers = needed_numbers(draft.core, draft.cutoff, draft.time_step)?;
+    check_counts(draft.parameters.len(), draft.types.as_slice())?;
+    Ok(numbers)
 }
 
 /// The number of slices, 1 to 65,536; 64 where no line says it.
@@ -134,31 +135,26 @@ fn slices_or_default(slices: Option<u32>) -> u32
 }
 
 // The job that the lines have said.
-#[tactic(auto, unfolding(crate::specs::JobText::job_from))]
 fn finish<A: Allocator + Copy>(alloc: A, draft: Draft<A>) -> Result<Job<A>, Failure<JobFault<A>>>
     ensures { Gives job_value refusal_of result (job_from (said_of draft)) }
 {
+    let numbers = complete_numbers(&draft)?;
     let Draft {
         frac,
         energy,
-        core,
-        cutoff,
-        time_step,
         slices,
         parameters,
         globals,
         types,
-        bits: _,
+        ..
     } = draft;
-    let energy = needed(Key::Energy, energy)?;
-    let (core, cutoff, time_step) = needed_numbers(core, cutoff, time_step)?;
-    let types = atom_types(alloc, parameters.as_slice().len(), types)?;
+    let types = without_lines(alloc, types)?;
     Ok(Job {
         frac,
         energy,
-        core,
-        cutoff,
-        time_step,
+        core: numbers.core,
+        cutoff: numbers.cutoff,
+        time_step: numbers.time_step,
         slices: slices_or_default(slices),
         parameters,
         globals,
@@ -190,7 +186,8 @@ fn read_lines<A: Allocator + Copy>(alloc: A, bytes: &[u8]) -> Result<Job<A>, Fai
         return Err(Failure::Refused(JobFault::BadLine { line: 1 }));
     }
     let frac = frac_in(rest);
-    let draft = take_lines(alloc, frac, rest)?;
+    let mut draft = Draft::new(alloc, frac);
+    take_lines(alloc, &mut draft, rest)?;
     finish(alloc, draft)
 }
 

@@ -1,9 +1,11 @@
+//! Time steps.
+
 ghost use Rattle.std.specs.Prelude.{ℕ, ◌≡◌, ◌<◌, ◌≤◌};
 
 use std::marker::Model;
 
 /// A time step in fs, from 1 to 1,000.
-#[derive(Clone, Copy, PartialEq, Eq, Debug)]
+#[derive(Clone, Copy)]
 pub struct TimeStep(u32);
 
 impl Model for TimeStep {

@@ -45,9 +45,8 @@ pub fn two_words(text: &[u8]) -> Option<(&[u8], &[u8])>
     ensures { option_map (λ x. (x.0.now, x.1.now)) result ≡ two (words text.now) }
 {
     let (first, rest) = next_word(text)?;
-    let (second, rest) = next_word(rest)?;
-    if next_word(rest).is_some() {
-        return None;
+    match only_word(rest) {
+        Ok(second) => Some((first, second)),
+        Err(_) => None,
     }
-    Some((first, second))
 }

@@ -8,14 +8,14 @@ returns-in-Select g t c =
     rw (c.in-Select.is, sym c.deref-in-Select.ensures, sym c.deref-in-Select-2.ensures, sym c.deref-in-Select-3.ensures)
     (c.choice.ensures _ _ _ c.moved-condition.ensures c.moved-chosen.ensures c.moved-otherwise.ensures)
 
-pub returns-in_err-moved-in-Negated : goal.returns-in_err-moved-in-Negated
-returns-in_err-moved-in-Negated g t c = IfOk-from_err _ _ c.from_residual.ensures.0
+pub returns-in-Negated : goal.returns-in-Negated
+returns-in-Negated g t c = rw (c.in-Negated.is, sym c.deref.ensures) (c.opposite.ensures _ c.moved.ensures)
 
-pub returns-in_err-moved-in-Applied : goal.returns-in_err-moved-in-Applied
-returns-in_err-moved-in-Applied g t c = IfOk-from_err _ _ c.from_residual-in_err-moved-in-Applied.ensures.0
+pub returns-in-Applied : goal.returns-in-Applied
+returns-in-Applied g t c = rw (c.in-Applied.is, sym c.deref-in-Applied.ensures) (c.called.ensures _ c.moved-in-Applied.ensures)
 
 pub returns-in_err-moved-in-Power : goal.returns-in_err-moved-in-Power
-returns-in_err-moved-in-Power g t c = IfOk-from_err _ _ c.from_residual-in_err-moved-in-Power.ensures.0
+returns-in_err-moved-in-Power g t c = IfOk-from_err _ _ c.from_residual.ensures.0
 
 pub returns-in-Binary : goal.returns-in-Binary
 returns-in-Binary g t c =

@@ -8,14 +8,14 @@ returns-in-Select g t c =
     rw (c.in-Select.is, sym c.deref-in-Select.ensures, sym c.deref-in-Select-2.ensures, sym c.deref-in-Select-3.ensures)
     (c.choice.ensures _ _ _ c.renumbered-condition.ensures c.renumbered-chosen.ensures c.renumbered-otherwise.ensures)
 
-pub returns-in_err-renumbered-in-Negated : goal.returns-in_err-renumbered-in-Negated
-returns-in_err-renumbered-in-Negated g t c = IfOk-from_err _ _ c.from_residual.ensures.0
+pub returns-in-Negated : goal.returns-in-Negated
+returns-in-Negated g t c = rw (c.in-Negated.is, sym c.deref.ensures) (c.opposite.ensures _ c.renumbered.ensures)
 
-pub returns-in_err-renumbered-in-Applied : goal.returns-in_err-renumbered-in-Applied
-returns-in_err-renumbered-in-Applied g t c = IfOk-from_err _ _ c.from_residual-in_err-renumbered-in-Applied.ensures.0
+pub returns-in-Applied : goal.returns-in-Applied
+returns-in-Applied g t c = rw (c.in-Applied.is, sym c.deref-in-Applied.ensures) (c.called.ensures _ c.renumbered-in-Applied.ensures)
 
 pub returns-in_err-renumbered-in-Power : goal.returns-in_err-renumbered-in-Power
-returns-in_err-renumbered-in-Power g t c = IfOk-from_err _ _ c.from_residual-in_err-renumbered-in-Power.ensures.0
+returns-in_err-renumbered-in-Power g t c = IfOk-from_err _ _ c.from_residual.ensures.0
 
 pub returns-in-Binary : goal.returns-in-Binary
 returns-in-Binary g t c =

@@ -12,18 +12,19 @@ returns-in_ok-du-in-Negated-clause-tree g t c =
     (at_negated (bits_of c.args.frac) (λ j. get_or c.args.free.now j true) c.args.by (tree_of c.args.tree.now) _ _ _ (ap tree_of c.in-Negated.is) (ap tree_of c.deref.ensures)
     c.in_ok-du-in-Negated.ensures.tree c.in_ok-du-in-Negated.ensures.free)
 
-pub returns-in_ok-dv-in-Binary-clause-tree : goal.returns-in_ok-dv-in-Binary-clause-tree
-returns-in_ok-dv-in-Binary-clause-tree g t c =
+pub returns-in_ok-du-in-Binary-clause-tree : goal.returns-in_ok-du-in-Binary-clause-tree
+returns-in_ok-du-in-Binary-clause-tree g t c =
     ok_is _ _ _ c.operation_slope.ensures.tree
     (at_binary (bits_of c.args.frac) (λ j. get_or c.args.free.now j true) c.args.by (tree_of c.args.tree.now) _ _ _ _ _ _ _ (ap tree_of c.in-Binary.is)
     (ap tree_of c.deref-in-Binary.ensures) (ap tree_of c.deref-in-Binary-2.ensures) (ap tree_of c.deref-in-Binary-3.ensures) (ap tree_of c.deref-in-Binary-4.ensures)
-    c.in_ok-du-in-Binary.ensures.tree c.in_ok-du-in-Binary.ensures.free c.in_ok-dv-in-Binary.ensures.tree c.in_ok-dv-in-Binary.ensures.free)
+    (rw c.in_ok-du-in-Binary.ensures.0 at c.slope-du.ensures.tree) (rw c.in_ok-du-in-Binary.ensures.0 at c.slope-du.ensures.free)
+    (rw c.in_ok-du-in-Binary.ensures.1 at c.slope-dv.ensures.tree) (rw c.in_ok-du-in-Binary.ensures.1 at c.slope-dv.ensures.free))
 
-pub returns-in_ok-dv-in-Binary-clause-free : goal.returns-in_ok-dv-in-Binary-clause-free
-returns-in_ok-dv-in-Binary-clause-free g t c =
+pub returns-in_ok-du-in-Binary-clause-free : goal.returns-in_ok-du-in-Binary-clause-free
+returns-in_ok-du-in-Binary-clause-free g t c =
     free_is _ _ _ c.operation_slope.ensures.free
     (free_binary (λ j. get_or c.args.free.now j true) (tree_of c.args.tree.now) _ _ _ _ _ (ap tree_of c.in-Binary.is)
-    (ap tree_of c.deref-in-Binary.ensures) (ap tree_of c.deref-in-Binary-2.ensures) c.in_ok-du-in-Binary.ensures.free c.in_ok-dv-in-Binary.ensures.free)
+    (ap tree_of c.deref-in-Binary.ensures) (ap tree_of c.deref-in-Binary-2.ensures) (rw c.in_ok-du-in-Binary.ensures.0 at c.slope-du.ensures.free) (rw c.in_ok-du-in-Binary.ensures.1 at c.slope-dv.ensures.free))
 
 pub returns-in_ok-du-in-Applied-clause-tree : goal.returns-in_ok-du-in-Applied-clause-tree
 returns-in_ok-du-in-Applied-clause-tree g t c =
@@ -49,19 +50,20 @@ returns-in_ok-du-in-Power-clause-free g t c =
     free_is _ _ _ c.power_slope.ensures.free
     (free_power (λ j. get_or c.args.free.now j true) (tree_of c.args.tree.now) _ _ _ (ap tree_of c.in-Power.is) (ap tree_of c.deref-in-Power.ensures) c.in_ok-du-in-Power.ensures.free)
 
-pub returns-in_ok-dv-in-Select-clause-tree : goal.returns-in_ok-dv-in-Select-clause-tree
-returns-in_ok-dv-in-Select-clause-tree g t c =
+pub returns-in_ok-du-in-Select-clause-tree : goal.returns-in_ok-du-in-Select-clause-tree
+returns-in_ok-du-in-Select-clause-tree g t c =
     ok_is _ _ _ c.select_slope.ensures.tree
     (at_select (bits_of c.args.frac) (λ j. get_or c.args.free.now j true) c.args.by (tree_of c.args.tree.now) _ _ _ _ _ _ _ _ (ap tree_of c.in-Select.is)
     (ap tree_of c.deref-in-Select.ensures) (ap tree_of c.deref-in-Select-2.ensures) (ap tree_of c.deref-in-Select-4.ensures) (ap tree_of c.deref-in-Select-3.ensures)
-    c.in_ok-du-in-Select.ensures.tree c.in_ok-du-in-Select.ensures.free c.in_ok-dv-in-Select.ensures.tree c.in_ok-dv-in-Select.ensures.free c.is_free.ensures)
+    (rw c.in_ok-du-in-Select.ensures.0 at c.slope-du-in-Select.ensures.tree) (rw c.in_ok-du-in-Select.ensures.0 at c.slope-du-in-Select.ensures.free)
+    (rw c.in_ok-du-in-Select.ensures.1 at c.slope-dv-in-Select.ensures.tree) (rw c.in_ok-du-in-Select.ensures.1 at c.slope-dv-in-Select.ensures.free) c.is_free.ensures)
 
-pub returns-in_ok-dv-in-Select-clause-free : goal.returns-in_ok-dv-in-Select-clause-free
-returns-in_ok-dv-in-Select-clause-free g t c =
+pub returns-in_ok-du-in-Select-clause-free : goal.returns-in_ok-du-in-Select-clause-free
+returns-in_ok-du-in-Select-clause-free g t c =
     free_is _ _ _ c.select_slope.ensures.free
     (free_select (λ j. get_or c.args.free.now j true) (tree_of c.args.tree.now) _ _ _ _ _ _ (ap tree_of c.in-Select.is)
     (ap tree_of c.deref-in-Select.ensures) (ap tree_of c.deref-in-Select-2.ensures) (ap tree_of c.deref-in-Select-4.ensures)
-    c.in_ok-du-in-Select.ensures.free c.in_ok-dv-in-Select.ensures.free c.is_free.ensures)
+    (rw c.in_ok-du-in-Select.ensures.0 at c.slope-du-in-Select.ensures.free) (rw c.in_ok-du-in-Select.ensures.1 at c.slope-dv-in-Select.ensures.free) c.is_free.ensures)
 
 pub returns-in_ok-du-in-Negated-clause-free : goal.returns-in_ok-du-in-Negated-clause-free
 returns-in_ok-du-in-Negated-clause-free g t c =
@@ -80,12 +82,6 @@ returns-in_err-du-in-Binary-clause-tree g t c = IfOk-from_err _ _ c.from_residua
 pub returns-in_err-du-in-Binary-clause-free : goal.returns-in_err-du-in-Binary-clause-free
 returns-in_err-du-in-Binary-clause-free g t c = IfOk-from_err _ _ c.from_residual-in_err-du-in-Binary.ensures.0
 
-pub returns-in_err-dv-in-Binary-clause-tree : goal.returns-in_err-dv-in-Binary-clause-tree
-returns-in_err-dv-in-Binary-clause-tree g t c = IfOk-from_err _ _ c.from_residual-in_err-dv-in-Binary.ensures.0
-
-pub returns-in_err-dv-in-Binary-clause-free : goal.returns-in_err-dv-in-Binary-clause-free
-returns-in_err-dv-in-Binary-clause-free g t c = IfOk-from_err _ _ c.from_residual-in_err-dv-in-Binary.ensures.0
-
 pub returns-in_err-du-in-Applied-clause-tree : goal.returns-in_err-du-in-Applied-clause-tree
 returns-in_err-du-in-Applied-clause-tree g t c = IfOk-from_err _ _ c.from_residual-in_err-du-in-Applied.ensures.0
 
@@ -103,9 +99,3 @@ returns-in_err-du-in-Select-clause-tree g t c = IfOk-from_err _ _ c.from_residua
 
 pub returns-in_err-du-in-Select-clause-free : goal.returns-in_err-du-in-Select-clause-free
 returns-in_err-du-in-Select-clause-free g t c = IfOk-from_err _ _ c.from_residual-in_err-du-in-Select.ensures.0
-
-pub returns-in_err-dv-in-Select-clause-tree : goal.returns-in_err-dv-in-Select-clause-tree
-returns-in_err-dv-in-Select-clause-tree g t c = IfOk-from_err _ _ c.from_residual-in_err-dv-in-Select.ensures.0
-
-pub returns-in_err-dv-in-Select-clause-free : goal.returns-in_err-dv-in-Select-clause-free
-returns-in_err-dv-in-Select-clause-free g t c = IfOk-from_err _ _ c.from_residual-in_err-dv-in-Select.ensures.0

@@ -1,27 +1,30 @@
-use Rattle.std.proofs.Common.{rules}
-use Rattle.std.proofs.lemmas.Result.{IfOk-from_err}
-use Rattle.expr.proofs.Made.{negated, binary, applied, select}
+use Rattle.std.proofs.Common.{rules, ◌+◌, length}
+use Rattle.energy_program.specs.Tree.{variable_count}
+use Rattle.expr.proofs.Made.{negated, binary, applied, select, scoped_two, scoped_three}
 use Rattle.expr.proofs.uses.+resolve.Goals as goal
 
 pub returns-in-Negated-clause-value : goal.returns-in-Negated-clause-value
-returns-in-Negated-clause-value g t c = negated _ _ _ _ c.resolve.result c.negative.result _ c.negative.ensures c.resolve.ensures.value (search rules)
+returns-in-Negated-clause-value g t c = negated _ _ _ _ c.negative.result c.resolve.result _ c.negative.ensures c.resolve.ensures.value (search rules)
 
-pub returns-in_ok-left-in-Binary-clause-value : goal.returns-in_ok-left-in-Binary-clause-value
-returns-in_ok-left-in-Binary-clause-value g t c =
-    binary _ _ _ _ c.resolve-in-Binary-2.result c.operation.result _ _ _ _ c.operation.ensures c.in_ok-left-in-Binary.ensures.value c.resolve-in-Binary-2.ensures.value (search rules)
+pub returns-in-Binary-clause-value : goal.returns-in-Binary-clause-value
+returns-in-Binary-clause-value g t c = binary _ _ _ _ c.operation.result c.resolve-left.result c.resolve-right.result _ _ _ c.operation.ensures c.resolve-left.ensures.value c.resolve-right.ensures.value (search rules)
 
 pub returns-in-Applied-clause-value : goal.returns-in-Applied-clause-value
-returns-in-Applied-clause-value g t c = applied _ _ _ _ c.resolve-in-Applied.result c.application.result _ _ c.application.ensures c.resolve-in-Applied.ensures.value (search rules)
+returns-in-Applied-clause-value g t c = applied _ _ _ _ c.application.result c.resolve-in-Applied.result _ _ c.application.ensures c.resolve-in-Applied.ensures.value (search rules)
 
-pub returns-in_ok-chosen-in-Select-clause-value : goal.returns-in_ok-chosen-in-Select-clause-value
-returns-in_ok-chosen-in-Select-clause-value g t c =
-    select _ _ _ _ c.resolve-in-Select-3.result c.choice.result _ _ _ _ _ c.choice.ensures c.in_ok-condition-in-Select.ensures.value c.in_ok-chosen-in-Select.ensures.value c.resolve-in-Select-3.ensures.value (search rules)
+pub returns-in-Select-clause-value : goal.returns-in-Select-clause-value
+returns-in-Select-clause-value g t c =
+    select _ _ _ _ c.choice.result c.resolve-condition.result c.resolve-chosen.result c.resolve-otherwise.result _ _ _ c.choice.ensures c.resolve-condition.ensures.value c.resolve-chosen.ensures.value c.resolve-otherwise.ensures.value
+    (search rules)
 
-pub returns-in_err-left-in-Binary-clause-scoped : goal.returns-in_err-left-in-Binary-clause-scoped
-returns-in_err-left-in-Binary-clause-scoped g t c = IfOk-from_err _ _ c.from_residual.ensures.0
+pub returns-in-Binary-clause-scoped : goal.returns-in-Binary-clause-scoped
+returns-in-Binary-clause-scoped g t c =
+    let scope = c.args.scope.now in
+    scoped_two (variable_count scope.names.now.parameters scope.names.now.globals) scope.first (scope.first + length scope.later.now) _ c.resolve-left.result c.resolve-right.result c.operation.result c.operation.ensures
+    c.resolve-left.ensures.scoped c.resolve-right.ensures.scoped
 
-pub returns-in_err-condition-in-Select-clause-scoped : goal.returns-in_err-condition-in-Select-clause-scoped
-returns-in_err-condition-in-Select-clause-scoped g t c = IfOk-from_err _ _ c.from_residual-in_err-condition-in-Select.ensures.0
-
-pub returns-in_err-chosen-in-Select-clause-scoped : goal.returns-in_err-chosen-in-Select-clause-scoped
-returns-in_err-chosen-in-Select-clause-scoped g t c = IfOk-from_err _ _ c.from_residual-in_err-chosen-in-Select.ensures.0
+pub returns-in-Select-clause-scoped : goal.returns-in-Select-clause-scoped
+returns-in-Select-clause-scoped g t c =
+    let scope = c.args.scope.now in
+    scoped_three (variable_count scope.names.now.parameters scope.names.now.globals) scope.first (scope.first + length scope.later.now) c.resolve-condition.result c.resolve-chosen.result c.resolve-otherwise.result c.choice.result c.choice.ensures
+    c.resolve-condition.ensures.scoped c.resolve-chosen.ensures.scoped c.resolve-otherwise.ensures.scoped

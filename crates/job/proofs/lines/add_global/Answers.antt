@@ -1,4 +1,4 @@
-use Rattle.std.proofs.Common.{ap, is_ok, arith, ◌∙◌, List, ℕ, length}
+use Rattle.std.proofs.Common.{ap, is_ok, arith, ◌∙◌, List, ℕ}
 use Rattle.std.proofs.lemmas.List.{length-map}
 use Rattle.job.specs.Values.{GlobalValue}
 use Rattle.job.specs.Drafts.{global_new}
@@ -20,20 +20,20 @@ returns-in_default g c =
     ∙ global_out limits (said_of c.args.draft.now) c.args.name.now
     (known_through (global_value {A = g.row.A.Denot}) (λ (v : GlobalValue). v.name) c.args.draft.now.globals.items _ _ _ _ c.as_slice.ensures.value c.knows_global.ensures c.if-knows_global.false)
 
-pub returns-then-as_slice-ge-MAX_GLOBALS : goal.returns-then-as_slice-ge-MAX_GLOBALS
-returns-then-as_slice-ge-MAX_GLOBALS g c =
+pub returns-then-len-ge-MAX_GLOBALS : goal.returns-then-len-ge-MAX_GLOBALS
+returns-then-len-ge-MAX_GLOBALS g c =
     ap (global_new limits (said_of c.args.draft.now) c.args.name.now) c.in-Some.is
     ∙ global_full limits (said_of c.args.draft.now) c.args.name.now _
     (known_through (global_value {A = g.row.A.Denot}) (λ (v : GlobalValue). v.name) c.args.draft.now.globals.items _ _ _ _ c.as_slice.ensures.value c.knows_global.ensures c.if-knows_global.false)
-    (omega (arith, length-map c.args.draft.now.globals.items (global_value {A = g.row.A.Denot}), ap length c.as_slice-2.ensures.value, c.if-as_slice-ge-MAX_GLOBALS.true))
+    (omega (arith, length-map c.args.draft.now.globals.items (global_value {A = g.row.A.Denot}), c.len.ensures, c.args.draft.now.globals.ok.0, c.if-len-ge-MAX_GLOBALS.true))
 
 pub invariant_of-draft : goal.invariant_of-draft
-invariant_of-draft g c = let d = c.args.draft.now in record { least_core = d.least_core; most_cutoff = d.most_cutoff; some_slices = d.some_slices; most_slices = d.most_slices; named = d.named; few_parameters = d.few_parameters; few_globals = pushed_few (is_ok c.push.result) d.globals.items c.push.new.self.items _ 16 c.push.ensures.items (omega (arith, ap length c.as_slice-2.ensures.value, c.if-as_slice-ge-MAX_GLOBALS.false)); few_types = d.few_types }
+invariant_of-draft g c = let d = c.args.draft.now in record { least_core = d.least_core; most_cutoff = d.most_cutoff; some_slices = d.some_slices; most_slices = d.most_slices; named = d.named; few_parameters = d.few_parameters; few_globals = pushed_few (is_ok c.push.result) d.globals.items c.push.new.self.items _ 16 c.push.ensures.items (omega (arith, c.len.ensures, c.args.draft.now.globals.ok.0, c.if-len-ge-MAX_GLOBALS.false)); few_types = d.few_types }
 
 pub returns : goal.returns
 returns g c =
     ap (global_new limits (said_of c.args.draft.now) c.args.name.now) c.in-Some.is
     ∙ global_added limits (said_of c.args.draft.now) c.args.name.now _ _
     (known_through (global_value {A = g.row.A.Denot}) (λ (v : GlobalValue). v.name) c.args.draft.now.globals.items _ _ _ _ c.as_slice.ensures.value c.knows_global.ensures c.if-knows_global.false)
-    (omega (arith, length-map c.args.draft.now.globals.items (global_value {A = g.row.A.Denot}), ap length c.as_slice-2.ensures.value, c.if-as_slice-ge-MAX_GLOBALS.false))
+    (omega (arith, length-map c.args.draft.now.globals.items (global_value {A = g.row.A.Denot}), c.len.ensures, c.args.draft.now.globals.ok.0, c.if-len-ge-MAX_GLOBALS.false))
     (pushed (global_value {A = g.row.A.Denot}) c.args.draft.now.globals.items _ _ _ c.in_ok-push.ensures.items (ap (λ (n : List ℕ). record { name = n; value = c.in-Some.value }) c.in_ok-name.ensures.items))

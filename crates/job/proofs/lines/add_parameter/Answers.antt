@@ -1,4 +1,4 @@
-use Rattle.std.proofs.Common.{ap, is_ok, arith, subst, sym, IsTrue, Vec, List, ℕ, length}
+use Rattle.std.proofs.Common.{is_ok, arith, subst, sym, IsTrue, Vec, List, ℕ}
 use Rattle.std.proofs.lemmas.List.{length-map}
 use Rattle.line_text.specs.Identifiers.{is_identifier}
 use Rattle.job.specs.JobText.{limits}
@@ -13,18 +13,18 @@ returns-then-knows_parameter g c =
     (parameter_known limits (said_of c.args.draft.now) c.args.name.now
     (known_is (λ (p : Vec ℕ g.row.A.Denot). p.items) c.args.draft.now.parameters.items _ _ _ _ c.as_slice.ensures.value c.knows_parameter.ensures c.if-knows_parameter.true))
 
-pub returns-then-as_slice-ge-MAX_PARAMETERS : goal.returns-then-as_slice-ge-MAX_PARAMETERS
-returns-then-as_slice-ge-MAX_PARAMETERS g c =
+pub returns-then-len-ge-MAX_PARAMETERS : goal.returns-then-len-ge-MAX_PARAMETERS
+returns-then-len-ge-MAX_PARAMETERS g c =
     parameter_full limits (said_of c.args.draft.now) c.args.name.now
     (known_is (λ (p : Vec ℕ g.row.A.Denot). p.items) c.args.draft.now.parameters.items _ _ _ _ c.as_slice.ensures.value c.knows_parameter.ensures c.if-knows_parameter.false)
-    (omega (arith, length-map c.args.draft.now.parameters.items (λ (p : Vec ℕ g.row.A.Denot). p.items), ap length c.as_slice-2.ensures.value, c.if-as_slice-ge-MAX_PARAMETERS.true))
+    (omega (arith, length-map c.args.draft.now.parameters.items (λ (p : Vec ℕ g.row.A.Denot). p.items), c.len.ensures, c.args.draft.now.parameters.ok.0, c.if-len-ge-MAX_PARAMETERS.true))
 
 pub invariant_of-draft : goal.invariant_of-draft
-invariant_of-draft g c = let d = c.args.draft.now in record { least_core = d.least_core; most_cutoff = d.most_cutoff; some_slices = d.some_slices; most_slices = d.most_slices; named = pushed_all (λ (p : Vec ℕ g.row.A.Denot). IsTrue (is_identifier p.items)) (is_ok c.push.result) d.parameters.items c.push.new.self.items c.in_ok-name.name c.push.ensures.items d.named (subst (λ (t : List ℕ). IsTrue (is_identifier t)) (sym c.in_ok-name.ensures.items) c.requires); few_parameters = pushed_few (is_ok c.push.result) d.parameters.items c.push.new.self.items _ 8 c.push.ensures.items (omega (arith, ap length c.as_slice-2.ensures.value, c.if-as_slice-ge-MAX_PARAMETERS.false)); few_globals = d.few_globals; few_types = d.few_types }
+invariant_of-draft g c = let d = c.args.draft.now in record { least_core = d.least_core; most_cutoff = d.most_cutoff; some_slices = d.some_slices; most_slices = d.most_slices; named = pushed_all (λ (p : Vec ℕ g.row.A.Denot). IsTrue (is_identifier p.items)) (is_ok c.push.result) d.parameters.items c.push.new.self.items c.in_ok-name.name c.push.ensures.items d.named (subst (λ (t : List ℕ). IsTrue (is_identifier t)) (sym c.in_ok-name.ensures.items) c.requires); few_parameters = pushed_few (is_ok c.push.result) d.parameters.items c.push.new.self.items _ 8 c.push.ensures.items (omega (arith, c.len.ensures, c.args.draft.now.parameters.ok.0, c.if-len-ge-MAX_PARAMETERS.false)); few_globals = d.few_globals; few_types = d.few_types }
 
 pub returns : goal.returns
 returns g c =
     parameter_added limits (said_of c.args.draft.now) c.args.name.now _
     (known_is (λ (p : Vec ℕ g.row.A.Denot). p.items) c.args.draft.now.parameters.items _ _ _ _ c.as_slice.ensures.value c.knows_parameter.ensures c.if-knows_parameter.false)
-    (omega (arith, length-map c.args.draft.now.parameters.items (λ (p : Vec ℕ g.row.A.Denot). p.items), ap length c.as_slice-2.ensures.value, c.if-as_slice-ge-MAX_PARAMETERS.false))
+    (omega (arith, length-map c.args.draft.now.parameters.items (λ (p : Vec ℕ g.row.A.Denot). p.items), c.len.ensures, c.args.draft.now.parameters.ok.0, c.if-len-ge-MAX_PARAMETERS.false))
     (pushed (λ (p : Vec ℕ g.row.A.Denot). p.items) c.args.draft.now.parameters.items _ _ _ c.in_ok-push.ensures.items c.in_ok-name.ensures.items)

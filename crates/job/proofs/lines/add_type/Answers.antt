@@ -1,4 +1,4 @@
-use Rattle.std.proofs.Common.{ap, is_ok, arith, ◌∙◌, List, ℕ, length, option_map}
+use Rattle.std.proofs.Common.{ap, is_ok, arith, ◌∙◌, List, ℕ, option_map}
 use Rattle.std.proofs.lemmas.List.{length-map}
 use Rattle.job.specs.Faults.{TypeLine}
 use Rattle.job.specs.Drafts.{type_new}
@@ -20,21 +20,21 @@ returns-in_default g c =
     ∙ type_out limits c.args.number (said_of c.args.draft.now) c.args.word.now
     (known_through (type_line {A = g.row.A.Denot}) (λ (t : TypeLine). t.value.name) c.args.draft.now.types.items _ _ _ _ c.as_slice.ensures.value c.knows_type.ensures c.if-knows_type.false)
 
-pub returns-then-as_slice-ge-MAX_TYPES : goal.returns-then-as_slice-ge-MAX_TYPES
-returns-then-as_slice-ge-MAX_TYPES g c =
+pub returns-then-len-ge-MAX_TYPES : goal.returns-then-len-ge-MAX_TYPES
+returns-then-len-ge-MAX_TYPES g c =
     ap (λ o. type_new limits c.args.number (said_of c.args.draft.now) c.args.word.now (option_map (type_numbers_of {A = g.row.A.Denot}) o)) c.in-Some.is
     ∙ type_full limits c.args.number (said_of c.args.draft.now) c.args.word.now _
     (known_through (type_line {A = g.row.A.Denot}) (λ (t : TypeLine). t.value.name) c.args.draft.now.types.items _ _ _ _ c.as_slice.ensures.value c.knows_type.ensures c.if-knows_type.false)
-    (omega (arith, length-map c.args.draft.now.types.items (type_line {A = g.row.A.Denot}), ap length c.as_slice-2.ensures.value, c.if-as_slice-ge-MAX_TYPES.true))
+    (omega (arith, length-map c.args.draft.now.types.items (type_line {A = g.row.A.Denot}), c.len.ensures, c.args.draft.now.types.ok.0, c.if-len-ge-MAX_TYPES.true))
 
 pub invariant_of-draft : goal.invariant_of-draft
-invariant_of-draft g c = let d = c.args.draft.now in record { least_core = d.least_core; most_cutoff = d.most_cutoff; some_slices = d.some_slices; most_slices = d.most_slices; named = d.named; few_parameters = d.few_parameters; few_globals = d.few_globals; few_types = pushed_few (is_ok c.push.result) d.types.items c.push.new.self.items _ 64 c.push.ensures.items (omega (arith, ap length c.as_slice-2.ensures.value, c.if-as_slice-ge-MAX_TYPES.false)) }
+invariant_of-draft g c = let d = c.args.draft.now in record { least_core = d.least_core; most_cutoff = d.most_cutoff; some_slices = d.some_slices; most_slices = d.most_slices; named = d.named; few_parameters = d.few_parameters; few_globals = d.few_globals; few_types = pushed_few (is_ok c.push.result) d.types.items c.push.new.self.items _ 64 c.push.ensures.items (omega (arith, c.len.ensures, c.args.draft.now.types.ok.0, c.if-len-ge-MAX_TYPES.false)) }
 
 pub returns : goal.returns
 returns g c =
     ap (λ o. type_new limits c.args.number (said_of c.args.draft.now) c.args.word.now (option_map (type_numbers_of {A = g.row.A.Denot}) o)) c.in-Some.is
     ∙ type_added limits c.args.number (said_of c.args.draft.now) c.args.word.now _ _
     (known_through (type_line {A = g.row.A.Denot}) (λ (t : TypeLine). t.value.name) c.args.draft.now.types.items _ _ _ _ c.as_slice.ensures.value c.knows_type.ensures c.if-knows_type.false)
-    (omega (arith, length-map c.args.draft.now.types.items (type_line {A = g.row.A.Denot}), ap length c.as_slice-2.ensures.value, c.if-as_slice-ge-MAX_TYPES.false))
+    (omega (arith, length-map c.args.draft.now.types.items (type_line {A = g.row.A.Denot}), c.len.ensures, c.args.draft.now.types.ok.0, c.if-len-ge-MAX_TYPES.false))
     (pushed (type_line {A = g.row.A.Denot}) c.args.draft.now.types.items _ _ _ c.in_ok-push.ensures.items
     (ap (λ (n : List ℕ). record { line = c.args.number; value = record { name = n; mass = c.in-Some.numbers.mass; values = c.in-Some.numbers.values.items } }) c.type_name-name.ensures))

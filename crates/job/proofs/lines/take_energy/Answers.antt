@@ -6,11 +6,11 @@ use Rattle.job.proofs.lines.take_energy.Goals as goal
 pub returns-then-is_empty : goal.returns-then-is_empty
 returns-then-is_empty g c = grind (arith, common_steps)
 
-pub returns-then-is_some : goal.returns-then-is_some
-returns-then-is_some g c = grind (arith, common_steps)
+pub returns-then-not-is_empty : goal.returns-then-not-is_empty
+returns-then-not-is_empty g c = grind (arith, common_steps)
 
-pub returns-in_err-from_slice : goal.returns-in_err-from_slice
-returns-in_err-from_slice g c = grind (arith, common_steps)
+pub returns-in_err-draft : goal.returns-in_err-draft
+returns-in_err-draft g c = grind (arith, common_steps)
 
 pub invariant_of-draft : goal.invariant_of-draft
 invariant_of-draft g c = let d = c.args.draft.now in record { least_core = d.least_core; most_cutoff = d.most_cutoff; some_slices = d.some_slices; most_slices = d.most_slices; named = d.named; few_parameters = d.few_parameters; few_globals = d.few_globals; few_types = d.few_types }

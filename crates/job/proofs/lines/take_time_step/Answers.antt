@@ -1,13 +1,9 @@
--- Without these answers the check searches for seconds, in vain, before `grind` closes the goals.
-use Rattle.std.proofs.Common.{arith}
-use Rattle.std.proofs.lemmas.Grind.{common_steps}
+use Rattle.job.specs.Views.{said_of, refusal_of}
+use Rattle.job.proofs.DraftLemmas.{put_answers}
 use Rattle.job.proofs.lines.take_time_step.Goals as goal
-
-pub returns-in_err-value : goal.returns-in_err-value
-returns-in_err-value g c = grind (arith, common_steps)
 
 pub invariant_of-draft : goal.invariant_of-draft
 invariant_of-draft g c = let d = c.args.draft.now in record { least_core = d.least_core; most_cutoff = d.most_cutoff; some_slices = d.some_slices; most_slices = d.most_slices; named = d.named; few_parameters = d.few_parameters; few_globals = d.few_globals; few_types = d.few_types }
 
 pub returns : goal.returns
-returns g c = grind (arith, common_steps)
+returns g c = put_answers (refusal_of {A = g.row.A.Denot}) (λ o. record (said_of c.args.draft.now) { time_step = o }) _ c.put_once.result _ (rw c.time_step_in-reading.ensures at c.put_once.ensures.value)

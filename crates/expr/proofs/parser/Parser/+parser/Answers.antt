@@ -4,8 +4,8 @@ use Rattle.std.proofs.lemmas.Result.{err_from_is_err_and}
 use Rattle.expr.specs.Tokens.{placed}
 use Rattle.expr.specs.Syntax.{arguments_of, syntax_of}
 use Rattle.expr.specs.Syntax as tree
-use Rattle.expr.specs.Parsing.{beginning, comma_sign, listed, chain, expr_at}
-use Rattle.expr.proofs.Levels.{unary_none_left, atom_group, atom_name, atom_call, minus_fails, minus_reads, gives_same, atom_start, unary_none, term_starts, expr_starts, term_fails, expr_fails, term_turn, expr_turn, term_turn_fails, expr_turn_fails, term_ends, expr_ends, term_less, expr_less, started, reading, list_starts, list_fails, list_turn, list_turn_fails, list_ends, list_less}
+use Rattle.expr.specs.Parsing.{arguments_at, arguments_by, beginning, closed_at, comma_sign, list_at, listed, listing, chain, expr_at}
+use Rattle.expr.proofs.Levels.{closing_gives, unary_none_left, atom_group, atom_name, atom_call, minus_fails, minus_reads, gives_same, atom_start, unary_none, term_starts, expr_starts, term_fails, expr_fails, term_turn, expr_turn, term_turn_fails, expr_turn_fails, term_ends, expr_ends, term_less, expr_less, started, reading, list_starts, list_fails, list_turn, list_turn_fails, list_ends, list_less}
 use Rattle.expr.proofs.Results.{beside_ok, beside_err}
 use Rattle.expr.proofs.parser.Parser.+parser.Goals as goal
 
@@ -130,3 +130,13 @@ list-loop-after-preserved g t c =
 
 pub list-returns : goal.list-returns
 list-returns g t c = c.loop-after.invariant ∙ list_ends c.args.self.now.end c.args.levels _ (placed c.loop-after.rest.now) c.in_default.ensures
+
+pub closed-returns : goal.closed-returns
+unfolding closed_at
+closed-returns g t c = closing_gives (λ x. syntax_of x.value) c.args.self.now.end (expr_at c.args.self.now.end c.args.levels) (placed c.args.tokens.now) c.expr.result c.closing.result c.closing.ensures c.expr.ensures
+
+pub arguments-returns-in-None : goal.arguments-returns-in-None
+unfolding arguments_at list_at
+arguments-returns-in-None g t c =
+    gives_same _ c.closing.result _ _ (ap (arguments_by c.args.self.now.end (expr_at c.args.self.now.end c.args.levels) (placed c.args.tokens.now)) c.in-None.ensures)
+    (closing_gives arguments_of c.args.self.now.end (listing (expr_at c.args.self.now.end c.args.levels)) (placed c.args.tokens.now) c.list.result c.closing.result c.closing.ensures c.list.ensures)
