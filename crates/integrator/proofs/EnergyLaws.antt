@@ -1,17 +1,29 @@
 -- Names of a job's energy, and its kernel's table.
-use Rattle.std.proofs.Common.{◌≡◌, ℕ, ◌<◌, ◌≤◌, arith, List, [], ◌∷◌, length, ℤ, refl, sym, ap, ◌∙◌}
+use Rattle.std.proofs.Common.{◌≡◌, ℕ, ◌<◌, ◌≤◌, arith, List, [], ◌∷◌, length, ℤ, Ok, refl, sym, ap, ◌∙◌}
 use Rattle.std.specs.Prelude.{map}
 use Rattle.std.specs.List.{All}
 use Rattle.std.proofs.lemmas.List.{length-map}
 use Rattle.std.proofs.lemmas.List.Elements.{All-cons, All-head, All-map, All-nil, All-same, All-tail}
+use Rattle.derivative.specs.Derive.{slope_program}
+use Rattle.energy_program.specs.Faults.{refusal_of}
+use Rattle.energy_program.specs.Names.{names_from}
+use Rattle.energy_program.specs.Programs.{Trees}
 use Rattle.energy_program.specs.Tree as trees
+use Rattle.energy_program.specs.declared.faults.ExprFault.{ExprFault}
+use Rattle.expr.specs.Energy.{trees_in}
+use Rattle.fallible.specs.Failures.{Fails}
+use Rattle.fallible.specs.declared.failure.Failure.{Failure}
+use Rattle.fallible.proofs.FailureLaws.{fails_as}
+use Rattle.job.specs.Values.{JobValue}
+use Rattle.kernel_code.specs.declared.instructions.Instr.{Instr}
+use Rattle.kernel_compiler.specs.Code.{compiled}
 use Rattle.job.specs.Views.{global_value, job_value, type_value}
 use Rattle.job.specs.declared.jobs.AtomType.{AtomType}
 use Rattle.job.specs.declared.jobs.Global.{Global}
 use Rattle.job.specs.declared.jobs.Job.{Job}
 use Rattle.kernel_code.specs.Tables.{Table, inputs_of}
 use Rattle.integrator.specs.Starts.{global_values, table_of, type_rows}
-use Rattle.integrator.specs.Energies.{Energy, IsCompiled, global_names}
+use Rattle.integrator.specs.Energies.{Energy, IsCompiled, energy_from, energy_of, global_names, job_program}
 use Rattle.integrator.specs.Kernels.{GivesSlope}
 use Rattle.integrator.proofs.KernelLaws.{enough, gives}
 use Rattle.fixed.specs.Fractions.{bits_of}
@@ -84,3 +96,42 @@ kernel_gives j t e same h =
 -- code compiled for as many parameters and globals as a job has is compiled for the job as it is seen
 pub compiled_for : {A : Type 0} (j : Job A) (e : Energy) → IsCompiled (bits_of j.frac) (length j.parameters.items) (length j.globals.items) e → IsCompiled (bits_of j.frac) (length (job_value j).parameters) (length (job_value j).globals) e
 compiled_for j e h = rw (length-map j.parameters.items (λ p. p.items), length-map j.globals.items global_value) h
+
+-- ---- the steps from a job to its energy
+
+-- a job whose names are refused has no program
+pub names_refused : {A : Type 0} (j : JobValue) (failure : Failure (ExprFault A)) → Fails refusal_of failure (names_from j.parameters (global_names j.globals)) → Fails refusal_of failure (job_program j)
+unfolding job_program
+names_refused j failure h = fails_as refusal_of failure (names_from j.parameters (global_names j.globals)) (job_program j) (λ fault e. rw e refl) h
+
+-- a job's text is read by its names
+pub program_by : (j : JobValue) (variables : List (List ℕ)) → names_from j.parameters (global_names j.globals) ≡ Ok variables → job_program j ≡ trees_in (bits_of j.frac) variables j.energy
+unfolding job_program
+program_by j variables e = rw e refl
+
+-- a program whose slope is refused has no energy
+pub slope_refused : {A : Type 0} (bits : ℕ) (program : Trees) (failure : Failure (ExprFault A)) → Fails refusal_of failure (slope_program bits program) → Fails refusal_of failure (energy_from bits program)
+unfolding energy_from
+slope_refused bits program failure h = fails_as refusal_of failure (slope_program bits program) (energy_from bits program) (λ fault e. rw e refl) h
+
+-- nor has one whose slope has no code
+pub code_refused : {A : Type 0} (bits : ℕ) (program slope : Trees) (failure : Failure (ExprFault A)) → slope_program bits program ≡ Ok slope → Fails refusal_of failure (compiled bits slope.0 slope.1)
+    → Fails refusal_of failure (energy_from bits program)
+unfolding energy_from
+code_refused bits program slope failure s h = fails_as refusal_of failure (compiled bits slope.0 slope.1) (energy_from bits program) (λ fault e. rw (s, e) refl) h
+
+-- a program with a slope and the code of that
+pub energy_made : (bits : ℕ) (program slope : Trees) (code : List Instr) → slope_program bits program ≡ Ok slope → compiled bits slope.0 slope.1 ≡ Ok code
+    → energy_from bits program ≡ Ok (record { tree = trees.substituted program.0 program.1; slope = slope; code = code })
+unfolding energy_from
+energy_made bits program slope code s e = rw (s, e) refl
+
+-- a job without a program has no energy
+pub program_refused : {A : Type 0} (j : JobValue) (failure : Failure (ExprFault A)) → Fails refusal_of failure (job_program j) → Fails refusal_of failure (energy_of j)
+unfolding energy_of
+program_refused j failure h = fails_as refusal_of failure (job_program j) (energy_of j) (λ fault e. rw e refl) h
+
+-- a job's energy is that of its program
+pub energy_by : (j : JobValue) (program : Trees) → job_program j ≡ Ok program → energy_of j ≡ energy_from (bits_of j.frac) program
+unfolding energy_of
+energy_by j program e = rw e refl

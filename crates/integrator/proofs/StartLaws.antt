@@ -1,6 +1,9 @@
 -- Types of atoms, one after another.
-use Rattle.std.proofs.Common.{◌≡◌, ℕ, suc, ◌+◌, ◌<◌, Bool, true, cond, List, [], ◌∷◌, ◌++◌, length, get_or, drop, Option, Some, None, Result, Ok, Err, ℤ, refl, ap, sym, ◌∙◌, add-one, append_assoc}
+use Rattle.std.proofs.Common.{◌≡◌, ◌≢◌, ℕ, suc, ◌+◌, ◌<◌, Bool, true, false, cond, List, [], ◌∷◌, ◌++◌, length, get_or, drop, Option, Some, None, Result, Ok, Err, ℤ, refl, ap, sym, ◌∙◌, add-one, append_assoc}
+use Rattle.std.proofs.lemmas.Bool.{eq-eqb, ne_eqb}
 use Rattle.std.proofs.lemmas.List.{append-nil}
+use Rattle.fixed.specs.Fractions.{bits_of}
+use Rattle.fixed.specs.declared.frac.Frac.{Frac}
 use Rattle.std.specs.Prelude.{bytes_eq, map, not}
 use Rattle.std.proofs.Math.Seq.{drop-cons}
 use Rattle.line_text.specs.Names.{name_text}
@@ -21,7 +24,7 @@ use Rattle.fallible.proofs.FailureLaws.{fails_as}
 use Rattle.integrator.specs.declared.faults.SystemFault.{SystemFault}
 use Rattle.integrator.specs.StartViews.{system_refusal}
 use Rattle.integrator.specs.Energies.{Energy, energy_of}
-use Rattle.integrator.specs.Starts.{Law, Refusal, are_alike, start_at, start_of_run, atom_types, ring_of, start_with, system_of, types_of, type_with, unknown_type}
+use Rattle.integrator.specs.Starts.{Law, Refusal, are_alike, bits_differ, cutoff_too_long, start_at, start_of_run, atom_types, ring_of, start_with, system_of, types_of, type_with, unknown_type}
 use Rattle.integrator.specs.States.{counter_after}
 use Rattle.integrator.specs.declared.direction.Direction.{Direction}
 
@@ -75,6 +78,37 @@ pub found_type : {A : Type 0} → (types : List (AtomType A)) (name bytes : List
     → r ≡ position (λ t. bytes_eq (name_text t.name) bytes) types → type_with (map type_value types) name ≡ r
 found_type types name bytes r e h =
     position-map (λ t. bytes_eq t.name name) type_value types ∙ ap (λ n. position (λ t. bytes_eq (name_text t.name) n) types) (sym e) ∙ sym h
+
+-- ---- the types of a state's atoms
+
+-- numbers of bits that are one, or aren't
+pub alike : (f g : Frac) (m n : ℕ) → m ≡ bits_of f → n ≡ bits_of g → m ≡ n → are_alike f g ≡ true
+alike f g m n a b e = eq-eqb (bits_of f) (bits_of g) (sym a ∙ e ∙ b)
+
+pub unlike : (f g : Frac) (m n : ℕ) → m ≡ bits_of f → n ≡ bits_of g → m ≢ n → are_alike f g ≡ false
+unlike f g m n a b e = ne_eqb (bits_of f) (bits_of g) (λ h. e (a ∙ h ∙ sym b))
+
+-- a job and a state of other bits have none
+pub bits_unlike : (j : JobValue) (s : StateView) → are_alike j.frac s.frac ≡ false → types_of j s ≡ Err bits_differ
+unfolding types_of
+bits_unlike j s a = rw a refl
+
+-- nor has a state with an atom of no type
+pub types_refused : {A : Type 0} (j : JobValue) (s : StateView) (failure : Failure (SystemFault A)) → are_alike j.frac s.frac ≡ true → Fails system_refusal failure (atom_types j.types 1 s.atoms) → Fails system_refusal failure (types_of j s)
+unfolding types_of
+types_refused j s failure a h = fails_as system_refusal failure (atom_types j.types 1 s.atoms) (types_of j s) (λ fault e. rw (a, e) refl) h
+
+-- nor has one in a box without room
+pub no_room : (j : JobValue) (s : StateView) (types : List ℕ) → are_alike j.frac s.frac ≡ true → atom_types j.types 1 s.atoms ≡ Ok types → has_room j.frac (ring_of s.sides) j.cutoff ≡ false → types_of j s ≡ Err cutoff_too_long
+unfolding types_of
+no_room j s types a t h = rw (a, t, h) refl
+
+-- every other has
+pub typed : (j : JobValue) (s : StateView) (types : List ℕ) → are_alike j.frac s.frac ≡ true → atom_types j.types 1 s.atoms ≡ Ok types → has_room j.frac (ring_of s.sides) j.cutoff ≡ true → types_of j s ≡ Ok types
+unfolding types_of
+typed j s types a t h = rw (a, t, h) refl
+
+-- ---- starts
 
 -- a start whose parts are known
 pub started : (law : Law) (direction : Direction) (steps : ℕ) (j : JobValue) (s : StateView) (energy : Energy) (types : List ℕ) (counter : ℤ)

@@ -54,7 +54,6 @@ fn inertia(frac: Frac, mass: u32, side: Side) -> i128
 }
 
 /// The whole number nearest to `a / b`, a half upward.
-#[tactic(auto, using(fixed::proofs::NearestLemmas::nearest_small))]
 fn nearest(a: i128, b: i128) -> i128
     requires a { unsigned_abs a < 2 ^ 122 }
     requires b { unsigned_abs b < 2 ^ 60 }
@@ -96,7 +95,6 @@ fn onward(before: u32, middle: u32, displacement: i128) -> i128
 
 /// The place that follows `before` and `middle`, where `displacement` is that of `middle`. The place before `middle`
 /// and `before` is found by the same rule, so the rule leads back.
-#[tactic(auto, using(crate::proofs::StepLemmas::there_and_back))]
 pub(crate) fn next_place(before: u32, middle: u32, displacement: i128) -> u32
     requires { unsigned_abs displacement < 2 ^ 123 }
     ensures value { result ≡ next_place_of before middle displacement }

@@ -9,9 +9,9 @@ ghost use Rattle.energy_program.specs.Variables.{names_of};
 ghost use Rattle.energy_program.specs.Programs.{trees_of};
 ghost use Rattle.job.specs.Views.{job_value};
 ghost use Rattle.integrator.specs.Energies.{IsCompiled, energy_from, energy_of, global_names, job_program};
-ghost use Rattle.integrator.specs.StartViews.{energy_view};
+ghost use Rattle.integrator.specs.StartViews.{energy_view, with_slope};
 
-use crate::slope_parts::SlopeParts;
+use crate::slope_parts::{Slope, SlopeParts};
 use derivative::derive;
 use energy_program::{ExprFault, Names, Program};
 use expr::parse;
@@ -58,7 +58,6 @@ fn names<A: Allocator + Copy>(alloc: A, job: &Job<A>) -> Result<Names<A>, Failur
 }
 
 /// The program of a job's energy.
-#[tactic(auto, unfolding(crate::specs::Energies::job_program))]
 fn program<A: Allocator + Copy>(alloc: A, job: &Job<A>) -> Result<Program<A>, Failure<ExprFault<A>>>
     ensures value { Gives trees_of refusal_of result (job_program (job_value job.now)) }
     ensures parameters { IfOk result (λ p. p.parameters ≡ length job.now.parameters.items) }
@@ -68,32 +67,25 @@ fn program<A: Allocator + Copy>(alloc: A, job: &Job<A>) -> Result<Program<A>, Fa
     parse(alloc, job.frac, &job.energy, &names)
 }
 
-/// An energy with the code of its slope.
-#[tactic(auto, unfolding(crate::specs::Energies::energy_from))]
-fn with_slope<A: Allocator + Copy>(
+/// The slope of this energy.
+fn slope_of<A: Allocator + Copy>(
     alloc: A,
     frac: Frac,
-    energy: Program<A>,
-) -> Result<SlopeParts<A>, Failure<ExprFault<A>>>
-    ensures value { Gives energy_view refusal_of result (energy_from (bits_of frac) (trees_of energy)) }
-    ensures compiled { IfOk result (λ p. IsCompiled (bits_of frac) energy.parameters energy.globals (energy_view p)) }
-    ensures energy { IfOk result (λ p. p.energy ≡ energy) }
+    energy: &Program<A>,
+) -> Result<Slope<A>, Failure<ExprFault<A>>>
+    ensures value { Gives (with_slope energy.now) refusal_of result (energy_from (bits_of frac) (trees_of energy.now)) }
+    ensures compiled { IfOk result (λ s. IsCompiled (bits_of frac) energy.now.parameters energy.now.globals (with_slope energy.now s)) }
 {
-    let slope = derive(alloc, frac, &energy)?;
-    let code = compile(alloc, frac, &slope)?;
+    let program = derive(alloc, frac, energy)?;
+    let code = compile(alloc, frac, &program)?;
     prove!(code.as_slice().len() <= 16_384);
-    Ok(SlopeParts {
-        energy,
-        slope,
-        code,
-    })
+    Ok(Slope { program, code })
 }
 
 /// The energy of a job, and the code of its slope.
 ///
 /// The refusals are those of `Names::new` for the job's parameters and globals, of `parse`, of `derive` and of `compile`, in this
 /// order; `Memory`: an allocation was refused.
-#[tactic(auto, unfolding(crate::specs::Energies::energy_of))]
 pub fn job_slope<A: Allocator + Copy>(
     alloc: A,
     job: &Job<A>,
@@ -104,6 +96,11 @@ pub fn job_slope<A: Allocator + Copy>(
     ensures parameters { IfOk result (λ p. p.energy.parameters ≡ length job.now.parameters.items) }
     ensures globals { IfOk result (λ p. p.energy.globals ≡ length job.now.globals.items) }
 {
-    let program = program(alloc, job)?;
-    with_slope(alloc, job.frac, program)
+    let energy = program(alloc, job)?;
+    let slope = slope_of(alloc, job.frac, &energy)?;
+    Ok(SlopeParts {
+        energy,
+        slope: slope.program,
+        code: slope.code,
+    })
 }

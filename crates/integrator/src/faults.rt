@@ -8,10 +8,11 @@ ghost use Rattle.integrator.specs.declared.faults.SystemFault.TheVariants.{Energ
 use energy_program::ExprFault;
 use fallible::Failure;
 use std::alloc::Allocator;
+use std::fmt;
 use thiserror::Error;
 
 /// Why a job and a state have no atoms that can be run.
-#[derive(Debug, Drop, Error)]
+#[derive(Drop, Error)]
 pub enum SystemFault<A: Allocator> {
     /// The energy's text is refused.
     #[error("{0}")]
@@ -25,6 +26,13 @@ pub enum SystemFault<A: Allocator> {
     /// Some side of the box is shorter than two cutoffs.
     #[error("A2 CutoffTooLong")]
     CutoffTooLong,
+}
+
+/// A fault prints the same either way.
+impl<A: Allocator> fmt::Debug for SystemFault<A> {
+    fn fmt<W: fmt::Write>(&self, f: &mut fmt::Formatter<W>) -> fmt::Result {
+        fmt::Display::fmt(self, f)
+    }
 }
 
 /// Why steps stopped before the last.

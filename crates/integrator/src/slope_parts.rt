@@ -1,4 +1,4 @@
-//! An energy, and the code of its slope.
+//! An energy, its slope and the code of that.
 
 use energy_program::Program;
 use kernel_code::Code;
@@ -13,4 +13,13 @@ pub struct SlopeParts<A: Allocator> {
     pub slope: Program<A>,
     /// The code of that program.
     pub code: Code<A>,
+}
+
+/// The slope of an energy.
+#[derive(Drop)]
+pub(crate) struct Slope<A: Allocator> {
+    /// The program whose value is the slope.
+    pub(crate) program: Program<A>,
+    /// The code of that program.
+    pub(crate) code: Code<A>,
 }

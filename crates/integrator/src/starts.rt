@@ -71,7 +71,6 @@ fn atom_masses<A: Allocator + Copy>(
 }
 
 /// The atoms of a state that can be run under this job.
-#[tactic(auto, unfolding(crate::specs::Starts::types_of))]
 fn typed_atoms<A: Allocator + Copy>(
     alloc: A,
     job: &Job<A>,

@@ -4,10 +4,11 @@ ghost use Rattle.std.specs.Prelude.{◌≡◌};
 ghost use Rattle.fallible.specs.declared.failure.Failure.TheVariants.{Refused};
 
 use fallible::Failure;
+use std::fmt;
 use thiserror::Error;
 
 /// The first fault of a text, from the top.
-#[derive(Clone, Copy, Debug, PartialEq, Eq, Error)]
+#[derive(Clone, Copy, Error)]
 pub enum StateFault {
     /// The line with this number, counted from 1, differs from its form or is out of range.
     #[error("S1 BadLine {line}")]
@@ -18,6 +19,13 @@ pub enum StateFault {
     /// Something stands after the last atom's line.
     #[error("S3 Trailing")]
     Trailing,
+}
+
+/// A fault prints the same either way.
+impl fmt::Debug for StateFault {
+    fn fmt<W: fmt::Write>(&self, f: &mut fmt::Formatter<W>) -> fmt::Result {
+        fmt::Display::fmt(self, f)
+    }
 }
 
 impl From<StateFault> for Failure<StateFault> {

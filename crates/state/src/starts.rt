@@ -46,7 +46,10 @@ fn started<A: Allocator + Copy, F: Allocator>(
 ) -> Result<State<A>, Failure<BoxFault>>
     ensures { Gives state_view (λ f. f) result (start_of_frame frac time_step (gro.frame_view frame.now)) }
 {
-    let ring = RingBox::new(frame.sides).map_err(Failure::Refused)?;
+    let ring = match RingBox::new(frame.sides) {
+        Ok(ring) => ring,
+        Err(fault) => return Err(Failure::Refused(fault)),
+    };
     let title = Vec::from_slice(alloc, &frame.title)?;
     let atoms = started_atoms(alloc, time_step, &ring, &frame.atoms)?;
     Ok(State {

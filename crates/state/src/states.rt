@@ -9,7 +9,7 @@ use ring_box::{Place3, RingBox};
 use std::alloc::Allocator;
 
 /// An atom of a state, with its places in two frames that follow one another.
-#[derive(Clone, Copy, Debug)]
+#[derive(Clone, Copy)]
 pub struct Atom {
     /// The number of its residue, -9999 to 99999.
     pub residue_number: i32,

@@ -25,7 +25,6 @@ fn length(side: Side) -> i128
 }
 
 /// The whole number of places nearest to the way of an atom along a side in one time step, of two the upper one: `velocity` in 10^-4 nm/ps.
-#[tactic(auto, using(fixed::proofs::NearestLemmas::nearest_small))]
 fn places_moved(velocity: i64, time_step: TimeStep, side: Side) -> i128
     ensures value { result ≡ places_moved velocity time_step side }
     ensures nearest { IsWay velocity time_step side result }

@@ -4,7 +4,7 @@ ghost use Rattle.std.specs.Prelude.{◌≡◌};
 ghost use Rattle.trajectory.specs.Trajectories.{run_fault_of};
 ghost use Rattle.trajectory.specs.declared.halts.Halt.TheVariants as halt;
 
-use engine::RunFault;
+use engine::{Engine, RunFault};
 use fallible::OutFault;
 use integrator::StepFault;
 use std::alloc::Allocator;
@@ -36,3 +36,6 @@ impl<A: Allocator> From<Halt> for RunFault<A> {
         }
     }
 }
+
+/// Lets the engine of a run go that has ended. Every run does it here: an engine has many parts, and each place that drops one drops them all.
+pub(crate) fn let_go<A: Allocator + Copy>(_engine: Engine<A>) {}

@@ -10,7 +10,7 @@ ghost use Rattle.trajectory.specs.Watching.{SomeHundredths, hundredths};
 ghost use Rattle.integrator.specs.States.{counter_after};
 
 use crate::frame_titles::timed_title;
-use crate::halts::Halt;
+use crate::halts::{Halt, let_go};
 use crate::stretches::advance;
 use crate::watching::{Unwatched, Watch};
 use engine::{Engine, RunFault, open};
@@ -178,7 +178,7 @@ pub fn watched_trajectory_bytes<
     ensures told_some { IfErr result (λ _. SomeHundredths (steps / every * every) (W.told watch.old watch.new)) }
 {
     let mut engine = open(alloc, job, state)?;
-    write_run(
+    let done = write_run(
         rt,
         &mut engine,
         steps,
@@ -187,7 +187,9 @@ pub fn watched_trajectory_bytes<
         workers,
         watch,
         out,
-    )
+    );
+    let_go(engine);
+    done
 }
 
 /// Makes n steps of an engine, tells a watcher of each hundredth of those up to the last frame, and writes the frames after 0, k, 2k, .. of them,

@@ -10,6 +10,7 @@ ghost use Rattle.engine.specs.Engines.{AreSafe, IsRunUnwritten, IsStateUnwritten
 ghost use Rattle.engine.specs.Headline.{WroteLevesqueVerletRun};
 ghost use Rattle.trajectory.specs.Watching.{SomeHundredths, hundredths};
 
+use crate::halts::let_go;
 use crate::stretches::advance;
 use crate::watching::Watch;
 use engine::{Engine, RunFault, open};
@@ -49,7 +50,9 @@ pub fn watched_run_bytes<R: Threads + Sync, A: Allocator + Copy + Send + Sync, W
     ensures only { (text : List ℕ) → IsRun plain job.now state.now direction steps text → AreSafe job.now state.now → IfErr result Wants }
 {
     let mut engine = open(alloc, job, state)?;
-    run(rt, &mut engine, steps, direction, workers, watch, out)
+    let done = run(rt, &mut engine, steps, direction, workers, watch, out);
+    let_go(engine);
+    done
 }
 
 /// Makes n steps of an engine, tells a watcher of each hundredth of them, and writes the state that the engine comes to.

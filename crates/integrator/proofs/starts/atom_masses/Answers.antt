@@ -1,7 +1,7 @@
 use Rattle.std.proofs.Common.{◌<◌, ◌≤◌, ◌++◌, ◌∷◌, [], get_or, take, arith, ap, sym, ◌∙◌}
 use Rattle.std.specs.Prelude.{map}
-use Rattle.std.proofs.lemmas.List.{map_push, take_more}
-use Rattle.std.proofs.lemmas.List.Elements.{All-push, All-same}
+use Rattle.std.proofs.lemmas.List.{map_push, take_all, take_more}
+use Rattle.std.proofs.lemmas.List.Elements.{All-nil, All-push, All-same}
 use Rattle.job.specs.Views.{type_value}
 use Rattle.integrator.specs.Starts.{mass_of}
 use Rattle.integrator.proofs.starts.atom_masses.Goals as goal
@@ -21,3 +21,21 @@ loop-number-preserved g c =
       some = All-same (λ m. 0 < m) _ _ items (All-push (λ m. 0 < m) c.loop-number.masses.items c.mass_of.result c.loop-number.invariant.some c.mass_of.ensures.some);
       most = All-same (λ m. m ≤ 100000000) _ _ items (All-push (λ m. m ≤ 100000000) c.loop-number.masses.items c.mass_of.result c.loop-number.invariant.most c.mass_of.ensures.most);
     }
+
+pub loop-number-init : goal.loop-number-init
+loop-number-init g c =
+    let none = c.new-masses.ensures.items in
+    record { value = none; some = rw none (All-nil (λ m. 0 < m)); most = rw none (All-nil (λ m. m ≤ 100000000)) }
+
+pub mass_of-requires : goal.mass_of-requires
+mass_of-requires g c = c.requires c.loop-number.number-index 0 c.loop-number-test.true
+
+pub returns-clause-value : goal.returns-clause-value
+returns-clause-value g c =
+    c.loop-number.invariant.value ∙ ap (map (mass_of (map type_value c.args.kinds.now))) (take_all c.loop-number.number-index c.args.types.now (omega arith))
+
+pub returns-clause-some : goal.returns-clause-some
+returns-clause-some g c = c.loop-number.invariant.some
+
+pub returns-clause-most : goal.returns-clause-most
+returns-clause-most g c = c.loop-number.invariant.most

@@ -1,7 +1,7 @@
-use Rattle.std.proofs.Common.{◌≡◌, ◌+◌, ◌*◌, arith, subst, sym}
+use Rattle.std.proofs.Common.{◌≡◌, ◌+◌, ◌*◌, suc, arith, subst, sym}
 use Rattle.std.proofs.lemmas.Result.{err_from_is_err_and}
 use Rattle.state.specs.StateViews.{state_view}
-use Rattle.trajectory.specs.Trajectories.{IsFrameOnWay}
+use Rattle.trajectory.specs.Trajectories.{IsFrameOnWay, WroteFrames}
 use Rattle.trajectory.specs.Watching.{hundredths_behind}
 use Rattle.trajectory.proofs.HundredthLaws.{hundredths-zero, more_told, nothing_told}
 use Rattle.trajectory.proofs.TrajectoryLaws.{first_left, first_written, fits_further, fits_now, next_left, next_written, steps_left, within}
@@ -96,3 +96,28 @@ returns-in_err-write_frame-2-clause-told_some g c =
       within c.args.every c.args.most c.loop-number.number c.loop-number-test.true,
       more_told g.W.Watch.told g.met.W.Watch.told_more (c.args.most * c.args.every) before c.args.every _ _ _ c.loop-number.invariant.told c.in_ok-advance.ensures.told,
     )
+
+-- the numbers of steps
+
+pub overflow_mul-before : goal.overflow_mul-before
+overflow_mul-before g c = omega (arith, within c.args.every c.args.most c.loop-number.number c.loop-number-test.true, c.requires.range)
+
+pub overflow_add-before : goal.overflow_add-before
+overflow_add-before g c = omega (arith, within c.args.every c.args.most c.loop-number.number c.loop-number-test.true, c.requires.range)
+
+-- the output
+
+pub write_frame-requires-in-loop-number : goal.write_frame-requires-in-loop-number
+write_frame-requires-in-loop-number g c = record { room = rw c.loop-number.invariant.wrote.appends.failed c.requires.room }
+
+-- all frames
+
+pub returns-clause-wrote : goal.returns-clause-wrote
+returns-clause-wrote g c =
+    let all : c.loop-number.number ≡ c.args.most = omega (arith, c.loop-number-test.false) in
+    subst (λ k. WroteFrames (IsFrameOnWay c.args.direction c.args.every c.args.engine.now) (suc k) (g.O.Out.output c.args.out.now) (g.O.Out.output c.loop-number.out)) all c.loop-number.invariant.wrote
+
+pub returns-clause-told : goal.returns-clause-told
+returns-clause-told g c =
+    let all : c.loop-number.number ≡ c.args.most = omega (arith, c.loop-number-test.false) in
+    subst (λ k. g.W.Watch.told c.args.watch.now c.loop-number.watch (hundredths_behind (c.args.most * c.args.every) 0 (k * c.args.every))) all c.loop-number.invariant.told

@@ -27,42 +27,42 @@ returns-in_err-engine-clause-told_some g c =
     let p = err_from_is_err_and c.from_residual.result c.from_residual.ensures.1 in
     rw p.1 (nothing_told c.args.steps (g.W.Watch.told c.args.watch.now c.args.watch.now) (g.met.W.Watch.told_nothing c.args.watch.now))
 
-pub run-requires-clause-range : goal.run-requires-clause-range
-run-requires-clause-range g c = λ _ _. engine_in_range c.args.job.now c.args.state.now c.in_ok-engine.engine c.in_ok-engine.ensures.opens
+pub run-done-requires-clause-range : goal.run-done-requires-clause-range
+run-done-requires-clause-range g c = λ _ _. engine_in_range c.args.job.now c.args.state.now c.in_ok-engine.engine c.in_ok-engine.ensures.opens
 
 -- why nothing is written, or a beginning of the text
 pub returns-clause-refused : goal.returns-clause-refused
 returns-clause-refused g c =
-    IfErr-weaker c.run.result _ _ (run_unwritten c.args.job.now c.args.state.now c.args.direction c.args.steps c.in_ok-engine.engine c.run.new.engine _ _ c.in_ok-engine.ensures.opens) c.run.ensures.unwritten
+    IfErr-weaker c.run-done.result _ _ (run_unwritten c.args.job.now c.args.state.now c.args.direction c.args.steps c.in_ok-engine.engine c.run-done.new.engine _ _ c.in_ok-engine.ensures.opens) c.run-done.ensures.unwritten
 
 pub returns-clause-only : goal.returns-clause-only
 returns-clause-only g c = λ text r a.
-    IfErr-weaker c.run.result _ _ (run_wants c.args.job.now c.args.state.now c.args.direction c.args.steps c.in_ok-engine.engine c.run.new.engine _ _ text c.in_ok-engine.ensures.opens r) c.run.ensures.unwritten
+    IfErr-weaker c.run-done.result _ _ (run_wants c.args.job.now c.args.state.now c.args.direction c.args.steps c.in_ok-engine.engine c.run-done.new.engine _ _ text c.in_ok-engine.ensures.opens r) c.run-done.ensures.unwritten
 
 -- the text that is written
 pub returns-clause-safe : goal.returns-clause-safe
-returns-clause-safe g c = on_ok_weaker c.run.result (λ _. safe_texts c.args.job.now c.args.state.now c.in_ok-engine.engine c.in_ok-engine.ensures.opens) c.run.ensures.wrote
+returns-clause-safe g c = on_ok_weaker c.run-done.result (λ _. safe_texts c.args.job.now c.args.state.now c.in_ok-engine.engine c.in_ok-engine.ensures.opens) c.run-done.ensures.wrote
 
 pub returns-clause-ran : goal.returns-clause-ran
 returns-clause-ran g c =
-    on_ok_weaker c.run.result
+    on_ok_weaker c.run-done.result
     (λ h.
-    let after = engine_ran c.args.job.now c.args.state.now c.args.direction c.args.steps c.in_ok-engine.engine c.run.new.engine c.in_ok-engine.ensures.opens h.0 in
+    let after = engine_ran c.args.job.now c.args.state.now c.args.direction c.args.steps c.in_ok-engine.engine c.run-done.new.engine c.in_ok-engine.ensures.opens h.0 in
     record {
-      text = state_text c.run.new.engine.state;
-      run = record { start = after.start; starts = after.starts; after = c.run.new.engine.state; ran = after.ran; written = refl };
+      text = state_text c.run-done.new.engine.state;
+      run = record { start = after.start; starts = after.starts; after = c.run-done.new.engine.state; ran = after.ran; written = refl };
       appends = h.1;
     })
-    c.run.ensures.wrote
+    c.run-done.ensures.wrote
 
 -- by the page
 pub returns-clause-wrote : goal.returns-clause-wrote
 returns-clause-wrote g c =
     let job = c.args.job.now in
     let state = c.args.state.now in
-    let reached = c.run.new.engine in
+    let reached = c.run-done.new.engine in
     let once = c.in_ok-engine.ensures.once in
-    on_ok_weaker c.run.result
+    on_ok_weaker c.run-done.result
     (λ h.
     let ran : IsAfter plain job state c.args.direction c.args.steps reached.state = engine_ran job state c.args.direction c.args.steps c.in_ok-engine.engine reached c.in_ok-engine.ensures.opens h.0 in
     record {
@@ -71,4 +71,4 @@ returns-clause-wrote g c =
       only = only_told job state c.args.direction c.args.steps reached.state once ran;
       appends = h.1;
     })
-    c.run.ensures.wrote
+    c.run-done.ensures.wrote
