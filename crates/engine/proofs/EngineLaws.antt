@@ -15,11 +15,16 @@ use Rattle.kernel_code.specs.declared.instructions.Instr.{Instr}
 use Rattle.state.specs.StateReading.{state_of}
 use Rattle.state.specs.declared.faults.StateFault.{StateFault}
 use Rattle.state.specs.StateText.{StateView}
+use Rattle.state.specs.declared.states.State.{State}
+use Rattle.job.specs.declared.jobs.Job.{Job}
+use Rattle.integrator.specs.declared.systems.System.{System}
+use Rattle.engine.specs.declared.safe_kernels.SafeKernel.{SafeKernel}
 use Rattle.integrator.proofs.ReturnLaws.{start_from, system_parts}
 use Rattle.integrator.proofs.StartLaws.{started}
 use Rattle.integrator.proofs.CounterLaws.{counter_fits, counter_stays}
 use Rattle.integrator.proofs.StateLaws.{at_home}
 use Rattle.integrator.specs.Energies.{Energy, energy_of, job_tree}
+use Rattle.engine.specs.EngineViews.{IsEngine}
 use Rattle.engine.specs.Engines.{AreSafe, AreStopped, EngineView, HasNoEngine, HasNoEngineOfTexts, IsEngineOfTexts, Stopped, Went, engine_dynamics}
 use Rattle.integrator.specs.Frames.{Frame, frames, steps_in}
 use Rattle.integrator.specs.Runs.{IsAfter}
@@ -132,6 +137,21 @@ engine_stops job state w n e f step.StepRange t h =
     (no_counter job state w n t.j t.s t.it.system t.job_read t.state_read t.it.made none, safe_texts job state e t)
 engine_stops job state w n e f (step.Memory done) t h = (h.0, safe_texts job state e t)
 
+-- the system is that of the job in any state with the same box and as many atoms
+pub moves_on : {A : Type 0} (j : Job A) (s t : State A) (y : System (SafeKernel A) A) → t.ring ≡ s.ring → length t.atoms.items ≡ length s.atoms.items → IsEngine j s y → IsEngine j t y
+moves_on j s t y ring atoms e = record {
+  dynamics = rw ring e.dynamics;
+  energy = e.energy;
+  program = e.program;
+  atoms = atoms ∙ e.atoms;
+  table = e.table;
+  parameters = e.parameters;
+  globals = e.globals;
+  frac = e.frac;
+  core = e.core;
+  cutoff = e.cutoff;
+}
+
 -- ---- which engines there are
 
 -- a job and a state whose atoms can't be run have none
@@ -147,28 +167,31 @@ verdict_refuses A j s system Memory e h = tt
 certified_for : (j : JobValue) (code : List Instr) (k : Kernel) → IsKernel k → k.code ≡ code → k.table ≡ table_of j → k.core ≡ j.core → k.cutoff ≡ j.cutoff → IsCertified code (table_of j) j.core j.cutoff k.steps k.bound
 certified_for j code k h a b c d = rw (← a, ← b, ← c, ← d) h
 
--- the answer of the test of the range, and what it was asked with
-test_is : (r : Bool) (b c n m : ℕ) → r ≡ nat_lt (c * (m - 1)) (2 ^ 63) → c ≡ b → m ≡ n → r ≡ nat_lt (b * (n - 1)) (2 ^ 63)
-test_is r b c n m e p q = rw (← p, ← q) e
+-- the answers of the test of the range
+pub fits_by : (r : Bool) (k : ℕ) → r ≡ nat_lt k (2 ^ 63) → r ≡ true → k < 2 ^ 63
+fits_by r k test passed = ltb-true k (2 ^ 63) (sym test ∙ passed)
 
-pub is_safe : (j : JobValue) (code : List Instr) (k : Kernel) (r : Bool) (c m n : ℕ) → IsKernel k → k.code ≡ code → k.table ≡ table_of j → k.core ≡ j.core → k.cutoff ≡ j.cutoff
-    → r ≡ nat_lt (c * (m - 1)) (2 ^ 63) → c ≡ k.bound → m ≡ n → r ≡ true → IsJudged j code (Ok k.bound) → IsSafeFor j code n
-is_safe j code k r c m n h a b d e t p q passed judged = record {
+pub far_by : (r : Bool) (k : ℕ) → r ≡ nat_lt k (2 ^ 63) → r ≡ false → 2 ^ 63 ≤ k
+far_by r k test failed = ltb-false k (2 ^ 63) (sym test ∙ failed)
+
+pub is_safe : (j : JobValue) (code : List Instr) (k : Kernel) (n : ℕ) → IsKernel k → k.code ≡ code → k.table ≡ table_of j → k.core ≡ j.core → k.cutoff ≡ j.cutoff
+    → IsJudged j code (Ok k.bound) → k.bound * (n - 1) < 2 ^ 63 → IsSafeFor j code n
+is_safe j code k n h a b d e judged fits = record {
   judged = judged;
   steps = k.steps;
   bound = k.bound;
   certified = certified_for j code k h a b d e;
-  fits = ltb-true (k.bound * (n - 1)) (2 ^ 63) (sym (test_is r k.bound c n m t p q) ∙ passed);
+  fits = fits;
 }
 
-pub passes : (j : JobValue) (code : List Instr) (k : Kernel) (r : Bool) (c m n : ℕ) → IsKernel k → k.code ≡ code → k.table ≡ table_of j → k.core ≡ j.core → k.cutoff ≡ j.cutoff
-    → r ≡ nat_lt (c * (m - 1)) (2 ^ 63) → c ≡ k.bound → m ≡ n → r ≡ false → IsJudged j code (Ok k.bound) → PassesRange j code n
-passes j code k r c m n h a b d e t p q failed judged = record {
+pub passes : (j : JobValue) (code : List Instr) (k : Kernel) (n : ℕ) → IsKernel k → k.code ≡ code → k.table ≡ table_of j → k.core ≡ j.core → k.cutoff ≡ j.cutoff
+    → IsJudged j code (Ok k.bound) → 2 ^ 63 ≤ k.bound * (n - 1) → PassesRange j code n
+passes j code k n h a b d e judged far = record {
   judged = judged;
   steps = k.steps;
   bound = k.bound;
   certified = certified_for j code k h a b d e;
-  far = ltb-false (k.bound * (n - 1)) (2 ^ 63) (sym (test_is r k.bound c n m t p q) ∙ failed);
+  far = far;
 }
 
 -- ---- texts that have no engine

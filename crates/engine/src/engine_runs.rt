@@ -32,17 +32,15 @@ pub fn open<A: Allocator + Copy>(
     ensures once { IfOk result (λ _. AreReadOnce job.now state.now) }
     ensures refused { IfErr result (λ failure. IfRefused failure (HasNoEngineOfTexts job.now state.now)) }
 {
-    let job = match Job::read(alloc, job) {
-        Ok(job) => job,
-        Err(failure) => return Err(OpenFault::of_job(failure)),
-    };
-    let state = match State::read(alloc, state) {
-        Ok(state) => state,
-        Err(failure) => return Err(OpenFault::of_state(failure)),
-    };
-    match Engine::new(alloc, job, state) {
-        Ok(engine) => Ok(engine),
-        Err(failure) => Err(OpenFault::of_engine(failure)),
+    match Job::read(alloc, job) {
+        Ok(job) => match State::read(alloc, state) {
+            Ok(state) => match Engine::new(alloc, job, state) {
+                Ok(engine) => Ok(engine),
+                Err(failure) => Err(OpenFault::of_engine(failure)),
+            },
+            Err(failure) => Err(OpenFault::of_state(failure)),
+        },
+        Err(failure) => Err(OpenFault::of_job(failure)),
     }
 }
 
@@ -85,8 +83,10 @@ pub fn run_bytes<R: Threads + Sync, A: Allocator + Copy + Send + Sync, O: Out>(
     ensures told_back { (text : List ℕ) → IsLevesqueVerletRun job.now state.now direction steps text → IsLevesqueVerletRun job.now text (opposite direction) steps state.now }
     ensures returns { (text : List ℕ) → IsRun plain job.now state.now direction steps text → IsRun plain job.now text (opposite direction) steps state.now }
 {
-    let mut engine = open(alloc, job, state)?;
-    run(rt, &mut engine, steps, direction, workers, out)
+    match open(alloc, job, state) {
+        Ok(mut engine) => run(rt, &mut engine, steps, direction, workers, out),
+        Err(failure) => Err(RunFault::Open(failure)),
+    }
 }
 
 /// Makes n steps of an engine, and writes the state that it comes to.

@@ -25,7 +25,7 @@ use crate::safe_systems::SafeSystem;
 use crate::verdicts::{safe_kernel, verified_energy};
 use fallible::Failure;
 use integrator::{
-    Direction, StepFault, Stepped, System, TypedAtoms, advance, counter_after, ready,
+    Direction, Ready, StepFault, Stepped, System, TypedAtoms, advance, counter_after, ready,
 };
 use job::{Job, TimeStep};
 use state::State;
@@ -60,12 +60,12 @@ impl<A: Allocator + Copy> Model for Engine<A> {
     ghost invariant = { λ e. IsEngine e.job e.state e.motion.system × IfSome e.tiling (IsTilingOf e.motion.system) };
 }
 
-/// Whether no force on one of `atoms` atoms can pass 64 bits, where no slope passes `bound`.
-fn fits(bound: u64, atoms: usize) -> bool
-    ensures { result ≡ nat_lt (bound * (atoms - 1)) (2 ^ 63) }
+/// Whether no force on an atom of the state can pass 64 bits, where the slopes are this kernel's.
+fn fits<A: Allocator>(kernel: &SafeKernel<A>, state: &State<A>) -> bool
+    ensures { result ≡ nat_lt (kernel.now.verified.bound * (length state.now.atoms.items - 1)) (2 ^ 63) }
 {
-    let others = atoms.saturating_sub(1);
-    u128::from(bound) * (others as u128) < 9_223_372_036_854_775_808
+    let others = state.atoms.len().saturating_sub(1);
+    u128::from(kernel.verified.bound()) * (others as u128) < 9_223_372_036_854_775_808
 }
 
 /// The system of these atoms under this slope, in the box of the state.
@@ -87,7 +87,6 @@ fn motion<A: Allocator>(
     requires count { length atoms.types.items ≡ length state.now.atoms.items }
     requires fits { kernel.verified.bound * (length state.now.atoms.items - 1) < 2 ^ 63 }
     requires room { has_room job.now.frac state.now.ring job.now.cutoff ≡ true }
-    ensures kernel { result.system.kernel ≡ kernel }
     ensures types { result.system.types.items ≡ atoms.types.items }
     ensures engine { IsEngine job.now state.now result.system }
 {
@@ -115,18 +114,20 @@ fn job_motion<A: Allocator + Copy>(
     ensures of { IfOk result (λ m. IsEngineOf (job_value job.now) (state_view state.now) (engine_view job.now state.now m.system)) }
     ensures refused { IfErr result (λ failure. IfRefused failure (HasNoEngine (job_value job.now) (state_view state.now))) }
 {
-    let ready = match ready(alloc, job, state) {
+    let Ready { parts, atoms } = match ready(alloc, job, state) {
         Ok(ready) => ready,
         Err(failure) => return Err(EngineFault::of_system(failure)),
     };
-    let kernel = match safe_kernel(alloc, job, ready.parts) {
-        Ok(kernel) => kernel,
-        Err(failure) => return Err(EngineFault::of_kernel(failure)),
-    };
-    if !fits(kernel.verified.bound(), state.atoms.len()) {
-        return Err(Failure::Refused(EngineFault::ForceRange));
+    match safe_kernel(alloc, job, parts) {
+        Ok(kernel) => {
+            if fits(&kernel, state) {
+                Ok(motion(job, state, kernel, atoms))
+            } else {
+                Err(Failure::Refused(EngineFault::ForceRange))
+            }
+        }
+        Err(failure) => Err(EngineFault::of_kernel(failure)),
     }
-    Ok(motion(job, state, kernel, ready.atoms))
 }
 
 impl<A: Allocator + Copy> Engine<A> {
@@ -142,14 +143,16 @@ impl<A: Allocator + Copy> Engine<A> {
         ensures says { IfOk result (λ _. SaysOnly (job_value job) (job_tree (job_value job))) }
         ensures refused { IfErr result (λ failure. IfRefused failure (HasNoEngine (job_value job) (state_view state))) }
     {
-        let motion = job_motion(alloc, &job, &state)?;
-        Ok(Engine {
-            alloc,
-            job,
-            state,
-            motion,
-            tiling: None,
-        })
+        match job_motion(alloc, &job, &state) {
+            Ok(motion) => Ok(Engine {
+                alloc,
+                job,
+                state,
+                motion,
+                tiling: None,
+            }),
+            Err(failure) => Err(failure),
+        }
     }
 
     /// The state that the engine has come to; at first that which was handed in.
@@ -176,9 +179,13 @@ impl<A: Allocator + Copy> Engine<A> {
         ensures refused { IfErr result (λ failure. IfRefused failure (HasNoEnergy self.now)) }
     {
         let program = &self.motion.system.kernel.energy;
-        let verified = verified_energy(self.alloc, &self.job, program)?;
-        let sum = self.motion.energy(self.alloc, verified, &self.state.atoms)?;
-        Ok(sum)
+        match verified_energy(self.alloc, &self.job, program) {
+            Ok(verified) => match self.motion.energy(self.alloc, verified, &self.state.atoms) {
+                Ok(sum) => Ok(sum),
+                Err(_) => Err(Failure::Memory),
+            },
+            Err(failure) => Err(failure),
+        }
     }
 
     /// Takes over the frames after the steps that were made, of all those that were asked for.
@@ -187,20 +194,20 @@ impl<A: Allocator + Copy> Engine<A> {
         direction: Direction,
         steps: u64,
         done: u64,
-        stepped: Stepped<A>,
+        stepped: &Stepped<A>,
     ) -> Result<(), StepFault>
-        requires previous { length stepped.previous.items ≡ length self.old.state.atoms }
-        requires current { length stepped.current.items ≡ length self.old.state.atoms }
+        requires previous { length stepped.now.previous.items ≡ length self.old.state.atoms }
+        requires current { length stepped.now.current.items ≡ length self.old.state.atoms }
         requires fits { is_none (counter_after direction self.old.state.step steps) ≡ false }
         requires few { done ≤ steps }
-        requires stepped { steps_in direction (engine_dynamics self.old) done (frames_of self.old.state) ≡ Some (frames stepped.previous.items stepped.current.items) }
+        requires stepped { steps_in direction (engine_dynamics self.old) done (frames_of self.old.state) ≡ Some (frames stepped.now.previous.items stepped.now.current.items) }
         ensures went { IfOk result (λ _. Went direction steps self.old self.new) }
         ensures stopped { IfErr result (Stopped direction steps self.old self.new) }
     {
         let Some(counter) = counter_after(direction, &self.state, done) else {
             unreachable!()
         };
-        advance(&mut self.state, &stepped, counter);
+        advance(&mut self.state, stepped, counter);
         if done < steps {
             return Err(StepFault::Memory { done });
         }
@@ -222,7 +229,7 @@ impl<A: Allocator + Copy> Engine<A> {
         let stepped = course.stepped(direction);
         let Desk { tiling, .. } = desk;
         self.tiling = Some(tiling);
-        self.arrive(direction, steps, done, stepped)
+        self.arrive(direction, steps, done, &stepped)
     }
 
     /// n steps forward, on one thread, at most 1,000,000,000,000: Levesque and Verlet's (J. Stat. Phys. 72, 519,
@@ -276,7 +283,7 @@ impl<A: Allocator + Copy + Send + Sync> Engine<A> {
         let stepped = course.stepped(direction);
         let Desk { tiling, .. } = desk;
         self.tiling = Some(tiling);
-        self.arrive(direction, steps, done, stepped)
+        self.arrive(direction, steps, done, &stepped)
     }
 
     /// n steps in a direction by `workers` workers, 1 to 64, of which the caller's thread is the first: as `forward` and `back`, but that

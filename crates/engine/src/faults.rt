@@ -14,27 +14,28 @@ use integrator::{StepFault, SystemFault};
 use job::JobFault;
 use state::StateFault;
 use std::alloc::Allocator;
+use std::fmt;
 use thiserror::Error;
 
 /// Why an energy, or its slope, has no accepted code.
-#[derive(Debug, Drop, Error)]
+#[derive(Drop, Error)]
 pub enum EnergyFault<A: Allocator> {
     /// It has no code: its text is refused, or its slope or its code would be too large.
-    #[error("{0}")]
+    #[error(transparent)]
     Energy(ExprFault<A>),
     /// The verifier refuses the code.
-    #[error("{0}")]
+    #[error(transparent)]
     Kernel(KernelRefusal),
 }
 
 /// Why a job and a state have no engine.
-#[derive(Debug, Drop, Error)]
+#[derive(Drop, Error)]
 pub enum EngineFault<A: Allocator> {
     /// They have no atoms that can be run.
-    #[error("{0}")]
+    #[error(transparent)]
     System(SystemFault<A>),
     /// The verifier refuses the code of the slope.
-    #[error("{0}")]
+    #[error(transparent)]
     Kernel(KernelRefusal),
     /// By the greatest slope that the verifier found, the force on an atom might pass 64 bits: with N atoms, N - 1
     /// times that slope is 2^63 or more.
@@ -43,31 +44,59 @@ pub enum EngineFault<A: Allocator> {
 }
 
 /// Why the texts of a job and a state have no engine.
-#[derive(Debug, Drop, Error)]
+#[derive(Drop, Error)]
 pub enum OpenFault<A: Allocator> {
     /// The job's text is refused.
-    #[error("{0}")]
+    #[error(transparent)]
     Job(JobFault<A>),
     /// The state's text is refused.
-    #[error("{0}")]
+    #[error(transparent)]
     State(StateFault),
     /// Both are read, and have no engine.
-    #[error("{0}")]
+    #[error(transparent)]
     Engine(EngineFault<A>),
 }
 
 /// Why a run wrote no state, or not all of its frames. Nothing of a state was written then, but for `Out`; of frames, those before.
-#[derive(Debug, Drop, Error)]
+#[derive(Drop, Error)]
 pub enum RunFault<A: Allocator> {
     /// The texts have no engine, or memory ran out before there was one.
-    #[error("{0}")]
+    #[error(transparent)]
     Open(Failure<OpenFault<A>>),
     /// The steps stopped before the last.
-    #[error("{0}")]
+    #[error(transparent)]
     Steps(StepFault),
     /// The output failed. A beginning of what was to be written was.
-    #[error("{0}")]
+    #[error(transparent)]
     Out(OutFault),
+}
+
+/// A fault prints the same either way.
+impl<A: Allocator> fmt::Debug for EnergyFault<A> {
+    fn fmt<W: fmt::Write>(&self, f: &mut fmt::Formatter<W>) -> fmt::Result {
+        fmt::Display::fmt(self, f)
+    }
+}
+
+/// A fault prints the same either way.
+impl<A: Allocator> fmt::Debug for EngineFault<A> {
+    fn fmt<W: fmt::Write>(&self, f: &mut fmt::Formatter<W>) -> fmt::Result {
+        fmt::Display::fmt(self, f)
+    }
+}
+
+/// A fault prints the same either way.
+impl<A: Allocator> fmt::Debug for OpenFault<A> {
+    fn fmt<W: fmt::Write>(&self, f: &mut fmt::Formatter<W>) -> fmt::Result {
+        fmt::Display::fmt(self, f)
+    }
+}
+
+/// A fault prints the same either way.
+impl<A: Allocator> fmt::Debug for RunFault<A> {
+    fn fmt<W: fmt::Write>(&self, f: &mut fmt::Formatter<W>) -> fmt::Result {
+        fmt::Display::fmt(self, f)
+    }
 }
 
 impl<A: Allocator> EnergyFault<A> {

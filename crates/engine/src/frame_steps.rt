@@ -31,27 +31,16 @@ pub(crate) struct Course<'a, A: Allocator + Copy> {
     pub ghost middle_atoms: { length middle.items ≡ length motion.now.system.masses.items },
 }
 
-/// A force in more bits.
-fn widened(force: Force<i64>) -> Force<i128>
-    ensures value { result ≡ force }
+/// The force on an atom in more bits, of sums of which each atom has three.
+fn force_in(sums: &[i64], atom: usize) -> Force<i128>
+    requires { 3 * atom + 2 < length sums.now }
+    ensures value { result ≡ forces_in sums.now atom }
     ensures within { IsWithin (2 ^ 80) result }
 {
     Force {
-        x: i128::from(force.x),
-        y: i128::from(force.y),
-        z: i128::from(force.z),
-    }
-}
-
-/// The force on an atom, of sums of which each atom has three.
-fn force_in(sums: &[i64], atom: usize) -> Force<i64>
-    requires { 3 * atom + 2 < length sums.now }
-    ensures { result ≡ forces_in sums.now atom }
-{
-    Force {
-        x: sums[3 * atom],
-        y: sums[3 * atom + 1],
-        z: sums[3 * atom + 2],
+        x: i128::from(sums[3 * atom]),
+        y: i128::from(sums[3 * atom + 1]),
+        z: i128::from(sums[3 * atom + 2]),
     }
 }
 
@@ -73,7 +62,7 @@ impl<A: Allocator> SafeSystem<A> {
                 self.system.masses[atom],
                 before[atom],
                 middle[atom],
-                widened(force_in(sums, atom)),
+                force_in(sums, atom),
             );
             before[atom] = place;
         }

@@ -95,12 +95,14 @@ impl<'a, A: Allocator + Copy> SafeEnergy<'a, A> {
         // neither is wanted but for what is promised of them
         let _code = verified.code();
         let _bound = verified.bound();
-        let lanes = lane_code(alloc, &verified)?;
-        Ok(SafeEnergy {
-            motion,
-            verified,
-            lanes,
-        })
+        match lane_code(alloc, &verified) {
+            Ok(lanes) => Ok(SafeEnergy {
+                motion,
+                verified,
+                lanes,
+            }),
+            Err(refused) => Err(refused),
+        }
     }
 }
 
@@ -116,49 +118,7 @@ impl<'a, A: Allocator> SafeEnergy<'a, A> {
     ghost use Rattle.engine.specs.Rows.{IsFound};
     ghost use Rattle.engine.specs.SafeEnergies.{AreEnergies, IsEnergyFor, found_energy};
 
-    /// The energies that are asked for, in lanes that each take the path of their own.
-    fn energies_on_paths<B: Allocator>(
-        &self,
-        asks: &[Ask],
-        paths: &mut PathRows<B>,
-        energies: &mut [Fx],
-    )
-        requires few { length asks.now ≤ 64 }
-        requires room { length asks.now ≤ length energies.old }
-        requires served { All (IsServed self.now.verified) asks.now }
-        ensures energies { AreEnergies self.now.motion.now.system asks.now energies.new }
-        ensures len { length energies.new ≡ length energies.old }
-    {
-        run_paths(&self.verified, paths, asks, energies);
-    }
-
-    /// The same by flat code of the energy's, in lanes.
-    fn energies_in_lanes<B: Allocator>(
-        &self,
-        code: &LaneCode<A>,
-        asks: &[Ask],
-        lanes: &mut Rows<B>,
-        energies: &mut [Fx],
-    )
-        requires flat { ∥ IsFlatOf self.now.verified.code code.now.flat.steps code.now.flat.out ∥₁ }
-        requires free { ∥ AreFreeValues self.now.verified code.now.flat code.now.free ∥₁ }
-        requires few { length asks.now ≤ 64 }
-        requires room { length asks.now ≤ length energies.old }
-        requires served { All (IsServed self.now.verified) asks.now }
-        ensures energies { AreEnergies self.now.motion.now.system asks.now energies.new }
-        ensures len { length energies.new ≡ length energies.old }
-    {
-        run_lanes(
-            &self.verified,
-            &code.flat,
-            &code.free,
-            lanes,
-            asks,
-            energies,
-        );
-    }
-
-    /// The same, by flat code where there is such.
+    /// The energies that are asked for, in lanes: by flat code where there is such, else each on the path of its own.
     fn energies<B: Allocator>(
         &self,
         asks: &[Ask],
@@ -173,8 +133,15 @@ impl<'a, A: Allocator> SafeEnergy<'a, A> {
         ensures len { length energies.new ≡ length energies.old }
     {
         match &self.lanes {
-            Some(code) => self.energies_in_lanes(code, asks, lanes, energies),
-            None => self.energies_on_paths(asks, paths, energies),
+            Some(code) => run_lanes(
+                &self.verified,
+                &code.flat,
+                &code.free,
+                lanes,
+                asks,
+                energies,
+            ),
+            None => run_paths(&self.verified, paths, asks, energies),
         }
     }
 
@@ -262,22 +229,14 @@ impl<'a, A: Allocator + Copy> SafeEnergy<'a, A> {
         Ok(self.of_tiles(&work, &mut desk.scratch))
     }
 
-    /// The energy of a frame, in 2^-bits kJ/mol. `AllocError` only where memory is refused.
-    fn of_frame(&self, alloc: A, frame: &[Place3]) -> Result<i128, AllocError>
-        requires { length frame.now ≡ length self.now.motion.now.system.types.items }
-        ensures { IfOk result (IsEnergyOf self.now.motion.now.system frame.now) }
-    {
-        let mut desk = self.motion.desk(alloc, None, Scratch::new(alloc))?;
-        self.at_desk(&mut desk, frame)
-    }
-
-    /// The energy of the current frame of these atoms, likewise.
+    /// The energy of the current frame of these atoms, in 2^-bits kJ/mol. `AllocError` only where memory is refused.
     fn of_atoms(&self, alloc: A, atoms: &[Atom]) -> Result<i128, AllocError>
         requires { length atoms.now ≡ length self.now.motion.now.system.types.items }
         ensures { IfOk result (IsEnergyOf self.now.motion.now.system (map (λ a. a.current) atoms.now)) }
     {
         let frame = current_frame(alloc, atoms)?;
-        self.of_frame(alloc, &frame)
+        let mut desk = self.motion.desk(alloc, None, Scratch::new(alloc))?;
+        self.at_desk(&mut desk, &frame)
     }
 }
 

@@ -121,54 +121,7 @@ impl<A: Allocator> SafeSystem<A> {
         }
     }
 
-    /// The slope that is asked for.
-    fn slope(&self, ask: Ask, stack: &mut Stack) -> Fx
-        requires served { IsServed self.now.system.kernel.verified ask }
-        requires bound { self.now.system.kernel.verified.bound < 2 ^ 63 }
-        ensures { IsSlope self.now.system ask result }
-    {
-        run(&self.system.kernel.verified, stack, ask.a, ask.b, ask.r)
-    }
-
-    /// The slopes that are asked for, in lanes that each take the path of their own.
-    fn slopes_on_paths<B: Allocator>(
-        &self,
-        asks: &[Ask],
-        paths: &mut PathRows<B>,
-        slopes: &mut [Fx],
-    )
-        requires few { length asks.now ≤ 64 }
-        requires room { length asks.now ≤ length slopes.old }
-        requires served { All (IsServed self.now.system.kernel.verified) asks.now }
-        requires bound { self.now.system.kernel.verified.bound < 2 ^ 63 }
-        ensures slopes { AreSlopes self.now.system asks.now slopes.new }
-        ensures len { length slopes.new ≡ length slopes.old }
-    {
-        run_paths(&self.system.kernel.verified, paths, asks, slopes);
-    }
-
-    /// The same by flat code of the system's, in lanes.
-    fn slopes_in_lanes<B: Allocator>(
-        &self,
-        code: &LaneCode<A>,
-        asks: &[Ask],
-        lanes: &mut Rows<B>,
-        slopes: &mut [Fx],
-    )
-        requires flat { ∥ IsFlatOf self.now.system.kernel.verified.code code.now.flat.steps code.now.flat.out ∥₁ }
-        requires free { ∥ AreFreeValues self.now.system.kernel.verified code.now.flat code.now.free ∥₁ }
-        requires few { length asks.now ≤ 64 }
-        requires room { length asks.now ≤ length slopes.old }
-        requires served { All (IsServed self.now.system.kernel.verified) asks.now }
-        requires bound { self.now.system.kernel.verified.bound < 2 ^ 63 }
-        ensures slopes { AreSlopes self.now.system asks.now slopes.new }
-        ensures len { length slopes.new ≡ length slopes.old }
-    {
-        let verified = &self.system.kernel.verified;
-        run_lanes(verified, &code.flat, &code.free, lanes, asks, slopes);
-    }
-
-    /// The same, by flat code where there is such.
+    /// The slopes that are asked for, in lanes: by flat code where there is such, else each on the path of its own.
     fn slopes<B: Allocator>(
         &self,
         asks: &[Ask],
@@ -183,9 +136,10 @@ impl<A: Allocator> SafeSystem<A> {
         ensures slopes { AreSlopes self.now.system asks.now slopes.new }
         ensures len { length slopes.new ≡ length slopes.old }
     {
+        let verified = &self.system.kernel.verified;
         match &self.system.kernel.lanes {
-            Some(code) => self.slopes_in_lanes(code, asks, lanes, slopes),
-            None => self.slopes_on_paths(asks, paths, slopes),
+            Some(code) => run_lanes(verified, &code.flat, &code.free, lanes, asks, slopes),
+            None => run_paths(verified, paths, asks, slopes),
         }
     }
 }
@@ -203,7 +157,9 @@ impl<A: Allocator> SafeSystem<A> {
         requires bound { self.now.system.kernel.verified.bound < 2 ^ 63 }
         ensures { result ≡ add_found self.now.system pair.now }
     {
-        let slope = self.slope(self.ask(pair), &mut Stack::new());
+        let ask = self.ask(pair);
+        let kernel = &self.system.kernel.verified;
+        let slope = run(kernel, &mut Stack::new(), ask.a, ask.b, ask.r);
         pair.add(slope)
     }
 

@@ -9,7 +9,7 @@ use Rattle.integrator.specs.Frames.{frames}
 use Rattle.integrator.specs.States.{counter_after, moved_state}
 use Rattle.integrator.proofs.Constructors.{none_is_no_some}
 use Rattle.fixed.proofs.IntegerLaws.{in_range_is}
-use Rattle.engine.proofs.EngineLaws.{counter_reached, went_on}
+use Rattle.engine.proofs.EngineLaws.{counter_reached, moves_on, went_on}
 use Rattle.engine.proofs.engines.Engine.arrive.Goals as goal
 
 pub unreachable-requires : goal.unreachable-requires
@@ -29,7 +29,7 @@ pub returns-then-done-steps-clause-stopped : goal.returns-then-done-steps-clause
 returns-then-done-steps-clause-stopped g c =
     let i = c.self.inside in
     let e = engine_view i.job i.state i.motion.system in
-    let stepped = c.args.stepped in
+    let stepped = c.args.stepped.now in
     let k = c.in-Some.counter in
     let counter : to_z w64 (of_z w64 k) ≡ k = search rules in
     let moved : state_view c.advance.new.state ≡ moved_state (state_view i.state) (frames stepped.previous.items stepped.current.items) k = rw counter at c.advance.ensures.value in
@@ -42,10 +42,13 @@ pub returns-clause-went : goal.returns-clause-went
 returns-clause-went g c =
     let i = c.self.inside in
     let e = engine_view i.job i.state i.motion.system in
-    let stepped = c.args.stepped in
+    let stepped = c.args.stepped.now in
     let k = c.in-Some.counter in
     let counter : to_z w64 (of_z w64 k) ≡ k = search rules in
     let moved : state_view c.advance.new.state ≡ moved_state (state_view i.state) (frames stepped.previous.items stepped.current.items) k = rw counter at c.advance.ensures.value in
     let whole : c.args.steps ≡ c.args.done = omega (arith, c.requires.few, c.if-done-steps.false) in
     rw (← c.self.view_is, whole)
     (went_on c.args.direction c.args.done e _ stepped.previous.items stepped.current.items k (rw (← c.self.view_is) at c.requires.stepped) (sym c.in-Some.ensures.value) (ap (λ (s : StateView). record e { state = s }) moved))
+
+pub invariant_of-self : goal.invariant_of-self
+invariant_of-self g c = let i = c.self.inside in (moves_on i.job i.state c.advance.new.state i.motion.system c.advance.ensures.ring c.advance.ensures.atoms c.self.invariant.0, c.self.invariant.1)

@@ -2,7 +2,6 @@ use Rattle.std.proofs.Common.{◌≡◌, length, ap, sym, ◌∙◌, refl, rules
 use mir.Syntax.{w128}
 use Rattle.std.specs.Prelude.{map}
 use Rattle.std.proofs.lemmas.List.{length-map}
-use Rattle.std.proofs.lemmas.Result.{err_from_is_err_and}
 use Rattle.state.specs.StateText.{AtomView}
 use Rattle.state.specs.StateViews.{atom_view}
 use Rattle.engine.specs.EngineViews.{engine_view}
@@ -15,34 +14,33 @@ use Rattle.engine.proofs.EngineEnergyLaws.{engine_energy}
 use Rattle.integrator.proofs.StateLaws.{current_frame-views}
 use Rattle.engine.proofs.engines.Engine.energy.Goals as goal
 
-pub returns-in_err-verified-clause-refused : goal.returns-in_err-verified-clause-refused
-returns-in_err-verified-clause-refused g c =
-    let p = err_from_is_err_and c.from_residual.result c.from_residual.ensures.1 in
+pub returns-in-Err-clause-refused : goal.returns-in-Err-clause-refused
+returns-in-Err-clause-refused g c =
     let i = c.self.inside in
-    rw (p.1, p.2, ← c.self.view_is) (c.in_err-verified.ensures.refused (engine_view i.job i.state i.motion.system) refl)
+    rw (← c.self.view_is) (c.in-Err.ensures.refused (engine_view i.job i.state i.motion.system) refl)
 
 pub energy-requires-clause-table : goal.energy-requires-clause-table
-energy-requires-clause-table g c = c.in_ok-verified.ensures.table ∙ sym c.self.invariant.0.table
+energy-requires-clause-table g c = c.in-Ok.ensures.table ∙ sym c.self.invariant.0.table
 
 pub energy-requires-clause-core : goal.energy-requires-clause-core
-energy-requires-clause-core g c = c.in_ok-verified.ensures.core ∙ sym c.self.invariant.0.core
+energy-requires-clause-core g c = c.in-Ok.ensures.core ∙ sym c.self.invariant.0.core
 
 pub energy-requires-clause-cutoff : goal.energy-requires-clause-cutoff
-energy-requires-clause-cutoff g c = c.in_ok-verified.ensures.cutoff ∙ sym c.self.invariant.0.cutoff
+energy-requires-clause-cutoff g c = c.in-Ok.ensures.cutoff ∙ sym c.self.invariant.0.cutoff
 
 pub energy-requires-clause-atoms : goal.energy-requires-clause-atoms
 energy-requires-clause-atoms g c = ap length c.deref.ensures.value ∙ c.self.invariant.0.atoms ∙ sym c.self.inside.motion.system.atoms
 
-pub returns-clause-value : goal.returns-clause-value
-returns-clause-value g c =
+pub returns-in-Ok-energy-clause-value : goal.returns-in-Ok-energy-clause-value
+returns-in-Ok-energy-clause-value g c =
     let i = c.self.inside in
     let e = engine_view i.job i.state i.motion.system in
     let atoms = i.state.atoms.items in
     let shown : Frame = map (λ a. a.current) c.deref.result.now in
     let frame : shown ≡ current_frame (map atom_view atoms) = ap (map (λ a. a.current)) c.deref.ensures.value ∙ sym (current_frame-views atoms) in
     let size : length (current_frame (map atom_view atoms)) ≡ length (map atom_view atoms) = length-map (map atom_view atoms) (λ (a : AtomView). a.current) in
-    let sum = engine_energy i.job i.state i.motion.system shown c.in_ok-sum.sum c.self.invariant.0 c.in_ok-sum.ensures in
-    let same : to_z w128 (of_z w128 c.in_ok-sum.sum) ≡ c.in_ok-sum.sum = search rules in
+    let sum = engine_energy i.job i.state i.motion.system shown c.in-Ok-energy.sum c.self.invariant.0 c.in-Ok-energy.ensures in
+    let same : to_z w128 (of_z w128 c.in-Ok-energy.sum) ≡ c.in-Ok-energy.sum = search rules in
     let energy = pair_energy (engine_dynamics e) (engine_value e) in
     rw (same, ← c.self.view_is)
     (sym (ap (λ (f : Frame). energy_sum (energy f) (pairs_of (length f))) frame ∙ ap (λ n. energy_sum (energy (current_frame (map atom_view atoms))) (pairs_of n)) size) ∙ sum)

@@ -1,7 +1,8 @@
-use Rattle.std.proofs.Common.{◌∙◌, ap, rules, w64}
+use Rattle.std.proofs.Common.{◌∙◌, ap, length, rules, sym, w64}
 use mir.Val.{SFits}
+use Rattle.std.proofs.lemmas.List.{length-map}
 use Rattle.std.proofs.lemmas.Result.{err_from_is_err_and}
-use Rattle.state.specs.StateViews.{state_view}
+use Rattle.state.specs.StateViews.{atom_view, state_view}
 use Rattle.engine.specs.EngineViews.{engine_view}
 use Rattle.engine.specs.Engines.{engine_dynamics}
 use Rattle.engine.specs.SafeKernels.{safe_dynamics}
@@ -19,6 +20,19 @@ returns-in_err-course-clause-stopped g c =
     let signed : SFits w64 i.state.step = search rules in
     rw (p.1, p.2, ← c.self.view_is)
     (unstarted c.args.direction c.args.steps (engine_view i.job i.state i.motion.system) c.in_err-course.field-0.0 (in_range_is i.state.step signed.sfits) c.in_err-course.ensures.refused)
+
+pub arrive-requires-clause-previous : goal.arrive-requires-clause-previous
+arrive-requires-clause-previous g c =
+    c.stepped-stepped.ensures.previous ∙ ap (λ m. length m.system.masses.items) (c.steps_pooled-done.ensures.gone.motion ∙ c.in_ok-course.ensures.motion)
+    ∙ sym c.self.invariant.0.atoms ∙ sym (length-map c.self.inside.state.atoms.items atom_view)
+
+pub arrive-requires-clause-current : goal.arrive-requires-clause-current
+arrive-requires-clause-current g c =
+    c.stepped-stepped.ensures.current ∙ ap (λ m. length m.system.masses.items) (c.steps_pooled-done.ensures.gone.motion ∙ c.in_ok-course.ensures.motion)
+    ∙ sym c.self.invariant.0.atoms ∙ sym (length-map c.self.inside.state.atoms.items atom_view)
+
+pub arrive-requires-clause-fits : goal.arrive-requires-clause-fits
+arrive-requires-clause-fits g c = c.in_ok-course.ensures.fits
 
 pub arrive-requires-clause-stepped : goal.arrive-requires-clause-stepped
 arrive-requires-clause-stepped g c =

@@ -9,8 +9,8 @@ invariant_of-result g c =
       table = c.requires.table;
       core = c.requires.core;
       cutoff = c.requires.cutoff;
-      flattened = c.in_ok-lanes.ensures.flat;
-      free = ∣ c.in_ok-lanes.ensures.free ∣₁;
+      flattened = c.in-Ok.ensures.flat;
+      free = ∣ c.in-Ok.ensures.free ∣₁;
       given = has_energies c.args.motion.now.system k c.code-code.ensures.kernel (omega (arith, c.bound-bound.ensures)) c.requires.table c.requires.core c.requires.cutoff c.requires.gives;
       gives = c.requires.gives;
     }

@@ -1,5 +1,10 @@
-use Rattle.engine.proofs.RowLaws.{slope_adds}
+use Rattle.engine.proofs.RowLaws.{slope_adds, slope_is}
 use Rattle.engine.proofs.safe_systems.SafeSystem.add.Goals as goal
 
 pub returns : goal.returns
-returns g c = slope_adds c.args.self.now.system c.args.pair.now c.ask.result c.slope-slope.result c.slope-slope.ensures c.ask.ensures.value c.add.result c.add.ensures
+returns g c =
+    let s = c.args.self.now.system in
+    let ask = c.ask-ask in
+    let run = c.run-slope in
+    let slope = slope_is s ask.result run.new.stack.turns run.result ask.ensures.served c.requires.bound run.ensures.ends run.ensures.small in
+    slope_adds s c.args.pair.now ask.result run.result slope ask.ensures.value c.add.result c.add.ensures
