@@ -1,3 +1,4 @@
+pub mod FailureLaws
 pub mod PerformLaws
 pub mod Printing
 pub mod ProgressLaws

@@ -54,7 +54,9 @@ fn started<'a, A: Allocator + Copy>(
     ensures refused { IfErr result (RefusesUnder job.now (RefusesFrame gro.now frame)) }
 {
     let job = Job::read(alloc, job)?;
-    started_under(alloc, &job, gro, frame)
+    let state = started_under(alloc, &job, gro, frame);
+    drop(job);
+    state
 }
 
 /// The state that begins at the frame with this number of a GRO text, under a job.
@@ -93,8 +95,8 @@ fn frame_read<'a, A: Allocator + Copy>(
     ensures is { IfOk result (λ f. (said : StateView) × (state_of state.now ≡ Ok said) × (frame_view f ≡ frame_of said)) }
     ensures refused { IfErr result (RefusesState state.now) }
 {
-    let state = State::read(alloc, state)?;
-    Ok(state.frame()?)
+    let frame = State::read(alloc, state)?.frame();
+    Ok(frame?)
 }
 
 /// Writes the listing of the code of a job's slope. A refusal, of the job or its energy, writes nothing, unless a write failed.
@@ -120,6 +122,8 @@ fn slope_listing<'a, A: Allocator + Copy>(
     ensures refused { IfErr result (RefusesUnder job.now RefusesCode) }
 {
     let job = Job::read(alloc, job)?;
-    let code = slope_code(alloc, &job)?;
-    Ok(print(alloc, &code)?)
+    let code = slope_code(alloc, &job);
+    drop(job);
+    let listing = print(alloc, &code?);
+    Ok(listing?)
 }

@@ -5,6 +5,7 @@ ghost use Rattle.engine.specs.PairEnergies.{IsEnergyOfTexts};
 ghost use Rattle.engine.specs.Verdicts.{IsJudged, IsSlopeKernel, IsUnder};
 ghost use Rattle.job.specs.JobText.{limits, reading_of};
 ghost use Rattle.job.specs.Values.{JobValue};
+ghost use Rattle.job.specs.Views.{job_value};
 ghost use Rattle.kernel_code.specs.ListingReading.{code_of};
 ghost use Rattle.verifier.specs.Kernels.{IsKernel, Kernel};
 ghost use Rattle.cli.specs.Performed.{WritesLine, WritesText};
@@ -18,6 +19,7 @@ use fallible::Out;
 use job::Job;
 use kernel_code::read;
 use std::alloc::{AllocError, Allocator};
+use verifier::Verified;
 
 /// The line that says what is known of accepted code.
 #[tactic(auto, unfolding(crate::specs::Verdicts::verdict_line))]
@@ -75,8 +77,17 @@ fn slope_known<'a, A: Allocator + Copy>(
     ensures refused { IfErr result (RefusesUnder job.now RefusesSlope) }
 {
     let job = Job::read(alloc, job)?;
-    let kernel = verified_slope(alloc, &job)?;
-    Ok((kernel.steps(), kernel.bound()))
+    let kernel = verified_slope(alloc, &job);
+    drop(job);
+    Ok(known(kernel?))
+}
+
+/// The steps and the bound of accepted code.
+fn known<A: Allocator>(kernel: Verified<A>) -> (u32, u64)
+    ensures steps { result.0 ≡ kernel.steps }
+    ensures bound { result.1 ≡ kernel.bound }
+{
+    (kernel.steps(), kernel.bound())
 }
 
 /// Writes what is known of the code of a listing under a job. A refusal, of the job, the listing or its code, writes nothing, unless a
@@ -105,9 +116,24 @@ fn listing_known<'a, A: Allocator + Copy>(
     ensures refused { IfErr result (RefusesUnder job.now (RefusesListing listing.now)) }
 {
     let job = Job::read(alloc, job)?;
+    let known = known_under(alloc, &job, listing);
+    drop(job);
+    known
+}
+
+/// The steps and the bound of the code of a listing, as accepted under a job.
+fn known_under<'a, A: Allocator + Copy>(
+    alloc: A,
+    job: &Job<A>,
+    listing: &[u8],
+) -> Result<(u32, u64), CommandFault<'a, A>>
+    ensures is { IfOk result (λ known. (k : Kernel) × (code_of listing.now ≡ Ok k.code) × IsUnder (job_value job.now) k
+        × IsKernel k × IsJudged (job_value job.now) k.code (Ok k.bound) × (known.0 ≡ k.steps) × (known.1 ≡ k.bound)) }
+    ensures refused { IfErr result (RefusesListing listing.now (job_value job.now)) }
+{
     let code = read(alloc, listing)?;
-    let kernel = verdict(alloc, &job, code)?;
-    Ok((kernel.steps(), kernel.bound()))
+    let kernel = verdict(alloc, job, code)?;
+    Ok(known(kernel))
 }
 
 /// Writes the energy of a state under a job. A refusal, of the job, the state, their engine or the energy's own code, writes nothing,
@@ -134,7 +160,6 @@ fn energy_known<'a, A: Allocator + Copy>(
     ensures is { IfOk result (IsEnergyOfTexts job.now state.now) }
     ensures refused { IfErr result (RefusesEnergy job.now state.now) }
 {
-    let engine = open(alloc, job, state)?;
-    let energy = engine.energy()?;
-    Ok(energy)
+    let energy = open(alloc, job, state)?.energy();
+    Ok(energy?)
 }

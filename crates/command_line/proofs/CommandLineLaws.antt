@@ -15,8 +15,11 @@ use Rattle.clap.specs.declared.parser.matches.ArgMatches.{ArgMatches}
 use Rattle.clap.specs.declared.parser.matches.Found.{Found}
 use Rattle.clap.proofs.WalkLemmas.{one_text-rows}
 use Rattle.clap.proofs.OnLiterals.{clap_on_literals}
-use Rattle.command_line.specs.CommandLine.{AsksForHelp, AsksForVersion, IsBuilt, IsCommand, IsMisuse, IsNamedOf, IsShaped, SaysNumber, WritesNumber, faults_of, program}
+use Rattle.integrator.specs.declared.direction.Direction.{Direction}
+use Rattle.command_line.specs.CommandLine.{AsksForHelp, AsksForVersion, IsBuilt, IsCommand, IsMisuse, IsNamedOf, IsShaped, SaysNumber, SaysRun, SaysSteps, SaysTrajectory, WritesNumber, command_name, faults_of, program}
 use Rattle.command_line.specs.declared.commands.Command.{Command}
+use Rattle.command_line.specs.declared.commands.Run.{Run}
+use Rattle.command_line.specs.declared.commands.Trajectory.{Trajectory}
 
 -- ---- building the program
 
@@ -138,3 +141,20 @@ said_once name rows n m a b =
     let same : Some a.0 ≡ Some b.0 = sym a.1 ∙ b.1 in
     let same_text : a.0 ≡ b.0 = cc in
     sym a.2.1 ∙ ap (λ t. digits_value 10 (without_leading_plus t)) same_text ∙ b.2.1
+
+-- ---- runs
+
+-- a run that the values of arguments say is that of the command whose name tells its direction
+pub run_said : (name : Text) (rows : List Row) (r : Run) (d : Direction) → name ≡ command_name d → r.direction ≡ d → SaysSteps rows r → SaysRun name rows r
+run_said name rows r d named same is =
+    record { direction = named ∙ ap command_name (sym same); job = is.job; state = is.state; steps = is.steps; workers = is.workers; progress = is.progress }
+
+-- no command of a name says a run where the values say none
+pub run_unsaid : (name : Text) (rows : List Row) → ((r : Run) → SaysSteps rows r → ⊥) → (r : Run) → SaysRun name rows r → ⊥
+run_unsaid name rows none r is = none r (record { job = is.job; state = is.state; steps = is.steps; workers = is.workers; progress = is.progress })
+
+-- nor do they say frames of one
+pub trajectory_unsaid : (rows : List Row) → ((r : Run) → SaysSteps rows r → ⊥) → (t : Trajectory) → SaysTrajectory rows t → ⊥
+trajectory_unsaid rows none t is =
+    let run : Run = record { direction = t.direction; job = t.job; state = t.state; steps = t.steps; workers = t.workers; progress = t.progress; within = t.within; some = t.some; few = t.few } in
+    none run (record { job = is.job; state = is.state; steps = is.steps; workers = is.workers; progress = is.progress })

@@ -203,6 +203,14 @@ pub record SaysRun (name : Text) (rows : List Row) (run : Run) : Type 0 where
   pub workers : IsWorkers rows run.workers
   pub progress : IsProgress rows run.progress
 
+-- the same of the values of the arguments alone, whichever way the run goes
+pub record SaysSteps (rows : List Row) (run : Run) : Type 0 where
+  pub job : first_of (codes "JOB") rows ≡ Some run.job.now
+  pub state : first_of (codes "STATE") rows ≡ Some run.state.now
+  pub steps : IsSteps rows run.steps
+  pub workers : IsWorkers rows run.workers
+  pub progress : IsProgress rows run.progress
+
 -- the values of the arguments of `trajectory` say these frames
 pub record SaysTrajectory (rows : List Row) (t : Trajectory) : Type 0 where
   pub direction : IsTurned rows t.direction

@@ -3,7 +3,7 @@
 ghost use Rattle.std.specs.Prelude.{◌≡◌, ◌≤◌, ◌<◌, ◌^◌, ◌⊎◌, ℕ, IfOk, IfErr, MatchOption, codes, option_map, map, false};
 ghost use Rattle.clap.specs.Words.{App, HasKind, Rule, Shape, app_of, first_of, found_of, kind_of, new_app, rows_of, rule_of, subcommand_rows_of, with_rule, with_subcommand};
 ghost use Rattle.clap.specs.declared.error.kind.ErrorKind.TheVariants.{OutOfMemory};
-ghost use Rattle.command_line.specs.CommandLine.{IsBuilt, SaysCheck, IsCommand, SaysEnergy, SaysFrame, IsGiven, IsListing, IsNamed, IsNamedOf, SaysRun, IsShaped, SaysNumber, SaysStart, SaysTrajectory, IsTurned, back_rule, bare, checking, code_rule, command_name, every_rule, faults_of, filming, flag_rule, forward, frame_rule, framing, judging, listing, number_rule, option_rule, path_rule, program, progress_rule, returning, starting, stepped, steps_rule, stepping, weighing, workers_rule};
+ghost use Rattle.command_line.specs.CommandLine.{IsBuilt, SaysCheck, IsCommand, SaysEnergy, SaysFrame, IsGiven, IsListing, IsNamed, IsNamedOf, SaysRun, IsShaped, SaysNumber, SaysStart, SaysSteps, SaysTrajectory, IsTurned, back_rule, bare, checking, code_rule, command_name, every_rule, faults_of, filming, flag_rule, forward, frame_rule, framing, judging, listing, number_rule, option_rule, path_rule, program, progress_rule, returning, starting, stepped, steps_rule, stepping, weighing, workers_rule};
 ghost use Rattle.command_line.specs.declared.commands.Start.{Start};
 ghost use Rattle.command_line.specs.declared.commands.Frame.{Frame};
 ghost use Rattle.command_line.specs.declared.commands.Listing.{Listing};
@@ -31,7 +31,9 @@ pub fn parse<'a, S: AsStr>(alloc: Global, words: &'a [S]) -> Result<Command<'a>,
     ensures kind { IfErr result (HasKind (faults_of (map S.text words.entry.now))) }
 {
     let mut program = program(alloc)?;
-    parse_by(&mut program, words)
+    let command = parse_by(&mut program, words);
+    drop(program);
+    command
 }
 
 /// The command that the words name to this program.
@@ -45,7 +47,9 @@ fn parse_by<'a, S: AsStr>(
         ⊎ ((c : Command) → IsCommand (map S.text words.entry.now) c → ⊥)) }
     ensures kind { IfErr result (HasKind (faults_of (map S.text words.entry.now))) }
 {
-    let command = command_of(&parser.try_get_matches_from_mut(words)?);
+    let matches = parser.try_get_matches_from_mut(words)?;
+    let command = command_of(&matches);
+    drop(matches);
     match command {
         Some(command) => Ok(command),
         // The parser has met the arguments that it requires, and numbers in their ranges.
@@ -95,19 +99,28 @@ fn run_by<'a>(name: &str, matches: &ArgMatches<'a>) -> Option<Command<'a>>
         (λ c. (r : Run) × (c ≡ Command.Run r) × SaysRun name.now (rows_of (found_of matches.now)) r) }
 {
     let direction = direction_of(name)?;
+    let run = run_of(matches, direction)?;
+    Some(Command::Run(run))
+}
+
+/// The run in this direction that these matches say.
+fn run_of<'a>(matches: &ArgMatches<'a>, direction: Direction) -> Option<Run<'a>>
+    ensures { MatchOption result ((r : Run) → SaysSteps (rows_of (found_of matches.now)) r → ⊥)
+        (λ r. (r.direction ≡ direction) × SaysSteps (rows_of (found_of matches.now)) r) }
+{
     let job = path_of(matches, "JOB")?;
     let state = path_of(matches, "STATE")?;
     let steps = number_of(matches, "steps", 0, MAX_STEPS)?;
     let workers = number_of(matches, "workers", 1, MAX_WORKERS)? as u32;
     let progress = is_given(matches, "progress");
-    Some(Command::Run(Run {
+    Some(Run {
         direction,
         job,
         state,
         steps,
         workers,
         progress,
-    }))
+    })
 }
 
 /// The frames of a run that these matches say.
@@ -115,21 +128,16 @@ fn trajectory_of<'a>(matches: &ArgMatches<'a>) -> Option<Command<'a>>
     ensures { MatchOption result ((t : Trajectory) → SaysTrajectory (rows_of (found_of matches.now)) t → ⊥)
         (λ c. (t : Trajectory) × (c ≡ Command.Trajectory t) × SaysTrajectory (rows_of (found_of matches.now)) t) }
 {
-    let direction = turned_of(matches);
-    let job = path_of(matches, "JOB")?;
-    let state = path_of(matches, "STATE")?;
-    let steps = number_of(matches, "steps", 0, MAX_STEPS)?;
+    let run = run_of(matches, turned_of(matches))?;
     let every = number_of(matches, "every", 1, MAX_STEPS)?;
-    let workers = number_of(matches, "workers", 1, MAX_WORKERS)? as u32;
-    let progress = is_given(matches, "progress");
     Some(Command::Trajectory(Trajectory {
-        direction,
-        job,
-        state,
-        steps,
+        direction: run.direction,
+        job: run.job,
+        state: run.state,
+        steps: run.steps,
         every,
-        workers,
-        progress,
+        workers: run.workers,
+        progress: run.progress,
     }))
 }
 
@@ -367,7 +375,10 @@ fn with_arg<'a>(command: BuiltCommand<'a>, arg: Arg<'a>) -> BuiltCommand<'a>
 {
     match command {
         Ok(command) => command.arg(arg),
-        Err(fault) => Err(fault),
+        Err(fault) => {
+            drop(arg);
+            Err(fault)
+        }
     }
 }
 
@@ -378,11 +389,17 @@ fn with_command<'a>(program: BuiltCommand<'a>, command: BuiltCommand<'a>) -> Bui
 {
     let command = match command {
         Ok(command) => command,
-        Err(fault) => return Err(fault),
+        Err(fault) => {
+            drop(program);
+            return Err(fault);
+        }
     };
     match program {
         Ok(program) => program.subcommand(command),
-        Err(fault) => Err(fault),
+        Err(fault) => {
+            drop(command);
+            Err(fault)
+        }
     }
 }
 

@@ -1,11 +1,9 @@
-use Rattle.std.proofs.Common.{arith, refl, rules}
+use Rattle.std.proofs.Common.{refl}
+use Rattle.command_line.proofs.CommandLineLaws.{run_said, run_unsaid}
 use Rattle.command_line.proofs.parsing.run_by.Goals as goal
 
-pub returns-in_err-steps : goal.returns-in_err-steps
-returns-in_err-steps c = rw c.from_residual-in_err-steps.ensures (λ r is. c.in_err-steps.ensures r.steps (omega arith) r.within is.steps)
-
-pub returns-in_err-workers : goal.returns-in_err-workers
-returns-in_err-workers c = rw c.from_residual-in_err-workers.ensures (λ r is. c.in_err-workers.ensures r.workers r.some r.few is.workers)
+pub returns-in_err-run : goal.returns-in_err-run
+returns-in_err-run c = rw c.from_residual-in_err-run.ensures (run_unsaid _ _ c.in_err-run.ensures)
 
 pub returns : goal.returns
-returns c = (_, refl, search rules)
+returns c = (_, refl, run_said _ _ _ _ c.in_ok-direction.ensures c.in_ok-run.ensures.0 c.in_ok-run.ensures.1)
