@@ -4,8 +4,8 @@
 # transcripts: plays the transcripts of crates/transcripts/data. edits: tries the edits that the gate doesn't try, NAMES=.. of some crates.
 #
 # A program is built only once every crate that it stands on is proved. What was proved is kept in crates/*/out, so the
-# first build proves all of them and later ones only what has changed. They are proved side by side, one for each core and each 4 GB
-# of memory that is free, or JOBS=n of them.
+# first build proves all of them and later ones the crates that have changed and those above them, each over what `rt check` has kept
+# of it, or else from nothing. They are proved side by side, one for each core and each 4 GB of memory that is free, or JOBS=n of them.
 
 JOBS ?= $(shell tools/build.py --count)
 PREFIX ?= /usr/local

@@ -3,11 +3,14 @@
 
   tools/build.py [CRATE] [--jobs N]     CRATE is pairmd where none is named
 
-What was proved is kept in crates/*/out, so a second build proves what has changed. The prover's own words go to a log, which the first
-line names. Crates that the named one doesn't stand on, as those of tests, are left alone.
+What was proved is kept in crates/*/out, so a second build proves the crates that have changed and those above them: over what `rt check`
+has kept of a crate where it was checked, and else from nothing. Of a crate that is proved from nothing only its statements are kept, as for a
+verdict: the crates above read less, and the folder stays small. The prover's own words go to a log, which the first line names. Crates that
+the named one doesn't stand on, as those of tests, are left alone.
 """
 import argparse
 import os
+import shutil
 import subprocess
 import sys
 import threading
@@ -36,17 +39,33 @@ def longest_chains(crates):
     return behind
 
 
+def prove(rtlib, crate):
+    """Proves and builds a library, by one copy of the prover, and returns its status: each further copy reads all libraries below again."""
+    flags = ["--jobs", "1"]
+    if crate.has_kept() or "--statements" not in rtlib.help_of("build"):
+        return crate.build_rlib(flags, anew=False)
+    stamp = crate.stamp()
+    folder = os.path.dirname(crate.rlib)
+    shutil.rmtree(folder, ignore_errors=True)
+    os.makedirs(folder)
+    status = crate.call(rtlib.RATTLE, "build", *crate.words(flags, keeps=False), "--statements", "-o", crate.rlib)
+    if status == 0 and stamp == crate.stamp():
+        with open(f"{folder}/stamp", "w", encoding="utf-8") as kept:
+            kept.write(stamp)
+    return status
+
+
 class Build:
-    def __init__(self, crates, log):
-        self.crates, self.log = crates, log
+    def __init__(self, rtlib, crates, log):
+        self.rtlib, self.crates, self.log = rtlib, crates, log
         self.began, self.done, self.printing = time.monotonic(), 0, threading.Lock()
 
     def prove(self, crate):
-        """Returns whether the library was proved and built, by one copy of the prover: each further copy reads all libraries below again."""
+        """Returns whether the library was proved and built."""
         began = time.monotonic()
         crate.out = open(f"{self.log}.{crate.name}", "w+", encoding="utf-8", errors="replace")
         with crate.out:
-            status = crate.build_rlib(["--jobs", "1"], anew=False)
+            status = prove(self.rtlib, crate)
             crate.out.seek(0)
             said = crate.out.read()
         os.remove(f"{self.log}.{crate.name}")
@@ -96,7 +115,7 @@ def build(rtlib, named, lanes):
     log = log_of(named)
     open(log, "w", encoding="utf-8").close()
     print(f"{len(wanted)} of {len(named.below())} libraries are to be proved, {lanes} at a time; the prover's words are in {os.path.relpath(log)}", flush=True)
-    built = Build(wanted, log).run(lanes)
+    built = Build(rtlib, wanted, log).run(lanes)
     for it in held:
         os.close(it)
     return built
