@@ -9,6 +9,7 @@ verdict: the crates above read less, and the folder stays small. The prover's ow
 the named one doesn't stand on, as those of tests, are left alone.
 """
 import argparse
+import functools
 import os
 import shutil
 import subprocess
@@ -105,9 +106,19 @@ def libraries_below(named):
     return sorted(named.below(), key=lambda it: len(it.below()))
 
 
+def not_built(crates):
+    """Returns those of the crates that aren't built as they stand. A crate's sum goes over those of the crates below it, so each is taken once."""
+    for it in crates:
+        it.stamp = functools.cache(it.stamp)
+    found = [it for it in crates if not it.is_built()]
+    for it in crates:
+        del it.stamp
+    return found
+
+
 def build(rtlib, named, lanes):
     """Proves and builds the libraries below a crate that aren't built as they stand, and returns whether all are."""
-    wanted = [it for it in libraries_below(named) if not it.is_built()]
+    wanted = not_built(libraries_below(named))
     os.makedirs(f"{named.folder}/out", exist_ok=True)
     if not wanted:
         return True
