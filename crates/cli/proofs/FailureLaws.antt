@@ -32,6 +32,7 @@ refused_by (Err e) f Q is why = subst Q (sym is) why
 
 -- ---- jobs
 
+-- a job that isn't read refuses its text, whatever else is asked of it
 pub job_refused : {A : Type 0} (job : List ℕ) (Refuses' : JobValue → CommandFault A → Type 0) (failure : Failure (JobFault A))
     → Fails jobs.refusal_of failure (reading_of limits job) → RefusesUnder job Refuses' (command_fault fault.Job failure)
 job_refused job Refuses' (Refused f) h = inl h
@@ -43,11 +44,13 @@ pub under_refused : {T A : Type 0} (r : Result T (CommandFault A)) (job : List �
 under_refused (Ok x) job said Refuses' read h = tt
 under_refused (Err f) job said Refuses' read h = inr (said, read, h)
 
+-- a job that is read refuses its text where its slope has no accepted code
 pub slope_refused : {A : Type 0} (job : List ℕ) (said : JobValue) (failure : Failure (EnergyFault A)) → reading_of limits job ≡ Ok said
     → IfRefused failure (HasNoSlopeKernel said) → RefusesUnder job RefusesSlope (command_fault fault.Energy failure)
 slope_refused job said (Refused f) read h = inr (said, read, h)
 slope_refused job said Memory read h = inl tt
 
+-- and where its slope has no code
 pub code_refused : {A : Type 0} (job : List ℕ) (said : JobValue) (failure : Failure (ExprFault A)) → reading_of limits job ≡ Ok said
     → Fails energies.refusal_of failure (slope_code_of said) → RefusesUnder job RefusesCode (command_fault (λ f. fault.Energy (energy.Energy f)) failure)
 code_refused job said (Refused f) read h = inr (said, read, h)
@@ -55,6 +58,7 @@ code_refused job said Memory read h = inl tt
 
 -- ---- GRO files
 
+-- a GRO file that isn't read refuses its text
 pub gro_refused : (A : Type 0) (gro : List ℕ) (number : ℕ) (job : JobValue) (failure : Failure GroFault) → Fails (λ f. f) failure (frames_of gro)
     → RefusesFrame {A = A} gro number job (command_fault fault.Gro failure)
 gro_refused A gro number job (Refused f) h = inl h

@@ -174,6 +174,7 @@ fits_by r k test passed = ltb-true k (2 ^ 63) (sym test ∙ passed)
 pub far_by : (r : Bool) (k : ℕ) → r ≡ nat_lt k (2 ^ 63) → r ≡ false → 2 ^ 63 ≤ k
 far_by r k test failed = ltb-false k (2 ^ 63) (sym test ∙ failed)
 
+-- code whose verdict is a bound that keeps the range is safe for so many atoms
 pub is_safe : (j : JobValue) (code : List Instr) (k : Kernel) (n : ℕ) → IsKernel k → k.code ≡ code → k.table ≡ table_of j → k.core ≡ j.core → k.cutoff ≡ j.cutoff
     → IsJudged j code (Ok k.bound) → k.bound * (n - 1) < 2 ^ 63 → IsSafeFor j code n
 is_safe j code k n h a b d e judged fits = record {
@@ -184,6 +185,7 @@ is_safe j code k n h a b d e judged fits = record {
   fits = fits;
 }
 
+-- and code whose bound doesn't may pass it
 pub passes : (j : JobValue) (code : List Instr) (k : Kernel) (n : ℕ) → IsKernel k → k.code ≡ code → k.table ≡ table_of j → k.core ≡ j.core → k.cutoff ≡ j.cutoff
     → IsJudged j code (Ok k.bound) → 2 ^ 63 ≤ k.bound * (n - 1) → PassesRange j code n
 passes j code k n h a b d e judged far = record {

@@ -153,6 +153,7 @@ atom_call end n ts w rest inside f o = atom_start end n ts _ f ∙ ap (name_by e
 
 -- ---- parentheses
 
+-- what was read, as its value and the tokens behind it
 abbrev pub shown : {T X : Type 0} → (T → X) → T × Bor (List Token) → X × List Placed
 shown view y = (view y.0, placed y.1.now)
 

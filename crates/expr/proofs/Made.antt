@@ -38,20 +38,24 @@ grows_three make (Err f) two three result x y z h first second third = rw h (fai
 
 -- ---- what holds of the parts holds of the tree
 
+-- the part's tree passes a test, if there is one
 abbrev pub IfMade : {A : Type 0} → (Tree → Bool) → Part A → Type 0
 IfMade test part = IfOk part (λ e. IsTrue (test (tree_of e.value)))
 
 module _ {A : Type 0} (test : Tree → Bool) where
+  -- a tree of one part passes the test where its part does
   pub kept : (make : Tree → Tree) (part result : Part A) → Grows make part result → ((x : Tree) → IsTrue (test x) → IsTrue (test (make x))) → IfMade test part → IfMade test result
   kept make (Ok p) (Ok e) h keeps one = subst (λ x. IsTrue (test x)) (sym h) (keeps (part_tree p) one)
   kept make (Ok p) (Err f) h keeps one = tt
   kept make (Err f) result h keeps one = rw h tt
 
+  -- a tree of two parts likewise
   pub kept_two : (make : Tree → Tree → Tree) (left right result : Part A) → GrowsTwo make left right result → ((x y : Tree) → IsTrue (test x) → IsTrue (test y) → IsTrue (test (make x y)))
       → IfMade test left → IfMade test right → IfMade test result
   kept_two make (Ok p) right result h keeps one two = kept (make (part_tree p)) right result h (λ y t. keeps (part_tree p) y one t) two
   kept_two make (Err f) right result h keeps one two = rw h tt
 
+  -- a tree of three parts likewise
   pub kept_three : (make : Tree → Tree → Tree → Tree) (one two three result : Part A) → GrowsThree make one two three result → ((x y z : Tree) → IsTrue (test x) → IsTrue (test y) → IsTrue (test z) → IsTrue (test (make x y z)))
       → IfMade test one → IfMade test two → IfMade test three → IfMade test result
   kept_three make (Ok p) two three result h keeps a b c = kept_two (make (part_tree p)) two three result h (λ y z t u. keeps (part_tree p) y z a t u) b c
@@ -66,6 +70,7 @@ pub scoped_two : {A : Type 0} (inputs first end : ℕ) (o : Operator) (left righ
     → IfMade (is_scoped inputs first end) result
 scoped_two inputs first end o left right result h = kept_two (is_scoped inputs first end) (t.Binary o) left right result h (λ x y. and_true (is_scoped inputs first end x) (is_scoped inputs first end y))
 
+-- a choice uses nothing out of scope where its parts use nothing
 pub scoped_three : {A : Type 0} (inputs first end : ℕ) (one two three result : Part A) → GrowsThree t.Select one two three result → IfMade (is_scoped inputs first end) one → IfMade (is_scoped inputs first end) two
     → IfMade (is_scoped inputs first end) three → IfMade (is_scoped inputs first end) result
 scoped_three inputs first end one two three result h =

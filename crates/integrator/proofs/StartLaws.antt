@@ -85,6 +85,7 @@ found_type types name bytes r e h =
 pub alike : (f g : Frac) (m n : ℕ) → m ≡ bits_of f → n ≡ bits_of g → m ≡ n → are_alike f g ≡ true
 alike f g m n a b e = eq-eqb (bits_of f) (bits_of g) (sym a ∙ e ∙ b)
 
+-- other numbers of bits are other fraction bits
 pub unlike : (f g : Frac) (m n : ℕ) → m ≡ bits_of f → n ≡ bits_of g → m ≢ n → are_alike f g ≡ false
 unlike f g m n a b e = ne_eqb (bits_of f) (bits_of g) (λ h. e (a ∙ h ∙ sym b))
 
