@@ -4,22 +4,31 @@
   tools/edits.py [NAME ..] [--jobs N]      those of the named crates, or of all
   tools/edits.py --stale [--jobs N]        those of each crate that has changed since they were last all refused
 
-They have the form of the edits in crates/NAME/must-fail, which the gate tries itself. Each is tried over the work that a check has kept,
-so that no crate is proved again for it. Where all edits of a crate were refused, crates/NAME/edits/stamp gets the sum of the crate's src, specs and
-edits; while it fits, they would be refused again. --stale works over the libraries that the gate has just built, and else none is built anew.
+They have the form of the edits in crates/NAME/must-fail, which the gate tries itself. Each is tried over the work that a
+check has kept, so that no crate is proved again for it. Where all edits of a crate were refused, crates/NAME/edits/stamp
+gets the sum of the crate's src, specs and edits; while it fits, they would be refused again. --stale works over the
+libraries that the gate has just built, and else none is built anew; it proves each crate once for its edits, and writes
+no stamp. The first line says how many edits will be tried and about how long that takes. The crates with the fewest
+edits go first, and a crate's edits go before the next crate is begun, so that a run that is cut off leaves few crates
+untried.
 """
 import argparse
+import functools
 import hashlib
 import os
 import shutil
 import sys
 import threading
+from collections import deque
 from concurrent.futures import ThreadPoolExecutor
 
 import build
 import kit
 
 PARTS = ("edits", "specs", "src")
+# about how long one core takes: to try an edit over what is proved of its crate, and to prove a crate for its edits
+SECONDS_OF_AN_EDIT = 24
+SECONDS_OF_A_CRATE = 90
 
 
 def edits_of(crate):
@@ -50,23 +59,52 @@ def stamp_of(crate):
         return None
 
 
+def planned(crates, lanes):
+    """Returns the crates in the order in which they are begun, and what is to be said beforehand."""
+    ordered = sorted(crates, key=lambda it: len(edits_of(it)))
+    edits = sum(len(edits_of(it)) for it in ordered)
+    seconds = edits * SECONDS_OF_AN_EDIT + len(ordered) * SECONDS_OF_A_CRATE
+    return ordered, f"{edits} edits of {len(ordered)} crates, about {seconds / lanes / 60:.0f} minutes with {lanes} jobs"
+
+
 class Edits:
     """Tries the edits of crates side by side, and counts."""
 
-    def __init__(self, trial, over_gate, pool):
-        self.trial, self.over_gate, self.pool = trial, over_gate, pool
-        self.passed, self.failed, self.guard = 0, 0, threading.Lock()
+    def __init__(self, trial, over_gate, crates):
+        self.trial, self.over_gate = trial, over_gate
+        self.crates, self.trials, self.beginning = deque(crates), deque(), 0
+        self.passed, self.failed, self.guard = 0, 0, threading.Condition()
+
+    def run(self):
+        """Does what is to be done, one after the other, until nothing is left."""
+        while task := self.next():
+            task()
+
+    def next(self):
+        """Returns the next edit of the crates that were begun, or else the beginning of the next crate."""
+        with self.guard:
+            self.guard.wait_for(lambda: self.trials or self.crates or not self.beginning)
+            if not self.trials and self.crates:
+                self.beginning += 1
+                return functools.partial(self.begin, self.crates.popleft())
+            return self.trials.popleft() if self.trials else None
 
     def begin(self, crate):
-        """Returns the trials of a crate's edits, which go to the pool."""
-        own = f"{crate.folder}/out/incremental"
-        room = self.trial.seeded(crate, own if os.path.isdir(own) and not self.over_gate else None)
-        if room is None:
-            self.tell(False, f"{crate.name} itself is not proved")
-            return []
-        edits = edits_of(crate)
-        left = {edit: None for edit in edits}
-        return [self.pool.submit(self.one, crate, room, edit, left) for edit in edits]
+        """Proves a crate, and lines up the trials of its edits."""
+        trials = []
+        try:
+            own = f"{crate.folder}/out/incremental"
+            room = self.trial.seeded(crate, own if os.path.isdir(own) and not self.over_gate else None)
+            if room is None:
+                self.tell(False, f"{crate.name} itself is not proved")
+            else:
+                left = {edit: None for edit in edits_of(crate)}
+                trials = [functools.partial(self.one, crate, room, edit, left) for edit in left]
+        finally:
+            with self.guard:
+                self.beginning -= 1
+                self.trials += trials
+                self.guard.notify_all()
 
     def one(self, crate, room, edit, left):
         """Tries an edit. Behind the last of a crate's it writes the stamp, where all were refused."""
@@ -106,11 +144,12 @@ def main():
     if not crates:
         print("the edits of all crates were refused as they stand, by their stamps")
         return 0
+    ordered, said = planned(crates, told.jobs)
+    print(said, flush=True)
+    edits = Edits(trial, told.stale, ordered)
     with ThreadPoolExecutor(told.jobs) as pool:
-        edits = Edits(trial, told.stale, pool)
-        seeds = [pool.submit(edits.begin, crate) for crate in sorted(crates, key=lambda it: -len(edits_of(it)))]
-        for it in [edit for seed in seeds for edit in seed.result()]:
-            it.result()
+        for lane in [pool.submit(edits.run) for _ in range(told.jobs)]:
+            lane.result()
     print(f"edits: {edits.passed} passed, {edits.failed} failed")
     return 1 if edits.failed else 0
 
