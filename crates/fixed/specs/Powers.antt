@@ -9,7 +9,7 @@ pub data IsPower (bits : ℕ) (x : ℤ) : ℕ → Result ℤ Fault → Type 0 wh
   even : (k : ℕ) (r : Result ℤ Fault) → 0 < k → IsPower bits x k r → IsPower bits x (2 * k) (then_apply r (square_of bits))
   odd : (k : ℕ) (r : Result ℤ Fault) → 0 < k → IsPower bits x (2 * k) r → IsPower bits x (2 * k + 1) (then_apply r (λ y. product_of bits y x))
 
--- the same for exponents below 0: one over the power
+-- r is the power n of x for any n but 0, or the first fault on the way: below 0 it is one over the power
 abbrev pub IsSignedPower : ℕ → ℤ → ℤ → Result ℤ Fault → Type 0
 IsSignedPower bits x (pos n) r = IsPower bits x n r
 IsSignedPower bits x (negsuc n) r =
