@@ -2,7 +2,7 @@
 
 use arrayvec::ArrayVec;
 use std::sync::atomic::{AtomicU64, Ordering};
-use tile_round::{PairAdd, RowWork, Work, next_adds_by_pair};
+use tile_round::{PairAdd, RowWork, Work};
 
 /// The same work, with rows of its own; the pairs are counted that are asked for by themselves.
 #[derive(Drop)]
@@ -44,14 +44,14 @@ impl<W: Work + Drop> Work for Rowed<W> {
     }
 }
 
-impl<W: Work + Drop> RowWork<()> for Rowed<W> {
+impl<W: RowWork<()> + Drop> RowWork<()> for Rowed<W> {
     fn next_adds(
         &self,
-        _scratch: &mut (),
+        scratch: &mut (),
         tile: u64,
         k: u64,
         adds: &mut ArrayVec<PairAdd, 64>,
     ) -> u64 {
-        next_adds_by_pair(&self.work, tile, k, adds)
+        self.work.next_adds(scratch, tile, k, adds)
     }
 }

@@ -1,5 +1,5 @@
 -- Tiles, each a list of additions, and what they come to.
-use Rattle.std.specs.Prelude.{◌≡◌, ◌<◌, ◌≤◌, ℕ, length, slice_get, ◌+◌, ◌*◌, List, [], ◌∷◌, ◌++◌, map, slice_index_or, sum_by, take, if◌then◌else◌, ◌==◌, Option, Some, None, ℤ, pos}
+use Rattle.std.specs.Prelude.{◌≡◌, ◌<◌, ◌≤◌, ℕ, length, ◌+◌, ◌*◌, List, [], ◌∷◌, ◌++◌, map, slice_index_or, sum_by, take, if◌then◌else◌, ◌==◌, Option, Some, None, ℤ, pos}
 use Rattle.std.specs.List.{flat_map}
 use Rattle.std.specs.Int.{w64, cast_unsigned, int_wrapping_neg}
 use Rattle.tile_round.specs.declared.work.PairAdd.{PairAdd}
@@ -54,21 +54,6 @@ tiles_of plan = map tile_of plan
 
 abbrev pub pairs_at : List (List (Option PairAdd)) → ℕ → List (Option PairAdd)
 pairs_at plan t = slice_index_or plan t []
-
--- the pairs from the number k to before n don't act
-abbrev pub AreIdle : List (Option PairAdd) → ℕ → ℕ → Type 0
-AreIdle pairs k n = (i : ℕ) → k ≤ i → i < n → slice_get pairs i ≡ Some None
-
--- the pair with the number n is the first from k on that acts, and adds this
-pub record ActsFirst (pairs : List (Option PairAdd)) (k n : ℕ) (add : PairAdd) : Type 0 where
-  pub from : k ≤ n
-  pub idle : AreIdle pairs k n
-  pub acts : slice_get pairs n ≡ Some (Some add)
-
--- the force of the first pair from k on that acts, and the number of the pair after it; None where all that are left are idle
-abbrev pub IsNextActing : List (Option PairAdd) → ℕ → Option (PairAdd × ℕ) → Type 0
-IsNextActing pairs k None = AreIdle pairs k (length pairs)
-IsNextActing pairs k (Some found) = (n : ℕ) × (found.1 ≡ n + 1) × ActsFirst pairs k n found.0
 
 -- the pairs that act, in order, whatever is told of them
 abbrev pub acting : {A : Type 0} → List (Option A) → List A

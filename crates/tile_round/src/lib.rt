@@ -15,4 +15,4 @@ pub use events::{Event, Outcome};
 pub use faults::{Memory, RoundFault};
 pub use laws::{every_order, exact_totals};
 pub use round::Round;
-pub use work::{PairAdd, RowWork, Work, next_adds_by_pair};
+pub use work::{PairAdd, RowWork, Work};

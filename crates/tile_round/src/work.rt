@@ -1,7 +1,7 @@
 ghost use Rattle.std.specs.Prelude.{◌≡◌, ◌+◌, ◌<◌, ◌≤◌, ℕ, List, length, slice_get, Option, Some, IfSome};
 ghost use Rattle.std.specs.List.{All};
 ghost use Rattle.tile_round.specs.declared.work.PairAdd.{PairAdd};
-ghost use Rattle.tile_round.specs.Tiles.{additions_of, along, against, pairs_at, AreNextActing, IsNextActing, IsPairOf};
+ghost use Rattle.tile_round.specs.Tiles.{additions_of, along, against, pairs_at, AreNextActing, IsPairOf};
 
 use arrayvec::ArrayVec;
 
@@ -79,57 +79,14 @@ pub trait Work {
         requires pair { k < length (pairs_at (plan self.now) tile) }
         ensures planned { slice_get (pairs_at (plan self.now) tile) k ≡ Some result }
         ensures atoms { IfSome result (IsPairOf (atoms self.now)) };
-
-    /// The force of the first pair from the number `k` on that acts, and the number after its own; `None` where none of
-    /// them does. Work that finds pairs faster in order than by number has a body of its own. The caller's condition:
-    /// there is such a tile, and it has at least `k` pairs.
-    fn next_acting(&self, tile: u64, k: u64) -> Option<(PairAdd, u64)>
-        requires tile { tile < length (plan self.now) }
-        requires start { k ≤ length (pairs_at (plan self.now) tile) }
-        ensures next { IsNextActing (pairs_at (plan self.now) tile) k result }
-        ensures atoms { IfSome result (λ found. IsPairOf (atoms self.now) found.0) }
-    {
-        for number in k..self.pairs(tile) {
-            match self.pair(tile, number) {
-                Some(add) => return Some((add, number + 1)),
-                None => {}
-            }
-        }
-        None
-    }
-}
-
-/// The forces of the pairs from the number `k` on that act, each asked for by itself, as `RowWork::next_adds`.
-pub fn next_adds_by_pair<W: Work>(
-    work: &W,
-    tile: u64,
-    k: u64,
-    adds: &mut ArrayVec<PairAdd, 64>,
-) -> u64
-    requires tile { tile < length (W.plan work.now) }
-    requires start { k < length (pairs_at (W.plan work.now) tile) }
-    ensures next { AreNextActing (pairs_at (W.plan work.now) tile) k adds.new.items result }
-    ensures atoms { All (IsPairOf (W.atoms work.now)) adds.new.items }
-{
-    adds.clear();
-    let mut next = k;
-    while !adds.is_full() {
-        next = match work.next_acting(tile, next) {
-            Some((add, after)) => {
-                adds.push(add);
-                after
-            }
-            None => return work.pairs(tile),
-        };
-    }
-    next
 }
 
 /// Work that hands out what its pairs add row by row. A worker keeps an `S` at hand for it, which changes no answer.
 pub trait RowWork<S>: Work {
     /// The forces of the pairs from the number `k` on that act, in order: at most 64 of them in place of what `adds`
     /// held. The answer is the number of the pair with which the next call goes on. Work that finds the forces of many pairs
-    /// together has a body of its own. The caller's condition: there is such a tile, and it has more than `k` pairs.
+    /// together has a body of its own; this one asks for each pair by its number. The caller's condition: there is such a tile, and it has more
+    /// than `k` pairs.
     fn next_adds(
         &self,
         _scratch: &mut S,
@@ -142,6 +99,17 @@ pub trait RowWork<S>: Work {
         ensures next { AreNextActing (pairs_at (Self.plan self.now) tile) k adds.new.items result }
         ensures atoms { All (IsPairOf (Self.atoms self.now)) adds.new.items }
     {
-        next_adds_by_pair(self, tile, k, adds)
+        adds.clear();
+        let pairs = self.pairs(tile);
+        for number in k..pairs {
+            if adds.is_full() {
+                return number;
+            }
+            match self.pair(tile, number) {
+                Some(add) => adds.push(add),
+                None => {}
+            }
+        }
+        pairs
     }
 }
