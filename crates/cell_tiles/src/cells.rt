@@ -1,6 +1,6 @@
 //! The atoms of each cell, and their places.
 
-ghost use Rattle.std.specs.Prelude.{◌≡◌, ◌+◌, ◌<◌, ◌≤◌, [], ◌∷◌, ◌++◌, drop, length, map, replicate, slice_get, slice_index_or, slice_set, take, Some, IfOk, OnOk, OnErr};
+ghost use Rattle.std.specs.Prelude.{◌≡◌, ◌+◌, ◌^◌, ◌<◌, ◌≤◌, [], ◌∷◌, ◌++◌, drop, length, map, replicate, slice_get, slice_index_or, slice_set, take, Some, IfOk, OnOk, OnErr};
 ghost use Rattle.std.specs.List.{All};
 ghost use Rattle.cell_tiles.specs.Cells.{CellAtoms, cells_of, first_members, member_places, members_of};
 ghost use Rattle.cell_tiles.specs.Tiles.{members_at, pairs_in};
@@ -176,6 +176,7 @@ impl<A: Allocator + Copy> Cells<A> {
         requires { k ≤ length (pairs_in self.now.members (tile.first, tile.second)) }
         ensures pairs { result.pairs ≡ drop k (pairs_in self.now.members (tile.first, tile.second)) }
         ensures others { result.others ≡ members_at self.now.members tile.second }
+        ensures few { length (pairs_in self.now.members (tile.first, tile.second)) < 2 ^ 64 }
     {
         let atoms = self.atoms(tile.first);
         if tile.first == tile.second {
@@ -261,8 +262,6 @@ impl<A: Allocator + Copy> Cells<A> {
         ensures near { AreNear frame.now.reach.now frame.now.ring.now frame.now.places.now (pairs_in self.now.members (tile.first, tile.second)) k near.new result }
         ensures listed { All (IsPairOf (length frame.now.places.now)) near.new }
     {
-        // it isn't wanted but as what numbers of pairs are seen to fit by
-        let _pairs = self.pairs(tile);
         near.clear();
         let places = self.places(tile.second);
         let mut rows = self.rows_from(tile, k);

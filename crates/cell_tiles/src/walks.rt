@@ -1,6 +1,6 @@
 //! A walk over the rows of a tile, in order.
 
-ghost use Rattle.std.specs.Prelude.{◌≡◌, ℕ, ◌+◌, ◌<◌, ◌≤◌, List, [], ◌++◌, ◌-◌, length, drop, take, IfSome, IfNone};
+ghost use Rattle.std.specs.Prelude.{◌≡◌, ℕ, ◌+◌, ◌^◌, ◌<◌, ◌≤◌, List, [], ◌++◌, ◌-◌, length, drop, take, IfSome, IfNone};
 ghost use Rattle.cell_tiles.specs.Tiles.{pairs_among, pairs_between, pairs_with};
 ghost use Rattle.cell_tiles.specs.Walks.{width_of};
 
@@ -72,7 +72,8 @@ impl<'a> Model for TileRows<'a> {
 pub(crate) fn walk_among(atoms: &[u32], k: u64) -> TileRows<'_>
     requires few { length atoms.now ≤ 65536 }
     requires within { k ≤ length (pairs_among atoms.now (length atoms.now)) }
-    ensures { result ≡ record { pairs = drop k (pairs_among atoms.now (length atoms.now)); others = atoms.now } }
+    ensures walk { result ≡ record { pairs = drop k (pairs_among atoms.now (length atoms.now)); others = atoms.now } }
+    ensures few { length (pairs_among atoms.now (length atoms.now)) < 2 ^ 64 }
 {
     let (column, row) = places_of_pair(k);
     TileRows {
@@ -93,7 +94,8 @@ pub(crate) fn walk_between<'a>(atoms: &'a [u32], others: &'a [u32], k: u64) -> T
     requires atoms { length atoms.now ≤ 65536 }
     requires others { length others.now ≤ 65536 }
     requires within { k ≤ length (pairs_between atoms.now others.now) }
-    ensures { result ≡ record { pairs = drop k (pairs_between atoms.now others.now); others = others.now } }
+    ensures walk { result ≡ record { pairs = drop k (pairs_between atoms.now others.now); others = others.now } }
+    ensures few { length (pairs_between atoms.now others.now) < 2 ^ 64 }
 {
     let width = others.len() as u64;
     let (row, column) = if width == 0 {

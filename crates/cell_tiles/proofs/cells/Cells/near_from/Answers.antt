@@ -51,7 +51,7 @@ list_row-seen-requires-clause-pairs g c =
     row_all (IsPairOf (length c.args.frame.now.places.now)) _ (pairs_with c.in-Some.row.atom c.in-Some.row.others.now) _ _ c.requires.pairs (sym c.loop-next.invariant.rows ∙ c.in-Some.ensures.some)
 
 pub overflow_add-next : goal.overflow_add-next
-overflow_add-next g c = omega (arith, (past g (goal.at.overflow_add-next g c).After-list_row-seen).0, c.pairs-pairs.ensures)
+overflow_add-next g c = omega (arith, (past g (goal.at.overflow_add-next g c).After-list_row-seen).0, c.rows_from-rows.ensures.few)
 
 pub returns-then-seen-row-clause-near : goal.returns-then-seen-row-clause-near
 returns-then-seen-row-clause-near g c =
