@@ -32,3 +32,9 @@ IfRefused Memory holds = Unit {0}
 abbrev pub IsOrMemory : {X R : Type 0} → (X → Type 0) → Result X (Failure R) → Type 0
 IsOrMemory holds (Ok x) = holds x
 IsOrMemory holds (Err failure) = failure ≡ Memory
+
+-- both values, or the first that is lacking says why
+abbrev pub paired : {X Y E : Type 0} → Result X E → Result Y E → Result (X × Y) E
+paired (Ok x) (Ok y) = Ok (x, y)
+paired (Err e) r = Err e
+paired (Ok x) (Err e) = Err e

@@ -4,7 +4,9 @@
 mod collected;
 mod failure;
 mod output;
+mod pairs;
 
 pub use collected::Collected;
 pub use failure::Failure;
 pub use output::{Out, OutFault, write_all};
+pub use pairs::pair;

@@ -1,5 +1,5 @@
 -- Numbers with decimals: what is written in a column is read again.
-use Rattle.std.proofs.Common.{◌≡◌, ℕ, zero, suc, ◌+◌, ◌-◌, ◌*◌, ◌/◌, ◌%◌, ◌^◌, ◌<◌, ◌≤◌, true, List, ◌∷◌, ◌++◌, length, get_or, replicate, Some, ℤ, pos, negsuc, decimal, refl, sym, ap, subst, ◌∙◌, arith, lit<}
+use Rattle.std.proofs.Common.{◌≡◌, ℕ, zero, suc, ◌+◌, ◌-◌, ◌*◌, ◌/◌, ◌%◌, ◌^◌, ◌<◌, ◌≤◌, true, List, ◌∷◌, ◌++◌, length, get_or, replicate, Some, ℤ, pos, negsuc, decimal, refl, sym, ap, subst, ◌∙◌, arith}
 use Rattle.std.specs.Int.{IsInRange}
 use Rattle.std.specs.Str.{all_ascii_digits}
 use Rattle.std.specs.Str.Parse.{digits_value}
@@ -14,7 +14,7 @@ use lib.Signed.{mag}
 use Rattle.line_text.specs.Parts.{lacks, right_in, without_spaces}
 use Rattle.line_text.specs.Columns.{digits_of, decimals_of, decimal_column_of, zeros_in, with_decimals, decimals_text}
 use Rattle.line_text.proofs.DigitLaws.{own}
-use Rattle.line_text.proofs.LineLaws.{copies_lack, lacks_append, lacks_first, decimal_lacks, right_again}
+use Rattle.line_text.proofs.LineLaws.{copies_lack, lacks_append, decimal_lacks, right_again}
 
 -- ---- digits
 
@@ -122,8 +122,3 @@ decimal_column_again places width (pos n) some fits =
 decimal_column_again places width (negsuc n) some fits =
     let bare : without_spaces (right_in width (45 ∷ with_decimals places (suc n))) ≡ 45 ∷ with_decimals places (suc n) = right_again width (45 ∷ with_decimals places (suc n)) (λ e. omega (arith, e)) in
     rw (bare, decimals_again places (suc n) some (omega arith)) refl
-
--- a number that is written right in a column is read again as digits
-pub right_digits_again : (width n : ℕ) → n < 2 ^ 64 → digits_of (without_spaces (right_in width (decimal n))) ≡ Some n
-right_digits_again width n fits =
-    ap digits_of (right_again width (decimal n) (lacks_first 32 (decimal n) (lit< tt) (decimal_lacks 32 n (lit< tt) fits))) ∙ decimal_digits_again n fits

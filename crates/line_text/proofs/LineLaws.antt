@@ -13,8 +13,8 @@ use Rattle.std.proofs.lemmas.List.Sums.{split_at_first, passes_at_first}
 use Rattle.std.proofs.lemmas.List.{take_at, drop_at, take_all, take-append-drop, append-nil, length-append, length-replicate, reverse-append, reverse-reverse, get_or-reverse}
 use Rattle.std.proofs.Math.Seq.{drop-append-add}
 use lib.Signed.{mag}
-use Rattle.line_text.specs.Parts.{◌>>=◌, natural_of, integer_of, lacks, cut_at, ended, after, word, AreThree, word_at, three_at, without_front, without_end, without_spaces, without_end_spaces, right_in, left_in}
-use Rattle.line_text.proofs.PartLaws.{some_of, same_bytes, bytes_same, natural_found, natural_again, integer_again}
+use Rattle.line_text.specs.Parts.{◌>>=◌, natural_of, lacks, cut_at, ended, after, word, AreThree, word_at, three_at, without_front, without_end, without_spaces, without_end_spaces, right_in, left_in}
+use Rattle.line_text.proofs.PartLaws.{some_of, same_bytes, bytes_same, natural_found, natural_again}
 
 -- the value of a step that did not fail
 pub bind_some : {A B : Type 0} (o : Option A) (f : A → Option B) (y : B) → (o >>= f) ≡ Some y → (x : A) × (o ≡ Some x) × (f x ≡ Some y)
@@ -360,17 +360,7 @@ right_again width text h = front_again 32 (width - length text) text h
 pub left_again : (width : ℕ) (text : List ℕ) → (get_or text (length text - 1) 0 ≡ 32 → ⊥) → without_end_spaces (left_in width text) ≡ text
 left_again width text h = end_again 32 (width - length text) text h
 
--- ---- numbers in a column
-
--- a number that is written right in a column is read again
-pub right_natural_again : (limit width n : ℕ) → n < limit → n < 2 ^ 64 → natural_of limit (without_spaces (right_in width (decimal n))) ≡ Some n
-right_natural_again limit width n lt fits =
-    ap (natural_of limit) (right_again width (decimal n) (lacks_first 32 (decimal n) (lit< tt) (decimal_lacks 32 n (lit< tt) fits))) ∙ natural_again limit n lt fits
-
--- the same of a signed number
-pub right_integer_again : (width : ℕ) (z : ℤ) → mag z < 2 ^ 63 → integer_of (without_spaces (right_in width (signed_decimal z))) ≡ Some z
-right_integer_again width z fits =
-    ap integer_of (right_again width (signed_decimal z) (lacks_first 32 (signed_decimal z) (lit< tt) (signed_lacks 32 z (lit< tt) fits))) ∙ integer_again z fits
+-- ---- bytes that a text lacks
 
 -- a byte that a text lacks stands nowhere in it
 pub lacks_at : (c : ℕ) (text : List ℕ) (i : ℕ) → 0 < c → lacks c text ≡ true → get_or text i 0 ≡ c → ⊥

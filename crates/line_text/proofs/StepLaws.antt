@@ -1,6 +1,6 @@
 -- Reading in steps.
-use Rattle.std.proofs.Common.{◌≡◌, ◌⊎◌, inl, inr, Result, Ok, Err, refl}
-use Rattle.line_text.specs.Steps.{◌>>=◌}
+use Rattle.std.proofs.Common.{◌≡◌, ◌⊎◌, inl, inr, Option, Some, None, Result, Ok, Err, refl, ap}
+use Rattle.line_text.specs.Steps.{◌>>=◌, said}
 
 -- the value of a step that did not fail
 pub bind_ok : {A B E : Type 0} (r : Result A E) (f : A → Result B E) (y : B) → (r >>= f) ≡ Ok y → (x : A) × (r ≡ Ok x) × (f x ≡ Ok y)
@@ -19,3 +19,23 @@ Split {A} d r next = (r ≡ Err d) ⊎ ((x : A) × (r ≡ Ok x) × (next x ≡ E
 pub split : {A B E : Type 0} (d : E) (r : Result A E) (next : A → Result B E) → (r >>= next) ≡ Err d → Split d r next
 split d (Ok x) next e = inr (x, refl, e)
 split {A} {B} {E} d (Err w) next e = let same : w ≡ d = cc in inl (rw same refl)
+
+-- what a step says was read
+pub said_found : {X E : Type 0} (fault : E) (o : Option X) (x : X) → said fault o ≡ Ok x → o ≡ Some x
+said_found fault None x e = absurd cc
+said_found fault (Some y) x e = cc
+
+-- equal results that have values have equal values
+pub same_ok : {A E : Type 0} (x y : A) → ◌≡◌ {A = Result A E} (Ok x) (Ok y) → x ≡ y
+same_ok x y e = cc
+
+-- equal results that have faults have equal faults
+pub same_err : {A E : Type 0} (f k : E) → ◌≡◌ {A = Result A E} (Err f) (Err k) → f ≡ k
+same_err f k e = cc
+
+-- equal faults are equal for a result of any other type
+pub err_as : {A B E : Type 0} (f k : E) → ◌≡◌ {A = Result A E} (Err f) (Err k) → ◌≡◌ {A = Result B E} (Err f) (Err k)
+err_as {A} {B} {E} f k e = ap failed (same_err f k e)
+  where
+    failed : E → Result B E
+    failed z = Err z

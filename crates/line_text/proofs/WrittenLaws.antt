@@ -4,6 +4,7 @@ use Rattle.std.specs.Prelude.{neg_ℤ}
 use Rattle.std.specs.Str.{all_ascii_digits}
 use Rattle.std.specs.Str.Parse.{digits_value}
 use Rattle.std.specs.Int.{IsInRange}
+use Rattle.std.proofs.lemmas.Option.{same_Some}
 use Rattle.std.proofs.lemmas.Bool.{eqb-true, ltb-false, ne_eqb}
 use Rattle.std.proofs.lemmas.Str.Parse.{digit_at}
 use Rattle.std.proofs.lemmas.List.{take-append-drop, drop_more, get_or_append_left}
@@ -116,15 +117,12 @@ decimal_written places text n e =
       whole_form = record { some = omega (arith, length-take at text); digits = wd.0 };
       part_digits = pd.0;
       part_length = omega (arith, length-drop (length text - places) text);
-      value = ap (λ (m : ℕ). m * 10 ^ places + digits_value 10 (drop (length text - places) text)) wd.1 ∙ ap (λ (m : ℕ). w.0 * 10 ^ places + m) pd.1 ∙ some_is p.2;
+      value = ap (λ (m : ℕ). m * 10 ^ places + digits_value 10 (drop (length text - places) text)) wd.1 ∙ ap (λ (m : ℕ). w.0 * 10 ^ places + m) pd.1 ∙ same_Some _ _ p.2;
     }
   where
     some_or : {A : Type 0} (b : Bool) (o : Option A) (y : A) → cond b o None ≡ Some y → (b ≡ true) × (o ≡ Some y)
     some_or true o y e = (refl, e)
     some_or false o y e = absurd cc
-
-    some_is : {A : Type 0} {x y : A} → ◌≡◌ {A = Option A} (Some x) (Some y) → x ≡ y
-    some_is e = cc
 
 -- a number with decimals begins with a digit
 pub decimal_first : (places : ℕ) (text : List ℕ) (n : ℕ) → WritesDecimal places text n → IsInRange 48 57 (get_or text 0 0)

@@ -1,7 +1,6 @@
 use Rattle.std.proofs.Common.{arith, rules, sym, ap, ◌∙◌}
 use Rattle.fixed.specs.Numerals.{spoils}
 use Rattle.fixed.proofs.NumeralLemmas.{decimal_is}
-use Rattle.std.proofs.lemmas.Grind.{common_steps}
 use Rattle.fixed.proofs.numerals.decimal_front.Goals as goal
 
 pub returns-clause-value : goal.returns-clause-value
@@ -12,15 +11,3 @@ returns-clause-value c =
     decimal_is c.args.text.now _ _ _ _ _ _ c.in_ok-power.field-0 _ whole.digits whole.after fraction.digits fraction.after exponent.after (sym c.in_ok-power.was ∙ exponent.power)
     (ap (λ q. spoils q c.split_exponent-power.result.1.now) (sym c.has_point.ensures) ∙ sym c.spoils.ensures ∙ c.if-spoils.false)
     (omega (arith, c.if-whole-fraction-eq0.false)) (omega (arith, c.if-whole-gt18.false, c.if-fraction-whole.false)) c.mantissa.ensures.value (search rules)
-
-pub overflow_add-whole : goal.overflow_add-whole
-overflow_add-whole c = grind (arith, common_steps)
-
-pub overflow_cast-decimal : goal.overflow_cast-decimal
-overflow_cast-decimal c = grind (arith, common_steps)
-
-pub overflow_sub-decimal : goal.overflow_sub-decimal
-overflow_sub-decimal c = grind (arith, common_steps)
-
-pub overflow_sub-whole : goal.overflow_sub-whole
-overflow_sub-whole c = grind (arith, common_steps)

@@ -1,6 +1,0 @@
--- Without an answer the check closes the goal too, after a search of seconds.
-use Rattle.std.proofs.Common.{rules}
-use Rattle.fixed.proofs.plain.div.Goals as goal
-
-pub returns : goal.returns
-returns c = search rules
