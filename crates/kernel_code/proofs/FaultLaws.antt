@@ -9,8 +9,8 @@ use Rattle.kernel_code.specs.declared.faults.CodeFault.{CodeFault}
 use Rattle.kernel_code.specs.declared.faults.CodeFault.TheVariants.{BadLine, BadTarget, TooLong}
 use Rattle.kernel_code.specs.Code.{goes_forward, targets_checked, code_if, code_from}
 use Rattle.kernel_code.specs.Listing.{head_line, instruction_line, instruction_lines, HasOperands, listing_of}
-use Rattle.line_text.specs.Steps.{◌>>=◌}
-use Rattle.kernel_code.specs.ListingReading.{said, below_head, line_at, parts_of, instructions_of, code_of}
+use Rattle.line_text.specs.Steps.{◌>>=◌, said}
+use Rattle.kernel_code.specs.ListingReading.{below_head, line_at, parts_of, instructions_of, code_of}
 use Rattle.kernel_code.specs.ListingFaults.{IsCodeFault, BeginsWith, IsListingFault}
 use Rattle.kernel_code.proofs.LineLaws.{line_found, line_again, instructions_first, instructions_none, instructions_found, bad_first}
 use Rattle.kernel_code.proofs.ListingLaws.{below_head_found, below_head_again}
@@ -173,7 +173,7 @@ listing_fault text fault e = at (below_head text) refl e
         no_code text is fault f.1 (h ∙ ap (λ (u : List ℕ). ended head_line ++ u) f.0) (code_fault is fault d)
     below rest h (Err f) t d = let same : f ≡ fault = cc in bad_line text rest fault h (first_bad (length rest) 2 rest fault (omega arith) (t ∙ ap (λ (x : CodeFault). Err x) same))
 
-    at : (o : Option (List ℕ)) → below_head text ≡ o → (said 1 o >>= λ rest. instructions_of 2 (parts_of rest) >>= code_from) ≡ Err fault → IsListingFault text fault
+    at : (o : Option (List ℕ)) → below_head text ≡ o → (said (BadLine 1) o >>= λ rest. instructions_of 2 (parts_of rest) >>= code_from) ≡ Err fault → IsListingFault text fault
     at None h d =
         let same : BadLine 1 ≡ fault = cc in
         subst (IsListingFault text) same

@@ -11,25 +11,20 @@ use Rattle.kernel_code.specs.declared.instructions.Instr.{Instr}
 use Rattle.kernel_code.specs.declared.faults.CodeFault.{CodeFault}
 use Rattle.kernel_code.specs.declared.faults.CodeFault.TheVariants.{BadLine}
 use Rattle.kernel_code.specs.Listing.{instruction_line, instruction_lines, HasOperands}
-use Rattle.line_text.specs.Steps.{◌>>=◌}
-use Rattle.line_text.proofs.StepLaws.{bind_ok}
-use Rattle.kernel_code.specs.ListingReading.{said, line_at, parts_of, instruction_of, instructions_of}
+use Rattle.line_text.specs.Steps.{◌>>=◌, said}
+use Rattle.line_text.proofs.StepLaws.{bind_ok, said_found}
+use Rattle.kernel_code.specs.ListingReading.{line_at, parts_of, instruction_of, instructions_of}
 use Rattle.kernel_code.proofs.InstructionLaws.{instruction_found, instruction_again, instruction_lacks}
-
--- a line that says something was read as that
-pub said_found : {X : Type 0} (n : ℕ) (o : Option X) (x : X) → said n o ≡ Ok x → o ≡ Some x
-said_found n None x e = absurd cc
-said_found n (Some y) x e = cc
 
 -- ---- one line
 
 -- the instructions of a line and of the lines after it
 abbrev with_first : ℕ → List ℕ → List (List ℕ) → Result (List Instr) CodeFault
-with_first n line parts = said n (instruction_of line) >>= λ i. instructions_of (n + 1) parts >>= λ is. Ok (i ∷ is)
+with_first n line parts = said (BadLine n) (instruction_of line) >>= λ i. instructions_of (n + 1) parts >>= λ is. Ok (i ∷ is)
 
 -- the instructions of a text are that of its first line, and those of the lines behind it
 pub instructions_line : (n : ℕ) (text a b : List ℕ) → cut_at 10 text ≡ Some (a, b)
-    → instructions_of n (parts_of text) ≡ (said n (instruction_of a) >>= λ i. instructions_of (n + 1) (parts_of b) >>= λ is. Ok (i ∷ is))
+    → instructions_of n (parts_of text) ≡ (said (BadLine n) (instruction_of a) >>= λ i. instructions_of (n + 1) (parts_of b) >>= λ is. Ok (i ∷ is))
 unfolding instructions_of
 instructions_line n text a b e =
     let s = split_some (λ x. x == 10) b in
@@ -87,7 +82,7 @@ pub instructions_first : (n : ℕ) (text rest : List ℕ) (i : Instr) → line_a
     → instructions_of n (parts_of text) ≡ (instructions_of (n + 1) (parts_of rest) >>= λ is. Ok (i ∷ is))
 instructions_first n text rest i e =
     let p = line_parts text rest i e in
-    instructions_line n text p.0 rest p.1 ∙ ap (λ (o : Option Instr). said n o >>= λ j. instructions_of (n + 1) (parts_of rest) >>= λ is. Ok (j ∷ is)) p.2
+    instructions_line n text p.0 rest p.1 ∙ ap (λ (o : Option Instr). said (BadLine n) o >>= λ j. instructions_of (n + 1) (parts_of rest) >>= λ is. Ok (j ∷ is)) p.2
 
 -- one line more is read, and the whole stays the same
 pub lines_go_on : (front : List Instr) (n : ℕ) (text rest : List ℕ) (i : Instr) (total : Result (List Instr) CodeFault) → line_at text ≡ Some (i, rest)
@@ -128,7 +123,7 @@ bad_first n x xs e = at (cut_at 10 (x ∷ xs)) refl (sym (line_at_is (x ∷ xs))
     at None c d = instructions_cut_off n x xs c
     at (Some p) c d =
         instructions_line n (x ∷ xs) p.0 p.1 c
-        ∙ ap (λ (o : Option Instr). said n o >>= λ j. instructions_of (n + 1) (parts_of p.1) >>= λ is. Ok (j ∷ is)) (no_rest p.1 (instruction_of p.0) d)
+        ∙ ap (λ (o : Option Instr). said (BadLine n) o >>= λ j. instructions_of (n + 1) (parts_of p.1) >>= λ is. Ok (j ∷ is)) (no_rest p.1 (instruction_of p.0) d)
 
 -- a bad line behind those that were read is the fault of the whole
 pub lines_stop : (front : List Instr) (n : ℕ) (text : List ℕ) (total : Result (List Instr) CodeFault) → eqb (length text) 0 ≡ false → line_at text ≡ None
@@ -157,9 +152,9 @@ parts_found n (last ∷ []) is e =
     let none : last ≡ [] = nil_from_length last (eqb-true (length last) 0 s.0) in
     subst (λ (l : List Instr). (last ≡ instruction_lines l) × AllByRecursion HasOperands l) (sym s.1) (none, tt)
 parts_found n (line ∷ next ∷ parts) is e =
-    let a = bind_ok (said n (instruction_of line)) (λ i. instructions_of (n + 1) (next ∷ parts) >>= λ js. Ok (i ∷ js)) is e in
+    let a = bind_ok (said (BadLine n) (instruction_of line)) (λ i. instructions_of (n + 1) (next ∷ parts) >>= λ js. Ok (i ∷ js)) is e in
     let b = bind_ok (instructions_of (n + 1) (next ∷ parts)) (λ js. Ok (a.0 ∷ js)) is a.2 in
-    let f = instruction_found line a.0 (said_found n (instruction_of line) a.0 a.1) in
+    let f = instruction_found line a.0 (said_found (BadLine n) (instruction_of line) a.0 a.1) in
     let t = parts_found (n + 1) (next ∷ parts) b.0 b.1 in
     let same : a.0 ∷ b.0 ≡ is = let last = b.2 in cc in
     subst (λ (l : List Instr). (join_with_byte 10 (line ∷ next ∷ parts) ≡ instruction_lines l) × AllByRecursion HasOperands l) same (
@@ -179,5 +174,5 @@ pub instructions_again : (n : ℕ) (is : List Instr) → AllByRecursion HasOpera
 instructions_again n [] h = instructions_none n
 instructions_again n (i ∷ is) h =
     instructions_line n (instruction_lines (i ∷ is)) (instruction_line i) (instruction_lines is) (line_cut (instruction_line i) (instruction_lines is) (instruction_lacks i h.0))
-    ∙ ap (λ (o : Option Instr). said n o >>= λ j. instructions_of (n + 1) (parts_of (instruction_lines is)) >>= λ js. Ok (j ∷ js)) (instruction_again i h.0)
+    ∙ ap (λ (o : Option Instr). said (BadLine n) o >>= λ j. instructions_of (n + 1) (parts_of (instruction_lines is)) >>= λ js. Ok (j ∷ js)) (instruction_again i h.0)
     ∙ ap (λ (r : Result (List Instr) CodeFault). r >>= λ js. Ok (i ∷ js)) (instructions_again (n + 1) is h.1)

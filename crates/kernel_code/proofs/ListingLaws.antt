@@ -12,11 +12,12 @@ use Rattle.kernel_code.specs.declared.instructions.Instr.{Instr}
 use Rattle.kernel_code.specs.declared.faults.CodeFault.{CodeFault}
 use Rattle.kernel_code.specs.Code.{IsCode, code_from}
 use Rattle.kernel_code.specs.Listing.{head_line, instruction_line, instruction_lines, HasOperands, IsListed, listing_of}
-use Rattle.line_text.specs.Steps.{◌>>=◌}
-use Rattle.kernel_code.specs.ListingReading.{said, parts_of, below_head, instructions_of, code_of, OneListing}
+use Rattle.kernel_code.specs.declared.faults.CodeFault.TheVariants.{BadLine}
+use Rattle.line_text.specs.Steps.{◌>>=◌, said}
+use Rattle.kernel_code.specs.ListingReading.{parts_of, below_head, instructions_of, code_of, OneListing}
 use Rattle.kernel_code.proofs.TargetLaws.{code_from_found, code_from_again}
-use Rattle.line_text.proofs.StepLaws.{bind_ok}
-use Rattle.kernel_code.proofs.LineLaws.{said_found, instructions_found, instructions_again}
+use Rattle.line_text.proofs.StepLaws.{bind_ok, said_found}
+use Rattle.kernel_code.proofs.LineLaws.{instructions_found, instructions_again}
 
 -- a text that is read behind a listing's first line begins with that line
 pub below_head_found : (text rest : List ℕ) → below_head text ≡ Some rest → text ≡ ended head_line ++ rest
@@ -35,9 +36,9 @@ below_head_again rest = rw (line_cut head_line rest refl) refl
 pub listing_found : (text : List ℕ) (code : List Instr) → code_of text ≡ Ok code → IsListed code × (text ≡ listing_of code)
 unfolding code_of listing_of
 listing_found text code e =
-    let a = bind_ok (said 1 (below_head text)) (λ rest. instructions_of 2 (parts_of rest) >>= code_from) code e in
+    let a = bind_ok (said (BadLine 1) (below_head text)) (λ rest. instructions_of 2 (parts_of rest) >>= code_from) code e in
     let b = bind_ok (instructions_of 2 (parts_of a.0)) code_from code a.2 in
-    let head = below_head_found text a.0 (said_found 1 (below_head text) a.0 a.1) in
+    let head = below_head_found text a.0 (said_found (BadLine 1) (below_head text) a.0 a.1) in
     let is = instructions_found 2 a.0 b.0 b.1 in
     let c = code_from_found b.0 code b.2 in (
       record { code' = c.1; operands = subst (AllByRecursion HasOperands) c.0 is.1 },

@@ -2,7 +2,7 @@
 use Rattle.std.specs.Prelude.{◌≡◌, ◌↔◌, ℕ, ◌+◌, ◌^◌, List, [], ◌∷◌, length, codes, Option, Some, None, option_map, Result, Ok, Err, ◌==◌, bytes_eq, if◌then◌else◌}
 use Rattle.std.specs.List.{slice_split}
 use Rattle.line_text.specs.Parts.{◌>>=◌ as ◌|>◌, cut_at, natural_of, integer_of}
-use Rattle.line_text.specs.Steps.{◌>>=◌}
+use Rattle.line_text.specs.Steps.{◌>>=◌, said}
 use Rattle.kernel_code.specs.declared.faults.CodeFault.{CodeFault}
 use Rattle.kernel_code.specs.declared.faults.CodeFault.TheVariants.{BadLine}
 use Rattle.kernel_code.specs.declared.instructions.BinaryOperation.{BinaryOperation}
@@ -81,11 +81,6 @@ instruction_of line = instruction_cut line (cut_at 32 line)
 
 -- ---- the lines from the top
 
--- the value of the line with this number, which is its fault where there is none
-abbrev pub said : {X : Type 0} → ℕ → Option X → Result X CodeFault
-said n None = Err (BadLine n)
-said n (Some x) = Ok x
-
 -- the instruction of a text's first line, and what stands behind that line
 unfoldable pub line_at : List ℕ → Option (Instr × List ℕ)
 line_at text =
@@ -102,7 +97,7 @@ unfoldable pub instructions_of : ℕ → List (List ℕ) → Result (List Instr)
 instructions_of n [] = Err (BadLine n)
 instructions_of n (last ∷ []) = if length last == 0 then Ok [] else Err (BadLine n)
 instructions_of n (line ∷ next ∷ parts) =
-    said n (instruction_of line) >>= λ i.
+    said (BadLine n) (instruction_of line) >>= λ i.
     instructions_of (n + 1) (next ∷ parts) >>= λ is.
     Ok (i ∷ is)
 
@@ -113,7 +108,7 @@ below_head text = cut_at 10 text |> λ x. if bytes_eq x.0 head_line then Some x.
 -- A line without its form is the first fault, wherever it stands; then come the number of instructions and their jumps.
 unfoldable pub code_of : List ℕ → Result (List Instr) CodeFault
 code_of text =
-    said 1 (below_head text) >>= λ rest.
+    said (BadLine 1) (below_head text) >>= λ rest.
     instructions_of 2 (parts_of rest) >>= λ is.
     code_from is
 

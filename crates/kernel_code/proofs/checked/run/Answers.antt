@@ -1,5 +1,4 @@
 use Rattle.std.proofs.Common.{suc, refl, sym, subst, arith}
-use Rattle.std.proofs.lemmas.Grind.{common_steps}
 use Rattle.fixed.specs.Fractions.{bits_of}
 use Rattle.kernel_code.specs.Machine.{Ends}
 use Rattle.kernel_code.proofs.Runs.{after_more, ends_trapped, ends_there, instruction_at, turn_leads}
@@ -28,27 +27,3 @@ pub returns : goal.returns
 returns g c =
     let r = c.loop-pc.invariant.reached in
     (r.0, subst (Ends (bits_of c.args.frac) c.args.code.now c.args.inputs.now r.0) (sym c.answer.ensures) (ends_there _ _ _ r.0 _ r.1 (omega arith)))
-
-pub loop-pc-init : goal.loop-pc-init
-loop-pc-init g c = grind (arith, common_steps)
-
-pub overflow_cast-pc : goal.overflow_cast-pc
-overflow_cast-pc g c = grind (arith, common_steps)
-
-pub overflow_cast-pc-in-loop-pc : goal.overflow_cast-pc-in-loop-pc
-overflow_cast-pc-in-loop-pc g c = grind (arith, common_steps)
-
-pub offset_bounds-code-pc : goal.offset_bounds-code-pc
-offset_bounds-code-pc g c = grind (arith, common_steps)
-
-pub bounds-code-pc : goal.bounds-code-pc
-bounds-code-pc g c = grind (arith, common_steps)
-
-pub act_checked-requires-clause-room : goal.act_checked-requires-clause-room
-act_checked-requires-clause-room g c = grind (arith, common_steps)
-
-pub act_checked-requires-clause-locals : goal.act_checked-requires-clause-locals
-act_checked-requires-clause-locals g c = grind (arith, common_steps)
-
-pub answer-requires : goal.answer-requires
-answer-requires g c = grind (arith, common_steps)
