@@ -1,5 +1,4 @@
-use Rattle.std.proofs.Common.{arith, ◌≡◌, ◌+◌, Err, List, Ok, length, replicate, slice_set, rules, ap, subst}
-use Rattle.std.proofs.lemmas.Grind.{common_steps}
+use Rattle.std.proofs.Common.{◌≡◌, ◌+◌, Err, List, Ok, length, replicate, slice_set, rules, ap, subst}
 use Rattle.kernel_code.specs.declared.instructions.Instr.{Instr}
 use Rattle.kernel_paths.specs.declared.meetings.Meeting.{Meeting}
 use Rattle.kernel_paths.specs.declared.meetings.Meeting.TheVariants.{Nothing, Level}
@@ -35,21 +34,3 @@ pub returns-clause-refused : goal.returns-clause-refused
 returns-clause-refused g c =
     let first = subst (λ (is : List Instr). IsFirst is c.args.inputs c.in-Err.misfit) c.as_slice-instructions.ensures.items c.in-Err.ensures in
     goes_wrong c.args.code.now c.args.inputs c.in-Err.misfit c.as_slice-instructions.ensures.code.forward first
-
-pub overflow_add-instructions : goal.overflow_add-instructions
-overflow_add-instructions g c = grind (arith, common_steps)
-
-pub index_mut-requires : goal.index_mut-requires
-index_mut-requires g c = grind (arith, common_steps)
-
-pub judge-requires-clause-code : goal.judge-requires-clause-code
-judge-requires-clause-code g c = grind (arith, common_steps)
-
-pub returns-in-Ok-clause-first : goal.returns-in-Ok-clause-first
-returns-in-Ok-clause-first g c = grind (arith, common_steps)
-
-pub returns-in-Ok-clause-refused : goal.returns-in-Ok-clause-refused
-returns-in-Ok-clause-refused g c = grind (arith, common_steps)
-
-pub returns-clause-well : goal.returns-clause-well
-returns-clause-well g c = grind (arith, common_steps)
