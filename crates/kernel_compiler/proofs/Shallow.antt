@@ -27,11 +27,6 @@ double_one : (n : ℕ) → double (n + 1) ≡ 2 * double n
 unfolding double
 double_one n = let e : n + 1 ≡ suc n = omega arith in ap double e
 
-double_least : (n : ℕ) → 1 ≤ double n
-unfolding double
-double_least zero = omega arith
-double_least (suc n) = omega (arith, double_least n)
-
 double_rises : (m k : ℕ) → double m ≤ double (m + k)
 double_rises m zero = let e : m + 0 ≡ m = omega arith in omega (arith, ap double e)
 double_rises m (suc k) = let e : m + suc k ≡ (m + k) + 1 = omega arith in omega (arith, ap double e, double_one (m + k), double_rises m k)

@@ -1,5 +1,4 @@
-use Rattle.std.proofs.Common.{arith, ◌≡◌, List, sym, ap, ◌∙◌, subst, true}
-use Rattle.std.proofs.lemmas.Grind.{common_steps}
+use Rattle.std.proofs.Common.{◌≡◌, List, sym, ap, ◌∙◌, subst, true}
 use Rattle.fixed.specs.Fractions.{bits_of}
 use Rattle.kernel_code.specs.declared.instructions.Instr.{Instr}
 use Rattle.kernel_code.specs.Code.{code_from}
@@ -37,30 +36,3 @@ returns-clause-paths g c =
     let within : is_within_limits code ≡ true = c.is_within_limits.ensures (bits_of c.args.frac) ∙ c.if-not-is_within_limits.false in
     let same : c.in-Ok.code ≡ code = c.in-Ok.ensures.code.0 ∙ c.in_ok-instructions.ensures in
     subst (λ (l : List Instr). MissesNothing l (input_count_of c.args.program.now)) (sym same) (misses_nothing c.args.program.now (bits_of c.args.frac) within)
-
-pub marks_of-requires : goal.marks_of-requires
-marks_of-requires g c = grind (arith, common_steps)
-
-pub is_within_limits-requires : goal.is_within_limits-requires
-is_within_limits-requires g c = grind (arith, common_steps)
-
-pub returns-then-not-is_within_limits-clause-value : goal.returns-then-not-is_within_limits-clause-value
-returns-then-not-is_within_limits-clause-value g c = grind (arith, common_steps)
-
-pub returns-then-not-is_within_limits-clause-paths : goal.returns-then-not-is_within_limits-clause-paths
-returns-then-not-is_within_limits-clause-paths g c = grind (arith, common_steps)
-
-pub returns-then-not-is_within_limits-clause-exact : goal.returns-then-not-is_within_limits-clause-exact
-returns-then-not-is_within_limits-clause-exact g c = grind (arith, common_steps)
-
-pub instructions_of-requires-clause-marked : goal.instructions_of-requires-clause-marked
-instructions_of-requires-clause-marked g c = grind (arith, common_steps)
-
-pub instructions_of-requires-clause-within : goal.instructions_of-requires-clause-within
-instructions_of-requires-clause-within g c = grind (arith, common_steps)
-
-pub returns-clause-exact : goal.returns-clause-exact
-returns-clause-exact g c = grind (arith, common_steps)
-
-pub returns-clause-refused : goal.returns-clause-refused
-returns-clause-refused g c = grind (arith, common_steps)
