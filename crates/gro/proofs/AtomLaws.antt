@@ -16,7 +16,8 @@ use Rattle.gro.specs.declared.faults.GroFault.{GroFault}
 use Rattle.gro.specs.declared.faults.GroFault.TheVariants.{Truncated, BadColumns, Precision}
 use Rattle.gro.specs.Frames.{AtomView}
 use Rattle.gro.specs.GroText.{IsResidueNumber, AreColumns, are_spaces, IsVelocity, absent, given, IsAtomLine}
-use Rattle.gro.specs.GroReading.{whole_of, said, LineView, points_of, residue_number_of, three_columns_of, velocity_of, fields_of, with_points, atom_in}
+use Rattle.line_text.specs.Steps.{said}
+use Rattle.gro.specs.GroReading.{whole_of, LineView, points_of, residue_number_of, three_columns_of, velocity_of, fields_of, with_points, atom_in}
 use Rattle.gro.proofs.CountLaws.{whole_written, whole_read, first_digit, last_digit}
 
 -- ---- the residue's number

@@ -4,21 +4,21 @@ use Rattle.std.proofs.lemmas.Bool.{and_parts, eqb-false, eqb-true, le-ltb, leb-f
 use Rattle.std.proofs.lemmas.List.{nil_from_length}
 use Rattle.std.specs.List.{list_all}
 use Rattle.line_text.specs.Parts.{◌>>=◌ as ◌|>◌, cut_at, is_printable, trimmed}
-use Rattle.line_text.specs.Steps.{◌>>=◌}
+use Rattle.line_text.specs.Steps.{◌>>=◌, said}
 use Rattle.line_text.specs.Words.{words}
 use Rattle.line_text.proofs.LineLaws.{cut_again, cut_found, cut_none, uncut}
-use Rattle.line_text.proofs.StepLaws.{Split, bind_ok, split}
+use Rattle.line_text.proofs.StepLaws.{Split, bind_ok, split, same_ok}
 use Rattle.line_text.proofs.WrittenLaws.{padded_found}
 use Rattle.gro.specs.Frames.{AtomView, FrameView}
 use Rattle.gro.specs.GroFaults.{AreFrames, HasAtoms, HasOtherPrecision, HasPoints, HasValues, IsAtomFault, IsBoxFault, IsCountFault, IsFrameFault, IsNeeded, IsTextFault, IsUnfinished, bad_atom, bad_box, bad_count, no_title}
-use Rattle.gro.specs.GroReading.{LineView, and_more, atom_at, atom_in, atoms_at, count_at, count_in, counted, fields_of, frame_at, frames_at, frames_of, from_atoms, from_count, from_title, is_zero, line_at, parted, points_of, rectangular, said, sides_at, sides_in, values_of, whole_of, with_points}
+use Rattle.gro.specs.GroReading.{LineView, and_more, atom_at, atom_in, atoms_at, count_at, count_in, counted, fields_of, frame_at, frames_at, frames_of, from_atoms, from_count, from_title, is_zero, line_at, parted, points_of, rectangular, sides_at, sides_in, values_of, whole_of, with_points}
 use Rattle.gro.specs.GroText.{AreAtoms, IsAtomLine, IsCount, IsLine, is_blank}
 use Rattle.gro.specs.declared.faults.GroFault.{GroFault}
 use Rattle.gro.specs.declared.faults.GroFault.TheVariants.{Truncated, BadCount, BadColumns, Precision, BadBox, Triclinic, TooManyAtoms}
 use Rattle.gro.proofs.AtomLaws.{atom_read, atom_written}
 use Rattle.gro.proofs.BoxLaws.{all_zero, values_length, values_read, values_written}
 use Rattle.gro.proofs.CountLaws.{count_written, number_read, whole_written}
-use Rattle.gro.proofs.FrameLaws.{atoms_written, frame_written, ok_is}
+use Rattle.gro.proofs.FrameLaws.{atoms_written, frame_written}
 use Rattle.gro.proofs.FrameLoops.{frame_shorter}
 use Rattle.gro.proofs.LineLaws.{line_written}
 
@@ -229,7 +229,7 @@ atoms_wrong n (suc k) bytes f e = at_first (λ b d. atoms_wrong (n + 1) k b f d)
     at_others again a read (inl bad) =
         let l = bind_ok (line_at bytes) (said_of (atom_in n)) a read in
         let m = bind_ok (atom_in n l.0.0) (λ atom. Ok (atom, l.0.1)) a l.2 in
-        let same : (m.0, l.0.1) ≡ a = ok_is m.2 in
+        let same : (m.0, l.0.1) ≡ a = same_ok _ _ m.2 in
         let first : AreAtoms bytes (m.0 ∷ []) l.0.1 = (l.0.0.text, l.0.1, line_written bytes l.0 l.1, atom_written n l.0.0 m.0 m.1, refl) in
         later a (subst (λ (q : AtomView × List ℕ). AreAtoms bytes (q.0 ∷ []) q.1) same first) (again a.1 bad)
 
@@ -245,7 +245,7 @@ unfolding count_at
 count_there n bytes c e =
     let l = bind_ok (line_at bytes) (said_of (λ line. count_in n line.text)) c e in
     let m = bind_ok (count_in n l.0.0.text) (λ count. Ok (count, l.0.1)) c l.2 in
-    let same : (m.0, l.0.1) ≡ c = ok_is m.2 in
+    let same : (m.0, l.0.1) ≡ c = same_ok _ _ m.2 in
     subst (λ (q : ℕ × List ℕ). (text : List ℕ) × IsLine bytes text q.1 × IsCount text q.0) same (l.0.0.text, line_written bytes l.0 l.1, count_written n l.0.0.text m.0 m.1)
 
 frame_wrong : (n : ℕ) (bytes : List ℕ) (f : GroFault) → frame_at n bytes ≡ Err f → IsFrameFault n bytes f

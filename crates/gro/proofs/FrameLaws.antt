@@ -11,12 +11,8 @@ use Rattle.gro.proofs.LineLaws.{line_written, line_read}
 use Rattle.gro.proofs.CountLaws.{count_written, count_read, first_digit}
 use Rattle.gro.proofs.AtomLaws.{atom_written, atom_read}
 use Rattle.gro.proofs.BoxLaws.{sides_written, sides_read}
-use Rattle.line_text.proofs.StepLaws.{bind_ok}
+use Rattle.line_text.proofs.StepLaws.{bind_ok, same_ok}
 use Rattle.gro.proofs.FrameLoops.{frame_shorter}
-
--- equal answers that are no faults have equal values
-pub ok_is : {A : Type 0} {x y : A} → ◌≡◌ {A = Result A GroFault} (Ok x) (Ok y) → x ≡ y
-ok_is e = cc
 
 -- the value of a line, and the bytes after it
 abbrev with_rest : {X : Type 0} → List ℕ → Result X GroFault → Result (X × List ℕ) GroFault
@@ -27,18 +23,18 @@ with_rest rest r = r >>= λ x. Ok (x, rest)
 -- atoms that are read stand there, one line each, and are as many as were asked for
 pub atoms_written : (n k : ℕ) (bytes : List ℕ) (p : List AtomView × List ℕ) → atoms_at n k bytes ≡ Ok p → AreAtoms bytes p.0 p.1 × (length p.0 ≡ k)
 unfolding atoms_at atom_at
-atoms_written n zero bytes p e = subst (λ (q : List AtomView × List ℕ). AreAtoms bytes q.0 q.1 × (length q.0 ≡ 0)) (ok_is e) (refl, refl)
+atoms_written n zero bytes p e = subst (λ (q : List AtomView × List ℕ). AreAtoms bytes q.0 q.1 × (length q.0 ≡ 0)) (same_ok _ _ e) (refl, refl)
 atoms_written n (suc k) bytes p e =
     let a = bind_ok (line_at bytes >>= λ line. atom_in n line.0 >>= λ atom. Ok (atom, line.1)) (λ x. atoms_at (n + 1) k x.1 >>= λ y. Ok (x.0 ∷ y.0, y.1)) p e in
     let b = bind_ok (atoms_at (n + 1) k a.0.1) (λ y. Ok (a.0.0 ∷ y.0, y.1)) p a.2 in
     let l = bind_ok (line_at bytes) (λ line. atom_in n line.0 >>= λ atom. Ok (atom, line.1)) a.0 a.1 in
     let m = bind_ok (atom_in n l.0.0) (λ atom. Ok (atom, l.0.1)) a.0 l.2 in
-    let same : (m.0, l.0.1) ≡ a.0 = ok_is m.2 in
+    let same : (m.0, l.0.1) ≡ a.0 = same_ok _ _ m.2 in
     let t = atoms_written (n + 1) k a.0.1 b.0 b.1 in
     let rest : AreAtoms l.0.1 b.0.0 b.0.1 = subst (λ (r : List ℕ). AreAtoms r b.0.0 b.0.1) (sym (ap (λ (q : AtomView × List ℕ). q.1) same)) t.0 in
     let first : AreAtoms bytes (m.0 ∷ b.0.0) b.0.1 = (l.0.0.text, l.0.1, line_written bytes l.0 l.1, atom_written n l.0.0 m.0 m.1, rest) in
     let all : AreAtoms bytes (a.0.0 ∷ b.0.0) b.0.1 = subst (λ (x : AtomView). AreAtoms bytes (x ∷ b.0.0) b.0.1) (ap (λ (q : AtomView × List ℕ). q.0) same) first in
-    subst (λ (q : List AtomView × List ℕ). AreAtoms bytes q.0 q.1 × (length q.0 ≡ suc k)) (ok_is b.2) (all, ap suc t.1)
+    subst (λ (q : List AtomView × List ℕ). AreAtoms bytes q.0 q.1 × (length q.0 ≡ suc k)) (same_ok _ _ b.2) (all, ap suc t.1)
 
 atoms_read : (n : ℕ) (bytes : List ℕ) (atoms : List AtomView) (rest : List ℕ) → AreAtoms bytes atoms rest → atoms_at n (length atoms) bytes ≡ Ok (atoms, rest)
 unfolding atoms_at atom_at
@@ -61,14 +57,14 @@ frame_written n bytes p e =
     let s = bind_ok (sides_at (n + 1 + 1 + c.0.0) a.0.1) (λ sides. Ok (record { title = t.0.0.text; atoms = a.0.0; sides = sides.0 }, sides.1)) p a.2 in
     let cl = bind_ok (line_at t.0.1) (λ line. count_in (n + 1) line.0.text >>= λ count. Ok (count, line.1)) c.0 c.1 in
     let cc1 = bind_ok (count_in (n + 1) cl.0.0.text) (λ count. Ok (count, cl.0.1)) c.0 cl.2 in
-    let csame : (cc1.0, cl.0.1) ≡ c.0 = ok_is cc1.2 in
+    let csame : (cc1.0, cl.0.1) ≡ c.0 = same_ok _ _ cc1.2 in
     let sl = bind_ok (line_at a.0.1) (λ line. sides_in (n + 1 + 1 + c.0.0) line.0 >>= λ sides. Ok (sides, line.1)) s.0 s.1 in
     let ss = bind_ok (sides_in (n + 1 + 1 + c.0.0) sl.0.0) (λ sides. Ok (sides, sl.0.1)) s.0 sl.2 in
-    let ssame : (ss.0, sl.0.1) ≡ s.0 = ok_is ss.2 in
+    let ssame : (ss.0, sl.0.1) ≡ s.0 = same_ok _ _ ss.2 in
     let are = atoms_written (n + 1 + 1) c.0.0 c.0.1 a.0 a.1 in
     let counted : IsCount cl.0.0.text (length a.0.0) =
     subst (λ (k : ℕ). IsCount cl.0.0.text k) (ap (λ (q : ℕ × List ℕ). q.0) csame ∙ sym are.1) (count_written (n + 1) cl.0.0.text cc1.0 cc1.1) in
-    subst (λ (q : FrameView × List ℕ). IsFrame bytes q.0 q.1) (ok_is s.2)
+    subst (λ (q : FrameView × List ℕ). IsFrame bytes q.0 q.1) (same_ok _ _ s.2)
     (record {
       count = cl.0.0.text;
       box_text = sl.0.0.text;
@@ -152,9 +148,9 @@ frames_written (suc k) n bytes frames e =
 
     at : (f : FrameView) (rest : List ℕ) → IsFrame bytes f rest → (b : Bool) → is_blank rest ≡ b → (r : Result (List FrameView) GroFault) → ((fs : List FrameView) → r ≡ Ok fs → IsGroText rest fs)
         → cond b (Ok (f ∷ [])) (r >>= λ fs. Ok (f ∷ fs)) ≡ Ok frames → IsGroText bytes frames
-    at f rest h true b r t d = subst (λ (fs : List FrameView). IsGroText bytes fs) (ok_is d) (rest, h, b)
+    at f rest h true b r t d = subst (λ (fs : List FrameView). IsGroText bytes fs) (same_ok _ _ d) (rest, h, b)
     at f rest h false b (Err fault) t d = absurd cc
-    at f rest h false b (Ok fs) t d = subst (λ (gs : List FrameView). IsGroText bytes gs) (ok_is d) (more f rest fs h (t fs refl))
+    at f rest h false b (Ok fs) t d = subst (λ (gs : List FrameView). IsGroText bytes gs) (same_ok _ _ d) (more f rest fs h (t fs refl))
 
 first_read : (k n : ℕ) (bytes : List ℕ) (f : FrameView) (rest : List ℕ) → IsFrame bytes f rest → frames_at (suc k) n bytes ≡ and_more f rest (frames_at k (n + length f.atoms + 3) rest)
 unfolding frames_at

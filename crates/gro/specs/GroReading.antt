@@ -4,16 +4,11 @@ use Rattle.std.specs.List.{list_all, slice_range}
 use Rattle.line_text.specs.Parts.{◌>>=◌ as ◌|>◌, cut_at, name_of, trimmed, without_returns, is_printable}
 use Rattle.line_text.specs.Columns.{digits_of, signed_by, decimal_column_of, is_residue_number}
 use Rattle.line_text.specs.Words.{words}
-use Rattle.line_text.specs.Steps.{◌>>=◌}
+use Rattle.line_text.specs.Steps.{◌>>=◌, said}
 use Rattle.gro.specs.Frames.{AtomView, FrameView}
 use Rattle.gro.specs.GroText.{are_spaces, is_blank, IsGroText}
 use Rattle.gro.specs.declared.faults.GroFault.{GroFault}
 use Rattle.gro.specs.declared.faults.GroFault.TheVariants.{Truncated, BadCount, BadColumns, Precision, BadBox, Triclinic, TooManyAtoms, NoSuchFrame}
-
--- the value, or this fault where there is none
-abbrev pub said : {X : Type 0} → GroFault → Option X → Result X GroFault
-said fault None = Err fault
-said fault (Some x) = Ok x
 
 -- ---- lines
 
