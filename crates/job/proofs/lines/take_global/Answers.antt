@@ -1,6 +1,5 @@
 -- Without these answers the check searches for seconds, in vain, before `grind` closes the first goal.
-use Rattle.std.proofs.Common.{List, ℕ, Bor, Result, option_map, arith, sym, ap, subst, ◌∙◌}
-use Rattle.std.proofs.lemmas.Grind.{common_steps}
+use Rattle.std.proofs.Common.{List, ℕ, Bor, Result, option_map, sym, ap, subst, ◌∙◌}
 use Rattle.fallible.specs.Failures.{Gives}
 use Rattle.fallible.specs.declared.failure.Failure.TheVariants.{Refused}
 use Rattle.line_text.specs.Words.{words}
@@ -9,9 +8,6 @@ use Rattle.job.specs.JobText.{limits}
 use Rattle.job.specs.Views.{said_of, refusal_of}
 use Rattle.job.proofs.DraftLemmas.{passed_on, global_by_value, global_malformed}
 use Rattle.job.proofs.lines.take_global.Goals as goal
-
-pub returns-in_default : goal.returns-in_default
-returns-in_default g c = grind (arith, common_steps)
 
 pub returns-in_ok-value-in-Some : goal.returns-in_ok-value-in-Some
 returns-in_ok-value-in-Some g c =

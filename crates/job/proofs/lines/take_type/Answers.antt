@@ -1,6 +1,5 @@
 -- Without these answers the check searches for seconds, in vain, before `grind` closes the first goals.
-use Rattle.std.proofs.Common.{Result, arith, sym, subst}
-use Rattle.std.proofs.lemmas.Grind.{common_steps}
+use Rattle.std.proofs.Common.{Result, sym, subst}
 use Rattle.fallible.specs.Failures.{Gives}
 use Rattle.line_text.specs.Words.{words}
 use Rattle.job.specs.Faults.{Refusal, Said}
@@ -8,15 +7,6 @@ use Rattle.job.specs.JobText.{limits}
 use Rattle.job.specs.Views.{said_of, refusal_of}
 use Rattle.job.proofs.DraftLemmas.{passed_on, type_fails, type_by_numbers}
 use Rattle.job.proofs.lines.take_type.Goals as goal
-
-pub returns-in_default : goal.returns-in_default
-returns-in_default g c = grind (arith, common_steps)
-
-pub returns-in_default-next_word : goal.returns-in_default-next_word
-returns-in_default-next_word g c = grind (arith, common_steps)
-
-pub returns-then-not-is_type_name : goal.returns-then-not-is_type_name
-returns-then-not-is_type_name g c = grind (arith, common_steps)
 
 pub add_type-requires : goal.add_type-requires
 add_type-requires g c = sym c.if-not-is_type_name.ensures
