@@ -8,13 +8,13 @@ use Rattle.fixed.specs.declared.frac.Frac.{Frac}
 use Rattle.fixed.specs.Fractions.{bits_of}
 use Rattle.fixed.specs.declared.frac.Frac.TheVariants.{F24, F32, F40}
 use Rattle.line_text.specs.Parts.{AreThree, cut_at, ended, is_title, lacks}
-use Rattle.line_text.specs.Steps.{◌>>=◌}
+use Rattle.line_text.specs.Steps.{◌>>=◌, said}
 use Rattle.line_text.proofs.Items.{all_push}
 use Rattle.line_text.proofs.LineLaws.{cut_found, cut_none, ended_then}
 use Rattle.line_text.proofs.StepLaws.{Split, bind_err, split}
 use Rattle.ring_box.specs.Places.{ArePlaces, nowhere}
 use Rattle.state.specs.StateFaults.{AreLines, BeginsState, IsCause}
-use Rattle.state.specs.StateReading.{frac_of, head_of, title_of, step_of, count_of, sides_of, atom_of, needed, said, field_at, atom_at, atoms_at, from_atoms, from_sides, from_count, from_frac, from_step, from_title, state_of}
+use Rattle.state.specs.StateReading.{frac_of, head_of, title_of, step_of, count_of, sides_of, atom_of, field_at, atom_at, atoms_at, from_atoms, from_sides, from_count, from_frac, from_step, from_title, state_of}
 use Rattle.state.specs.StateText.{AtomView, IsAtom, IsSide, IsState, StateView, atom_line, atom_lines, bits_in, bits_line, box_line, count_line, head_line, state_text, step_line, title_line, version_of}
 use Rattle.state.specs.declared.faults.StateFault.{StateFault}
 use Rattle.state.specs.declared.faults.StateFault.TheVariants.{BadLine, Truncated, Trailing}
@@ -69,9 +69,9 @@ field_cause {X = X} front n k read bytes e number lines begun fails failed = at_
     kept rest x = Ok (x, rest)
 
     taken : List ℕ × List ℕ → Result (X × List ℕ) StateFault
-    taken l = said n (read l.0) >>= kept l.1
+    taken l = said (BadLine n) (read l.0) >>= kept l.1
 
-    at_line : (line rest : List ℕ) (o : Option X) → bytes ≡ ended line ++ rest → lacks 10 line ≡ true → read line ≡ o → (said n o >>= kept rest) ≡ Err e → IsCause (front ++ bytes) e
+    at_line : (line rest : List ℕ) (o : Option X) → bytes ≡ ended line ++ rest → lacks 10 line ≡ true → read line ≡ o → (said (BadLine n) o >>= kept rest) ≡ Err e → IsCause (front ++ bytes) e
     at_line line rest None text whole none failed =
         let same : BadLine n ≡ e = cc in
         subst (IsCause (front ++ bytes)) same (record {
@@ -88,7 +88,7 @@ field_cause {X = X} front n k read bytes e number lines begun fails failed = at_
         })
     at_line line rest (Some x) text whole some failed = absurd cc
 
-    at_cut : (o : Option (List ℕ × List ℕ)) → cut_at 10 bytes ≡ o → (needed o >>= taken) ≡ Err e → IsCause (front ++ bytes) e
+    at_cut : (o : Option (List ℕ × List ℕ)) → cut_at 10 bytes ≡ o → (said Truncated o >>= taken) ≡ Err e → IsCause (front ++ bytes) e
     at_cut None c failed =
         let same : Truncated ≡ e = cc in
         subst (IsCause (front ++ bytes)) same (record { front = front; rest = bytes; count = k; text = refl; lines = lines; part = cut_none 10 bytes c; begun = begun })

@@ -14,9 +14,10 @@ use Rattle.fixed.specs.declared.frac.Frac.TheVariants.{F24, F32, F40}
 use Rattle.state.specs.declared.versions.Version.{Version}
 use Rattle.state.specs.declared.versions.Version.TheVariants.{First, Second}
 use Rattle.state.specs.StateText.{version_of, head_line, title_line, step_line, bits_line, bits_in, count_line, box_line, IsSide}
-use Rattle.line_text.specs.Steps.{◌>>=◌}
-use Rattle.line_text.proofs.StepLaws.{bind_ok}
-use Rattle.state.specs.StateReading.{head_of, title_of, step_of, named_frac, frac_of, count_of, sides_of, line_at, needed, said, field_at, frac_at}
+use Rattle.state.specs.declared.faults.StateFault.TheVariants.{BadLine, Truncated}
+use Rattle.line_text.specs.Steps.{◌>>=◌, said}
+use Rattle.line_text.proofs.StepLaws.{bind_ok, said_found}
+use Rattle.state.specs.StateReading.{head_of, title_of, step_of, named_frac, frac_of, count_of, sides_of, line_at, field_at, frac_at}
 
 -- ---- any line
 
@@ -24,7 +25,7 @@ use Rattle.state.specs.StateReading.{head_of, title_of, step_of, named_frac, fra
 pub line_found : (bytes : List ℕ) (p : List ℕ × List ℕ) → line_at bytes ≡ Ok p → (bytes ≡ ended p.0 ++ p.1) × (lacks 10 p.0 ≡ true)
 line_found bytes p e = at (cut_at 10 bytes) refl e
   where
-    at : (o : Option (List ℕ × List ℕ)) → cut_at 10 bytes ≡ o → needed o ≡ Ok p → (bytes ≡ ended p.0 ++ p.1) × (lacks 10 p.0 ≡ true)
+    at : (o : Option (List ℕ × List ℕ)) → cut_at 10 bytes ≡ o → said Truncated o ≡ Ok p → (bytes ≡ ended p.0 ++ p.1) × (lacks 10 p.0 ≡ true)
     at None c d = absurd cc
     at (Some q) c d =
         let same : q ≡ p = cc in
@@ -33,11 +34,7 @@ line_found bytes p e = at (cut_at 10 bytes) refl e
 
 -- a line that was ended with a line feed is read again
 pub line_again : (line rest : List ℕ) → lacks 10 line ≡ true → line_at (ended line ++ rest) ≡ Ok (line, rest)
-line_again line rest l = ap needed (line_cut line rest l)
-
-said_found : {X : Type 0} (n : ℕ) (o : Option X) (x : X) → said n o ≡ Ok x → o ≡ Some x
-said_found n None x e = absurd cc
-said_found n (Some y) x e = cc
+line_again line rest l = ap (said Truncated) (line_cut line rest l)
 
 -- a line that a reader takes is spelled so, and its value is so
 abbrev pub Spells : {X : Type 0} → (List ℕ → Option X) → (X → List ℕ) → (X → Type 0) → Type 0
@@ -47,10 +44,10 @@ Spells {X = X} read spell P = (line : List ℕ) (x : X) → lacks 10 line ≡ tr
 pub field_found : {X : Type 0} (n : ℕ) (read : List ℕ → Option X) (spell : X → List ℕ) (P : X → Type 0) → Spells read spell P
     → (bytes : List ℕ) (p : X × List ℕ) → field_at n read bytes ≡ Ok p → (bytes ≡ ended (spell p.0) ++ p.1) × P p.0
 field_found {X = X} n read spell P spells bytes p e =
-    let a = bind_ok (line_at bytes) (λ l. said n (read l.0) >>= λ x. Ok (x, l.1)) p e in
-    let b = bind_ok (said n (read a.0.0)) (λ x. Ok (x, a.0.1)) p a.2 in
+    let a = bind_ok (line_at bytes) (λ l. said (BadLine n) (read l.0) >>= λ x. Ok (x, l.1)) p e in
+    let b = bind_ok (said (BadLine n) (read a.0.0)) (λ x. Ok (x, a.0.1)) p a.2 in
     let g = line_found bytes a.0 a.1 in
-    let s = spells a.0.0 b.0 g.1 (said_found n (read a.0.0) b.0 b.1) in
+    let s = spells a.0.0 b.0 g.1 (said_found (BadLine n) (read a.0.0) b.0 b.1) in
     let same : (b.0, a.0.1) ≡ p = cc in
     subst (λ (q : X × List ℕ). (bytes ≡ ended (spell q.0) ++ q.1) × P q.0) same (g.0 ∙ ap (λ (l : List ℕ). ended l ++ a.0.1) s.0, s.1)
 

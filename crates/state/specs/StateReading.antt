@@ -5,7 +5,7 @@ use Rattle.fixed.specs.declared.frac.Frac.{Frac}
 use Rattle.fixed.specs.declared.frac.Frac.TheVariants.{F24, F32, F40}
 use Rattle.line_text.specs.Parts.{◌>>=◌ as ◌|>◌, cut_at, after, natural_of, integer_of, three_at, name_of, without_spaces, without_end_spaces}
 use Rattle.line_text.specs.Columns.{is_residue_number}
-use Rattle.line_text.specs.Steps.{◌>>=◌}
+use Rattle.line_text.specs.Steps.{◌>>=◌, said}
 use Rattle.ring_box.specs.declared.vectors.Place3.{Place3}
 use Rattle.state.specs.StateText.{AtomView, StateView, head_line, atom_line, IsState, state_text}
 use Rattle.state.specs.declared.versions.Version.{Version}
@@ -63,23 +63,14 @@ atom_of line =
 -- ---- the lines from the top
 
 -- a line that is needed, and what stands after its LF
-abbrev pub needed : Option (List ℕ × List ℕ) → Result (List ℕ × List ℕ) StateFault
-needed None = Err Truncated
-needed (Some p) = Ok p
-
 abbrev pub line_at : List ℕ → Result (List ℕ × List ℕ) StateFault
-line_at bytes = needed (cut_at 10 bytes)
-
--- the value of the line with this number, which is its fault where there is none
-abbrev pub said : {X : Type 0} → ℕ → Option X → Result X StateFault
-said n None = Err (BadLine n)
-said n (Some x) = Ok x
+line_at bytes = said Truncated (cut_at 10 bytes)
 
 -- the value of the needed line with this number, and the bytes after it
 abbrev pub field_at : {X : Type 0} → ℕ → (List ℕ → Option X) → List ℕ → Result (X × List ℕ) StateFault
 field_at n read bytes = do
   line ← line_at bytes
-  x ← said n (read line.0)
+  x ← said (BadLine n) (read line.0)
   Ok (x, line.1)
 
 unfoldable pub atom_at : ℕ → List ℕ → Result (AtomView × List ℕ) StateFault
