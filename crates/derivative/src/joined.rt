@@ -1,23 +1,13 @@
 //! Trees put together of parts that may not have been built. They are taken apart here alone: so their callers hold no tree
 //! where a part is missing.
 
-ghost use Rattle.std.specs.Prelude.{◌≡◌, Ok, IfOk};
+ghost use Rattle.std.specs.Prelude.{◌≡◌, IfOk};
 ghost use Rattle.energy_program.specs.Tree as t;
 ghost use Rattle.energy_program.specs.Tree.{Tree, tree_of};
 
 use energy_program::{Built, Function, Operator, applied, binary, negated, select};
-use std::alloc::{AllocError, Allocator};
-
-/// Both values, if both are there.
-pub fn pair<S: Drop, T: Drop>(
-    first: Result<S, AllocError>,
-    second: Result<T, AllocError>,
-) -> Result<(S, T), AllocError>
-    ensures { IfOk result (λ both. (first ≡ Ok both.0) × (second ≡ Ok both.1)) }
-{
-    let first = first?;
-    Ok((first, second?))
-}
+use fallible::pair;
+use std::alloc::Allocator;
 
 /// The negative of a tree, if that was built.
 pub fn opposite<A: Allocator + Copy>(alloc: A, part: Built<A>) -> Built<A>

@@ -72,7 +72,7 @@ fn kept<A: Allocator + Copy>(
     Ok(left)
 }
 
-/// The same without the definitions that the body doesn't need.
+/// A program's body and definitions without the definitions that the body doesn't need, the others renumbered in order.
 pub fn pruned<A: Allocator + Copy>(alloc: A, parts: &Parts<A>) -> Result<Parts<A>, AllocError>
     ensures { IfOk result (λ p. parts_of p ≡ d.pruned (parts_of parts.now)) }
 {

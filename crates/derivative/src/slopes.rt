@@ -9,13 +9,13 @@ ghost use Rattle.derivative.specs.Written as w;
 ghost use Rattle.derivative.specs.Written.{IsFreeTable, is_free_given, is_writable, slope_tree, unless_free};
 ghost use Rattle.derivative.specs.Derive.{parts_of, with_all};
 
-use crate::joined::pair;
 use crate::moved::moved;
 use crate::parts::Parts;
 use crate::rows::{
     Slope, function_slope, negated_slope, operation_slope, power_slope, select_slope, varying, zero,
 };
 use energy_program::{Expr, Program};
+use fallible::pair;
 use fixed::{Frac, Fx};
 use std::alloc::{AllocError, Allocator};
 

@@ -12,7 +12,7 @@ use Rattle.expr.specs.Tokens.{Lexeme, Placed}
 use Rattle.expr.specs.Tokens as t
 use Rattle.expr.specs.Syntax.{Syntax, Arguments, Empty, One}
 use Rattle.expr.specs.Syntax as tree
-use Rattle.expr.specs.Parsing.{ReadingOf, Reading, SignOf, Sign, Beginning, Numeral, Word, Group, start, on_sign, sum_sign, product_sign, minus_sign, open_sign, close_sign, caret_sign, comma_sign, close, chain, chained, itself, operands, listed, listing, closed, arguments_by, called_by, name_by, atom_by, unary_by, whole_of, with_tokens, whole_sign, positive_whole, negative_whole, signed_by, signed_sign, or_bad, is_misplaced, grouped_by, unless_misplaced, grouped_at, exponent_by, exponent_at, powered, raised_by, raised_at, unary_at, term_at, expr_at}
+use Rattle.expr.specs.Parsing.{ReadingOf, Reading, SignOf, OperatorSign, Beginning, Numeral, Word, Group, start, on_sign, sum_sign, product_sign, minus_sign, open_sign, close_sign, caret_sign, comma_sign, close, chain, chained, itself, operands, listed, listing, closed, arguments_by, called_by, name_by, atom_by, unary_by, whole_of, with_tokens, whole_sign, positive_whole, negative_whole, signed_by, signed_sign, or_bad, is_misplaced, grouped_by, unless_misplaced, grouped_at, exponent_by, exponent_at, powered, raised_by, raised_at, unary_at, term_at, expr_at}
 use Rattle.line_text.proofs.StepLaws.{bind_ok}
 
 abbrev done : {A : Type 0} → A → Result A Refusal
@@ -44,12 +44,15 @@ comma_sign-token : (ts : List Placed) (o : ℕ) (rest : List Placed) → comma_s
 comma_sign-token ((t.Comma, at) ∷ ts) o rest e = ap suc (some_rest (at, ts) (o, rest) e)
 comma_sign-token _ o rest e = absurd cc
 
+-- a plus or a minus is one token
 pub sum_signs : IsSign sum_sign
 sum_signs = record { token = sum_sign-token }
 
+-- a star or a slash is one token
 pub product_signs : IsSign product_sign
 product_signs = record { token = product_sign-token }
 
+-- a comma is one token
 pub comma_signs : IsSign comma_sign
 comma_signs = record { token = comma_sign-token }
 
@@ -75,6 +78,7 @@ module _ {S X : Type 0} (sign : List Placed → SignOf S) (operand : List Placed
   fuel_none m left ts None e a = refl
   fuel_none m left ts (Some (o, rest)) e a = let h = signs.token ts o rest e in absurd (omega arith)
 
+  -- more fuel than tokens changes nothing
   pub fuel : (n m : ℕ) (left : X) (ts : List Placed) → length ts ≤ n → length ts ≤ m → chain sign operand join n left ts ≡ chain sign operand join m left ts
   unfolding chain
   fuel zero zero left ts a b = refl
@@ -123,6 +127,7 @@ module _ {S X : Type 0} (sign : List Placed → SignOf S) (operand : List Placed
   chain_keeps zero left ts x e = done_keeps left ts x e
   chain_keeps (suc n) left ts x e = sign_keeps n (chain_keeps n) left ts x (sign ts) refl e
 
+  -- a chain of operands takes a token at least
   pub chained_takes : (first : Syntax → X) → Takes (chained sign operand first join)
   unfolding chained
   chained_takes first = record {
@@ -292,9 +297,10 @@ unary_takes_by operand takes other ts x h (Some rest) m e =
     let z = ap length (done_rest (tree.Negated b.0.0) b.0.1 x b.2) in
     omega arith
 
-operands_take : (sign : List Placed → Sign) (operand : List Placed → Reading) → IsSign sign → Takes operand → Takes (operands sign operand)
+operands_take : (sign : List Placed → OperatorSign) (operand : List Placed → Reading) → IsSign sign → Takes operand → Takes (operands sign operand)
 operands_take sign operand signs takes = chained_takes sign operand tree.Binary signs takes itself
 
+-- a factor with its signs takes a token at least
 pub unary_takes : (end n : ℕ) → Takes (unary_at end n)
 unfolding unary_at
 unary_takes end zero = record { token = λ ts x e. absurd cc }
@@ -307,10 +313,12 @@ unary_takes end (suc n) =
           (λ h. powered_takes end n (atom_by end exprs ts (start ts)) ts x (λ y k. atom_takes end exprs inner ts y (start ts) refl k) h) (minus_sign ts) refl e;
     }
 
+-- a product takes a token at least
 pub term_takes : (end n : ℕ) → Takes (term_at end n)
 unfolding term_at
 term_takes end n = operands_take product_sign (unary_at end n) product_signs (unary_takes end n)
 
+-- a sum takes a token at least
 pub expr_takes : (end n : ℕ) → Takes (expr_at end n)
 unfolding expr_at
 expr_takes end n = operands_take sum_sign (term_at end n) sum_signs (term_takes end n)

@@ -3,32 +3,37 @@ use Rattle.std.proofs.Common.{◌≡◌, ℕ, ◌+◌, ◌<◌, Bool, true, fals
 use Rattle.std.proofs.lemmas.List.{append-nil, map-append, map_more}
 use Rattle.energy_program.specs.Faults.{Refusal, RepeatedDefinition, ReservedName}
 use Rattle.expr.specs.Definitions.{is_taken, is_given, checked, IsNew, AreNew}
-use Rattle.expr.specs.Syntax.{Definition, names_in}
-use Rattle.expr.proofs.Results.{err_is}
+use Rattle.expr.specs.Syntax.{Definition, defined_names}
+use Rattle.line_text.proofs.StepLaws.{same_err}
 
 module _ {X : Type 0} (f : X → Definition) (xs : List X) (i : ℕ) (d : X) (below : i < length xs) where
-  pub name_next : names_in (map f (drop i xs)) ≡ (f (get_or xs i d)).0 ∷ names_in (map f (drop (i + 1) xs))
+  pub name_next : defined_names (map f (drop i xs)) ≡ (f (get_or xs i d)).0 ∷ defined_names (map f (drop (i + 1) xs))
   name_next =
-      ap (λ (z : List X). names_in (map f z)) (drop-cons xs i d below)
-      ∙ ap (λ (z : ℕ). (f (get_or xs i d)).0 ∷ names_in (map f (drop z xs))) (sym (add-one i))
+      ap (λ (z : List X). defined_names (map f z)) (drop-cons xs i d below)
+      ∙ ap (λ (z : ℕ). (f (get_or xs i d)).0 ∷ defined_names (map f (drop z xs))) (sym (add-one i))
 
-  pub name_more : names_in (map f (take (i + 1) xs)) ≡ names_in (map f (take i xs)) ++ ((f (get_or xs i d)).0 ∷ [])
-  name_more = ap names_in (map_more f xs i d below) ∙ map-append (λ (e : Definition). e.0) (map f (take i xs)) (f (get_or xs i d) ∷ [])
+  -- the names of one definition more
+  pub name_more : defined_names (map f (take (i + 1) xs)) ≡ defined_names (map f (take i xs)) ++ ((f (get_or xs i d)).0 ∷ [])
+  name_more = ap defined_names (map_more f xs i d below) ∙ map-append (λ (e : Definition). e.0) (map f (take i xs)) (f (get_or xs i d) ∷ [])
 
 -- ---- the turns
 
+-- a name that means something already is refused
 pub refused_taken : (vs before names : List (List ℕ)) (w : List ℕ) (rest : List (List ℕ)) → names ≡ w ∷ rest → is_taken vs w ≡ true → checked vs before names ≡ Err (ReservedName w)
 unfolding checked
 refused_taken vs before names w rest e c = rw (e, c) refl
 
+-- a name that was given before is refused
 pub refused_given : (vs before names : List (List ℕ)) (w : List ℕ) (rest : List (List ℕ)) → names ≡ w ∷ rest → is_taken vs w ≡ false → is_given before w ≡ true → checked vs before names ≡ Err (RepeatedDefinition w)
 unfolding checked
 refused_given vs before names w rest e c d = rw (e, c, d) refl
 
+-- a new name is one of those that were given, and the rest is checked
 pub goes_on : (vs before names : List (List ℕ)) (w : List ℕ) (rest : List (List ℕ)) → names ≡ w ∷ rest → is_taken vs w ≡ false → is_given before w ≡ false → checked vs before names ≡ checked vs (before ++ (w ∷ [])) rest
 unfolding checked
 goes_on vs before names w rest e c d = rw (e, c, d) refl
 
+-- with no name left, those that were given are the answer
 pub all_checked : (vs before names : List (List ℕ)) → names ≡ [] → checked vs before names ≡ Ok before
 unfolding checked
 all_checked vs before names e = rw e refl
@@ -64,10 +69,12 @@ name_new vs before w names all ih true d t g e = absurd cc
 name_new vs before w names all ih false true t g e = absurd cc
 name_new vs before w names all ih false false t g e = (record { free = t; first = g }, ih all e)
 
+-- names that pass are new, and each once
 pub are_new : (vs before names : List (List ℕ)) → Checked vs before names
 are_new vs before [] all e = tt
 are_new vs before (w ∷ names) all e = name_new vs before w names all (are_new vs (before ++ (w ∷ [])) names) (is_taken vs w) (is_given before w) refl refl (sym (checked_is vs before w names) ∙ e)
 
+-- names that are new, and each once, pass
 pub new_checked : (vs before names : List (List ℕ)) → AreNew vs before names → checked vs before names ≡ Ok (before ++ names)
 unfolding checked
 new_checked vs before [] n = ap names_ok (sym (append-nil before))
@@ -85,15 +92,16 @@ Refused vs before names f = checked vs before names ≡ Err f → Why vs before 
 
 name_refused : (vs before : List (List ℕ)) (w : List ℕ) (names : List (List ℕ)) (f : Refusal) → Refused vs (before ++ (w ∷ [])) names f → (c d : Bool) → is_taken vs w ≡ c → is_given before w ≡ d
     → cond c (Err (ReservedName w)) (cond d (Err (RepeatedDefinition w)) (checked vs (before ++ (w ∷ [])) names)) ≡ Err f → Why vs before (w ∷ names) f
-name_refused vs before w names f ih true d t g e = taken w (record { front = []; after = names; parts = refl; new = tt }) t (err_is (ReservedName w) f e)
+name_refused vs before w names f ih true d t g e = taken w (record { front = []; after = names; parts = refl; new = tt }) t (same_err (ReservedName w) f e)
 name_refused vs before w names f ih false true t g e =
-    given w (record { front = []; after = names; parts = refl; new = tt }) t (ap (λ (z : List (List ℕ)). is_given z w) (append-nil before) ∙ g) (err_is (RepeatedDefinition w) f e)
+    given w (record { front = []; after = names; parts = refl; new = tt }) t (ap (λ (z : List (List ℕ)). is_given z w) (append-nil before) ∙ g) (same_err (RepeatedDefinition w) f e)
 name_refused vs before w names f ih false false t g e = behind vs before w names f (record { free = t; first = g }) (ih e)
 
 none_refused : (vs before : List (List ℕ)) (f : Refusal) → checked vs before [] ≡ Err f → ⊥
 unfolding checked
 none_refused vs before f e = absurd cc
 
+-- a name that is refused is the first that is not new
 pub refused : (vs before names : List (List ℕ)) (f : Refusal) → Refused vs before names f
 refused vs before [] f e = absurd (none_refused vs before f e)
 refused vs before (w ∷ names) f e = name_refused vs before w names f (refused vs (before ++ (w ∷ [])) names f) (is_taken vs w) (is_given before w) refl refl (sym (checked_is vs before w names) ∙ e)

@@ -19,8 +19,8 @@ use Rattle.expr.specs.Grammar as g
 use Rattle.expr.specs.Halting.{Halts, HaltsExpr, HaltsTerm, HaltsUnary, HaltsList}
 use Rattle.expr.specs.Halting as h
 use Rattle.expr.proofs.Sound.{RuleOf, Rule, Sound, Joins, Begins, Spells, unary_sound, term_sound, expr_sound, atom_sound, sums, products, commas, minus_is, open_is, caret_is, start_is}
-use Rattle.line_text.proofs.StepLaws.{Split, split}
-use Rattle.expr.proofs.Results.{some_is, err_is, err_as}
+use Rattle.line_text.proofs.StepLaws.{Split, split, same_err, err_as}
+use Rattle.std.proofs.lemmas.Option.{same_Some}
 
 abbrev Rest : Type 1
 Rest = List Placed → Type 0
@@ -78,6 +78,7 @@ module _ {S X : Type 0} (w : Refusal) (P : RuleOf X) (Q : Rule) (make : S → X 
   turns zero pre left ts p k = absurd cc
   turns (suc n) pre left ts p k = by_sign n (turns n) pre left ts p (sign ts) refl k
 
+  -- where a chain of operands is not read, the tokens stop within it
   pub chained_stops : (start : Syntax → X) → ((a : List Placed) (x : Syntax) → Q a x → P a (start x)) → ((ts : List Placed) → DQ ts → D ts) → Stops w D (chained sign operand start make)
   unfolding chained
   chained_stops start one first = record { halts = λ ts k. begins ts (split w (operand ts) (λ x. chain sign operand make (length x.1) (start x.0) x.1) k) }
@@ -89,7 +90,7 @@ module _ {S X : Type 0} (w : Refusal) (P : RuleOf X) (Q : Rule) (make : S → X 
           subst D (sym q.parts) (turns (length k.0.1) q.front (start k.0.0) k.0.1 (one q.front k.0.0 q.holds) k.2)
 
 same_rest : {S : Type 0} (o o' : S) (a b : List Placed) → ◌≡◌ {A = SignOf S} (Some (o, a)) (Some (o', b)) → a ≡ b
-same_rest {S} o o' a b e = ap (λ (z : S × List Placed). z.1) (some_is (o, a) (o', b) e)
+same_rest {S} o o' a b e = ap (λ (z : S × List Placed). z.1) (same_Some (o, a) (o', b) e)
 
 later_sum : (f : Refusal) (n : ℕ) (ts : List Placed) (o : Operator) (rest : List Placed) → sum_sign ts ≡ Some (o, rest) → (a : List Placed) (x : Syntax) → IsExpr n a x → HaltsTerm f n rest → HaltsExpr f n (a ++ ts)
 later_sum f n ((t.Plus, at) ∷ b) o rest e a x p q = h.sum at p (subst (HaltsTerm f n) (sym (same_rest op.Add o b rest e)) q)
@@ -107,8 +108,8 @@ later_argument f n _ o rest e a x p q = absurd cc
 
 close_err : (end : ℕ) (ts : List Placed) (f : Refusal) → IsOther f → close end ts ≡ Err f → ⊥
 close_err end ((t.Close, at) ∷ ts) f o e = absurd cc
-close_err end [] f o e = other (UnexpectedToken end) f (err_is (UnexpectedToken end) f e) o
-close_err end ((k, at) ∷ ts) f o e = other (UnexpectedToken at) f (err_is (UnexpectedToken at) f e) o
+close_err end [] f o e = other (UnexpectedToken end) f (same_err (UnexpectedToken end) f e) o
+close_err end ((k, at) ∷ ts) f o e = other (UnexpectedToken at) f (same_err (UnexpectedToken at) f e) o
 
 close_then : {X : Type 0} (f : Refusal) (r : Result (List Placed) Refusal) (x : X) → (r ≡ Err f → ⊥) → (r >>= λ z. pair x z) ≡ Err f → ⊥
 close_then f (Ok z) x never e = absurd cc
@@ -128,7 +129,7 @@ called_err : (w : List ℕ) (c : Callee) (xs : Arguments) (f : Refusal) → IsOt
 called_err w (takes.One g) (One x) f o e = absurd cc
 called_err w (takes.Two g) (Two x y) f o e = absurd cc
 called_err w takes.Three (Three x y z) f o e = absurd cc
-called_err w _ _ f o e = other (WrongArgumentCount w) f (err_is (WrongArgumentCount w) f e) o
+called_err w _ _ f o e = other (WrongArgumentCount w) f (same_err (WrongArgumentCount w) f e) o
 
 called_then : (f : Refusal) (r : Result Syntax Refusal) (rest : List Placed) → (r ≡ Err f → ⊥) → (r >>= λ z. pair z rest) ≡ Err f → ⊥
 called_then f (Ok z) rest never e = absurd cc
@@ -147,7 +148,7 @@ module _ (end : ℕ) (f : Refusal) (o : IsOther f) (n : ℕ) (inner : List Place
   arguments_halt ts (Some rest) e = absurd cc
 
   call_halts : (w : List ℕ) (at from : ℕ) (inside : List Placed) (c : Option Callee) → function_of w ≡ c → called_by end inner w inside c ≡ Err f → HaltsUnary f (suc n) ((t.Name w, at) ∷ (t.Open, from) ∷ inside)
-  call_halts w at from inside None s e = h.here (refused_halts f n w at from inside (is_left_out w) s refl (err_is _ f e))
+  call_halts w at from inside None s e = h.here (refused_halts f n w at from inside (is_left_out w) s refl (same_err _ f e))
   call_halts w at from inside (Some c) s e = go (split f (arguments_by end inner inside (close_sign inside)) (λ y. called w c y.0 >>= λ z. Ok (z, y.1)) e)
     where
       go : Split f (arguments_by end inner inside (close_sign inside)) (λ y. called w c y.0 >>= λ z. pair z y.1) → HaltsUnary f (suc n) ((t.Name w, at) ∷ (t.Open, from) ∷ inside)
@@ -162,7 +163,7 @@ module _ (end : ℕ) (f : Refusal) (o : IsOther f) (n : ℕ) (inner : List Place
       subst (HaltsUnary f (suc n)) (sym whole) (call_halts w b.at p.at inside (function_of w) refl e)
 
   atom_halts : (ts : List Placed) (b : Option (Beginning × List Placed)) → start ts ≡ b → atom_by end inner ts b ≡ Err f → HaltsUnary f (suc n) ts
-  atom_halts ts None s e = absurd (other (UnexpectedToken (offset end ts)) f (err_is (UnexpectedToken (offset end ts)) f e) o)
+  atom_halts ts None s e = absurd (other (UnexpectedToken (offset end ts)) f (same_err (UnexpectedToken (offset end ts)) f e) o)
   atom_halts ts (Some (Numeral z, r)) s e = absurd cc
   atom_halts ts (Some (Word w, r)) s e = name_halts ts w r (open_sign r) (start_is ts (Word w) r s) refl e
   atom_halts ts (Some (Group, r)) s e =
@@ -172,7 +173,7 @@ module _ (end : ℕ) (f : Refusal) (o : IsOther f) (n : ℕ) (inner : List Place
 -- ---- exponents
 
 bad_err : (at : ℕ) (s : SignOf ℤ) (f : Refusal) → IsOther f → or_bad at s ≡ Err f → ⊥
-bad_err at None f o e = other (BadExponent at) f (err_is (BadExponent at) f e) o
+bad_err at None f o e = other (BadExponent at) f (same_err (BadExponent at) f e) o
 bad_err at (Some x) f o e = absurd cc
 
 grouped_err : (end at : ℕ) (ts : List Placed) (f : Refusal) → IsOther f → grouped_by end at ts ≡ Err f → ⊥
@@ -191,7 +192,7 @@ unfolding grouped_at
 grouped_halts end zero at ts f o e = by_test (awaits_operand ts) refl e
   where
     by_test : (c : Bool) → awaits_operand ts ≡ c → unless_misplaced c (grouped_by end at ts) ≡ Err f → Halts f zero ts × (f ≡ TooLarge)
-    by_test true a e = (awaited_halts f ts a (err_is TooLarge f e), sym (err_is TooLarge f e))
+    by_test true a e = (awaited_halts f ts a (same_err TooLarge f e), sym (same_err TooLarge f e))
     by_test false a e = absurd (grouped_err end at ts f o e)
 grouped_halts end (suc n) at ts f o e = absurd (grouped_err end at ts f o e)
 
@@ -252,7 +253,7 @@ expr_stops end f n s = chained_stops f (IsExpr n) (IsTerm n) tree.Binary (HaltsE
 
 unary_stops : (end : ℕ) (f : Refusal) → IsOther f → (n : ℕ) → Stops f (HaltsUnary f n) (unary_at end n)
 unfolding unary_at expr_at term_at
-unary_stops end f o zero = record { halts = λ ts e. misplaced_halts end f o ts (err_is (misplaced end ts) f e) }
+unary_stops end f o zero = record { halts = λ ts e. misplaced_halts end f o ts (same_err (misplaced end ts) f e) }
 unary_stops end f o (suc n) =
     let below = unary_stops end f o n in
     let s = expr_stops end f n below in
@@ -262,6 +263,7 @@ unary_stops end f o (suc n) =
           (λ j. atom_halts end f o n (expr_at end n) (expr_sound end n) s ts (start ts) refl j) k) (minus_sign ts) refl e;
     }
 
+-- where a sum is not read, the tokens stop within it
 pub expr_halts : (end : ℕ) (f : Refusal) → IsOther f → (ts : List Placed) → expr_at end 65 ts ≡ Err f → HaltsExpr f 65 ts
 expr_halts end f o ts e = (expr_stops end f 65 (unary_stops end f o 65)).halts ts e
 

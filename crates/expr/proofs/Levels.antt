@@ -11,28 +11,32 @@ use Rattle.expr.specs.declared.tokens.Token.{Token}
 use Rattle.expr.specs.Tokens.{Placed, placed}
 use Rattle.expr.specs.Syntax.{Syntax, Arguments, One, with_argument}
 use Rattle.expr.specs.Syntax as tree
-use Rattle.expr.specs.Parsing.{ReadingOf, Closes, beside, close, closed, power_at, call_at, list_at, listed, comma_sign, Reading, Beginning, Word, Group, start, misplaced, sum_sign, product_sign, minus_sign, open_sign, chain, chained, joined, atom_by, unary_by, name_by, unary_at, term_at, expr_at, closed_at, atom_at}
+use Rattle.expr.specs.Parsing.{ReadingOf, OperatorSign, Closes, beside, close, closed, power_at, call_at, list_at, listed, comma_sign, Reading, Beginning, Word, Group, start, misplaced, sum_sign, product_sign, minus_sign, open_sign, chain, chained, joined, atom_by, unary_by, name_by, unary_at, term_at, expr_at, closed_at, atom_at}
 use Rattle.fallible.proofs.FailureLaws.{fails_as}
 use Rattle.energy_program.proofs.FaultLaws.{fails_same, fails_then}
-use Rattle.expr.proofs.Results.{ok_is, err_as}
-use Rattle.expr.proofs.Chain.{turn, turn_fails, turn_ends, sum_signs, product_signs, comma_signs, unary_takes, term_takes, expr_takes}
+use Rattle.line_text.proofs.StepLaws.{same_ok, err_as}
+use Rattle.expr.proofs.Chain.{IsSign, Takes, turn, turn_fails, turn_ends, comma_signs, expr_takes}
 
 -- a call's result gives each value that is equal
 pub gives_same : {C X Y : Type 0} (view : X → Y) (r : Result X (Failure (ExprFault C))) (s u : Result Y Refusal) → u ≡ s → Gives view r s → Gives view r u
 gives_same view r s u same h = rw same h
 
+-- a tree that was read, and the tokens behind it
 abbrev pub reading : Syntax → List Placed → Reading
 reading e rest = Ok (e, rest)
 
+-- an atom goes by its first token
 pub atom_start : (end n : ℕ) (ts : List Placed) (x : Option (Beginning × List Placed)) → start ts ≡ x → atom_at end n ts ≡ atom_by end (expr_at end n) ts x
 unfolding atom_at
 atom_start end n ts x e = ap (atom_by end (expr_at end n) ts) e
 
+-- on no level nothing is read
 pub unary_none_left : (end n : ℕ) (ts : List Placed) → n ≡ 0 → unary_at end n ts ≡ Err (misplaced end ts)
 unfolding unary_at
 unary_none_left end zero ts e = refl
 unary_none_left end (suc n) ts e = absurd (omega arith)
 
+-- a factor with its signs goes by whether a minus stands first
 pub unary_is : (end n : ℕ) (ts : List Placed) → unary_at end (suc n) ts ≡ unary_by (unary_at end n) (power_at end n ts) (minus_sign ts)
 unfolding unary_at power_at atom_at expr_at term_at
 unary_is end n ts = refl
@@ -40,34 +44,42 @@ unary_is end n ts = refl
 less_one : (n k : ℕ) → n ≡ suc k → n - 1 ≡ k
 less_one n k e = omega arith
 
+-- a factor without a minus is a power, one level down
 pub unary_none : (end n : ℕ) (ts : List Placed) → 0 < n → minus_sign ts ≡ None → unary_at end n ts ≡ power_at end (n - 1) ts
 unary_none end zero ts d e = absurd (omega arith)
 unary_none end (suc n) ts d e = rw (less_one (suc n) n refl) (unary_is end n ts ∙ ap (unary_by (unary_at end n) (power_at end n ts)) e)
 
+-- behind a minus the factor is read one level down
 pub unary_minus : (end n : ℕ) (ts rest : List Placed) → 0 < n → minus_sign ts ≡ Some rest → unary_at end n ts ≡ (unary_at end (n - 1) rest >>= λ x. Ok (tree.Negated x.0, x.1))
 unary_minus end zero ts rest d e = absurd (omega arith)
 unary_minus end (suc n) ts rest d e = rw (less_one (suc n) n refl) (unary_is end n ts ∙ ap (unary_by (unary_at end n) (power_at end n ts)) e)
 
+-- a factor behind a minus that isn't read is the answer
 pub minus_fails : {C : Type 0} (end n : ℕ) (ts rest : List Placed) (e : Failure (ExprFault C)) → 0 < n → minus_sign ts ≡ Some rest → Fails e (unary_at end (n - 1) rest) → Fails e (unary_at end n ts)
 minus_fails end n ts rest e d f h = fails_same e _ (unary_at end n ts) (unary_minus end n ts rest d f) (fails_then e (unary_at end (n - 1) rest) (λ x. Ok (tree.Negated x.0, x.1)) h)
 
+-- a factor that is read behind a minus is negated
 pub minus_reads : (end n : ℕ) (ts rest : List Placed) (x : Syntax) (after : List Placed) → 0 < n → minus_sign ts ≡ Some rest → unary_at end (n - 1) rest ≡ Ok (x, after) → unary_at end n ts ≡ Ok (tree.Negated x, after)
 minus_reads end n ts rest x after d f h = unary_minus end n ts rest d f ∙ rw h refl
 
 -- ---- the loops
 
+-- behind the first factor the loop over factors is still to run
 pub term_starts : (end n : ℕ) (ts : List Placed) (x : Syntax) (rest : List Placed) → unary_at end n ts ≡ Ok (x, rest) → term_at end n ts ≡ chain product_sign (unary_at end n) tree.Binary (length rest) x rest
 unfolding term_at chained
 term_starts end n ts x rest e = rw e refl
 
+-- behind the first product the loop over products is still to run
 pub expr_starts : (end n : ℕ) (ts : List Placed) (x : Syntax) (rest : List Placed) → term_at end n ts ≡ Ok (x, rest) → expr_at end n ts ≡ chain sum_sign (term_at end n) tree.Binary (length rest) x rest
 unfolding expr_at chained
 expr_starts end n ts x rest e = rw e refl
 
+-- a first factor that isn't read is the answer of the product
 pub term_fails : {C : Type 0} (end n : ℕ) (ts : List Placed) (e : Failure (ExprFault C)) → Fails e (unary_at end n ts) → Fails e (term_at end n ts)
 unfolding term_at chained
 term_fails end n ts e h = fails_then e (unary_at end n ts) (λ x. chain product_sign (unary_at end n) tree.Binary (length x.1) x.0 x.1) h
 
+-- a first product that isn't read is the answer of the sum
 pub expr_fails : {C : Type 0} (end n : ℕ) (ts : List Placed) (e : Failure (ExprFault C)) → Fails e (term_at end n ts) → Fails e (expr_at end n ts)
 unfolding expr_at chained
 expr_fails end n ts e h = fails_then e (term_at end n ts) (λ x. chain sum_sign (term_at end n) tree.Binary (length x.1) x.0 x.1) h
@@ -75,7 +87,7 @@ expr_fails end n ts e h = fails_then e (term_at end n ts) (λ x. chain sum_sign 
 -- what is joined was read
 joined_ok : (o : Operator) (left : Syntax) (r : Reading) (z : Syntax) (after : List Placed) → joined o left r ≡ Ok (z, after) → (y : Syntax) × (r ≡ Ok (y, after)) × (z ≡ tree.Binary o left y)
 joined_ok o left (Ok x) z after e =
-    let k = ok_is (tree.Binary o left x.0, x.1) (z, after) e in
+    let k = same_ok (tree.Binary o left x.0, x.1) (z, after) e in
     (x.0, ap (λ (q : Syntax × List Placed). reading x.0 q.1) k, ap (λ (q : Syntax × List Placed). q.0) (sym k))
 joined_ok o left (Err f) z after e = absurd cc
 
@@ -83,56 +95,35 @@ joined_err : (o : Operator) (left : Syntax) (r : Reading) (f : Refusal) → join
 joined_err o left (Ok x) f e = absurd cc
 joined_err o left (Err k) f e = e
 
-pub term_turn : (end n : ℕ) (left : Syntax) (ts : List Placed) (o : Operator) (rest : List Placed) (z : Syntax) (after : List Placed) → product_sign ts ≡ Some (o, rest) → joined o left (unary_at end n rest) ≡ Ok (z, after)
-    → chain product_sign (unary_at end n) tree.Binary (length ts) left ts ≡ chain product_sign (unary_at end n) tree.Binary (length after) z after
-term_turn end n left ts o rest z after s e =
-    let j = joined_ok o left (unary_at end n rest) z after e in
-    turn product_sign (unary_at end n) tree.Binary product_signs (unary_takes end n) left ts o rest j.0 after s j.1
-    ∙ ap (λ (y : Syntax). chain product_sign (unary_at end n) tree.Binary (length after) y after) (sym j.2)
-
-pub expr_turn : (end n : ℕ) (left : Syntax) (ts : List Placed) (o : Operator) (rest : List Placed) (z : Syntax) (after : List Placed) → sum_sign ts ≡ Some (o, rest) → joined o left (term_at end n rest) ≡ Ok (z, after)
-    → chain sum_sign (term_at end n) tree.Binary (length ts) left ts ≡ chain sum_sign (term_at end n) tree.Binary (length after) z after
-expr_turn end n left ts o rest z after s e =
-    let j = joined_ok o left (term_at end n rest) z after e in
-    turn sum_sign (term_at end n) tree.Binary sum_signs (term_takes end n) left ts o rest j.0 after s j.1
-    ∙ ap (λ (y : Syntax). chain sum_sign (term_at end n) tree.Binary (length after) y after) (sym j.2)
-
 -- a fault of an operand is the loop's
 chain_fails : {C X : Type 0} (e : Failure (ExprFault C)) (operand : Reading) (whole : ReadingOf X) → ((f : Refusal) → operand ≡ Err f → whole ≡ Err f) → Fails e operand → Fails e whole
 chain_fails e operand whole k h = fails_as refusal_of e operand whole k h
 
-pub term_turn_fails : {C : Type 0} (end n : ℕ) (left : Syntax) (ts : List Placed) (o : Operator) (rest : List Placed) (e : Failure (ExprFault C)) → product_sign ts ≡ Some (o, rest) → Fails e (joined o left (unary_at end n rest))
-    → Fails e (chain product_sign (unary_at end n) tree.Binary (length ts) left ts)
-term_turn_fails end n left ts o rest e s h =
-    chain_fails e (joined o left (unary_at end n rest)) _
-    (λ f k. turn_fails product_sign (unary_at end n) tree.Binary product_signs (unary_takes end n) left ts o rest f s (joined_err o left (unary_at end n rest) f k)) h
+module _ (sign : List Placed → OperatorSign) (operand : List Placed → Reading) (signs : IsSign sign) (takes : Takes operand) where
+  -- the loop goes on behind the next operand
+  pub loop_turn : (left : Syntax) (ts : List Placed) (o : Operator) (rest : List Placed) (z : Syntax) (after : List Placed) → sign ts ≡ Some (o, rest) → joined o left (operand rest) ≡ Ok (z, after)
+      → chain sign operand tree.Binary (length ts) left ts ≡ chain sign operand tree.Binary (length after) z after
+  loop_turn left ts o rest z after s e =
+      let j = joined_ok o left (operand rest) z after e in
+      turn sign operand tree.Binary signs takes left ts o rest j.0 after s j.1 ∙ ap (λ (y : Syntax). chain sign operand tree.Binary (length after) y after) (sym j.2)
 
-pub expr_turn_fails : {C : Type 0} (end n : ℕ) (left : Syntax) (ts : List Placed) (o : Operator) (rest : List Placed) (e : Failure (ExprFault C)) → sum_sign ts ≡ Some (o, rest) → Fails e (joined o left (term_at end n rest))
-    → Fails e (chain sum_sign (term_at end n) tree.Binary (length ts) left ts)
-expr_turn_fails end n left ts o rest e s h =
-    chain_fails e (joined o left (term_at end n rest)) _
-    (λ f k. turn_fails sum_sign (term_at end n) tree.Binary sum_signs (term_takes end n) left ts o rest f s (joined_err o left (term_at end n rest) f k)) h
+  -- a next operand that isn't read is the answer of the loop
+  pub loop_fails : {C : Type 0} (left : Syntax) (ts : List Placed) (o : Operator) (rest : List Placed) (e : Failure (ExprFault C)) → sign ts ≡ Some (o, rest) → Fails e (joined o left (operand rest))
+      → Fails e (chain sign operand tree.Binary (length ts) left ts)
+  loop_fails left ts o rest e s h =
+      chain_fails e (joined o left (operand rest)) _ (λ f k. turn_fails sign operand tree.Binary signs takes left ts o rest f s (joined_err o left (operand rest) f k)) h
 
-pub term_ends : (end n : ℕ) (left : Syntax) (ts : List Placed) → product_sign ts ≡ None → chain product_sign (unary_at end n) tree.Binary (length ts) left ts ≡ Ok (left, ts)
-term_ends end n left ts = turn_ends product_sign (unary_at end n) tree.Binary product_signs (unary_takes end n) (length ts) left ts
+  -- with no sign next, what was read is the whole
+  pub loop_ends : (left : Syntax) (ts : List Placed) → sign ts ≡ None → chain sign operand tree.Binary (length ts) left ts ≡ Ok (left, ts)
+  loop_ends left ts = turn_ends sign operand tree.Binary signs takes (length ts) left ts
 
-pub expr_ends : (end n : ℕ) (left : Syntax) (ts : List Placed) → sum_sign ts ≡ None → chain sum_sign (term_at end n) tree.Binary (length ts) left ts ≡ Ok (left, ts)
-expr_ends end n left ts = turn_ends sum_sign (term_at end n) tree.Binary sum_signs (term_takes end n) (length ts) left ts
-
--- each turn leaves fewer tokens
-pub term_less : (end n : ℕ) (left : Syntax) (ts : List Placed) (o : Operator) (rest : List Placed) (z : Syntax) (after : List Placed) → product_sign ts ≡ Some (o, rest) → joined o left (unary_at end n rest) ≡ Ok (z, after) → length after < length ts
-term_less end n left ts o rest z after s e =
-    let j = joined_ok o left (unary_at end n rest) z after e in
-    let p = product_signs.token ts o rest s in
-    let q = (unary_takes end n).token rest (j.0, after) j.1 in
-    omega arith
-
-pub expr_less : (end n : ℕ) (left : Syntax) (ts : List Placed) (o : Operator) (rest : List Placed) (z : Syntax) (after : List Placed) → sum_sign ts ≡ Some (o, rest) → joined o left (term_at end n rest) ≡ Ok (z, after) → length after < length ts
-expr_less end n left ts o rest z after s e =
-    let j = joined_ok o left (term_at end n rest) z after e in
-    let p = sum_signs.token ts o rest s in
-    let q = (term_takes end n).token rest (j.0, after) j.1 in
-    omega arith
+  -- each turn leaves fewer tokens
+  pub loop_less : (left : Syntax) (ts : List Placed) (o : Operator) (rest : List Placed) (z : Syntax) (after : List Placed) → sign ts ≡ Some (o, rest) → joined o left (operand rest) ≡ Ok (z, after) → length after < length ts
+  loop_less left ts o rest z after s e =
+      let j = joined_ok o left (operand rest) z after e in
+      let p = signs.token ts o rest s in
+      let q = takes.token rest (j.0, after) j.1 in
+      omega arith
 
 -- ---- atoms
 
@@ -140,13 +131,16 @@ expr_less end n left ts o rest z after s e =
 pub started : {A : Type 0} (ts : List Placed) (begins : A → Beginning) (a b : A) (rest : List Placed) → start ts ≡ Some (begins a, rest) → a ≡ b → start ts ≡ Some (begins b, rest)
 started ts begins a b rest e same = e ∙ ap (λ x. Some (begins x, rest)) same
 
+-- a parenthesis that opens begins a group
 pub atom_group : (end n : ℕ) (ts rest : List Placed) → start ts ≡ Some (Group, rest) → atom_at end n ts ≡ closed_at end n rest
 unfolding closed_at
 atom_group end n ts rest f = atom_start end n ts _ f
 
+-- a word without a parenthesis behind it is a name
 pub atom_name : (end n : ℕ) (ts : List Placed) (w : List ℕ) (rest : List Placed) → start ts ≡ Some (Word w, rest) → open_sign rest ≡ None → atom_at end n ts ≡ Ok (tree.Name w, rest)
 atom_name end n ts w rest f o = atom_start end n ts _ f ∙ ap (name_by end (expr_at end n) w rest) o
 
+-- a word with a parenthesis behind it is a call
 pub atom_call : (end n : ℕ) (ts : List Placed) (w : List ℕ) (rest inside : List Placed) → start ts ≡ Some (Word w, rest) → open_sign rest ≡ Some inside → atom_at end n ts ≡ call_at end n w inside
 unfolding call_at
 atom_call end n ts w rest inside f o = atom_start end n ts _ f ∙ ap (name_by end (expr_at end n) w rest) o
@@ -162,7 +156,7 @@ with_view view y = Ok (view y.0, y.1)
 
 closed_by : {A T X : Type 0} (view : T → X) (x : T) (after : Result (List Placed) Refusal) (result : Result (T × Bor (List Token)) (Failure (ExprFault A))) → Gives (shown (λ (y : T). y)) result (beside x after)
     → Gives (shown view) result (after >>= λ rest. with_view view (x, rest))
-closed_by view x (Ok rest) (Ok y) h = let same = ok_is (x, rest) (shown (λ z. z) y) h in ap (with_view view) same
+closed_by view x (Ok rest) (Ok y) h = let same = same_ok (x, rest) (shown (λ z. z) y) h in ap (with_view view) same
 closed_by view x (Err f) (Ok y) h = absurd cc
 closed_by view x (Ok rest) (Err (Refused f)) h = absurd cc
 closed_by view x (Err f) (Err (Refused k)) h = err_as f (refusal_of k) h
@@ -177,24 +171,21 @@ closing_gives view end inner ts (Err e) result h k = rw h (fails_then e (inner t
 
 -- ---- arguments
 
+-- behind the first argument the loop over arguments is still to run
 pub list_starts : (end n : ℕ) (ts : List Placed) (x : Syntax) (rest : List Placed) → expr_at end n ts ≡ Ok (x, rest) → list_at end n ts ≡ chain comma_sign (expr_at end n) listed (length rest) (One x) rest
 unfolding list_at chained
 list_starts end n ts x rest e = rw e refl
 
+-- a first argument that isn't read is the answer of the list
 pub list_fails : {C : Type 0} (end n : ℕ) (ts : List Placed) (e : Failure (ExprFault C)) → Fails e (expr_at end n ts) → Fails e (list_at end n ts)
 unfolding list_at chained
 list_fails end n ts e h = fails_then e (expr_at end n ts) (λ x. chain comma_sign (expr_at end n) listed (length x.1) (One x.0) x.1) h
 
-pub list_turn : (end n : ℕ) (left : Arguments) (ts : List Placed) (at : ℕ) (rest : List Placed) (y : Syntax) (after : List Placed) → comma_sign ts ≡ Some (at, rest) → expr_at end n rest ≡ Ok (y, after)
-    → chain comma_sign (expr_at end n) listed (length ts) left ts ≡ chain comma_sign (expr_at end n) listed (length after) (with_argument left y) after
-list_turn end n = turn comma_sign (expr_at end n) listed comma_signs (expr_takes end n)
-
+-- a next argument that isn't read is the answer of the loop
 pub list_turn_fails : {C : Type 0} (end n : ℕ) (left : Arguments) (ts : List Placed) (at : ℕ) (rest : List Placed) (e : Failure (ExprFault C)) → comma_sign ts ≡ Some (at, rest) → Fails e (expr_at end n rest)
     → Fails e (chain comma_sign (expr_at end n) listed (length ts) left ts)
 list_turn_fails end n left ts at rest e s h = chain_fails e (expr_at end n rest) _ (λ f. turn_fails comma_sign (expr_at end n) listed comma_signs (expr_takes end n) left ts at rest f s) h
 
-pub list_ends : (end n : ℕ) (left : Arguments) (ts : List Placed) → comma_sign ts ≡ None → chain comma_sign (expr_at end n) listed (length ts) left ts ≡ Ok (left, ts)
-list_ends end n left ts = turn_ends comma_sign (expr_at end n) listed comma_signs (expr_takes end n) (length ts) left ts
-
+-- an argument that is read takes a token at least
 pub list_less : (end n : ℕ) (ts : List Placed) (at : ℕ) (rest : List Placed) (y : Syntax) (after : List Placed) → comma_sign ts ≡ Some (at, rest) → expr_at end n rest ≡ Ok (y, after) → length after < length ts
 list_less end n ts at rest y after s e = let p = comma_signs.token ts at rest s in let q = (expr_takes end n).token rest (y, after) e in omega arith

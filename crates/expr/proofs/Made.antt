@@ -15,9 +15,11 @@ use Rattle.expr.specs.Syntax.{Syntax}
 use Rattle.expr.specs.Syntax as s
 use Rattle.expr.specs.Uses.{Grows, GrowsTwo, GrowsThree, resolved}
 
+-- a tree in a block of its own, or why there is none
 abbrev pub Part : Type 0 → Type 0
 Part A = Result (Box (code.Expr A) A) (Failure (ExprFault A))
 
+-- the tree that the block holds
 abbrev pub part_tree : {A : Type 0} → Box (code.Expr A) A → Tree
 part_tree part = tree_of part.value
 
@@ -84,15 +86,18 @@ module _ {A : Type 0} (vs : List (List ℕ)) (i : ℕ) (ws : List (List ℕ)) (w
   unfolding resolved
   negated part a h k e = rw e (grows t.Negated part result (resolved vs i ws a) h k)
 
+  -- an operation's tree is made of the trees of its parts
   pub binary : (left right : Part A) (o : Operator) (a b : Syntax) → GrowsTwo (t.Binary o) left right result → Gives part_tree left (resolved vs i ws a) → Gives part_tree right (resolved vs i ws b) → whole ≡ s.Binary o a b
       → Gives part_tree result (resolved vs i ws whole)
   unfolding resolved
   binary left right o a b h k l e = rw e (grows_two (t.Binary o) left right result (resolved vs i ws a) (resolved vs i ws b) h k l)
 
+  -- a function's tree is made of the tree of its part
   pub applied : (part : Part A) (f : Function) (a : Syntax) → Grows (t.Applied f) part result → Gives part_tree part (resolved vs i ws a) → whole ≡ s.Applied f a → Gives part_tree result (resolved vs i ws whole)
   unfolding resolved
   applied part f a h k e = rw e (grows (t.Applied f) part result (resolved vs i ws a) h k)
 
+  -- a choice's tree is made of the trees of its three parts
   pub select : (one two three : Part A) (c a b : Syntax) → GrowsThree t.Select one two three result → Gives part_tree one (resolved vs i ws c) → Gives part_tree two (resolved vs i ws a) → Gives part_tree three (resolved vs i ws b)
       → whole ≡ s.Select c a b → Gives part_tree result (resolved vs i ws whole)
   unfolding resolved

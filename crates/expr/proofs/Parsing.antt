@@ -13,12 +13,12 @@ use Rattle.energy_program.specs.declared.programs.Program.{Program}
 use Rattle.line_text.specs.Steps.{◌>>=◌}
 use Rattle.energy_program.specs.Faults.{Refusal, BadCharacter, BadNumber, UnexpectedToken, UnknownName, WrongArgumentCount, BadExponent, NumberRange, RepeatedDefinition, ReservedName, TooLarge, LeftOutFunction, refusal_of, Gives}
 use Rattle.expr.specs.Tokens.{Placed}
-use Rattle.expr.specs.Syntax.{Syntax, Definition, Source, names_in}
+use Rattle.expr.specs.Syntax.{Syntax, Definition, Source, defined_names}
 use Rattle.expr.specs.Syntax as s
 use Rattle.energy_program.specs.Programs.{program_tree, Trees, trees_of}
 use Rattle.energy_program.specs.Tree.{Tree, substituted}
 use Rattle.energy_program.specs.Tree as t
-use Rattle.expr.specs.Uses.{used, used_later, resolved, all_resolved, in_place, trees, meaning}
+use Rattle.expr.specs.Uses.{used, used_later, resolved, all_resolved, in_place, trees, source_meaning}
 use Rattle.energy_program.specs.Names.{input_of}
 use Rattle.expr.specs.Lexing.{Tokens, tokens_of}
 use Rattle.expr.specs.Definitions.{checked, number_from}
@@ -29,8 +29,7 @@ use Rattle.energy_program.proofs.FaultLaws.{fails_then}
 use Rattle.expr.proofs.Programs.{Is, source_sound, source_complete, source_halts, source_halting}
 use Rattle.expr.proofs.TextLemmas.{text_sound, text_complete}
 use Rattle.expr.proofs.Wrong.{text_wrong}
-use Rattle.line_text.proofs.StepLaws.{bind_ok, Split, split}
-use Rattle.expr.proofs.Results.{ok_is, err_is, err_as}
+use Rattle.line_text.proofs.StepLaws.{bind_ok, Split, split, same_ok, same_err, err_as}
 
 -- ---- the steps of reading
 
@@ -41,7 +40,7 @@ abbrev of_names : {X : Type 0} → Last X → Source → Result (List (List ℕ)
 of_names last source r = r >>= λ names. last source
 
 abbrev of_source : {X : Type 0} → Last X → List (List ℕ) → Result Source Refusal → Result X Refusal
-of_source last vs r = r >>= λ source. of_names last source (checked vs [] (names_in source.1))
+of_source last vs r = r >>= λ source. of_names last source (checked vs [] (defined_names source.1))
 
 abbrev of_few : {X : Type 0} → Last X → List (List ℕ) → ℕ → Result (List Placed) Refusal → Result X Refusal
 of_few last vs end r = r >>= λ few. of_source last vs (source_at end few)
@@ -57,14 +56,14 @@ trees_is : (bits : ℕ) (vs : List (List ℕ)) (text : List ℕ) → trees_in bi
 unfolding trees_in
 trees_is bits vs text = refl
 
-program_is : (bits : ℕ) (vs : List (List ℕ)) (text : List ℕ) → program_of bits vs text ≡ (tokens_of bits text >>= of_tokens (meaning vs) vs (length text))
-unfolding program_of meaning
+program_is : (bits : ℕ) (vs : List (List ℕ)) (text : List ℕ) → program_of bits vs text ≡ (tokens_of bits text >>= of_tokens (source_meaning vs) vs (length text))
+unfolding program_of source_meaning
 program_is bits vs text =
     ap in_place (trees_is bits vs text)
-    ∙ bind_then (tokens_of bits text) (of_tokens (trees vs) vs (length text)) placed (of_tokens (meaning vs) vs (length text))
-    (λ ts. bind_then (limited (ltb 4096 (length ts)) ts) (λ few. of_source (trees vs) vs (source_at (length text) few)) placed (λ few. of_source (meaning vs) vs (source_at (length text) few))
-    (λ few. bind_then (source_at (length text) few) (λ source. of_names (trees vs) source (checked vs [] (names_in source.1))) placed (λ source. of_names (meaning vs) source (checked vs [] (names_in source.1)))
-    (λ source. bind_then (checked vs [] (names_in source.1)) (λ names. trees vs source) placed (λ names. meaning vs source) (λ names. refl))))
+    ∙ bind_then (tokens_of bits text) (of_tokens (trees vs) vs (length text)) placed (of_tokens (source_meaning vs) vs (length text))
+    (λ ts. bind_then (limited (ltb 4096 (length ts)) ts) (λ few. of_source (trees vs) vs (source_at (length text) few)) placed (λ few. of_source (source_meaning vs) vs (source_at (length text) few))
+    (λ few. bind_then (source_at (length text) few) (λ source. of_names (trees vs) source (checked vs [] (defined_names source.1))) placed (λ source. of_names (source_meaning vs) source (checked vs [] (defined_names source.1)))
+    (λ source. bind_then (checked vs [] (defined_names source.1)) (λ names. trees vs source) placed (λ names. source_meaning vs source) (λ names. refl))))
   where
     placed : Trees → Result Tree Refusal
     placed t = Ok (substituted t.0 t.1)
@@ -77,7 +76,7 @@ tokens_read bits vs text ts t few =
     ∙ ap (λ (c : Bool). of_few (trees vs) vs (length text) (limited c ts)) (le-ltb 4096 (length ts) few)
 
 -- a source with new names is read as its trees
-pub source_read : (vs : List (List ℕ)) (source : Source) (all : List (List ℕ)) → checked vs [] (names_in source.1) ≡ Ok all → trees_of_source vs source ≡ trees vs source
+pub source_read : (vs : List (List ℕ)) (source : Source) (all : List (List ℕ)) → checked vs [] (defined_names source.1) ≡ Ok all → trees_of_source vs source ≡ trees vs source
 source_read vs source all h = ap (of_names (trees vs) source) h
 
 -- the program's trees say its tree
@@ -88,21 +87,21 @@ in_place_gives bits vs text (Err e) h = fails_then e (trees_in bits vs text) (λ
 
 limited_ok : (c : Bool) (ts few : List Placed) → limited c ts ≡ Ok few → (c ≡ false) × (ts ≡ few)
 limited_ok true ts few e = absurd cc
-limited_ok false ts few e = (refl, ok_is ts few e)
+limited_ok false ts few e = (refl, same_ok ts few e)
 
 limited_err : (c : Bool) (ts : List Placed) (f : Refusal) → limited c ts ≡ Err f → (c ≡ true) × (TooLarge ≡ f)
-limited_err true ts f e = (refl, err_is TooLarge f e)
+limited_err true ts f e = (refl, same_err TooLarge f e)
 limited_err false ts f e = absurd cc
 
 -- ---- what is read, the text says
 
 found : (bits : ℕ) (vs : List (List ℕ)) (text : List ℕ) (e : Tree) → program_of bits vs text ≡ Ok e → IsEnergy bits vs text 64 e
 found bits vs text e h =
-    let a = bind_ok (tokens_of bits text) (of_tokens (meaning vs) vs (length text)) e (sym (program_is bits vs text) ∙ h) in
-    let b = bind_ok (limited (ltb 4096 (length a.0)) a.0) (λ few. of_source (meaning vs) vs (source_at (length text) few)) e a.2 in
+    let a = bind_ok (tokens_of bits text) (of_tokens (source_meaning vs) vs (length text)) e (sym (program_is bits vs text) ∙ h) in
+    let b = bind_ok (limited (ltb 4096 (length a.0)) a.0) (λ few. of_source (source_meaning vs) vs (source_at (length text) few)) e a.2 in
     let l = limited_ok (ltb 4096 (length a.0)) a.0 b.0 b.1 in
-    let c = bind_ok (source_at (length text) b.0) (λ source. of_names (meaning vs) source (checked vs [] (names_in source.1))) e b.2 in
-    let d = bind_ok (checked vs [] (names_in c.0.1)) (λ names. meaning vs c.0) e c.2 in
+    let c = bind_ok (source_at (length text) b.0) (λ source. of_names (source_meaning vs) source (checked vs [] (defined_names source.1))) e b.2 in
+    let d = bind_ok (checked vs [] (defined_names c.0.1)) (λ names. source_meaning vs c.0) e c.2 in
     let q = source_sound (length text) a.0 c.0.0 c.0.1 (ap (source_at (length text)) l.1 ∙ c.1) in
     record {
       tokens = a.0;
@@ -112,10 +111,11 @@ found bits vs text e h =
       few = ltb-false 4096 (length a.0) l.0;
       derived = q.0;
       few_definitions = q.1;
-      new = are_new vs [] (names_in c.0.1) d.0 d.1;
+      new = are_new vs [] (defined_names c.0.1) d.0 d.1;
       meant = d.2;
     }
 
+-- the tree that is answered is one that the text says
 pub is_found : {A : Type 0} (bits : ℕ) (vs : List (List ℕ)) (text : List ℕ) (r : Result (Program A) (Failure (ExprFault A))) → Gives program_tree r (program_of bits vs text) → IfOk r (λ p. IsEnergy bits vs text 64 (program_tree p))
 is_found bits vs text (Ok p) h = found bits vs text (program_tree p) h
 is_found bits vs text (Err f) h = tt
@@ -125,25 +125,27 @@ is_found bits vs text (Err f) h = tt
 complete : (bits : ℕ) (vs : List (List ℕ)) (text : List ℕ) (n : ℕ) (e : Tree) → IsEnergy bits vs text n e → (program_of bits vs text ≡ Ok e) ⊎ ((64 < n) × (program_of bits vs text ≡ Err TooLarge))
 complete bits vs text n e p =
     let few : ltb 4096 (length p.tokens) ≡ false = le-ltb 4096 (length p.tokens) p.few in
-    let start : program_of bits vs text ≡ of_source (meaning vs) vs (source_at (length text) p.tokens) =
-    program_is bits vs text ∙ ap (λ (r : Tokens). r >>= of_tokens (meaning vs) vs (length text)) (text_complete bits text p.tokens p.spelled) ∙ ap (λ (c : Bool). of_few (meaning vs) vs (length text) (limited c p.tokens)) few in
+    let start : program_of bits vs text ≡ of_source (source_meaning vs) vs (source_at (length text) p.tokens) =
+    program_is bits vs text ∙ ap (λ (r : Tokens). r >>= of_tokens (source_meaning vs) vs (length text)) (text_complete bits text p.tokens p.spelled) ∙ ap (λ (c : Bool). of_few (source_meaning vs) vs (length text) (limited c p.tokens)) few in
     by_source start (source_complete (length text) n p.tokens p.body p.definitions p.derived p.few_definitions)
   where
-    by_source : program_of bits vs text ≡ of_source (meaning vs) vs (source_at (length text) p.tokens) → Is n (source_at (length text) p.tokens) (p.body, p.definitions) → (program_of bits vs text ≡ Ok e) ⊎ ((64 < n) × (program_of bits vs text ≡ Err TooLarge))
+    by_source : program_of bits vs text ≡ of_source (source_meaning vs) vs (source_at (length text) p.tokens) → Is n (source_at (length text) p.tokens) (p.body, p.definitions) → (program_of bits vs text ≡ Ok e) ⊎ ((64 < n) × (program_of bits vs text ≡ Err TooLarge))
     by_source start (inl h) =
-        inl (start ∙ ap (of_source (meaning vs) vs) h ∙ ap (of_names (meaning vs) (p.body, p.definitions)) (new_checked vs [] (names_in p.definitions) p.new) ∙ p.meant)
-    by_source start (inr h) = inr (h.0, start ∙ ap (of_source (meaning vs) vs) h.1)
+        inl (start ∙ ap (of_source (source_meaning vs) vs) h ∙ ap (of_names (source_meaning vs) (p.body, p.definitions)) (new_checked vs [] (defined_names p.definitions) p.new) ∙ p.meant)
+    by_source start (inr h) = inr (h.0, start ∙ ap (of_source (source_meaning vs) vs) h.1)
 
 read_as : {A : Type 0} (n : ℕ) (e : Tree) (r : Result (Program A) (Failure (ExprFault A))) (whole : Result Tree Refusal) → (whole ≡ Ok e) ⊎ ((64 < n) × (whole ≡ Err TooLarge)) → Gives program_tree r whole → IsRead n e r
-read_as n e (Ok x) whole (inl h) g = ok_is (program_tree x) e (sym g ∙ h)
+read_as n e (Ok x) whole (inl h) g = same_ok (program_tree x) e (sym g ∙ h)
 read_as n e (Ok x) whole (inr h) g = absurd cc
 read_as n e (Err (Refused fault)) whole (inl h) g = absurd cc
-read_as n e (Err (Refused fault)) whole (inr h) g = (err_is (refusal_of fault) TooLarge (sym g ∙ h.1), h.0)
+read_as n e (Err (Refused fault)) whole (inr h) g = (same_err (refusal_of fault) TooLarge (sym g ∙ h.1), h.0)
 read_as n e (Err Memory) whole w g = tt
 
+-- a tree that the text says is the one that is answered, or it nests too deep
 pub is_read : {A : Type 0} (bits : ℕ) (vs : List (List ℕ)) (text : List ℕ) (r : Result (Program A) (Failure (ExprFault A))) → Gives program_tree r (program_of bits vs text) → (n : ℕ) (e : Tree) → IsEnergy bits vs text n e → IsRead n e r
 is_read bits vs text r h n e p = read_as n e r (program_of bits vs text) (complete bits vs text n e p) h
 
+-- a text is read as a tree exactly where it says that tree
 pub reads_texts : ReadsEnergyTexts
 reads_texts bits vs text e = (found bits vs text e, λ p. known (complete bits vs text 64 e p))
   where
@@ -158,33 +160,33 @@ data Step (bits : ℕ) (vs : List (List ℕ)) (text : List ℕ) (f : Refusal) : 
   lexing : tokens_of bits text ≡ Err f → Step bits vs text f
   many : (ts : List Placed) → tokens_of bits text ≡ Ok ts → 4096 < length ts → TooLarge ≡ f → Step bits vs text f
   grammar : (ts : List Placed) → tokens_of bits text ≡ Ok ts → source_at (length text) ts ≡ Err f → Step bits vs text f
-  names : (ts : List Placed) (source : Source) → tokens_of bits text ≡ Ok ts → source_at (length text) ts ≡ Ok source → checked vs [] (names_in source.1) ≡ Err f → Step bits vs text f
-  uses : (ts : List Placed) (source : Source) (all : List (List ℕ)) → tokens_of bits text ≡ Ok ts → source_at (length text) ts ≡ Ok source → checked vs [] (names_in source.1) ≡ Ok all → meaning vs source ≡ Err f → Step bits vs text f
+  names : (ts : List Placed) (source : Source) → tokens_of bits text ≡ Ok ts → source_at (length text) ts ≡ Ok source → checked vs [] (defined_names source.1) ≡ Err f → Step bits vs text f
+  uses : (ts : List Placed) (source : Source) (all : List (List ℕ)) → tokens_of bits text ≡ Ok ts → source_at (length text) ts ≡ Ok source → checked vs [] (defined_names source.1) ≡ Ok all → source_meaning vs source ≡ Err f → Step bits vs text f
 
 step_source : (bits : ℕ) (vs : List (List ℕ)) (text : List ℕ) (f : Refusal) (ts : List Placed) (source : Source) → tokens_of bits text ≡ Ok ts → source_at (length text) ts ≡ Ok source
-    → Split f (checked vs [] (names_in source.1)) (λ names. meaning vs source) → Step bits vs text f
+    → Split f (checked vs [] (defined_names source.1)) (λ names. source_meaning vs source) → Step bits vs text f
 step_source bits vs text f ts source t s (inl h) = names ts source t s h
 step_source bits vs text f ts source t s (inr h) = uses ts source h.0 t s h.1 h.2
 
 step_few : (bits : ℕ) (vs : List (List ℕ)) (text : List ℕ) (f : Refusal) (ts few : List Placed) → tokens_of bits text ≡ Ok ts → ts ≡ few
-    → Split f (source_at (length text) few) (λ source. of_names (meaning vs) source (checked vs [] (names_in source.1))) → Step bits vs text f
+    → Split f (source_at (length text) few) (λ source. of_names (source_meaning vs) source (checked vs [] (defined_names source.1))) → Step bits vs text f
 step_few bits vs text f ts few t same (inl h) = grammar ts t (ap (source_at (length text)) same ∙ h)
 step_few bits vs text f ts few t same (inr h) =
-    step_source bits vs text f ts h.0 t (ap (source_at (length text)) same ∙ h.1) (split f (checked vs [] (names_in h.0.1)) (λ names. meaning vs h.0) h.2)
+    step_source bits vs text f ts h.0 t (ap (source_at (length text)) same ∙ h.1) (split f (checked vs [] (defined_names h.0.1)) (λ names. source_meaning vs h.0) h.2)
 
 step_tokens : (bits : ℕ) (vs : List (List ℕ)) (text : List ℕ) (f : Refusal) (ts : List Placed) → tokens_of bits text ≡ Ok ts
-    → Split f (limited (ltb 4096 (length ts)) ts) (λ few. of_source (meaning vs) vs (source_at (length text) few)) → Step bits vs text f
+    → Split f (limited (ltb 4096 (length ts)) ts) (λ few. of_source (source_meaning vs) vs (source_at (length text) few)) → Step bits vs text f
 step_tokens bits vs text f ts t (inl h) = let l = limited_err (ltb 4096 (length ts)) ts f h in many ts t (ltb-true 4096 (length ts) l.0) l.1
 step_tokens bits vs text f ts t (inr h) =
     let l = limited_ok (ltb 4096 (length ts)) ts h.0 h.1 in
-    step_few bits vs text f ts h.0 t l.1 (split f (source_at (length text) h.0) (λ source. of_names (meaning vs) source (checked vs [] (names_in source.1))) h.2)
+    step_few bits vs text f ts h.0 t l.1 (split f (source_at (length text) h.0) (λ source. of_names (source_meaning vs) source (checked vs [] (defined_names source.1))) h.2)
 
 step_of : (bits : ℕ) (vs : List (List ℕ)) (text : List ℕ) (f : Refusal) → program_of bits vs text ≡ Err f → Step bits vs text f
-step_of bits vs text f e = by_split (split f (tokens_of bits text) (of_tokens (meaning vs) vs (length text)) (sym (program_is bits vs text) ∙ e))
+step_of bits vs text f e = by_split (split f (tokens_of bits text) (of_tokens (source_meaning vs) vs (length text)) (sym (program_is bits vs text) ∙ e))
   where
-    by_split : Split f (tokens_of bits text) (of_tokens (meaning vs) vs (length text)) → Step bits vs text f
+    by_split : Split f (tokens_of bits text) (of_tokens (source_meaning vs) vs (length text)) → Step bits vs text f
     by_split (inl h) = lexing h
-    by_split (inr h) = step_tokens bits vs text f h.0 h.1 (split f (limited (ltb 4096 (length h.0)) h.0) (λ few. of_source (meaning vs) vs (source_at (length text) few)) h.2)
+    by_split (inr h) = step_tokens bits vs text f h.0 h.1 (split f (limited (ltb 4096 (length h.0)) h.0) (λ few. of_source (source_meaning vs) vs (source_at (length text) few)) h.2)
 
 abbrev trees_ok : List Tree → Result (List Tree) Refusal
 trees_ok z = Ok z
@@ -197,7 +199,7 @@ abbrev IsName : Refusal → Type 0
 IsName f = (w : List ℕ) × (UnknownName w ≡ f)
 
 later_err : (w : List ℕ) (o : Option ℕ) (f : Refusal) → used_later w o ≡ Err f → IsName f
-later_err w None f e = (w, err_is (UnknownName w) f e)
+later_err w None f e = (w, same_err (UnknownName w) f e)
 later_err w (Some j) f e = absurd cc
 
 used_err : (i : ℕ) (ws : List (List ℕ)) (w : List ℕ) (o : Option ℕ) (f : Refusal) → used i ws w o ≡ Err f → IsName f
@@ -240,7 +242,7 @@ resolved_err vs i ws (s.Select c a b) f h = select_err (resolved vs i ws c) (res
 all_err : (vs : List (List ℕ)) (i : ℕ) (ds : List Definition) (f : Refusal) → all_resolved vs i ds ≡ Err f → IsName f
 unfolding all_resolved
 all_err vs i [] f h = absurd cc
-all_err vs i (d ∷ ds) f h = both_err (resolved vs (i + 1) (names_in ds) d.1) (all_resolved vs (i + 1) ds) f (resolved_err vs (i + 1) (names_in ds) d.1 f) (all_err vs (i + 1) ds f) h
+all_err vs i (d ∷ ds) f h = both_err (resolved vs (i + 1) (defined_names ds) d.1) (all_resolved vs (i + 1) ds) f (resolved_err vs (i + 1) (defined_names ds) d.1 f) (all_err vs (i + 1) ds f) h
   where
     both_err : (a : Result Tree Refusal) (b : Result (List Tree) Refusal) (f : Refusal) → (a ≡ Err f → IsName f) → (b ≡ Err f → IsName f) → (a >>= λ x. b >>= λ xs. trees_ok (x ∷ xs)) ≡ Err f → IsName f
     both_err (Ok x) (Ok xs) f ih jh h = absurd cc
@@ -249,15 +251,15 @@ all_err vs i (d ∷ ds) f h = both_err (resolved vs (i + 1) (names_in ds) d.1) (
 
 trees_err : (vs : List (List ℕ)) (source : Source) (f : Refusal) → trees vs source ≡ Err f → IsName f
 unfolding trees
-trees_err vs source f h = both_err (resolved vs 0 (names_in source.1) source.0) (all_resolved vs 0 source.1) (resolved_err vs 0 (names_in source.1) source.0 f) (all_err vs 0 source.1 f) h
+trees_err vs source f h = both_err (resolved vs 0 (defined_names source.1) source.0) (all_resolved vs 0 source.1) (resolved_err vs 0 (defined_names source.1) source.0 f) (all_err vs 0 source.1 f) h
   where
     both_err : (a : Result Tree Refusal) (b : Result (List Tree) Refusal) → (a ≡ Err f → IsName f) → (b ≡ Err f → IsName f) → (a >>= λ x. b >>= λ xs. pair_ok (x, xs)) ≡ Err f → IsName f
     both_err (Ok x) (Ok xs) ih jh h = absurd cc
     both_err (Ok x) (Err k) ih jh h = jh (err_as k f h)
     both_err (Err k) b ih jh h = ih (err_as k f h)
 
-meaning_err : (vs : List (List ℕ)) (source : Source) (f : Refusal) → meaning vs source ≡ Err f → IsName f
-unfolding meaning
+meaning_err : (vs : List (List ℕ)) (source : Source) (f : Refusal) → source_meaning vs source ≡ Err f → IsName f
+unfolding source_meaning
 meaning_err vs source f h = trees_err vs source f (unplaced (trees vs source) h)
   where
     unplaced : (r : Result Trees Refusal) → in_place r ≡ Err f → r ≡ Err f
@@ -270,7 +272,7 @@ written bits text ts source t s =
     record { tokens = ts; body = source.0; definitions = source.1; spelled = text_sound bits text ts t; derived = (source_sound (length text) ts source.0 source.1 s).0 }
 
 -- the cause of a definition's refusal
-name_cause : (bits : ℕ) (vs : List (List ℕ)) (text : List ℕ) (f : Refusal) (ts : List Placed) (source : Source) → tokens_of bits text ≡ Ok ts → source_at (length text) ts ≡ Ok source → Why vs [] (names_in source.1) f → IsCause bits vs text f
+name_cause : (bits : ℕ) (vs : List (List ℕ)) (text : List ℕ) (f : Refusal) (ts : List Placed) (source : Source) → tokens_of bits text ≡ Ok ts → source_at (length text) ts ≡ Ok source → Why vs [] (defined_names source.1) f → IsCause bits vs text f
 name_cause bits vs text f ts source t s (taken w b c e) =
     subst (IsCause bits vs text) e (record { written = written bits text ts source t s; before = b.front; after = b.after; parts = b.parts; new = b.new; taken = c })
 name_cause bits vs text f ts source t s (given w b c d e) =
@@ -304,23 +306,24 @@ cause_by bits vs text TooLarge (grammar ts t e) = record { tokens = ts; spelled 
 cause_by bits vs text (RepeatedDefinition w) (grammar ts t e) = absurd (source_halting (source_halts (length text) (RepeatedDefinition w) tt ts e))
 cause_by bits vs text (ReservedName w) (grammar ts t e) = absurd (source_halting (source_halts (length text) (ReservedName w) tt ts e))
 cause_by bits vs text (LeftOutFunction w) (grammar ts t e) = record { tokens = ts; spelled = text_sound bits text ts t; called = source_halts (length text) (LeftOutFunction w) tt ts e }
-cause_by bits vs text (BadCharacter at) (names ts source t s e) = name_cause bits vs text (BadCharacter at) ts source t s (refused vs [] (names_in source.1) (BadCharacter at) e)
-cause_by bits vs text (BadNumber at) (names ts source t s e) = name_cause bits vs text (BadNumber at) ts source t s (refused vs [] (names_in source.1) (BadNumber at) e)
-cause_by bits vs text (NumberRange at) (names ts source t s e) = name_cause bits vs text (NumberRange at) ts source t s (refused vs [] (names_in source.1) (NumberRange at) e)
-cause_by bits vs text (UnknownName w) (names ts source t s e) = name_cause bits vs text (UnknownName w) ts source t s (refused vs [] (names_in source.1) (UnknownName w) e)
-cause_by bits vs text TooLarge (names ts source t s e) = name_cause bits vs text TooLarge ts source t s (refused vs [] (names_in source.1) TooLarge e)
-cause_by bits vs text (RepeatedDefinition w) (names ts source t s e) = name_cause bits vs text (RepeatedDefinition w) ts source t s (refused vs [] (names_in source.1) (RepeatedDefinition w) e)
-cause_by bits vs text (ReservedName w) (names ts source t s e) = name_cause bits vs text (ReservedName w) ts source t s (refused vs [] (names_in source.1) (ReservedName w) e)
-cause_by bits vs text (LeftOutFunction w) (names ts source t s e) = name_cause bits vs text (LeftOutFunction w) ts source t s (refused vs [] (names_in source.1) (LeftOutFunction w) e)
+cause_by bits vs text (BadCharacter at) (names ts source t s e) = name_cause bits vs text (BadCharacter at) ts source t s (refused vs [] (defined_names source.1) (BadCharacter at) e)
+cause_by bits vs text (BadNumber at) (names ts source t s e) = name_cause bits vs text (BadNumber at) ts source t s (refused vs [] (defined_names source.1) (BadNumber at) e)
+cause_by bits vs text (NumberRange at) (names ts source t s e) = name_cause bits vs text (NumberRange at) ts source t s (refused vs [] (defined_names source.1) (NumberRange at) e)
+cause_by bits vs text (UnknownName w) (names ts source t s e) = name_cause bits vs text (UnknownName w) ts source t s (refused vs [] (defined_names source.1) (UnknownName w) e)
+cause_by bits vs text TooLarge (names ts source t s e) = name_cause bits vs text TooLarge ts source t s (refused vs [] (defined_names source.1) TooLarge e)
+cause_by bits vs text (RepeatedDefinition w) (names ts source t s e) = name_cause bits vs text (RepeatedDefinition w) ts source t s (refused vs [] (defined_names source.1) (RepeatedDefinition w) e)
+cause_by bits vs text (ReservedName w) (names ts source t s e) = name_cause bits vs text (ReservedName w) ts source t s (refused vs [] (defined_names source.1) (ReservedName w) e)
+cause_by bits vs text (LeftOutFunction w) (names ts source t s e) = name_cause bits vs text (LeftOutFunction w) ts source t s (refused vs [] (defined_names source.1) (LeftOutFunction w) e)
 cause_by bits vs text (BadCharacter at) (uses ts source all t s n e) = let k = (meaning_err vs source (BadCharacter at) e).1 in absurd cc
 cause_by bits vs text (BadNumber at) (uses ts source all t s n e) = let k = (meaning_err vs source (BadNumber at) e).1 in absurd cc
 cause_by bits vs text (NumberRange at) (uses ts source all t s n e) = let k = (meaning_err vs source (NumberRange at) e).1 in absurd cc
-cause_by bits vs text (UnknownName w) (uses ts source all t s n e) = inr (record { written = written bits text ts source t s; new = are_new vs [] (names_in source.1) all n; first = e })
+cause_by bits vs text (UnknownName w) (uses ts source all t s n e) = inr (record { written = written bits text ts source t s; new = are_new vs [] (defined_names source.1) all n; first = e })
 cause_by bits vs text TooLarge (uses ts source all t s n e) = let k = (meaning_err vs source TooLarge e).1 in absurd cc
 cause_by bits vs text (RepeatedDefinition w) (uses ts source all t s n e) = let k = (meaning_err vs source (RepeatedDefinition w) e).1 in absurd cc
 cause_by bits vs text (ReservedName w) (uses ts source all t s n e) = let k = (meaning_err vs source (ReservedName w) e).1 in absurd cc
 cause_by bits vs text (LeftOutFunction w) (uses ts source all t s n e) = let k = (meaning_err vs source (LeftOutFunction w) e).1 in absurd cc
 
+-- a refusal is told by its cause in the text
 pub is_cause : {A : Type 0} (bits : ℕ) (vs : List (List ℕ)) (text : List ℕ) (r : Result (Program A) (Failure (ExprFault A))) → Gives program_tree r (program_of bits vs text)
     → IfErr r (λ failure. IfRefused failure (λ fault. IsCause bits vs text (refusal_of fault)))
 is_cause bits vs text r h =

@@ -15,8 +15,8 @@ use Rattle.expr.proofs.Behind.{full_none}
 use Rattle.expr.proofs.Sound.{Begins, expr_sound}
 use Rattle.expr.proofs.Complete.{Answers, expr_complete}
 use Rattle.expr.proofs.Halting.{IsHalting, IsOther, other, expr_halts, expr_halting}
-use Rattle.line_text.proofs.StepLaws.{bind_ok, Split, split}
-use Rattle.expr.proofs.Results.{some_is, ok_is, err_is, err_as}
+use Rattle.line_text.proofs.StepLaws.{bind_ok, Split, split, same_ok, same_err, err_as}
+use Rattle.std.proofs.lemmas.Option.{same_Some}
 
 abbrev Rest : Type 1
 Rest = List Placed → Type 0
@@ -24,11 +24,11 @@ Rest = List Placed → Type 0
 -- ---- what stands first
 
 semicolon_is : (ts rest : List Placed) → semicolon_sign ts ≡ Some rest → Begins t.Semicolon ts rest
-semicolon_is ((t.Semicolon, at) ∷ ts) rest e = record { at = at; parts = ap (λ (z : List Placed). (t.Semicolon, at) ∷ z) (some_is ts rest e) }
+semicolon_is ((t.Semicolon, at) ∷ ts) rest e = record { at = at; parts = ap (λ (z : List Placed). (t.Semicolon, at) ∷ z) (same_Some ts rest e) }
 semicolon_is _ rest e = absurd cc
 
 equals_is : (end : ℕ) (ts rest : List Placed) → equals end ts ≡ Ok rest → Begins t.Equals ts rest
-equals_is end ((t.Equals, at) ∷ ts) rest e = record { at = at; parts = ap (λ (z : List Placed). (t.Equals, at) ∷ z) (ok_is ts rest e) }
+equals_is end ((t.Equals, at) ∷ ts) rest e = record { at = at; parts = ap (λ (z : List Placed). (t.Equals, at) ∷ z) (same_ok ts rest e) }
 equals_is end _ rest e = absurd cc
 
 abbrev heading_ok : Heading → Result Heading Refusal
@@ -49,7 +49,7 @@ pair w rest = (w, rest)
 
 name_is : (ts : List Placed) (w : List ℕ) (rest : List Placed) → name_sign ts ≡ Some (w, rest) → Begins (t.Name w) ts rest
 name_is ((t.Name v, at) ∷ ts) w rest e =
-    let k = some_is (pair v ts) (pair w rest) e in
+    let k = same_Some (pair v ts) (pair w rest) e in
     record { at = at; parts = ap (λ (z : List ℕ × List Placed). (t.Name z.0, at) ∷ z.1) k }
 name_is _ w rest e = absurd cc
 
@@ -61,16 +61,16 @@ skip P step ((t.Semicolon, b) ∷ rest) holds at = step at ((t.Semicolon, b) ∷
 skip P step ((k, b) ∷ rest) holds at = holds at
 
 no_heading_ok : (ts : List Placed) (o : Heading) → no_heading ts ≡ Ok o → (ts ≡ []) × (o ≡ None)
-no_heading_ok [] o e = (refl, sym (ok_is None o e))
+no_heading_ok [] o e = (refl, sym (same_ok None o e))
 no_heading_ok ((k, at) ∷ rest) o e = absurd cc
 
 no_heading_err : (ts : List Placed) (f : Refusal) → IsOther f → no_heading ts ≡ Err f → ⊥
 no_heading_err [] f o e = absurd cc
-no_heading_err ((k, at) ∷ rest) f o e = other (UnexpectedToken at) f (err_is (UnexpectedToken at) f e) o
+no_heading_err ((k, at) ∷ rest) f o e = other (UnexpectedToken at) f (same_err (UnexpectedToken at) f e) o
 
 equals_err : (end : ℕ) (ts : List Placed) (f : Refusal) → IsOther f → equals end ts ≡ Err f → ⊥
 equals_err end ((t.Equals, at) ∷ ts) f o e = absurd cc
-equals_err end ts f o e = other (UnexpectedToken (offset end ts)) f (err_is (UnexpectedToken (offset end ts)) f e) o
+equals_err end ts f o e = other (UnexpectedToken (offset end ts)) f (same_err (UnexpectedToken (offset end ts)) f e) o
 
 -- the tokens begin with a definition
 record Headed (ts : List Placed) (w : List ℕ) (after : List Placed) : Type 0 where
@@ -105,7 +105,7 @@ named_says end ts rest false o b (Some x) s e =
     let q = bind_ok (equals end x.1) (λ after. Ok (Some (x.0, after))) o e in
     let n = name_is (after_semicolons rest) x.0 x.1 s in
     let m = equals_is end x.1 q.0 q.1 in
-    subst (Says ts) (ok_is (Some (x.0, q.0)) o q.2)
+    subst (Says ts) (same_ok (Some (x.0, q.0)) o q.2)
     (record { rest = rest; at = b.at; from = n.at; to = m.at; parts = b.parts; named = n.parts ∙ ap (λ (z : List Placed). (t.Name x.0, n.at) ∷ z) m.parts })
 
 heading_says : (end : ℕ) (full : Bool) (ts : List Placed) (o : Heading) → heading_at end full ts ≡ Ok o → Says ts o
@@ -130,7 +130,7 @@ tail_more n ts w a x after beyond ds k e p q =
 
 done_is : (n : ℕ) (ts : List Placed) (ds : List Definition) → IsTail 65 ts [] → ◌≡◌ {A = Definitions} (Ok []) (Ok ds) → IsRead n ts ds
 done_is n ts ds p e =
-    let k : [] ≡ ds = ok_is [] ds e in
+    let k : [] ≡ ds = same_ok [] ds e in
     subst (IsRead n ts) k (p, omega arith)
 
 abbrev Read : ℕ → ℕ → Type 0
@@ -142,7 +142,7 @@ defined_read end n ih ts ds (Some x) k e =
     let b = bind_ok (expr_at end 65 x.1) (λ y. before ((x.0, y.0) ∷ []) (definitions_at end n y.1)) ds e in
     let c = bind_ok (definitions_at end n b.0.1) (λ z. Ok (((x.0, b.0.0) ∷ []) ++ z)) ds b.2 in
     let s = (expr_sound end 65).spells x.1 b.0.0 b.0.1 b.1 in
-    subst (IsRead (suc n) ts) (ok_is ((x.0, b.0.0) ∷ c.0) ds c.2) (tail_more n ts x.0 s.front b.0.0 x.1 b.0.1 c.0 k s.parts s.holds (ih b.0.1 c.0 c.1))
+    subst (IsRead (suc n) ts) (same_ok ((x.0, b.0.0) ∷ c.0) ds c.2) (tail_more n ts x.0 s.front b.0.0 x.1 b.0.1 c.0 k s.parts s.holds (ih b.0.1 c.0 c.1))
 
 last_read : (end : ℕ) (ts : List Placed) (ds : List Definition) (o : Heading) → heading_at end true ts ≡ Ok o → Says ts o → ◌≡◌ {A = Definitions} (Ok []) (Ok ds) → IsRead zero ts ds
 last_read end ts ds None h k e = done_is zero ts ds k e
@@ -157,16 +157,18 @@ definitions_read end (suc n) ts ds e =
     let b = bind_ok (heading_at end false ts) (λ o. defined (expr_at end 65) (definitions_at end n) o) ds e in
     defined_read end n (definitions_read end n) ts ds b.0 (heading_says end false ts b.0 b.1) b.2
 
+-- what is read is a program of the grammar, with 64 definitions at most
 pub source_sound : (end : ℕ) (ts : List Placed) (body : Syntax) (ds : List Definition) → source_at end ts ≡ Ok (body, ds) → IsProgram 65 ts body ds × (length ds ≤ 64)
 unfolding source_at
 source_sound end ts body ds e =
     let b = bind_ok (expr_at end 65 ts) (λ x. definitions_at end 64 x.1 >>= λ z. Ok (x.0, z)) (body, ds) e in
     let c = bind_ok (definitions_at end 64 b.0.1) (λ z. Ok (b.0.0, z)) (body, ds) b.2 in
     let s = (expr_sound end 65).spells ts b.0.0 b.0.1 b.1 in
-    let same = ok_is (b.0.0, c.0) (body, ds) c.2 in
+    let same = same_ok (b.0.0, c.0) (body, ds) c.2 in
     let q = definitions_read end 64 b.0.1 c.0 c.1 in
     subst (λ (z : Source). IsProgram 65 ts z.0 z.1 × (length z.1 ≤ 64)) same (subst (λ (z : List Placed). IsProgram 65 z b.0.0 c.0) (sym s.parts) (g.program s.holds q.0), q.1)
 
+-- what is read has 64 definitions at most
 pub source_few : (end : ℕ) (ts : List Placed) (s : Source) → source_at end ts ≡ Ok s → length s.1 ≤ 64
 source_few end ts s e = (source_sound end ts s.0 s.1 e).1
 
@@ -235,6 +237,7 @@ definitions_are {n} end (g.definition {n = m} {w} {a} {b} {x} {ds} at from to p 
     (is_then n (expr_at end 65 (a ++ b)) (x, b) (λ y. before ((w, y.0) ∷ []) (definitions_at end many y.1)) ((w, x) ∷ ds) (expr_is end n a x b p (tail_stops q))
     (is_then n (definitions_at end many b) ds (λ z. Ok (((w, x) ∷ []) ++ z)) ((w, x) ∷ ds) rest (inl refl)))
 
+-- a program of the grammar is read, unless it nests too deep
 pub source_complete : (end n : ℕ) (ts : List Placed) (body : Syntax) (ds : List Definition) → IsProgram (suc n) ts body ds → length ds ≤ 64 → Is n (source_at end ts) (body, ds)
 unfolding source_at
 source_complete end n ts body ds (g.program {n = m} {a} {b} p q) few =
@@ -261,7 +264,7 @@ named_err : (end : ℕ) (ts rest : List Placed) (full : Bool) (f : Refusal) → 
 named_err end ts rest full f o b None s e = absurd (no_heading_err (after_semicolons rest) f o e)
 named_err end ts rest true f o b (Some x) s e =
     let n = name_is (after_semicolons rest) x.0 x.1 s in
-    (sym (err_is TooLarge f e), record { rest = rest; tail = x.1; name = x.0; at = b.at; from = n.at; parts = b.parts; named = n.parts })
+    (sym (same_err TooLarge f e), record { rest = rest; tail = x.1; name = x.0; at = b.at; from = n.at; parts = b.parts; named = n.parts })
 named_err end ts rest false f o b (Some x) s e = go (split f (equals end x.1) (λ after. Ok (Some (x.0, after))) e)
   where
     go : Split f (equals end x.1) (λ after. heading_ok (Some (x.0, after))) → ⊥
@@ -317,6 +320,7 @@ unfolding definitions_at
 definitions_halt end f o zero ts e = none_halts end f o ts (split f (heading_at end true ts) (λ o. definitions_ok []) e)
 definitions_halt end f o (suc n) ts e = one_halts end f o n (definitions_halt end f o n) ts (split f (heading_at end false ts) (λ h. defined (expr_at end 65) (definitions_at end n) h) e)
 
+-- where no program is read, the tokens stop within it
 pub source_halts : (end : ℕ) (f : Refusal) → IsOther f → (ts : List Placed) → source_at end ts ≡ Err f → HaltsProgram f 65 64 ts
 unfolding source_at
 source_halts end f o ts e = go (split f (expr_at end 65 ts) (λ x. definitions_at end 64 x.1 >>= λ z. Ok (x.0, z)) e)
@@ -339,6 +343,7 @@ tail_halting (h.empty at p) = tail_halting p
 tail_halting (h.here at from to p) = expr_halting p
 tail_halting (h.later at from to q p) = tail_halting p
 
+-- tokens that stop do so for a fault of the grammar
 pub source_halting : {f : Refusal} {n many : ℕ} {ts : List Placed} → HaltsProgram f n many ts → IsHalting f
 source_halting (h.body p) = expr_halting p
 source_halting (h.behind q p) = tail_halting p

@@ -8,10 +8,11 @@ use Rattle.energy_program.specs.declared.faults.ExprFault.{ExprFault}
 use Rattle.line_text.specs.Steps.{◌>>=◌}
 use Rattle.energy_program.specs.Faults.{Refusal, Fails}
 use Rattle.energy_program.specs.Tree.{Tree, are_scoped, is_scoped}
-use Rattle.expr.specs.Syntax.{Definition, names_in}
+use Rattle.expr.specs.Syntax.{Definition, defined_names}
 use Rattle.expr.specs.Uses.{resolved, all_resolved}
 use Rattle.energy_program.proofs.FaultLaws.{fails_then, fails_same}
 
+-- several trees, or why there are none
 abbrev pub Several : Type 0
 Several = Result (List Tree) Refusal
 
@@ -21,7 +22,7 @@ behind front others = others >>= λ xs. Ok (front ++ xs)
 
 -- ---- the turns
 
-all_behind : (d : Definition) (ds : List Definition) (vs : List (List ℕ)) (i : ℕ) → all_resolved vs i (d ∷ ds) ≡ (resolved vs (i + 1) (names_in ds) d.1 >>= λ x. behind (x ∷ []) (all_resolved vs (i + 1) ds))
+all_behind : (d : Definition) (ds : List Definition) (vs : List (List ℕ)) (i : ℕ) → all_resolved vs i (d ∷ ds) ≡ (resolved vs (i + 1) (defined_names ds) d.1 >>= λ x. behind (x ∷ []) (all_resolved vs (i + 1) ds))
 unfolding all_resolved
 all_behind d ds vs i = refl
 
@@ -29,14 +30,15 @@ module _ {X : Type 0} (f : X → Definition) (xs : List X) (i : ℕ) (d : X) (be
   next : map f (drop i xs) ≡ f (get_or xs i d) ∷ map f (drop (i + 1) xs)
   next = ap (map f) (drop-cons xs i d below) ∙ ap (λ (z : ℕ). f (get_or xs i d) ∷ map f (drop z xs)) (sym (add-one i))
 
-  turn : all_resolved vs i (map f (drop i xs)) ≡ (resolved vs (i + 1) (names_in (map f (drop (i + 1) xs))) (f (get_or xs i d)).1 >>= λ x. behind (x ∷ []) (all_resolved vs (i + 1) (map f (drop (i + 1) xs))))
+  turn : all_resolved vs i (map f (drop i xs)) ≡ (resolved vs (i + 1) (defined_names (map f (drop (i + 1) xs))) (f (get_or xs i d)).1 >>= λ x. behind (x ∷ []) (all_resolved vs (i + 1) (map f (drop (i + 1) xs))))
   turn = ap (all_resolved vs i) next ∙ all_behind (f (get_or xs i d)) (map f (drop (i + 1) xs)) vs i
 
-  pub fails : {C : Type 0} (front : List Tree) (e : Failure (ExprFault C)) → Fails e (resolved vs (i + 1) (names_in (map f (drop (i + 1) xs))) (f (get_or xs i d)).1)
+  -- a tree that isn't resolved is the answer of all
+  pub fails : {C : Type 0} (front : List Tree) (e : Failure (ExprFault C)) → Fails e (resolved vs (i + 1) (defined_names (map f (drop (i + 1) xs))) (f (get_or xs i d)).1)
       → Fails e (behind front (all_resolved vs i (map f (drop i xs))))
   fails front e h =
       fails_then e (all_resolved vs i (map f (drop i xs))) (λ xs. Ok (front ++ xs))
-      (fails_same e _ (all_resolved vs i (map f (drop i xs))) turn (fails_then e (resolved vs (i + 1) (names_in (map f (drop (i + 1) xs))) (f (get_or xs i d)).1) (λ x. behind (x ∷ []) (all_resolved vs (i + 1) (map f (drop (i + 1) xs)))) h))
+      (fails_same e _ (all_resolved vs i (map f (drop i xs))) turn (fails_then e (resolved vs (i + 1) (defined_names (map f (drop (i + 1) xs))) (f (get_or xs i d)).1) (λ x. behind (x ∷ []) (all_resolved vs (i + 1) (map f (drop (i + 1) xs)))) h))
 
   regroup : (front : List Tree) (x : Tree) (r : Several) → behind front (behind (x ∷ []) r) ≡ behind (front ++ (x ∷ [])) r
   regroup front x (Ok ts) = ap (λ (z : List Tree). trees_ok z) (sym (append_assoc front (x ∷ []) ts))
@@ -45,17 +47,15 @@ module _ {X : Type 0} (f : X → Definition) (xs : List X) (i : ℕ) (d : X) (be
       trees_ok z = Ok z
   regroup front x (Err e) = refl
 
-  pub more : (front longer : List Tree) (x : Tree) → longer ≡ front ++ (x ∷ []) → resolved vs (i + 1) (names_in (map f (drop (i + 1) xs))) (f (get_or xs i d)).1 ≡ Ok x
+  -- a tree that is resolved stands behind those before it
+  pub more : (front longer : List Tree) (x : Tree) → longer ≡ front ++ (x ∷ []) → resolved vs (i + 1) (defined_names (map f (drop (i + 1) xs))) (f (get_or xs i d)).1 ≡ Ok x
       → behind front (all_resolved vs i (map f (drop i xs))) ≡ behind longer (all_resolved vs (i + 1) (map f (drop (i + 1) xs)))
   more front longer x e h =
       ap (behind front) (turn ∙ rw h refl)
       ∙ regroup front x (all_resolved vs (i + 1) (map f (drop (i + 1) xs)))
       ∙ ap (λ (z : List Tree). behind z (all_resolved vs (i + 1) (map f (drop (i + 1) xs)))) (sym e)
 
-pub starts : (front : List Tree) (r : Several) → front ≡ [] → r ≡ behind front r
-starts front (Ok ts) e = rw e refl
-starts front (Err f) e = refl
-
+-- with no definition left, the trees in front are the answer
 pub ends : (front : List Tree) (vs : List (List ℕ)) (i : ℕ) (ds : List Definition) → ds ≡ [] → behind front (all_resolved vs i ds) ≡ Ok front
 unfolding all_resolved
 ends front vs i ds e = rw e (ap (λ (z : List Tree). trees_ok z) (append-nil front))
@@ -74,6 +74,7 @@ both : (p q : Bool) → IsTrue p → IsTrue q → IsTrue (p && q)
 both true q h k = k
 both false q h k = absurd cc
 
+-- a tree more that names what stands before it
 pub scoped_more : (inputs i end j : ℕ) (ds : List Tree) (e : Tree) → j ≡ i + length ds + 1 → IsTrue (scoped_to inputs i end ds) → IsTrue (is_scoped inputs j end e) → IsTrue (scoped_to inputs i end (ds ++ (e ∷ [])))
 scoped_more inputs i end j [] e at h k =
     let same : j ≡ i + 1 = omega arith in
@@ -82,6 +83,7 @@ scoped_more inputs i end j (d ∷ ds) e at h k =
     let p = and_parts (is_scoped inputs (i + 1) end d) (scoped_to inputs (i + 1) end ds) h in
     both (is_scoped inputs (i + 1) end d) (scoped_to inputs (i + 1) end (ds ++ (e ∷ []))) p.0 (scoped_more inputs (i + 1) end j ds e (omega arith) p.1 k)
 
+-- trees that name what stands before them are scoped as a program's definitions
 pub all_scoped : (inputs i end : ℕ) (ds : List Tree) → end ≡ i + length ds → IsTrue (scoped_to inputs i end ds) → IsTrue (are_scoped inputs i ds)
 all_scoped inputs i end [] at h = refl
 all_scoped inputs i end (d ∷ ds) at h =

@@ -16,12 +16,14 @@ use Rattle.expr.specs.Syntax as tree
 use Rattle.expr.specs.Parsing.{ReadingOf, Reading, SignOf, Beginning, Numeral, Word, Group, start, on_sign, sum_sign, product_sign, minus_sign, open_sign, close_sign, caret_sign, comma_sign, close, closed, itself, operands, listed, listing, arguments_by, called_by, name_by, chain, chained, atom_by, unary_by, with_tokens, whole_sign, positive_whole, negative_whole, signed_by, signed_sign, or_bad, awaits_operand, grouped_by, unless_misplaced, grouped_at, exponent_by, exponent_at, raised_by, raised_at, powered, unary_at, term_at, expr_at}
 use Rattle.expr.specs.Grammar.{IsWhole, IsExponent, IsExpr, IsTerm, IsUnary, IsPower, IsAtom, IsArguments, IsList}
 use Rattle.expr.specs.Grammar as g
-use Rattle.line_text.proofs.StepLaws.{bind_ok}
-use Rattle.expr.proofs.Results.{some_is, ok_is}
+use Rattle.line_text.proofs.StepLaws.{bind_ok, same_ok}
+use Rattle.std.proofs.lemmas.Option.{same_Some}
 
+-- which tokens are which value
 abbrev pub RuleOf : Type 0 → Type 1
 RuleOf X = List Placed → X → Type 0
 
+-- which tokens are which tree
 abbrev pub Rule : Type 1
 Rule = RuleOf Syntax
 
@@ -41,13 +43,14 @@ pub record Joined {S X : Type 0} (P : RuleOf X) (Q : Rule) (make : S → X → S
   pub parts : ts ≡ token ∷ rest
   pub join : (a b : List Placed) (x : X) (y : Syntax) → P a x → Q b y → P (a ++ (token ∷ b)) (make o x y)
 
+-- what is put together of two parts is one of the rule again
 pub record Joins {S X : Type 0} (P : RuleOf X) (Q : Rule) (make : S → X → Syntax → X) (sign : List Placed → SignOf S) : Type 0 where
   pub joined : (ts : List Placed) (o : S) (rest : List Placed) → sign ts ≡ Some (o, rest) → Joined P Q make ts o rest
 
 module _ {S X : Type 0} (P : RuleOf X) (Q : Rule) (make : S → X → Syntax → X) (token : Placed) (o : S) (join : (a b : List Placed) (x : X) (y : Syntax) → P a x → Q b y → P (a ++ (token ∷ b)) (make o x y)) where
   joined_by : (ts : List Placed) (o' : S) (rest : List Placed) → (s : SignOf S) → s ≡ Some (o, ts) → s ≡ Some (o', rest) → Joined P Q make (token ∷ ts) o' rest
   joined_by ts o' rest s d e =
-      let h = some_is (o, ts) (o', rest) (sym d ∙ e) in
+      let h = same_Some (o, ts) (o', rest) (sym d ∙ e) in
       let ho : o ≡ o' = ap (λ (p : S × List Placed). p.0) h in
       record {
         token = token;
@@ -81,7 +84,7 @@ module _ {S X : Type 0} (P : RuleOf X) (Q : Rule) (make : S → X → Syntax →
 
   stays : (pre : List Placed) (left : X) (ts : List Placed) (e : X) (rest : List Placed) → P pre left → ◌≡◌ {A = ReadingOf X} (Ok (left, ts)) (Ok (e, rest)) → Goes pre ts e rest
   stays pre left ts e rest p h =
-      let k = ok_is (left, ts) (e, rest) h in
+      let k = same_ok (left, ts) (e, rest) h in
       record {
         front = [];
         parts = ap (λ (x : X × List Placed). x.1) k;
@@ -107,6 +110,7 @@ module _ {S X : Type 0} (P : RuleOf X) (Q : Rule) (make : S → X → Syntax →
   turns zero pre left ts e rest p h = stays pre left ts e rest p h
   turns (suc n) pre left ts e rest p h = by_sign n (turns n) pre left ts e rest p (sign ts) refl h
 
+  -- what a chain of operands reads is one of the rule
   pub chained_sound : (first : Syntax → X) → ((a : List Placed) (x : Syntax) → Q a x → P a (first x)) → Sound P (chained sign operand first make)
   unfolding chained
   chained_sound first one = record {
@@ -131,24 +135,29 @@ pub record Begins (k : Lexeme) (ts rest : List Placed) : Type 0 where
 begins_with : (k : Lexeme) (at : ℕ) (ts rest : List Placed) → ts ≡ rest → Begins k ((k, at) ∷ ts) rest
 begins_with k at ts rest e = record { at = at; parts = ap (λ (z : List Placed). (k, at) ∷ z) e }
 
+-- a minus that is read is the first token
 pub minus_is : (ts rest : List Placed) → minus_sign ts ≡ Some rest → Begins t.Minus ts rest
-minus_is ((t.Minus, at) ∷ ts) rest e = begins_with t.Minus at ts rest (some_is ts rest e)
+minus_is ((t.Minus, at) ∷ ts) rest e = begins_with t.Minus at ts rest (same_Some ts rest e)
 minus_is _ rest e = absurd cc
 
+-- a parenthesis that was to close is the first token
 pub close_is : (end : ℕ) (ts rest : List Placed) → close end ts ≡ Ok rest → Begins t.Close ts rest
-close_is end ((t.Close, at) ∷ ts) rest e = begins_with t.Close at ts rest (ok_is ts rest e)
+close_is end ((t.Close, at) ∷ ts) rest e = begins_with t.Close at ts rest (same_ok ts rest e)
 close_is end _ rest e = absurd cc
 
+-- a parenthesis that closes is the first token
 pub close_sign_is : (ts rest : List Placed) → close_sign ts ≡ Some rest → Begins t.Close ts rest
-close_sign_is ((t.Close, at) ∷ ts) rest e = begins_with t.Close at ts rest (some_is ts rest e)
+close_sign_is ((t.Close, at) ∷ ts) rest e = begins_with t.Close at ts rest (same_Some ts rest e)
 close_sign_is _ rest e = absurd cc
 
+-- a caret that is read is the first token, at its place
 pub caret_is : (ts : List Placed) (at : ℕ) (rest : List Placed) → caret_sign ts ≡ Some (at, rest) → ts ≡ (t.Caret, at) ∷ rest
-caret_is ((t.Caret, at) ∷ ts) to rest e = ap (λ (z : ℕ × List Placed). (t.Caret, z.0) ∷ z.1) (some_is (at, ts) (to, rest) e)
+caret_is ((t.Caret, at) ∷ ts) to rest e = ap (λ (z : ℕ × List Placed). (t.Caret, z.0) ∷ z.1) (same_Some (at, ts) (to, rest) e)
 caret_is _ to rest e = absurd cc
 
+-- a parenthesis that opens is the first token
 pub open_is : (ts rest : List Placed) → open_sign ts ≡ Some rest → Begins t.Open ts rest
-open_is ((t.Open, at) ∷ ts) rest e = begins_with t.Open at ts rest (some_is ts rest e)
+open_is ((t.Open, at) ∷ ts) rest e = begins_with t.Open at ts rest (same_Some ts rest e)
 open_is _ rest e = absurd cc
 
 -- the token with which an atom begins
@@ -158,8 +167,9 @@ Starts (Word w) ts rest = Begins (t.Name w) ts rest
 Starts Group ts rest = Begins t.Open ts rest
 
 start_same : (b' : Beginning) (ts us : List Placed) (b : Beginning) (rest : List Placed) → Starts b' ts us → ◌≡◌ {A = SignOf Beginning} (Some (b', us)) (Some (b, rest)) → Starts b ts rest
-start_same b' ts us b rest s e = subst (λ (p : Beginning × List Placed). Starts p.0 ts p.1) (some_is (b', us) (b, rest) e) s
+start_same b' ts us b rest s e = subst (λ (p : Beginning × List Placed). Starts p.0 ts p.1) (same_Some (b', us) (b, rest) e) s
 
+-- what begins an atom is its first token
 pub start_is : (ts : List Placed) (b : Beginning) (rest : List Placed) → start ts ≡ Some (b, rest) → Starts b ts rest
 start_is [] b rest e = absurd cc
 start_is ((t.Number z n, at) ∷ ts) b rest e = start_same (Numeral z) ((t.Number z n, at) ∷ ts) ts b rest (n, begins_with (t.Number z n) at ts ts refl) e
@@ -170,7 +180,7 @@ start_is (_ ∷ ts) b rest e = absurd cc
 -- a rule holds of equal things alike
 moved : {X : Type 0} (P : RuleOf X) (front ts : List Placed) (x e : X) (r rest : List Placed) → ts ≡ front ++ r → P front x → ◌≡◌ {A = ReadingOf X} (Ok (x, r)) (Ok (e, rest)) → Spells P ts e rest
 moved {X} P front ts x e r rest s p h =
-    let k = ok_is (x, r) (e, rest) h in
+    let k = same_ok (x, r) (e, rest) h in
     record {
       front = front;
       parts = s ∙ ap (λ (z : X × List Placed). front ++ z.1) k;
@@ -192,7 +202,7 @@ whole_is ((t.Number z m, at) ∷ ts) n rest e = by_test (is_whole m) refl e
     by_test : (c : Bool) → is_whole m ≡ c → with_tokens ts (if c then Some m else None) ≡ Some (n, rest) → (z' : ℤ) × (at' : ℕ) × (is_whole n ≡ true) × ((t.Number z m, at) ∷ ts ≡ (t.Number z' n, at') ∷ rest)
     by_test false h e = absurd cc
     by_test true h e =
-        let k = some_is (m, ts) (n, rest) e in
+        let k = same_Some (m, ts) (n, rest) e in
         (z, at, subst (λ (y : ℕ × List Placed). is_whole y.0 ≡ true) k h, ap (λ (y : ℕ × List Placed). (t.Number z y.0, at) ∷ y.1) k)
 whole_is (_ ∷ ts) n rest e = absurd cc
 
@@ -203,14 +213,14 @@ signed_sound ts k rest e = by_minus (minus_sign ts) refl e
     by_positive None h e = absurd cc
     by_positive (Some y) h e =
         let w = whole_is ts y.0 y.1 h in
-        moved IsWhole ((t.Number w.0 y.0, w.1) ∷ []) ts (pos y.0) k y.1 rest w.3 (g.positive w.1 w.2) (ap ok_of (some_is (pos y.0, y.1) (k, rest) e))
+        moved IsWhole ((t.Number w.0 y.0, w.1) ∷ []) ts (pos y.0) k y.1 rest w.3 (g.positive w.1 w.2) (ap ok_of (same_Some (pos y.0, y.1) (k, rest) e))
 
     by_negative : (r : List Placed) → Begins t.Minus ts r → (s : SignOf ℕ) → whole_sign r ≡ s → negative_whole s ≡ Some (k, rest) → Spells IsWhole ts k rest
     by_negative r b None h e = absurd cc
     by_negative r b (Some y) h e =
         let w = whole_is r y.0 y.1 h in
         moved IsWhole ((t.Minus, b.at) ∷ (t.Number w.0 y.0, w.1) ∷ []) ts (neg_ℤ (pos y.0)) k y.1 rest (b.parts ∙ ap (λ (z : List Placed). (t.Minus, b.at) ∷ z) w.3) (g.negative b.at w.1 w.2)
-        (ap ok_of (some_is (neg_ℤ (pos y.0), y.1) (k, rest) e))
+        (ap ok_of (same_Some (neg_ℤ (pos y.0), y.1) (k, rest) e))
 
     by_minus : (o : Option (List Placed)) → minus_sign ts ≡ o → signed_by ts o ≡ Some (k, rest) → Spells IsWhole ts k rest
     by_minus None h e = by_positive (whole_sign ts) refl e
@@ -218,7 +228,7 @@ signed_sound ts k rest e = by_minus (minus_sign ts) refl e
 
 bad_is : (at : ℕ) (s : SignOf ℤ) (k : ℤ) (rest : List Placed) → or_bad at s ≡ Ok (k, rest) → s ≡ Some (k, rest)
 bad_is at None k rest e = absurd cc
-bad_is at (Some y) k rest e = ap some_of (ok_is y (k, rest) e)
+bad_is at (Some y) k rest e = ap some_of (same_ok y (k, rest) e)
 
 signed_awaits : (ts : List Placed) (x : ℤ × List Placed) → signed_sign ts ≡ Some x → awaits_operand ts ≡ true
 signed_awaits [] x e = absurd cc
@@ -238,7 +248,7 @@ grouped_body end at ts k rest e =
     let b = bind_ok (or_bad at (signed_sign ts)) (λ y. close end y.1 >>= λ after. Ok (y.0, after)) (k, rest) e in
     let c = bind_ok (close end b.0.1) (λ after. Ok (b.0.0, after)) (k, rest) b.2 in
     let q = signed_sound ts b.0.0 b.0.1 (bad_is at (signed_sign ts) b.0.0 b.0.1 b.1) in
-    let same = ok_is (b.0.0, c.0) (k, rest) c.2 in
+    let same = same_ok (b.0.0, c.0) (k, rest) c.2 in
     let d = close_is end b.0.1 c.0 c.1 in
     let after : b.0.1 ≡ (t.Close, d.at) ∷ rest = d.parts ∙ ap (λ (z : ℤ × List Placed). (t.Close, d.at) ∷ z.1) same in
     record { front = q.front; to = d.at; parts = q.parts ∙ ap (λ (z : List Placed). q.front ++ z) after; holds = subst (λ (z : ℤ). IsWhole q.front z) (ap (λ (z : ℤ × List Placed). z.0) same) q.holds }
@@ -308,11 +318,12 @@ closed_sound {X} end Q inner sound ts e rest h =
     let b = bind_ok (inner ts) (λ y. close end y.1 >>= λ after. Ok (y.0, after)) (e, rest) h in
     let c = bind_ok (close end b.0.1) (λ after. Ok (b.0.0, after)) (e, rest) b.2 in
     let q = sound.spells ts b.0.0 b.0.1 b.1 in
-    let k = ok_is (b.0.0, c.0) (e, rest) c.2 in
+    let k = same_ok (b.0.0, c.0) (e, rest) c.2 in
     let d = close_is end b.0.1 c.0 c.1 in
     let after : b.0.1 ≡ (t.Close, d.at) ∷ rest = d.parts ∙ ap (λ (z : X × List Placed). (t.Close, d.at) ∷ z.1) k in
     record { front = q.front; to = d.at; parts = q.parts ∙ ap (λ (z : List Placed). q.front ++ z) after; holds = subst (λ (z : X). Q q.front z) (ap (λ (z : X × List Placed). z.0) k) q.holds }
 
+-- an expression more makes a longer list
 pub commas : (n : ℕ) → Joins (IsList n) (IsExpr n) listed comma_sign
 commas n = record { joined = comma_joined n }
 
@@ -324,7 +335,7 @@ module _ (end n : ℕ) (inner : List Placed → Reading) (sound : Sound (IsExpr 
   arguments_sound ts xs rest None s h = let q = closed_sound end (IsList n) (listing inner) listing_sound ts xs rest h in record { front = q.front; to = q.to; parts = q.parts; holds = g.some q.holds }
   arguments_sound ts xs rest (Some r) s h =
       let b = close_sign_is ts r s in
-      let k = ok_is (Empty, r) (xs, rest) h in
+      let k = same_ok (Empty, r) (xs, rest) h in
       record {
         front = [];
         to = b.at;
@@ -348,6 +359,7 @@ module _ (end n : ℕ) (inner : List Placed → Reading) (sound : Sound (IsExpr 
       let p = open_is r inside k in
       call_sound w ts inside s.at p.at e rest (function_of w) refl (s.parts ∙ ap (λ (z : List Placed). (t.Name w, s.at) ∷ z) p.parts) h
 
+  -- what is read as an atom is one of the grammar
   pub atom_sound : (ts : List Placed) (e : Syntax) (rest : List Placed) (f : Option (Beginning × List Placed)) → start ts ≡ f → atom_by end inner ts f ≡ Ok (e, rest) → Spells (IsAtom n) ts e rest
   atom_sound ts e rest None s h = absurd cc
   atom_sound ts e rest (Some (Numeral z, r)) s h = let b = start_is ts (Numeral z) r s in moved (IsAtom n) ((t.Number z b.0, b.1.at) ∷ []) ts (tree.Number z) e r rest b.1.parts (g.number b.1.at) h
@@ -368,16 +380,18 @@ unary_sound_by P Q operand sound negative other ts e rest by_other (Some r) s h 
     let m = minus_is ts r s in
     let b = bind_ok (operand r) (λ y. Ok (tree.Negated y.0, y.1)) (e, rest) h in
     let q = sound.spells r b.0.0 b.0.1 b.1 in
-    let k = ok_is (tree.Negated b.0.0, b.0.1) (e, rest) b.2 in
+    let k = same_ok (tree.Negated b.0.0, b.0.1) (e, rest) b.2 in
     record {
       front = (t.Minus, m.at) ∷ q.front;
       parts = m.parts ∙ ap (λ (z : List Placed). (t.Minus, m.at) ∷ z) (q.parts ∙ ap (λ (z : Syntax × List Placed). q.front ++ z.1) k);
       holds = subst (λ (z : Syntax). P ((t.Minus, m.at) ∷ q.front) z) (ap (λ (z : Syntax × List Placed). z.0) k) (negative q.front b.0.0 m.at q.holds);
     }
 
+-- a product more makes a longer sum
 pub sums : (n : ℕ) → Joins (IsExpr n) (IsTerm n) tree.Binary sum_sign
 sums n = record { joined = sum_joined n }
 
+-- a factor more makes a longer product
 pub products : (n : ℕ) → Joins (IsTerm n) (IsUnary n) tree.Binary product_sign
 products n = record { joined = product_joined n }
 
@@ -387,6 +401,7 @@ term_by end n sound = chained_sound (IsTerm n) (IsUnary n) tree.Binary product_s
 expr_by : (end n : ℕ) → Sound (IsUnary n) (unary_at end n) → Sound (IsExpr n) (operands sum_sign (operands product_sign (unary_at end n)))
 expr_by end n sound = chained_sound (IsExpr n) (IsTerm n) tree.Binary sum_sign (operands product_sign (unary_at end n)) (sums n) (term_by end n sound) itself (λ a x q. g.term q)
 
+-- what is read as a factor is one of the grammar
 pub unary_sound : (end n : ℕ) → Sound (IsUnary n) (unary_at end n)
 unfolding unary_at
 unary_sound end zero = record { spells = λ ts e rest h. absurd cc }
@@ -401,10 +416,12 @@ unary_sound end (suc n) =
           (minus_sign ts) refl h;
     }
 
+-- what is read as a product is one of the grammar
 pub term_sound : (end n : ℕ) → Sound (IsTerm n) (term_at end n)
 unfolding term_at
 term_sound end n = term_by end n (unary_sound end n)
 
+-- what is read as a sum is one of the grammar
 pub expr_sound : (end n : ℕ) → Sound (IsExpr n) (expr_at end n)
 unfolding expr_at term_at
 expr_sound end n = expr_by end n (unary_sound end n)

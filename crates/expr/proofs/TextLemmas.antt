@@ -6,7 +6,7 @@ use Rattle.std.proofs.lemmas.List.{take-append-drop, take_at, drop_at}
 use Rattle.std.specs.List.{AllPass, prefix_len}
 use Rattle.std.specs.Char.{is_ascii_digit}
 use Rattle.fixed.specs.declared.faults.NumFault.{NumFault}
-use Rattle.fixed.specs.Numerals.{Fraction, no_point, point, Numeral, IsNumeral, fraction_digits, fraction_text, exponent_text, numeral_text, value_of, Ends, with_rest}
+use Rattle.fixed.specs.Numerals.{Fraction, no_point, point, Numeral, IsNumeral, fraction_digits, fraction_text, exponent_text, numeral_text, value_of, EndsBefore, with_rest}
 use Rattle.fixed.specs.NumeralParts.{front_of}
 use Rattle.expr.specs.Tokens.{Lexeme, Placed, whole_in}
 use Rattle.expr.specs.Tokens as t
@@ -17,7 +17,8 @@ use Rattle.expr.specs.Text.{Every, Stops, IsToken, IsFront, IsText}
 use Rattle.expr.specs.Text as g
 use Rattle.fixed.proofs.NumeralLemmas.{front_ok, front_reading}
 use Rattle.expr.proofs.Lexing.{prefix_more, prefix_stops, word_start, token_less, skip_turn, take_turn}
-use Rattle.expr.proofs.Results.{some_is, ok_is}
+use Rattle.std.proofs.lemmas.Option.{same_Some}
+use Rattle.line_text.proofs.StepLaws.{same_ok}
 
 -- ---- the longest front that passes
 
@@ -25,6 +26,7 @@ span_step : (test : ℕ → Bool) (b : ℕ) (rest : List ℕ) (c : Bool) → tes
 span_step test b rest true h e = rw (prefix_more test b rest h) (h, e)
 span_step test b rest false h e = rw (prefix_stops test b rest h) tt
 
+-- each byte of the front that passes passes
 pub span_every : (test : ℕ → Bool) (bs : List ℕ) → Every test (take (prefix_len test bs) bs)
 span_every test [] = tt
 span_every test (b ∷ rest) = span_step test b rest (test b) refl (span_every test rest)
@@ -33,6 +35,7 @@ stop_step : (test : ℕ → Bool) (b : ℕ) (rest : List ℕ) (c : Bool) → tes
 stop_step test b rest true h e = rw (prefix_more test b rest h) e
 stop_step test b rest false h e = rw (prefix_stops test b rest h) h
 
+-- the byte behind that front doesn't pass
 pub span_stops : (test : ℕ → Bool) (bs : List ℕ) → Stops test (drop (prefix_len test bs) bs)
 span_stops test [] = tt
 span_stops test (b ∷ rest) = stop_step test b rest (test b) refl (span_stops test rest)
@@ -41,6 +44,7 @@ none_passes : (test : ℕ → Bool) (rest : List ℕ) → Stops test rest → pr
 none_passes test [] s = refl
 none_passes test (b ∷ rest) s = prefix_stops test b rest s
 
+-- bytes that pass before one that doesn't are the whole front
 pub span_is : (test : ℕ → Bool) (a rest : List ℕ) → Every test a → Stops test rest → prefix_len test (a ++ rest) ≡ length a
 span_is test [] rest e s = none_passes test rest s
 span_is test (b ∷ a) rest e s = prefix_more test b (a ++ rest) e.0 ∙ ap suc (span_is test a rest e.1 s)
@@ -58,7 +62,7 @@ module _ (bits : ℕ) (rest : List ℕ) where
   Alone b k = IsToken bits rest (b ∷ []) k
 
   choose_by : (b m : ℕ) (x k : Lexeme) (other : Option Lexeme) (c : Bool) → eqb b m ≡ c → Alone m x → (other ≡ Some k → Alone b k) → cond c (Some x) other ≡ Some k → Alone b k
-  choose_by b m x k other true h p q e = subst (λ (z : Lexeme). Alone b z) (some_is x k e) (subst (λ (n : ℕ). Alone n x) (sym (eqb-true b m h)) p)
+  choose_by b m x k other true h p q e = subst (λ (z : Lexeme). Alone b z) (same_Some x k e) (subst (λ (n : ℕ). Alone n x) (sym (eqb-true b m h)) p)
   choose_by b m x k other false h p q e = q e
 
   choose : (b m : ℕ) (x k : Lexeme) (other : Option Lexeme) → Alone m x → (other ≡ Some k → Alone b k) → cond (eqb b m) (Some x) other ≡ Some k → Alone b k
@@ -71,7 +75,7 @@ module _ (bits : ℕ) (rest : List ℕ) where
       (choose b 40 t.Open k _ g.open_parenthesis (choose b 41 t.Close k _ g.close_parenthesis (choose b 44 t.Comma k _ g.comma (choose b 59 t.Semicolon k _ g.semicolon (choose b 61 t.Equals k None g.equals (λ h. absurd cc)))))))))) e
 
 moved : (bits : ℕ) (ts : List ℕ) (k : Lexeme) (a : List ℕ) (k' : Lexeme) (a' : List ℕ) → ◌≡◌ {A = TokenRead} (Ok (k, a)) (Ok (k', a')) → Front bits ts k a → Front bits ts k' a'
-moved bits ts k a k' a' e f = let h = ok_is (k, a) (k', a') e in subst (λ (x : Lexeme × List ℕ). Front bits ts x.0 x.1) h f
+moved bits ts k a k' a' e f = let h = same_ok (k, a) (k', a') e in subst (λ (x : Lexeme × List ℕ). Front bits ts x.0 x.1) h f
 
 symbol_front : (bits b : ℕ) (rest : List ℕ) (k : Lexeme) (after : List ℕ) (o : Option Lexeme) → symbol_of b ≡ o → symbol_token rest o ≡ Ok (k, after) → Front bits (b ∷ rest) k after
 symbol_front bits b rest k after None h e = absurd cc
@@ -109,6 +113,7 @@ number_case : (bits : ℕ) (ts : List ℕ) (k : Lexeme) (after : List ℕ) (othe
 number_case bits ts k after other true f e = number_front bits ts k after (front_of bits ts) refl e
 number_case bits ts k after other false f e = f e
 
+-- what is read as a token is one of the text's rule
 pub token_sound : (bits : ℕ) (ts : List ℕ) (k : Lexeme) (after : List ℕ) → token_at bits ts ≡ Ok (k, after) → Front bits ts k after
 unfolding token_at
 token_sound bits [] k after e = absurd cc
@@ -128,6 +133,7 @@ numeral_begins_by [] no_point u a h = absurd (omega arith)
 numeral_begins_by [] (point ds) u a h = record { byte = 46; rest = ds ++ u; parts = refl; begins = refl }
 numeral_begins_by (b ∷ w) f u a h = record { byte = b; rest = w ++ (fraction_text f ++ u); parts = refl; begins = let d : is_ascii_digit b ≡ true = a 0 0 (omega arith) in rw d refl }
 
+-- a numeral's text begins as a number
 pub numeral_begins : (n : Numeral) (rest : List ℕ) → IsNumeral n → BeginsNumeral (numeral_text n ++ rest)
 numeral_begins n rest h =
     let split : n.whole ++ (fraction_text n.fraction ++ (exponent_text n.exponent ++ rest)) ≡ numeral_text n ++ rest = simp append_assoc in
@@ -139,7 +145,7 @@ token_number bits b rest h =
     ap (λ c. cond c (number_token (b ∷ rest) (front_of bits (b ∷ rest)))
     (cond (is_identifier_start b) (Ok (t.Name (take (prefix_len is_identifier_continue (b ∷ rest)) (b ∷ rest)), drop (prefix_len is_identifier_continue (b ∷ rest)) (b ∷ rest))) (symbol_token rest (symbol_of b)))) h
 
-numeral_token : (bits : ℕ) (n : Numeral) (z : ℤ) (rest : List ℕ) → IsNumeral n → Ends n rest → value_of bits n ≡ Ok z → token_at bits (numeral_text n ++ rest) ≡ Ok (t.Number z (whole_in (numeral_text n)), rest)
+numeral_token : (bits : ℕ) (n : Numeral) (z : ℤ) (rest : List ℕ) → IsNumeral n → EndsBefore n rest → value_of bits n ≡ Ok z → token_at bits (numeral_text n ++ rest) ≡ Ok (t.Number z (whole_in (numeral_text n)), rest)
 numeral_token bits n z rest h ends v =
     let b = numeral_begins n rest h in
     ap (token_at bits) b.parts ∙ token_number bits b.byte b.rest b.begins ∙ ap (λ (u : List ℕ). number_token u (front_of bits u)) (sym b.parts)
@@ -169,6 +175,7 @@ name_again bits b bs rest d ev st =
     name_read : ℕ → TokenRead
     name_read m = made (take m (b ∷ (bs ++ rest))) (drop m (b ∷ (bs ++ rest)))
 
+-- a token of the text's rule is read
 pub token_complete : {bits : ℕ} {a rest : List ℕ} {k : Lexeme} → IsToken bits rest a k → token_at bits (a ++ rest) ≡ Ok (k, rest)
 unfolding token_at symbol_of
 token_complete g.plus = refl
@@ -210,6 +217,7 @@ begins {bits} {a} {rest} (g.name {b} {bs} d ev st) = (b, bs ++ rest, refl, start
 
 -- ---- the whole text
 
+-- places behind a front, counted from the end of the text
 pub after_front : (at total : ℕ) (ts front after : List ℕ) → at + length ts ≡ total → ts ≡ front ++ after → at + length front + length after ≡ total
 after_front at total ts front after h e = let l = ap length e in let k = length-append front after in omega arith
 
@@ -220,7 +228,7 @@ tokens_ok : List Placed → Tokens
 tokens_ok z = Ok z
 
 with_front_ok : (x : Placed) (r : Tokens) (ps : List Placed) → with_front (x ∷ []) r ≡ Ok ps → (qs : List Placed) × (r ≡ Ok qs) × (x ∷ qs ≡ ps)
-with_front_ok x (Ok qs) ps e = (qs, refl, ok_is (x ∷ qs) ps e)
+with_front_ok x (Ok qs) ps e = (qs, refl, same_ok (x ∷ qs) ps e)
 with_front_ok x (Err f) ps e = absurd cc
 
 read_token : (n bits total : ℕ) → Reads n bits total → (at : ℕ) (ts : List ℕ) (ps : List Placed) (r : TokenRead) → token_at bits ts ≡ r → length ts ≤ suc n → at + length ts ≡ total
@@ -254,6 +262,7 @@ reads zero bits total at (b ∷ rest) ps l h e = absurd (omega arith)
 reads (suc n) bits total at [] ps l h e = none_read bits at total ps (omega arith) e
 reads (suc n) bits total at (b ∷ rest) ps l h e = read_byte n bits total (reads n bits total) at b rest ps (is_space b) refl l h e
 
+-- what is read as tokens is the text's tokens
 pub text_sound : (bits : ℕ) (text : List ℕ) (ps : List Placed) → tokens_of bits text ≡ Ok ps → IsText bits text ps
 unfolding tokens_of
 text_sound bits text ps e = reads (length text) bits (length text) 0 text ps (omega arith) (omega arith) e
@@ -283,6 +292,7 @@ text_again {bits} (g.token {at} {end} {a} {text} {rest} {k} {ts} p q) e total h 
     let l = length-append a text in
     again_token bits at total k text ts (a ++ text) b.0 b.1 b.2 b.3 (token_complete p) h (text_again q e total (omega arith))
 
+-- the text's tokens are read
 pub text_complete : (bits : ℕ) (text : List ℕ) (ps : List Placed) → IsText bits text ps → tokens_of bits text ≡ Ok ps
 unfolding tokens_of
 text_complete bits text ps p = text_again p refl (length text) (omega arith)

@@ -16,7 +16,7 @@ use Rattle.expr.specs.Text as g
 use Rattle.fixed.specs.NumeralParts.{front_of}
 use Rattle.fixed.proofs.NumeralLemmas.{front_bad, front_too_great}
 use Rattle.expr.proofs.TextLemmas.{numeral_begins, token_sound, after_front}
-use Rattle.expr.proofs.Results.{err_is}
+use Rattle.line_text.proofs.StepLaws.{same_err}
 
 -- behind these tokens, at this place, no token is read
 record Stuck (bits at : ℕ) (ts : List ℕ) (f : Refusal) : Type 0 where
@@ -64,7 +64,7 @@ stuck_token n bits total ih at b rest f (Err w) s t h e =
       no_space = s;
       wrong = w;
       fails = t;
-      is = ap (λ (z : ℕ). refusal_at z w) (sym place) ∙ err_is (refusal_at (total - length (b ∷ rest)) w) f e;
+      is = ap (λ (z : ℕ). refusal_at z w) (sym place) ∙ same_err (refusal_at (total - length (b ∷ rest)) w) f e;
     }
 
 stuck_byte : (n bits total : ℕ) → StuckAll n bits total → (at b : ℕ) (rest : List ℕ) (f : Refusal) (c : Bool) → is_space b ≡ c → at + length (b ∷ rest) ≡ total
@@ -189,6 +189,7 @@ wrong_by bits text f tokens place b rest (wrong.Number number.BadNumber) p s e =
 wrong_by bits text f tokens place b rest (wrong.Number number.NumberRange) p s e =
     record { tokens = tokens; rest = b ∷ rest; front = p; wrong = numeral_too_great bits b rest (begins_number b) (token_err bits b rest (wrong.Number number.NumberRange) e) }
 
+-- where the tokens aren't read, the text has the cause
 pub text_wrong : (bits : ℕ) (text : List ℕ) (f : Refusal) → tokens_of bits text ≡ Err f → Lexical bits text f
 text_wrong bits text f e =
     let s = text_stuck bits text f e in

@@ -11,12 +11,12 @@ use Rattle.expr.specs.Grammar.{IsProgram}
 use Rattle.expr.specs.Halting.{HaltsProgram}
 use Rattle.expr.specs.Lexing.{tokens_of}
 use Rattle.expr.specs.Sources.{source_at}
-use Rattle.expr.specs.Syntax.{Syntax, Definition, Source, names_in}
+use Rattle.expr.specs.Syntax.{Syntax, Definition, Source, defined_names}
 use Rattle.expr.specs.Text.{IsText, IsWrongAt, BeginsBadly, BeginsMalformed, BeginsTooGreat}
 use Rattle.expr.specs.Tokens.{Placed}
 use Rattle.energy_program.specs.Programs.{program_tree, Trees}
 use Rattle.energy_program.specs.Tree.{Tree}
-use Rattle.expr.specs.Uses.{in_place, meaning, trees}
+use Rattle.expr.specs.Uses.{in_place, source_meaning, trees}
 
 -- The text says the tree, where these are the variables, with at most n parentheses and minus signs open around a token.
 pub record IsEnergy (bits : ℕ) (variables : List (List ℕ)) (text : List ℕ) (n : ℕ) (e : Tree) : Type 0 where
@@ -27,8 +27,8 @@ pub record IsEnergy (bits : ℕ) (variables : List (List ℕ)) (text : List ℕ)
   pub few : length tokens ≤ 4096
   pub derived : IsProgram (suc n) tokens body definitions
   pub few_definitions : length definitions ≤ 64
-  pub new : AreNew variables [] (names_in definitions)
-  pub meant : meaning variables (body, definitions) ≡ Ok e
+  pub new : AreNew variables [] (defined_names definitions)
+  pub meant : source_meaning variables (body, definitions) ≡ Ok e
 
 -- the answer to a text that says this tree: the tree, or that the text nests too deep
 abbrev pub IsRead : {A : Type 0} → ℕ → Tree → Result (Program A) (Failure (ExprFault A)) → Type 0
@@ -62,7 +62,7 @@ pub record IsReserved (bits : ℕ) (variables : List (List ℕ)) (text : List �
   pub written : IsWritten bits text
   pub before : List (List ℕ)
   pub after : List (List ℕ)
-  pub parts : names_in written.definitions ≡ before ++ (name ∷ after)
+  pub parts : defined_names written.definitions ≡ before ++ (name ∷ after)
   pub new : AreNew variables [] before
   pub taken : is_taken variables name ≡ true
 
@@ -71,7 +71,7 @@ pub record IsRepeated (bits : ℕ) (variables : List (List ℕ)) (text : List �
   pub written : IsWritten bits text
   pub before : List (List ℕ)
   pub after : List (List ℕ)
-  pub parts : names_in written.definitions ≡ before ++ (name ∷ after)
+  pub parts : defined_names written.definitions ≡ before ++ (name ∷ after)
   pub new : AreNew variables [] before
   pub free : is_taken variables name ≡ false
   pub given : is_given before name ≡ true
@@ -79,8 +79,8 @@ pub record IsRepeated (bits : ℕ) (variables : List (List ℕ)) (text : List �
 -- the names of all definitions are new, and the leftmost name that stands for nothing is this one
 pub record IsUndefined (bits : ℕ) (variables : List (List ℕ)) (text : List ℕ) (name : List ℕ) : Type 0 where
   pub written : IsWritten bits text
-  pub new : AreNew variables [] (names_in written.definitions)
-  pub first : meaning variables (written.body, written.definitions) ≡ Err (UnknownName name)
+  pub new : AreNew variables [] (defined_names written.definitions)
+  pub first : source_meaning variables (written.body, written.definitions) ≡ Err (UnknownName name)
 
 -- the name stands before a parenthesis and is no function's
 pub record IsNoFunction (bits : ℕ) (text : List ℕ) (name : List ℕ) : Type 0 where
@@ -111,7 +111,7 @@ limited false tokens = Ok tokens
 
 -- the trees of a body and definitions, whose names are to be new
 abbrev pub trees_of_source : List (List ℕ) → Source → Result Trees Refusal
-trees_of_source variables source = checked variables [] (names_in source.1) >>= λ names. trees variables source
+trees_of_source variables source = checked variables [] (defined_names source.1) >>= λ names. trees variables source
 
 -- the trees of the tokens of a text that ends at a place
 abbrev pub trees_of_tokens : List (List ℕ) → ℕ → List Placed → Result Trees Refusal
@@ -123,7 +123,7 @@ trees_in bits variables text = do
   tokens ← tokens_of bits text
   few ← limited (nat_lt 4096 (length tokens)) tokens
   source ← source_at (length text) few
-  names ← checked variables [] (names_in source.1)
+  names ← checked variables [] (defined_names source.1)
   trees variables source
 
 -- the tree of a text, or its first fault

@@ -61,10 +61,10 @@ offset end ((k, at) ∷ rest) = at
 abbrev pub SignOf : Type 0 → Type 0
 SignOf S = Option (S × List Placed)
 
-abbrev pub Sign : Type 0
-Sign = SignOf Operator
+abbrev pub OperatorSign : Type 0
+OperatorSign = SignOf Operator
 
-abbrev pub Shows : Option (Operator × Bor (List Token)) → Sign → Type 0
+abbrev pub Shows : Option (Operator × Bor (List Token)) → OperatorSign → Type 0
 Shows None sign = sign ≡ None
 Shows (Some x) sign = sign ≡ Some (x.0, placed x.1.now)
 
@@ -72,12 +72,12 @@ abbrev pub ShowsRest : Option (Bor (List Token)) → Option (List Placed) → Ty
 ShowsRest None rest = rest ≡ None
 ShowsRest (Some x) rest = rest ≡ Some (placed x.now)
 
-abbrev pub sum_sign : List Placed → Sign
+abbrev pub sum_sign : List Placed → OperatorSign
 sum_sign ((t.Plus, at) ∷ rest) = Some (op.Add, rest)
 sum_sign ((t.Minus, at) ∷ rest) = Some (op.Subtract, rest)
 sum_sign _ = None
 
-abbrev pub product_sign : List Placed → Sign
+abbrev pub product_sign : List Placed → OperatorSign
 product_sign ((t.Star, at) ∷ rest) = Some (op.Multiply, rest)
 product_sign ((t.Slash, at) ∷ rest) = Some (op.Divide, rest)
 product_sign _ = None
@@ -189,7 +189,7 @@ joined operator left read = read >>= λ x. Ok (s.Binary operator left x.0, x.1)
 abbrev pub itself : Syntax → Syntax
 itself x = x
 
-abbrev pub operands : (List Placed → Sign) → (List Placed → Reading) → List Placed → Reading
+abbrev pub operands : (List Placed → OperatorSign) → (List Placed → Reading) → List Placed → Reading
 operands sign operand = chained sign operand itself s.Binary
 
 abbrev pub listed : ℕ → Arguments → Syntax → Arguments

@@ -58,16 +58,16 @@ Definition = List ℕ × Syntax
 abbrev pub definition_of : {A : Type 0} → define.Definition A → Definition
 definition_of d = (d.name.now, syntax_of d.value.value)
 
-abbrev pub definitions_of : {A : Type 0} → Vec (define.Definition A) A → List Definition
-definitions_of v = map definition_of v.items
+abbrev pub definition_views : {A : Type 0} → Vec (define.Definition A) A → List Definition
+definition_views v = map definition_of v.items
 
 -- the names that these definitions define
-abbrev pub names_in : List Definition → List (List ℕ)
-names_in definitions = map (λ d. d.0) definitions
+abbrev pub defined_names : List Definition → List (List ℕ)
+defined_names definitions = map (λ d. d.0) definitions
 
 -- the body of a text and its definitions
 abbrev pub Source : Type 0
 Source = Syntax × List Definition
 
 abbrev pub source_of : {A : Type 0} → whole.Source A → Source
-source_of s = (syntax_of s.body.value, definitions_of s.definitions)
+source_of s = (syntax_of s.body.value, definition_views s.definitions)

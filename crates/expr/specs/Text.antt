@@ -1,7 +1,7 @@
 -- Which bytes spell which tokens (operators and names as in the OpenMM User Guide, custom force expressions).
 use Rattle.std.specs.Prelude.{◌≡◌, ℕ, ℤ, ◌+◌, Bool, true, false, List, [], ◌∷◌, ◌++◌, length, Ok, Err}
 use Rattle.fixed.specs.declared.faults.NumFault.TheVariants.{NumberRange}
-use Rattle.fixed.specs.Numerals.{Numeral, IsNumeral, numeral_text, value_of, Ends, BeginsWith}
+use Rattle.fixed.specs.Numerals.{Numeral, IsNumeral, numeral_text, value_of, EndsBefore, BeginsWith}
 use Rattle.expr.specs.Tokens.{Lexeme, Placed, whole_in}
 use Rattle.expr.specs.Tokens as t
 use Rattle.line_text.specs.Identifiers.{is_identifier_start, is_identifier_continue}
@@ -29,7 +29,7 @@ pub data IsToken (bits : ℕ) (rest : List ℕ) : List ℕ → Lexeme → Type 0
   comma : IsToken bits rest (44 ∷ []) t.Comma
   semicolon : IsToken bits rest (59 ∷ []) t.Semicolon
   equals : IsToken bits rest (61 ∷ []) t.Equals
-  number : {n : Numeral} {z : ℤ} → IsNumeral n → Ends n rest → value_of bits n ≡ Ok z → IsToken bits rest (numeral_text n) (t.Number z (whole_in (numeral_text n)))
+  number : {n : Numeral} {z : ℤ} → IsNumeral n → EndsBefore n rest → value_of bits n ≡ Ok z → IsToken bits rest (numeral_text n) (t.Number z (whole_in (numeral_text n)))
   name : {b : ℕ} {bs : List ℕ} → is_identifier_start b ≡ true → Every is_identifier_continue bs → Stops is_identifier_continue rest → IsToken bits rest (b ∷ bs) (t.Name (b ∷ bs))
 
 -- From this place on the text begins with these tokens, each with its place, and goes on from that place with the rest.

@@ -9,7 +9,7 @@ use Rattle.line_text.specs.Steps.{◌>>=◌}
 use Rattle.energy_program.specs.Faults.{Refusal, UnknownName}
 use Rattle.energy_program.specs.Names.{input_of}
 use Rattle.expr.specs.Definitions.{number_from}
-use Rattle.expr.specs.Syntax.{Syntax, Definition, Source, names_in}
+use Rattle.expr.specs.Syntax.{Syntax, Definition, Source, defined_names}
 use Rattle.expr.specs.Syntax as s
 use Rattle.energy_program.specs.Tree.{Tree, substituted, tree_of}
 use Rattle.energy_program.specs.Tree as t
@@ -29,12 +29,6 @@ abbrev pub GrowsThree : {A : Type 0} → (Tree → Tree → Tree → Tree) → R
     → Result (Box (code.Expr A) A) (Failure (ExprFault A)) → Type 0
 GrowsThree make (Ok first) second third result = GrowsTwo (make (tree_of first.value)) second third result
 GrowsThree make (Err e) second third result = result ≡ Err e
-
--- both values, or the first that is lacking says why
-abbrev pub paired : {X Y E : Type 0} → Result X E → Result Y E → Result (X × Y) E
-paired (Ok x) (Ok y) = Ok (x, y)
-paired (Err e) r = Err e
-paired (Ok x) (Err e) = Err e
 
 abbrev pub used_later : List ℕ → Option ℕ → Result Tree Refusal
 used_later name None = Err (UnknownName name)
@@ -57,12 +51,12 @@ resolved vs i ws (s.Select c a b) = resolved vs i ws c >>= λ x. resolved vs i w
 -- definitions, which are numbered from i: to each those behind it are later
 unfoldable pub all_resolved : List (List ℕ) → ℕ → List Definition → Result (List Tree) Refusal
 all_resolved vs i [] = Ok []
-all_resolved vs i (d ∷ ds) = resolved vs (i + 1) (names_in ds) d.1 >>= λ x. all_resolved vs (i + 1) ds >>= λ xs. Ok (x ∷ xs)
+all_resolved vs i (d ∷ ds) = resolved vs (i + 1) (defined_names ds) d.1 >>= λ x. all_resolved vs (i + 1) ds >>= λ xs. Ok (x ∷ xs)
 
 -- the trees of a text: to the body all definitions are later
 unfoldable pub trees : List (List ℕ) → Source → Result Trees Refusal
 trees vs source = do
-  body ← resolved vs 0 (names_in source.1) source.0
+  body ← resolved vs 0 (defined_names source.1) source.0
   definitions ← all_resolved vs 0 source.1
   Ok (body, definitions)
 
@@ -70,5 +64,5 @@ abbrev pub in_place : Result Trees Refusal → Result Tree Refusal
 in_place r = r >>= λ t. Ok (substituted t.0 t.1)
 
 -- the tree of a text, with its definitions put in place
-unfoldable pub meaning : List (List ℕ) → Source → Result Tree Refusal
-meaning vs source = in_place (trees vs source)
+unfoldable pub source_meaning : List (List ℕ) → Source → Result Tree Refusal
+source_meaning vs source = in_place (trees vs source)

@@ -3,7 +3,7 @@ ghost use Rattle.std.specs.Prelude.{◌≡◌, ◌+◌, ◌<◌, ◌≤◌, [], 
 ghost use Rattle.energy_program.specs.Faults.{Gives};
 ghost use Rattle.energy_program.specs.Variables.{names_of};
 ghost use Rattle.expr.specs.Definitions.{checked, is_taken, number_from};
-ghost use Rattle.expr.specs.Syntax.{definition_of, names_in};
+ghost use Rattle.expr.specs.Syntax.{definition_of, defined_names};
 
 use crate::sources::Definition;
 use energy_program::{ExprFault, Names, is_reserved};
@@ -17,7 +17,7 @@ pub fn number_from<A: Allocator>(
     name: &[u8],
 ) -> Option<u32>
     requires { first + length definitions.now ≤ 64 }
-    ensures value { result ≡ number_from first (names_in (map definition_of definitions.now)) name.now }
+    ensures value { result ≡ number_from first (defined_names (map definition_of definitions.now)) name.now }
     ensures low { IfSome result (λ number. first ≤ number) }
     ensures high { IfSome result (λ number. number < first + length definitions.now) }
 {
@@ -45,7 +45,7 @@ pub fn check_names<A: Allocator + Copy>(
     definitions: &[Definition<A>],
 ) -> Result<(), Failure<ExprFault<A>>>
     requires { length definitions.now ≤ 64 }
-    ensures { Gives (λ u. names_in (map definition_of definitions.now)) result (checked (names_of names.now) [] (names_in (map definition_of definitions.now))) }
+    ensures { Gives (λ u. defined_names (map definition_of definitions.now)) result (checked (names_of names.now) [] (defined_names (map definition_of definitions.now))) }
 {
     for number in 0..definitions.len() {
         let name = definitions[number].name;

@@ -3,28 +3,14 @@ ghost use Rattle.std.specs.Prelude.{◌≡◌};
 ghost use Rattle.fallible.specs.Failures.{IsOrMemory};
 ghost use Rattle.energy_program.specs.Tree.{tree_of};
 ghost use Rattle.energy_program.specs.Tree as t;
-ghost use Rattle.expr.specs.Uses.{Grows, GrowsThree, GrowsTwo, paired};
+ghost use Rattle.expr.specs.Uses.{Grows, GrowsThree, GrowsTwo};
 
 use energy_program::{Exponent, Expr, ExprFault, Function, Operator};
-use fallible::Failure;
+use fallible::{Failure, pair};
 use std::alloc::Allocator;
 
 /// A tree, or why there is none. It stands in a block of its own, so that one that waits for others is a pointer.
 pub type Part<A> = Result<Box<Expr<A>, A>, Failure<ExprFault<A>>>;
-
-/// Both values, or why one of them isn't there, the first before the second.
-pub fn pair<S: Drop, T: Drop, E: Drop>(
-    first: Result<S, E>,
-    second: Result<T, E>,
-) -> Result<(S, T), E>
-    ensures { result ≡ paired first second }
-{
-    match (first, second) {
-        (Ok(first), Ok(second)) => Ok((first, second)),
-        (Err(fault), _) => Err(fault),
-        (_, Err(fault)) => Err(fault),
-    }
-}
 
 /// A tree without parts.
 pub fn leaf<A: Allocator + Copy>(alloc: A, tree: Expr<A>) -> Part<A>

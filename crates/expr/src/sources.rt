@@ -3,7 +3,7 @@ ghost use Rattle.std.specs.Prelude.{◌≡◌};
 ghost use Rattle.energy_program.specs.Faults.{Answers, Gives};
 ghost use Rattle.expr.specs.Parsing.{ShowsRest, rest_seen};
 ghost use Rattle.expr.specs.Sources.{ShowsBytes, ShowsName, after_semicolons, definitions_at, equals, heading_at, heading_seen, name_in, name_sign, named_at, no_heading, semicolon_sign, source_at};
-ghost use Rattle.expr.specs.Syntax.{definitions_of, source_of};
+ghost use Rattle.expr.specs.Syntax.{definition_views, source_of};
 ghost use Rattle.expr.specs.Tokens.{lexeme, placed};
 
 use crate::parser::{LEVELS, Parser};

@@ -5,15 +5,15 @@ ghost use Rattle.energy_program.specs.Names.{input_of};
 ghost use Rattle.energy_program.specs.Tree.{are_scoped, variable_count, is_scoped, tree_of};
 ghost use Rattle.energy_program.specs.Variables.{names_of};
 ghost use Rattle.energy_program.specs.Programs.{trees_of};
-ghost use Rattle.expr.specs.Syntax.{definition_of, definitions_of, names_in, source_of, syntax_of};
+ghost use Rattle.expr.specs.Syntax.{definition_of, definition_views, defined_names, source_of, syntax_of};
 ghost use Rattle.expr.specs.Uses.{all_resolved, resolved, trees, used};
 
 use crate::definitions::number_from;
-use crate::parts::{Part, application, choice, leaf, negative, operation, pair, raised};
+use crate::parts::{Part, application, choice, leaf, negative, operation, raised};
 use crate::sources::{Definition, Source};
 use crate::syntax::Syntax;
 use energy_program::{Expr, ExprFault, Names, Program};
-use fallible::Failure;
+use fallible::{Failure, pair};
 use std::alloc::Allocator;
 
 /// The scope of an expression: the variables, and the later definitions, which are numbered from `first`.
@@ -27,7 +27,7 @@ pub struct Scope<'a, 'b, 'c, A: Allocator> {
 
 // The meaning of a name.
 fn used<A: Allocator + Copy>(alloc: A, scope: &Scope<A>, name: &[u8]) -> Part<A>
-    ensures value { Gives (λ part. tree_of part.value) result (used scope.now.first (names_in (map definition_of scope.now.later.now)) name.now (input_of (names_of scope.now.names.now) name.now)) }
+    ensures value { Gives (λ part. tree_of part.value) result (used scope.now.first (defined_names (map definition_of scope.now.later.now)) name.now (input_of (names_of scope.now.names.now) name.now)) }
     ensures scoped { IfOk result (λ e. IsTrue (is_scoped (variable_count scope.now.names.now.parameters scope.now.names.now.globals) scope.now.first (scope.now.first + length scope.now.later.now) (tree_of e.value))) }
 {
     match scope.names.input_of(name) {
@@ -42,7 +42,7 @@ fn used<A: Allocator + Copy>(alloc: A, scope: &Scope<A>, name: &[u8]) -> Part<A>
 /// The tree in which each name is what it stands for.
 #[tactic(auto, unfolding(crate::specs::Uses::resolved))]
 pub fn resolve<A: Allocator + Copy>(alloc: A, scope: &Scope<A>, syntax: &Syntax<A>) -> Part<A>
-    ensures value { Gives (λ part. tree_of part.value) result (resolved (names_of scope.now.names.now) scope.now.first (names_in (map definition_of scope.now.later.now)) (syntax_of syntax.now)) }
+    ensures value { Gives (λ part. tree_of part.value) result (resolved (names_of scope.now.names.now) scope.now.first (defined_names (map definition_of scope.now.later.now)) (syntax_of syntax.now)) }
     ensures scoped { IfOk result (λ e. IsTrue (is_scoped (variable_count scope.now.names.now.parameters scope.now.names.now.globals) scope.now.first (scope.now.first + length scope.now.later.now) (tree_of e.value))) }
 {
     match syntax {

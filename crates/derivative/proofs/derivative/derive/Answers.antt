@@ -1,5 +1,5 @@
 use Rattle.std.proofs.Common.{◌≤◌, length, rules, refl, ◌<◌}
-use Rattle.std.proofs.lemmas.Result.{IfOk-from_err, err_from_is_err_and}
+use Rattle.std.proofs.lemmas.Result.{err_from_is_err_and}
 use Rattle.fixed.specs.Fractions.{bits_of}
 use Rattle.energy_program.specs.Tree.{variable_count}
 use Rattle.energy_program.specs.Programs.{trees_of}
@@ -33,29 +33,11 @@ returns-clause-exact g c =
     few (bits_of c.args.frac) c.args.program.now.body c.in_ok-slope.slope.body c.args.program.now.definitions.items c.in_ok-slope.slope.definitions.items (with_all (bits_of c.args.frac) (trees_of c.args.program.now))
     refl c.in_ok-slope.ensures counted
 
-pub returns-in_err-slope-clause-value : goal.returns-in_err-slope-clause-value
-returns-in_err-slope-clause-value g c = IfOk-from_err _ _ c.from_residual.ensures.0
-
-pub returns-in_err-slope-clause-needed : goal.returns-in_err-slope-clause-needed
-returns-in_err-slope-clause-needed g c = IfOk-from_err _ _ c.from_residual.ensures.0
-
-pub returns-in_err-slope-clause-parameters : goal.returns-in_err-slope-clause-parameters
-returns-in_err-slope-clause-parameters g c = IfOk-from_err _ _ c.from_residual.ensures.0
-
-pub returns-in_err-slope-clause-globals : goal.returns-in_err-slope-clause-globals
-returns-in_err-slope-clause-globals g c = IfOk-from_err _ _ c.from_residual.ensures.0
-
 pub invariant_of-result-clause-few_parameters : goal.invariant_of-result-clause-few_parameters
 invariant_of-result-clause-few_parameters g c = c.args.program.now.few_parameters
 
 pub invariant_of-result-clause-few_globals : goal.invariant_of-result-clause-few_globals
 invariant_of-result-clause-few_globals g c = c.args.program.now.few_globals
-
-pub returns-clause-parameters : goal.returns-clause-parameters
-returns-clause-parameters g c = refl
-
-pub returns-clause-globals : goal.returns-clause-globals
-returns-clause-globals g c = refl
 
 pub returns-in_err-slope-clause-exact : goal.returns-in_err-slope-clause-exact
 returns-in_err-slope-clause-exact g c =

@@ -1,6 +1,5 @@
 -- A choice has three parts, each behind a box: too many for a search.
 use Rattle.std.proofs.Common.{sym}
-use Rattle.std.proofs.lemmas.Result.{IfOk-from_err}
 use Rattle.derivative.proofs.prune.+renumbered.Goals as goal
 
 pub returns-in-Select : goal.returns-in-Select
@@ -13,9 +12,6 @@ returns-in-Negated g t c = rw (c.in-Negated.is, sym c.deref.ensures) (c.opposite
 
 pub returns-in-Applied : goal.returns-in-Applied
 returns-in-Applied g t c = rw (c.in-Applied.is, sym c.deref-in-Applied.ensures) (c.called.ensures _ c.renumbered-in-Applied.ensures)
-
-pub returns-in_err-renumbered-in-Power : goal.returns-in_err-renumbered-in-Power
-returns-in_err-renumbered-in-Power g t c = IfOk-from_err _ _ c.from_residual.ensures.0
 
 pub returns-in-Binary : goal.returns-in-Binary
 returns-in-Binary g t c =

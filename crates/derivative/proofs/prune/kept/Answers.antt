@@ -1,5 +1,4 @@
 use Rattle.std.proofs.Common.{◌≡◌, true, rules, false}
-use Rattle.std.proofs.lemmas.Result.{IfOk-from_err}
 use Rattle.energy_program.specs.Uses.{is_marked}
 use Rattle.derivative.proofs.Turns.{kept_turn, skip_turn, kept_end}
 use Rattle.derivative.proofs.prune.kept.Goals as goal
@@ -9,12 +8,6 @@ loop-i-preserved g c =
     let u : is_marked c.args.marks.now c.loop-i.i ≡ true = search rules in
     kept_turn c.args.marks.now c.args.definitions.now c.loop-i.left.items c.push.new.self.items c.loop-i.i c.index-definitions-i.result c.in_ok-renumbered.field-0 _
     c.loop-i-test.true c.index-definitions-i.is u c.in_ok-renumbered.ensures c.in_ok-push.ensures.items c.loop-i.invariant
-
-pub returns-in_err-renumbered : goal.returns-in_err-renumbered
-returns-in_err-renumbered g c = IfOk-from_err _ _ c.from_residual.ensures.0
-
-pub returns-in_err-push : goal.returns-in_err-push
-returns-in_err-push g c = IfOk-from_err _ _ c.from_residual-in_err-push.ensures.0
 
 pub loop-i-preserved-then-not-is_marked : goal.loop-i-preserved-then-not-is_marked
 loop-i-preserved-then-not-is_marked g c =

@@ -1,5 +1,4 @@
 use Rattle.std.proofs.Common.{rules, ◌≡◌, ap, get_or, true}
-use Rattle.std.proofs.lemmas.Result.{IfOk-from_err}
 use Rattle.fixed.specs.Fractions.{bits_of}
 use Rattle.energy_program.specs.Tree.{tree_of}
 use Rattle.derivative.specs.Written.{moved, power_tree, unless_free, slope_tree}
@@ -17,14 +16,14 @@ returns-in_ok-du-in-Binary-clause-tree g t c =
     ok_is _ _ _ c.operation_slope.ensures.tree
     (at_binary (bits_of c.args.frac) (λ j. get_or c.args.free.now j true) c.args.by (tree_of c.args.tree.now) _ _ _ _ _ _ _ (ap tree_of c.in-Binary.is)
     (ap tree_of c.deref-in-Binary.ensures) (ap tree_of c.deref-in-Binary-2.ensures) (ap tree_of c.deref-in-Binary-3.ensures) (ap tree_of c.deref-in-Binary-4.ensures)
-    (rw c.in_ok-du-in-Binary.ensures.0 at c.slope-du.ensures.tree) (rw c.in_ok-du-in-Binary.ensures.0 at c.slope-du.ensures.free)
-    (rw c.in_ok-du-in-Binary.ensures.1 at c.slope-dv.ensures.tree) (rw c.in_ok-du-in-Binary.ensures.1 at c.slope-dv.ensures.free))
+    (rw c.in_ok-du-in-Binary.ensures.both.0 at c.slope-du.ensures.tree) (rw c.in_ok-du-in-Binary.ensures.both.0 at c.slope-du.ensures.free)
+    (rw c.in_ok-du-in-Binary.ensures.both.1 at c.slope-dv.ensures.tree) (rw c.in_ok-du-in-Binary.ensures.both.1 at c.slope-dv.ensures.free))
 
 pub returns-in_ok-du-in-Binary-clause-free : goal.returns-in_ok-du-in-Binary-clause-free
 returns-in_ok-du-in-Binary-clause-free g t c =
     free_is _ _ _ c.operation_slope.ensures.free
     (free_binary (λ j. get_or c.args.free.now j true) (tree_of c.args.tree.now) _ _ _ _ _ (ap tree_of c.in-Binary.is)
-    (ap tree_of c.deref-in-Binary.ensures) (ap tree_of c.deref-in-Binary-2.ensures) (rw c.in_ok-du-in-Binary.ensures.0 at c.slope-du.ensures.free) (rw c.in_ok-du-in-Binary.ensures.1 at c.slope-dv.ensures.free))
+    (ap tree_of c.deref-in-Binary.ensures) (ap tree_of c.deref-in-Binary-2.ensures) (rw c.in_ok-du-in-Binary.ensures.both.0 at c.slope-du.ensures.free) (rw c.in_ok-du-in-Binary.ensures.both.1 at c.slope-dv.ensures.free))
 
 pub returns-in_ok-du-in-Applied-clause-tree : goal.returns-in_ok-du-in-Applied-clause-tree
 returns-in_ok-du-in-Applied-clause-tree g t c =
@@ -55,47 +54,17 @@ returns-in_ok-du-in-Select-clause-tree g t c =
     ok_is _ _ _ c.select_slope.ensures.tree
     (at_select (bits_of c.args.frac) (λ j. get_or c.args.free.now j true) c.args.by (tree_of c.args.tree.now) _ _ _ _ _ _ _ _ (ap tree_of c.in-Select.is)
     (ap tree_of c.deref-in-Select.ensures) (ap tree_of c.deref-in-Select-2.ensures) (ap tree_of c.deref-in-Select-4.ensures) (ap tree_of c.deref-in-Select-3.ensures)
-    (rw c.in_ok-du-in-Select.ensures.0 at c.slope-du-in-Select.ensures.tree) (rw c.in_ok-du-in-Select.ensures.0 at c.slope-du-in-Select.ensures.free)
-    (rw c.in_ok-du-in-Select.ensures.1 at c.slope-dv-in-Select.ensures.tree) (rw c.in_ok-du-in-Select.ensures.1 at c.slope-dv-in-Select.ensures.free) c.is_free.ensures)
+    (rw c.in_ok-du-in-Select.ensures.both.0 at c.slope-du-in-Select.ensures.tree) (rw c.in_ok-du-in-Select.ensures.both.0 at c.slope-du-in-Select.ensures.free)
+    (rw c.in_ok-du-in-Select.ensures.both.1 at c.slope-dv-in-Select.ensures.tree) (rw c.in_ok-du-in-Select.ensures.both.1 at c.slope-dv-in-Select.ensures.free) c.is_free.ensures)
 
 pub returns-in_ok-du-in-Select-clause-free : goal.returns-in_ok-du-in-Select-clause-free
 returns-in_ok-du-in-Select-clause-free g t c =
     free_is _ _ _ c.select_slope.ensures.free
     (free_select (λ j. get_or c.args.free.now j true) (tree_of c.args.tree.now) _ _ _ _ _ _ (ap tree_of c.in-Select.is)
     (ap tree_of c.deref-in-Select.ensures) (ap tree_of c.deref-in-Select-2.ensures) (ap tree_of c.deref-in-Select-4.ensures)
-    (rw c.in_ok-du-in-Select.ensures.0 at c.slope-du-in-Select.ensures.free) (rw c.in_ok-du-in-Select.ensures.1 at c.slope-dv-in-Select.ensures.free) c.is_free.ensures)
+    (rw c.in_ok-du-in-Select.ensures.both.0 at c.slope-du-in-Select.ensures.free) (rw c.in_ok-du-in-Select.ensures.both.1 at c.slope-dv-in-Select.ensures.free) c.is_free.ensures)
 
 pub returns-in_ok-du-in-Negated-clause-free : goal.returns-in_ok-du-in-Negated-clause-free
 returns-in_ok-du-in-Negated-clause-free g t c =
     free_is _ _ _ c.negated_slope.ensures.free
     (free_negated (λ j. get_or c.args.free.now j true) (tree_of c.args.tree.now) _ _ (ap tree_of c.in-Negated.is) (ap tree_of c.deref.ensures) c.in_ok-du-in-Negated.ensures.free)
-
-pub returns-in_err-du-in-Negated-clause-tree : goal.returns-in_err-du-in-Negated-clause-tree
-returns-in_err-du-in-Negated-clause-tree g t c = IfOk-from_err _ _ c.from_residual.ensures.0
-
-pub returns-in_err-du-in-Negated-clause-free : goal.returns-in_err-du-in-Negated-clause-free
-returns-in_err-du-in-Negated-clause-free g t c = IfOk-from_err _ _ c.from_residual.ensures.0
-
-pub returns-in_err-du-in-Binary-clause-tree : goal.returns-in_err-du-in-Binary-clause-tree
-returns-in_err-du-in-Binary-clause-tree g t c = IfOk-from_err _ _ c.from_residual-in_err-du-in-Binary.ensures.0
-
-pub returns-in_err-du-in-Binary-clause-free : goal.returns-in_err-du-in-Binary-clause-free
-returns-in_err-du-in-Binary-clause-free g t c = IfOk-from_err _ _ c.from_residual-in_err-du-in-Binary.ensures.0
-
-pub returns-in_err-du-in-Applied-clause-tree : goal.returns-in_err-du-in-Applied-clause-tree
-returns-in_err-du-in-Applied-clause-tree g t c = IfOk-from_err _ _ c.from_residual-in_err-du-in-Applied.ensures.0
-
-pub returns-in_err-du-in-Applied-clause-free : goal.returns-in_err-du-in-Applied-clause-free
-returns-in_err-du-in-Applied-clause-free g t c = IfOk-from_err _ _ c.from_residual-in_err-du-in-Applied.ensures.0
-
-pub returns-in_err-du-in-Power-clause-tree : goal.returns-in_err-du-in-Power-clause-tree
-returns-in_err-du-in-Power-clause-tree g t c = IfOk-from_err _ _ c.from_residual-in_err-du-in-Power.ensures.0
-
-pub returns-in_err-du-in-Power-clause-free : goal.returns-in_err-du-in-Power-clause-free
-returns-in_err-du-in-Power-clause-free g t c = IfOk-from_err _ _ c.from_residual-in_err-du-in-Power.ensures.0
-
-pub returns-in_err-du-in-Select-clause-tree : goal.returns-in_err-du-in-Select-clause-tree
-returns-in_err-du-in-Select-clause-tree g t c = IfOk-from_err _ _ c.from_residual-in_err-du-in-Select.ensures.0
-
-pub returns-in_err-du-in-Select-clause-free : goal.returns-in_err-du-in-Select-clause-free
-returns-in_err-du-in-Select-clause-free g t c = IfOk-from_err _ _ c.from_residual-in_err-du-in-Select.ensures.0

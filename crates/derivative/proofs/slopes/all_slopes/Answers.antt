@@ -1,6 +1,5 @@
 use Rattle.std.proofs.Common.{[], ap, sym, subst, ◌∙◌, arith, get_or, true, map, length}
 use Rattle.std.specs.Bool.{IsTrue}
-use Rattle.std.proofs.lemmas.Result.{IfOk-from_err}
 use Rattle.fixed.specs.Fractions.{bits_of}
 use Rattle.energy_program.specs.Tree.{are_scoped, variable_count, tree_of}
 use Rattle.derivative.specs.Written.{slope_tree, moved}
@@ -35,18 +34,6 @@ returns g c =
     all_pushed (slope_tree (bits_of c.args.frac) (λ j. get_or c.args.free.now j true)) moved c.args.by c.loop-definition.written.items c.loop-definition-2.written.items
     c.as_slice-definitions.result.now c.args.program.now.definitions.items c.loop-definition.definition-index c.loop-definition-2.definition-index
     c.requires c.as_slice-definitions.ensures.value c.loop-definition-test.false c.loop-definition-2-test.false c.loop-definition.invariant c.loop-definition-2.invariant
-
-pub returns-in_err-slope : goal.returns-in_err-slope
-returns-in_err-slope g c = IfOk-from_err _ _ c.from_residual.ensures.0
-
-pub returns-in_err-push : goal.returns-in_err-push
-returns-in_err-push g c = IfOk-from_err _ _ c.from_residual-in_err-push.ensures.0
-
-pub returns-in_err-moved : goal.returns-in_err-moved
-returns-in_err-moved g c = IfOk-from_err _ _ c.from_residual-in_err-moved.ensures.0
-
-pub returns-in_err-push-2 : goal.returns-in_err-push-2
-returns-in_err-push-2 g c = IfOk-from_err _ _ c.from_residual-in_err-push-2.ensures.0
 
 pub loop-definition-2-preserved : goal.loop-definition-2-preserved
 loop-definition-2-preserved g c =

@@ -3,7 +3,7 @@ use Rattle.std.proofs.lemmas.List.{drop_all, take_all}
 use Rattle.std.specs.Prelude.{is_some}
 use Rattle.energy_program.specs.Variables.{names_of}
 use Rattle.expr.specs.Definitions.{checked}
-use Rattle.expr.specs.Syntax.{definition_of, names_in}
+use Rattle.expr.specs.Syntax.{definition_of, defined_names}
 use Rattle.expr.proofs.Checked.{name_next, name_more, refused_taken, refused_given, goes_on, all_checked}
 use Rattle.energy_program.proofs.FaultLaws.{fails_says}
 use Rattle.expr.proofs.definitions.check_names.Goals as goal
@@ -29,12 +29,12 @@ loop-number-preserved g c =
     let given = ap is_some (sym c.number_from.ensures.value) ∙ sym c.is_some.ensures ∙ c.if-is_some.false in
     c.loop-number.invariant
     ∙ goes_on (names_of c.args.names.now) _ _ _ _ next (sym c.is_taken.ensures ∙ c.if-is_taken.false) given
-    ∙ ap (λ before. checked (names_of c.args.names.now) before (names_in (map definition_of (drop (c.loop-number.number + 1) c.args.definitions.now)))) (sym more)
+    ∙ ap (λ before. checked (names_of c.args.names.now) before (defined_names (map definition_of (drop (c.loop-number.number + 1) c.args.definitions.now)))) (sym more)
 
 pub returns : goal.returns
 returns g c =
     let n = c.loop-number.number in
     let end = c.loop-number-test.false in
     c.loop-number.invariant
-    ∙ all_checked (names_of c.args.names.now) _ _ (ap (λ ds. names_in (map definition_of ds)) (drop_all n c.args.definitions.now (omega arith)))
-    ∙ ap (λ ds. Ok (names_in (map definition_of ds))) (take_all n c.args.definitions.now (omega arith))
+    ∙ all_checked (names_of c.args.names.now) _ _ (ap (λ ds. defined_names (map definition_of ds)) (drop_all n c.args.definitions.now (omega arith)))
+    ∙ ap (λ ds. Ok (defined_names (map definition_of ds))) (take_all n c.args.definitions.now (omega arith))

@@ -1,6 +1,5 @@
 use Rattle.std.proofs.Common.{◌≡◌, List, length, arith}
 use Rattle.std.proofs.lemmas.List.{length-map}
-use Rattle.std.proofs.lemmas.Result.{IfOk-from_err}
 use Rattle.fixed.specs.Fractions.{bits_of}
 use Rattle.energy_program.specs.Variables.{names_of}
 use Rattle.expr.specs.declared.tokens.Token.{Token}
@@ -20,14 +19,8 @@ returns-clause-value g c =
     (tokens_read (bits_of c.args.frac) (names_of c.args.names.now) c.args.text.now _ c.in_ok-tokens.ensures (omega (arith, few, count)))
     (rw c.deref.ensures.value at c.read_tokens.ensures.value)
 
-pub returns-in_err-tokens-clause-parameters : goal.returns-in_err-tokens-clause-parameters
-returns-in_err-tokens-clause-parameters g c = IfOk-from_err _ _ c.from_residual.ensures.0
-
 pub returns-clause-parameters : goal.returns-clause-parameters
 returns-clause-parameters g c = c.read_tokens.ensures.parameters
-
-pub returns-in_err-tokens-clause-globals : goal.returns-in_err-tokens-clause-globals
-returns-in_err-tokens-clause-globals g c = IfOk-from_err _ _ c.from_residual.ensures.0
 
 pub returns-clause-globals : goal.returns-clause-globals
 returns-clause-globals g c = c.read_tokens.ensures.globals

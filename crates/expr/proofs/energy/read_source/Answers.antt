@@ -1,4 +1,4 @@
-use Rattle.std.proofs.lemmas.Result.{err_from_is_err_and, IfOk-from_err}
+use Rattle.std.proofs.lemmas.Result.{err_from_is_err_and}
 use Rattle.energy_program.specs.Variables.{names_of}
 use Rattle.energy_program.proofs.FaultLaws.{fails_then}
 use Rattle.expr.specs.Syntax.{source_of}
@@ -19,14 +19,8 @@ pub returns-clause-value : goal.returns-clause-value
 returns-clause-value g c =
     gives_same _ c.program.result _ _ (source_read (names_of c.args.names.now) (source_of c.args.source.now) _ (rw c.deref.ensures.value at c.in_ok-check_names.ensures)) c.program.ensures.value
 
-pub returns-in_err-check_names-clause-parameters : goal.returns-in_err-check_names-clause-parameters
-returns-in_err-check_names-clause-parameters g c = IfOk-from_err _ _ c.from_residual.ensures.0
-
 pub returns-clause-parameters : goal.returns-clause-parameters
 returns-clause-parameters g c = c.program.ensures.parameters
-
-pub returns-in_err-check_names-clause-globals : goal.returns-in_err-check_names-clause-globals
-returns-in_err-check_names-clause-globals g c = IfOk-from_err _ _ c.from_residual.ensures.0
 
 pub returns-clause-globals : goal.returns-clause-globals
 returns-clause-globals g c = c.program.ensures.globals

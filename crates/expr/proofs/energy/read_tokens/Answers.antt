@@ -1,6 +1,6 @@
 use Rattle.std.proofs.Common.{arith, ap}
 use Rattle.std.proofs.lemmas.List.{length-map}
-use Rattle.std.proofs.lemmas.Result.{err_from_is_err_and, IfOk-from_err}
+use Rattle.std.proofs.lemmas.Result.{err_from_is_err_and}
 use Rattle.energy_program.specs.Variables.{names_of}
 use Rattle.energy_program.proofs.FaultLaws.{fails_then}
 use Rattle.expr.specs.Energy.{trees_of_source}
@@ -25,14 +25,8 @@ pub returns-clause-value : goal.returns-clause-value
 returns-clause-value g c =
     gives_same _ c.read_source.result _ _ (ap (λ r. r >>= trees_of_source (names_of c.args.names.now)) c.in_ok-source.ensures) c.read_source.ensures.value
 
-pub returns-in_err-source-clause-parameters : goal.returns-in_err-source-clause-parameters
-returns-in_err-source-clause-parameters g c = IfOk-from_err _ _ c.from_residual.ensures.0
-
 pub returns-clause-parameters : goal.returns-clause-parameters
 returns-clause-parameters g c = c.read_source.ensures.parameters
-
-pub returns-in_err-source-clause-globals : goal.returns-in_err-source-clause-globals
-returns-in_err-source-clause-globals g c = IfOk-from_err _ _ c.from_residual.ensures.0
 
 pub returns-clause-globals : goal.returns-clause-globals
 returns-clause-globals g c = c.read_source.ensures.globals

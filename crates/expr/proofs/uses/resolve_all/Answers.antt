@@ -1,6 +1,6 @@
 use Rattle.std.proofs.Common.{◌+◌, ◌-◌, IsTrue, Ok, ap, subst, sym, ◌∙◌, drop, length, length-append, length-drop, map, arith}
 use Rattle.std.proofs.lemmas.List.{drop_all, length-map, map_push, take_all}
-use Rattle.std.proofs.lemmas.Result.{err_from_is_err_and, IfOk-from_err}
+use Rattle.std.proofs.lemmas.Result.{err_from_is_err_and}
 use Rattle.energy_program.specs.Tree.{variable_count, is_scoped, tree_of}
 use Rattle.energy_program.specs.Variables.{names_of}
 use Rattle.expr.specs.Syntax.{definition_of}
@@ -43,15 +43,3 @@ returns-clause-scoped g c =
     let count = length-map c.loop-number.trees.items tree_of in
     all_scoped (variable_count c.args.names.now.parameters c.args.names.now.globals) 0 (length c.args.definitions.now) (map tree_of c.loop-number.trees.items)
     (omega (arith, count, c.loop-number.invariant.count, c.loop-number-test.false, c.loop-number.auto.number-end)) c.loop-number.invariant.scoped
-
-pub returns-in_err-tree-clause-scoped : goal.returns-in_err-tree-clause-scoped
-returns-in_err-tree-clause-scoped g c = IfOk-from_err _ _ c.from_residual.ensures.0
-
-pub returns-in_err-push-clause-scoped : goal.returns-in_err-push-clause-scoped
-returns-in_err-push-clause-scoped g c = IfOk-from_err _ _ c.from_residual-in_err-push.ensures.0
-
-pub returns-in_err-tree-clause-count : goal.returns-in_err-tree-clause-count
-returns-in_err-tree-clause-count g c = IfOk-from_err _ _ c.from_residual.ensures.0
-
-pub returns-in_err-push-clause-count : goal.returns-in_err-push-clause-count
-returns-in_err-push-clause-count g c = IfOk-from_err _ _ c.from_residual-in_err-push.ensures.0

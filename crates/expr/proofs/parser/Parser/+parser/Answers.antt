@@ -4,8 +4,9 @@ use Rattle.std.proofs.lemmas.Result.{err_from_is_err_and}
 use Rattle.expr.specs.Tokens.{placed}
 use Rattle.expr.specs.Syntax.{arguments_of, syntax_of}
 use Rattle.expr.specs.Syntax as tree
-use Rattle.expr.specs.Parsing.{arguments_at, arguments_by, beginning, closed_at, comma_sign, list_at, listed, listing, chain, expr_at}
-use Rattle.expr.proofs.Levels.{closing_gives, unary_none_left, atom_group, atom_name, atom_call, minus_fails, minus_reads, gives_same, atom_start, unary_none, term_starts, expr_starts, term_fails, expr_fails, term_turn, expr_turn, term_turn_fails, expr_turn_fails, term_ends, expr_ends, term_less, expr_less, started, reading, list_starts, list_fails, list_turn, list_turn_fails, list_ends, list_less}
+use Rattle.expr.specs.Parsing.{arguments_at, arguments_by, beginning, closed_at, comma_sign, product_sign, sum_sign, list_at, listed, listing, chain, expr_at, term_at, unary_at}
+use Rattle.expr.proofs.Chain.{turn, turn_ends, sum_signs, product_signs, comma_signs, unary_takes, term_takes, expr_takes}
+use Rattle.expr.proofs.Levels.{closing_gives, unary_none_left, atom_group, atom_name, atom_call, minus_fails, minus_reads, gives_same, atom_start, unary_none, term_starts, expr_starts, term_fails, expr_fails, loop_turn, loop_fails, loop_ends, loop_less, started, reading, list_starts, list_fails, list_turn_fails, list_less}
 use Rattle.expr.proofs.Results.{beside_ok, beside_err}
 use Rattle.expr.proofs.parser.Parser.+parser.Goals as goal
 
@@ -20,20 +21,20 @@ expr-loop-operator-init g t c = expr_starts c.args.self.now.end c.args.levels (p
 pub expr-returns-in_err-whole : goal.expr-returns-in_err-whole
 expr-returns-in_err-whole g t c =
     let p = err_from_is_err_and c.from_residual-in_err-whole.result c.from_residual-in_err-whole.ensures.1 in
-    rw (p.1, p.2, c.loop-operator.invariant) (expr_turn_fails c.args.self.now.end c.args.levels _ (placed c.loop-operator.rest.now) _ _ _ c.in-Some.ensures (c.in_err-whole.ensures _ c.term-in-Some.ensures))
+    rw (p.1, p.2, c.loop-operator.invariant) (loop_fails sum_sign (term_at c.args.self.now.end c.args.levels) sum_signs (term_takes c.args.self.now.end c.args.levels) _ (placed c.loop-operator.rest.now) _ _ _ c.in-Some.ensures (c.in_err-whole.ensures _ c.term-in-Some.ensures))
 
 pub expr-loop-operator-smaller : goal.expr-loop-operator-smaller
 expr-loop-operator-smaller g t c =
-    let h = expr_less c.args.self.now.end c.args.levels _ (placed c.loop-operator.rest.now) _ _ _ _ c.in-Some.ensures (c.in_ok-whole.ensures _ c.term-in-Some.ensures) in
+    let h = loop_less sum_sign (term_at c.args.self.now.end c.args.levels) sum_signs (term_takes c.args.self.now.end c.args.levels) _ (placed c.loop-operator.rest.now) _ _ _ _ c.in-Some.ensures (c.in_ok-whole.ensures _ c.term-in-Some.ensures) in
     omega (arith, simp length-map at h)
 
 pub expr-loop-operator-preserved : goal.expr-loop-operator-preserved
 expr-loop-operator-preserved g t c =
     c.loop-operator.invariant
-    ∙ expr_turn c.args.self.now.end c.args.levels _ (placed c.loop-operator.rest.now) _ _ _ _ c.in-Some.ensures (c.in_ok-whole.ensures _ c.term-in-Some.ensures)
+    ∙ loop_turn sum_sign (term_at c.args.self.now.end c.args.levels) sum_signs (term_takes c.args.self.now.end c.args.levels) _ (placed c.loop-operator.rest.now) _ _ _ _ c.in-Some.ensures (c.in_ok-whole.ensures _ c.term-in-Some.ensures)
 
 pub expr-returns : goal.expr-returns
-expr-returns g t c = c.loop-operator.invariant ∙ expr_ends c.args.self.now.end c.args.levels _ (placed c.loop-operator.rest.now) c.in_default.ensures
+expr-returns g t c = c.loop-operator.invariant ∙ loop_ends sum_sign (term_at c.args.self.now.end c.args.levels) sum_signs (term_takes c.args.self.now.end c.args.levels) _ (placed c.loop-operator.rest.now) c.in_default.ensures
 
 pub term-returns-in_err-left : goal.term-returns-in_err-left
 term-returns-in_err-left g t c =
@@ -46,20 +47,20 @@ term-loop-operator-init g t c = term_starts c.args.self.now.end c.args.levels (p
 pub term-returns-in_err-whole : goal.term-returns-in_err-whole
 term-returns-in_err-whole g t c =
     let p = err_from_is_err_and c.from_residual-in_err-whole.result c.from_residual-in_err-whole.ensures.1 in
-    rw (p.1, p.2, c.loop-operator.invariant) (term_turn_fails c.args.self.now.end c.args.levels _ (placed c.loop-operator.rest.now) _ _ _ c.in-Some.ensures (c.in_err-whole.ensures _ c.unary-in-Some.ensures))
+    rw (p.1, p.2, c.loop-operator.invariant) (loop_fails product_sign (unary_at c.args.self.now.end c.args.levels) product_signs (unary_takes c.args.self.now.end c.args.levels) _ (placed c.loop-operator.rest.now) _ _ _ c.in-Some.ensures (c.in_err-whole.ensures _ c.unary-in-Some.ensures))
 
 pub term-loop-operator-smaller : goal.term-loop-operator-smaller
 term-loop-operator-smaller g t c =
-    let h = term_less c.args.self.now.end c.args.levels _ (placed c.loop-operator.rest.now) _ _ _ _ c.in-Some.ensures (c.in_ok-whole.ensures _ c.unary-in-Some.ensures) in
+    let h = loop_less product_sign (unary_at c.args.self.now.end c.args.levels) product_signs (unary_takes c.args.self.now.end c.args.levels) _ (placed c.loop-operator.rest.now) _ _ _ _ c.in-Some.ensures (c.in_ok-whole.ensures _ c.unary-in-Some.ensures) in
     omega (arith, simp length-map at h)
 
 pub term-loop-operator-preserved : goal.term-loop-operator-preserved
 term-loop-operator-preserved g t c =
     c.loop-operator.invariant
-    ∙ term_turn c.args.self.now.end c.args.levels _ (placed c.loop-operator.rest.now) _ _ _ _ c.in-Some.ensures (c.in_ok-whole.ensures _ c.unary-in-Some.ensures)
+    ∙ loop_turn product_sign (unary_at c.args.self.now.end c.args.levels) product_signs (unary_takes c.args.self.now.end c.args.levels) _ (placed c.loop-operator.rest.now) _ _ _ _ c.in-Some.ensures (c.in_ok-whole.ensures _ c.unary-in-Some.ensures)
 
 pub term-returns : goal.term-returns
-term-returns g t c = c.loop-operator.invariant ∙ term_ends c.args.self.now.end c.args.levels _ (placed c.loop-operator.rest.now) c.in_default.ensures
+term-returns g t c = c.loop-operator.invariant ∙ loop_ends product_sign (unary_at c.args.self.now.end c.args.levels) product_signs (unary_takes c.args.self.now.end c.args.levels) _ (placed c.loop-operator.rest.now) c.in_default.ensures
 
 pub unary-returns-then-levels-eq0 : goal.unary-returns-then-levels-eq0
 unary-returns-then-levels-eq0 g t c = rw c.misplaced.ensures (unary_none_left c.args.self.now.end c.args.levels (placed c.args.tokens.now) c.if-levels-eq0.true)
@@ -125,11 +126,11 @@ pub list-loop-after-preserved : goal.list-loop-after-preserved
 list-loop-after-preserved g t c =
     let read = beside_ok _ _ _ _ c.in_ok-others.ensures in
     c.loop-after.invariant
-    ∙ list_turn c.args.self.now.end c.args.levels _ (placed c.loop-after.rest.now) _ _ _ _ c.in-Some.ensures (rw read.1 at c.expr-in-Some.ensures)
+    ∙ turn comma_sign (expr_at c.args.self.now.end c.args.levels) listed comma_signs (expr_takes c.args.self.now.end c.args.levels) _ (placed c.loop-after.rest.now) _ _ _ _ c.in-Some.ensures (rw read.1 at c.expr-in-Some.ensures)
     ∙ ap (λ left. chain comma_sign (expr_at c.args.self.now.end c.args.levels) listed (length (placed c.in_ok-others.beyond.now)) left (placed c.in_ok-others.beyond.now)) (sym (rw read.0 at c.with-arguments.ensures))
 
 pub list-returns : goal.list-returns
-list-returns g t c = c.loop-after.invariant ∙ list_ends c.args.self.now.end c.args.levels _ (placed c.loop-after.rest.now) c.in_default.ensures
+list-returns g t c = c.loop-after.invariant ∙ turn_ends comma_sign (expr_at c.args.self.now.end c.args.levels) listed comma_signs (expr_takes c.args.self.now.end c.args.levels) (length (placed c.loop-after.rest.now)) _ (placed c.loop-after.rest.now) c.in_default.ensures
 
 pub closed-returns : goal.closed-returns
 unfolding closed_at
