@@ -7,11 +7,11 @@ use Rattle.std.proofs.lemmas.Bool.Decides.{nat_tests}
 use Rattle.std.proofs.lemmas.List.{get_or_past}
 use Rattle.std.proofs.Math.Nat.{pow-le-pow_right, mul_comm}
 use Rattle.ring_box.specs.Cells.{are_near_cells, are_neighbours, cell_of}
-use Rattle.ring_box.specs.Places.{ArePlaces, nowhere}
+use Rattle.ring_box.specs.Places.{ArePlaces, nowhere, places_of}
 use Rattle.ring_box.proofs.CellLemmas.{cell_below}
 use Rattle.ring_box.specs.declared.vectors.CellBits.{CellBits}
 use Rattle.ring_box.specs.declared.vectors.Place3.{Place3}
-use Rattle.cell_tiles.specs.Cells.{IsBits, IsGrid, are_near, are_near_numbers, cell_number, cells_of, numbers_at, numbers_of, places_of}
+use Rattle.cell_tiles.specs.Cells.{IsBits, IsGrid, are_near, are_near_numbers, cell_number, cells_of, numbers_at, numbers_of}
 
 -- ---- how many
 

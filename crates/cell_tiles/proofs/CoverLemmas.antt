@@ -4,10 +4,10 @@ use Rattle.std.specs.List.{All}
 use Rattle.std.proofs.lemmas.Bool.Decides.{nat_tests}
 use Rattle.std.proofs.lemmas.Bool.{cases_lt, cases_eq, eq-eqb, ne_eqb, lt-ltb, le-ltb, le-leb, lt-leb}
 use Rattle.std.proofs.lemmas.List.{take_all}
-use Rattle.ring_box.specs.Places.{ArePlaces}
+use Rattle.ring_box.specs.Places.{ArePlaces, places_of}
 use Rattle.ring_box.specs.declared.vectors.CellBits.{CellBits}
 use Rattle.ring_box.specs.declared.vectors.Place3.{Place3}
-use Rattle.cell_tiles.specs.Cells.{IsGrid, are_near, cell_number, cells_of, members_among, members_of, numbers_below, places_of}
+use Rattle.cell_tiles.specs.Cells.{IsGrid, are_near, cell_number, cells_of, members_among, members_of, numbers_below}
 use Rattle.cell_tiles.specs.Tiles.{members_at, pairs_among, pairs_between, pairs_in, tiles_of, tiles_with}
 use Rattle.cell_tiles.specs.Cover.{Covers, are_close, times}
 use Rattle.cell_tiles.proofs.CountLemmas.{count, same, same_here, same_else, sum_below_one, sum_below_same, sum_filter, sum_flat_map, sum_map, sum_nothing}

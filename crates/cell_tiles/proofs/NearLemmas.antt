@@ -6,13 +6,13 @@ use Rattle.std.proofs.lemmas.Bool.{cases_Bool}
 use Rattle.std.proofs.lemmas.List.{append_assoc, drop-append-le, drop-drop, drop-map, drop_all, get_or-map, get_or_append_left, length-map, map-append, take-append-drop, take_more, take_more_set}
 use Rattle.std.proofs.lemmas.List.Elements.{All-drop, All-from_get_or, All-get_or, All-push, All-take, All-weaker, filter-append, filter_passes}
 use Rattle.ring_box.specs.Acting.{AreInCell, Reach, acting_of}
-use Rattle.ring_box.specs.Places.{ArePlaces}
+use Rattle.ring_box.specs.Places.{ArePlaces, places_of}
 use Rattle.ring_box.specs.declared.boxes.RingBox.{RingBox}
 use Rattle.ring_box.proofs.ActingLemmas.{idle_turned}
 use Rattle.ring_box.specs.declared.vectors.CellBits.{CellBits}
 use Rattle.ring_box.specs.declared.vectors.Place3.{Place3}
-use Rattle.cell_tiles.specs.Cells.{IsGrid, cell_number, cells_of, members_of, numbers_below, numbers_of, places_of}
-use Rattle.cell_tiles.specs.Near.{IsPairOf, act}
+use Rattle.cell_tiles.specs.Cells.{IsGrid, cell_number, cells_of, members_of, numbers_below, numbers_of}
+use Rattle.cell_tiles.specs.Near.{IsPairOf, pair_acts}
 use Rattle.cell_tiles.specs.Tiles.{members_at, pair_of, pairs_with}
 use Rattle.cell_tiles.proofs.CellLemmas.{are_places, numbers_back}
 use Rattle.cell_tiles.proofs.MemberLemmas.{members_here}
@@ -36,7 +36,7 @@ pub first_inside : (n a : ℕ) (bs : List ℕ) (j : ℕ) → All (IsPairOf n) (p
 first_inside n a bs j all lt = (both_inside n a (get_or bs j 0) (pair_inside n a bs j all lt)).0
 
 -- two atoms that don't act are a pair that doesn't
-pub pair_idle : (d : Reach) (b : RingBox) (frame : List Place3) (i j : ℕ) → All ArePlaces frame → acting_of d b (places_of frame i) (places_of frame j) ≡ None → act d b frame (pair_of i j) ≡ false
+pub pair_idle : (d : Reach) (b : RingBox) (frame : List Place3) (i j : ℕ) → All ArePlaces frame → acting_of d b (places_of frame i) (places_of frame j) ≡ None → pair_acts d b frame (pair_of i j) ≡ false
 pair_idle d b frame i j places h =
     elim (cases_Bool (nat_lt i j)) [
       | inl e ↦ rw (e, h) refl

@@ -1,7 +1,7 @@
 -- The cells of a box, each by one number, and the atoms in them (GROMACS manual, Neighbor searching, grid search).
 use Rattle.std.specs.Prelude.{ℕ, zero, suc, ◌+◌, ◌*◌, ◌/◌, ◌%◌, ◌^◌, ◌==◌, ◌≤◌, Bool, ◌&&◌, List, [], ◌∷◌, ◌++◌, length, map, filter, slice_index_or}
 use Rattle.ring_box.specs.Cells.{are_near_cells, cell_of}
-use Rattle.ring_box.specs.Places.{nowhere}
+use Rattle.ring_box.specs.Places.{places_of}
 use Rattle.ring_box.specs.declared.vectors.CellBits.{CellBits}
 use Rattle.ring_box.specs.declared.vectors.CellNumbers.{CellNumbers}
 use Rattle.ring_box.specs.declared.vectors.Place3.{Place3}
@@ -43,10 +43,6 @@ are_near bits c d = are_near_numbers bits (numbers_of bits c) (numbers_of bits d
 unfoldable pub numbers_below : ℕ → List ℕ
 numbers_below zero = []
 numbers_below (suc n) = numbers_below n ++ n ∷ []
-
--- the places of an atom of a frame
-abbrev pub places_of : List Place3 → ℕ → Place3
-places_of frame a = slice_index_or frame a nowhere
 
 -- the first n atoms of a frame that lie in the cell c, ascending
 abbrev pub members_among : CellBits → List Place3 → ℕ → ℕ → List ℕ

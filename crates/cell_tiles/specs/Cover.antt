@@ -3,7 +3,7 @@ use Rattle.std.specs.Prelude.{◌≡◌, ℕ, ◌==◌, Bool, false, ◌&&◌, n
 use Rattle.ring_box.specs.Cells.{are_neighbours}
 use Rattle.ring_box.specs.declared.vectors.CellBits.{CellBits}
 use Rattle.ring_box.specs.declared.vectors.Place3.{Place3}
-use Rattle.cell_tiles.specs.Cells.{places_of}
+use Rattle.ring_box.specs.Places.{places_of}
 use Rattle.cell_tiles.specs.Tiles.{tile_pairs}
 
 -- whether p is q

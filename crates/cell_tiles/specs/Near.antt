@@ -3,15 +3,15 @@ use Rattle.std.specs.Prelude.{◌≡◌, ◌<◌, ◌≤◌, ◌++◌, ℕ, zero
 use Rattle.ring_box.specs.Acting.{Reach, acting_of}
 use Rattle.ring_box.specs.declared.boxes.RingBox.{RingBox}
 use Rattle.ring_box.specs.declared.vectors.Place3.{Place3}
-use Rattle.cell_tiles.specs.Cells.{places_of}
+use Rattle.ring_box.specs.Places.{places_of}
 
 -- two atoms of a frame act
-abbrev pub act : Reach → RingBox → List Place3 → ℕ × ℕ → Bool
-act d b frame p = is_some (acting_of d b (places_of frame p.0) (places_of frame p.1))
+abbrev pub pair_acts : Reach → RingBox → List Place3 → ℕ × ℕ → Bool
+pair_acts d b frame p = is_some (acting_of d b (places_of frame p.0) (places_of frame p.1))
 
 -- the pairs that act
 abbrev pub those_acting : Reach → RingBox → List Place3 → List (ℕ × ℕ) → List (ℕ × ℕ)
-those_acting d b frame ps = filter (act d b frame) ps
+those_acting d b frame ps = filter (pair_acts d b frame) ps
 
 -- two of n atoms, the lower first
 abbrev pub IsPairOf : ℕ → ℕ × ℕ → Type 0

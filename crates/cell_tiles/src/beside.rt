@@ -2,7 +2,8 @@
 
 ghost use Rattle.std.specs.Prelude.{◌≡◌, ◌<◌, length, map, OnOk};
 ghost use Rattle.std.specs.List.{All};
-ghost use Rattle.cell_tiles.specs.Cells.{member_places, places_of};
+ghost use Rattle.ring_box.specs.Places.{places_of};
+ghost use Rattle.cell_tiles.specs.Cells.{member_places};
 
 use ring_box::Place3;
 use std::alloc::{AllocError, Allocator};

@@ -201,7 +201,8 @@ fn places_beside<'a>(places: &'a [Place3], row: &TileRow<'_>) -> &'a [Place3]
 impl<A: Allocator + Copy> Cells<A> {
     ghost use Rattle.std.specs.Prelude.{ℕ, ◌≡◌, ◌+◌, ◌<◌, ◌≤◌, ◌++◌, length, take, IsTrue, None};
     ghost use Rattle.ring_box.specs.Acting.{acting_of};
-    ghost use Rattle.cell_tiles.specs.Cells.{cell_number, member_places, places_of};
+    ghost use Rattle.ring_box.specs.Places.{places_of};
+    ghost use Rattle.cell_tiles.specs.Cells.{cell_number, member_places};
     ghost use Rattle.cell_tiles.specs.Near.{AreNear, IsPairOf, those_acting};
     ghost use Rattle.cell_tiles.specs.Tiles.{pairs_with};
 

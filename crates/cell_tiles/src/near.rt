@@ -2,8 +2,7 @@
 
 ghost use Rattle.std.specs.Prelude.{◌≡◌, ◌+◌, ◌<◌, ◌≤◌, ◌++◌, ℕ, length, map, take};
 ghost use Rattle.std.specs.List.{All};
-ghost use Rattle.ring_box.specs.Places.{ArePlaces};
-ghost use Rattle.cell_tiles.specs.Cells.{places_of};
+ghost use Rattle.ring_box.specs.Places.{ArePlaces, places_of};
 ghost use Rattle.cell_tiles.specs.Near.{IsPairOf, marked, those_acting};
 ghost use Rattle.cell_tiles.specs.Tiles.{pair_of, pairs_with};
 

@@ -7,7 +7,7 @@ use Rattle.fallible.proofs.FailureLaws.{fails_as}
 use Rattle.line_text.specs.Parts.{cut_at}
 use Rattle.line_text.proofs.LineLaws.{cut_none}
 use Rattle.line_text.proofs.SplitLaws.{split_cut, split_uncut, split_some}
-use Rattle.job.specs.Words.{without_return, ended, lines_of}
+use Rattle.job.specs.Words.{without_return, bare_lines, lines_of}
 use Rattle.job.specs.Faults.{Refusal, Said}
 use Rattle.line_text.specs.Steps.{◌>>=◌}
 use Rattle.job.specs.Values.{Counts}
@@ -15,19 +15,19 @@ use Rattle.job.specs.Drafts.{line_into, lines_into}
 
 -- ---- lines
 
-ended_more : (line : List ℕ) (text : List ℕ) → ended (line ∷ slice_split (λ b. b == 10) text) ≡ without_return line ∷ lines_of text
+ended_more : (line : List ℕ) (text : List ℕ) → bare_lines (line ∷ slice_split (λ b. b == 10) text) ≡ without_return line ∷ lines_of text
 unfolding lines_of
 ended_more line text = let s = split_some (λ b. b == 10) text in rw s.2 refl
 
 -- a text up to its first line feed is its first line, and the other lines are those of the rest
 pub lines_cut : (text a b : List ℕ) → cut_at 10 text ≡ Some (a, b) → lines_of text ≡ without_return a ∷ lines_of b
 unfolding lines_of
-lines_cut text a b e = ap ended (split_cut 10 text a b e) ∙ ended_more a b
+lines_cut text a b e = ap bare_lines (split_cut 10 text a b e) ∙ ended_more a b
 
 -- a text without a line feed is one line
 pub lines_whole : (text : List ℕ) → cut_at 10 text ≡ None → lines_of text ≡ text ∷ []
 unfolding lines_of
-lines_whole text e = ap ended (split_uncut 10 text (cut_none 10 text e))
+lines_whole text e = ap bare_lines (split_uncut 10 text (cut_none 10 text e))
 
 -- ---- line by line
 

@@ -7,14 +7,14 @@ abbrev pub without_return : List ℕ → List ℕ
 without_return line = if slice_index line (length line - 1) == 13 then take (length line - 1) line else line
 
 -- the last part has no line feed
-abbrev pub ended : List (List ℕ) → List (List ℕ)
-ended [] = []
-ended (line ∷ []) = line ∷ []
-ended (line ∷ next ∷ lines) = without_return line ∷ ended (next ∷ lines)
+abbrev pub bare_lines : List (List ℕ) → List (List ℕ)
+bare_lines [] = []
+bare_lines (line ∷ []) = line ∷ []
+bare_lines (line ∷ next ∷ lines) = without_return line ∷ bare_lines (next ∷ lines)
 
 -- the lines of a text; behind its last line feed stands one more, which may be empty
 unfoldable pub lines_of : List ℕ → List (List ℕ)
-lines_of text = ended (slice_split (λ b. b == 10) text)
+lines_of text = bare_lines (slice_split (λ b. b == 10) text)
 
 -- no more lines, or those of the text that is left
 abbrev pub more_lines : Option (List ℕ) → List (List ℕ)

@@ -404,7 +404,7 @@ fn take_type<A: Allocator + Copy>(
     add_type(alloc, draft, number, name, numbers)
 }
 
-/// The same answer, of a call that also takes memory.
+/// An answer of a call that takes no memory, as that of one that does.
 fn with_failure<A: Allocator>(answer: Result<(), JobFault<A>>) -> Result<(), Failure<JobFault<A>>>
     ensures { MatchResult answer (λ x. result ≡ Ok x) (λ fault. result ≡ Err (Refused fault)) }
 {

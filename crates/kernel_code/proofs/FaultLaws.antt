@@ -11,7 +11,7 @@ use Rattle.kernel_code.specs.Code.{goes_forward, targets_checked, code_if, code_
 use Rattle.kernel_code.specs.Listing.{head_line, instruction_line, instruction_lines, HasOperands, listing_of}
 use Rattle.line_text.specs.Steps.{◌>>=◌, said}
 use Rattle.kernel_code.specs.ListingReading.{below_head, line_at, parts_of, instructions_of, code_of}
-use Rattle.kernel_code.specs.ListingFaults.{IsCodeFault, BeginsWith, IsListingFault}
+use Rattle.kernel_code.specs.ListingFaults.{IsCodeFault, BeginsWithLine, IsListingFault}
 use Rattle.kernel_code.proofs.LineLaws.{line_found, line_again, instructions_first, instructions_none, instructions_found, bad_first}
 use Rattle.kernel_code.proofs.ListingLaws.{below_head_found, below_head_again}
 
@@ -139,7 +139,7 @@ first_bad (suc k) n (x ∷ xs) fault within e = at (line_at (x ∷ xs)) refl (λ
         let step = sym (instructions_first n (x ∷ xs) p.1 p.0 l) ∙ e in
         longer n (x ∷ xs) p.1 p.0 fault f.0 f.1 (below p.1 (omega (arith, f.2)) (fails p.0 (instructions_of (n + 1) (parts_of p.1)) fault step))
 
-begins_well : (rest : List ℕ) → line_at rest ≡ None → (i : Instr) → HasOperands i → BeginsWith (instruction_line i) rest → ⊥
+begins_well : (rest : List ℕ) → line_at rest ≡ None → (i : Instr) → HasOperands i → BeginsWithLine (instruction_line i) rest → ⊥
 begins_well rest e i h b = let f : line_at rest ≡ Some (i, b.0) = ap line_at b.1 ∙ line_again i b.0 h in absurd cc
 
 bad_line : (text below : List ℕ) (fault : CodeFault) → text ≡ ended head_line ++ below → IsBadFrom 2 below fault → IsListingFault text fault

@@ -31,8 +31,8 @@ IsCodeFault code TooLong = 16384 < length code
 
 -- ---- texts
 
-abbrev pub BeginsWith : (line text : List ℕ) → Type 0
-BeginsWith line text = (rest : List ℕ) × (text ≡ ended line ++ rest)
+abbrev pub BeginsWithLine : (line text : List ℕ) → Type 0
+BeginsWithLine line text = (rest : List ℕ) × (text ≡ ended line ++ rest)
 
 -- the first line and the lines of these instructions are good, and what is left begins with no instruction's line
 pub record IsFirstBadLine (text : List ℕ) (line : ℕ) : Type 0 where
@@ -41,12 +41,12 @@ pub record IsFirstBadLine (text : List ℕ) (line : ℕ) : Type 0 where
   pub rest : List ℕ
   pub split : text ≡ listing_of above ++ rest
   pub some_left : 0 < length rest
-  pub bad : (i : Instr) → HasOperands i → BeginsWith (instruction_line i) rest → ⊥
+  pub bad : (i : Instr) → HasOperands i → BeginsWithLine (instruction_line i) rest → ⊥
   pub line' : line ≡ length above + 2
 
 -- the text does not begin with a listing's first line
 pub record IsBadHead (text : List ℕ) (line : ℕ) : Type 0 where
-  pub bad : BeginsWith head_line text → ⊥
+  pub bad : BeginsWithLine head_line text → ⊥
   pub line' : line ≡ 1
 
 -- every line is good, and the instructions are no code

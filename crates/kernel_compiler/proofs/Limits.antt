@@ -14,7 +14,7 @@ use Rattle.kernel_code.specs.Code.{goes_forward, IsCode}
 use Rattle.energy_program.specs.Tree.{Tree}
 use Rattle.energy_program.specs.Tree as t
 use Rattle.energy_program.specs.Uses.{is_marked, marks_of}
-use Rattle.kernel_compiler.specs.Code.{operation_of, function_of, base, local_of, power_code_within, power_code, raised_code, is_second_first, need, exchange_code, pair_code, tree_code, kept_code, definitions_code, program_code, has_local, is_within_limits}
+use Rattle.kernel_compiler.specs.Code.{binary_of_operator, unary_of_function, base, local_of, power_code_within, power_code, raised_code, is_second_first, need, exchange_code, pair_code, tree_code, kept_code, definitions_code, program_code, has_local, is_within_limits}
 use Rattle.kernel_compiler.specs.Sizes.{size, definitions_size, IsEmittable, AllEmittable}
 use Rattle.kernel_compiler.proofs.SizeLaws.{length-program}
 
@@ -77,10 +77,10 @@ tree_good len bits at (t.Definition k) can h = (refl, local k can, tt)
 tree_good len bits at (t.Negated a) can h =
     let l1 = length-append (tree_code bits at a) (Unary Negate ∷ []) in
     join len at (tree_code bits at a) (Unary Negate ∷ []) (tree_good len bits at a can (omega arith)) (refl, refl, tt)
-tree_good len bits at (t.Binary o a b) can h = pair_good (is_second_first (need a) (need b)) (operation_of o) len at (λ p. tree_code bits p a) (λ p. tree_code bits p b) h (λ p g. tree_good len bits p a can.0 g) (λ p g. tree_good len bits p b can.1 g)
+tree_good len bits at (t.Binary o a b) can h = pair_good (is_second_first (need a) (need b)) (binary_of_operator o) len at (λ p. tree_code bits p a) (λ p. tree_code bits p b) h (λ p g. tree_good len bits p a can.0 g) (λ p g. tree_good len bits p b can.1 g)
 tree_good len bits at (t.Applied f a) can h =
-    let l1 = length-append (tree_code bits at a) (Unary (function_of f) ∷ []) in
-    join len at (tree_code bits at a) (Unary (function_of f) ∷ []) (tree_good len bits at a can (omega arith)) (refl, refl, tt)
+    let l1 = length-append (tree_code bits at a) (Unary (unary_of_function f) ∷ []) in
+    join len at (tree_code bits at a) (Unary (unary_of_function f) ∷ []) (tree_good len bits at a can (omega arith)) (refl, refl, tt)
 tree_good len bits at (t.Power a n) can h =
     let l1 = length-append (tree_code bits at a) (raised_code bits n) in
     join len at (tree_code bits at a) (raised_code bits n) (tree_good len bits at a can.1 (omega arith)) (raised_good len _ bits n)

@@ -22,7 +22,7 @@ use Rattle.energy_program.specs.Tree.{Tree, put}
 use Rattle.energy_program.specs.Tree as t
 use Rattle.energy_program.specs.Value.{number_of, on_one, on_two, operation, applied, power, selected, value_of}
 use Rattle.energy_program.specs.Uses.{is_marked}
-use Rattle.kernel_compiler.specs.Code.{operation_of, function_of, base, spare, local_of, power_code_within, power_code, raised_code, raised_need, is_second_first, pair_need, need, exchange_code, pair_code, tree_code}
+use Rattle.kernel_compiler.specs.Code.{binary_of_operator, unary_of_function, base, spare, local_of, power_code_within, power_code, raised_code, raised_need, is_second_first, pair_need, need, exchange_code, pair_code, tree_code}
 use Rattle.kernel_compiler.proofs.Place.{HasAt, has_front, has_back}
 use Rattle.kernel_code.proofs.Runs.{after_more, ends_trapped}
 
@@ -58,7 +58,7 @@ on_two_none : (g : ℤ → ℤ → Result ℤ Fault) (o : Option ℤ) → on_two
 on_two_none g None = refl
 on_two_none g (Some x) = refl
 
-operation_is : (bits : ℕ) (o : Operator) (a b : Option ℤ) → on_two (binary_of bits (operation_of o)) a b ≡ operation bits o a b
+operation_is : (bits : ℕ) (o : Operator) (a b : Option ℤ) → on_two (binary_of bits (binary_of_operator o)) a b ≡ operation bits o a b
 operation_is bits op.Add a b = refl
 operation_is bits op.Subtract a b = refl
 operation_is bits op.Multiply a b = refl
@@ -66,7 +66,7 @@ operation_is bits op.Divide a b = refl
 operation_is bits op.Minimum a b = refl
 operation_is bits op.Maximum a b = refl
 
-applied_is : (bits : ℕ) (g : Function) (a : Option ℤ) → on_one (unary_of bits (function_of g)) a ≡ applied bits g a
+applied_is : (bits : ℕ) (g : Function) (a : Option ℤ) → on_one (unary_of bits (unary_of_function g)) a ≡ applied bits g a
 applied_is bits f.SquareRoot a = refl
 applied_is bits f.Absolute a = refl
 applied_is bits f.Step a = refl
@@ -361,15 +361,15 @@ module _ (bits : ℕ) (code : List Instr) (xs : List ℤ) where
     tree_runs inputs enough (t.Binary o a b) pc stack ls has fine h held c =
         let va = value_of bits xs (put mean a) in
         let vb = value_of bits xs (put mean b) in
-        gives_value (pc + length (tree_code bits pc (t.Binary o a b))) stack (on_two (binary_of bits (operation_of o)) va vb) (operation bits o va vb) (operation_is bits o va vb)
-        (pair_runs (is_second_first (need a) (need b)) (operation_of o) (λ p. tree_code bits p a) (λ p. tree_code bits p b) va vb (need a) (need b) pc stack ls (need_least a) has h
+        gives_value (pc + length (tree_code bits pc (t.Binary o a b))) stack (on_two (binary_of bits (binary_of_operator o)) va vb) (operation bits o va vb) (operation_is bits o va vb)
+        (pair_runs (is_second_first (need a) (need b)) (binary_of_operator o) (λ p. tree_code bits p a) (λ p. tree_code bits p b) va vb (need a) (need b) pc stack ls (need_least a) has h
         (λ p s l has' h' held' c'. tree_runs inputs enough a p s l has' fine.0 h' held' c')
         (λ p s l has' h' held' c'. tree_runs inputs enough b p s l has' fine.1 h' held' c')
         held c)
     tree_runs inputs enough (t.Applied g a) pc stack ls has fine h held c =
         let va = value_of bits xs (put mean a) in
-        gives_value (pc + length (tree_code bits pc (t.Applied g a))) stack (on_one (unary_of bits (function_of g)) va) (applied bits g va) (applied_is bits g va)
-        (one_runs (function_of g) (tree_code bits pc a) va pc stack has (tree_runs inputs enough a pc stack ls (has_front code pc (tree_code bits pc a) _ has) fine h held c))
+        gives_value (pc + length (tree_code bits pc (t.Applied g a))) stack (on_one (unary_of bits (unary_of_function g)) va) (applied bits g va) (applied_is bits g va)
+        (one_runs (unary_of_function g) (tree_code bits pc a) va pc stack has (tree_runs inputs enough a pc stack ls (has_front code pc (tree_code bits pc a) _ has) fine h held c))
     tree_runs inputs enough (t.Power a n) pc stack ls has fine h held c =
         let ca = tree_code bits pc a in
         let tail = raised_code bits n in

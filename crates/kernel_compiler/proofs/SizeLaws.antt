@@ -8,7 +8,7 @@ use Rattle.kernel_code.specs.declared.instructions.Instr.TheVariants.{Keep, Bina
 use Rattle.energy_program.specs.Tree.{Tree}
 use Rattle.energy_program.specs.Tree as t
 use Rattle.energy_program.specs.Uses.{is_marked, marks_of}
-use Rattle.kernel_compiler.specs.Code.{operation_of, function_of, local_of, power_code, raised_code, is_second_first, need, exchange_code, pair_code, tree_code, kept_code, definitions_code, program_code}
+use Rattle.kernel_compiler.specs.Code.{binary_of_operator, unary_of_function, local_of, power_code, raised_code, is_second_first, need, exchange_code, pair_code, tree_code, kept_code, definitions_code, program_code}
 use Rattle.kernel_compiler.specs.Sizes.{raised_size, pair_size, size, kept_size, definitions_size}
 
 length-raised : (bits : ℕ) (n : ℤ) → length (raised_code bits n) ≡ raised_size n
@@ -32,8 +32,8 @@ length-tree bits at (t.Number z) = refl
 length-tree bits at (t.Input k) = refl
 length-tree bits at (t.Definition k) = refl
 length-tree bits at (t.Negated a) = omega (arith, length-append (tree_code bits at a) (Unary Negate ∷ []), length-tree bits at a)
-length-tree bits at (t.Binary o a b) = length-pair (is_second_first (need a) (need b)) (operation_of o) at (λ p. tree_code bits p a) (λ p. tree_code bits p b) (size a) (size b) (λ p. length-tree bits p a) (λ p. length-tree bits p b)
-length-tree bits at (t.Applied g a) = omega (arith, length-append (tree_code bits at a) (Unary (function_of g) ∷ []), length-tree bits at a)
+length-tree bits at (t.Binary o a b) = length-pair (is_second_first (need a) (need b)) (binary_of_operator o) at (λ p. tree_code bits p a) (λ p. tree_code bits p b) (size a) (size b) (λ p. length-tree bits p a) (λ p. length-tree bits p b)
+length-tree bits at (t.Applied g a) = omega (arith, length-append (tree_code bits at a) (Unary (unary_of_function g) ∷ []), length-tree bits at a)
 length-tree bits at (t.Power a n) = omega (arith, length-append (tree_code bits at a) (raised_code bits n), length-tree bits at a, length-raised bits n)
 length-tree bits at (t.Select x a b) =
     let cx = tree_code bits at x in

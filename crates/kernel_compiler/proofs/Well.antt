@@ -12,7 +12,7 @@ use Rattle.kernel_code.proofs.EveryPath.{Well, well_on, well_at, get_well, push_
 use Rattle.energy_program.specs.Tree.{Tree}
 use Rattle.energy_program.specs.Tree as t
 use Rattle.energy_program.specs.Uses.{is_marked}
-use Rattle.kernel_compiler.specs.Code.{operation_of, function_of, base, spare, local_of, power_code_within, power_code, raised_code, raised_need, is_second_first, pair_need, need, exchange_code, pair_code, tree_code}
+use Rattle.kernel_compiler.specs.Code.{binary_of_operator, unary_of_function, base, spare, local_of, power_code_within, power_code, raised_code, raised_need, is_second_first, pair_need, need, exchange_code, pair_code, tree_code}
 use Rattle.kernel_compiler.proofs.Place.{HasAt, has_front, has_back}
 use Rattle.kernel_compiler.proofs.Runs.{IsFine, need_least}
 
@@ -140,16 +140,16 @@ module _ (code : List Instr) (inputs : ℕ) where
         tree_well bits a pc height set (has_front code pc ca tail has) fine h held (λ k1 held1.
         unary_well code inputs Negate (pc + length ca) height k1 (has_back code pc ca tail has).0 (well_at code inputs _ _ (height + 1) (height + 1) k1 len refl (next k1 held1)))
     tree_well bits (t.Binary o a b) pc height set has fine h held next =
-        pair_well (is_second_first (need a) (need b)) (operation_of o) (λ p. tree_code bits p a) (λ p. tree_code bits p b) (need a) (need b) pc height set (need_least a) has h
+        pair_well (is_second_first (need a) (need b)) (binary_of_operator o) (λ p. tree_code bits p a) (λ p. tree_code bits p b) (need a) (need b) pc height set (need_least a) has h
         (λ p q k has' h' held' next'. tree_well bits a p q k has' fine.0 h' held' next')
         (λ p q k has' h' held' next'. tree_well bits b p q k has' fine.1 h' held' next')
         held next
     tree_well bits (t.Applied g a) pc height set has fine h held next =
         let ca = tree_code bits pc a in
-        let tail = Unary (function_of g) ∷ [] in
+        let tail = Unary (unary_of_function g) ∷ [] in
         let len : pc + length (ca ++ tail) ≡ pc + length ca + 1 = omega (arith, length-append ca tail) in
         tree_well bits a pc height set (has_front code pc ca tail has) fine h held (λ k1 held1.
-        unary_well code inputs (function_of g) (pc + length ca) height k1 (has_back code pc ca tail has).0 (well_at code inputs _ _ (height + 1) (height + 1) k1 len refl (next k1 held1)))
+        unary_well code inputs (unary_of_function g) (pc + length ca) height k1 (has_back code pc ca tail has).0 (well_at code inputs _ _ (height + 1) (height + 1) k1 len refl (next k1 held1)))
     tree_well bits (t.Power a n) pc height set has fine h held next =
         let ca = tree_code bits pc a in
         let tail = raised_code bits n in

@@ -19,21 +19,21 @@ use Rattle.energy_program.specs.Uses.{is_marked, marks_of}
 
 -- ---- operations
 
-abbrev pub operation_of : Operator → BinaryOperation
-operation_of op.Add = binary.Add
-operation_of op.Subtract = binary.Subtract
-operation_of op.Multiply = binary.Multiply
-operation_of op.Divide = binary.Divide
-operation_of op.Minimum = binary.Minimum
-operation_of op.Maximum = binary.Maximum
+abbrev pub binary_of_operator : Operator → BinaryOperation
+binary_of_operator op.Add = binary.Add
+binary_of_operator op.Subtract = binary.Subtract
+binary_of_operator op.Multiply = binary.Multiply
+binary_of_operator op.Divide = binary.Divide
+binary_of_operator op.Minimum = binary.Minimum
+binary_of_operator op.Maximum = binary.Maximum
 
-abbrev pub function_of : Function → UnaryOperation
-function_of f.SquareRoot = unary.SquareRoot
-function_of f.Absolute = unary.Absolute
-function_of f.Step = unary.Step
-function_of f.Delta = unary.Delta
-function_of f.Floor = unary.Floor
-function_of f.Ceiling = unary.Ceiling
+abbrev pub unary_of_function : Function → UnaryOperation
+unary_of_function f.SquareRoot = unary.SquareRoot
+unary_of_function f.Absolute = unary.Absolute
+unary_of_function f.Step = unary.Step
+unary_of_function f.Delta = unary.Delta
+unary_of_function f.Floor = unary.Floor
+unary_of_function f.Ceiling = unary.Ceiling
 
 -- ---- locals
 
@@ -116,8 +116,8 @@ tree_code bits at (t.Number z) = Push z ∷ []
 tree_code bits at (t.Input i) = Input i ∷ []
 tree_code bits at (t.Definition j) = Get (local_of j) ∷ []
 tree_code bits at (t.Negated a) = tree_code bits at a ++ (Unary unary.Negate ∷ [])
-tree_code bits at (t.Binary o a b) = pair_code (is_second_first (need a) (need b)) (operation_of o) at (λ p. tree_code bits p a) (λ p. tree_code bits p b)
-tree_code bits at (t.Applied g a) = tree_code bits at a ++ (Unary (function_of g) ∷ [])
+tree_code bits at (t.Binary o a b) = pair_code (is_second_first (need a) (need b)) (binary_of_operator o) at (λ p. tree_code bits p a) (λ p. tree_code bits p b)
+tree_code bits at (t.Applied g a) = tree_code bits at a ++ (Unary (unary_of_function g) ∷ [])
 tree_code bits at (t.Power a n) = tree_code bits at a ++ raised_code bits n
 tree_code bits at (t.Select x a b) = choice_code at (tree_code bits at x) (λ p. tree_code bits p a) (λ p. tree_code bits p b)
 

@@ -4,7 +4,7 @@ ghost use Rattle.std.specs.Prelude.{◌≡◌, ℕ, ◌≤◌, ◌<◌, ◌+◌,
 ghost use Rattle.fixed.specs.Fractions.{bits_of};
 ghost use Rattle.energy_program.specs.Tree as t;
 ghost use Rattle.energy_program.specs.Tree.{tree_of, is_exponent};
-ghost use Rattle.kernel_compiler.specs.Code.{operation_of, function_of, exchange_code, power_code, raised_code, tree_code, definitions_code};
+ghost use Rattle.kernel_compiler.specs.Code.{binary_of_operator, unary_of_function, exchange_code, power_code, raised_code, tree_code, definitions_code};
 ghost use Rattle.kernel_compiler.specs.Sizes.{raised_size, size, definitions_size, IsEmittable, AllEmittable};
 
 use crate::sizes::{is_second_first, need};
@@ -23,7 +23,7 @@ const SPARE: u8 = 1;
 const FIRST: usize = 2;
 
 fn operation(operator: Operator) -> BinaryOperation
-    ensures { result ≡ operation_of operator }
+    ensures { result ≡ binary_of_operator operator }
 {
     match operator {
         Operator::Add => BinaryOperation::Add,
@@ -36,7 +36,7 @@ fn operation(operator: Operator) -> BinaryOperation
 }
 
 fn function(function: Function) -> UnaryOperation
-    ensures { result ≡ function_of function }
+    ensures { result ≡ unary_of_function function }
 {
     match function {
         Function::SquareRoot => UnaryOperation::SquareRoot,

@@ -8,7 +8,7 @@ use Rattle.kernel_code.specs.Paths.{MayGo, IsPath, height_after, set_after}
 use Rattle.kernel_paths.specs.declared.meetings.Shape.{Shape}
 use Rattle.kernel_paths.specs.declared.meetings.Meeting.{Meeting}
 use Rattle.kernel_paths.specs.declared.meetings.Meeting.TheVariants.{Nothing, Level, Uneven}
-use Rattle.kernel_paths.specs.Meetings.{IsBoth, IsJoin, IsJoinAt, IsLed, meeting_at, arrivals, IsSummary, AreUneven, Describes}
+use Rattle.kernel_paths.specs.Meetings.{IsBoth, IsJoin, IsJoinAt, IsLedOn, meeting_at, arrivals, IsSummary, AreUneven, Describes}
 use Rattle.kernel_paths.proofs.Arrivals.{arrives_here, is_path, path_long, long_after, more_after, unset_before, unset_after}
 
 -- ---- the paths of two kinds
@@ -160,7 +160,7 @@ join_twice (Level a) Uneven Uneven s x y = x
 join_twice Uneven m' m'' s x y = subst (λ (k : Meeting). IsJoin k s m'') x y
 
 -- two joins are one at each place that a conditional jump may go to
-pub led_twice : (here target : ℕ) (s : Shape) (old mid new : List Meeting) → IsJoinAt old (here + 1) s mid → IsJoinAt mid target s new → IsLed (JumpIfZero target) here s old new
+pub led_twice : (here target : ℕ) (s : Shape) (old mid new : List Meeting) → IsJoinAt old (here + 1) s mid → IsJoinAt mid target s new → IsLedOn (JumpIfZero target) here s old new
 led_twice here target s old mid new x y = record {
   long = y.long ∙ x.long;
   there = λ at go. ⊎_elim (λ (e : at ≡ here + 1). next at e) (λ (e : at ≡ target). subst (λ (k : ℕ). IsJoin (meeting_at old k) s (meeting_at new k)) (sym e) (jumped (cases_eq target (here + 1)))) go;

@@ -12,8 +12,8 @@ use Rattle.kernel_paths.specs.declared.faults.Misfit.TheVariants.{Malformed, Dep
 use Rattle.kernel_paths.specs.declared.meetings.Shape.{Shape}
 use Rattle.kernel_paths.specs.declared.meetings.Meeting.{Meeting}
 use Rattle.kernel_paths.specs.declared.meetings.Meeting.TheVariants.{Nothing, Level, Uneven}
-use Rattle.kernel_paths.specs.Misfits.{IsLevel, DoesWell, IsFirstMalformed, IsJudged}
-use Rattle.kernel_paths.specs.Meetings.{IsEnd, meeting_at, Arrives, first, arrivals, IsSummary, Describes, Stands}
+use Rattle.kernel_paths.specs.Misfits.{IsLevel, DoesWell, IsFirstMalformed, IsPathResult}
+use Rattle.kernel_paths.specs.Meetings.{IsEnd, meeting_at, Arrives, first, arrivals, IsSummary, Describes, HasFollowed}
 use Rattle.kernel_paths.proofs.Arrivals.{arrives_here, is_path, only_start}
 use Rattle.kernel_paths.proofs.Standing.{met_here}
 use Rattle.kernel_paths.proofs.Refusals.{held_here, level_here, uneven, end_met}
@@ -32,7 +32,7 @@ start_summary code s height set steps = record {
 
 -- at the beginning only the first place has a path, the empty one
 pub stands_first : (code : List Instr) (inputs : ℕ) (s : Shape) (meetings : List Meeting) → meetings ≡ slice_set (replicate (length code + 1) Nothing) 0 (Level s) → s.height ≡ 0 → s.set ≡ replicate 256 false → s.steps ≡ 0
-    → Stands code inputs 0 meetings
+    → HasFollowed code inputs 0 meetings
 stands_first code inputs s meetings e height set steps = record {
   long = ap (λ (ms : List Meeting). length ms) e ∙ length-set (replicate (length code + 1) Nothing) 0 (Level s) ∙ length-replicate (length code + 1) Nothing;
   fits = λ k lt. absurd (omega arith);
@@ -53,7 +53,7 @@ stands_first code inputs s meetings e height set steps = record {
 
 -- ---- the end
 
-does_well : (code : List Instr) (inputs : ℕ) (s : Shape) (meetings : List Meeting) → IsCode code → Stands code inputs (length code) meetings → meeting_at meetings (length code) ≡ Level s → s.height ≡ 1 → DoesWell code inputs s.steps
+does_well : (code : List Instr) (inputs : ℕ) (s : Shape) (meetings : List Meeting) → IsCode code → HasFollowed code inputs (length code) meetings → meeting_at meetings (length code) ≡ Level s → s.height ≡ 1 → DoesWell code inputs s.steps
 does_well code inputs s meetings c st e one = record {
   misses = record {
     acts = λ n pc height set i p there.
@@ -77,7 +77,7 @@ does_well code inputs s meetings c st e one = record {
         let at : pc ≡ length code = let w = path_within code c.forward p in omega arith in
         level_here code (length code) s c.forward x n m height height' set set' (subst (λ (k : ℕ). IsPath code n k height set) at p) (subst (λ (k : ℕ). IsPath code m k height' set') at q)
 
-ends_badly : (code : List Instr) (inputs : ℕ) (s : Shape) (meetings : List Meeting) → Stands code inputs (length code) meetings → meeting_at meetings (length code) ≡ Level s → s.height ≢ 1 → IsFirstMalformed code inputs (length code)
+ends_badly : (code : List Instr) (inputs : ℕ) (s : Shape) (meetings : List Meeting) → HasFollowed code inputs (length code) meetings → meeting_at meetings (length code) ≡ Level s → s.height ≢ 1 → IsFirstMalformed code inputs (length code)
 ends_badly code inputs s meetings st e other =
     let x = held_here code inputs (length code) meetings (Level s) st (omega arith) e in
     let same : x.taken.0 ≡ s.height = x.level s.steps x.taken.0 x.taken.1 x.taken.2 in
@@ -86,8 +86,8 @@ ends_badly code inputs s meetings st e other =
       wrong = inr (inr (record { last = refl; n = s.steps; height = x.taken.0; set = x.taken.1; path = is_path code x.taken.2; other = λ f. other (sym same ∙ f) }));
     }
 
-judged_end : (code : List Instr) (inputs : ℕ) (meetings : List Meeting) (m : Meeting) (r : Result ℕ Misfit) → IsCode code → Stands code inputs (length code) meetings → meeting_at meetings (length code) ≡ m → IsEnd m (length code) r
-    → IsJudged code inputs r
+judged_end : (code : List Instr) (inputs : ℕ) (meetings : List Meeting) (m : Meeting) (r : Result ℕ Misfit) → IsCode code → HasFollowed code inputs (length code) meetings → meeting_at meetings (length code) ≡ m → IsEnd m (length code) r
+    → IsPathResult code inputs r
 judged_end code inputs meetings Nothing r c st e h = absurd h
 judged_end code inputs meetings (Level s) (Ok steps) c st e h = subst (λ (n : ℕ). DoesWell code inputs n) (sym h.1) (does_well code inputs s meetings c st e h.0)
 judged_end code inputs meetings (Level s) (Err (Malformed pc)) c st e h = subst (λ (k : ℕ). IsFirstMalformed code inputs k) (sym h.1) (ends_badly code inputs s meetings st e h.0)
@@ -100,23 +100,23 @@ judged_end code inputs meetings Uneven (Err (DepthOver64 pc)) c st e h = absurd 
 
 record IsRead (code : List Instr) (inputs : ℕ) (meetings : List Meeting) (m : Meeting) : Type 0 where
   code' : IsCode code
-  stands : Stands code inputs (length code) meetings
+  stands : HasFollowed code inputs (length code) meetings
   there : meeting_at meetings (length code) ≡ m
 
-is_read : (code is : List Instr) (inputs here : ℕ) (meetings : List Meeting) (m : Meeting) → is ≡ code → IsCode code → Stands is inputs here meetings → here ≡ length is → m ≡ slice_index_or meetings (length is) m → IsRead is inputs meetings m
+is_read : (code is : List Instr) (inputs here : ℕ) (meetings : List Meeting) (m : Meeting) → is ≡ code → IsCode code → HasFollowed is inputs here meetings → here ≡ length is → m ≡ slice_index_or meetings (length is) m → IsRead is inputs meetings m
 is_read code is inputs here meetings m same c st last read =
-    let st' = subst (λ (k : ℕ). Stands is inputs k meetings) last st in
+    let st' = subst (λ (k : ℕ). HasFollowed is inputs k meetings) last st in
     record { code' = subst IsCode (sym same) c; stands = st'; there = met_here is inputs (length is) meetings m m (omega arith) st' read refl }
 
 -- at the end, once all places were followed, what is met there judges the code
-pub judged_last : (code is : List Instr) (inputs here : ℕ) (meetings : List Meeting) (m : Meeting) (r : Result ℕ Misfit) → is ≡ code → IsCode code → Stands is inputs here meetings → here ≡ length is
-    → m ≡ slice_index_or meetings (length is) m → IsEnd m (length is) r → IsJudged code inputs r
+pub judged_last : (code is : List Instr) (inputs here : ℕ) (meetings : List Meeting) (m : Meeting) (r : Result ℕ Misfit) → is ≡ code → IsCode code → HasFollowed is inputs here meetings → here ≡ length is
+    → m ≡ slice_index_or meetings (length is) m → IsEnd m (length is) r → IsPathResult code inputs r
 judged_last code is inputs here meetings m r same c st last read e =
     let x = is_read code is inputs here meetings m same c st last read in
-    subst (λ (k : List Instr). IsJudged k inputs r) same (judged_end is inputs meetings m r x.code' x.stands x.there e)
+    subst (λ (k : List Instr). IsPathResult k inputs r) same (judged_end is inputs meetings m r x.code' x.stands x.there e)
 
 -- some path comes to the end
-pub some_last : (code is : List Instr) (inputs here : ℕ) (meetings : List Meeting) (m : Meeting) → is ≡ code → IsCode code → Stands is inputs here meetings → here ≡ length is → m ≡ slice_index_or meetings (length is) m → m ≡ Nothing → ⊥
+pub some_last : (code is : List Instr) (inputs here : ℕ) (meetings : List Meeting) (m : Meeting) → is ≡ code → IsCode code → HasFollowed is inputs here meetings → here ≡ length is → m ≡ slice_index_or meetings (length is) m → m ≡ Nothing → ⊥
 some_last code is inputs here meetings m same c st last read e =
     let x = is_read code is inputs here meetings m same c st last read in
     end_met is inputs meetings x.code'.forward x.stands (x.there ∙ e)

@@ -8,7 +8,7 @@ use Rattle.kernel_code.specs.Paths.{IsPath}
 use Rattle.kernel_code.proofs.PathLaws.{path_within}
 use Rattle.kernel_paths.specs.declared.faults.Misfit.{Misfit}
 use Rattle.kernel_paths.specs.declared.faults.Misfit.TheVariants.{Malformed, DepthOver64}
-use Rattle.kernel_paths.specs.Misfits.{IsLevel, AreSupplied, Fits, Lacks, EndsBadly, MeetUnevenly, Overfills, DoesWell, IsFirstMalformed, IsFirstOverfull, IsJudged}
+use Rattle.kernel_paths.specs.Misfits.{IsLevel, AreSupplied, Fits, Lacks, EndsBadly, MeetUnevenly, Overfills, DoesWell, IsFirstMalformed, IsFirstOverfull, IsPathResult}
 
 -- a place is malformed: something is lacking there, paths meet unevenly, or they end badly
 abbrev IsMalformed : List Instr → (inputs pc : ℕ) → Type 0
@@ -87,7 +87,7 @@ not_both code inputs p q forward a b =
 -- ---- all
 
 -- a code has one judgement
-pub one_judgement : (code : List Instr) (inputs : ℕ) (r answer : Result ℕ Misfit) → JumpsForward code → IsJudged code inputs r → IsJudged code inputs answer → answer ≡ r
+pub one_judgement : (code : List Instr) (inputs : ℕ) (r answer : Result ℕ Misfit) → JumpsForward code → IsPathResult code inputs r → IsPathResult code inputs answer → answer ≡ r
 one_judgement code inputs (Ok m) (Ok n) forward a b = ap (λ (k : ℕ). Ok k) (sym (one_length code inputs m n a b))
 one_judgement code inputs (Ok m) (Err (Malformed q)) forward a b = absurd (no_malformed code inputs m q a b.wrong)
 one_judgement code inputs (Ok m) (Err (DepthOver64 q)) forward a b = absurd (no_overfull code inputs m q a b.overfills)

@@ -13,7 +13,7 @@ use Rattle.kernel_paths.specs.declared.meetings.Shape.{Shape}
 use Rattle.kernel_paths.specs.declared.meetings.Meeting.{Meeting}
 use Rattle.kernel_paths.specs.declared.meetings.Meeting.TheVariants.{Nothing, Level, Uneven}
 use Rattle.kernel_paths.specs.Misfits.{Lacks, EndsBadly, MeetUnevenly, IsFirstMalformed, IsFirstOverfull, IsFirst, GoesWrong, GoesWrongSo}
-use Rattle.kernel_paths.specs.Meetings.{IsFit, IsOverfull, meeting_at, arrivals, IsSummary, AreUneven, Describes, Stands}
+use Rattle.kernel_paths.specs.Meetings.{IsFit, IsOverfull, meeting_at, arrivals, IsSummary, AreUneven, Describes, HasFollowed}
 use Rattle.kernel_paths.proofs.Arrivals.{leads_there, arrives_here, is_path}
 use Rattle.kernel_code.proofs.PathLaws.{path_within}
 use Rattle.kernel_paths.proofs.Standing.{supplied_more}
@@ -21,7 +21,7 @@ use Rattle.kernel_paths.proofs.Standing.{supplied_more}
 -- ---- what some path lacks
 
 -- the meeting at a place describes the paths that come to it
-pub held_here : (code : List Instr) (inputs here : ℕ) (meetings : List Meeting) (m : Meeting) → Stands code inputs here meetings → here ≤ length code → meeting_at meetings here ≡ m → Describes (arrivals code here here) m
+pub held_here : (code : List Instr) (inputs here : ℕ) (meetings : List Meeting) (m : Meeting) → HasFollowed code inputs here meetings → here ≤ length code → meeting_at meetings here ≡ m → Describes (arrivals code here here) m
 held_here code inputs here meetings m st within e = subst (λ (k : Meeting). Describes (arrivals code here here) k) e (st.held here (omega arith) within)
 
 -- of an instruction that is not supplied on all paths
@@ -64,7 +64,7 @@ lacking code inputs here i s there x lacks = at i there lacks
 pub level_here : (code : List Instr) (here : ℕ) (s : Shape) → JumpsForward code → IsSummary (arrivals code here here) s → (n m height height' : ℕ) (set set' : List Bool) → IsPath code n here height set → IsPath code m here height' set' → height ≡ height'
 level_here code here s forward x n m height height' set set' p q = x.level n height set (arrives_here code forward p) ∙ sym (x.level m height' set' (arrives_here code forward q))
 
-overfull : (code : List Instr) (inputs here : ℕ) (i : Instr) (s : Shape) (meetings : List Meeting) → JumpsForward code → slice_get code here ≡ Some i → Stands code inputs here meetings → IsSummary (arrivals code here here) s
+overfull : (code : List Instr) (inputs here : ℕ) (i : Instr) (s : Shape) (meetings : List Meeting) → JumpsForward code → slice_get code here ≡ Some i → HasFollowed code inputs here meetings → IsSummary (arrivals code here here) s
     → IsOverfull i inputs s.height s.set → IsFirstOverfull code inputs here
 overfull code inputs here i s meetings forward there st x full = record {
   below = st.fits;
@@ -80,7 +80,7 @@ overfull code inputs here i s meetings forward there st x full = record {
 }
 
 -- a check that fails tells the first misfit
-pub unfit : (code : List Instr) (inputs here : ℕ) (i : Instr) (s : Shape) (meetings : List Meeting) (misfit : Misfit) → JumpsForward code → slice_get code here ≡ Some i → Stands code inputs here meetings → meeting_at meetings here ≡ Level s
+pub unfit : (code : List Instr) (inputs here : ℕ) (i : Instr) (s : Shape) (meetings : List Meeting) (misfit : Misfit) → JumpsForward code → slice_get code here ≡ Some i → HasFollowed code inputs here meetings → meeting_at meetings here ≡ Level s
     → IsFit i here inputs s.height s.set (Err misfit) → IsFirst code inputs misfit
 unfit code inputs here i s meetings misfit forward there st e fit = at misfit fit
   where
@@ -112,7 +112,7 @@ uneven_paths code here u = record {
 }
 
 -- a place where paths meet unevenly, once all below it were followed, is the first malformed one
-pub uneven : (code : List Instr) (inputs here : ℕ) (meetings : List Meeting) → here ≤ length code → Stands code inputs here meetings → meeting_at meetings here ≡ Uneven → IsFirstMalformed code inputs here
+pub uneven : (code : List Instr) (inputs here : ℕ) (meetings : List Meeting) → here ≤ length code → HasFollowed code inputs here meetings → meeting_at meetings here ≡ Uneven → IsFirstMalformed code inputs here
 uneven code inputs here meetings within st e =
     record { below = st.fits; wrong = inr (inl (uneven_paths code here (held_here code inputs here meetings Uneven st within e))) }
 
@@ -148,7 +148,7 @@ on_to_end code (suc left) n pc height set forward within far p =
     (at_or_end code pc within)
 
 -- so some path comes to the end
-pub end_met : (code : List Instr) (inputs : ℕ) (meetings : List Meeting) → JumpsForward code → Stands code inputs (length code) meetings → meeting_at meetings (length code) ≡ Nothing → ⊥
+pub end_met : (code : List Instr) (inputs : ℕ) (meetings : List Meeting) → JumpsForward code → HasFollowed code inputs (length code) meetings → meeting_at meetings (length code) ≡ Nothing → ⊥
 end_met code inputs meetings forward st e =
     let none = held_here code inputs (length code) meetings Nothing st (omega arith) e in
     let p = on_to_end code (length code) 0 0 0 _ forward (omega arith) (omega arith) begins in

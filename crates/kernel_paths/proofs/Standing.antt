@@ -12,7 +12,7 @@ use Rattle.kernel_paths.specs.declared.meetings.Shape.{Shape}
 use Rattle.kernel_paths.specs.declared.meetings.Meeting.{Meeting}
 use Rattle.kernel_paths.specs.declared.meetings.Meeting.TheVariants.{Nothing, Level}
 use Rattle.kernel_paths.specs.Misfits.{Fits}
-use Rattle.kernel_paths.specs.Meetings.{IsLed, meeting_at, Arrives, first, later, arrivals, IsSummary, Describes, Stands}
+use Rattle.kernel_paths.specs.Meetings.{IsLedOn, meeting_at, Arrives, first, later, arrivals, IsSummary, Describes, HasFollowed}
 use Rattle.kernel_paths.proofs.Arrivals.{arrives_here, is_path, few_steps}
 use Rattle.kernel_paths.proofs.Joins.{IsUnion, Leads, leads_summary, describes_same, describes_join}
 
@@ -109,8 +109,8 @@ fits_more code inputs here below at k lt =
     (cases_lt k here)
 
 -- once a place where its instruction can act is followed, what is known goes on to the next
-pub stands_on : (code : List Instr) (inputs here : ℕ) (i : Instr) (s t : Shape) (old new : List Meeting) → JumpsForward code → slice_get code here ≡ Some i → Stands code inputs here old → meeting_at old here ≡ Level s
-    → CanAct i inputs s.height s.set → t.height ≡ height_after i s.height → t.set ≡ set_after i s.set → t.steps ≡ s.steps + 1 → IsLed i here t old new → Stands code inputs (here + 1) new
+pub stands_on : (code : List Instr) (inputs here : ℕ) (i : Instr) (s t : Shape) (old new : List Meeting) → JumpsForward code → slice_get code here ≡ Some i → HasFollowed code inputs here old → meeting_at old here ≡ Level s
+    → CanAct i inputs s.height s.set → t.height ≡ height_after i s.height → t.set ≡ set_after i s.set → t.steps ≡ s.steps + 1 → IsLedOn i here t old new → HasFollowed code inputs (here + 1) new
 stands_on code inputs here i s t old new forward there st at_here can height set steps led = record {
   long = led.long ∙ st.long;
   fits = fits_more code inputs here st.fits (fits_here code inputs here i s forward there x can);
@@ -134,20 +134,20 @@ stands_on code inputs here i s t old new forward there st at_here can height set
         (λ n h b p. ⊎_elim (λ (q : arrivals code here at n h b). q) (λ (q : Leads code here i at n h b). absurd (stays q.go)) (u.either n h b p)) (meeting_at old at) (st.held at le within))
 
 -- the meeting that is read at a place
-pub met_here : (code : List Instr) (inputs here : ℕ) (meetings : List Meeting) (read m : Meeting) → here ≤ length code → Stands code inputs here meetings → read ≡ slice_index_or meetings here read → read ≡ m → meeting_at meetings here ≡ m
+pub met_here : (code : List Instr) (inputs here : ℕ) (meetings : List Meeting) (read m : Meeting) → here ≤ length code → HasFollowed code inputs here meetings → read ≡ slice_index_or meetings here read → read ≡ m → meeting_at meetings here ≡ m
 met_here code inputs here meetings read m within st is e =
     let within' : here < length meetings = omega (arith, st.long) in
     sym (get_or_read meetings here read within' is Nothing) ∙ e
 
 -- the longest path to a place has no more instructions than there are places below it
-pub steps_few : (code : List Instr) (inputs here : ℕ) (s : Shape) (meetings : List Meeting) → JumpsForward code → here ≤ length code → Stands code inputs here meetings → meeting_at meetings here ≡ Level s → s.steps ≤ here
+pub steps_few : (code : List Instr) (inputs here : ℕ) (s : Shape) (meetings : List Meeting) → JumpsForward code → here ≤ length code → HasFollowed code inputs here meetings → meeting_at meetings here ≡ Level s → s.steps ≤ here
 steps_few code inputs here s meetings forward within st at_here =
     let x = subst (λ (m : Meeting). Describes (arrivals code here here) m) at_here (st.held here (omega arith) within) in
     few_steps code forward (is_path code x.taken.2)
 
 -- ---- a place that no path comes to
 
-no_path : (code : List Instr) (inputs here : ℕ) (meetings : List Meeting) → JumpsForward code → here ≤ length code → Stands code inputs here meetings → meeting_at meetings here ≡ Nothing
+no_path : (code : List Instr) (inputs here : ℕ) (meetings : List Meeting) → JumpsForward code → here ≤ length code → HasFollowed code inputs here meetings → meeting_at meetings here ≡ Nothing
     → (n height : ℕ) (set : List Bool) → IsPath code n here height set → ⊥
 no_path code inputs here meetings forward within st at_here n height set p =
     let none = subst (λ (m : Meeting). Describes (arrivals code here here) m) at_here (st.held here (omega arith) within) in
@@ -162,7 +162,7 @@ stays_below code here none (later {n = n} {from = from} {height = height} {set =
     (cases_lt from here)
 
 -- a place that no path comes to is passed
-pub stands_past : (code : List Instr) (inputs here : ℕ) (meetings : List Meeting) → JumpsForward code → here < length code → Stands code inputs here meetings → meeting_at meetings here ≡ Nothing → Stands code inputs (here + 1) meetings
+pub stands_past : (code : List Instr) (inputs here : ℕ) (meetings : List Meeting) → JumpsForward code → here < length code → HasFollowed code inputs here meetings → meeting_at meetings here ≡ Nothing → HasFollowed code inputs (here + 1) meetings
 stands_past code inputs here meetings forward within st at_here =
     let none = no_path code inputs here meetings forward (omega arith) st at_here in
     record {

@@ -57,7 +57,7 @@ pub record IsJoinAt (old : List Meeting) (to : ℕ) (s : Shape) (new : List Meet
   pub others : (at : ℕ) → at ≢ to → meeting_at new at ≡ meeting_at old at
 
 -- at each place that the instruction may go to
-pub record IsLed (i : Instr) (here : ℕ) (s : Shape) (old new : List Meeting) : Type 0 where
+pub record IsLedOn (i : Instr) (here : ℕ) (s : Shape) (old new : List Meeting) : Type 0 where
   pub long : length new ≡ length old
   pub there : (at : ℕ) → MayGo i here at → IsJoin (meeting_at old at) s (meeting_at new at)
   pub others : (at : ℕ) → (MayGo i here at → ⊥) → meeting_at new at ≡ meeting_at old at
@@ -111,7 +111,7 @@ Describes paths (Level s) = IsSummary paths s
 Describes paths Uneven = AreUneven paths
 
 -- the places below this one were followed, and did well; each other has what comes to it from there
-pub record Stands (code : List Instr) (inputs here : ℕ) (meetings : List Meeting) : Type 0 where
+pub record HasFollowed (code : List Instr) (inputs here : ℕ) (meetings : List Meeting) : Type 0 where
   pub long : length meetings ≡ length code + 1
   pub fits : (k : ℕ) → k < here → Fits code inputs k
   pub held : (at : ℕ) → here ≤ at → at ≤ length code → Describes (arrivals code here at) (meeting_at meetings at)

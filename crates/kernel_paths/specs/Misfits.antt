@@ -92,9 +92,9 @@ abbrev pub IsFirst : List Instr → ℕ → Misfit → Type 0
 IsFirst code inputs (Malformed pc) = IsFirstMalformed code inputs pc
 IsFirst code inputs (DepthOver64 pc) = IsFirstOverfull code inputs pc
 
-abbrev pub IsJudged : List Instr → ℕ → Result ℕ Misfit → Type 0
-IsJudged code inputs (Ok steps) = DoesWell code inputs steps
-IsJudged code inputs (Err misfit) = IsFirst code inputs misfit
+abbrev pub IsPathResult : List Instr → ℕ → Result ℕ Misfit → Type 0
+IsPathResult code inputs (Ok steps) = DoesWell code inputs steps
+IsPathResult code inputs (Err misfit) = IsFirst code inputs misfit
 
 -- ---- what a refusal says of the code's paths
 

@@ -4,8 +4,8 @@ ghost use Rattle.std.specs.Prelude.{◌≡◌, ◌+◌, ◌^◌, ◌<◌, ℕ, l
 ghost use Rattle.fallible.specs.Failures.{Gives, IfRefused};
 ghost use Rattle.kernel_code.specs.Code.{IsCode};
 ghost use Rattle.kernel_paths.specs.declared.meetings.Meeting.TheVariants.{Nothing};
-ghost use Rattle.kernel_paths.specs.Misfits.{DoesWell, IsFirst, IsJudged, GoesWrongSo};
-ghost use Rattle.kernel_paths.specs.Meetings.{Stands, IsEnd};
+ghost use Rattle.kernel_paths.specs.Misfits.{DoesWell, IsFirst, IsPathResult, GoesWrongSo};
+ghost use Rattle.kernel_paths.specs.Meetings.{HasFollowed, IsEnd};
 
 use crate::faults::Misfit;
 use crate::instructions::{act, check, lead};
@@ -23,8 +23,8 @@ fn follow(
 ) -> Result<(), Misfit>
     requires code { IsCode code.now }
     requires within { here < length code.now }
-    requires stands { Stands code.now inputs here meetings.old }
-    ensures on { OnOk result (Stands code.now inputs (here + 1) meetings.new) }
+    requires stands { HasFollowed code.now inputs here meetings.old }
+    ensures on { OnOk result (HasFollowed code.now inputs (here + 1) meetings.new) }
     ensures refused { IfErr result (IsFirst code.now inputs) }
 {
     let meeting = meetings[here];
@@ -56,8 +56,8 @@ fn judge_end(end: &Meeting, len: usize) -> Result<u32, Misfit>
 /// The verdict on all paths, where none is followed yet.
 fn judge(code: &[Instr], inputs: usize, meetings: &mut [Meeting]) -> Result<u32, Misfit>
     requires code { IsCode code.now }
-    requires stands { Stands code.now inputs 0 meetings.old }
-    ensures { IsJudged code.now inputs result }
+    requires stands { HasFollowed code.now inputs 0 meetings.old }
+    ensures { IsPathResult code.now inputs result }
 {
     for here in 0..code.len() {
         if let Err(misfit) = follow(code, here, inputs, meetings) {
@@ -84,7 +84,7 @@ pub fn longest_path<A: Allocator, B: Allocator>(
     ensures well { IfOk result (DoesWell code.now inputs) }
     ensures first { IfErr result (λ failure. IfRefused failure (IsFirst code.now inputs)) }
     // There is no other.
-    ensures only { (answer : Result ℕ Misfit) → IsJudged code.now inputs answer → Gives (λ steps. steps) (λ misfit. misfit) result answer }
+    ensures only { (answer : Result ℕ Misfit) → IsPathResult code.now inputs answer → Gives (λ steps. steps) (λ misfit. misfit) result answer }
     // Where it refuses, some path goes wrong.
     ensures refused { IfErr result (λ failure. IfRefused failure (GoesWrongSo code.now inputs)) }
 {

@@ -3,7 +3,7 @@
 ghost use Rattle.std.specs.Prelude.{◌≡◌, ◌+◌, ◌-◌, ◌^◌, ◌<◌, ◌↔◌, IsTrue, length, true};
 ghost use Rattle.kernel_code.specs.Code.{goes_forward};
 ghost use Rattle.kernel_code.specs.Paths.{IsSupplied, HasRoom, CanAct, height_after, set_after};
-ghost use Rattle.kernel_paths.specs.Meetings.{IsLed, IsFit};
+ghost use Rattle.kernel_paths.specs.Meetings.{IsLedOn, IsFit};
 
 use crate::faults::Misfit;
 use crate::meetings::{Meeting, Shape, join};
@@ -70,7 +70,7 @@ pub fn act(instr: &Instr, inputs: usize, shape: &Shape) -> Shape
 pub fn lead(instr: &Instr, here: usize, shape: &Shape, meetings: &mut [Meeting])
     requires within { here + 1 < length meetings.old }
     requires forward { goes_forward (length meetings.old - 1) here instr.now ≡ true }
-    ensures { IsLed instr.now here shape.now meetings.old meetings.new }
+    ensures { IsLedOn instr.now here shape.now meetings.old meetings.new }
 {
     match *instr {
         Instr::Jump(target) => join(meetings, target as usize, shape),

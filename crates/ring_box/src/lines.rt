@@ -54,7 +54,7 @@ fn length_elsewhere(s: u128) -> u64
     length_of(s)
 }
 
-/// The same from an estimate, which mostly is the length.
+/// The length of a line whose square is `s`, from an estimate, which mostly is that length.
 #[inline(always)]
 fn length_near(s: u128, estimate: u64) -> u64
     ensures value { result ≡ length_of s }
@@ -85,7 +85,7 @@ impl Separation {
         }
     }
 
-    /// The same where the root of the square is estimated.
+    /// The line of this separation, whose square is `s`, from an estimate of the square's root.
     #[inline(always)]
     pub(crate) fn line_near(self, s: u128, estimate: u64) -> PairLine
         requires square { s ≡ square self.x + square self.y + square self.z }
@@ -141,7 +141,7 @@ impl PairLine {
         }
     }
 
-    /// About the same.
+    /// About the force along the line for the slope `g`.
     #[inline(always)]
     fn force_estimate(self, g: i64) -> Force<i64> {
         let ratio = near_float(g) / near_float(self.length.cast_signed());
@@ -152,7 +152,7 @@ impl PairLine {
         }
     }
 
-    /// The same where the least number of 64 bits is left out.
+    /// The force along the line for a slope that isn't the least number of 64 bits.
     pub(crate) fn small_force(self, g: i64) -> Force<i64>
         requires { unsigned_abs g < 2 ^ 63 }
         ensures value { result ≡ line_force_of g self.x self.y self.z self.length }
@@ -194,7 +194,7 @@ fn is_component(g: i64, a: i64, d: u64, q: i64) -> bool
     is_floor_over(floor_product(g, a), d, q)
 }
 
-/// The same from an estimate, which mostly is the component.
+/// The component of a force, from an estimate, which mostly is that component.
 #[inline(always)]
 #[tactic(auto, using(crate::proofs::ForceLemmas::result_within))]
 fn small_component(g: i64, a: i64, d: u64, estimate: i64) -> i64

@@ -19,7 +19,7 @@ use Rattle.tile_round.specs.declared.places.WorkerPlace.TheVariants.{Resting, Ad
 use Rattle.tile_round.specs.Tiles.{Addition, additions_of, tile_of, tiles_of, tile_at, pairs_at, IsPairOf}
 use Rattle.tile_round.specs.Interleaving.{State, Stand, Progress, opening, stand_at, outcome_at, on_claim, on_deposit}
 use Rattle.tile_round.specs.Interleaving.Stand.{doing, ended}
-use Rattle.tile_round.specs.Places.{task_at, later, stand_of, stands_of, stops, IsPlace, IsSound, IsTask}
+use Rattle.tile_round.specs.Places.{task_at, later, stand_of, stands_of, stops, IsWorkerPlace, IsSound, IsTask}
 use Rattle.tile_round.proofs.RunLemmas.{at_set, replicated, stand_below, stand_past, outcome_below, outcome_past, stops_most, claim_few, deposit_stops}
 
 -- a list from the place of an element on is that element and what comes behind it
@@ -241,9 +241,9 @@ module _ (plan : List (List (Option PairAdd))) where
       ∙ sym (ap (on_deposit (tiles_of plan) (state_of drawn places sums) w) (stands_before places w task a at next))
 
   module _ (atoms : ℕ) where
-    within_set : (places : List WorkerPlace) (w : ℕ) (p : WorkerPlace) → IsPlace atoms plan p → ((v : ℕ) (q : WorkerPlace) → slice_get places v ≡ Some q → IsPlace atoms plan q)
-        → (v : ℕ) (q : WorkerPlace) → slice_get (set places w p) v ≡ Some q → IsPlace atoms plan q
-    within_set places w p is within v q e = ⊎_elim (λ t. subst (IsPlace atoms plan) t.1 is) (λ t. within v q t.1) (at_set places w v p q e)
+    within_set : (places : List WorkerPlace) (w : ℕ) (p : WorkerPlace) → IsWorkerPlace atoms plan p → ((v : ℕ) (q : WorkerPlace) → slice_get places v ≡ Some q → IsWorkerPlace atoms plan q)
+        → (v : ℕ) (q : WorkerPlace) → slice_get (set places w p) v ≡ Some q → IsWorkerPlace atoms plan q
+    within_set places w p is within v q e = ⊎_elim (λ t. subst (IsWorkerPlace atoms plan) t.1 is) (λ t. within v q t.1) (at_set places w v p q e)
 
     -- there is room for the ticket of a worker at rest
     pub has_room : (drawn : List ℕ) (room : ℕ) (places : List WorkerPlace) (sums : List ℤ) (w : ℕ) → IsSound atoms plan drawn room places sums → slice_get places w ≡ Some Resting → length drawn < room
@@ -255,7 +255,7 @@ module _ (plan : List (List (Option PairAdd))) where
         omega arith
 
     -- a round is sound still once a worker at rest has drawn a ticket
-    pub claim_sound : (drawn drawn' : List ℕ) (room room' : ℕ) (places : List WorkerPlace) (sums : List ℤ) (w : ℕ) (p : WorkerPlace) → IsSound atoms plan drawn room places sums → slice_get places w ≡ Some Resting → IsPlace atoms plan p
+    pub claim_sound : (drawn drawn' : List ℕ) (room room' : ℕ) (places : List WorkerPlace) (sums : List ℤ) (w : ℕ) (p : WorkerPlace) → IsSound atoms plan drawn room places sums → slice_get places w ≡ Some Resting → IsWorkerPlace atoms plan p
         → drawn' ≡ drawn ++ w ∷ [] → room' ≡ room → stand_of plan p ≡ stand_at (tiles_of plan) (length drawn) → IsSound atoms plan drawn' room' (set places w p) sums
     claim_sound drawn drawn' room room' places sums w p sound at is longer same stand = record {
       within = within_set places w p is sound.within;
@@ -273,7 +273,7 @@ module _ (plan : List (List (Option PairAdd))) where
     }
 
     -- a round is sound still once a worker has made its task's next addition
-    pub deposit_sound : (drawn : List ℕ) (room : ℕ) (places : List WorkerPlace) (sums sums' : List ℤ) (w : ℕ) (task : Task) (p : WorkerPlace) (a : Addition) → IsSound atoms plan drawn room places sums → slice_get places w ≡ Some (Adding task) → IsPlace atoms plan p
+    pub deposit_sound : (drawn : List ℕ) (room : ℕ) (places : List WorkerPlace) (sums sums' : List ℤ) (w : ℕ) (task : Task) (p : WorkerPlace) (a : Addition) → IsSound atoms plan drawn room places sums → slice_get places w ≡ Some (Adding task) → IsWorkerPlace atoms plan p
         → slice_get (additions_of (Some task.add)) task.part ≡ Some a → stand_of plan p ≡ doing (rest_of task)
         → length sums' ≡ length sums → map (cast_signed w64) (map (cast_unsigned w64) sums') ≡ sums' → IsSound atoms plan drawn room (set places w p) sums'
     deposit_sound drawn room places sums sums' w task p a sound at is next stand same signed = record {
@@ -310,7 +310,7 @@ module _ (plan : List (List (Option PairAdd))) where
     opening_sound wide enough = record {
       within = λ w p e.
           let rests : Resting ≡ p = replicated workers w Resting p (ap (λ ps. slice_get ps w) (sym places_are) ∙ e) in
-          subst (IsPlace atoms plan) rests tt;
+          subst (IsWorkerPlace atoms plan) rests tt;
       wide = let size = ap length sums_are in omega (arith, length-replicate entries (pos 0));
       signed =
           ap (map (cast_signed w64)) (ap (map (cast_unsigned w64)) sums_are ∙ map-replicate (cast_unsigned w64) entries (pos 0))

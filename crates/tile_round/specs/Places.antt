@@ -44,14 +44,14 @@ module _ (atoms : ℕ) (plan : List (List (Option PairAdd))) where
     pub tile : task.tile < length plan
     pub next : task.next ≤ length (pairs_at plan task.tile)
 
-  abbrev pub IsPlace : WorkerPlace → Type 0
-  IsPlace (Adding task) = IsTask task
-  IsPlace _ = Unit {0}
+  abbrev pub IsWorkerPlace : WorkerPlace → Type 0
+  IsWorkerPlace (Adding task) = IsTask task
+  IsWorkerPlace _ = Unit {0}
 
   -- the invariant of a round
   pub record IsSound (drawn : List ℕ) (room : ℕ) (places : List WorkerPlace) (sums : List ℤ) : Type 0 where
     -- the workers' places are within the plan
-    pub within : (w : ℕ) (p : WorkerPlace) → slice_get places w ≡ Some p → IsPlace p
+    pub within : (w : ℕ) (p : WorkerPlace) → slice_get places w ≡ Some p → IsWorkerPlace p
     -- there are sums for all atoms, each a number of 64 bits
     pub wide : 3 * atoms ≤ length sums
     pub signed : map (cast_signed w64) (map (cast_unsigned w64) sums) ≡ sums

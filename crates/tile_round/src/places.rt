@@ -1,7 +1,7 @@
 ghost use Rattle.std.specs.Prelude.{◌≡◌, ◌+◌, ◌<◌, ◌≤◌, ◌++◌, length, drop, slice_get, Some};
 ghost use Rattle.tile_round.specs.Tiles.{additions_of, tile_of, pairs_at};
 ghost use Rattle.tile_round.specs.Interleaving.Stand.{doing};
-ghost use Rattle.tile_round.specs.Places.{later, stand_of, task_at, IsTask, IsPlace};
+ghost use Rattle.tile_round.specs.Places.{later, stand_of, task_at, IsTask, IsWorkerPlace};
 
 use crate::faults::RoundFault;
 use crate::work::{PairAdd, Work};
@@ -41,7 +41,7 @@ impl Task {
         requires { IsTask (W.atoms work.now) (W.plan work.now) self }
         ensures stand { stand_of (W.plan work.now) result
             ≡ doing (drop (self.part + 1) (additions_of (Some self.add)) ++ later (W.plan work.now) self) }
-        ensures place { IsPlace (W.atoms work.now) (W.plan work.now) result }
+        ensures place { IsWorkerPlace (W.atoms work.now) (W.plan work.now) result }
     {
         let part = self.part + 1;
         if part < PairAdd::PARTS {
@@ -76,7 +76,7 @@ pub(crate) fn place_from<W: Work>(work: &W, tile: u64, first: u64) -> WorkerPlac
     requires first { first ≤ length (pairs_at (W.plan work.now) tile) }
     ensures stand { stand_of (W.plan work.now) result
         ≡ doing (tile_of (drop first (pairs_at (W.plan work.now) tile))) }
-    ensures place { IsPlace (W.atoms work.now) (W.plan work.now) result }
+    ensures place { IsWorkerPlace (W.atoms work.now) (W.plan work.now) result }
 {
     for k in first..work.pairs(tile) {
         match work.pair(tile, k) {

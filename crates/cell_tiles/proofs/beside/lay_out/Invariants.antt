@@ -1,5 +1,5 @@
 use Rattle.std.proofs.Common.{◌≡◌, map, take}
-use Rattle.cell_tiles.specs.Cells.{places_of}
+use Rattle.ring_box.specs.Places.{places_of}
 use Rattle.cell_tiles.proofs.beside.lay_out.Given as goal
 
 abbrev pub invariant-loop-i : goal.invariant-loop-i

@@ -2,7 +2,8 @@ use Rattle.std.specs.List.{All}
 use Rattle.std.proofs.Common.{◌≡◌, ◌<◌, ◌∙◌, [], ap, arith, get_or, length, length-set, map, sym}
 use Rattle.std.proofs.lemmas.List.{get_or-map, length-map}
 use Rattle.std.proofs.lemmas.List.Elements.{All-get_or}
-use Rattle.cell_tiles.specs.Cells.{member_places, places_of}
+use Rattle.ring_box.specs.Places.{places_of}
+use Rattle.cell_tiles.specs.Cells.{member_places}
 use Rattle.cell_tiles.proofs.NearLemmas.{places_at}
 use Rattle.cell_tiles.proofs.VectorLemmas.{laid_more}
 use Rattle.cell_tiles.proofs.beside.lay_out_all.Goals as goal

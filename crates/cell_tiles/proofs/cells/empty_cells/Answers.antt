@@ -1,10 +1,6 @@
 use Rattle.std.proofs.Common.{arith, ap, ◌∙◌, replicate, []}
 use Rattle.std.proofs.lemmas.Result.{IfOk-from_err}
-use Rattle.std.proofs.lemmas.Grind.{common_steps}
 use Rattle.cell_tiles.proofs.cells.empty_cells.Goals as goal
-
-pub loop-preserved : goal.loop-preserved
-loop-preserved g c = grind (arith, common_steps)
 
 pub returns-in_err-push : goal.returns-in_err-push
 returns-in_err-push g c = IfOk-from_err c.from_residual.result _ c.from_residual.ensures.0

@@ -27,8 +27,8 @@ returns-then-len-ge-MAX_GLOBALS g c =
     (known_through (global_value {A = g.row.A.Denot}) (λ (v : GlobalValue). v.name) c.args.draft.now.globals.items _ _ _ _ c.as_slice.ensures.value c.knows_global.ensures c.if-knows_global.false)
     (omega (arith, length-map c.args.draft.now.globals.items (global_value {A = g.row.A.Denot}), c.len.ensures, c.args.draft.now.globals.ok.0, c.if-len-ge-MAX_GLOBALS.true))
 
-pub invariant_of-draft : goal.invariant_of-draft
-invariant_of-draft g c = let d = c.args.draft.now in record { least_core = d.least_core; most_cutoff = d.most_cutoff; some_slices = d.some_slices; most_slices = d.most_slices; named = d.named; few_parameters = d.few_parameters; few_globals = pushed_few (is_ok c.push.result) d.globals.items c.push.new.self.items _ 16 c.push.ensures.items (omega (arith, c.len.ensures, c.args.draft.now.globals.ok.0, c.if-len-ge-MAX_GLOBALS.false)); few_types = d.few_types }
+pub invariant_of-draft-clause-few_globals : goal.invariant_of-draft-clause-few_globals
+invariant_of-draft-clause-few_globals g c = pushed_few (is_ok c.push.result) c.args.draft.now.globals.items c.push.new.self.items _ 16 c.push.ensures.items (omega (arith, c.len.ensures, c.args.draft.now.globals.ok.0, c.if-len-ge-MAX_GLOBALS.false))
 
 pub returns : goal.returns
 returns g c =

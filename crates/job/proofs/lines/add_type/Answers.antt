@@ -27,8 +27,8 @@ returns-then-len-ge-MAX_TYPES g c =
     (known_through (type_line {A = g.row.A.Denot}) (λ (t : TypeLine). t.value.name) c.args.draft.now.types.items _ _ _ _ c.as_slice.ensures.value c.knows_type.ensures c.if-knows_type.false)
     (omega (arith, length-map c.args.draft.now.types.items (type_line {A = g.row.A.Denot}), c.len.ensures, c.args.draft.now.types.ok.0, c.if-len-ge-MAX_TYPES.true))
 
-pub invariant_of-draft : goal.invariant_of-draft
-invariant_of-draft g c = let d = c.args.draft.now in record { least_core = d.least_core; most_cutoff = d.most_cutoff; some_slices = d.some_slices; most_slices = d.most_slices; named = d.named; few_parameters = d.few_parameters; few_globals = d.few_globals; few_types = pushed_few (is_ok c.push.result) d.types.items c.push.new.self.items _ 64 c.push.ensures.items (omega (arith, c.len.ensures, c.args.draft.now.types.ok.0, c.if-len-ge-MAX_TYPES.false)) }
+pub invariant_of-draft-clause-few_types : goal.invariant_of-draft-clause-few_types
+invariant_of-draft-clause-few_types g c = pushed_few (is_ok c.push.result) c.args.draft.now.types.items c.push.new.self.items _ 64 c.push.ensures.items (omega (arith, c.len.ensures, c.args.draft.now.types.ok.0, c.if-len-ge-MAX_TYPES.false))
 
 pub returns : goal.returns
 returns g c =

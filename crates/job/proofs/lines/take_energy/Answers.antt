@@ -12,8 +12,5 @@ returns-then-not-is_empty g c = grind (arith, common_steps)
 pub returns-in_err-draft : goal.returns-in_err-draft
 returns-in_err-draft g c = grind (arith, common_steps)
 
-pub invariant_of-draft : goal.invariant_of-draft
-invariant_of-draft g c = let d = c.args.draft.now in record { least_core = d.least_core; most_cutoff = d.most_cutoff; some_slices = d.some_slices; most_slices = d.most_slices; named = d.named; few_parameters = d.few_parameters; few_globals = d.few_globals; few_types = d.few_types }
-
 pub returns : goal.returns
 returns g c = grind (arith, common_steps)

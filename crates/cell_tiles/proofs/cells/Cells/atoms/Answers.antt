@@ -1,16 +1,6 @@
-use Rattle.std.proofs.Common.{◌≡◌, ◌≤◌, get_or, length, arith, rules}
+use Rattle.std.proofs.Common.{◌≡◌, ◌≤◌, get_or, length}
 use Rattle.std.proofs.lemmas.List.Elements.{All-get_or}
-use Rattle.std.proofs.lemmas.Grind.{common_steps}
 use Rattle.cell_tiles.proofs.cells.Cells.atoms.Goals as goal
-
-pub returns-in-Some-clause-value : goal.returns-in-Some-clause-value
-returns-in-Some-clause-value g c = grind (arith, common_steps)
-
-pub returns-in-None-clause-value : goal.returns-in-None-clause-value
-returns-in-None-clause-value g c = grind (arith, common_steps)
-
-pub get-requires : goal.get-requires
-get-requires g c κs = search rules
 
 pub returns-in-Some-clause-few : goal.returns-in-Some-clause-few
 returns-in-Some-clause-few g c =
@@ -18,6 +8,3 @@ returns-in-Some-clause-few g c =
     let items = c.self.inside.members.items in
     let here : c.in-Some.members.now ≡ get_or items c.args.cell c.in-Some.members.now = rw c.deref.ensures.value at lookup.1 in
     rw (c.as_slice.ensures.value, here) (All-get_or (λ m. length m.items ≤ 65536) items c.args.cell c.in-Some.members.now (rw c.deref.ensures.value at lookup.3.0) c.self.invariant.1)
-
-pub returns-in-None-clause-few : goal.returns-in-None-clause-few
-returns-in-None-clause-few g c = omega arith

@@ -1,5 +1,6 @@
 use Rattle.std.proofs.Common.{◌≡◌}
-use Rattle.cell_tiles.specs.Cells.{cell_number, places_of}
+use Rattle.ring_box.specs.Places.{places_of}
+use Rattle.cell_tiles.specs.Cells.{cell_number}
 use Rattle.cell_tiles.proofs.CellLemmas.{are_places}
 use Rattle.cell_tiles.proofs.NearLemmas.{lies_in}
 use Rattle.cell_tiles.proofs.cells.Cells.is_cell_far.Goals as goal

@@ -1,8 +1,8 @@
 use Rattle.std.proofs.Common.{◌≡◌, ◌≤◌, ◌+◌, ◌++◌, ap, arith, drop, inl, inr, length, sym, take, ◌∙◌}
 use Rattle.std.proofs.lemmas.Bool.{cases_lt}
 use Rattle.std.proofs.lemmas.List.{length-map}
-use Rattle.std.proofs.lemmas.Grind.{common_steps}
-use Rattle.cell_tiles.specs.Cells.{cell_number, places_of}
+use Rattle.ring_box.specs.Places.{places_of}
+use Rattle.cell_tiles.specs.Cells.{cell_number}
 use Rattle.cell_tiles.specs.Near.{IsPairOf, those_acting}
 use Rattle.cell_tiles.specs.Tiles.{members_at, pair_of, pairs_in, pairs_with}
 use Rattle.cell_tiles.proofs.NearLemmas.{cell_places, members_lie, part_lies, part_places, row_all, row_passed, row_seen}
@@ -11,6 +11,7 @@ use Rattle.cell_tiles.proofs.cells.Cells.near_from.Goals.{After-list_row-seen}
 use Rattle.cell_tiles.proofs.cells.Cells.near_from.Goals as goal
 
 -- the pairs of a row that were seen are come past
+
 past : (g : Over) (c : After-list_row-seen g) →
     let ps = pairs_in c.args.self.now.members (c.args.tile.first, c.args.tile.second) in
     let acting = those_acting c.args.frame.now.reach.now c.args.frame.now.ring.now c.args.frame.now.places.now in
@@ -84,9 +85,3 @@ loop-next-preserved g c =
       listed = seen.listed kept.listed;
       few = omega (arith, seen.few, kept.few, kept.from);
     }
-
-pub loop-next-smaller : goal.loop-next-smaller
-loop-next-smaller g c = grind (arith, common_steps)
-
-pub returns-clause-near : goal.returns-clause-near
-returns-clause-near g c = grind (arith, common_steps)

@@ -4,10 +4,9 @@ use Rattle.std.specs.List.{All}
 use Rattle.std.proofs.lemmas.List.{get_or-map, length-map, length-take-le, take-map}
 use Rattle.std.proofs.lemmas.Grind.{common_steps}
 use Rattle.ring_box.specs.Acting.{acting_of}
-use Rattle.ring_box.specs.Places.{nowhere}
-use Rattle.cell_tiles.specs.Cells.{places_of}
+use Rattle.ring_box.specs.Places.{nowhere, places_of}
 use Rattle.cell_tiles.specs.declared.pairs.AtomPair.{AtomPair}
-use Rattle.cell_tiles.specs.Near.{IsPairOf, act}
+use Rattle.cell_tiles.specs.Near.{IsPairOf, pair_acts}
 use Rattle.cell_tiles.specs.Tiles.{pair_of, pairs_with}
 use Rattle.cell_tiles.proofs.MarkedLemmas.{IsReached, marked_act, number_below, pairs_at, reached_all, reached_some}
 use Rattle.cell_tiles.proofs.NearLemmas.{all_listed, first_inside, listed_next, pair_idle, pair_inside}
@@ -58,7 +57,7 @@ loop-e-preserved c =
     let room : place < length xs = omega (arith, kept.wide, c.loop-e-test.true, c.min-taken.ensures, c.self.invariant) in
     let next : place + 1 ≡ c.self.inside.count + (e + 1) = omega arith in
     record {
-      acting = rw (← next) (listed_next (act d b frame) pair xs x place c.args.self.now qs e room (omega (arith, size, length-map (take near.result numbers) at)) (c.in_order.ensures ∙ sym here) kept.acting);
+      acting = rw (← next) (listed_next (pair_acts d b frame) pair xs x place c.args.self.now qs e room (omega (arith, size, length-map (take near.result numbers) at)) (c.in_order.ensures ∙ sym here) kept.acting);
       listed = λ all. rw (← next) (all_listed (IsPairOf (length frame)) pair xs x place room (kept.listed all) (subst (IsPairOf (length frame)) (sym c.in_order.ensures) (pair_inside (length frame) a others j c.requires.pairs inside)));
       wide = length-set xs place x ∙ kept.wide;
     }
@@ -92,7 +91,7 @@ returns-clause-acting c =
     let taken = c.min-taken.result in
     let r = c.if-taken-near.result in
     let ps = pairs_with a others in
-    let acts = act d b frame in
+    let acts = pair_acts d b frame in
     let at : ℕ → ℕ × ℕ = λ k. get_or ps k (0, 0) in
     let reached = reached_by c in
     let idle : (j : ℕ) → j < row → get_or marks j false ≡ false → acts (get_or ps j (0, 0)) ≡ false = λ j lt unmarked.
