@@ -11,8 +11,3 @@ left_of false b h = h
 pub right_of : (a b : Bool) → IsTrue (a && b) → IsTrue b
 right_of true b h = h
 right_of false b h = absurd (cc)
-
--- where each of two tests holds they hold together
-pub both : (a b : Bool) → IsTrue a → IsTrue b → IsTrue (a && b)
-both true b h k = k
-both false b h k = h

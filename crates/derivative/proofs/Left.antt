@@ -4,9 +4,9 @@ use Rattle.std.specs.Bool.{IsTrue}
 use Rattle.energy_program.specs.Tree.{Tree, is_scoped, are_scoped, meaning, substituted}
 use Rattle.energy_program.specs.Uses.{marks_of}
 use Rattle.energy_program.proofs.MarkLaws.{body_marked, definitions_marked}
+use Rattle.energy_program.proofs.Scopes.{scoped_below, to_below, from_below}
 use Rattle.derivative.specs.Used.{rank, renumbered, kept_from}
 use Rattle.derivative.specs.Derive.{pruned}
-use Rattle.derivative.proofs.Scoped.{scoped_below, to_below, from_below}
 use Rattle.derivative.proofs.Pruned.{all_marked, Closed, all_marked_where, closed_where, kept_means, kept_long, kept_scoped, renumbered_put, renumbered_scoped}
 
 module _ (count : ℕ) (body : Tree) (ds : List Tree) (hb : IsTrue (is_scoped count 0 (length ds) body)) (hd : IsTrue (are_scoped count 0 ds)) where

@@ -6,9 +6,9 @@ use Rattle.energy_program.specs.Tree.{Tree, Number, Input, Definition, Negated, 
 use Rattle.energy_program.specs.Uses.{Uses, is_marked}
 use Rattle.energy_program.proofs.MarkLaws.{AreMarked}
 use Rattle.derivative.specs.Used.{rank, renumbered, kept_from}
-use Rattle.derivative.proofs.Bool.{left_of, right_of, both}
+use Rattle.energy_program.proofs.Scopes.{both, scoped_below}
+use Rattle.derivative.proofs.Bool.{left_of, right_of}
 use Rattle.energy_program.proofs.Meaning.{skip, here}
-use Rattle.derivative.proofs.Scoped.{scoped_below}
 
 -- each use in the tree is marked
 abbrev pub all_marked : List Bool → Tree → Bool

@@ -1,5 +1,5 @@
 -- Uses of definitions within bounds.
-use Rattle.std.proofs.Common.{◌≡◌, ℕ, ◌+◌, ◌^◌, ◌<◌, ◌≤◌, zero, suc, nat_le, Bool, true, ◌&&◌, List, [], ◌∷◌, map, length, drop, get_or, pos, refl, sym, ap, ◌∙◌, subst, arith}
+use Rattle.std.proofs.Common.{◌≡◌, ℕ, ◌+◌, ◌^◌, ◌<◌, ◌≤◌, zero, suc, nat_le, List, [], ◌∷◌, map, length, drop, get_or, pos, refl, sym, ap, ◌∙◌, subst, arith}
 use Rattle.std.specs.Bool.{IsTrue}
 use Rattle.std.proofs.lemmas.Bool.{ltb-true, lt-ltb}
 use Rattle.std.proofs.Math.Seq.{drop-cons}
@@ -7,28 +7,8 @@ use Rattle.std.proofs.lemmas.List.{get_or-map, length-map}
 use Rattle.energy_program.specs.declared.trees.Expr.{Expr}
 use Rattle.energy_program.specs.Tree.{Tree, tree_of, Number, Input, Definition, Negated, Binary, Applied, Power, Select, is_exponent, is_scoped, are_scoped}
 use Rattle.derivative.specs.Written.{is_writable}
-use Rattle.derivative.proofs.Bool.{left_of, right_of, both}
-
--- these definitions, numbered from i, name only definitions after them, with numbers below n
-abbrev pub scoped_below : ℕ → ℕ → ℕ → List Tree → Bool
-scoped_below inputs n i [] = true
-scoped_below inputs n i (d ∷ ds) = is_scoped inputs (i + 1) n d && scoped_below inputs n (i + 1) ds
-
--- definitions that use only later ones use only numbers below that of the list's end
-pub to_below : (inputs n i : ℕ) (ds : List Tree) → i + length ds ≡ n → IsTrue (are_scoped inputs i ds) → IsTrue (scoped_below inputs n i ds)
-to_below inputs n i [] e h = refl
-to_below inputs n i (d ∷ ds) e h =
-    let end : i + (1 + length ds) ≡ n = omega arith in
-    let within : IsTrue (is_scoped inputs (i + 1) n d) = subst (λ k. IsTrue (is_scoped inputs (i + 1) k d)) end (left_of _ _ h) in
-    both _ _ within (to_below inputs n (i + 1) ds (omega arith) (right_of (is_scoped inputs (i + 1) (i + (1 + length ds)) d) _ h))
-
--- definitions that use only numbers after their own, and below that of the list's end, use only later ones
-pub from_below : (inputs n i : ℕ) (ds : List Tree) → i + length ds ≡ n → IsTrue (scoped_below inputs n i ds) → IsTrue (are_scoped inputs i ds)
-from_below inputs n i [] e h = refl
-from_below inputs n i (d ∷ ds) e h =
-    let end : n ≡ i + (1 + length ds) = omega arith in
-    let within : IsTrue (is_scoped inputs (i + 1) (i + (1 + length ds)) d) = subst (λ k. IsTrue (is_scoped inputs (i + 1) k d)) end (left_of _ _ h) in
-    both _ _ within (from_below inputs n (i + 1) ds (omega arith) (right_of (is_scoped inputs (i + 1) n d) _ h))
+use Rattle.energy_program.proofs.Scopes.{both, scoped_below, to_below}
+use Rattle.derivative.proofs.Bool.{left_of, right_of}
 
 -- the scope of the definitions from k on
 pub below_from : (inputs n i k : ℕ) (ds : List Tree) → IsTrue (scoped_below inputs n i ds) → IsTrue (scoped_below inputs n (k + i) (drop k ds))

@@ -4,6 +4,7 @@ use Rattle.std.specs.Bool.{IsTrue}
 use Rattle.std.proofs.lemmas.List.{length-map}
 use Rattle.std.proofs.lemmas.Bool.{eqb-false}
 use Rattle.energy_program.specs.Tree.{Tree, is_scoped, are_scoped, is_free_of_distance, meaning, substituted}
+use Rattle.energy_program.proofs.Scopes.{scoped_below, to_below}
 use Rattle.derivative.specs.Slope.{Operations, slope_by}
 use Rattle.derivative.specs.Written.{moved, slope_tree, free_among}
 use Rattle.derivative.specs.Derive.{with_all}
@@ -12,7 +13,6 @@ use Rattle.derivative.proofs.Derives.{Follows, slope_value}
 use Rattle.derivative.proofs.Readings.{Reads}
 use Rattle.energy_program.proofs.Meaning.{skip}
 use Rattle.derivative.proofs.Meaning.{skip_all, moved_meaning}
-use Rattle.derivative.proofs.Scoped.{scoped_below, to_below}
 
 module _ {V : Type 0} (bits : ℕ) (on : Operations V) (value : Tree → Option V) (reads : Reads bits on value) (free : ℕ → Bool) (count n : ℕ) (olds : List Tree) where
   -- the definitions from i on: what their slopes stand for

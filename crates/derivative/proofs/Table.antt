@@ -7,10 +7,11 @@ use Rattle.std.proofs.lemmas.List.{get_or-set_other, get_or-map, length-map}
 use Rattle.std.proofs.lemmas.Grind.{get_or-set_at}
 use Rattle.energy_program.specs.declared.trees.Expr.{Expr}
 use Rattle.energy_program.specs.Tree.{Tree, Number, Input, Definition, Negated, Binary, Applied, Power, Select, tree_of, is_exponent, is_scoped, are_scoped, is_free_of_distance, put, meaning}
+use Rattle.energy_program.proofs.Scopes.{scoped_below, to_below}
 use Rattle.derivative.specs.Written.{is_free_given, free_among, IsFreeTable}
 use Rattle.derivative.proofs.Bool.{left_of, right_of}
 use Rattle.energy_program.proofs.Meaning.{skip, here, past}
-use Rattle.derivative.proofs.Scoped.{scoped_below, to_below, scoped_at}
+use Rattle.derivative.proofs.Scoped.{scoped_at}
 
 -- a use that passes the test for numbers from first to before n has such a number
 pub from_uses : (P : Type 0) (first n j : ℕ) → IsTrue (nat_le first j && nat_lt j n) → (first ≤ j → j < n → P) → P

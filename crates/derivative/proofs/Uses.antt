@@ -11,8 +11,8 @@ use Rattle.energy_program.specs.declared.trees.Function.TheVariants as f
 use Rattle.energy_program.specs.Tree.{Tree, Number, Input, Definition, Negated, Binary, Applied, Power, Select, is_exponent, is_scoped, are_scoped}
 use Rattle.derivative.specs.Written.{is_free_given, moved, operation_tree, applied_tree, power_tree, unless_free, slope_tree, free_among, all_slopes}
 use Rattle.derivative.specs.Derive.{with_all}
-use Rattle.derivative.proofs.Bool.{left_of, right_of, both}
-use Rattle.derivative.proofs.Scoped.{scoped_below, to_below, from_below}
+use Rattle.energy_program.proofs.Scopes.{both, scoped_below, to_below, from_below}
+use Rattle.derivative.proofs.Bool.{left_of, right_of}
 
 module _ (count : ℕ) where
   -- a moved tree has only uses of the definitions behind the n slopes

@@ -1,5 +1,5 @@
 -- The scope of trees, as facts on each part.
-use Rattle.std.proofs.Common.{◌≡◌, ℕ, Bool, true, ◌+◌, ◌<◌, ◌≤◌, List, [], ◌∷◌, length, IsTrue, arith, subst}
+use Rattle.std.proofs.Common.{◌≡◌, ℕ, Bool, true, false, refl, ◌+◌, ◌<◌, ◌≤◌, List, [], ◌∷◌, length, IsTrue, arith, subst}
 use Rattle.std.specs.Prelude.{◌&&◌, nat_lt, nat_le}
 use Rattle.std.proofs.lemmas.Bool.{and_parts, ltb-true, leb-true}
 use Rattle.energy_program.specs.Tree.{Tree, is_scoped, are_scoped, is_exponent}
@@ -60,3 +60,29 @@ program_parts count parameters globals body each h =
     let r = and_parts (nat_le count 128 && nat_le parameters 8) (nat_le globals 16) q.0 in
     let s = and_parts (nat_le count 128) (nat_le parameters 8) r.0 in
     (leb-true count 128 s.0, leb-true parameters 8 s.1, leb-true globals 16 r.1, q.1, p.1)
+
+-- where each of two tests holds they hold together
+pub both : (a b : Bool) → IsTrue a → IsTrue b → IsTrue (a && b)
+both true b h k = k
+both false b h k = h
+
+-- these definitions, numbered from i, name only definitions after them, with numbers below n
+abbrev pub scoped_below : ℕ → ℕ → ℕ → List Tree → Bool
+scoped_below inputs n i [] = true
+scoped_below inputs n i (d ∷ ds) = is_scoped inputs (i + 1) n d && scoped_below inputs n (i + 1) ds
+
+-- definitions that use only later ones use only numbers below that of the list's end
+pub to_below : (inputs n i : ℕ) (ds : List Tree) → i + length ds ≡ n → IsTrue (are_scoped inputs i ds) → IsTrue (scoped_below inputs n i ds)
+to_below inputs n i [] e h = refl
+to_below inputs n i (d ∷ ds) e h =
+    let end : i + (1 + length ds) ≡ n = omega arith in
+    let p = and_parts (is_scoped inputs (i + 1) (i + (1 + length ds)) d) (are_scoped inputs (i + 1) ds) h in
+    both _ _ (subst (λ k. IsTrue (is_scoped inputs (i + 1) k d)) end p.0) (to_below inputs n (i + 1) ds (omega arith) p.1)
+
+-- definitions that use only numbers after their own, and below that of the list's end, use only later ones
+pub from_below : (inputs n i : ℕ) (ds : List Tree) → i + length ds ≡ n → IsTrue (scoped_below inputs n i ds) → IsTrue (are_scoped inputs i ds)
+from_below inputs n i [] e h = refl
+from_below inputs n i (d ∷ ds) e h =
+    let end : n ≡ i + (1 + length ds) = omega arith in
+    let p = and_parts (is_scoped inputs (i + 1) n d) (scoped_below inputs n (i + 1) ds) h in
+    both _ _ (subst (λ k. IsTrue (is_scoped inputs (i + 1) k d)) end p.0) (from_below inputs n (i + 1) ds (omega arith) p.1)

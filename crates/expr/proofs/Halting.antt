@@ -18,15 +18,13 @@ use Rattle.expr.specs.Grammar.{IsExpr, IsTerm, IsUnary, IsAtom, IsList}
 use Rattle.expr.specs.Grammar as g
 use Rattle.expr.specs.Halting.{Halts, HaltsExpr, HaltsTerm, HaltsUnary, HaltsList}
 use Rattle.expr.specs.Halting as h
+use Rattle.expr.proofs.Levels.{reading}
 use Rattle.expr.proofs.Sound.{RuleOf, Rule, Sound, Joins, Begins, Spells, unary_sound, term_sound, expr_sound, atom_sound, sums, products, commas, minus_is, open_is, caret_is, start_is}
 use Rattle.line_text.proofs.StepLaws.{Split, split, same_err, err_as}
 use Rattle.std.proofs.lemmas.Option.{same_Some}
 
 abbrev Rest : Type 1
 Rest = List Placed → Type 0
-
-abbrev reading : Syntax → List Placed → Reading
-reading e rest = Ok (e, rest)
 
 abbrev pair : {X : Type 0} → X → List Placed → ReadingOf X
 pair x rest = Ok (x, rest)

@@ -1,5 +1,5 @@
 -- Trees that are made of parts whose names are resolved.
-use Rattle.std.proofs.Common.{◌≡◌, ℕ, Bool, true, false, ◌&&◌, IsTrue, IfOk, List, Result, Ok, Err, refl, sym, subst}
+use Rattle.std.proofs.Common.{◌≡◌, ℕ, Bool, IsTrue, IfOk, List, Result, Ok, Err, refl, sym, subst}
 use Rattle.std.specs.Prelude.{Box}
 use Rattle.fallible.specs.declared.failure.Failure.{Failure}
 use Rattle.energy_program.specs.declared.faults.ExprFault.{ExprFault}
@@ -11,6 +11,7 @@ use Rattle.energy_program.specs.Faults.{Refusal, Gives}
 use Rattle.energy_program.specs.Tree.{Tree, is_scoped, tree_of}
 use Rattle.energy_program.specs.Tree as t
 use Rattle.energy_program.proofs.FaultLaws.{fails_then}
+use Rattle.energy_program.proofs.Scopes.{both}
 use Rattle.expr.specs.Syntax.{Syntax}
 use Rattle.expr.specs.Syntax as s
 use Rattle.expr.specs.Uses.{Grows, GrowsTwo, GrowsThree, resolved}
@@ -63,21 +64,17 @@ module _ {A : Type 0} (test : Tree → Bool) where
   kept_three make (Ok p) two three result h keeps a b c = kept_two (make (part_tree p)) two three result h (λ y z t u. keeps (part_tree p) y z a t u) b c
   kept_three make (Err f) two three result h keeps a b c = rw h tt
 
-and_true : (p q : Bool) → IsTrue p → IsTrue q → IsTrue (p && q)
-and_true true q h k = k
-and_true false q h k = absurd cc
-
 -- an operation names what its parts name, and so does a choice
 pub scoped_two : {A : Type 0} (inputs first end : ℕ) (o : Operator) (left right result : Part A) → GrowsTwo (t.Binary o) left right result → IfMade (is_scoped inputs first end) left → IfMade (is_scoped inputs first end) right
     → IfMade (is_scoped inputs first end) result
-scoped_two inputs first end o left right result h = kept_two (is_scoped inputs first end) (t.Binary o) left right result h (λ x y. and_true (is_scoped inputs first end x) (is_scoped inputs first end y))
+scoped_two inputs first end o left right result h = kept_two (is_scoped inputs first end) (t.Binary o) left right result h (λ x y. both (is_scoped inputs first end x) (is_scoped inputs first end y))
 
 -- a choice uses nothing out of scope where its parts use nothing
 pub scoped_three : {A : Type 0} (inputs first end : ℕ) (one two three result : Part A) → GrowsThree t.Select one two three result → IfMade (is_scoped inputs first end) one → IfMade (is_scoped inputs first end) two
     → IfMade (is_scoped inputs first end) three → IfMade (is_scoped inputs first end) result
 scoped_three inputs first end one two three result h =
     kept_three (is_scoped inputs first end) t.Select one two three result h
-    (λ x y z a b c. and_true (is_scoped inputs first end x) _ a (and_true (is_scoped inputs first end y) (is_scoped inputs first end z) b c))
+    (λ x y z a b c. both (is_scoped inputs first end x) _ a (both (is_scoped inputs first end y) (is_scoped inputs first end z) b c))
 
 -- ---- trees whose names are resolved
 

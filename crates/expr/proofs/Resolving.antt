@@ -1,13 +1,13 @@
 -- Definitions resolved one after the other.
-use Rattle.std.proofs.Common.{◌≡◌, ℕ, ◌+◌, ◌<◌, Bool, true, false, List, [], ◌∷◌, ◌++◌, length, get_or, drop, map, Result, Ok, Err, IsTrue, refl, sym, ap, subst, ◌∙◌, append_assoc, arith, add-one, drop-cons}
-use Rattle.std.specs.Prelude.{◌&&◌}
+use Rattle.std.proofs.Common.{◌≡◌, ℕ, ◌+◌, ◌<◌, true, List, [], ◌∷◌, ◌++◌, length, get_or, drop, map, Result, Ok, Err, IsTrue, refl, sym, ap, subst, ◌∙◌, append_assoc, arith, add-one, drop-cons}
 use Rattle.std.proofs.lemmas.Bool.{and_parts}
 use Rattle.std.proofs.lemmas.List.{append-nil}
 use Rattle.fallible.specs.declared.failure.Failure.{Failure}
 use Rattle.energy_program.specs.declared.faults.ExprFault.{ExprFault}
 use Rattle.line_text.specs.Steps.{◌>>=◌}
 use Rattle.energy_program.specs.Faults.{Refusal, Fails}
-use Rattle.energy_program.specs.Tree.{Tree, are_scoped, is_scoped}
+use Rattle.energy_program.specs.Tree.{Tree, is_scoped}
+use Rattle.energy_program.proofs.Scopes.{both, scoped_below}
 use Rattle.expr.specs.Syntax.{Definition, defined_names}
 use Rattle.expr.specs.Uses.{resolved, all_resolved}
 use Rattle.energy_program.proofs.FaultLaws.{fails_then, fails_same}
@@ -65,28 +65,11 @@ ends front vs i ds e = rw e (ap (λ (z : List Tree). trees_ok z) (append-nil fro
 
 -- ---- what they name
 
--- these definitions, numbered from i, name only definitions after them, up to the end
-abbrev pub scoped_to : ℕ → ℕ → ℕ → List Tree → Bool
-scoped_to inputs i end [] = true
-scoped_to inputs i end (d ∷ ds) = is_scoped inputs (i + 1) end d && scoped_to inputs (i + 1) end ds
-
-both : (p q : Bool) → IsTrue p → IsTrue q → IsTrue (p && q)
-both true q h k = k
-both false q h k = absurd cc
-
 -- a tree more that names what stands before it
-pub scoped_more : (inputs i end j : ℕ) (ds : List Tree) (e : Tree) → j ≡ i + length ds + 1 → IsTrue (scoped_to inputs i end ds) → IsTrue (is_scoped inputs j end e) → IsTrue (scoped_to inputs i end (ds ++ (e ∷ [])))
+pub scoped_more : (inputs i end j : ℕ) (ds : List Tree) (e : Tree) → j ≡ i + length ds + 1 → IsTrue (scoped_below inputs end i ds) → IsTrue (is_scoped inputs j end e) → IsTrue (scoped_below inputs end i (ds ++ (e ∷ [])))
 scoped_more inputs i end j [] e at h k =
     let same : j ≡ i + 1 = omega arith in
     both (is_scoped inputs (i + 1) end e) true (subst (λ (z : ℕ). IsTrue (is_scoped inputs z end e)) same k) refl
 scoped_more inputs i end j (d ∷ ds) e at h k =
-    let p = and_parts (is_scoped inputs (i + 1) end d) (scoped_to inputs (i + 1) end ds) h in
-    both (is_scoped inputs (i + 1) end d) (scoped_to inputs (i + 1) end (ds ++ (e ∷ []))) p.0 (scoped_more inputs (i + 1) end j ds e (omega arith) p.1 k)
-
--- trees that name what stands before them are scoped as a program's definitions
-pub all_scoped : (inputs i end : ℕ) (ds : List Tree) → end ≡ i + length ds → IsTrue (scoped_to inputs i end ds) → IsTrue (are_scoped inputs i ds)
-all_scoped inputs i end [] at h = refl
-all_scoped inputs i end (d ∷ ds) at h =
-    let p = and_parts (is_scoped inputs (i + 1) end d) (scoped_to inputs (i + 1) end ds) h in
-    let same : end ≡ i + (1 + length ds) = omega arith in
-    both (is_scoped inputs (i + 1) (i + (1 + length ds)) d) (are_scoped inputs (i + 1) ds) (subst (λ (z : ℕ). IsTrue (is_scoped inputs (i + 1) z d)) same p.0) (all_scoped inputs (i + 1) end ds (omega arith) p.1)
+    let p = and_parts (is_scoped inputs (i + 1) end d) (scoped_below inputs end (i + 1) ds) h in
+    both (is_scoped inputs (i + 1) end d) (scoped_below inputs end (i + 1) (ds ++ (e ∷ []))) p.0 (scoped_more inputs (i + 1) end j ds e (omega arith) p.1 k)

@@ -12,7 +12,7 @@ use Rattle.line_text.proofs.WrittenLaws.{padded_found}
 use Rattle.gro.specs.Frames.{AtomView, FrameView}
 use Rattle.gro.specs.GroFaults.{AreFrames, HasAtoms, HasOtherPrecision, HasPoints, HasValues, IsAtomFault, IsBoxFault, IsCountFault, IsFrameFault, IsNeeded, IsTextFault, IsUnfinished, bad_atom, bad_box, bad_count, no_title}
 use Rattle.gro.specs.GroReading.{LineView, and_more, atom_at, atom_in, atoms_at, count_at, count_in, counted, fields_of, frame_at, frames_at, frames_of, from_atoms, from_count, from_title, is_zero, line_at, parted, points_of, rectangular, sides_at, sides_in, values_of, whole_of, with_points}
-use Rattle.gro.specs.GroText.{AreAtoms, IsAtomLine, IsCount, IsLine, is_blank}
+use Rattle.gro.specs.GroText.{AreAtoms, IsAtomLine, IsCount, IsLine, is_all_blank}
 use Rattle.gro.specs.declared.faults.GroFault.{GroFault}
 use Rattle.gro.specs.declared.faults.GroFault.TheVariants.{Truncated, BadCount, BadColumns, Precision, BadBox, Triclinic, TooManyAtoms}
 use Rattle.gro.proofs.AtomLaws.{atom_read, atom_written}
@@ -306,7 +306,7 @@ frames_wrong (suc k) n bytes f less e = by_frame (λ m b shorter d. frames_wrong
     further : FrameView × List ℕ → Result (List FrameView) GroFault
     further x = and_more x.0 x.1 (frames_at k (n + length x.0.atoms + 3) x.1)
 
-    by_more : ((m : ℕ) (b : List ℕ) → length b < k → frames_at k m b ≡ Err f → AreBefore m b f) → (x : FrameView × List ℕ) → frame_at n bytes ≡ Ok x → (blank : Bool) → is_blank x.1 ≡ blank
+    by_more : ((m : ℕ) (b : List ℕ) → length b < k → frames_at k m b ≡ Err f → AreBefore m b f) → (x : FrameView × List ℕ) → frame_at n bytes ≡ Ok x → (blank : Bool) → is_all_blank x.1 ≡ blank
         → (r : Result (List FrameView) GroFault) → frames_at k (n + length x.0.atoms + 3) x.1 ≡ r → cond blank (Ok (x.0 ∷ [])) (r >>= λ frames. Ok (x.0 ∷ frames)) ≡ Err f → AreBefore n bytes f
     by_more again x read true b r is d = absurd cc
     by_more again x read false b (Ok frames) is d = absurd cc
@@ -318,7 +318,7 @@ frames_wrong (suc k) n bytes f less e = by_frame (λ m b shorter d. frames_wrong
 
     by_frame : ((m : ℕ) (b : List ℕ) → length b < k → frames_at k m b ≡ Err f → AreBefore m b f) → Split {B = List FrameView} f (frame_at n bytes) further → AreBefore n bytes f
     by_frame again (inl bad) = ([], n, bytes, (refl, refl), frame_wrong n bytes f bad)
-    by_frame again (inr (x, read, d)) = by_more again x read (is_blank x.1) refl (frames_at k (n + length x.0.atoms + 3) x.1) refl d
+    by_frame again (inr (x, read, d)) = by_more again x read (is_all_blank x.1) refl (frames_at k (n + length x.0.atoms + 3) x.1) refl d
 
 -- the fault that is read of a text has its cause in the text
 pub faults_have_causes : (bytes : List ℕ) (f : GroFault) → frames_of bytes ≡ Err f → IsTextFault bytes f

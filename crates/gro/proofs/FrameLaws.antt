@@ -4,7 +4,7 @@ use Rattle.std.proofs.lemmas.Bool.{and_parts, ne_eqb, false_from_ne_true}
 use Rattle.std.proofs.lemmas.List.Folds.{list_all-append}
 use Rattle.gro.specs.declared.faults.GroFault.{GroFault}
 use Rattle.gro.specs.Frames.{AtomView, FrameView}
-use Rattle.gro.specs.GroText.{IsLine, IsCount, IsBox, AreAtoms, IsFrame, is_blank, IsGroText}
+use Rattle.gro.specs.GroText.{IsLine, IsCount, IsBox, AreAtoms, IsFrame, is_all_blank, IsGroText}
 use Rattle.line_text.specs.Steps.{◌>>=◌}
 use Rattle.gro.specs.GroReading.{LineView, line_at, count_in, atom_in, sides_in, count_at, atom_at, atoms_at, sides_at, from_atoms, from_count, from_title, frame_at, and_more, frames_at, frames_of, ReadsGroTexts}
 use Rattle.gro.proofs.LineLaws.{line_written, line_read}
@@ -94,41 +94,41 @@ frame_read n bytes f rest h =
 
 -- ---- a frame is not blank
 
-blank_parts : (a b : List ℕ) → is_blank (a ++ b) ≡ true → (is_blank a ≡ true) × (is_blank b ≡ true)
-blank_parts a b e = and_parts (is_blank a) (is_blank b) (sym (list_all-append (λ x. eqb x 32 || eqb x 13 || eqb x 10) a b) ∙ e)
+blank_parts : (a b : List ℕ) → is_all_blank (a ++ b) ≡ true → (is_all_blank a ≡ true) × (is_all_blank b ≡ true)
+blank_parts a b e = and_parts (is_all_blank a) (is_all_blank b) (sym (list_all-append (λ x. eqb x 32 || eqb x 13 || eqb x 10) a b) ∙ e)
 
-line_blank : (bytes text rest : List ℕ) → IsLine bytes text rest → is_blank bytes ≡ true → (is_blank text ≡ true) × (is_blank rest ≡ true)
+line_blank : (bytes text rest : List ℕ) → IsLine bytes text rest → is_all_blank bytes ≡ true → (is_all_blank text ≡ true) × (is_all_blank rest ≡ true)
 line_blank bytes text rest h e =
     elim h.whole [
       | inl w ↦
-          let p = blank_parts text (replicate h.returns 13 ++ 10 ∷ rest) (ap is_blank (sym w) ∙ e) in
+          let p = blank_parts text (replicate h.returns 13 ++ 10 ∷ rest) (ap is_all_blank (sym w) ∙ e) in
           let q = blank_parts (replicate h.returns 13) (10 ∷ rest) p.1 in
           (p.0, q.1)
-      | inr w ↦ ((blank_parts text (replicate h.returns 13) (ap is_blank (sym w.0) ∙ e)).0, ap is_blank w.2)
+      | inr w ↦ ((blank_parts text (replicate h.returns 13) (ap is_all_blank (sym w.0) ∙ e)).0, ap is_all_blank w.2)
     ]
 
-count_not_blank : (text : List ℕ) (count : ℕ) → IsCount text count → is_blank text ≡ true → ⊥
+count_not_blank : (text : List ℕ) (count : ℕ) → IsCount text count → is_all_blank text ≡ true → ⊥
 count_not_blank text count h e =
-    let p = blank_parts (replicate h.padded.before 32) (h.digits ++ replicate h.padded.behind 32) (ap is_blank (sym h.padded.whole) ∙ e) in
+    let p = blank_parts (replicate h.padded.before 32) (h.digits ++ replicate h.padded.behind 32) (ap is_all_blank (sym h.padded.whole) ∙ e) in
     let q = blank_parts h.digits (replicate h.padded.behind 32) p.1 in
     at h.digits h.number.form.some (first_digit h.digits count h.number) q.0
   where
-    at : (ds : List ℕ) → 0 < length ds → (48 ≤ get_or ds 0 0) × (get_or ds 0 0 ≤ 57) → is_blank ds ≡ true → ⊥
+    at : (ds : List ℕ) → 0 < length ds → (48 ≤ get_or ds 0 0) × (get_or ds 0 0 ≤ 57) → is_all_blank ds ≡ true → ⊥
     at [] some r b = omega arith
     at (x ∷ xs) some r b =
         let s : eqb x 32 ≡ false = ne_eqb x 32 (λ t. omega (arith, r)) in
         let c : eqb x 13 ≡ false = ne_eqb x 13 (λ t. omega (arith, r)) in
         let l : eqb x 10 ≡ false = ne_eqb x 10 (λ t. omega (arith, r)) in
-        let first = (and_parts (eqb x 32 || eqb x 13 || eqb x 10) (is_blank xs) b).0 in
+        let first = (and_parts (eqb x 32 || eqb x 13 || eqb x 10) (is_all_blank xs) b).0 in
         absurd (let no : false ≡ true = rw (s, c, l) at first in cc)
 
-frame_not_blank : (bytes : List ℕ) (f : FrameView) (rest : List ℕ) → IsFrame bytes f rest → is_blank bytes ≡ true → ⊥
+frame_not_blank : (bytes : List ℕ) (f : FrameView) (rest : List ℕ) → IsFrame bytes f rest → is_all_blank bytes ≡ true → ⊥
 frame_not_blank bytes f rest h e =
     let t = line_blank bytes f.title h.after_title h.title_line e in
     let c = line_blank h.after_title h.count h.after_count h.count_line t.1 in
     count_not_blank h.count (length f.atoms) h.counted c.0
 
-frames_not_blank : (bytes : List ℕ) (frames : List FrameView) → IsGroText bytes frames → is_blank bytes ≡ true → ⊥
+frames_not_blank : (bytes : List ℕ) (frames : List FrameView) → IsGroText bytes frames → is_all_blank bytes ≡ true → ⊥
 frames_not_blank bytes [] h e = h
 frames_not_blank bytes (f ∷ []) h e = frame_not_blank bytes f h.0 h.1 e
 frames_not_blank bytes (f ∷ g ∷ frames) h e = frame_not_blank bytes f h.0 h.1 e
@@ -140,13 +140,13 @@ unfolding frames_at
 frames_written zero n bytes frames e = absurd cc
 frames_written (suc k) n bytes frames e =
     let a = bind_ok (frame_at n bytes) (λ x. and_more x.0 x.1 (frames_at k (n + length x.0.atoms + 3) x.1)) frames e in
-    at a.0.0 a.0.1 (frame_written n bytes a.0 a.1) (is_blank a.0.1) refl (frames_at k (n + length a.0.0.atoms + 3) a.0.1) (λ fs r. frames_written k (n + length a.0.0.atoms + 3) a.0.1 fs r) a.2
+    at a.0.0 a.0.1 (frame_written n bytes a.0 a.1) (is_all_blank a.0.1) refl (frames_at k (n + length a.0.0.atoms + 3) a.0.1) (λ fs r. frames_written k (n + length a.0.0.atoms + 3) a.0.1 fs r) a.2
   where
     more : (f : FrameView) (rest : List ℕ) (fs : List FrameView) → IsFrame bytes f rest → IsGroText rest fs → IsGroText bytes (f ∷ fs)
     more f rest [] h t = absurd t
     more f rest (g ∷ fs) h t = (rest, h, t)
 
-    at : (f : FrameView) (rest : List ℕ) → IsFrame bytes f rest → (b : Bool) → is_blank rest ≡ b → (r : Result (List FrameView) GroFault) → ((fs : List FrameView) → r ≡ Ok fs → IsGroText rest fs)
+    at : (f : FrameView) (rest : List ℕ) → IsFrame bytes f rest → (b : Bool) → is_all_blank rest ≡ b → (r : Result (List FrameView) GroFault) → ((fs : List FrameView) → r ≡ Ok fs → IsGroText rest fs)
         → cond b (Ok (f ∷ [])) (r >>= λ fs. Ok (f ∷ fs)) ≡ Ok frames → IsGroText bytes frames
     at f rest h true b r t d = subst (λ (fs : List FrameView). IsGroText bytes fs) (same_ok _ _ d) (rest, h, b)
     at f rest h false b (Err fault) t d = absurd cc
@@ -164,7 +164,7 @@ frames_read (suc k) n bytes (f ∷ []) lt h =
 frames_read (suc k) n bytes (f ∷ g ∷ frames) lt h =
     let less = frame_shorter n bytes (f, h.0) (frame_read n bytes f h.0 h.1) in
     first_read k n bytes f h.0 h.1
-    ∙ ap (λ (b : Bool). cond b (Ok (f ∷ [])) (frames_at k (n + length f.atoms + 3) h.0 >>= λ fs. Ok (f ∷ fs))) (false_from_ne_true (is_blank h.0) (frames_not_blank h.0 (g ∷ frames) h.2))
+    ∙ ap (λ (b : Bool). cond b (Ok (f ∷ [])) (frames_at k (n + length f.atoms + 3) h.0 >>= λ fs. Ok (f ∷ fs))) (false_from_ne_true (is_all_blank h.0) (frames_not_blank h.0 (g ∷ frames) h.2))
     ∙ ap (λ (r : Result (List FrameView) GroFault). r >>= λ fs. Ok (f ∷ fs)) (frames_read k (n + length f.atoms + 3) h.0 (g ∷ frames) (omega arith) h.2)
 
 -- a file that is read as frames stands for these frames

@@ -6,7 +6,7 @@ use Rattle.fallible.specs.declared.failure.Failure.{Failure}
 use Rattle.fallible.proofs.FailureLaws.{fails_as}
 use Rattle.gro.specs.declared.faults.GroFault.{GroFault}
 use Rattle.gro.specs.Frames.{AtomView, FrameView}
-use Rattle.gro.specs.GroText.{is_blank}
+use Rattle.gro.specs.GroText.{is_all_blank}
 use Rattle.line_text.specs.Steps.{◌>>=◌}
 use Rattle.line_text.proofs.StepLaws.{bind_ok}
 use Rattle.gro.specs.GroReading.{line_at, count_in, atom_in, sides_in, count_at, atom_at, atoms_at, sides_at, from_atoms, from_count, from_title, frame_at, and_more, frames_at}
@@ -137,7 +137,7 @@ frames_end failure front n bytes total h so_far =
 
 -- where only blanks are left behind a frame, it is the last one
 pub frames_done : (front : List FrameView) (n : ℕ) (bytes : List ℕ) (f : FrameView) (rest : List ℕ) (total : Result (List FrameView) GroFault) → frame_at n bytes ≡ Ok (f, rest)
-    → is_blank rest ≡ true → with_frames front (frames_at (length bytes + 1) n bytes) ≡ total → total ≡ Ok (front ++ f ∷ [])
+    → is_all_blank rest ≡ true → with_frames front (frames_at (length bytes + 1) n bytes) ≡ total → total ≡ Ok (front ++ f ∷ [])
 frames_done front n bytes f rest total e blank so_far =
     let one : suc (length bytes) ≡ length bytes + 1 = omega arith in
     sym so_far ∙ ap (λ (j : ℕ). with_frames front (frames_at j n bytes)) (sym one) ∙ ap (with_frames front) (frames_first (length bytes) n bytes (Ok (f, rest)) e)
@@ -149,7 +149,7 @@ regroup_frames front f (Err e) = refl
 
 -- where more is left, the frames behind it are still read, and the whole stays the same
 pub frames_go_on : (front : List FrameView) (n m : ℕ) (bytes : List ℕ) (f : FrameView) (rest : List ℕ) (total : Result (List FrameView) GroFault) → frame_at n bytes ≡ Ok (f, rest)
-    → m ≡ n + length f.atoms + 3 → is_blank rest ≡ false → with_frames front (frames_at (length bytes + 1) n bytes) ≡ total
+    → m ≡ n + length f.atoms + 3 → is_all_blank rest ≡ false → with_frames front (frames_at (length bytes + 1) n bytes) ≡ total
     → with_frames (front ++ f ∷ []) (frames_at (length rest + 1) m rest) ≡ total
 frames_go_on front n m bytes f rest total e next more so_far =
     let one : suc (length bytes) ≡ length bytes + 1 = omega arith in

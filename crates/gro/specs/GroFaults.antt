@@ -4,7 +4,7 @@ use Rattle.line_text.specs.Parts.{is_printable, lacks}
 use Rattle.line_text.specs.Words.{words}
 use Rattle.line_text.specs.Written.{IsPadded, WritesWhole}
 use Rattle.gro.specs.Frames.{AtomView, FrameView}
-use Rattle.gro.specs.GroText.{AreAtoms, AreValues, IsAtomLine, IsCount, IsFrame, IsLine, is_blank}
+use Rattle.gro.specs.GroText.{AreAtoms, AreValues, IsAtomLine, IsCount, IsFrame, IsLine, is_all_blank}
 use Rattle.gro.specs.declared.faults.GroFault.{GroFault}
 use Rattle.gro.specs.declared.faults.GroFault.TheVariants.{Truncated, BadCount, BadColumns, Precision, BadBox, Triclinic, TooManyAtoms}
 
@@ -80,7 +80,7 @@ pub data IsFrameFault (n : ℕ) (bytes : List ℕ) (f : GroFault) : Type 0 where
 -- these frames stand one after the other, and behind the last of them, from line m on, more than blanks is left
 abbrev pub AreFrames : ℕ → List ℕ → List FrameView → ℕ → List ℕ → Type 0
 AreFrames n bytes [] m rest = (m ≡ n) × (rest ≡ bytes)
-AreFrames n bytes (f ∷ frames) m rest = (after : List ℕ) × IsFrame bytes f after × (is_blank after ≡ false) × AreFrames (n + length f.atoms + 3) after frames m rest
+AreFrames n bytes (f ∷ frames) m rest = (after : List ℕ) × IsFrame bytes f after × (is_all_blank after ≡ false) × AreFrames (n + length f.atoms + 3) after frames m rest
 
 -- whole frames, and then one with a line at fault
 pub record IsTextFault (bytes : List ℕ) (f : GroFault) : Type 0 where

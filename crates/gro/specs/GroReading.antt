@@ -6,7 +6,7 @@ use Rattle.line_text.specs.Columns.{digits_of, signed_by, decimal_column_of, is_
 use Rattle.line_text.specs.Words.{words}
 use Rattle.line_text.specs.Steps.{◌>>=◌, said}
 use Rattle.gro.specs.Frames.{AtomView, FrameView}
-use Rattle.gro.specs.GroText.{are_spaces, is_blank, IsGroText}
+use Rattle.gro.specs.GroText.{are_spaces, is_all_blank, IsGroText}
 use Rattle.gro.specs.declared.faults.GroFault.{GroFault}
 use Rattle.gro.specs.declared.faults.GroFault.TheVariants.{Truncated, BadCount, BadColumns, Precision, BadBox, Triclinic, TooManyAtoms, NoSuchFrame}
 
@@ -182,7 +182,7 @@ frame_at n bytes = do
 
 -- after a frame, where only blanks are left the input has ended; else another frame follows, whose title is on line n
 abbrev pub and_more : FrameView → List ℕ → Result (List FrameView) GroFault → Result (List FrameView) GroFault
-and_more f rest more = if is_blank rest then Ok (f ∷ []) else (more >>= λ frames. Ok (f ∷ frames))
+and_more f rest more = if is_all_blank rest then Ok (f ∷ []) else (more >>= λ frames. Ok (f ∷ frames))
 
 -- at most `most` frames
 unfoldable pub frames_at : ℕ → ℕ → List ℕ → Result (List FrameView) GroFault

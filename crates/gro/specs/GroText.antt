@@ -103,11 +103,11 @@ pub record IsFrame (bytes : List ℕ) (f : FrameView) (rest : List ℕ) : Type 0
   pub sides : IsBox box_text f.sides
 
 -- spaces, carriage returns and line feeds
-abbrev pub is_blank : List ℕ → Bool
-is_blank bytes = list_all (λ b. b == 32 || b == 13 || b == 10) bytes
+abbrev pub is_all_blank : List ℕ → Bool
+is_all_blank bytes = list_all (λ b. b == 32 || b == 13 || b == 10) bytes
 
 -- One frame at least; behind the last one only blanks are left.
 abbrev pub IsGroText : List ℕ → List FrameView → Type 0
 IsGroText bytes [] = ⊥
-IsGroText bytes (f ∷ []) = (rest : List ℕ) × IsFrame bytes f rest × IsTrue (is_blank rest)
+IsGroText bytes (f ∷ []) = (rest : List ℕ) × IsFrame bytes f rest × IsTrue (is_all_blank rest)
 IsGroText bytes (f ∷ g ∷ frames) = (rest : List ℕ) × IsFrame bytes f rest × IsGroText rest (g ∷ frames)

@@ -4,7 +4,7 @@ ghost use Rattle.std.specs.Prelude.{◌≡◌, ◌≤◌, ◌<◌, ◌+◌, ◌^
 ghost use Rattle.fallible.specs.Failures.{Answers, Gives, IfRefused};
 ghost use Rattle.gro.specs.Frames.{atom_view, frame_view, FrameView};
 ghost use Rattle.gro.specs.GroFaults.{IsTextFault};
-ghost use Rattle.gro.specs.GroText.{is_blank, IsGroText};
+ghost use Rattle.gro.specs.GroText.{is_all_blank, IsGroText};
 ghost use Rattle.gro.specs.GroReading.{count_in, count_at, atom_at, atoms_at, sides_at, frame_at, frames_of, ReadsGroTexts, Picks};
 
 use crate::faults::GroFault;
@@ -63,7 +63,7 @@ fn frames<A: Allocator + Copy>(
         let (frame, after) = frame(alloc, number, rest)?;
         number += frame.atoms.as_slice().len() as u64 + 3;
         frames.push(frame)?;
-        if is_blank(after) {
+        if is_all_blank(after) {
             return Ok(frames);
         }
         rest = after;
@@ -71,8 +71,8 @@ fn frames<A: Allocator + Copy>(
 }
 
 /// Whether only spaces, CRs and LFs are left.
-fn is_blank(bytes: &[u8]) -> bool
-    ensures { result ≡ is_blank bytes.now }
+fn is_all_blank(bytes: &[u8]) -> bool
+    ensures { result ≡ is_all_blank bytes.now }
 {
     bytes
         .iter()

@@ -3,8 +3,9 @@ use Rattle.std.proofs.lemmas.List.{drop_all, length-map, map_push, take_all}
 use Rattle.std.proofs.lemmas.Result.{err_from_is_err_and}
 use Rattle.energy_program.specs.Tree.{variable_count, is_scoped, tree_of}
 use Rattle.energy_program.specs.Variables.{names_of}
+use Rattle.energy_program.proofs.Scopes.{from_below}
 use Rattle.expr.specs.Syntax.{definition_of}
-use Rattle.expr.proofs.Resolving.{fails, more, ends, scoped_more, all_scoped}
+use Rattle.expr.proofs.Resolving.{fails, more, ends, scoped_more}
 use Rattle.expr.proofs.uses.resolve_all.Goals as goal
 
 pub returns-in_err-tree-clause-value : goal.returns-in_err-tree-clause-value
@@ -41,5 +42,5 @@ returns-clause-value g c =
 pub returns-clause-scoped : goal.returns-clause-scoped
 returns-clause-scoped g c =
     let count = length-map c.loop-number.trees.items tree_of in
-    all_scoped (variable_count c.args.names.now.parameters c.args.names.now.globals) 0 (length c.args.definitions.now) (map tree_of c.loop-number.trees.items)
+    from_below (variable_count c.args.names.now.parameters c.args.names.now.globals) (length c.args.definitions.now) 0 (map tree_of c.loop-number.trees.items)
     (omega (arith, count, c.loop-number.invariant.count, c.loop-number-test.false, c.loop-number.auto.number-end)) c.loop-number.invariant.scoped
