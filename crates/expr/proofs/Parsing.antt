@@ -1,5 +1,5 @@
 -- A text is read as a tree where the grammar says so, and nowhere else; and each refusal has its cause.
-use Rattle.std.proofs.Common.{◌≡◌, ◌⊎◌, inl, inr, ℕ, ℤ, ◌+◌, ◌<◌, ◌≤◌, arith, Bool, true, false, ltb, List, [], ◌∷◌, length, Option, Some, None, Result, Ok, Err, refl, sym, ap, subst, ◌∙◌}
+use Rattle.std.proofs.Common.{◌≡◌, ◌⊎◌, inl, inr, ℕ, ◌+◌, ◌<◌, ◌≤◌, arith, Bool, true, false, ltb, List, [], ◌∷◌, length, Option, Some, None, Result, Ok, Err, refl, sym, ap, subst, ◌∙◌}
 use Rattle.std.specs.Prelude.{IfOk, IfErr}
 use Rattle.std.proofs.lemmas.Bool.{ltb-true, ltb-false, le-ltb}
 use Rattle.fallible.specs.Failures.{IfRefused}
@@ -7,11 +7,9 @@ use Rattle.fallible.specs.declared.failure.Failure.{Failure}
 use Rattle.fallible.specs.declared.failure.Failure.TheVariants.{Refused, Memory}
 use Rattle.fallible.proofs.FailureLaws.{refused_for}
 use Rattle.energy_program.specs.declared.faults.ExprFault.{ExprFault}
-use Rattle.energy_program.specs.declared.trees.Operator.{Operator}
-use Rattle.energy_program.specs.declared.trees.Function.{Function}
 use Rattle.energy_program.specs.declared.programs.Program.{Program}
 use Rattle.line_text.specs.Steps.{◌>>=◌}
-use Rattle.energy_program.specs.Faults.{Refusal, BadCharacter, BadNumber, UnexpectedToken, UnknownName, WrongArgumentCount, BadExponent, NumberRange, RepeatedDefinition, ReservedName, TooLarge, LeftOutFunction, refusal_of, Gives}
+use Rattle.energy_program.specs.Faults.{Refusal, BadCharacter, BadNumber, UnexpectedToken, UnknownName, WrongArgumentCount, BadExponent, NumberRange, TooLarge, LeftOutFunction, refusal_of, Gives}
 use Rattle.expr.specs.Tokens.{Placed}
 use Rattle.expr.specs.Syntax.{Syntax, Definition, Source, defined_names}
 use Rattle.expr.specs.Syntax as s
@@ -206,57 +204,38 @@ used_err : (i : ℕ) (ws : List (List ℕ)) (w : List ℕ) (o : Option ℕ) (f :
 used_err i ws w None f e = later_err w (number_from i ws w) f e
 used_err i ws w (Some k) f e = absurd cc
 
-negated_err : (a : Result Tree Refusal) (f : Refusal) → (a ≡ Err f → IsName f) → (a >>= λ x. Ok (t.Negated x)) ≡ Err f → IsName f
-negated_err (Ok x) f ih h = absurd cc
-negated_err (Err k) f ih h = ih (err_as k f h)
-
-binary_err : (o : Operator) (a b : Result Tree Refusal) (f : Refusal) → (a ≡ Err f → IsName f) → (b ≡ Err f → IsName f) → (a >>= λ x. b >>= λ y. Ok (t.Binary o x y)) ≡ Err f → IsName f
-binary_err o (Ok x) (Ok y) f ih jh h = absurd cc
-binary_err o (Ok x) (Err k) f ih jh h = jh (err_as k f h)
-binary_err o (Err k) b f ih jh h = ih (err_as k f h)
-
-applied_err : (g : Function) (a : Result Tree Refusal) (f : Refusal) → (a ≡ Err f → IsName f) → (a >>= λ x. Ok (t.Applied g x)) ≡ Err f → IsName f
-applied_err g (Ok x) f ih h = absurd cc
-applied_err g (Err k) f ih h = ih (err_as k f h)
-
-power_err : (n : ℤ) (a : Result Tree Refusal) (f : Refusal) → (a ≡ Err f → IsName f) → (a >>= λ x. Ok (t.Power x n)) ≡ Err f → IsName f
-power_err n (Ok x) f ih h = absurd cc
-power_err n (Err k) f ih h = ih (err_as k f h)
-
-select_err : (c a b : Result Tree Refusal) (f : Refusal) → (c ≡ Err f → IsName f) → (a ≡ Err f → IsName f) → (b ≡ Err f → IsName f) → (c >>= λ x. a >>= λ y. b >>= λ z. Ok (t.Select x y z)) ≡ Err f → IsName f
-select_err (Ok x) (Ok y) (Ok z) f ih jh kh h = absurd cc
-select_err (Ok x) (Ok y) (Err k) f ih jh kh h = kh (err_as k f h)
-select_err (Ok x) (Err k) b f ih jh kh h = jh (err_as k f h)
-select_err (Err k) a b f ih jh kh h = ih (err_as k f h)
+-- a fault of a chain of steps is told by the step that failed
+by_step : {A B P : Type 0} (f : Refusal) (r : Result A Refusal) (next : A → Result B Refusal) → (r ≡ Err f → P) → ((x : A) → next x ≡ Err f → P) → (r >>= next) ≡ Err f → P
+by_step f (Ok x) next ih jh h = jh x h
+by_step f (Err k) next ih jh h = ih (err_as k f h)
 
 resolved_err : (vs : List (List ℕ)) (i : ℕ) (ws : List (List ℕ)) (e : Syntax) (f : Refusal) → resolved vs i ws e ≡ Err f → IsName f
 unfolding resolved
 resolved_err vs i ws (s.Number z) f h = absurd cc
 resolved_err vs i ws (s.Name w) f h = used_err i ws w (input_of vs w) f h
-resolved_err vs i ws (s.Negated a) f h = negated_err (resolved vs i ws a) f (resolved_err vs i ws a f) h
-resolved_err vs i ws (s.Binary o a b) f h = binary_err o (resolved vs i ws a) (resolved vs i ws b) f (resolved_err vs i ws a f) (resolved_err vs i ws b f) h
-resolved_err vs i ws (s.Applied g a) f h = applied_err g (resolved vs i ws a) f (resolved_err vs i ws a f) h
-resolved_err vs i ws (s.Power a n) f h = power_err n (resolved vs i ws a) f (resolved_err vs i ws a f) h
-resolved_err vs i ws (s.Select c a b) f h = select_err (resolved vs i ws c) (resolved vs i ws a) (resolved vs i ws b) f (resolved_err vs i ws c f) (resolved_err vs i ws a f) (resolved_err vs i ws b f) h
+resolved_err vs i ws (s.Negated a) f h = by_step f (resolved vs i ws a) (λ x. Ok (t.Negated x)) (resolved_err vs i ws a f) (λ x e. absurd cc) h
+resolved_err vs i ws (s.Binary o a b) f h =
+    by_step f (resolved vs i ws a) (λ x. resolved vs i ws b >>= λ y. Ok (t.Binary o x y)) (resolved_err vs i ws a f)
+    (λ x. by_step f (resolved vs i ws b) (λ y. Ok (t.Binary o x y)) (resolved_err vs i ws b f) (λ y e. absurd cc)) h
+resolved_err vs i ws (s.Applied g a) f h = by_step f (resolved vs i ws a) (λ x. Ok (t.Applied g x)) (resolved_err vs i ws a f) (λ x e. absurd cc) h
+resolved_err vs i ws (s.Power a n) f h = by_step f (resolved vs i ws a) (λ x. Ok (t.Power x n)) (resolved_err vs i ws a f) (λ x e. absurd cc) h
+resolved_err vs i ws (s.Select c a b) f h =
+    by_step f (resolved vs i ws c) (λ x. resolved vs i ws a >>= λ y. resolved vs i ws b >>= λ z. Ok (t.Select x y z)) (resolved_err vs i ws c f)
+    (λ x. by_step f (resolved vs i ws a) (λ y. resolved vs i ws b >>= λ z. Ok (t.Select x y z)) (resolved_err vs i ws a f)
+    (λ y. by_step f (resolved vs i ws b) (λ z. Ok (t.Select x y z)) (resolved_err vs i ws b f) (λ z e. absurd cc))) h
 
 all_err : (vs : List (List ℕ)) (i : ℕ) (ds : List Definition) (f : Refusal) → all_resolved vs i ds ≡ Err f → IsName f
 unfolding all_resolved
 all_err vs i [] f h = absurd cc
-all_err vs i (d ∷ ds) f h = both_err (resolved vs (i + 1) (defined_names ds) d.1) (all_resolved vs (i + 1) ds) f (resolved_err vs (i + 1) (defined_names ds) d.1 f) (all_err vs (i + 1) ds f) h
-  where
-    both_err : (a : Result Tree Refusal) (b : Result (List Tree) Refusal) (f : Refusal) → (a ≡ Err f → IsName f) → (b ≡ Err f → IsName f) → (a >>= λ x. b >>= λ xs. trees_ok (x ∷ xs)) ≡ Err f → IsName f
-    both_err (Ok x) (Ok xs) f ih jh h = absurd cc
-    both_err (Ok x) (Err k) f ih jh h = jh (err_as k f h)
-    both_err (Err k) b f ih jh h = ih (err_as k f h)
+all_err vs i (d ∷ ds) f h =
+    by_step f (resolved vs (i + 1) (defined_names ds) d.1) (λ x. all_resolved vs (i + 1) ds >>= λ xs. trees_ok (x ∷ xs)) (resolved_err vs (i + 1) (defined_names ds) d.1 f)
+    (λ x. by_step f (all_resolved vs (i + 1) ds) (λ xs. trees_ok (x ∷ xs)) (all_err vs (i + 1) ds f) (λ xs e. absurd cc)) h
 
 trees_err : (vs : List (List ℕ)) (source : Source) (f : Refusal) → trees vs source ≡ Err f → IsName f
 unfolding trees
-trees_err vs source f h = both_err (resolved vs 0 (defined_names source.1) source.0) (all_resolved vs 0 source.1) (resolved_err vs 0 (defined_names source.1) source.0 f) (all_err vs 0 source.1 f) h
-  where
-    both_err : (a : Result Tree Refusal) (b : Result (List Tree) Refusal) → (a ≡ Err f → IsName f) → (b ≡ Err f → IsName f) → (a >>= λ x. b >>= λ xs. pair_ok (x, xs)) ≡ Err f → IsName f
-    both_err (Ok x) (Ok xs) ih jh h = absurd cc
-    both_err (Ok x) (Err k) ih jh h = jh (err_as k f h)
-    both_err (Err k) b ih jh h = ih (err_as k f h)
+trees_err vs source f h =
+    by_step f (resolved vs 0 (defined_names source.1) source.0) (λ x. all_resolved vs 0 source.1 >>= λ xs. pair_ok (x, xs)) (resolved_err vs 0 (defined_names source.1) source.0 f)
+    (λ x. by_step f (all_resolved vs 0 source.1) (λ xs. pair_ok (x, xs)) (all_err vs 0 source.1 f) (λ xs e. absurd cc)) h
 
 meaning_err : (vs : List (List ℕ)) (source : Source) (f : Refusal) → source_meaning vs source ≡ Err f → IsName f
 unfolding source_meaning
@@ -285,43 +264,16 @@ cause_by bits vs text (BadExponent at) step = tt
 cause_by bits vs text (BadCharacter at) (lexing e) = text_wrong bits text (BadCharacter at) e
 cause_by bits vs text (BadNumber at) (lexing e) = text_wrong bits text (BadNumber at) e
 cause_by bits vs text (NumberRange at) (lexing e) = text_wrong bits text (NumberRange at) e
-cause_by bits vs text (UnknownName w) (lexing e) = absurd (text_wrong bits text (UnknownName w) e)
-cause_by bits vs text TooLarge (lexing e) = absurd (text_wrong bits text TooLarge e)
-cause_by bits vs text (RepeatedDefinition w) (lexing e) = absurd (text_wrong bits text (RepeatedDefinition w) e)
-cause_by bits vs text (ReservedName w) (lexing e) = absurd (text_wrong bits text (ReservedName w) e)
-cause_by bits vs text (LeftOutFunction w) (lexing e) = absurd (text_wrong bits text (LeftOutFunction w) e)
-cause_by bits vs text (BadCharacter at) (many ts t l e) = absurd cc
-cause_by bits vs text (BadNumber at) (many ts t l e) = absurd cc
-cause_by bits vs text (NumberRange at) (many ts t l e) = absurd cc
-cause_by bits vs text (UnknownName w) (many ts t l e) = absurd cc
-cause_by bits vs text TooLarge (many ts t l e) = record { tokens = ts; spelled = text_sound bits text ts t; many = inl l }
-cause_by bits vs text (RepeatedDefinition w) (many ts t l e) = absurd cc
-cause_by bits vs text (ReservedName w) (many ts t l e) = absurd cc
-cause_by bits vs text (LeftOutFunction w) (many ts t l e) = absurd cc
-cause_by bits vs text (BadCharacter at) (grammar ts t e) = absurd (source_halting (source_halts (length text) (BadCharacter at) tt ts e))
-cause_by bits vs text (BadNumber at) (grammar ts t e) = absurd (source_halting (source_halts (length text) (BadNumber at) tt ts e))
-cause_by bits vs text (NumberRange at) (grammar ts t e) = absurd (source_halting (source_halts (length text) (NumberRange at) tt ts e))
+cause_by bits vs text f (lexing e) = absurd (text_wrong bits text f e)
 cause_by bits vs text (UnknownName w) (grammar ts t e) = inl (record { tokens = ts; spelled = text_sound bits text ts t; called = source_halts (length text) (UnknownName w) tt ts e })
 cause_by bits vs text TooLarge (grammar ts t e) = record { tokens = ts; spelled = text_sound bits text ts t; many = inr (source_halts (length text) TooLarge tt ts e) }
-cause_by bits vs text (RepeatedDefinition w) (grammar ts t e) = absurd (source_halting (source_halts (length text) (RepeatedDefinition w) tt ts e))
-cause_by bits vs text (ReservedName w) (grammar ts t e) = absurd (source_halting (source_halts (length text) (ReservedName w) tt ts e))
 cause_by bits vs text (LeftOutFunction w) (grammar ts t e) = record { tokens = ts; spelled = text_sound bits text ts t; called = source_halts (length text) (LeftOutFunction w) tt ts e }
-cause_by bits vs text (BadCharacter at) (names ts source t s e) = name_cause bits vs text (BadCharacter at) ts source t s (refused vs [] (defined_names source.1) (BadCharacter at) e)
-cause_by bits vs text (BadNumber at) (names ts source t s e) = name_cause bits vs text (BadNumber at) ts source t s (refused vs [] (defined_names source.1) (BadNumber at) e)
-cause_by bits vs text (NumberRange at) (names ts source t s e) = name_cause bits vs text (NumberRange at) ts source t s (refused vs [] (defined_names source.1) (NumberRange at) e)
-cause_by bits vs text (UnknownName w) (names ts source t s e) = name_cause bits vs text (UnknownName w) ts source t s (refused vs [] (defined_names source.1) (UnknownName w) e)
-cause_by bits vs text TooLarge (names ts source t s e) = name_cause bits vs text TooLarge ts source t s (refused vs [] (defined_names source.1) TooLarge e)
-cause_by bits vs text (RepeatedDefinition w) (names ts source t s e) = name_cause bits vs text (RepeatedDefinition w) ts source t s (refused vs [] (defined_names source.1) (RepeatedDefinition w) e)
-cause_by bits vs text (ReservedName w) (names ts source t s e) = name_cause bits vs text (ReservedName w) ts source t s (refused vs [] (defined_names source.1) (ReservedName w) e)
-cause_by bits vs text (LeftOutFunction w) (names ts source t s e) = name_cause bits vs text (LeftOutFunction w) ts source t s (refused vs [] (defined_names source.1) (LeftOutFunction w) e)
-cause_by bits vs text (BadCharacter at) (uses ts source all t s n e) = let k = (meaning_err vs source (BadCharacter at) e).1 in absurd cc
-cause_by bits vs text (BadNumber at) (uses ts source all t s n e) = let k = (meaning_err vs source (BadNumber at) e).1 in absurd cc
-cause_by bits vs text (NumberRange at) (uses ts source all t s n e) = let k = (meaning_err vs source (NumberRange at) e).1 in absurd cc
-cause_by bits vs text (UnknownName w) (uses ts source all t s n e) = inr (record { written = written bits text ts source t s; new = are_new vs [] (defined_names source.1) all n; first = e })
-cause_by bits vs text TooLarge (uses ts source all t s n e) = let k = (meaning_err vs source TooLarge e).1 in absurd cc
-cause_by bits vs text (RepeatedDefinition w) (uses ts source all t s n e) = let k = (meaning_err vs source (RepeatedDefinition w) e).1 in absurd cc
-cause_by bits vs text (ReservedName w) (uses ts source all t s n e) = let k = (meaning_err vs source (ReservedName w) e).1 in absurd cc
-cause_by bits vs text (LeftOutFunction w) (uses ts source all t s n e) = let k = (meaning_err vs source (LeftOutFunction w) e).1 in absurd cc
+cause_by bits vs text f (grammar ts t e) = absurd (source_halting (source_halts (length text) f tt ts e))
+cause_by bits vs text f (many ts t l e) = subst (IsCause bits vs text) e (record { tokens = ts; spelled = text_sound bits text ts t; many = inl l })
+cause_by bits vs text f (names ts source t s e) = name_cause bits vs text f ts source t s (refused vs [] (defined_names source.1) f e)
+cause_by bits vs text f (uses ts source all t s n e) =
+    let k = meaning_err vs source f e in
+    subst (IsCause bits vs text) k.1 (inr (record { written = written bits text ts source t s; new = are_new vs [] (defined_names source.1) all n; first = rw k.1 e }))
 
 -- a refusal is told by its cause in the text
 pub is_cause : {A : Type 0} (bits : ℕ) (vs : List (List ℕ)) (text : List ℕ) (r : Result (Program A) (Failure (ExprFault A))) → Gives program_tree r (program_of bits vs text)
