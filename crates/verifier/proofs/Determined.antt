@@ -11,7 +11,7 @@ use Rattle.kernel_code.specs.declared.instructions.Instr.TheVariants.{Push, Inpu
 use Rattle.kernel_code.specs.Machine.{binary_of, unary_of}
 use Rattle.verifier.specs.Frames.{SpanFrameView, IsFrameWithin}
 use Rattle.verifier.specs.Places.{IsBehind, HasOther, HasZero, HasTop, MayCome, IsCause, Stops, comes_from, IsLeastFrame, IsFrameOf, AreSpanFrames, GivesSpan, StopsAt}
-use Rattle.verifier.proofs.Standing.{AreInputsWithin, behind_within, frame_refl, frame_trans, outcome_of_one, outcome_of_two, same_stacks, tops_within}
+use Rattle.verifier.proofs.Within.{AreInputsWithin, behind_within, frame_refl, frame_trans, outcome_of_one, outcome_of_two, same_stacks, tops_within}
 
 -- ---- where a smaller frame leads
 

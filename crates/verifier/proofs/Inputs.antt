@@ -14,11 +14,10 @@ use Rattle.kernel_code.specs.Machine.{IsOperation}
 use Rattle.kernel_code.specs.Paths.{MissesNothing}
 use Rattle.kernel_paths.specs.Misfits.{DoesWell}
 use Rattle.kernel_code.specs.Tables.{Table, IsTable, row_of, inputs_of}
-use Rattle.verifier.specs.Frames.{AreInputsOf}
 use Rattle.verifier.specs.Safety.{input_count}
-use Rattle.verifier.specs.Searches.{HoldInputs}
 use Rattle.verifier.specs.Places.{IsOne}
 use Rattle.verifier.specs.Verdicts.{AreInputSpans, IsOneInput}
+use Rattle.verifier.proofs.Runs.{AreInputsOf}
 
 -- ---- how many there are
 
@@ -71,33 +70,23 @@ same_later : (x y : ℤ) (rest : List ℤ) (k : ℕ) → 1 ≤ k → slice_get (
 same_later x y rest zero h = absurd (omega (arith, h))
 same_later x y rest (suc k) h = refl
 
--- input 0
-inputs_first : (x : ℤ) (rest : List ℤ) (s : Span) → IsMember x s → AreInputsOf (x ∷ rest) (s ∷ [])
-inputs_first x rest s m = record { each = first }
+-- where spans are those of the inputs at some distances, they hold the inputs at each of these
+pub hold_inputs : (t : Table) (a b : ℕ) (distances : Span) (spans : List Span) (r : ℤ) → AreInputSpans t a b distances spans → IsMember r distances → AreInputsOf (inputs_of t a b r) spans
+hold_inputs t a b distances spans r h m = record { each = each }
   where
-    first : (k : ℕ) (t : Span) → slice_get (s ∷ []) k ≡ Some t → (y : ℤ) × (slice_get (x ∷ rest) k ≡ Some y) × IsMember y t
-    first zero t e = let same : s ≡ t = cc in (x, refl, subst (IsMember x) same m)
-    first (suc k) t e = absurd cc
+    each : (k : ℕ) (s : Span) → slice_get spans k ≡ Some s → (x : ℤ) × (slice_get (inputs_of t a b r) k ≡ Some x) × IsMember x s
+    each zero s e =
+        let first = h.first in
+        let same : distances ≡ s = cc in
+        (r, refl, subst (IsMember r) same m)
+    each (suc k) s e =
+        let o = h.others (suc k) s (omega arith) e in
+        let one = o.one in
+        (o.value, same_later r distances.lo _ (suc k) (omega arith) ∙ o.there, record { at_least = omega (arith, ints, one.lo'); at_most = omega (arith, ints, one.hi') })
 
--- one input more, of a number from 1 on, whose value is the same at any distance
-inputs_more : (t : Table) (a b : ℕ) (r lo v : ℤ) (k k' : ℕ) (ss : List Span) (s : Span) → AreInputsOf (inputs_of t a b r) ss → length ss ≡ k → 1 ≤ k → Some v ≡ slice_get (inputs_of t a b lo) k' → k' ≡ k → s.lo ≡ v → s.hi ≡ v → AreInputsOf (inputs_of t a b r) (ss ++ s ∷ [])
-inputs_more t a b r lo v k k' ss s h long one there same el eh =
-    let m : IsMember v s = record { at_least = omega (arith, ints, el); at_most = omega (arith, ints, eh) } in
-    let here : slice_get (inputs_of t a b r) k ≡ Some v = same_later r lo _ k one ∙ sym (there ∙ ap (slice_get (inputs_of t a b lo)) same) in
-    record {
-      each = λ j x e.
-          ⊎_elim
-          (λ (old : slice_get ss j ≡ Some x). h.each j x old)
-          (λ (new : (j ≡ length ss) × (x ≡ s)).
-          let at : slice_get (inputs_of t a b r) j ≡ Some v = ap (slice_get (inputs_of t a b r)) (new.0 ∙ long) ∙ here in
-          (v, at, subst (IsMember v) (sym new.1) m))
-          (get_push ss s x j e);
-    }
-
--- the first of them, and one more
+-- the spans of the first k inputs
 pub record HoldSome (t : Table) (a b k : ℕ) (distances : Span) (spans : List Span) : Type 0 where
   pub long : length spans ≡ k
-  pub each : (r : ℤ) → IsMember r distances → AreInputsOf (inputs_of t a b r) spans
   pub first : slice_get spans 0 ≡ Some distances
   pub others : (j : ℕ) (s : Span) → 1 ≤ j → slice_get spans j ≡ Some s → IsOneInput t a b distances.lo j s
 
@@ -109,17 +98,16 @@ get_first : (ss : List Span) (s t : Span) → slice_get ss 0 ≡ Some s → slic
 get_first [] s t e = absurd cc
 get_first (x ∷ ss) s t e = e
 
--- the span of the distances alone holds the first input
+-- the span of the distances alone is that of the first input
 pub hold_first : (t : Table) (a b : ℕ) (distances : Span) (spans : List Span) → spans ≡ distances ∷ [] → HoldSome t a b 1 distances spans
-hold_first t a b distances spans e = rw e (record { long = refl; each = λ r m. inputs_first r _ distances m; first = refl; others = λ j s one there. absurd (none_later distances s j one there) })
+hold_first t a b distances spans e = rw e (record { long = refl; first = refl; others = λ j s one there. absurd (none_later distances s j one there) })
 
--- where spans hold the first k inputs, one more with the value of input k alone makes them hold one input more
-pub hold_more : (t : Table) (a b : ℕ) (v : ℤ) (k k' : ℕ) (distances : Span) (old new : List Span) (s : Span) → HoldSome t a b k distances old → 1 ≤ k → Some v ≡ slice_get (inputs_of t a b distances.lo) k' → k' ≡ k → s.lo ≡ v → s.hi ≡ v → new ≡ old ++ s ∷ [] → HoldSome t a b (k + 1) distances new
-hold_more t a b v k k' distances old new s h one there same el eh e =
+-- where spans are those of the first k inputs, one more with the value of input k alone makes them those of one input more
+pub hold_more : (t : Table) (a b : ℕ) (v : ℤ) (k k' : ℕ) (distances : Span) (old new : List Span) (s : Span) → HoldSome t a b k distances old → Some v ≡ slice_get (inputs_of t a b distances.lo) k' → k' ≡ k → s.lo ≡ v → s.hi ≡ v → new ≡ old ++ s ∷ [] → HoldSome t a b (k + 1) distances new
+hold_more t a b v k k' distances old new s h there same el eh e =
     rw e
     (record {
       long = length-append old (s ∷ []) ∙ omega (arith, h.long);
-      each = λ r m. inputs_more t a b r distances.lo v k k' old s (h.each r m) h.long one there same el eh;
       first = get_first old distances s h.first;
       others = λ j x le at.
           ⊎_elim
@@ -130,14 +118,6 @@ hold_more t a b v k k' distances old new s h one there same el eh e =
           (get_push old s x j at);
     })
 
--- spans that hold the first k inputs hold all, where there are no more than k
-pub hold_all : (t : Table) (a b k : ℕ) (distances : Span) (spans : List Span) → HoldSome t a b k distances spans → k ≡ input_count t → HoldInputs t a b distances spans
-hold_all t a b k distances spans h e = record { long = h.long ∙ e; each = h.each }
-
--- spans that hold the first k inputs are those of a verdict, where there are no more: the distances, and then each input's one value
+-- the spans of the first k inputs are those of all, where there are no more
 pub input_spans : (t : Table) (a b k : ℕ) (distances : Span) (spans : List Span) → HoldSome t a b k distances spans → k ≡ input_count t → AreInputSpans t a b distances spans
 input_spans t a b k distances spans h e = record { long = h.long ∙ e; first = h.first; others = h.others }
-
--- code that does well with as many inputs as the table says does so with as many as there are spans that hold them
-pub well_held : (code : List Instr) (t : Table) (a b : ℕ) (distances : Span) (spans : List Span) → HoldInputs t a b distances spans → (steps : ℕ) × DoesWell code (input_count t) steps → (steps : ℕ) × DoesWell code (length spans) steps
-well_held code t a b distances spans h well = rw h.long well

@@ -1,5 +1,5 @@
 -- Two verdicts on one code are the same.
-use Rattle.std.proofs.Common.{◌≡◌, ℕ, zero, suc, ◌+◌, ◌*◌, ◌/◌, ◌<◌, ◌≤◌, List, [], ◌∷◌, length, Some, Result, Ok, Err, refl, sym, ap, ◌∙◌, subst, arith, ⊎_elim, ℤ, pos, ◌+ℤ◌, ◌-ℤ◌, ◌<ℤ◌, max}
+use Rattle.std.proofs.Common.{◌≡◌, ℕ, zero, suc, ◌+◌, ◌*◌, ◌/◌, ◌%◌, ◌<◌, ◌≤◌, List, [], ◌∷◌, length, Some, Result, Ok, Err, refl, sym, ap, ◌∙◌, subst, arith, ⊎_elim, ℤ, pos, ◌+ℤ◌, ◌-ℤ◌, max}
 use Rattle.std.specs.Prelude.{slice_get, unsigned_abs}
 use Rattle.std.proofs.lemmas.Int.{ints}
 use Rattle.std.proofs.lemmas.Bool.{cases_lt}
@@ -23,8 +23,8 @@ use Rattle.kernel_code.specs.Paths.{MissesNothing}
 use Rattle.verifier.specs.declared.faults.VerifyFault.{VerifyFault}
 use Rattle.verifier.specs.declared.faults.VerifyFault.TheVariants as fault
 use Rattle.verifier.specs.Safety.{input_count}
-use Rattle.verifier.specs.Verdicts.{Answer, AreInputSpans, HasFault, HasMagnitude, IsAtOne, IsBounded, IsEmptySlice, IsFoundOf, IsGreatest, IsJoint, IsOneInput, IsPieceAnswer, IsSearched, IsSlice, IsSliceAnswer, IsStopped, IsVerdict, Range, both, bounded, empty, full, highest, lower, lowest, magnitude_of, neither, pair_answer, row_answer, single, upper}
-use Rattle.verifier.proofs.Standing.{AreInputsWithin, ones_within}
+use Rattle.verifier.specs.Verdicts.{Answer, AreInputSpans, HasFault, HasMagnitude, IsAtEnds, IsAtOne, IsBounded, IsEmptySlice, IsFoundOf, IsGreatest, IsInTurn, IsJoint, IsOfHalves, IsOneInput, IsPiece, IsPieceAnswer, IsSearched, IsSlice, IsSliceAnswer, IsStopped, IsVerdict, Range, bounded, empty, first, full, magnitude_of, neither, numbered_answer, second, single, stopped}
+use Rattle.verifier.proofs.Within.{AreInputsWithin, ones_within}
 use Rattle.verifier.proofs.Determined.{gives_no_stop, gives_within, stops_same}
 
 -- ---- spans of the same ends
@@ -120,99 +120,70 @@ module _ (code : List Instr) (t : Table) (a b : ℕ) where
   stopped_same s s' pc pc' kind kind' e f p q =
       stops_same (bits_of t.frac) code p.spans q.spans pc pc' kind kind' (inputs_same t a b s s' p.spans q.spans e f p.inputs q.inputs) (inputs_same t a b s' s q.spans p.spans (sym e) (sym f) q.inputs p.inputs) p.stops q.stops
 
-  -- the first's refusal, else the second's, else what both magnitudes make
-  data InTurn (A B : Answer → Type 0) (g : ℕ → ℕ → Answer) : Answer → Type 0 where
-    at_first : {f : VerifyFault} → A (Err f) → InTurn A B g (Err f)
-    at_second : (x : ℕ) {f : VerifyFault} → A (Ok x) → B (Err f) → InTurn A B g (Err f)
-    at_neither : (x y : ℕ) → A (Ok x) → B (Ok y) → InTurn A B g (g x y)
-
   no_refusal : (x : ℕ) (f : VerifyFault) → (let r : Answer = Ok x in r) ≡ Err f → ⊥
   no_refusal x f e = absurd cc
 
   same_number : (x y : ℕ) → (let r : Answer = Ok x in r) ≡ Ok y → x ≡ y
   same_number x y e = cc
 
-  in_turn : (A A' B B' : Answer → Type 0) (g g' : ℕ → ℕ → Answer) (x y : Answer) → ((x y : Answer) → A x → A' y → x ≡ y) → ((x y : Answer) → B x → B' y → x ≡ y) → ((x y : ℕ) → g x y ≡ g' x y) → InTurn A B g x → InTurn A' B' g' y → x ≡ y
-  in_turn A A' B B' g g' x y da db dg (at_first {f = f} p) (at_first {f = f'} q) = da (Err f) (Err f') p q
-  in_turn A A' B B' g g' x y da db dg (at_first {f = f} p) (at_second m q r) = absurd (no_refusal m f (sym (da (Err f) (Ok m) p q)))
-  in_turn A A' B B' g g' x y da db dg (at_first {f = f} p) (at_neither m k q r) = absurd (no_refusal m f (sym (da (Err f) (Ok m) p q)))
-  in_turn A A' B B' g g' x y da db dg (at_second m p r) (at_first {f = f} q) = absurd (no_refusal m f (da (Ok m) (Err f) p q))
-  in_turn A A' B B' g g' x y da db dg (at_second m' {f = f} p r) (at_second k' {f = f'} q s) = db (Err f) (Err f') r s
-  in_turn A A' B B' g g' x y da db dg (at_second m' {f = f} p r) (at_neither k m q s) = absurd (no_refusal m f (sym (db (Err f) (Ok m) r s)))
-  in_turn A A' B B' g g' x y da db dg (at_neither m k p r) (at_first {f = f} q) = absurd (no_refusal m f (da (Ok m) (Err f) p q))
-  in_turn A A' B B' g g' x y da db dg (at_neither k m p r) (at_second m' {f = f} q s) = absurd (no_refusal m f (db (Ok m) (Err f) r s))
-  in_turn A A' B B' g g' x y da db dg (at_neither m n p r) (at_neither m' n' q s) =
+  in_turn : (A A' B B' : Answer → Type 0) (g g' : ℕ → ℕ → Answer) (x y : Answer) → ((x y : Answer) → A x → A' y → x ≡ y) → ((x y : Answer) → B x → B' y → x ≡ y) → ((x y : ℕ) → g x y ≡ g' x y) → IsInTurn A B g x → IsInTurn A' B' g' y → x ≡ y
+  in_turn A A' B B' g g' x y da db dg (first {f = f} p) (first {f = f'} q) = da (Err f) (Err f') p q
+  in_turn A A' B B' g g' x y da db dg (first {f = f} p) (second {x = m} q r) = absurd (no_refusal m f (sym (da (Err f) (Ok m) p q)))
+  in_turn A A' B B' g g' x y da db dg (first {f = f} p) (neither {x = m} q r) = absurd (no_refusal m f (sym (da (Err f) (Ok m) p q)))
+  in_turn A A' B B' g g' x y da db dg (second {x = m} p r) (first {f = f} q) = absurd (no_refusal m f (da (Ok m) (Err f) p q))
+  in_turn A A' B B' g g' x y da db dg (second {f = f} p r) (second {f = f'} q s) = db (Err f) (Err f') r s
+  in_turn A A' B B' g g' x y da db dg (second {f = f} p r) (neither {y = m} q s) = absurd (no_refusal m f (sym (db (Err f) (Ok m) r s)))
+  in_turn A A' B B' g g' x y da db dg (neither {x = m} p r) (first {f = f} q) = absurd (no_refusal m f (da (Ok m) (Err f) p q))
+  in_turn A A' B B' g g' x y da db dg (neither {y = m} p r) (second {f = f} q s) = absurd (no_refusal m f (db (Ok m) (Err f) r s))
+  in_turn A A' B B' g g' x y da db dg (neither {x = m} {y = n} p r) (neither {x = m'} {y = n'} q s) =
       let e : m ≡ m' = same_number m m' (da (Ok m) (Ok m') p q) in
       let h : n ≡ n' = same_number n n' (db (Ok n) (Ok n') r s) in
       ap (λ (k : ℕ). g k n) e ∙ ap (g m') h ∙ dg m' n'
-
-  -- the answer on distances that stop
-  abbrev rest : ℕ → Span → ℕ → Fault → Answer → Type 0
-  rest zero s pc kind answer = InTurn (IsAtOne code t a b s.lo) (IsAtOne code t a b s.hi) (λ x y. Err (fault.Undecided a b s.lo s.hi pc kind)) answer
-  rest (suc d) s pc kind answer = (l : Span) × (u : Span) × AreHalves s l u × InTurn (IsPieceAnswer code t a b d l) (IsPieceAnswer code t a b d u) (λ x y. Ok (max x y)) answer
-
-  data View (depth : ℕ) (s : Span) : Answer → Type 0 where
-    alone : {x : Answer} → s.lo ≡ s.hi → IsAtOne code t a b s.lo x → View depth s x
-    whole : {x : ℕ} → s.lo <ℤ s.hi → IsBounded code t a b s x → View depth s (Ok x)
-    cut : {pc : ℕ} {kind : Fault} {x : Answer} → s.lo <ℤ s.hi → IsStopped code t a b s pc kind → rest depth s pc kind x → View depth s x
-
-  view : (depth : ℕ) (s : Span) (x : Answer) → IsPieceAnswer code t a b depth s x → View depth s x
-  view depth s x (single e p) = alone e p
-  view depth s x (bounded lt p) = whole lt p
-  view depth s x (lowest lt p q) = cut lt p (at_first q)
-  view depth s x (highest {x = m} lt p q r) = cut lt p (at_second m q r)
-  view depth s x (neither {x = m} {y = n} lt p q r) = cut lt p (at_neither m n q r)
-  view depth s x (lower {l = l} {u = u} lt p h q) = cut lt p (l, u, h, at_first q)
-  view depth s x (upper {l = l} {u = u} {x = m} lt p h q r) = cut lt p (l, u, h, at_second m q r)
-  view depth s x (both {l = l} {u = u} {x = m} {y = n} lt p h q r) = cut lt p (l, u, h, at_neither m n q r)
 
   halves_same : (s s' l l' u u' : Span) → s.lo ≡ s'.lo → s.hi ≡ s'.hi → AreHalves s l u → AreHalves s' l' u' → (l.lo ≡ l'.lo) × (l.hi ≡ l'.hi) × (u.lo ≡ u'.lo) × (u.hi ≡ u'.hi)
   halves_same s s' l l' u u' e f p q =
       let middle : l.hi ≡ l'.hi = p.middle ∙ rw (e, f) refl ∙ sym q.middle in
       (p.from ∙ e ∙ sym q.from, middle, p.next ∙ ap (λ (z : ℤ). z +ℤ pos 1) middle ∙ sym q.next, p.to ∙ f ∙ sym q.to)
 
-  -- the answer on distances of these ends that stop so is determined
-  abbrev IsRestSame : ℕ → Type 0
-  IsRestSame depth = (s s' : Span) (pc : ℕ) (kind : Fault) (x y : Answer) → s.lo ≡ s'.lo → s.hi ≡ s'.hi → rest depth s pc kind x → rest depth s' pc kind y → x ≡ y
+  -- the answer where distances of these ends stop is determined
+  abbrev AreRestsSame : (s s' : Span) (R R' : ℕ → Fault → Answer → Type 0) → Type 0
+  AreRestsSame s s' R R' = (pc : ℕ) (kind : Fault) (x y : Answer) → R pc kind x → R' pc kind y → x ≡ y
 
-  abbrev IsPieceSame : ℕ → Type 0
-  IsPieceSame depth = (s s' : Span) (x y : Answer) → s.lo ≡ s'.lo → s.hi ≡ s'.hi → IsPieceAnswer code t a b depth s x → IsPieceAnswer code t a b depth s' y → x ≡ y
+  one_piece : (s s' : Span) (R R' : ℕ → Fault → Answer → Type 0) (x y : Answer) → AreRestsSame s s' R R' → s.lo ≡ s'.lo → s.hi ≡ s'.hi → IsPiece code t a b s R x → IsPiece code t a b s' R' y → x ≡ y
+  one_piece s s' R R' x y same e f (single one p) (single one' q) = at_one_same s.lo s'.lo x y e p q
+  one_piece s s' R R' x y same e f (single one p) (bounded lt q) = absurd (omega (arith, ints, e, f, one, lt))
+  one_piece s s' R R' x y same e f (single one p) (stopped lt q r) = absurd (omega (arith, ints, e, f, one, lt))
+  one_piece s s' R R' x y same e f (bounded lt p) (single one q) = absurd (omega (arith, ints, e, f, one, lt))
+  one_piece s s' R R' x y same e f (bounded {bound = m} lt p) (bounded {bound = n} lt' q) = ap Ok (bounded_same s s' m n e f p q)
+  one_piece s s' R R' x y same e f (bounded {bound = m} lt p) (stopped {pc = pc} {kind = kind} lt' q r) = absurd (bounded_stopped s s' m pc kind e f p q)
+  one_piece s s' R R' x y same e f (stopped lt p r) (single one q) = absurd (omega (arith, ints, e, f, one, lt))
+  one_piece s s' R R' x y same e f (stopped {pc = pc} {kind = kind} lt p r) (bounded {bound = n} lt' q) = absurd (bounded_stopped s' s n pc kind (sym e) (sym f) q p)
+  one_piece s s' R R' x y same e f (stopped {pc = pc} {kind = kind} lt p r) (stopped {pc = pc'} {kind = kind'} lt' p' r') =
+      let h = stopped_same s s' pc pc' kind kind' e f p p' in
+      same pc kind x y r (subst (λ (k : ℕ). R' k kind y) (sym h.0) (subst (λ (k : Fault). R' pc' k y) (sym h.1) r'))
 
-  rest_last : IsRestSame 0
-  rest_last s s' pc kind x y e f p q =
+  ends_same : (s s' : Span) → s.lo ≡ s'.lo → s.hi ≡ s'.hi → AreRestsSame s s' (IsAtEnds code t a b s) (IsAtEnds code t a b s')
+  ends_same s s' e f pc kind x y p q =
       in_turn (IsAtOne code t a b s.lo) (IsAtOne code t a b s'.lo) (IsAtOne code t a b s.hi) (IsAtOne code t a b s'.hi) (λ m n. Err (fault.Undecided a b s.lo s.hi pc kind)) (λ m n. Err (fault.Undecided a b s'.lo s'.hi pc kind)) x y
       (λ m n i j. at_one_same s.lo s'.lo m n e i j)
       (λ m n i j. at_one_same s.hi s'.hi m n f i j)
       (λ m n. ap (λ (z : ℤ). Err (fault.Undecided a b z s.hi pc kind)) e ∙ ap (λ (z : ℤ). Err (fault.Undecided a b s'.lo z pc kind)) f)
       p q
 
-  rest_more : (d : ℕ) → IsPieceSame d → IsRestSame (suc d)
-  rest_more d same s s' pc kind x y e f p q =
-      let h = halves_same s s' p.0 q.0 p.1 q.1 e f p.2 q.2 in
-      in_turn (IsPieceAnswer code t a b d p.0) (IsPieceAnswer code t a b d q.0) (IsPieceAnswer code t a b d p.1) (IsPieceAnswer code t a b d q.1) (λ m n. Ok (max m n)) (λ m n. Ok (max m n)) x y
-      (λ m n i j. same p.0 q.0 m n h.0 h.1 i j)
-      (λ m n i j. same p.1 q.1 m n h.2 h.3 i j)
-      (λ m n. refl)
-      p.3 q.3
-
-  view_same : (depth : ℕ) (s s' : Span) (x y : Answer) → IsRestSame depth → s.lo ≡ s'.lo → s.hi ≡ s'.hi → View depth s x → View depth s' y → x ≡ y
-  view_same depth s s' x y same e f (alone one p) (alone one' q) = at_one_same s.lo s'.lo x y e p q
-  view_same depth s s' x y same e f (alone one p) (whole lt q) = absurd (omega (arith, ints, e, f, one, lt))
-  view_same depth s s' x y same e f (alone one p) (cut lt q r) = absurd (omega (arith, ints, e, f, one, lt))
-  view_same depth s s' x y same e f (whole lt p) (alone one q) = absurd (omega (arith, ints, e, f, one, lt))
-  view_same depth s s' x y same e f (whole {x = m} lt p) (whole {x = n} lt' q) = ap Ok (bounded_same s s' m n e f p q)
-  view_same depth s s' x y same e f (whole {x = m} lt p) (cut {pc = pc} {kind = kind} lt' q r) = absurd (bounded_stopped s s' m pc kind e f p q)
-  view_same depth s s' x y same e f (cut lt p r) (alone one q) = absurd (omega (arith, ints, e, f, one, lt))
-  view_same depth s s' x y same e f (cut {pc = pc} {kind = kind} lt p r) (whole {x = n} lt' q) = absurd (bounded_stopped s' s n pc kind (sym e) (sym f) q p)
-  view_same depth s s' x y same e f (cut {pc = pc} {kind = kind} lt p r) (cut {pc = pc'} {kind = kind'} lt' p' r') =
-      let h = stopped_same s s' pc pc' kind kind' e f p p' in
-      let r'' : rest depth s' pc kind y = subst (λ (k : ℕ). rest depth s' k kind y) (sym h.0) (subst (λ (k : Fault). rest depth s' pc' k y) (sym h.1) r') in
-      same s s' pc kind x y e f r r''
-
   -- two answers on distances of the same ends, cut at most as often, are the same
   pub piece_same : (depth : ℕ) (s s' : Span) (x y : Answer) → s.lo ≡ s'.lo → s.hi ≡ s'.hi → IsPieceAnswer code t a b depth s x → IsPieceAnswer code t a b depth s' y → x ≡ y
-  piece_same zero s s' x y e f p q = view_same 0 s s' x y rest_last e f (view 0 s x p) (view 0 s' y q)
-  piece_same (suc d) s s' x y e f p q = view_same (suc d) s s' x y (rest_more d (piece_same d)) e f (view (suc d) s x p) (view (suc d) s' y q)
+  unfolding IsPieceAnswer
+  piece_same zero s s' x y e f p q = one_piece s s' (IsAtEnds code t a b s) (IsAtEnds code t a b s') x y (ends_same s s' e f) e f p q
+  piece_same (suc d) s s' x y e f p q =
+      one_piece s s' (λ pc kind. IsOfHalves (IsPieceAnswer code t a b d) s) (λ pc kind. IsOfHalves (IsPieceAnswer code t a b d) s') x y
+      (λ pc kind x y p q.
+      let h = halves_same s s' p.lower q.lower p.upper q.upper e f p.halves q.halves in
+      in_turn (IsPieceAnswer code t a b d p.lower) (IsPieceAnswer code t a b d q.lower) (IsPieceAnswer code t a b d p.upper) (IsPieceAnswer code t a b d q.upper) (λ m n. Ok (max m n)) (λ m n. Ok (max m n)) x y
+      (λ m n i j. piece_same d p.lower q.lower m n h.0 h.1 i j)
+      (λ m n i j. piece_same d p.upper q.upper m n h.2 h.3 i j)
+      (λ m n. refl)
+      p.both q.both)
+      e f p q
 
 -- ---- answers in their order
 
@@ -278,11 +249,8 @@ module _ (code : List Instr) (t : Table) (g : Range) where
 
   found_same : (x y : Answer) → IsFoundOf code t g x → IsFoundOf code t g y → x ≡ y
   found_same x y p q =
-      joint_same (row_answer code t g) (length t.rows) x y
-      (λ a m n r s.
-      joint_same (pair_answer code t g a) (length t.rows) m n
-      (λ b m' n' r' s'. joint_same (IsSliceAnswer code t g a b) g.slices m' n' (λ i u v h k. slice_same a b i u v h k) r' s')
-      r s)
+      joint_same (numbered_answer code t g) (length t.rows * length t.rows * g.slices) x y
+      (λ n u v h k. slice_same (n / g.slices / length t.rows) (n / g.slices % length t.rows) (n % g.slices) u v h k)
       p q
 
 -- ---- misfits
@@ -293,20 +261,20 @@ told (misfit.DepthOver64 pc) = fault.DepthOver64 pc
 
 -- code with a misfit misses something
 misses_not : (code : List Instr) (n : ℕ) (m : Misfit) → JumpsForward code → MissesNothing code n → IsFirst code n m → ⊥
-misses_not code n (misfit.Malformed pc) forward misses first =
+misses_not code n (misfit.Malformed pc) forward misses wrong =
     ⊎_elim
     (λ (w : (pc : ℕ) × Lacks code n pc). let l = w.1 in l.lacks (misses.acts l.n w.0 l.height l.set l.instr l.path l.there).supplied)
     (λ (w : EndsBadly code (length code)). w.other (misses.ends w.n w.height w.set w.path))
-    (goes_wrong code n (misfit.Malformed pc) forward first)
-misses_not code n (misfit.DepthOver64 pc) forward misses first =
-    let o = first.overfills in
+    (goes_wrong code n (misfit.Malformed pc) forward wrong)
+misses_not code n (misfit.DepthOver64 pc) forward misses wrong =
+    let o = wrong.overfills in
     o.full (misses.acts o.n pc o.height o.set o.instr o.path o.there).room
 
 same_misfit : (m m' : Misfit) → (let r : Result ℕ Misfit = Err m in r) ≡ Err m' → m ≡ m'
 same_misfit m m' e = cc
 
 one_misfit : (code : List Instr) (n : ℕ) (m m' : Misfit) → JumpsForward code → IsFirst code n m → IsFirst code n m' → m ≡ m'
-one_misfit code n m m' forward first first' = sym (same_misfit m' m (one_judgement code n (Err m) (Err m') forward first first'))
+one_misfit code n m m' forward wrong wrong' = sym (same_misfit m' m (one_judgement code n (Err m) (Err m') forward wrong wrong'))
 
 -- ---- verdicts
 
@@ -325,10 +293,10 @@ module _ (code : List Instr) (t : Table) (g : Range) where
 
   kind_same : (x y : Answer) → JumpsForward code → Kind x → Kind y → x ≡ y
   kind_same x y forward (searched p) (searched q) = found_same code t g x y p.found q.found
-  kind_same x y forward (searched p) (misfit' m first e) = absurd (misses_not code (input_count t) m forward p.misses first)
-  kind_same x y forward (misfit' m first e) (searched p) = absurd (misses_not code (input_count t) m forward p.misses first)
-  kind_same x y forward (misfit' m first e) (misfit' m' first' e') =
-      e ∙ ap (λ (k : Misfit). Err (told k)) (one_misfit code (input_count t) m m' forward first first') ∙ sym e'
+  kind_same x y forward (searched p) (misfit' m wrong e) = absurd (misses_not code (input_count t) m forward p.misses wrong)
+  kind_same x y forward (misfit' m wrong e) (searched p) = absurd (misses_not code (input_count t) m forward p.misses wrong)
+  kind_same x y forward (misfit' m wrong e) (misfit' m' wrong' e') =
+      e ∙ ap (λ (k : Misfit). Err (told k)) (one_misfit code (input_count t) m m' forward wrong wrong') ∙ sym e'
 
   -- two verdicts on one code under one table and range are the same
   pub verdict_same : (x y : Answer) → JumpsForward code → IsVerdict code t g x → IsVerdict code t g y → x ≡ y

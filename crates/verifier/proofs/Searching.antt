@@ -1,5 +1,5 @@
 -- Searches of pieces, of slices and of pairs, one after another.
-use Rattle.std.proofs.Common.{◌≡◌, ◌≢◌, ℕ, zero, suc, ◌+◌, ◌-◌, ◌*◌, ◌/◌, ◌<◌, ◌≤◌, List, Ok, Err, refl, sym, ap, ◌∙◌, subst, arith, ⊎_elim, inl, inr, ℤ, pos, ◌+ℤ◌, ◌-ℤ◌, ◌≤ℤ◌, max}
+use Rattle.std.proofs.Common.{◌≡◌, ◌≢◌, ℕ, zero, suc, ◌+◌, ◌-◌, ◌*◌, ◌/◌, ◌^◌, ◌<◌, ◌≤◌, List, Result, Ok, Err, refl, sym, ap, ◌∙◌, subst, arith, ⊎_elim, inl, inr, ℤ, pos, ◌+ℤ◌, ◌-ℤ◌, ◌≤ℤ◌, ◌<ℤ◌, max}
 use Rattle.std.specs.Prelude.{◌⊎◌}
 use Rattle.std.proofs.lemmas.Int.{ints}
 use Rattle.std.proofs.lemmas.Bool.{cases_eq, cases_lt}
@@ -21,12 +21,19 @@ use Rattle.kernel_code.specs.Tables.{Table, inputs_of}
 use Rattle.kernel_paths.specs.Misfits.{DoesWell, IsFirstMalformed, IsFirstOverfull}
 use Rattle.verifier.specs.declared.faults.VerifyFault.{VerifyFault}
 use Rattle.verifier.specs.declared.faults.VerifyFault.TheVariants as fault
-use Rattle.verifier.specs.Safety.{IsFound, input_count}
-use Rattle.verifier.specs.Verdicts.{Answer, HasFault, IsAtOne, IsFirstRefused, IsFoundOf, IsGreatest, IsPieceAnswer, IsSliceAnswer, IsCut, IsVerdict, Range, UnlessMemory, both, empty, full, lower, single, upper}
+use Rattle.verifier.specs.Safety.{input_count}
+use Rattle.verifier.specs.Verdicts.{Answer, HasFault, IsAtEnds, IsAtOne, IsBounded, IsFirstRefused, IsFoundOf, IsGreatest, IsInTurn, IsPieceAnswer, IsSearched, IsSliceAnswer, IsStopped, IsVerdict, Range, UnlessMemory, bounded, empty, full, single, stopped}
+use Rattle.verifier.proofs.Soundness.{IsFound, all_found}
 
 -- ---- out of memory
 
--- where each refusal of the one kind is one of the other, a failure that is a refusal of the one, or out of memory, is so of the other
+-- a consequence of an answer's meaning
+pub unless_weaker : (P Q : Answer → Type 0) (r : Result ℕ (Failure VerifyFault)) → ((x : Answer) → P x → Q x) → UnlessMemory P r → UnlessMemory Q r
+unless_weaker P Q (Ok bound) g h = g (Ok bound) h
+unless_weaker P Q (Err (Refused f)) g h = g (Err f) h
+unless_weaker P Q (Err Memory) g h = tt
+
+-- the same of a failure, by its refusals alone
 pub unless_err : (P Q : Answer → Type 0) (failure : Failure VerifyFault) → ((f : VerifyFault) → P (Err f) → Q (Err f)) → UnlessMemory P (Err failure) → UnlessMemory Q (Err failure)
 unless_err P Q (Refused f) g h = g f h
 unless_err P Q Memory g h = tt
@@ -61,10 +68,6 @@ greatest_more A n x y z g h e = record { each = each; attained = attained }
         g.attained)
         (cases_lt x y)
 
--- the greatest magnitude of n answers is that of as many under an equal number
-pub greatest_all : (A : ℕ → Answer → Type 0) (n m x : ℕ) → IsGreatest A n x → n ≡ m → IsGreatest A m x
-greatest_all A n m x g e = subst (λ (k : ℕ). IsGreatest A k x) e g
-
 -- a refusal behind answers that are all magnitudes is the first
 pub first_refused : (A : ℕ → Answer → Type 0) (i n x : ℕ) (f : VerifyFault) → IsGreatest A i x → i < n → A i (Err f) → IsFirstRefused A n f
 first_refused A i n x f g lt h = record { at = i; within = lt; refuses = h; before = λ j below. let b = g.each j below in (b.0, b.1) }
@@ -81,41 +84,33 @@ has_fault code t a b r n trap kind ends e =
 -- ---- pieces
 
 module _ (code : List Instr) (t : Table) (a b : ℕ) where
+  abbrev Piece : ℕ → Span → Answer → Type 0
+  Piece depth s answer = IsPieceAnswer code t a b depth s answer
+
   -- the machine's answer at a distance is that of the distances from it to itself, however often they may be cut
-  pub one_single : (s : Span) (answer : Answer) → s.hi ≤ℤ s.lo → IsAtOne code t a b s.lo answer → (depth : ℕ) → IsPieceAnswer code t a b depth s answer
-  one_single s answer le h depth = single (let o = s.ordered in omega (arith, ints, le, o)) h
+  pub one_single : (depth : ℕ) (s : Span) (answer : Answer) → s.hi ≤ℤ s.lo → IsAtOne code t a b s.lo answer → Piece depth s answer
+  unfolding IsPieceAnswer
+  one_single zero s answer le h = single (let o = s.ordered in omega (arith, ints, le, o)) h
+  one_single (suc depth) s answer le h = single (let o = s.ordered in omega (arith, ints, le, o)) h
 
-  -- as many cuts as are left
-  pub at_depth : (depth : ℕ) (s : Span) (f : VerifyFault) → depth ≡ 0 → IsPieceAnswer code t a b 0 s (Err f) → IsPieceAnswer code t a b depth s (Err f)
-  at_depth depth s f e h = rw e h
+  -- the greatest magnitude of the values' span is that of distances that don't stop, however often they may be cut
+  pub whole_bounded : (depth : ℕ) (s : Span) (bound : ℕ) → s.lo <ℤ s.hi → IsBounded code t a b s bound → Piece depth s (Ok bound)
+  unfolding IsPieceAnswer
+  whole_bounded zero s bound lt h = bounded lt h
+  whole_bounded (suc depth) s bound lt h = bounded lt h
 
-  -- where distances are cut, a failure in the lower half is that of them all
-  pub judged_lower : (depth : ℕ) (s l u : Span) (failure : Failure VerifyFault) → IsCut code t a b depth s → AreHalves s l u → UnlessMemory (IsPieceAnswer code t a b (depth - 1) l) (Err failure)
-      → UnlessMemory (IsPieceAnswer code t a b depth s) (Err failure)
-  judged_lower zero s l u failure c halves h = absurd (omega (arith, c.deep))
-  judged_lower (suc d) s l u failure c halves h =
+  -- the answer at both ends is that of distances that stop and are cut no more
+  pub at_ends : (s : Span) (pc : ℕ) (kind : Fault) (answer : Answer) → s.lo <ℤ s.hi → IsStopped code t a b s pc kind → IsAtEnds code t a b s pc kind answer → Piece 0 s answer
+  unfolding IsPieceAnswer
+  at_ends s pc kind answer lt p h = stopped lt p h
+
+  -- the answer of both halves, the lower first, is that of distances that stop and are cut
+  pub of_halves : (depth : ℕ) (s l u : Span) (pc : ℕ) (kind : Fault) (answer : Answer) → depth ≢ 0 → s.lo <ℤ s.hi → IsStopped code t a b s pc kind → AreHalves s l u → IsInTurn (Piece (depth - 1) l) (Piece (depth - 1) u) (λ x y. Ok (max x y)) answer → Piece depth s answer
+  unfolding IsPieceAnswer
+  of_halves zero s l u pc kind answer n lt p h both = absurd (n refl)
+  of_halves (suc d) s l u pc kind answer n lt p h both =
       let e : suc d - 1 ≡ d = omega arith in
-      let h' = subst (λ (k : ℕ). UnlessMemory (IsPieceAnswer code t a b k l) (Err failure)) e h in
-      unless_err (IsPieceAnswer code t a b d l) (IsPieceAnswer code t a b (suc d) s) failure (λ f p. lower c.several c.stopped halves p) h'
-
-  -- the same of a failure in the upper half, where the lower one has a magnitude
-  pub judged_upper : (depth : ℕ) (s l u : Span) (x : ℕ) (failure : Failure VerifyFault) → IsCut code t a b depth s → AreHalves s l u → IsPieceAnswer code t a b (depth - 1) l (Ok x) → UnlessMemory (IsPieceAnswer code t a b (depth - 1) u) (Err failure)
-      → UnlessMemory (IsPieceAnswer code t a b depth s) (Err failure)
-  judged_upper zero s l u x failure c halves g h = absurd (omega (arith, c.deep))
-  judged_upper (suc d) s l u x failure c halves g h =
-      let e : suc d - 1 ≡ d = omega arith in
-      let g' : IsPieceAnswer code t a b d l (Ok x) = rw e at g in
-      let h' = subst (λ (k : ℕ). UnlessMemory (IsPieceAnswer code t a b k u) (Err failure)) e h in
-      unless_err (IsPieceAnswer code t a b d u) (IsPieceAnswer code t a b (suc d) s) failure (λ f p. upper c.several c.stopped halves g' p) h'
-
-  -- where distances are cut, the greater magnitude of both halves is that of them all
-  pub judged_both : (depth : ℕ) (s l u : Span) (x y z : ℕ) → IsCut code t a b depth s → AreHalves s l u → IsPieceAnswer code t a b (depth - 1) l (Ok x) → IsPieceAnswer code t a b (depth - 1) u (Ok y) → z ≡ max x y → IsPieceAnswer code t a b depth s (Ok z)
-  judged_both zero s l u x y z c halves g h m = absurd (omega (arith, c.deep))
-  judged_both (suc d) s l u x y z c halves g h m =
-      let e : suc d - 1 ≡ d = omega arith in
-      let g' : IsPieceAnswer code t a b d l (Ok x) = rw e at g in
-      let h' : IsPieceAnswer code t a b d u (Ok y) = rw e at h in
-      subst (λ (w : ℕ). IsPieceAnswer code t a b (suc d) s (Ok w)) (sym m) (both c.several c.stopped halves g' h')
+      stopped lt p (record { lower = l; upper = u; halves = h; both = subst (λ (k : ℕ). IsInTurn (Piece k l) (Piece k u) (λ x y. Ok (max x y)) answer) e both })
 
 -- ---- slices
 
@@ -138,22 +133,22 @@ full_slice code t g a b i width from end s answer wide ef ee lo hi h =
 
 -- ---- the verdict
 
--- a search tells no misfit
-found_verdict : (code : List Instr) (t : Table) (g : Range) (from last : ℤ) (limit : ℕ) (f : VerifyFault) → IsCode code → MissesNothing code (input_count t) → IsFound code t from last limit f → IsFoundOf code t g (Err f) → IsVerdict code t g (Err f)
-found_verdict code t g from last limit (fault.Malformed pc) is m found h = absurd found
-found_verdict code t g from last limit (fault.DepthOver64 pc) is m found h = absurd found
-found_verdict code t g from last limit (fault.Fault a b r pc kind) is m found h = record { is_code = is; misses = m; found = h }
-found_verdict code t g from last limit (fault.Undecided a b lo hi pc kind) is m found h = record { is_code = is; misses = m; found = h }
+found_verdict : (code : List Instr) (t : Table) (g : Range) (from last : ℤ) (limit : ℕ) (f : VerifyFault) → IsFound code t from last limit f → IsSearched code t g (Err f) → IsVerdict code t g (Err f)
+found_verdict code t g from last limit (fault.Malformed pc) found h = absurd found
+found_verdict code t g from last limit (fault.DepthOver64 pc) found h = absurd found
+found_verdict code t g from last limit (fault.Fault a b r pc kind) found h = h
+found_verdict code t g from last limit (fault.Undecided a b lo hi pc kind) found h = h
 
 -- the bound that is found of code that does well is its verdict
 pub accepted_verdict : (code : List Instr) (t : Table) (g : Range) (inputs steps bound : ℕ) → IsCode code → DoesWell code inputs steps → inputs ≡ input_count t → IsFoundOf code t g (Ok bound) → IsVerdict code t g (Ok bound)
 accepted_verdict code t g inputs steps bound is d e h = record { is_code = is; misses = subst (λ (n : ℕ). MissesNothing code n) e d.misses; found = h }
 
 -- a refusal that is found of code that does well is its verdict
-pub refused_verdict : (code : List Instr) (t : Table) (g : Range) (from last : ℤ) (limit inputs steps : ℕ) (failure : Failure VerifyFault) → IsCode code → DoesWell code inputs steps → inputs ≡ input_count t → IfRefused failure (IsFound code t from last limit)
-    → UnlessMemory (IsFoundOf code t g) (Err failure) → IfRefused failure (λ f. IsVerdict code t g (Err f))
-refused_verdict code t g from last limit inputs steps (Refused f) is d e found h = found_verdict code t g from last limit f is (subst (λ (n : ℕ). MissesNothing code n) e d.misses) found h
-refused_verdict code t g from last limit inputs steps Memory is d e found h = tt
+pub refused_verdict : (code : List Instr) (t : Table) (g : Range) (inputs steps : ℕ) (failure : Failure VerifyFault) → IsCode code → DoesWell code inputs steps → inputs ≡ input_count t → 0 < g.slices → UnlessMemory (IsFoundOf code t g) (Err failure)
+    → IfRefused failure (λ f. IsVerdict code t g (Err f))
+refused_verdict code t g inputs steps (Refused f) is d e some h =
+    found_verdict code t g g.core (g.cutoff -ℤ pos 1) (g.slices * 2 ^ g.depth) f (all_found code t g is.forward some f h) (record { is_code = is; misses = subst (λ (n : ℕ). MissesNothing code n) e d.misses; found = h })
+refused_verdict code t g inputs steps Memory is d e some h = tt
 
 -- where the lowest misfit of code is a malformed place, the refusal with this place is the verdict
 pub first_malformed : (code : List Instr) (t : Table) (g : Range) (inputs pc : ℕ) → IsFirstMalformed code inputs pc → inputs ≡ input_count t → IsVerdict code t g (Err (fault.Malformed pc))

@@ -1,175 +1,17 @@
 -- The frames of all places, one place after another.
-use Rattle.std.proofs.Common.{◌≡◌, ◌≢◌, ℕ, zero, suc, ◌+◌, ◌<◌, ◌≤◌, List, [], ◌∷◌, length, Option, Some, None, Result, Ok, refl, sym, ap, ◌∙◌, subst, arith, ⊎_elim, inl, inr, if◌then◌else◌, ℤ, pos, negsuc, true, false, replicate}
-use Rattle.std.specs.Prelude.{◌⊎◌, slice_get, slice_index_or, nat_lt}
+use Rattle.std.proofs.Common.{◌≡◌, ◌≢◌, ℕ, zero, suc, ◌+◌, ◌<◌, ◌≤◌, List, [], ◌∷◌, length, Option, Some, None, refl, sym, ap, ◌∙◌, subst, arith, ⊎_elim, inl, inr, if◌then◌else◌, ℤ, pos, negsuc, true, false}
+use Rattle.std.specs.Prelude.{◌⊎◌, slice_get, nat_lt}
 use Rattle.std.proofs.lemmas.Bool.{cases_eq, cases_lt, lt-ltb, le-ltb}
 use Rattle.std.proofs.lemmas.Int.{ints}
 use Rattle.std.proofs.lemmas.List.{nil_from_length}
 use Rattle.fixed.specs.declared.faults.Fault.{Fault}
 use Rattle.interval_domain.specs.declared.span.Span.{Span}
-use Rattle.interval_domain.specs.Spans.{IsMember, IsWithin, IsLeastSpan, IsOutcome, IsOutcomeOfTwo}
 use Rattle.kernel_code.specs.declared.instructions.Instr.{Instr}
 use Rattle.kernel_code.specs.declared.instructions.Instr.TheVariants.{Push, Input, Keep, Get, Binary, Unary, JumpIfZero, Jump}
-use Rattle.kernel_code.specs.declared.instructions.BinaryOperation.{BinaryOperation}
-use Rattle.kernel_code.specs.declared.instructions.UnaryOperation.{UnaryOperation}
-use Rattle.kernel_code.specs.Machine.{binary_of, unary_of}
-use Rattle.verifier.specs.Frames.{SpanFrameView, AreWithin, IsLocalWithin, IsFrameWithin, local_of, IsPlain, IsUnset, Pushes, Pops, AppliesBinary, AppliesUnary}
-use Rattle.verifier.specs.Places.{IsOne, Sets, IsBehind, HasOther, HasZero, HasTop, MayCome, IsStart, IsLed, comes_from, IsLeastFrame, IsFrameOf, GoesOn, AreSpanFrames, GivesSpan, StopsAt, Stops}
+use Rattle.verifier.specs.Frames.{SpanFrameView, IsLocalWithin, IsFrameWithin, IsPlain, IsStart, Pops, local_of}
+use Rattle.verifier.specs.Places.{IsBehind, HasOther, HasZero, HasTop, MayCome, IsLed, comes_from, IsLeastFrame, IsFrameOf, GoesOn, AreSpanFrames, GivesSpan, StopsAt, Stops}
 use Rattle.verifier.specs.Slices.{frame_at, Takes, IsJoined, Joins, Branches, goes_on, jumps, may_jump, Stands}
-
--- ---- spans within spans
-
--- a span is within itself
-pub span_refl : (s : Span) → IsWithin s s
-span_refl s = record { members = λ x m. m }
-
--- a span within one that is within a third is within the third
-pub span_trans : (s t u : Span) → IsWithin s t → IsWithin t u → IsWithin s u
-span_trans s t u p q = record { members = λ x m. q.members x (p.members x m) }
-
--- the spans of a stack are within themselves
-pub stack_refl : (ss : List Span) → AreWithin ss ss
-stack_refl [] = tt
-stack_refl (s ∷ ss) = (span_refl s, stack_refl ss)
-
-stack_trans : (ss ts us : List Span) → AreWithin ss ts → AreWithin ts us → AreWithin ss us
-stack_trans [] [] us p q = q
-stack_trans [] (t ∷ ts) us p q = absurd p
-stack_trans (s ∷ ss) [] us p q = absurd p
-stack_trans (s ∷ ss) (t ∷ ts) [] p q = absurd q
-stack_trans (s ∷ ss) (t ∷ ts) (u ∷ us) p q = (span_trans s t u p.0 q.0, stack_trans ss ts us p.1 q.1)
-
-local_refl : (o : Option Span) → IsLocalWithin o o
-local_refl None = tt
-local_refl (Some s) = span_refl s
-
-local_trans : (o p q : Option Span) → IsLocalWithin o p → IsLocalWithin p q → IsLocalWithin o q
-local_trans o p None h k = tt
-local_trans o None (Some t) h k = absurd k
-local_trans None (Some s) (Some t) h k = absurd h
-local_trans (Some r) (Some s) (Some t) h k = span_trans r s t h k
-
--- a frame is within itself
-pub frame_refl : (f : SpanFrameView) → IsFrameWithin f f
-frame_refl f = record { stack' = stack_refl f.stack; locals' = λ k. local_refl (local_of f k) }
-
--- a frame within one that is within a third is within the third
-pub frame_trans : (f g h : SpanFrameView) → IsFrameWithin f g → IsFrameWithin g h → IsFrameWithin f h
-frame_trans f g h p q = record { stack' = stack_trans f.stack g.stack h.stack p.stack' q.stack'; locals' = λ k. local_trans (local_of f k) (local_of g k) (local_of h k) (p.locals' k) (q.locals' k) }
-
--- ---- an instruction on a frame within another
-
--- each input's span is within that of its number
-pub record AreInputsWithin (xs ys : List Span) : Type 0 where
-  pub each : (k : ℕ) (s : Span) → slice_get xs k ≡ Some s → (t : Span) × (slice_get ys k ≡ Some t) × IsWithin s t
-
--- the spans of inputs are within themselves
-pub inputs_refl : (xs : List Span) → AreInputsWithin xs xs
-inputs_refl xs = record { each = λ k s e. (s, e, span_refl s) }
-
--- the span of one number alone is within that of an equal number alone
-pub ones_within : (v w : ℤ) (s t : Span) → v ≡ w → IsOne v s → IsOne w t → IsWithin s t
-ones_within v w s t e p q = record { members = λ x m. record { at_least = omega (arith, ints, e, p.lo', q.lo', m.at_least); at_most = omega (arith, ints, e, p.hi', q.hi', m.at_most) } }
-
--- a stack within another is so by the lists that both equal
-pub same_stacks : (f g : SpanFrameView) (ss ts : List Span) → f.stack ≡ ss → g.stack ≡ ts → AreWithin f.stack g.stack → AreWithin ss ts
-same_stacks f g ss ts p q w = subst (λ (l : List Span). AreWithin l ts) p (subst (AreWithin f.stack) q w)
-
-from_stacks : (f g : SpanFrameView) (ss ts : List Span) → f.stack ≡ ss → g.stack ≡ ts → AreWithin ss ts → AreWithin f.stack g.stack
-from_stacks f g ss ts p q w = subst (λ (l : List Span). AreWithin l g.stack) (sym p) (subst (AreWithin ss) (sym q) w)
-
-same_local : (f g f' g' : SpanFrameView) (k : ℕ) → local_of f' k ≡ local_of f k → local_of g' k ≡ local_of g k → IsLocalWithin (local_of f k) (local_of g k) → IsLocalWithin (local_of f' k) (local_of g' k)
-same_local f g f' g' k p q w = subst (λ (o : Option Span). IsLocalWithin o (local_of g' k)) (sym p) (subst (IsLocalWithin (local_of f k)) (sym q) w)
-
-same_locals_of : (f g : SpanFrameView) (k : ℕ) → g.locals ≡ f.locals → local_of g k ≡ local_of f k
-same_locals_of f g k e = ap (λ (l : List (Option Span)). slice_index_or l k None) e
-
-pushes_within : (s t : Span) (f f' g g' : SpanFrameView) → IsFrameWithin f f' → IsWithin s t → Pushes s f g → Pushes t f' g' → IsFrameWithin g g'
-pushes_within s t f f' g g' w i p q =
-    record {
-      stack' = from_stacks g g' (s ∷ f.stack) (t ∷ f'.stack) p.stack q.stack (i, w.stack');
-      locals' = λ k. same_local f f' g g' k (same_locals_of f g k p.locals) (same_locals_of f' g' k q.locals) (w.locals' k);
-    }
-
--- a span on top, and the rest
-pub tops_within : (s t : Span) (ss ts : List Span) (f f' : SpanFrameView) → IsFrameWithin f f' → f.stack ≡ s ∷ ss → f'.stack ≡ t ∷ ts → IsWithin s t × AreWithin ss ts
-tops_within s t ss ts f f' w p q = same_stacks f f' (s ∷ ss) (t ∷ ts) p q w.stack'
-
-pops_within : (s t : Span) (f f' g g' : SpanFrameView) → IsFrameWithin f f' → Pops s f g → Pops t f' g' → IsWithin s t × IsFrameWithin g g'
-pops_within s t f f' g g' w p q =
-    let tops = tops_within s t g.stack g'.stack f f' w p.stack q.stack in
-    (tops.0, record { stack' = tops.1; locals' = λ k. same_local f f' g g' k (same_locals_of f g k p.locals) (same_locals_of f' g' k q.locals) (w.locals' k) })
-
-some_within : (s t : Span) (o p : Option Span) → o ≡ Some s → p ≡ Some t → IsLocalWithin o p → IsWithin s t
-some_within s t o p e f w = let h : IsLocalWithin (Some s) (Some t) = subst (λ (x : Option Span). IsLocalWithin x (Some t)) e (subst (IsLocalWithin o) f w) in h
-
-within_some : (s t : Span) (o p : Option Span) → o ≡ Some s → p ≡ Some t → IsWithin s t → IsLocalWithin o p
-within_some s t o p e f w = subst (λ (x : Option Span). IsLocalWithin x p) (sym e) (subst (IsLocalWithin (Some s)) (sym f) w)
-
-sets_within : (k : ℕ) (s t : Span) (f f' g g' : SpanFrameView) → IsFrameWithin f f' → IsWithin s t → Sets k s f g → Sets k t f' g' → IsFrameWithin g g'
-sets_within k s t f f' g g' w i p q =
-    record {
-      stack' = from_stacks g g' f.stack f'.stack p.stack q.stack w.stack';
-      locals' = λ j.
-          ⊎_elim
-          (λ (e : j ≡ k). subst (λ (n : ℕ). IsLocalWithin (local_of g n) (local_of g' n)) (sym e) (within_some s t (local_of g k) (local_of g' k) p.here q.here i))
-          (λ (n : j ≢ k). same_local f f' g g' j (p.others j n) (q.others j n) (w.locals' j))
-          (cases_eq j k);
-    }
-
--- an operation's least span on members of smaller spans
-pub outcome_of_two : (op : ℤ → ℤ → Result ℤ Fault) (a b a' b' : Span) (r : Result ℤ Fault) → IsWithin a a' → IsWithin b b' → IsOutcomeOfTwo op a b r → IsOutcomeOfTwo op a' b' r
-outcome_of_two op a b a' b' r p q o = record { first = o.first; second = o.second; first_member = p.members o.first o.first_member; second_member = q.members o.second o.second_member; outcome = o.outcome }
-
--- an outcome of an operation on members of a span is one on members of a span that it is within
-pub outcome_of_one : (op : ℤ → Result ℤ Fault) (a a' : Span) (r : Result ℤ Fault) → IsWithin a a' → IsOutcome op a r → IsOutcome op a' r
-outcome_of_one op a a' r p o = record { argument = o.argument; member = p.members o.argument o.member; outcome = o.outcome }
-
-held_end : (z x : ℤ) (s : Span) → Ok x ≡ (let r : Result ℤ Fault = Ok z in r) → IsMember z s → IsMember x s
-held_end z x s e m = let same : x ≡ z = cc in subst (λ (y : ℤ). IsMember y s) (sym same) m
-
-least_within : (P Q : Result ℤ Fault → Type 0) (s t : Span) → ((r : Result ℤ Fault) → P r → Q r) → IsLeastSpan P s → IsLeastSpan Q t → IsWithin s t
-least_within P Q s t f p q =
-    let lo = q.holds (Ok s.lo) (f (Ok s.lo) p.low) in
-    let hi = q.holds (Ok s.hi) (f (Ok s.hi) p.high) in
-    let at_lo : IsMember s.lo t = held_end lo.0 s.lo t lo.1 lo.2 in
-    let at_hi : IsMember s.hi t = held_end hi.0 s.hi t hi.1 hi.2 in
-    record { members = λ x m. record { at_least = omega (arith, ints, at_lo.at_least, m.at_least); at_most = omega (arith, ints, at_hi.at_most, m.at_most) } }
-
-binary_within : (bits : ℕ) (op : BinaryOperation) (f f' g g' : SpanFrameView) → IsFrameWithin f f' → AppliesBinary bits op f g → AppliesBinary bits op f' g' → IsFrameWithin g g'
-binary_within bits op f f' g g' w p q =
-    let top = tops_within p.b q.b (p.a ∷ p.rest) (q.a ∷ q.rest) f f' w p.taken q.taken in
-    let i : IsWithin p.s q.s = least_within (IsOutcomeOfTwo (binary_of bits op) p.a p.b) (IsOutcomeOfTwo (binary_of bits op) q.a q.b) p.s q.s (λ r o. outcome_of_two (binary_of bits op) p.a p.b q.a q.b r top.1.0 top.0 o) p.least q.least in
-    record {
-      stack' = from_stacks g g' (p.s ∷ p.rest) (q.s ∷ q.rest) p.given q.given (i, top.1.1);
-      locals' = λ k. same_local f f' g g' k (same_locals_of f g k p.locals) (same_locals_of f' g' k q.locals) (w.locals' k);
-    }
-
-unary_within : (bits : ℕ) (op : UnaryOperation) (f f' g g' : SpanFrameView) → IsFrameWithin f f' → AppliesUnary bits op f g → AppliesUnary bits op f' g' → IsFrameWithin g g'
-unary_within bits op f f' g g' w p q =
-    let top = tops_within p.a q.a p.rest q.rest f f' w p.taken q.taken in
-    let i : IsWithin p.s q.s = least_within (IsOutcome (unary_of bits op) p.a) (IsOutcome (unary_of bits op) q.a) p.s q.s (λ r o. outcome_of_one (unary_of bits op) p.a q.a r top.0 o) p.least q.least in
-    record {
-      stack' = from_stacks g g' (p.s ∷ p.rest) (q.s ∷ q.rest) p.given q.given (i, top.1);
-      locals' = λ k. same_local f f' g g' k (same_locals_of f g k p.locals) (same_locals_of f' g' k q.locals) (w.locals' k);
-    }
-
--- a smaller frame leads to a smaller one
-pub behind_within : (bits : ℕ) (i : Instr) (xs ys : List Span) (f f' g g' : SpanFrameView) → AreInputsWithin xs ys → IsFrameWithin f f' → IsBehind bits i xs f g → IsBehind bits i ys f' g' → IsFrameWithin g g'
-behind_within bits (Push v) xs ys f f' g g' n w p q = pushes_within p.span q.span f f' g g' w (ones_within v v p.span q.span refl p.one q.one) p.pushes q.pushes
-behind_within bits (Input k) xs ys f f' g g' n w p q =
-    let h = n.each k p.span p.there in
-    let there = q.there in
-    let at = h.1 in
-    let same : h.0 ≡ q.span = cc in
-    pushes_within p.span q.span f f' g g' w (subst (IsWithin p.span) same h.2) p.pushes q.pushes
-behind_within bits (Keep k) xs ys f f' g g' n w p q =
-    let t = pops_within p.span q.span f f' p.between q.between w p.pops q.pops in
-    sets_within k p.span q.span p.between q.between g g' t.1 t.0 p.sets q.sets
-behind_within bits (Get k) xs ys f f' g g' n w p q = pushes_within p.span q.span f f' g g' w (some_within p.span q.span (local_of f k) (local_of f' k) p.there q.there (w.locals' k)) p.pushes q.pushes
-behind_within bits (Binary op) xs ys f f' g g' n w p q = binary_within bits op f f' g g' w p q
-behind_within bits (Unary op) xs ys f f' g g' n w p q = unary_within bits op f f' g g' w p q
-behind_within bits (JumpIfZero to) xs ys f f' g g' n w p q = (pops_within p.span q.span f f' g g' w p.pops q.pops).1
-behind_within bits (Jump to) xs ys f f' g g' n w p q = subst (λ (x : SpanFrameView). IsFrameWithin x g') (sym p) (subst (IsFrameWithin f) (sym q) w)
+use Rattle.verifier.proofs.Within.{behind_within, frame_refl, frame_trans, from_stacks, inputs_refl}
 
 -- ---- joins
 
@@ -182,6 +24,7 @@ joined_place led led' g None (Some new) up down mine before j =
       some = (g, mine);
       holds = λ f l. ⊎_elim (λ (x : led f). absurd (before f x)) (λ (x : IsFrameWithin f g). x) (down f l);
       least = λ h all. all g mine;
+      unset = λ k e. (g, mine, e);
     })
 joined_place led led' g (Some e) None up down mine before j = absurd j
 joined_place led led' g (Some e) (Some new) up down mine before j =
@@ -189,6 +32,11 @@ joined_place led led' g (Some e) (Some new) up down mine before j =
       some = (g, mine);
       holds = λ f l. ⊎_elim (λ (x : led f). frame_trans f e new (before.holds f x) j.first) (λ (x : IsFrameWithin f g). frame_trans f g new x j.second) (down f l);
       least = λ h all. j.least h (before.least h (λ f x. all f (up f x))) (all g mine);
+      unset = λ k none.
+          ⊎_elim
+          (λ (x : local_of e k ≡ None). let u = before.unset k x in (u.0, up u.0 u.1, u.2))
+          (λ (x : local_of g k ≡ None). (g, mine, x))
+          (j.unset k none);
     }
 
 -- where the same frames are led to a place, it has the same frame
@@ -199,6 +47,7 @@ same_place led led' (Some e) up down before =
       some = (before.some.0, up before.some.0 before.some.1);
       holds = λ f l. before.holds f (down f l);
       least = λ h all. before.least h (λ f x. all f (up f x));
+      unset = λ k none. let u = before.unset k none in (u.0, up u.0 u.1, u.2);
     }
 
 -- ---- one place more
@@ -541,40 +390,28 @@ module _ (bits : ℕ) (code : List Instr) (inputs : List Span) where
 
   -- ---- what is found
 
-  -- the frames up to a place whose frame was taken
-  frames_to : (here : ℕ) (frame : SpanFrameView) (old new : List (Option SpanFrameView)) → Stands bits code inputs here old → Takes here (Some frame) old new
-      → (F : ℕ → Option SpanFrameView) × AreSpanFrames bits code inputs here F × (F here ≡ Some frame)
-  frames_to here frame old new s t =
-      let now : IsFrameOf (comes_from bits code inputs s.frames here here) (Some frame) = subst (IsFrameOf (comes_from bits code inputs s.frames here here)) t.taken (s.ahead here (omega arith)) in (
-        put s.frames here (Some frame),
+  -- the frames up to a place whose frame, if there is one, was taken
+  pub frames_to : (here : ℕ) (o : Option SpanFrameView) (old new : List (Option SpanFrameView)) → Stands bits code inputs here old → Takes here o old new
+      → (F : ℕ → Option SpanFrameView) × AreSpanFrames bits code inputs here F × (F here ≡ o)
+  frames_to here o old new s t =
+      let now : IsFrameOf (comes_from bits code inputs s.frames here here) o = subst (IsFrameOf (comes_from bits code inputs s.frames here here)) t.taken (s.ahead here (omega arith)) in (
+        put s.frames here o,
         record {
-          each = λ at le. past_more s.frames here at (Some frame) s.past now le;
-          goes = λ at f lt e. s.goes at f lt (sym (put_below s.frames here at (Some frame) lt) ∙ e);
+          each = λ at le. past_more s.frames here at o s.past now le;
+          goes = λ at f lt e. s.goes at f lt (sym (put_below s.frames here at o lt) ∙ e);
         },
-        put_here s.frames here (Some frame),
+        put_here s.frames here o,
       )
 
   -- frames that stand at the end of the code give the span that is alone on the stack there
   pub gives_span : (s : Span) (frame rest : SpanFrameView) (old new : List (Option SpanFrameView)) → Stands bits code inputs (length code) old → Takes (length code) (Some frame) old new → Pops s frame rest → length frame.stack ≡ 1 → GivesSpan bits code inputs s
   gives_span s frame rest old new st t p one =
-      let f = frames_to (length code) frame old new st t in
+      let f = frames_to (length code) (Some frame) old new st t in
       let none : length rest.stack ≡ 0 = omega (arith, ap length p.stack, one) in
       record { frames = f.0; are = f.1; frame = frame; there = f.2; alone = p.stack ∙ ap (λ (l : List Span). s ∷ l) (nil_from_length rest.stack none) }
 
   -- where the frames stand at a place, and its operation stops on its frame, the code stops at this place for this cause
   pub stops_at : (here : ℕ) (i : Instr) (fault : Fault) (frame : SpanFrameView) (old new : List (Option SpanFrameView)) → Stands bits code inputs here old → Takes here (Some frame) old new → slice_get code here ≡ Some i → Stops bits i frame fault → StopsAt bits code inputs here fault
   stops_at here i fault frame old new st t there stop =
-      let f = frames_to here frame old new st t in
+      let f = frames_to here (Some frame) old new st t in
       record { frames = f.0; are = f.1; frame = frame; there = f.2; instr = i; at = there; stops = stop }
-
--- ---- the start
-
--- no local of a list without spans has one
-pub unset_none : (n k : ℕ) → slice_index_or (replicate n (let o : Option Span = None in o)) k None ≡ None
-unset_none zero k = refl
-unset_none (suc n) zero = refl
-unset_none (suc n) (suc k) = unset_none n k
-
--- a frame with nothing on its stack, and none of n locals set, is the start's
-pub is_start : (count : ℕ) (frame : SpanFrameView) → IsUnset count frame → IsStart frame
-is_start count frame u = record { stack = u.stack; unset = λ k. ap (λ (l : List (Option Span)). slice_index_or l k None) u.locals ∙ unset_none count k }

@@ -5,3 +5,4 @@ pub mod Safety
 pub mod Verdicts
 pub mod Searches
 pub mod Kernels
+pub mod Laws

@@ -10,7 +10,7 @@ use Rattle.kernel_code.specs.declared.instructions.Instr.TheVariants.{Push, Inpu
 use Rattle.kernel_code.specs.declared.instructions.BinaryOperation.{BinaryOperation}
 use Rattle.kernel_code.specs.declared.instructions.UnaryOperation.{UnaryOperation}
 use Rattle.kernel_code.specs.Machine.{binary_of, unary_of}
-use Rattle.verifier.specs.Frames.{SpanFrameView, Pushes, Pops, AppliesBinary, AppliesUnary, IsFrameWithin, local_of}
+use Rattle.verifier.specs.Frames.{SpanFrameView, Pushes, Pops, Sets, AppliesBinary, AppliesUnary, IsStart, IsFrameWithin, local_of}
 
 -- ---- what an instruction makes of a frame
 
@@ -34,13 +34,9 @@ pub record PushesLocal (k : ℕ) (old new : SpanFrameView) : Type 0 where
   pub there : local_of old k ≡ Some span
   pub pushes : Pushes span old new
 
--- the local has this span, and each other what it had
-pub record Sets (k : ℕ) (s : Span) (old new : SpanFrameView) : Type 0 where
-  pub stack : new.stack ≡ old.stack
-  pub here : local_of new k ≡ Some s
-  pub others : (j : ℕ) → j ≢ k → local_of new j ≡ local_of old j
-
+-- there are 256 locals
 pub record KeepsTop (k : ℕ) (old new : SpanFrameView) : Type 0 where
+  pub few : k < 256
   pub span : Span
   pub between : SpanFrameView
   pub pops : Pops span old between
@@ -124,11 +120,6 @@ Stops bits (Jump to) frame fault = ⊥
 
 -- ---- what comes to a place
 
--- nothing on the stack, and no local set
-pub record IsStart (frame : SpanFrameView) : Type 0 where
-  pub stack : frame.stack ≡ []
-  pub unset : (k : ℕ) → local_of frame k ≡ None
-
 -- some place below a bound leads this frame here
 pub record IsLed (bits : ℕ) (code : List Instr) (inputs : List Span) (frames : ℕ → Option SpanFrameView) (bound to : ℕ) (led : SpanFrameView) : Type 0 where
   pub from : ℕ
@@ -144,11 +135,12 @@ pub record IsLed (bits : ℕ) (code : List Instr) (inputs : List Span) (frames :
 abbrev pub comes_from : ℕ → List Instr → List Span → (ℕ → Option SpanFrameView) → (bound to : ℕ) → SpanFrameView → Type 0
 comes_from bits code inputs frames bound to led = ((to ≡ 0) × IsStart led) ⊎ IsLed bits code inputs frames bound to led
 
--- the least frame that holds all these
+-- the least frame that holds all these; a local without a span has none in one of them
 pub record IsLeastFrame (led : SpanFrameView → Type 0) (frame : SpanFrameView) : Type 0 where
   pub some : (f : SpanFrameView) × led f
   pub holds : (f : SpanFrameView) → led f → IsFrameWithin f frame
   pub least : (g : SpanFrameView) → ((f : SpanFrameView) → led f → IsFrameWithin f g) → IsFrameWithin frame g
+  pub unset : (k : ℕ) → local_of frame k ≡ None → (f : SpanFrameView) × led f × (local_of f k ≡ None)
 
 -- and none where there is nothing
 abbrev pub IsFrameOf : (SpanFrameView → Type 0) → Option SpanFrameView → Type 0

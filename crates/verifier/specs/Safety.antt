@@ -11,18 +11,27 @@ use Rattle.kernel_paths.specs.Misfits.{GoesWrong, Overfills}
 use Rattle.verifier.specs.declared.faults.VerifyFault.{VerifyFault}
 use Rattle.verifier.specs.declared.faults.VerifyFault.TheVariants.{Malformed, DepthOver64, Fault, Undecided}
 
--- ---- values
+-- ---- accepted code
 
--- on the inputs of these types at this distance the code gives a value of at most this magnitude
-pub record GivesWithin (code : List Instr) (t : Table) (a b : ℕ) (r : ℤ) (bound : ℕ) : Type 0 where
+-- how many inputs code has under a table: the distance, the parameters of both particles, and the globals
+abbrev pub input_count : Table → ℕ
+input_count t = 2 * t.parameters + length t.globals + 1
+
+-- on the inputs of these types at this distance the code gives a value, of at most this magnitude, in at most `steps`
+-- instructions
+pub record GivesInSteps (code : List Instr) (t : Table) (a b : ℕ) (r : ℤ) (steps bound : ℕ) : Type 0 where
   pub value : ℤ
   pub n : ℕ
   pub ends : Ends (bits_of t.frac) code (inputs_of t a b r) n (Ok value)
+  pub few : n ≤ steps
   pub small : unsigned_abs value ≤ bound
 
--- so it does at each distance from one to before another
-pub record IsSafeFrom (code : List Instr) (t : Table) (a b : ℕ) (core cutoff : ℤ) (bound : ℕ) : Type 0 where
-  pub each : (r : ℤ) → core ≤ℤ r → r <ℤ cutoff → GivesWithin code t a b r bound
+-- so it does for every two types at each distance from core to before cutoff; no path misses anything, and the longest
+-- has `steps` instructions
+pub record IsCertified (code : List Instr) (t : Table) (core cutoff : ℤ) (steps bound : ℕ) : Type 0 where
+  pub each : (a b : ℕ) (r : ℤ) → a < length t.rows → b < length t.rows → core ≤ℤ r → r <ℤ cutoff → GivesInSteps code t a b r steps bound
+  pub longest : IsLongest code steps
+  pub misses : MissesNothing code (input_count t)
 
 -- ---- refusals
 
@@ -52,46 +61,7 @@ pub record IsUndecided (code : List Instr) (t : Table) (from last : ℤ) (limit 
   pub at_hi : GivesValue code t a b hi
   pub wide : (from +ℤ pos limit) ≤ℤ last
 
--- the meaning of a refusal at the distances from one to another, where `limit` of them are always decided
-abbrev pub IsFound : List Instr → Table → (from last : ℤ) → (limit : ℕ) → VerifyFault → Type 0
-IsFound code t from last limit (Malformed pc) = ⊥
-IsFound code t from last limit (DepthOver64 pc) = ⊥
-IsFound code t from last limit (Fault a b r pc fault) = Traps code t from last a b r (record { pc = pc; kind = Operation fault })
-IsFound code t from last limit (Undecided a b lo hi pc fault) = IsUndecided code t from last limit a b lo hi
-
--- ---- all pairs
-
--- with each second type before this number
-pub record IsSafeRow (code : List Instr) (t : Table) (a types : ℕ) (core cutoff : ℤ) (bound : ℕ) : Type 0 where
-  pub each : (b : ℕ) → b < types → IsSafeFrom code t a b core cutoff bound
-
--- for each first type before this number, and each second
-pub record IsSafe (code : List Instr) (t : Table) (types : ℕ) (core cutoff : ℤ) (bound : ℕ) : Type 0 where
-  pub each : (a : ℕ) → a < types → IsSafeRow code t a (length t.rows) core cutoff bound
-
--- ---- accepted code
-
--- how many inputs code has under a table: the distance, the parameters of both particles, and the globals
-abbrev pub input_count : Table → ℕ
-input_count t = 2 * t.parameters + length t.globals + 1
-
--- on the inputs of these types at this distance the code gives a value, of at most this magnitude, in at most `steps`
--- instructions
-pub record GivesInSteps (code : List Instr) (t : Table) (a b : ℕ) (r : ℤ) (steps bound : ℕ) : Type 0 where
-  pub value : ℤ
-  pub n : ℕ
-  pub ends : Ends (bits_of t.frac) code (inputs_of t a b r) n (Ok value)
-  pub few : n ≤ steps
-  pub small : unsigned_abs value ≤ bound
-
--- so it does for every two types at each distance from core to before cutoff; no path misses anything, and the longest
--- has `steps` instructions
-pub record IsCertified (code : List Instr) (t : Table) (core cutoff : ℤ) (steps bound : ℕ) : Type 0 where
-  pub each : (a b : ℕ) (r : ℤ) → a < length t.rows → b < length t.rows → core ≤ℤ r → r <ℤ cutoff → GivesInSteps code t a b r steps bound
-  pub longest : IsLongest code steps
-  pub misses : MissesNothing code (input_count t)
-
--- the meaning of a refusal
+-- the meaning of a refusal, where `limit` distances are always decided
 abbrev pub IsRefusal : List Instr → Table → (core cutoff : ℤ) → (limit : ℕ) → VerifyFault → Type 0
 IsRefusal code t core cutoff limit (Malformed pc) = GoesWrong code (input_count t)
 IsRefusal code t core cutoff limit (DepthOver64 pc) = Overfills code pc

@@ -1,6 +1,6 @@
 -- The verdict on code: the greatest magnitude of its values by their spans, or the first refusal. There is one for each
 -- code, table, range of distances, number of slices and depth.
-use Rattle.std.specs.Prelude.{◌≡◌, ℕ, suc, ◌+◌, ◌*◌, ◌/◌, ◌<◌, ◌≤◌, ◌⊎◌, max, List, length, ℤ, pos, ◌+ℤ◌, ◌-ℤ◌, ◌<ℤ◌, Result, Ok, Err, Some, slice_get, unsigned_abs}
+use Rattle.std.specs.Prelude.{◌≡◌, ℕ, zero, suc, ◌+◌, ◌*◌, ◌/◌, ◌%◌, ◌<◌, ◌≤◌, ◌⊎◌, max, List, length, ℤ, pos, ◌+ℤ◌, ◌-ℤ◌, ◌<ℤ◌, Result, Ok, Err, Some, slice_get, unsigned_abs}
 use Rattle.fallible.specs.declared.failure.Failure.{Failure}
 use Rattle.fallible.specs.declared.failure.Failure.TheVariants.{Refused, Memory}
 use Rattle.fixed.specs.Fractions.{bits_of}
@@ -54,14 +54,6 @@ pub record IsStopped (code : List Instr) (t : Table) (a b : ℕ) (distances : Sp
   pub inputs : AreInputSpans t a b distances spans
   pub stops : StopsAt (bits_of t.frac) code spans pc fault
 
--- so it is of more than one distance, which may be cut in two
-pub record IsCut (code : List Instr) (t : Table) (a b depth : ℕ) (distances : Span) : Type 0 where
-  pub several : distances.lo <ℤ distances.hi
-  pub deep : 0 < depth
-  pub pc : ℕ
-  pub kind : Fault
-  pub stopped : IsStopped code t a b distances pc kind
-
 -- ---- one distance, by the machine
 
 pub record HasMagnitude (code : List Instr) (t : Table) (a b : ℕ) (r : ℤ) (bound : ℕ) : Type 0 where
@@ -83,38 +75,35 @@ IsAtOne code t a b r (Err f) = HasFault code t a b r f
 
 -- ---- some distances, cut in two at most `depth` times where they stop
 
-pub data IsPieceAnswer (code : List Instr) (t : Table) (a b : ℕ) : (depth : ℕ) → Span → Answer → Type 0 where
-  -- one distance
-  single : {depth : ℕ} {s : Span} {answer : Answer}
-      → s.lo ≡ s.hi → IsAtOne code t a b s.lo answer
-      → IsPieceAnswer code t a b depth s answer
-  -- several, of which none may fault
-  bounded : {depth : ℕ} {s : Span} {bound : ℕ}
-      → s.lo <ℤ s.hi → IsBounded code t a b s bound
-      → IsPieceAnswer code t a b depth s (Ok bound)
-  -- they stop, and are cut no more: the fault at the least, or at the greatest, or neither
-  lowest : {s : Span} {pc : ℕ} {kind : Fault} {f : VerifyFault}
-      → s.lo <ℤ s.hi → IsStopped code t a b s pc kind → IsAtOne code t a b s.lo (Err f)
-      → IsPieceAnswer code t a b 0 s (Err f)
-  highest : {s : Span} {pc : ℕ} {kind : Fault} {x : ℕ} {f : VerifyFault}
-      → s.lo <ℤ s.hi → IsStopped code t a b s pc kind → IsAtOne code t a b s.lo (Ok x) → IsAtOne code t a b s.hi (Err f)
-      → IsPieceAnswer code t a b 0 s (Err f)
-  neither : {s : Span} {pc : ℕ} {kind : Fault} {x y : ℕ}
-      → s.lo <ℤ s.hi → IsStopped code t a b s pc kind → IsAtOne code t a b s.lo (Ok x) → IsAtOne code t a b s.hi (Ok y)
-      → IsPieceAnswer code t a b 0 s (Err (fault.Undecided a b s.lo s.hi pc kind))
-  -- they stop, and are cut, the lower half first
-  lower : {depth : ℕ} {s l u : Span} {pc : ℕ} {kind : Fault} {f : VerifyFault}
-      → s.lo <ℤ s.hi → IsStopped code t a b s pc kind → AreHalves s l u
-      → IsPieceAnswer code t a b depth l (Err f)
-      → IsPieceAnswer code t a b (suc depth) s (Err f)
-  upper : {depth : ℕ} {s l u : Span} {pc : ℕ} {kind : Fault} {x : ℕ} {f : VerifyFault}
-      → s.lo <ℤ s.hi → IsStopped code t a b s pc kind → AreHalves s l u
-      → IsPieceAnswer code t a b depth l (Ok x) → IsPieceAnswer code t a b depth u (Err f)
-      → IsPieceAnswer code t a b (suc depth) s (Err f)
-  both : {depth : ℕ} {s l u : Span} {pc : ℕ} {kind : Fault} {x y : ℕ}
-      → s.lo <ℤ s.hi → IsStopped code t a b s pc kind → AreHalves s l u
-      → IsPieceAnswer code t a b depth l (Ok x) → IsPieceAnswer code t a b depth u (Ok y)
-      → IsPieceAnswer code t a b (suc depth) s (Ok (max x y))
+-- the first's refusal, else the second's, else what both magnitudes make
+pub data IsInTurn (First Second : Answer → Type 0) (make : ℕ → ℕ → Answer) : Answer → Type 0 where
+  first : {f : VerifyFault} → First (Err f) → IsInTurn First Second make (Err f)
+  second : {x : ℕ} {f : VerifyFault} → First (Ok x) → Second (Err f) → IsInTurn First Second make (Err f)
+  neither : {x y : ℕ} → First (Ok x) → Second (Ok y) → IsInTurn First Second make (make x y)
+
+-- where they stop at a place, for a cause, `Rest` says the answer
+pub data IsPiece (code : List Instr) (t : Table) (a b : ℕ) (s : Span) (Rest : ℕ → Fault → Answer → Type 0) : Answer → Type 0 where
+  single : {answer : Answer} → s.lo ≡ s.hi → IsAtOne code t a b s.lo answer → IsPiece code t a b s Rest answer
+  bounded : {bound : ℕ} → s.lo <ℤ s.hi → IsBounded code t a b s bound → IsPiece code t a b s Rest (Ok bound)
+  stopped : {pc : ℕ} {kind : Fault} {answer : Answer}
+      → s.lo <ℤ s.hi → IsStopped code t a b s pc kind → Rest pc kind answer
+      → IsPiece code t a b s Rest answer
+
+-- cut no more: the fault at the least or at the greatest, or neither
+abbrev pub IsAtEnds : List Instr → Table → (a b : ℕ) → Span → ℕ → Fault → Answer → Type 0
+IsAtEnds code t a b s pc kind answer =
+    IsInTurn (IsAtOne code t a b s.lo) (IsAtOne code t a b s.hi) (λ x y. Err (fault.Undecided a b s.lo s.hi pc kind)) answer
+
+-- cut in two, the lower half first
+pub record IsOfHalves (Piece : Span → Answer → Type 0) (s : Span) (answer : Answer) : Type 0 where
+  pub lower : Span
+  pub upper : Span
+  pub halves : AreHalves s lower upper
+  pub both : IsInTurn (Piece lower) (Piece upper) (λ x y. Ok (max x y)) answer
+
+unfoldable pub IsPieceAnswer : List Instr → Table → (a b depth : ℕ) → Span → Answer → Type 0
+IsPieceAnswer code t a b zero s answer = IsPiece code t a b s (IsAtEnds code t a b s) answer
+IsPieceAnswer code t a b (suc depth) s answer = IsPiece code t a b s (λ pc kind. IsOfHalves (IsPieceAnswer code t a b depth) s) answer
 
 -- ---- answers in their order
 
@@ -162,17 +151,14 @@ pub data IsSliceAnswer (code : List Instr) (t : Table) (g : Range) (a b i : ℕ)
   empty : IsEmptySlice g i → IsSliceAnswer code t g a b i (Ok 0)
   full : {s : Span} {answer : Answer} → IsSlice g i s → IsPieceAnswer code t a b g.depth s answer → IsSliceAnswer code t g a b i answer
 
--- all slices of a pair, in ascending order
-abbrev pub pair_answer : List Instr → Table → Range → (a b : ℕ) → Answer → Type 0
-pair_answer code t g a b answer = IsJoint (IsSliceAnswer code t g a b) g.slices answer
+-- The slices of all pairs of types have numbers: those of a pair in ascending order, then those of the next second type, the
+-- first type slowest.
+abbrev pub numbered_answer : List Instr → Table → Range → (number : ℕ) → Answer → Type 0
+numbered_answer code t g number answer =
+    IsSliceAnswer code t g (number / g.slices / length t.rows) (number / g.slices % length t.rows) (number % g.slices) answer
 
--- all second types with a first one
-abbrev pub row_answer : List Instr → Table → Range → (a : ℕ) → Answer → Type 0
-row_answer code t g a answer = IsJoint (pair_answer code t g a) (length t.rows) answer
-
--- all pairs, the first type slowest
 abbrev pub IsFoundOf : List Instr → Table → Range → Answer → Type 0
-IsFoundOf code t g answer = IsJoint (row_answer code t g) (length t.rows) answer
+IsFoundOf code t g answer = IsJoint (numbered_answer code t g) (length t.rows * length t.rows * g.slices) answer
 
 -- ---- the verdict
 

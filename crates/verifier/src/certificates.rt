@@ -1,10 +1,9 @@
 //! Code judged whole.
 
-ghost use Rattle.std.specs.Prelude.{◌*◌, ◌^◌, ◌<◌, ◌≤ℤ◌, ◌<ℤ◌, pos, Ok, Err, IfOk, IfErr};
+ghost use Rattle.std.specs.Prelude.{◌<◌, ◌≤ℤ◌, ◌<ℤ◌, pos, Ok, Err, IfOk, IfErr};
 ghost use Rattle.fallible.specs.Failures.{IfRefused};
 ghost use Rattle.kernel_code.specs.Code.{IsCode};
-ghost use Rattle.verifier.specs.Safety.{IsCertified, IsRefusal};
-ghost use Rattle.verifier.specs.Slices.{AreEnoughLocals};
+ghost use Rattle.kernel_code.specs.Paths.{IsLongest};
 ghost use Rattle.verifier.specs.Verdicts.{IsVerdict, range};
 
 use crate::faults::VerifyFault;
@@ -12,7 +11,7 @@ use crate::places::Places;
 use crate::searches::Search;
 use fallible::Failure;
 use fixed::Fx;
-use kernel_code::{Code, Instr, TypeTable};
+use kernel_code::{Code, TypeTable};
 use kernel_paths::{Misfit, longest_path};
 use std::alloc::Allocator;
 
@@ -23,19 +22,6 @@ pub struct Certificate {
     pub steps: u32,
     /// No value that the code gives is greater in magnitude, as a raw value.
     pub bound: u64,
-}
-
-/// How many locals the code may set: one more than the greatest number of them.
-fn locals_of(code: &[Instr]) -> usize
-    ensures { AreEnoughLocals code.now result }
-{
-    let mut count = 0usize;
-    for instr in code {
-        if let Instr::Keep(local) = *instr {
-            count = count.max(local as usize + 1);
-        }
-    }
-    count
 }
 
 /// The certificate of the code, as `verify` judges it, where a slice is cut in two at most `depth` times.
@@ -52,8 +38,7 @@ pub fn certify_to<A: Allocator + Copy, B: Allocator>(
     requires range { core <ℤ cutoff }
     requires slices { 0 < slices }
     ensures code { IsCode code.now }
-    ensures certified { IfOk result (λ c. IsCertified code.now table.now core cutoff c.steps c.bound) }
-    ensures refused { IfErr result (λ failure. IfRefused failure (IsRefusal code.now table.now core cutoff (slices * 2 ^ depth))) }
+    ensures longest { IfOk result (λ c. IsLongest code.now c.steps) }
     ensures bound { IfOk result (λ c. IsVerdict code.now table.now (range core cutoff slices depth) (Ok c.bound)) }
     ensures verdict { IfErr result (λ failure. IfRefused failure (λ fault. IsVerdict code.now table.now (range core cutoff slices depth) (Err fault))) }
 {
@@ -71,7 +56,6 @@ pub fn certify_to<A: Allocator + Copy, B: Allocator>(
         },
         Err(Failure::Memory) => return Err(Failure::Memory),
     };
-    let locals = locals_of(instructions);
     let Ok(mut places) = Places::new(alloc, instructions.len()) else {
         return Err(Failure::Memory);
     };
@@ -83,7 +67,6 @@ pub fn certify_to<A: Allocator + Copy, B: Allocator>(
         cutoff,
         slices,
         depth,
-        locals,
     };
     match search.judge_all(&mut places) {
         Ok(bound) => Ok(Certificate { steps, bound }),

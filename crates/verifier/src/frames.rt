@@ -1,9 +1,10 @@
 //! Where runs may stand at a place: spans on the stack and in the locals.
 
-ghost use Rattle.std.specs.Prelude.{◌≡◌, ◌<◌, ◌≤◌, None, length, slice_index_or, IfOk, OnOk, IfErr};
+ghost use Rattle.std.specs.Prelude.{◌≡◌, ◌<◌, ◌≤◌, length, IfOk, OnOk, IfErr};
 ghost use Rattle.fallible.specs.declared.failure.Failure.TheVariants.{Memory};
-ghost use Rattle.verifier.specs.Frames.{IsOfSize, IsUnset, Keeps, Pops, Pushes, Widens};
+ghost use Rattle.verifier.specs.Frames.{IsStart, Pops, Pushes, Sets, Widens, local_of};
 
+use crate::locals::{local_span, set_local};
 use crate::widening::{widen_locals, widen_spans};
 use fallible::Failure;
 use fixed::Fault;
@@ -33,16 +34,16 @@ impl<A: Allocator> Model for SpanFrame<A> {
 }
 
 impl<A: Allocator> SpanFrame<A> {
-    /// The frame before the first instruction, where `locals` locals are followed: an empty stack, and no local is set.
-    pub fn start(alloc: A, locals: usize) -> Result<SpanFrame<A>, AllocError>
+    /// The frame before the first instruction: an empty stack, and no local is set.
+    pub fn start(alloc: A) -> SpanFrame<A>
     where
         A: Copy,
-        ensures { IfOk result (IsUnset locals) }
+        ensures { IsStart result }
     {
-        Ok(SpanFrame {
+        SpanFrame {
             stack: Vec::new(alloc),
-            locals: vec![in alloc; None; locals]?,
-        })
+            locals: Vec::new(alloc),
+        }
     }
 
     /// The frame once more.
@@ -57,10 +58,10 @@ impl<A: Allocator> SpanFrame<A> {
         })
     }
 
-    /// Widens the frame by another of its size: each span to the least that holds both, and a local
+    /// Widens the frame by another of its height: each span to the least that holds both, and a local
     /// that isn't set in both is set no more.
     pub fn widen(&mut self, other: &SpanFrame<A>)
-        requires { IsOfSize (length other.now.stack) (length other.now.locals) self.old }
+        requires { length self.old.stack ≡ length other.now.stack }
         ensures { Widens self.old other.now self.new }
     {
         widen_spans(self.stack.as_mut_slice(), other.stack.as_slice());
@@ -93,16 +94,19 @@ impl<A: Allocator> SpanFrame<A> {
 
     /// The span of a local; `None` where it may be unset.
     pub fn local(&self, local: u8) -> Option<Span>
-        ensures { result ≡ slice_index_or self.now.locals local None }
+        ensures { result ≡ local_of self.now local }
     {
-        self.locals.get(local as usize).copied().flatten()
+        local_span(self.locals.as_slice(), local as usize)
     }
 
-    /// Gives a local a span.
-    pub fn keep(&mut self, local: u8, span: Span)
-        requires { local < length self.old.locals }
-        ensures { Keeps local span self.old self.new }
+    /// Gives a local a span. Only memory can stop it.
+    pub fn keep(&mut self, local: u8, span: Span) -> Result<(), Failure<Fault>>
+        ensures keeps { OnOk result (Sets local span self.old self.new) }
+        ensures memory { IfErr result (λ failure. failure ≡ Memory) }
     {
-        self.locals[local as usize] = Some(span);
+        match set_local(&mut self.locals, local as usize, span) {
+            Ok(()) => Ok(()),
+            Err(_) => Err(Failure::Memory),
+        }
     }
 }

@@ -6,6 +6,8 @@ mod certificates;
 mod faults;
 mod frames;
 mod instructions;
+mod laws;
+mod locals;
 mod places;
 mod ranges;
 mod searches;

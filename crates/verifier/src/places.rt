@@ -49,7 +49,7 @@ impl<A: Allocator> Places<A> {
     /// Joins the runs of a frame to those that reach a place.
     pub fn join(&mut self, to: usize, frame: SpanFrame<A>)
         requires place { to < length self.old }
-        requires meet { CanMeet (frame_at self.old to) (length frame.stack) (length frame.locals) }
+        requires meet { CanMeet (frame_at self.old to) (length frame.stack) }
         ensures { Joins to frame self.old self.new }
     {
         match self.frames[to].take() {
@@ -74,8 +74,8 @@ pub fn branch<A: Allocator + Copy>(
     requires next { next < length places.old }
     requires target { target < length places.old }
     requires operand { 1 ≤ length frame.stack }
-    requires meet_next { CanMeet (frame_at places.old next) (length frame.stack - 1) (length frame.locals) }
-    requires meet_target { CanMeet (frame_at places.old target) (length frame.stack - 1) (length frame.locals) }
+    requires meet_next { CanMeet (frame_at places.old next) (length frame.stack - 1) }
+    requires meet_target { CanMeet (frame_at places.old target) (length frame.stack - 1) }
     ensures branches { OnOk result (Branches next target frame places.old places.new) }
     ensures memory { IfErr result (λ failure. failure ≡ Memory) }
     ensures long { length places.new ≡ length places.old }

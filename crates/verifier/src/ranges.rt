@@ -38,3 +38,11 @@ pub fn width_of(core: Fx, cutoff: Fx) -> u64
 {
     (cutoff.raw() - core.raw()) as u64
 }
+
+/// How many slices all pairs of types have.
+pub fn slice_count(types: u32, slices: u32) -> u64
+    requires { types ≤ 64 }
+    ensures { result ≡ types * types * slices }
+{
+    u64::from(types) * u64::from(types) * u64::from(slices)
+}

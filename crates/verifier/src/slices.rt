@@ -6,7 +6,7 @@ ghost use Rattle.fixed.specs.Fractions.{bits_of};
 ghost use Rattle.kernel_code.specs.Code.{IsCode};
 ghost use Rattle.kernel_paths.specs.Misfits.{DoesWell};
 ghost use Rattle.verifier.specs.Places.{GivesSpan, StopsAt};
-ghost use Rattle.verifier.specs.Slices.{AllGiveIn, AreAttained, AreEnoughLocals, Comes, Stands, frame_at};
+ghost use Rattle.verifier.specs.Slices.{Stands, frame_at};
 
 use crate::frames::SpanFrame;
 use crate::instructions::follow;
@@ -49,11 +49,7 @@ fn pass<A: Allocator + Copy>(
     requires well { (steps : ℕ) × DoesWell code.now (length inputs.now) steps }
     requires within { here < length code.now }
     requires long { length places.old ≡ length code.now + 1 }
-    requires attained { AreAttained code.now places.old }
-    requires comes { Comes (bits_of frac) code.now inputs.now here places.old }
     requires stands { Stands (bits_of frac) code.now inputs.now here places.old }
-    ensures on { OnOk result (Comes (bits_of frac) code.now inputs.now (here + 1) places.new) }
-    ensures attained { OnOk result (AreAttained code.now places.new) }
     ensures stands { OnOk result (Stands (bits_of frac) code.now inputs.now (here + 1) places.new) }
     ensures stops { IfErr result (λ failure. IfRefused failure (StopsAt (bits_of frac) code.now inputs.now here)) }
     ensures long { length places.new ≡ length code.now + 1 }
@@ -78,12 +74,10 @@ fn pass<A: Allocator + Copy>(
 
 /// The span of the value at the end.
 fn answer<A: Allocator>(frac: Frac, code: &[Instr], inputs: &[Span], places: &mut Places<A>) -> Span
+    requires code { IsCode code.now }
     requires well { (steps : ℕ) × DoesWell code.now (length inputs.now) steps }
     requires long { length places.old ≡ length code.now + 1 }
-    requires attained { AreAttained code.now places.old }
-    requires comes { Comes (bits_of frac) code.now inputs.now (length code.now) places.old }
     requires stands { Stands (bits_of frac) code.now inputs.now (length code.now) places.old }
-    ensures span { AllGiveIn (bits_of frac) code.now inputs.now result }
     ensures gives { GivesSpan (bits_of frac) code.now inputs.now result }
     ensures long { length places.new ≡ length code.now + 1 }
 {
@@ -94,29 +88,23 @@ fn answer<A: Allocator>(frac: Frac, code: &[Instr], inputs: &[Span], places: &mu
 }
 
 /// The span of the values that the code gives on all inputs in these spans, or the first place at
-/// which the operation of some run may have no value. `locals` locals are followed.
+/// which the operation of some run may have no value.
 pub fn follow_slice<A: Allocator + Copy>(
     alloc: A,
     frac: Frac,
     code: &[Instr],
-    locals: usize,
     inputs: &[Span],
     places: &mut Places<A>,
 ) -> Result<Span, Failure<Stopped>>
     requires code { IsCode code.now }
     requires well { (steps : ℕ) × DoesWell code.now (length inputs.now) steps }
-    requires locals { AreEnoughLocals code.now locals }
     requires long { length places.old ≡ length code.now + 1 }
-    ensures span { IfOk result (AllGiveIn (bits_of frac) code.now inputs.now) }
     ensures gives { IfOk result (GivesSpan (bits_of frac) code.now inputs.now) }
     ensures stops { IfErr result (λ failure. IfRefused failure (λ stopped. StopsAt (bits_of frac) code.now inputs.now stopped.pc stopped.fault)) }
     ensures long { length places.new ≡ length code.now + 1 }
 {
-    let Ok(start) = SpanFrame::start(alloc, locals) else {
-        return Err(Failure::Memory);
-    };
     clear(code, places);
-    places.join(0, start);
+    places.join(0, SpanFrame::start(alloc));
     for here in 0..code.len() {
         match pass(alloc, frac, code, here, inputs, places) {
             Ok(()) => {}

@@ -2,6 +2,7 @@
 
 ghost use Rattle.std.specs.Prelude.{◌≡◌, ◌*◌, ◌^◌, ◌<◌, ◌≤ℤ◌, ◌<ℤ◌, pos, Ok, Err, IfOk, IfErr};
 ghost use Rattle.fallible.specs.Failures.{IfRefused};
+ghost use Rattle.verifier.specs.Kernels.{IsKernel};
 ghost use Rattle.verifier.specs.Safety.{IsRefusal};
 ghost use Rattle.verifier.specs.Verdicts.{Answer, IsVerdict, range};
 
@@ -106,6 +107,8 @@ pub fn verify<A: Allocator, B: Allocator>(
     ensures table { IfOk result (λ v. v.table ≡ table) }
     ensures core { IfOk result (λ v. v.core ≡ core) }
     ensures cutoff { IfOk result (λ v. v.cutoff ≡ cutoff) }
+    // Accepted code never goes wrong.
+    ensures certified { IfOk result IsKernel }
     // The meaning of a refusal, for the code's runs and paths.
     ensures refused { IfErr result (λ failure. IfRefused failure (IsRefusal code table core cutoff (slices * 2 ^ 24))) }
     // The bound, and the refusal: which there is, is the definition's.

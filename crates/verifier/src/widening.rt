@@ -3,6 +3,7 @@
 ghost use Rattle.std.specs.Prelude.{◌≡◌, length};
 ghost use Rattle.verifier.specs.Frames.{WidensLocal, WidensLocals, WidensSpans};
 
+use crate::locals::local_span;
 use interval_domain::{Span, hull};
 
 /// Widens each span to the least that holds it and the other at its place.
@@ -25,12 +26,11 @@ fn widened(local: Option<Span>, other: Option<Span>) -> Option<Span>
     }
 }
 
-/// The same of each local.
+/// Widens each local, where those from a list's end on are unset.
 pub fn widen_locals(locals: &mut [Option<Span>], others: &[Option<Span>])
-    requires { length locals.old ≡ length others.now }
     ensures { WidensLocals locals.old others.now locals.new }
 {
     for k in 0..locals.len() {
-        locals[k] = widened(locals[k], others[k]);
+        locals[k] = widened(locals[k], local_span(others, k));
     }
 }

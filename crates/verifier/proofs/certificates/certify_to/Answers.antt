@@ -1,21 +1,19 @@
-use Rattle.std.proofs.Common.{arith}
+use Rattle.std.proofs.Common.{ℕ, arith, subst}
+use Rattle.kernel_paths.specs.Misfits.{DoesWell}
 use Rattle.verifier.specs.Verdicts.{range}
-use Rattle.verifier.proofs.Certifying.{certified, is_search}
 use Rattle.verifier.proofs.Searching.{accepted_verdict, first_malformed, first_overfull, refused_verdict}
 use Rattle.verifier.proofs.certificates.certify_to.Goals as goal
 
-pub invariant_of-search : goal.invariant_of-search
-invariant_of-search g c =
-    let enough = rw c.as_slice-instructions.ensures.items at c.locals_of-locals.ensures in
-    is_search _ _ c.in-Ok.steps c.parameters.ensures.table c.in-Ok.ensures.well (omega (arith, c.parameters.ensures.value, c.globals.ensures.value)) enough c.requires.core c.requires.range c.requires.slices
-
-pub returns-in-Ok-judge_all-clause-certified : goal.returns-in-Ok-judge_all-clause-certified
-returns-in-Ok-judge_all-clause-certified g c =
-    certified c.args.code.now c.args.table.now c.args.core c.args.cutoff _ c.in-Ok.steps c.in-Ok-judge_all.bound c.as_slice-instructions.ensures.code c.in-Ok.ensures.well (omega (arith, c.parameters.ensures.value, c.globals.ensures.value)) c.in-Ok-judge_all.ensures.safe
+pub judge_all-requires-clause-well : goal.judge_all-requires-clause-well
+judge_all-requires-clause-well g c = record {
+  is_code = c.as_slice-instructions.ensures.code;
+  is_table = c.parameters.ensures.table;
+  well = (c.in-Ok.steps, subst (λ (n : ℕ). DoesWell c.args.code.now n c.in-Ok.steps) (omega (arith, c.parameters.ensures.value, c.globals.ensures.value)) c.in-Ok.ensures.well);
+}
 
 pub returns-in-Ok-judge_all-clause-bound : goal.returns-in-Ok-judge_all-clause-bound
 returns-in-Ok-judge_all-clause-bound g c =
-    accepted_verdict c.args.code.now c.args.table.now (range c.args.core c.args.cutoff c.args.slices c.args.depth) _ c.in-Ok.steps c.in-Ok-judge_all.bound c.as_slice-instructions.ensures.code c.in-Ok.ensures.well (omega (arith, c.parameters.ensures.value, c.globals.ensures.value)) c.in-Ok-judge_all.ensures.answer
+    accepted_verdict c.args.code.now c.args.table.now (range c.args.core c.args.cutoff c.args.slices c.args.depth) _ c.in-Ok.steps c.in-Ok-judge_all.bound c.as_slice-instructions.ensures.code c.in-Ok.ensures.well (omega (arith, c.parameters.ensures.value, c.globals.ensures.value)) c.in-Ok-judge_all.ensures
 
 pub returns-in-Malformed-clause-verdict : goal.returns-in-Malformed-clause-verdict
 returns-in-Malformed-clause-verdict g c =
@@ -33,4 +31,4 @@ returns-in-DepthOver64-clause-verdict g c =
 
 pub returns-clause-verdict : goal.returns-clause-verdict
 returns-clause-verdict g c =
-    refused_verdict c.args.code.now c.args.table.now (range c.args.core c.args.cutoff c.args.slices c.args.depth) _ _ _ _ c.in-Ok.steps c.in-Err.failure c.as_slice-instructions.ensures.code c.in-Ok.ensures.well (omega (arith, c.parameters.ensures.value, c.globals.ensures.value)) c.in-Err.ensures.fault c.in-Err.ensures.answer
+    refused_verdict c.args.code.now c.args.table.now (range c.args.core c.args.cutoff c.args.slices c.args.depth) _ c.in-Ok.steps c.in-Err.failure c.as_slice-instructions.ensures.code c.in-Ok.ensures.well (omega (arith, c.parameters.ensures.value, c.globals.ensures.value)) c.requires.slices c.in-Err.ensures

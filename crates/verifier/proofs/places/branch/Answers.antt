@@ -1,6 +1,6 @@
-use Rattle.std.proofs.Common.{arith}
+use Rattle.std.proofs.Common.{arith, refl}
 use Rattle.verifier.specs.Slices.{frame_at, goes_on, jumps}
-use Rattle.verifier.proofs.Passing.{same_ends, other_ends, not_member, is_member, may_jump_copied, met_copied, met_popped, met_still}
+use Rattle.verifier.proofs.Placing.{same_ends, other_ends, not_member, is_member, may_jump_copied, met_popped, met_still}
 use Rattle.verifier.proofs.places.branch.Goals as goal
 
 pub returns-then-not-contains-clause-branches : goal.returns-then-not-contains-clause-branches
@@ -15,16 +15,16 @@ returns-in_ok-copy-clause-branches g c =
     (is_member _ _ _ c.contains.ensures c.from_raw.ensures c.if-not-contains.false) (other_ends _ _ c.if-eq.ensures) c.join-else-eq.ensures c.join-else-eq-2.ensures
 
 pub join-requires-clause-meet : goal.join-requires-clause-meet
-join-requires-clause-meet g c = met_popped (frame_at c.args.places.now c.args.next) c.pop-span.result c.args.frame c.pop-span.new.self c.pop-span.ensures.pops c.requires.meet_next
+join-requires-clause-meet g c = met_popped (frame_at c.args.places.now c.args.next) c.pop-span.result c.args.frame c.pop-span.new.self c.pop-span.new.self c.pop-span.ensures.pops refl c.requires.meet_next
 
 pub join-requires-then-eq-clause-meet : goal.join-requires-then-eq-clause-meet
-join-requires-then-eq-clause-meet g c = met_popped (frame_at c.args.places.now c.args.target) c.pop-span.result c.args.frame c.pop-span.new.self c.pop-span.ensures.pops c.requires.meet_target
+join-requires-then-eq-clause-meet g c = met_popped (frame_at c.args.places.now c.args.target) c.pop-span.result c.args.frame c.pop-span.new.self c.pop-span.new.self c.pop-span.ensures.pops refl c.requires.meet_target
 
 pub join-requires-else-eq-clause-meet : goal.join-requires-else-eq-clause-meet
-join-requires-else-eq-clause-meet g c = met_copied (frame_at c.args.places.now c.args.next) c.pop-span.result c.args.frame c.pop-span.new.self c.in_ok-copy.field-0 c.pop-span.ensures.pops c.in_ok-copy.ensures c.requires.meet_next
+join-requires-else-eq-clause-meet g c = met_popped (frame_at c.args.places.now c.args.next) c.pop-span.result c.args.frame c.pop-span.new.self c.in_ok-copy.field-0 c.pop-span.ensures.pops c.in_ok-copy.ensures c.requires.meet_next
 
 pub join-requires-else-eq-2-clause-place : goal.join-requires-else-eq-2-clause-place
 join-requires-else-eq-2-clause-place g c = omega (arith, c.join-else-eq.ensures.long, c.requires.target)
 
 pub join-requires-else-eq-2-clause-meet : goal.join-requires-else-eq-2-clause-meet
-join-requires-else-eq-2-clause-meet g c = met_still c.args.next c.args.target c.pop-span.new.self c.in_ok-copy.field-0 c.args.places.now c.join-else-eq.new.self c.in_ok-copy.ensures c.join-else-eq.ensures (met_popped (frame_at c.args.places.now c.args.target) c.pop-span.result c.args.frame c.pop-span.new.self c.pop-span.ensures.pops c.requires.meet_target)
+join-requires-else-eq-2-clause-meet g c = met_still c.args.next c.args.target c.pop-span.new.self c.in_ok-copy.field-0 c.args.places.now c.join-else-eq.new.self c.in_ok-copy.ensures c.join-else-eq.ensures (met_popped (frame_at c.args.places.now c.args.target) c.pop-span.result c.args.frame c.pop-span.new.self c.pop-span.new.self c.pop-span.ensures.pops refl c.requires.meet_target)

@@ -1,5 +1,5 @@
 use Rattle.std.proofs.Common.{◌∙◌, arith}
-use Rattle.verifier.proofs.Passing.{takes_none, none_past}
+use Rattle.verifier.proofs.Placing.{takes_none, none_past}
 use Rattle.verifier.proofs.slices.clear.Goals as goal
 
 pub loop-at-preserved : goal.loop-at-preserved

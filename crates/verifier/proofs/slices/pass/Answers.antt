@@ -1,18 +1,15 @@
-use Rattle.std.proofs.Common.{arith, refl, ◌∙◌, inl, inr}
+use Rattle.std.proofs.Common.{arith, refl, sym, ◌∙◌, inl, inr}
+use Rattle.std.proofs.lemmas.Result.{IfErr-weaker, err_from_is_err_and}
 use Rattle.fixed.specs.Fractions.{bits_of}
 use Rattle.kernel_code.proofs.Runs.{instruction_at}
-use Rattle.std.proofs.lemmas.Result.{IfErr-weaker, err_from_is_err_and}
 use Rattle.verifier.specs.Places.{Stops, StopsAt}
+use Rattle.verifier.proofs.Attaining.{at_hand, height_behind, is_plain, meets, plain_next}
 use Rattle.verifier.proofs.Following.{on_ok, refused_memory, refused_weaker}
+use Rattle.verifier.proofs.Placing.{branch_within, jump_within}
 use Rattle.verifier.proofs.Standing.{stands_branch, stands_jump, stands_past, stands_plain, stops_at}
-use Rattle.verifier.proofs.Passing.{jump_within, branch_within, comes_on, passes_jump, passes_branch, passes_plain, joins_loses, branches_loses}
-use Rattle.verifier.proofs.Attaining.{past_attained, is_plain, at_hand, plain_meets, plain_attained, jump_meets, jump_attained, branch_meets, branch_attained}
 use Rattle.verifier.proofs.slices.pass.Goals as goal
 
 -- ---- no run comes here
-
-pub returns-in_default-clause-attained : goal.returns-in_default-clause-attained
-returns-in_default-clause-attained g c = past_attained _ _ _ _ c.requires.attained c.in_default.ensures
 
 pub returns-in_default-clause-stands : goal.returns-in_default-clause-stands
 returns-in_default-clause-stands g c = stands_past _ _ _ _ _ _ c.requires.stands c.in_default.ensures
@@ -27,16 +24,7 @@ join-requires-clause-place g c =
     omega (arith, jump_within _ _ _ c.requires.code (instruction_at _ _ _ _ c.requires.within c.index-code-here.is c.in-Jump.is), c.take.ensures.long, c.requires.long)
 
 pub join-requires-clause-meet : goal.join-requires-clause-meet
-join-requires-clause-meet g c = jump_meets _ _ _ _ _ _ _ _ c.requires.well.1 c.requires.attained c.in-Some.ensures (instruction_at _ _ _ _ c.requires.within c.index-code-here.is c.in-Jump.is)
-
-pub returns-in-Jump-clause-on : goal.returns-in-Jump-clause-on
-returns-in-Jump-clause-on g c =
-    comes_on _ _ _ _ _ _ _ _ _ c.requires.code c.requires.comes (instruction_at _ _ _ _ c.requires.within c.index-code-here.is c.in-Jump.is) c.in-Some.ensures
-    (passes_jump _ _ _ _ _ _ c.take.new.self _ c.join.ensures) (joins_loses _ _ _ _ c.join.ensures)
-
-pub returns-in-Jump-clause-attained : goal.returns-in-Jump-clause-attained
-returns-in-Jump-clause-attained g c =
-    jump_attained _ _ _ _ _ _ _ _ _ c.requires.well.1 c.requires.attained c.in-Some.ensures (instruction_at _ _ _ _ c.requires.within c.index-code-here.is c.in-Jump.is) c.join.ensures
+join-requires-clause-meet g c = meets _ _ _ _ _ c.requires.stands _ _ _ _ _ _ c.requires.code.forward c.requires.well.1 c.in-Some.ensures (instruction_at _ _ _ _ c.requires.within c.index-code-here.is c.in-Jump.is) refl refl
 
 -- ---- a jump at 0
 
@@ -46,26 +34,15 @@ branch-alloc-requires-clause-target g c =
 
 pub branch-alloc-requires-clause-operand : goal.branch-alloc-requires-clause-operand
 branch-alloc-requires-clause-operand g c =
-    at_hand _ _ _ _ _ _ _ _ c.requires.well.1 c.requires.attained c.in-Some.ensures (instruction_at _ _ _ _ c.requires.within c.index-code-here.is c.in-JumpIfZero.is)
+    at_hand _ _ _ _ _ c.requires.stands _ _ _ c.requires.well.1 c.in-Some.ensures.taken (instruction_at _ _ _ _ c.requires.within c.index-code-here.is c.in-JumpIfZero.is)
 
 pub branch-alloc-requires-clause-meet_next : goal.branch-alloc-requires-clause-meet_next
 branch-alloc-requires-clause-meet_next g c =
-    branch_meets _ _ _ _ _ _ _ _ _ c.requires.well.1 c.requires.attained c.in-Some.ensures (instruction_at _ _ _ _ c.requires.within c.index-code-here.is c.in-JumpIfZero.is) (inl refl)
+    meets _ _ _ _ _ c.requires.stands _ _ _ _ _ _ c.requires.code.forward c.requires.well.1 c.in-Some.ensures (instruction_at _ _ _ _ c.requires.within c.index-code-here.is c.in-JumpIfZero.is) (inl refl) refl
 
 pub branch-alloc-requires-clause-meet_target : goal.branch-alloc-requires-clause-meet_target
 branch-alloc-requires-clause-meet_target g c =
-    branch_meets _ _ _ _ _ _ _ _ _ c.requires.well.1 c.requires.attained c.in-Some.ensures (instruction_at _ _ _ _ c.requires.within c.index-code-here.is c.in-JumpIfZero.is) (inr refl)
-
-pub returns-in-JumpIfZero-clause-on : goal.returns-in-JumpIfZero-clause-on
-returns-in-JumpIfZero-clause-on g c =
-    on_ok c.branch-alloc.result _ _ c.branch-alloc.ensures.branches (λ b.
-    comes_on _ _ _ _ _ _ _ _ _ c.requires.code c.requires.comes (instruction_at _ _ _ _ c.requires.within c.index-code-here.is c.in-JumpIfZero.is) c.in-Some.ensures
-    (passes_branch _ _ _ _ _ _ c.take.new.self _ b) (branches_loses _ _ _ _ _ b))
-
-pub returns-in-JumpIfZero-clause-attained : goal.returns-in-JumpIfZero-clause-attained
-returns-in-JumpIfZero-clause-attained g c =
-    on_ok c.branch-alloc.result _ _ c.branch-alloc.ensures.branches
-    (branch_attained _ _ _ _ _ _ _ _ _ c.requires.well.1 c.requires.attained c.in-Some.ensures (instruction_at _ _ _ _ c.requires.within c.index-code-here.is c.in-JumpIfZero.is))
+    meets _ _ _ _ _ c.requires.stands _ _ _ _ _ _ c.requires.code.forward c.requires.well.1 c.in-Some.ensures (instruction_at _ _ _ _ c.requires.within c.index-code-here.is c.in-JumpIfZero.is) (inr refl) refl
 
 pub returns-in-JumpIfZero-clause-stands : goal.returns-in-JumpIfZero-clause-stands
 returns-in-JumpIfZero-clause-stands g c =
@@ -86,22 +63,20 @@ returns-in_err-follow-in_default-instr-clause-stops g c =
     c.in_err-follow-in_default-instr.ensures.stops)
 
 pub follow-requires-clause-at_hand : goal.follow-requires-clause-at_hand
-follow-requires-clause-at_hand g c = at_hand _ _ _ _ _ _ _ _ c.requires.well.1 c.requires.attained c.in-Some.ensures (instruction_at _ _ _ _ c.requires.within c.index-code-here.is refl)
+follow-requires-clause-at_hand g c = at_hand _ _ _ _ _ c.requires.stands _ _ _ c.requires.well.1 c.in-Some.ensures.taken (instruction_at _ _ _ _ c.requires.within c.index-code-here.is refl)
 
 pub join-requires-in_default-instr-clause-meet : goal.join-requires-in_default-instr-clause-meet
 join-requires-in_default-instr-clause-meet g c =
-    plain_meets _ _ _ _ _ _ _ _ _ _ c.requires.well.1 c.requires.attained c.in-Some.ensures (instruction_at _ _ _ _ c.requires.within c.index-code-here.is refl)
-    (is_plain _ c.in_default-instr.not-JumpIfZero c.in_default-instr.not-Jump) c.in_ok-follow-in_default-instr.ensures.follows
+    let behind = c.in_ok-follow-in_default-instr.ensures.behind in
+    meets _ _ _ _ _ c.requires.stands _ _ _ c.index-code-here.result _ _ c.requires.code.forward c.requires.well.1 c.in-Some.ensures (instruction_at _ _ _ _ c.requires.within c.index-code-here.is refl)
+    (plain_next _ _ (is_plain _ c.in_default-instr.not-JumpIfZero c.in_default-instr.not-Jump)) (sym (height_behind (bits_of c.args.frac) c.index-code-here.result c.args.inputs.now _ _ behind))
 
 pub returns-in_ok-follow-in_default-instr : goal.returns-in_ok-follow-in_default-instr
 returns-in_ok-follow-in_default-instr g c =
     let there = instruction_at _ _ _ _ c.requires.within c.index-code-here.is refl in
     let plain = is_plain c.index-code-here.result c.in_default-instr.not-JumpIfZero c.in_default-instr.not-Jump in
-    let follows = c.in_ok-follow-in_default-instr.ensures.follows in
     let j = c.join-in_default-instr.ensures in
     record {
-      on = comes_on _ _ _ _ _ _ _ _ _ c.requires.code c.requires.comes there c.in-Some.ensures (passes_plain _ _ _ _ _ c.follow.new.frame _ c.take.new.self _ follows j) (joins_loses _ _ _ _ j);
-      attained = plain_attained _ _ _ _ _ _ _ _ _ _ _ c.requires.well.1 c.requires.attained c.in-Some.ensures there plain follows j;
       stands = stands_plain _ _ _ _ _ _ _ _ _ _ c.requires.stands c.in-Some.ensures there plain c.in_ok-follow-in_default-instr.ensures.behind j;
       stops = tt;
       long = j.long ∙ c.take.ensures.long ∙ c.requires.long;

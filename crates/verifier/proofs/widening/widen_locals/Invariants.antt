@@ -1,4 +1,4 @@
-use Rattle.verifier.specs.Frames.{WidensFirstLocals}
+use Rattle.verifier.proofs.Joining.{WidensFirstLocals}
 use Rattle.verifier.proofs.widening.widen_locals.Given as goal
 
 abbrev pub invariant-loop-k : goal.invariant-loop-k

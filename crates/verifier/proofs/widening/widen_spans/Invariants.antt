@@ -1,4 +1,4 @@
-use Rattle.verifier.specs.Frames.{WidensFirst}
+use Rattle.verifier.proofs.Joining.{WidensFirst}
 use Rattle.verifier.proofs.widening.widen_spans.Given as goal
 
 abbrev pub invariant-loop-k : goal.invariant-loop-k

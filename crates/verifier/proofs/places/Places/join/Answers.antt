@@ -1,7 +1,7 @@
 use Rattle.std.proofs.Common.{sym, ◌∙◌, None, Option, List, subst, length, ◌<◌}
 use Rattle.std.proofs.lemmas.List.{get_or_default}
 use Rattle.verifier.specs.Frames.{SpanFrameView}
-use Rattle.verifier.proofs.Passing.{joins_new, joins_wide, met_size}
+use Rattle.verifier.proofs.Placing.{joins_new, joins_wide, met_height}
 use Rattle.verifier.proofs.places.Places.join.Goals as goal
 use Rattle.verifier.proofs.places.Places.join.Goals.{in-Some-2, in-None-2}
 
@@ -19,7 +19,7 @@ pub widen-requires : goal.widen-requires
 widen-requires g c =
     let same = c.self.view_is in
     let within : c.args.to < length c.self.inside.frames.items = subst (λ (l : List (Option SpanFrameView)). c.args.to < length l) (sym same) c.requires.place in
-    met_size c.args.to _ _ c.in-Some.earlier c.args.self.now c.self.inside.frames.items (sym same) c.requires.meet (c.in-Some.ensures.value ∙ c.index_mut.ensures.value ∙ get_or_default c.self.inside.frames.items c.args.to _ None within)
+    met_height c.args.to _ c.in-Some.earlier c.args.self.now c.self.inside.frames.items (sym same) c.requires.meet (c.in-Some.ensures.value ∙ c.index_mut.ensures.value ∙ get_or_default c.self.inside.frames.items c.args.to _ None within)
 
 pub returns-in-Some : goal.returns-in-Some
 returns-in-Some g c =

@@ -1,48 +1,43 @@
-use Rattle.std.proofs.Common.{arith, ◌-◌, ◌^◌}
-use Rattle.verifier.specs.Safety.{IsFound}
-use Rattle.verifier.proofs.Following.{refused_weaker}
-use Rattle.verifier.proofs.Searching.{judged_both, judged_lower, judged_upper}
-use Rattle.verifier.proofs.Judging.{twice, found_lower, found_upper, safe_both}
+use Rattle.std.proofs.Common.{◌-◌, Err, arith}
+use Rattle.verifier.specs.Verdicts.{IsPieceAnswer, first, neither, second}
+use Rattle.verifier.proofs.Searching.{of_halves, one_single, unless_err, whole_bounded}
 use Rattle.verifier.proofs.searches.Search.+judge.Goals as goal
 
-pub halves-lower-requires : goal.halves-lower-requires
-halves-lower-requires g t c = c.in_default.ensures.cut.several
-
-pub overflow_sub-depth : goal.overflow_sub-depth
-overflow_sub-depth g t c = omega (arith, c.in_default.ensures.cut.deep)
-
-pub returns-in-Err-clause-fault : goal.returns-in-Err-clause-fault
-returns-in-Err-clause-fault g t c =
-    let code = c.args.self.now.code in
-    let t = c.args.self.now.table in
-    let s = c.args.distances.now in
-    let cut = c.in_default.ensures.cut in
-    refused_weaker (IsFound code t c.halves-lower.result.0.lo c.halves-lower.result.0.hi (2 ^ (c.args.depth - 1))) (IsFound code t s.lo s.hi (2 ^ c.args.depth)) c.in-Err.failure
-    (λ f found. found_lower code t s c.halves-lower.result.0 c.halves-lower.result.1 _ _ f cut.several c.halves-lower.ensures.cut (twice c.args.depth cut.deep) found)
-    c.in-Err.ensures.fault
-
-pub returns-in-Err-judge-clause-fault : goal.returns-in-Err-judge-clause-fault
-returns-in-Err-judge-clause-fault g t c =
-    let code = c.args.self.now.code in
-    let t = c.args.self.now.table in
-    let s = c.args.distances.now in
-    let cut = c.in_default.ensures.cut in
-    refused_weaker (IsFound code t c.halves-lower.result.1.lo c.halves-lower.result.1.hi (2 ^ (c.args.depth - 1))) (IsFound code t s.lo s.hi (2 ^ c.args.depth)) c.in-Err-judge.failure
-    (λ f found. found_upper code t s c.halves-lower.result.0 c.halves-lower.result.1 _ _ f cut.several c.halves-lower.ensures.cut (twice c.args.depth cut.deep) found)
-    c.in-Err-judge.ensures.fault
+pub returns-in-Ok-clause-answer : goal.returns-in-Ok-clause-answer
+returns-in-Ok-clause-answer g t c = one_single _ _ _ _ c.args.depth _ _ (c.is_single.ensures.one c.if-is_single.true) c.in-Ok.ensures
 
 pub returns-in-Err-clause-answer : goal.returns-in-Err-clause-answer
-returns-in-Err-clause-answer g t c =
-    judged_lower c.args.self.now.code c.args.self.now.table c.args.pair.first c.args.pair.second c.args.depth c.args.distances.now c.halves-lower.result.0 c.halves-lower.result.1 c.in-Err.failure c.in_default.ensures.cut c.halves-lower.ensures.cut c.in-Err.ensures.answer
+returns-in-Err-clause-answer g t c = one_single _ _ _ _ c.args.depth _ _ (c.is_single.ensures.one c.if-is_single.true) c.in-Err.ensures
+
+pub returns-in-Ok-try_slice-clause-answer : goal.returns-in-Ok-try_slice-clause-answer
+returns-in-Ok-try_slice-clause-answer g t c = whole_bounded _ _ _ _ c.args.depth _ _ (c.is_single.ensures.several c.if-is_single.false) c.in-Ok-try_slice.ensures.bounded
+
+pub overflow_sub-depth : goal.overflow_sub-depth
+overflow_sub-depth g t c = omega arith
+
+pub overflow_sub-depth-2 : goal.overflow_sub-depth-2
+overflow_sub-depth-2 g t c = omega arith
 
 pub returns-in-Err-judge-clause-answer : goal.returns-in-Err-judge-clause-answer
 returns-in-Err-judge-clause-answer g t c =
-    judged_upper c.args.self.now.code c.args.self.now.table c.args.pair.first c.args.pair.second c.args.depth c.args.distances.now c.halves-lower.result.0 c.halves-lower.result.1 c.in-Ok.low c.in-Err-judge.failure c.in_default.ensures.cut c.halves-lower.ensures.cut c.in-Ok.ensures.answer c.in-Err-judge.ensures.answer
+    let code = c.args.self.now.code.now in
+    let table = c.args.self.now.table.now in
+    let stopped = rw c.in-Err-Refused.field-0-is at c.in-Err-Refused.ensures.stopped in
+    unless_err (IsPieceAnswer code table c.args.pair.first c.args.pair.second (c.args.depth - 1) c.halves-lower.result.0) (IsPieceAnswer code table c.args.pair.first c.args.pair.second c.args.depth c.args.distances.now) c.in-Err-judge.failure
+    (λ f p. of_halves code table _ _ c.args.depth _ _ _ _ _ (Err f) c.if-depth-eq0.false (c.is_single.ensures.several c.if-is_single.false) stopped c.halves-lower.ensures.cut (first p))
+    c.in-Err-judge.ensures.answer
 
-pub returns-in-Ok-judge-clause-safe : goal.returns-in-Ok-judge-clause-safe
-returns-in-Ok-judge-clause-safe g t c =
-    safe_both c.args.self.now.code c.args.self.now.table _ _ c.args.distances.now _ _ c.in-Ok.low c.in-Ok-judge.high c.max.result c.halves-lower.ensures.members c.in-Ok.ensures.safe c.in-Ok-judge.ensures.safe c.max.ensures
+pub returns-in-Err-judge-2-clause-answer : goal.returns-in-Err-judge-2-clause-answer
+returns-in-Err-judge-2-clause-answer g t c =
+    let code = c.args.self.now.code.now in
+    let table = c.args.self.now.table.now in
+    let stopped = rw c.in-Err-Refused.field-0-is at c.in-Err-Refused.ensures.stopped in
+    unless_err (IsPieceAnswer code table c.args.pair.first c.args.pair.second (c.args.depth - 1) c.halves-lower.result.1) (IsPieceAnswer code table c.args.pair.first c.args.pair.second c.args.depth c.args.distances.now) c.in-Err-judge-2.failure
+    (λ f p. of_halves code table _ _ c.args.depth _ _ _ _ _ (Err f) c.if-depth-eq0.false (c.is_single.ensures.several c.if-is_single.false) stopped c.halves-lower.ensures.cut (second c.in-Ok-judge.ensures.answer p))
+    c.in-Err-judge-2.ensures.answer
 
-pub returns-in-Ok-judge-clause-answer : goal.returns-in-Ok-judge-clause-answer
-returns-in-Ok-judge-clause-answer g t c =
-    judged_both c.args.self.now.code c.args.self.now.table c.args.pair.first c.args.pair.second c.args.depth c.args.distances.now c.halves-lower.result.0 c.halves-lower.result.1 c.in-Ok.low c.in-Ok-judge.high c.max.result c.in_default.ensures.cut c.halves-lower.ensures.cut c.in-Ok.ensures.answer c.in-Ok-judge.ensures.answer c.max.ensures
+pub returns-in-Ok-judge-2-clause-answer : goal.returns-in-Ok-judge-2-clause-answer
+returns-in-Ok-judge-2-clause-answer g t c =
+    let stopped = rw c.in-Err-Refused.field-0-is at c.in-Err-Refused.ensures.stopped in
+    rw c.max.ensures
+    (of_halves _ _ _ _ c.args.depth _ _ _ _ _ _ c.if-depth-eq0.false (c.is_single.ensures.several c.if-is_single.false) stopped c.halves-lower.ensures.cut (neither c.in-Ok-judge.ensures.answer c.in-Ok-judge-2.ensures.answer))

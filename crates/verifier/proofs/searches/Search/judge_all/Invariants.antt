@@ -1,12 +1,9 @@
 use Rattle.std.proofs.Common.{◌≡◌, ◌+◌, length}
-use Rattle.verifier.specs.Safety.{IsSafe}
-use Rattle.verifier.specs.Searches.{range_of}
-use Rattle.verifier.specs.Verdicts.{IsGreatest, row_answer}
+use Rattle.verifier.specs.Verdicts.{IsGreatest, numbered_answer, range}
 use Rattle.verifier.proofs.searches.Search.judge_all.Given as goal
 
-abbrev pub invariant-loop-first : goal.invariant-loop-first
-invariant-loop-first g l = record {
-  long : length l.places ≡ length l.self.code + 1;
-  safe : IsSafe l.self.code l.self.table l.first l.self.core l.self.cutoff l.bound;
-  greatest : IsGreatest (row_answer l.self.code l.self.table (range_of l.self)) l.first l.bound;
+abbrev pub invariant-loop-number : goal.invariant-loop-number
+invariant-loop-number g l = record {
+  long : length l.places ≡ length l.self.code.now + 1;
+  greatest : IsGreatest (numbered_answer l.self.code.now l.self.table.now (range l.self.core l.self.cutoff l.self.slices l.self.depth)) l.number l.bound;
 }

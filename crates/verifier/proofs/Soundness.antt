@@ -1,0 +1,285 @@
+-- A verdict says how the code runs: where it has a bound the code never goes wrong, and a refusal is one of its runs or paths.
+use Rattle.std.proofs.Common.{◌≡◌, ℕ, zero, suc, ◌+◌, ◌*◌, ◌/◌, ◌%◌, ◌^◌, ◌<◌, ◌≤◌, List, length, Option, Some, None, Ok, Err, refl, sym, ap, ◌∙◌, subst, arith, ℤ, pos, negsuc, ◌≤ℤ◌, ◌<ℤ◌, ◌+ℤ◌, ◌-ℤ◌, ⊎_elim, max, lit<}
+use Rattle.std.specs.Prelude.{slice_get, option_map, unsigned_abs}
+use Rattle.std.proofs.Math.Nat.{div-lt_iff_lt-mul, lt-div-mul-add, pow-suc}
+use Rattle.std.proofs.lemmas.Bool.{cases_lt}
+use Rattle.std.proofs.lemmas.Int.{ints, by_lt_z}
+use Rattle.std.proofs.lemmas.Nat.{div_below, div-mul-add, mod_below, mod-mul-add, mul-add-lt, mul-le}
+use Rattle.fixed.specs.Fractions.{bits_of}
+use Rattle.fixed.specs.declared.faults.Fault as faults
+use Rattle.fixed.proofs.FloorLemmas.{floor_over_is}
+use Rattle.interval_domain.specs.declared.span.Span.{Span}
+use Rattle.interval_domain.specs.Spans.{AreHalves}
+use Rattle.kernel_code.specs.declared.instructions.Instr.{Instr}
+use Rattle.kernel_code.specs.declared.traps.TrapKind.TheVariants.{Operation}
+use Rattle.kernel_code.specs.Code.{IsCode, JumpsForward}
+use Rattle.kernel_code.specs.Machine.{State, Turn, act, end_of, Ends}
+use Rattle.kernel_code.specs.Paths.{IsPath, IsLongest}
+use Rattle.kernel_code.specs.Tables.{Table, inputs_of}
+use Rattle.kernel_code.proofs.PathLaws.{at_end, set_of, run_is_path, path_within}
+use Rattle.kernel_paths.specs.declared.faults.Misfit.TheVariants as misfit
+use Rattle.kernel_paths.proofs.Refusals.{goes_wrong}
+use Rattle.verifier.specs.declared.faults.VerifyFault.{VerifyFault}
+use Rattle.verifier.specs.declared.faults.VerifyFault.TheVariants.{Malformed, DepthOver64, Fault, Undecided}
+use Rattle.verifier.specs.Safety.{IsCertified, IsRefusal, IsUndecided, Traps}
+use Rattle.verifier.specs.Verdicts.{Answer, IsAtEnds, IsAtOne, IsBounded, IsFoundOf, IsInTurn, IsPieceAnswer, IsSliceAnswer, IsVerdict, Range, bounded, empty, first, full, neither, second, single, stopped}
+use Rattle.verifier.proofs.Inputs.{hold_inputs}
+use Rattle.verifier.proofs.Runs.{gives_in}
+
+-- ---- what an answer on some distances says of the runs there
+
+-- the run gives a value of at most this magnitude
+record GivesWithin (code : List Instr) (t : Table) (a b : ℕ) (r : ℤ) (bound : ℕ) : Type 0 where
+  value : ℤ
+  n : ℕ
+  ends : Ends (bits_of t.frac) code (inputs_of t a b r) n (Ok value)
+  small : unsigned_abs value ≤ bound
+
+-- so does the run at each distance from one to another
+abbrev IsSafeAt : List Instr → Table → (a b : ℕ) → (from last : ℤ) → (bound : ℕ) → Type 0
+IsSafeAt code t a b from last bound = (r : ℤ) → from ≤ℤ r → r ≤ℤ last → GivesWithin code t a b r bound
+
+-- the refusal is found at these distances, where `limit` of them are always decided
+abbrev pub IsFound : List Instr → Table → (from last : ℤ) → (limit : ℕ) → VerifyFault → Type 0
+IsFound code t from last limit (Malformed pc) = ⊥
+IsFound code t from last limit (DepthOver64 pc) = ⊥
+IsFound code t from last limit (Fault a b r pc fault) = Traps code t from last a b r (record { pc = pc; kind = Operation fault })
+IsFound code t from last limit (Undecided a b lo hi pc fault) = IsUndecided code t from last limit a b lo hi
+
+abbrev Says : List Instr → Table → (a b : ℕ) → (from last : ℤ) → (limit : ℕ) → Answer → Type 0
+Says code t a b from last limit (Ok bound) = IsSafeAt code t a b from last bound
+Says code t a b from last limit (Err f) = IsFound code t from last limit f
+
+gives_weaker : (code : List Instr) (t : Table) (a b : ℕ) (r : ℤ) (x y : ℕ) → x ≤ y → GivesWithin code t a b r x → GivesWithin code t a b r y
+gives_weaker code t a b r x y h g = record { value = g.value; n = g.n; ends = g.ends; small = omega (arith, g.small, h) }
+
+-- a refusal that is found at some distances is found at more of them
+found_within : (code : List Instr) (t : Table) (from last from' last' : ℤ) (limit limit' : ℕ) (f : VerifyFault) → from' ≤ℤ from → last ≤ℤ last' → ((from +ℤ pos limit) ≤ℤ last → (from' +ℤ pos limit') ≤ℤ last') → IsFound code t from last limit f → IsFound code t from' last' limit' f
+found_within code t from last from' last' limit limit' (Malformed pc) a b w h = h
+found_within code t from last from' last' limit limit' (DepthOver64 pc) a b w h = h
+found_within code t from last from' last' limit limit' (Fault x y r pc fault) a b w h =
+    record { first = h.first; second = h.second; low = omega (arith, ints, a, h.low); high = omega (arith, ints, b, h.high); n = h.n; ends = h.ends }
+found_within code t from last from' last' limit limit' (Undecided x y lo hi pc fault) a b w h =
+    record { first = h.first; second = h.second; low = omega (arith, ints, a, h.low); two = h.two; high = omega (arith, ints, b, h.high); at_lo = h.at_lo; at_hi = h.at_hi; wide = w h.wide }
+
+-- ---- some distances of a pair of types
+
+-- a number between two is no larger than the larger of them
+abs_between : (lo x hi : ℤ) → lo ≤ℤ x → x ≤ℤ hi → unsigned_abs x ≤ max (unsigned_abs lo) (unsigned_abs hi)
+abs_between (pos m) (pos n) (pos k) a b = let c : n ≤ k = omega (arith, ints) in omega arith
+abs_between (pos m) (pos n) (negsuc k) a b = absurd (omega (arith, ints))
+abs_between (pos m) (negsuc n) hi a b = absurd (omega (arith, ints))
+abs_between (negsuc m) (pos n) (pos k) a b = let c : n ≤ k = omega (arith, ints) in omega arith
+abs_between (negsuc m) (pos n) (negsuc k) a b = absurd (omega (arith, ints))
+abs_between (negsuc m) (negsuc n) hi a b = let c : n ≤ m = omega (arith, ints) in omega arith
+
+module _ (code : List Instr) (t : Table) (a b : ℕ) (forward : JumpsForward code) (la : a < length t.rows) (lb : b < length t.rows) where
+  one_says : (r : ℤ) (limit : ℕ) (x : Answer) → IsAtOne code t a b r x → Says code t a b r r limit x
+  one_says r limit (Ok bound) h = λ q low high.
+      let same : r ≡ q = omega (arith, ints, low, high) in
+      subst (λ (z : ℤ). GivesWithin code t a b z bound) same (record { value = h.value; n = h.n; ends = h.ends; small = omega (arith, h.bound') })
+  one_says r limit (Err f) h = subst (IsFound code t r r limit) (sym h.told) (record { first = la; second = lb; low = omega (arith, ints); high = omega (arith, ints); n = h.n; ends = h.ends })
+
+  bounded_says : (s : Span) (bound : ℕ) → IsBounded code t a b s bound → IsSafeAt code t a b s.lo s.hi bound
+  bounded_says s bound h r low high =
+      let g = gives_in (bits_of t.frac) code h.spans forward (inputs_of t a b r) h.result h.gives (hold_inputs t a b s h.spans r h.inputs (record { at_least = low; at_most = high })) in
+      let small = abs_between h.result.lo g.value h.result.hi g.member.at_least g.member.at_most in
+      record { value = g.value; n = g.n; ends = g.ends; small = omega (arith, small, h.bound') }
+
+  ends_say : (s : Span) (pc : ℕ) (kind : faults.Fault) (x : Answer) → s.lo <ℤ s.hi → IsAtEnds code t a b s pc kind x → Says code t a b s.lo s.hi 1 x
+  ends_say s pc kind x lt (first {f = f} p) =
+      found_within code t s.lo s.lo s.lo s.hi 1 1 f (omega (arith, ints)) (omega (arith, ints, lt)) (λ w. absurd (omega (arith, ints, w))) (one_says s.lo 1 (Err f) p)
+  ends_say s pc kind x lt (second {f = f} p q) =
+      found_within code t s.hi s.hi s.lo s.hi 1 1 f (omega (arith, ints, lt)) (omega (arith, ints)) (λ w. absurd (omega (arith, ints, w))) (one_says s.hi 1 (Err f) q)
+  ends_say s pc kind x lt (neither p q) =
+      record {
+        first = la;
+        second = lb;
+        low = omega (arith, ints);
+        two = lt;
+        high = omega (arith, ints);
+        at_lo = record { value = p.value; n = p.n; ends = p.ends };
+        at_hi = record { value = q.value; n = q.n; ends = q.ends };
+        wide = omega (arith, ints, lt);
+      }
+
+  halves_say : (s l u : Span) (limit limit' : ℕ) (A B : Answer → Type 0) (x : Answer) → s.lo <ℤ s.hi → limit' ≡ limit + limit → AreHalves s l u → ((y : Answer) → A y → Says code t a b l.lo l.hi limit y) → ((y : Answer) → B y → Says code t a b u.lo u.hi limit y)
+      → IsInTurn A B (λ m n. Ok (max m n)) x → Says code t a b s.lo s.hi limit' x
+  halves_say s l u limit limit' A B x two e h da db (first {f = f} p) =
+      let q = floor_over_is (s.hi -ℤ s.lo) 2 (lit< tt) in
+      let from = h.from in
+      let mid = h.middle in
+      found_within code t l.lo l.hi s.lo s.hi limit limit' f (omega (arith, ints, from)) (omega (arith, ints, mid, two, q.at_most, q.next_above))
+      (λ w. omega (arith, ints, from, mid, two, e, w, q.at_most, q.next_above)) (da (Err f) p)
+  halves_say s l u limit limit' A B x two e h da db (second {f = f} p r) =
+      let q = floor_over_is (s.hi -ℤ s.lo) 2 (lit< tt) in
+      let mid = h.middle in
+      let next = h.next in
+      let to = h.to in
+      found_within code t u.lo u.hi s.lo s.hi limit limit' f (omega (arith, ints, next, mid, two, q.at_most, q.next_above)) (omega (arith, ints, to))
+      (λ w. omega (arith, ints, next, to, mid, two, e, w, q.at_most, q.next_above)) (db (Err f) r)
+  halves_say s l u limit limit' A B x two e h da db (neither {x = m} {y = n} p q) = λ r low high.
+      by_lt_z {P = GivesWithin code t a b r (max m n)} r u.lo
+      (λ lt. gives_weaker code t a b r m (max m n) (omega arith) (da (Ok m) p r (let from = h.from in omega (arith, ints, from, low)) (let next = h.next in omega (arith, ints, next, lt))))
+      (λ le. gives_weaker code t a b r n (max m n) (omega arith) (db (Ok n) q r (omega (arith, ints, le)) (let to = h.to in omega (arith, ints, to, high))))
+
+  piece_says : (depth : ℕ) (s : Span) (x : Answer) → IsPieceAnswer code t a b depth s x → Says code t a b s.lo s.hi (2 ^ depth) x
+  unfolding IsPieceAnswer
+  piece_says zero s x (single e h) = subst (λ (z : ℤ). Says code t a b s.lo z 1 x) e (one_says s.lo 1 x h)
+  piece_says zero s x (bounded {bound = bound} lt h) = bounded_says s bound h
+  piece_says zero s x (stopped {pc = pc} {kind = kind} lt p h) = ends_say s pc kind x lt h
+  piece_says (suc depth) s x (single e h) = subst (λ (z : ℤ). Says code t a b s.lo z (2 ^ suc depth) x) e (one_says s.lo (2 ^ suc depth) x h)
+  piece_says (suc depth) s x (bounded {bound = bound} lt h) = bounded_says s bound h
+  piece_says (suc depth) s x (stopped lt p h) =
+      let p : 2 ^ suc depth ≡ 2 ^ depth * 2 = pow-suc 2 depth in
+      halves_say s h.lower h.upper (2 ^ depth) (2 ^ suc depth) (IsPieceAnswer code t a b depth h.lower) (IsPieceAnswer code t a b depth h.upper) x lt (omega (arith, p)) h.halves
+      (λ y i. piece_says depth h.lower y i)
+      (λ y i. piece_says depth h.upper y i)
+      h.both
+
+-- ---- slices
+
+-- a slice of few distances is short
+share_short : (w i s k : ℕ) → 0 < s → w ≤ s * k → w * (i + 1) / s ≤ w * i / s + k
+share_short w i s k p h =
+    let q = w * i / s in
+    let below : w * i < w * i / s * s + s = lt-div-mul-add p in
+    let far : w * (i + 1) < (w * i / s + k + 1) * s = omega (arith, below, h) in
+    let short : w * (i + 1) / s < w * i / s + k + 1 = (div-lt_iff_lt-mul p).1 far in
+    omega (arith, short)
+
+-- no slice ends past all distances
+share_within : (w i s : ℕ) → i < s → w * (i + 1) / s ≤ w
+share_within w i s lt =
+    let p : 0 < s = omega (arith, lt) in
+    let all = mul-le w (i + 1) w s (omega arith) (omega (arith, lt)) in
+    let far : w * (i + 1) < (w + 1) * s = omega (arith, all, p) in
+    let short : w * (i + 1) / s < w + 1 = (div-lt_iff_lt-mul p).1 far in
+    omega (arith, short)
+
+-- each of w distances is in a slice
+share_of : (w d s n : ℕ) → 0 < s → d < w * n / s → (i : ℕ) × (i < n) × (w * i / s ≤ d) × (d < w * (i + 1) / s)
+share_of w d s zero p h = let none : w * 0 / s < 1 = div_below (w * 0) s 1 p (omega (arith, p)) in absurd (omega (arith, h, none))
+share_of w d s (suc n) p h =
+    ⊎_elim
+    (λ (lt : d < w * n / s). let r = share_of w d s n p lt in (r.0, omega (arith, r.1), r.2, r.3))
+    (λ (le : w * n / s ≤ d). (n, omega arith, le, subst (λ (k : ℕ). d < w * k / s) (omega arith) h))
+    (cases_lt d (w * n / s))
+
+-- the number of a slice tells its types and its place
+numbers : (a b i n s : ℕ) → b < n → i < s → (((a * n + b) * s + i) / s / n ≡ a) × (((a * n + b) * s + i) / s % n ≡ b) × (((a * n + b) * s + i) % s ≡ i)
+numbers a b i n s lb li =
+    let pair = div-mul-add (a * n + b) s i li in
+    (ap (λ (k : ℕ). k / n) pair ∙ div-mul-add a n b lb, ap (λ (k : ℕ). k % n) pair ∙ mod-mul-add a n b lb, mod-mul-add (a * n + b) s i li)
+
+module _ (code : List Instr) (t : Table) (g : Range) (forward : JumpsForward code) (some : 0 < g.slices) where
+  -- a refusal in a slice
+  slice_found : (a b i : ℕ) (f : VerifyFault) → a < length t.rows → b < length t.rows → i < g.slices → IsSliceAnswer code t g a b i (Err f) → IsFound code t g.core (g.cutoff -ℤ pos 1) (g.slices * 2 ^ g.depth) f
+  slice_found a b i f la lb li (full {s = s} h p) =
+      let wide = h.wide in
+      let low = h.low in
+      let high = h.high in
+      let within = share_within h.width i g.slices li in
+      found_within code t s.lo s.hi g.core (g.cutoff -ℤ pos 1) (2 ^ g.depth) (g.slices * 2 ^ g.depth) f (omega (arith, ints, low)) (omega (arith, ints, high, wide, within))
+      (λ w.
+      ⊎_elim
+      (λ (lt : g.slices * 2 ^ g.depth < h.width). omega (arith, ints, lt, wide))
+      (λ (le : h.width ≤ g.slices * 2 ^ g.depth). let short = share_short h.width i g.slices (2 ^ g.depth) some le in absurd (omega (arith, ints, short, low, high, w)))
+      (cases_lt (g.slices * 2 ^ g.depth) h.width))
+      (piece_says code t a b forward la lb g.depth s (Err f) p)
+
+  -- a distance in a slice with a magnitude
+  slice_gives : (a b i w d x : ℕ) (r : ℤ) → a < length t.rows → b < length t.rows → (g.core +ℤ pos w) ≡ g.cutoff → r ≡ (g.core +ℤ pos d) → w * i / g.slices ≤ d → d < w * (i + 1) / g.slices → IsSliceAnswer code t g a b i (Ok x) → GivesWithin code t a b r x
+  slice_gives a b i w d x r la lb wide at le lt (empty e) =
+      let none = e.none in
+      let same : e.width ≡ w = let wide' = e.wide in omega (arith, ints, wide, wide') in
+      let none' : w * (i + 1) / g.slices ≤ w * i / g.slices = subst (λ (k : ℕ). k * (i + 1) / g.slices ≤ k * i / g.slices) same none in
+      absurd (omega (arith, le, lt, none'))
+  slice_gives a b i w d x r la lb wide at le lt (full {s = s} h p) =
+      let same : w ≡ h.width = let wide' = h.wide in omega (arith, ints, wide, wide') in
+      let le' : h.width * i / g.slices ≤ d = subst (λ (k : ℕ). k * i / g.slices ≤ d) same le in
+      let lt' : d < h.width * (i + 1) / g.slices = subst (λ (k : ℕ). d < k * (i + 1) / g.slices) same lt in
+      let low = h.low in
+      let high = h.high in
+      piece_says code t a b forward la lb g.depth s (Ok x) p r (omega (arith, ints, low, at, le')) (omega (arith, ints, high, at, lt'))
+
+  -- ---- all slices of all pairs
+
+  some_type : (q n : ℕ) → q < n * n → 0 < n
+  some_type q zero lt = absurd (omega (arith, lt))
+  some_type q (suc n) lt = omega arith
+
+  -- a refusal that is found in one of them
+  pub all_found : (f : VerifyFault) → IsFoundOf code t g (Err f) → IsFound code t g.core (g.cutoff -ℤ pos 1) (g.slices * 2 ^ g.depth) f
+  all_found f h =
+      let n = length t.rows in
+      let rows : h.at / g.slices < n * n = div_below h.at g.slices (n * n) some h.within in
+      let types : 0 < n = some_type (h.at / g.slices) n rows in
+      slice_found (h.at / g.slices / n) (h.at / g.slices % n) (h.at % g.slices) f (div_below (h.at / g.slices) n n types rows) (mod_below (h.at / g.slices) n types) (mod_below h.at g.slices some) h.refuses
+
+  same_slice : (a a' b b' i i' : ℕ) (x : Answer) → a' ≡ a → b' ≡ b → i' ≡ i → IsSliceAnswer code t g a' b' i' x → IsSliceAnswer code t g a b i x
+  same_slice a a' b b' i i' x p q r h = rw (← p, ← q, ← r) h
+
+  in_slice : (a b i bound : ℕ) → a < length t.rows → b < length t.rows → i < g.slices → IsFoundOf code t g (Ok bound) → (x : ℕ) × IsSliceAnswer code t g a b i (Ok x) × (x ≤ bound)
+  in_slice a b i bound la lb li h =
+      let n = length t.rows in
+      let at = numbers a b i n g.slices lb li in
+      let below : (a * n + b) * g.slices + i < g.slices * (n * n) = mul-add-lt (a * n + b) g.slices i (n * n) (mul-add-lt a n b n la lb) li in
+      let each = h.each ((a * n + b) * g.slices + i) (omega (arith, below)) in
+      (each.0, same_slice a _ b _ i _ (Ok each.0) at.0 at.1 at.2 each.1, each.2)
+
+  all_give : (a b : ℕ) (r : ℤ) (bound : ℕ) → a < length t.rows → b < length t.rows → g.core ≤ℤ r → r <ℤ g.cutoff → IsFoundOf code t g (Ok bound) → GivesWithin code t a b r bound
+  all_give a b r bound la lb low high h =
+      let w = distance g.core g.cutoff (omega (arith, ints, low, high)) in
+      let d = distance g.core r low in
+      let none : w.0 * g.slices ≡ w.0 * g.slices + 0 = omega arith in
+      let all : w.0 * g.slices / g.slices ≡ w.0 = ap (λ (k : ℕ). k / g.slices) none ∙ div-mul-add w.0 g.slices 0 some in
+      let i = share_of w.0 d.0 g.slices g.slices some (let wide = w.1 in let at = d.1 in omega (arith, ints, all, wide, at, high)) in
+      let each = in_slice a b i.0 bound la lb i.1 h in
+      gives_weaker code t a b r each.0 bound each.2 (slice_gives a b i.0 w.0 d.0 each.0 r la lb w.1 (sym d.1) i.2 i.3 each.1)
+    where
+      natural : (z : ℤ) → pos 0 ≤ℤ z → (k : ℕ) × (z ≡ pos k)
+      natural (pos k) h = (k, refl)
+      natural (negsuc k) h = absurd (omega (arith, ints, h))
+
+      distance : (x y : ℤ) → x ≤ℤ y → (k : ℕ) × ((x +ℤ pos k) ≡ y)
+      distance x y le = let k = natural (y -ℤ x) (omega (arith, ints, le)) in let e = k.1 in (k.0, omega (arith, ints, e))
+
+-- ---- verdicts
+
+no_turn : (s : State) (t : Turn) (v : ℤ) → end_of s (Some t) ≡ Some (Ok v) → ⊥
+no_turn s (Ok next) v e = absurd cc
+no_turn s (Err kind) v e = absurd cc
+
+-- a run that gives a value has at most as many instructions as the longest path
+value_few : (bits : ℕ) (code : List Instr) (inputs : List ℤ) (n steps : ℕ) (v : ℤ) → JumpsForward code → IsLongest code steps → Ends bits code inputs n (Ok v) → n ≤ steps
+value_few bits code inputs n steps v forward longest e = at (slice_get code s.pc) refl e.over
+  where
+    s : State
+    s = e.state
+
+    path : IsPath code n s.pc (length s.stack) (set_of s.locals)
+    path = run_is_path bits code inputs n s e.reached
+
+    at : (o : Option Instr) → slice_get code s.pc ≡ o → end_of s (option_map (λ i. act bits i inputs s.pc s.stack s.locals) o) ≡ Some (Ok v) → n ≤ steps
+    at None here over =
+        let last : s.pc ≡ length code = at_end code s.pc (path_within code forward path) here in
+        longest.most n (length s.stack) (set_of s.locals) (subst (λ (pc : ℕ). IsPath code n pc (length s.stack) (set_of s.locals)) last path)
+    at (Some i) here over = absurd (no_turn s (act bits i inputs s.pc s.stack s.locals) v over)
+
+-- code whose verdict is a bound is certified with it, and with the number of instructions on its longest path
+pub accepted_is_safe : (code : List Instr) (t : Table) (g : Range) (steps bound : ℕ) → 0 < g.slices → IsLongest code steps → IsVerdict code t g (Ok bound) → IsCertified code t g.core g.cutoff steps bound
+accepted_is_safe code t g steps bound some longest v = record {
+  each = λ a b r la lb low high.
+      let h = all_give code t g v.is_code.forward some a b r bound la lb low high v.found in
+      record { value = h.value; n = h.n; ends = h.ends; few = value_few (bits_of t.frac) code (inputs_of t a b r) h.n steps h.value v.is_code.forward longest h.ends; small = h.small };
+  longest = longest;
+  misses = v.misses;
+}
+
+-- a verdict that is a refusal means what it says
+pub refused_is_wrong : (code : List Instr) (t : Table) (g : Range) (f : VerifyFault) → IsCode code → 0 < g.slices → IsVerdict code t g (Err f) → IsRefusal code t g.core g.cutoff (g.slices * 2 ^ g.depth) f
+refused_is_wrong code t g (Malformed pc) is some v = goes_wrong code _ (misfit.Malformed pc) is.forward v
+refused_is_wrong code t g (DepthOver64 pc) is some v = v.overfills
+refused_is_wrong code t g (Fault a b r pc kind) is some v = all_found code t g is.forward some (Fault a b r pc kind) v.found
+refused_is_wrong code t g (Undecided a b lo hi pc kind) is some v = all_found code t g is.forward some (Undecided a b lo hi pc kind) v.found
