@@ -1,5 +1,5 @@
 -- Frames have the heights of paths, and a local without a span is unset on one: so each instruction has what it needs.
-use Rattle.std.proofs.Common.{◌≡◌, ◌≢◌, ℕ, zero, suc, ◌+◌, ◌<◌, ◌≤◌, Bool, true, false, List, [], length, replicate, Option, Some, None, refl, sym, ap, ◌∙◌, subst, arith, ⊎_elim, inl, inr}
+use Rattle.std.proofs.Common.{◌≡◌, ◌≢◌, ℕ, zero, suc, ◌+◌, ◌≤◌, Bool, true, false, List, [], length, replicate, Option, Some, None, refl, sym, ap, ◌∙◌, subst, arith, ⊎_elim, inl, inr}
 use Rattle.std.specs.Prelude.{slice_get, slice_index_or, IsSome}
 use Rattle.std.proofs.lemmas.Bool.{cases_eq}
 use Rattle.std.proofs.lemmas.List.{get_or-set_other}
@@ -11,22 +11,28 @@ use Rattle.kernel_code.specs.Paths.{CanAct, IsPath, MayGo, begins, goes, height_
 use Rattle.kernel_paths.specs.Misfits.{DoesWell}
 use Rattle.kernel_paths.proofs.Arrivals.{leads_there}
 use Rattle.verifier.specs.Frames.{SpanFrameView, IsAtHand, IsPlain, local_of}
-use Rattle.verifier.specs.Places.{IsBehind, IsFrameOf, IsLeastFrame, MayCome, comes_from}
+use Rattle.verifier.specs.Places.{IsBehind, IsFrameOf, IsLeastFrame, MayCome, comes_below, falls_through, goes_next, jumps_always, jumps_at_zero}
 use Rattle.verifier.specs.Slices.{CanMeet, Stands, Takes, frame_at}
 use Rattle.verifier.proofs.Within.{length_within}
 
 -- ---- one instruction
 
+-- an instruction that doesn't jump goes on to the next place
+pub plain_next : (i : Instr) (here to : ℕ) → IsPlain i → to ≡ here + 1 → MayGo i here to
+plain_next (Push v) here to p e = e
+plain_next (Input k) here to p e = e
+plain_next (Keep k) here to p e = e
+plain_next (Get k) here to p e = e
+plain_next (Binary op) here to p e = e
+plain_next (Unary op) here to p e = e
+plain_next (JumpIfZero target) here to p e = absurd p
+plain_next (Jump target) here to p e = absurd p
+
 may_go : (i : Instr) (from to : ℕ) (frame : SpanFrameView) → MayCome i from to frame → MayGo i from to
-may_go (Push v) from to frame m = m
-may_go (Input k) from to frame m = m
-may_go (Keep k) from to frame m = m
-may_go (Get k) from to frame m = m
-may_go (Binary op) from to frame m = m
-may_go (Unary op) from to frame m = m
-may_go (JumpIfZero target) from to frame (inl m) = inl m.0
-may_go (JumpIfZero target) from to frame (inr m) = inr m.0
-may_go (Jump target) from to frame m = m
+may_go i from to frame (goes_next p e) = plain_next i from to p e
+may_go i from to frame (falls_through e h) = inl e
+may_go i from to frame (jumps_at_zero e h) = inr e
+may_go i from to frame (jumps_always e) = e
 
 -- the frame behind an instruction has the height that paths have there
 pub height_behind : (bits : ℕ) (i : Instr) (inputs : List Span) (old new : SpanFrameView) → IsBehind bits i inputs old new → length new.stack ≡ height_after i (length old.stack)
@@ -73,43 +79,36 @@ nothing_set zero k = refl
 nothing_set (suc n) zero = refl
 nothing_set (suc n) (suc k) = nothing_set n k
 
-module _ (bits : ℕ) (code : List Instr) (inputs : List Span) (F : ℕ → Option SpanFrameView) where
-  abbrev ArePast : ℕ → Type 0
-  ArePast n = (at : ℕ) → at < n → IsFrameOf (comes_from bits code inputs F at at) (F at)
-
-  least_at : (n from : ℕ) (f : SpanFrameView) → ArePast n → from < n → F from ≡ Some f → IsLeastFrame (comes_from bits code inputs F from from) f
-  least_at n from f past lt e = subst (IsFrameOf (comes_from bits code inputs F from from)) e (past from lt)
-
-  reached : (n bound to : ℕ) (f : SpanFrameView) → bound ≤ n → ArePast bound → comes_from bits code inputs F bound to f → IsReached code to (length f.stack)
-  reached n bound to f le past (inl s) =
+module _ (bits : ℕ) (code : List Instr) (inputs : List Span) where
+  reached : (n to : ℕ) (f : SpanFrameView) → comes_below bits code inputs n to f → IsReached code to (length f.stack)
+  reached zero to f s =
       (0, replicate 256 false, subst (λ (k : ℕ). IsPath code 0 k (length f.stack) (replicate 256 false)) (sym s.0) (subst (λ (h : ℕ). IsPath code 0 0 h (replicate 256 false)) (sym (ap length s.1.stack)) begins))
-  reached zero bound to f le past (inr l) = absurd (omega (arith, le, l.lower))
-  reached (suc n) bound to f le past (inr l) =
-      let h = least_at bound l.from l.frame past l.lower l.there in
-      let up = reached n l.from l.from h.some.0 (omega (arith, le, l.lower)) (λ at lt. past at (omega (arith, lt, l.lower))) h.some.1 in
+  reached (suc n) to f (inl c) = reached n to f c
+  reached (suc n) to f (inr l) =
+      let h = l.own in
+      let up = reached n n h.some.0 h.some.1 in
       let high : length h.some.0.stack ≡ length l.frame.stack = length_within h.some.0.stack l.frame.stack (h.holds h.some.0 h.some.1).stack' in
       let same : height_after l.instr (length h.some.0.stack) ≡ length f.stack = ap (height_after l.instr) high ∙ sym (height_behind bits l.instr inputs l.frame f l.behind) in
-      (suc up.0, set_after l.instr up.1, subst (λ (k : ℕ). IsPath code (suc up.0) to k (set_after l.instr up.1)) same (goes up.2 l.at (may_go l.instr l.from to l.frame l.comes)))
+      (suc up.0, set_after l.instr up.1, subst (λ (k : ℕ). IsPath code (suc up.0) to k (set_after l.instr up.1)) same (goes up.2 l.at (may_go l.instr n to l.frame l.comes)))
 
-  left_unset : (n bound to : ℕ) (f : SpanFrameView) (k : ℕ) → bound ≤ n → ArePast bound → comes_from bits code inputs F bound to f → local_of f k ≡ None → IsLeftUnset code to k
-  left_unset n bound to f k le past (inl s) e = (0, 0, replicate 256 false, subst (λ (j : ℕ). IsPath code 0 j 0 (replicate 256 false)) (sym s.0) begins, nothing_set 256 k)
-  left_unset zero bound to f k le past (inr l) e = absurd (omega (arith, le, l.lower))
-  left_unset (suc n) bound to f k le past (inr l) e =
-      let before = unset_behind bits l.instr inputs l.frame f k [] l.behind e in
-      let h = (least_at bound l.from l.frame past l.lower l.there).unset k before.0 in
-      let up = left_unset n l.from l.from h.0 k (omega (arith, le, l.lower)) (λ at lt. past at (omega (arith, lt, l.lower))) h.1 h.2 in
-      (suc up.0, height_after l.instr up.1, set_after l.instr up.2, goes up.3 l.at (may_go l.instr l.from to l.frame l.comes), (unset_behind bits l.instr inputs l.frame f k up.2 l.behind e).1 ∙ up.4)
+  left_unset : (n to : ℕ) (f : SpanFrameView) (k : ℕ) → comes_below bits code inputs n to f → local_of f k ≡ None → IsLeftUnset code to k
+  left_unset zero to f k s e = (0, 0, replicate 256 false, subst (λ (j : ℕ). IsPath code 0 j 0 (replicate 256 false)) (sym s.0) begins, nothing_set 256 k)
+  left_unset (suc n) to f k (inl c) e = left_unset n to f k c e
+  left_unset (suc n) to f k (inr l) e =
+      let h = l.own.unset k (unset_behind bits l.instr inputs l.frame f k [] l.behind e).0 in
+      let up = left_unset n n h.0 k h.1 h.2 in
+      (suc up.0, height_after l.instr up.1, set_after l.instr up.2, goes up.3 l.at (may_go l.instr n to l.frame l.comes), (unset_behind bits l.instr inputs l.frame f k up.2 l.behind e).1 ∙ up.4)
 
 -- ---- a place's frame
 
 module _ (bits : ℕ) (code : List Instr) (inputs : List Span) (here : ℕ) (old : List (Option SpanFrameView)) (s : Stands bits code inputs here old) where
-  led_there : (at : ℕ) (f : SpanFrameView) → here ≤ at → frame_at old at ≡ Some f → IsLeastFrame (comes_from bits code inputs s.frames here at) f
-  led_there at f le e = subst (IsFrameOf (comes_from bits code inputs s.frames here at)) e (s.ahead at le)
+  led_there : (at : ℕ) (f : SpanFrameView) → here ≤ at → frame_at old at ≡ Some f → IsLeastFrame (comes_below bits code inputs here at) f
+  led_there at f le e = subst (IsFrameOf (comes_below bits code inputs here at)) e (s.ahead at le)
 
   height_there : (at : ℕ) (f : SpanFrameView) → here ≤ at → frame_at old at ≡ Some f → IsReached code at (length f.stack)
   height_there at f le e =
       let h = led_there at f le e in
-      let up = reached bits code inputs s.frames here here at h.some.0 (omega arith) s.past h.some.1 in
+      let up = reached bits code inputs here at h.some.0 h.some.1 in
       subst (IsReached code at) (length_within h.some.0.stack f.stack (h.holds h.some.0 h.some.1).stack') up
 
   -- an instruction has what it needs in its place's frame
@@ -123,7 +122,7 @@ module _ (bits : ℕ) (code : List Instr) (inputs : List Span) (here : ℕ) (old
       is_set k (Some t) is there = refl
       is_set k None is there =
           let h = (led_there here frame (omega arith) e).unset k is in
-          let way = left_unset bits code inputs s.frames here here here h.0 k (omega arith) s.past h.1 h.2 in
+          let way = left_unset bits code inputs here here h.0 k h.1 h.2 in
           let can = (d.misses.acts way.0 here way.1 way.2 (Get k) way.3 there).supplied in
           let not = way.4 in
           absurd cc
@@ -165,14 +164,3 @@ is_plain (Binary op) f g = tt
 is_plain (Unary op) f g = tt
 is_plain (JumpIfZero to) f g = absurd (f to refl)
 is_plain (Jump to) f g = absurd (g to refl)
-
--- so paths go there
-pub plain_next : (i : Instr) (here : ℕ) → IsPlain i → MayGo i here (here + 1)
-plain_next (Push v) here p = refl
-plain_next (Input k) here p = refl
-plain_next (Keep k) here p = refl
-plain_next (Get k) here p = refl
-plain_next (Binary op) here p = refl
-plain_next (Unary op) here p = refl
-plain_next (JumpIfZero to) here p = absurd p
-plain_next (Jump to) here p = absurd p

@@ -103,8 +103,8 @@ spans_all k old other now w past =
 
 -- ---- locals
 
--- one local more, without a span, changes none
-pub unset_more : (l : List (Option Span)) (j : ℕ) → slice_index_or (l ++ None ∷ []) j None ≡ slice_index_or l j None
+-- one more None at a list's end changes nothing that is read, past the end either
+pub unset_more : {A : Type 0} (l : List (Option A)) (j : ℕ) → slice_index_or (l ++ None ∷ []) j None ≡ slice_index_or l j None
 unset_more [] zero = refl
 unset_more [] (suc j) = refl
 unset_more (o ∷ l) zero = refl

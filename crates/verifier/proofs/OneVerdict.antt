@@ -110,15 +110,15 @@ module _ (code : List Instr) (t : Table) (a b : ℕ) where
   bounded_same s s' x y e f p q =
       let w = inputs_same t a b s s' p.spans q.spans e f p.inputs q.inputs in
       let v = inputs_same t a b s' s q.spans p.spans (sym e) (sym f) q.inputs p.inputs in
-      p.bound' ∙ same_magnitude p.result q.result (gives_within (bits_of t.frac) code p.spans q.spans p.result q.result w p.gives q.gives) (gives_within (bits_of t.frac) code q.spans p.spans q.result p.result v q.gives p.gives) ∙ sym q.bound'
+      p.bound' ∙ same_magnitude p.result q.result (gives_within (bits_of t.frac) code p.spans q.spans w p.result q.result p.gives q.gives) (gives_within (bits_of t.frac) code q.spans p.spans v q.result p.result q.gives p.gives) ∙ sym q.bound'
 
   bounded_stopped : (s s' : Span) (x pc : ℕ) (kind : Fault) → s.lo ≡ s'.lo → s.hi ≡ s'.hi → IsBounded code t a b s x → IsStopped code t a b s' pc kind → ⊥
   bounded_stopped s s' x pc kind e f p q =
-      gives_no_stop (bits_of t.frac) code q.spans p.spans p.result pc kind (inputs_same t a b s' s q.spans p.spans (sym e) (sym f) q.inputs p.inputs) q.stops p.gives
+      gives_no_stop (bits_of t.frac) code q.spans p.spans (inputs_same t a b s' s q.spans p.spans (sym e) (sym f) q.inputs p.inputs) p.result pc kind q.stops p.gives
 
   stopped_same : (s s' : Span) (pc pc' : ℕ) (kind kind' : Fault) → s.lo ≡ s'.lo → s.hi ≡ s'.hi → IsStopped code t a b s pc kind → IsStopped code t a b s' pc' kind' → (pc ≡ pc') × (kind ≡ kind')
   stopped_same s s' pc pc' kind kind' e f p q =
-      stops_same (bits_of t.frac) code p.spans q.spans pc pc' kind kind' (inputs_same t a b s s' p.spans q.spans e f p.inputs q.inputs) (inputs_same t a b s' s q.spans p.spans (sym e) (sym f) q.inputs p.inputs) p.stops q.stops
+      stops_same (bits_of t.frac) code p.spans q.spans (inputs_same t a b s s' p.spans q.spans e f p.inputs q.inputs) (inputs_same t a b s' s q.spans p.spans (sym e) (sym f) q.inputs p.inputs) pc pc' kind kind' p.stops q.stops
 
   no_refusal : (x : ℕ) (f : VerifyFault) → (let r : Answer = Ok x in r) ≡ Err f → ⊥
   no_refusal x f e = absurd cc

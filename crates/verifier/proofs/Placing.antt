@@ -1,10 +1,10 @@
 -- Frames put in places.
-use Rattle.std.proofs.Common.{◌≡◌, ◌≢◌, ℕ, zero, suc, ◌+◌, ◌-◌, ◌<◌, ◌≤◌, List, [], ◌∷◌, length, Option, Some, None, refl, sym, ap, ◌∙◌, subst, arith, ℤ, pos, ⊎_elim, Bool, true, false, IsTrue, ◌↔◌}
+use Rattle.std.proofs.Common.{◌≡◌, ◌≢◌, ℕ, zero, suc, ◌-◌, ◌<◌, ◌≤◌, List, [], ◌∷◌, length, Option, Some, None, refl, sym, ap, ◌∙◌, subst, arith, ℤ, pos, ⊎_elim, Bool, true, false, IsTrue, ◌↔◌}
 use Rattle.std.specs.Prelude.{slice_get, slice_set, nat_lt, nat_le}
 use Rattle.std.specs.Ordering.{int_eq}
-use Rattle.std.proofs.lemmas.Bool.{cases_eq, cases_lt, and_parts, leb-true}
+use Rattle.std.proofs.lemmas.Bool.{cases_eq, and_parts, leb-true}
 use Rattle.std.proofs.lemmas.Bool.Decides.{Decides-int_eq}
-use Rattle.std.proofs.lemmas.List.{get_or-set_same, get_or-set_other, get_or_past}
+use Rattle.std.proofs.lemmas.List.{get_or-set_same, get_or-set_other}
 use Rattle.std.proofs.Math.ListN.{length-set}
 use Rattle.interval_domain.specs.declared.span.Span.{Span}
 use Rattle.interval_domain.specs.Spans.{IsMember}
@@ -12,7 +12,7 @@ use Rattle.kernel_code.specs.declared.instructions.Instr.{Instr}
 use Rattle.kernel_code.specs.declared.instructions.Instr.TheVariants.{JumpIfZero, Jump}
 use Rattle.kernel_code.specs.Code.{IsCode}
 use Rattle.verifier.specs.Frames.{SpanFrameView, Pops, Widens}
-use Rattle.verifier.specs.Slices.{frame_at, Takes, CanMeet, IsJoined, Joins, Branches, may_jump}
+use Rattle.verifier.specs.Slices.{frame_at, CanMeet, IsJoined, Joins, Branches, may_jump}
 use Rattle.verifier.proofs.Within.{length_within}
 
 set_again : (l : List (Option SpanFrameView)) (k : ℕ) (a b : Option SpanFrameView) → slice_set (slice_set l k a) k b ≡ slice_set l k b
@@ -62,22 +62,6 @@ met_still at to frame copy old new same j m =
     (λ (e : to ≡ at). subst (λ (k : ℕ). CanMeet (frame_at new k) (length frame.stack)) (sym e) (subst (λ (f : SpanFrameView). CanMeet (frame_at new at) (length f.stack)) same (met_joined _ _ copy j.there)))
     (λ (n : to ≢ at). subst (λ (o : Option SpanFrameView). CanMeet o (length frame.stack)) (sym (j.others to n)) m)
     (cases_eq to at)
-
--- one place after another is cleared
-pub takes_none : (at : ℕ) (o : Option SpanFrameView) (old new : List (Option SpanFrameView)) → Takes at o old new → ((k : ℕ) → k < at → frame_at old k ≡ None) → (k : ℕ) → k < at + 1 → frame_at new k ≡ None
-takes_none at o old new t none k lt =
-    ⊎_elim
-    (λ (e : k ≡ at). subst (λ (i : ℕ). frame_at new i ≡ None) (sym e) t.none)
-    (λ (n : k ≢ at). t.others k n ∙ none k (omega (arith, lt, n)))
-    (cases_eq k at)
-
--- where no place below the end of the list has a frame, no place has one
-pub none_past : (at : ℕ) (places : List (Option SpanFrameView)) → ((k : ℕ) → k < at → frame_at places k ≡ None) → length places ≤ at → (k : ℕ) → frame_at places k ≡ None
-none_past at places none past k =
-    ⊎_elim
-    (λ (lt : k < at). none k lt)
-    (λ (le : at ≤ k). get_or_past places k None (omega (arith, le, past)))
-    (cases_lt k at)
 
 -- ---- branches
 

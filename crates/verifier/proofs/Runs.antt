@@ -1,5 +1,5 @@
 -- Runs on inputs in some spans stand in the frames of their places, so they end with a value in the span that the code gives.
-use Rattle.std.proofs.Common.{◌≡◌, ◌≢◌, ℕ, zero, suc, ◌+◌, ◌<◌, ◌≤◌, List, [], ◌∷◌, length, Option, Some, None, Ok, refl, sym, ap, ◌∙◌, subst, arith, ℤ, pos, negsuc, ⊎_elim, inl, inr, true, replicate}
+use Rattle.std.proofs.Common.{◌≡◌, ◌≢◌, ℕ, zero, suc, ◌+◌, ◌<◌, ◌≤◌, List, [], ◌∷◌, length, Option, Some, None, Ok, refl, sym, ap, ◌∙◌, subst, arith, ℤ, pos, negsuc, ⊎_elim, inl, inr, true}
 use Rattle.std.specs.Prelude.{slice_get, slice_set, slice_index_or, nat_lt}
 use Rattle.std.proofs.lemmas.Bool.{cases_eq, cases_lt, lt-ltb}
 use Rattle.std.proofs.lemmas.Int.{ints}
@@ -14,7 +14,7 @@ use Rattle.kernel_code.specs.Code.{JumpsForward}
 use Rattle.kernel_code.specs.Machine.{State, Ends, act, after, at_zero, binary_of, branched, given, kept, on_one, on_two, pushed, pushed_if, start, unary_of}
 use Rattle.kernel_code.proofs.Runs.{after_more, ends_there, turn_leads}
 use Rattle.verifier.specs.Frames.{SpanFrameView, AreWithin, IsFrameWithin, IsLocalWithin, Pushes, local_of}
-use Rattle.verifier.specs.Places.{AreSpanFrames, GivesSpan, IsBehind, IsFrameOf, MayCome, comes_from}
+use Rattle.verifier.specs.Places.{GivesSpan, IsBehind, MayCome, Passes, comes_below, falls_through, goes_next, jumps_always, jumps_at_zero, led_on, unreached}
 
 -- ---- stacks and locals within frames
 
@@ -95,27 +95,27 @@ record Leads (bits : ℕ) (i : Instr) (xs : List ℤ) (here : ℕ) (frame new : 
   within : AreIn new state.stack state.locals
 
 sent_on : (target here : ℕ) (v : ℤ) (s : Span) (frame : SpanFrameView) (rest : List Span) → frame.stack ≡ s ∷ rest → IsMember v s → MayCome (JumpIfZero target) here (at_zero v target (here + 1)) frame
-sent_on target here (pos zero) s frame rest e m = inr (refl, record { span = s; rest = rest; top = e; it = m })
-sent_on target here (pos (suc n)) s frame rest e m = inl (refl, record { span = s; rest = rest; top = e; it = record { number = pos (suc n); member = m; other = λ z. absurd cc } })
-sent_on target here (negsuc n) s frame rest e m = inl (refl, record { span = s; rest = rest; top = e; it = record { number = negsuc n; member = m; other = λ z. absurd cc } })
+sent_on target here (pos zero) s frame rest e m = jumps_at_zero refl (record { span = s; rest = rest; top = e; it = m })
+sent_on target here (pos (suc n)) s frame rest e m = falls_through refl (record { span = s; rest = rest; top = e; it = record { number = pos (suc n); member = m; other = λ z. absurd cc } })
+sent_on target here (negsuc n) s frame rest e m = falls_through refl (record { span = s; rest = rest; top = e; it = record { number = negsuc n; member = m; other = λ z. absurd cc } })
 
 leads : (bits : ℕ) (i : Instr) (xs : List ℤ) (inputs : List Span) (here : ℕ) (old new : SpanFrameView) (ys : List ℤ) (ls : List (Option ℤ)) → AreInputsOf xs inputs → AreIn old ys ls → IsBehind bits i inputs old new → Leads bits i xs here old new ys ls
 leads bits (Push v) xs inputs here old new ys ls hx h b =
     let one = b.one in
     let m : IsMember v b.span = record { at_least = omega (arith, ints, one.lo'); at_most = omega (arith, ints, one.hi') } in
     let r = push_leads v b.span here ys ls old new h b.pushes m in
-    record { state = record { pc = here + 1; stack = v ∷ ys; locals = ls }; acts = r.0; comes = refl; within = r.1 }
+    record { state = record { pc = here + 1; stack = v ∷ ys; locals = ls }; acts = r.0; comes = goes_next tt refl; within = r.1 }
 leads bits (Input k) xs inputs here old new ys ls hx h b =
     let g = hx.each k b.span b.there in
     let r = push_leads g.0 b.span here ys ls old new h b.pushes g.2 in
-    record { state = record { pc = here + 1; stack = g.0 ∷ ys; locals = ls }; acts = ap (λ o. pushed_if MissingInput o here ys ls) g.1 ∙ r.0; comes = refl; within = r.1 }
+    record { state = record { pc = here + 1; stack = g.0 ∷ ys; locals = ls }; acts = ap (λ o. pushed_if MissingInput o here ys ls) g.1 ∙ r.0; comes = goes_next tt refl; within = r.1 }
 leads bits (Keep k) xs inputs here old new ys ls hx h b =
     let t = tops ys b.span b.between.stack (subst (AreMembers ys) b.pops.stack h.on_stack) in
     let there : k < length ls = omega (arith, h.long, b.few) in
     record {
       state = record { pc = here + 1; stack = t.1; locals = slice_set ls k (Some t.0) };
       acts = ap (λ l. kept k here l ls) t.2;
-      comes = refl;
+      comes = goes_next tt refl;
       within = record {
         on_stack = subst (AreMembers t.1) (sym b.sets.stack) t.4;
         long = length-set ls k (Some t.0) ∙ h.long;
@@ -130,7 +130,7 @@ leads bits (Keep k) xs inputs here old new ys ls hx h b =
 leads bits (Get k) xs inputs here old new ys ls hx h b =
     let g = local_set (slice_index_or ls k None) b.span (subst (IsLocalOf (slice_index_or ls k None)) b.there (h.set k)) in
     let r = push_leads g.0 b.span here ys ls old new h b.pushes g.2 in
-    record { state = record { pc = here + 1; stack = g.0 ∷ ys; locals = ls }; acts = ap (λ o. pushed_if MissingLocal o here ys ls) g.1 ∙ r.0; comes = refl; within = r.1 }
+    record { state = record { pc = here + 1; stack = g.0 ∷ ys; locals = ls }; acts = ap (λ o. pushed_if MissingLocal o here ys ls) g.1 ∙ r.0; comes = goes_next tt refl; within = r.1 }
 leads bits (Binary op) xs inputs here old new ys ls hx h b =
     let t = tops ys b.b (b.a ∷ b.rest) (subst (AreMembers ys) b.taken h.on_stack) in
     let u = tops t.1 b.a b.rest t.4 in
@@ -138,7 +138,7 @@ leads bits (Binary op) xs inputs here old new ys ls hx h b =
     record {
       state = record { pc = here + 1; stack = r.0 ∷ u.1; locals = ls };
       acts = ap (λ l. on_two bits op here l ls) (t.2 ∙ ap (λ l. t.0 ∷ l) u.2) ∙ ap (λ v. given v here u.1 ls) r.1;
-      comes = refl;
+      comes = goes_next tt refl;
       within = record { on_stack = subst (AreMembers (r.0 ∷ u.1)) (sym b.given) (r.2, u.4); long = h.long; set = same_set old new ls b.locals h.set };
     }
 leads bits (Unary op) xs inputs here old new ys ls hx h b =
@@ -147,7 +147,7 @@ leads bits (Unary op) xs inputs here old new ys ls hx h b =
     record {
       state = record { pc = here + 1; stack = r.0 ∷ t.1; locals = ls };
       acts = ap (λ l. on_one bits op here l ls) t.2 ∙ ap (λ v. given v here t.1 ls) r.1;
-      comes = refl;
+      comes = goes_next tt refl;
       within = record { on_stack = subst (AreMembers (r.0 ∷ t.1)) (sym b.given) (r.2, t.4); long = h.long; set = same_set old new ls b.locals h.set };
     }
 leads bits (JumpIfZero target) xs inputs here old new ys ls hx h b =
@@ -159,19 +159,9 @@ leads bits (JumpIfZero target) xs inputs here old new ys ls hx h b =
       within = record { on_stack = t.4; long = h.long; set = same_set old new ls b.pops.locals h.set };
     }
 leads bits (Jump to) xs inputs here old new ys ls hx h b =
-    record { state = record { pc = to; stack = ys; locals = ls }; acts = refl; comes = refl; within = subst (λ (f : SpanFrameView). AreIn f ys ls) (sym b) h }
+    record { state = record { pc = to; stack = ys; locals = ls }; acts = refl; comes = jumps_always refl; within = subst (λ (f : SpanFrameView). AreIn f ys ls) (sym b) h }
 
 -- ---- whole runs
-
--- the run on these inputs comes to the end, and stands in the end's frame
-record ComesToEnd (bits : ℕ) (code : List Instr) (xs : List ℤ) (frames : ℕ → Option SpanFrameView) : Type 0 where
-  n : ℕ
-  state : State
-  reached : after bits code xs n ≡ Some state
-  last : state.pc ≡ length code
-  frame : SpanFrameView
-  there : frames (length code) ≡ Some frame
-  within : AreIn frame state.stack state.locals
 
 -- the run on these inputs gives a value in the span
 pub record GivesIn (bits : ℕ) (code : List Instr) (xs : List ℤ) (s : Span) : Type 0 where
@@ -181,36 +171,60 @@ pub record GivesIn (bits : ℕ) (code : List Instr) (xs : List ℤ) (s : Span) :
   pub member : IsMember value s
 
 module _ (bits : ℕ) (code : List Instr) (inputs : List Span) (forward : JumpsForward code) where
-  held : (F : ℕ → Option SpanFrameView) (to : ℕ) (new : SpanFrameView) (ys : List ℤ) (ls : List (Option ℤ)) → AreSpanFrames bits code inputs (length code) F → to ≤ length code → comes_from bits code inputs F to to new → AreIn new ys ls → (f : SpanFrameView) × (F to ≡ Some f) × AreIn f ys ls
-  held F to new ys ls are le comes m = at (F to) refl
-    where
-      at : (o : Option SpanFrameView) → F to ≡ o → (f : SpanFrameView) × (F to ≡ Some f) × AreIn f ys ls
-      at None e = absurd ((subst (IsFrameOf (comes_from bits code inputs F to to)) e (are.each to le)) new comes)
-      at (Some f) e =
-          let least = subst (IsFrameOf (comes_from bits code inputs F to to)) e (are.each to le) in
-          (f, e, in_within new f ys ls (least.holds new comes) m)
+  -- after n instructions the run stands in a frame that comes to its place
+  record StandsIn (xs : List ℤ) (n : ℕ) (state : State) : Type 0 where
+    reached : after bits code xs n ≡ Some state
+    within : state.pc ≤ length code
+    frame : SpanFrameView
+    comes : comes_below bits code inputs state.pc state.pc frame
+    holds : AreIn frame state.stack state.locals
 
-  goes_to_end : (F : ℕ → Option SpanFrameView) (xs : List ℤ) → AreSpanFrames bits code inputs (length code) F → AreInputsOf xs inputs → (left n : ℕ) (s : State) (f : SpanFrameView) → length code ≤ s.pc + left → s.pc ≤ length code → after bits code xs n ≡ Some s → F s.pc ≡ Some f → AreIn f s.stack s.locals → ComesToEnd bits code xs F
-  goes_to_end F xs are hx zero n s f far within reached there m =
-      let last : s.pc ≡ length code = omega (arith, far, within) in
-      record { n = n; state = s; reached = reached; last = last; frame = f; there = subst (λ (k : ℕ). F k ≡ Some f) last there; within = m }
-  goes_to_end F xs are hx (suc left) n s f far within reached there m =
+  comes_later : (m n to : ℕ) (f : SpanFrameView) → n ≤ m → comes_below bits code inputs n to f → comes_below bits code inputs m to f
+  comes_later zero n to f le c = let e : n ≡ 0 = omega (arith, le) in subst (λ (k : ℕ). comes_below bits code inputs k to f) e c
+  comes_later (suc m) n to f le c =
       ⊎_elim
-      (λ (lt : s.pc < length code).
-      let on = are.goes s.pc f lt there in
-      let l = leads bits on.instr xs inputs s.pc f on.new s.stack s.locals hx m on.behind in
-      let k = turn_leads bits code xs s.pc s.stack s.locals l.state on.instr forward lt on.at l.acts in
-      let h = held F l.state.pc on.new l.state.stack l.state.locals are k.1 (inr (record { from = s.pc; lower = k.0; frame = f; there = there; instr = on.instr; at = on.at; comes = l.comes; behind = on.behind })) l.within in
-      goes_to_end F xs are hx left (suc n) l.state h.0 (omega (arith, far, k.0)) k.1 (after_more bits code xs n s l.state on.instr reached on.at l.acts) h.1 h.2)
-      (λ (ge : length code ≤ s.pc). goes_to_end F xs are hx left n s f (omega (arith, ge)) within reached there m)
+      (λ (e : n ≡ suc m). subst (λ (k : ℕ). comes_below bits code inputs k to f) e c)
+      (λ (other : n ≢ suc m). inl (comes_later m n to f (omega (arith, le, other)) c))
+      (cases_eq n (suc m))
+
+  -- the next instruction leads it on
+  goes_once : (xs : List ℤ) (n : ℕ) (s : State) → AreInputsOf xs inputs → StandsIn xs n s → s.pc < length code → Passes bits code inputs s.pc → (t : State) × StandsIn xs (suc n) t × (s.pc < t.pc)
+  goes_once xs n s hx h lt (unreached none) = absurd (none h.frame h.comes)
+  goes_once xs n s hx h lt (led_on {frame = f} {i = i} new least at behind) =
+      let l = leads bits i xs inputs s.pc f new s.stack s.locals hx (in_within h.frame f s.stack s.locals (least.holds h.frame h.comes) h.holds) behind in
+      let k = turn_leads bits code xs s.pc s.stack s.locals l.state i forward lt at l.acts in (
+        l.state,
+        record {
+          reached = after_more bits code xs n s l.state i h.reached at l.acts;
+          within = k.1;
+          frame = new;
+          comes = comes_later l.state.pc (suc s.pc) l.state.pc new (omega (arith, k.0)) (inr (record { frame = f; own = least; instr = i; at = at; comes = l.comes; behind = behind }));
+          holds = l.within;
+        },
+        k.0,
+      )
+
+  abbrev ComesToEnd : List ℤ → Type 0
+  ComesToEnd xs = (n : ℕ) × (s : State) × StandsIn xs n s × (s.pc ≡ length code)
+
+  goes_to_end : (xs : List ℤ) → AreInputsOf xs inputs → ((at : ℕ) → at < length code → Passes bits code inputs at) → (left n : ℕ) (s : State) → length code ≤ s.pc + left → StandsIn xs n s → ComesToEnd xs
+  goes_to_end xs hx passes zero n s far h = (n, s, h, omega (arith, far, h.within))
+  goes_to_end xs hx passes (suc left) n s far h =
+      ⊎_elim
+      (λ (lt : s.pc < length code). let t = goes_once xs n s hx h lt (passes s.pc lt) in goes_to_end xs hx passes left (suc n) t.0 (omega (arith, far, t.2)) t.1)
+      (λ (ge : length code ≤ s.pc). (n, s, h, omega (arith, ge, h.within)))
       (cases_lt s.pc (length code))
 
-  comes_to_end : (F : ℕ → Option SpanFrameView) (xs : List ℤ) → AreSpanFrames bits code inputs (length code) F → AreInputsOf xs inputs → ComesToEnd bits code xs F
-  comes_to_end F xs are hx =
-      let first : SpanFrameView = record { stack = []; locals = [] } in
-      let m : AreIn first [] (replicate 256 None) = record { on_stack = tt; long = length-replicate {A = Option ℤ} 256 None; set = λ k. tt } in
-      let h = held F 0 first [] (replicate 256 None) are (omega arith) (inl (refl, record { stack = refl; unset = λ k. refl })) m in
-      goes_to_end F xs are hx (length code) 0 start h.0 (omega arith) (omega arith) refl h.1 h.2
+  comes_to_end : (xs : List ℤ) → AreInputsOf xs inputs → ((at : ℕ) → at < length code → Passes bits code inputs at) → ComesToEnd xs
+  comes_to_end xs hx passes =
+      goes_to_end xs hx passes (length code) 0 start (omega arith)
+      (record {
+        reached = refl;
+        within = omega arith;
+        frame = record { stack = []; locals = [] };
+        comes = (refl, record { stack = refl; unset = λ k. refl });
+        holds = record { on_stack = tt; long = length-replicate {A = Option ℤ} 256 None; set = λ k. tt };
+      })
 
   one_member : (ys : List ℤ) (s : Span) → AreMembers ys (s ∷ []) → (v : ℤ) × (ys ≡ v ∷ []) × IsMember v s
   one_member [] s h = absurd h
@@ -220,15 +234,14 @@ module _ (bits : ℕ) (code : List Instr) (inputs : List Span) (forward : JumpsF
   -- where the code gives a span on the spans of some inputs, its run on these inputs gives a value in it
   pub gives_in : (xs : List ℤ) (s : Span) → GivesSpan bits code inputs s → AreInputsOf xs inputs → GivesIn bits code xs s
   gives_in xs s g hx =
-      let e = comes_to_end g.frames xs g.are hx in
-      let there = g.there in
-      let there' = e.there in
-      let same : e.frame ≡ g.frame = cc in
-      let top : e.frame.stack ≡ s ∷ [] = ap (λ (f : SpanFrameView). f.stack) same ∙ g.alone in
-      let o = one_member e.state.stack s (subst (AreMembers e.state.stack) top e.within.on_stack) in
-      let st : State = record { pc = e.state.pc; stack = o.0 ∷ []; locals = e.state.locals } in
-      let reached : after bits code xs e.n ≡ Some st = e.reached ∙ ap (λ (l : List ℤ). Some (record { pc = e.state.pc; stack = l; locals = e.state.locals })) o.1 in
-      record { value = o.0; n = e.n; ends = ends_there bits code xs e.n st reached (omega (arith, e.last)); member = o.2 }
+      let e = comes_to_end xs hx g.passes in
+      let h = e.2 in
+      let within = g.least.holds h.frame (subst (λ (k : ℕ). comes_below bits code inputs k k h.frame) e.3 h.comes) in
+      let m = in_within h.frame g.frame e.1.stack e.1.locals within h.holds in
+      let o = one_member e.1.stack s (subst (AreMembers e.1.stack) g.alone m.on_stack) in
+      let st : State = record { pc = e.1.pc; stack = o.0 ∷ []; locals = e.1.locals } in
+      let reached : after bits code xs e.0 ≡ Some st = h.reached ∙ ap (λ (l : List ℤ). Some (record { pc = e.1.pc; stack = l; locals = e.1.locals })) o.1 in
+      record { value = o.0; n = e.0; ends = ends_there bits code xs e.0 st reached (omega (arith, e.3)); member = o.2 }
 
   -- some inputs are in the spans
   least : List Span → List ℤ
@@ -243,8 +256,8 @@ module _ (bits : ℕ) (code : List Instr) (inputs : List Span) (forward : JumpsF
       (t.lo, refl, subst (λ (u : Span). IsMember t.lo u) same (record { at_least = omega (arith, ints); at_most = t.ordered }))
   least_in (t ∷ ss) (suc k) s e = least_in ss k s e
 
-  -- so the end has a frame
-  pub some_end : (F : ℕ → Option SpanFrameView) → AreSpanFrames bits code inputs (length code) F → F (length code) ≡ None → ⊥
-  some_end F are none =
-      let there = (comes_to_end F (least inputs) are (record { each = least_in inputs })).there in
-      cc
+  -- so something comes to the end
+  pub some_end : ((at : ℕ) → at < length code → Passes bits code inputs at) → ((f : SpanFrameView) → comes_below bits code inputs (length code) (length code) f → ⊥) → ⊥
+  some_end passes none =
+      let e = comes_to_end (least inputs) (record { each = least_in inputs }) passes in
+      none e.2.frame (subst (λ (k : ℕ). comes_below bits code inputs k k e.2.frame) e.3 e.2.comes)

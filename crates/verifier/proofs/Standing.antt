@@ -1,17 +1,17 @@
 -- The frames of all places, one place after another.
-use Rattle.std.proofs.Common.{◌≡◌, ◌≢◌, ℕ, zero, suc, ◌+◌, ◌<◌, ◌≤◌, List, [], ◌∷◌, length, Option, Some, None, refl, sym, ap, ◌∙◌, subst, arith, ⊎_elim, inl, inr, if◌then◌else◌, ℤ, pos, negsuc, true, false}
-use Rattle.std.specs.Prelude.{◌⊎◌, slice_get, nat_lt}
-use Rattle.std.proofs.lemmas.Bool.{cases_eq, cases_lt, lt-ltb, le-ltb}
+use Rattle.std.proofs.Common.{◌≡◌, ◌≢◌, ℕ, zero, suc, ◌+◌, ◌<◌, List, [], ◌∷◌, length, Option, Some, None, refl, sym, ap, ◌∙◌, subst, arith, ⊎_elim, inl, inr, ℤ, pos, negsuc}
+use Rattle.std.specs.Prelude.{◌⊎◌, slice_get}
+use Rattle.std.proofs.lemmas.Bool.{cases_eq}
 use Rattle.std.proofs.lemmas.Int.{ints}
 use Rattle.std.proofs.lemmas.List.{nil_from_length}
 use Rattle.fixed.specs.declared.faults.Fault.{Fault}
 use Rattle.interval_domain.specs.declared.span.Span.{Span}
 use Rattle.kernel_code.specs.declared.instructions.Instr.{Instr}
-use Rattle.kernel_code.specs.declared.instructions.Instr.TheVariants.{Push, Input, Keep, Get, Binary, Unary, JumpIfZero, Jump}
+use Rattle.kernel_code.specs.declared.instructions.Instr.TheVariants.{JumpIfZero, Jump}
 use Rattle.verifier.specs.Frames.{SpanFrameView, IsLocalWithin, IsFrameWithin, IsPlain, IsStart, Pops, local_of}
-use Rattle.verifier.specs.Places.{IsBehind, HasOther, HasZero, HasTop, MayCome, IsLed, comes_from, IsLeastFrame, IsFrameOf, GoesOn, AreSpanFrames, GivesSpan, StopsAt, Stops}
-use Rattle.verifier.specs.Slices.{frame_at, Takes, IsJoined, Joins, Branches, goes_on, jumps, may_jump, Stands}
-use Rattle.verifier.proofs.Within.{behind_within, frame_refl, frame_trans, from_stacks, inputs_refl}
+use Rattle.verifier.specs.Places.{GivesSpan, HasOther, HasTop, HasZero, IsBehind, IsFrameOf, IsLeastFrame, IsLed, MayCome, Passes, Stops, StopsAt, comes_below, falls_through, goes_next, jumps_always, jumps_at_zero, led_on, unreached}
+use Rattle.verifier.specs.Slices.{Branches, IsJoined, Joins, Stands, Takes, frame_at, goes_on, jumps, may_jump}
+use Rattle.verifier.proofs.Within.{behind_within, come_within, frame_trans, from_stacks, inputs_refl}
 
 -- ---- joins
 
@@ -50,91 +50,26 @@ same_place led led' (Some e) up down before =
       unset = λ k none. let u = before.unset k none in (u.0, up u.0 u.1, u.2);
     }
 
+-- ---- where an instruction may go
+
+plain_only : (i : Instr) (here to : ℕ) (frame : SpanFrameView) → IsPlain i → MayCome i here to frame → to ≡ here + 1
+plain_only i here to frame p (goes_next q e) = e
+plain_only i here to frame p (falls_through e h) = e
+plain_only i here to frame p (jumps_at_zero e h) = absurd p
+plain_only i here to frame p (jumps_always e) = absurd p
+
+jump_only : (target here to : ℕ) (frame : SpanFrameView) → MayCome (Jump target) here to frame → to ≡ target
+jump_only target here to frame (goes_next q e) = absurd q
+jump_only target here to frame (jumps_always e) = e
+
+ways : (here target to : ℕ) (frame : SpanFrameView) → MayCome (JumpIfZero target) here to frame → ((to ≡ here + 1) × HasTop HasOther frame) ⊎ ((to ≡ target) × HasTop HasZero frame)
+ways here target to frame (goes_next q e) = absurd q
+ways here target to frame (falls_through e h) = inl (e, h)
+ways here target to frame (jumps_at_zero e h) = inr (e, h)
+
 -- ---- one place more
 
--- the frames so far, and one from a place on
-put : (ℕ → Option SpanFrameView) → ℕ → Option SpanFrameView → ℕ → Option SpanFrameView
-put frames here o k = if nat_lt k here then frames k else o
-
-put_below : (frames : ℕ → Option SpanFrameView) (here k : ℕ) (o : Option SpanFrameView) → k < here → put frames here o k ≡ frames k
-unfolding put
-put_below frames here k o lt = let t : nat_lt k here ≡ true = lt-ltb k here lt in rw t refl
-
-put_here : (frames : ℕ → Option SpanFrameView) (here : ℕ) (o : Option SpanFrameView) → put frames here o here ≡ o
-unfolding put
-put_here frames here o = let t : nat_lt here here ≡ false = le-ltb here here (omega arith) in rw t refl
-
--- the frame `led`, to which the instruction leads from the frame at this place
-pub record IsLedHere (bits : ℕ) (code : List Instr) (inputs : List Span) (here to : ℕ) (o : Option SpanFrameView) (led : SpanFrameView) : Type 0 where
-  pub frame : SpanFrameView
-  pub there : o ≡ Some frame
-  pub instr : Instr
-  pub at : slice_get code here ≡ Some instr
-  pub comes : MayCome instr here to frame
-  pub behind : IsBehind bits instr inputs frame led
-
 module _ (bits : ℕ) (code : List Instr) (inputs : List Span) where
-  led_up : (F G : ℕ → Option SpanFrameView) (bound bound' to : ℕ) (f : SpanFrameView) → bound ≤ bound' → ((k : ℕ) → k < bound → G k ≡ F k) → comes_from bits code inputs F bound to f → comes_from bits code inputs G bound' to f
-  led_up F G bound bound' to f le same (inl s) = inl s
-  led_up F G bound bound' to f le same (inr l) =
-      inr (record { from = l.from; lower = omega (arith, l.lower, le); frame = l.frame; there = same l.from l.lower ∙ l.there; instr = l.instr; at = l.at; comes = l.comes; behind = l.behind })
-
-  led_more : (F : ℕ → Option SpanFrameView) (here to : ℕ) (o : Option SpanFrameView) (f : SpanFrameView) → comes_from bits code inputs F here to f → comes_from bits code inputs (put F here o) (here + 1) to f
-  led_more F here to o f l = led_up F (put F here o) here (here + 1) to f (omega arith) (λ k lt. put_below F here k o lt) l
-
-  led_less : (F : ℕ → Option SpanFrameView) (here to : ℕ) (o : Option SpanFrameView) (f : SpanFrameView) → comes_from bits code inputs (put F here o) (here + 1) to f → comes_from bits code inputs F here to f ⊎ IsLedHere bits code inputs here to o f
-  led_less F here to o f (inl s) = inl (inl s)
-  led_less F here to o f (inr l) =
-      ⊎_elim
-      (λ (lt : l.from < here).
-      inl (inr (record { from = l.from; lower = lt; frame = l.frame; there = sym (put_below F here l.from o lt) ∙ l.there; instr = l.instr; at = l.at; comes = l.comes; behind = l.behind })))
-      (λ (le : here ≤ l.from).
-      let e : l.from ≡ here = omega (arith, le, l.lower) in
-      inr (record {
-        frame = l.frame;
-        there = sym (put_here F here o) ∙ ap (put F here o) (sym e) ∙ l.there;
-        instr = l.instr;
-        at = ap (slice_get code) (sym e) ∙ l.at;
-        comes = subst (λ (k : ℕ). MayCome l.instr k to l.frame) e l.comes;
-        behind = l.behind;
-      }))
-      (cases_lt l.from here)
-
-  led_here : (F : ℕ → Option SpanFrameView) (here to : ℕ) (o : Option SpanFrameView) (f : SpanFrameView) → IsLedHere bits code inputs here to o f → comes_from bits code inputs (put F here o) (here + 1) to f
-  led_here F here to o f l = inr (record { from = here; lower = omega arith; frame = l.frame; there = put_here F here o ∙ l.there; instr = l.instr; at = l.at; comes = l.comes; behind = l.behind })
-
-  -- the frames so far, and the one that was taken here
-  past_more : (F : ℕ → Option SpanFrameView) (here at : ℕ) (o : Option SpanFrameView) → ((k : ℕ) → k < here → IsFrameOf (comes_from bits code inputs F k k) (F k)) → IsFrameOf (comes_from bits code inputs F here here) o → at ≤ here
-      → IsFrameOf (comes_from bits code inputs (put F here o) at at) (put F here o at)
-  past_more F here at o past now le =
-      let up = λ (f : SpanFrameView). led_up F (put F here o) at at at f (omega arith) (λ k lt. put_below F here k o (omega (arith, lt, le))) in
-      let down = λ (f : SpanFrameView). led_up (put F here o) F at at at f (omega arith) (λ k lt. sym (put_below F here k o (omega (arith, lt, le)))) in
-      ⊎_elim
-      (λ (lt : at < here).
-      subst (IsFrameOf (comes_from bits code inputs (put F here o) at at)) (sym (put_below F here at o lt)) (same_place (comes_from bits code inputs F at at) (comes_from bits code inputs (put F here o) at at) (F at) up down (past at lt)))
-      (λ (ge : here ≤ at).
-      let e : here ≡ at = omega (arith, ge, le) in
-      let is : put F here o at ≡ o = ap (put F here o) (sym e) ∙ put_here F here o in
-      subst (IsFrameOf (comes_from bits code inputs (put F here o) at at)) (sym is)
-      (same_place (comes_from bits code inputs F at at) (comes_from bits code inputs (put F here o) at at) o up down (subst (λ (k : ℕ). IsFrameOf (comes_from bits code inputs F k k) o) e now)))
-      (cases_lt at here)
-
-  goes_more : (F : ℕ → Option SpanFrameView) (here at : ℕ) (o : Option SpanFrameView) (frame : SpanFrameView) → ((k : ℕ) (f : SpanFrameView) → k < here → F k ≡ Some f → GoesOn bits code inputs k f) → ((f : SpanFrameView) → o ≡ Some f → GoesOn bits code inputs here f) → at < here + 1
-      → put F here o at ≡ Some frame → GoesOn bits code inputs at frame
-  goes_more F here at o frame goes now lt e =
-      ⊎_elim
-      (λ (below : at < here). goes at frame below (sym (put_below F here at o below) ∙ e))
-      (λ (ge : here ≤ at).
-      let same : here ≡ at = omega (arith, ge, lt) in
-      let is : o ≡ Some frame = sym (put_here F here o) ∙ ap (put F here o) same ∙ e in
-      subst (λ (k : ℕ). GoesOn bits code inputs k frame) same (now frame is))
-      (cases_lt at here)
-
-  -- ---- the first place
-
-  no_led : (F : ℕ → Option SpanFrameView) (to : ℕ) (f : SpanFrameView) → IsLed bits code inputs F 0 to f → ⊥
-  no_led F to f l = absurd (omega (arith, l.lower))
-
   start_within : (f g : SpanFrameView) → IsStart f → IsStart g → IsFrameWithin f g
   start_within f g s t =
       record {
@@ -145,45 +80,43 @@ module _ (bits : ℕ) (code : List Instr) (inputs : List Span) where
   -- at the start the frames stand: the first place has the start's frame, and no other has any
   pub stands_first : (frame : SpanFrameView) (old new : List (Option SpanFrameView)) → IsStart frame → ((at : ℕ) → frame_at old at ≡ None) → Joins 0 frame old new → Stands bits code inputs 0 new
   stands_first frame old new start none j =
-      let F : ℕ → Option SpanFrameView = λ k. None in
       record {
-        frames = F;
-        past = λ at lt. absurd (omega (arith, lt));
-        goes = λ at f lt e. absurd (omega (arith, lt));
+        passes = λ at lt. absurd (omega (arith, lt));
         ahead = λ at le.
             ⊎_elim
             (λ (e : at ≡ 0).
-            subst (λ (k : ℕ). IsFrameOf (comes_from bits code inputs F 0 k) (frame_at new k)) (sym e)
-            (joined_place (λ f. ⊥) (comes_from bits code inputs F 0 0) frame (frame_at old 0) (frame_at new 0)
-            (λ f x. absurd x)
-            (λ f l. ⊎_elim (λ (x : (0 ≡ 0) × IsStart f). inr (start_within f frame x.1 start)) (λ (x : IsLed bits code inputs F 0 0 f). absurd (no_led F 0 f x)) l)
-            (inl (refl, start))
-            (subst (IsFrameOf (λ f. ⊥)) (sym (none 0)) (λ f x. x))
-            j.there))
-            (λ (n : at ≢ 0).
-            subst (IsFrameOf (comes_from bits code inputs F 0 at)) (sym (j.others at n ∙ none at))
-            (λ f l. ⊎_elim (λ (x : (at ≡ 0) × IsStart f). n x.0) (λ (x : IsLed bits code inputs F 0 at f). no_led F at f x) l))
+            subst (λ (k : ℕ). IsFrameOf (comes_below bits code inputs 0 k) (frame_at new k)) (sym e)
+            (joined_place (λ f. ⊥) (comes_below bits code inputs 0 0) frame (frame_at old 0) (frame_at new 0) (λ f x. absurd x) (λ f l. inr (start_within f frame l.1 start)) (refl, start) (subst (IsFrameOf (λ f. ⊥)) (sym (none 0)) (λ f x. x)) j.there))
+            (λ (n : at ≢ 0). subst (IsFrameOf (comes_below bits code inputs 0 at)) (sym (j.others at n ∙ none at)) (λ f l. n l.0))
             (cases_eq at 0);
       }
 
   -- ---- a place is passed
 
+  next_place : (here : ℕ) (places : List (Option SpanFrameView)) → Stands bits code inputs (suc here) places → Stands bits code inputs (here + 1) places
+  next_place here places s = let e : suc here ≡ here + 1 = omega arith in subst (λ (k : ℕ). Stands bits code inputs k places) e s
+
+  passed_more : (here at : ℕ) → ((k : ℕ) → k < here → Passes bits code inputs k) → Passes bits code inputs here → at < suc here → Passes bits code inputs at
+  passed_more here at past now lt =
+      ⊎_elim
+      (λ (e : at ≡ here). subst (Passes bits code inputs) (sym e) now)
+      (λ (n : at ≢ here). past at (omega (arith, lt, n)))
+      (cases_eq at here)
+
   -- where a place has no frame, the frames stand from the next place on
   pub stands_past : (here : ℕ) (old new : List (Option SpanFrameView)) → Stands bits code inputs here old → Takes here None old new → Stands bits code inputs (here + 1) new
   stands_past here old new s t =
-      let now : IsFrameOf (comes_from bits code inputs s.frames here here) None = subst (IsFrameOf (comes_from bits code inputs s.frames here here)) t.taken (s.ahead here (omega arith)) in
-      let F = put s.frames here None in
-      record {
-        frames = F;
-        past = λ at lt. past_more s.frames here at None s.past now (omega (arith, lt));
-        goes = λ at f lt e. goes_more s.frames here at None f s.goes (λ g h. absurd cc) lt e;
+      let now : IsFrameOf (comes_below bits code inputs here here) None = subst (IsFrameOf (comes_below bits code inputs here here)) t.taken (s.ahead here (omega arith)) in
+      next_place here new
+      (record {
+        passes = λ at lt. passed_more here at s.passes (unreached now) lt;
         ahead = λ at le.
-            subst (IsFrameOf (comes_from bits code inputs F (here + 1) at)) (sym (t.others at (omega (arith, le))))
-            (same_place (comes_from bits code inputs s.frames here at) (comes_from bits code inputs F (here + 1) at) (frame_at old at)
-            (λ f l. led_more s.frames here at None f l)
-            (λ f l. ⊎_elim (λ (x : comes_from bits code inputs s.frames here at f). x) (λ (x : IsLedHere bits code inputs here at None f). let h = x.there in absurd cc) (led_less s.frames here at None f l))
+            subst (IsFrameOf (comes_below bits code inputs (suc here) at)) (sym (t.others at (omega (arith, le))))
+            (same_place (comes_below bits code inputs here at) (comes_below bits code inputs (suc here) at) (frame_at old at)
+            (λ f l. inl l)
+            (λ f l. ⊎_elim (λ (x : comes_below bits code inputs here at f). x) (λ (x : IsLed bits code inputs (IsLeastFrame (comes_below bits code inputs here here)) here at f). absurd (now x.own.some.0 x.own.some.1)) l)
             (s.ahead at (omega (arith, le))));
-      }
+      })
 
   -- to each place ahead the frame is led where the instruction may come to it, and to no other
   pub data IsSpread (i : Instr) (here at : ℕ) (frame led : SpanFrameView) (old new : Option SpanFrameView) : Type 0 where
@@ -191,89 +124,57 @@ module _ (bits : ℕ) (code : List Instr) (inputs : List Span) where
     once : MayCome i here at frame → IsJoined old led new → IsSpread i here at frame led old new
     twice : (between : Option SpanFrameView) → MayCome i here at frame → IsJoined old led between → IsJoined between led new → IsSpread i here at frame led old new
 
-  spread_place : (F : ℕ → Option SpanFrameView) (here at : ℕ) (i : Instr) (frame led : SpanFrameView) (o o' : Option SpanFrameView) → slice_get code here ≡ Some i → IsBehind bits i inputs frame led → IsFrameOf (comes_from bits code inputs F here at) o
-      → IsSpread i here at frame led o o' → IsFrameOf (comes_from bits code inputs (put F here (Some frame)) (here + 1) at) o'
-  spread_place F here at i frame led o o' there behind before spread = by spread
+  spread_place : (here at : ℕ) (i : Instr) (frame led : SpanFrameView) (o o' : Option SpanFrameView) → slice_get code here ≡ Some i → IsLeastFrame (comes_below bits code inputs here here) frame → IsBehind bits i inputs frame led
+      → IsFrameOf (comes_below bits code inputs here at) o → IsSpread i here at frame led o o' → IsFrameOf (comes_below bits code inputs (suc here) at) o'
+  spread_place here at i frame led o o' there least behind before spread = by spread
     where
-      G : ℕ → Option SpanFrameView
-      G = put F here (Some frame)
-
       old : SpanFrameView → Type 0
-      old = comes_from bits code inputs F here at
+      old = comes_below bits code inputs here at
 
       new : SpanFrameView → Type 0
-      new = comes_from bits code inputs (put F here (Some frame)) (here + 1) at
+      new = comes_below bits code inputs (suc here) at
 
-      up : (f : SpanFrameView) → old f → new f
-      up f l = led_more F here at (Some frame) f l
+      here' : SpanFrameView → Type 0
+      here' = IsLed bits code inputs (IsLeastFrame (comes_below bits code inputs here here)) here at
 
-      -- the one frame that is led from here
-      only : (f : SpanFrameView) → IsLedHere bits code inputs here at (Some frame) f → MayCome i here at frame × IsFrameWithin f led
+      -- what is led from here is within the one frame
+      only : (f : SpanFrameView) → here' f → MayCome i here at frame × IsFrameWithin f led
       only f x =
           let at' = x.at in
-          let there' = x.there in
           let same : x.instr ≡ i = cc in
-          let frame' : x.frame ≡ frame = cc in
-          let comes = subst (λ (j : Instr). MayCome j here at frame) same (subst (λ (g : SpanFrameView). MayCome x.instr here at g) frame' x.comes) in
-          let b = subst (λ (j : Instr). IsBehind bits j inputs frame f) same (subst (λ (g : SpanFrameView). IsBehind bits x.instr inputs g f) frame' x.behind) in
-          (comes, behind_within bits i inputs inputs frame frame f led (inputs_refl inputs) (frame_refl frame) b behind)
+          let within = x.own.least frame least.holds in
+          let comes = subst (λ (j : Instr). MayCome j here at x.frame) same x.comes in
+          let b = subst (λ (j : Instr). IsBehind bits j inputs x.frame f) same x.behind in
+          (come_within i here at x.frame frame within comes, behind_within bits i inputs inputs x.frame frame f led (inputs_refl inputs) within b behind)
 
       down : (f : SpanFrameView) → new f → old f ⊎ IsFrameWithin f led
-      down f l = ⊎_elim (λ (x : old f). inl x) (λ (x : IsLedHere bits code inputs here at (Some frame) f). inr (only f x).1) (led_less F here at (Some frame) f l)
+      down f l = ⊎_elim (λ (x : old f). inl x) (λ (x : here' f). inr (only f x).1) l
 
       mine : MayCome i here at frame → new led
-      mine comes = led_here F here at (Some frame) led (record { frame = frame; there = refl; instr = i; at = there; comes = comes; behind = behind })
+      mine comes = inr (record { frame = frame; own = least; instr = i; at = there; comes = comes; behind = behind })
 
       by : IsSpread i here at frame led o o' → IsFrameOf new o'
-      by (not none same) =
-          subst (IsFrameOf new) (sym same)
-          (same_place old new o up
-          (λ f l. ⊎_elim (λ (x : old f). x) (λ (x : IsLedHere bits code inputs here at (Some frame) f). absurd (none (only f x).0)) (led_less F here at (Some frame) f l))
-          before)
-      by (once comes j) = joined_place old new led o o' up down (mine comes) before j
+      by (not none same) = subst (IsFrameOf new) (sym same) (same_place old new o (λ f l. inl l) (λ f l. ⊎_elim (λ (x : old f). x) (λ (x : here' f). absurd (none (only f x).0)) l) before)
+      by (once comes j) = joined_place old new led o o' (λ f l. inl l) down (mine comes) before j
       by (twice between comes j k) =
-          let first = joined_place old new led o between up down (mine comes) before j in
+          let first = joined_place old new led o between (λ f l. inl l) down (mine comes) before j in
           joined_place new new led between o' (λ f l. l) (λ f l. inl l) (mine comes) first k
+
+  taken_here : (here : ℕ) (frame : SpanFrameView) (old new : List (Option SpanFrameView)) → Stands bits code inputs here old → Takes here (Some frame) old new → IsLeastFrame (comes_below bits code inputs here here) frame
+  taken_here here frame old new s t = subst (IsFrameOf (comes_below bits code inputs here here)) t.taken (s.ahead here (omega arith))
 
   -- where a place's frame is led on to each place ahead to which its instruction may go, the frames stand from the next place on
   pub stands_on : (here : ℕ) (i : Instr) (frame led : SpanFrameView) (old between new : List (Option SpanFrameView)) → Stands bits code inputs here old → Takes here (Some frame) old between → slice_get code here ≡ Some i → IsBehind bits i inputs frame led
       → ((at : ℕ) → here < at → IsSpread i here at frame led (frame_at between at) (frame_at new at)) → Stands bits code inputs (here + 1) new
   stands_on here i frame led old between new s t there behind spread =
-      let now : IsFrameOf (comes_from bits code inputs s.frames here here) (Some frame) = subst (IsFrameOf (comes_from bits code inputs s.frames here here)) t.taken (s.ahead here (omega arith)) in
-      record {
-        frames = put s.frames here (Some frame);
-        past = λ at lt. past_more s.frames here at (Some frame) s.past now (omega (arith, lt));
-        goes = λ at f lt e.
-            goes_more s.frames here at (Some frame) f s.goes
-            (λ g h. let same : frame ≡ g = cc in record { instr = i; at = there; new = led; behind = subst (λ (x : SpanFrameView). IsBehind bits i inputs x led) same behind })
-            lt e;
+      let least = taken_here here frame old between s t in
+      next_place here new
+      (record {
+        passes = λ at lt. passed_more here at s.passes (led_on led least there behind) lt;
         ahead = λ at le.
-            let before : IsFrameOf (comes_from bits code inputs s.frames here at) (frame_at between at) =
-            subst (IsFrameOf (comes_from bits code inputs s.frames here at)) (sym (t.others at (omega (arith, le)))) (s.ahead at (omega (arith, le))) in
-            spread_place s.frames here at i frame led (frame_at between at) (frame_at new at) there behind before (spread at (omega (arith, le)));
-      }
-
-  -- one that doesn't jump
-
-  plain_comes : (i : Instr) (here to : ℕ) (frame : SpanFrameView) → IsPlain i → to ≡ here + 1 → MayCome i here to frame
-  plain_comes (Push v) here to frame p e = e
-  plain_comes (Input k) here to frame p e = e
-  plain_comes (Keep k) here to frame p e = e
-  plain_comes (Get k) here to frame p e = e
-  plain_comes (Binary op) here to frame p e = e
-  plain_comes (Unary op) here to frame p e = e
-  plain_comes (JumpIfZero target) here to frame p e = absurd p
-  plain_comes (Jump target) here to frame p e = absurd p
-
-  plain_only : (i : Instr) (here to : ℕ) (frame : SpanFrameView) → IsPlain i → MayCome i here to frame → to ≡ here + 1
-  plain_only (Push v) here to frame p e = e
-  plain_only (Input k) here to frame p e = e
-  plain_only (Keep k) here to frame p e = e
-  plain_only (Get k) here to frame p e = e
-  plain_only (Binary op) here to frame p e = e
-  plain_only (Unary op) here to frame p e = e
-  plain_only (JumpIfZero target) here to frame p e = absurd p
-  plain_only (Jump target) here to frame p e = absurd p
+            let before = subst (IsFrameOf (comes_below bits code inputs here at)) (sym (t.others at (omega (arith, le)))) (s.ahead at (omega (arith, le))) in
+            spread_place here at i frame led (frame_at between at) (frame_at new at) there least behind before (spread at (omega (arith, le)));
+      })
 
   spread_by : (i : Instr) (here to at : ℕ) (frame led : SpanFrameView) (old new : List (Option SpanFrameView)) → (at ≡ to → MayCome i here at frame) → (MayCome i here at frame → at ≡ to) → Joins to led old new → IsSpread i here at frame led (frame_at old at) (frame_at new at)
   spread_by i here to at frame led old new f g j =
@@ -286,11 +187,11 @@ module _ (bits : ℕ) (code : List Instr) (inputs : List Span) where
   pub stands_plain : (here : ℕ) (i : Instr) (frame led : SpanFrameView) (old between new : List (Option SpanFrameView)) → Stands bits code inputs here old → Takes here (Some frame) old between → slice_get code here ≡ Some i → IsPlain i → IsBehind bits i inputs frame led → Joins (here + 1) led between new
       → Stands bits code inputs (here + 1) new
   stands_plain here i frame led old between new s t there p b j =
-      stands_on here i frame led old between new s t there b (λ at lt. spread_by i here (here + 1) at frame led between new (λ e. plain_comes i here at frame p e) (λ m. plain_only i here at frame p m) j)
+      stands_on here i frame led old between new s t there b (λ at lt. spread_by i here (here + 1) at frame led between new (λ e. goes_next p e) (λ m. plain_only i here at frame p m) j)
 
   -- when a jump is passed, and its frame joins the target, the frames stand from the next place on
   pub stands_jump : (here to : ℕ) (frame : SpanFrameView) (old between new : List (Option SpanFrameView)) → Stands bits code inputs here old → Takes here (Some frame) old between → slice_get code here ≡ Some (Jump to) → Joins to frame between new → Stands bits code inputs (here + 1) new
-  stands_jump here to frame old between new s t there j = stands_on here (Jump to) frame frame old between new s t there refl (λ at lt. spread_by (Jump to) here to at frame frame between new (λ e. e) (λ m. m) j)
+  stands_jump here to frame old between new s t there j = stands_on here (Jump to) frame frame old between new s t there refl (λ at lt. spread_by (Jump to) here to at frame frame between new (λ e. jumps_always e) (λ m. jump_only to here at frame m) j)
 
   -- a jump at 0
 
@@ -344,15 +245,15 @@ module _ (bits : ℕ) (code : List Instr) (inputs : List Span) where
       let first : IsJoined (frame_at old at) rest (frame_at between at) = subst (λ (n : ℕ). IsJoined (frame_at old n) rest (frame_at between n)) (sym e) j.there in
       ⊎_elim
       (λ (f : at ≡ target).
-      twice (frame_at between at) (inl (e, away)) first (subst (λ (n : ℕ). IsJoined (frame_at between n) rest (frame_at new n)) (sym f) k.there))
-      (λ (n : at ≢ target). once (inl (e, away)) (subst (IsJoined (frame_at old at) rest) (sym (k.others at n)) first))
+      twice (frame_at between at) (falls_through e away) first (subst (λ (n : ℕ). IsJoined (frame_at between n) rest (frame_at new n)) (sym f) k.there))
+      (λ (n : at ≢ target). once (falls_through e away) (subst (IsJoined (frame_at old at) rest) (sym (k.others at n)) first))
       (cases_eq at target))
       (λ (m : at ≢ here + 1).
       ⊎_elim
       (λ (f : at ≡ target).
       let second : IsJoined (frame_at between at) rest (frame_at new at) = subst (λ (n : ℕ). IsJoined (frame_at between n) rest (frame_at new n)) (sym f) k.there in
-      once (inr (f, here')) (subst (λ (o : Option SpanFrameView). IsJoined o rest (frame_at new at)) (j.others at m) second))
-      (λ (n : at ≢ target). not (λ c. ⊎_elim (λ (x : (at ≡ here + 1) × HasTop HasOther frame). m x.0) (λ (x : (at ≡ target) × HasTop HasZero frame). n x.0) c) (k.others at n ∙ j.others at m))
+      once (jumps_at_zero f here') (subst (λ (o : Option SpanFrameView). IsJoined o rest (frame_at new at)) (j.others at m) second))
+      (λ (n : at ≢ target). not (λ c. ⊎_elim (λ (x : (at ≡ here + 1) × HasTop HasOther frame). m x.0) (λ (x : (at ≡ target) × HasTop HasZero frame). n x.0) (ways here target at frame c)) (k.others at n ∙ j.others at m))
       (cases_eq at target))
       (cases_eq at (here + 1))
 
@@ -362,8 +263,8 @@ module _ (bits : ℕ) (code : List Instr) (inputs : List Span) where
     record { span = s; pops = p },
     λ at lt.
         spread_by (JumpIfZero target) here (here + 1) at frame rest old new
-        (λ e. inl (e, has_top HasOther s frame rest p (lo_other s without)))
-        (λ c. ⊎_elim (λ (x : (at ≡ here + 1) × HasTop HasOther frame). x.0) (λ (x : (at ≡ target) × HasTop HasZero frame). absurd (without (top_of HasZero HasZero s frame rest p x.1))) c)
+        (λ e. falls_through e (has_top HasOther s frame rest p (lo_other s without)))
+        (λ c. ⊎_elim (λ (x : (at ≡ here + 1) × HasTop HasOther frame). x.0) (λ (x : (at ≡ target) × HasTop HasZero frame). absurd (without (top_of HasZero HasZero s frame rest p x.1))) (ways here target at frame c))
         j,
   )
   spread_branch here target at frame old new (jumps {s = s} {rest = rest} p holds single j) = (
@@ -371,8 +272,8 @@ module _ (bits : ℕ) (code : List Instr) (inputs : List Span) where
     record { span = s; pops = p },
     λ at lt.
         spread_by (JumpIfZero target) here target at frame rest old new
-        (λ e. inr (e, has_top HasZero s frame rest p holds))
-        (λ c. ⊎_elim (λ (x : (at ≡ here + 1) × HasTop HasOther frame). absurd (one_none s holds single (top_of HasOther HasOther s frame rest p x.1))) (λ (x : (at ≡ target) × HasTop HasZero frame). x.0) c)
+        (λ e. jumps_at_zero e (has_top HasZero s frame rest p holds))
+        (λ c. ⊎_elim (λ (x : (at ≡ here + 1) × HasTop HasOther frame). absurd (one_none s holds single (top_of HasOther HasOther s frame rest p x.1))) (λ (x : (at ≡ target) × HasTop HasZero frame). x.0) (ways here target at frame c))
         j,
   )
   spread_branch here target at frame old new (may_jump {s = s} {rest = rest} {between = between} p holds two j k) = (
@@ -390,28 +291,12 @@ module _ (bits : ℕ) (code : List Instr) (inputs : List Span) where
 
   -- ---- what is found
 
-  -- the frames up to a place whose frame, if there is one, was taken
-  pub frames_to : (here : ℕ) (o : Option SpanFrameView) (old new : List (Option SpanFrameView)) → Stands bits code inputs here old → Takes here o old new
-      → (F : ℕ → Option SpanFrameView) × AreSpanFrames bits code inputs here F × (F here ≡ o)
-  frames_to here o old new s t =
-      let now : IsFrameOf (comes_from bits code inputs s.frames here here) o = subst (IsFrameOf (comes_from bits code inputs s.frames here here)) t.taken (s.ahead here (omega arith)) in (
-        put s.frames here o,
-        record {
-          each = λ at le. past_more s.frames here at o s.past now le;
-          goes = λ at f lt e. s.goes at f lt (sym (put_below s.frames here at o lt) ∙ e);
-        },
-        put_here s.frames here o,
-      )
-
   -- frames that stand at the end of the code give the span that is alone on the stack there
   pub gives_span : (s : Span) (frame rest : SpanFrameView) (old new : List (Option SpanFrameView)) → Stands bits code inputs (length code) old → Takes (length code) (Some frame) old new → Pops s frame rest → length frame.stack ≡ 1 → GivesSpan bits code inputs s
   gives_span s frame rest old new st t p one =
-      let f = frames_to (length code) (Some frame) old new st t in
       let none : length rest.stack ≡ 0 = omega (arith, ap length p.stack, one) in
-      record { frames = f.0; are = f.1; frame = frame; there = f.2; alone = p.stack ∙ ap (λ (l : List Span). s ∷ l) (nil_from_length rest.stack none) }
+      record { passes = st.passes; frame = frame; least = taken_here (length code) frame old new st t; alone = p.stack ∙ ap (λ (l : List Span). s ∷ l) (nil_from_length rest.stack none) }
 
   -- where the frames stand at a place, and its operation stops on its frame, the code stops at this place for this cause
   pub stops_at : (here : ℕ) (i : Instr) (fault : Fault) (frame : SpanFrameView) (old new : List (Option SpanFrameView)) → Stands bits code inputs here old → Takes here (Some frame) old new → slice_get code here ≡ Some i → Stops bits i frame fault → StopsAt bits code inputs here fault
-  stops_at here i fault frame old new st t there stop =
-      let f = frames_to here (Some frame) old new st t in
-      record { frames = f.0; are = f.1; frame = frame; there = f.2; instr = i; at = there; stops = stop }
+  stops_at here i fault frame old new st t there stop = record { passes = st.passes; frame = frame; least = taken_here here frame old new st t; instr = i; at = there; stops = stop }

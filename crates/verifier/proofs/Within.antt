@@ -1,5 +1,5 @@
 -- Frames within frames: an instruction leads from a smaller frame to a smaller one.
-use Rattle.std.proofs.Common.{◌≡◌, ◌≢◌, ℕ, suc, List, [], ◌∷◌, length, Option, Some, None, Result, Ok, refl, sym, ap, subst, arith, ⊎_elim, ℤ}
+use Rattle.std.proofs.Common.{◌≡◌, ◌≢◌, ℕ, suc, List, [], ◌∷◌, length, Option, Some, None, Result, Ok, refl, sym, ap, subst, arith, ⊎_elim, ℤ, pos}
 use Rattle.std.specs.Prelude.{slice_get, slice_index_or}
 use Rattle.std.proofs.lemmas.Bool.{cases_eq}
 use Rattle.std.proofs.lemmas.Int.{ints}
@@ -12,7 +12,7 @@ use Rattle.kernel_code.specs.declared.instructions.BinaryOperation.{BinaryOperat
 use Rattle.kernel_code.specs.declared.instructions.UnaryOperation.{UnaryOperation}
 use Rattle.kernel_code.specs.Machine.{binary_of, unary_of}
 use Rattle.verifier.specs.Frames.{SpanFrameView, AreWithin, IsLocalWithin, IsFrameWithin, local_of, Pushes, Pops, Sets, AppliesBinary, AppliesUnary}
-use Rattle.verifier.specs.Places.{IsOne, IsBehind}
+use Rattle.verifier.specs.Places.{HasOther, HasTop, HasZero, IsBehind, IsOne, MayCome, falls_through, goes_next, jumps_always, jumps_at_zero}
 
 -- ---- spans within spans
 
@@ -175,3 +175,25 @@ behind_within bits (Binary op) xs ys f f' g g' n w p q = binary_within bits op f
 behind_within bits (Unary op) xs ys f f' g g' n w p q = unary_within bits op f f' g g' w p q
 behind_within bits (JumpIfZero to) xs ys f f' g g' n w p q = (pops_within p.span q.span f f' g g' w p.pops q.pops).1
 behind_within bits (Jump to) xs ys f f' g g' n w p q = subst (λ (x : SpanFrameView). IsFrameWithin x g') (sym p) (subst (IsFrameWithin f) (sym q) w)
+
+-- ---- where a smaller frame leads
+
+top_within : (P : Span → Type 0) (f g : SpanFrameView) → IsFrameWithin f g → ((s t : Span) → IsWithin s t → P s → P t) → HasTop P f → HasTop P g
+top_within P f g w mono h = at g.stack refl
+  where
+    at : (l : List Span) → g.stack ≡ l → HasTop P g
+    at [] e = absurd (same_stacks f g (h.span ∷ h.rest) [] h.top e w.stack')
+    at (t ∷ ts) e = let v = same_stacks f g (h.span ∷ h.rest) (t ∷ ts) h.top e w.stack' in record { span = t; rest = ts; top = e; it = mono h.span t v.0 h.it }
+
+other_within : (s t : Span) → IsWithin s t → HasOther s → HasOther t
+other_within s t w h = record { number = h.number; member = w.members h.number h.member; other = h.other }
+
+zero_within : (s t : Span) → IsWithin s t → HasZero s → HasZero t
+zero_within s t w h = w.members (pos 0) h
+
+-- from a greater frame an instruction may come wherever it may come from a smaller one
+pub come_within : (i : Instr) (from to : ℕ) (f g : SpanFrameView) → IsFrameWithin f g → MayCome i from to f → MayCome i from to g
+come_within i from to f g w (goes_next p e) = goes_next p e
+come_within i from to f g w (falls_through e h) = falls_through e (top_within HasOther f g w other_within h)
+come_within i from to f g w (jumps_at_zero e h) = jumps_at_zero e (top_within HasZero f g w zero_within h)
+come_within i from to f g w (jumps_always e) = jumps_always e

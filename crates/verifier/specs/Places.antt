@@ -1,6 +1,6 @@
--- The frames of all places of a code, by equations: that of a place is the least that holds what each lower place leads
--- there. So there is one for each place, and no order in which they are made.
-use Rattle.std.specs.Prelude.{◌≡◌, ◌≢◌, ℕ, ◌+◌, ◌<◌, ◌≤◌, ◌⊎◌, List, [], ◌∷◌, length, ℤ, pos, Option, Some, None, Result, slice_get}
+-- The frames of all places of a code: that of a place is the least that holds what the lower places lead there. So there is
+-- one for each place, and no order in which they are made.
+use Rattle.std.specs.Prelude.{◌≡◌, ◌≢◌, ℕ, zero, suc, ◌+◌, ◌<◌, ◌⊎◌, List, [], ◌∷◌, length, ℤ, pos, Option, Some, None, Result, slice_get}
 use Rattle.fixed.specs.declared.faults.Fault.{Fault}
 use Rattle.fixed.specs.declared.faults.Fault.TheVariants.{ZeroDivisor, NegativeRoot}
 use Rattle.interval_domain.specs.declared.span.Span.{Span}
@@ -10,7 +10,7 @@ use Rattle.kernel_code.specs.declared.instructions.Instr.TheVariants.{Push, Inpu
 use Rattle.kernel_code.specs.declared.instructions.BinaryOperation.{BinaryOperation}
 use Rattle.kernel_code.specs.declared.instructions.UnaryOperation.{UnaryOperation}
 use Rattle.kernel_code.specs.Machine.{binary_of, unary_of}
-use Rattle.verifier.specs.Frames.{SpanFrameView, Pushes, Pops, Sets, AppliesBinary, AppliesUnary, IsStart, IsFrameWithin, local_of}
+use Rattle.verifier.specs.Frames.{SpanFrameView, Pushes, Pops, Sets, AppliesBinary, AppliesUnary, IsPlain, IsStart, IsFrameWithin, local_of}
 
 -- ---- what an instruction makes of a frame
 
@@ -76,15 +76,11 @@ pub record HasTop (P : Span → Type 0) (frame : SpanFrameView) : Type 0 where
   pub it : P span
 
 -- from this frame; a jump at 0 goes where some member of the span on top sends it
-abbrev pub MayCome : Instr → (from to : ℕ) → SpanFrameView → Type 0
-MayCome (Push v) from to frame = to ≡ from + 1
-MayCome (Input k) from to frame = to ≡ from + 1
-MayCome (Keep k) from to frame = to ≡ from + 1
-MayCome (Get k) from to frame = to ≡ from + 1
-MayCome (Binary op) from to frame = to ≡ from + 1
-MayCome (Unary op) from to frame = to ≡ from + 1
-MayCome (JumpIfZero target) from to frame = ((to ≡ from + 1) × HasTop HasOther frame) ⊎ ((to ≡ target) × HasTop HasZero frame)
-MayCome (Jump target) from to frame = to ≡ target
+pub data MayCome : Instr → (from to : ℕ) → SpanFrameView → Type 0 where
+  goes_next : {i : Instr} {from to : ℕ} {frame : SpanFrameView} → IsPlain i → to ≡ from + 1 → MayCome i from to frame
+  falls_through : {target from to : ℕ} {frame : SpanFrameView} → to ≡ from + 1 → HasTop HasOther frame → MayCome (JumpIfZero target) from to frame
+  jumps_at_zero : {target from to : ℕ} {frame : SpanFrameView} → to ≡ target → HasTop HasZero frame → MayCome (JumpIfZero target) from to frame
+  jumps_always : {target from to : ℕ} {frame : SpanFrameView} → to ≡ target → MayCome (Jump target) from to frame
 
 -- ---- where it stops
 
@@ -108,32 +104,11 @@ pub record StopsOnOne (bits : ℕ) (op : UnaryOperation) (frame : SpanFrameView)
   pub cause : IsCause (IsOutcome (unary_of bits op) a) fault
 
 -- the operation has no value on some members of its operands
-abbrev pub Stops : ℕ → Instr → SpanFrameView → Fault → Type 0
-Stops bits (Push v) frame fault = ⊥
-Stops bits (Input k) frame fault = ⊥
-Stops bits (Keep k) frame fault = ⊥
-Stops bits (Get k) frame fault = ⊥
-Stops bits (Binary op) frame fault = StopsOnTwo bits op frame fault
-Stops bits (Unary op) frame fault = StopsOnOne bits op frame fault
-Stops bits (JumpIfZero to) frame fault = ⊥
-Stops bits (Jump to) frame fault = ⊥
+pub data Stops (bits : ℕ) : Instr → SpanFrameView → Fault → Type 0 where
+  on_two : {op : BinaryOperation} {frame : SpanFrameView} {fault : Fault} → StopsOnTwo bits op frame fault → Stops bits (Binary op) frame fault
+  on_one : {op : UnaryOperation} {frame : SpanFrameView} {fault : Fault} → StopsOnOne bits op frame fault → Stops bits (Unary op) frame fault
 
 -- ---- what comes to a place
-
--- some place below a bound leads this frame here
-pub record IsLed (bits : ℕ) (code : List Instr) (inputs : List Span) (frames : ℕ → Option SpanFrameView) (bound to : ℕ) (led : SpanFrameView) : Type 0 where
-  pub from : ℕ
-  pub lower : from < bound
-  pub frame : SpanFrameView
-  pub there : frames from ≡ Some frame
-  pub instr : Instr
-  pub at : slice_get code from ≡ Some instr
-  pub comes : MayCome instr from to frame
-  pub behind : IsBehind bits instr inputs frame led
-
--- so it does, or runs begin so
-abbrev pub comes_from : ℕ → List Instr → List Span → (ℕ → Option SpanFrameView) → (bound to : ℕ) → SpanFrameView → Type 0
-comes_from bits code inputs frames bound to led = ((to ≡ 0) × IsStart led) ⊎ IsLed bits code inputs frames bound to led
 
 -- the least frame that holds all these; a local without a span has none in one of them
 pub record IsLeastFrame (led : SpanFrameView → Type 0) (frame : SpanFrameView) : Type 0 where
@@ -147,36 +122,44 @@ abbrev pub IsFrameOf : (SpanFrameView → Type 0) → Option SpanFrameView → T
 IsFrameOf led None = (f : SpanFrameView) → led f → ⊥
 IsFrameOf led (Some frame) = IsLeastFrame led frame
 
--- ---- all places
-
--- the instruction here doesn't stop
-pub record GoesOn (bits : ℕ) (code : List Instr) (inputs : List Span) (here : ℕ) (frame : SpanFrameView) : Type 0 where
+-- the instruction here leads this frame to a place, from a frame that is the place's own
+pub record IsLed (bits : ℕ) (code : List Instr) (inputs : List Span) (IsOwn : SpanFrameView → Type 0) (here to : ℕ) (led : SpanFrameView) : Type 0 where
+  pub frame : SpanFrameView
+  pub own : IsOwn frame
   pub instr : Instr
   pub at : slice_get code here ≡ Some instr
-  pub new : SpanFrameView
-  pub behind : IsBehind bits instr inputs frame new
+  pub comes : MayCome instr here to frame
+  pub behind : IsBehind bits instr inputs frame led
 
--- these are the frames of the places up to the last, and none below it stops
-pub record AreSpanFrames (bits : ℕ) (code : List Instr) (inputs : List Span) (last : ℕ) (frames : ℕ → Option SpanFrameView) : Type 0 where
-  pub each : (at : ℕ) → at ≤ last → IsFrameOf (comes_from bits code inputs frames at at) (frames at)
-  pub goes : (at : ℕ) (frame : SpanFrameView) → at < last → frames at ≡ Some frame → GoesOn bits code inputs at frame
+-- what the places below one lead to a place, each from the least frame of what comes to it; runs begin at place 0
+abbrev pub comes_below : ℕ → List Instr → List Span → (below to : ℕ) → SpanFrameView → Type 0
+comes_below bits code inputs zero to led = (to ≡ 0) × IsStart led
+comes_below bits code inputs (suc here) to led =
+    comes_below bits code inputs here to led ⊎ IsLed bits code inputs (IsLeastFrame (comes_below bits code inputs here here)) here to led
+
+-- ---- all places
+
+-- nothing comes here, or the instruction here doesn't stop
+pub data Passes (bits : ℕ) (code : List Instr) (inputs : List Span) (here : ℕ) : Type 0 where
+  unreached : ((f : SpanFrameView) → comes_below bits code inputs here here f → ⊥) → Passes bits code inputs here
+  led_on : {frame : SpanFrameView} {i : Instr} (new : SpanFrameView)
+      → IsLeastFrame (comes_below bits code inputs here here) frame → slice_get code here ≡ Some i → IsBehind bits i inputs frame new
+      → Passes bits code inputs here
 
 -- ---- what is found of inputs in some spans
 
 -- the span of the value at the end
 pub record GivesSpan (bits : ℕ) (code : List Instr) (inputs : List Span) (s : Span) : Type 0 where
-  pub frames : ℕ → Option SpanFrameView
-  pub are : AreSpanFrames bits code inputs (length code) frames
+  pub passes : (at : ℕ) → at < length code → Passes bits code inputs at
   pub frame : SpanFrameView
-  pub there : frames (length code) ≡ Some frame
+  pub least : IsLeastFrame (comes_below bits code inputs (length code) (length code)) frame
   pub alone : frame.stack ≡ s ∷ []
 
 -- the lowest place at which an operation may have no value, and why
 pub record StopsAt (bits : ℕ) (code : List Instr) (inputs : List Span) (pc : ℕ) (fault : Fault) : Type 0 where
-  pub frames : ℕ → Option SpanFrameView
-  pub are : AreSpanFrames bits code inputs pc frames
+  pub passes : (at : ℕ) → at < pc → Passes bits code inputs at
   pub frame : SpanFrameView
-  pub there : frames pc ≡ Some frame
+  pub least : IsLeastFrame (comes_below bits code inputs pc pc) frame
   pub instr : Instr
   pub at : slice_get code pc ≡ Some instr
   pub stops : Stops bits instr frame fault

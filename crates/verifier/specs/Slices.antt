@@ -4,7 +4,7 @@ use Rattle.interval_domain.specs.declared.span.Span.{Span}
 use Rattle.interval_domain.specs.Spans.{IsMember}
 use Rattle.kernel_code.specs.declared.instructions.Instr.{Instr}
 use Rattle.verifier.specs.Frames.{SpanFrameView, Pops, Widens}
-use Rattle.verifier.specs.Places.{GoesOn, IsFrameOf, comes_from}
+use Rattle.verifier.specs.Places.{IsFrameOf, Passes, comes_below}
 
 -- ---- places, some with a frame
 
@@ -46,9 +46,7 @@ pub data Branches (next target : ℕ) (frame : SpanFrameView) (old new : List (O
 
 -- ---- the frames of all places
 
--- the places below this one have their frames, and each other has that of what comes to it from there
+-- the places below this one are passed, and each other has the frame of what comes to it from there
 pub record Stands (bits : ℕ) (code : List Instr) (inputs : List Span) (here : ℕ) (places : List (Option SpanFrameView)) : Type 0 where
-  pub frames : ℕ → Option SpanFrameView
-  pub past : (at : ℕ) → at < here → IsFrameOf (comes_from bits code inputs frames at at) (frames at)
-  pub goes : (at : ℕ) (frame : SpanFrameView) → at < here → frames at ≡ Some frame → GoesOn bits code inputs at frame
-  pub ahead : (at : ℕ) → here ≤ at → IsFrameOf (comes_from bits code inputs frames here at) (frame_at places at)
+  pub passes : (at : ℕ) → at < here → Passes bits code inputs at
+  pub ahead : (at : ℕ) → here ≤ at → IsFrameOf (comes_below bits code inputs here at) (frame_at places at)

@@ -7,7 +7,6 @@ ghost use Rattle.kernel_code.specs.Paths.{IsLongest};
 ghost use Rattle.verifier.specs.Verdicts.{IsVerdict, range};
 
 use crate::faults::VerifyFault;
-use crate::places::Places;
 use crate::searches::Search;
 use fallible::Failure;
 use fixed::Fx;
@@ -34,15 +33,14 @@ pub fn certify_to<A: Allocator + Copy, B: Allocator>(
     slices: u32,
     depth: u32,
 ) -> Result<Certificate, Failure<VerifyFault>>
+    requires code { IsCode code.now }
     requires core { pos 0 ≤ℤ core }
     requires range { core <ℤ cutoff }
     requires slices { 0 < slices }
-    ensures code { IsCode code.now }
     ensures longest { IfOk result (λ c. IsLongest code.now c.steps) }
     ensures bound { IfOk result (λ c. IsVerdict code.now table.now (range core cutoff slices depth) (Ok c.bound)) }
     ensures verdict { IfErr result (λ failure. IfRefused failure (λ fault. IsVerdict code.now table.now (range core cutoff slices depth) (Err fault))) }
 {
-    let instructions = code.as_slice();
     let inputs = 2 * table.parameters() + table.globals() + 1;
     let steps = match longest_path(alloc, code, inputs) {
         Ok(steps) => steps,
@@ -56,9 +54,6 @@ pub fn certify_to<A: Allocator + Copy, B: Allocator>(
         },
         Err(Failure::Memory) => return Err(Failure::Memory),
     };
-    let Ok(mut places) = Places::new(alloc, instructions.len()) else {
-        return Err(Failure::Memory);
-    };
     let search = Search {
         alloc,
         code,
@@ -68,7 +63,7 @@ pub fn certify_to<A: Allocator + Copy, B: Allocator>(
         slices,
         depth,
     };
-    match search.judge_all(&mut places) {
+    match search.judge_all() {
         Ok(bound) => Ok(Certificate { steps, bound }),
         Err(failure) => Err(failure),
     }

@@ -26,11 +26,13 @@ impl<A: Allocator> Model for Places<A> {
 }
 
 impl<A: Allocator> Places<A> {
-    /// The places of `instructions` instructions, and the end, without frames.
+    /// The places of at most 16,384 instructions, and the end, without frames.
     pub fn new(alloc: A, instructions: usize) -> Result<Places<A>, AllocError>
-        ensures { IfOk result (λ places. length places ≡ instructions + 1) }
+        requires { instructions ≤ 16384 }
+        ensures long { IfOk result (λ places. length places ≡ instructions + 1) }
+        ensures none { IfOk result (λ places. (at : ℕ) → frame_at places at ≡ None) }
     {
-        let mut frames = Vec::new(alloc);
+        let mut frames = Vec::with_capacity(alloc, instructions + 1)?;
         frames.push(None)?;
         for _ in 0..instructions {
             frames.push(None)?;

@@ -6,7 +6,6 @@ ghost use Rattle.verifier.specs.Searches.{IsWellUnder};
 ghost use Rattle.verifier.specs.Verdicts.{AreInputSpans, IsAtOne, IsBounded, IsFoundOf, IsPieceAnswer, IsStopped, UnlessMemory, numbered_answer, range};
 
 use crate::faults::VerifyFault;
-use crate::places::Places;
 use crate::ranges::{share, slice_count, slice_span, width_of};
 use crate::slices::{Stopped, follow_slice};
 use fallible::Failure;
@@ -82,19 +81,12 @@ impl<'a, A: Allocator + Copy, B: Allocator> Search<'a, A, B> {
 
     /// The greatest magnitude of what the spans of the code's values hold at the distances, or where
     /// some run may meet a fault.
-    fn try_slice(
-        &self,
-        pair: Pair,
-        distances: &Span,
-        places: &mut Places<A>,
-    ) -> Result<u64, Failure<Stopped>>
+    fn try_slice(&self, pair: Pair, distances: &Span) -> Result<u64, Failure<Stopped>>
         requires well { IsWellUnder self.now.code.now self.now.table.now }
         requires first { pair.first < length self.now.table.now.rows }
         requires second { pair.second < length self.now.table.now.rows }
-        requires long { length places.old ≡ length self.now.code.now + 1 }
         ensures bounded { IfOk result (IsBounded self.now.code.now self.now.table.now pair.first pair.second distances.now) }
         ensures stopped { IfErr result (λ failure. IfRefused failure (λ stopped. IsStopped self.now.code.now self.now.table.now pair.first pair.second distances.now stopped.pc stopped.fault)) }
-        ensures long { length places.new ≡ length self.now.code.now + 1 }
     {
         let Ok(inputs) = self.input_spans(pair, distances) else {
             return Err(Failure::Memory);
@@ -102,7 +94,7 @@ impl<'a, A: Allocator + Copy, B: Allocator> Search<'a, A, B> {
         let frac = self.table.frac();
         let code = self.code.as_slice();
         let inputs = inputs.as_slice();
-        match follow_slice(self.alloc, frac, code, inputs, places) {
+        match follow_slice(self.alloc, frac, code, inputs) {
             Ok(span) => Ok(greatest(&span)),
             Err(failure) => Err(failure),
         }
@@ -161,19 +153,11 @@ impl<'a, A: Allocator + Copy, B: Allocator> Search<'a, A, B> {
     ///
     /// `Fault` and `Undecided` as they say; never `Undecided` where the depth suffices to come to
     /// single distances. `Memory`: an allocation was refused.
-    fn judge(
-        &self,
-        pair: Pair,
-        distances: &Span,
-        depth: u32,
-        places: &mut Places<A>,
-    ) -> Result<u64, Failure<VerifyFault>>
+    fn judge(&self, pair: Pair, distances: &Span, depth: u32) -> Result<u64, Failure<VerifyFault>>
         requires well { IsWellUnder self.now.code.now self.now.table.now }
         requires first { pair.first < length self.now.table.now.rows }
         requires second { pair.second < length self.now.table.now.rows }
-        requires long { length places.old ≡ length self.now.code.now + 1 }
-        ensures answer { UnlessMemory (IsPieceAnswer self.now.code.now self.now.table.now pair.first pair.second depth distances.now) result }
-        ensures long { length places.new ≡ length self.now.code.now + 1 }
+        ensures { UnlessMemory (IsPieceAnswer self.now.code.now self.now.table.now pair.first pair.second depth distances.now) result }
     {
         if is_single(distances) {
             return match self.judge_one(pair, distances.lo) {
@@ -181,7 +165,7 @@ impl<'a, A: Allocator + Copy, B: Allocator> Search<'a, A, B> {
                 Err(found) => Err(Failure::Refused(found)),
             };
         }
-        let stopped = match self.try_slice(pair, distances, places) {
+        let stopped = match self.try_slice(pair, distances) {
             Ok(bound) => return Ok(bound),
             Err(Failure::Memory) => return Err(Failure::Memory),
             Err(Failure::Refused(stopped)) => stopped,
@@ -190,11 +174,11 @@ impl<'a, A: Allocator + Copy, B: Allocator> Search<'a, A, B> {
             return Err(Failure::Refused(self.judge_ends(pair, distances, stopped)));
         }
         let (lower, upper) = halves(*distances);
-        let low = match self.judge(pair, &lower, depth - 1, places) {
+        let low = match self.judge(pair, &lower, depth - 1) {
             Ok(low) => low,
             Err(failure) => return Err(failure),
         };
-        match self.judge(pair, &upper, depth - 1, places) {
+        match self.judge(pair, &upper, depth - 1) {
             Ok(high) => Ok(low.max(high)),
             Err(failure) => Err(failure),
         }
@@ -202,15 +186,13 @@ impl<'a, A: Allocator + Copy, B: Allocator> Search<'a, A, B> {
 
     /// The greatest magnitude of the values in the slice of this number, of all slices of all pairs; 0 where it has no
     /// distances.
-    fn judge_slice(&self, number: u64, places: &mut Places<A>) -> Result<u64, Failure<VerifyFault>>
+    fn judge_slice(&self, number: u64) -> Result<u64, Failure<VerifyFault>>
         requires well { IsWellUnder self.now.code.now self.now.table.now }
         requires core { pos 0 ≤ℤ self.now.core }
         requires range { self.now.core <ℤ self.now.cutoff }
         requires slices { 0 < self.now.slices }
         requires number { number < length self.now.table.now.rows * length self.now.table.now.rows * self.now.slices }
-        requires long { length places.old ≡ length self.now.code.now + 1 }
-        ensures answer { UnlessMemory (numbered_answer self.now.code.now self.now.table.now (range self.now.core self.now.cutoff self.now.slices self.now.depth) number) result }
-        ensures long { length places.new ≡ length self.now.code.now + 1 }
+        ensures { UnlessMemory (numbered_answer self.now.code.now self.now.table.now (range self.now.core self.now.cutoff self.now.slices self.now.depth) number) result }
     {
         let types = u64::from(self.table.types());
         let slices = u64::from(self.slices);
@@ -226,21 +208,20 @@ impl<'a, A: Allocator + Copy, B: Allocator> Search<'a, A, B> {
             return Ok(0);
         }
         let distances = slice_span(self.core, from, end);
-        self.judge(pair, &distances, self.depth, places)
+        self.judge(pair, &distances, self.depth)
     }
 
     /// The greatest magnitude of the values in all slices of all pairs.
-    pub fn judge_all(&self, places: &mut Places<A>) -> Result<u64, Failure<VerifyFault>>
+    pub fn judge_all(&self) -> Result<u64, Failure<VerifyFault>>
         requires well { IsWellUnder self.now.code.now self.now.table.now }
         requires core { pos 0 ≤ℤ self.now.core }
         requires range { self.now.core <ℤ self.now.cutoff }
         requires slices { 0 < self.now.slices }
-        requires long { length places.old ≡ length self.now.code.now + 1 }
         ensures { UnlessMemory (IsFoundOf self.now.code.now self.now.table.now (range self.now.core self.now.cutoff self.now.slices self.now.depth)) result }
     {
         let mut bound = 0u64;
         for number in 0..slice_count(self.table.types(), self.slices) {
-            match self.judge_slice(number, places) {
+            match self.judge_slice(number) {
                 Ok(greatest) => bound = bound.max(greatest),
                 Err(failure) => return Err(failure),
             }

@@ -1,12 +1,12 @@
 //! All runs on inputs in some spans, followed place by place.
 
-ghost use Rattle.std.specs.Prelude.{◌≡◌, ◌+◌, ◌<◌, ℕ, None, length, IfOk, OnOk, IfErr};
+ghost use Rattle.std.specs.Prelude.{◌≡◌, ◌+◌, ◌<◌, ℕ, length, IfOk, OnOk, IfErr};
 ghost use Rattle.fallible.specs.Failures.{IfRefused};
 ghost use Rattle.fixed.specs.Fractions.{bits_of};
 ghost use Rattle.kernel_code.specs.Code.{IsCode};
 ghost use Rattle.kernel_paths.specs.Misfits.{DoesWell};
 ghost use Rattle.verifier.specs.Places.{GivesSpan, StopsAt};
-ghost use Rattle.verifier.specs.Slices.{Stands, frame_at};
+ghost use Rattle.verifier.specs.Slices.{Stands};
 
 use crate::frames::SpanFrame;
 use crate::instructions::follow;
@@ -23,17 +23,6 @@ use std::alloc::Allocator;
 pub struct Stopped {
     pub pc: u32,
     pub fault: Fault,
-}
-
-/// Takes all frames away.
-fn clear<A: Allocator>(code: &[Instr], places: &mut Places<A>)
-    requires { length places.old ≡ length code.now + 1 }
-    ensures none { (at : ℕ) → frame_at places.new at ≡ None }
-    ensures long { length places.new ≡ length code.now + 1 }
-{
-    for at in 0..code.len() + 1 {
-        places.take(at);
-    }
 }
 
 /// Follows the runs that reach the place `here` by its instruction.
@@ -78,8 +67,7 @@ fn answer<A: Allocator>(frac: Frac, code: &[Instr], inputs: &[Span], places: &mu
     requires well { (steps : ℕ) × DoesWell code.now (length inputs.now) steps }
     requires long { length places.old ≡ length code.now + 1 }
     requires stands { Stands (bits_of frac) code.now inputs.now (length code.now) places.old }
-    ensures gives { GivesSpan (bits_of frac) code.now inputs.now result }
-    ensures long { length places.new ≡ length code.now + 1 }
+    ensures { GivesSpan (bits_of frac) code.now inputs.now result }
 {
     let Some(mut frame) = places.take(code.len()) else {
         unreachable!()
@@ -94,19 +82,18 @@ pub fn follow_slice<A: Allocator + Copy>(
     frac: Frac,
     code: &[Instr],
     inputs: &[Span],
-    places: &mut Places<A>,
 ) -> Result<Span, Failure<Stopped>>
     requires code { IsCode code.now }
     requires well { (steps : ℕ) × DoesWell code.now (length inputs.now) steps }
-    requires long { length places.old ≡ length code.now + 1 }
     ensures gives { IfOk result (GivesSpan (bits_of frac) code.now inputs.now) }
     ensures stops { IfErr result (λ failure. IfRefused failure (λ stopped. StopsAt (bits_of frac) code.now inputs.now stopped.pc stopped.fault)) }
-    ensures long { length places.new ≡ length code.now + 1 }
 {
-    clear(code, places);
+    let Ok(mut places) = Places::new(alloc, code.len()) else {
+        return Err(Failure::Memory);
+    };
     places.join(0, SpanFrame::start(alloc));
     for here in 0..code.len() {
-        match pass(alloc, frac, code, here, inputs, places) {
+        match pass(alloc, frac, code, here, inputs, &mut places) {
             Ok(()) => {}
             Err(Failure::Memory) => return Err(Failure::Memory),
             Err(Failure::Refused(fault)) => {
@@ -115,5 +102,5 @@ pub fn follow_slice<A: Allocator + Copy>(
             }
         }
     }
-    Ok(answer(frac, code, inputs, places))
+    Ok(answer(frac, code, inputs, &mut places))
 }

@@ -5,12 +5,12 @@ use Rattle.verifier.proofs.Standing.{stands_first}
 use Rattle.verifier.proofs.slices.follow_slice.Goals as goal
 
 pub join-requires-clause-meet : goal.join-requires-clause-meet
-join-requires-clause-meet g c = rw (c.clear.ensures.none 0) tt
+join-requires-clause-meet g c = rw (c.in-Ok.ensures.none 0) tt
 
 pub loop-here-init : goal.loop-here-init
 loop-here-init g c = record {
-  long = c.join.ensures.long ∙ c.clear.ensures.long;
-  stands = stands_first (bits_of c.args.frac) c.args.code.now c.args.inputs.now c.start.result c.clear.new.places c.join.new.self c.start.ensures c.clear.ensures.none c.join.ensures;
+  long = c.join.ensures.long ∙ c.in-Ok.ensures.long;
+  stands = stands_first _ _ _ c.start.result _ _ c.start.ensures c.in-Ok.ensures.none c.join.ensures;
 }
 
 pub pass-requires-clause-within : goal.pass-requires-clause-within

@@ -69,7 +69,7 @@ pub join-requires-in_default-instr-clause-meet : goal.join-requires-in_default-i
 join-requires-in_default-instr-clause-meet g c =
     let behind = c.in_ok-follow-in_default-instr.ensures.behind in
     meets _ _ _ _ _ c.requires.stands _ _ _ c.index-code-here.result _ _ c.requires.code.forward c.requires.well.1 c.in-Some.ensures (instruction_at _ _ _ _ c.requires.within c.index-code-here.is refl)
-    (plain_next _ _ (is_plain _ c.in_default-instr.not-JumpIfZero c.in_default-instr.not-Jump)) (sym (height_behind (bits_of c.args.frac) c.index-code-here.result c.args.inputs.now _ _ behind))
+    (plain_next _ _ _ (is_plain _ c.in_default-instr.not-JumpIfZero c.in_default-instr.not-Jump) refl) (sym (height_behind (bits_of c.args.frac) c.index-code-here.result c.args.inputs.now _ _ behind))
 
 pub returns-in_ok-follow-in_default-instr : goal.returns-in_ok-follow-in_default-instr
 returns-in_ok-follow-in_default-instr g c =

@@ -3,14 +3,14 @@ use Rattle.verifier.specs.Verdicts.{IsPieceAnswer, first, neither, second}
 use Rattle.verifier.proofs.Searching.{of_halves, one_single, unless_err, whole_bounded}
 use Rattle.verifier.proofs.searches.Search.+judge.Goals as goal
 
-pub returns-in-Ok-clause-answer : goal.returns-in-Ok-clause-answer
-returns-in-Ok-clause-answer g t c = one_single _ _ _ _ c.args.depth _ _ (c.is_single.ensures.one c.if-is_single.true) c.in-Ok.ensures
+pub returns-in-Ok : goal.returns-in-Ok
+returns-in-Ok g t c = one_single _ _ _ _ c.args.depth _ _ (c.is_single.ensures.one c.if-is_single.true) c.in-Ok.ensures
 
-pub returns-in-Err-clause-answer : goal.returns-in-Err-clause-answer
-returns-in-Err-clause-answer g t c = one_single _ _ _ _ c.args.depth _ _ (c.is_single.ensures.one c.if-is_single.true) c.in-Err.ensures
+pub returns-in-Err : goal.returns-in-Err
+returns-in-Err g t c = one_single _ _ _ _ c.args.depth _ _ (c.is_single.ensures.one c.if-is_single.true) c.in-Err.ensures
 
-pub returns-in-Ok-try_slice-clause-answer : goal.returns-in-Ok-try_slice-clause-answer
-returns-in-Ok-try_slice-clause-answer g t c = whole_bounded _ _ _ _ c.args.depth _ _ (c.is_single.ensures.several c.if-is_single.false) c.in-Ok-try_slice.ensures.bounded
+pub returns-in-Ok-try_slice : goal.returns-in-Ok-try_slice
+returns-in-Ok-try_slice g t c = whole_bounded _ _ _ _ c.args.depth _ _ (c.is_single.ensures.several c.if-is_single.false) c.in-Ok-try_slice.ensures.bounded
 
 pub overflow_sub-depth : goal.overflow_sub-depth
 overflow_sub-depth g t c = omega arith
@@ -18,26 +18,26 @@ overflow_sub-depth g t c = omega arith
 pub overflow_sub-depth-2 : goal.overflow_sub-depth-2
 overflow_sub-depth-2 g t c = omega arith
 
-pub returns-in-Err-judge-clause-answer : goal.returns-in-Err-judge-clause-answer
-returns-in-Err-judge-clause-answer g t c =
+pub returns-in-Err-judge : goal.returns-in-Err-judge
+returns-in-Err-judge g t c =
     let code = c.args.self.now.code.now in
     let table = c.args.self.now.table.now in
     let stopped = rw c.in-Err-Refused.field-0-is at c.in-Err-Refused.ensures.stopped in
     unless_err (IsPieceAnswer code table c.args.pair.first c.args.pair.second (c.args.depth - 1) c.halves-lower.result.0) (IsPieceAnswer code table c.args.pair.first c.args.pair.second c.args.depth c.args.distances.now) c.in-Err-judge.failure
     (λ f p. of_halves code table _ _ c.args.depth _ _ _ _ _ (Err f) c.if-depth-eq0.false (c.is_single.ensures.several c.if-is_single.false) stopped c.halves-lower.ensures.cut (first p))
-    c.in-Err-judge.ensures.answer
+    c.in-Err-judge.ensures
 
-pub returns-in-Err-judge-2-clause-answer : goal.returns-in-Err-judge-2-clause-answer
-returns-in-Err-judge-2-clause-answer g t c =
+pub returns-in-Err-judge-2 : goal.returns-in-Err-judge-2
+returns-in-Err-judge-2 g t c =
     let code = c.args.self.now.code.now in
     let table = c.args.self.now.table.now in
     let stopped = rw c.in-Err-Refused.field-0-is at c.in-Err-Refused.ensures.stopped in
     unless_err (IsPieceAnswer code table c.args.pair.first c.args.pair.second (c.args.depth - 1) c.halves-lower.result.1) (IsPieceAnswer code table c.args.pair.first c.args.pair.second c.args.depth c.args.distances.now) c.in-Err-judge-2.failure
-    (λ f p. of_halves code table _ _ c.args.depth _ _ _ _ _ (Err f) c.if-depth-eq0.false (c.is_single.ensures.several c.if-is_single.false) stopped c.halves-lower.ensures.cut (second c.in-Ok-judge.ensures.answer p))
-    c.in-Err-judge-2.ensures.answer
+    (λ f p. of_halves code table _ _ c.args.depth _ _ _ _ _ (Err f) c.if-depth-eq0.false (c.is_single.ensures.several c.if-is_single.false) stopped c.halves-lower.ensures.cut (second c.in-Ok-judge.ensures p))
+    c.in-Err-judge-2.ensures
 
-pub returns-in-Ok-judge-2-clause-answer : goal.returns-in-Ok-judge-2-clause-answer
-returns-in-Ok-judge-2-clause-answer g t c =
+pub returns-in-Ok-judge-2 : goal.returns-in-Ok-judge-2
+returns-in-Ok-judge-2 g t c =
     let stopped = rw c.in-Err-Refused.field-0-is at c.in-Err-Refused.ensures.stopped in
     rw c.max.ensures
-    (of_halves _ _ _ _ c.args.depth _ _ _ _ _ _ c.if-depth-eq0.false (c.is_single.ensures.several c.if-is_single.false) stopped c.halves-lower.ensures.cut (neither c.in-Ok-judge.ensures.answer c.in-Ok-judge-2.ensures.answer))
+    (of_halves _ _ _ _ c.args.depth _ _ _ _ _ _ c.if-depth-eq0.false (c.is_single.ensures.several c.if-is_single.false) stopped c.halves-lower.ensures.cut (neither c.in-Ok-judge.ensures c.in-Ok-judge-2.ensures))

@@ -1,9 +1,5 @@
-use Rattle.std.proofs.Common.{◌≡◌, ◌+◌, length}
 use Rattle.verifier.specs.Verdicts.{IsGreatest, numbered_answer, range}
 use Rattle.verifier.proofs.searches.Search.judge_all.Given as goal
 
 abbrev pub invariant-loop-number : goal.invariant-loop-number
-invariant-loop-number g l = record {
-  long : length l.places ≡ length l.self.code.now + 1;
-  greatest : IsGreatest (numbered_answer l.self.code.now l.self.table.now (range l.self.core l.self.cutoff l.self.slices l.self.depth)) l.number l.bound;
-}
+invariant-loop-number g l = IsGreatest (numbered_answer l.self.code.now l.self.table.now (range l.self.core l.self.cutoff l.self.slices l.self.depth)) l.number l.bound
