@@ -25,8 +25,8 @@ plain_next (Keep k) here to p e = e
 plain_next (Get k) here to p e = e
 plain_next (Binary op) here to p e = e
 plain_next (Unary op) here to p e = e
-plain_next (JumpIfZero target) here to p e = absurd p
-plain_next (Jump target) here to p e = absurd p
+plain_next (JumpIfZero target) here to p e = absurd (p.falls target refl)
+plain_next (Jump target) here to p e = absurd (p.jumps target refl)
 
 may_go : (i : Instr) (from to : ℕ) (frame : SpanFrameView) → MayCome i from to frame → MayGo i from to
 may_go i from to frame (goes_next p e) = plain_next i from to p e
@@ -153,14 +153,3 @@ module _ (bits : ℕ) (code : List Instr) (inputs : List Span) (here : ℕ) (old
   one_left steps frame d last e =
       let up = height_there here frame (omega arith) e in
       d.misses.ends up.0 (length frame.stack) up.1 (subst (λ (k : ℕ). IsPath code up.0 k (length frame.stack) up.1) last up.2)
-
--- an instruction that is neither a jump at 0 nor a jump goes on to the next place
-pub is_plain : (i : Instr) → ((to : ℕ) → i ≡ JumpIfZero to → ⊥) → ((to : ℕ) → i ≡ Jump to → ⊥) → IsPlain i
-is_plain (Push v) f g = tt
-is_plain (Input k) f g = tt
-is_plain (Keep k) f g = tt
-is_plain (Get k) f g = tt
-is_plain (Binary op) f g = tt
-is_plain (Unary op) f g = tt
-is_plain (JumpIfZero to) f g = absurd (f to refl)
-is_plain (Jump to) f g = absurd (g to refl)

@@ -1,6 +1,5 @@
 -- One instruction on frames.
-use Rattle.std.proofs.Common.{◌≡◌, ℕ, ◌∷◌, Result, Ok, Err, ap, ◌∙◌, ℤ}
-use Rattle.std.specs.Prelude.{OnOk}
+use Rattle.std.proofs.Common.{◌≡◌, ℕ, ◌∷◌, ap, ◌∙◌, ℤ}
 use Rattle.fallible.specs.Failures.{IfRefused}
 use Rattle.fallible.specs.declared.failure.Failure.{Failure}
 use Rattle.fallible.specs.declared.failure.Failure.TheVariants.{Refused, Memory}
@@ -12,11 +11,6 @@ use Rattle.kernel_code.specs.declared.instructions.UnaryOperation.{UnaryOperatio
 use Rattle.kernel_code.specs.Machine.{binary_of, unary_of}
 use Rattle.verifier.specs.Frames.{SpanFrameView, Pushes, Pops, AppliesBinary, AppliesUnary}
 use Rattle.verifier.specs.Places.{IsCause, PushesNumber, StopsOnOne, StopsOnTwo}
-
--- the clause of a call at `Ok`, passed on
-pub on_ok : {T E : Type 0} (r : Result T E) (P Q : Type 0) → OnOk r P → (P → Q) → OnOk r Q
-on_ok (Ok x) P Q h f = f h
-on_ok (Err e) P Q h f = tt
 
 -- popping two spans and pushing the least span of an operation's outcomes on them is the operation on the frame
 pub applies_binary : (bits : ℕ) (op : BinaryOperation) (a b s : Span) (old one two new : SpanFrameView) → Pops b old one → Pops a one two → IsLeastSpan (IsOutcomeOfTwo (binary_of bits op) a b) s → Pushes s two new → AppliesBinary bits op old new

@@ -16,7 +16,7 @@ use Rattle.kernel_paths.specs.Misfits.{DoesWell}
 use Rattle.kernel_code.specs.Tables.{Table, IsTable, row_of, inputs_of}
 use Rattle.verifier.specs.Safety.{input_count}
 use Rattle.verifier.specs.Places.{IsOne}
-use Rattle.verifier.specs.Verdicts.{AreInputSpans, IsOneInput}
+use Rattle.verifier.specs.Verdicts.{AreFirstSpans, AreInputSpans}
 use Rattle.verifier.proofs.Runs.{AreInputsOf}
 
 -- ---- how many there are
@@ -84,12 +84,6 @@ hold_inputs t a b distances spans r h m = record { each = each }
         let one = o.one in
         (o.value, same_later r distances.lo _ (suc k) (omega arith) ∙ o.there, record { at_least = omega (arith, ints, one.lo'); at_most = omega (arith, ints, one.hi') })
 
--- the spans of the first k inputs
-pub record HoldSome (t : Table) (a b k : ℕ) (distances : Span) (spans : List Span) : Type 0 where
-  pub long : length spans ≡ k
-  pub first : slice_get spans 0 ≡ Some distances
-  pub others : (j : ℕ) (s : Span) → 1 ≤ j → slice_get spans j ≡ Some s → IsOneInput t a b distances.lo j s
-
 none_later : (s t : Span) (j : ℕ) → 1 ≤ j → slice_get (s ∷ []) j ≡ Some t → ⊥
 none_later s t zero h e = omega (arith, h)
 none_later s t (suc j) h e = absurd cc
@@ -99,11 +93,11 @@ get_first [] s t e = absurd cc
 get_first (x ∷ ss) s t e = e
 
 -- the span of the distances alone is that of the first input
-pub hold_first : (t : Table) (a b : ℕ) (distances : Span) (spans : List Span) → spans ≡ distances ∷ [] → HoldSome t a b 1 distances spans
+pub hold_first : (t : Table) (a b : ℕ) (distances : Span) (spans : List Span) → spans ≡ distances ∷ [] → AreFirstSpans t a b 1 distances spans
 hold_first t a b distances spans e = rw e (record { long = refl; first = refl; others = λ j s one there. absurd (none_later distances s j one there) })
 
 -- where spans are those of the first k inputs, one more with the value of input k alone makes them those of one input more
-pub hold_more : (t : Table) (a b : ℕ) (v : ℤ) (k k' : ℕ) (distances : Span) (old new : List Span) (s : Span) → HoldSome t a b k distances old → Some v ≡ slice_get (inputs_of t a b distances.lo) k' → k' ≡ k → s.lo ≡ v → s.hi ≡ v → new ≡ old ++ s ∷ [] → HoldSome t a b (k + 1) distances new
+pub hold_more : (t : Table) (a b : ℕ) (v : ℤ) (k k' : ℕ) (distances : Span) (old new : List Span) (s : Span) → AreFirstSpans t a b k distances old → Some v ≡ slice_get (inputs_of t a b distances.lo) k' → k' ≡ k → s.lo ≡ v → s.hi ≡ v → new ≡ old ++ s ∷ [] → AreFirstSpans t a b (k + 1) distances new
 hold_more t a b v k k' distances old new s h there same el eh e =
     rw e
     (record {
@@ -117,7 +111,3 @@ hold_more t a b v k k' distances old new s h there same el eh e =
           record { value = v; there = here; one = subst (IsOne v) (sym now.1) (record { lo' = el; hi' = eh }) })
           (get_push old s x j at);
     })
-
--- the spans of the first k inputs are those of all, where there are no more
-pub input_spans : (t : Table) (a b k : ℕ) (distances : Span) (spans : List Span) → HoldSome t a b k distances spans → k ≡ input_count t → AreInputSpans t a b distances spans
-input_spans t a b k distances spans h e = record { long = h.long ∙ e; first = h.first; others = h.others }

@@ -1,6 +1,6 @@
 -- Two verdicts on one code are the same.
 use Rattle.std.proofs.Common.{◌≡◌, ℕ, zero, suc, ◌+◌, ◌*◌, ◌/◌, ◌%◌, ◌<◌, ◌≤◌, List, [], ◌∷◌, length, Some, Result, Ok, Err, refl, sym, ap, ◌∙◌, subst, arith, ⊎_elim, ℤ, pos, ◌+ℤ◌, ◌-ℤ◌, max}
-use Rattle.std.specs.Prelude.{slice_get, unsigned_abs}
+use Rattle.std.specs.Prelude.{slice_get}
 use Rattle.std.proofs.lemmas.Int.{ints}
 use Rattle.std.proofs.lemmas.Bool.{cases_lt}
 use Rattle.std.proofs.lemmas.Option.{slice_get_within}
@@ -23,7 +23,7 @@ use Rattle.kernel_code.specs.Paths.{MissesNothing}
 use Rattle.verifier.specs.declared.faults.VerifyFault.{VerifyFault}
 use Rattle.verifier.specs.declared.faults.VerifyFault.TheVariants as fault
 use Rattle.verifier.specs.Safety.{input_count}
-use Rattle.verifier.specs.Verdicts.{Answer, AreInputSpans, HasFault, HasMagnitude, IsAtEnds, IsAtOne, IsBounded, IsEmptySlice, IsFoundOf, IsGreatest, IsInTurn, IsJoint, IsOfHalves, IsOneInput, IsPiece, IsPieceAnswer, IsSearched, IsSlice, IsSliceAnswer, IsStopped, IsVerdict, Range, bounded, empty, first, full, magnitude_of, neither, numbered_answer, second, single, stopped}
+use Rattle.verifier.specs.Verdicts.{Answer, AreInputSpans, IsAtEnds, IsAtOne, IsBounded, IsEmptySlice, IsFoundOf, IsGreatest, IsInTurn, IsJoint, IsOneInput, IsPiece, IsPieceAnswer, IsRest, IsSearched, IsSlice, IsSliceAnswer, IsStopped, IsTold, IsVerdict, Range, bounded, empty, first, full, magnitude_of, neither, numbered_answer, second, single, stopped}
 use Rattle.verifier.proofs.Within.{AreInputsWithin, ones_within}
 use Rattle.verifier.proofs.Determined.{gives_no_stop, gives_within, stops_same}
 
@@ -73,36 +73,20 @@ module _ (t : Table) (a b : ℕ) where
 same_kind : (k l : Fault) → Operation k ≡ Operation l → k ≡ l
 same_kind k l e = cc
 
-trap_of : (p q : Trap) → (let r : Result ℤ Trap = Err p in r) ≡ Err q → p ≡ q
-trap_of p q e = cc
-
-same_trap : (m n : ℕ) (k l : Fault) → (let r : Result ℤ Trap = Err (record { pc = m; kind = Operation k }) in r) ≡ Err (record { pc = n; kind = Operation l }) → (m ≡ n) × (k ≡ l)
-same_trap m n k l e =
-    let p : Trap = record { pc = m; kind = Operation k } in
-    let q : Trap = record { pc = n; kind = Operation l } in
-    let same : p ≡ q = trap_of p q e in
-    (ap (λ (t : Trap). t.pc) same, same_kind k l (ap (λ (t : Trap). t.kind) same))
+told_same : (a b : ℕ) (r : ℤ) (o : Result ℤ Trap) (x y : Answer) → IsTold a b r o x → IsTold a b r o y → x ≡ y
+told_same a b r (Ok v) (Ok x) (Ok y) p q = ap Ok (p ∙ sym q)
+told_same a b r (Ok v) (Ok x) (Err g) p q = absurd q
+told_same a b r (Ok v) (Err f) y p q = absurd p
+told_same a b r (Err trap) (Ok x) y p q = absurd p
+told_same a b r (Err trap) (Err f) (Ok y) p q = absurd q
+told_same a b r (Err trap) (Err f) (Err g) p q = ap Err (p.2 ∙ ap (λ (k : Fault). fault.Fault a b r trap.pc k) (same_kind p.0 q.0 (sym p.1 ∙ q.1)) ∙ sym q.2)
 
 module _ (code : List Instr) (t : Table) (a b : ℕ) where
   at_one_same : (r r' : ℤ) (x y : Answer) → r ≡ r' → IsAtOne code t a b r x → IsAtOne code t a b r' y → x ≡ y
-  at_one_same r r' (Ok x) (Ok y) e p q =
-      let p' : HasMagnitude code t a b r' x = subst (λ (z : ℤ). HasMagnitude code t a b z x) e p in
-      let same = (one_end (bits_of t.frac) code (inputs_of t a b r') p'.n q.n (Ok p'.value) (Ok q.value) p'.ends q.ends).1 in
-      let v : p'.value ≡ q.value = cc in
-      ap Ok (p'.bound' ∙ ap unsigned_abs v ∙ sym q.bound')
-  at_one_same r r' (Ok x) (Err g) e p q =
-      let p' : HasMagnitude code t a b r' x = subst (λ (z : ℤ). HasMagnitude code t a b z x) e p in
-      let same = (one_end (bits_of t.frac) code (inputs_of t a b r') p'.n q.n (Ok p'.value) (Err (record { pc = q.pc; kind = Operation q.kind })) p'.ends q.ends).1 in
-      absurd cc
-  at_one_same r r' (Err f) (Ok y) e p q =
-      let p' : HasFault code t a b r' f = subst (λ (z : ℤ). HasFault code t a b z f) e p in
-      let same = (one_end (bits_of t.frac) code (inputs_of t a b r') p'.n q.n (Err (record { pc = p'.pc; kind = Operation p'.kind })) (Ok q.value) p'.ends q.ends).1 in
-      absurd cc
-  at_one_same r r' (Err f) (Err g) e p q =
-      let p' : HasFault code t a b r' f = subst (λ (z : ℤ). HasFault code t a b z f) e p in
-      let same = (one_end (bits_of t.frac) code (inputs_of t a b r') p'.n q.n (Err (record { pc = p'.pc; kind = Operation p'.kind })) (Err (record { pc = q.pc; kind = Operation q.kind })) p'.ends q.ends).1 in
-      let trap = same_trap p'.pc q.pc p'.kind q.kind same in
-      ap Err (p'.told ∙ ap (λ (k : ℕ). fault.Fault a b r' k p'.kind) trap.0 ∙ ap (λ (k : Fault). fault.Fault a b r' q.pc k) trap.1 ∙ sym q.told)
+  at_one_same r r' x y e p q =
+      let p' : IsAtOne code t a b r' x = subst (λ (z : ℤ). IsAtOne code t a b z x) e p in
+      let same = (one_end (bits_of t.frac) code (inputs_of t a b r') p'.n q.n p'.outcome q.outcome p'.ends q.ends).1 in
+      told_same a b r' q.outcome x y (subst (λ (o : Result ℤ Trap). IsTold a b r' o x) same p'.told) q.told
 
   -- ---- pieces
 
@@ -170,20 +154,20 @@ module _ (code : List Instr) (t : Table) (a b : ℕ) where
       (λ m n. ap (λ (z : ℤ). Err (fault.Undecided a b z s.hi pc kind)) e ∙ ap (λ (z : ℤ). Err (fault.Undecided a b s'.lo z pc kind)) f)
       p q
 
-  -- two answers on distances of the same ends, cut at most as often, are the same
-  pub piece_same : (depth : ℕ) (s s' : Span) (x y : Answer) → s.lo ≡ s'.lo → s.hi ≡ s'.hi → IsPieceAnswer code t a b depth s x → IsPieceAnswer code t a b depth s' y → x ≡ y
-  unfolding IsPieceAnswer
-  piece_same zero s s' x y e f p q = one_piece s s' (IsAtEnds code t a b s) (IsAtEnds code t a b s') x y (ends_same s s' e f) e f p q
-  piece_same (suc d) s s' x y e f p q =
-      one_piece s s' (λ pc kind. IsOfHalves (IsPieceAnswer code t a b d) s) (λ pc kind. IsOfHalves (IsPieceAnswer code t a b d) s') x y
-      (λ pc kind x y p q.
+  rest_same : (depth : ℕ) (s s' : Span) → s.lo ≡ s'.lo → s.hi ≡ s'.hi → AreRestsSame s s' (IsRest code t a b depth s) (IsRest code t a b depth s')
+  unfolding IsRest
+  rest_same zero s s' e f = ends_same s s' e f
+  rest_same (suc d) s s' e f = λ pc kind x y p q.
       let h = halves_same s s' p.lower q.lower p.upper q.upper e f p.halves q.halves in
       in_turn (IsPieceAnswer code t a b d p.lower) (IsPieceAnswer code t a b d q.lower) (IsPieceAnswer code t a b d p.upper) (IsPieceAnswer code t a b d q.upper) (λ m n. Ok (max m n)) (λ m n. Ok (max m n)) x y
-      (λ m n i j. piece_same d p.lower q.lower m n h.0 h.1 i j)
-      (λ m n i j. piece_same d p.upper q.upper m n h.2 h.3 i j)
+      (λ m n i j. one_piece p.lower q.lower (IsRest code t a b d p.lower) (IsRest code t a b d q.lower) m n (rest_same d p.lower q.lower h.0 h.1) h.0 h.1 i j)
+      (λ m n i j. one_piece p.upper q.upper (IsRest code t a b d p.upper) (IsRest code t a b d q.upper) m n (rest_same d p.upper q.upper h.2 h.3) h.2 h.3 i j)
       (λ m n. refl)
-      p.both q.both)
-      e f p q
+      p.both q.both
+
+  -- two answers on distances of the same ends, cut at most as often, are the same
+  pub piece_same : (depth : ℕ) (s s' : Span) (x y : Answer) → s.lo ≡ s'.lo → s.hi ≡ s'.hi → IsPieceAnswer code t a b depth s x → IsPieceAnswer code t a b depth s' y → x ≡ y
+  piece_same depth s s' x y e f p q = one_piece s s' (IsRest code t a b depth s) (IsRest code t a b depth s') x y (rest_same depth s s' e f) e f p q
 
 -- ---- answers in their order
 

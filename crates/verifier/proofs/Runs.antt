@@ -104,18 +104,18 @@ leads bits (Push v) xs inputs here old new ys ls hx h b =
     let one = b.one in
     let m : IsMember v b.span = record { at_least = omega (arith, ints, one.lo'); at_most = omega (arith, ints, one.hi') } in
     let r = push_leads v b.span here ys ls old new h b.pushes m in
-    record { state = record { pc = here + 1; stack = v ∷ ys; locals = ls }; acts = r.0; comes = goes_next tt refl; within = r.1 }
+    record { state = record { pc = here + 1; stack = v ∷ ys; locals = ls }; acts = r.0; comes = goes_next (record { falls = λ k e. absurd cc; jumps = λ k e. absurd cc }) refl; within = r.1 }
 leads bits (Input k) xs inputs here old new ys ls hx h b =
     let g = hx.each k b.span b.there in
     let r = push_leads g.0 b.span here ys ls old new h b.pushes g.2 in
-    record { state = record { pc = here + 1; stack = g.0 ∷ ys; locals = ls }; acts = ap (λ o. pushed_if MissingInput o here ys ls) g.1 ∙ r.0; comes = goes_next tt refl; within = r.1 }
+    record { state = record { pc = here + 1; stack = g.0 ∷ ys; locals = ls }; acts = ap (λ o. pushed_if MissingInput o here ys ls) g.1 ∙ r.0; comes = goes_next (record { falls = λ k e. absurd cc; jumps = λ k e. absurd cc }) refl; within = r.1 }
 leads bits (Keep k) xs inputs here old new ys ls hx h b =
     let t = tops ys b.span b.between.stack (subst (AreMembers ys) b.pops.stack h.on_stack) in
     let there : k < length ls = omega (arith, h.long, b.few) in
     record {
       state = record { pc = here + 1; stack = t.1; locals = slice_set ls k (Some t.0) };
       acts = ap (λ l. kept k here l ls) t.2;
-      comes = goes_next tt refl;
+      comes = goes_next (record { falls = λ k e. absurd cc; jumps = λ k e. absurd cc }) refl;
       within = record {
         on_stack = subst (AreMembers t.1) (sym b.sets.stack) t.4;
         long = length-set ls k (Some t.0) ∙ h.long;
@@ -130,7 +130,7 @@ leads bits (Keep k) xs inputs here old new ys ls hx h b =
 leads bits (Get k) xs inputs here old new ys ls hx h b =
     let g = local_set (slice_index_or ls k None) b.span (subst (IsLocalOf (slice_index_or ls k None)) b.there (h.set k)) in
     let r = push_leads g.0 b.span here ys ls old new h b.pushes g.2 in
-    record { state = record { pc = here + 1; stack = g.0 ∷ ys; locals = ls }; acts = ap (λ o. pushed_if MissingLocal o here ys ls) g.1 ∙ r.0; comes = goes_next tt refl; within = r.1 }
+    record { state = record { pc = here + 1; stack = g.0 ∷ ys; locals = ls }; acts = ap (λ o. pushed_if MissingLocal o here ys ls) g.1 ∙ r.0; comes = goes_next (record { falls = λ k e. absurd cc; jumps = λ k e. absurd cc }) refl; within = r.1 }
 leads bits (Binary op) xs inputs here old new ys ls hx h b =
     let t = tops ys b.b (b.a ∷ b.rest) (subst (AreMembers ys) b.taken h.on_stack) in
     let u = tops t.1 b.a b.rest t.4 in
@@ -138,7 +138,7 @@ leads bits (Binary op) xs inputs here old new ys ls hx h b =
     record {
       state = record { pc = here + 1; stack = r.0 ∷ u.1; locals = ls };
       acts = ap (λ l. on_two bits op here l ls) (t.2 ∙ ap (λ l. t.0 ∷ l) u.2) ∙ ap (λ v. given v here u.1 ls) r.1;
-      comes = goes_next tt refl;
+      comes = goes_next (record { falls = λ k e. absurd cc; jumps = λ k e. absurd cc }) refl;
       within = record { on_stack = subst (AreMembers (r.0 ∷ u.1)) (sym b.given) (r.2, u.4); long = h.long; set = same_set old new ls b.locals h.set };
     }
 leads bits (Unary op) xs inputs here old new ys ls hx h b =
@@ -147,7 +147,7 @@ leads bits (Unary op) xs inputs here old new ys ls hx h b =
     record {
       state = record { pc = here + 1; stack = r.0 ∷ t.1; locals = ls };
       acts = ap (λ l. on_one bits op here l ls) t.2 ∙ ap (λ v. given v here t.1 ls) r.1;
-      comes = goes_next tt refl;
+      comes = goes_next (record { falls = λ k e. absurd cc; jumps = λ k e. absurd cc }) refl;
       within = record { on_stack = subst (AreMembers (r.0 ∷ t.1)) (sym b.given) (r.2, t.4); long = h.long; set = same_set old new ls b.locals h.set };
     }
 leads bits (JumpIfZero target) xs inputs here old new ys ls hx h b =

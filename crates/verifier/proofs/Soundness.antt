@@ -1,5 +1,5 @@
 -- A verdict says how the code runs: where it has a bound the code never goes wrong, and a refusal is one of its runs or paths.
-use Rattle.std.proofs.Common.{◌≡◌, ℕ, zero, suc, ◌+◌, ◌*◌, ◌/◌, ◌%◌, ◌^◌, ◌<◌, ◌≤◌, List, length, Option, Some, None, Ok, Err, refl, sym, ap, ◌∙◌, subst, arith, ℤ, pos, negsuc, ◌≤ℤ◌, ◌<ℤ◌, ◌+ℤ◌, ◌-ℤ◌, ⊎_elim, max, lit<}
+use Rattle.std.proofs.Common.{◌≡◌, ℕ, zero, suc, ◌+◌, ◌*◌, ◌/◌, ◌%◌, ◌^◌, ◌<◌, ◌≤◌, List, length, Option, Some, None, Result, Ok, Err, refl, sym, ap, ◌∙◌, subst, arith, ℤ, pos, negsuc, ◌≤ℤ◌, ◌<ℤ◌, ◌+ℤ◌, ◌-ℤ◌, ⊎_elim, max, lit<}
 use Rattle.std.specs.Prelude.{slice_get, option_map, unsigned_abs}
 use Rattle.std.proofs.Math.Nat.{div-lt_iff_lt-mul, lt-div-mul-add, pow-suc}
 use Rattle.std.proofs.lemmas.Bool.{cases_lt}
@@ -11,6 +11,8 @@ use Rattle.fixed.proofs.FloorLemmas.{floor_over_is}
 use Rattle.interval_domain.specs.declared.span.Span.{Span}
 use Rattle.interval_domain.specs.Spans.{AreHalves}
 use Rattle.kernel_code.specs.declared.instructions.Instr.{Instr}
+use Rattle.kernel_code.specs.declared.traps.Trap.{Trap}
+use Rattle.kernel_code.specs.declared.traps.TrapKind.{TrapKind}
 use Rattle.kernel_code.specs.declared.traps.TrapKind.TheVariants.{Operation}
 use Rattle.kernel_code.specs.Code.{IsCode, JumpsForward}
 use Rattle.kernel_code.specs.Machine.{State, Turn, act, end_of, Ends}
@@ -22,7 +24,7 @@ use Rattle.kernel_paths.proofs.Refusals.{goes_wrong}
 use Rattle.verifier.specs.declared.faults.VerifyFault.{VerifyFault}
 use Rattle.verifier.specs.declared.faults.VerifyFault.TheVariants.{Malformed, DepthOver64, Fault, Undecided}
 use Rattle.verifier.specs.Safety.{IsCertified, IsRefusal, IsUndecided, Traps}
-use Rattle.verifier.specs.Verdicts.{Answer, IsAtEnds, IsAtOne, IsBounded, IsFoundOf, IsInTurn, IsPieceAnswer, IsSliceAnswer, IsVerdict, Range, bounded, empty, first, full, neither, second, single, stopped}
+use Rattle.verifier.specs.Verdicts.{Answer, IsAtEnds, IsAtOne, IsBounded, IsFoundOf, IsInTurn, IsPiece, IsPieceAnswer, IsRest, IsSliceAnswer, IsTold, IsVerdict, Range, bounded, empty, first, full, neither, second, single, stopped}
 use Rattle.verifier.proofs.Inputs.{hold_inputs}
 use Rattle.verifier.proofs.Runs.{gives_in}
 
@@ -75,10 +77,15 @@ abs_between (negsuc m) (negsuc n) hi a b = let c : n ≤ m = omega (arith, ints)
 
 module _ (code : List Instr) (t : Table) (a b : ℕ) (forward : JumpsForward code) (la : a < length t.rows) (lb : b < length t.rows) where
   one_says : (r : ℤ) (limit : ℕ) (x : Answer) → IsAtOne code t a b r x → Says code t a b r r limit x
-  one_says r limit (Ok bound) h = λ q low high.
-      let same : r ≡ q = omega (arith, ints, low, high) in
-      subst (λ (z : ℤ). GivesWithin code t a b z bound) same (record { value = h.value; n = h.n; ends = h.ends; small = omega (arith, h.bound') })
-  one_says r limit (Err f) h = subst (IsFound code t r r limit) (sym h.told) (record { first = la; second = lb; low = omega (arith, ints); high = omega (arith, ints); n = h.n; ends = h.ends })
+  one_says r limit x h = at h.outcome x h.ends h.told
+    where
+      at : (o : Result ℤ Trap) (x : Answer) → Ends (bits_of t.frac) code (inputs_of t a b r) h.n o → IsTold a b r o x → Says code t a b r r limit x
+      at (Ok v) (Ok bound) ends told = λ q low high. subst (λ (z : ℤ). GivesWithin code t a b z bound) (omega (arith, ints, low, high)) (record { value = v; n = h.n; ends = ends; small = omega (arith, told) })
+      at (Ok v) (Err f) ends told = absurd told
+      at (Err trap) (Ok bound) ends told = absurd told
+      at (Err trap) (Err f) ends told =
+          let ends' = subst (λ (k : TrapKind). Ends (bits_of t.frac) code (inputs_of t a b r) h.n (Err (record { pc = trap.pc; kind = k }))) told.1 ends in
+          subst (IsFound code t r r limit) (sym told.2) (record { first = la; second = lb; low = omega (arith, ints); high = omega (arith, ints); n = h.n; ends = ends' })
 
   bounded_says : (s : Span) (bound : ℕ) → IsBounded code t a b s bound → IsSafeAt code t a b s.lo s.hi bound
   bounded_says s bound h r low high =
@@ -91,15 +98,17 @@ module _ (code : List Instr) (t : Table) (a b : ℕ) (forward : JumpsForward cod
       found_within code t s.lo s.lo s.lo s.hi 1 1 f (omega (arith, ints)) (omega (arith, ints, lt)) (λ w. absurd (omega (arith, ints, w))) (one_says s.lo 1 (Err f) p)
   ends_say s pc kind x lt (second {f = f} p q) =
       found_within code t s.hi s.hi s.lo s.hi 1 1 f (omega (arith, ints, lt)) (omega (arith, ints)) (λ w. absurd (omega (arith, ints, w))) (one_says s.hi 1 (Err f) q)
-  ends_say s pc kind x lt (neither p q) =
+  ends_say s pc kind x lt (neither {x = m} {y = k} p q) =
+      let lo = one_says s.lo 1 (Ok m) p s.lo (omega (arith, ints)) (omega (arith, ints)) in
+      let hi = one_says s.hi 1 (Ok k) q s.hi (omega (arith, ints)) (omega (arith, ints)) in
       record {
         first = la;
         second = lb;
         low = omega (arith, ints);
         two = lt;
         high = omega (arith, ints);
-        at_lo = record { value = p.value; n = p.n; ends = p.ends };
-        at_hi = record { value = q.value; n = q.n; ends = q.ends };
+        at_lo = record { value = lo.value; n = lo.n; ends = lo.ends };
+        at_hi = record { value = hi.value; n = hi.n; ends = hi.ends };
         wide = omega (arith, ints, lt);
       }
 
@@ -123,19 +132,23 @@ module _ (code : List Instr) (t : Table) (a b : ℕ) (forward : JumpsForward cod
       (λ lt. gives_weaker code t a b r m (max m n) (omega arith) (da (Ok m) p r (let from = h.from in omega (arith, ints, from, low)) (let next = h.next in omega (arith, ints, next, lt))))
       (λ le. gives_weaker code t a b r n (max m n) (omega arith) (db (Ok n) q r (omega (arith, ints, le)) (let to = h.to in omega (arith, ints, to, high))))
 
-  piece_says : (depth : ℕ) (s : Span) (x : Answer) → IsPieceAnswer code t a b depth s x → Says code t a b s.lo s.hi (2 ^ depth) x
-  unfolding IsPieceAnswer
-  piece_says zero s x (single e h) = subst (λ (z : ℤ). Says code t a b s.lo z 1 x) e (one_says s.lo 1 x h)
-  piece_says zero s x (bounded {bound = bound} lt h) = bounded_says s bound h
-  piece_says zero s x (stopped {pc = pc} {kind = kind} lt p h) = ends_say s pc kind x lt h
-  piece_says (suc depth) s x (single e h) = subst (λ (z : ℤ). Says code t a b s.lo z (2 ^ suc depth) x) e (one_says s.lo (2 ^ suc depth) x h)
-  piece_says (suc depth) s x (bounded {bound = bound} lt h) = bounded_says s bound h
-  piece_says (suc depth) s x (stopped lt p h) =
-      let p : 2 ^ suc depth ≡ 2 ^ depth * 2 = pow-suc 2 depth in
-      halves_say s h.lower h.upper (2 ^ depth) (2 ^ suc depth) (IsPieceAnswer code t a b depth h.lower) (IsPieceAnswer code t a b depth h.upper) x lt (omega (arith, p)) h.halves
-      (λ y i. piece_says depth h.lower y i)
-      (λ y i. piece_says depth h.upper y i)
+  piece_of : (s : Span) (limit : ℕ) (Rest : ℕ → faults.Fault → Answer → Type 0) (x : Answer) → ((pc : ℕ) (kind : faults.Fault) (y : Answer) → s.lo <ℤ s.hi → Rest pc kind y → Says code t a b s.lo s.hi limit y) → IsPiece code t a b s Rest x → Says code t a b s.lo s.hi limit x
+  piece_of s limit Rest x rest (single e h) = subst (λ (z : ℤ). Says code t a b s.lo z limit x) e (one_says s.lo limit x h)
+  piece_of s limit Rest x rest (bounded {bound = bound} lt h) = bounded_says s bound h
+  piece_of s limit Rest x rest (stopped {pc = pc} {kind = kind} lt p h) = rest pc kind x lt h
+
+  rest_says : (depth : ℕ) (s : Span) (pc : ℕ) (kind : faults.Fault) (x : Answer) → s.lo <ℤ s.hi → IsRest code t a b depth s pc kind x → Says code t a b s.lo s.hi (2 ^ depth) x
+  unfolding IsRest
+  rest_says zero s pc kind x lt h = ends_say s pc kind x lt h
+  rest_says (suc d) s pc kind x lt h =
+      let p : 2 ^ suc d ≡ 2 ^ d * 2 = pow-suc 2 d in
+      halves_say s h.lower h.upper (2 ^ d) (2 ^ suc d) (IsPieceAnswer code t a b d h.lower) (IsPieceAnswer code t a b d h.upper) x lt (omega (arith, p)) h.halves
+      (λ y i. piece_of h.lower (2 ^ d) (IsRest code t a b d h.lower) y (rest_says d h.lower) i)
+      (λ y i. piece_of h.upper (2 ^ d) (IsRest code t a b d h.upper) y (rest_says d h.upper) i)
       h.both
+
+  piece_says : (depth : ℕ) (s : Span) (x : Answer) → IsPieceAnswer code t a b depth s x → Says code t a b s.lo s.hi (2 ^ depth) x
+  piece_says depth s x h = piece_of s (2 ^ depth) (IsRest code t a b depth s) x (rest_says depth s) h
 
 -- ---- slices
 

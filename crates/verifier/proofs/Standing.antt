@@ -55,15 +55,15 @@ same_place led led' (Some e) up down before =
 plain_only : (i : Instr) (here to : ℕ) (frame : SpanFrameView) → IsPlain i → MayCome i here to frame → to ≡ here + 1
 plain_only i here to frame p (goes_next q e) = e
 plain_only i here to frame p (falls_through e h) = e
-plain_only i here to frame p (jumps_at_zero e h) = absurd p
-plain_only i here to frame p (jumps_always e) = absurd p
+plain_only i here to frame p (jumps_at_zero {target = target} e h) = absurd (p.falls target refl)
+plain_only i here to frame p (jumps_always {target = target} e) = absurd (p.jumps target refl)
 
 jump_only : (target here to : ℕ) (frame : SpanFrameView) → MayCome (Jump target) here to frame → to ≡ target
-jump_only target here to frame (goes_next q e) = absurd q
+jump_only target here to frame (goes_next q e) = absurd (q.jumps target refl)
 jump_only target here to frame (jumps_always e) = e
 
 ways : (here target to : ℕ) (frame : SpanFrameView) → MayCome (JumpIfZero target) here to frame → ((to ≡ here + 1) × HasTop HasOther frame) ⊎ ((to ≡ target) × HasTop HasZero frame)
-ways here target to frame (goes_next q e) = absurd q
+ways here target to frame (goes_next q e) = absurd (q.falls target refl)
 ways here target to frame (falls_through e h) = inl (e, h)
 ways here target to frame (jumps_at_zero e h) = inr (e, h)
 

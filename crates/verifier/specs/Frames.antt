@@ -104,15 +104,9 @@ pub record AppliesUnary (bits : ℕ) (op : UnaryOperation) (old new : SpanFrameV
 -- ---- one instruction
 
 -- it goes on to the next place
-abbrev pub IsPlain : Instr → Type 0
-IsPlain (Push v) = Unit {0}
-IsPlain (Input k) = Unit {0}
-IsPlain (Keep k) = Unit {0}
-IsPlain (Get k) = Unit {0}
-IsPlain (Binary op) = Unit {0}
-IsPlain (Unary op) = Unit {0}
-IsPlain (JumpIfZero to) = ⊥
-IsPlain (Jump to) = ⊥
+pub record IsPlain (i : Instr) : Type 0 where
+  pub falls : (to : ℕ) → i ≡ JumpIfZero to → ⊥
+  pub jumps : (to : ℕ) → i ≡ Jump to → ⊥
 
 -- the operands, the input or the local that the instruction needs are there, and room for what it pushes
 abbrev pub IsAtHand : Instr → List Span → SpanFrameView → Type 0

@@ -8,6 +8,7 @@ use Rattle.fixed.specs.declared.faults.Fault.{Fault}
 use Rattle.interval_domain.specs.declared.span.Span.{Span}
 use Rattle.interval_domain.specs.Spans.{AreHalves}
 use Rattle.kernel_code.specs.declared.instructions.Instr.{Instr}
+use Rattle.kernel_code.specs.declared.traps.Trap.{Trap}
 use Rattle.kernel_code.specs.declared.traps.TrapKind.TheVariants.{Operation}
 use Rattle.kernel_code.specs.Code.{IsCode}
 use Rattle.kernel_code.specs.Machine.{Ends}
@@ -31,11 +32,14 @@ pub record IsOneInput (t : Table) (a b : ℕ) (r : ℤ) (k : ℕ) (s : Span) : T
   pub there : slice_get (inputs_of t a b r) k ≡ Some value
   pub one : IsOne value s
 
--- input 0 has the distances, each other its value
-pub record AreInputSpans (t : Table) (a b : ℕ) (distances : Span) (spans : List Span) : Type 0 where
-  pub long : length spans ≡ input_count t
+-- of the first `count` inputs, input 0 has the distances, each other its value
+pub record AreFirstSpans (t : Table) (a b count : ℕ) (distances : Span) (spans : List Span) : Type 0 where
+  pub long : length spans ≡ count
   pub first : slice_get spans 0 ≡ Some distances
   pub others : (k : ℕ) (s : Span) → 1 ≤ k → slice_get spans k ≡ Some s → IsOneInput t a b distances.lo k s
+
+abbrev pub AreInputSpans : Table → (a b : ℕ) → Span → List Span → Type 0
+AreInputSpans t a b distances spans = AreFirstSpans t a b (input_count t) distances spans
 
 abbrev pub magnitude_of : Span → ℕ
 magnitude_of s = max (unsigned_abs s.lo) (unsigned_abs s.hi)
@@ -56,22 +60,18 @@ pub record IsStopped (code : List Instr) (t : Table) (a b : ℕ) (distances : Sp
 
 -- ---- one distance, by the machine
 
-pub record HasMagnitude (code : List Instr) (t : Table) (a b : ℕ) (r : ℤ) (bound : ℕ) : Type 0 where
-  pub value : ℤ
-  pub n : ℕ
-  pub ends : Ends (bits_of t.frac) code (inputs_of t a b r) n (Ok value)
-  pub bound' : bound ≡ unsigned_abs value
+-- the run's outcome tells the answer: a value its magnitude, and a trap of an operation its fault
+abbrev pub IsTold : (a b : ℕ) → ℤ → Result ℤ Trap → Answer → Type 0
+IsTold a b r (Ok value) (Ok bound) = bound ≡ unsigned_abs value
+IsTold a b r (Ok value) (Err f) = ⊥
+IsTold a b r (Err trap) (Ok bound) = ⊥
+IsTold a b r (Err trap) (Err f) = (kind : Fault) × (trap.kind ≡ Operation kind) × (f ≡ fault.Fault a b r trap.pc kind)
 
-pub record HasFault (code : List Instr) (t : Table) (a b : ℕ) (r : ℤ) (f : VerifyFault) : Type 0 where
-  pub pc : ℕ
-  pub kind : Fault
+pub record IsAtOne (code : List Instr) (t : Table) (a b : ℕ) (r : ℤ) (answer : Answer) : Type 0 where
+  pub outcome : Result ℤ Trap
   pub n : ℕ
-  pub ends : Ends (bits_of t.frac) code (inputs_of t a b r) n (Err (record { pc = pc; kind = Operation kind }))
-  pub told : f ≡ fault.Fault a b r pc kind
-
-abbrev pub IsAtOne : List Instr → Table → (a b : ℕ) → ℤ → Answer → Type 0
-IsAtOne code t a b r (Ok bound) = HasMagnitude code t a b r bound
-IsAtOne code t a b r (Err f) = HasFault code t a b r f
+  pub ends : Ends (bits_of t.frac) code (inputs_of t a b r) n outcome
+  pub told : IsTold a b r outcome answer
 
 -- ---- some distances, cut in two at most `depth` times where they stop
 
@@ -101,9 +101,13 @@ pub record IsOfHalves (Piece : Span → Answer → Type 0) (s : Span) (answer : 
   pub halves : AreHalves s lower upper
   pub both : IsInTurn (Piece lower) (Piece upper) (λ x y. Ok (max x y)) answer
 
-unfoldable pub IsPieceAnswer : List Instr → Table → (a b depth : ℕ) → Span → Answer → Type 0
-IsPieceAnswer code t a b zero s answer = IsPiece code t a b s (IsAtEnds code t a b s) answer
-IsPieceAnswer code t a b (suc depth) s answer = IsPiece code t a b s (λ pc kind. IsOfHalves (IsPieceAnswer code t a b depth) s) answer
+-- the answer of distances that stop, and are cut `depth` times at most
+unfoldable pub IsRest : List Instr → Table → (a b depth : ℕ) → Span → ℕ → Fault → Answer → Type 0
+IsRest code t a b zero s pc kind answer = IsAtEnds code t a b s pc kind answer
+IsRest code t a b (suc depth) s pc kind answer = IsOfHalves (λ h. IsPiece code t a b h (IsRest code t a b depth h)) s answer
+
+abbrev pub IsPieceAnswer : List Instr → Table → (a b depth : ℕ) → Span → Answer → Type 0
+IsPieceAnswer code t a b depth s answer = IsPiece code t a b s (IsRest code t a b depth s) answer
 
 -- ---- answers in their order
 

@@ -1,10 +1,11 @@
 use Rattle.std.proofs.Common.{arith, refl, sym, ◌∙◌, inl, inr}
-use Rattle.std.proofs.lemmas.Result.{IfErr-weaker, err_from_is_err_and}
+use Rattle.std.proofs.lemmas.Result.{on_ok_weaker, IfErr-weaker, err_from_is_err_and}
 use Rattle.fixed.specs.Fractions.{bits_of}
 use Rattle.kernel_code.proofs.Runs.{instruction_at}
+use Rattle.verifier.specs.Frames.{IsPlain}
 use Rattle.verifier.specs.Places.{Stops, StopsAt}
-use Rattle.verifier.proofs.Attaining.{at_hand, height_behind, is_plain, meets, plain_next}
-use Rattle.verifier.proofs.Following.{on_ok, refused_memory, refused_weaker}
+use Rattle.verifier.proofs.Attaining.{at_hand, height_behind, meets, plain_next}
+use Rattle.verifier.proofs.Following.{refused_memory, refused_weaker}
 use Rattle.verifier.proofs.Placing.{branch_within, jump_within}
 use Rattle.verifier.proofs.Standing.{stands_branch, stands_jump, stands_past, stands_plain, stops_at}
 use Rattle.verifier.proofs.slices.pass.Goals as goal
@@ -46,8 +47,9 @@ branch-alloc-requires-clause-meet_target g c =
 
 pub returns-in-JumpIfZero-clause-stands : goal.returns-in-JumpIfZero-clause-stands
 returns-in-JumpIfZero-clause-stands g c =
-    on_ok c.branch-alloc.result _ _ c.branch-alloc.ensures.branches
+    on_ok_weaker c.branch-alloc.result
     (stands_branch _ _ _ _ _ _ _ _ _ c.requires.stands c.in-Some.ensures (instruction_at _ _ _ _ c.requires.within c.index-code-here.is c.in-JumpIfZero.is))
+    c.branch-alloc.ensures.branches
 
 pub returns-in-JumpIfZero-clause-stops : goal.returns-in-JumpIfZero-clause-stops
 returns-in-JumpIfZero-clause-stops g c = IfErr-weaker c.branch-alloc.result _ _ (λ e same. refused_memory _ e same) c.branch-alloc.ensures.memory
@@ -69,12 +71,12 @@ pub join-requires-in_default-instr-clause-meet : goal.join-requires-in_default-i
 join-requires-in_default-instr-clause-meet g c =
     let behind = c.in_ok-follow-in_default-instr.ensures.behind in
     meets _ _ _ _ _ c.requires.stands _ _ _ c.index-code-here.result _ _ c.requires.code.forward c.requires.well.1 c.in-Some.ensures (instruction_at _ _ _ _ c.requires.within c.index-code-here.is refl)
-    (plain_next _ _ _ (is_plain _ c.in_default-instr.not-JumpIfZero c.in_default-instr.not-Jump) refl) (sym (height_behind (bits_of c.args.frac) c.index-code-here.result c.args.inputs.now _ _ behind))
+    (plain_next _ _ _ (record { falls = c.in_default-instr.not-JumpIfZero; jumps = c.in_default-instr.not-Jump }) refl) (sym (height_behind (bits_of c.args.frac) c.index-code-here.result c.args.inputs.now _ _ behind))
 
 pub returns-in_ok-follow-in_default-instr : goal.returns-in_ok-follow-in_default-instr
 returns-in_ok-follow-in_default-instr g c =
     let there = instruction_at _ _ _ _ c.requires.within c.index-code-here.is refl in
-    let plain = is_plain c.index-code-here.result c.in_default-instr.not-JumpIfZero c.in_default-instr.not-Jump in
+    let plain : IsPlain c.index-code-here.result = record { falls = c.in_default-instr.not-JumpIfZero; jumps = c.in_default-instr.not-Jump } in
     let j = c.join-in_default-instr.ensures in
     record {
       stands = stands_plain _ _ _ _ _ _ _ _ _ _ c.requires.stands c.in-Some.ensures there plain c.in_ok-follow-in_default-instr.ensures.behind j;

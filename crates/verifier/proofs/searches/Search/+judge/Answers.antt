@@ -1,16 +1,17 @@
 use Rattle.std.proofs.Common.{◌-◌, Err, arith}
-use Rattle.verifier.specs.Verdicts.{IsPieceAnswer, first, neither, second}
-use Rattle.verifier.proofs.Searching.{of_halves, one_single, unless_err, whole_bounded}
+use Rattle.std.proofs.lemmas.Int.{ints}
+use Rattle.verifier.specs.Verdicts.{IsPieceAnswer, bounded, first, neither, second, single}
+use Rattle.verifier.proofs.Searching.{of_halves, unless_err}
 use Rattle.verifier.proofs.searches.Search.+judge.Goals as goal
 
 pub returns-in-Ok : goal.returns-in-Ok
-returns-in-Ok g t c = one_single _ _ _ _ c.args.depth _ _ (c.is_single.ensures.one c.if-is_single.true) c.in-Ok.ensures
+returns-in-Ok g t c = let le = c.is_single.ensures.one c.if-is_single.true in single (omega (arith, ints, le, c.args.distances.now.ordered)) c.in-Ok.ensures
 
 pub returns-in-Err : goal.returns-in-Err
-returns-in-Err g t c = one_single _ _ _ _ c.args.depth _ _ (c.is_single.ensures.one c.if-is_single.true) c.in-Err.ensures
+returns-in-Err g t c = let le = c.is_single.ensures.one c.if-is_single.true in single (omega (arith, ints, le, c.args.distances.now.ordered)) c.in-Err.ensures
 
 pub returns-in-Ok-try_slice : goal.returns-in-Ok-try_slice
-returns-in-Ok-try_slice g t c = whole_bounded _ _ _ _ c.args.depth _ _ (c.is_single.ensures.several c.if-is_single.false) c.in-Ok-try_slice.ensures.bounded
+returns-in-Ok-try_slice g t c = bounded (c.is_single.ensures.several c.if-is_single.false) c.in-Ok-try_slice.ensures.bounded
 
 pub overflow_sub-depth : goal.overflow_sub-depth
 overflow_sub-depth g t c = omega arith

@@ -1,6 +1,7 @@
-use Rattle.std.proofs.Common.{List, ◌∷◌, [], ◌++◌, arith, ap, ◌∙◌}
+use Rattle.std.proofs.Common.{List, ◌∷◌, [], ◌++◌, arith, ap, ◌∙◌, ℕ, subst}
 use Rattle.interval_domain.specs.declared.span.Span.{Span}
-use Rattle.verifier.proofs.Inputs.{input_there, hold_first, hold_more, input_spans}
+use Rattle.verifier.specs.Verdicts.{AreFirstSpans}
+use Rattle.verifier.proofs.Inputs.{input_there, hold_first, hold_more}
 use Rattle.verifier.proofs.searches.Search.input_spans.Goals as goal
 
 pub loop-number-init : goal.loop-number-init
@@ -17,4 +18,6 @@ unreachable-requires g c =
     (omega (arith, c.loop-number-test.true, c.parameters.ensures.value, c.globals.ensures.value))
 
 pub returns : goal.returns
-returns g c = input_spans _ _ _ c.loop-number.number _ _ c.loop-number.invariant (omega (arith, c.loop-number-test.false, c.loop-number.auto.number-end, c.parameters.ensures.value, c.globals.ensures.value))
+returns g c =
+    subst (λ (k : ℕ). AreFirstSpans c.args.self.now.table.now c.args.pair.first c.args.pair.second k c.args.distances.now c.loop-number.spans.items) (omega (arith, c.loop-number-test.false, c.loop-number.auto.number-end, c.parameters.ensures.value, c.globals.ensures.value))
+    c.loop-number.invariant
