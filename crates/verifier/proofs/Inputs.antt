@@ -3,6 +3,7 @@ use Rattle.std.proofs.Common.{◌≡◌, ℕ, zero, suc, ◌+◌, ◌<◌, ◌�
 use Rattle.std.specs.Prelude.{slice_get, ◌⊎◌}
 use Rattle.std.proofs.lemmas.Int.{ints}
 use Rattle.std.proofs.lemmas.List.{length-append}
+use Rattle.std.proofs.lemmas.Option.{slice_get-get_or}
 use Rattle.std.proofs.lemmas.List.Elements.{All-get_or}
 use Rattle.interval_domain.specs.declared.span.Span.{Span}
 use Rattle.interval_domain.specs.Spans.{IsMember}
@@ -33,17 +34,12 @@ inputs_length t a b r is first second =
     let n = length-append (row_of t b) t.globals in
     omega (arith, x, y, m, n)
 
-get_past : (xs : List ℤ) (k : ℕ) → slice_get xs k ≡ None → length xs ≤ k
-get_past [] k e = omega arith
-get_past (x ∷ xs) zero e = absurd cc
-get_past (x ∷ xs) (suc k) e = let h = get_past xs k e in omega (arith, h)
-
 -- each of n is there
 pub input_there : (t : Table) (a b k k' : ℕ) (r : ℤ) → IsTable t → a < length t.rows → b < length t.rows → None ≡ slice_get (inputs_of t a b r) k' → k' ≡ k → k < input_count t → ⊥
 input_there t a b k k' r is first second none same lt =
-    let past = get_past (inputs_of t a b r) k' (sym none) in
     let long = inputs_length t a b r is first second in
-    omega (arith, past, long, same, lt)
+    let there = slice_get-get_or (inputs_of t a b r) k' r (omega (arith, long, same, lt)) in
+    absurd cc
 
 -- so no path misses any
 pub misses_inputs : (code : List Instr) (t : Table) (a b : ℕ) (r : ℤ) → IsTable t → a < length t.rows → b < length t.rows → (steps : ℕ) × DoesWell code (input_count t) steps → MissesNothing code (length (inputs_of t a b r))

@@ -1,14 +1,20 @@
--- Frames where paths meet: the least that hold both.
-use Rattle.std.proofs.Common.{◌≡◌, ◌≢◌, ℕ, zero, suc, ◌+◌, ◌<◌, ◌≤◌, List, [], ◌∷◌, ◌++◌, length, Option, Some, None, refl, sym, ap, ◌∙◌, subst, arith, ⊎_elim, inl, inr, reverse}
-use Rattle.std.specs.Prelude.{◌⊎◌, slice_get, slice_set, slice_index_or}
-use Rattle.std.proofs.lemmas.Bool.{cases_eq, cases_lt}
-use Rattle.std.proofs.lemmas.List.{get_or-set_same, get_or-set_other, get_or_past, length-reverse, reverse-reverse}
-use Rattle.std.proofs.lemmas.Option.{slice_get_within}
+-- Frames where paths meet: the least that hold both; and frames put in places.
+use Rattle.std.proofs.Common.{◌≡◌, ◌≢◌, ℕ, zero, suc, ◌+◌, ◌<◌, ◌≤◌, List, [], ◌∷◌, ◌++◌, length, Option, Some, None, refl, sym, ap, ◌∙◌, subst, arith, ⊎_elim, inl, inr, reverse, ◌-◌, ℤ, pos, Bool, true, false, IsTrue, ◌↔◌}
+use Rattle.std.specs.Prelude.{◌⊎◌, slice_get, slice_set, slice_index_or, nat_lt, nat_le}
+use Rattle.std.proofs.lemmas.Bool.{cases_eq, cases_lt, and_parts, leb-true}
+use Rattle.std.proofs.lemmas.List.{get_or-set_same, get_or-set_other, get_or_past, length-reverse, reverse-reverse, get_or_default, set-set}
 use Rattle.std.proofs.Math.ListN.{length-set}
 use mathlib.Core.List.{reverse_aux}
 use Rattle.interval_domain.specs.declared.span.Span.{Span}
-use Rattle.interval_domain.specs.Spans.{IsHull}
-use Rattle.verifier.specs.Frames.{SpanFrameView, AreWithin, IsLocalWithin, local_of, WidensSpans, WidensLocal, WidensLocals, Widens}
+use Rattle.interval_domain.specs.Spans.{IsHull, IsMember}
+use Rattle.verifier.specs.Frames.{SpanFrameView, AreWithin, IsLocalWithin, local_of, WidensSpans, WidensLocal, WidensLocals, Widens, Pops}
+use Rattle.kernel_code.specs.Code.{IsCode}
+use Rattle.kernel_code.specs.declared.instructions.Instr.TheVariants.{JumpIfZero, Jump}
+use Rattle.kernel_code.specs.declared.instructions.Instr.{Instr}
+use Rattle.std.proofs.lemmas.Bool.Decides.{Decides-int_eq}
+use Rattle.std.specs.Ordering.{int_eq}
+use Rattle.verifier.proofs.Within.{length_within}
+use Rattle.verifier.specs.Slices.{frame_at, CanMeet, IsJoined, Joins, Branches, may_jump}
 
 -- ---- spans
 
@@ -16,72 +22,49 @@ use Rattle.verifier.specs.Frames.{SpanFrameView, AreWithin, IsLocalWithin, local
 pub record WidensFirst (k : ℕ) (old other now : List Span) : Type 0 where
   pub long : length now ≡ length other
   pub long' : length now ≡ length old
-  pub first : (j : ℕ) (a b h : Span) → j < k → slice_get old j ≡ Some a → slice_get other j ≡ Some b → slice_get now j ≡ Some h → IsHull a b h
-  pub rest : (j : ℕ) → k ≤ j → slice_get now j ≡ slice_get old j
-
-get_set_same : (ss : List Span) (k : ℕ) (h t : Span) → slice_get (slice_set ss k h) k ≡ Some t → t ≡ h
-get_set_same [] k h t e = absurd cc
-get_set_same (s ∷ ss) zero h t e = cc
-get_set_same (s ∷ ss) (suc k) h t e = get_set_same ss k h t e
-
-get_set_other : (ss : List Span) (k j : ℕ) (h : Span) → j ≢ k → slice_get (slice_set ss k h) j ≡ slice_get ss j
-get_set_other [] k j h n = refl
-get_set_other (s ∷ ss) zero zero h n = absurd (n refl)
-get_set_other (s ∷ ss) zero (suc j) h n = refl
-get_set_other (s ∷ ss) (suc k) zero h n = refl
-get_set_other (s ∷ ss) (suc k) (suc j) h n = get_set_other ss k j h (λ e. n (ap suc e))
-
--- before the first hull is set the widened spans are the old ones
-pub spans_none : (old other : List Span) → length old ≡ length other → WidensFirst 0 old other old
-spans_none old other e = record { long = e; long' = refl; first = λ j x y h lt p q r. absurd (omega (arith, lt)); rest = λ j le. refl }
-
-hull_same : (a b h a' b' h' : Span) → a' ≡ a → b' ≡ b → h' ≡ h → IsHull a b h → IsHull a' b' h'
-hull_same a b h a' b' h' p q r hull = rw (p, q, r) hull
+  pub first : (j : ℕ) (d : Span) → j < k → IsHull (slice_index_or old j d) (slice_index_or other j d) (slice_index_or now j d)
+  pub rest : (j : ℕ) (d : Span) → k ≤ j → slice_index_or now j d ≡ slice_index_or old j d
 
 -- where the first k spans are widened, the hull set at place k makes it one more
-pub spans_more : (k : ℕ) (old other now : List Span) (a b h : Span) → WidensFirst k old other now → slice_get now k ≡ Some a → slice_get other k ≡ Some b → IsHull a b h → WidensFirst (k + 1) old other (slice_set now k h)
-spans_more k old other now a b h w ea eb hull =
-    let ea' : slice_get old k ≡ Some a = sym (w.rest k (omega arith)) ∙ ea in
+pub spans_more : (k : ℕ) (old other now : List Span) (a b h : Span) → WidensFirst k old other now → k < length now → a ≡ slice_index_or now k a → b ≡ slice_index_or other k b → IsHull a b h → WidensFirst (k + 1) old other (slice_set now k h)
+spans_more k old other now a b h w within ea eb hull =
     record {
       long = length-set now k h ∙ w.long;
       long' = length-set now k h ∙ w.long';
       first =
-          λ j x y z lt ex ey ez.
+          λ j d lt.
           ⊎_elim
           (λ (e : j ≡ k).
-          let atx : slice_get old k ≡ Some x = subst (λ (i : ℕ). slice_get old i ≡ Some x) e ex in
-          let aty : slice_get other k ≡ Some y = subst (λ (i : ℕ). slice_get other i ≡ Some y) e ey in
-          let sx : x ≡ a = cc in
-          let sy : y ≡ b = cc in
-          let sz : z ≡ h = get_set_same now k h z (subst (λ (i : ℕ). slice_get (slice_set now k h) i ≡ Some z) e ez) in
-          hull_same a b h x y z sx sy sz hull)
-          (λ (n : j ≢ k). w.first j x y z (omega (arith, lt, n)) ex ey (sym (get_set_other now k j h n) ∙ ez))
+          let mine : slice_index_or old k d ≡ a = sym (w.rest k d (omega arith)) ∙ get_or_default now k d a within ∙ sym ea in
+          let other' : slice_index_or other k d ≡ b = get_or_default other k d b (omega (arith, within, w.long)) ∙ sym eb in
+          rw (e, get_or-set_same now k h d within, mine, other') hull)
+          (λ (n : j ≢ k). rw (get_or-set_other now k j h d n) (w.first j d (omega (arith, lt, n))))
           (cases_eq j k);
-      rest = λ j le. get_set_other now k j h (omega (arith, le)) ∙ w.rest j (omega (arith, le));
+      rest = λ j d le. get_or-set_other now k j h d (omega (arith, le)) ∙ w.rest j d (omega (arith, le));
     }
 
 -- each of a third list is the hull of the two at its place
 record AreHulls (old other now : List Span) : Type 0 where
   mine' : length now ≡ length old
   other' : length now ≡ length other
-  each : (j : ℕ) (a b h : Span) → slice_get old j ≡ Some a → slice_get other j ≡ Some b → slice_get now j ≡ Some h → IsHull a b h
+  each : (j : ℕ) (d : Span) → j < length now → IsHull (slice_index_or old j d) (slice_index_or other j d) (slice_index_or now j d)
 
 hulls_later : (a b h : Span) (xs bs hs : List Span) → AreHulls (a ∷ xs) (b ∷ bs) (h ∷ hs) → AreHulls xs bs hs
-hulls_later a b h xs bs hs w = record { mine' = omega (arith, w.mine'); other' = omega (arith, w.other'); each = λ j. w.each (suc j) }
+hulls_later a b h xs bs hs w = record { mine' = omega (arith, w.mine'); other' = omega (arith, w.other'); each = λ j d lt. w.each (suc j) d (omega (arith, lt)) }
 
 hulls_first : (xs bs hs : List Span) → AreHulls xs bs hs → AreWithin xs hs
 hulls_first [] bs [] w = tt
 hulls_first [] bs (h ∷ hs) w = absurd (omega (arith, w.mine'))
 hulls_first (a ∷ xs) bs [] w = absurd (omega (arith, w.mine'))
 hulls_first (a ∷ xs) [] (h ∷ hs) w = absurd (omega (arith, w.other'))
-hulls_first (a ∷ xs) (b ∷ bs) (h ∷ hs) w = ((w.each 0 a b h refl refl refl).first, hulls_first xs bs hs (hulls_later a b h xs bs hs w))
+hulls_first (a ∷ xs) (b ∷ bs) (h ∷ hs) w = ((w.each 0 a (omega arith)).first, hulls_first xs bs hs (hulls_later a b h xs bs hs w))
 
 hulls_second : (xs bs hs : List Span) → AreHulls xs bs hs → AreWithin bs hs
 hulls_second xs [] [] w = tt
 hulls_second xs [] (h ∷ hs) w = absurd (omega (arith, w.other'))
 hulls_second xs (b ∷ bs) [] w = absurd (omega (arith, w.other'))
 hulls_second [] (b ∷ bs) (h ∷ hs) w = absurd (omega (arith, w.mine'))
-hulls_second (a ∷ xs) (b ∷ bs) (h ∷ hs) w = ((w.each 0 a b h refl refl refl).second, hulls_second xs bs hs (hulls_later a b h xs bs hs w))
+hulls_second (a ∷ xs) (b ∷ bs) (h ∷ hs) w = ((w.each 0 a (omega arith)).second, hulls_second xs bs hs (hulls_later a b h xs bs hs w))
 
 hulls_least : (xs bs hs ts : List Span) → AreHulls xs bs hs → AreWithin xs ts → AreWithin bs ts → AreWithin hs ts
 hulls_least [] bs [] ts w p q = p
@@ -89,7 +72,7 @@ hulls_least [] bs (h ∷ hs) ts w p q = absurd (omega (arith, w.mine'))
 hulls_least (a ∷ xs) bs [] ts w p q = absurd (omega (arith, w.mine'))
 hulls_least (a ∷ xs) [] (h ∷ hs) ts w p q = absurd (omega (arith, w.other'))
 hulls_least (a ∷ xs) (b ∷ bs) (h ∷ hs) [] w p q = absurd p
-hulls_least (a ∷ xs) (b ∷ bs) (h ∷ hs) (t ∷ ts) w p q = ((w.each 0 a b h refl refl refl).least t p.0 q.0, hulls_least xs bs hs ts (hulls_later a b h xs bs hs w) p.1 q.1)
+hulls_least (a ∷ xs) (b ∷ bs) (h ∷ hs) (t ∷ ts) w p q = ((w.each 0 a (omega arith)).least t p.0 q.0, hulls_least xs bs hs ts (hulls_later a b h xs bs hs w) p.1 q.1)
 
 -- where all spans are widened one by one, the list is the least that both lists are within
 pub spans_all : (k : ℕ) (old other now : List Span) → WidensFirst k old other now → length other ≤ k → WidensSpans old other now
@@ -97,7 +80,7 @@ spans_all k old other now w past =
     let hulls : AreHulls old other now = record {
       mine' = w.long';
       other' = w.long;
-      each = λ j a b h p q r. let lt = slice_get_within other j b q in w.first j a b h (omega (arith, lt, past)) p q r;
+      each = λ j d lt. w.first j d (omega (arith, lt, past, w.long));
     } in
     record { first = hulls_first old other now hulls; second = hulls_second old other now hulls; least = λ ts p q. hulls_least old other now ts hulls p q }
 
@@ -194,3 +177,78 @@ same_height old other s t ls ms eo ep high =
     let a : length old.stack ≡ length s = ap (λ (f : SpanFrameView). length f.stack) eo ∙ length-reverse s in
     let b : length other.stack ≡ length t = ap (λ (f : SpanFrameView). length f.stack) ep ∙ length-reverse t in
     sym a ∙ high ∙ b
+
+-- ---- places
+
+joins_set : (to : ℕ) (frame new : SpanFrameView) (o : Option SpanFrameView) (old : List (Option SpanFrameView)) → to < length old → frame_at old to ≡ o → IsJoined o frame (Some new) → Joins to frame old (slice_set old to (Some new))
+joins_set to frame new o old within was j =
+    record {
+      long = length-set old to (Some new);
+      there = rw (was, get_or-set_same old to (Some new) None within) j;
+      others = λ k n. get_or-set_other old to k (Some new) None n;
+    }
+
+-- a place's frame was taken, and another is put there: the list of frames goes by two names
+pub joins_new : (to : ℕ) (frame : SpanFrameView) (old items : List (Option SpanFrameView)) (o : Option SpanFrameView) → old ≡ items → to < length old → None ≡ frame_at items to → Joins to frame old (slice_set (slice_set items to o) to (Some frame))
+joins_new to frame old items o e within was =
+    let j : Joins to frame old (slice_set old to (Some frame)) = joins_set to frame frame None old within (ap (λ (l : List (Option SpanFrameView)). frame_at l to) e ∙ sym was) refl in
+    subst (Joins to frame old) (ap (λ (l : List (Option SpanFrameView)). slice_set l to (Some frame)) e ∙ sym (set-set items to o (Some frame))) j
+
+-- the same where an earlier frame was taken, and the one widened by the new frame is put there
+pub joins_wide : (to : ℕ) (frame earlier wide : SpanFrameView) (old items : List (Option SpanFrameView)) (o : Option SpanFrameView) → old ≡ items → to < length old → Some earlier ≡ frame_at items to → Widens earlier frame wide → Joins to frame old (slice_set (slice_set items to o) to (Some wide))
+joins_wide to frame earlier wide old items o e within was w =
+    let j : Joins to frame old (slice_set old to (Some wide)) = joins_set to frame wide (Some earlier) old within (ap (λ (l : List (Option SpanFrameView)). frame_at l to) e ∙ sym was) w in
+    subst (Joins to frame old) (ap (λ (l : List (Option SpanFrameView)). slice_set l to (Some wide)) e ∙ sym (set-set items to o (Some wide))) j
+
+-- the earlier frame there has the height that it may meet
+pub met_height : (to height : ℕ) (earlier : SpanFrameView) (old items : List (Option SpanFrameView)) → old ≡ items → CanMeet (frame_at old to) height → Some earlier ≡ frame_at items to → length earlier.stack ≡ height
+met_height to height earlier old items e m was =
+    subst (λ (o : Option SpanFrameView). CanMeet o height) (ap (λ (l : List (Option SpanFrameView)). frame_at l to) e ∙ sym was) m
+
+-- what a frame without its top may meet, the frame that is left may, and its copy
+pub met_popped : (o : Option SpanFrameView) (s : Span) (old new copy : SpanFrameView) → Pops s old new → copy ≡ new → CanMeet o (length old.stack - 1) → CanMeet o (length copy.stack)
+met_popped o s old new copy p same m =
+    subst (CanMeet o) (let height : length old.stack - 1 ≡ length new.stack = omega (arith, ap length p.stack) in height ∙ ap (λ (f : SpanFrameView). length f.stack) (sym same)) m
+
+met_joined : (o o' : Option SpanFrameView) (frame : SpanFrameView) → IsJoined o frame o' → CanMeet o' (length frame.stack)
+met_joined o None frame j = tt
+met_joined None (Some new) frame j = ap (λ (f : SpanFrameView). length f.stack) j
+met_joined (Some earlier) (Some new) frame j = sym (length_within frame.stack new.stack j.second.stack')
+
+-- a frame that may meet another may still meet it once its copy has joined a place
+pub met_still : (at to : ℕ) (frame copy : SpanFrameView) (old new : List (Option SpanFrameView)) → copy ≡ frame → Joins at copy old new → CanMeet (frame_at old to) (length frame.stack) → CanMeet (frame_at new to) (length frame.stack)
+met_still at to frame copy old new same j m =
+    ⊎_elim
+    (λ (e : to ≡ at). subst (λ (k : ℕ). CanMeet (frame_at new k) (length frame.stack)) (sym e) (subst (λ (f : SpanFrameView). CanMeet (frame_at new at) (length f.stack)) same (met_joined _ _ copy j.there)))
+    (λ (n : to ≢ at). subst (λ (o : Option SpanFrameView). CanMeet o (length frame.stack)) (sym (j.others to n)) m)
+    (cases_eq to at)
+
+-- ---- branches
+
+-- a test for 0 that fails: 0 is no member
+pub not_member : (b : Bool) (z : ℤ) (s : Span) → IsTrue b ↔ IsMember z s → z ≡ pos 0 → b ≡ false → IsMember (pos 0) s → ⊥
+not_member b z s h e f m = let t : IsTrue false = subst IsTrue f (h.1 (subst (λ (x : ℤ). IsMember x s) (sym e) m)) in cc
+
+-- the same of a test that holds: 0 is a member
+pub is_member : (b : Bool) (z : ℤ) (s : Span) → IsTrue b ↔ IsMember z s → z ≡ pos 0 → b ≡ true → IsMember (pos 0) s
+is_member b z s h e f = subst (λ (x : ℤ). IsMember x s) e (h.0 (subst IsTrue (sym f) refl))
+
+-- ends that a test finds equal are equal
+pub same_ends : (x y : ℤ) → true ≡ int_eq x y → x ≡ y
+same_ends x y e = (Decides-int_eq x y).0 (sym e)
+
+-- ends that a test finds different are different
+pub other_ends : (x y : ℤ) → false ≡ int_eq x y → x ≡ y → ⊥
+other_ends x y e same = let t = (Decides-int_eq x y).1 same in absurd cc
+
+-- a copy of the frame goes on, and the frame itself jumps
+pub may_jump_copied : (next to : ℕ) (s : Span) (frame rest copy : SpanFrameView) (old between new : List (Option SpanFrameView)) → Pops s frame rest → copy ≡ rest → IsMember (pos 0) s → (s.lo ≡ s.hi → ⊥) → Joins next copy old between → Joins to rest between new → Branches next to frame old new
+may_jump_copied next to s frame rest copy old between new p e holds two j k = may_jump p holds two (subst (λ (f : SpanFrameView). Joins next f old between) e j) k
+
+-- a jump's target is a place
+pub jump_within : (code : List Instr) (here to : ℕ) → IsCode code → slice_get code here ≡ Some (Jump to) → to ≤ length code
+jump_within code here to is at = leb-true to (length code) (and_parts (nat_lt here to) (nat_le to (length code)) (is.forward here (Jump to) at)).1
+
+-- the same of a jump at 0
+pub branch_within : (code : List Instr) (here to : ℕ) → IsCode code → slice_get code here ≡ Some (JumpIfZero to) → to ≤ length code
+branch_within code here to is at = leb-true to (length code) (and_parts (nat_lt here to) (nat_le to (length code)) (is.forward here (JumpIfZero to) at)).1

@@ -1,7 +1,6 @@
 pub mod Causes
-pub mod Following
+pub mod Refusals
 pub mod Joining
-pub mod Placing
 pub mod Within
 pub mod Standing
 pub mod Attaining

@@ -1,9 +1,9 @@
 -- Two verdicts on one code are the same.
-use Rattle.std.proofs.Common.{◌≡◌, ℕ, zero, suc, ◌+◌, ◌*◌, ◌/◌, ◌%◌, ◌<◌, ◌≤◌, List, [], ◌∷◌, length, Some, Result, Ok, Err, refl, sym, ap, ◌∙◌, subst, arith, ⊎_elim, ℤ, pos, ◌+ℤ◌, ◌-ℤ◌, max}
-use Rattle.std.specs.Prelude.{slice_get}
+use Rattle.std.proofs.Common.{◌≡◌, ℕ, zero, suc, ◌+◌, ◌*◌, ◌/◌, ◌%◌, ◌<◌, ◌≤◌, List, length, Some, Result, Ok, Err, refl, sym, ap, ◌∙◌, subst, arith, ⊎_elim, ℤ, pos, ◌+ℤ◌, ◌-ℤ◌, max}
+use Rattle.std.specs.Prelude.{slice_index_or, slice_get}
 use Rattle.std.proofs.lemmas.Int.{ints}
 use Rattle.std.proofs.lemmas.Bool.{cases_lt}
-use Rattle.std.proofs.lemmas.Option.{slice_get_within}
+use Rattle.std.proofs.lemmas.Option.{slice_get-get_or, slice_get_within}
 use Rattle.fixed.specs.Fractions.{bits_of}
 use Rattle.fixed.specs.declared.faults.Fault.{Fault}
 use Rattle.interval_domain.specs.declared.span.Span.{Span}
@@ -42,11 +42,6 @@ same_magnitude s t p q =
     let f : s.hi ≡ t.hi = omega (arith, ints, sh.at_most, th.at_most) in
     rw (e, f) refl
 
-get_there : (l : List Span) (k : ℕ) → k < length l → (t : Span) × (slice_get l k ≡ Some t)
-get_there [] k lt = absurd (omega (arith, lt))
-get_there (t ∷ l) zero lt = (t, refl)
-get_there (t ∷ l) (suc k) lt = get_there l k (omega (arith, lt))
-
 module _ (t : Table) (a b : ℕ) where
   one_input : (r r' : ℤ) (k : ℕ) (s s' : Span) → r ≡ r' → IsOneInput t a b r k s → IsOneInput t a b r' k s' → IsWithin s s'
   one_input r r' k s s' e p q =
@@ -65,8 +60,9 @@ module _ (t : Table) (a b : ℕ) where
           (d', q.first, subst (λ (x : Span). IsWithin x d') same (ends_within d d' e f))
       each (suc k) s at =
           let short = slice_get_within xs (suc k) s at in
-          let g = get_there ys (suc k) (omega (arith, short, p.long, q.long)) in
-          (g.0, g.1, one_input d.lo d'.lo (suc k) s g.0 e (p.others (suc k) s (omega arith) at) (q.others (suc k) g.0 (omega arith) g.1))
+          let u = slice_index_or ys (suc k) s in
+          let there = slice_get-get_or ys (suc k) s (omega (arith, short, p.long, q.long)) in
+          (u, there, one_input d.lo d'.lo (suc k) s u e (p.others (suc k) s (omega arith) at) (q.others (suc k) u (omega arith) there))
 
 -- ---- one distance
 

@@ -1,8 +1,8 @@
 -- The frames of all places, one place after another.
-use Rattle.std.proofs.Common.{◌≡◌, ◌≢◌, ℕ, zero, suc, ◌+◌, ◌<◌, List, [], ◌∷◌, length, Option, Some, None, refl, sym, ap, ◌∙◌, subst, arith, ⊎_elim, inl, inr, ℤ, pos, negsuc}
+use Rattle.std.proofs.Common.{◌≡◌, ◌≢◌, ℕ, suc, ◌+◌, ◌<◌, List, [], ◌∷◌, length, Option, Some, None, refl, sym, ap, ◌∙◌, subst, arith, ⊎_elim, inl, inr, pos}
 use Rattle.std.specs.Prelude.{◌⊎◌, slice_get}
 use Rattle.std.proofs.lemmas.Bool.{cases_eq}
-use Rattle.std.proofs.lemmas.Int.{ints}
+use Rattle.std.proofs.lemmas.Int.{by_lt_z, ints}
 use Rattle.std.proofs.lemmas.List.{nil_from_length}
 use Rattle.fixed.specs.declared.faults.Fault.{Fault}
 use Rattle.interval_domain.specs.declared.span.Span.{Span}
@@ -216,20 +216,9 @@ module _ (bits : ℕ) (code : List Instr) (inputs : List Span) where
 
   two_other : (s : Span) → (s.lo ≡ s.hi → ⊥) → HasOther s
   two_other s two =
-      ⊎_elim
-      (λ (e : s.lo ≡ pos 0).
-      record {
-        number = s.hi;
-        member = record { at_least = s.ordered; at_most = omega (arith, ints) };
-        other = λ f. two (e ∙ sym f);
-      })
-      (λ (n : s.lo ≡ pos 0 → ⊥). record { number = s.lo; member = record { at_least = omega (arith, ints); at_most = s.ordered }; other = n })
-      (cases_int s.lo)
-    where
-      cases_int : (z : ℤ) → (z ≡ pos 0) ⊎ (z ≡ pos 0 → ⊥)
-      cases_int (pos zero) = inl refl
-      cases_int (pos (suc n)) = inr (λ e. absurd cc)
-      cases_int (negsuc n) = inr (λ e. absurd cc)
+      by_lt_z {P = HasOther s} s.lo (pos 0)
+      (λ lt. record { number = s.lo; member = record { at_least = omega (arith, ints); at_most = s.ordered }; other = λ e. absurd (omega (arith, ints, e, lt)) })
+      (λ le. record { number = s.hi; member = record { at_least = s.ordered; at_most = omega (arith, ints) }; other = λ e. two (let o = s.ordered in omega (arith, ints, e, o, le)) })
 
   one_none : (s : Span) → HasZero s → s.lo ≡ s.hi → HasOther s → ⊥
   one_none s z e h =

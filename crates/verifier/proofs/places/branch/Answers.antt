@@ -1,6 +1,6 @@
 use Rattle.std.proofs.Common.{arith, refl}
 use Rattle.verifier.specs.Slices.{frame_at, goes_on, jumps}
-use Rattle.verifier.proofs.Placing.{same_ends, other_ends, not_member, is_member, may_jump_copied, met_popped, met_still}
+use Rattle.verifier.proofs.Joining.{same_ends, other_ends, not_member, is_member, may_jump_copied, met_popped, met_still}
 use Rattle.verifier.proofs.places.branch.Goals as goal
 
 pub returns-then-not-contains-clause-branches : goal.returns-then-not-contains-clause-branches

@@ -1,7 +1,7 @@
 use Rattle.std.proofs.Common.{sym, ◌∙◌, None, Option, List, subst, length, ◌<◌}
 use Rattle.std.proofs.lemmas.List.{get_or_default}
 use Rattle.verifier.specs.Frames.{SpanFrameView}
-use Rattle.verifier.proofs.Placing.{joins_new, joins_wide, met_height}
+use Rattle.verifier.proofs.Joining.{joins_new, joins_wide, met_height}
 use Rattle.verifier.proofs.places.Places.join.Goals as goal
 use Rattle.verifier.proofs.places.Places.join.Goals.{in-Some-2, in-None-2}
 
