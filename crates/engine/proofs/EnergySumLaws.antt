@@ -1,4 +1,5 @@
--- Sums of whole numbers: over a list in parts, over lists in which each element stands as often, and what they don't pass.
+-- Sums of whole numbers: over a list in parts, over lists in which each element stands as often, and what they don't
+-- pass.
 use Rattle.std.proofs.Common.{◌≡◌, ℕ, suc, ◌+◌, ◌<◌, ◌≤◌, List, [], ◌∷◌, ◌++◌, length, take, get_or, sum_by, ℤ, pos, negsuc, ◌+ℤ◌, inl, inr, arith, refl, ap, ap₂, ◌∙◌}
 use Rattle.std.specs.Prelude.{slice_index_or, unsigned_abs}
 use Rattle.std.proofs.lemmas.Bool.{cases_lt}
@@ -96,7 +97,8 @@ module _ {X : Type 0} (f : X → ℤ) (tiles : List (List X)) where
       sum_by-le-sum_by (λ xs. unsigned_abs (sum_over f xs)) (λ xs. sum_by (λ x. unsigned_abs (f x)) xs) tiles (over_within f) in
       omega arith
 
-  -- where whatever the numbers weigh comes to the same over tiles and over another list, if 0 weighs nothing, they have one sum
+  -- where whatever the numbers weigh comes to the same over tiles and over another list, if 0 weighs nothing, they have
+  -- one sum
   pub over_tiles : (all : List X) → ((weight : ℤ → ℕ) → weight (pos 0) ≡ 0 → sum_by (λ xs. sum_by (λ x. weight (f x)) xs) tiles ≡ sum_by (λ x. weight (f x)) all)
       → sum_over (λ xs. sum_over f xs) tiles ≡ sum_over f all
   over_tiles all alike =

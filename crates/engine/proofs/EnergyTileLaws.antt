@@ -1,5 +1,5 @@
 -- The energy of a frame over its tiles is that over all pairs.
-use Rattle.std.proofs.Common.{◌≡◌, ℕ, zero, suc, ◌*◌, ◌^◌, ◌<◌, ◌≤◌, Bool, true, false, List, [], ◌∷◌, length, map, take, sum_by, ℤ, pos, ◌+ℤ◌, Option, Some, None, Ok, arith, refl, ap, ap₂, sym, ◌∙◌}
+use Rattle.std.proofs.Common.{◌≡◌, ℕ, zero, suc, ◌*◌, ◌^◌, ◌<◌, ◌≤◌, Bool, false, List, [], ◌∷◌, length, map, take, sum_by, ℤ, pos, ◌+ℤ◌, Option, Some, None, arith, refl, ap, ap₂, sym, ◌∙◌}
 use Rattle.std.specs.Prelude.{◌≤ℤ◌, ◌<ℤ◌, if◌then◌else◌, option_map, slice_index, unsigned_abs, unwrap_or}
 use Rattle.std.specs.List.{All}
 use Rattle.std.proofs.lemmas.Int.{ints}
@@ -7,13 +7,11 @@ use Rattle.std.proofs.lemmas.List.{length-append}
 use Rattle.std.proofs.lemmas.List.Sums.{sum_by-cons}
 use Rattle.fixed.specs.Fractions.{bits_of}
 use Rattle.energy_program.specs.Programs.{program_tree}
-use Rattle.energy_program.specs.Tree.{Tree}
 use Rattle.energy_program.specs.Value.{value_of}
-use Rattle.kernel_code.specs.Machine.{Ends}
 use Rattle.kernel_code.specs.Tables.{Table, inputs_of}
 use Rattle.kernel_lanes.specs.Lanes.{IsServed}
 use Rattle.kernel_lanes.specs.declared.asks.Ask.{Ask}
-use Rattle.verifier.specs.Kernels.{IsKernel, Kernel}
+use Rattle.verifier.specs.Kernels.{Kernel}
 use Rattle.cell_tiles.specs.Cells.{IsGrid}
 use Rattle.cell_tiles.specs.Cover.{are_close}
 use Rattle.cell_tiles.specs.Tiles.{tile_pairs}
@@ -28,19 +26,20 @@ use Rattle.tile_round.specs.Tiles.{acting}
 use Rattle.integrator.proofs.ForceLaws.{ArePairsOf, frame_pairs, pairs_parts}
 use Rattle.integrator.specs.Forces.{pairs_from, pairs_of, pairs_with}
 use Rattle.integrator.specs.Frames.{Frame, places_of}
-use Rattle.integrator.specs.Kernels.{is_small}
 use Rattle.integrator.specs.declared.systems.System.{System}
 use Rattle.engine.proofs.EnergySumLaws.{over_append, over_tiles}
-use Rattle.engine.proofs.SafeLaws.{HasNumber, in_range, is_small_value, small_parts}
+use Rattle.potential.proofs.PotentialLaws.{HasNumber, small_parts}
+use Rattle.potential.specs.EnergyKernels.{HasEnergies}
+use Rattle.engine.proofs.SafeLaws.{in_range}
 use Rattle.engine.proofs.TileLaws.{are_pairs, far_apart}
 use Rattle.engine.specs.EnergySums.{sum_over}
 use Rattle.engine.specs.PairEnergies.{energy_at, energy_sum, pair_energy, plus_energy}
 use Rattle.engine.specs.Rounds.{grid_of}
 use Rattle.engine.specs.Rows.{AreNextFound, ask_of, found_of}
-use Rattle.engine.specs.SafeEnergies.{AreEnergies, HasEnergies, IsEnergyFor, energy_at_types, energy_between, found_energy, safe_value}
-use Rattle.engine.specs.SafeKernels.{IsAccepted, safe_dynamics}
+use Rattle.engine.specs.SafeEnergies.{AreEnergies, AllHaveEnergies, IsEnergyFor, energy_at_types, energy_between, found_energy, safe_value}
+use Rattle.engine.specs.SafeSystems.{IsSafeSystem, safe_dynamics}
 use Rattle.engine.specs.declared.rows.FoundPair.{FoundPair}
-use Rattle.engine.specs.declared.safe_kernels.SafeKernel.{SafeKernel}
+use Rattle.potential.specs.declared.slope_kernels.SlopeKernel.{SlopeKernel}
 
 -- ---- how many pairs there are
 
@@ -56,34 +55,22 @@ few_pairs i (suc m) h =
     let rest : length (pairs_from (suc i) m) ≤ m * 65536 = few_pairs (suc i) m (omega arith) in
     omega (arith, length-append (pairs_with i (suc i) m) (pairs_from (suc i) m), length_row i (suc i) m)
 
--- ---- accepted code of the energy
-
--- it gives every two types an energy
-small_energies : (k : Kernel) (energy : Tree) → IsKernel k → k.bound < 2 ^ 64
-    → ((a b : ℕ) (r : ℤ) (n : ℕ) (v : ℤ) → a < length k.table.rows → b < length k.table.rows → Ends (bits_of k.table.frac) k.code (inputs_of k.table a b r) n (Ok v) → value_of (bits_of k.table.frac) (inputs_of k.table a b r) energy ≡ Some v)
-    → (a b : ℕ) (r : ℤ) → a < length k.table.rows → b < length k.table.rows → k.core ≤ℤ r → r <ℤ k.cutoff → is_small (2 ^ 64) (value_of (bits_of k.table.frac) (inputs_of k.table a b r) energy) ≡ true
-small_energies k energy certified few gives a b r first second low high =
-    let g = certified.each a b r first second low high in
-    is_small_value (2 ^ 64) (value_of (bits_of k.table.frac) (inputs_of k.table a b r) energy) g.value (gives a b r g.n g.value first second g.ends) (omega (arith, few, g.small))
-
 told : (o rest : Option ℤ) (v z : ℤ) → o ≡ Some v → rest ≡ Some z → plus_energy o rest ≡ Some (unwrap_or o (pos 0) +ℤ z)
 told o rest v z is are = rw (is, are) refl
 
 magnitude : (o : Option ℤ) (v : ℤ) (b : ℕ) → o ≡ Some v → unsigned_abs v ≤ b → unsigned_abs (unwrap_or o (pos 0)) ≤ b
 magnitude o v b is small = rw is small
 
-module _ {A : Type 0} (s : System (SafeKernel A) A) where
+module _ {A : Type 0} (s : System (SlopeKernel A) A) where
   abbrev between_atoms : Frame → ℕ × ℕ → Option ℤ
   between_atoms frame p = pair_energy (safe_dynamics s) (safe_value s) frame p
 
-  pub has_energies : (k : Kernel) → IsKernel k → k.bound < 2 ^ 64 → k.table ≡ s.kernel.verified.table → k.core ≡ s.core → k.cutoff ≡ s.cutoff
-      → ((a b : ℕ) (r : ℤ) (n : ℕ) (v : ℤ) → a < length k.table.rows → b < length k.table.rows → Ends (bits_of k.table.frac) k.code (inputs_of k.table a b r) n (Ok v) → value_of (bits_of k.table.frac) (inputs_of k.table a b r) (program_tree s.kernel.energy) ≡ Some v)
-      → HasEnergies s
-  has_energies k certified few table core cutoff gives a b r first second low high =
-      rw (← table) (small_energies k (program_tree s.kernel.energy) certified few gives a b r (rw table first) (rw table second) (rw core low) (rw cutoff high))
+  -- any two types have an energy by accepted code for the same distances
+  pub all_have_energies : (k : Kernel) → k.table ≡ s.kernel.verified.table → k.core ≡ s.core → k.cutoff ≡ s.cutoff → HasEnergies (program_tree s.kernel.energy) k → AllHaveEnergies s
+  all_have_energies k table core cutoff h a b r first second low high = rw (← table) (h a b r (rw table first) (rw table second) (rw core low) (rw cutoff high))
 
   -- an ask that is served by the slope's code is served by the energy's
-  pub served_too : (k : Kernel) → IsAccepted s → k.table ≡ s.kernel.verified.table → k.core ≡ s.core → k.cutoff ≡ s.cutoff → (ask : Ask) → IsServed s.kernel.verified ask → IsServed k ask
+  pub served_too : (k : Kernel) → IsSafeSystem s → k.table ≡ s.kernel.verified.table → k.core ≡ s.core → k.cutoff ≡ s.cutoff → (ask : Ask) → IsServed s.kernel.verified ask → IsServed k ask
   served_too k accepted table core cutoff ask h = record {
     first = rw table h.first;
     second = rw table h.second;
@@ -134,7 +121,7 @@ module _ {A : Type 0} (s : System (SafeKernel A) A) where
 
   -- ---- all pairs
 
-  module _ (accepted : IsAccepted s) (given : HasEnergies s) (frame : Frame) where
+  module _ (accepted : IsSafeSystem s) (given : AllHaveEnergies s) (frame : Frame) where
     number_at : (i j : ℕ) → i < length s.types.items → j < length s.types.items → (o : Option ℤ) → ((r : ℤ) → o ≡ Some r → (s.core ≤ℤ r) × (r <ℤ s.cutoff)) → HasNumber (2 ^ 64) (energy_at (safe_value s (i, j)) o)
     number_at i j first second None range = record { v = pos 0; has = refl; small = omega (arith, ints) }
     number_at i j first second (Some r) range =

@@ -1,13 +1,14 @@
 -- Engines: what their parts make them, and their steps as runs.
-use Rattle.std.proofs.Common.{◌≡◌, ℕ, ◌-◌, ◌*◌, ◌^◌, ◌≤◌, Bool, true, false, List, ℤ, pos, negsuc, ◌+ℤ◌, ◌-ℤ◌, ◌≤ℤ◌, Some, None, Ok, Err, arith, refl, ap, sym, ◌∙◌, ◌<◌, length, get_or, zero-add}
-use Rattle.std.specs.Prelude.{nat_lt, is_none, unsigned_abs, ◌&&◌, if◌then◌else◌}
+use Rattle.std.proofs.Common.{◌≡◌, ℕ, ◌-◌, ◌*◌, ◌^◌, ◌≤◌, Bool, true, false, List, ℤ, pos, negsuc, ◌+ℤ◌, ◌-ℤ◌, ◌≤ℤ◌, Some, None, Ok, Err, arith, refl, ap, sym, ◌∙◌, ◌<◌, length}
+use Rattle.std.specs.Prelude.{nat_lt, is_none}
 use Rattle.std.proofs.lemmas.Int.{ints}
-use Rattle.std.proofs.lemmas.Bool.{and_parts, leb-true, lt-ltb, ltb-false, ltb-true}
-use Rattle.std.proofs.lemmas.List.{ext_get_or, get_or-map}
+use Rattle.std.proofs.lemmas.Bool.{lt-ltb, ltb-false, ltb-true}
 use Rattle.fixed.specs.Arithmetic.{in_range}
+use Rattle.energy_program.specs.Faults as energies
+use Rattle.energy_program.specs.declared.faults.ExprFault.{ExprFault}
 use Rattle.job.specs.Views as jobs
 use Rattle.job.specs.declared.faults.JobFault.{JobFault}
-use Rattle.verifier.specs.Kernels.{IsKernel, Kernel}
+use Rattle.verifier.specs.Kernels.{Kernel}
 use Rattle.verifier.specs.Safety.{IsCertified}
 use Rattle.job.specs.JobText.{reading_of, limits}
 use Rattle.job.specs.Values.{JobValue}
@@ -18,28 +19,31 @@ use Rattle.state.specs.StateText.{StateView}
 use Rattle.state.specs.declared.states.State.{State}
 use Rattle.job.specs.declared.jobs.Job.{Job}
 use Rattle.integrator.specs.declared.systems.System.{System}
-use Rattle.engine.specs.declared.safe_kernels.SafeKernel.{SafeKernel}
+use Rattle.potential.specs.declared.slope_kernels.SlopeKernel.{SlopeKernel}
 use Rattle.integrator.proofs.ReturnLaws.{start_from, system_parts}
-use Rattle.integrator.proofs.StartLaws.{started}
+use Rattle.integrator.proofs.StartLaws.{energy_unready, started}
 use Rattle.integrator.proofs.CounterLaws.{counter_fits, counter_stays}
 use Rattle.integrator.proofs.StateLaws.{at_home}
-use Rattle.integrator.specs.Energies.{Energy, energy_of, job_tree}
+use Rattle.potential.specs.Energies.{Energy, energy_of, job_tree}
 use Rattle.engine.specs.EngineViews.{IsEngine}
 use Rattle.engine.specs.Engines.{AreSafe, AreStopped, EngineView, HasNoEngine, HasNoEngineOfTexts, IsEngineOfTexts, Stopped, Went, engine_dynamics}
 use Rattle.integrator.specs.Frames.{Frame, frames, steps_in}
 use Rattle.integrator.specs.Runs.{IsAfter}
-use Rattle.integrator.specs.Starts.{plain, start_of_run, start_with, step_range, system_of, table_of}
+use Rattle.integrator.specs.Starts.{plain, start_of_run, start_with, step_range, system_of}
+use Rattle.potential.specs.Tables.{table_of}
 use Rattle.integrator.specs.StartViews.{system_refusal}
 use Rattle.integrator.specs.States.{counter_after, counter_at, frames_of, moved_state}
 use Rattle.engine.specs.Courses.{IsUnstarted}
-use Rattle.engine.specs.Verdicts.{IsJudged, IsRefused, IsSafeFor, PassesRange}
+use Rattle.potential.specs.Verdicts.{IsAccepted, IsRefused}
+use Rattle.engine.specs.Ranges.{IsSafeFor, PassesRange}
 use Rattle.integrator.specs.declared.direction.Direction.{Direction}
 use Rattle.integrator.specs.declared.direction.Direction.TheVariants.{Forward, Back}
 use Rattle.fallible.specs.Failures.{Fails, IfRefused, refused_as}
 use Rattle.fallible.specs.declared.failure.Failure.{Failure}
 use Rattle.fallible.specs.declared.failure.Failure.TheVariants.{Memory, Refused}
 use Rattle.integrator.specs.declared.faults.SystemFault.{SystemFault}
-use Rattle.engine.specs.declared.kernel_refusals.KernelRefusal.{KernelRefusal}
+use Rattle.potential.specs.declared.kernel_refusals.KernelRefusal.{KernelRefusal}
+use Rattle.potential.specs.declared.faults.EnergyFault.TheVariants as energy
 use Rattle.engine.specs.declared.faults.EngineFault.{EngineFault}
 use Rattle.engine.specs.declared.faults.EngineFault.TheVariants as engine
 use Rattle.engine.specs.declared.faults.OpenFault.{OpenFault}
@@ -99,6 +103,7 @@ counter_reached w z k n h l s =
 
 -- ---- runs of texts
 
+-- the tree of a job is that of its energy
 pub job_tree_is : (j : JobValue) (energy : Energy) → energy_of j ≡ Ok energy → job_tree j ≡ energy.tree
 unfolding job_tree
 job_tree_is j energy e = rw e refl
@@ -114,6 +119,7 @@ engine_start job state w n e counter t h =
     (start_from plain job state w n t.j t.s t.job_read t.state_read
     ∙ started plain w n t.j t.s t.it.system.0 t.it.system.1 counter parts.energy_read parts.typed parts.alike parts.room k)
 
+-- where an engine of texts has gone, the run of its texts has
 pub engine_ran : (job state : List ℕ) (w : Direction) (n : ℕ) (e f : EngineView) → IsEngineOfTexts job state e → Went w n e f → IsAfter plain job state w n f.state
 engine_ran job state w n e f t h = record {
   start = record { state = e.state; dynamics = engine_dynamics e; counter = h.counter };
@@ -138,7 +144,7 @@ engine_stops job state w n e f step.StepRange t h =
 engine_stops job state w n e f (step.Memory done) t h = (h.0, safe_texts job state e t)
 
 -- the system is that of the job in any state with the same box and as many atoms
-pub moves_on : {A : Type 0} (j : Job A) (s t : State A) (y : System (SafeKernel A) A) → t.ring ≡ s.ring → length t.atoms.items ≡ length s.atoms.items → IsEngine j s y → IsEngine j t y
+pub moves_on : {A : Type 0} (j : Job A) (s t : State A) (y : System (SlopeKernel A) A) → t.ring ≡ s.ring → length t.atoms.items ≡ length s.atoms.items → IsEngine j s y → IsEngine j t y
 moves_on j s t y ring atoms e = record {
   dynamics = rw ring e.dynamics;
   energy = e.energy;
@@ -154,47 +160,41 @@ moves_on j s t y ring atoms e = record {
 
 -- ---- which engines there are
 
--- a job and a state whose atoms can't be run have none
-pub system_refuses : {A : Type 0} (j : JobValue) (s : StateView) (failure : Failure (SystemFault A)) → Fails system_refusal failure (system_of j s) → IfRefused (refused_as engine.System failure) (HasNoEngine j s)
-system_refuses j s (Refused f) h = h
-system_refuses j s Memory h = tt
+-- a job whose energy is refused has none
+pub energy_refuses : {A : Type 0} (j : JobValue) (s : StateView) (failure : Failure (ExprFault A)) → Fails energies.refusal_of failure (energy_of j)
+    → IfRefused (refused_as (λ f. engine.Energy (energy.Energy f)) failure) (HasNoEngine j s)
+energy_refuses j s (Refused f) h = energy_unready j s (energies.refusal_of f) h
+energy_refuses j s Memory h = tt
+
+-- nor has a state whose atoms can't be run
+pub system_refuses : (A : Type 0) (j : JobValue) (s : StateView) (failure : Failure SystemFault) → Fails system_refusal failure (system_of j s) → IfRefused (refused_as {S = EngineFault A} engine.System failure) (HasNoEngine j s)
+system_refuses A j s (Refused f) h = h
+system_refuses A j s Memory h = tt
 
 -- nor have those whose code of the slope the verifier refuses
-pub verdict_refuses : (A : Type 0) (j : JobValue) (s : StateView) (system : Energy × List ℕ) (failure : Failure KernelRefusal) → system_of j s ≡ Ok system → IfRefused failure (IsRefused j system.0.code) → IfRefused (refused_as {S = EngineFault A} engine.Kernel failure) (HasNoEngine j s)
+pub verdict_refuses : (A : Type 0) (j : JobValue) (s : StateView) (system : Energy × List ℕ) (failure : Failure KernelRefusal) → system_of j s ≡ Ok system → IfRefused failure (IsRefused j system.0.code)
+    → IfRefused (refused_as {S = EngineFault A} (λ r. engine.Energy (energy.Kernel r)) failure) (HasNoEngine j s)
 verdict_refuses A j s system (Refused r) e h = record { system = system; made = e; it = h }
 verdict_refuses A j s system Memory e h = tt
 
-certified_for : (j : JobValue) (code : List Instr) (k : Kernel) → IsKernel k → k.code ≡ code → k.table ≡ table_of j → k.core ≡ j.core → k.cutoff ≡ j.cutoff → IsCertified code (table_of j) j.core j.cutoff k.steps k.bound
-certified_for j code k h a b c d = rw (← a, ← b, ← c, ← d) h
+certified_for : (j : JobValue) (code : List Instr) (k : Kernel) → IsAccepted j code k → IsCertified code (table_of j) j.core j.cutoff k.steps k.bound
+certified_for j code k h = rw (← h.code', ← h.under.table, ← h.under.core, ← h.under.cutoff) h.certified
 
 -- the answers of the test of the range
 pub fits_by : (r : Bool) (k : ℕ) → r ≡ nat_lt k (2 ^ 63) → r ≡ true → k < 2 ^ 63
 fits_by r k test passed = ltb-true k (2 ^ 63) (sym test ∙ passed)
 
+-- and where it fails the number is 2^63 or more
 pub far_by : (r : Bool) (k : ℕ) → r ≡ nat_lt k (2 ^ 63) → r ≡ false → 2 ^ 63 ≤ k
 far_by r k test failed = ltb-false k (2 ^ 63) (sym test ∙ failed)
 
 -- code whose verdict is a bound that keeps the range is safe for so many atoms
-pub is_safe : (j : JobValue) (code : List Instr) (k : Kernel) (n : ℕ) → IsKernel k → k.code ≡ code → k.table ≡ table_of j → k.core ≡ j.core → k.cutoff ≡ j.cutoff
-    → IsJudged j code (Ok k.bound) → k.bound * (n - 1) < 2 ^ 63 → IsSafeFor j code n
-is_safe j code k n h a b d e judged fits = record {
-  judged = judged;
-  steps = k.steps;
-  bound = k.bound;
-  certified = certified_for j code k h a b d e;
-  fits = fits;
-}
+pub is_safe : (j : JobValue) (code : List Instr) (k : Kernel) (n : ℕ) → IsAccepted j code k → k.bound * (n - 1) < 2 ^ 63 → IsSafeFor j code n
+is_safe j code k n h fits = record { steps = k.steps; bound = k.bound; certified = certified_for j code k h; judged = h.judged; fits = fits }
 
 -- and code whose bound doesn't may pass it
-pub passes : (j : JobValue) (code : List Instr) (k : Kernel) (n : ℕ) → IsKernel k → k.code ≡ code → k.table ≡ table_of j → k.core ≡ j.core → k.cutoff ≡ j.cutoff
-    → IsJudged j code (Ok k.bound) → 2 ^ 63 ≤ k.bound * (n - 1) → PassesRange j code n
-passes j code k n h a b d e judged far = record {
-  judged = judged;
-  steps = k.steps;
-  bound = k.bound;
-  certified = certified_for j code k h a b d e;
-  far = far;
-}
+pub passes : (j : JobValue) (code : List Instr) (k : Kernel) (n : ℕ) → IsAccepted j code k → 2 ^ 63 ≤ k.bound * (n - 1) → PassesRange j code n
+passes j code k n h far = record { steps = k.steps; bound = k.bound; certified = certified_for j code k h; judged = h.judged; far = far }
 
 -- ---- texts that have no engine
 

@@ -1,4 +1,5 @@
--- The headline's page tells runs: what a run writes is related to its texts by the page, nothing else is, and the page leads back.
+-- The headline's page tells runs: what a run writes is related to its texts by the page, nothing else is, and the page
+-- leads back.
 use Rattle.std.proofs.Common.{◌≡◌, ℕ, true, List, [], ◌∷◌, length, Some, ℤ, refl, ap, sym, subst, ◌∙◌}
 use Rattle.std.specs.Prelude.{map}
 use Rattle.std.proofs.lemmas.List.{length-map}
@@ -9,13 +10,13 @@ use Rattle.job.specs.Values.{JobValue}
 use Rattle.job.proofs.TextLemmas.{reading_again, reading_ok}
 use Rattle.state.specs.StateText.{AtomView, IsState, StateView, state_text}
 use Rattle.state.proofs.StateReadsAgain.{one_text}
-use Rattle.integrator.specs.Energies.{job_tree}
+use Rattle.potential.specs.Energies.{job_tree}
 use Rattle.integrator.specs.Frames.{Dynamics, Frames, opposite, steps_in}
 use Rattle.integrator.specs.Runs.{IsAfter}
 use Rattle.integrator.specs.Starts.{as_written, plain}
 use Rattle.integrator.specs.States.{counter_at, frames_of, moved_state}
 use Rattle.integrator.specs.declared.direction.Direction.{Direction}
-use Rattle.integrator.proofs.Constructors.{ok_same}
+use Rattle.line_text.proofs.StepLaws.{same_ok}
 use Rattle.integrator.proofs.CounterLaws.{counter_back, counter_is}
 use Rattle.integrator.proofs.StateLaws.{frames_moved}
 use Rattle.integrator.proofs.ReturnLaws.{Parts, frames_are, moved_is, parts_of}
@@ -52,7 +53,7 @@ module _ (job state : List ℕ) (w : Direction) (n : ℕ) (after : StateView) (o
 
   says : HasNamesOnce p.j × SaysOnly p.j p.energy.tree
   says =
-      let same : once.j ≡ p.j = ok_same once.j p.j (sym once.job_read ∙ p.job_read) in
+      let same : once.j ≡ p.j = same_ok once.j p.j (sym once.job_read ∙ p.job_read) in
       let it : HasNamesOnce p.j × SaysOnly p.j (job_tree p.j) = subst (λ (j : JobValue). HasNamesOnce j × SaysOnly j (job_tree j)) same once.it in
       (it.0, subst (SaysOnly p.j) (job_tree_is p.j p.energy p.energy_read) it.1)
 
@@ -86,8 +87,8 @@ module _ (job state : List ℕ) (w : Direction) (n : ℕ) (after : StateView) (o
   pub only_told : (text : List ℕ) → IsLevesqueVerletRun job state w n text → text ≡ state_text after
   only_told text r =
       let s = p.s in
-      let same_job : r.j ≡ p.j = ok_same r.j p.j (sym (reading_again limits job r.j r.job_text) ∙ p.job_read) in
-      let same_state : r.before ≡ s = ok_same r.before s (sym ((one_text state r.before).1 (r.state_text'.fits, r.state_text'.is)) ∙ p.state_read) in
+      let same_job : r.j ≡ p.j = same_ok r.j p.j (sym (reading_again limits job r.j r.job_text) ∙ p.job_read) in
+      let same_state : r.before ≡ s = same_ok r.before s (sym ((one_text state r.before).1 (r.state_text'.fits, r.state_text'.is)) ∙ p.state_read) in
       let same_tree : r.tree ≡ p.energy.tree = says.1.only r.tree (subst (λ (j : JobValue). IsJobEnergy j r.tree) same_job r.energy) in
       let typed : AreTypes p.j s.atoms r.types = subst (λ (j : JobValue). AreTypes j s.atoms r.types) same_job (subst (λ (b : StateView). AreTypes r.j b.atoms r.types) same_state r.typed) in
       let same_types : r.types ≡ p.types = only_types p.j 1 s.atoms p.types r.types says.0.types p.typed typed in

@@ -21,11 +21,12 @@ use Rattle.ring_box.specs.declared.vectors.Force.{Force}
 use Rattle.ring_box.specs.declared.vectors.Place3.{Place3}
 use Rattle.integrator.specs.Forces.{force_or_none, numbers_from, pairs_of, plus, share_of, sum_of_shares}
 use Rattle.integrator.specs.Frames.{Dynamics, Frame, Frames, exchanged, force_at, frames, moved_frame, next_frame, next_places, pair_force, places_of, steps_in}
-use Rattle.integrator.specs.Starts.{as_written, global_values, no_type, pair_inputs}
+use Rattle.integrator.specs.Starts.{as_written, pair_inputs}
+use Rattle.potential.specs.Tables.{global_values, no_type}
 use Rattle.integrator.specs.States.{counter_at, frames_of}
 use Rattle.integrator.specs.declared.direction.Direction.{Direction}
 use Rattle.integrator.specs.declared.direction.Direction.TheVariants.{Back, Forward}
-use Rattle.integrator.proofs.Constructors.{none_is_no_some}
+use Rattle.line_text.proofs.StepLaws.{none_is_no_some}
 use Rattle.integrator.proofs.NumberLaws.{at_number, length-numbers}
 use Rattle.integrator.proofs.MotionLaws.{back_from_forward, exchanged_steps}
 use Rattle.engine.specs.Headline.{Follows, IsPairForce, Lead, Leads, far, inputs, near, next_of, together}

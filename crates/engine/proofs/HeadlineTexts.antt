@@ -10,7 +10,7 @@ use Rattle.std.proofs.lemmas.Slice.Eq.{bytes_eq-Decides}
 use Rattle.fixed.specs.Fractions.{bits_of}
 use Rattle.fixed.specs.declared.frac.Frac.{Frac}
 use Rattle.fixed.specs.declared.frac.Frac.TheVariants.{F24, F32, F40}
-use Rattle.line_text.proofs.StepLaws.{bind_ok}
+use Rattle.line_text.proofs.StepLaws.{bind_ok, err_is_no_ok, same_ok}
 use Rattle.derivative.specs.Derive.{slope_program}
 use Rattle.kernel_compiler.specs.Code.{compiled}
 use Rattle.energy_program.specs.Names.{first_clash, is_among, is_reserved, names_from, parameters_and_globals, variables_of}
@@ -20,14 +20,15 @@ use Rattle.expr.proofs.Parsing.{reads_texts}
 use Rattle.job.specs.JobText.{AreApart}
 use Rattle.job.specs.Values.{JobValue, TypeValue}
 use Rattle.state.specs.StateText.{AtomView, StateView}
-use Rattle.integrator.specs.Energies.{Energy, energy_from, energy_of, job_program}
+use Rattle.potential.specs.Energies.{Energy, energy_from, energy_of, job_program}
 use Rattle.ring_box.specs.Cells.{has_room, holds_two, need_of, room_of}
 use Rattle.ring_box.specs.Places.{nowhere}
 use Rattle.integrator.specs.Frames.{Frames, frames, places_of}
-use Rattle.integrator.specs.Starts.{are_alike, atom_types, known, no_type, ring_of, type_with, unknown_type}
+use Rattle.integrator.specs.Starts.{are_alike, atom_types, known, ring_of, type_with, unknown_type}
+use Rattle.potential.specs.Tables.{no_type}
 use Rattle.integrator.specs.States.{frames_of, moved_state, nobody, placed, placed_atoms, previous_frame, current_frame}
-use Rattle.integrator.proofs.Constructors.{err_is_no_ok, ok_same, parts_same}
-use Rattle.integrator.proofs.InputLaws.{are_variables, no_more}
+use Rattle.line_text.proofs.Items.{parts_same}
+use Rattle.potential.proofs.InputLaws.{are_variables, no_more}
 use Rattle.integrator.proofs.StateLaws.{get_or-placed, length-placed, part_placed}
 use Rattle.engine.specs.Engines.{SaysOnly}
 use Rattle.engine.specs.Headline.{AreTypes, HasRoom, box_of, global_names, who}
@@ -69,7 +70,7 @@ made j energy e =
     let v = bind_ok (names_from j.parameters (global_names j)) (λ names. trees_in bits names j.energy) a.0 a.1 in
     let s = bind_ok (slope_program bits a.0) _ energy a.2 in
     let c = bind_ok (compiled bits s.0.0 s.0.1) _ energy s.2 in
-    record { names = v.0; named = v.1; tree = ap in_place v.2 ∙ ap Ok (ap (λ (e : Energy). e.tree) (ok_same _ energy c.2)) }
+    record { names = v.0; named = v.1; tree = ap in_place v.2 ∙ ap Ok (ap (λ (e : Energy). e.tree) (same_ok _ energy c.2)) }
 
 -- the energy's text says the energy's tree, and no other
 pub says_energy : (j : JobValue) (energy : Energy) → energy_of j ≡ Ok energy → SaysOnly j energy.tree
@@ -82,14 +83,14 @@ says_energy j energy e =
     let read : program_of bits vs j.energy ≡ Ok energy.tree = ap (λ vs. program_of bits vs j.energy) n.1 ∙ m.tree in
     record {
       says = record { apart = c.0; free = c.1; says = (reads_texts bits vs j.energy energy.tree).0 read };
-      only = λ tree says. ok_same tree energy.tree (sym ((reads_texts bits vs j.energy tree).1 says.says) ∙ read);
+      only = λ tree says. same_ok tree energy.tree (sym ((reads_texts bits vs j.energy tree).1 says.says) ∙ read);
     }
 
 -- ---- the types of atoms
 
 known_is : (k : ℕ) (o : Option ℕ) (t : ℕ) → known k o ≡ Ok t → o ≡ Some t
 known_is k None t e = absurd (err_is_no_ok (unknown_type k) t e)
-known_is k (Some u) t e = ap Some (ok_same u t e)
+known_is k (Some u) t e = ap Some (same_ok u t e)
 
 module _ (j : JobValue) where
   abbrev type_name : ℕ → List ℕ
@@ -99,7 +100,7 @@ module _ (j : JobValue) where
   pub types_are : (k : ℕ) (atoms : List AtomView) (types : List ℕ) → atom_types j.types k atoms ≡ Ok types → AreTypes j atoms types
   unfolding atom_types
   types_are k [] types e =
-      let same : [] ≡ types = ok_same [] types e in
+      let same : [] ≡ types = same_ok [] types e in
       subst (AreTypes j []) same (record { known = All-nil (λ t. t < length j.types); named = refl })
   types_are k (a ∷ atoms) types e =
       let t = bind_ok (known k (type_with j.types a.name)) _ types e in
@@ -107,7 +108,7 @@ module _ (j : JobValue) where
       let at = position-Some (λ (u : TypeValue). bytes_eq u.name a.name) j.types t.0 no_type (known_is k (type_with j.types a.name) t.0 t.1) in
       let name : type_name t.0 ≡ a.name = (bytes_eq-Decides (type_name t.0) a.name).0 at.1 in
       let rest = types_are (suc k) atoms r.0 r.1 in
-      subst (AreTypes j (a ∷ atoms)) (ok_same (t.0 ∷ r.0) types r.2)
+      subst (AreTypes j (a ∷ atoms)) (same_ok (t.0 ∷ r.0) types r.2)
       (record {
         known = All-cons (λ t. t < length j.types) t.0 r.0 at.0 rest.known;
         named = ap (λ n. n ∷ map type_name r.0) name ∙ ap (λ ns. a.name ∷ ns) rest.named;

@@ -3,7 +3,6 @@ pub mod RoundLaws
 pub mod RowLaws
 pub mod TileLaws
 pub mod CourseLaws
-pub mod VerdictLaws
 pub mod EngineLaws
 pub mod OneAnswer
 pub mod UnwrittenLaws

@@ -1,16 +1,18 @@
--- Where texts have a run and the code of the slope is accepted, no other answer is left but out of memory and a failed output.
+-- Where texts have a run and the code of the slope is accepted, no other answer is left but out of memory and a failed
+-- output.
 use Rattle.std.proofs.Common.{◌≡◌, ℕ, ◌-◌, ◌*◌, ◌^◌, ◌≤◌, List, length, Ok, Err, arith, refl, subst, sym, ◌∙◌}
 use Rattle.job.specs.Values.{JobValue}
 use Rattle.kernel_code.specs.declared.instructions.Instr.{Instr}
 use Rattle.state.specs.StateText.{StateView}
 use Rattle.verifier.specs.Verdicts.{range}
 use Rattle.verifier.proofs.OneVerdict.{accepted_alone}
-use Rattle.integrator.proofs.Constructors.{err_is_no_ok, ok_same}
+use Rattle.line_text.proofs.StepLaws.{err_is_no_ok, same_ok}
 use Rattle.integrator.proofs.RunLaws.{run_starts}
 use Rattle.integrator.proofs.StartLaws.{system_unready}
-use Rattle.integrator.specs.Energies.{Energy}
+use Rattle.potential.specs.Energies.{Energy}
 use Rattle.integrator.specs.Runs.{IsRun}
-use Rattle.integrator.specs.Starts.{plain, step_range, table_of}
+use Rattle.integrator.specs.Starts.{Refusal, energy_refused, plain, step_range, system_of}
+use Rattle.potential.specs.Tables.{table_of}
 use Rattle.integrator.specs.declared.direction.Direction.{Direction}
 use Rattle.fallible.specs.Failures.{IfRefused}
 use Rattle.fallible.specs.declared.failure.Failure.{Failure}
@@ -19,26 +21,29 @@ use Rattle.job.specs.Views as jobs
 use Rattle.integrator.specs.StartViews.{system_refusal}
 use Rattle.integrator.specs.declared.faults.StepFault.{StepFault}
 use Rattle.integrator.specs.declared.faults.StepFault.TheVariants as step
+use Rattle.energy_program.specs.Faults as energies
+use Rattle.potential.specs.declared.faults.EnergyFault.TheVariants as energy
 use Rattle.engine.specs.declared.faults.EngineFault.TheVariants as engine
 use Rattle.engine.specs.declared.faults.OpenFault.{OpenFault}
 use Rattle.engine.specs.declared.faults.OpenFault.TheVariants as opened
-use Rattle.engine.specs.declared.kernel_refusals.KernelRefusal.{KernelRefusal}
+use Rattle.potential.specs.declared.kernel_refusals.KernelRefusal.{KernelRefusal}
 use Rattle.engine.specs.Engines.{AreSafe, AreStopped, HasNoEngineOfTexts, OfSlope, OfTexts}
-use Rattle.engine.specs.Verdicts.{IsJudged, IsRefused, IsSafeFor, PassesRange}
+use Rattle.potential.specs.Verdicts.{IsVerdictUnder, IsRefused}
+use Rattle.engine.specs.Ranges.{IsSafeFor, PassesRange}
 
 -- ---- of one code
 
-judged_alone : (j : JobValue) (code : List Instr) (bound : ℕ) (r : KernelRefusal) → IsJudged j code (Ok bound) → IsJudged j code (Err r.fault) → ⊥
+judged_alone : (j : JobValue) (code : List Instr) (bound : ℕ) (r : KernelRefusal) → IsVerdictUnder j code (Ok bound) → IsVerdictUnder j code (Err r.fault) → ⊥
 judged_alone j code bound r p q = err_is_no_ok r.fault bound (accepted_alone code (table_of j) (range j.core j.cutoff j.slices 24) bound (Err r.fault) p q)
 
-one_bound : (j : JobValue) (code : List Instr) (bound bound' : ℕ) → IsJudged j code (Ok bound) → IsJudged j code (Ok bound') → bound' ≡ bound
-one_bound j code bound bound' p q = ok_same bound' bound (accepted_alone code (table_of j) (range j.core j.cutoff j.slices 24) bound (Ok bound') p q)
+one_bound : (j : JobValue) (code : List Instr) (bound bound' : ℕ) → IsVerdictUnder j code (Ok bound) → IsVerdictUnder j code (Ok bound') → bound' ≡ bound
+one_bound j code bound bound' p q = same_ok bound' bound (accepted_alone code (table_of j) (range j.core j.cutoff j.slices 24) bound (Ok bound') p q)
 
 -- ---- of one job and one state
 
 same_slope : (j : JobValue) (s : StateView) (holds : List Instr → Type 0) (a : OfSlope j s (λ code. IsSafeFor j code (length s.atoms))) → OfSlope j s holds → holds a.system.0.code
 same_slope j s holds a b =
-    let same : b.system ≡ a.system = ok_same b.system a.system (sym b.made ∙ a.made) in
+    let same : b.system ≡ a.system = same_ok b.system a.system (sym b.made ∙ a.made) in
     subst (λ (x : Energy × List ℕ). holds x.0.code) same b.it
 
 not_refused : (j : JobValue) (s : StateView) (r : KernelRefusal) → OfSlope j s (λ code. IsSafeFor j code (length s.atoms)) → OfSlope j s (λ code. IsRefused j code r) → ⊥
@@ -58,17 +63,21 @@ not_passed j s a b =
 
 same_texts : (job state : List ℕ) (holds : JobValue → StateView → Type 0) (a : AreSafe job state) → OfTexts job state holds → holds a.j a.s
 same_texts job state holds a b =
-    let j : b.j ≡ a.j = ok_same b.j a.j (sym b.job_read ∙ a.job_read) in
-    let s : b.s ≡ a.s = ok_same b.s a.s (sym b.state_read ∙ a.state_read) in
+    let j : b.j ≡ a.j = same_ok b.j a.j (sym b.job_read ∙ a.job_read) in
+    let s : b.s ≡ a.s = same_ok b.s a.s (sym b.state_read ∙ a.state_read) in
     subst (holds a.j) s (subst (λ (x : JobValue). holds x b.s) j b.it)
+
+-- texts that have a run have atoms that can be run
+without_system : (job state : List ℕ) (w : Direction) (n : ℕ) (text : List ℕ) (refusal : Refusal) → IsRun plain job state w n text → OfTexts job state (λ j s. system_of j s ≡ Err refusal) → ⊥
+without_system job state w n text refusal r h = run_starts plain job state w n text refusal r (system_unready plain job state w n h.j h.s refusal h.job_read h.state_read h.it)
 
 -- texts that have a run, and whose code is accepted, have an engine
 has_engine : {A : Type 0} (job state : List ℕ) (w : Direction) (n : ℕ) (text : List ℕ) (f : OpenFault A) → IsRun plain job state w n text → AreSafe job state → HasNoEngineOfTexts job state f → ⊥
 has_engine job state w n text (opened.Job f) r a h = err_is_no_ok (jobs.refusal_of f) a.j (sym h ∙ a.job_read)
 has_engine job state w n text (opened.State f) r a h = err_is_no_ok f a.s (sym h.2 ∙ a.state_read)
-has_engine job state w n text (opened.Engine (engine.System f)) r a h =
-    run_starts plain job state w n text (system_refusal f) r (system_unready plain job state w n h.j h.s (system_refusal f) h.job_read h.state_read h.it)
-has_engine job state w n text (opened.Engine (engine.Kernel k)) r a h = not_refused a.j a.s k a.it (same_texts job state (λ j s. OfSlope j s (λ code. IsRefused j code k)) a h)
+has_engine job state w n text (opened.Engine (engine.Energy (energy.Energy f))) r a h = without_system job state w n text (energy_refused (energies.refusal_of f)) r h
+has_engine job state w n text (opened.Engine (engine.Energy (energy.Kernel k))) r a h = not_refused a.j a.s k a.it (same_texts job state (λ j s. OfSlope j s (λ code. IsRefused j code k)) a h)
+has_engine job state w n text (opened.Engine (engine.System f)) r a h = without_system job state w n text (system_refusal f) r h
 has_engine job state w n text (opened.Engine engine.ForceRange) r a h = not_passed a.j a.s a.it (same_texts job state (λ j s. OfSlope j s (λ code. PassesRange j code (length s.atoms))) a h)
 
 -- so it isn't missing but for lack of memory

@@ -25,9 +25,11 @@ use Rattle.engine.specs.Rounds.{forces_from, forces_in, pair_add}
 
 -- ---- what pairs add to an entry
 
+-- what a pair adds to an entry of the table
 abbrev pub weight : (ℕ × ℕ → Option PairAdd) → ℕ → ℕ × ℕ → ℕ
 weight add e p = on_entry e (additions_of (add p))
 
+-- what a tile adds to an entry is what its pairs add
 pub tile_weight : (add : ℕ × ℕ → Option PairAdd) (e : ℕ) (ps : List (ℕ × ℕ)) → on_entry e (tile_of (map add ps)) ≡ sum_by (weight add e) ps
 tile_weight add e [] = refl
 tile_weight add e (p ∷ ps) =
@@ -35,6 +37,7 @@ tile_weight add e (p ∷ ps) =
     ∙ ap (λ m. weight add e p + m) (tile_weight add e ps)
     ∙ sym (sum_by-cons (weight add e) p ps)
 
+-- what all tiles add to an entry is what the pairs of all tiles add
 pub total_weight : (add : ℕ × ℕ → Option PairAdd) (e : ℕ) (tiles : List (List (ℕ × ℕ)))
     → total (tiles_of (map (λ ps. map add ps) tiles)) e ≡ sum_by (λ ps. sum_by (weight add e) ps) tiles
 total_weight add e [] = refl

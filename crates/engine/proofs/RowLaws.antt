@@ -1,10 +1,7 @@
 -- Pairs that act, in rows: what is found, asked and added is what each pair adds.
-use Rattle.std.proofs.Common.{◌≡◌, ℕ, ◌+◌, ◌^◌, ◌<◌, ◌≤◌, cond, List, [], ◌∷◌, ◌++◌, length, map, filter, take, drop, ℤ, pos, Option, Some, None, Ok, arith, refl, ap, ap₂, sym, ◌∙◌, get_or}
-use Rattle.std.specs.Prelude.{is_some, neg_ℤ, option_map, slice_get, slice_index, unsigned_abs}
+use Rattle.std.proofs.Common.{◌≡◌, ℕ, ◌+◌, ◌^◌, ◌<◌, cond, List, [], ◌∷◌, ◌++◌, length, map, filter, take, drop, ℤ, pos, Option, Some, None, arith, refl, ap, ap₂, sym, ◌∙◌, get_or}
+use Rattle.std.specs.Prelude.{is_some, neg_ℤ, option_map, slice_get, slice_index}
 use Rattle.std.proofs.lemmas.List.{append_assoc, append_cancel_right, drop-map, get_or-map, length-map, map-append, take-append-drop, take-map}
-use Rattle.fixed.specs.Fractions.{bits_of}
-use Rattle.kernel_code.specs.Machine.{Ends}
-use Rattle.kernel_code.specs.Tables.{inputs_of}
 use Rattle.kernel_lanes.specs.Flats.{ask_at}
 use Rattle.kernel_lanes.specs.Lanes.{IsServed}
 use Rattle.kernel_lanes.specs.declared.asks.Ask.{Ask}
@@ -16,12 +13,13 @@ use Rattle.tile_round.specs.Tiles.{AreNextActing, IsPairOf, acting}
 use Rattle.tile_round.specs.declared.work.PairAdd.{PairAdd}
 use Rattle.integrator.specs.Frames.{Frame, places_of}
 use Rattle.integrator.specs.declared.systems.System.{System}
-use Rattle.engine.proofs.SafeLaws.{minus_is}
 use Rattle.engine.specs.Rounds.{add_of, pair_add}
 use Rattle.engine.specs.Rows.{AreNextFound, IsFound, IsSlope, add_found, ask_of, found_of, reach_of}
-use Rattle.engine.specs.SafeKernels.{minus, potential_of, slope_at}
+use Rattle.potential.proofs.PotentialLaws.{minus_is}
+use Rattle.potential.specs.LaneKernels.{IsCodeValue}
+use Rattle.potential.specs.Potentials.{minus, potential_of, slope_at}
 use Rattle.engine.specs.declared.rows.FoundPair.{FoundPair}
-use Rattle.engine.specs.declared.safe_kernels.SafeKernel.{SafeKernel}
+use Rattle.potential.specs.declared.slope_kernels.SlopeKernel.{SlopeKernel}
 
 -- ---- lists
 
@@ -59,7 +57,7 @@ from_either_end ps k n these e =
     ∙ (acting_append (take k ps) (drop k ps)
     ∙ (ap (λ ys. acting (take k ps) ++ ys) e ∙ sym (append_assoc (acting (take k ps)) these (acting (drop n ps)))))))
 
-module _ {A : Type 0} (s : System (SafeKernel A) A) where
+module _ {A : Type 0} (s : System (SlopeKernel A) A) where
   -- ---- what is found
 
   twice : (o : Option ActingPair) (p : ℕ × ℕ)
@@ -126,12 +124,13 @@ module _ {A : Type 0} (s : System (SafeKernel A) A) where
   -- ---- slopes
 
   -- the value of the code is the slope that is asked for
-  pub slope_is : (ask : Ask) (n : ℕ) (v : ℤ) → IsServed s.kernel.verified ask → s.kernel.verified.bound < 2 ^ 63
-      → Ends (bits_of s.kernel.verified.table.frac) s.kernel.verified.code (inputs_of s.kernel.verified.table ask.a ask.b ask.r) n (Ok v) → unsigned_abs v ≤ s.kernel.verified.bound → IsSlope s ask v
-  slope_is ask n v served bound ends small = record {
-    value = minus_is (slope_at (potential_of s.kernel) ask.a ask.b ask.r) v ((s.kernel.gives ask.a ask.b ask.r served.first served.second).value n v ends);
-    fits = omega arith;
-  }
+  pub slope_is : (ask : Ask) (v : ℤ) → IsServed s.kernel.verified ask → s.kernel.verified.bound < 2 ^ 63 → IsCodeValue s.kernel.verified ask v → IsSlope s ask v
+  slope_is ask v served bound is =
+      let small = is.small in
+      record {
+        value = minus_is (slope_at (potential_of s.kernel) ask.a ask.b ask.r) v ((s.kernel.gives ask.a ask.b ask.r served.first served.second).value is.n v is.ends);
+        fits = omega arith;
+      }
 
   -- ---- what is added
 

@@ -1,9 +1,7 @@
 -- Accepted slopes: where a pair acts there is a slope, and each pair has a force that fits.
 use Rattle.std.proofs.Common.{◌≡◌, ℕ, ◌-◌, ◌*◌, ◌^◌, ◌<◌, ◌≤◌, Bool, true, false, length, ℤ, pos, Option, Some, None, arith, refl, ap, ◌∙◌}
-use Rattle.std.specs.Prelude.{unsigned_abs, neg_ℤ, unwrap_or, option_map, ◌≤ℤ◌, ◌<ℤ◌, int_lt, nat_lt, not, ◌&&◌, ◌==◌, if◌then◌else◌, IfSome, slice_index}
+use Rattle.std.specs.Prelude.{neg_ℤ, unwrap_or, option_map, ◌≤ℤ◌, ◌<ℤ◌, ◌==◌, if◌then◌else◌, IfSome, slice_index}
 use Rattle.std.proofs.lemmas.Nat.{mul-le}
-use Rattle.std.proofs.lemmas.Int.{ints}
-use Rattle.std.proofs.lemmas.Bool.{and_from, and_parts, le-leb, leb-true, lt-ltb, ltb-true, not_from_false, not-true, false≢true}
 use Rattle.std.proofs.lemmas.Option.{same_Some}
 use Rattle.fixed.specs.declared.frac.Frac.{Frac}
 use Rattle.ring_box.specs.declared.boxes.RingBox.{RingBox}
@@ -13,78 +11,13 @@ use Rattle.ring_box.specs.Distances.{distance_at, is_near, square_of}
 use Rattle.ring_box.specs.Forces.{IsWithin, acting_distance_of, force_along_of, no_force, taken_distance_of}
 use Rattle.ring_box.proofs.ForceLemmas.{max_high, max_low}
 use Rattle.integrator.proofs.BoundLaws.{along_within, none_within, within-weaker}
-use Rattle.integrator.proofs.Constructors.{none_is_no_some}
+use Rattle.line_text.proofs.StepLaws.{none_is_no_some}
 use Rattle.integrator.specs.Frames.{Frame, force_at, pair_force, places_of}
-use Rattle.integrator.specs.Kernels.{is_small}
-use Rattle.engine.specs.SafeKernels.{IsAccepted, Potential, is_taken, minus, potential_of, safe_dynamics, slope_at}
-use Rattle.engine.specs.declared.safe_kernels.SafeKernel.{SafeKernel}
+use Rattle.potential.specs.Potentials.{minus, potential_of, slope_at}
+use Rattle.potential.proofs.PotentialLaws.{HasNumber, has_slope, minus_is}
+use Rattle.engine.specs.SafeSystems.{IsSafeSystem, safe_dynamics}
+use Rattle.potential.specs.declared.slope_kernels.SlopeKernel.{SlopeKernel}
 use Rattle.integrator.specs.declared.systems.System.{System}
-
--- ---- what is taken
-
-pub record Taken (k : Potential) (a b : ℕ) (r : ℤ) : Type 0 where
-  pub bound : k.bound < 2 ^ 63
-  pub first : a < length k.table.rows
-  pub second : b < length k.table.rows
-  pub low : k.core ≤ℤ r
-  pub high : r <ℤ k.cutoff
-
-not_below : (r c : ℤ) → int_lt r c ≡ false → c ≤ℤ r
-not_below r c h = grind (arith, ints)
-
-below : (r c : ℤ) → int_lt r c ≡ true → r <ℤ c
-below r c h = grind (arith, ints)
-
-is_not_below : (r c : ℤ) → c ≤ℤ r → int_lt r c ≡ false
-is_not_below r c h = grind (arith, ints)
-
-is_below : (r c : ℤ) → r <ℤ c → int_lt r c ≡ true
-is_below r c h = grind (arith, ints)
-
-pub taken_parts : (k : Potential) (a b : ℕ) (r : ℤ) → is_taken k a b r ≡ true → Taken k a b r
-taken_parts k a b r h =
-    let n = length k.table.rows in
-    let p = and_parts (nat_lt k.bound (2 ^ 63)) (nat_lt a n && (nat_lt b n && (not (int_lt r k.core) && int_lt r k.cutoff))) h in
-    let q = and_parts (nat_lt a n) (nat_lt b n && (not (int_lt r k.core) && int_lt r k.cutoff)) p.1 in
-    let s = and_parts (nat_lt b n) (not (int_lt r k.core) && int_lt r k.cutoff) q.1 in
-    let t = and_parts (not (int_lt r k.core)) (int_lt r k.cutoff) s.1 in
-    record {
-      bound = ltb-true k.bound (2 ^ 63) p.0;
-      first = ltb-true a n q.0;
-      second = ltb-true b n s.0;
-      low = not_below r k.core (not-true (int_lt r k.core) t.0);
-      high = below r k.cutoff t.1;
-    }
-
-pub taken_from : (k : Potential) (a b : ℕ) (r : ℤ) → Taken k a b r → is_taken k a b r ≡ true
-taken_from k a b r t =
-    let n = length k.table.rows in
-    and_from (nat_lt k.bound (2 ^ 63)) (nat_lt a n && (nat_lt b n && (not (int_lt r k.core) && int_lt r k.cutoff))) (lt-ltb k.bound (2 ^ 63) t.bound)
-    (and_from (nat_lt a n) (nat_lt b n && (not (int_lt r k.core) && int_lt r k.cutoff)) (lt-ltb a n t.first)
-    (and_from (nat_lt b n) (not (int_lt r k.core) && int_lt r k.cutoff) (lt-ltb b n t.second)
-    (and_from (not (int_lt r k.core)) (int_lt r k.cutoff) (not_from_false (int_lt r k.core) (is_not_below r k.core t.low)) (is_below r k.cutoff t.high))))
-
--- ---- slopes
-
--- a number, of at most this magnitude
-pub record HasNumber (bound : ℕ) (o : Option ℤ) : Type 0 where
-  pub v : ℤ
-  pub has : o ≡ Some v
-  pub small : unsigned_abs v ≤ bound
-
-pub small_parts : (b : ℕ) (o : Option ℤ) → is_small b o ≡ true → HasNumber b o
-small_parts b None h = absurd (false≢true h)
-small_parts b (Some v) h = record { v = v; has = refl; small = leb-true (unsigned_abs v) b h }
-
-pub is_small_value : (b : ℕ) (o : Option ℤ) (v : ℤ) → o ≡ Some v → unsigned_abs v ≤ b → is_small b o ≡ true
-is_small_value b o v e h = rw e (le-leb (unsigned_abs v) b h)
-
-pub has_slope : {A : Type 0} (k : SafeKernel A) (a b : ℕ) (r : ℤ) → a < length k.verified.table.rows → b < length k.verified.table.rows → k.verified.core ≤ℤ r → r <ℤ k.verified.cutoff
-    → HasNumber k.verified.bound (slope_at (potential_of k) a b r)
-has_slope k a b r first second low high = small_parts k.verified.bound (slope_at (potential_of k) a b r) (k.bounded a b r first second low high)
-
-pub minus_is : (slope : Option ℤ) (v : ℤ) → slope ≡ Some v → neg_ℤ v ≡ minus slope
-minus_is slope v e = rw e refl
 
 -- ---- the distance at which a pair acts
 
@@ -95,6 +28,7 @@ in_range_at f ring core cutoff p q r true h e s =
     rw (← same_Some (taken_distance_of f ring core p q) r s) (max_low d core, max_high d core cutoff e h)
 in_range_at f ring core cutoff p q r false h e s = absurd (none_is_no_some r s)
 
+-- two atoms act at a distance from the core to before the cutoff
 pub in_range : (f : Frac) (ring : RingBox) (core cutoff : ℤ) (p q : Place3) (r : ℤ) → core <ℤ cutoff → acting_distance_of f ring core cutoff p q ≡ Some r → (core ≤ℤ r) × (r <ℤ cutoff)
 in_range f ring core cutoff p q r h e = in_range_at f ring core cutoff p q r (is_near f (square_of ring p q) cutoff) h refl e
 
@@ -136,7 +70,7 @@ pub record HasForce (b : ℕ) (o : Option (Force ℤ)) : Type 0 where
 
 -- ---- a system
 
-module _ {A : Type 0} (s : System (SafeKernel A) A) (accepted : IsAccepted s) where
+module _ {A : Type 0} (s : System (SlopeKernel A) A) (accepted : IsSafeSystem s) where
   -- with two atoms or more no slope is the least number
   pub bound_fits : (i j : ℕ) → i < j → j < length s.types.items → s.kernel.verified.bound < 2 ^ 63
   bound_fits i j apart below =
@@ -152,12 +86,6 @@ module _ {A : Type 0} (s : System (SafeKernel A) A) (accepted : IsAccepted s) wh
       let range = in_range s.frac s.ring s.core s.cutoff p q r s.below_cutoff e in
       has_slope s.kernel (slice_index s.types.items i) (slice_index s.types.items j) r (accepted.known i 0 first) (accepted.known j 0 second) (rw accepted.core range.0) (rw accepted.cutoff range.1)
 
-  pub takes : (i j : ℕ) → i < j → j < length s.types.items → (r : ℤ) → s.core ≤ℤ r → r <ℤ s.cutoff
-      → is_taken (potential_of s.kernel) (slice_index s.types.items i) (slice_index s.types.items j) r ≡ true
-  takes i j apart below r low high =
-      taken_from (potential_of s.kernel) (slice_index s.types.items i) (slice_index s.types.items j) r
-      (record { bound = bound_fits i j apart below; first = accepted.known i 0 (omega arith); second = accepted.known j 0 below; low = rw accepted.core low; high = rw accepted.cutoff high })
-
   pub has_force : (frame : Frame) (i j : ℕ) → i < j → j < length s.types.items → HasForce s.kernel.verified.bound (pair_force (safe_dynamics s) frame (i, j))
   has_force frame i j apart below =
       let p = places_of frame i in
@@ -171,6 +99,7 @@ module _ {A : Type 0} (s : System (SafeKernel A) A) (accepted : IsAccepted s) wh
         small = within_or_none s.kernel.verified.bound (option_map (λ r. force_along_of s.ring (minus (slope r)) p q) o) (forced_within s.kernel.verified.bound s.ring slope o p q h);
       }
 
+-- a force within a bound is within a greater one, if there is one
 pub some_within : (b c : ℕ) (o : Option (Force ℤ)) → b ≤ c → IfSome o (IsWithin b) → IfSome o (IsWithin c)
 some_within b c None h w = tt
 some_within b c (Some v) h w = within-weaker b c h w

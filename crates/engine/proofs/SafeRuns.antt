@@ -5,11 +5,11 @@ use Rattle.state.specs.StateText.{StateView}
 use Rattle.state.proofs.StateReadsAgain.{one_text}
 use Rattle.integrator.specs.Starts.{system_of}
 use Rattle.integrator.specs.States.{frames_of, moved_state}
-use Rattle.integrator.proofs.Constructors.{ok_same}
+use Rattle.line_text.proofs.StepLaws.{same_ok}
 use Rattle.integrator.proofs.ReturnLaws.{system-placed}
 use Rattle.engine.specs.Headline.{who}
 use Rattle.engine.specs.EngineSteps.{RunsStaySafe}
-use Rattle.engine.specs.Verdicts.{IsSafeFor}
+use Rattle.engine.specs.Ranges.{IsSafeFor}
 use Rattle.engine.proofs.HeadlineTexts.{moved_again}
 
 -- the text that a run writes is that of a state of the same system, with as many atoms
@@ -17,7 +17,7 @@ pub runs_stay_safe : RunsStaySafe
 runs_stay_safe job state w n text r a =
     let s = r.before in
     let t = r.after in
-    let same : s ≡ a.s = ok_same s a.s (sym ((one_text state s).1 (r.state_text'.fits, r.state_text'.is)) ∙ a.state_read) in
+    let same : s ≡ a.s = same_ok s a.s (sym ((one_text state s).1 (r.state_text'.fits, r.state_text'.is)) ∙ a.state_read) in
     let moved : t ≡ moved_state s (frames_of t) t.step = moved_again s t r.same r.kept in
     let system : system_of a.j t ≡ system_of a.j a.s = ap (system_of a.j) moved ∙ system-placed a.j s (frames_of t) t.step ∙ ap (system_of a.j) same in
     let atoms : length t.atoms ≡ length a.s.atoms = sym (length-map t.atoms who) ∙ ap length r.kept ∙ length-map s.atoms who ∙ ap (λ (b : StateView). length b.atoms) same in

@@ -26,7 +26,7 @@ use Rattle.tile_round.specs.ExactSums.{PlanHasWords, TotalsComeOut}
 use Rattle.tile_round.specs.Tiles.{IsPairOf, additions_of, on_entry, pairs_at}
 use Rattle.tile_round.specs.Tiles as round
 use Rattle.tile_round.specs.declared.work.PairAdd.{PairAdd}
-use Rattle.integrator.proofs.Constructors.{none_is_no_some}
+use Rattle.line_text.proofs.StepLaws.{none_is_no_some}
 use Rattle.integrator.specs.Forces.{pairs_from, pairs_of, pairs_with}
 use Rattle.integrator.specs.Frames.{Frame, pair_force, places_of}
 use Rattle.integrator.specs.declared.systems.System.{System}
@@ -34,8 +34,9 @@ use Rattle.engine.proofs.RoundLaws.{AddsForce, round_forces, weight}
 use Rattle.engine.proofs.SafeLaws.{bound_fits, forced, has_force, slopes}
 use Rattle.engine.specs.Rounds.{AreForces, acting_force, add_of, grid_of, pair_add, plan_of}
 use Rattle.engine.specs.Rows.{tile_at}
-use Rattle.engine.specs.SafeKernels.{IsAccepted, minus, potential_of, safe_dynamics, slope_at}
-use Rattle.engine.specs.declared.safe_kernels.SafeKernel.{SafeKernel}
+use Rattle.engine.specs.SafeSystems.{IsSafeSystem, safe_dynamics}
+use Rattle.potential.specs.Potentials.{minus, potential_of, slope_at}
+use Rattle.potential.specs.declared.slope_kernels.SlopeKernel.{SlopeKernel}
 
 -- ---- each pair stands once among all pairs
 
@@ -149,11 +150,13 @@ module _ (p : ℕ × ℕ) where
         | inr a ↦ rows_turned 0 n (omega arith) ∙ no_lower n (omega arith)
       ]
 
+-- each two of n atoms, the lower first, stand among their pairs once, and nothing else does
 pub are_pairs : (n : ℕ) → ArePairs n (pairs_of n)
 are_pairs n p = pair_once p n
 
 -- ---- what a tile lists
 
+-- the image of the element at a place stands at that place
 pub mapped_at : {X Y : Type 0} → (f : X → Y) (xs : List X) (k : ℕ) (x : X) → slice_get xs k ≡ Some x → slice_get (map f xs) k ≡ Some (f x)
 mapped_at f [] k x e = absurd (none_is_no_some x e)
 mapped_at f (y ∷ ys) zero x e = ap (λ z. Some (f z)) (same_Some y x e)
@@ -206,32 +209,34 @@ listed_pairs bits frame t tile covers e =
     All-from_get_or (near.IsPairOf (length frame)) ps (0, 0) (λ k lt. is_listed_pair bits frame t k tile (get_or ps k (0, 0)) covers e (slice_get-get_or ps k (0, 0) lt))
 
 -- the pairs that a tile lists
-pub tile_listed : {A : Type 0} (s : System (SafeKernel A) A) (frame : Frame) (t : ℕ) (tile : ℕ × ℕ) → slice_get (tiles_of (grid_of s)) t ≡ Some tile
+pub tile_listed : {A : Type 0} (s : System (SlopeKernel A) A) (frame : Frame) (t : ℕ) (tile : ℕ × ℕ) → slice_get (tiles_of (grid_of s)) t ≡ Some tile
     → tile_at s frame t ≡ pairs_in (members_of (grid_of s) frame) tile
 tile_listed s frame t tile e =
     let m = members_of (grid_of s) frame in
     found_at (tile_pairs (grid_of s) frame) t (pairs_in m tile) [] (mapped_at (pairs_in m) (tiles_of (grid_of s)) t tile e)
 
 -- the plan of a tile is as long as its list
-pub tile_size : {A : Type 0} (s : System (SafeKernel A) A) (frame : Frame) (t : ℕ) → t < length (plan_of s frame) → length (pairs_at (plan_of s frame) t) ≡ length (tile_at s frame t)
+pub tile_size : {A : Type 0} (s : System (SlopeKernel A) A) (frame : Frame) (t : ℕ) → t < length (plan_of s frame) → length (pairs_at (plan_of s frame) t) ≡ length (tile_at s frame t)
 tile_size s frame t lt =
     let add = λ (ps : List (ℕ × ℕ)). map (add_of s frame) ps in
     let inside : t < length (tile_pairs (grid_of s) frame) = omega (arith, length-map (tile_pairs (grid_of s) frame) add) in
     ap length (get_or-map add (tile_pairs (grid_of s) frame) t [] [] inside) ∙ length-map (tile_at s frame t) (add_of s frame)
 
-pub tile_planned : {A : Type 0} (s : System (SafeKernel A) A) (frame : Frame) (t : ℕ) (tile : ℕ × ℕ) → slice_get (tiles_of (grid_of s)) t ≡ Some tile
+-- what the plan has for a tile is what the tile's pairs add
+pub tile_planned : {A : Type 0} (s : System (SlopeKernel A) A) (frame : Frame) (t : ℕ) (tile : ℕ × ℕ) → slice_get (tiles_of (grid_of s)) t ≡ Some tile
     → pairs_at (plan_of s frame) t ≡ map (add_of s frame) (pairs_in (members_of (grid_of s) frame) tile)
 tile_planned s frame t tile e =
     let m = members_of (grid_of s) frame in
     found_at (plan_of s frame) t (map (add_of s frame) (pairs_in m tile)) []
     (mapped_at (λ ps. map (add_of s frame) ps) (tile_pairs (grid_of s) frame) t (pairs_in m tile) (mapped_at (pairs_in m) (tiles_of (grid_of s)) t tile e))
 
-pub tile_length : {A : Type 0} (s : System (SafeKernel A) A) (frame : Frame) (t : ℕ) (tile : ℕ × ℕ) → slice_get (tiles_of (grid_of s)) t ≡ Some tile
+-- a tile has as many pairs in the plan as in the frame
+pub tile_length : {A : Type 0} (s : System (SlopeKernel A) A) (frame : Frame) (t : ℕ) (tile : ℕ × ℕ) → slice_get (tiles_of (grid_of s)) t ≡ Some tile
     → length (pairs_at (plan_of s frame) t) ≡ length (pairs_in (members_of (grid_of s) frame) tile)
 tile_length s frame t tile e = ap length (tile_planned s frame t tile e) ∙ length-map (pairs_in (members_of (grid_of s) frame) tile) (add_of s frame)
 
 -- where a tile has a pair there are two atoms, so that the negative of no slope passes 64 bits
-pub bound_by_pair : {A : Type 0} (s : System (SafeKernel A) A) (frame : Frame) (t k : ℕ) → IsAccepted s → Covers (grid_of s) frame → length frame ≡ length s.types.items → t < length (plan_of s frame)
+pub bound_by_pair : {A : Type 0} (s : System (SlopeKernel A) A) (frame : Frame) (t k : ℕ) → IsSafeSystem s → Covers (grid_of s) frame → length frame ≡ length s.types.items → t < length (plan_of s frame)
     → k < length (pairs_at (plan_of s frame) t) → s.kernel.verified.bound < 2 ^ 63
 bound_by_pair s frame t k accepted covers atoms at_tile at_pair =
     let m = members_of (grid_of s) frame in
@@ -248,7 +253,8 @@ some_pair_of : (n : ℕ) (p : ℕ × ℕ) (o : Option (Force ℤ)) → p.0 < p.1
 some_pair_of n p None apart below = tt
 some_pair_of n p (Some v) apart below = record { ordered = apart; inside = below }
 
-pub add_is_of_pair : {A : Type 0} (s : System (SafeKernel A) A) (frame : Frame) (p : ℕ × ℕ) → p.0 < p.1 → p.1 < length frame → IfSome (add_of s frame p) (IsPairOf (length frame))
+-- what two atoms add is an addition to these two
+pub add_is_of_pair : {A : Type 0} (s : System (SlopeKernel A) A) (frame : Frame) (p : ℕ × ℕ) → p.0 < p.1 → p.1 < length frame → IfSome (add_of s frame p) (IsPairOf (length frame))
 add_is_of_pair s frame p apart below = some_pair_of (length frame) p (acting_force s frame p) apart below
 
 -- ---- atoms that are not close add nothing
@@ -257,7 +263,7 @@ far_is_apart : (near close : Bool) → (near ≡ true → close ≡ true) → cl
 far_is_apart true close h e = absurd (true≢false (sym (h refl) ∙ e))
 far_is_apart false close h e = refl
 
-module _ {A : Type 0} (s : System (SafeKernel A) A) (frame : Frame) where
+module _ {A : Type 0} (s : System (SlopeKernel A) A) (frame : Frame) where
   -- atoms that aren't close aren't nearer than the cutoff
   pub far_apart : (p : ℕ × ℕ) → NearAreNeighbours s.frac s.ring s.cutoff (grid_of s) → All ArePlaces frame → are_close (grid_of s) frame p ≡ false
       → is_near s.frac (square_of s.ring (places_of frame p.0) (places_of frame p.1)) s.cutoff ≡ false
@@ -280,7 +286,7 @@ module _ {A : Type 0} (s : System (SafeKernel A) A) (frame : Frame) where
       let none : add_of s frame p ≡ None = adds_nothing p near (far_apart p law places far) in
       ap (λ o. on_entry e (additions_of o)) none
 
-  adds_force : IsAccepted s → (i j : ℕ) → i < j → j < length s.types.items → AddsForce (pair_force (safe_dynamics s) frame) (add_of s frame) (i, j)
+  adds_force : IsSafeSystem s → (i j : ℕ) → i < j → j < length s.types.items → AddsForce (pair_force (safe_dynamics s) frame) (add_of s frame) (i, j)
   adds_force accepted i j apart below =
       let x = places_of frame i in
       let y = places_of frame j in
@@ -292,7 +298,7 @@ module _ {A : Type 0} (s : System (SafeKernel A) A) (frame : Frame) where
       }
 
   -- the sums over the tiles of the frame are the forces on its atoms
-  frame_round : IsAccepted s → NearAreNeighbours s.frac s.ring s.cutoff (grid_of s) → All ArePlaces frame → length frame ≡ length s.types.items
+  frame_round : IsSafeSystem s → NearAreNeighbours s.frac s.ring s.cutoff (grid_of s) → All ArePlaces frame → length frame ≡ length s.types.items
       → SumsAsAll (grid_of s) frame → ((plan : List (List (Option PairAdd))) → PlanHasWords plan → TotalsComeOut plan)
       → (sums : List ℤ) → AreTotals (round.tiles_of (plan_of s frame)) (length frame) sums → AreForces s frame sums
   frame_round accepted law places atoms cover comes_out sums totals =
@@ -308,7 +314,7 @@ module _ {A : Type 0} (s : System (SafeKernel A) A) (frame : Frame) where
       )
 
 -- totals of a round over the pairs of the frame are its forces
-pub frame_summed : {A : Type 0} (s t : System (SafeKernel A) A) (frame f : Frame) → t ≡ s → f ≡ frame → IsAccepted s → NearAreNeighbours s.frac s.ring s.cutoff (grid_of s) → IsGrid (grid_of s) → All ArePlaces frame
+pub frame_summed : {A : Type 0} (s t : System (SlopeKernel A) A) (frame f : Frame) → t ≡ s → f ≡ frame → IsSafeSystem s → NearAreNeighbours s.frac s.ring s.cutoff (grid_of s) → IsGrid (grid_of s) → All ArePlaces frame
     → length frame ≡ length s.types.items → (sums : List ℤ) → AreTotals (round.tiles_of (plan_of t f)) (length f) sums → AreForces s frame sums
 frame_summed s t frame f same_system same_frame accepted law grid places atoms sums totals =
     frame_round s frame accepted law places atoms (sums_as_all (grid_of s) frame grid places) (λ plan words atom axis axes fits. comes_out atom axis axes plan words fits) sums

@@ -1,4 +1,5 @@
--- The model's runs and the headline's page are one: what a run writes is on the page, and what is on the page a run writes, where the energy's slope isn't too large.
+-- The model's runs and the headline's page are one: what a run writes is on the page, and what is on the page a run
+-- writes, where the energy's slope isn't too large.
 use Rattle.std.proofs.Common.{◌≡◌, ℕ, suc, ◌<◌, ◌*◌, ◌^◌, Bool, true, false, List, [], ◌∷◌, length, get_or, Option, Some, None, Ok, ℤ, arith, refl, ap, sym, subst, ◌∙◌}
 use Rattle.std.specs.Prelude.{map, bytes_eq, if◌then◌else◌}
 use Rattle.std.specs.List.{All}
@@ -16,13 +17,15 @@ use Rattle.job.proofs.ApartLemmas.{names_once}
 use Rattle.job.proofs.TextLemmas.{reading_again, reading_ok}
 use Rattle.state.specs.StateText.{AtomView, StateView}
 use Rattle.state.proofs.StateReadsAgain.{one_text}
-use Rattle.integrator.specs.Energies.{energy_of}
+use Rattle.potential.specs.Energies.{energy_of}
 use Rattle.integrator.specs.Frames.{steps_in}
 use Rattle.integrator.specs.Runs.{IsAfter}
-use Rattle.integrator.specs.Starts.{are_alike, as_written, atom_types, no_type, plain, ring_of, start_at, type_with}
+use Rattle.integrator.specs.Starts.{are_alike, as_written, atom_types, plain, ring_of, start_at, type_with}
+use Rattle.potential.specs.Tables.{no_type}
 use Rattle.integrator.specs.States.{counter_after, counter_at, frames_of}
 use Rattle.integrator.specs.declared.direction.Direction.{Direction}
-use Rattle.integrator.proofs.Constructors.{ok_same, parts_same}
+use Rattle.line_text.proofs.StepLaws.{same_ok}
+use Rattle.line_text.proofs.Items.{parts_same}
 use Rattle.fixed.proofs.IntegerLaws.{in_range_is}
 use Rattle.integrator.proofs.ReturnLaws.{parts_of, start_from}
 use Rattle.integrator.proofs.StartLaws.{started}
@@ -51,6 +54,7 @@ read_once job state w n after ran =
       it = (names_of_text job p.j p.job_read, subst (SaysOnly p.j) (sym (job_tree_is p.j p.energy p.energy_read)) (says_energy p.j p.energy p.energy_read));
     }
 
+-- a run of the model is one of the headline's page
 pub runs_are_told : RunsAreTold
 runs_are_told job state w n text r =
     let ran : IsAfter plain job state w n r.after = record { start = r.start; starts = r.starts; ran = r.ran } in
@@ -100,11 +104,12 @@ room_again j sides h =
 counted_again : (z k : ℤ) → k ≡ z → in_range k ≡ true → ◌≡◌ {A = Option ℤ} (if in_range z then Some z else None) (Some k)
 counted_again z k e h = rw (← e, h) refl
 
+-- a run of the headline's page is one of the model
 pub told_are_run : ToldAreRun
 told_are_run job state w n text j energy job_read energy_read r =
     let s = r.before in
     let t = r.after in
-    let same : r.j ≡ j = ok_same r.j j (sym (reading_again limits job r.j r.job_text) ∙ job_read) in
+    let same : r.j ≡ j = same_ok r.j j (sym (reading_again limits job r.j r.job_text) ∙ job_read) in
     let read : reading_of limits job ≡ Ok r.j = reading_again limits job r.j r.job_text in
     let made : energy_of r.j ≡ Ok energy = ap energy_of same ∙ energy_read in
     let tree : r.tree ≡ energy.tree = (says_energy r.j energy made).only r.tree r.energy in

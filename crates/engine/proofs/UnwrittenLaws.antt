@@ -1,4 +1,5 @@
--- What keeps an engine of texts from writing the state behind some steps, as what keeps the run of the texts from being written.
+-- What keeps an engine of texts from writing the state behind some steps, as what keeps the run of the texts from being
+-- written.
 use Rattle.std.proofs.Common.{ℕ, List, refl}
 use Rattle.fallible.specs.Out.{Output}
 use Rattle.state.specs.StateText.{state_text}

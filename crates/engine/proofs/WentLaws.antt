@@ -14,7 +14,7 @@ use Rattle.fixed.proofs.IntegerLaws.{in_range_is}
 use Rattle.integrator.specs.States.{counter_at, frames_of, moved_state}
 use Rattle.integrator.specs.declared.direction.Direction.{Direction}
 use Rattle.integrator.specs.declared.direction.Direction.TheVariants.{Back, Forward}
-use Rattle.integrator.proofs.Constructors.{none_is_no_some}
+use Rattle.line_text.proofs.StepLaws.{none_is_no_some}
 use Rattle.integrator.proofs.CounterLaws.{counter_back, counter_is}
 use Rattle.integrator.proofs.StateLaws.{frames_moved, placed_twice}
 use Rattle.integrator.proofs.ReturnLaws.{frames_are}
@@ -65,6 +65,7 @@ steps_add_at : (w : Direction) (d : Dynamics) (k m : ℕ) (o : Option Frames) �
 steps_add_at w d k m None more = refl
 steps_add_at w d k m (Some f) more = more f
 
+-- k steps and m more are k + m steps
 pub steps_added : (w : Direction) (d : Dynamics) (k m : ℕ) (f : Frames) → steps_in w d (k + m) f ≡ option_and_then (steps_in w d m) (steps_in w d k f)
 unfolding steps_in
 steps_added w d zero m f = ap (λ i. steps_in w d i f) (zero-add m)

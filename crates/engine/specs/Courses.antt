@@ -1,4 +1,5 @@
--- Courses: two frames in the direction of the steps, what steps make of them, and what is asked of the sums that they go by.
+-- Courses: two frames in the direction of the steps, what steps make of them, and what is asked of the sums that they
+-- go by.
 use Rattle.std.specs.Prelude.{◌≡◌, ℕ, ℤ, List, length, Some, None, Result, IfOk}
 use Rattle.std.specs.Borrow.{Bor, MutBor}
 use Rattle.std.specs.Fn.{Shared}
@@ -10,9 +11,9 @@ use Rattle.integrator.specs.declared.faults.StepFault.{StepFault}
 use Rattle.integrator.specs.declared.faults.StepFault.TheVariants as step
 use Rattle.integrator.specs.declared.systems.System.{System}
 use Rattle.engine.specs.Rounds.{AreForces}
-use Rattle.engine.specs.SafeKernels.{safe_dynamics}
+use Rattle.engine.specs.SafeSystems.{safe_dynamics}
 use Rattle.engine.specs.declared.frame_steps.Course.{Course}
-use Rattle.engine.specs.declared.safe_kernels.SafeKernel.{SafeKernel}
+use Rattle.potential.specs.declared.slope_kernels.SlopeKernel.{SlopeKernel}
 
 -- two frames by their times, where `before` comes before `middle` in the direction of the steps
 abbrev pub frames_along : Direction → Frame → Frame → Frames
@@ -37,6 +38,6 @@ module _ {F S T E : Type 0} (g : Shared F (Bor Frame × (MutBor S × Unit {0})) 
   MaySum f frame desk = (p : Bor Frame) (q : MutBor S) → p.now ≡ frame → q.now ≡ desk → g.pre f (p, (q, tt))
 
   -- a call answers the forces on the atoms of the frame, and for as many atoms it may be called again with what it left
-  pub record SumsForces {A : Type 0} (items : T → List ℤ) (s : System (SafeKernel A) A) (f : F) : Type 0 where
+  pub record SumsForces {A : Type 0} (items : T → List ℤ) (s : System (SlopeKernel A) A) (f : F) : Type 0 where
     pub forces : (p : Bor Frame) (q left : MutBor S) (r : Result T E) → g.pre f (p, (q, tt)) → g.post f (p, (q, tt)) (r, (left, tt)) → IfOk r (λ t. AreForces s p.now (items t))
     pub again : (p next : Bor Frame) (q left lent : MutBor S) (r : Result T E) → g.pre f (p, (q, tt)) → g.post f (p, (q, tt)) (r, (left, tt)) → length next.now ≡ length p.now → lent.now ≡ left.now → g.pre f (next, (lent, tt))

@@ -1,5 +1,6 @@
 -- Engines: which jobs and states have one, and what its steps do.
-use Rattle.std.specs.Prelude.{◌≡◌, ℕ, ◌-◌, ◌≤◌, ℤ, List, length, Some, None, Ok, Err}
+use Rattle.std.specs.Prelude.{◌≡◌, ℕ, ◌-◌, ◌≤◌, ℤ, List, length, Some, None, Ok, Err, false, is_none}
+use Rattle.energy_program.specs.Faults as energies
 use Rattle.energy_program.specs.Tree.{Tree}
 use Rattle.fallible.specs.Failures.{IfRefused}
 use Rattle.fallible.specs.Out.{AppendsBeginning, Output}
@@ -10,17 +11,19 @@ use Rattle.job.specs.Values.{JobValue}
 use Rattle.kernel_code.specs.declared.instructions.Instr.{Instr}
 use Rattle.state.specs.StateReading.{state_of}
 use Rattle.state.specs.StateText.{StateView, state_text}
-use Rattle.integrator.specs.Energies.{Energy, job_tree}
+use Rattle.potential.specs.Energies.{Energy, job_tree}
 use Rattle.integrator.specs.Frames.{Dynamics, Frames, steps_in}
-use Rattle.integrator.specs.Starts.{as_written, plain, start_of_run, step_range, system_of}
+use Rattle.integrator.specs.Starts.{as_written, energy_refused, plain, start_of_run, step_range, system_of}
 use Rattle.integrator.specs.Runs.{WroteBeginning}
 use Rattle.integrator.specs.StartViews.{system_refusal}
 use Rattle.integrator.specs.States.{counter_after, frames_of, moved_state}
 use Rattle.engine.specs.Headline.{IsJobEnergy}
-use Rattle.engine.specs.Verdicts.{IsRefused, IsSafeFor, PassesRange}
+use Rattle.potential.specs.Verdicts.{IsRefused}
+use Rattle.engine.specs.Ranges.{IsSafeFor, PassesRange}
 use Rattle.integrator.specs.declared.direction.Direction.{Direction}
 use Rattle.integrator.specs.declared.faults.StepFault.{StepFault}
 use Rattle.integrator.specs.declared.faults.StepFault.TheVariants as step
+use Rattle.potential.specs.declared.faults.EnergyFault.TheVariants as energy
 use Rattle.engine.specs.declared.faults.EngineFault.{EngineFault}
 use Rattle.engine.specs.declared.faults.EngineFault.TheVariants as engine
 use Rattle.engine.specs.declared.faults.OpenFault.{OpenFault}
@@ -55,8 +58,9 @@ pub record OfSlope (j : JobValue) (s : StateView) (holds : List Instr → Type 0
 
 -- why they have none
 abbrev pub HasNoEngine : {A : Type 0} → JobValue → StateView → EngineFault A → Type 0
+HasNoEngine j s (engine.Energy (energy.Energy f)) = system_of j s ≡ Err (energy_refused (energies.refusal_of f))
+HasNoEngine j s (engine.Energy (energy.Kernel r)) = OfSlope j s (λ code. IsRefused j code r)
 HasNoEngine j s (engine.System f) = system_of j s ≡ Err (system_refusal f)
-HasNoEngine j s (engine.Kernel r) = OfSlope j s (λ code. IsRefused j code r)
 HasNoEngine j s engine.ForceRange = OfSlope j s (λ code. PassesRange j code (length s.atoms))
 
 -- ---- steps
@@ -69,7 +73,16 @@ pub record Went (direction : Direction) (n : ℕ) (before after : EngineView) : 
   pub counted : counter_after direction before.state.step n ≡ Some counter
   pub moved : after ≡ record before { state = moved_state before.state frames' counter }
 
--- where the counter would leave 64 bits nothing is done; where an allocation is refused, as many steps as are told are made, and not the last (none of none)
+-- frames that the first of n steps lead to, as many as are done; the counter after all of them fits
+pub record AreReached (direction : Direction) (n done : ℕ) (e : EngineView) (reached : Frames) : Type 0 where
+  pub previous : length reached.previous ≡ length e.state.atoms
+  pub current : length reached.current ≡ length e.state.atoms
+  pub fits : is_none (counter_after direction e.state.step n) ≡ false
+  pub few : done ≤ n
+  pub stepped : steps_in direction (engine_dynamics e) done (frames_of e.state) ≡ Some reached
+
+-- where the counter would leave 64 bits nothing is done; where an allocation is refused, as many steps as are told are
+-- made, and not the last (none of none)
 abbrev pub Stopped : Direction → ℕ → EngineView → EngineView → StepFault → Type 0
 Stopped direction n before after step.StepRange = (counter_after direction before.state.step n ≡ None) × (after ≡ before)
 Stopped direction n before after (step.Memory done) = (done ≤ n - 1) × Went direction done before after
@@ -79,7 +92,8 @@ abbrev pub StopsEarly : Direction → ℕ → EngineView → StepFault → Type 
 StopsEarly direction n e step.StepRange = counter_after direction e.state.step n ≡ None
 StopsEarly direction n e (step.Memory done) = done ≤ n - 1
 
--- why the text of the state behind n steps is not written, and what the output is left with: where all steps were made, a beginning of the text
+-- why the text of the state behind n steps is not written, and what the output is left with: where all steps were made,
+-- a beginning of the text
 abbrev pub IsStateUnwritten : {A : Type 0} → Direction → ℕ → (from to : EngineView) → (before after : Output) → RunFault A → Type 0
 IsStateUnwritten direction n from to before after (run.Open failure) = ⊥
 IsStateUnwritten direction n from to before after (run.Steps f) = StopsEarly direction n from f × (after ≡ before)
@@ -99,7 +113,8 @@ pub record OfTexts (job state : List ℕ) (holds : JobValue → StateView → Ty
 abbrev pub IsEngineOfTexts : List ℕ → List ℕ → EngineView → Type 0
 IsEngineOfTexts job state e = OfTexts job state (λ j s. IsEngineOf j s e)
 
--- both are read, and the code of the energy's slope is certified for the atoms of the state: wherever they come to, none of its instructions goes wrong, and no pair takes more of them than the certified number
+-- both are read, and the code of the energy's slope is certified for the atoms of the state: wherever they come to,
+-- none of its instructions goes wrong, and no pair takes more of them than the certified number
 abbrev pub AreSafe : List ℕ → List ℕ → Type 0
 AreSafe job state = OfTexts job state (λ j s. OfSlope j s (λ code. IsSafeFor j code (length s.atoms)))
 
@@ -118,12 +133,14 @@ HasNoEngineOfTexts job state (opened.Job f) = reading_of limits job ≡ Err (job
 HasNoEngineOfTexts job state (opened.State f) = (j : JobValue) × (reading_of limits job ≡ Ok j) × (state_of state ≡ Err f)
 HasNoEngineOfTexts job state (opened.Engine f) = OfTexts job state (λ j s. HasNoEngine j s f)
 
--- why steps of the engine of texts stop: the counter would leave 64 bits, or memory ran out after some of them, and not after the last
+-- why steps of the engine of texts stop: the counter would leave 64 bits, or memory ran out after some of them, and not
+-- after the last
 abbrev pub AreStopped : List ℕ → List ℕ → Direction → ℕ → StepFault → Type 0
 AreStopped job state direction steps step.StepRange = (start_of_run plain job state direction steps ≡ Err step_range) × AreSafe job state
 AreStopped job state direction steps (step.Memory done) = (done ≤ steps - 1) × AreSafe job state
 
--- why the text of a run was not written, and what the output is left with: only a failed output is left with a beginning of the text
+-- why the text of a run was not written, and what the output is left with: only a failed output is left with a
+-- beginning of the text
 abbrev pub IsRunUnwritten : {A : Type 0} → List ℕ → List ℕ → Direction → ℕ → Output → Output → RunFault A → Type 0
 IsRunUnwritten job state direction steps before after (run.Open failure) = IfRefused failure (HasNoEngineOfTexts job state) × (after ≡ before)
 IsRunUnwritten job state direction steps before after (run.Steps f) = AreStopped job state direction steps f × (after ≡ before)

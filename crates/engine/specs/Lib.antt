@@ -1,5 +1,5 @@
-pub mod SafeKernels
-pub mod Verdicts
+pub mod SafeSystems
+pub mod Ranges
 pub mod Engines
 pub mod Headline
 pub mod EngineSteps

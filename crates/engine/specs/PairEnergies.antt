@@ -1,22 +1,16 @@
 -- The energy of a frame: the exact sum over all pairs that act, also where both atoms are at one place.
-use Rattle.std.specs.Prelude.{◌≡◌, ℕ, ℤ, pos, ◌+ℤ◌, List, [], ◌∷◌, length, Option, Some, None, Result, Ok, Err, option_map}
+use Rattle.std.specs.Prelude.{◌≡◌, ℕ, ℤ, pos, ◌+ℤ◌, List, [], ◌∷◌, length, Option, Some, None, option_map}
 use Rattle.fixed.specs.Fractions.{bits_of}
-use Rattle.energy_program.specs.Programs.{Trees}
 use Rattle.energy_program.specs.Value.{value_of}
-use Rattle.energy_program.specs.Faults as energy
-use Rattle.kernel_code.specs.declared.instructions.Instr.{Instr}
-use Rattle.kernel_compiler.specs.Code.{compiled}
 use Rattle.ring_box.specs.Forces.{acting_distance_of}
-use Rattle.integrator.specs.Energies.{job_program, job_tree}
+use Rattle.potential.specs.Energies.{job_tree}
+use Rattle.potential.specs.EnergyKernels.{HasNoEnergyKernel}
 use Rattle.engine.specs.Engines.{EngineView, engine_dynamics, IsEngineOfTexts}
 use Rattle.integrator.specs.Forces.{pairs_of}
 use Rattle.integrator.specs.Frames.{Dynamics, Frame, places_of}
 use Rattle.integrator.specs.Starts.{pair_inputs}
 use Rattle.integrator.specs.States.{current_frame}
-use Rattle.engine.specs.Verdicts.{IsRefused}
-use Rattle.engine.specs.declared.faults.EnergyFault.{EnergyFault}
-use Rattle.engine.specs.declared.faults.EnergyFault.TheVariants as fault
-use Rattle.engine.specs.declared.kernel_refusals.KernelRefusal.{KernelRefusal}
+use Rattle.potential.specs.declared.faults.EnergyFault.{EnergyFault}
 
 -- the energy at the distance at which a pair acts, and 0 where it doesn't
 abbrev pub energy_at : (ℤ → Option ℤ) → Option ℤ → Option ℤ
@@ -44,25 +38,12 @@ abbrev pub engine_value : EngineView → ℕ × ℕ → ℤ → Option ℤ
 engine_value e p r = value_of (bits_of e.job.frac) (pair_inputs e.job e.types p r) (job_tree e.job)
 
 -- the energy of its current frame, in 2^-bits kJ/mol
-abbrev pub IsEnergy : EngineView → ℤ → Type 0
-IsEnergy e z = energy_sum (pair_energy (engine_dynamics e) (engine_value e) (current_frame e.state.atoms)) (pairs_of (length e.state.atoms)) ≡ Some z
-
--- a statement on the code of its energy: that of the program of its job's text
-pub record OfEnergy (e : EngineView) (holds : Result (List Instr) energy.Refusal → Type 0) : Type 0 where
-  pub program : Trees
-  pub its : job_program e.job ≡ Ok program
-  pub it : holds (compiled (bits_of e.job.frac) program.0 program.1)
-
--- the code is refused so
-pub record IsCodeRefused (e : EngineView) (compiled' : Result (List Instr) energy.Refusal) (r : KernelRefusal) : Type 0 where
-  pub code : List Instr
-  pub is : compiled' ≡ Ok code
-  pub why : IsRefused e.job code r
+abbrev pub IsEnergyOfEngine : EngineView → ℤ → Type 0
+IsEnergyOfEngine e z = energy_sum (pair_energy (engine_dynamics e) (engine_value e) (current_frame e.state.atoms)) (pairs_of (length e.state.atoms)) ≡ Some z
 
 -- why it isn't told: the code would be too large, or the verifier refuses it
 abbrev pub HasNoEnergy : {A : Type 0} → EngineView → EnergyFault A → Type 0
-HasNoEnergy e (fault.Energy f) = OfEnergy e (λ c. c ≡ Err (energy.refusal_of f))
-HasNoEnergy e (fault.Kernel r) = OfEnergy e (λ c. IsCodeRefused e c r)
+HasNoEnergy e f = HasNoEnergyKernel e.job f
 
 -- ---- from bytes
 
@@ -70,7 +51,7 @@ HasNoEnergy e (fault.Kernel r) = OfEnergy e (λ c. IsCodeRefused e c r)
 pub record IsEnergyOfTexts (job state : List ℕ) (z : ℤ) : Type 0 where
   pub engine : EngineView
   pub opens : IsEngineOfTexts job state engine
-  pub is : IsEnergy engine z
+  pub is : IsEnergyOfEngine engine z
 
 -- an engine of these texts doesn't tell it
 pub record HasNoEnergyOfTexts {A : Type 0} (job state : List ℕ) (f : EnergyFault A) : Type 0 where

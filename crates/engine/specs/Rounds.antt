@@ -10,14 +10,15 @@ use Rattle.tile_round.specs.declared.work.PairAdd.{PairAdd}
 use Rattle.integrator.specs.Forces.{numbers_from}
 use Rattle.integrator.specs.Frames.{Frame, frame_forces, places_of}
 use Rattle.integrator.specs.declared.systems.System.{System}
-use Rattle.engine.specs.SafeKernels.{minus, potential_of, safe_dynamics, slope_at}
-use Rattle.engine.specs.declared.safe_kernels.SafeKernel.{SafeKernel}
+use Rattle.potential.specs.Potentials.{minus, potential_of, slope_at}
+use Rattle.engine.specs.SafeSystems.{safe_dynamics}
+use Rattle.potential.specs.declared.slope_kernels.SlopeKernel.{SlopeKernel}
 
 -- the force of a pair of atoms, as it is added
 abbrev pub pair_add : ℕ → ℕ → Force ℤ → PairAdd
 pair_add low high f = record { low = low; high = high; force = f.x ∷ f.y ∷ f.z ∷ [] }
 
-module _ {A : Type 0} (s : System (SafeKernel A) A) where
+module _ {A : Type 0} (s : System (SlopeKernel A) A) where
   -- into how many cells each side is cut
   abbrev pub grid_of : CellBits
   grid_of = cell_bits_of s.frac s.ring s.cutoff
@@ -44,5 +45,5 @@ abbrev pub forces_from : List ℤ → ℕ → List (Force ℤ)
 forces_from sums n = map (forces_in sums) (numbers_from 0 n)
 
 -- the sums are the forces on the atoms of the frame
-abbrev pub AreForces : {A : Type 0} → System (SafeKernel A) A → Frame → List ℤ → Type 0
+abbrev pub AreForces : {A : Type 0} → System (SlopeKernel A) A → Frame → List ℤ → Type 0
 AreForces s frame sums = (length sums ≡ 3 * length frame) × (frame_forces (safe_dynamics s) frame ≡ Some (forces_from sums (length frame)))

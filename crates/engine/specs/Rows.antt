@@ -1,4 +1,5 @@
--- Pairs that act, in rows: first what their atoms have between them, then the slopes of their energies, then what they add.
+-- Pairs that act, in rows: first what their atoms have between them, then the slopes of their energies, then what they
+-- add.
 use Rattle.std.specs.Prelude.{ℕ, ◌<◌, ◌≤◌, ℤ, ◌≤ℤ◌, ◌<ℤ◌, ◌≡◌, ◌^◌, List, [], ◌++◌, length, map, neg_ℤ, pos, take, unsigned_abs, Option, option_map, slice_index, slice_index_or}
 use Rattle.cell_tiles.specs.Tiles.{tile_pairs}
 use Rattle.kernel_lanes.specs.declared.asks.Ask.{Ask}
@@ -9,11 +10,11 @@ use Rattle.tile_round.specs.declared.work.PairAdd.{PairAdd}
 use Rattle.integrator.specs.Frames.{Frame, places_of}
 use Rattle.integrator.specs.declared.systems.System.{System}
 use Rattle.engine.specs.Rounds.{grid_of, pair_add}
-use Rattle.engine.specs.SafeKernels.{minus, potential_of, slope_at}
+use Rattle.potential.specs.Potentials.{minus, potential_of, slope_at}
 use Rattle.engine.specs.declared.rows.FoundPair.{FoundPair}
-use Rattle.engine.specs.declared.safe_kernels.SafeKernel.{SafeKernel}
+use Rattle.potential.specs.declared.slope_kernels.SlopeKernel.{SlopeKernel}
 
-module _ {A : Type 0} (s : System (SafeKernel A) A) where
+module _ {A : Type 0} (s : System (SlopeKernel A) A) where
   -- forces are taken at these distances
   abbrev pub reach_of : Reach
   reach_of = record { frac = s.frac; core = s.core; cutoff = s.cutoff }

@@ -8,15 +8,15 @@ use Rattle.kernel_lanes.specs.Flats.{ask_at}
 use Rattle.kernel_lanes.specs.declared.asks.Ask.{Ask}
 use Rattle.integrator.specs.Forces.{pairs_of}
 use Rattle.integrator.specs.Frames.{Frame}
-use Rattle.integrator.specs.Kernels.{is_small}
+use Rattle.potential.specs.Magnitudes.{is_small}
 use Rattle.engine.specs.PairEnergies.{energy_sum, pair_energy}
 use Rattle.engine.specs.Rows.{ask_of}
-use Rattle.engine.specs.SafeKernels.{safe_dynamics}
+use Rattle.engine.specs.SafeSystems.{safe_dynamics}
 use Rattle.engine.specs.declared.rows.FoundPair.{FoundPair}
-use Rattle.engine.specs.declared.safe_kernels.SafeKernel.{SafeKernel}
+use Rattle.potential.specs.declared.slope_kernels.SlopeKernel.{SlopeKernel}
 use Rattle.integrator.specs.declared.systems.System.{System}
 
-module _ {A : Type 0} (s : System (SafeKernel A) A) where
+module _ {A : Type 0} (s : System (SlopeKernel A) A) where
   abbrev pub energy_at_types : ℕ → ℕ → ℤ → Option ℤ
   energy_at_types a b r = value_of (bits_of s.kernel.verified.table.frac) (inputs_of s.kernel.verified.table a b r) (program_tree s.kernel.energy)
 
@@ -24,8 +24,8 @@ module _ {A : Type 0} (s : System (SafeKernel A) A) where
   safe_value p r = energy_at_types (slice_index s.types.items p.0) (slice_index s.types.items p.1) r
 
   -- any two types have an energy at each distance at which atoms act
-  abbrev pub HasEnergies : Type 0
-  HasEnergies = (a b : ℕ) (r : ℤ) → a < length s.kernel.verified.table.rows → b < length s.kernel.verified.table.rows → s.core ≤ℤ r → r <ℤ s.cutoff → is_small (2 ^ 64) (energy_at_types a b r) ≡ true
+  abbrev pub AllHaveEnergies : Type 0
+  AllHaveEnergies = (a b : ℕ) (r : ℤ) → a < length s.kernel.verified.table.rows → b < length s.kernel.verified.table.rows → s.core ≤ℤ r → r <ℤ s.cutoff → is_small (2 ^ 64) (energy_at_types a b r) ≡ true
 
   -- v is the energy that is asked for
   abbrev pub IsEnergyFor : Ask → ℤ → Type 0

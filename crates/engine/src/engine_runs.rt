@@ -4,17 +4,16 @@ ghost use Rattle.std.specs.Prelude.{◌<◌, ◌≤◌, ◌-◌, ◌^◌, IfOk, 
 ghost use Rattle.fallible.specs.Failures.{IfRefused};
 ghost use Rattle.fallible.specs.Out.{Appends};
 ghost use Rattle.state.specs.StateText.{state_text};
-ghost use Rattle.engine.specs.Engines.{AreSafe, HasNoEngineOfTexts, IsEngineOfTexts, IsRunUnwritten, IsStateUnwritten, Wants, Went};
+ghost use Rattle.engine.specs.Engines.{AreSafe, HasNoEngineOfTexts, IsEngineOfTexts, IsRunUnwritten, IsStateUnwritten, Wants, Went, AreReadOnce};
 ghost use Rattle.integrator.specs.Frames.{opposite};
 ghost use Rattle.integrator.specs.Runs.{IsRun, Wrote};
 ghost use Rattle.integrator.specs.Starts.{plain};
-ghost use Rattle.engine.specs.Engines.{AreReadOnce};
 ghost use Rattle.engine.specs.Headline.{IsLevesqueVerletRun, WroteLevesqueVerletRun};
 
 use crate::engines::Engine;
 use crate::faults::{OpenFault, RunFault};
 use fallible::{Failure, Out};
-use integrator::Direction;
+use integrator::{Direction, Workers};
 use job::Job;
 use state::State;
 use std::alloc::Allocator;
@@ -44,18 +43,20 @@ pub fn open<A: Allocator + Copy>(
     }
 }
 
-/// Runs a state n steps in a direction, by `workers` workers, and writes the new state.
+/// Runs a state n steps in a direction, by so many workers, and writes the new state.
 ///
-/// `job` and `state` are the bytes of a job and a state file, `steps` at most 1,000,000,000,000, `workers` 1 to 64, the
-/// first of them the caller's thread. For every job and state that are accepted, all numbers of steps and of workers and every order of
-/// the workers' claims and additions, the frames are those of n Levesque-Verlet steps (J. Stat. Phys. 72, 519, 1993) with the
-/// energy's slope as written and exact sums over all pairs; and the same number of steps the other way over the written bytes gives
-/// the starting bytes again. The slope's code is accepted by the verifier (`Engine::new`), so that none of its instructions faults and
-/// each pair takes at most the certified steps (`kernel_lanes::run_lanes`, `lane_paths::run_paths`): a fault of a kernel is no refusal here.
+/// `job` and `state` are the bytes of a job and a state file, `steps` at most 1,000,000,000,000. For every job and
+/// state that are accepted, all numbers of steps and of workers and every order of the workers' claims and additions,
+/// the frames are those of n Levesque-Verlet steps (J. Stat. Phys. 72, 519, 1993) with the energy's slope as written
+/// and exact sums over all pairs; and the same number of steps the other way over the written bytes gives the starting
+/// bytes again. The slope's code is accepted by the verifier (`Engine::new`), so that none of its instructions faults
+/// and each pair takes at most the certified steps (`potential::LaneKernel::values`): a fault of a kernel is no refusal
+/// here.
 ///
-/// The refusals come in this order: `Open` with those of the job, of the state and of `Engine::new`, or where an allocation was refused
-/// before there was an engine; `Steps` where the counter would leave an i64, or an allocation was refused after some of the steps. Nothing
-/// is written then. `Out` comes only where a write failed, after a beginning of the new state's text.
+/// The refusals come in this order: `Open` with those of the job, of the state and of `Engine::new`, or where an
+/// allocation was refused before there was an engine; `Steps` where the counter would leave an i64, or an allocation
+/// was refused after some of the steps. Nothing is written then. `Out` comes only where a write failed, after a
+/// beginning of the new state's text.
 pub fn run_bytes<R: Threads + Sync, A: Allocator + Copy + Send + Sync, O: Out>(
     rt: &R,
     alloc: A,
@@ -63,11 +64,9 @@ pub fn run_bytes<R: Threads + Sync, A: Allocator + Copy + Send + Sync, O: Out>(
     state: &[u8],
     steps: u64,
     direction: Direction,
-    workers: u32,
+    workers: Workers,
     out: &mut O,
 ) -> Result<(), RunFault<A>>
-    requires some { 0 < workers }
-    requires few { workers ≤ 64 }
     requires count { (O.output out.old).failed < 2 ^ 64 - 1 }
     // No instruction of the slope's code goes wrong, and no pair takes more of them than the certified number.
     ensures safe { OnOk result (AreSafe job.now state.now) }
@@ -77,7 +76,8 @@ pub fn run_bytes<R: Threads + Sync, A: Allocator + Copy + Send + Sync, O: Out>(
     ensures ran { OnOk result (Wrote plain job.now state.now direction steps (O.output out.old) (O.output out.new)) }
     // Why it is not: only a failed output is left with a beginning of it.
     ensures refused { IfErr result (IsRunUnwritten job.now state.now direction steps (O.output out.old) (O.output out.new)) }
-    // Where there is such a text and the code is accepted, no other refusal is left but out of memory and a failed output.
+    // Where there is such a text and the code is accepted, no other refusal is left but out of memory and a failed
+    // output.
     ensures only { (text : List ℕ) → IsRun plain job.now state.now direction steps text → AreSafe job.now state.now → IfErr result Wants }
     // n steps the other way over the written text give the starting text.
     ensures told_back { (text : List ℕ) → IsLevesqueVerletRun job.now state.now direction steps text → IsLevesqueVerletRun job.now text (opposite direction) steps state.now }
@@ -95,11 +95,9 @@ fn run<R: Threads + Sync, A: Allocator + Copy + Send + Sync, O: Out>(
     engine: &mut Engine<A>,
     steps: u64,
     direction: Direction,
-    workers: u32,
+    workers: Workers,
     out: &mut O,
 ) -> Result<(), RunFault<A>>
-    requires some { 0 < workers }
-    requires few { workers ≤ 64 }
     requires count { (O.output out.old).failed < 2 ^ 64 - 1 }
     ensures wrote { OnOk result (Went direction steps engine.old engine.new × Appends (O.output out.old) (O.output out.new) (state_text engine.new.state)) }
     ensures unwritten { IfErr result (IsStateUnwritten direction steps engine.old engine.new (O.output out.old) (O.output out.new)) }

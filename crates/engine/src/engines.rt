@@ -1,41 +1,41 @@
 //! Engines: a job and a state, with a slope that the verifier accepts.
 
-ghost use Rattle.std.specs.Prelude.{◌≡◌, ◌<◌, ◌≤◌, ◌-◌, ◌*◌, ◌^◌, nat_lt, length, map, Ok, Some, is_none, false, true, IfOk, IfErr};
+ghost use Rattle.std.specs.Prelude.{◌≡◌, ◌<◌, ◌-◌, ◌*◌, ◌^◌, nat_lt, length, map, Ok, Some, true, IfOk, IfErr};
 ghost use Rattle.std.specs.List.{All};
 ghost use Rattle.energy_program.specs.Programs.{program_tree, trees_of};
 ghost use Rattle.fallible.specs.Failures.{IfRefused};
 ghost use Rattle.job.specs.Views.{job_value, type_value};
-ghost use Rattle.integrator.specs.Energies.{job_program, job_tree};
+ghost use Rattle.potential.specs.Energies.{job_program, job_tree};
 ghost use Rattle.ring_box.specs.Cells.{has_room};
 ghost use Rattle.state.specs.StateViews.{state_view};
-ghost use Rattle.engine.specs.Engines.{engine_dynamics, HasNoEngine, IsEngineOf, SaysOnly, Stopped, Went};
+ghost use Rattle.engine.specs.Engines.{AreReached, HasNoEngine, IsEngineOf, SaysOnly, Stopped, Went};
 ghost use Rattle.engine.specs.EngineViews.{IsEngine, engine_view};
-ghost use Rattle.engine.specs.PairEnergies.{HasNoEnergy, IsEnergy};
-ghost use Rattle.integrator.specs.Frames.{frames, steps_in};
-ghost use Rattle.integrator.specs.Starts.{mass_of, table_of};
-ghost use Rattle.integrator.specs.States.{counter_after, frames_of};
+ghost use Rattle.engine.specs.PairEnergies.{HasNoEnergy, IsEnergyOfEngine};
+ghost use Rattle.integrator.specs.Frames.{frames};
+ghost use Rattle.integrator.specs.Starts.{mass_of};
+ghost use Rattle.potential.specs.Verdicts.{IsUnder};
+ghost use Rattle.integrator.specs.States.{counter_after};
 ghost use Rattle.integrator.specs.declared.direction.Direction.TheVariants.{Back, Forward};
 
-use crate::faults::{EnergyFault, EngineFault};
+use crate::faults::EngineFault;
 use crate::frame_sums::{Desk, Tiling};
 use crate::pools::{Crew, NoGate, Pool};
 use crate::rows::Scratch;
-use crate::safe_kernels::SafeKernel;
 use crate::safe_systems::SafeSystem;
-use crate::verdicts::{safe_kernel, verified_energy};
 use fallible::Failure;
 use integrator::{
-    Direction, Ready, StepFault, Stepped, System, TypedAtoms, advance, counter_after, ready,
+    Direction, StepFault, Stepped, System, TypedAtoms, Workers, advance, counter_after, typed_atoms,
 };
 use job::{Job, TimeStep};
+use potential::{EnergyFault, SlopeKernel, energy_kernel, job_slope};
 use state::State;
 use std::alloc::Allocator;
 use std::marker::Model;
 use std::thread::Threads;
 use tile_pool::Gate;
 
-/// A job and a state that can be run with no fault but a refused allocation and the end of the step counter: for every two
-/// types of atoms, and at each distance at which two atoms act, the code of the energy's slope gives that slope.
+/// A job and a state that can be run with no fault but a refused allocation and the end of the step counter: for every
+/// two types of atoms, and at each distance at which two atoms act, the code of the energy's slope gives that slope.
 #[derive(Drop)]
 pub struct Engine<A: Allocator + Copy> {
     alloc: A,
@@ -61,7 +61,7 @@ impl<A: Allocator + Copy> Model for Engine<A> {
 }
 
 /// Whether no force on an atom of the state can pass 64 bits, where the slopes are this kernel's.
-fn fits<A: Allocator>(kernel: &SafeKernel<A>, state: &State<A>) -> bool
+fn fits<A: Allocator>(kernel: &SlopeKernel<A>, state: &State<A>) -> bool
     ensures { result ≡ nat_lt (kernel.now.verified.bound * (length state.now.atoms.items - 1)) (2 ^ 63) }
 {
     let others = state.atoms.len().saturating_sub(1);
@@ -72,16 +72,14 @@ fn fits<A: Allocator>(kernel: &SafeKernel<A>, state: &State<A>) -> bool
 fn motion<A: Allocator>(
     job: &Job<A>,
     state: &State<A>,
-    kernel: SafeKernel<A>,
+    kernel: SlopeKernel<A>,
     atoms: TypedAtoms<A>,
 ) -> SafeSystem<A>
     requires energy { program_tree kernel.energy ≡ job_tree (job_value job.now) }
     requires program { job_program (job_value job.now) ≡ Ok (trees_of kernel.energy) }
     requires parameters { kernel.energy.parameters ≡ length job.now.parameters.items }
     requires globals { kernel.energy.globals ≡ length job.now.globals.items }
-    requires table { kernel.verified.table ≡ table_of (job_value job.now) }
-    requires core { kernel.verified.core ≡ job.now.core }
-    requires cutoff { kernel.verified.cutoff ≡ job.now.cutoff }
+    requires under { IsUnder (job_value job.now) kernel.verified }
     requires known { All (λ k. k < length job.now.types.items) atoms.types.items }
     requires masses { atoms.masses.items ≡ map (mass_of (map type_value job.now.types.items)) atoms.types.items }
     requires count { length atoms.types.items ≡ length state.now.atoms.items }
@@ -103,7 +101,8 @@ fn motion<A: Allocator>(
     SafeSystem { system }
 }
 
-/// The system of a state's atoms under a job, or the engine's fault: `ForceRange` where a force on one of them might not fit 64 bits.
+/// The system of a state's atoms under a job, or the engine's fault: `ForceRange` where a force on one of them might
+/// not fit 64 bits.
 fn job_motion<A: Allocator + Copy>(
     alloc: A,
     job: &Job<A>,
@@ -114,11 +113,15 @@ fn job_motion<A: Allocator + Copy>(
     ensures of { IfOk result (λ m. IsEngineOf (job_value job.now) (state_view state.now) (engine_view job.now state.now m.system)) }
     ensures refused { IfErr result (λ failure. IfRefused failure (HasNoEngine (job_value job.now) (state_view state.now))) }
 {
-    let Ready { parts, atoms } = match ready(alloc, job, state) {
-        Ok(ready) => ready,
+    let parts = match job_slope(alloc, job) {
+        Ok(parts) => parts,
+        Err(failure) => return Err(EngineFault::of_energy(failure)),
+    };
+    let atoms = match typed_atoms(alloc, job, state) {
+        Ok(atoms) => atoms,
         Err(failure) => return Err(EngineFault::of_system(failure)),
     };
-    match safe_kernel(alloc, job, parts) {
+    match SlopeKernel::new(alloc, job, parts) {
         Ok(kernel) => {
             if fits(&kernel, state) {
                 Ok(motion(job, state, kernel, atoms))
@@ -134,10 +137,10 @@ impl<A: Allocator + Copy> Engine<A> {
     /// The engine of a job and a state.
     ///
     /// The refusals come in this order: those of the energy, of its slope and of its code; `BitsDiffer` where the
-    /// job's numbers and the state's have not as many bits behind the point; `UnknownType` for the lowest atom whose name
-    /// no type has; `CutoffTooLong` where some side is shorter than two cutoffs; `Kernel` where the
-    /// verifier refuses the code of the slope; `ForceRange` where the greatest slope that it found, times one less than
-    /// the number of atoms, is 2^63 or more. `Memory`: an allocation was refused.
+    /// job's numbers and the state's have not as many bits behind the point; `UnknownType` for the lowest atom whose
+    /// name no type has; `CutoffTooLong` where some side is shorter than two cutoffs; `Kernel` where the verifier
+    /// refuses the code of the slope; `ForceRange` where the greatest slope that it found, times one less than the
+    /// number of atoms, is 2^63 or more. `Memory`: an allocation was refused.
     pub fn new(alloc: A, job: Job<A>, state: State<A>) -> Result<Engine<A>, Failure<EngineFault<A>>>
         ensures engine { IfOk result (IsEngineOf (job_value job) (state_view state)) }
         ensures says { IfOk result (λ _. SaysOnly (job_value job) (job_tree (job_value job))) }
@@ -175,12 +178,12 @@ impl<A: Allocator + Copy> Engine<A> {
     /// `Energy` where the code of the energy itself would be too large, `Kernel` where the verifier refuses it, though
     /// it accepts that of the slope. `Memory`: an allocation was refused.
     pub fn energy(&self) -> Result<i128, Failure<EnergyFault<A>>>
-        ensures value { IfOk result (IsEnergy self.now) }
+        ensures value { IfOk result (IsEnergyOfEngine self.now) }
         ensures refused { IfErr result (λ failure. IfRefused failure (HasNoEnergy self.now)) }
     {
         let program = &self.motion.system.kernel.energy;
-        match verified_energy(self.alloc, &self.job, program) {
-            Ok(verified) => match self.motion.energy(self.alloc, verified, &self.state.atoms) {
+        match energy_kernel(self.alloc, &self.job, program) {
+            Ok(kernel) => match self.motion.energy(self.alloc, kernel, &self.state.atoms) {
                 Ok(sum) => Ok(sum),
                 Err(_) => Err(Failure::Memory),
             },
@@ -196,11 +199,7 @@ impl<A: Allocator + Copy> Engine<A> {
         done: u64,
         stepped: &Stepped<A>,
     ) -> Result<(), StepFault>
-        requires previous { length stepped.now.previous.items ≡ length self.old.state.atoms }
-        requires current { length stepped.now.current.items ≡ length self.old.state.atoms }
-        requires fits { is_none (counter_after direction self.old.state.step steps) ≡ false }
-        requires few { done ≤ steps }
-        requires stepped { steps_in direction (engine_dynamics self.old) done (frames_of self.old.state) ≡ Some (frames stepped.now.previous.items stepped.now.current.items) }
+        requires { AreReached direction steps done self.old (frames stepped.now.previous.items stepped.now.current.items) }
         ensures went { IfOk result (λ _. Went direction steps self.old self.new) }
         ensures stopped { IfErr result (Stopped direction steps self.old self.new) }
     {
@@ -235,8 +234,8 @@ impl<A: Allocator + Copy> Engine<A> {
     /// n steps forward, on one thread, at most 1,000,000,000,000: Levesque and Verlet's (J. Stat. Phys. 72, 519,
     /// 1993) by the exact sums of the forces of all pairs, with the energy's slope as it is written.
     ///
-    /// `StepRange` exactly where the step counter would leave an i64, and then nothing is done. `Memory` where an allocation
-    /// is refused: the state is that after `done` whole steps.
+    /// `StepRange` exactly where the step counter would leave an i64, and then nothing is done. `Memory` where an
+    /// allocation is refused: the state is that after `done` whole steps.
     pub fn forward_alone(&mut self, steps: u64) -> Result<(), StepFault>
         ensures went { IfOk result (λ _. Went Forward steps self.old self.new) }
         ensures stopped { IfErr result (Stopped Forward steps self.old self.new) }
@@ -254,21 +253,19 @@ impl<A: Allocator + Copy> Engine<A> {
 }
 
 impl<A: Allocator + Copy + Send + Sync> Engine<A> {
-    ghost use Rattle.std.specs.Prelude.{◌<◌, ◌≤◌, IfOk, IfErr};
+    ghost use Rattle.std.specs.Prelude.{◌<◌, IfOk, IfErr};
     ghost use Rattle.engine.specs.Engines.{Stopped, Went};
     ghost use Rattle.integrator.specs.declared.direction.Direction.TheVariants.{Back, Forward};
 
-    /// n steps in a direction by `workers` workers, 1 to 64, of which the caller's thread is the first.
+    /// n steps in a direction by so many workers, of which the caller's thread is the first.
     pub(crate) fn steps_pooled<R: Threads + Sync, G: Gate + Sync>(
         &mut self,
         rt: &R,
         direction: Direction,
         steps: u64,
-        workers: u32,
+        workers: Workers,
         gate: &G,
     ) -> Result<(), StepFault>
-        requires some { 0 < workers }
-        requires few { workers ≤ 64 }
         ensures went { IfOk result (λ _. Went direction steps self.old self.new) }
         ensures stopped { IfErr result (Stopped direction steps self.old self.new) }
     {
@@ -286,38 +283,34 @@ impl<A: Allocator + Copy + Send + Sync> Engine<A> {
         self.arrive(direction, steps, done, &stepped)
     }
 
-    /// n steps in a direction by `workers` workers, 1 to 64, of which the caller's thread is the first: as `forward` and `back`, but that
-    /// workers pass no gate. One worker waits for nobody.
+    /// n steps in a direction by so many workers, of which the caller's thread is the first: as `forward` and `back`,
+    /// but that workers pass no gate. One worker waits for nobody.
     pub fn make_steps<R: Threads + Sync>(
         &mut self,
         rt: &R,
         direction: Direction,
         steps: u64,
-        workers: u32,
+        workers: Workers,
     ) -> Result<(), StepFault>
-        requires some { 0 < workers }
-        requires few { workers ≤ 64 }
         ensures went { IfOk result (λ _. Went direction steps self.old self.new) }
         ensures stopped { IfErr result (Stopped direction steps self.old self.new) }
     {
-        if workers == 1 {
+        if workers.count() == 1 {
             return self.steps_alone(direction, steps);
         }
         self.steps_pooled(rt, direction, steps, workers, &NoGate)
     }
 
-    /// n steps forward by `workers` workers, 1 to 64, of which the caller's thread is the first: the same states and the same
-    /// refusals as `forward_alone`, in whatever order the workers take their tiles and add their forces. A worker passes `gate`
-    /// before each tile that it has drawn. A worker whose thread can't be started is run by the caller's.
+    /// n steps forward by so many workers, of which the caller's thread is the first: the same states and the same
+    /// refusals as `forward_alone`, in whatever order the workers take their tiles and add their forces. A worker
+    /// passes `gate` before each tile that it has drawn. A worker whose thread can't be started is run by the caller's.
     pub fn forward<R: Threads + Sync, G: Gate + Sync>(
         &mut self,
         rt: &R,
         steps: u64,
-        workers: u32,
+        workers: Workers,
         gate: &G,
     ) -> Result<(), StepFault>
-        requires some { 0 < workers }
-        requires few { workers ≤ 64 }
         ensures went { IfOk result (λ _. Went Forward steps self.old self.new) }
         ensures stopped { IfErr result (Stopped Forward steps self.old self.new) }
     {
@@ -329,11 +322,9 @@ impl<A: Allocator + Copy + Send + Sync> Engine<A> {
         &mut self,
         rt: &R,
         steps: u64,
-        workers: u32,
+        workers: Workers,
         gate: &G,
     ) -> Result<(), StepFault>
-        requires some { 0 < workers }
-        requires few { workers ≤ 64 }
         ensures went { IfOk result (λ _. Went Back steps self.old self.new) }
         ensures stopped { IfErr result (Stopped Back steps self.old self.new) }
     {

@@ -2,41 +2,30 @@
 
 ghost use Rattle.std.specs.Prelude.{◌≡◌};
 ghost use Rattle.fallible.specs.Failures.{refused_as};
-ghost use Rattle.engine.specs.declared.faults.EnergyFault.TheVariants as energy;
+ghost use Rattle.potential.specs.declared.faults.EnergyFault.TheVariants as energy;
 ghost use Rattle.engine.specs.declared.faults.EngineFault.TheVariants as engine;
 ghost use Rattle.engine.specs.declared.faults.OpenFault.TheVariants as opened;
 ghost use Rattle.engine.specs.declared.faults.RunFault.TheVariants as run;
 
-use crate::kernel_refusals::KernelRefusal;
 use energy_program::ExprFault;
 use fallible::{Failure, OutFault};
 use integrator::{StepFault, SystemFault};
 use job::JobFault;
+use potential::{EnergyFault, KernelRefusal};
 use state::StateFault;
 use std::alloc::Allocator;
 use std::fmt;
 use thiserror::Error;
 
-/// Why an energy, or its slope, has no accepted code.
-#[derive(Drop, Error)]
-pub enum EnergyFault<A: Allocator> {
-    /// It has no code: its text is refused, or its slope or its code would be too large.
-    #[error(transparent)]
-    Energy(ExprFault<A>),
-    /// The verifier refuses the code.
-    #[error(transparent)]
-    Kernel(KernelRefusal),
-}
-
 /// Why a job and a state have no engine.
 #[derive(Drop, Error)]
 pub enum EngineFault<A: Allocator> {
+    /// The energy is refused, or the verifier refuses the code of its slope.
+    #[error(transparent)]
+    Energy(EnergyFault<A>),
     /// They have no atoms that can be run.
     #[error(transparent)]
-    System(SystemFault<A>),
-    /// The verifier refuses the code of the slope.
-    #[error(transparent)]
-    Kernel(KernelRefusal),
+    System(SystemFault),
     /// By the greatest slope that the verifier found, the force on an atom might pass 64 bits: with N atoms, N - 1
     /// times that slope is 2^63 or more.
     #[error("A3 ForceRange")]
@@ -57,7 +46,8 @@ pub enum OpenFault<A: Allocator> {
     Engine(EngineFault<A>),
 }
 
-/// Why a run wrote no state, or not all of its frames. Nothing of a state was written then, but for `Out`; of frames, those before.
+/// Why a run wrote no state, or not all of its frames. Nothing of a state was written then, but for `Out`; of frames,
+/// those before.
 #[derive(Drop, Error)]
 pub enum RunFault<A: Allocator> {
     /// The texts have no engine, or memory ran out before there was one.
@@ -69,13 +59,6 @@ pub enum RunFault<A: Allocator> {
     /// The output failed. A beginning of what was to be written was.
     #[error(transparent)]
     Out(OutFault),
-}
-
-/// A fault prints the same either way.
-impl<A: Allocator> fmt::Debug for EnergyFault<A> {
-    fn fmt<W: fmt::Write>(&self, f: &mut fmt::Formatter<W>) -> fmt::Result {
-        fmt::Display::fmt(self, f)
-    }
 }
 
 /// A fault prints the same either way.
@@ -99,45 +82,37 @@ impl<A: Allocator> fmt::Debug for RunFault<A> {
     }
 }
 
-impl<A: Allocator> EnergyFault<A> {
-    /// The failure by what an energy's code is refused for.
-    pub(crate) fn of_energy(failure: Failure<ExprFault<A>>) -> Failure<EnergyFault<A>>
-        ensures { result ≡ refused_as energy.Energy failure }
-    {
-        match failure {
-            Failure::Refused(fault) => Failure::Refused(EnergyFault::Energy(fault)),
-            Failure::Memory => Failure::Memory,
-        }
-    }
-
-    /// The failure by what the verifier refuses code for.
-    pub(crate) fn of_kernel(failure: Failure<KernelRefusal>) -> Failure<EnergyFault<A>>
-        ensures { result ≡ refused_as energy.Kernel failure }
-    {
-        match failure {
-            Failure::Refused(fault) => Failure::Refused(EnergyFault::Kernel(fault)),
-            Failure::Memory => Failure::Memory,
-        }
-    }
-}
-
 impl<A: Allocator> EngineFault<A> {
-    /// The failure by what a job and a state are refused for.
-    pub(crate) fn of_system(failure: Failure<SystemFault<A>>) -> Failure<EngineFault<A>>
-        ensures { result ≡ refused_as engine.System failure }
+    /// The failure by what an energy is refused for.
+    pub(crate) fn of_energy(failure: Failure<ExprFault<A>>) -> Failure<EngineFault<A>>
+        ensures { result ≡ refused_as (λ f. engine.Energy (energy.Energy f)) failure }
     {
         match failure {
-            Failure::Refused(fault) => Failure::Refused(EngineFault::System(fault)),
+            Failure::Refused(fault) => {
+                Failure::Refused(EngineFault::Energy(EnergyFault::Energy(fault)))
+            }
             Failure::Memory => Failure::Memory,
         }
     }
 
     /// The failure by what the verifier refuses code for.
     pub(crate) fn of_kernel(failure: Failure<KernelRefusal>) -> Failure<EngineFault<A>>
-        ensures { result ≡ refused_as engine.Kernel failure }
+        ensures { result ≡ refused_as (λ r. engine.Energy (energy.Kernel r)) failure }
     {
         match failure {
-            Failure::Refused(fault) => Failure::Refused(EngineFault::Kernel(fault)),
+            Failure::Refused(fault) => {
+                Failure::Refused(EngineFault::Energy(EnergyFault::Kernel(fault)))
+            }
+            Failure::Memory => Failure::Memory,
+        }
+    }
+
+    /// The failure by what a job and a state are refused for.
+    pub(crate) fn of_system(failure: Failure<SystemFault>) -> Failure<EngineFault<A>>
+        ensures { result ≡ refused_as engine.System failure }
+    {
+        match failure {
+            Failure::Refused(fault) => Failure::Refused(EngineFault::System(fault)),
             Failure::Memory => Failure::Memory,
         }
     }

@@ -23,7 +23,8 @@ use tile_round::Memory;
 pub(crate) struct Course<'a, A: Allocator + Copy> {
     /// The system whose atoms move.
     pub motion: &'a SafeSystem<A>,
-    /// The frame before `middle` in the direction of the steps: a place of each atom, three whole numbers below 2^32 on the rings of the sides.
+    /// The frame before `middle` in the direction of the steps: a place of each atom, three whole numbers below 2^32 on
+    /// the rings of the sides.
     pub before: Vec<Place3, A>,
     /// The frame whose forces the next step wants, in the same units.
     pub middle: Vec<Place3, A>,
@@ -48,7 +49,7 @@ impl<A: Allocator> SafeSystem<A> {
     ghost use Rattle.std.specs.Prelude.{◌≡◌, ◌*◌, length};
     ghost use Rattle.integrator.specs.Frames.{moved_frame};
     ghost use Rattle.engine.specs.Rounds.{forces_from};
-    ghost use Rattle.engine.specs.SafeKernels.{safe_dynamics};
+    ghost use Rattle.engine.specs.SafeSystems.{safe_dynamics};
 
     /// Makes of the frame `before` the one that follows it and `middle`, where the atoms feel these forces at `middle`.
     fn advance(&self, before: &mut [Place3], middle: &[Place3], sums: &[i64])
@@ -104,7 +105,8 @@ impl<A: Allocator + Copy> SafeSystem<A> {
         }
     }
 
-    /// The same, and a desk, with cells that are kept or new.
+    /// The course of a state's frames in a direction, and a desk, with cells that are kept or new. `AllocError` only
+    /// where memory is refused.
     fn started<S: Drop>(
         &self,
         alloc: A,
@@ -124,8 +126,9 @@ impl<A: Allocator + Copy> SafeSystem<A> {
         Ok((course, desk))
     }
 
-    /// The two frames from which `steps` steps in a direction start, and a desk with this scratch, its cells kept or new: `StepRange` where the
-    /// counter would leave an i64, `Memory` after 0 steps where an allocation is refused, or was for the scratch.
+    /// The two frames from which `steps` steps in a direction start, and a desk with this scratch, its cells kept or
+    /// new: `StepRange` where the counter would leave an i64, `Memory` after 0 steps where an allocation is refused, or
+    /// was for the scratch.
     pub(crate) fn course<S: Drop>(
         &self,
         alloc: A,

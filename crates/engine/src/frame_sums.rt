@@ -21,7 +21,8 @@ pub(crate) struct Tiling<A: Allocator + Copy> {
     pub ghost alike: { cells.bits ≡ tiles.grid.bits },
 }
 
-/// The work space of the sums of forces: the cells of a box, and the scratch of the caller alone or of each of a pool's workers.
+/// The work space of the sums of forces: the cells of a box, and the scratch of the caller alone or of each of a pool's
+/// workers.
 #[derive(Drop)]
 pub(crate) struct Desk<A: Allocator + Copy, S: Drop> {
     pub tiling: Tiling<A>,
@@ -47,7 +48,7 @@ impl<A: Allocator + Copy> SafeSystem<A> {
         Ok(Tiling { tiles, cells })
     }
 
-    /// The same, or those that are kept.
+    /// The tiles and cells that are kept, or new ones. `AllocError` only where memory is refused.
     fn kept_tiling(&self, alloc: A, kept: Option<Tiling<A>>) -> Result<Tiling<A>, AllocError>
         requires { IfSome kept (IsTilingOf self.now.system) }
         ensures { IfOk result (IsTilingOf self.now.system) }
@@ -127,7 +128,8 @@ impl<A: Allocator + Copy + Sync> SafeSystem<A> {
     ghost use Rattle.engine.specs.Rounds.{AreForces};
     ghost use Rattle.engine.specs.Tilings.{IsTilingOf};
 
-    /// The same by a pool's workers: at most one for each scratch, and no more than there are tiles with pairs.
+    /// The sums of the forces on the atoms of a frame by a pool's workers: at most one for each scratch, and no more
+    /// than there are tiles with pairs. `Memory`: an allocation was refused.
     pub(crate) fn sums_pooled<R: Threads + Sync, G: Gate + Sync, B: Allocator + Send>(
         &self,
         alloc: A,

@@ -92,7 +92,8 @@ impl<'a, A: Allocator + Copy> FrameWork<'a, A> {
     }
 }
 
-// The allocators are two, so that the one of the work has only to be shared by threads, and that of what a worker keeps only to go to one.
+// The allocators are two, so that the one of the work has only to be shared by threads, and that of what a worker keeps
+// only to go to one.
 impl<'a, A: Allocator + Copy, B: Allocator> RowWork<Scratch<B>> for FrameWork<'a, A> {
     // Lines and distances are found for a row of pairs, then their slopes, then their forces.
     fn next_adds(

@@ -12,14 +12,16 @@ pub fn steps_return()
     ensures { StepsReturn }
 {}
 
-/// The state that a run writes is safe under its job where the one that it began with is: no instruction of the slope's code goes wrong on the way
-/// on, nor on the way back, and no pair takes more of them than the certified number. So the verifier refuses no text of a run.
+/// The state that a run writes is safe under its job where the one that it began with is: no instruction of the slope's
+/// code goes wrong on the way on, nor on the way back, and no pair takes more of them than the certified number. So the
+/// verifier refuses no text of a run.
 pub fn runs_stay_safe()
     ensures { RunsStaySafe }
 {}
 
-/// The runs of the model and the headline's page are one, for all texts, accepted or not: what a run writes is on the page, which relates no
-/// other text to these; and what is on the page a run writes, where the slope of the job's energy isn't too large for a program and its code.
+/// The runs of the model and the headline's page are one, for all texts, accepted or not: what a run writes is on the
+/// page, which relates no other text to these; and what is on the page a run writes, where the slope of the job's
+/// energy isn't too large for a program and its code.
 pub fn runs_are_told()
     ensures told { RunsAreTold }
     ensures run { ToldAreRun }

@@ -7,6 +7,7 @@ ghost use Rattle.engine.specs.Rounds.{plan_of};
 
 use crate::frame_works::FrameWork;
 use crate::rows::Scratch;
+use integrator::Workers;
 use std::alloc::{AllocError, Allocator};
 use std::thread::Threads;
 use tile_pool::{Forces, Gate, forces};
@@ -30,26 +31,26 @@ pub(crate) struct Crew<A: Allocator> {
 
 impl<A: Allocator + Copy> Crew<A> {
     /// Scratch for this many workers. `AllocError` only where memory is refused.
-    pub(crate) fn new(alloc: A, workers: u32) -> Result<Crew<A>, AllocError>
-        requires some { 0 < workers }
-        requires few { workers ≤ 64 }
-    {
-        let mut scratches = Vec::with_capacity(alloc, workers as usize)?;
-        for _ in 0..workers {
+    pub(crate) fn new(alloc: A, workers: Workers) -> Result<Crew<A>, AllocError> {
+        let count = workers.count();
+        let mut scratches = Vec::with_capacity(alloc, count as usize)?;
+        for _ in 0..count {
             scratches.push(Scratch::new(alloc)?)?;
         }
         Ok(Crew { scratches })
     }
 }
 
-/// The runtime that starts workers, of which the first is the caller's thread, and the gate that each passes before each tile that it has drawn.
+/// The runtime that starts workers, of which the first is the caller's thread, and the gate that each passes before
+/// each tile that it has drawn.
 #[derive(Drop)]
 pub(crate) struct Pool<'a, R, G> {
     pub rt: &'a R,
     pub gate: &'a G,
 }
 
-/// How many tiles have pairs: at least one is told, and no more than `most`. It tells how many workers find something to do.
+/// How many tiles have pairs: at least one is told, and no more than `most`. It tells how many workers find something
+/// to do.
 fn busy_tiles<W: Work>(work: &W, most: usize) -> usize
     requires { 0 < most }
     ensures some { 0 < result }
@@ -68,7 +69,8 @@ fn busy_tiles<W: Work>(work: &W, most: usize) -> usize
 }
 
 impl<'a, R: Threads + Sync, G: Gate + Sync> Pool<'a, R, G> {
-    /// The sums of the forces that a frame's pairs add, by a worker for each scratch, but no more than there are tiles with pairs.
+    /// The sums of the forces that a frame's pairs add, by a worker for each scratch, but no more than there are tiles
+    /// with pairs.
     fn sums_by<A: Allocator + Copy + Sync, B: Allocator + Send>(
         &self,
         alloc: A,
@@ -90,7 +92,7 @@ impl<'a, R: Threads + Sync, G: Gate + Sync> Pool<'a, R, G> {
         )
     }
 
-    /// The same by a crew.
+    /// The sums of the forces that a frame's pairs add, by the workers of a crew. `Memory`: an allocation was refused.
     pub(crate) fn sums<A: Allocator + Copy + Sync, B: Allocator + Send>(
         &self,
         alloc: A,

@@ -6,8 +6,8 @@ ghost use Rattle.ring_box.specs.Acting.{force_of};
 use arrayvec::ArrayVec;
 use cell_tiles::NearPairs;
 use fixed::Fx;
-use kernel_lanes::{Ask, Rows};
-use lane_paths::PathRows;
+use kernel_lanes::Ask;
+use potential::LaneRows;
 use ring_box::ActingPair;
 use std::alloc::{AllocError, Allocator};
 use tile_round::PairAdd;
@@ -45,30 +45,27 @@ fn opposite(slope: Fx) -> Fx
     Fx::from_raw(-slope.raw())
 }
 
-/// The scratch of a worker for a row: pairs that may act, those found that do, their asks, the slopes that answer these, and room for runs
-/// in lanes, of flat code or of code that jumps.
+/// The scratch of a worker for a row: pairs that may act, those found that do, their asks, the slopes that answer
+/// these, and room for runs in lanes.
 #[derive(Drop)]
 pub(crate) struct Scratch<A: Allocator> {
     pub near: NearPairs,
     pub found: ArrayVec<FoundPair, 64>,
     pub asks: ArrayVec<Ask, 64>,
     pub slopes: [Fx; 64],
-    pub lanes: Rows<A>,
-    pub paths: PathRows<A>,
+    pub rows: LaneRows<A>,
 }
 
 impl<A: Allocator + Copy> Scratch<A> {
     /// Room for any code. `AllocError` only where memory is refused.
     pub(crate) fn new(alloc: A) -> Result<Scratch<A>, AllocError> {
-        let lanes = Rows::new(alloc)?;
-        let paths = PathRows::new(alloc)?;
+        let rows = LaneRows::new(alloc)?;
         Ok(Scratch {
             near: NearPairs::new(),
             found: ArrayVec::new(),
             asks: ArrayVec::new(),
             slopes: [Fx::from_raw(0); 64],
-            lanes,
-            paths,
+            rows,
         })
     }
 }

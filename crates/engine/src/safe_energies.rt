@@ -1,45 +1,34 @@
 //! The energy of a frame, by accepted code.
 
-ghost use Rattle.std.specs.Prelude.{◌≡◌, ℕ, ℤ, ◌<◌, ◌≤◌, ◌^◌, ◌*◌, ◌+ℤ◌, unsigned_abs, length, take, option_map, Ok, Some, IfSome};
-ghost use Rattle.fixed.specs.Fractions.{bits_of};
+ghost use Rattle.std.specs.Prelude.{◌≡◌, ◌<◌, ◌≤◌, ◌^◌, ◌*◌, ◌+ℤ◌, unsigned_abs, length, take};
 ghost use Rattle.energy_program.specs.Programs.{program_tree};
-ghost use Rattle.energy_program.specs.Value.{value_of};
-ghost use Rattle.kernel_code.specs.Machine.{Ends};
-ghost use Rattle.kernel_code.specs.Tables.{inputs_of};
-ghost use Rattle.kernel_lanes.specs.Flattening.{IsFlattened};
-ghost use Rattle.kernel_lanes.specs.FreeValues.{AreFreeValues};
+ghost use Rattle.potential.specs.EnergyKernels.{GivesEnergy};
 ghost use Rattle.engine.specs.EnergySums.{sum_over};
-ghost use Rattle.engine.specs.SafeEnergies.{HasEnergies};
+ghost use Rattle.engine.specs.SafeEnergies.{AllHaveEnergies};
 
 use crate::frame_sums::Desk;
 use crate::frame_works::FrameWork;
 use crate::rows::Scratch;
-use crate::safe_kernels::LaneCode;
 use crate::safe_systems::SafeSystem;
-use crate::verdicts::lane_code;
 use fixed::Fx;
 use integrator::current_frame;
-use kernel_lanes::{Ask, Rows, run_lanes};
-use lane_paths::{PathRows, run_paths};
+use kernel_lanes::Ask;
+use potential::{LaneKernel, LaneRows};
 use ring_box::Place3;
 use state::Atom;
 use std::alloc::{AllocError, Allocator};
 use tile_round::Work;
-use verifier::Verified;
 
-/// The accepted code of the energy of a system, whose slope it is that moves the system's atoms; made ready for lanes, if it's flat.
+/// The accepted code of the energy of a system, whose slope it is that moves the system's atoms.
 #[derive(Drop)]
 struct SafeEnergy<'a, A: Allocator> {
     pub motion: &'a SafeSystem<A>,
-    pub verified: Verified<A>,
-    pub lanes: Option<LaneCode<A>>,
-    pub ghost table: { verified.table ≡ motion.now.system.kernel.verified.table },
-    pub ghost core: { verified.core ≡ motion.now.system.core },
-    pub ghost cutoff: { verified.cutoff ≡ motion.now.system.cutoff },
-    pub ghost flattened: { ∥ IsFlattened verified.code (option_map (λ x. x.flat) lanes) ∥₁ },
-    pub ghost free: { ∥ IfSome lanes (λ x. AreFreeValues verified x.flat x.free) ∥₁ },
-    pub ghost given: { HasEnergies motion.now.system },
-    pub ghost gives: { (a b : ℕ) (r : ℤ) (n : ℕ) (v : ℤ) → a < length verified.table.rows → b < length verified.table.rows → Ends (bits_of verified.table.frac) verified.code (inputs_of verified.table a b r) n (Ok v) → value_of (bits_of verified.table.frac) (inputs_of verified.table a b r) (program_tree motion.now.system.kernel.energy) ≡ Some v },
+    pub kernel: LaneKernel<A>,
+    pub ghost table: { kernel.table ≡ motion.now.system.kernel.verified.table },
+    pub ghost core: { kernel.core ≡ motion.now.system.core },
+    pub ghost cutoff: { kernel.cutoff ≡ motion.now.system.cutoff },
+    pub ghost given: { AllHaveEnergies motion.now.system },
+    pub ghost gives: { GivesEnergy (program_tree motion.now.system.kernel.energy) kernel },
 }
 
 fn plus(sum: i128, more: i128) -> i128
@@ -72,77 +61,25 @@ fn sum_of_first(values: &[Fx], n: usize) -> i128
     sum
 }
 
-impl<'a, A: Allocator + Copy> SafeEnergy<'a, A> {
-    ghost use Rattle.std.specs.Prelude.{◌≡◌, ℕ, ℤ, ◌<◌, length, Ok, Some, IfOk};
-    ghost use Rattle.fixed.specs.Fractions.{bits_of};
-    ghost use Rattle.energy_program.specs.Programs.{program_tree};
-    ghost use Rattle.energy_program.specs.Value.{value_of};
-    ghost use Rattle.kernel_code.specs.Machine.{Ends};
-    ghost use Rattle.kernel_code.specs.Tables.{inputs_of};
-
-    /// The energy of a system by accepted code of it, made ready for runs. `AllocError` only where memory is refused.
-    fn new(
-        alloc: A,
-        motion: &'a SafeSystem<A>,
-        verified: Verified<A>,
-    ) -> Result<SafeEnergy<'a, A>, AllocError>
-        requires table { verified.table ≡ motion.now.system.kernel.verified.table }
-        requires core { verified.core ≡ motion.now.system.core }
-        requires cutoff { verified.cutoff ≡ motion.now.system.cutoff }
-        requires gives { (a b : ℕ) (r : ℤ) (n : ℕ) (v : ℤ) → a < length verified.table.rows → b < length verified.table.rows → Ends (bits_of verified.table.frac) verified.code (inputs_of verified.table a b r) n (Ok v) → value_of (bits_of verified.table.frac) (inputs_of verified.table a b r) (program_tree motion.now.system.kernel.energy) ≡ Some v }
-        ensures { IfOk result (λ energy. energy.motion.now ≡ motion.now) }
-    {
-        // neither is wanted but for what is promised of them
-        let _code = verified.code();
-        let _bound = verified.bound();
-        match lane_code(alloc, &verified) {
-            Ok(lanes) => Ok(SafeEnergy {
-                motion,
-                verified,
-                lanes,
-            }),
-            Err(refused) => Err(refused),
-        }
-    }
-}
-
 // ---- the energies of pairs that act
 
 impl<'a, A: Allocator> SafeEnergy<'a, A> {
     ghost use Rattle.std.specs.Prelude.{◌≡◌, ◌*◌, ◌^◌, ◌≤◌, length, unsigned_abs};
     ghost use Rattle.std.specs.List.{All};
-    ghost use Rattle.kernel_lanes.specs.Flats.{IsFlatOf};
-    ghost use Rattle.kernel_lanes.specs.FreeValues.{AreFreeValues};
     ghost use Rattle.kernel_lanes.specs.Lanes.{IsServed};
     ghost use Rattle.engine.specs.EnergySums.{sum_over};
     ghost use Rattle.engine.specs.Rows.{IsFound};
-    ghost use Rattle.engine.specs.SafeEnergies.{AreEnergies, IsEnergyFor, found_energy};
+    ghost use Rattle.engine.specs.SafeEnergies.{AreEnergies, found_energy};
 
-    /// The energies that are asked for, in lanes: by flat code where there is such, else each on the path of its own.
-    fn energies<B: Allocator>(
-        &self,
-        asks: &[Ask],
-        lanes: &mut Rows<B>,
-        paths: &mut PathRows<B>,
-        energies: &mut [Fx],
-    )
+    /// The energies that are asked for.
+    fn energies<B: Allocator>(&self, asks: &[Ask], rows: &mut LaneRows<B>, energies: &mut [Fx])
         requires few { length asks.now ≤ 64 }
         requires room { length asks.now ≤ length energies.old }
-        requires served { All (IsServed self.now.verified) asks.now }
+        requires served { All (IsServed self.now.kernel) asks.now }
         ensures energies { AreEnergies self.now.motion.now.system asks.now energies.new }
         ensures len { length energies.new ≡ length energies.old }
     {
-        match &self.lanes {
-            Some(code) => run_lanes(
-                &self.verified,
-                &code.flat,
-                &code.free,
-                lanes,
-                asks,
-                energies,
-            ),
-            None => run_paths(&self.verified, paths, asks, energies),
-        }
+        self.kernel.values(asks, rows, energies);
     }
 
     /// The energy of the pairs found.
@@ -155,12 +92,11 @@ impl<'a, A: Allocator> SafeEnergy<'a, A> {
             found,
             asks,
             slopes: energies,
-            lanes,
-            paths,
+            rows,
             ..
         } = scratch;
         self.motion.ask_all(found.as_slice(), asks);
-        self.energies(asks.as_slice(), lanes, paths, energies);
+        self.energies(asks.as_slice(), rows, energies);
         sum_of_first(energies, found.len())
     }
 }
@@ -176,7 +112,7 @@ impl<'a, A: Allocator + Copy> SafeEnergy<'a, A> {
     ghost use Rattle.engine.specs.Rounds.{grid_of, plan_of};
     ghost use Rattle.engine.specs.Rows.{tile_at};
     ghost use Rattle.engine.specs.SafeEnergies.{IsEnergyOf, energy_between, safe_value};
-    ghost use Rattle.engine.specs.SafeKernels.{safe_dynamics};
+    ghost use Rattle.engine.specs.SafeSystems.{safe_dynamics};
     ghost use Rattle.engine.specs.Tilings.{IsTilingOf};
 
     /// The energy of the pairs of a tile.
@@ -244,23 +180,28 @@ impl<A: Allocator + Copy> SafeSystem<A> {
     ghost use Rattle.std.specs.Prelude.{◌≡◌, length, map, IfOk};
     ghost use Rattle.energy_program.specs.Programs.{program_tree};
     ghost use Rattle.engine.specs.SafeEnergies.{IsEnergyOf};
-    ghost use Rattle.engine.specs.Verdicts.{GivesEnergy};
+    ghost use Rattle.potential.specs.EnergyKernels.{GivesEnergy, HasEnergies};
 
-    /// The energy of the current frame of these atoms, by accepted code of it, in 2^-bits kJ/mol. `AllocError` only where memory is refused.
+    /// The energy of the current frame of these atoms, by accepted code of it, in 2^-bits kJ/mol. `AllocError` only
+    /// where memory is refused.
     pub(crate) fn energy(
         &self,
         alloc: A,
-        verified: Verified<A>,
+        kernel: LaneKernel<A>,
         atoms: &[Atom],
     ) -> Result<i128, AllocError>
-        requires table { verified.table ≡ self.now.system.kernel.verified.table }
-        requires core { verified.core ≡ self.now.system.core }
-        requires cutoff { verified.cutoff ≡ self.now.system.cutoff }
-        requires gives { GivesEnergy (program_tree self.now.system.kernel.energy) verified }
+        requires table { kernel.table ≡ self.now.system.kernel.verified.table }
+        requires core { kernel.core ≡ self.now.system.core }
+        requires cutoff { kernel.cutoff ≡ self.now.system.cutoff }
+        requires gives { GivesEnergy (program_tree self.now.system.kernel.energy) kernel }
+        requires has { HasEnergies (program_tree self.now.system.kernel.energy) kernel }
         requires atoms { length atoms.now ≡ length self.now.system.types.items }
         ensures { IfOk result (IsEnergyOf self.now.system (map (λ a. a.current) atoms.now)) }
     {
-        let energy = SafeEnergy::new(alloc, self, verified)?;
+        let energy = SafeEnergy {
+            motion: self,
+            kernel,
+        };
         energy.of_atoms(alloc, atoms)
     }
 }

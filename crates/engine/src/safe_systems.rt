@@ -2,17 +2,16 @@
 
 ghost use Rattle.std.specs.Prelude.{◌≡◌, length};
 ghost use Rattle.std.specs.List.{All};
-ghost use Rattle.engine.specs.SafeKernels.{IsAccepted};
+ghost use Rattle.engine.specs.SafeSystems.{IsSafeSystem};
 
 use crate::rows::{FoundPair, Scratch};
-use crate::safe_kernels::{LaneCode, SafeKernel};
 use arrayvec::ArrayVec;
 use cell_tiles::AtomPair;
 use fixed::Fx;
 use integrator::System;
-use kernel_lanes::{Ask, Rows, run_lanes};
-use kernel_machine::{Stack, run};
-use lane_paths::{PathRows, run_paths};
+use kernel_lanes::Ask;
+use kernel_machine::Stack;
+use potential::{LaneRows, SlopeKernel};
 use ring_box::{Place3, Reach};
 use std::alloc::Allocator;
 use tile_round::PairAdd;
@@ -20,8 +19,8 @@ use tile_round::PairAdd;
 /// A system whose slope is accepted for its atoms and distances, in a box with room for two cutoffs along each side.
 #[derive(Drop)]
 pub(crate) struct SafeSystem<A: Allocator> {
-    pub system: System<SafeKernel<A>, A>,
-    pub ghost accepted: { IsAccepted system },
+    pub system: System<SlopeKernel<A>, A>,
+    pub ghost accepted: { IsSafeSystem system },
 }
 
 // ---- what two atoms have between them
@@ -90,10 +89,8 @@ impl<A: Allocator> SafeSystem<A> {
 
 impl<A: Allocator> SafeSystem<A> {
     ghost use Rattle.std.specs.Prelude.{◌≡◌, ◌<◌, ◌≤◌, ◌^◌, map, length};
-    ghost use Rattle.kernel_lanes.specs.Flats.{IsFlatOf};
-    ghost use Rattle.kernel_lanes.specs.FreeValues.{AreFreeValues};
     ghost use Rattle.kernel_lanes.specs.Lanes.{IsServed};
-    ghost use Rattle.engine.specs.Rows.{AreSlopes, IsFound, IsSlope, ask_of};
+    ghost use Rattle.engine.specs.Rows.{AreSlopes, IsFound, ask_of};
 
     /// The ask for a pair: its two types and its distance.
     fn ask(&self, pair: &FoundPair) -> Ask
@@ -121,14 +118,8 @@ impl<A: Allocator> SafeSystem<A> {
         }
     }
 
-    /// The slopes that are asked for, in lanes: by flat code where there is such, else each on the path of its own.
-    fn slopes<B: Allocator>(
-        &self,
-        asks: &[Ask],
-        lanes: &mut Rows<B>,
-        paths: &mut PathRows<B>,
-        slopes: &mut [Fx],
-    )
+    /// The slopes that are asked for.
+    fn slopes<B: Allocator>(&self, asks: &[Ask], rows: &mut LaneRows<B>, slopes: &mut [Fx])
         requires few { length asks.now ≤ 64 }
         requires room { length asks.now ≤ length slopes.old }
         requires served { All (IsServed self.now.system.kernel.verified) asks.now }
@@ -136,11 +127,7 @@ impl<A: Allocator> SafeSystem<A> {
         ensures slopes { AreSlopes self.now.system asks.now slopes.new }
         ensures len { length slopes.new ≡ length slopes.old }
     {
-        let verified = &self.system.kernel.verified;
-        match &self.system.kernel.lanes {
-            Some(code) => run_lanes(verified, &code.flat, &code.free, lanes, asks, slopes),
-            None => run_paths(verified, paths, asks, slopes),
-        }
+        self.system.kernel.verified.values(asks, rows, slopes);
     }
 }
 
@@ -158,8 +145,7 @@ impl<A: Allocator> SafeSystem<A> {
         ensures { result ≡ add_found self.now.system pair.now }
     {
         let ask = self.ask(pair);
-        let kernel = &self.system.kernel.verified;
-        let slope = run(kernel, &mut Stack::new(), ask.a, ask.b, ask.r);
+        let slope = self.system.kernel.verified.value(&mut Stack::new(), ask);
         pair.add(slope)
     }
 
@@ -203,12 +189,11 @@ impl<A: Allocator> SafeSystem<A> {
             found,
             asks,
             slopes,
-            lanes,
-            paths,
+            rows,
             ..
         } = scratch;
         self.ask_all(found.as_slice(), asks);
-        self.slopes(asks.as_slice(), lanes, paths, slopes);
+        self.slopes(asks.as_slice(), rows, slopes);
         self.add_all(found.as_slice(), slopes, adds);
     }
 }

@@ -8,8 +8,8 @@ use std::thread::{Threads, join};
 /// A vector that takes one after another of these grows three times.
 const NUMBERS: [u64; 12] = [2, 3, 5, 7, 11, 13, 17, 19, 23, 29, 31, 37];
 
-/// How often a number is refused where all are pushed, and again where they are refused; the number of the last such request; and how
-/// many blocks are out then.
+/// How often a number is refused where all are pushed, and again where they are refused; the number of the last such
+/// request; and how many blocks are out then.
 fn refusals(allocator: &RefusingAllocator<Global>) -> (u32, u64, u64) {
     let mut numbers: Vec<u64, &RefusingAllocator<Global>> = Vec::new(allocator);
     let mut refusals = 0u32;

@@ -26,7 +26,8 @@ box 200000 200000 200000
     1AR      AR 2147483648 0 0 2147483648 0 0
 ";
 
-/// The two atoms after two steps: at the first they are moved by 34360 places, and at the second they are 2147621088 apart.
+/// The two atoms after two steps: at the first they are moved by 34360 places, and at the second they are 2147621088
+/// apart.
 pub(crate) const AFTER_TWO: &[u8] = b"pairmd state 1
 title two atoms
 step 2

@@ -2,7 +2,7 @@
 
 use crate::fixtures::{engine_over, layers, text_of};
 use engine::Engine;
-use integrator::Direction;
+use integrator::{Direction, Workers};
 use std::alloc::Global;
 use std::sync::atomic::{AtomicU64, Ordering};
 use std::test::*;
@@ -12,8 +12,8 @@ use tile_pool::Gate;
 /// How often a worker that is held looks for another one.
 const TURNS: u64 = 100_000_000;
 
-/// Holds the first tile that enters until another worker has entered one, and counts the tiles, and those that were held for
-/// too many turns.
+/// Holds the first tile that enters until another worker has entered one, and counts the tiles, and those that were
+/// held for too many turns.
 #[derive(Drop)]
 struct Meeting {
     entered: AtomicU64,
@@ -51,9 +51,11 @@ fn tiles_of_two<R: Threads + Sync + AllocGlobal>(
     };
     let went = match direction {
         Direction::Forward => {
-            alone.forward_alone(1).is_ok() && together.forward(rt, 1, 2, &gate).is_ok()
+            alone.forward_alone(1).is_ok()
+                && together.forward(rt, 1, Workers::new(2), &gate).is_ok()
         }
-        Direction::Back => alone.back_alone(1).is_ok() && together.back(rt, 1, 2, &gate).is_ok(),
+        Direction::Back => alone.back_alone(1).is_ok()
+            && together.back(rt, 1, Workers::new(2), &gate).is_ok(),
     };
     let same = text_of(rt.alloc(), alone) == text_of(rt.alloc(), together);
     if went && same && gate.late.load(Ordering::SeqCst) == 0 {
@@ -63,7 +65,7 @@ fn tiles_of_two<R: Threads + Sync + AllocGlobal>(
     }
 }
 
-/// The same of two engines of a state.
+/// How many tiles a step of the engine of a state takes two workers, who meet in them.
 fn tiles_of<R: Threads + Sync + AllocGlobal>(
     rt: &R,
     direction: Direction,

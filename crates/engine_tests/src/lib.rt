@@ -1,4 +1,5 @@
-//! Tests. What no command shows of engines and of tested runs: workers at once, memory that is refused, and steps that are tested.
+//! Tests. What no command shows of engines and of tested runs: workers at once, memory that is refused, and steps that
+//! are tested.
 #![tactic(auto)]
 
 #[cfg(test)]

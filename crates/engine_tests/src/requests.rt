@@ -1,12 +1,12 @@
-//! Memory that is refused: one request after another, of a tested run, and of engines on one thread and with workers. All that was
-//! taken is given back in the end.
+//! Memory that is refused: one request after another, of a tested run, and of engines on one thread and with workers.
+//! All that was taken is given back in the end.
 
 ghost use Rattle.std.specs.Prelude.{◌<◌, ◌≤◌};
 
 use crate::fixtures::{AFTER_TWO, JOB, STATE, engine_over, layers, text_of};
 use engine::Engine;
 use fallible::{Collected, Failure};
-use integrator::{Direction, StepFault};
+use integrator::{Direction, StepFault, Workers};
 use refusing_memory::RefusingAllocator;
 use std::alloc::{AllocError, Global};
 use std::test::*;
@@ -16,8 +16,8 @@ use tested_run::{TestedRunFault, run_bytes_checked};
 /// More requests for memory than any run of a test makes.
 const REQUESTS: u64 = 100_000;
 
-/// A tested run where the request with this number is refused: it ends with the text of its state, or runs out of memory and writes
-/// nothing. Tells whether that request was made, and nothing where the run ends otherwise.
+/// A tested run where the request with this number is refused: it ends with the text of its state, or runs out of
+/// memory and writes nothing. Tells whether that request was made, and nothing where the run ends otherwise.
 fn run_without(alloc: Global, number: u64) -> Option<bool> {
     let memory = RefusingAllocator::new(alloc, number);
     let mut out = Collected::new(alloc);
@@ -49,24 +49,21 @@ fn each_request_of_a_tested_run(rt: HostRuntime) {
     assert!(rt; requests.unwrap_or(0) > 10, "{requests:?} requests");
 }
 
-/// Whether an engine stands at the last of these states after three steps; and where a step runs out of memory, first at that after so many
-/// whole steps as it says, from which it makes the others.
+/// Whether an engine stands at the last of these states after three steps; and where a step runs out of memory, first
+/// at that after so many whole steps as it says, from which it makes the others.
 fn goes_on<R: Threads + Sync + AllocGlobal>(
     rt: &R,
     engine: &mut Engine<&RefusingAllocator<Global>>,
     direction: Direction,
-    workers: u32,
+    workers: Workers,
     states: &[Option<Vec<u8>>],
-) -> bool
-    requires some { 0 < workers }
-    requires few { workers ≤ 64 }
-{
+) -> bool {
     match engine.make_steps(rt, direction, 3, workers) {
         Ok(()) => stands_at(rt.alloc(), engine, states, 3),
         Err(StepFault::Memory { done }) => {
             stands_at(rt.alloc(), engine, states, done)
                 && engine
-                    .make_steps(rt, direction, 3u64.saturating_sub(done), 1)
+                    .make_steps(rt, direction, 3u64.saturating_sub(done), Workers::new(1))
                     .is_ok()
                 && stands_at(rt.alloc(), engine, states, 3)
         }
@@ -87,19 +84,16 @@ fn stands_at(
     state.is_some() && text_of(alloc, engine) == *state
 }
 
-/// Three steps from the first of these states where the request with this number is refused. Tells whether that request was made, and
-/// nothing where an engine goes otherwise than it should.
+/// Three steps from the first of these states where the request with this number is refused. Tells whether that request
+/// was made, and nothing where an engine goes otherwise than it should.
 fn steps_without<R: Threads + Sync + AllocGlobal>(
     rt: &R,
     direction: Direction,
-    workers: u32,
+    workers: Workers,
     start: &[u8],
     states: &[Option<Vec<u8>>],
     number: u64,
-) -> Option<bool>
-    requires some { 0 < workers }
-    requires few { workers ≤ 64 }
-{
+) -> Option<bool> {
     let memory = RefusingAllocator::new(rt.alloc(), number);
     let right = match engine_over(&memory, start) {
         Some(mut engine) => goes_on(rt, &mut engine, direction, workers, states),
@@ -135,13 +129,10 @@ fn states_of(
 fn requests_of<R: Threads + Sync + AllocGlobal>(
     rt: &R,
     direction: Direction,
-    workers: u32,
+    workers: Workers,
     start: &[u8],
     states: &[Option<Vec<u8>>],
-) -> Option<u64>
-    requires some { 0 < workers }
-    requires few { workers ≤ 64 }
-{
+) -> Option<u64> {
     for number in 0..REQUESTS {
         if !steps_without(rt, direction, workers, start, states, number)? {
             return Some(number);
@@ -150,15 +141,16 @@ fn requests_of<R: Threads + Sync + AllocGlobal>(
     None
 }
 
-/// The same of one thread, and of four workers, each of whom wants a scratch of its own.
+/// How many requests for memory three steps make on one thread, and by four workers, each of whom has a scratch of its
+/// own.
 fn requests_of_both<R: Threads + Sync + AllocGlobal>(
     rt: &R,
     direction: Direction,
 ) -> Result<(Option<u64>, Option<u64>), AllocError> {
     let start = layers(rt.alloc())?;
     let states = states_of(rt.alloc(), &start, direction)?;
-    let one = requests_of(rt, direction, 1, &start, &states);
-    let four = requests_of(rt, direction, 4, &start, &states);
+    let one = requests_of(rt, direction, Workers::new(1), &start, &states);
+    let four = requests_of(rt, direction, Workers::new(4), &start, &states);
     Ok((one, four))
 }
 

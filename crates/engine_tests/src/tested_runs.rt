@@ -3,7 +3,7 @@
 use crate::fixtures::{JOB, STATE, layers};
 use engine::run_bytes;
 use fallible::Collected;
-use integrator::Direction;
+use integrator::{Direction, Workers};
 use std::alloc::{AllocError, Global};
 use std::test::*;
 use std::thread::Threads;
@@ -131,7 +131,7 @@ fn goes_as_an_engine<R: Threads + Sync + AllocGlobal>(
         state,
         steps,
         Direction::Forward,
-        1,
+        Workers::new(1),
         &mut out,
     );
     Ok(ran.is_ok() && out.bytes() == there.as_slice() && again.as_slice() == state)

@@ -9,7 +9,7 @@ use Rattle.integrator.specs.Frames.{opposite}
 use Rattle.integrator.specs.States.{counter_after, counter_at}
 use Rattle.integrator.specs.declared.direction.Direction.{Direction}
 use Rattle.integrator.specs.declared.direction.Direction.TheVariants.{Forward, Back}
-use Rattle.integrator.proofs.Constructors.{none_is_no_some}
+use Rattle.line_text.proofs.StepLaws.{none_is_no_some}
 
 -- after no step it is the counter of the start
 pub counter_stays : (w : Direction) (step : ℤ) → counter_at w step 0 ≡ step

@@ -1,4 +1,3 @@
-pub mod Constructors
 pub mod StepLemmas
 pub mod ForceLaws
 pub mod BoundLaws
@@ -9,6 +8,3 @@ pub mod StateLaws
 pub mod StartLaws
 pub mod ReturnLaws
 pub mod RunLaws
-pub mod KernelLaws
-pub mod EnergyLaws
-pub mod InputLaws

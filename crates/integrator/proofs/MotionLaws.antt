@@ -2,7 +2,7 @@
 use Rattle.std.proofs.Common.{◌≡◌, ℕ, zero, suc, ◌+◌, List, length, Option, Some, None, ℤ, get_or, arith, refl, ap, sym, ◌∙◌, add-one}
 use Rattle.std.specs.Prelude.{option_map, slice_index}
 use Rattle.std.specs.Option.{option_and_then}
-use Rattle.integrator.proofs.Constructors.{none_is_no_some}
+use Rattle.line_text.proofs.StepLaws.{none_is_no_some}
 use Rattle.integrator.specs.Frames.{AreOfSameAtoms, Dynamics, Frame, Frames, frame_forces, frames, moved_frame, next_at, next_frame, next_places, places_of, step_in, steps_in, exchanged, opposite}
 use Rattle.integrator.specs.Forces.{numbers_from}
 use Rattle.integrator.proofs.NumberLaws.{length-numbers, made_of_numbers, number_at}

@@ -9,17 +9,16 @@ use Rattle.fixed.proofs.IntegerLaws.{in_range_is}
 use Rattle.job.specs.JobText.{reading_of, limits}
 use Rattle.job.specs.Values.{JobValue, TypeValue}
 use Rattle.line_text.specs.Steps.{◌>>=◌}
-use Rattle.line_text.proofs.StepLaws.{bind_ok}
+use Rattle.line_text.proofs.StepLaws.{bind_ok, err_is_no_ok, same_ok}
 use lib.Signed.{mag}
-use Rattle.std.proofs.lemmas.Bool.{ltb-true, lt-ltb}
+use Rattle.std.proofs.lemmas.Bool.{ltb-true}
 use Rattle.ring_box.specs.Cells.{has_room}
 use Rattle.ring_box.specs.Places.{ArePlaces, nowhere}
 use Rattle.state.specs.StateReading.{state_of}
 use Rattle.state.specs.StateText.{AtomView, StateView, IsAtom, IsState, state_text}
-use Rattle.integrator.proofs.Constructors.{err_is_no_ok, ok_same}
 use Rattle.integrator.specs.Frames.{AreOfSameAtoms, Frames, opposite, steps_in}
 use Rattle.integrator.specs.States.{counter_after, counter_at, frames_of, moved_state, nobody, placed_atoms}
-use Rattle.integrator.specs.Energies.{Energy, energy_of}
+use Rattle.potential.specs.Energies.{Energy, energy_of}
 use Rattle.integrator.specs.Starts.{Refusal, Start, are_alike, atom_types, bits_differ, Law, cutoff_too_long, energy_refused, in_counter, job_refused, known, or_refused, require, ring_of, state_refused, step_range, type_with, start_at, start_of_run, start_with, system_of, types_of}
 use Rattle.integrator.specs.Runs.{IsRun}
 use Rattle.state.proofs.StateReadsAgain.{one_text}
@@ -145,8 +144,8 @@ system_parts j s system e =
     let f = bind_ok _ _ b.0 b.1 in
     let c = bind_ok _ _ b.0 f.2 in
     let d = bind_ok _ _ b.0 c.2 in
-    let types : c.0 ≡ b.0 = ok_same c.0 b.0 d.2 in
-    let same : (a.0, b.0) ≡ system = ok_same (a.0, b.0) system b.2 in
+    let types : c.0 ≡ b.0 = same_ok c.0 b.0 d.2 in
+    let same : (a.0, b.0) ≡ system = same_ok (a.0, b.0) system b.2 in
     rw (← same)
     (record {
       energy_read = refused_ok energy_refused (energy_of j) a.0 a.1;
@@ -177,7 +176,7 @@ parts_of law job state w n start e =
       alike = parts.alike;
       room = parts.room;
       counted = counted_ok (counter_after w b.0.step n) k.0 k.1;
-      start_is = sym (ok_same _ start k.2);
+      start_is = sym (same_ok _ start k.2);
     }
 
 -- texts that are read as a job and a state have the start of these

@@ -1,7 +1,7 @@
 -- Texts have one run at most, and where they have one no refusal of a start says otherwise.
 use Rattle.std.proofs.Common.{◌≡◌, ℕ, List, Err, sym, ◌∙◌}
 use Rattle.state.specs.StateText.{StateView}
-use Rattle.integrator.proofs.Constructors.{err_is_no_ok}
+use Rattle.line_text.proofs.StepLaws.{err_is_no_ok}
 use Rattle.integrator.specs.Starts.{Law, Refusal, Start, start_of_run}
 use Rattle.integrator.specs.Runs.{IsRun, Ran}
 use Rattle.integrator.specs.declared.direction.Direction.{Direction}

@@ -1,7 +1,7 @@
 -- Types of atoms, one after another.
 use Rattle.std.proofs.Common.{◌≡◌, ◌≢◌, ℕ, suc, ◌+◌, ◌<◌, Bool, true, false, cond, List, [], ◌∷◌, ◌++◌, length, get_or, drop, Option, Some, None, Result, Ok, Err, ℤ, refl, ap, sym, ◌∙◌, add-one, append_assoc}
 use Rattle.std.proofs.lemmas.Bool.{eq-eqb, ne_eqb}
-use Rattle.std.proofs.lemmas.List.{append-nil}
+use Rattle.std.proofs.lemmas.List.{append-nil, length-map}
 use Rattle.fixed.specs.Fractions.{bits_of}
 use Rattle.fixed.specs.declared.frac.Frac.{Frac}
 use Rattle.std.specs.Prelude.{bytes_eq, map, not}
@@ -12,19 +12,19 @@ use Rattle.line_text.proofs.StepLaws.{bind_err}
 use Rattle.job.specs.Views.{type_value}
 use Rattle.job.specs.declared.jobs.AtomType.{AtomType}
 use Rattle.std.specs.List.{position, position_or_len}
-use Rattle.std.proofs.lemmas.List.{length-map}
 use Rattle.job.specs.Values.{JobValue, TypeValue}
 use Rattle.state.specs.StateText.{AtomView, StateView}
 use Rattle.job.specs.JobText.{reading_of, limits}
 use Rattle.state.specs.StateReading.{state_of}
 use Rattle.ring_box.specs.Cells.{has_room}
+use Rattle.energy_program.specs.Faults as energies
 use Rattle.fallible.specs.Failures.{Fails}
 use Rattle.fallible.specs.declared.failure.Failure.{Failure}
 use Rattle.fallible.proofs.FailureLaws.{fails_as}
 use Rattle.integrator.specs.declared.faults.SystemFault.{SystemFault}
 use Rattle.integrator.specs.StartViews.{system_refusal}
-use Rattle.integrator.specs.Energies.{Energy, energy_of}
-use Rattle.integrator.specs.Starts.{Law, Refusal, are_alike, bits_differ, cutoff_too_long, start_at, start_of_run, atom_types, ring_of, start_with, system_of, types_of, type_with, unknown_type}
+use Rattle.potential.specs.Energies.{Energy, energy_of}
+use Rattle.integrator.specs.Starts.{Law, Refusal, are_alike, bits_differ, cutoff_too_long, energy_refused, in_counter, start_at, start_of_run, atom_types, ring_of, start_with, system_of, types_of, type_with, unknown_type}
 use Rattle.integrator.specs.States.{counter_after}
 use Rattle.integrator.specs.declared.direction.Direction.{Direction}
 
@@ -95,7 +95,7 @@ unfolding types_of
 bits_unlike j s a = rw a refl
 
 -- nor has a state with an atom of no type
-pub types_refused : {A : Type 0} (j : JobValue) (s : StateView) (failure : Failure (SystemFault A)) → are_alike j.frac s.frac ≡ true → Fails system_refusal failure (atom_types j.types 1 s.atoms) → Fails system_refusal failure (types_of j s)
+pub types_refused : (j : JobValue) (s : StateView) (failure : Failure SystemFault) → are_alike j.frac s.frac ≡ true → Fails system_refusal failure (atom_types j.types 1 s.atoms) → Fails system_refusal failure (types_of j s)
 unfolding types_of
 types_refused j s failure a h = fails_as system_refusal failure (atom_types j.types 1 s.atoms) (types_of j s) (λ fault e. rw (a, e) refl) h
 
@@ -121,10 +121,26 @@ started law direction steps j s energy types counter e t a h k = rw (e, a, t, h,
 -- ---- refusals on the way
 
 -- a job and a state whose atoms can't be run
-pub system_refused : {A : Type 0} → (j : JobValue) (s : StateView) (energy : Energy) (failure : Failure (SystemFault A)) → energy_of j ≡ Ok energy → Fails system_refusal failure (types_of j s) → Fails system_refusal failure (system_of j s)
+pub system_refused : (j : JobValue) (s : StateView) (energy : Energy) (failure : Failure SystemFault) → energy_of j ≡ Ok energy → Fails system_refusal failure (types_of j s) → Fails system_refusal failure (system_of j s)
 unfolding system_of
 system_refused j s energy failure r h =
     rw r (fails_as system_refusal failure (types_of j s) (types_of j s >>= λ types. Ok (energy, types)) (λ fault e. bind_err (types_of j s) (λ types. Ok (energy, types)) fault e) h)
+
+-- a job whose energy is refused
+pub energy_unready : (j : JobValue) (s : StateView) (r : energies.Refusal) → energy_of j ≡ Err r → system_of j s ≡ Err (energy_refused r)
+unfolding system_of
+energy_unready j s r e = rw e refl
+
+-- the energy and the types of atoms that can be run
+pub system_made : (j : JobValue) (s : StateView) (energy : Energy) (types : List ℕ) → energy_of j ≡ Ok energy → types_of j s ≡ Ok types → system_of j s ≡ Ok (energy, types)
+unfolding system_of
+system_made j s energy types e t = rw (e, t) refl
+
+-- a start is that of these atoms, with the counter at its end
+pub start_by : (law : Law) (direction : Direction) (steps : ℕ) (j : JobValue) (s : StateView) (system : Energy × List ℕ) → system_of j s ≡ Ok system
+    → start_with law direction steps j s ≡ (in_counter (counter_after direction s.step steps) >>= λ counter. Ok (start_at law j s system counter))
+unfolding start_with
+start_by law direction steps j s system e = rw e refl
 
 -- since they have no atoms that can be run
 pub system_unready : (law : Law) (job state : List ℕ) (w : Direction) (n : ℕ) (j : JobValue) (s : StateView) (r : Refusal) → reading_of limits job ≡ Ok j → state_of state ≡ Ok s → system_of j s ≡ Err r → start_of_run law job state w n ≡ Err r

@@ -1,5 +1,6 @@
--- Frames, and the Levesque-Verlet step that leads from one to the next and back (Levesque and Verlet 1993, J. Stat. Phys. 72, 519).
--- A step forward moves the frames p, c to c, n with n = 2 c - p + d(c) round the ring; as d depends on the middle frame alone, a step back moves them to 2 p - c + d(p), p.
+-- Frames, and the Levesque-Verlet step that leads from one to the next and back (Levesque and Verlet 1993, J. Stat.
+-- Phys. 72, 519). A step forward moves the frames p, c to c, n with n = 2 c - p + d(c) round the ring; as d depends on
+-- the middle frame alone, a step back moves them to 2 p - c + d(p), p.
 use Rattle.std.specs.Prelude.{ℕ, zero, suc, ℤ, neg_ℤ, ◌==◌, ◌≡◌, List, length, map, Option, Some, None, slice_index, slice_index_or, if◌then◌else◌}
 use Rattle.std.specs.Option.{option_map, option_and_then}
 use Rattle.std.specs.List.{All}
@@ -19,7 +20,8 @@ use Rattle.integrator.specs.declared.direction.Direction.TheVariants.{Forward, B
 abbrev pub Frame : Type 0
 Frame = List Place3
 
--- the dynamics of the atoms: the box, core and cutoff, the time step in fs, the pair potential by its slope at a pair of atoms and a distance, where it has one, and each atom's mass in 10^-5 u
+-- the dynamics of the atoms: the box, core and cutoff, the time step in fs, the pair potential by its slope at a pair
+-- of atoms and a distance, where it has one, and each atom's mass in 10^-5 u
 pub record Dynamics : Type 0 where
   pub frac : Frac
   pub ring : RingBox
@@ -33,7 +35,8 @@ pub record Dynamics : Type 0 where
 abbrev pub places_of : Frame → ℕ → Place3
 places_of frame a = slice_index_or frame a nowhere
 
--- the force on the lower atom of a pair at the places p and q: none where the pair does not act, and along no line where both atoms are at one place
+-- the force on the lower atom of a pair at the places p and q: none where the pair does not act, and along no line
+-- where both atoms are at one place
 abbrev pub force_at : RingBox → (ℤ → Option ℤ) → Option ℤ → Place3 → Place3 → Option (Force ℤ)
 force_at ring slope None p q = Some no_force
 force_at ring slope (Some r) p q =

@@ -2,10 +2,7 @@ pub mod Displacement
 pub mod Forces
 pub mod Frames
 pub mod Systems
-pub mod Kernels
-pub mod Energies
 pub mod States
 pub mod Starts
 pub mod StartViews
 pub mod Runs
-pub mod InputNames

@@ -1,4 +1,5 @@
--- A run from bytes to bytes: the texts of a job and a state, a number of steps and a direction give the text of the state after them.
+-- A run from bytes to bytes: the texts of a job and a state, a number of steps and a direction give the text of the
+-- state after them.
 use Rattle.std.specs.Prelude.{◌≡◌, ℕ, List, Some, Ok}
 use Rattle.state.specs.StateText.{StateView, state_text}
 use Rattle.integrator.specs.Frames.{Frames, steps_in}

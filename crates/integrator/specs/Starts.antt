@@ -1,5 +1,6 @@
--- The start of a run: a job's text, a state's text, a number of steps and a direction give the state and the dynamics of its atoms, or the first refusal.
-use Rattle.std.specs.Prelude.{◌≡◌, ℕ, suc, ℤ, ◌==◌, Bool, true, false, List, [], ◌∷◌, length, map, Option, Some, None, Result, Ok, Err, slice_index, slice_index_or, bytes_eq}
+-- The start of a run: a job's text, a state's text, a number of steps and a direction give the state and the dynamics
+-- of its atoms, or the first refusal.
+use Rattle.std.specs.Prelude.{ℕ, suc, ℤ, ◌==◌, Bool, true, false, List, [], ◌∷◌, map, Option, Some, None, Result, Ok, Err, slice_index, slice_index_or, bytes_eq}
 use Rattle.std.specs.List.{position}
 use Rattle.fixed.specs.Fractions.{bits_of}
 use Rattle.fixed.specs.declared.frac.Frac.{Frac}
@@ -8,16 +9,16 @@ use Rattle.energy_program.specs.Faults as energy
 use Rattle.energy_program.specs.Tree.{Tree}
 use Rattle.job.specs.Faults as job
 use Rattle.job.specs.JobText.{reading_of, limits}
-use Rattle.job.specs.Values.{GlobalValue, JobValue, TypeValue}
+use Rattle.job.specs.Values.{JobValue, TypeValue}
 use Rattle.line_text.specs.Steps.{◌>>=◌}
-use Rattle.kernel_code.specs.Tables.{Table, inputs_of}
-use Rattle.kernel_code.specs.declared.instructions.Instr.{Instr}
+use Rattle.kernel_code.specs.Tables.{inputs_of}
 use Rattle.ring_box.specs.Cells.{has_room}
 use Rattle.ring_box.specs.declared.boxes.RingBox.{RingBox}
 use Rattle.state.specs.StateReading.{state_of}
 use Rattle.state.specs.StateText.{AtomView, StateView}
 use Rattle.state.specs.declared.faults.StateFault.{StateFault}
-use Rattle.integrator.specs.Energies.{Energy, IsCompiled, energy_of}
+use Rattle.potential.specs.Energies.{Energy, energy_of}
+use Rattle.potential.specs.Tables.{no_type, table_of}
 use Rattle.integrator.specs.Frames.{Dynamics}
 use Rattle.integrator.specs.States.{counter_after}
 use Rattle.integrator.specs.declared.direction.Direction.{Direction}
@@ -53,9 +54,6 @@ atom_types types atom [] = Ok []
 atom_types types atom (a ∷ atoms) =
     known atom (type_with types a.name) >>= λ t. atom_types types (suc atom) atoms >>= λ ts. Ok (t ∷ ts)
 
-abbrev pub no_type : TypeValue
-no_type = record { name = []; mass = 0; values = [] }
-
 -- the mass of a type
 abbrev pub mass_of : List TypeValue → ℕ → ℕ
 mass_of types t = (slice_index_or types t no_type).mass
@@ -68,17 +66,6 @@ require false refusal = Err refusal
 
 abbrev pub ring_of : List ℕ → RingBox
 ring_of sides = record { x = slice_index sides 0; y = slice_index sides 1; z = slice_index sides 2 }
-
--- each type's values of the parameters
-abbrev pub type_rows : List TypeValue → List (List ℤ)
-type_rows types = map (λ t. t.values) types
-
-abbrev pub global_values : List GlobalValue → List ℤ
-global_values globals = map (λ g. g.value) globals
-
--- the values of the energy's variables
-abbrev pub table_of : JobValue → Table
-table_of j = record { frac = j.frac; parameters = length j.parameters; rows = type_rows j.types; globals = global_values j.globals }
 
 -- the inputs of the energy for a pair of atoms of these types at a distance
 abbrev pub pair_inputs : JobValue → List ℕ → ℕ × ℕ → ℤ → List ℤ
@@ -150,16 +137,3 @@ start_of_run law job state direction steps = do
   j ← or_refused job_refused (reading_of limits job)
   s ← or_refused state_refused (state_of state)
   start_with law direction steps j s
-
--- ---- the code alone
-
--- the code of the slope of a job's energy
-abbrev pub slope_code_of : JobValue → Result (List Instr) energy.Refusal
-slope_code_of j = energy_of j >>= λ e. Ok e.code
-
--- the code computes the slope of the job's energy, where no input is missing
-pub record IsSlopeCode (j : JobValue) (code : List Instr) : Type 0 where
-  pub energy' : Energy
-  pub says : energy_of j ≡ Ok energy'
-  pub its : code ≡ energy'.code
-  pub compiled : IsCompiled (bits_of j.frac) (length j.parameters) (length j.globals) energy'

@@ -38,7 +38,8 @@ fn impulse(force: i128, factor: u64) -> i128
     force * i128::from(factor)
 }
 
-/// The divisor of a displacement: a mass in 10^-5 u, 1 to 100,000,000, times a side in 10^-5 nm; at 40 bits also times 256.
+/// The divisor of a displacement: a mass in 10^-5 u, 1 to 100,000,000, times a side in 10^-5 nm; at 40 bits also times
+/// 256.
 fn inertia(frac: Frac, mass: u32, side: Side) -> i128
     requires positive { 0 < mass }
     requires bound { mass ≤ 100000000 }

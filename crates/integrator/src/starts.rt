@@ -1,24 +1,17 @@
-//! The start of a run: the state, the system and the counter at the end, or the first refusal.
+//! The atoms of a state that can be run under a job.
 
-ghost use Rattle.std.specs.Prelude.{◌≡◌, ◌<◌, ◌≤◌, length, map, IfOk, Ok};
+ghost use Rattle.std.specs.Prelude.{◌≡◌, ◌<◌, ◌≤◌, length, map, IfOk};
 ghost use Rattle.std.specs.List.{All};
-ghost use Rattle.energy_program.specs.Faults.{refusal_of};
-ghost use Rattle.energy_program.specs.Programs.{trees_of};
 ghost use Rattle.fallible.specs.Failures.{Gives};
 ghost use Rattle.job.specs.Views.{job_value, type_value};
 ghost use Rattle.state.specs.StateViews.{atom_view, state_view};
-ghost use Rattle.integrator.specs.Energies.{IsCompiled, job_program};
-ghost use Rattle.integrator.specs.Starts.{atom_types, mass_of, system_of, types_of, IsSlopeCode, slope_code_of};
-ghost use Rattle.fixed.specs.Fractions.{bits_of};
-ghost use Rattle.integrator.specs.StartViews.{energy_view, ready_view, system_refusal};
+ghost use Rattle.integrator.specs.Starts.{atom_types, mass_of, types_of};
+ghost use Rattle.integrator.specs.StartViews.{system_refusal};
 
-use crate::energies::job_slope;
+use crate::atoms::TypedAtoms;
 use crate::faults::SystemFault;
-use crate::prepared::{Ready, TypedAtoms};
-use energy_program::ExprFault;
 use fallible::Failure;
 use job::{AtomType, Job};
-use kernel_code::Code;
 use state::{Atom, State};
 use std::alloc::{AllocError, Allocator};
 
@@ -27,7 +20,7 @@ fn atom_types<A: Allocator + Copy>(
     alloc: A,
     job: &Job<A>,
     atoms: &[Atom],
-) -> Result<Vec<u32, A>, Failure<SystemFault<A>>>
+) -> Result<Vec<u32, A>, Failure<SystemFault>>
     ensures value { Gives (λ v. v.items) system_refusal result (atom_types (map type_value job.now.types.items) 1 (map atom_view atoms.now)) }
     ensures known { IfOk result (λ v. All (λ t. t < length job.now.types.items) v.items) }
     ensures count { IfOk result (λ v. length v.items ≡ length atoms.now) }
@@ -71,11 +64,15 @@ fn atom_masses<A: Allocator + Copy>(
 }
 
 /// The atoms of a state that can be run under this job.
-fn typed_atoms<A: Allocator + Copy>(
+///
+/// The refusals come in this order: `BitsDiffer` where the job's numbers and the state's have not as many bits behind
+/// the point; `UnknownType` for the lowest atom whose name no type has, counted from 1; `CutoffTooLong` where some side
+/// of the box is shorter than two cutoffs. `Memory`: an allocation was refused.
+pub fn typed_atoms<A: Allocator + Copy>(
     alloc: A,
     job: &Job<A>,
     state: &State<A>,
-) -> Result<TypedAtoms<A>, Failure<SystemFault<A>>>
+) -> Result<TypedAtoms<A>, Failure<SystemFault>>
     ensures value { Gives (λ t. t.types.items) system_refusal result (types_of (job_value job.now) (state_view state.now)) }
     ensures known { IfOk result (λ t. All (λ k. k < length job.now.types.items) t.types.items) }
     ensures masses { IfOk result (λ t. t.masses.items ≡ map (mass_of (map type_value job.now.types.items)) t.types.items) }
@@ -90,48 +87,4 @@ fn typed_atoms<A: Allocator + Copy>(
     }
     let masses = atom_masses(alloc, &job.types, &types)?;
     Ok(TypedAtoms { types, masses })
-}
-
-/// The energy of this job, and the atoms of a state that can be run under it.
-///
-/// The refusals come in this order: those of the energy, of its slope and of its code; `BitsDiffer` where the job's numbers and the state's
-/// have not as many bits behind the point; `UnknownType` for the lowest atom whose name no
-/// type has, counted from 1; `CutoffTooLong` where some side is shorter than two cutoffs. `Memory`: an allocation was refused.
-#[tactic(auto, unfolding(crate::specs::Starts::system_of))]
-pub fn ready<A: Allocator + Copy>(
-    alloc: A,
-    job: &Job<A>,
-    state: &State<A>,
-) -> Result<Ready<A>, Failure<SystemFault<A>>>
-    ensures value { Gives ready_view system_refusal result (system_of (job_value job.now) (state_view state.now)) }
-    ensures program { IfOk result (λ r. job_program (job_value job.now) ≡ Ok (trees_of r.parts.energy)) }
-    ensures compiled { IfOk result (λ r. IsCompiled (bits_of job.now.frac) (length job.now.parameters.items) (length job.now.globals.items) (energy_view r.parts)) }
-    ensures parameters { IfOk result (λ r. r.parts.energy.parameters ≡ length job.now.parameters.items) }
-    ensures globals { IfOk result (λ r. r.parts.energy.globals ≡ length job.now.globals.items) }
-    ensures known { IfOk result (λ r. All (λ k. k < length job.now.types.items) r.atoms.types.items) }
-    ensures masses { IfOk result (λ r. r.atoms.masses.items ≡ map (mass_of (map type_value job.now.types.items)) r.atoms.types.items) }
-    ensures count { IfOk result (λ r. length r.atoms.types.items ≡ length state.now.atoms.items) }
-{
-    let parts = match job_slope(alloc, job) {
-        Ok(parts) => parts,
-        Err(failure) => return Err(SystemFault::of_energy(failure)),
-    };
-    let atoms = typed_atoms(alloc, job, state)?;
-    Ok(Ready { parts, atoms })
-}
-
-/// The code of the slope of a job's energy, as a run of the job has it. Whether it would give a value anywhere isn't asked.
-///
-/// The refusals are those of `job_slope`. `Memory`: an allocation was refused.
-pub fn slope_code<A: Allocator + Copy>(
-    alloc: A,
-    job: &Job<A>,
-) -> Result<Code<A>, Failure<ExprFault<A>>>
-    // Which answer it is.
-    ensures exact { Gives (λ code. code) refusal_of result (slope_code_of (job_value job.now)) }
-    // The value of the code.
-    ensures computes { IfOk result (IsSlopeCode (job_value job.now)) }
-{
-    let parts = job_slope(alloc, job)?;
-    Ok(parts.code)
 }

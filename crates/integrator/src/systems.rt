@@ -9,7 +9,8 @@ use job::TimeStep;
 use ring_box::RingBox;
 use std::alloc::Allocator;
 
-/// The system of a run: the types and masses of at most 65,536 atoms, the box, the time step, and the pair potential with core and cutoff.
+/// The system of a run: the types and masses of at most 65,536 atoms, the box, the time step, and the pair potential
+/// with core and cutoff.
 #[derive(Drop)]
 pub struct System<K: Drop, A: Allocator> {
     /// The fraction bits of distances in nm, energies in kJ/mol and forces in kJ/mol/nm: 24, 32 or 40.

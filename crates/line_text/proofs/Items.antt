@@ -1,7 +1,8 @@
 -- Items one after another, as a loop over them sees them.
 use Rattle.std.proofs.Common.{◌≡◌, ℕ, ◌+◌, ◌<◌, refl, List, [], ◌∷◌, ◌++◌, length, map, take, get_or, sym, ap, subst, ◌∙◌, arith}
-use Rattle.std.specs.List.{AllByRecursion, flat_map}
-use Rattle.std.proofs.lemmas.List.{take_more, get_or-map, append-nil}
+use Rattle.std.specs.List.{All, AllByRecursion, flat_map}
+use Rattle.std.proofs.lemmas.List.Elements.{All-cons, All-head, All-map, All-nil, All-same, All-tail}
+use Rattle.std.proofs.lemmas.List.{take_more, get_or-map, append-nil, length-map}
 use Rattle.std.proofs.lemmas.Grind.{flat_map-append}
 
 -- the value of the item at a place is the value at that place
@@ -31,3 +32,22 @@ three_items d (x ∷ []) e = absurd (omega arith)
 three_items d (x ∷ y ∷ []) e = absurd (omega arith)
 three_items d (x ∷ y ∷ z ∷ []) e = refl
 three_items d (x ∷ y ∷ z ∷ w ∷ more) e = absurd (omega arith)
+
+-- equal lists begin with equal elements, and equal lists come behind these
+pub parts_same : {X : Type 0} (x y : X) (xs ys : List X) → x ∷ xs ≡ y ∷ ys → (x ≡ y) × (xs ≡ ys)
+parts_same x y xs ys e = (cc, cc)
+
+-- ---- lists that are seen as one
+
+-- a property of a function's values, at each element
+pub all_of_map : {X Y : Type 0} (P : X → Type 0) (f : Y → X) (ys : List Y) → All P (map f ys) → All (λ y. P (f y)) ys
+all_of_map P f [] h = All-nil (λ y. P (f y))
+all_of_map P f (y ∷ ys) h = All-cons (λ y. P (f y)) y ys (All-head P (f y) (map f ys) h) (all_of_map P f ys (All-tail P (f y) (map f ys) h))
+
+-- a fact of what these elements give, where others give the same
+pub all_alike : {X Y Z : Type 0} (P : Z → Type 0) (f : X → Z) (h : Y → Z) (xs : List X) (ys : List Y) → map f xs ≡ map h ys → All (λ y. P (h y)) ys → All (λ x. P (f x)) xs
+all_alike P f h xs ys e a = all_of_map P f xs (All-same P (map f xs) (map h ys) e (All-map P h ys a))
+
+-- lists that are seen as one list are equally long
+pub length-alike : {X Y Z : Type 0} (f : X → Z) (h : Y → Z) (xs : List X) (ys : List Y) → map f xs ≡ map h ys → length xs ≡ length ys
+length-alike f h xs ys e = sym (length-map xs f) ∙ ap length e ∙ length-map ys h

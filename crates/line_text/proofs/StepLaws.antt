@@ -39,3 +39,11 @@ err_as {A} {B} {E} f k e = ap failed (same_err f k e)
   where
     failed : E → Result B E
     failed z = Err z
+
+-- a result with a fault is none with a value
+pub err_is_no_ok : {A E : Type 0} (f : E) (x : A) → ◌≡◌ {A = Result A E} (Err f) (Ok x) → ⊥
+err_is_no_ok f x e = cc
+
+-- an option without a value is none with one
+pub none_is_no_some : {A : Type 0} (x : A) → ◌≡◌ {A = Option A} None (Some x) → ⊥
+none_is_no_some x e = cc

@@ -4,7 +4,7 @@ use Rattle.std.specs.Prelude.{is_some, is_none, unwrap_or}
 use Rattle.std.specs.List.{find, list_all}
 use Rattle.std.proofs.lemmas.Bool.{cases_eq}
 use Rattle.std.proofs.lemmas.List.{get_or-set_same, get_or-set_other, length-set, length-replicate, get_or-replicate}
-use Rattle.integrator.proofs.Constructors.{err_is_no_ok, err_same, none_is_no_some, ok_same}
+use Rattle.line_text.proofs.StepLaws.{err_is_no_ok, same_err, none_is_no_some, same_ok}
 use Rattle.ring_box.specs.Forces.{no_force}
 use Rattle.ring_box.specs.declared.vectors.Force.{Force}
 use Rattle.integrator.specs.Forces.{plus, negative, share_of, sum_of_shares, pairs_of, force_or_none, forces_of}
@@ -82,7 +82,7 @@ added force sums out p ps e = added_at force sums out p ps (force p) refl e
 -- so do the forces of all pairs
 pub length-with_pairs : (force : ℕ × ℕ → Option (Force ℤ)) (sums out : List (Force ℤ)) (ps : List (ℕ × ℕ)) → with_pairs force sums ps ≡ Ok out → length out ≡ length sums
 unfolding with_pairs
-length-with_pairs force sums out [] e = ap length (sym (ok_same sums out e))
+length-with_pairs force sums out [] e = ap length (sym (same_ok sums out e))
 length-with_pairs force sums out (p ∷ ps) e =
     let a = added force sums out p ps e in
     length-with_pairs force (with_pair sums p a.v) out ps a.rest ∙ length-with_pair sums p a.v
@@ -97,7 +97,7 @@ all_forced force sums out (p ∷ ps) e =
 entries : (force : ℕ × ℕ → Option (Force ℤ)) (sums out : List (Force ℤ)) (ps : List (ℕ × ℕ)) (a : ℕ) → ArePairsOf (length sums) ps
     → with_pairs force sums ps ≡ Ok out → get_or out a no_force ≡ plus (get_or sums a no_force) (sum_of_shares (force_or_none force) ps a)
 unfolding with_pairs sum_of_shares
-entries force sums out [] a h e = ap (λ s. get_or s a no_force) (sym (ok_same sums out e)) ∙ sym (plus-none (get_or sums a no_force))
+entries force sums out [] a h e = ap (λ s. get_or s a no_force) (sym (same_ok sums out e)) ∙ sym (plus-none (get_or sums a no_force))
 entries force sums out (p ∷ ps) a h e =
     let d = added force sums out p ps e in
     let each = pairs_parts (length sums) p ps h in
@@ -126,7 +126,7 @@ stops_at : (force : ℕ × ℕ → Option (Force ℤ)) (sums : List (Force ℤ))
     → on_force p o (λ v. with_pairs force (with_pair sums p v) ps) ≡ Err q
     → ((v : Force ℤ) → with_pairs force (with_pair sums p v) ps ≡ Err q → find (λ p. is_none (force p)) ps ≡ Some q)
     → find (λ p. is_none (force p)) (p ∷ ps) ≡ Some q
-stops_at force sums p q ps None h e rest = rw h (ap Some (err_same p q e))
+stops_at force sums p q ps None h e rest = rw h (ap Some (same_err p q e))
 stops_at force sums p q ps (Some v) h e rest = rw h (rest v e)
 
 first_found : (force : ℕ × ℕ → Option (Force ℤ)) (sums : List (Force ℤ)) (q : ℕ × ℕ) (ps : List (ℕ × ℕ)) → with_pairs force sums ps ≡ Err q → find (λ p. is_none (force p)) ps ≡ Some q

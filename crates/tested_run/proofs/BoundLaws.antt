@@ -10,7 +10,7 @@ use Rattle.ring_box.specs.Forces.{IsWithin, force_along_of, no_force}
 use Rattle.ring_box.specs.declared.vectors.Force.{Force}
 use Rattle.ring_box.specs.declared.vectors.Place3.{Place3}
 use Rattle.integrator.specs.Forces.{sum_of_shares, pairs_of, force_or_none, forces_of, numbers_from}
-use Rattle.integrator.proofs.Constructors.{none_is_no_some}
+use Rattle.line_text.proofs.StepLaws.{none_is_no_some}
 use Rattle.integrator.specs.Frames.{force_at}
 use Rattle.integrator.proofs.BoundLaws.{along_within, forces_within, none_within, within-weaker}
 

@@ -11,8 +11,8 @@ use Rattle.kernel_code.specs.declared.traps.Trap.{Trap}
 use Rattle.kernel_code.specs.Code.{JumpsForward}
 use Rattle.kernel_code.specs.Machine.{State, Turn, act, after, end_of, goes_on, next_state, start, turn_at, Ends}
 use Rattle.kernel_code.proofs.Runs.{one_end, turn_leads}
-use Rattle.integrator.proofs.Constructors.{none_is_no_some}
-use Rattle.integrator.specs.Kernels.{GivesSlope, is_operation}
+use Rattle.line_text.proofs.StepLaws.{none_is_no_some}
+use Rattle.potential.specs.CodeSlopes.{GivesSlope, is_operation}
 use Rattle.tested_run.specs.declared.slope_faults.SlopeFault.{SlopeFault}
 use Rattle.tested_run.specs.Outcomes.{OutcomesAreEnds, end_after, fault_of, first_from, operation_fault, or_else, outcome_of, where_given}
 

@@ -1,6 +1,6 @@
 -- The pairs of a frame in order, and forces added up over them.
 use Rattle.std.proofs.Common.{◌≡◌, ℕ, zero, suc, ◌+◌, ◌-◌, ◌<◌, ◌≤◌, List, [], ◌∷◌, ◌++◌, ℤ, Option, Some, None, Ok, Err, arith, refl, ap, sym, add-one}
-use Rattle.integrator.proofs.Constructors.{err_is_no_ok, ok_same}
+use Rattle.line_text.proofs.StepLaws.{err_is_no_ok, same_ok}
 use Rattle.ring_box.specs.declared.vectors.Force.{Force}
 use Rattle.integrator.specs.Forces.{pairs_with, pairs_from}
 use Rattle.tested_run.specs.Adding.{on_force, with_pair, with_pairs}
@@ -40,7 +40,7 @@ after_one force sums middle p ps qs (Some v) h rest = rest v h
 pub pairs_after : (force : ℕ × ℕ → Option (Force ℤ)) (sums middle : List (Force ℤ)) (ps qs : List (ℕ × ℕ)) → with_pairs force sums ps ≡ Ok middle
     → with_pairs force sums (ps ++ qs) ≡ with_pairs force middle qs
 unfolding with_pairs
-pairs_after force sums middle [] qs e = ap (λ s. with_pairs force s qs) (ok_same sums middle e)
+pairs_after force sums middle [] qs e = ap (λ s. with_pairs force s qs) (same_ok sums middle e)
 pairs_after force sums middle (p ∷ ps) qs e =
     after_one force sums middle p ps qs (force p) e (λ v h. pairs_after force (with_pair sums p v) middle ps qs h)
 

@@ -13,8 +13,8 @@ use Rattle.ring_box.specs.declared.vectors.Force.{Force}
 use Rattle.ring_box.specs.declared.vectors.Place3.{Place3}
 use Rattle.fixed.specs.Fractions.{bits_of}
 use Rattle.derivative.specs.Slope.{slope_of}
-use Rattle.integrator.proofs.Constructors.{none_is_no_some}
-use Rattle.integrator.specs.Energies.{Energy}
+use Rattle.line_text.proofs.StepLaws.{none_is_no_some}
+use Rattle.potential.specs.Energies.{Energy}
 use Rattle.tested_run.specs.Outcomes.{where_given}
 use Rattle.integrator.specs.Forces.{plus, share_of, sum_of_shares, pairs_of, force_or_none, forces_of, numbers_from}
 use Rattle.integrator.specs.Frames.{Frame, Frames, force_at, frame_forces, frames, moved_frame, next_frame, pair_force, places_of, step_in, steps_in}

@@ -1,5 +1,7 @@
 -- Refusals of a tested run's start.
 use Rattle.std.proofs.Common.{◌≡◌, ℕ, List, Ok}
+use Rattle.energy_program.specs.Faults as energies
+use Rattle.energy_program.specs.declared.faults.ExprFault.{ExprFault}
 use Rattle.fallible.specs.Failures.{Fails, IfRefused, refused_as}
 use Rattle.fallible.specs.declared.failure.Failure.{Failure}
 use Rattle.fallible.specs.declared.failure.Failure.TheVariants.{Memory, Refused}
@@ -7,7 +9,9 @@ use Rattle.job.specs.Values.{JobValue}
 use Rattle.state.specs.StateText.{StateView}
 use Rattle.line_text.specs.Steps.{◌>>=◌}
 use Rattle.line_text.proofs.StepLaws.{bind_err}
-use Rattle.integrator.specs.Starts.{Law, Start, in_counter, start_at, start_of_run, start_with, system_of}
+use Rattle.potential.specs.Energies.{energy_of}
+use Rattle.integrator.proofs.StartLaws.{energy_unready}
+use Rattle.integrator.specs.Starts.{Law, Start, energy_refused, in_counter, start_at, start_of_run, start_with, system_of}
 use Rattle.integrator.specs.StartViews.{system_refusal}
 use Rattle.integrator.specs.States.{counter_after}
 use Rattle.integrator.specs.declared.direction.Direction.{Direction}
@@ -21,11 +25,19 @@ use Rattle.tested_run.specs.declared.faults.StartFault.TheVariants as start
 use Rattle.tested_run.specs.declared.faults.TestedFault.{TestedFault}
 use Rattle.tested_run.specs.declared.faults.TestedFault.TheVariants as fault
 
--- a job and a state whose atoms can't be run have no start
-pub system_handed_on : {A : Type 0} → (law : Law) (w : Direction) (n : ℕ) (j : JobValue) (s : StateView) (failure : Failure (SystemFault A)) → Fails system_refusal failure (system_of j s) → Fails start_refusal (refused_as start.System failure) (start_with law w n j s)
+-- a job whose energy is refused has no start
+pub energy_handed_on : {A : Type 0} → (law : Law) (w : Direction) (n : ℕ) (j : JobValue) (s : StateView) (failure : Failure (ExprFault A)) → Fails energies.refusal_of failure (energy_of j)
+    → Fails start_refusal (refused_as start.Energy failure) (start_with law w n j s)
 unfolding start_with
-system_handed_on law w n j s (Refused f) h = bind_err (system_of j s) (λ system. in_counter (counter_after w s.step n) >>= λ counter. Ok (start_at law j s system counter)) (system_refusal f) h
-system_handed_on law w n j s Memory h = tt
+energy_handed_on law w n j s (Refused f) h =
+    bind_err (system_of j s) (λ system. in_counter (counter_after w s.step n) >>= λ counter. Ok (start_at law j s system counter)) (energy_refused (energies.refusal_of f)) (energy_unready j s (energies.refusal_of f) h)
+energy_handed_on law w n j s Memory h = tt
+
+-- a job and a state whose atoms can't be run have no start
+pub system_handed_on : (A : Type 0) (law : Law) (w : Direction) (n : ℕ) (j : JobValue) (s : StateView) (failure : Failure SystemFault) → Fails system_refusal failure (system_of j s) → Fails start_refusal (refused_as {S = StartFault A} start.System failure) (start_with law w n j s)
+unfolding start_with
+system_handed_on A law w n j s (Refused f) h = bind_err (system_of j s) (λ system. in_counter (counter_after w s.step n) >>= λ counter. Ok (start_at law j s system counter)) (system_refusal f) h
+system_handed_on A law w n j s Memory h = tt
 
 -- texts that have no start have no tested run
 pub start_handed_on : {A : Type 0} → (job state : List ℕ) (w : Direction) (n : ℕ) (failure : Failure (StartFault A)) → Fails start_refusal failure (start_of_run tested job state w n) → IfRefused (refused_as fault.Start failure) (IsRefusal job state w n)

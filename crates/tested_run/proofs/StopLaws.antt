@@ -3,7 +3,7 @@ use Rattle.std.proofs.Common.{◌≡◌, ℕ, zero, suc, ◌+◌, ◌<◌, List,
 use Rattle.std.specs.Prelude.{option_map}
 use Rattle.std.specs.Option.{option_and_then}
 use Rattle.state.specs.StateText.{StateView}
-use Rattle.integrator.proofs.Constructors.{none_is_no_some, ok_same}
+use Rattle.line_text.proofs.StepLaws.{none_is_no_some, same_ok}
 use Rattle.integrator.specs.Frames.{Dynamics, Frame, Frames, frames, moved_frame, next_frame, step, step_in, steps_in, exchanged, pair_force}
 use Rattle.tested_run.specs.declared.slope_faults.SlopeFault.{SlopeFault}
 use Rattle.integrator.specs.declared.direction.Direction.{Direction}
@@ -74,7 +74,7 @@ stopped_or_ran w n s faults f a p q =
 pub tested_runs : {A : Type 0} → (job state : List ℕ) (w : Direction) (n : ℕ) (text : List ℕ) (f : TestedFault A) → IsRun tested job state w n text → IsRefusal job state w n f → ⊥
 tested_runs job state w n text (fault.Start f) r h = run_starts tested job state w n text (start_refusal f) r h
 tested_runs job state w n text (fault.Kernel f) r h =
-    let same : r.start ≡ h.start = ok_same r.start h.start (sym r.starts ∙ h.starts) in
+    let same : r.start ≡ h.start = same_ok r.start h.start (sym r.starts ∙ h.starts) in
     stopped_or_ran w n h.start h.faults f r.after h.stopped (start_moves w n r.start h.start r.after same r.ran)
 
 -- so of these texts a tested run has no failure but out of memory

@@ -1,11 +1,12 @@
 -- Why a tested run gives no state.
 use Rattle.std.specs.Prelude.{◌≡◌, ℕ, ◌+◌, List, Ok, Err}
+use Rattle.energy_program.specs.Faults as energies
 use Rattle.fallible.specs.Failures.{IfRefused}
 use Rattle.fallible.specs.Out.{Output}
 use Rattle.fallible.specs.declared.failure.Failure.TheVariants.{Memory}
 use Rattle.job.specs.Views as job
 use Rattle.integrator.specs.States.{frames_of}
-use Rattle.integrator.specs.Starts.{Refusal, Start, job_refused, start_of_run, state_refused, step_range}
+use Rattle.integrator.specs.Starts.{Refusal, Start, energy_refused, job_refused, start_of_run, state_refused, step_range}
 use Rattle.integrator.specs.StartViews.{system_refusal}
 use Rattle.integrator.specs.Runs.{WroteBeginning}
 use Rattle.integrator.specs.declared.direction.Direction.{Direction}
@@ -23,11 +24,12 @@ use Rattle.tested_run.specs.declared.faults.TestedRunFault.TheVariants as run
 abbrev pub start_refusal : {A : Type 0} → StartFault A → Refusal
 start_refusal (start.Job f) = job_refused (job.refusal_of f)
 start_refusal (start.State f) = state_refused f
+start_refusal (start.Energy f) = energy_refused (energies.refusal_of f)
 start_refusal (start.System f) = system_refusal f
 start_refusal start.StepRange = step_range
 
--- the run stops before this frame, at this pair, counted from 1, since an operation of the kernel's code, at this place, has
--- no value there
+-- the run stops before this frame, at this pair, counted from 1, since an operation of the kernel's code, at this
+-- place, has no value there
 pub record IsStop (direction : Direction) (steps : ℕ) (start : Start) (faults : Faults) (f : KernelFault) : Type 0 where
   pub done : ℕ
   pub pair : ℕ × ℕ
@@ -49,7 +51,8 @@ abbrev pub IsRefusal : {A : Type 0} → List ℕ → List ℕ → Direction → 
 IsRefusal job state direction steps (fault.Start f) = start_of_run tested job state direction steps ≡ Err (start_refusal f)
 IsRefusal job state direction steps (fault.Kernel f) = IsKernelFault job state direction steps f
 
--- why the text of a tested run was not written, and what the output is left with: only a failed output has a beginning of the text
+-- why the text of a tested run was not written, and what the output is left with: only a failed output has a beginning
+-- of the text
 abbrev pub IsTestedUnwritten : {A : Type 0} → List ℕ → List ℕ → Direction → ℕ → Output → Output → TestedRunFault A → Type 0
 IsTestedUnwritten job state direction steps before after (run.Run failure) = IfRefused failure (IsRefusal job state direction steps) × (after ≡ before)
 IsTestedUnwritten job state direction steps before after (run.Out f) = WroteBeginning tested job state direction steps before after

@@ -33,7 +33,8 @@ abbrev pub middle : Direction → Frames → Frame
 middle Forward f = f.current
 middle Back f = f.previous
 
--- of n steps from the frames f, `done` can be made, and in the frame whose forces the next one wants `pair` is the first pair without a force, because of this fault
+-- of n steps from the frames f, `done` can be made, and in the frame whose forces the next one wants `pair` is the
+-- first pair without a force, because of this fault
 pub record StopsAt (direction : Direction) (dynamics : Dynamics) (faults : Faults) (n : ℕ) (f : Frames) (done : ℕ) (pair : ℕ × ℕ) (fault : SlopeFault) : Type 0 where
   pub reached : Frames
   pub steps : steps_in direction dynamics done f ≡ Some reached

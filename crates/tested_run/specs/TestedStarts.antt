@@ -10,7 +10,7 @@ use Rattle.energy_program.specs.Programs.{program_tree}
 use Rattle.state.specs.StateReading.{state_of}
 use Rattle.state.specs.StateText.{StateView}
 use Rattle.state.specs.StateViews.{state_view}
-use Rattle.integrator.specs.Energies.{Energy}
+use Rattle.potential.specs.Energies.{Energy}
 use Rattle.integrator.specs.Systems.{dynamics_of}
 use Rattle.integrator.specs.Starts.{Start, Law, dynamics_by, pair_inputs, system_of}
 use Rattle.tested_run.specs.Outcomes.{fault_of, outcome_of, where_given}

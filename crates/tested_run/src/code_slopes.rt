@@ -5,7 +5,7 @@ ghost use Rattle.fixed.specs.Fractions.{bits_of};
 ghost use Rattle.derivative.specs.Slope.{slope_of};
 ghost use Rattle.energy_program.specs.Programs.{program_tree};
 ghost use Rattle.kernel_code.specs.Tables.{inputs_of};
-ghost use Rattle.integrator.specs.Kernels.{is_operation};
+ghost use Rattle.potential.specs.CodeSlopes.{is_operation};
 ghost use Rattle.tested_run.specs.Outcomes.{fault_of, operation_fault, outcome_of, where_given};
 ghost use Rattle.tested_run.specs.SlopeBounds.{given_bounded};
 

@@ -2,10 +2,11 @@
 
 ghost use Rattle.std.specs.Prelude.{◌≡◌};
 ghost use Rattle.fallible.specs.Failures.{refused_as};
-ghost use Rattle.tested_run.specs.declared.faults.StartFault.TheVariants.{Job, State, System};
+ghost use Rattle.tested_run.specs.declared.faults.StartFault.TheVariants.{Energy, Job, State, System};
 ghost use Rattle.tested_run.specs.declared.faults.TestedFault.TheVariants.{Kernel, Start};
 ghost use Rattle.tested_run.specs.declared.faults.TestedRunFault.TheVariants as run;
 
+use energy_program::ExprFault;
 use fallible::{Failure, OutFault};
 use fixed::Fault;
 use integrator::SystemFault;
@@ -23,9 +24,12 @@ pub enum StartFault<A: Allocator> {
     /// The state's text is refused.
     #[error("{0}")]
     State(StateFault),
+    /// The energy's text is refused, or its slope or its code would be too large.
+    #[error("{0}")]
+    Energy(ExprFault<A>),
     /// The job and the state have no atoms that can be run.
     #[error("{0}")]
-    System(SystemFault<A>),
+    System(SystemFault),
     /// The step counter would leave an i64.
     #[error("A4 StepRange")]
     StepRange,
@@ -87,8 +91,18 @@ impl<A: Allocator> StartFault<A> {
         }
     }
 
+    /// The failure by what an energy is refused for.
+    pub(crate) fn of_energy(failure: Failure<ExprFault<A>>) -> Failure<StartFault<A>>
+        ensures { result ≡ refused_as Energy failure }
+    {
+        match failure {
+            Failure::Refused(fault) => Failure::Refused(StartFault::Energy(fault)),
+            Failure::Memory => Failure::Memory,
+        }
+    }
+
     /// The failure by what a job and a state are refused for.
-    pub(crate) fn of_system(failure: Failure<SystemFault<A>>) -> Failure<StartFault<A>>
+    pub(crate) fn of_system(failure: Failure<SystemFault>) -> Failure<StartFault<A>>
         ensures { result ≡ refused_as System failure }
     {
         match failure {

@@ -1,13 +1,13 @@
 //! The slope of a job's energy between two types of atoms, by its code on the tested machine.
 
-ghost use Rattle.std.specs.Prelude.{◌≡◌, ℕ, ℤ, ◌<◌, length};
+ghost use Rattle.std.specs.Prelude.{ℕ, ℤ, ◌<◌, length};
 ghost use Rattle.fixed.specs.Fractions.{bits_of};
 ghost use Rattle.energy_program.specs.Programs.{program_tree};
 ghost use Rattle.kernel_code.specs.Tables.{inputs_of};
-ghost use Rattle.integrator.specs.Kernels.{GivesSlope};
+ghost use Rattle.potential.specs.CodeSlopes.{GivesSlope};
 
-use integrator::SlopeParts;
 use kernel_code::TypeTable;
+use potential::SlopeParts;
 use std::alloc::Allocator;
 
 /// An energy, the code of its slope, and what its variables stand for.

@@ -1,5 +1,5 @@
-//! Jobs and states, run forwards and back by the Levesque-Verlet rule on one thread, with every instruction of the slope's code
-//! tested and forces summed in 128 bits.
+//! Jobs and states, run forwards and back by the Levesque-Verlet rule on one thread, with every instruction of the
+//! slope's code tested and forces summed in 128 bits.
 #![tactic(auto)]
 
 mod code_slopes;

@@ -216,10 +216,10 @@ fn state_after<A: Allocator + Copy>(
 /// force. The same number of steps the other way over the written bytes gives the starting bytes again.
 ///
 /// The refusals come in this order: those of the job, of the state, of the energy; `BitsDiffer` where the job's
-/// numbers and the state's have not as many bits behind the point; `UnknownType` for the lowest atom whose name no type has; `CutoffTooLong` where some side is shorter than two cutoffs; `StepRange` where the counter
-/// would leave an i64; `Kernel` for the first pair without a force in the first frame that has one. `Memory`: an
-/// allocation was refused. Nothing is written then. `Out` comes only where a write failed, after a beginning of
-/// the new state's text.
+/// numbers and the state's have not as many bits behind the point; `UnknownType` for the lowest atom whose name no type
+/// has; `CutoffTooLong` where some side is shorter than two cutoffs; `StepRange` where the counter would leave an i64;
+/// `Kernel` for the first pair without a force in the first frame that has one. `Memory`: an allocation was refused.
+/// Nothing is written then. `Out` comes only where a write failed, after a beginning of the new state's text.
 pub fn run_bytes_checked<A: Allocator + Copy, O: Out>(
     alloc: A,
     job: &[u8],

@@ -6,10 +6,11 @@ ghost use Rattle.fixed.specs.Arithmetic.{in_range};
 ghost use Rattle.fixed.specs.Fractions.{bits_of};
 ghost use Rattle.job.specs.Views.{job_value, type_value};
 ghost use Rattle.state.specs.StateViews.{state_view};
-ghost use Rattle.integrator.specs.Energies.{IsCompiled};
-ghost use Rattle.integrator.specs.Starts.{mass_of, start_at, start_of_run, start_with, table_of};
+ghost use Rattle.potential.specs.Energies.{IsCompiled};
+ghost use Rattle.integrator.specs.Starts.{mass_of, start_at, start_of_run, start_with};
+ghost use Rattle.potential.specs.Tables.{table_of};
 ghost use Rattle.integrator.specs.States.{counter_at};
-ghost use Rattle.integrator.specs.StartViews.{energy_view};
+ghost use Rattle.potential.specs.EnergyViews.{energy_view};
 ghost use Rattle.fallible.specs.Failures.{Gives};
 ghost use Rattle.tested_run.specs.Refusals.{start_refusal};
 ghost use Rattle.tested_run.specs.TestedStarts.{faults_view, start_view, tested, tested_faults, HasFaults, HaveFaults};
@@ -18,8 +19,9 @@ use crate::faults::StartFault;
 use crate::kernels::CodeKernel;
 use crate::prepared::Prepared;
 use fallible::Failure;
-use integrator::{Direction, SlopeParts, System, TypedAtoms, counter_after, ready, type_table};
+use integrator::{Direction, System, TypedAtoms, counter_after, typed_atoms};
 use job::Job;
+use potential::{SlopeParts, job_slope, type_table};
 use state::State;
 use std::alloc::{AllocError, Allocator};
 
@@ -83,15 +85,19 @@ fn started<A: Allocator + Copy>(
     ensures faults { IfOk result (λ p. HasFaults (job_value job.now) (state_view state) (faults_view p)) }
     ensures fits { IfOk result (λ p. in_range (counter_at direction p.state.step steps) ≡ true) }
 {
-    let ready = match ready(alloc, job, &state) {
-        Ok(ready) => ready,
+    let parts = match job_slope(alloc, job) {
+        Ok(parts) => parts,
+        Err(failure) => return Err(StartFault::of_energy(failure)),
+    };
+    let atoms = match typed_atoms(alloc, job, &state) {
+        Ok(atoms) => atoms,
         Err(failure) => return Err(StartFault::of_system(failure)),
     };
     let Some(counter) = counter_after(direction, &state, steps) else {
         return Err(Failure::Refused(StartFault::StepRange));
     };
-    let kernel = kernel(alloc, job, ready.parts)?;
-    Ok(prepare(job, state, kernel, ready.atoms, counter))
+    let kernel = kernel(alloc, job, parts)?;
+    Ok(prepare(job, state, kernel, atoms, counter))
 }
 
 /// The start of a tested run of these texts, or its refusal.

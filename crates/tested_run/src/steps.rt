@@ -1,6 +1,6 @@
 //! Steps: from two frames that follow one another to the next two.
 
-ghost use Rattle.std.specs.Prelude.{◌≡◌, ◌<◌, ◌≤◌, ◌^◌, length, Some, OnOk, IfErr};
+ghost use Rattle.std.specs.Prelude.{◌≡◌, ◌<◌, ◌^◌, length, Some, OnOk, IfErr};
 ghost use Rattle.std.specs.List.{All};
 ghost use Rattle.ring_box.specs.Forces.{IsWithin};
 ghost use Rattle.integrator.specs.Frames.{frames, moved_frame, next_frame, pair_force, step, steps_in};

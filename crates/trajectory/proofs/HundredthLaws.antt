@@ -1,4 +1,5 @@
--- Hundredths of a run: where the next one is complete, and that those of a stretch and of the stretch behind it are those of both.
+-- Hundredths of a run: where the next one is complete, and that those of a stretch and of the stretch behind it are
+-- those of both.
 use Rattle.std.proofs.Common.{◌≡◌, ℕ, zero, suc, ◌+◌, ◌-◌, ◌*◌, ◌/◌, ◌%◌, ◌<◌, ◌≤◌, true, false, List, [], ◌∷◌, ◌++◌, arith, refl, ap, sym, subst, ◌∙◌, zero-add}
 use Rattle.std.specs.Prelude.{cond, filter}
 use Rattle.std.specs.Int.{div_ceil}
@@ -86,7 +87,8 @@ nothing_told n told none = (0, omega arith, subst told (sym (hundredths-zero n 0
 ceil_above : (x e : ℕ) → e ≡ div_ceil x 100 → (x ≤ 100 * e) × (100 * e < x + 100)
 ceil_above x e h = (omega (arith, h), omega (arith, h))
 
--- With q whole hundredths complete after the first steps, the next is complete with the least step s where 100 s is (q + 1) n or more.
+-- With q whole hundredths complete after the first steps, the next is complete with the least step s where 100 s is (q
+-- + 1) n or more.
 pub next_hundredth : (n first e : ℕ) → first < n → e ≡ div_ceil ((100 * first / n + 1) * n) 100 → IsNextHundredth n first (e - first)
 next_hundredth n first e few h =
     let more = e - first in

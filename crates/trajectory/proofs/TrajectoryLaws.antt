@@ -173,7 +173,8 @@ next_written w every number e f g s time_step o m r a b is same wrote frame =
     let one : number + 1 ≡ suc number = omega arith in
     rw one (went, frame_reached w every (suc number) e g time_step o m r went same wrote (subst (λ (v : StateView). WroteFrame time_step v m r) is frame))
 
--- where the next frame wasn't written, the frames before it are left whole, and maybe a beginning of it where the output failed
+-- where the next frame wasn't written, the frames before it are left whole, and maybe a beginning of it where the
+-- output failed
 pub next_left : (w : Direction) (every most number : ℕ) (e f g : EngineView) (s : StateView) (time_step : ℕ) (o m r : Output) (h : Halt) → number < most → Went w (number * every) e f → Went w every f g
     → s ≡ g.state → time_step ≡ e.job.time_step → WroteFrames (IsFrameOnWay w every e) (suc number) o m → IsFrameUnwritten time_step s (number * every + every) m r h
     → Halts (IsFrameOnWay w every e) every most o r h

@@ -1,4 +1,5 @@
--- The titles of the frames of a trajectory: a state's own title, and the time and the step of the frame behind it, as GROMACS writes them (GROMACS manual, gro file format).
+-- The titles of the frames of a trajectory: a state's own title, and the time and the step of the frame behind it, as
+-- GROMACS writes them (GROMACS manual, gro file format).
 use Rattle.std.specs.Prelude.{◌≡◌, ◌⊎◌, ℕ, suc, ◌+◌, ◌*◌, ◌<◌, List, ◌++◌, length, take, codes, ℤ, pos, negsuc, neg_ℤ, slice_range}
 use Rattle.std.specs.Fmt.{signed_decimal}
 use Rattle.line_text.specs.Columns.{decimals_text}

@@ -1,4 +1,5 @@
--- Trajectories: the frames after 0, k, 2k, .. steps of a run, one after the other, as GROMACS writes them (GROMACS manual, gro file format).
+-- Trajectories: the frames after 0, k, 2k, .. steps of a run, one after the other, as GROMACS writes them (GROMACS
+-- manual, gro file format).
 use Rattle.std.specs.Prelude.{◌≡◌, ℕ, zero, suc, ◌+◌, ◌-◌, ◌*◌, ◌/◌, ◌≤◌, List, [], ◌++◌, None, Ok}
 use Rattle.fallible.specs.Failures.{IfRefused}
 use Rattle.fallible.specs.Out.{Output, Appends, AppendsBeginning}
@@ -82,7 +83,8 @@ pub record BeganFrames (IsText : ℕ → List ℕ → Type 0) (count : ℕ) (bef
   pub frames : AreJoined IsText count text
   pub beginning : AppendsBeginning before after text
 
--- whole frames are left where memory ran out after `done` steps: those up to there, maybe without that after just `done`
+-- whole frames are left where memory ran out after `done` steps: those up to there, maybe without that after just
+-- `done`
 pub record LeftWhole (IsText : ℕ → List ℕ → Type 0) (every most done : ℕ) (before after : Output) : Type 0 where
   pub count : ℕ
   pub within : done ≤ most * every
@@ -120,7 +122,8 @@ abbrev pub IsFrameUnwritten : ℕ → StateView → ℕ → (before after : Outp
 IsFrameUnwritten time_step s steps before after (halt.Memory done) = (done ≡ steps) × (after ≡ before)
 IsFrameUnwritten time_step s steps before after (halt.Out f) = BeganFrame time_step s before after
 
--- why the frames after 0, k, 2k, .. of n steps of an engine were not all written, and what the output is left with: nothing, where the counter would leave 64 bits
+-- why the frames after 0, k, 2k, .. of n steps of an engine were not all written, and what the output is left with:
+-- nothing, where the counter would leave 64 bits
 abbrev pub IsWayUnwritten : {A : Type 0} → Direction → (steps every : ℕ) → EngineView → (before after : Output) → RunFault A → Type 0
 IsWayUnwritten direction steps every e before after (run.Open failure) = ⊥
 IsWayUnwritten direction steps every e before after (run.Steps step.StepRange) = (counter_after direction e.state.step steps ≡ None) × (after ≡ before)
@@ -129,7 +132,8 @@ IsWayUnwritten direction steps every e before after (run.Out f) = LeftBeginning 
 
 -- ---- from bytes to bytes
 
--- why the frames of a run from these texts were not all written, and what the output is left with: nothing, where they have no engine or the counter would leave 64 bits
+-- why the frames of a run from these texts were not all written, and what the output is left with: nothing, where they
+-- have no engine or the counter would leave 64 bits
 abbrev pub AreFramesUnwritten : {A : Type 0} → List ℕ → List ℕ → Direction → (steps every : ℕ) → (before after : Output) → RunFault A → Type 0
 AreFramesUnwritten job state direction steps every before after (run.Open failure) = IfRefused failure (HasNoEngineOfTexts job state) × (after ≡ before)
 AreFramesUnwritten job state direction steps every before after (run.Steps step.StepRange) = AreStopped job state direction steps step.StepRange × (after ≡ before)

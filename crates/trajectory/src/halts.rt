@@ -37,5 +37,6 @@ impl<A: Allocator> From<Halt> for RunFault<A> {
     }
 }
 
-/// Lets the engine of a run go that has ended. Every run does it here: an engine has many parts, and each place that drops one drops them all.
-pub(crate) fn let_go<A: Allocator + Copy>(_engine: Engine<A>) {}
+/// Drops the engine of a run that has ended. Every run does it here: an engine has many parts, and each place that
+/// drops one drops them all.
+pub(crate) fn drop_engine<A: Allocator + Copy>(_engine: Engine<A>) {}

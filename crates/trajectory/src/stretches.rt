@@ -9,7 +9,7 @@ ghost use Rattle.trajectory.specs.Watching.{IsNextHundredth, hundredths_behind};
 use crate::halts::Halt;
 use crate::watching::Watch;
 use engine::Engine;
-use integrator::{Direction, StepFault};
+use integrator::{Direction, StepFault, Workers};
 use std::alloc::Allocator;
 use std::thread::Threads;
 
@@ -21,11 +21,9 @@ fn go_on<R: Threads + Sync, A: Allocator + Copy + Send + Sync>(
     engine: &mut Engine<A>,
     direction: Direction,
     steps: u64,
-    workers: u32,
+    workers: Workers,
     before: u64,
 ) -> Result<(), Halt>
-    requires some { 0 < workers }
-    requires few { workers ≤ 64 }
     requires fits { is_none (counter_after direction engine.old.state.step steps) ≡ false }
     requires range { before + steps < 2 ^ 64 }
     ensures went { OnOk result (Went direction steps engine.old engine.new) }
@@ -57,13 +55,11 @@ pub(crate) fn advance<R: Threads + Sync, A: Allocator + Copy + Send + Sync, W: W
     engine: &mut Engine<A>,
     direction: Direction,
     steps: u64,
-    workers: u32,
+    workers: Workers,
     before: u64,
     of: u64,
     watch: &mut W,
 ) -> Result<(), Halt>
-    requires some { 0 < workers }
-    requires few { workers ≤ 64 }
     requires fits { (k : ℕ) → k ≤ steps → is_none (counter_after direction engine.old.state.step k) ≡ false }
     requires within { before + steps ≤ of }
     ensures went { OnOk result (Went direction steps engine.old engine.new) }

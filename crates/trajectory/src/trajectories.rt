@@ -10,13 +10,13 @@ ghost use Rattle.trajectory.specs.Watching.{SomeHundredths, hundredths};
 ghost use Rattle.integrator.specs.States.{counter_after};
 
 use crate::frame_titles::timed_title;
-use crate::halts::{Halt, let_go};
+use crate::halts::{Halt, drop_engine};
 use crate::stretches::advance;
 use crate::watching::{Unwatched, Watch};
 use engine::{Engine, RunFault, open};
 use fallible::Out;
 use gro::{GroFrame, write};
-use integrator::{Direction, StepFault, counter_after};
+use integrator::{Direction, StepFault, Workers, counter_after};
 use job::TimeStep;
 use state::State;
 use std::alloc::{AllocError, Allocator};
@@ -44,7 +44,8 @@ fn timed_frame<A: Allocator + Copy>(
 
 /// Writes the frame of a state after n steps.
 ///
-/// `Memory`: an allocation was refused; it tells the steps, and nothing is written. `Out`: a write failed, after a beginning of the frame.
+/// `Memory`: an allocation was refused; it tells the steps, and nothing is written. `Out`: a write failed, after a
+/// beginning of the frame.
 fn write_frame<A: Allocator + Copy, O: Out>(
     state: &State<A>,
     time_step: TimeStep,
@@ -64,19 +65,18 @@ fn write_frame<A: Allocator + Copy, O: Out>(
 
 /// Writes the frame of an engine, and then `most` times the frame after `every` more steps.
 ///
-/// `Memory`: an allocation was refused after `done` steps, and whole frames are written. `Out`: a write failed, after a beginning of the frames.
+/// `Memory`: an allocation was refused after `done` steps, and whole frames are written. `Out`: a write failed, after a
+/// beginning of the frames.
 fn write_frames<R: Threads + Sync, A: Allocator + Copy + Send + Sync, W: Watch, O: Out>(
     rt: &R,
     engine: &mut Engine<A>,
     every: u64,
     most: u64,
     direction: Direction,
-    workers: u32,
+    workers: Workers,
     watch: &mut W,
     out: &mut O,
 ) -> Result<(), Halt>
-    requires some { 0 < workers }
-    requires few { workers ≤ 64 }
     requires fits { (k : ℕ) → k ≤ most * every → is_none (counter_after direction engine.old.state.step k) ≡ false }
     requires range { most * every < 2 ^ 64 }
     requires room { (O.output out.old).failed < 2 ^ 64 - 1 }
@@ -96,19 +96,20 @@ fn write_frames<R: Threads + Sync, A: Allocator + Copy + Send + Sync, W: Watch, 
     Ok(())
 }
 
-/// Runs a state n steps in a direction, by `workers` workers, and writes the frames after 0, k, 2k, .. of the steps, for k = `every`,
-/// as frames of a GRO file, one after the other.
+/// Runs a state n steps in a direction, by so many workers, and writes the frames after 0, k, 2k, .. of the steps, for
+/// k = `every`, as frames of a GRO file, one after the other.
 ///
-/// `job` and `state` are the bytes of a job and a state file, `steps` at most 1,000,000,000,000, `every` at least 1, `workers` 1 to 64, the
-/// first of them the caller's thread. For every job and state that are accepted, all numbers of steps and of workers and every order of the
-/// workers' claims and additions, each frame is that of `State::frame` of the state after that many Levesque-Verlet steps, as `run_bytes`
-/// writes it; its title is the state's own up to the first ` t= ` in it, and then ` t= %9.5f step= %d`: the time in ps and the step counter
-/// (GROMACS manual, gro file format). Steps behind the last frame are not made.
+/// `job` and `state` are the bytes of a job and a state file, `steps` at most 1,000,000,000,000, `every` at least 1.
+/// For every job and state that are accepted, all numbers of steps and of workers and every order of the workers'
+/// claims and additions, each frame is that of `State::frame` of the state after that many Levesque-Verlet steps, as
+/// `run_bytes` writes it; its title is the state's own up to the first ` t= ` in it, and then ` t= %9.5f step= %d`: the
+/// time in ps and the step counter (GROMACS manual, gro file format). Steps behind the last frame are not made.
 ///
-/// The refusals come in this order: `Open` with those of the job, of the state and of `Engine::new`, or where an allocation was refused
-/// before there was an engine; `Steps` with `StepRange` where the counter would leave an i64 within the steps; nothing is written then.
-/// `Steps` with `Memory` where an allocation was refused after `done` steps: the frames up to there are written whole, maybe without
-/// that after just `done`. `Out` comes only where a write failed, after a beginning of the frames.
+/// The refusals come in this order: `Open` with those of the job, of the state and of `Engine::new`, or where an
+/// allocation was refused before there was an engine; `Steps` with `StepRange` where the counter would leave an i64
+/// within the steps; nothing is written then. `Steps` with `Memory` where an allocation was refused after `done` steps:
+/// the frames up to there are written whole, maybe without that after just `done`. `Out` comes only where a write
+/// failed, after a beginning of the frames.
 pub fn trajectory_bytes<R: Threads + Sync, A: Allocator + Copy + Send + Sync, O: Out>(
     rt: &R,
     alloc: A,
@@ -117,18 +118,17 @@ pub fn trajectory_bytes<R: Threads + Sync, A: Allocator + Copy + Send + Sync, O:
     steps: u64,
     every: u64,
     direction: Direction,
-    workers: u32,
+    workers: Workers,
     out: &mut O,
 ) -> Result<(), RunFault<A>>
-    requires some { 0 < workers }
-    requires few { workers ≤ 64 }
     requires every { 0 < every }
     requires count { (O.output out.old).failed < 2 ^ 64 - 1 }
     // No instruction of the slope's code goes wrong, and no pair takes more of them than the certified number.
     ensures safe { OnOk result (AreSafe job.now state.now) }
     // The frames after 0, k, 2k, .. steps are written.
     ensures wrote { OnOk result (WroteFrames (IsFrameOfRun job.now state.now direction every) (suc (steps / every)) (O.output out.old) (O.output out.new)) }
-    // Why they are not, and what is written then: nothing before the first frame, whole frames where memory ran out, a beginning of them where the output failed.
+    // Why they are not, and what is written then: nothing before the first frame, whole frames where memory ran out, a
+    // beginning of them where the output failed.
     ensures refused { IfErr result (AreFramesUnwritten job.now state.now direction steps every (O.output out.old) (O.output out.new)) }
 {
     watched_trajectory_bytes(
@@ -145,7 +145,8 @@ pub fn trajectory_bytes<R: Threads + Sync, A: Allocator + Copy + Send + Sync, O:
     )
 }
 
-/// As `trajectory_bytes`, and tells a watcher after each hundredth of the steps up to the last frame. What is written is the same whoever watches.
+/// As `trajectory_bytes`, and tells a watcher after each hundredth of the steps up to the last frame. What is written
+/// is the same whoever watches.
 pub fn watched_trajectory_bytes<
     R: Threads + Sync,
     A: Allocator + Copy + Send + Sync,
@@ -159,19 +160,18 @@ pub fn watched_trajectory_bytes<
     steps: u64,
     every: u64,
     direction: Direction,
-    workers: u32,
+    workers: Workers,
     watch: &mut W,
     out: &mut O,
 ) -> Result<(), RunFault<A>>
-    requires some { 0 < workers }
-    requires few { workers ≤ 64 }
     requires every { 0 < every }
     requires count { (O.output out.old).failed < 2 ^ 64 - 1 }
     // No instruction of the slope's code goes wrong, and no pair takes more of them than the certified number.
     ensures safe { OnOk result (AreSafe job.now state.now) }
     // The frames after 0, k, 2k, .. steps are written.
     ensures wrote { OnOk result (WroteFrames (IsFrameOfRun job.now state.now direction every) (suc (steps / every)) (O.output out.old) (O.output out.new)) }
-    // Why they are not, and what is written then: nothing before the first frame, whole frames where memory ran out, a beginning of them where the output failed.
+    // Why they are not, and what is written then: nothing before the first frame, whole frames where memory ran out, a
+    // beginning of them where the output failed.
     ensures refused { IfErr result (AreFramesUnwritten job.now state.now direction steps every (O.output out.old) (O.output out.new)) }
     // The watcher is told of each hundredth of the steps up to the last frame, or of those among the first steps.
     ensures told { OnOk result (W.told watch.old watch.new (hundredths (steps / every * every))) }
@@ -188,24 +188,22 @@ pub fn watched_trajectory_bytes<
         watch,
         out,
     );
-    let_go(engine);
+    drop_engine(engine);
     done
 }
 
-/// Makes n steps of an engine, tells a watcher of each hundredth of those up to the last frame, and writes the frames after 0, k, 2k, .. of them,
-/// for k = `every`. `StepRange` where the counter would leave an i64 within the n steps.
+/// Makes n steps of an engine, tells a watcher of each hundredth of those up to the last frame, and writes the frames
+/// after 0, k, 2k, .. of them, for k = `every`. `StepRange` where the counter would leave an i64 within the n steps.
 fn write_run<R: Threads + Sync, A: Allocator + Copy + Send + Sync, W: Watch, O: Out>(
     rt: &R,
     engine: &mut Engine<A>,
     steps: u64,
     every: u64,
     direction: Direction,
-    workers: u32,
+    workers: Workers,
     watch: &mut W,
     out: &mut O,
 ) -> Result<(), RunFault<A>>
-    requires some { 0 < workers }
-    requires few { workers ≤ 64 }
     requires every { 0 < every }
     requires range { in_range engine.old.state.step ≡ true }
     requires count { (O.output out.old).failed < 2 ^ 64 - 1 }

@@ -10,18 +10,20 @@ ghost use Rattle.engine.specs.Engines.{AreSafe, IsRunUnwritten, IsStateUnwritten
 ghost use Rattle.engine.specs.Headline.{WroteLevesqueVerletRun};
 ghost use Rattle.trajectory.specs.Watching.{SomeHundredths, hundredths};
 
-use crate::halts::let_go;
+use crate::halts::drop_engine;
 use crate::stretches::advance;
 use crate::watching::Watch;
 use engine::{Engine, RunFault, open};
 use fallible::Out;
-use integrator::{Direction, StepFault, counter_after};
+use integrator::{Direction, StepFault, Workers, counter_after};
 use std::alloc::Allocator;
 use std::thread::Threads;
 
-/// As `engine::run_bytes`, and tells a watcher after each hundredth of the steps. What is written is the same whoever watches.
+/// As `engine::run_bytes`, and tells a watcher after each hundredth of the steps. What is written is the same whoever
+/// watches.
 ///
-/// The refusals are those of `engine::run_bytes`, in the same order; where one comes before the first step, the watcher was told nothing.
+/// The refusals are those of `engine::run_bytes`, in the same order; where one comes before the first step, the watcher
+/// was told nothing.
 pub fn watched_run_bytes<R: Threads + Sync, A: Allocator + Copy + Send + Sync, W: Watch, O: Out>(
     rt: &R,
     alloc: A,
@@ -29,12 +31,10 @@ pub fn watched_run_bytes<R: Threads + Sync, A: Allocator + Copy + Send + Sync, W
     state: &[u8],
     steps: u64,
     direction: Direction,
-    workers: u32,
+    workers: Workers,
     watch: &mut W,
     out: &mut O,
 ) -> Result<(), RunFault<A>>
-    requires some { 0 < workers }
-    requires few { workers ≤ 64 }
     requires count { (O.output out.old).failed < 2 ^ 64 - 1 }
     // No instruction of the slope's code goes wrong, and no pair takes more of them than the certified number.
     ensures safe { OnOk result (AreSafe job.now state.now) }
@@ -46,27 +46,27 @@ pub fn watched_run_bytes<R: Threads + Sync, A: Allocator + Copy + Send + Sync, W
     ensures told_some { IfErr result (λ _. SomeHundredths steps (W.told watch.old watch.new)) }
     // Why there is no such text: only a failed output is left with a beginning of it.
     ensures refused { IfErr result (IsRunUnwritten job.now state.now direction steps (O.output out.old) (O.output out.new)) }
-    // Where there is such a text and the code is accepted, no other refusal is left but out of memory and a failed output.
+    // Where there is such a text and the code is accepted, no other refusal is left but out of memory and a failed
+    // output.
     ensures only { (text : List ℕ) → IsRun plain job.now state.now direction steps text → AreSafe job.now state.now → IfErr result Wants }
 {
     let mut engine = open(alloc, job, state)?;
     let done = run(rt, &mut engine, steps, direction, workers, watch, out);
-    let_go(engine);
+    drop_engine(engine);
     done
 }
 
-/// Makes n steps of an engine, tells a watcher of each hundredth of them, and writes the state that the engine comes to.
+/// Makes n steps of an engine, tells a watcher of each hundredth of them, and writes the state that the engine comes
+/// to.
 fn run<R: Threads + Sync, A: Allocator + Copy + Send + Sync, W: Watch, O: Out>(
     rt: &R,
     engine: &mut Engine<A>,
     steps: u64,
     direction: Direction,
-    workers: u32,
+    workers: Workers,
     watch: &mut W,
     out: &mut O,
 ) -> Result<(), RunFault<A>>
-    requires some { 0 < workers }
-    requires few { workers ≤ 64 }
     requires range { in_range engine.old.state.step ≡ true }
     requires count { (O.output out.old).failed < 2 ^ 64 - 1 }
     ensures wrote { OnOk result (Went direction steps engine.old engine.new × Appends (O.output out.old) (O.output out.new) (state_text engine.new.state)) }

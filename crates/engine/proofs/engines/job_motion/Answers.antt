@@ -4,60 +4,81 @@ use Rattle.energy_program.specs.Programs.{program_tree, trees_of}
 use Rattle.energy_program.specs.declared.programs.Program.{Program}
 use Rattle.job.specs.Views.{job_value}
 use Rattle.state.specs.StateViews.{atom_view, state_view}
-use Rattle.integrator.specs.StartViews.{energy_view, ready_view}
-use Rattle.engine.specs.Engines.{SaysOnly}
-use Rattle.engine.proofs.EngineLaws.{far_by, fits_by, is_safe, job_tree_is, passes, system_refuses, verdict_refuses}
-use Rattle.engine.proofs.HeadlineTexts.{says_energy}
+use Rattle.potential.specs.EnergyViews.{energy_view}
 use Rattle.integrator.proofs.ReturnLaws.{system_parts}
+use Rattle.integrator.proofs.StartLaws.{system_made, system_refused}
+use Rattle.engine.specs.Engines.{SaysOnly}
+use Rattle.engine.proofs.EngineLaws.{energy_refuses, far_by, fits_by, is_safe, job_tree_is, passes, system_refuses, verdict_refuses}
+use Rattle.engine.proofs.HeadlineTexts.{says_energy}
 use Rattle.engine.proofs.engines.job_motion.Goals as goal
 
 pub returns-in-Err-clause-refused : goal.returns-in-Err-clause-refused
-returns-in-Err-clause-refused g c = rw c.of_system.ensures (system_refuses (job_value c.args.job.now) (state_view c.args.state.now) c.in-Err.failure c.in-Err.ensures.value)
+returns-in-Err-clause-refused g c = rw c.of_energy.ensures (energy_refuses (job_value c.args.job.now) (state_view c.args.state.now) c.in-Err.failure c.in-Err.ensures.value)
 
-pub returns-in-Err-safe_kernel-clause-refused : goal.returns-in-Err-safe_kernel-clause-refused
-returns-in-Err-safe_kernel-clause-refused g c =
+pub returns-in-Err-typed_atoms-clause-refused : goal.returns-in-Err-typed_atoms-clause-refused
+returns-in-Err-typed_atoms-clause-refused g c =
+    let j = job_value c.args.job.now in
+    let s = state_view c.args.state.now in
+    let failure = c.in-Err-typed_atoms.failure in
+    rw c.of_system.ensures
+    (system_refuses g.row.A.Denot j s failure (system_refused j s (energy_view c.in-Ok.parts) failure c.in-Ok.ensures.value c.in-Err-typed_atoms.ensures.value))
+
+pub returns-in-Err-new-clause-refused : goal.returns-in-Err-new-clause-refused
+returns-in-Err-new-clause-refused g c =
+    let j = job_value c.args.job.now in
+    let s = state_view c.args.state.now in
+    let energy = energy_view c.in-Ok.parts in
+    let types = c.in-Ok-typed_atoms.atoms.types.items in
     rw c.of_kernel.ensures
-    (verdict_refuses g.row.A.Denot (job_value c.args.job.now) (state_view c.args.state.now) (ready_view c.in-Ok.ready) c.in-Err-safe_kernel.failure c.in-Ok.ensures.value c.in-Err-safe_kernel.ensures.refused)
+    (verdict_refuses g.row.A.Denot j s (energy, types) c.in-Err-new.failure (system_made j s energy types c.in-Ok.ensures.value c.in-Ok-typed_atoms.ensures.value) c.in-Err-new.ensures.refused)
 
 pub motion-requires-clause-fits : goal.motion-requires-clause-fits
 motion-requires-clause-fits g c = fits_by c.fits.result _ c.fits.ensures c.if-fits.true
 
 pub returns-else-fits-clause-refused : goal.returns-else-fits-clause-refused
 returns-else-fits-clause-refused g c =
-    let kernel = c.in-Ok-safe_kernel.ensures in
+    let j = job_value c.args.job.now in
+    let s = state_view c.args.state.now in
+    let energy = energy_view c.in-Ok.parts in
+    let types = c.in-Ok-typed_atoms.atoms.types.items in
     let far = far_by c.fits.result _ c.fits.ensures c.if-fits.false in
     record {
-      system = ready_view c.in-Ok.ready;
-      made = c.in-Ok.ensures.value;
-      it = passes (job_value c.args.job.now) c.in-Ok.ready.parts.code c.in-Ok-safe_kernel.kernel.verified _ kernel.certified kernel.code kernel.table kernel.core kernel.cutoff kernel.bound (rw (length-map c.args.state.now.atoms.items atom_view) far);
+      system = (energy, types);
+      made = system_made j s energy types c.in-Ok.ensures.value c.in-Ok-typed_atoms.ensures.value;
+      it = passes j c.in-Ok.parts.code c.in-Ok-new.kernel.verified _ c.in-Ok-new.ensures.accepted (rw (length-map c.args.state.now.atoms.items atom_view) far);
     }
 
 pub motion-requires-clause-energy : goal.motion-requires-clause-energy
 motion-requires-clause-energy g c =
-    let parts = system_parts (job_value c.args.job.now) (state_view c.args.state.now) (ready_view c.in-Ok.ready) c.in-Ok.ensures.value in
-    ap program_tree c.in-Ok-safe_kernel.ensures.energy ∙ sym (job_tree_is (job_value c.args.job.now) (energy_view c.in-Ok.ready.parts) parts.energy_read)
+    ap program_tree c.in-Ok-new.ensures.energy ∙ sym (job_tree_is (job_value c.args.job.now) (energy_view c.in-Ok.parts) c.in-Ok.ensures.value)
 
 pub motion-requires-clause-program : goal.motion-requires-clause-program
-motion-requires-clause-program g c = c.in-Ok.ensures.program ∙ ap (λ (p : Program g.row.A.Denot). Ok (trees_of p)) (sym c.in-Ok-safe_kernel.ensures.energy)
+motion-requires-clause-program g c = c.in-Ok.ensures.program ∙ ap (λ (p : Program g.row.A.Denot). Ok (trees_of p)) (sym c.in-Ok-new.ensures.energy)
 
 pub motion-requires-clause-room : goal.motion-requires-clause-room
-motion-requires-clause-room g c = (system_parts (job_value c.args.job.now) (state_view c.args.state.now) (ready_view c.in-Ok.ready) c.in-Ok.ensures.value).room
+motion-requires-clause-room g c =
+    let j = job_value c.args.job.now in
+    let s = state_view c.args.state.now in
+    let energy = energy_view c.in-Ok.parts in
+    let types = c.in-Ok-typed_atoms.atoms.types.items in
+    (system_parts j s (energy, types) (system_made j s energy types c.in-Ok.ensures.value c.in-Ok-typed_atoms.ensures.value)).room
 
 pub returns-then-fits-clause-of : goal.returns-then-fits-clause-of
 returns-then-fits-clause-of g c =
-    let kernel = c.in-Ok-safe_kernel.ensures in
+    let j = job_value c.args.job.now in
+    let s = state_view c.args.state.now in
+    let energy = energy_view c.in-Ok.parts in
+    let types = c.in-Ok-typed_atoms.atoms.types.items in
     let fits = fits_by c.fits.result _ c.fits.ensures c.if-fits.true in
     record {
-      system = ready_view c.in-Ok.ready;
-      made = c.in-Ok.ensures.value;
-      is = ap (λ (t : List ℕ). record { job = job_value c.args.job.now; types = t; state = state_view c.args.state.now }) c.motion.ensures.types;
-      safe = is_safe (job_value c.args.job.now) c.in-Ok.ready.parts.code c.in-Ok-safe_kernel.kernel.verified _ kernel.certified kernel.code kernel.table kernel.core kernel.cutoff kernel.bound (rw (length-map c.args.state.now.atoms.items atom_view) fits);
+      system = (energy, types);
+      made = system_made j s energy types c.in-Ok.ensures.value c.in-Ok-typed_atoms.ensures.value;
+      is = ap (λ (t : List ℕ). record { job = j; types = t; state = s }) c.motion.ensures.types;
+      safe = is_safe j c.in-Ok.parts.code c.in-Ok-new.kernel.verified _ c.in-Ok-new.ensures.accepted (rw (length-map c.args.state.now.atoms.items atom_view) fits);
     }
 
 pub returns-then-fits-clause-says : goal.returns-then-fits-clause-says
 returns-then-fits-clause-says g c =
     let j = job_value c.args.job.now in
-    let parts = c.in-Ok.ready.parts in
-    let energy = energy_view parts in
-    let read = (system_parts j (state_view c.args.state.now) (ready_view c.in-Ok.ready) c.in-Ok.ensures.value).energy_read in
-    subst (SaysOnly j) (sym (job_tree_is j energy read)) (says_energy j energy read)
+    let energy = energy_view c.in-Ok.parts in
+    subst (SaysOnly j) (sym (job_tree_is j energy c.in-Ok.ensures.value)) (says_energy j energy c.in-Ok.ensures.value)

@@ -1,5 +1,5 @@
-use Rattle.integrator.specs.StartViews.{energy_view}
-use Rattle.integrator.proofs.EnergyLaws.{kernel_gives}
+use Rattle.potential.specs.EnergyViews.{energy_view}
+use Rattle.potential.proofs.EnergyLaws.{kernel_gives}
 use Rattle.tested_run.proofs.starts.kernel.Goals as goal
 
 pub invariant_of-result : goal.invariant_of-result

@@ -4,7 +4,7 @@ use Rattle.fixed.specs.Fractions.{bits_of}
 use Rattle.kernel_code.specs.Tables.{Table, inputs_of}
 use Rattle.tested_run.specs.Outcomes.{fault_of, outcome_of}
 use Rattle.tested_run.specs.Stops.{Faults}
-use Rattle.integrator.proofs.EnergyLaws.{length-rows}
+use Rattle.potential.proofs.EnergyLaws.{length-rows}
 use Rattle.tested_run.proofs.starts.prepare.Goals as goal
 
 pub returns-clause-value : goal.returns-clause-value

@@ -7,7 +7,7 @@ use Rattle.state.specs.StateViews.{atom_view, state_view}
 use Rattle.engine.specs.EngineViews.{engine_view}
 use Rattle.integrator.specs.Frames.{frames}
 use Rattle.integrator.specs.States.{counter_after, moved_state}
-use Rattle.integrator.proofs.Constructors.{none_is_no_some}
+use Rattle.line_text.proofs.StepLaws.{none_is_no_some}
 use Rattle.fixed.proofs.IntegerLaws.{in_range_is}
 use Rattle.engine.proofs.EngineLaws.{counter_reached, moves_on, went_on}
 use Rattle.engine.proofs.engines.Engine.arrive.Goals as goal

@@ -15,18 +15,16 @@ use Rattle.integrator.proofs.StateLaws.{current_frame-views}
 use Rattle.engine.proofs.engines.Engine.energy.Goals as goal
 
 pub returns-in-Err-clause-refused : goal.returns-in-Err-clause-refused
-returns-in-Err-clause-refused g c =
-    let i = c.self.inside in
-    rw (← c.self.view_is) (c.in-Err.ensures.refused (engine_view i.job i.state i.motion.system) refl)
+returns-in-Err-clause-refused g c = rw (← c.self.view_is) c.in-Err.ensures.refused
 
 pub energy-requires-clause-table : goal.energy-requires-clause-table
-energy-requires-clause-table g c = c.in-Ok.ensures.table ∙ sym c.self.invariant.0.table
+energy-requires-clause-table g c = c.in-Ok.ensures.under.table ∙ sym c.self.invariant.0.table
 
 pub energy-requires-clause-core : goal.energy-requires-clause-core
-energy-requires-clause-core g c = c.in-Ok.ensures.core ∙ sym c.self.invariant.0.core
+energy-requires-clause-core g c = c.in-Ok.ensures.under.core ∙ sym c.self.invariant.0.core
 
 pub energy-requires-clause-cutoff : goal.energy-requires-clause-cutoff
-energy-requires-clause-cutoff g c = c.in-Ok.ensures.cutoff ∙ sym c.self.invariant.0.cutoff
+energy-requires-clause-cutoff g c = c.in-Ok.ensures.under.cutoff ∙ sym c.self.invariant.0.cutoff
 
 pub energy-requires-clause-atoms : goal.energy-requires-clause-atoms
 energy-requires-clause-atoms g c = ap length c.deref.ensures.value ∙ c.self.invariant.0.atoms ∙ sym c.self.inside.motion.system.atoms

@@ -2,7 +2,7 @@ use Rattle.std.proofs.Common.{◌≡◌, length, ap, arith, refl, ◌∙◌}
 use Rattle.std.proofs.lemmas.List.{with_items_is}
 use Rattle.integrator.specs.Frames.{moved_frame, steps_in}
 use Rattle.engine.specs.Rounds.{forces_from}
-use Rattle.engine.specs.SafeKernels.{safe_dynamics}
+use Rattle.engine.specs.SafeSystems.{safe_dynamics}
 use Rattle.engine.proofs.frame_steps.Course.follow.Goals as goal
 
 pub returns : goal.returns

@@ -5,6 +5,5 @@ pub returns : goal.returns
 returns g c =
     let s = c.args.self.now.system in
     let ask = c.ask-ask in
-    let run = c.run-slope in
-    let slope = slope_is s ask.result run.new.stack.turns run.result ask.ensures.served c.requires.bound run.ensures.ends run.ensures.small in
-    slope_adds s c.args.pair.now ask.result run.result slope ask.ensures.value c.add.result c.add.ensures
+    let slope = slope_is s ask.result c.value-slope.result ask.ensures.served c.requires.bound c.value-slope.ensures in
+    slope_adds s c.args.pair.now ask.result c.value-slope.result slope ask.ensures.value c.add.result c.add.ensures

@@ -6,7 +6,7 @@ use Rattle.ring_box.specs.Places.{nowhere}
 use Rattle.integrator.specs.Frames.{moved_frame, next_places}
 use Rattle.integrator.proofs.NumberLaws.{length-numbers, at_number}
 use Rattle.engine.specs.Rounds.{forces_from, forces_in}
-use Rattle.engine.specs.SafeKernels.{safe_dynamics}
+use Rattle.engine.specs.SafeSystems.{safe_dynamics}
 use Rattle.engine.proofs.safe_systems.SafeSystem.advance.Goals as goal
 
 pub returns : goal.returns

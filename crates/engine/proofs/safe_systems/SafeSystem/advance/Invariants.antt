@@ -3,7 +3,7 @@ use Rattle.std.specs.Prelude.{slice_index}
 use Rattle.ring_box.specs.Places.{nowhere}
 use Rattle.integrator.specs.Frames.{next_places}
 use Rattle.engine.specs.Rounds.{forces_in}
-use Rattle.engine.specs.SafeKernels.{safe_dynamics}
+use Rattle.engine.specs.SafeSystems.{safe_dynamics}
 use Rattle.engine.proofs.safe_systems.SafeSystem.advance.Given as goal
 
 -- the atoms so far have moved, and the others not

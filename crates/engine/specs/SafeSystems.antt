@@ -1,0 +1,24 @@
+-- Systems whose slope is accepted: the code gives the slope for every two types at each distance from the core to
+-- before the cutoff.
+use Rattle.std.specs.Prelude.{◌≡◌, ◌-◌, ◌*◌, ◌^◌, ◌<◌, true, length}
+use Rattle.std.specs.List.{All}
+use Rattle.ring_box.specs.Cells.{has_room}
+use Rattle.integrator.specs.Frames.{Dynamics}
+use Rattle.integrator.specs.Systems.{dynamics_of}
+use Rattle.integrator.specs.declared.systems.System.{System}
+use Rattle.potential.specs.Potentials.{potential_of, slope_at}
+use Rattle.potential.specs.declared.slope_kernels.SlopeKernel.{SlopeKernel}
+
+-- the dynamics of a system whose slope is accepted: it has a slope wherever it is asked for one
+abbrev pub safe_dynamics : {A : Type 0} → System (SlopeKernel A) A → Dynamics
+safe_dynamics s = dynamics_of (λ k a b r. slope_at (potential_of k) a b r) s
+
+-- the slope is accepted for the atoms and distances of the system, no force on an atom can pass 64 bits, and each side
+-- has room for two cutoffs
+pub record IsSafeSystem {A : Type 0} (s : System (SlopeKernel A) A) : Type 0 where
+  pub frac : s.kernel.verified.table.frac ≡ s.frac
+  pub core : s.kernel.verified.core ≡ s.core
+  pub cutoff : s.kernel.verified.cutoff ≡ s.cutoff
+  pub known : All (λ t. t < length s.kernel.verified.table.rows) s.types.items
+  pub fits : s.kernel.verified.bound * (length s.masses.items - 1) < 2 ^ 63
+  pub room : has_room s.frac s.ring s.cutoff ≡ true

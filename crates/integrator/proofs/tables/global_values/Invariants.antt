@@ -1,8 +1,0 @@
-use Rattle.std.proofs.Common.{◌≡◌, take}
-use Rattle.std.specs.Prelude.{map}
-use Rattle.job.specs.Views.{global_value}
-use Rattle.integrator.specs.Starts.{global_values}
-use Rattle.integrator.proofs.tables.global_values.Given as goal
-
-abbrev pub invariant-loop-global : goal.invariant-loop-global
-invariant-loop-global g l = l.values.items ≡ global_values (map global_value (take l.global-index l.globals))

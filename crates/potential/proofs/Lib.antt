@@ -1,0 +1,6 @@
+pub mod CodeSlopeLaws
+pub mod EnergyLaws
+pub mod InputLaws
+pub mod PotentialLaws
+pub mod VerdictLaws
+pub mod EnergyKernelLaws

@@ -1,0 +1,27 @@
+use Rattle.std.proofs.Common.{subst, sym}
+use Rattle.energy_program.specs.Programs.{program_tree}
+use Rattle.job.specs.Views.{job_value}
+use Rattle.potential.specs.EnergyKernels.{GivesEnergy, HasEnergies}
+use Rattle.potential.proofs.EnergyKernelLaws.{accepted_gives, not_accepted, small_energies, too_large}
+use Rattle.potential.proofs.energy_kernels.energy_kernel.Goals as goal
+
+pub returns-in-Err-clause-refused : goal.returns-in-Err-clause-refused
+returns-in-Err-clause-refused g c = rw c.of_energy.ensures (too_large (job_value c.args.job.now) c.args.program.now c.in-Err.failure c.requires.program c.in-Err.ensures.exact)
+
+pub returns-in-Err-verdict-clause-refused : goal.returns-in-Err-verdict-clause-refused
+returns-in-Err-verdict-clause-refused g c =
+    rw c.of_kernel.ensures
+    (not_accepted {A = g.row.A.Denot} (job_value c.args.job.now) c.args.program.now c.in-Ok.code c.in-Err-verdict.failure c.requires.program c.in-Ok.ensures.exact c.in-Err-verdict.ensures.refused)
+
+pub returns-in-Ok-new-clause-gives : goal.returns-in-Ok-new-clause-gives
+returns-in-Ok-new-clause-gives g c =
+    let p = c.args.program.now in
+    let gives = accepted_gives c.args.job.now p c.in-Ok.code c.in-Ok-verdict.verified c.requires.parameters c.requires.globals c.in-Ok.ensures.value c.in-Ok-verdict.ensures.accepted in
+    subst (GivesEnergy (program_tree p)) (sym c.in-Ok-new.ensures) gives
+
+pub returns-in-Ok-new-clause-has : goal.returns-in-Ok-new-clause-has
+returns-in-Ok-new-clause-has g c =
+    let p = c.args.program.now in
+    let accepted = c.in-Ok-verdict.ensures.accepted in
+    let gives = accepted_gives c.args.job.now p c.in-Ok.code c.in-Ok-verdict.verified c.requires.parameters c.requires.globals c.in-Ok.ensures.value accepted in
+    subst (HasEnergies (program_tree p)) (sym c.in-Ok-new.ensures) (small_energies c.in-Ok-verdict.verified (program_tree p) accepted.certified accepted.most gives)

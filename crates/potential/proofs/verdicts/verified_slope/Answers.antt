@@ -1,0 +1,14 @@
+use Rattle.job.specs.Views.{job_value}
+use Rattle.potential.proofs.VerdictLaws.{slope_kernel, slope_refused, slope_without_code}
+use Rattle.potential.proofs.verdicts.verified_slope.Goals as goal
+
+pub returns-in-Err-clause-refused : goal.returns-in-Err-clause-refused
+returns-in-Err-clause-refused g c = rw c.of_energy.ensures (slope_without_code (job_value c.args.job.now) c.in-Err.failure c.in-Err.ensures.exact)
+
+pub returns-in-Err-verdict-clause-refused : goal.returns-in-Err-verdict-clause-refused
+returns-in-Err-verdict-clause-refused g c =
+    rw c.of_kernel.ensures
+    (slope_refused g.row.A.Denot (job_value c.args.job.now) c.in-Ok.code c.in-Err-verdict.failure c.in-Ok.ensures.computes c.in-Err-verdict.ensures.refused)
+
+pub returns-in-Ok-verdict-clause-kernel : goal.returns-in-Ok-verdict-clause-kernel
+returns-in-Ok-verdict-clause-kernel g c = slope_kernel (job_value c.args.job.now) c.in-Ok.code c.in-Ok-verdict.verified c.in-Ok.ensures.computes c.in-Ok-verdict.ensures.accepted

@@ -1,0 +1,44 @@
+-- The code of a job's energy itself, as accepted under the job, or why there is none.
+use Rattle.std.specs.Prelude.{◌≡◌, ℕ, ℤ, ◌<◌, ◌^◌, ◌≤ℤ◌, ◌<ℤ◌, true, List, length, Some, Result, Ok, Err}
+use Rattle.energy_program.specs.Faults as energies
+use Rattle.energy_program.specs.Programs.{Trees}
+use Rattle.energy_program.specs.Tree.{Tree}
+use Rattle.energy_program.specs.Value.{value_of}
+use Rattle.fixed.specs.Fractions.{bits_of}
+use Rattle.job.specs.Values.{JobValue}
+use Rattle.kernel_code.specs.declared.instructions.Instr.{Instr}
+use Rattle.kernel_code.specs.Machine.{Ends}
+use Rattle.kernel_code.specs.Tables.{inputs_of}
+use Rattle.kernel_compiler.specs.Code.{compiled}
+use Rattle.potential.specs.Energies.{job_program}
+use Rattle.potential.specs.Magnitudes.{is_small}
+use Rattle.potential.specs.Verdicts.{IsRefused}
+use Rattle.potential.specs.declared.faults.EnergyFault.{EnergyFault}
+use Rattle.potential.specs.declared.faults.EnergyFault.TheVariants as fault
+use Rattle.potential.specs.declared.kernel_refusals.KernelRefusal.{KernelRefusal}
+use Rattle.verifier.specs.Kernels.{Kernel}
+
+-- where a run of the code for two types gives a value, it is the energy's
+abbrev pub GivesEnergy : Tree → Kernel → Type 0
+GivesEnergy tree k = (a b : ℕ) (r : ℤ) (n : ℕ) (v : ℤ) → a < length k.table.rows → b < length k.table.rows → Ends (bits_of k.table.frac) k.code (inputs_of k.table a b r) n (Ok v) → value_of (bits_of k.table.frac) (inputs_of k.table a b r) tree ≡ Some v
+
+-- any two types have an energy, of less than 2^64 units, at each distance at which atoms act
+abbrev pub HasEnergies : Tree → Kernel → Type 0
+HasEnergies tree k = (a b : ℕ) (r : ℤ) → a < length k.table.rows → b < length k.table.rows → k.core ≤ℤ r → r <ℤ k.cutoff → is_small (2 ^ 64) (value_of (bits_of k.table.frac) (inputs_of k.table a b r) tree) ≡ true
+
+-- a statement on the code of a job's energy: that of the program of its text
+pub record OfEnergy (j : JobValue) (holds : Result (List Instr) energies.Refusal → Type 0) : Type 0 where
+  pub program : Trees
+  pub its : job_program j ≡ Ok program
+  pub it : holds (compiled (bits_of j.frac) program.0 program.1)
+
+-- the code is refused so
+pub record IsCodeRefused (j : JobValue) (compiled' : Result (List Instr) energies.Refusal) (r : KernelRefusal) : Type 0 where
+  pub code : List Instr
+  pub is : compiled' ≡ Ok code
+  pub why : IsRefused j code r
+
+-- why there is no accepted code: it would be too large, or the verifier refuses it
+abbrev pub HasNoEnergyKernel : {A : Type 0} → JobValue → EnergyFault A → Type 0
+HasNoEnergyKernel j (fault.Energy f) = OfEnergy j (λ c. c ≡ Err (energies.refusal_of f))
+HasNoEnergyKernel j (fault.Kernel r) = OfEnergy j (λ c. IsCodeRefused j c r)

@@ -1,0 +1,10 @@
+pub mod CodeSlopes
+pub mod Energies
+pub mod EnergyViews
+pub mod EnergyKernels
+pub mod InputNames
+pub mod LaneKernels
+pub mod Magnitudes
+pub mod Potentials
+pub mod Tables
+pub mod Verdicts

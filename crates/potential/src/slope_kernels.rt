@@ -1,0 +1,68 @@
+//! The slope of a job's energy, by accepted code.
+
+ghost use Rattle.std.specs.Prelude.{◌≡◌, ℕ, ℤ, ◌<◌, ◌≤ℤ◌, ◌<ℤ◌, true, length};
+ghost use Rattle.fixed.specs.Fractions.{bits_of};
+ghost use Rattle.energy_program.specs.Programs.{program_tree};
+ghost use Rattle.kernel_code.specs.Tables.{inputs_of};
+ghost use Rattle.derivative.specs.Slope.{slope_of};
+ghost use Rattle.potential.specs.CodeSlopes.{GivesSlope};
+ghost use Rattle.potential.specs.Magnitudes.{is_small};
+
+use crate::kernel_refusals::KernelRefusal;
+use crate::lane_kernels::LaneKernel;
+use crate::slope_parts::SlopeParts;
+use crate::verdicts::verdict;
+use energy_program::Program;
+use fallible::Failure;
+use job::Job;
+use std::alloc::Allocator;
+
+/// An energy, and the accepted code of its slope, made ready for lanes. For every two types of the table, and at each
+/// distance from the core to before the cutoff, the code gives the slope of the energy as it is written, no greater
+/// than the verifier's bound.
+#[derive(Drop)]
+pub struct SlopeKernel<A: Allocator> {
+    /// The energy as its text says it.
+    pub energy: Program<A>,
+    /// The accepted code of its slope.
+    pub verified: LaneKernel<A>,
+    pub ghost bounded: { (a b : ℕ) (r : ℤ) → a < length verified.table.rows → b < length verified.table.rows → verified.core ≤ℤ r → r <ℤ verified.cutoff → is_small verified.bound (slope_of (bits_of verified.table.frac) (inputs_of verified.table a b r) (program_tree energy)) ≡ true },
+    pub ghost gives: { (a b : ℕ) (r : ℤ) → a < length verified.table.rows → b < length verified.table.rows → GivesSlope (bits_of verified.table.frac) (program_tree energy) verified.code (inputs_of verified.table a b r) },
+}
+
+impl<A: Allocator + Copy> SlopeKernel<A> {
+    ghost use Rattle.std.specs.Prelude.{IfErr, IfOk};
+    ghost use Rattle.fallible.specs.Failures.{IfRefused};
+    ghost use Rattle.job.specs.Views.{job_value};
+    ghost use Rattle.potential.specs.Energies.{IsCompiled};
+    ghost use Rattle.potential.specs.EnergyViews.{energy_view};
+    ghost use Rattle.potential.specs.Verdicts.{IsAccepted, IsRefused};
+
+    /// Accepts the code of the slope of an energy under the job's types, core, cutoff and slices, and makes it ready.
+    ///
+    /// A refusal is the verifier's. `Memory`: an allocation was refused.
+    pub fn new(
+        alloc: A,
+        job: &Job<A>,
+        parts: SlopeParts<A>,
+    ) -> Result<SlopeKernel<A>, Failure<KernelRefusal>>
+        requires { IsCompiled (bits_of job.now.frac) (length job.now.parameters.items) (length job.now.globals.items) (energy_view parts) }
+        ensures energy { IfOk result (λ k. k.energy ≡ parts.energy) }
+        ensures accepted { IfOk result (λ k. IsAccepted (job_value job.now) parts.code k.verified) }
+        ensures refused { IfErr result (λ failure. IfRefused failure (IsRefused (job_value job.now) parts.code)) }
+    {
+        let SlopeParts {
+            energy,
+            slope,
+            code,
+        } = parts;
+        drop(slope);
+        match verdict(alloc, job, code) {
+            Ok(verified) => match LaneKernel::new(alloc, verified) {
+                Ok(verified) => Ok(SlopeKernel { energy, verified }),
+                Err(_) => Err(Failure::Memory),
+            },
+            Err(failure) => Err(failure),
+        }
+    }
+}

@@ -1,0 +1,102 @@
+//! Code that the verifier accepts under a job.
+
+ghost use Rattle.std.specs.Prelude.{◌≡◌, ◌<◌, length, option_map, IfOk, IfErr};
+ghost use Rattle.fallible.specs.Failures.{IfRefused};
+ghost use Rattle.line_text.specs.Names.{name_text};
+ghost use Rattle.job.specs.Views.{job_value};
+ghost use Rattle.potential.specs.Tables.{name_of_type};
+ghost use Rattle.potential.specs.Verdicts.{HasNoSlopeKernel, IsAccepted, HasNamesOf, IsRefused, IsSlopeKernel, SpeaksOf, type_names};
+
+use crate::energies::slope_code;
+use crate::faults::EnergyFault;
+use crate::kernel_refusals::KernelRefusal;
+use crate::tables::type_table;
+use fallible::Failure;
+use job::Job;
+use kernel_code::Code;
+use line_text::Name;
+use std::alloc::Allocator;
+use verifier::{Verified, VerifyFault, verify};
+
+/// The names of the types with these numbers.
+fn names_of<A: Allocator>(job: &Job<A>, first: u32, second: u32) -> (Name, Name)
+    requires first { first < length job.now.types.items }
+    requires second { second < length job.now.types.items }
+    ensures first { name_text result.0 ≡ name_of_type (job_value job.now) first }
+    ensures second { name_text result.1 ≡ name_of_type (job_value job.now) second }
+{
+    (
+        job.types[first as usize].name,
+        job.types[second as usize].name,
+    )
+}
+
+/// The names of the types that a fault speaks of.
+fn type_names<A: Allocator>(job: &Job<A>, fault: &VerifyFault) -> Option<(Name, Name)>
+    requires { SpeaksOf (length job.now.types.items) fault.now }
+    ensures { option_map (λ p. (name_text p.0, name_text p.1)) result ≡ type_names (job_value job.now) fault.now }
+{
+    match *fault {
+        VerifyFault::Fault { first, second, .. } => Some(names_of(job, first, second)),
+        VerifyFault::Undecided { first, second, .. } => Some(names_of(job, first, second)),
+        VerifyFault::Malformed { .. } | VerifyFault::DepthOver64 { .. } => None,
+    }
+}
+
+/// The verifier's failure, with the names of the job's types.
+fn named<A: Allocator>(job: &Job<A>, failure: Failure<VerifyFault>) -> Failure<KernelRefusal>
+    requires { IfRefused failure (SpeaksOf (length job.now.types.items)) }
+    ensures { IfRefused result (HasNamesOf (job_value job.now) failure) }
+{
+    match failure {
+        Failure::Refused(fault) => {
+            let types = type_names(job, &fault);
+            Failure::Refused(KernelRefusal { fault, types })
+        }
+        Failure::Memory => Failure::Memory,
+    }
+}
+
+/// The code as accepted under the job's types, core, cutoff and slices.
+///
+/// A refusal is the verifier's. `Memory`: an allocation was refused.
+pub fn verdict<A: Allocator + Copy>(
+    alloc: A,
+    job: &Job<A>,
+    code: Code<A>,
+) -> Result<Verified<A>, Failure<KernelRefusal>>
+    ensures accepted { IfOk result (IsAccepted (job_value job.now) code) }
+    ensures refused { IfErr result (λ failure. IfRefused failure (IsRefused (job_value job.now) code)) }
+{
+    match type_table(alloc, job) {
+        Ok(table) => match verify(alloc, code, table, job.core, job.cutoff, job.slices) {
+            Ok(verified) => {
+                // it isn't wanted but for its range
+                let _bound = verified.bound();
+                Ok(verified)
+            }
+            Err(failure) => Err(named(job, failure)),
+        },
+        Err(_) => Err(Failure::Memory),
+    }
+}
+
+/// The code of the slope of the job's energy, as accepted under the job's types, core, cutoff and slices.
+///
+/// The refusals are those of the energy, of its slope and of its code, then `Kernel` where the verifier refuses that
+/// code. `Memory`: an allocation was refused.
+pub fn verified_slope<A: Allocator + Copy>(
+    alloc: A,
+    job: &Job<A>,
+) -> Result<Verified<A>, Failure<EnergyFault<A>>>
+    ensures kernel { IfOk result (IsSlopeKernel (job_value job.now)) }
+    ensures refused { IfErr result (λ failure. IfRefused failure (HasNoSlopeKernel (job_value job.now))) }
+{
+    match slope_code(alloc, job) {
+        Ok(code) => match verdict(alloc, job, code) {
+            Ok(verified) => Ok(verified),
+            Err(failure) => Err(EnergyFault::of_kernel(failure)),
+        },
+        Err(failure) => Err(EnergyFault::of_energy(failure)),
+    }
+}
