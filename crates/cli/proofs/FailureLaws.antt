@@ -5,9 +5,9 @@ use Rattle.std.specs.Prelude.{IfErr, Result, Ok, Err}
 use Rattle.std.specs.Result.{IsErrAnd}
 use Rattle.energy_program.specs.Faults as energies
 use Rattle.energy_program.specs.declared.faults.ExprFault.{ExprFault}
-use Rattle.engine.specs.Verdicts.{HasNoSlopeKernel}
-use Rattle.engine.specs.declared.faults.EnergyFault.{EnergyFault}
-use Rattle.engine.specs.declared.faults.EnergyFault.TheVariants as energy
+use Rattle.potential.specs.Verdicts.{HasNoSlopeKernel}
+use Rattle.potential.specs.declared.faults.EnergyFault.{EnergyFault}
+use Rattle.potential.specs.declared.faults.EnergyFault.TheVariants as energy
 use Rattle.fallible.specs.Failures.{Fails, IfRefused}
 use Rattle.fallible.specs.declared.failure.Failure.{Failure}
 use Rattle.fallible.specs.declared.failure.Failure.TheVariants.{Refused, Memory}
@@ -15,7 +15,7 @@ use Rattle.gro.specs.Frames.{FrameView}
 use Rattle.gro.specs.GroReading.{frames_of}
 use Rattle.gro.specs.declared.faults.GroFault.{GroFault}
 use Rattle.gro.specs.declared.faults.GroFault.TheVariants.{NoSuchFrame}
-use Rattle.integrator.specs.Starts.{slope_code_of}
+use Rattle.potential.specs.Energies.{slope_code_of}
 use Rattle.job.specs.JobText.{reading_of, limits}
 use Rattle.job.specs.Values.{JobValue}
 use Rattle.job.specs.Views as jobs

@@ -27,7 +27,8 @@ use Rattle.cli.specs.Progress.{IsBegun, IsTold, PrintsIfCounted}
 use Rattle.cli.specs.Reads.{AsksFor, also_asked_if, asked_by, unread}
 use Rattle.cli.specs.Refusals.{HasNoBytes, IsFaultOf, IsNoAnswer, IsCommandRefused, IsUnanswered, IsUndone, IsUnread, IsUnreadOfSome, IsUnreadOfTwo, IsVerdictUndone, RefusesCode, RefusesEnergy, RefusesFrame, RefusesJob, RefusesListing, RefusesSlope, RefusesState, RefusesUnder}
 use Rattle.cli.specs.Reports.{IsReported}
-use Rattle.cli.specs.Statuses.{status_number, run_status, status_of}
+use Rattle.cli.specs.Failures.{fault_of_run}
+use Rattle.cli.specs.Statuses.{status_number, status_of}
 use Rattle.cli.specs.declared.faults.CommandFault.{CommandFault}
 use Rattle.cli.specs.declared.faults.CommandFault.TheVariants as fault
 use Rattle.cli.specs.declared.faults.Status.TheVariants as status
@@ -104,7 +105,7 @@ kept_run job state direction steps before after (run.Out o) h = inr h.1.beginnin
 
 -- of its frames whole ones may be left where an allocation is refused
 kept_frames : {A : Type 0} (job state : List ℕ) (direction : Direction) (steps every : ℕ) (before after : Output) (f : RunFault A) → AreFramesUnwritten job state direction steps every before after f
-    → IsKept before after ⊎ (run_status f ≡ status.Memory)
+    → IsKept before after ⊎ (status_of (fault_of_run f) ≡ status.Memory)
 kept_frames job state direction steps every before after (run.Open failure) h = inl (inl h.1)
 kept_frames job state direction steps every before after (run.Steps step.StepRange) h = inl (inl h.1)
 kept_frames job state direction steps every before after (run.Steps (step.Memory done)) h = inr refl
@@ -122,7 +123,7 @@ kept_refused words held (command.Start start) before after f is h = inl (kept_un
 kept_refused words held (command.Run r) before after f is h = inl (kept_run _ _ _ _ before after h.4.0 h.4.2)
 kept_refused words held (command.Trajectory t) before after f is h = trajectory (kept_frames _ _ _ _ _ before after h.4.0 h.4.2)
   where
-    trajectory : IsKept before after ⊎ (run_status h.4.0 ≡ status.Memory) → IsKept before after ⊎ ((status_of f ≡ status.Memory) × AsksForTrajectory words)
+    trajectory : IsKept before after ⊎ (status_of (fault_of_run h.4.0) ≡ status.Memory) → IsKept before after ⊎ ((status_of f ≡ status.Memory) × AsksForTrajectory words)
     trajectory (inl kept) = inl kept
     trajectory (inr memory) = inr (ap status_of h.4.1 ∙ memory, (t, is))
 kept_refused words held (command.Frame frame) before after f is h = inl (kept_unwritten _ _ before after f h.2 (λ b. b.written.failed))
@@ -202,8 +203,8 @@ refused_of_words : {A : Type 0} (held : List ℕ → Option (List ℕ)) (c : Com
     → ((job state : List ℕ) → RefusesEnergy job state f → ⊥) → IsCommandRefused held c before after f → ⊥
 refused_of_words held (command.Start start) before after f of_words job frame state code slope listing energy h =
     unwritten_of_words _ _ before after f of_words (under_of_words _ _ _ (job h.0) (frame h.1 start.frame)) h.4
-refused_of_words held (command.Run r) before after f of_words job frame state code slope listing energy h = of_files_alone (fault.Run h.4.0) (of_run h.4.0) (subst IsOfWords h.4.1 of_words)
-refused_of_words held (command.Trajectory t) before after f of_words job frame state code slope listing energy h = of_files_alone (fault.Run h.4.0) (of_run h.4.0) (subst IsOfWords h.4.1 of_words)
+refused_of_words held (command.Run r) before after f of_words job frame state code slope listing energy h = of_files_alone (fault_of_run h.4.0) (of_run h.4.0) (subst IsOfWords h.4.1 of_words)
+refused_of_words held (command.Trajectory t) before after f of_words job frame state code slope listing energy h = of_files_alone (fault_of_run h.4.0) (of_run h.4.0) (subst IsOfWords h.4.1 of_words)
 refused_of_words held (command.Frame fr) before after f of_words job frame state code slope listing energy h = unwritten_of_words _ _ before after f of_words (state h.0) h.2
 refused_of_words held (command.Energy e) before after f of_words job frame state code slope listing energy h = unwritten_of_words _ _ before after f of_words (energy h.0 h.1) h.4
 refused_of_words held (command.Check check) before after f of_words job frame state code slope listing energy h = by_listing check.listing h

@@ -1,17 +1,17 @@
--- Laws of statuses: no fault has that of a command that was done, and only those of words have that of the command line.
+-- Laws of statuses: no fault has that of a command that was done, and only those of words have that of the command
+-- line.
 use Rattle.std.proofs.Common.{◌≡◌, ◌≢◌, ◌⊎◌, ◌∙◌, ap, arith, inl, inr, refl, sym}
 use Rattle.clap.specs.declared.error.Error.{Error}
 use Rattle.fallible.specs.declared.failure.Failure.TheVariants.{Refused, Memory}
+use Rattle.integrator.specs.declared.faults.StepFault.{StepFault}
 use Rattle.integrator.specs.declared.faults.StepFault.TheVariants as step
-use Rattle.integrator.specs.declared.faults.SystemFault.{SystemFault}
-use Rattle.integrator.specs.declared.faults.SystemFault.TheVariants as system
 use Rattle.engine.specs.declared.faults.EngineFault.{EngineFault}
 use Rattle.engine.specs.declared.faults.EngineFault.TheVariants as engine
-use Rattle.engine.specs.declared.faults.OpenFault.{OpenFault}
 use Rattle.engine.specs.declared.faults.OpenFault.TheVariants as opened
 use Rattle.engine.specs.declared.faults.RunFault.{RunFault}
 use Rattle.engine.specs.declared.faults.RunFault.TheVariants as run
-use Rattle.cli.specs.Statuses.{status_number, engine_status, open_status, run_status, status_of, system_status}
+use Rattle.cli.specs.Failures.{fault_of_run}
+use Rattle.cli.specs.Statuses.{status_number, engine_status, status_of, steps_status}
 use Rattle.cli.specs.declared.faults.CommandFault.{CommandFault}
 use Rattle.cli.specs.declared.faults.CommandFault.TheVariants as fault
 use Rattle.cli.specs.declared.faults.Status.{Status}
@@ -35,28 +35,22 @@ memory_wanted = (λ e. cc, λ e. cc)
 pub file_failed : IsOfFiles status.File
 file_failed = (λ e. cc, λ e. cc)
 
-of_system : {A : Type 0} (f : SystemFault A) → IsOfFiles (system_status f)
-of_system (system.Energy f) = kernel_refused
-of_system system.BitsDiffer = data_refused
-of_system (system.UnknownType n) = data_refused
-of_system system.CutoffTooLong = data_refused
-
 of_engine : {A : Type 0} (f : EngineFault A) → IsOfFiles (engine_status f)
-of_engine (engine.System f) = of_system f
-of_engine (engine.Kernel r) = kernel_refused
+of_engine (engine.Energy f) = kernel_refused
+of_engine (engine.System f) = data_refused
 of_engine engine.ForceRange = data_refused
 
-of_open : {A : Type 0} (f : OpenFault A) → IsOfFiles (open_status f)
-of_open (opened.Job f) = data_refused
-of_open (opened.State f) = data_refused
-of_open (opened.Engine f) = of_engine f
+of_steps : (f : StepFault) → IsOfFiles (steps_status f)
+of_steps step.StepRange = data_refused
+of_steps (step.Memory done) = memory_wanted
 
--- the same of the status of any fault of a run
-pub of_run : {A : Type 0} (f : RunFault A) → IsOfFiles (run_status f)
-of_run (run.Open (Refused f)) = of_open f
+-- the status of any fault of a run is one of files
+pub of_run : {A : Type 0} (f : RunFault A) → IsOfFiles (status_of (fault_of_run f))
+of_run (run.Open (Refused (opened.Job f))) = data_refused
+of_run (run.Open (Refused (opened.State f))) = data_refused
+of_run (run.Open (Refused (opened.Engine f))) = of_engine f
 of_run (run.Open Memory) = memory_wanted
-of_run (run.Steps step.StepRange) = data_refused
-of_run (run.Steps (step.Memory done)) = memory_wanted
+of_run (run.Steps f) = of_steps f
 of_run (run.Out o) = file_failed
 
 -- a fault of the words themselves
@@ -80,8 +74,8 @@ of_what (fault.State f) = inr data_refused
 of_what (fault.Listing f) = inr data_refused
 of_what (fault.Energy f) = inr kernel_refused
 of_what (fault.Kernel r) = inr kernel_refused
-of_what (fault.Open f) = inr (of_open f)
-of_what (fault.Run f) = inr (of_run f)
+of_what (fault.Engine f) = inr (of_engine f)
+of_what (fault.Steps f) = inr (of_steps f)
 of_what (fault.Out o) = inr file_failed
 of_what fault.Memory = inr memory_wanted
 

@@ -1,10 +1,11 @@
--- States made of GRO files, GRO files made of states, and listings made of jobs: from the bytes that are read to those that are printed. How a text went to an output is told by what it is asked to meet.
+-- States made of GRO files, GRO files made of states, and listings made of jobs: from the bytes that are read to those
+-- that are printed. How a text went to an output is told by what it is asked to meet.
 use Rattle.std.specs.Prelude.{◌≡◌, ℕ, ◌-◌, ◌<◌, ◌≤◌, List, length, Ok, slice_index_or}
 use Rattle.fixed.specs.declared.frac.Frac.{Frac}
 use Rattle.gro.specs.Frames.{FrameView}
 use Rattle.gro.specs.GroReading.{frames_of}
 use Rattle.gro.specs.GroWriting.{frame_text}
-use Rattle.integrator.specs.Starts.{slope_code_of}
+use Rattle.potential.specs.Energies.{slope_code_of}
 use Rattle.job.specs.JobText.{reading_of, limits}
 use Rattle.job.specs.Values.{JobValue}
 use Rattle.kernel_code.specs.Listing.{listing_of}

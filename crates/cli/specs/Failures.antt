@@ -1,6 +1,10 @@
 -- The failures of calls, as faults of a command.
 use Rattle.fallible.specs.declared.failure.Failure.{Failure}
 use Rattle.fallible.specs.declared.failure.Failure.TheVariants.{Refused, Memory}
+use Rattle.engine.specs.declared.faults.OpenFault.{OpenFault}
+use Rattle.engine.specs.declared.faults.OpenFault.TheVariants as opened
+use Rattle.engine.specs.declared.faults.RunFault.{RunFault}
+use Rattle.engine.specs.declared.faults.RunFault.TheVariants as run
 use Rattle.cli.specs.declared.faults.CommandFault.{CommandFault}
 use Rattle.cli.specs.declared.faults.CommandFault.TheVariants as fault
 
@@ -8,3 +12,15 @@ use Rattle.cli.specs.declared.faults.CommandFault.TheVariants as fault
 abbrev pub command_fault : {A R : Type 0} → (R → CommandFault A) → Failure R → CommandFault A
 command_fault told (Refused f) = told f
 command_fault told Memory = fault.Memory
+
+-- the fault of a command whose texts have no engine
+abbrev pub fault_of_open : {A : Type 0} → OpenFault A → CommandFault A
+fault_of_open (opened.Job f) = fault.Job f
+fault_of_open (opened.State f) = fault.State f
+fault_of_open (opened.Engine f) = fault.Engine f
+
+-- the fault of a command whose run, or its frames, was not written
+abbrev pub fault_of_run : {A : Type 0} → RunFault A → CommandFault A
+fault_of_run (run.Open failure) = command_fault fault_of_open failure
+fault_of_run (run.Steps f) = fault.Steps f
+fault_of_run (run.Out f) = fault.Out f

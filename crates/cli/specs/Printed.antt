@@ -17,8 +17,8 @@ abbrev pub HasVerdict : (List ℕ → Option (List ℕ)) → List ℕ → Option
 HasVerdict held job None Wrote = OfOne held job (λ j. IsSlopeVerdict j Wrote)
 HasVerdict held job (Some listing) Wrote = OfTwo held job listing.now (λ j l. IsListingVerdict j l Wrote)
 
--- A command has printed what it is for, of the bytes of its files: a started state, the text of a state after n steps, frames on the way (with `--progress` as without), a
--- state's frame or energy, a verdict, or a listing.
+-- A command has printed what it is for, of the bytes of its files: a started state, the text of a state after n steps,
+-- frames on the way (with `--progress` as without), a state's frame or energy, a verdict, or a listing.
 abbrev pub HasPrinted : (List ℕ → Option (List ℕ)) → Command → Output → Output → Type 0
 HasPrinted held (command.Start start) before after = OfTwo held start.job.now start.gro.now (λ job gro. IsStartText job gro start.frame (Appends before after))
 HasPrinted held (command.Run run) before after = OfTwo held run.job.now run.state.now (λ job state. WroteLevesqueVerletRun job state run.direction run.steps before after)
@@ -28,7 +28,8 @@ HasPrinted held (command.Energy energy) before after = OfTwo held energy.job.now
 HasPrinted held (command.Check check) before after = HasVerdict held check.job.now check.listing (Appends before after)
 HasPrinted held (command.Code l) before after = OfOne held l.job.now (λ job. IsCodeText job (Appends before after))
 
--- The words were carried out: help or the version, and no file was asked for; or a command, which asked for its files and printed what they say.
+-- The words were carried out: help or the version, and no file was asked for; or a command, which asked for its files
+-- and printed what they say.
 abbrev pub IsDone : List (List ℕ) → (List ℕ → Option (List ℕ)) → (asked_before asked_after : Option (List (List ℕ))) → (before after : Output) → Type 0
 IsDone words held asked_before asked_after before after = ((AsksForHelp words ⊎ AsksForVersion words) × (asked_after ≡ asked_before))
     ⊎ ((c : Command) × IsCommand words c × (asked_after ≡ asked_by asked_before c) × HasPrinted held c before after)

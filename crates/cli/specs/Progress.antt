@@ -18,13 +18,15 @@ abbrev pub told_if : Bool → ℕ → Option ℕ
 told_if true steps = Some steps
 told_if false steps = None
 
--- of how many steps a command tells how far it has come, if it does: those that it makes, which end with a trajectory's last frame
+-- of how many steps a command tells how far it has come, if it does: those that it makes, which end with a trajectory's
+-- last frame
 abbrev pub told_of : Command → Option ℕ
 told_of (command.Run run) = told_if run.progress run.steps
 told_of (command.Trajectory t) = told_if t.progress (t.steps / t.every * t.every)
 told_of _ = None
 
--- A text was printed, as far as the output took it. An output of which no more failed writes can be counted is left as it is.
+-- A text was printed, as far as the output took it. An output of which no more failed writes can be counted is left as
+-- it is.
 abbrev pub PrintsIfCounted : Output → Output → List ℕ → Type 0
 PrintsIfCounted before after text = Prints before after text ⊎ ((after ≡ before) × (2 ^ 64 - 1 ≤ before.failed))
 
@@ -61,7 +63,8 @@ abbrev pub IsBegun : List (List ℕ) → Output → Output → Type 0
 IsBegun words before after = (after ≡ before)
     ⊎ ((c : Command) × (steps : ℕ) × IsCommand words c × (told_of c ≡ Some steps) × SomeHundredths steps (PrintsProgress steps before after))
 
--- the error output where something was not done: a text, and before it maybe the progress of a command with `--progress`
+-- the error output where something was not done: a text, and before it maybe the progress of a command with
+-- `--progress`
 abbrev pub Says : List (List ℕ) → Output → Output → List ℕ → Type 0
 Says words before after text = Prints before after text
     ⊎ ((c : Command) × (steps : ℕ) × (between : Output) × IsCommand words c × (told_of c ≡ Some steps)

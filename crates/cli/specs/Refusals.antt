@@ -1,4 +1,5 @@
--- Why a command was not done: its fault, by what its files hold, and what its output is left with. Out of memory says nothing of the files.
+-- Why a command was not done: its fault, by what its files hold, and what its output is left with. Out of memory says
+-- nothing of the files.
 use Rattle.std.specs.Prelude.{◌≡◌, ◌≢◌, ◌⊎◌, ◌<◌, ℕ, List, length, Option, Some, None, Ok, Err}
 use Rattle.std.specs.Borrow.{Bor}
 use Rattle.clap.specs.declared.error.Error.{Error}
@@ -12,15 +13,16 @@ use Rattle.command_line.specs.declared.commands.Trajectory.{Trajectory}
 use Rattle.energy_program.specs.Faults as energies
 use Rattle.engine.specs.Engines.{HasNoEngineOfTexts, IsRunUnwritten}
 use Rattle.engine.specs.PairEnergies.{HasNoEnergyOfTexts}
-use Rattle.engine.specs.Verdicts.{HasNoSlopeKernel, IsRefused}
-use Rattle.engine.specs.declared.faults.EnergyFault.TheVariants as energy
+use Rattle.potential.specs.Verdicts.{HasNoSlopeKernel, IsRefused}
+use Rattle.potential.specs.declared.faults.EnergyFault.TheVariants as energy
+use Rattle.engine.specs.declared.faults.OpenFault.TheVariants as opened
 use Rattle.engine.specs.declared.faults.RunFault.{RunFault}
 use Rattle.fallible.specs.Out.{AppendsBeginning, Output}
 use Rattle.fallible.specs.declared.output.OutFault.{OutFault}
 use Rattle.gro.specs.Frames.{FrameView}
 use Rattle.gro.specs.GroReading.{frames_of}
 use Rattle.gro.specs.declared.faults.GroFault.TheVariants.{NoSuchFrame}
-use Rattle.integrator.specs.Starts.{slope_code_of}
+use Rattle.potential.specs.Energies.{slope_code_of}
 use Rattle.job.specs.JobText.{reading_of, limits}
 use Rattle.job.specs.Values.{JobValue}
 use Rattle.job.specs.Views as jobs
@@ -32,6 +34,7 @@ use Rattle.state.specs.StateReading.{state_of}
 use Rattle.trajectory.specs.Trajectories.{AreFramesUnwritten}
 use Rattle.cli.specs.Asked.{also_asked}
 use Rattle.cli.specs.Conversions.{IsCodeText, IsFrameOf, IsFrameText, IsStartText}
+use Rattle.cli.specs.Failures.{fault_of_run}
 use Rattle.cli.specs.Held.{OfOne, OfTwo}
 use Rattle.cli.specs.Reads.{asked_by, unread}
 use Rattle.cli.specs.Verdicts.{IsEnergyText, IsListingVerdict, IsSlopeVerdict}
@@ -100,10 +103,12 @@ RefusesListing listing job _ = ⊥
 
 -- a job and a state have no engine, or theirs doesn't tell its energy
 abbrev pub RefusesEnergy : {A : Type 0} → (job state : List ℕ) → CommandFault A → Type 0
-RefusesEnergy job state (fault.Open f) = HasNoEngineOfTexts job state f
-RefusesEnergy job state (fault.Energy f) = HasNoEnergyOfTexts job state f
-RefusesEnergy job state fault.Memory = Unit {0}
-RefusesEnergy job state _ = ⊥
+RefusesEnergy {A} job state (fault.Job f) = HasNoEngineOfTexts {A = A} job state (opened.Job f)
+RefusesEnergy {A} job state (fault.State f) = HasNoEngineOfTexts {A = A} job state (opened.State f)
+RefusesEnergy {A} job state (fault.Engine f) = HasNoEngineOfTexts {A = A} job state (opened.Engine f)
+RefusesEnergy {A} job state (fault.Energy f) = HasNoEnergyOfTexts job state f
+RefusesEnergy {A} job state fault.Memory = Unit {0}
+RefusesEnergy {A} job state _ = ⊥
 
 -- ---- what an output is left with
 
@@ -112,7 +117,8 @@ abbrev pub IsTextUnwritten : {A : Type 0} → (CommandFault A → Type 0) → ((
 IsTextUnwritten Why HasText before after f = (Why f × (after ≡ before))
     ⊎ ((o : OutFault) × (f ≡ fault.Out o) × HasText (AppendsBeginning before after))
 
--- why no text was written of the state that begins at a frame, of a state's frame, of a listing, of a verdict, of an energy
+-- why no text was written of the state that begins at a frame, of a state's frame, of a listing, of a verdict, of an
+-- energy
 abbrev pub IsStartUndone : {A : Type 0} → (job gro : List ℕ) → ℕ → Output → Output → CommandFault A → Type 0
 IsStartUndone job gro number before after f = IsTextUnwritten (RefusesUnder job (RefusesFrame gro number)) (IsStartText job gro number) before after f
 
@@ -131,13 +137,15 @@ IsListingUndone job listing before after f = IsTextUnwritten (RefusesUnder job (
 abbrev pub IsEnergyUndone : {A : Type 0} → (job state : List ℕ) → Output → Output → CommandFault A → Type 0
 IsEnergyUndone job state before after f = IsTextUnwritten (RefusesEnergy job state) (IsEnergyText job state) before after f
 
--- why no run of a state under a job was written: a failed output is left with a beginning of its text, and what else there is writes nothing
+-- why no run of a state under a job was written: a failed output is left with a beginning of its text, and what else
+-- there is writes nothing
 abbrev pub IsRunUndone : {A : Type 0} → (job state : List ℕ) → Run → Output → Output → CommandFault A → Type 0
-IsRunUndone {A} job state run before after f = (g : RunFault A) × (f ≡ fault.Run g) × IsRunUnwritten job state run.direction run.steps before after g
+IsRunUndone {A} job state run before after f = (g : RunFault A) × (f ≡ fault_of_run g) × IsRunUnwritten job state run.direction run.steps before after g
 
--- why not all frames of a run were written: where an allocation is refused in it whole frames may have been, and a failed output is left with a beginning of them
+-- why not all frames of a run were written: where an allocation is refused in it whole frames may have been, and a
+-- failed output is left with a beginning of them
 abbrev pub IsTrajectoryUndone : {A : Type 0} → (job state : List ℕ) → Trajectory → Output → Output → CommandFault A → Type 0
-IsTrajectoryUndone {A} job state t before after f = (g : RunFault A) × (f ≡ fault.Run g) × AreFramesUnwritten job state t.direction t.steps t.every before after g
+IsTrajectoryUndone {A} job state t before after f = (g : RunFault A) × (f ≡ fault_of_run g) × AreFramesUnwritten job state t.direction t.steps t.every before after g
 
 -- ---- of a command, whose files gave these bytes
 
@@ -156,7 +164,8 @@ IsCommandRefused held (command.Code l) before after f = OfOne held l.job.now (λ
 
 -- ---- files that give no bytes
 
--- the file at a path gave no bytes, and was the last to be asked for; one whose bytes are told gives them, unless memory runs out
+-- the file at a path gave no bytes, and was the last to be asked for; one whose bytes are told gives them, unless
+-- memory runs out
 pub record IsUnread {A : Type 0} (held : List ℕ → Option (List ℕ)) (path : List ℕ) (asked_before asked_after : Option (List (List ℕ))) (f : CommandFault A) : Type 0 where
   pub why : ReadFault
   pub lent : Bor (List ℕ)
@@ -186,18 +195,21 @@ HasNoBytes held (command.Code l) asked_before asked_after f = IsUnread held l.jo
 
 -- ---- of words
 
--- Why a command was not done: one of its files gave no bytes, and nothing was printed; or all did, and this is what they are refused for, or what it lacked.
+-- Why a command was not done: one of its files gave no bytes, and nothing was printed; or all did, and this is what
+-- they are refused for, or what it lacked.
 abbrev pub IsUndone : {A : Type 0} → (List ℕ → Option (List ℕ)) → (asked_before asked_after : Option (List (List ℕ))) → Command → Output → Output → CommandFault A → Type 0
 IsUndone held asked_before asked_after c before after f = (HasNoBytes held c asked_before asked_after f × (after ≡ before))
     ⊎ ((asked_after ≡ asked_by asked_before c) × IsCommandRefused held c before after f)
 
--- why an error of the parser was not answered on standard output, by its kind: it is one of words that ask for nothing that there is; or the output failed; or memory ran out
+-- why an error of the parser was not answered on standard output, by its kind: it is one of words that ask for nothing
+-- that there is; or the output failed; or memory ran out
 abbrev pub IsNoAnswer : {A : Type 0} → ErrorKind → Output → Output → CommandFault A → Type 0
 IsNoAnswer kind before after f = ((e : Error) × (f ≡ fault.CommandLine e) × (kind ≢ OutOfMemory) × (kind ≢ DisplayHelp) × (kind ≢ DisplayVersion) × (after ≡ before))
     ⊎ ((o : OutFault) × (f ≡ fault.Out o) × ((kind ≡ DisplayHelp) ⊎ (kind ≡ DisplayVersion)) × (before.failed < after.failed))
     ⊎ ((f ≡ fault.Memory) × (after ≡ before))
 
--- why words that name no command were not answered on standard output: they ask for nothing that there is; or they ask for help or the version, and the output failed; or memory ran out
+-- why words that name no command were not answered on standard output: they ask for nothing that there is; or they ask
+-- for help or the version, and the output failed; or memory ran out
 abbrev pub IsUnanswered : {A : Type 0} → List (List ℕ) → Output → Output → CommandFault A → Type 0
 IsUnanswered words before after f = ((e : Error) × (f ≡ fault.CommandLine e) × IsMisuse words × (after ≡ before))
     ⊎ ((o : OutFault) × (f ≡ fault.Out o) × (AsksForHelp words ⊎ AsksForVersion words) × (before.failed < after.failed))

@@ -19,7 +19,8 @@ said _ text = line text
 abbrev pub Prints : Output → Output → List ℕ → Type 0
 Prints before after text = Appends before after text ⊎ AppendsBeginning before after text
 
--- a fault was reported: by its status, with a text as its status has it printed; or memory for the text was refused, and out of memory was reported in place of it
+-- a fault was reported: by its status, with a text as its status has it printed; or memory for the text was refused,
+-- and out of memory was reported in place of it
 abbrev pub IsReported : {A : Type 0} → CommandFault A → ℕ → (List ℕ → Type 0) → Type 0
 IsReported f result Printed = ((result ≡ status_number (status_of f)) × ((text : List ℕ) × Printed (said (status_of f) text)))
     ⊎ ((result ≡ status_number status.Memory) × Printed (line (codes "Memory")))

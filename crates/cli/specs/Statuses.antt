@@ -1,15 +1,9 @@
 -- The statuses that the program ends with, and which fault has which.
 use Rattle.std.specs.Prelude.{ℕ}
-use Rattle.fallible.specs.declared.failure.Failure.TheVariants.{Refused, Memory}
+use Rattle.integrator.specs.declared.faults.StepFault.{StepFault}
 use Rattle.integrator.specs.declared.faults.StepFault.TheVariants as step
-use Rattle.integrator.specs.declared.faults.SystemFault.{SystemFault}
-use Rattle.integrator.specs.declared.faults.SystemFault.TheVariants as system
 use Rattle.engine.specs.declared.faults.EngineFault.{EngineFault}
 use Rattle.engine.specs.declared.faults.EngineFault.TheVariants as engine
-use Rattle.engine.specs.declared.faults.OpenFault.{OpenFault}
-use Rattle.engine.specs.declared.faults.OpenFault.TheVariants as opened
-use Rattle.engine.specs.declared.faults.RunFault.{RunFault}
-use Rattle.engine.specs.declared.faults.RunFault.TheVariants as run
 use Rattle.cli.specs.declared.faults.CommandFault.{CommandFault}
 use Rattle.cli.specs.declared.faults.CommandFault.TheVariants as fault
 use Rattle.cli.specs.declared.faults.Status.{Status}
@@ -23,28 +17,14 @@ status_number status.RefusedKernel = 3
 status_number status.Memory = 4
 status_number status.File = 5
 
-abbrev pub system_status : {A : Type 0} → SystemFault A → Status
-system_status (system.Energy f) = status.RefusedKernel
-system_status system.BitsDiffer = status.RefusedData
-system_status (system.UnknownType n) = status.RefusedData
-system_status system.CutoffTooLong = status.RefusedData
-
 abbrev pub engine_status : {A : Type 0} → EngineFault A → Status
-engine_status (engine.System f) = system_status f
-engine_status (engine.Kernel r) = status.RefusedKernel
+engine_status (engine.Energy f) = status.RefusedKernel
+engine_status (engine.System f) = status.RefusedData
 engine_status engine.ForceRange = status.RefusedData
 
-abbrev pub open_status : {A : Type 0} → OpenFault A → Status
-open_status (opened.Job f) = status.RefusedData
-open_status (opened.State f) = status.RefusedData
-open_status (opened.Engine f) = engine_status f
-
-abbrev pub run_status : {A : Type 0} → RunFault A → Status
-run_status (run.Open (Refused f)) = open_status f
-run_status (run.Open Memory) = status.Memory
-run_status (run.Steps step.StepRange) = status.RefusedData
-run_status (run.Steps (step.Memory done)) = status.Memory
-run_status (run.Out f) = status.File
+abbrev pub steps_status : StepFault → Status
+steps_status step.StepRange = status.RefusedData
+steps_status (step.Memory done) = status.Memory
 
 abbrev pub status_of : {A : Type 0} → CommandFault A → Status
 status_of (fault.CommandLine e) = status.CommandLine
@@ -57,7 +37,7 @@ status_of (fault.State f) = status.RefusedData
 status_of (fault.Listing f) = status.RefusedData
 status_of (fault.Energy f) = status.RefusedKernel
 status_of (fault.Kernel r) = status.RefusedKernel
-status_of (fault.Open f) = open_status f
-status_of (fault.Run f) = run_status f
+status_of (fault.Engine f) = engine_status f
+status_of (fault.Steps f) = steps_status f
 status_of (fault.Out f) = status.File
 status_of fault.Memory = status.Memory

@@ -1,36 +1,36 @@
--- The lines that are printed of code that is judged, and of energies: from the bytes that are read to those that are printed. How a text went to an output is told by what it is asked to meet.
+-- The lines that are printed of code that is judged, and of energies: from the bytes that are read to those that are
+-- printed. How a text went to an output is told by what it is asked to meet.
 use Rattle.std.specs.Prelude.{◌≡◌, ℕ, ℤ, List, ◌++◌, [], ◌∷◌, Ok, codes, decimal}
 use Rattle.std.specs.Fmt.{signed_decimal}
 use Rattle.engine.specs.PairEnergies.{IsEnergyOfTexts}
-use Rattle.engine.specs.Verdicts.{IsJudged, IsSlopeKernel, IsUnder}
+use Rattle.kernel_code.specs.declared.instructions.Instr.{Instr}
+use Rattle.potential.specs.Verdicts.{IsAccepted, IsSlopeKernel}
 use Rattle.job.specs.JobText.{reading_of, limits}
 use Rattle.job.specs.Values.{JobValue}
 use Rattle.kernel_code.specs.ListingReading.{code_of}
-use Rattle.verifier.specs.Kernels.{Kernel, IsKernel}
+use Rattle.verifier.specs.Kernels.{Kernel}
 
 -- the line of accepted code
 unfoldable pub verdict_line : (steps bound : ℕ) → List ℕ
 verdict_line steps bound = codes "accepted: steps " ++ (decimal steps ++ (codes ", bound " ++ (decimal bound ++ 10 ∷ [])))
 
--- the code of the slope of the job's energy is accepted, and what is known of it was written: the instructions on its longest path, and the verifier's one bound
+-- the code of the slope of the job's energy is accepted, and what is known of it was written: the instructions on its
+-- longest path, and the verifier's one bound
 pub record IsSlopeVerdict (job : List ℕ) (Wrote : List ℕ → Type 0) : Type 0 where
   pub said : JobValue
   pub kernel : Kernel
   pub job_read : reading_of limits job ≡ Ok said
   pub slope : IsSlopeKernel said kernel
-  pub accepted : IsKernel kernel
-  pub judged : IsJudged said kernel.code (Ok kernel.bound)
   pub written : Wrote (verdict_line kernel.steps kernel.bound)
 
--- the same of the code of a listing, under the job
+-- the code of a listing is accepted under the job, and what is known of it was written
 pub record IsListingVerdict (job listing : List ℕ) (Wrote : List ℕ → Type 0) : Type 0 where
   pub said : JobValue
+  pub code : List Instr
   pub kernel : Kernel
   pub job_read : reading_of limits job ≡ Ok said
-  pub listing_read : code_of listing ≡ Ok kernel.code
-  pub under : IsUnder said kernel
-  pub accepted : IsKernel kernel
-  pub judged : IsJudged said kernel.code (Ok kernel.bound)
+  pub listing_read : code_of listing ≡ Ok code
+  pub accepted : IsAccepted said code kernel
   pub written : Wrote (verdict_line kernel.steps kernel.bound)
 
 -- the line of an energy, in units of 2^-bits kJ/mol

@@ -2,7 +2,7 @@
 
 ghost use Rattle.std.specs.Prelude.{◌≡◌, ◌-◌, ◌<◌, ◌^◌, List, Ok, IfErr, IfOk};
 ghost use Rattle.gro.specs.Frames.{frame_view};
-ghost use Rattle.integrator.specs.Starts.{slope_code_of};
+ghost use Rattle.potential.specs.Energies.{slope_code_of};
 ghost use Rattle.job.specs.JobText.{limits, reading_of};
 ghost use Rattle.job.specs.Values.{JobValue};
 ghost use Rattle.kernel_code.specs.Listing.{listing_of};
@@ -19,15 +19,16 @@ ghost use Rattle.cli.specs.Refusals.{RefusesCode, RefusesFrame, RefusesState, Re
 use crate::faults::{CommandFault, written};
 use fallible::{Out, write_all};
 use gro::{GroFrame, pick, read_frames};
-use integrator::slope_code;
 use job::Job;
 use kernel_code::print;
+use potential::slope_code;
 use state::State;
 use std::alloc::Allocator;
 
 /// Writes the state that begins at the frame with this number, from 1, of a GRO text, under a job.
 ///
-/// The job is judged first, then the GRO text, its number of frames, and the frame's box. A refusal writes nothing, unless a write failed.
+/// The job is judged first, then the GRO text, its number of frames, and the frame's box. A refusal writes nothing,
+/// unless a write failed.
 pub(crate) fn start_bytes<'a, A: Allocator + Copy, O: Out>(
     alloc: A,
     job: &[u8],
@@ -99,7 +100,8 @@ fn frame_read<'a, A: Allocator + Copy>(
     Ok(frame?)
 }
 
-/// Writes the listing of the code of a job's slope. A refusal, of the job or its energy, writes nothing, unless a write failed.
+/// Writes the listing of the code of a job's slope. A refusal, of the job or its energy, writes nothing, unless a write
+/// failed.
 pub(crate) fn code_bytes<'a, A: Allocator + Copy, O: Out>(
     alloc: A,
     job: &[u8],

@@ -29,6 +29,7 @@ use clap::error::ErrorKind;
 use command_line::{Check, Command, Energy, Frame, Listing, Run, Start, Trajectory, parse};
 use engine::run_bytes;
 use fallible::{Out, write_all};
+use integrator::Workers;
 use std::alloc::{AllocError, Allocator, Global};
 use std::convert::AsStr;
 use std::thread::Threads;
@@ -36,7 +37,10 @@ use trajectory::trajectory_bytes;
 
 /// Does what the words ask for, and answers the status to end with, from 0 to 5.
 ///
-/// Workers are started by `rt`. The words begin after the program's own name. What a command prints, help and the version go to `out`; the line of a refusal goes to `err`, and so do the parser's text on words that name no command and, with `--progress`, the lines that tell how far a run has come. The command line's parser takes its memory of `words_alloc`, all else of `alloc`.
+/// Workers are started by `rt`. The words begin after the program's own name. What a command prints, help and the
+/// version go to `out`; the line of a refusal goes to `err`, and so do the parser's text on words that name no command
+/// and, with `--progress`, the lines that tell how far a run has come. The command line's parser takes its memory of
+/// `words_alloc`, all else of `alloc`.
 pub fn execute<
     R: Threads + Sync,
     A: Allocator + Copy + Send + Sync,
@@ -282,7 +286,7 @@ fn run_unwatched<'a, R: Threads + Sync, A: Allocator + Copy + Send + Sync, O: Ou
         state,
         run.steps,
         run.direction,
-        run.workers,
+        Workers::new(run.workers),
         out,
     ))
 }
@@ -352,7 +356,7 @@ fn trajectory_unwatched<'a, R: Threads + Sync, A: Allocator + Copy + Send + Sync
         trajectory.steps,
         trajectory.every,
         trajectory.direction,
-        trajectory.workers,
+        Workers::new(trajectory.workers),
         out,
     ))
 }
@@ -434,7 +438,8 @@ fn report_if_counted<A: Allocator + Copy, E: Out>(
 
 /// Prints what a fault says, and answers its status.
 ///
-/// Where memory for the text is refused, the fault is `Memory`. An output that fails is left with a beginning of the text.
+/// Where memory for the text is refused, the fault is `Memory`. An output that fails is left with a beginning of the
+/// text.
 pub fn report<A: Allocator + Copy, E: Out>(alloc: A, fault: &CommandFault<'_, A>, err: &mut E) -> u8
     requires { (E.output err.old).failed < 2 ^ 64 - 1 }
     ensures { IsReported fault.now result (Prints (E.output err.old) (E.output err.new)) }

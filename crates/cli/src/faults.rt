@@ -2,18 +2,19 @@
 
 ghost use Rattle.std.specs.Prelude.{◌≡◌, ◌≤◌};
 ghost use Rattle.std.specs.Result.{result_map_both};
-ghost use Rattle.cli.specs.Failures.{command_fault};
+ghost use Rattle.cli.specs.Failures.{command_fault, fault_of_open, fault_of_run};
 ghost use Rattle.cli.specs.declared.faults.CommandFault.TheVariants as command;
-ghost use Rattle.engine.specs.declared.faults.EnergyFault.TheVariants as energy;
+ghost use Rattle.potential.specs.declared.faults.EnergyFault.TheVariants as energy;
 
 use clap::Error;
 use energy_program::ExprFault;
-use engine::{EnergyFault, EngineFault, KernelRefusal, OpenFault, RunFault};
+use engine::{EngineFault, OpenFault, RunFault};
 use fallible::{Failure, OutFault};
 use gro::GroFault;
-use integrator::{StepFault, SystemFault};
+use integrator::StepFault;
 use job::JobFault;
 use kernel_code::CodeFault;
+use potential::{EnergyFault, KernelRefusal};
 use ring_box::BoxFault;
 use state::StateFault;
 use std::alloc::{AllocError, Allocator};
@@ -68,7 +69,7 @@ pub enum CommandFault<'a, A: Allocator> {
     /// A file can't be read to its end. The path is that of the words.
     #[error("O1 CannotRead {path}")]
     CannotRead { path: &'a str },
-    /// The job of `start`, `check` or `code` is refused.
+    /// A job is refused.
     #[error(transparent)]
     Job(JobFault<A>),
     /// The GRO file is refused, or has no such frame.
@@ -77,7 +78,7 @@ pub enum CommandFault<'a, A: Allocator> {
     /// The sides of the frame that a state is to begin at are no box's.
     #[error(transparent)]
     Box(BoxFault),
-    /// The state of `frame` is refused.
+    /// A state is refused.
     #[error(transparent)]
     State(StateFault),
     /// The listing to judge is refused.
@@ -89,12 +90,12 @@ pub enum CommandFault<'a, A: Allocator> {
     /// The verifier refuses the code of the listing to judge.
     #[error(transparent)]
     Kernel(KernelRefusal),
-    /// The job and the state of `energy` have no engine.
+    /// A job and a state have no engine.
     #[error(transparent)]
-    Open(OpenFault<A>),
-    /// The run, or its frames, was not written.
+    Engine(EngineFault<A>),
+    /// The steps stopped before the last.
     #[error(transparent)]
-    Run(RunFault<A>),
+    Steps(StepFault),
     /// The output failed.
     #[error(transparent)]
     Out(OutFault),
@@ -124,11 +125,11 @@ pub(crate) fn written<'a, A: Allocator>(
 
 /// What a command answers that ends with this run.
 pub(crate) fn ran<'a, A: Allocator>(run: Result<(), RunFault<A>>) -> Result<(), CommandFault<'a, A>>
-    ensures { result ≡ result_map_both (λ x. x) command.Run run }
+    ensures { result ≡ result_map_both (λ x. x) fault_of_run run }
 {
     match run {
         Ok(()) => Ok(()),
-        Err(fault) => Err(CommandFault::Run(fault)),
+        Err(fault) => Err(CommandFault::of_run(fault)),
     }
 }
 
@@ -149,10 +150,10 @@ impl<'a, A: Allocator> From<GroFault> for CommandFault<'a, A> {
 }
 
 impl<'a, A: Allocator> From<RunFault<A>> for CommandFault<'a, A> {
-    ghost from_gives = { λ f e. e ≡ command.Run f };
+    ghost from_gives = { λ f e. e ≡ fault_of_run f };
 
     fn from(fault: RunFault<A>) -> CommandFault<'a, A> {
-        CommandFault::Run(fault)
+        CommandFault::of_run(fault)
     }
 }
 
@@ -234,11 +235,11 @@ impl<'a, A: Allocator> From<Failure<KernelRefusal>> for CommandFault<'a, A> {
 }
 
 impl<'a, A: Allocator> From<Failure<OpenFault<A>>> for CommandFault<'a, A> {
-    ghost from_gives = { λ failure e. e ≡ command_fault command.Open failure };
+    ghost from_gives = { λ failure e. e ≡ command_fault fault_of_open failure };
 
     fn from(failure: Failure<OpenFault<A>>) -> CommandFault<'a, A> {
         match failure {
-            Failure::Refused(fault) => CommandFault::Open(fault),
+            Failure::Refused(fault) => CommandFault::of_open(fault),
             Failure::Memory => CommandFault::Memory,
         }
     }
@@ -251,6 +252,33 @@ impl<'a, A: Allocator> From<Failure<ExprFault<A>>> for CommandFault<'a, A> {
         match failure {
             Failure::Refused(fault) => CommandFault::Energy(EnergyFault::Energy(fault)),
             Failure::Memory => CommandFault::Memory,
+        }
+    }
+}
+
+impl<'a, A: Allocator> CommandFault<'a, A> {
+    ghost use Rattle.cli.specs.Failures.{fault_of_open, fault_of_run};
+
+    /// The fault of texts that have no engine.
+    fn of_open(fault: OpenFault<A>) -> CommandFault<'a, A>
+        ensures { result ≡ fault_of_open fault }
+    {
+        match fault {
+            OpenFault::Job(fault) => CommandFault::Job(fault),
+            OpenFault::State(fault) => CommandFault::State(fault),
+            OpenFault::Engine(fault) => CommandFault::Engine(fault),
+        }
+    }
+
+    /// The fault of a run that was not written, or not all of its frames.
+    fn of_run(fault: RunFault<A>) -> CommandFault<'a, A>
+        ensures { result ≡ fault_of_run fault }
+    {
+        match fault {
+            RunFault::Open(Failure::Refused(fault)) => CommandFault::of_open(fault),
+            RunFault::Open(Failure::Memory) => CommandFault::Memory,
+            RunFault::Steps(fault) => CommandFault::Steps(fault),
+            RunFault::Out(fault) => CommandFault::Out(fault),
         }
     }
 }
@@ -271,57 +299,31 @@ impl<'a, A: Allocator> CommandFault<'a, A> {
             | CommandFault::State(_)
             | CommandFault::Listing(_) => Status::RefusedData,
             CommandFault::Energy(_) | CommandFault::Kernel(_) => Status::RefusedKernel,
-            CommandFault::Open(fault) => status_of_open(fault),
-            CommandFault::Run(fault) => status_of_run(fault),
+            CommandFault::Engine(fault) => status_of_engine(fault),
+            CommandFault::Steps(fault) => status_of_steps(fault),
             CommandFault::Memory => Status::Memory,
         }
     }
 }
 
-ghost use Rattle.cli.specs.Statuses.{engine_status, open_status, run_status, system_status};
-
-/// The status that a job and a state end with that have no atoms to run.
-fn status_of_system<A: Allocator>(fault: &SystemFault<A>) -> Status
-    ensures { result ≡ system_status fault.now }
-{
-    match fault {
-        SystemFault::Energy(_) => Status::RefusedKernel,
-        SystemFault::BitsDiffer | SystemFault::UnknownType { .. } | SystemFault::CutoffTooLong => {
-            Status::RefusedData
-        }
-    }
-}
+ghost use Rattle.cli.specs.Statuses.{engine_status, steps_status};
 
 /// The status that a job and a state end with that have no engine.
 fn status_of_engine<A: Allocator>(fault: &EngineFault<A>) -> Status
     ensures { result ≡ engine_status fault.now }
 {
     match fault {
-        EngineFault::System(fault) => status_of_system(fault),
-        EngineFault::Kernel(_) => Status::RefusedKernel,
-        EngineFault::ForceRange => Status::RefusedData,
+        EngineFault::Energy(_) => Status::RefusedKernel,
+        EngineFault::System(_) | EngineFault::ForceRange => Status::RefusedData,
     }
 }
 
-/// The status that texts end with that have no engine.
-fn status_of_open<A: Allocator>(fault: &OpenFault<A>) -> Status
-    ensures { result ≡ open_status fault.now }
+/// The status that steps end with that stopped before the last.
+fn status_of_steps(fault: &StepFault) -> Status
+    ensures { result ≡ steps_status fault.now }
 {
     match fault {
-        OpenFault::Job(_) | OpenFault::State(_) => Status::RefusedData,
-        OpenFault::Engine(fault) => status_of_engine(fault),
-    }
-}
-
-/// The status that a run ends with that was not written.
-fn status_of_run<A: Allocator>(fault: &RunFault<A>) -> Status
-    ensures { result ≡ run_status fault.now }
-{
-    match fault {
-        RunFault::Open(Failure::Refused(fault)) => status_of_open(fault),
-        RunFault::Open(Failure::Memory) => Status::Memory,
-        RunFault::Steps(StepFault::StepRange) => Status::RefusedData,
-        RunFault::Steps(StepFault::Memory { .. }) => Status::Memory,
-        RunFault::Out(_) => Status::File,
+        StepFault::StepRange => Status::RefusedData,
+        StepFault::Memory { .. } => Status::Memory,
     }
 }

@@ -24,7 +24,8 @@ pub trait Files {
     /// The bytes of the file at a path, where they are told. The system's own files tell none.
     ghost held: { Self → List ℕ → Option (List ℕ) };
 
-    /// All bytes of the file at this path. Reading changes no file. A file whose bytes are told can be read, unless memory runs out.
+    /// All bytes of the file at this path. Reading changes no file. A file whose bytes are told can be read, unless
+    /// memory runs out.
     fn read<A: Allocator + Copy>(&mut self, alloc: A, path: &str) -> Result<Vec<u8, A>, ReadFault>
         ensures asked { asked self.new ≡ also_asked (asked self.old) path.now }
         ensures gives { IfOk result (λ v. IsHeld (held self.old) path.now v.items) }

@@ -64,7 +64,8 @@ fn read_fault(error: &io::Error) -> ReadFault
     }
 }
 
-/// An output over a writer of the system, as standard output is. As an output it tells no bytes; what its writer holds goes by `take`.
+/// An output over a writer of the system, as standard output is. As an output it tells no bytes; what its writer holds
+/// goes by `take`.
 #[derive(Drop)]
 pub struct Stream<W: Write> {
     writer: W,
@@ -82,7 +83,8 @@ impl<W: Write> Stream<W> {
         }
     }
 
-    /// Hands the bytes on to the writer, and answers how many of them it took: at least one where there is one. A writer that takes nothing of some bytes has failed.
+    /// Hands the bytes on to the writer, and answers how many of them it took: at least one where there is one. A
+    /// writer that takes nothing of some bytes has failed.
     fn take(&mut self, bytes: &[u8]) -> Result<usize, OutFault>
         requires { self.old.failures < 2 ^ 64 - 1 }
         ensures held { WriteAppends (W.contents self.old.writer) (W.contents self.new.writer) result bytes.now }

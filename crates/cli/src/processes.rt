@@ -22,7 +22,8 @@ use std::process::ExitCode;
 use std::rt::Env;
 use std::thread::Threads;
 
-/// Does what the words of a process ask for, and answers the status to end with, from 0 to 5: what [`execute`] does and says, where the words can be had; else it reports why not.
+/// Does what the words of a process ask for, and answers the status to end with, from 0 to 5: what [`execute`] does and
+/// says, where the words can be had; else it reports why not.
 pub fn execute_words<'a, R: Threads + Sync + AllocGlobal, F: Files, O: Out, E: Out>(
     rt: &R,
     words: Result<Vec<String>, CommandFault<'a, Global>>,
@@ -59,7 +60,8 @@ pub fn execute_words<'a, R: Threads + Sync + AllocGlobal, F: Files, O: Out, E: O
     }
 }
 
-/// Runs the program: the words are the process's own, files are the system's, and what is printed goes to the two writers, as standard output and standard error are. It answers the status to end with.
+/// Runs the program: the words are the process's own, files are the system's, and what is printed goes to the two
+/// writers, as standard output and standard error are. It answers the status to end with.
 pub fn run_process<
     R: Env + fs::Files + Threads + Sync + AllocGlobal,
     O: Write + Drop,

@@ -8,6 +8,7 @@ ghost use Rattle.cli.specs.Progress.{PrintsProgress, Tells, prints_also};
 use crate::faults::CommandFault;
 use command_line::{Run, Trajectory};
 use fallible::{Out, write_all};
+use integrator::Workers;
 use line_text::{Line, put, put_natural};
 use std::alloc::Allocator;
 use std::thread::Threads;
@@ -76,14 +77,15 @@ pub(crate) fn run_watched<'a, R: Threads + Sync, A: Allocator + Copy + Send + Sy
         state,
         steps,
         run.direction,
-        run.workers,
+        Workers::new(run.workers),
         &mut watch,
         out,
     )?;
     Ok(())
 }
 
-/// Prints frames of the run of a state under a job, and tells how far the run has come, of the steps up to the last frame.
+/// Prints frames of the run of a state under a job, and tells how far the run has come, of the steps up to the last
+/// frame.
 pub(crate) fn trajectory_watched<
     'a,
     R: Threads + Sync,
@@ -114,7 +116,7 @@ pub(crate) fn trajectory_watched<
         trajectory.steps,
         trajectory.every,
         trajectory.direction,
-        trajectory.workers,
+        Workers::new(trajectory.workers),
         &mut watch,
         out,
     )?;

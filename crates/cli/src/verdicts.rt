@@ -1,23 +1,26 @@
-//! The lines that `check` and `energy` print: the verdict on a job's code, or on other code under a job, and a state's energy.
+//! The lines that `check` and `energy` print: the verdict on a job's code, or on other code under a job, and a state's
+//! energy.
 
-ghost use Rattle.std.specs.Prelude.{◌≡◌, ◌-◌, ◌<◌, ◌^◌, IfErr, IfOk, Ok, string_bytes};
+ghost use Rattle.std.specs.Prelude.{◌≡◌, ◌-◌, ◌<◌, ◌^◌, IfErr, IfOk, List, Ok, string_bytes};
 ghost use Rattle.engine.specs.PairEnergies.{IsEnergyOfTexts};
-ghost use Rattle.engine.specs.Verdicts.{IsJudged, IsSlopeKernel, IsUnder};
+ghost use Rattle.potential.specs.Verdicts.{IsAccepted, IsSlopeKernel};
 ghost use Rattle.job.specs.JobText.{limits, reading_of};
 ghost use Rattle.job.specs.Values.{JobValue};
 ghost use Rattle.job.specs.Views.{job_value};
 ghost use Rattle.kernel_code.specs.ListingReading.{code_of};
-ghost use Rattle.verifier.specs.Kernels.{IsKernel, Kernel};
+ghost use Rattle.kernel_code.specs.declared.instructions.Instr.{Instr};
+ghost use Rattle.verifier.specs.Kernels.{Kernel};
 ghost use Rattle.cli.specs.Performed.{WritesLine, WritesText};
 ghost use Rattle.cli.specs.Refusals.{RefusesEnergy, RefusesListing, RefusesSlope, RefusesUnder};
 ghost use Rattle.cli.specs.Verdicts.{IsEnergyText, IsListingVerdict, IsSlopeVerdict, energy_line, verdict_line};
 
 use crate::faults::CommandFault;
 use crate::writing::write_line;
-use engine::{open, verdict, verified_slope};
+use engine::open;
 use fallible::Out;
 use job::Job;
 use kernel_code::read;
+use potential::{verdict, verified_slope};
 use std::alloc::{AllocError, Allocator};
 use verifier::Verified;
 
@@ -53,8 +56,8 @@ fn write_verdict<'a, A: Allocator + Copy, O: Out>(
     write_line(verdict_line(alloc, steps, bound), out)
 }
 
-/// Writes what is known of the code of a job's slope. A refusal, of the job, its energy or that code, writes nothing, unless a write
-/// failed.
+/// Writes what is known of the code of a job's slope. A refusal, of the job, its energy or that code, writes nothing,
+/// unless a write failed.
 pub(crate) fn slope_verdict_bytes<'a, A: Allocator + Copy, O: Out>(
     alloc: A,
     job: &[u8],
@@ -73,7 +76,7 @@ fn slope_known<'a, A: Allocator + Copy>(
     job: &[u8],
 ) -> Result<(u32, u64), CommandFault<'a, A>>
     ensures is { IfOk result (λ known. (said : JobValue) × (k : Kernel) × (reading_of limits job.now ≡ Ok said)
-        × IsSlopeKernel said k × IsKernel k × IsJudged said k.code (Ok k.bound) × (known.0 ≡ k.steps) × (known.1 ≡ k.bound)) }
+        × IsSlopeKernel said k × (known.0 ≡ k.steps) × (known.1 ≡ k.bound)) }
     ensures refused { IfErr result (RefusesUnder job.now RefusesSlope) }
 {
     let job = Job::read(alloc, job)?;
@@ -90,8 +93,8 @@ fn known<A: Allocator>(kernel: Verified<A>) -> (u32, u64)
     (kernel.steps(), kernel.bound())
 }
 
-/// Writes what is known of the code of a listing under a job. A refusal, of the job, the listing or its code, writes nothing, unless a
-/// write failed.
+/// Writes what is known of the code of a listing under a job. A refusal, of the job, the listing or its code, writes
+/// nothing, unless a write failed.
 pub(crate) fn listing_verdict_bytes<'a, A: Allocator + Copy, O: Out>(
     alloc: A,
     job: &[u8],
@@ -111,8 +114,8 @@ fn listing_known<'a, A: Allocator + Copy>(
     job: &[u8],
     listing: &[u8],
 ) -> Result<(u32, u64), CommandFault<'a, A>>
-    ensures is { IfOk result (λ known. (said : JobValue) × (k : Kernel) × (reading_of limits job.now ≡ Ok said)
-        × (code_of listing.now ≡ Ok k.code) × IsUnder said k × IsKernel k × IsJudged said k.code (Ok k.bound) × (known.0 ≡ k.steps) × (known.1 ≡ k.bound)) }
+    ensures is { IfOk result (λ known. (said : JobValue) × (code : List Instr) × (k : Kernel) × (reading_of limits job.now ≡ Ok said)
+        × (code_of listing.now ≡ Ok code) × IsAccepted said code k × (known.0 ≡ k.steps) × (known.1 ≡ k.bound)) }
     ensures refused { IfErr result (RefusesUnder job.now (RefusesListing listing.now)) }
 {
     let job = Job::read(alloc, job)?;
@@ -127,8 +130,8 @@ fn known_under<'a, A: Allocator + Copy>(
     job: &Job<A>,
     listing: &[u8],
 ) -> Result<(u32, u64), CommandFault<'a, A>>
-    ensures is { IfOk result (λ known. (k : Kernel) × (code_of listing.now ≡ Ok k.code) × IsUnder (job_value job.now) k
-        × IsKernel k × IsJudged (job_value job.now) k.code (Ok k.bound) × (known.0 ≡ k.steps) × (known.1 ≡ k.bound)) }
+    ensures is { IfOk result (λ known. (code : List Instr) × (k : Kernel) × (code_of listing.now ≡ Ok code)
+        × IsAccepted (job_value job.now) code k × (known.0 ≡ k.steps) × (known.1 ≡ k.bound)) }
     ensures refused { IfErr result (RefusesListing listing.now (job_value job.now)) }
 {
     let code = read(alloc, listing)?;
@@ -136,8 +139,8 @@ fn known_under<'a, A: Allocator + Copy>(
     Ok(known(kernel))
 }
 
-/// Writes the energy of a state under a job. A refusal, of the job, the state, their engine or the energy's own code, writes nothing,
-/// unless a write failed.
+/// Writes the energy of a state under a job. A refusal, of the job, the state, their engine or the energy's own code,
+/// writes nothing, unless a write failed.
 pub(crate) fn energy_bytes<'a, A: Allocator + Copy, O: Out>(
     alloc: A,
     job: &[u8],

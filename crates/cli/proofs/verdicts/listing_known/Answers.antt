@@ -14,4 +14,4 @@ returns-clause-refused g c =
 
 pub returns-clause-is : goal.returns-clause-is
 returns-clause-is g c =
-    IfOk-weaker c.known_under-known.result _ _ (λ known h. (_, h.0, c.in_ok-job.ensures.exact, h.1, h.2, h.3, h.4, h.5, h.6)) c.known_under-known.ensures.is
+    IfOk-weaker c.known_under-known.result _ _ (λ known h. (_, h.0, h.1, c.in_ok-job.ensures.exact, h.2, h.3, h.4, h.5)) c.known_under-known.ensures.is

@@ -16,6 +16,6 @@ returns g c =
     let listing = c.args.listing.now in
     let is = c.in_ok-known.ensures.is in
     line_written c.write_verdict.result (RefusesUnder job (RefusesListing listing)) (IsListingVerdict job listing) _ _ _ (listing_memory job listing)
-    (λ written. listing_verdict _ _ is.0 is.1 is.2 is.3 is.4.table is.4.core is.4.cutoff is.5 is.6 _ _ is.7 is.8 _ written)
-    (λ begun. listing_verdict _ _ is.0 is.1 is.2 is.3 is.4.table is.4.core is.4.cutoff is.5 is.6 _ _ is.7 is.8 _ begun)
+    (λ written. listing_verdict _ _ is.0 is.1 is.2 is.3 is.4 is.5 _ _ is.6 is.7 _ written)
+    (λ begun. listing_verdict _ _ is.0 is.1 is.2 is.3 is.4 is.5 _ _ is.6 is.7 _ begun)
     c.write_verdict.ensures

@@ -15,6 +15,6 @@ returns g c =
     let job = c.args.job.now in
     let is = c.in_ok-known.ensures.is in
     line_written c.write_verdict.result (RefusesUnder job RefusesSlope) (IsSlopeVerdict job) _ _ _ (slope_memory job)
-    (λ written. slope_verdict _ is.0 is.1 is.2 is.3 is.4 is.5 _ _ is.6 is.7 _ written)
-    (λ begun. slope_verdict _ is.0 is.1 is.2 is.3 is.4 is.5 _ _ is.6 is.7 _ begun)
+    (λ written. slope_verdict _ is.0 is.1 is.2 is.3 _ _ is.4 is.5 _ written)
+    (λ begun. slope_verdict _ is.0 is.1 is.2 is.3 _ _ is.4 is.5 _ begun)
     c.write_verdict.ensures
