@@ -1,4 +1,5 @@
--- The cover of the tiles: each pair of atoms that lie in one cell or in neighbouring cells stands in one tile, once, and no other pair stands in any.
+-- The cover of the tiles: each pair of atoms that lie in one cell or in neighbouring cells stands in one tile, once,
+-- and no other pair stands in any.
 use Rattle.std.specs.Prelude.{◌≡◌, ℕ, ◌==◌, Bool, false, ◌&&◌, nat_lt, if◌then◌else◌, List, length, sum_by, count_by}
 use Rattle.ring_box.specs.Cells.{are_neighbours}
 use Rattle.ring_box.specs.declared.vectors.CellBits.{CellBits}

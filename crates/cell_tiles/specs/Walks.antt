@@ -11,7 +11,8 @@ pairs_over false xs ys = pairs_between xs ys
 abbrev pub last_of : ℕ → List (ℕ × ℕ) → List (ℕ × ℕ)
 last_of n ps = drop (length ps - n) ps
 
--- how many columns a row has: of one cell as many as atoms come before the row's, of two cells as many as the second has atoms
+-- how many columns a row has: of one cell as many as atoms come before the row's, of two cells as many as the second
+-- has atoms
 abbrev pub width_of : Bool → List ℕ → ℕ → ℕ
 width_of true ys row = row
 width_of false ys row = length ys

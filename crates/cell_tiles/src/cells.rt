@@ -109,9 +109,9 @@ impl<A: Allocator + Copy> Cells<A> {
         })
     }
 
-    /// Puts each atom of a frame, of at most 65,536, into its cell in place of what the cells held, and its places beside it. It keeps
-    /// the memory that the cells have, and answers `AllocError` where more is refused: the cells then hold some of the
-    /// atoms, and can be filled again.
+    /// Puts each atom of a frame, of at most 65,536, into its cell in place of what the cells held, and its places
+    /// beside it. It keeps the memory that the cells have, and answers `AllocError` where more is refused: the cells
+    /// then hold some of the atoms, and can be filled again.
     pub fn fill(&mut self, frame: &[Place3]) -> Result<(), AllocError>
         requires { length frame.now ≤ 65536 }
         ensures bits { self.new.bits ≡ self.old.bits }
@@ -222,7 +222,8 @@ impl<A: Allocator + Copy> Cells<A> {
         )
     }
 
-    // Lists the pairs of an atom with others of a cell that may act, until there is no room, and answers how many of the pairs it has come past.
+    // Lists the pairs of an atom with others of a cell that may act, until there is no room, and answers how many of
+    // the pairs it has come past.
     fn list_row(
         &self,
         frame: &FrameInBox,
@@ -251,9 +252,9 @@ impl<A: Allocator + Copy> Cells<A> {
         }
     }
 
-    /// Lists the pairs of a tile that act, from that with the number `k` on, in place of what `near` held: at most 64 of them, in order, with some that
-    /// may not act. It answers the number of the pair with which to go on. The caller's condition: the cells hold the atoms of the frame, and there is such
-    /// a pair.
+    /// Lists the pairs of a tile that act, from that with the number `k` on, in place of what `near` held: at most 64
+    /// of them, in order, with some that may not act. It answers the number of the pair with which to go on. The
+    /// caller's condition: the cells hold the atoms of the frame, and there is such a pair.
     pub fn near_from(&self, frame: &FrameInBox, tile: Tile, k: u64, near: &mut NearPairs) -> u64
         requires k { k < length (pairs_in self.now.members (tile.first, tile.second)) }
         requires cell { tile.second < cells_of self.now.bits }

@@ -14,7 +14,8 @@ pub fn each_pair_once()
     ensures { (bits : CellBits) (frame : List Place3) → IsGrid bits → All ArePlaces frame → Covers bits frame }
 {}
 
-/// Sum over the tiles: equal to the sum over all pairs of atoms, for each amount that is 0 for atoms that are not close.
+/// Sum over the tiles: equal to the sum over all pairs of atoms, for each amount that is 0 for atoms that are not
+/// close.
 pub fn sums_as_all()
     ensures { (bits : CellBits) (frame : List Place3) → IsGrid bits → All ArePlaces frame → SumsAsAll bits frame }
 {}

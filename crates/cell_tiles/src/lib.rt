@@ -1,5 +1,5 @@
-//! Cells of a periodic box, and tiles of them: each pair of atoms that lie in one cell or in neighbouring cells is in one
-//! tile, once.
+//! Cells of a periodic box, and tiles of them: each pair of atoms that lie in one cell or in neighbouring cells is in
+//! one tile, once.
 #![tactic(auto)]
 
 mod beside;

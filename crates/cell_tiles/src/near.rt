@@ -45,8 +45,8 @@ fn together(count: usize) -> usize
     count.min(128)
 }
 
-/// Writes the numbers of those that are marked, of the first `row`, one behind the other, and tells how many they are. Each number is written, and counted where
-/// it's marked, so that no branch has to be foreseen.
+/// Writes the numbers of those that are marked, of the first `row`, one behind the other, and tells how many they are.
+/// Each number is written, and counted where it's marked, so that no branch has to be foreseen.
 fn near_numbers(marks: &[bool; 128], row: usize, numbers: &mut [u8; 128]) -> usize
     requires { row ≤ 128 }
     ensures numbers { take result numbers.new ≡ marked marks.now row }
@@ -90,9 +90,10 @@ impl NearPairs {
         self.count = 0;
     }
 
-    /// Lists the pairs of an atom with others but for those that are far as the upper bits of their separation tell, until there is no room, or of the first 128
-    /// others alone. It answers how many of the pairs it has come past. The places of the others are read beside them, one after the other; those that are near
-    /// are marked for all, then numbered, and then listed, each in a loop of its own.
+    /// Lists the pairs of an atom with others but for those that are far as the upper bits of their separation tell,
+    /// until there is no room, or of the first 128 others alone. It answers how many of the pairs it has come past. The
+    /// places of the others are read beside them, one after the other; those that are near are marked for all, then
+    /// numbered, and then listed, each in a loop of its own.
     pub(crate) fn list(
         &mut self,
         frame: &FrameInBox,

@@ -39,8 +39,8 @@ fn columns(others: &[u32], from: u64, to: u64) -> &[u32]
     &others[from as usize..to as usize]
 }
 
-/// A row of a tile, or what is left of one: an atom, and others with each of which it makes a pair. They are cut out of the atoms of a cell, from
-/// the column on.
+/// A row of a tile, or what is left of one: an atom, and others with each of which it makes a pair. They are cut out of
+/// the atoms of a cell, from the column on.
 #[derive(Clone, Copy)]
 pub struct TileRow<'a> {
     pub atom: u32,
@@ -48,7 +48,8 @@ pub struct TileRow<'a> {
     pub others: &'a [u32],
 }
 
-/// The rows of a tile that are still to come. A contract sees the list of their pairs, and the atoms that the rows are cut from.
+/// The rows of a tile that are still to come. A contract sees the list of their pairs, and the atoms that the rows are
+/// cut from.
 #[derive(Drop)]
 pub struct TileRows<'a> {
     atoms: &'a [u32],

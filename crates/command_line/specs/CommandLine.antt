@@ -1,4 +1,5 @@
--- The command line: which words name which command. Words are read by the rules of utilities (POSIX.1-2017, Utility Syntax Guidelines), as `clap` states them.
+-- The command line: which words name which command. Words are read by the rules of utilities (POSIX.1-2017, Utility
+-- Syntax Guidelines), as `clap` states them.
 use Rattle.std.specs.Prelude.{◌≡◌, ◌≢◌, ℕ, Bool, List, [], ◌∷◌, Option, Some, None, Result, IfOk, option_map, true, false, codes}
 use Rattle.std.specs.Str.Parse.{IsNumeral, digits_value, without_leading_plus}
 use Rattle.std.specs.declared.alloc.AllocError.{AllocError}
@@ -140,7 +141,8 @@ program = with_subcommand judging listing
 
 -- ---- commands of the parser
 
--- Unless memory ran out, the command is as said, and each of its arguments is its own: it is none of a command below it.
+-- Unless memory ran out, the command is as said, and each of its arguments is its own: it is none of a command below
+-- it.
 abbrev pub IsBuilt : Result parser.Command AllocError → App → Type 0
 IsBuilt built app = IfOk built (λ c. (app_of c ≡ app) × ((out-Command c).has_globals ≡ false))
 

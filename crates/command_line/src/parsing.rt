@@ -23,7 +23,8 @@ use std::convert::AsStr;
 
 /// The command that the words name. They begin after the program's own name.
 ///
-/// Where they name none, the answer is the parser's own error, and of the kind `DisplayHelp` where they ask for help, `DisplayVersion` where they ask for the version. Out of memory is the kind `OutOfMemory`.
+/// Where they name none, the answer is the parser's own error, and of the kind `DisplayHelp` where they ask for help,
+/// `DisplayVersion` where they ask for the version. Out of memory is the kind `OutOfMemory`.
 pub fn parse<'a, S: AsStr>(alloc: Global, words: &'a [S]) -> Result<Command<'a>, Error>
     ensures command { IfOk result (IsCommand (map S.text words.entry.now)) }
     ensures none { IfErr result (λ e. (kind_of e ≡ OutOfMemory)
@@ -229,7 +230,8 @@ fn direction_of(name: &str) -> Option<Direction>
     }
 }
 
-/// A command, unless memory runs out. What builds on one takes it as it is, so that no command waits while another is built.
+/// A command, unless memory runs out. What builds on one takes it as it is, so that no command waits while another is
+/// built.
 type BuiltCommand<'a> = Result<clap::Command<'a>, AllocError>;
 
 fn program<'a>(alloc: Global) -> BuiltCommand<'a>

@@ -55,7 +55,8 @@ pub record IsDerived {A : Type 0} (f : Frac) (count : ℕ) (body slope_body : Ex
   pub body_in : IsTrue (is_scoped count 0 (length slope_ds) (tree_of slope_body))
   pub definitions_in : IsTrue (are_scoped count 0 (map tree_of slope_ds))
 
--- the program that is left of the one with all definitions has the slope as its value, needs each of its definitions, and uses only those
+-- the program that is left of the one with all definitions has the slope as its value, needs each of its definitions,
+-- and uses only those
 pub derived : {A : Type 0} (f : Frac) (count : ℕ) (body slope_body : Expr A) (ds slope_ds : List (Expr A)) (whole : Trees)
     → whole ≡ with_all (bits_of f) (tree_of body, map tree_of ds) → (tree_of slope_body, map tree_of slope_ds) ≡ pruned whole
     → IsTrue (is_scoped count 0 (length ds) (tree_of body)) → IsTrue (are_scoped count 0 (map tree_of ds))

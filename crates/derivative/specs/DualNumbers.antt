@@ -1,4 +1,5 @@
--- Dual numbers: x + x' e, where e e = 0. What an expression is at r + e is its value at r, plus e times its derivative there.
+-- Dual numbers: x + x' e, where e e = 0. What an expression is at r + e is its value at r, plus e times its derivative
+-- there.
 use Rattle.std.specs.Prelude.{◌≡◌, ◌≢◌, ◌↔◌, ℕ, suc, pos, negsuc, Bool, true, false, List, Option, Some, IsTrue, length, slice_get}
 use Rattle.energy_program.specs.declared.trees.Operator.TheVariants as op
 use Rattle.energy_program.specs.declared.trees.Function.{Function}
@@ -34,11 +35,11 @@ module _ {V : Type 0} (k : Numbers V) (inputs : List V) where
   abbrev duals : Ring (V × V)
   duals = dual k.ring
 
-  -- The value of a tree in dual numbers: the distance is r + e, the other inputs are as they are. A tree without the distance is a
-  -- constant. Sums, products, quotients, roots and powers are those of dual numbers: a quotient times the divisor is the
-  -- dividend, a root times itself is what it is the root of, a power is a product, and below 0 one over it. `min`, `max`,
-  -- `abs` and `select` are the part whose value they have, the first where both parts have it. What is flat changes only by
-  -- jumps, and has slope 0 at these too.
+  -- The value of a tree in dual numbers: the distance is r + e, the other inputs are as they are. A tree without the
+  -- distance is a constant. Sums, products, quotients, roots and powers are those of dual numbers: a quotient times the
+  -- divisor is the dividend, a root times itself is what it is the root of, a power is a product, and below 0 one over
+  -- it. `min`, `max`, `abs` and `select` are the part whose value they have, the first where both parts have it. What
+  -- is flat changes only by jumps, and has slope 0 at these too.
   pub data IsNear : Tree → V × V → Type 0 where
     constant : {t : Tree} {v : V} → is_free_of_distance t ≡ true → value t ≡ Some v → IsNear t (v, k.ring.zero)
     distance : {r : V} → slice_get inputs 0 ≡ Some r → IsNear (Input 0) (r, k.ring.one)
@@ -60,17 +61,19 @@ module _ {V : Type 0} (k : Numbers V) (inputs : List V) where
     select_first : {c a b : Tree} {x : V} {y : V × V} → value c ≡ Some x → k.is_zero x ≡ false → IsNear a y → IsNear (Select c a b) y
     select_second : {c a b : Tree} {x : V} {y : V × V} → value c ≡ Some x → k.is_zero x ≡ true → IsNear b y → IsNear (Select c a b) y
 
-  -- The slope of the table is the derivative: at r + e the tree is v + s e exactly where v is its value at r, and s its slope.
+  -- The slope of the table is the derivative: at r + e the tree is v + s e exactly where v is its value at r, and s its
+  -- slope.
   abbrev pub IsDerivative : Tree → Type 0
   IsDerivative t = (v s : V) → IsNear t (v, s) ↔ ((exact_value k inputs t ≡ Some v) × (exact_slope k inputs t ≡ Some s))
 
-  -- The program of the slope is that of the derivative: at r + e the tree of the program is v + s e exactly where v is its value at r, and s the
-  -- value of the slope's program there.
+  -- The program of the slope is that of the derivative: at r + e the tree of the program is v + s e exactly where v is
+  -- its value at r, and s the value of the slope's program there.
   abbrev pub IsDerivativeProgram : (program slope : Trees) → Type 0
   IsDerivativeProgram program slope =
       (v s : V) → IsNear (substituted program.0 program.1) (v, s)
       ↔ ((exact_value k inputs (substituted program.0 program.1) ≡ Some v) × (exact_value k inputs (substituted slope.0 slope.1) ≡ Some s))
 
--- each variable of a program is one of `inputs` inputs, each definition that is used a later one, and each power one that there is
+-- each variable of a program is one of `inputs` inputs, each definition that is used a later one, and each power one
+-- that there is
 abbrev pub IsScoped : ℕ → Trees → Type 0
 IsScoped inputs program = IsTrue (is_scoped inputs 0 (length program.1) program.0) × IsTrue (are_scoped inputs 0 program.1)

@@ -46,7 +46,8 @@ abbrev pub power : {V : Type 0} → Ring V → V → ℕ → V
 power r x zero = r.one
 power r x (suc n) = r.times (power r x n) x
 
--- Numbers with the operations of energies. Quotients and roots are there or not; `number` is what a number of a tree stands for.
+-- Numbers with the operations of energies. Quotients and roots are there or not; `number` is what a number of a tree
+-- stands for.
 pub record Numbers (V : Type 0) : Type 0 where
   pub ring : Ring V
   pub quotient : V → V → Option V
@@ -57,9 +58,9 @@ pub record Numbers (V : Type 0) : Type 0 where
   pub ceiling : V → V
   pub number : ℤ → V
 
--- The laws of exact numbers, which hold of fractions and of real numbers: a commutative ring without zero divisors, in which 2 is
--- not 0 and sums keep the order. A quotient is the number that times the divisor is the dividend; the square of a root is
--- the number that it is the root of. No more is asked of roots, of the order, and of floors and ceilings.
+-- The laws of exact numbers, which hold of fractions and of real numbers: a commutative ring without zero divisors, in
+-- which 2 is not 0 and sums keep the order. A quotient is the number that times the divisor is the dividend; the square
+-- of a root is the number that it is the root of. No more is asked of roots, of the order, and of floors and ceilings.
 pub record AreExact {V : Type 0} (k : Numbers V) : Type 0 where
   pub is_ring : IsRing k.ring
   pub no_zero_divisors : (x y : V) → k.ring.times x y ≡ k.ring.zero → y ≢ k.ring.zero → x ≡ k.ring.zero
@@ -167,7 +168,8 @@ applied k f.Delta x = on_one (λ a. Some (delta_of k a)) x
 applied k f.Floor x = on_one (λ a. Some (k.floor a)) x
 applied k f.Ceiling x = on_one (λ a. Some (k.ceiling a)) x
 
--- The exact value of a tree with all definitions put in place, where these are the inputs: the distance, then the others.
+-- The exact value of a tree with all definitions put in place, where these are the inputs: the distance, then the
+-- others.
 abbrev pub exact_value : {V : Type 0} → Numbers V → List V → Tree → Option V
 exact_value k inputs (Number z) = Some (k.number z)
 exact_value k inputs (Input i) = slice_get inputs i

@@ -1,7 +1,8 @@
--- Slopes of energy expressions along the distance: the table of derivatives, as a partial function of values. It builds no
--- tree. Of a tree with all definitions put in place it is asked; the first row that fits is the one that holds. A tree that
--- is free of the distance has slope 0, whether or not it has a value. The table is told once, of any numbers with its
--- operations: `slope_of` is the slope of fixed-point numbers, and `exact_slope` of specs/Exact that of exact ones.
+-- Slopes of energy expressions along the distance: the table of derivatives, as a partial function of values. It builds
+-- no tree. Of a tree with all definitions put in place it is asked; the first row that fits is the one that holds. A
+-- tree that is free of the distance has slope 0, whether or not it has a value. The table is told once, of any numbers
+-- with its operations: `slope_of` is the slope of fixed-point numbers, and `exact_slope` of specs/Exact that of exact
+-- ones.
 use Rattle.std.specs.Prelude.{ℕ, ◌+◌, ◌*◌, ◌^◌, ◌-◌, ℤ, pos, negsuc, Bool, true, false, ◌==◌, ◌&&◌, if◌then◌else◌, List, Option, Some}
 use Rattle.fixed.specs.Arithmetic.{one}
 use Rattle.energy_program.specs.declared.trees.Operator.{Operator}
@@ -29,8 +30,8 @@ pub record Operations (V : Type 0) : Type 0 where
 
 -- ---- the table
 
--- `u` and `v` are the values of the parts, `du` and `dv` their slopes. Each row of a product and of a quotient is asked for
--- by which part is free of the distance, the left and the right one; both never are, since then the whole is.
+-- `u` and `v` are the values of the parts, `du` and `dv` their slopes. Each row of a product and of a quotient is asked
+-- for by which part is free of the distance, the left and the right one; both never are, since then the whole is.
 abbrev pub product_row : {V : Type 0} → Operations V → Bool → Bool → Option V → Option V → Option V → Option V → Option V
 product_row on true free_v u v du dv = on.product u dv
 product_row on false true u v du dv = on.product du v

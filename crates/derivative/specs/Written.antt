@@ -1,6 +1,6 @@
--- The trees that are written for slopes, and all definitions of the program that they stand in. Each row is one of the table
--- of slopes. In a written tree the use of a definition j stands for its slope, and that of n + j for what j stood for, where
--- there were n definitions.
+-- The trees that are written for slopes, and all definitions of the program that they stand in. Each row is one of the
+-- table of slopes. In a written tree the use of a definition j stands for its slope, and that of n + j for what j stood
+-- for, where there were n definitions.
 use Rattle.std.specs.Prelude.{◌≡◌, ℕ, ◌+◌, ◌*◌, ◌^◌, ◌-◌, ℤ, pos, negsuc, neg_ℤ, Bool, true, false, ◌==◌, ◌&&◌, nat_lt, if◌then◌else◌, List, ◌++◌, map, length, slice_index_or}
 use Rattle.fixed.specs.Arithmetic.{one}
 use Rattle.energy_program.specs.declared.trees.Operator.{Operator}

@@ -15,12 +15,13 @@ use fallible::Failure;
 use fixed::Frac;
 use std::alloc::{AllocError, Allocator};
 
-/// The program of the slope along the distance, in kJ/mol/nm, of a program's energy, with numbers of the given fraction bits.
+/// The program of the slope along the distance, in kJ/mol/nm, of a program's energy, with numbers of the given fraction
+/// bits.
 ///
-/// Its definitions are those of the program and their slopes, as far as the slope uses them, directly or through another. A
-/// part that is free of the distance has slope 0, and its value isn't asked for. `min`, `max` and `select` give a choice
-/// between the slopes of their parts; `abs` gives its part's slope times one or minus one, so that a part's slope is written
-/// once.
+/// Its definitions are those of the program and their slopes, as far as the slope uses them, directly or through
+/// another. A part that is free of the distance has slope 0, and its value isn't asked for. `min`, `max` and `select`
+/// give a choice between the slopes of their parts; `abs` gives its part's slope times one or minus one, so that a
+/// part's slope is written once.
 ///
 /// `TooLarge`: more than 128 definitions would be needed. `Memory`: an allocation was refused.
 pub fn derive<A: Allocator + Copy>(

@@ -1,5 +1,5 @@
-//! Trees put together of parts that may not have been built. They are taken apart here alone: so their callers hold no tree
-//! where a part is missing.
+//! Trees put together of parts that may not have been built. They are taken apart here alone: so their callers hold no
+//! tree where a part is missing.
 
 ghost use Rattle.std.specs.Prelude.{◌≡◌, IfOk};
 ghost use Rattle.energy_program.specs.Tree as t;

@@ -7,7 +7,8 @@ ghost use Rattle.derivative.specs.Derive.{slope_program};
 ghost use Rattle.derivative.specs.Exact.{AreExact, IsRing, Numbers, Ring, StandsForFraction, whole_numbers};
 ghost use Rattle.derivative.specs.DualNumbers.{IsDerivative, IsDerivativeProgram, IsScoped, dual};
 
-/// Read over exact numbers, fractions say, the table of slopes gives derivatives, and so does the program that is built of it.
+/// Read over exact numbers, fractions say, the table of slopes gives derivatives, and so does the program that is built
+/// of it.
 ///
 /// With e e = 0 and the distance r + e, an expression is its value plus its slope times e, exactly where it has both.
 pub fn slopes_are_derivatives<V>()

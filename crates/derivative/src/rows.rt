@@ -1,5 +1,5 @@
-//! The rows of the table of slopes: what is written for an operation, where the slopes of its parts are written already.
-//! `u` and `v` are the parts, `du` and `dv` their slopes.
+//! The rows of the table of slopes: what is written for an operation, where the slopes of its parts are written
+//! already. `u` and `v` are the parts, `du` and `dv` their slopes.
 
 ghost use Rattle.std.specs.Prelude.{◌≡◌, ◌&&◌, pos, neg_ℤ, true, false, IfOk, IsTrue};
 ghost use Rattle.fixed.specs.Arithmetic.{one};

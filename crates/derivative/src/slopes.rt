@@ -71,8 +71,8 @@ fn definition_slope<A: Allocator>(free: &[bool], number: u32) -> Slope<A>
     varying(Expr::Definition(number))
 }
 
-// The expression of the slope of a tree; in the trees of values, uses of definitions have numbers that are higher by `by`.
-// A condition's slope isn't asked for.
+// The expression of the slope of a tree; in the trees of values, uses of definitions have numbers that are higher by
+// `by`. A condition's slope isn't asked for.
 fn slope<A: Allocator + Copy>(
     alloc: A,
     frac: Frac,

@@ -5,7 +5,8 @@ use Rattle.std.proofs.lemmas.Bool.{and_parts, ltb-true, leb-true}
 use Rattle.energy_program.specs.Tree.{Tree, is_scoped, are_scoped, is_exponent}
 use Rattle.energy_program.specs.Tree as t
 
--- each variable is an input, each definition that is used has a number from j up to, not with, count, and powers are of exponents that there are
+-- each variable is an input, each definition that is used has a number from j up to, not with, count, and powers are of
+-- exponents that there are
 abbrev pub IsValid : (inputs j count : ℕ) → Tree → Type 0
 IsValid inputs j count (t.Number z) = Unit {0}
 IsValid inputs j count (t.Input k) = k < inputs

@@ -21,7 +21,8 @@ second_particle parameters = map (λ p. p ++ codes "2") parameters
 abbrev pub parameters_and_globals : List (List ℕ) → List (List ℕ) → List (List ℕ)
 parameters_and_globals parameters globals = first_particle parameters ++ (second_particle parameters ++ globals)
 
--- the variables of a program whose particles have these parameters, in the order of their input numbers: the distance first
+-- the variables of a program whose particles have these parameters, in the order of their input numbers: the distance
+-- first
 abbrev pub variables_of : List (List ℕ) → List (List ℕ) → List (List ℕ)
 variables_of parameters globals = codes "r" ∷ parameters_and_globals parameters globals
 
@@ -84,8 +85,9 @@ abbrev pub refused_for : {A : Type 0} → (List ℕ → Refusal) → Option (Lis
 refused_for why (Some name) otherwise = Err (why name)
 refused_for why None otherwise = otherwise
 
--- The variables of a program with these parameters and globals. There are none where there are too many names, else where a
--- name stands twice in its own list, else where a variable's name is reserved or an earlier one's; the first such name is told.
+-- The variables of a program with these parameters and globals. There are none where there are too many names, else
+-- where a name stands twice in its own list, else where a variable's name is reserved or an earlier one's; the first
+-- such name is told.
 unfoldable pub names_from : List (List ℕ) → List (List ℕ) → Result (List (List ℕ)) Refusal
 names_from parameters globals =
     if are_few parameters globals

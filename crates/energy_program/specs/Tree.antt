@@ -41,8 +41,8 @@ abbrev pub is_exponent : ℤ → Bool
 is_exponent (pos n) = nat_lt 0 n && nat_le n 33
 is_exponent (negsuc n) = nat_lt n 32
 
--- Each variable is one of the inputs, each definition that is used has a number from `first` up to, not with, `end`, and
--- each power is one that there is.
+-- Each variable is one of the inputs, each definition that is used has a number from `first` up to, not with, `end`,
+-- and each power is one that there is.
 abbrev pub is_scoped : ℕ → ℕ → ℕ → Tree → Bool
 is_scoped inputs first end (Number z) = true
 is_scoped inputs first end (Input i) = nat_lt i inputs
@@ -82,8 +82,8 @@ put f (Applied g a) = Applied g (put f a)
 put f (Power a n) = Power (put f a) n
 put f (Select x a b) = Select (put f x) (put f a) (put f b)
 
--- The meaning of definition j, of these, which are numbered from i: its tree with the meanings of the later ones. A number
--- that none has means 0.
+-- The meaning of definition j, of these, which are numbered from i: its tree with the meanings of the later ones. A
+-- number that none has means 0.
 abbrev pub meaning : ℕ → List Tree → ℕ → Tree
 meaning i [] j = Number (pos 0)
 meaning i (d ∷ ds) j = if j == i then put (meaning (i + 1) ds) d else meaning (i + 1) ds j

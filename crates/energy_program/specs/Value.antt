@@ -1,5 +1,5 @@
--- Values of energy expressions (operators as in the OpenMM User Guide, custom force expressions; numbers are fixed-point).
--- A value is partial: there is none where an operation that the tree asks for has none.
+-- Values of energy expressions (operators as in the OpenMM User Guide, custom force expressions; numbers are
+-- fixed-point). A value is partial: there is none where an operation that the tree asks for has none.
 use Rattle.std.specs.Prelude.{ℕ, ℤ, List, Option, Some, None, Result, Ok, Err, slice_get, if◌then◌else◌}
 use Rattle.std.specs.Int.{int_max, int_min}
 use Rattle.fixed.specs.declared.faults.Fault.{Fault}

@@ -1,4 +1,5 @@
-// Parts put together to a tree. They are boxed here, apart from the recursions that build trees: so the frames of these stay small.
+// Parts put together to a tree. They are boxed here, apart from the recursions that build trees: so the frames of these
+// stay small.
 
 ghost use Rattle.std.specs.Prelude.{◌≡◌, IfOk};
 ghost use Rattle.energy_program.specs.Tree as t;

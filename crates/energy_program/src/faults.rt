@@ -42,8 +42,8 @@ pub enum ExprFault<A: Allocator> {
     #[error("E09 ReservedName {name}")]
     ReservedName { name: EnergyName<A> },
     /// The text has more than 4,096 tokens, an operand inside more than 64 parentheses and minus signs, or more than 64
-    /// definitions; there are more than 8 parameters or more than 16 globals; the program of the slope has more than 128
-    /// definitions; or code has more than 16,384 instructions.
+    /// definitions; there are more than 8 parameters or more than 16 globals; the program of the slope has more than
+    /// 128 definitions; or code has more than 16,384 instructions.
     #[error("E10 TooLarge")]
     TooLarge,
     /// The function before a parenthesis is left out of the language.

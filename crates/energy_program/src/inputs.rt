@@ -137,9 +137,9 @@ impl<A: Allocator + Copy> Names<A> {
     /// The variables of a program whose particles have these parameters, with these globals.
     ///
     /// It refuses more than 8 parameters or 16 globals by `TooLarge`; else a name that stands twice in its own list by
-    /// `RepeatedDefinition`, the first that occurs again; else a variable by `ReservedName` whose name is reserved or an earlier
-    /// one's, the first such: parameters come before globals. So a parameter `atan` is refused for its variable `atan2`.
-    /// `Memory`: an allocation was refused.
+    /// `RepeatedDefinition`, the first that occurs again; else a variable by `ReservedName` whose name is reserved or
+    /// an earlier one's, the first such: parameters come before globals. So a parameter `atan` is refused for its
+    /// variable `atan2`. `Memory`: an allocation was refused.
     ///
     /// The caller hands in identifiers.
     pub fn new(

@@ -1,5 +1,5 @@
-//! The language of energy programs: names, trees of expressions over the distance, parameters, globals and definitions, what
-//! their values are, and why a text is refused. Texts are read into it (crate `expr`), slopes are programs of it
+//! The language of energy programs: names, trees of expressions over the distance, parameters, globals and definitions,
+//! what their values are, and why a text is refused. Texts are read into it (crate `expr`), slopes are programs of it
 //! (`derivative`), and kernel code is compiled from it (`kernel_compiler`).
 #![tactic(auto)]
 

@@ -43,8 +43,8 @@ pub(crate) fn is_left_out(name: &[u8]) -> bool
     is_among(&LEFT_OUT, name)
 }
 
-/// Whether no definition, and no variable but the distance, may have the name: it is `r`, one of the functions or one of those
-/// that the language leaves out.
+/// Whether no definition, and no variable but the distance, may have the name: it is `r`, one of the functions or one
+/// of those that the language leaves out.
 #[tactic(auto, unfolding(crate::specs::Names::is_reserved))]
 pub fn is_reserved(name: &[u8]) -> bool
     ensures { result ≡ is_reserved name.now }

@@ -9,8 +9,8 @@ use std::alloc::Allocator;
 /// How many definitions a program may have.
 pub const MAX_DEFINITIONS: usize = 128;
 
-/// The program of an energy text. Each use in it is a variable or a definition that comes later; to the body all come later. It
-/// owns its trees, in the memory of the allocator that `parse` was given.
+/// The program of an energy text. Each use in it is a variable or a definition that comes later; to the body all come
+/// later. It owns its trees, in the memory of the allocator that `parse` was given.
 #[derive(Drop)]
 pub struct Program<A: Allocator> {
     /// The expression whose value is the energy, in kJ/mol.

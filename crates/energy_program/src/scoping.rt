@@ -73,9 +73,9 @@ fn is_program<A: Allocator>(
 }
 
 impl<A: Allocator> Program<A> {
-    /// The program of a body and definitions, for particles with `parameters` parameters and for `globals` globals. There is none
-    /// where there are more than 128 definitions, 8 parameters or 16 globals, or where a tree uses another input than these or
-    /// another definition than a later one, or has a power of 0, below -32 or above 33.
+    /// The program of a body and definitions, for particles with `parameters` parameters and for `globals` globals.
+    /// There is none where there are more than 128 definitions, 8 parameters or 16 globals, or where a tree uses
+    /// another input than these or another definition than a later one, or has a power of 0, below -32 or above 33.
     pub fn new(
         body: Expr<A>,
         definitions: Vec<Expr<A>, A>,

@@ -37,13 +37,14 @@ pub enum Function {
     Ceiling,
 }
 
-/// An energy expression: a tree whose values are fixed-point numbers with the fraction bits that its text was read with.
+/// An energy expression: a tree whose values are fixed-point numbers with the fraction bits that its text was read
+/// with.
 #[derive(Drop)]
 pub enum Expr<A: Allocator> {
     /// A number. That of a numeral is 0 or more.
     Number(Fx),
-    /// The variable with this input number: 0 is the distance, in nm, then come the parameters of the first particle, those of
-    /// the second, and the globals.
+    /// The variable with this input number: 0 is the distance, in nm, then come the parameters of the first particle,
+    /// those of the second, and the globals.
     Input(u32),
     /// The value of the definition with this number, counted from 0.
     Definition(u32),

@@ -66,8 +66,8 @@ fn mark_all<A: Allocator>(marks: &mut [bool], body: &Expr<A>, definitions: &[Exp
     mark_later(marks, definitions);
 }
 
-/// For each definition, whether the body needs it: uses it, directly or through another definition. The definitions may use
-/// later ones.
+/// For each definition, whether the body needs it: uses it, directly or through another definition. The definitions may
+/// use later ones.
 pub fn marks_of<A: Allocator + Copy>(
     alloc: A,
     body: &Expr<A>,

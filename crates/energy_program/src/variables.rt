@@ -15,8 +15,8 @@ pub const MAX_GLOBALS: usize = 16;
 /// Names, each with the number of those that came in before it.
 pub(crate) type NameSet<A> = IndexSet<Vec<u8, A>, BuildHasherDefault<FoldHasher>, A>;
 
-/// The variables that an energy text may name: the distance `r`, `p1` and `p2` for each parameter `p` of a particle, and
-/// the globals. No two have the same name, and none has a reserved one but `r`.
+/// The variables that an energy text may name: the distance `r`, `p1` and `p2` for each parameter `p` of a particle,
+/// and the globals. No two have the same name, and none has a reserved one but `r`.
 #[derive(Drop)]
 pub struct Names<A: Allocator> {
     pub(crate) variables: NameSet<A>,

@@ -18,7 +18,8 @@ use Rattle.energy_program.specs.Programs.{program_tree, Trees}
 use Rattle.energy_program.specs.Tree.{Tree}
 use Rattle.expr.specs.Uses.{in_place, source_meaning, trees}
 
--- The text says the tree, where these are the variables, with at most n parentheses and minus signs open around a token.
+-- The text says the tree, where these are the variables, with at most n parentheses and minus signs open around a
+-- token.
 pub record IsEnergy (bits : ℕ) (variables : List (List ℕ)) (text : List ℕ) (n : ℕ) (e : Tree) : Type 0 where
   pub tokens : List Placed
   pub body : Syntax
@@ -88,8 +89,8 @@ pub record IsNoFunction (bits : ℕ) (text : List ℕ) (name : List ℕ) : Type 
   pub spelled : IsText bits text tokens
   pub called : HaltsProgram (UnknownName name) 65 64 tokens
 
--- A token out of place, a wrong number of arguments and a bad exponent have no cause but that the text says no tree: where
--- they stand is told by reading from left to right.
+-- A token out of place, a wrong number of arguments and a bad exponent have no cause but that the text says no tree:
+-- where they stand is told by reading from left to right.
 abbrev pub IsCause : ℕ → List (List ℕ) → List ℕ → Refusal → Type 0
 IsCause bits variables text (BadCharacter at) = IsWrongAt bits BeginsBadly text at
 IsCause bits variables text (BadNumber at) = IsWrongAt bits BeginsMalformed text at

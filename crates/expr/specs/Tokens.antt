@@ -6,8 +6,8 @@ use Rattle.expr.specs.declared.tokens.Kind.TheVariants as k
 use Rattle.expr.specs.declared.tokens.Token.{Token}
 use Rattle.line_text.specs.Columns.{digits_of}
 
--- A number stands as its raw value, and as the whole number that its numeral writes in digits alone (at 100 or more as 100,
--- otherwise as 0); a name as its bytes.
+-- A number stands as its raw value, and as the whole number that its numeral writes in digits alone (at 100 or more as
+-- 100, otherwise as 0); a name as its bytes.
 pub data Lexeme : Type 0 where
   Number : ℤ → ℕ → Lexeme
   Name : List ℕ → Lexeme

@@ -1,5 +1,5 @@
--- Names put for what they stand for, from left to right, as far as the first that stands for nothing. A name is one of the
--- variables, or one that a later definition gives.
+-- Names put for what they stand for, from left to right, as far as the first that stands for nothing. A name is one of
+-- the variables, or one that a later definition gives.
 use Rattle.std.specs.Prelude.{◌≡◌, ℕ, ◌+◌, List, [], ◌∷◌, Option, Some, None, Result, Ok, Err, Box}
 use Rattle.fallible.specs.Failures.{IsOrMemory}
 use Rattle.fallible.specs.declared.failure.Failure.{Failure}

@@ -26,27 +26,32 @@ const MAX_TOKENS: usize = 4096;
 /// Reads an energy text as a program, with numbers of the given fraction bits (operators as in the OpenMM User Guide,
 /// custom force expressions). The names are the variables that it may use.
 ///
-/// A text is an expression, the body, and definitions behind it: `a*r^2; a=k*(q1-q2)`. A semicolon begins each definition;
-/// one with nothing behind it counts for nothing. The body may use each definition, and a definition those behind it. A
-/// definition that nothing uses is still read.
+/// A text is an expression, the body, and definitions behind it: `a*r^2; a=k*(q1-q2)`. A semicolon begins each
+/// definition; one with nothing behind it counts for nothing. The body may use each definition, and a definition those
+/// behind it. A definition that nothing uses is still read.
 ///
-/// An expression has numerals, variables, defined names, `+`, `-`, `*`, `/`, a minus in front, powers, parentheses and calls;
-/// space, tab, CR and LF separate tokens. `+` and `-`, and `*` and `/`, group to the left; a minus in front binds tighter
-/// than both, and a power tighter still. An exponent is a whole number from 1 to 32 in digits alone, with or without a minus
-/// before it and parentheses around it. `sqrt`, `abs`, `step`, `delta`, `floor` and `ceil` take one argument, `min` and `max`
-/// two and `select` three. A numeral is read without its sign. Offsets count bytes from 0.
+/// An expression has numerals, variables, defined names, `+`, `-`, `*`, `/`, a minus in front, powers, parentheses and
+/// calls; space, tab, CR and LF separate tokens. `+` and `-`, and `*` and `/`, group to the left; a minus in front
+/// binds tighter than both, and a power tighter still. An exponent is a whole number from 1 to 32 in digits alone, with
+/// or without a minus before it and parentheses around it. `sqrt`, `abs`, `step`, `delta`, `floor` and `ceil` take one
+/// argument, `min` and `max` two and `select` three. A numeral is read without its sign. Offsets count bytes from 0.
 ///
 /// The first of these is the answer:
-/// - from left to right through the bytes, `BadCharacter` for a byte that begins no token, `BadNumber` for a numeral that
+/// - from left to right through the bytes, `BadCharacter` for a byte that begins no token, `BadNumber` for a numeral
+/// that
 ///   is malformed, has more than 18 digits before its exponent part or an exponent past 99, and `NumberRange` for one
 ///   whose rounded value is 2^63 or more as a raw number; then `TooLarge` for more than 4,096 tokens;
 /// - from left to right through the tokens, `UnexpectedToken` for a token that the grammar doesn't take (at the end of
 ///   the text, the text's length), `TooLarge` for a token that can begin an operand inside more than 64 parentheses and
-///   minus signs (an exponent's parentheses count, its minus doesn't) and for the name that begins a 65th definition, for a
-///   name before a parenthesis that is no function's `LeftOutFunction` where the language leaves such a function out, else
-///   `UnknownName`, at the closing parenthesis of a call `WrongArgumentCount`, and `BadExponent` at a `^` that no exponent
+///   minus signs (an exponent's parentheses count, its minus doesn't) and for the name that begins a 65th definition,
+/// for a
+///   name before a parenthesis that is no function's `LeftOutFunction` where the language leaves such a function out,
+/// else
+///   `UnknownName`, at the closing parenthesis of a call `WrongArgumentCount`, and `BadExponent` at a `^` that no
+/// exponent
 ///   follows;
-/// - definition by definition, `ReservedName` for a name that is a variable's or reserved (`r`, the functions and those left
+/// - definition by definition, `ReservedName` for a name that is a variable's or reserved (`r`, the functions and those
+/// left
 ///   out), else `RepeatedDefinition` for one that an earlier definition gives;
 /// - from left to right, the body first, `UnknownName` for a name that is no variable's and no later definition's.
 ///

@@ -1,4 +1,5 @@
-// Parts put together to a tree, apart from the recursion, which goes as deep as a sum has terms: so its frames stay small.
+// Parts put together to a tree, apart from the recursion, which goes as deep as a sum has terms: so its frames stay
+// small.
 ghost use Rattle.std.specs.Prelude.{◌≡◌};
 ghost use Rattle.fallible.specs.Failures.{IsOrMemory};
 ghost use Rattle.energy_program.specs.Tree.{tree_of};

@@ -8,7 +8,8 @@ use Rattle.gro.specs.Frames.{AtomView, FrameView}
 
 -- ---- lines
 
--- A line with this text stands at the front, and this is left after it. Carriage returns at its end are no part of its text; the last line may lack its line feed.
+-- A line with this text stands at the front, and this is left after it. Carriage returns at its end are no part of its
+-- text; the last line may lack its line feed.
 pub record IsLine (bytes text rest : List ℕ) : Type 0 where
   pub returns : ℕ
   pub bare : IsTrue (is_title text)

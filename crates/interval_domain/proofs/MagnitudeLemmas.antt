@@ -37,7 +37,8 @@ valley_from_ends e a x lo v none l h p =
     (λ (below : a.hi ≤ℤ negsuc 0). omega (arith, ints, v.falls x a.hi p.at_most (omega (arith, ints))))
     (one_sided a none)
 
--- the extremes of values that are 0 at 0, fall up to it and rise from it are at the ends, but the least at 0 where 0 is a member
+-- the extremes of values that are 0 at 0, fall up to it and rise from it are at the ends, but the least at 0 where 0 is
+-- a member
 pub least_valley : (f : ℤ → Result ℤ Fault) (narrow : ℤ → Result ℤ Fault) (e : ℤ → ℤ) (a s : Span) (p q : ℤ) → IsNarrowing narrow → ((x : ℤ) → f x ≡ narrow (e x)) → IsValley e → f (pos 0) ≡ Ok (pos 0) → f a.lo ≡ Ok p → f a.hi ≡ Ok q → IsSpanFromZero a p q s.lo s.hi → IsLeastSpan (IsOutcome f a) s
 least_valley f narrow e a s p q n is v fz fl fh ends =
     let ez : e (pos 0) ≡ pos 0 = n.same (e (pos 0)) (pos 0) (sym (is (pos 0)) ∙ fz) in

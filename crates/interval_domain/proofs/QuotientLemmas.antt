@@ -93,7 +93,8 @@ quotient_exact bits x (pos zero) n = absurd (n refl)
 quotient_exact bits x (pos (suc d)) n = nonzero_test bits x (pos (suc d)) (is_zero (pos (suc d))) (grind (arith, nat_tests))
 quotient_exact bits x (negsuc d) n = refl
 
--- the least span of a rounded quotient has the least and the greatest of the quotients of the ends, where 0 is no member of the divisor
+-- the least span of a rounded quotient has the least and the greatest of the quotients of the ends, where 0 is no
+-- member of the divisor
 pub least_quotient : (bits : ℕ) (a b : Span) (p q r s : ℤ) (span : Span) → (IsMember (pos 0) b → ⊥) → quotient_of bits a.lo b.lo ≡ Ok p → quotient_of bits a.lo b.hi ≡ Ok q → quotient_of bits a.hi b.lo ≡ Ok r → quotient_of bits a.hi b.hi ≡ Ok s → IsExtremes p q r s span.lo span.hi → IsLeastSpan (IsOutcomeOfTwo (quotient_of bits) a b) span
 least_quotient bits a b p q r s span none fp fq fr fs x =
     least_of_corners (quotient_of bits) number_or_overflow (rounded_quotient bits) a b p q r s span number_narrows (λ x y hx hy. quotient_exact bits x y (nonzero b y none hy)) (quotient_moves bits a b none) fp fq fr fs x

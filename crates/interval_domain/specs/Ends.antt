@@ -22,7 +22,8 @@ pub record AreExtremes (p q r s : Result ℤ Fault) (lo hi : ℤ) : Type 0 where
   pub fourth_is : s ≡ Ok fourth
   pub extremes : IsExtremes first second third fourth lo hi
 
--- the ends of what a function gives on the members of a, where it is 0 at 0 and no less elsewhere, from its values p and q at the ends of a
+-- the ends of what a function gives on the members of a, where it is 0 at 0 and no less elsewhere, from its values p
+-- and q at the ends of a
 pub record IsSpanFromZero (a : Span) (p q lo hi : ℤ) : Type 0 where
   pub low : (IsMember (pos 0) a × (lo ≡ pos 0)) ⊎ ((IsMember (pos 0) a → ⊥) × (lo ≡ int_min p q))
   pub high : hi ≡ int_max p q

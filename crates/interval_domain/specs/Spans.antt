@@ -1,4 +1,5 @@
--- Spans: their members, and the values of an operation on them. R. E. Moore, Interval Analysis (1966): the range of an operation over intervals.
+-- Spans: their members, and the values of an operation on them. R. E. Moore, Interval Analysis (1966): the range of an
+-- operation over intervals.
 use Rattle.std.specs.Prelude.{◌≡◌, ℤ, pos, ◌+ℤ◌, ◌-ℤ◌, ◌≤ℤ◌, ◌⊎◌, ◌↔◌, Result, Ok, Err}
 use Rattle.fixed.specs.Arithmetic.{floor_over}
 use Rattle.fixed.specs.declared.faults.Fault.{Fault}
@@ -23,7 +24,8 @@ pub record IsOutcomeOfTwo (operation : ℤ → ℤ → Result ℤ Fault) (a b : 
   pub second_member : IsMember second b
   pub outcome : operation first second ≡ r
 
--- each outcome is a number in s, and both ends of s are outcomes: so none is a fault, and no smaller span holds them all
+-- each outcome is a number in s, and both ends of s are outcomes: so none is a fault, and no smaller span holds them
+-- all
 pub record IsLeastSpan (Outcome : Result ℤ Fault → Type 0) (s : Span) : Type 0 where
   pub holds : (r : Result ℤ Fault) → Outcome r → (z : ℤ) × (r ≡ Ok z) × IsMember z s
   pub low : Outcome (Ok s.lo)

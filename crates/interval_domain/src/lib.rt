@@ -1,4 +1,6 @@
-//! Spans of fixed-point numbers, and the operations on them (interval arithmetic: R. E. Moore, Interval Analysis, 1966). Each operation gives the least span that holds all its results on members of its arguments, or a fault that some members really have.
+//! Spans of fixed-point numbers, and the operations on them (interval arithmetic: R. E. Moore, Interval Analysis,
+//! 1966). Each operation gives the least span that holds all its results on members of its arguments, or a fault that
+//! some members really have.
 #![tactic(auto)]
 
 mod joins;

@@ -46,7 +46,8 @@ pub fn abs(a: Span) -> Result<Span, Fault>
     Ok(from_zero(a, checked_abs(a.lo)?, checked_abs(a.hi)?))
 }
 
-/// The least span of what the members of `a` give: one at 0, and 0 elsewhere. So it is 0 alone where 0 is no member, one alone where 0 is the only member, else from 0 to one.
+/// The least span of what the members of `a` give: one at 0, and 0 elsewhere. So it is 0 alone where 0 is no member,
+/// one alone where 0 is the only member, else from 0 to one.
 pub fn delta(frac: Frac, a: Span) -> Span
     ensures { IsLeastSpan (IsOutcome (λ x. Ok (delta_of (bits_of frac) x)) a) result }
 {

@@ -137,7 +137,8 @@ whole_is least most limit r word above some e =
       | inr g ↦ above_range least most (min n limit) (omega arith) ∙ sym (above_range least most n (omega arith))
     ])
 
--- a mass, by what is asked of its digits: some before the point, all digits there, all digits behind it, and few of those
+-- a mass, by what is asked of its digits: some before the point, all digits there, all digits behind it, and few of
+-- those
 abbrev mass_if : Bool → Bool → Bool → Bool → Reading ℕ → Reading ℕ
 mass_if some whole part few mass = cond ((some && whole) && (part && few)) mass (Err BadNumber)
 

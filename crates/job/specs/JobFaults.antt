@@ -20,7 +20,8 @@ pub record HasKeys (s : Said) : Type 0 where
   pub time_step' : IsThere s.time_step
   pub longer : core <ℤ cutoff
 
--- the first part that lines lack, of which none has a fault: one of these keys, a cutoff that is more than the core, or as many values of a type as there are parameters
+-- the first part that lines lack, of which none has a fault: one of these keys, a cutoff that is more than the core, or
+-- as many values of a type as there are parameters
 pub data LacksPart (s : Said) (f : Refusal) : Type 0 where
   no_energy : s.energy ≡ None → f ≡ missing keys.Energy → LacksPart s f
   no_core : IsThere s.energy → s.core ≡ None → f ≡ missing keys.Core → LacksPart s f

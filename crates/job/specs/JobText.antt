@@ -21,8 +21,8 @@ header = codes "pairmd job 1"
 abbrev pub IsFaultless : Counts → Frac → List (List ℕ) → Type 0
 IsFaultless most frac lines = (above below : List (List ℕ)) (line : List ℕ) → lines ≡ above ++ line ∷ below → line_fault most frac above line ≡ None
 
--- the lines have said this job: each value is what the line of its key says, the fraction bits are 32 where no line says them, and each type has a
--- value for each parameter
+-- the lines have said this job: each value is what the line of its key says, the fraction bits are 32 where no line
+-- says them, and each type has a value for each parameter
 pub record Tells (s : Said) (job : JobValue) : Type 0 where
   pub frac : unwrap_or s.bits F32 ≡ job.frac
   pub energy : s.energy ≡ Some job.energy
@@ -36,7 +36,8 @@ pub record Tells (s : Said) (job : JobValue) : Type 0 where
   pub types : map (λ t. t.value) s.types ≡ job.types
   pub whole : All (λ t. length t.values ≡ length job.parameters) job.types
 
--- the text is the job's: behind the first line no line has a fault, and together they say the job, all numerals read at the fraction bits of the job
+-- the text is the job's: behind the first line no line has a fault, and together they say the job, all numerals read at
+-- the fraction bits of the job
 pub record IsJobText (most : Counts) (text : List ℕ) (job : JobValue) : Type 0 where
   pub lines : List (List ℕ)
   pub first_line : lines_of text ≡ header ∷ lines

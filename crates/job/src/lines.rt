@@ -68,7 +68,8 @@ fn time_step_in(text: &[u8]) -> Result<TimeStep, NumFault>
     Ok(TimeStep::new(whole_in(1000, text)?))
 }
 
-/// Puts the number of a key that one line may have into its place. Refused where it is malformed, repeated or out of range.
+/// Puts the number of a key that one line may have into its place. Refused where it is malformed, repeated or out of
+/// range.
 fn put_once<T: Copy, A: Allocator>(
     number: u64,
     key: Key,
@@ -89,7 +90,8 @@ fn put_once<T: Copy, A: Allocator>(
     }
 }
 
-/// Puts this line's energy into the draft. `BadLine` where the line has none, `Repeated` where a line before it has one.
+/// Puts this line's energy into the draft. `BadLine` where the line has none, `Repeated` where a line before it has
+/// one.
 fn take_energy<A: Allocator>(
     alloc: A,
     draft: &mut Draft<A>,
@@ -145,7 +147,8 @@ fn take_time_step<A: Allocator>(
     put_once(number, Key::TimeStep, &mut draft.time_step, reading)
 }
 
-/// Puts this line's number of slices, 1 to 65,536, into the draft. Refused where it is malformed, repeated or out of range.
+/// Puts this line's number of slices, 1 to 65,536, into the draft. Refused where it is malformed, repeated or out of
+/// range.
 fn take_slices<A: Allocator>(
     draft: &mut Draft<A>,
     number: u64,
@@ -157,7 +160,8 @@ fn take_slices<A: Allocator>(
     put_once(number, Key::Slices, &mut draft.slices, reading)
 }
 
-/// Puts this line's fraction bits, 24, 32 or 40, into the draft. Refused where they are malformed, repeated or out of range.
+/// Puts this line's fraction bits, 24, 32 or 40, into the draft. Refused where they are malformed, repeated or out of
+/// range.
 fn take_bits<A: Allocator>(
     draft: &mut Draft<A>,
     number: u64,
@@ -225,7 +229,8 @@ fn knows_type<A: Allocator>(types: &[TypeLine<A>], name: &[u8]) -> bool
     types.iter().any(|t| t.value.name.as_bytes() == name)
 }
 
-/// Puts a parameter of this name into the draft. `RepeatedName` where it has one already, `Range` where it has 8 parameters.
+/// Puts a parameter of this name into the draft. `RepeatedName` where it has one already, `Range` where it has 8
+/// parameters.
 fn add_parameter<A: Allocator + Copy>(
     alloc: A,
     draft: &mut Draft<A>,
@@ -247,7 +252,8 @@ fn add_parameter<A: Allocator + Copy>(
     Ok(())
 }
 
-/// Puts this line's parameter into the draft. `BadLine` where its text is no identifier; else refused as by `add_parameter`.
+/// Puts this line's parameter into the draft. `BadLine` where its text is no identifier; else refused as by
+/// `add_parameter`.
 fn take_parameter<A: Allocator + Copy>(
     alloc: A,
     draft: &mut Draft<A>,
@@ -262,8 +268,8 @@ fn take_parameter<A: Allocator + Copy>(
     }
 }
 
-/// Puts a global of this name and value into the draft. `RepeatedName` where it has one already, `Range` where the value is out of range (`None`) or it
-/// has 16 globals.
+/// Puts a global of this name and value into the draft. `RepeatedName` where it has one already, `Range` where the
+/// value is out of range (`None`) or it has 16 globals.
 fn add_global<A: Allocator + Copy>(
     alloc: A,
     draft: &mut Draft<A>,
@@ -301,7 +307,8 @@ fn well_formed<T, A: Allocator>(
     }
 }
 
-/// Puts this line's global into the draft. `BadLine` where its text is no identifier and numeral; else refused as by `add_global`.
+/// Puts this line's global into the draft. `BadLine` where its text is no identifier and numeral; else refused as by
+/// `add_global`.
 fn take_global<A: Allocator + Copy>(
     alloc: A,
     draft: &mut Draft<A>,
@@ -319,7 +326,8 @@ fn take_global<A: Allocator + Copy>(
     }
 }
 
-/// The mass in `mass_word` and the parameter values in `text`; `None` where one of them is out of range. `BadLine` where one is malformed.
+/// The mass in `mass_word` and the parameter values in `text`; `None` where one of them is out of range. `BadLine`
+/// where one is malformed.
 fn type_numbers<A: Allocator>(
     alloc: A,
     frac: Frac,
@@ -337,8 +345,8 @@ fn type_numbers<A: Allocator>(
     }
 }
 
-/// Puts a type of this name and these numbers, from the line `number`, into the draft. `RepeatedType` where it has one already, `Range` where the numbers
-/// are out of range (`None`) or it has 64 types.
+/// Puts a type of this name and these numbers, from the line `number`, into the draft. `RepeatedType` where it has one
+/// already, `Range` where the numbers are out of range (`None`) or it has 64 types.
 fn add_type<A: Allocator + Copy>(
     alloc: A,
     draft: &mut Draft<A>,
@@ -382,7 +390,8 @@ fn type_name(word: &[u8]) -> Name
     }
 }
 
-/// Puts this line's type into the draft. `BadLine` where name or mass is lacking, or name, mass or a value is malformed; else refused as by `add_type`.
+/// Puts this line's type into the draft. `BadLine` where name or mass is lacking, or name, mass or a value is
+/// malformed; else refused as by `add_type`.
 fn take_type<A: Allocator + Copy>(
     alloc: A,
     draft: &mut Draft<A>,
@@ -414,7 +423,8 @@ fn with_failure<A: Allocator>(answer: Result<(), JobFault<A>>) -> Result<(), Fai
     }
 }
 
-/// Puts what the line of this key and text says into the draft. `BadLine` where it has no key of a job; else refused as by the key's own function.
+/// Puts what the line of this key and text says into the draft. `BadLine` where it has no key of a job; else refused as
+/// by the key's own function.
 #[tactic(auto, unfolding(crate::specs::Drafts::key_into))]
 fn take_key<A: Allocator + Copy>(
     alloc: A,

@@ -90,8 +90,9 @@ pub fn frac(word: &[u8]) -> Result<Frac, NumFault>
     }
 }
 
-/// The mass in 10^-5 u, 1 to 100,000,000, of the digits before and behind the point. `BadNumber` where `whole` is empty,
-/// one of them has another byte than digits, or `part` has more than 5; `NumberRange` where the mass is out of range.
+/// The mass in 10^-5 u, 1 to 100,000,000, of the digits before and behind the point. `BadNumber` where `whole` is
+/// empty, one of them has another byte than digits, or `part` has more than 5; `NumberRange` where the mass is out of
+/// range.
 fn decimal_mass(whole: &[u8], part: &[u8]) -> Result<u32, NumFault>
     ensures value { result ≡ mass_from whole.now part.now }
     ensures range { IfOk result (λ n. (1 ≤ n) × (n ≤ 100000000)) }

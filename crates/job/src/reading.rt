@@ -24,7 +24,8 @@ use std::alloc::{AllocError, Allocator};
 /// The number of slices of a job that names none.
 const SLICES: u32 = 64;
 
-/// Puts what the lines below the first say, which are numbered from 2, into the draft; or the fault of the first line that is refused.
+/// Puts what the lines below the first say, which are numbered from 2, into the draft; or the fault of the first line
+/// that is refused.
 fn take_lines<A: Allocator + Copy>(
     alloc: A,
     draft: &mut Draft<A>,

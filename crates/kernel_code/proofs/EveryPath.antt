@@ -27,7 +27,8 @@ module _ (code : List Instr) (inputs : ℕ) where
   pub record Well (pc height : ℕ) (set : List Bool) : Type 0 where
     pub by : (n : ℕ) → Fine code inputs n pc height set
 
-  -- every path from a place does well where its instruction has what it needs and every path from where it may go does well
+  -- every path from a place does well where its instruction has what it needs and every path from where it may go does
+  -- well
   pub well_on : (i : Instr) (pc height : ℕ) (set : List Bool) → slice_get code pc ≡ Some i → IsSupplied i inputs height set → HasRoom i height → ((to : ℕ) → MayGo i pc to → Well to (height_after i height) (set_after i set)) → Well pc height set
   well_on i pc height set here supplied room next = record { by = by }
     where

@@ -345,7 +345,8 @@ module _ (bits : ℕ) (code : List Instr) (xs : List ℤ) where
         let len : pc + length ca + 1 ≡ pc + length (ca ++ (Unary o ∷ [])) = omega (arith, length-append ca (Unary o ∷ [])) in
         gives_to _ _ stack (on_one (unary_of bits o) oa) len (one_gives o oa (pc + length ca) stack at g)
 
-    -- a run that comes to a tree's code brings the tree's value onto the stack, or ends by a fault where there is none, and definitions stay held
+    -- a run that comes to a tree's code brings the tree's value onto the stack, or ends by a fault where there is none,
+    -- and definitions stay held
     pub tree_runs : (inputs : ℕ) → inputs ≤ length xs → (e : Tree) (pc : ℕ) (stack : List ℤ) (ls : List (Option ℤ)) → HasAt code pc (tree_code bits pc e) → IsFine inputs ms j e → length stack + need e ≤ 64 → Holds ls → Comes pc stack ls → Gives (pc + length (tree_code bits pc e)) stack (value_of bits xs (put mean e))
     tree_runs inputs enough (t.Number z) pc stack ls has fine h held c = push_gives (Push z) z pc stack ls has.0 refl h held c
     tree_runs inputs enough (t.Input k) pc stack ls has fine h held c =

@@ -27,7 +27,8 @@ all_have_powers inputs j count (d ∷ ds) valid = (has_powers inputs (j + 1) cou
 abbrev pub HaveLocals : List Bool → Type 0
 HaveLocals ms = (k : ℕ) → is_marked ms k ≡ true → k < 254
 
--- a tree can be emitted, where there are no more than 33 inputs, each definition that it uses has a local, and its powers are there
+-- a tree can be emitted, where there are no more than 33 inputs, each definition that it uses has a local, and its
+-- powers are there
 pub emittable : (inputs j : ℕ) (ms : List Bool) (e : Tree) → inputs ≤ 33 → HaveLocals ms → IsFine inputs ms j e → HasPowers e → IsEmittable e
 emittable inputs j ms (t.Number z) few have fine powers = tt
 emittable inputs j ms (t.Input k) few have fine powers = omega arith

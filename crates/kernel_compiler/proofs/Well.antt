@@ -127,7 +127,8 @@ module _ (code : List Instr) (inputs : ℕ) where
 
     -- ---- trees
 
-    -- where each path does well behind a tree's code, with one value more on the stack, each path from the code's beginning does
+    -- where each path does well behind a tree's code, with one value more on the stack, each path from the code's
+    -- beginning does
     pub tree_well : (bits : ℕ) (e : Tree) (pc height : ℕ) (set : List Bool) → HasAt code pc (tree_code bits pc e) → IsFine inputs ms j e → height + need e ≤ 64 → Keeps ms j set → ((set' : List Bool) → Keeps ms j set' → Well code inputs (pc + length (tree_code bits pc e)) (height + 1) set') → Well code inputs pc height set
     tree_well bits (t.Number z) pc height set has fine h held next = push_well code inputs z pc height set has.0 h (next set held)
     tree_well bits (t.Input k) pc height set has fine h held next =

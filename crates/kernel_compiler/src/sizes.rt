@@ -167,8 +167,8 @@ pub(crate) fn measure<A: Allocator>(e: &Expr<A>) -> Extent
     }
 }
 
-/// How many instructions the code of the marked ones of these definitions has, of which the first has the number `number`, counted as far
-/// as 64 bits go.
+/// How many instructions the code of the marked ones of these definitions has, of which the first has the number
+/// `number`, counted as far as 64 bits go.
 pub(crate) fn definitions_count<A: Allocator>(
     marks: &[bool],
     number: usize,

@@ -18,7 +18,8 @@ pub struct Position {
     pub height: usize,
 }
 
-/// One instruction at this position: the next one. The stack lies in 64 slots, and each of the 256 locals holds some value.
+/// One instruction at this position: the next one. The stack lies in 64 slots, and each of the 256 locals holds some
+/// value.
 #[inline]
 pub fn go_on<A: Allocator>(
     frac: Frac,

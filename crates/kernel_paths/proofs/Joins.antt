@@ -197,7 +197,8 @@ pub record Leads (code : List Instr) (here : ℕ) (i : Instr) (at n height : ℕ
   pub is_height : height ≡ height_after i height'
   pub is_set : set ≡ set_after i set'
 
--- paths that an instruction leads on have in common what they had before it, with its height, its locals and one step more
+-- paths that an instruction leads on have in common what they had before it, with its height, its locals and one step
+-- more
 pub leads_summary : (code : List Instr) (here : ℕ) (i : Instr) (at : ℕ) (s t : Shape) → JumpsForward code → MayGo i here at → IsSummary (arrivals code here here) s
     → t.height ≡ height_after i s.height → t.set ≡ set_after i s.set → t.steps ≡ s.steps + 1 → IsSummary (Leads code here i at) t
 leads_summary code here i at s t forward go x height' set' steps' = record {

@@ -1,5 +1,5 @@
-//! Tests. What no command shows of single libraries: other numbers of fraction bits, spans on given ends, how often a pair asks for its
-//! slope, traps of the tested machine, runs and verdicts beside one another, and heaps that run out.
+//! Tests. What no command shows of single libraries: other numbers of fraction bits, spans on given ends, how often a
+//! pair asks for its slope, traps of the tested machine, runs and verdicts beside one another, and heaps that run out.
 #![tactic(auto)]
 
 #[cfg(test)]

@@ -387,8 +387,8 @@ fn undecided(lo: i64, hi: i64, pc: u32, fault: Fault) -> Option<Failure<VerifyFa
     }))
 }
 
-// So many distances that what is left after 24 cuts is as long as a slice of the distances from 0.2 to 0.9: the first of one slice, and the
-// 28th of 64, before which 45 others are judged.
+// So many distances that what is left after 24 cuts is as long as a slice of the distances from 0.2 to 0.9: the first
+// of one slice, and the 28th of 64, before which 45 others are judged.
 #[test]
 fn long_slices_stay_undecided(rt: HostRuntime) {
     let branch = refusal(rt.alloc(), BRANCH, 858_993_459, 50_440_316_682_187_571);

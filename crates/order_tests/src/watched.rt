@@ -8,8 +8,8 @@ use tile_round::{PairAdd, RowWork, Work};
 /// How often a worker that is held looks for the others.
 const TURNS: u32 = 100_000_000;
 
-/// The same work, watched: the pairs are counted that are asked for. Each is held until a pair of each of some tiles was asked for,
-/// and those are counted that were held for too many turns. There are fewer than 64 tiles.
+/// The same work, watched: the pairs are counted that are asked for. Each is held until a pair of each of some tiles
+/// was asked for, and those are counted that were held for too many turns. There are fewer than 64 tiles.
 #[derive(Drop)]
 pub(crate) struct Watched<W: Work + Drop> {
     pub(crate) work: W,

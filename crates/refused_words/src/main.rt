@@ -1,4 +1,5 @@
-//! The program `pairmd` again, for words that it refuses: the gate sees its status, and that nothing comes on standard output.
+//! The program `pairmd` again, for words that it refuses: the gate sees its status, and that nothing comes on standard
+//! output.
 #![tactic(auto)]
 
 use cli::run_process;

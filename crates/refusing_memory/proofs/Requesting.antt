@@ -32,7 +32,8 @@ module _ {M : Type 1} {𝓤 : Ura M} (𝓛 : Logic 𝓤) (at_mem : Memory → SP
   abbrev pub Counts : Contract 𝓤
   Counts = triple_of 𝓛 counting.signature (counting.spec 𝓛 at_mem run)
 
-  -- this call with a shared reference to the counter, at this place and with this value, under a lifetime and a share of it
+  -- this call with a shared reference to the counter, at this place and with this value, under a lifetime and a share
+  -- of it
   abbrev pub at_asks : Lft → Share → ℕ × ℕ → Requests.Denot → Asks.Ghost
   at_asks κ q c m = (((κ, tt), (q, tt), tt, (record { ref_ptr = c; now = m }, tt), (vptr c.0 c.1 ∷ [], tt)), tt)
 

@@ -6,8 +6,8 @@ ghost use Rattle.std.specs.Prelude.{◌≡◌};
 use std::alloc::{AllocError, Allocator};
 use std::sync::atomic::{AtomicU64, Ordering};
 
-/// Passes each request for memory on to another allocator, but for one, which it refuses. Requests count from 0, over all
-/// threads that share it; a collection's growth is a request.
+/// Passes each request for memory on to another allocator, but for one, which it refuses. Requests count from 0, over
+/// all threads that share it; a collection's growth is a request.
 pub struct RefusingAllocator<B: Allocator> {
     inner: B,
     requests: Requests,

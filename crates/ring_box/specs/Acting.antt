@@ -1,5 +1,5 @@
--- The force of a pair in two halves, so that one step can be made for many pairs before the next is: what two atoms that act have between them,
--- and the force that a slope gives them along it.
+-- The force of a pair in two halves, so that one step can be made for many pairs before the next is: what two atoms
+-- that act have between them, and the force that a slope gives them along it.
 use Rattle.std.specs.Prelude.{ℕ, ℤ, pos, ◌≡◌, ◌+◌, ◌-◌, ◌*◌, ◌/◌, ◌^◌, ◌==◌, ◌≤◌, ◌<◌, ◌≤ℤ◌, ◌<ℤ◌, unsigned_abs, if◌then◌else◌, Option, None, option_map}
 use Rattle.fixed.specs.Fractions.{bits_of}
 use Rattle.fixed.specs.Roots.{root}
@@ -32,7 +32,8 @@ limit_of frac cutoff = (unit_of frac * unsigned_abs cutoff * (unit_of frac * uns
 
 -- ---- what two atoms have between them
 
--- the parts of the line from the second atom to the first along the axes, its length rounded down, and the distance at which their force is taken
+-- the parts of the line from the second atom to the first along the axes, its length rounded down, and the distance at
+-- which their force is taken
 pub record ActingPair : Type 0 where
   pub x : ℤ
   pub y : ℤ
@@ -47,7 +48,8 @@ pub record IsActingPair (p : ActingPair) : Type 0 where
   pub y_within : unsigned_abs p.y ≤ p.length
   pub z_within : unsigned_abs p.z ≤ p.length
 
--- the length of the line whose square is s; atoms at one place have none, and with a length of 1 and parts of 0 no force comes out
+-- the length of the line whose square is s; atoms at one place have none, and with a length of 1 and parts of 0 no
+-- force comes out
 abbrev pub length_of : ℕ → ℕ
 length_of s = if s == 0 then 1 else root s
 

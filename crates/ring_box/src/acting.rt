@@ -70,7 +70,8 @@ impl ActingPair {
         self.distance
     }
 
-    /// The force on the first atom in kJ/mol/nm, where this is minus the slope of the energy at that distance; the second has its negative.
+    /// The force on the first atom in kJ/mol/nm, where this is minus the slope of the energy at that distance; the
+    /// second has its negative.
     pub fn force(self, minus_slope: Fx) -> Force<i64>
         requires { unsigned_abs minus_slope < 2 ^ 63 }
         ensures value { result ≡ force_of self minus_slope }
@@ -86,7 +87,8 @@ impl ActingPair {
     }
 }
 
-/// A length along an axis in 2^40 of its units, some 0.0026 nm, rounded down: where n places lie between two on a ring of this side.
+/// A length along an axis in 2^40 of its units, some 0.0026 nm, rounded down: where n places lie between two on a ring
+/// of this side.
 fn coarse_length(places: u32, side: Side) -> u32
     requires { places ≤ 2 ^ 31 }
     ensures below { result * 2 ^ 40 ≤ places * side }
@@ -141,8 +143,8 @@ impl RingBox {
         )
     }
 
-    /// Marks the atoms, at most 128 at the places `qs`, which may act with one at `p`: one that isn't marked doesn't. What stands behind their marks
-    /// is of no meaning.
+    /// Marks the atoms, at most 128 at the places `qs`, which may act with one at `p`: one that isn't marked doesn't.
+    /// What stands behind their marks is of no meaning.
     pub fn mark_near(&self, reach: &Reach, p: Place3, qs: &[Place3], near: &mut [bool; 128])
         requires { length qs.now ≤ 128 }
         ensures { (j : ℕ) → j < length qs.now → slice_index_or near.new j true ≡ false → acting_of reach.now self.now p (slice_index_or qs.now j nowhere) ≡ None }
@@ -152,7 +154,8 @@ impl RingBox {
         }
     }
 
-    /// The pair of two atoms at `p` and `q`, its line and its distance; `None` where the distance isn't below the cutoff: they don't act.
+    /// The pair of two atoms at `p` and `q`, its line and its distance; `None` where the distance isn't below the
+    /// cutoff: they don't act.
     pub fn acting(&self, reach: &Reach, p: Place3, q: Place3) -> Option<ActingPair>
         ensures value { result ≡ acting_of reach.now self.now p q }
         ensures low { IfSome result (λ a. reach.now.core ≤ℤ a.distance) }
@@ -195,8 +198,8 @@ impl RingBox {
     ghost use Rattle.std.specs.Prelude.{IsTrue};
     ghost use Rattle.ring_box.specs.Acting.{AreCellNumbers, IsOutOfReach};
 
-    /// Whether no atom of a cell acts with one at `p`, as far as the ends of the cell tell. The sides are cut into 2^bits
-    /// cells, 1 to 4 bits each, and the cell is given by its numbers along them.
+    /// Whether no atom of a cell acts with one at `p`, as far as the ends of the cell tell. The sides are cut into
+    /// 2^bits cells, 1 to 4 bits each, and the cell is given by its numbers along them.
     pub fn is_cell_far(&self, reach: &Reach, p: Place3, bits: CellBits, cell: CellNumbers) -> bool
         requires { AreCellNumbers bits cell }
         ensures { IsTrue result → IsOutOfReach reach.now self.now bits cell p }

@@ -1,4 +1,5 @@
-//! Estimates in floating point. Nothing is promised of how near they are: whoever takes one tests it exactly, and only the time depends on it.
+//! Estimates in floating point. Nothing is promised of how near they are: whoever takes one tests it exactly, and only
+//! the time depends on it.
 
 use std::num::{f64_from_bits_with_nan, f64_to_bits_with_nan};
 

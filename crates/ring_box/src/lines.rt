@@ -9,7 +9,8 @@ use crate::separations::Separation;
 use crate::vectors::Force;
 use fixed::{floor_div, isqrt};
 
-/// The line through two atoms that are apart: its parts along the axes, and its length rounded down, which no part passes.
+/// The line through two atoms that are apart: its parts along the axes, and its length rounded down, which no part
+/// passes.
 #[derive(Clone, Copy)]
 pub(crate) struct PairLine {
     pub x: i64,

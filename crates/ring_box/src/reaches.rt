@@ -9,7 +9,8 @@ use crate::forces::outside_core;
 use fixed::{Frac, Fx};
 use std::marker::Model;
 
-/// The distances at which forces are taken: from a core to before a cutoff. Squares are compared with a limit that is found once.
+/// The distances at which forces are taken: from a core to before a cutoff. Squares are compared with a limit that is
+/// found once.
 #[derive(Clone, Copy)]
 pub struct Reach {
     frac: Frac,
@@ -57,8 +58,8 @@ impl Reach {
     ghost use Rattle.ring_box.specs.Acting.{IsReach, length_of, limit_of};
     ghost use Rattle.ring_box.specs.Distances.{distance_at};
 
-    /// The distances from `core` to before `cutoff`, both in nm. The caller sees that `core` is from 0 to below `cutoff`, and `cutoff` at most
-    /// 80 nm.
+    /// The distances from `core` to before `cutoff`, both in nm. The caller sees that `core` is from 0 to below
+    /// `cutoff`, and `cutoff` at most 80 nm.
     pub fn new(frac: Frac, core: Fx, cutoff: Fx) -> Reach
         requires core { pos 0 ≤ℤ core }
         requires order { core <ℤ cutoff }

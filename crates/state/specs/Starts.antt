@@ -1,4 +1,5 @@
--- The state that begins at a frame of a GRO file: the frame's atoms at their places in the box, and where they were one time step before.
+-- The state that begins at a frame of a GRO file: the frame's atoms at their places in the box, and where they were one
+-- time step before.
 use Rattle.std.specs.Prelude.{◌≡◌, ℕ, ℤ, pos, List, map, slice_index, slice_index_or, Result, Ok, Err}
 use Rattle.std.specs.List.{AllZip}
 use Rattle.fixed.specs.declared.frac.Frac.{Frac}
@@ -50,7 +51,8 @@ start_of_frame frac dt f = on_box (box_of f.sides) (start_in frac dt f)
 
 -- ---- the same as a relation
 
--- One coordinate of an atom that a frame has at p picometres with the velocity v: its place x is the nearest one, and its place y is where the velocity has it one time step before.
+-- One coordinate of an atom that a frame has at p picometres with the velocity v: its place x is the nearest one, and
+-- its place y is where the velocity has it one time step before.
 pub record IsStartOnSide (dt L : ℕ) (p v : ℤ) (y x : ℕ) : Type 0 where
   pub nearest : IsPlaceOfPm p L x
   pub before : IsPlaceBefore x v dt L y

@@ -132,6 +132,7 @@ state_of bytes = do
 
 -- ---- what reading is
 
--- Exactly the texts of states are read, each as its state. So a state has one text, and what is written reads as the same state.
+-- Exactly the texts of states are read, each as its state. So a state has one text, and what is written reads as the
+-- same state.
 abbrev pub OneText : Type 0
 OneText = (bytes : List ℕ) (s : StateView) → (state_of bytes ≡ Ok s) ↔ (IsState s × (bytes ≡ state_text s))

@@ -59,7 +59,8 @@ box_line sides = codes "box" ++ flat_map word sides
 abbrev pub numbers_of : Place3 → List ℕ
 numbers_of p = p.x ∷ p.y ∷ p.z ∷ []
 
--- residue number, residue name and atom name in the columns of an atom's line (GROMACS manual, GRO file format), then the two places
+-- residue number, residue name and atom name in the columns of an atom's line (GROMACS manual, GRO file format), then
+-- the two places
 abbrev pub atom_line : AtomView → List ℕ
 atom_line a =
     right_in 5 (signed_decimal a.residue_number) ++ left_in 5 a.residue ++ right_in 5 a.name

@@ -3,7 +3,8 @@ use Rattle.std.specs.Prelude.{ℕ, ℤ, pos, ◌*◌, ◌^◌, ◌-ℤ◌, ◌*�
 use Rattle.fixed.specs.Rounding.{IsNearest, nearest_of}
 use Rattle.ring_box.specs.Places.{IsPlace, place_at}
 
--- z is the whole number of places nearest to the way of an atom of the velocity v, in 10^-4 nm/ps, in dt fs: v dt are units of 10^-7 nm, and 100 L of them are a side of L units of 10^-5 nm, which has 2^32 places
+-- z is the whole number of places nearest to the way of an atom of the velocity v, in 10^-4 nm/ps, in dt fs: v dt are
+-- units of 10^-7 nm, and 100 L of them are a side of L units of 10^-5 nm, which has 2^32 places
 abbrev pub IsWay : ℤ → ℕ → ℕ → ℤ → Type 0
 IsWay v dt L z = IsNearest (v *ℤ pos (dt * 2 ^ 32)) (pos (100 * L)) z
 

@@ -20,7 +20,8 @@ impl<A: Allocator + Copy> State<A> {
     ghost use Rattle.state.specs.StateFrames.{IsFrameAtRest, frame_of};
     ghost use Rattle.state.specs.StateViews.{state_view};
 
-    /// The frame of the current places, as a GRO file has it: title, residue numbers, names and sides are the state's, each position is the whole picometre nearest to its place, and velocities are zero.
+    /// The frame of the current places, as a GRO file has it: title, residue numbers, names and sides are the state's,
+    /// each position is the whole picometre nearest to its place, and velocities are zero.
     ///
     /// It is refused only where an allocation was.
     pub fn frame(&self) -> Result<GroFrame<A>, AllocError>

@@ -75,7 +75,8 @@ fn frac(version: Version, bytes: &[u8]) -> Result<(Frac, &[u8]), StateFault>
     }
 }
 
-/// The state of this title, step and fraction bits whose count, box and atoms the bytes are. The count is on the line with this number.
+/// The state of this title, step and fraction bits whose count, box and atoms the bytes are. The count is on the line
+/// with this number.
 fn from_count<A: Allocator + Copy>(
     alloc: A,
     title: &[u8],

@@ -21,9 +21,12 @@ impl<A: Allocator + Copy> State<A> {
     ghost use Rattle.state.specs.StateViews.{state_view};
     ghost use Rattle.state.specs.Starts.{BeginsAt, start_of_frame};
 
-    /// The state that begins at a frame: its counter is 0, its fraction bits are the job's, and title, residue numbers, names and sides are the frame's. Each coordinate's current place is the one nearest to its position, and its previous place is as many places before that as its velocity leads in the job's time step.
+    /// The state that begins at a frame: its counter is 0, its fraction bits are the job's, and title, residue numbers,
+    /// names and sides are the frame's. Each coordinate's current place is the one nearest to its position, and its
+    /// previous place is as many places before that as its velocity leads in the job's time step.
     ///
-    /// It is refused where the frame's sides are no box's: `NoBox` where all three are 0, else `SideRange` where some side is below 1 or above 16,000,000. `Memory`: an allocation was refused.
+    /// It is refused where the frame's sides are no box's: `NoBox` where all three are 0, else `SideRange` where some
+    /// side is below 1 or above 16,000,000. `Memory`: an allocation was refused.
     pub fn start<J: Allocator, F: Allocator>(
         alloc: A,
         job: &Job<J>,

@@ -24,7 +24,8 @@ fn length(side: Side) -> i128
     100 * i128::from(side.get())
 }
 
-/// The whole number of places nearest to the way of an atom along a side in one time step, of two the upper one: `velocity` in 10^-4 nm/ps.
+/// The whole number of places nearest to the way of an atom along a side in one time step, of two the upper one:
+/// `velocity` in 10^-4 nm/ps.
 fn places_moved(velocity: i64, time_step: TimeStep, side: Side) -> i128
     ensures value { result ≡ places_moved velocity time_step side }
     ensures nearest { IsWay velocity time_step side result }

@@ -245,7 +245,8 @@ counted_below n (x ∷ xs) h =
       counted_below n xs (λ t. let m = h t in let d = sum_by-cons (same t) x xs in omega arith),
     )
 
--- where each number below n stands in a list once, and no other, a sum over the list is the sum over the numbers below n
+-- where each number below n stands in a list once, and no other, a sum over the list is the sum over the numbers below
+-- n
 pub summed : (xs : List ℕ) (n : ℕ) → ((t : ℕ) → count t xs ≡ once_below n t) → (f : ℕ → ℕ) → sum_by f xs ≡ below f n
 summed xs n once f =
     summed_by_counts f xs n (counted_below n xs (λ t. let e = once t in omega arith))

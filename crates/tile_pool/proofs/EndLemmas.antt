@@ -145,7 +145,8 @@ module _ (tiles : List (List Addition)) (atoms workers : ℕ) where
     stopped_sum : (k : ℕ) (h : Worker) → HasStopped tiles h → on_entry k h.deposits ≡ sum_by (λ t. on_entry k (tile_at tiles t)) h.tickets
     stopped_sum k h s = ap (on_entry k) s.deposits ∙ sum_flat_map (amount_on k) (tile_at tiles) h.tickets
 
-    -- once all workers are in one view and have stopped, each word after the first is the total of its entry, modulo 2^64
+    -- once all workers are in one view and have stopped, each word after the first is the total of its entry, modulo
+    -- 2^64
     pub ends : 0 < workers → length v ≡ workers → Each (HasStopped tiles) v → (k : ℕ) → k < 3 * atoms → slice_index words (1 + k) ≡ total tiles k % 2 ^ 64
     ends some_one full stopped k lt =
         let drawn = all_drawn some_one full stopped in

@@ -1,5 +1,5 @@
--- The rule of the table of words, which holds between any two steps, and what each step tells. A view is the list of the
--- workers that a seat stands for.
+-- The rule of the table of words, which holds between any two steps, and what each step tells. A view is the list of
+-- the workers that a seat stands for.
 use Rattle.std.specs.Prelude.{◌≡◌, ℕ, zero, suc, ◌+◌, ◌*◌, ◌%◌, ◌^◌, ◌<◌, ◌≤◌, ◌==◌, if◌then◌else◌, nat_lt, List, [], ◌∷◌, length, slice_index, sum_by, Option}
 use Rattle.atomic_table.specs.Table.{Me, Step}
 use Rattle.atomic_table.specs.Seated.{TableId}
@@ -32,12 +32,13 @@ module _ (tiles : List (List Addition)) (atoms workers : ℕ) where
     pub tickets : (t : ℕ) → over_views (λ w. count t w.tickets) views ≡ once_below (slice_index words 0) t
     -- each worker's tickets ascend, and at most the last is past the tiles
     pub order : Each (Each (IsInOrder tiles)) views
-    -- each worker's deposits are the additions of its tickets' tiles in order, whole but for the last one's, of which they
-    -- are a beginning
+    -- each worker's deposits are the additions of its tickets' tiles in order, whole but for the last one's, of which
+    -- they are a beginning
     pub deposits : Each (Each (HasAdded tiles)) views
     -- each word after the first is the sum of the deposits in all views, modulo 2^64
     pub sums : (k : ℕ) → k < 3 * atoms → slice_index words (1 + k) ≡ over_views (λ w. on_entry k w.deposits) views % 2 ^ 64
-    -- no number is in two views or twice in one: the numbers in all views are those below the number of workers, each once
+    -- no number is in two views or twice in one: the numbers in all views are those below the number of workers, each
+    -- once
     pub numbers : (n : ℕ) → over_views (λ w. same n w.number) views ≡ once_below workers n
 
 -- the workers with the numbers below n, the highest first

@@ -51,8 +51,8 @@ module _ (tiles : List (List Addition)) where
     pub deposits : w.deposits ≡ additions earlier ++ made
     pub tile : made ++ left ≡ tile_at tiles last
 
-  -- nothing was drawn and added; or the deposits are the additions of the tickets' tiles in order, whole but for the last
-  -- one's, of which they are a beginning
+  -- nothing was drawn and added; or the deposits are the additions of the tickets' tiles in order, whole but for the
+  -- last one's, of which they are a beginning
   abbrev pub HasAdded : Worker → Type 0
   HasAdded w = ((w.tickets ≡ []) × (w.deposits ≡ [])) ⊎ ((left : List Addition) × Owes w left)
 

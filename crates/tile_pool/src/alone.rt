@@ -62,8 +62,8 @@ fn add_tiles<S, W: RowWork<S>>(sums: &mut [i64], work: &W, scratch: &mut S)
     }
 }
 
-/// The forces on all atoms, summed over all tiles in order, on the caller's thread alone, which waits for nobody. It answers `Memory`
-/// where memory is refused. The caller's condition: the work has no more than this many atoms.
+/// The forces on all atoms, summed over all tiles in order, on the caller's thread alone, which waits for nobody. It
+/// answers `Memory` where memory is refused. The caller's condition: the work has no more than this many atoms.
 pub fn forces_alone<A: Allocator + Copy, S, W: RowWork<S>>(
     alloc: A,
     work: &W,

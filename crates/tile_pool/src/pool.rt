@@ -116,11 +116,10 @@ fn read_words<A: Allocator + Copy>(
 
 /// The sum of all forces on each component of each atom: the sum of all tiles on it, modulo
 /// 2^64 and read as a signed number, whatever the number of workers and the order of their steps.
-/// Each worker has one of the scratches. It answers `Memory` where memory is refused. The caller's thread is worker 0, and each other
-/// worker has a thread, which is joined. A worker whose thread can't be started is run by the
-/// caller's thread after the others, so each pair is asked for once. Memory is taken before the
-/// first worker starts. Each worker takes a thread and a frame of the caller's stack: a program
-/// bounds their number.
+/// Each worker has one of the scratches. It answers `Memory` where memory is refused. The caller's thread is worker 0,
+/// and each other worker has a thread, which is joined. A worker whose thread can't be started is run by the caller's
+/// thread after the others, so each pair is asked for once. Memory is taken before the first worker starts. Each worker
+/// takes a thread and a frame of the caller's stack: a program bounds their number.
 ///
 /// The caller's conditions: there is a scratch, and fewer than 2^32, the work has no more than this many atoms, and
 /// tiles and workers together are fewer than 2^64.

@@ -84,9 +84,9 @@ pub trait Work {
 /// Work that hands out what its pairs add row by row. A worker keeps an `S` at hand for it, which changes no answer.
 pub trait RowWork<S>: Work {
     /// The forces of the pairs from the number `k` on that act, in order: at most 64 of them in place of what `adds`
-    /// held. The answer is the number of the pair with which the next call goes on. Work that finds the forces of many pairs
-    /// together has a body of its own; this one asks for each pair by its number. The caller's condition: there is such a tile, and it has more
-    /// than `k` pairs.
+    /// held. The answer is the number of the pair with which the next call goes on. Work that finds the forces of many
+    /// pairs together has a body of its own; this one asks for each pair by its number. The caller's condition: there
+    /// is such a tile, and it has more than `k` pairs.
     fn next_adds(
         &self,
         _scratch: &mut S,

@@ -1,8 +1,8 @@
 //! Plays transcripts: files of commands and of what they must print, in the layout of cram.
 //!
-//! Each word of the command line names a transcript. Where all commands print what stands below them, a line says how many
-//! there were; else it names the first line that is not as written. Behind the word `--print` each transcript is printed with what
-//! its commands do print.
+//! Each word of the command line names a transcript. Where all commands print what stands below them, a line says how
+//! many there were; else it names the first line that is not as written. Behind the word `--print` each transcript is
+//! printed with what its commands do print.
 #![tactic(auto)]
 
 mod files;

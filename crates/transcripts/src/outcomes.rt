@@ -96,7 +96,8 @@ pub(crate) fn outcome_onto<R: Files + Threads + Sync + AllocGlobal>(
     }
 }
 
-/// The outcome of the program on these words, with an error output that takes `left` bytes, one at a time, and then fails: once or for good.
+/// The outcome of the program on these words, with an error output that takes `left` bytes, one at a time, and then
+/// fails: once or for good.
 pub(crate) fn outcome_beside<R: Files + Threads + Sync + AllocGlobal>(
     rt: &R,
     left: usize,
@@ -114,7 +115,8 @@ pub(crate) fn outcome_beside<R: Files + Threads + Sync + AllocGlobal>(
     }
 }
 
-/// The status that the program ends with on these words, which prints to streams over these writers, as it does to the system's.
+/// The status that the program ends with on these words, which prints to streams over these writers, as it does to the
+/// system's.
 fn status_of<
     R: Files + Threads + Sync + AllocGlobal,
     A: Allocator + Copy + Send + Sync,

@@ -26,8 +26,9 @@ impl<'a, R: Files + Threads + Sync + AllocGlobal> Shell<'a, R> {
         }
     }
 
-    /// The outcome of these words. Each `with FILE N TEXT` before them puts the text in the place of line N of that file, and each
-    /// `listing LINES` makes a listing of what stands between commas; once the command is done, the files are as they were.
+    /// The outcome of these words. Each `with FILE N TEXT` before them puts the text in the place of line N of that
+    /// file, and each `listing LINES` makes a listing of what stands between commas; once the command is done, the
+    /// files are as they were.
     pub(crate) fn call(&mut self, words: &[&str]) -> Result<Outcome, AllocError> {
         let alloc = self.rt.alloc();
         let mut kept = Vec::new(alloc);
@@ -41,7 +42,8 @@ impl<'a, R: Files + Threads + Sync + AllocGlobal> Shell<'a, R> {
         Ok(outcome)
     }
 
-    /// Makes the change of a file that the words begin with, and tells how many of them say it; none where they say none.
+    /// Makes the change of a file that the words begin with, and tells how many of them say it; none where they say
+    /// none.
     fn change(
         &mut self,
         words: &[&str],

@@ -1,5 +1,6 @@
-//! One command many times: by numbers of workers, there and back, over beginnings of a file, onto outputs that fail, beside
-//! error outputs that fail, with each request for memory refused in turn, and with the requests counted that workers make.
+//! One command many times: by numbers of workers, there and back, over beginnings of a file, onto outputs that fail,
+//! beside error outputs that fail, with each request for memory refused in turn, and with the requests counted that
+//! workers make.
 
 use crate::lines::put_line;
 use crate::outcomes::{Outcome, outcome_beside, outcome_of, outcome_onto};
@@ -42,7 +43,8 @@ impl<'a, R: Files + Threads + Sync + AllocGlobal> Shell<'a, R> {
         Outcome::complaining(self.rt.alloc(), line.as_str())
     }
 
-    /// The outcome of `run` or `back`, by 1, 2, 3 and 64 workers, where as many steps the other way lead to the state's bytes.
+    /// The outcome of `run` or `back`, by 1, 2, 3 and 64 workers, where as many steps the other way lead to the state's
+    /// bytes.
     pub(crate) fn returning(&mut self, words: &[&str]) -> Result<Outcome, AllocError> {
         let there = self.with_workers(words)?;
         if self.comes_back(&there, words)? {
@@ -118,7 +120,8 @@ impl<'a, R: Files + Threads + Sync + AllocGlobal> Shell<'a, R> {
         Ok(ranges)
     }
 
-    /// The outcomes of a command beside an error output that takes n bytes and then fails, once and for good, n from none to all.
+    /// The outcomes of a command beside an error output that takes n bytes and then fails, once and for good, n from
+    /// none to all.
     pub(crate) fn failing_errors(&mut self, words: &[&str]) -> Result<Outcome, AllocError> {
         let alloc = self.rt.alloc();
         let whole = self.pairmd(words);
@@ -131,8 +134,8 @@ impl<'a, R: Files + Threads + Sync + AllocGlobal> Shell<'a, R> {
         Ok(Outcome::printing(alloc, ranges.told(alloc)?))
     }
 
-    /// The outcomes of a command where one of its requests for memory is refused, for each request: every outcome once, in the
-    /// order in which they come, and `all` for the outcome with none refused.
+    /// The outcomes of a command where one of its requests for memory is refused, for each request: every outcome once,
+    /// in the order in which they come, and `all` for the outcome with none refused.
     pub(crate) fn refused_requests(&mut self, words: &[&str]) -> Result<Outcome, AllocError> {
         let alloc = self.rt.alloc();
         let whole = self.pairmd(words);
@@ -158,7 +161,8 @@ impl<'a, R: Files + Threads + Sync + AllocGlobal> Shell<'a, R> {
         Ok(told)
     }
 
-    /// The outcome of a command where the request of this number is refused, and the allocator that counted its requests.
+    /// The outcome of a command where the request of this number is refused, and the allocator that counted its
+    /// requests.
     fn refusing<S: AsStr>(
         &mut self,
         number: u64,
@@ -169,7 +173,8 @@ impl<'a, R: Files + Threads + Sync + AllocGlobal> Shell<'a, R> {
         (outcome, memory)
     }
 
-    /// Adds the outcome of a command where the request of this number is refused, and tells whether there was such a request.
+    /// Adds the outcome of a command where the request of this number is refused, and tells whether there was such a
+    /// request.
     fn without_request(
         &mut self,
         number: u64,
@@ -277,9 +282,10 @@ fn beginning_of(
     Ok(text)
 }
 
-/// The judgement on an error output that took `left` bytes and then failed, once and for good: `each line as far as it is taken` where it has all
-/// that the whole outcome tells up to there, and where it failed once the lines behind that of the failure as well, and all else is as in the
-/// whole outcome; `all` where nothing was cut off; else `something else`.
+/// The judgement on an error output that took `left` bytes and then failed, once and for good: `each line as far as it
+/// is taken` where it has all that the whole outcome tells up to there, and where it failed once the lines behind that
+/// of the failure as well, and all else is as in the whole outcome; `all` where nothing was cut off; else `something
+/// else`.
 fn told_beside(
     alloc: Global,
     once: &Outcome,

@@ -92,7 +92,8 @@ get_first (x ∷ ss) s t e = e
 pub hold_first : (t : Table) (a b : ℕ) (distances : Span) (spans : List Span) → spans ≡ distances ∷ [] → AreFirstSpans t a b 1 distances spans
 hold_first t a b distances spans e = rw e (record { long = refl; first = refl; others = λ j s one there. absurd (none_later distances s j one there) })
 
--- where spans are those of the first k inputs, one more with the value of input k alone makes them those of one input more
+-- where spans are those of the first k inputs, one more with the value of input k alone makes them those of one input
+-- more
 pub hold_more : (t : Table) (a b : ℕ) (v : ℤ) (k k' : ℕ) (distances : Span) (old new : List Span) (s : Span) → AreFirstSpans t a b k distances old → Some v ≡ slice_get (inputs_of t a b distances.lo) k' → k' ≡ k → s.lo ≡ v → s.hi ≡ v → new ≡ old ++ s ∷ [] → AreFirstSpans t a b (k + 1) distances new
 hold_more t a b v k k' distances old new s h there same el eh e =
     rw e

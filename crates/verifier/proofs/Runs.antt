@@ -1,4 +1,5 @@
--- Runs on inputs in some spans stand in the frames of their places, so they end with a value in the span that the code gives.
+-- Runs on inputs in some spans stand in the frames of their places, so they end with a value in the span that the code
+-- gives.
 use Rattle.std.proofs.Common.{◌≡◌, ◌≢◌, ℕ, zero, suc, ◌+◌, ◌<◌, ◌≤◌, List, [], ◌∷◌, length, Option, Some, None, Ok, refl, sym, ap, ◌∙◌, subst, arith, ℤ, pos, negsuc, ⊎_elim, inl, inr, true}
 use Rattle.std.specs.Prelude.{slice_get, slice_set, slice_index_or, nat_lt}
 use Rattle.std.proofs.lemmas.Bool.{cases_eq, cases_lt, lt-ltb}

@@ -1,4 +1,5 @@
--- A verdict says how the code runs: where it has a bound the code never goes wrong, and a refusal is one of its runs or paths.
+-- A verdict says how the code runs: where it has a bound the code never goes wrong, and a refusal is one of its runs or
+-- paths.
 use Rattle.std.proofs.Common.{◌≡◌, ℕ, zero, suc, ◌+◌, ◌*◌, ◌/◌, ◌%◌, ◌^◌, ◌<◌, ◌≤◌, List, length, Option, Some, None, Result, Ok, Err, refl, sym, ap, ◌∙◌, subst, arith, ℤ, pos, negsuc, ◌≤ℤ◌, ◌<ℤ◌, ◌+ℤ◌, ◌-ℤ◌, ⊎_elim, max, lit<}
 use Rattle.std.specs.Prelude.{slice_get, option_map, unsigned_abs}
 use Rattle.std.proofs.Math.Nat.{div-lt_iff_lt-mul, lt-div-mul-add, pow-suc}

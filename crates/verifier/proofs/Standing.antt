@@ -163,7 +163,8 @@ module _ (bits : ℕ) (code : List Instr) (inputs : List Span) where
   taken_here : (here : ℕ) (frame : SpanFrameView) (old new : List (Option SpanFrameView)) → Stands bits code inputs here old → Takes here (Some frame) old new → IsLeastFrame (comes_below bits code inputs here here) frame
   taken_here here frame old new s t = subst (IsFrameOf (comes_below bits code inputs here here)) t.taken (s.ahead here (omega arith))
 
-  -- where a place's frame is led on to each place ahead to which its instruction may go, the frames stand from the next place on
+  -- where a place's frame is led on to each place ahead to which its instruction may go, the frames stand from the next
+  -- place on
   pub stands_on : (here : ℕ) (i : Instr) (frame led : SpanFrameView) (old between new : List (Option SpanFrameView)) → Stands bits code inputs here old → Takes here (Some frame) old between → slice_get code here ≡ Some i → IsBehind bits i inputs frame led
       → ((at : ℕ) → here < at → IsSpread i here at frame led (frame_at between at) (frame_at new at)) → Stands bits code inputs (here + 1) new
   stands_on here i frame led old between new s t there behind spread =
@@ -271,7 +272,8 @@ module _ (bits : ℕ) (code : List Instr) (inputs : List Span) where
     λ at lt. spread_both here target at frame rest old between new (has_top HasOther s frame rest p (two_other s two)) (has_top HasZero s frame rest p holds) j k,
   )
 
-  -- when a jump at 0 is passed, and the rest of its frame joins each place that the top may send it to, the frames stand from the next place on
+  -- when a jump at 0 is passed, and the rest of its frame joins each place that the top may send it to, the frames
+  -- stand from the next place on
   pub stands_branch : (here target : ℕ) (frame : SpanFrameView) (old between new : List (Option SpanFrameView)) → Stands bits code inputs here old → Takes here (Some frame) old between → slice_get code here ≡ Some (JumpIfZero target) → Branches (here + 1) target frame between new
       → Stands bits code inputs (here + 1) new
   stands_branch here target frame old between new s t there b =
@@ -286,6 +288,7 @@ module _ (bits : ℕ) (code : List Instr) (inputs : List Span) where
       let none : length rest.stack ≡ 0 = omega (arith, ap length p.stack, one) in
       record { passes = st.passes; frame = frame; least = taken_here (length code) frame old new st t; alone = p.stack ∙ ap (λ (l : List Span). s ∷ l) (nil_from_length rest.stack none) }
 
-  -- where the frames stand at a place, and its operation stops on its frame, the code stops at this place for this cause
+  -- where the frames stand at a place, and its operation stops on its frame, the code stops at this place for this
+  -- cause
   pub stops_at : (here : ℕ) (i : Instr) (fault : Fault) (frame : SpanFrameView) (old new : List (Option SpanFrameView)) → Stands bits code inputs here old → Takes here (Some frame) old new → slice_get code here ≡ Some i → Stops bits i frame fault → StopsAt bits code inputs here fault
   stops_at here i fault frame old new st t there stop = record { passes = st.passes; frame = frame; least = taken_here here frame old new st t; instr = i; at = there; stops = stop }

@@ -1,5 +1,5 @@
--- The frames of all places of a code: that of a place is the least that holds what the lower places lead there. So there is
--- one for each place, and no order in which they are made.
+-- The frames of all places of a code: that of a place is the least that holds what the lower places lead there. So
+-- there is one for each place, and no order in which they are made.
 use Rattle.std.specs.Prelude.{◌≡◌, ◌≢◌, ℕ, zero, suc, ◌+◌, ◌<◌, ◌⊎◌, List, [], ◌∷◌, length, ℤ, pos, Option, Some, None, Result, slice_get}
 use Rattle.fixed.specs.declared.faults.Fault.{Fault}
 use Rattle.fixed.specs.declared.faults.Fault.TheVariants.{ZeroDivisor, NegativeRoot}

@@ -155,8 +155,8 @@ pub data IsSliceAnswer (code : List Instr) (t : Table) (g : Range) (a b i : ℕ)
   empty : IsEmptySlice g i → IsSliceAnswer code t g a b i (Ok 0)
   full : {s : Span} {answer : Answer} → IsSlice g i s → IsPieceAnswer code t a b g.depth s answer → IsSliceAnswer code t g a b i answer
 
--- The slices of all pairs of types have numbers: those of a pair in ascending order, then those of the next second type, the
--- first type slowest.
+-- The slices of all pairs of types have numbers: those of a pair in ascending order, then those of the next second
+-- type, the first type slowest.
 abbrev pub numbered_answer : List Instr → Table → Range → (number : ℕ) → Answer → Type 0
 numbered_answer code t g number answer =
     IsSliceAnswer code t g (number / g.slices / length t.rows) (number / g.slices % length t.rows) (number % g.slices) answer

@@ -7,9 +7,9 @@ pub fn verdicts_are_one()
     ensures { VerdictsAreOne }
 {}
 
-/// A verdict says how the code runs. Where it has a bound, the code gives a value, of at most this magnitude, for every two
-/// types at every distance; where it is a refusal, some path goes wrong so, or the machine traps so at the distance that it
-/// names, or gives values at both distances that it names, of more than slices times 2^depth.
+/// A verdict says how the code runs. Where it has a bound, the code gives a value, of at most this magnitude, for every
+/// two types at every distance; where it is a refusal, some path goes wrong so, or the machine traps so at the distance
+/// that it names, or gives values at both distances that it names, of more than slices times 2^depth.
 pub fn verdicts_are_kept()
     ensures accepted { AcceptedAreSafe }
     ensures refused { RefusedAreWrong }
