@@ -1,11 +1,14 @@
 # try: builds the program with nothing proved, at ./pairmd-unproved, and runs the stored example.
-# run: proves and builds the program, and runs the stored example. pairmd: leaves the proved program at ./pairmd. test: the whole gate.
-# install: puts the proved program and its man page below PREFIX. guide: runs every command of README and docs/GUIDE.md, and compares.
-# transcripts: plays the transcripts of crates/transcripts/data. edits: tries the edits that the gate doesn't try, NAMES=.. of some crates.
+# run: proves and builds the program, and runs the stored example. pairmd: leaves the proved program at ./pairmd.
+# test: the whole gate. install: puts the proved program and its man page below PREFIX.
+# guide: counts what the pages state, runs every command of README.md and docs/GUIDE.md, and compares.
+# transcripts: plays the transcripts of crates/transcripts/data.
+# edits: tries the edits that the gate doesn't try, NAMES=.. of some crates.
 #
 # A program is built only once every crate that it stands on is proved. What was proved is kept in crates/*/out, so the
-# first build proves all of them and later ones the crates that have changed and those above them, each over what `rt check` has kept
-# of it, or else from nothing. They are proved side by side, one for each core and each 4 GB of memory that is free, or JOBS=n of them.
+# first build proves all of them and later ones the crates that have changed and those above them, each over what
+# `rt check` has kept of it, or else from nothing. They are proved side by side, one for each core and each 4 GB of
+# memory that is free, or JOBS=n of them.
 
 JOBS ?= $(shell tools/build.py --count)
 PREFIX ?= /usr/local
@@ -43,4 +46,5 @@ install: pairmd
 	install -D -m 644 docs/pairmd.1 $(DESTDIR)$(PREFIX)/share/man/man1/pairmd.1
 
 guide:
+	tools/counts.py
 	tools/guide.py

@@ -1,8 +1,8 @@
 #!/usr/bin/env python3
-"""Draws step-times.svg from step-times.tsv: the milliseconds of a step by atoms and workers, beside OpenMM's CPU platform.
+"""Draws step-times.svg from step-times.tsv: milliseconds of a step by atoms and workers, beside OpenMM's CPU platform.
 
-step-times.tsv has the nanoseconds a pair that acts of docs/PERFORMANCE.md's table, of systems in a cube, and how many pairs act in each. Where
-figures are taken again, put them there.
+step-times.tsv has the nanoseconds for each pair that acts of systems in a cube, and how many pairs act in each: the
+least of runs of bench/engines.py on 24 November 2026, at commit 4af5f12. Where figures are taken again, put them there.
 """
 
 import liquid

@@ -1,12 +1,13 @@
 #!/usr/bin/env python3
 """Runs every command of README.md and docs/GUIDE.md, and compares what it prints with what stands there.
 
-  tools/guide.py [--program FILE] [--write] [PAGE ..]     the program is ./pairmd where neither FILE nor PAIRMD names one
+  tools/guide.py [--program FILE] [--write] [PAGE ..]   the program is ./pairmd where neither FILE nor PAIRMD names one
 
-The commands are the lines behind `$ ` in blocks that are fenced as `console`; the lines up to the next command are what it prints, on standard
-output and standard error. Blocks of other fences are text to read, and those fenced as `sh` are for a shell but aren't run: they build, install
-or measure. A page's commands run one after the other in a new folder that has ./pairmd, and the repository's examples/ and crates/pairmd/data/
-as they are. A line that ends in <<END takes the lines down to END as its own. --write puts what was printed into the page.
+The commands are the lines behind `$ ` in blocks that are fenced as `console`; the lines up to the next command are what
+it prints, on standard output and standard error. Blocks of other fences are text to read, and those fenced as `sh` are
+for a shell but aren't run: they build, install or measure. A page's commands run one after the other in a new folder
+that has ./pairmd, and the repository's examples/ and crates/pairmd/data/ as they are. A line that ends in <<END takes
+the lines down to END as its own. --write puts what was printed into the page.
 """
 import argparse
 import difflib
