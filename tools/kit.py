@@ -22,7 +22,11 @@ def module(name):
 
 
 class Trial:
-    """Tries edits as rt does. Since its kit 13f it makes seeds and links of its own and tells by a word how a trial ended; before, it told only whether the edit was refused."""
+    """Tries edits as rt does.
+
+    Since its kit 13f it makes seeds and links of its own and tells by a word how a trial ended; before, it told only
+    whether the edit was refused.
+    """
 
     FLAGS = ["--jobs", "1"]
 
