@@ -32,7 +32,7 @@ pub(crate) struct Desk<A: Allocator + Copy, S: Drop> {
 impl<A: Allocator + Copy> SafeSystem<A> {
     ghost use Rattle.std.specs.Prelude.{◌≡◌, length, IfOk, IfSome, OnOk};
     ghost use Rattle.std.specs.List.{All};
-    ghost use Rattle.cell_tiles.specs.Cells.{member_places, members_of};
+    ghost use Rattle.cell_tiles.specs.Cells.{AreBeside, members_of};
     ghost use Rattle.ring_box.specs.Places.{ArePlaces};
     ghost use Rattle.engine.specs.Rounds.{AreForces, grid_of};
     ghost use Rattle.engine.specs.Tilings.{IsTilingOf};
@@ -79,7 +79,7 @@ impl<A: Allocator + Copy> SafeSystem<A> {
         requires atoms { length frame.now ≡ length self.now.system.masses.items }
         requires tiling { IsTilingOf self.now.system tiling.old }
         ensures members { OnOk result (tiling.new.cells.members ≡ members_of (grid_of self.now.system) frame.now) }
-        ensures beside { OnOk result (tiling.new.cells.places ≡ member_places frame.now tiling.new.cells.members) }
+        ensures beside { OnOk result (AreBeside frame.now tiling.new.cells) }
         ensures places { OnOk result (All ArePlaces frame.now) }
         ensures tiling { IsTilingOf self.now.system tiling.new }
     {
@@ -93,7 +93,7 @@ impl<A: Allocator + Copy> SafeSystem<A> {
         requires tiling { IsTilingOf self.now.system tiling.now }
         requires places { All ArePlaces frame.now }
         requires members { tiling.now.cells.members ≡ members_of (grid_of self.now.system) frame.now }
-        requires beside { tiling.now.cells.places ≡ member_places frame.now tiling.now.cells.members }
+        requires beside { AreBeside frame.now tiling.now.cells }
         ensures motion { result.motion.now ≡ self.now }
         ensures frame { result.frame.now ≡ frame.now }
     {

@@ -2,7 +2,7 @@
 
 ghost use Rattle.std.specs.Prelude.{◌≡◌, ◌<◌, length, map, slice_get, Some, IfSome};
 ghost use Rattle.std.specs.List.{All};
-ghost use Rattle.cell_tiles.specs.Cells.{member_places, members_of};
+ghost use Rattle.cell_tiles.specs.Cells.{AreBeside, members_of};
 ghost use Rattle.cell_tiles.specs.Tiles.{pairs_in, tiles_of};
 ghost use Rattle.ring_box.specs.Places.{ArePlaces};
 ghost use Rattle.tile_round.specs.Tiles.{pairs_at, AreNextActing, IsPairOf};
@@ -27,7 +27,7 @@ pub(crate) struct FrameWork<'a, A: Allocator + Copy> {
     pub ghost grid: { tiles.now.grid.bits ≡ grid_of motion.now.system },
     pub ghost cut: { cells.now.bits ≡ tiles.now.grid.bits },
     pub ghost members: { cells.now.members ≡ members_of (grid_of motion.now.system) frame.now },
-    pub ghost beside: { cells.now.places ≡ member_places frame.now cells.now.members },
+    pub ghost beside: { AreBeside frame.now cells.now },
     pub ghost atoms: { length frame.now ≡ length motion.now.system.types.items },
     pub ghost places: { All ArePlaces frame.now },
 }
@@ -83,6 +83,7 @@ impl<'a, A: Allocator + Copy> FrameWork<'a, A> {
         let frame = FrameInBox {
             ring: &self.motion.system.ring,
             reach: &reach,
+            coarse: self.motion.system.ring.coarse_reach(&reach),
             places: self.frame,
         };
         let next = self.cells.near_from(&frame, self.tiles.get(tile), k, near);
