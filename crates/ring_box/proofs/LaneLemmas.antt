@@ -1,19 +1,22 @@
 -- What the operations on vectors of sixteen lanes hold at each lane.
-use Rattle.std.proofs.Common.{◌≡◌, ℕ, zero, suc, ◌+◌, ◌-◌, ◌*◌, ◌/◌, ◌%◌, ◌^◌, ◌<◌, List, [], ◌∷◌, Bool, true, false, cond, ltb, leb, length, get_or, map, replicate, refl, sym, ap, subst, ◌∙◌, arith, Fits, w16, w32, inl, inr, min}
+use Rattle.std.proofs.Common.{◌≡◌, ℕ, zero, suc, ◌+◌, ◌-◌, ◌/◌, ◌%◌, ◌^◌, ◌<◌, List, [], ◌∷◌, Bool, false, cond, ltb, leb, length, get_or, map, replicate, refl, sym, ap, subst, ◌∙◌, arith, Fits, w16, w32, inl, inr, min}
 use Rattle.std.specs.Int.{bit_at}
 use Rattle.std.specs.Simd.Lanes.{zip2, sel_l, mask_l, top, Each1}
 use Rattle.std.proofs.lemmas.Simd.{length-zip2, get_or-zip2, get_or-replicate, length-sel_l, get_or-sel_l, bit_mask_l, tops_compared, bitmask_splat, mask_l-lt, Each1-get_or, Each1-from_get_or}
 use Rattle.std.proofs.lemmas.List.{length-map}
-use Rattle.std.proofs.lemmas.Bool.{leb-false, cases_lt, cond-true, cond-false, lt-ltb, le-ltb}
+use Rattle.std.proofs.lemmas.Bool.{cases_lt, cond-true, cond-false, lt-ltb, le-ltb}
 use Rattle.std.proofs.lemmas.Bool.Decides.{nat_tests}
 use Rattle.ring_box.specs.Lanes.{HasLanes}
 
+-- a vector holds its own lanes
 pub itself : (a : List ℕ) → length a ≡ 16 → HasLanes a (λ k. get_or a k 0)
 itself a e = record { long = e; each = λ k l. refl }
 
+-- a splat holds its number in each lane
 pub splat : (x : ℕ) → HasLanes (replicate 16 x) (λ k. x)
 splat x = record { long = refl; each = λ k l. get_or-replicate 16 k x 0 l }
 
+-- what is done to each lane
 pub mapped : (f : ℕ → ℕ) (a : List ℕ) (g : ℕ → ℕ) → HasLanes a g → HasLanes (map f a) (λ k. f (g k))
 mapped f a g h = record {
   long = length-map a f ∙ h.long;
@@ -25,6 +28,7 @@ mapped f a g h = record {
     get_or-map-in f (x ∷ xs) zero l = refl
     get_or-map-in f (x ∷ xs) (suc k) l = get_or-map-in f xs k (omega arith)
 
+-- what is done to the lanes of two vectors
 pub zipped : (f : ℕ → ℕ → ℕ) (a b : List ℕ) (g h : ℕ → ℕ) → HasLanes a g → HasLanes b h → HasLanes (zip2 f a b) (λ k. f (g k) (h k))
 zipped f a b g h p q =
     let m = p.long in
@@ -51,6 +55,7 @@ chosen t a b x y g h u v p q r s =
           ∙ (λ o. cond ((get_or-zip2 t a b k 0 0 false (omega arith) (omega arith) ∙ (λ o. t (p.each k l o) (q.each k l o))) o) (r.each k l o) (s.each k l o));
     })
 
+-- the same lanes in other words
 pub same : (a : List ℕ) (f g : ℕ → ℕ) → HasLanes a f → ((k : ℕ) → k < 16 → f k ≡ g k) → HasLanes a g
 same a f g h e = record { long = h.long; each = λ k l. h.each k l ∙ e k l }
 
@@ -58,24 +63,20 @@ same a f g h e = record { long = h.long; each = λ k l. h.each k l ∙ e k l }
 pub fits16 : (a : List ℕ) → length a ≡ 16 → Each1 (Fits w16) a → (k : ℕ) → k < 16 → get_or a k 0 < 2 ^ 16
 fits16 a e h k l = (Each1-get_or (Fits w16) a k 0 (omega arith) h).fits
 
-unset : (m n : ℕ) (b : Bool) → leb m n ≡ b → cond {A = ℕ} b 1 0 ≡ 0 → n < m
-unset m n true e z = absurd (omega arith)
-unset m n false e z = leb-false m n e
-
--- a bit that is not set in the mask of the lanes that are at most a limit
-pub above : (a : List ℕ) (limit k : ℕ) → length a ≡ 16 → k < 16
-    → bit_at (mask_l (map (top 31) (zip2 (λ m n. cond (leb m n) (2 ^ 32 - 1) 0) a (replicate 16 limit))) % 2 ^ 64) k ≡ 0 → limit < get_or a k 0
-above a limit k e l z =
-    let f : bit_at (mask_l (map (λ x. leb x limit) a)) k ≡ 0 = subst (λ n. bit_at n k ≡ 0) (bitmask_splat w32 leb a 16 limit e (omega arith)) z in
+-- the bits of the mask of the lanes that are at most a limit
+pub bit_is : (a : List ℕ) (limit k : ℕ) → length a ≡ 16 → k < 16
+    → bit_at (mask_l (map (top 31) (zip2 (λ m n. cond (leb m n) (2 ^ 32 - 1) 0) a (replicate 16 limit))) % 2 ^ 64) k ≡ cond (leb (get_or a k 0) limit) 1 0
+bit_is a limit k e l =
     let g : bit_at (mask_l (map (λ x. leb x limit) a)) k ≡ cond (get_or (map (λ x. leb x limit) a) k false) 1 0 = bit_mask_l (map (λ x. leb x limit) a) k in
     let h : get_or (map (λ x. leb x limit) a) k false ≡ leb (get_or a k 0) limit = at a k (omega arith) in
-    unset (get_or a k 0) limit (leb (get_or a k 0) limit) refl (ap (λ b. cond {A = ℕ} b 1 0) (sym h) ∙ sym g ∙ f)
+    rw (bitmask_splat w32 leb a 16 limit e (omega arith), g, h) refl
   where
     at : (xs : List ℕ) (k : ℕ) → k < length xs → get_or (map (λ x. leb x limit) xs) k false ≡ leb (get_or xs k 0) limit
     at [] k l = absurd (omega arith)
     at (x ∷ xs) zero l = refl
     at (x ∷ xs) (suc k) l = at xs k (omega arith)
 
+-- a choice by a comparison, as the lesser of two numbers
 pub lesser : (m n : ℕ) → cond (ltb m n) m n ≡ min m n
 lesser m n = grind (arith, nat_tests)
 

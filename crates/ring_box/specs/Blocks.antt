@@ -1,6 +1,6 @@
 -- Places by their upper halves, the upper 16 of the 32 bits of each number, in blocks of sixteen atoms: so that sixteen
 -- are tested at once.
-use Rattle.std.specs.Prelude.{ℕ, ◌≡◌, ◌+◌, ◌-◌, ◌*◌, ◌/◌, ◌%◌, ◌^◌, ◌<◌, ◌≤◌, nat_le, min, slice_index, if◌then◌else◌, None}
+use Rattle.std.specs.Prelude.{ℕ, ◌≡◌, ◌+◌, ◌-◌, ◌*◌, ◌/◌, ◌%◌, ◌^◌, ◌<◌, ◌≤◌, nat_le, max, min, slice_index, if◌then◌else◌, None}
 use Rattle.std.specs.Int.{bit_at}
 use Rattle.ring_box.specs.Acting.{IsReach, Reach, acting_of, limit_of}
 use Rattle.ring_box.specs.declared.blocks.Block.{Block}
@@ -28,7 +28,7 @@ halves_at b k = record { x = slice_index b.x k; y = slice_index b.y k; z = slice
 
 -- lane k of a block holds the upper halves of an atom at p
 abbrev pub IsLane : Block → ℕ → Place3 → Type 0
-IsLane b k p = IsUpperHalf (slice_index b.x k) p.x × IsUpperHalf (slice_index b.y k) p.y × IsUpperHalf (slice_index b.z k) p.z
+IsLane b k p = AreUpperHalves (halves_at b k) p
 
 -- the upper half of the place x is one of `width` from `first` on
 abbrev pub IsInSpan : ℕ → ℕ → ℕ → Type 0
@@ -51,38 +51,39 @@ cell_span_of bits cell =
       width = record { x = 2 ^ (16 - bits.x); y = 2 ^ (16 - bits.y); z = 2 ^ (16 - bits.z) };
     }
 
--- ---- coarse lengths
+-- ---- coarse lengths: in units of 2^cut times 10^-5 nm, of which a side has no more than 16 bits
 
 -- the upper half x behind the upper half y, round the ring of 2^16
 abbrev pub behind : ℕ → ℕ → ℕ
 behind x y = (x + (2 ^ 16 - y)) % 2 ^ 16
 
--- how many times 2^16 places lie at least between a place with the upper half h and any whose upper half is one of
--- `width` from `first` on
+-- how many upper halves, of 2^16 places each, lie at least between a place with the upper half h and any whose upper
+-- half is one of `width` from `first` on
 abbrev pub least_gap : ℕ → ℕ → ℕ → ℕ
 least_gap h first width = min (behind h first - width) (2 ^ 16 - 1 - behind h first)
 
--- the length of a gap on a side with the upper bits w, in 2^16 times 2^16 times the unit of w, rounded down
+-- the length of so many upper halves on a side, which has 2^16 of them, rounded down
 abbrev pub coarse_length_of : ℕ → ℕ → ℕ
-coarse_length_of gap w = gap * w / 2 ^ 16
+coarse_length_of gap side = gap * side / 2 ^ 16
 
 abbrev pub coarse_square : ℕ → ℕ → ℕ
-coarse_square gap w = coarse_length_of gap w * coarse_length_of gap w
+coarse_square gap side = coarse_length_of gap side * coarse_length_of gap side
 
--- the coarse square of the least distance of the atom in lane k from any in the span
+-- the square of the least distance of the atom in lane k from any in the span, as far as coarse lengths tell
 abbrev pub coarse_square_of : CoarseReach → CellSpan → Block → ℕ → ℕ
 coarse_square_of c span b k =
     coarse_square (least_gap (slice_index b.x k) span.first.x span.width.x) c.x
     + coarse_square (least_gap (slice_index b.y k) span.first.y span.width.y) c.y
     + coarse_square (least_gap (slice_index b.z k) span.first.z span.width.z) c.z
 
--- a bit is set for each lane whose coarse square is at most the limit
+-- a bit is set for each lane where that is at most the limit
 abbrev pub AreNearBits : CoarseReach → CellSpan → Block → ℕ → Type 0
 AreNearBits c span b bits = (k : ℕ) → k < 16 → bit_at bits k ≡ (if nat_le (coarse_square_of c span b k) c.limit then 1 else 0)
 
 -- ---- how far forces reach, coarsely
 
--- c has the upper bits of the box's sides, less the lower `cut` ones, and of the least square that is out of reach
+-- in coarse units the sides are no longer than the box's, and a square above the limit, where this isn't the greatest
+-- number of 32 bits, is out of reach
 pub record IsCoarseReach (d : Reach) (b : RingBox) (c : CoarseReach) : Type 0 where
   pub reach : IsReach d
   pub cut : ℕ
@@ -90,6 +91,20 @@ pub record IsCoarseReach (d : Reach) (b : RingBox) (c : CoarseReach) : Type 0 wh
   pub y : c.y * 2 ^ cut ≤ b.y
   pub z : c.z * 2 ^ cut ≤ b.z
   pub limit : c.limit < 2 ^ 32 - 1 → limit_of d.frac d.cutoff < (c.limit + 1) * 2 ^ (64 + 2 * cut)
+
+-- n less its lower `cut` bits has at most 16, and less fewer it has more
+pub record IsCut (n cut : ℕ) : Type 0 where
+  pub fits : n / 2 ^ cut < 2 ^ 16
+  pub least : (k : ℕ) → n / 2 ^ k < 2 ^ 16 → cut ≤ k
+
+-- c has the finest such unit, and the sides and the limit in it, rounded down
+pub record IsFinest (d : Reach) (b : RingBox) (c : CoarseReach) : Type 0 where
+  pub cut : ℕ
+  pub is_cut : IsCut (max (max b.x b.y) b.z) cut
+  pub x : c.x ≡ b.x / 2 ^ cut
+  pub y : c.y ≡ b.y / 2 ^ cut
+  pub z : c.z ≡ b.z / 2 ^ cut
+  pub limit : c.limit ≡ min (limit_of d.frac d.cutoff / 2 ^ (64 + 2 * cut)) (2 ^ 32 - 1)
 
 -- an atom in a lane whose bit isn't set doesn't act with an atom at these upper halves
 abbrev pub LeavesOut : Reach → RingBox → Block → UpperHalves → ℕ → Type 0

@@ -1,7 +1,7 @@
 //! Which atoms of a block may act with one, or with any of a cell, as far as the upper halves of their places tell.
 
-ghost use Rattle.std.specs.Prelude.{◌≡◌, ℕ, ◌+◌, ◌*◌, ◌/◌, ◌^◌, ◌<◌, ◌≤◌, ◌-◌, slice_index};
-ghost use Rattle.ring_box.specs.Blocks.{coarse_square, least_gap};
+ghost use Rattle.std.specs.Prelude.{ℕ, ◌≡◌, ◌-◌, ◌/◌, ◌^◌, ◌<◌, ◌≤◌, min, slice_index};
+ghost use Rattle.ring_box.specs.Blocks.{IsCut, coarse_square, least_gap};
 ghost use Rattle.ring_box.specs.Lanes.{HasLanes};
 
 use crate::blocks::Block;
@@ -13,7 +13,8 @@ use crate::reaches::Reach;
 use crate::upper_halves::{CellSpan, UpperHalves};
 use std::simd::prelude::*;
 
-/// The upper bits of the sides of a box, and of the least square that is out of reach.
+/// How far forces reach, coarsely: the sides of a box in a unit of 10^-5 nm times a power of 2, of which they have no
+/// more than 16 bits, and the least square that is out of reach in the square of that unit.
 #[derive(Clone, Copy)]
 pub struct CoarseReach {
     pub x: u16,
@@ -22,7 +23,7 @@ pub struct CoarseReach {
     pub limit: u32,
 }
 
-/// How many times 2^16 places lie at least between each lane's place and any of the span.
+/// How many upper halves lie at least between each lane's and any of the span.
 #[inline(always)]
 fn gaps(x: u16x16, first: u16, width: u16) -> u16x16
     ensures { HasLanes result (λ k. least_gap (slice_index x k) first width) }
@@ -31,10 +32,11 @@ fn gaps(x: u16x16, first: u16, width: u16) -> u16x16
     least(less_or_zero(behind, width), flipped(behind))
 }
 
-/// The coarse square of the length of that on a side with the upper bits `side`.
+/// The square of the length of that on a side.
 #[inline(always)]
 fn gap_squares(x: u16x16, first: u16, width: u16, side: u16) -> u32x16
-    ensures { HasLanes result (λ k. coarse_square (least_gap (slice_index x k) first width) side) }
+    ensures value { HasLanes result (λ k. coarse_square (least_gap (slice_index x k) first width) side) }
+    ensures small { (k : ℕ) → k < 16 → slice_index result k < 2 ^ 30 }
 {
     low_square(upper_product(gaps(x, first, width), side))
 }
@@ -42,8 +44,20 @@ fn gap_squares(x: u16x16, first: u16, width: u16, side: u16) -> u32x16
 impl CoarseReach {
     ghost use Rattle.std.specs.Prelude.{ℕ, ◌<◌, ◌^◌};
     ghost use Rattle.ring_box.specs.Acting.{Reach};
-    ghost use Rattle.ring_box.specs.Blocks.{AreNearBits, IsCoarseReach, LeavesOut, LeavesOutOfSpan, own_span};
+    ghost use Rattle.ring_box.specs.Blocks.{AreNearBits, IsCoarseReach, LeavesOut, LeavesOutOfSpan, coarse_square_of, own_span};
     ghost use Rattle.ring_box.specs.declared.boxes.RingBox.{RingBox};
+
+    /// The squares of the least distances of the lanes' atoms from any in the span.
+    #[inline(always)]
+    fn squares(&self, block: &Block, span: &CellSpan) -> u32x16
+        ensures value { HasLanes result (coarse_square_of self.now span.now block.now) }
+        ensures small { (k : ℕ) → k < 16 → slice_index result k < 2 ^ 32 - 1 }
+    {
+        let x = gap_squares(block.x, span.first.x, span.width.x, self.x);
+        let y = gap_squares(block.y, span.first.y, span.width.y, self.y);
+        let z = gap_squares(block.z, span.first.z, span.width.z, self.z);
+        sum(x, y, z)
+    }
 
     /// A bit for each lane of the block whose atom may act with one in the span: one without doesn't.
     #[inline(always)]
@@ -52,10 +66,7 @@ impl CoarseReach {
         ensures bound { result < 2 ^ 16 }
         ensures left_out { (d : Reach) (b : RingBox) → IsCoarseReach d b self.now → LeavesOutOfSpan d b block.now span.now result }
     {
-        let x = gap_squares(block.x, span.first.x, span.width.x, self.x);
-        let y = gap_squares(block.y, span.first.y, span.width.y, self.y);
-        let z = gap_squares(block.z, span.first.z, span.width.z, self.z);
-        at_most(sum(x, y, z), self.limit)
+        at_most(self.squares(block, span), self.limit)
     }
 
     /// A bit for each lane of the block whose atom may act with one at these upper halves: one without doesn't.
@@ -76,23 +87,31 @@ impl CoarseReach {
     }
 }
 
-/// How many of the lower bits of a number go where it's cut to 16.
-fn bits_to_cut(most: u32) -> u32
-    requires { most < 2 ^ 24 }
-    ensures fits { most / 2 ^ result < 2 ^ 16 }
+/// How many lower bits of a number go so that 16 are left.
+fn bits_to_cut(n: u32) -> u32
+    requires { n < 2 ^ 24 }
+    ensures cut { IsCut n result }
     ensures few { result ≤ 8 }
 {
-    if most < 65_536 {
+    if n < 65_536 {
         0
     } else {
-        16 - most.leading_zeros()
+        16 - n.leading_zeros()
     }
 }
 
-/// The upper bits of a limit of squares; the greatest number of 32 bits where there are more.
+fn upper_bits(side: u32, cut: u32) -> u16
+    requires few { cut ≤ 8 }
+    requires fits { side / 2 ^ cut < 2 ^ 16 }
+    ensures { result ≡ side / 2 ^ cut }
+{
+    (side >> cut) as u16
+}
+
+/// The upper bits of a limit of squares, the greatest number of 32 bits where they are more.
 fn upper_limit(limit: u128, cut: u32) -> u32
     requires { cut ≤ 80 }
-    ensures { result < 2 ^ 32 - 1 → limit < (result + 1) * 2 ^ cut }
+    ensures { result ≡ min (limit / 2 ^ cut) (2 ^ 32 - 1) }
 {
     match u32::try_from(limit >> cut) {
         Ok(limit) => limit,
@@ -100,20 +119,13 @@ fn upper_limit(limit: u128, cut: u32) -> u32
     }
 }
 
-fn upper_bits(side: u32, cut: u32) -> u16
-    requires few { cut ≤ 8 }
-    requires fits { side / 2 ^ cut < 2 ^ 16 }
-    ensures { result * 2 ^ cut ≤ side }
-{
-    (side >> cut) as u16
-}
-
 impl RingBox {
-    ghost use Rattle.ring_box.specs.Blocks.{IsCoarseReach};
+    ghost use Rattle.ring_box.specs.Blocks.{IsCoarseReach, IsFinest};
 
-    /// How far forces reach in this box, coarsely.
+    /// How far forces reach in this box, as far as the upper 16 bits of its greatest side tell.
     pub fn coarse_reach(&self, reach: &Reach) -> CoarseReach
-        ensures { IsCoarseReach reach.now self.now result }
+        ensures reach { IsCoarseReach reach.now self.now result }
+        ensures finest { IsFinest reach.now self.now result }
     {
         let cut = bits_to_cut(self.x.get().max(self.y.get()).max(self.z.get()));
         CoarseReach {

@@ -90,7 +90,7 @@ pub(crate) fn with_lane(a: u16x16, lane: usize, value: u16) -> u16x16
     ensures here { slice_index result lane ≡ value }
     ensures others { (k : ℕ) → k ≢ lane → slice_index result k ≡ slice_index a k }
 {
-    let mut lanes = a;
+    let mut lanes = a.to_array();
     lanes[lane] = value;
-    lanes
+    u16x16::from_array(lanes)
 }
