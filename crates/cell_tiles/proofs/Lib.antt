@@ -4,6 +4,7 @@ pub mod PairLemmas
 pub mod NumberLemmas
 pub mod MemberLemmas
 pub mod VectorLemmas
+pub mod FarLemmas
 pub mod TileLemmas
 pub mod CoverLemmas
 pub mod SumLemmas

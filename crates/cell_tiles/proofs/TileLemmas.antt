@@ -1,5 +1,5 @@
 -- The tiles of a grid, one after another.
-use Rattle.std.proofs.Common.{◌≡◌, ℕ, zero, suc, ◌+◌, ◌<◌, ◌≤◌, Bool, true, false, cond, List, [], ◌∷◌, ◌++◌, length, map, filter, get_or, refl, sym, ap, subst, ◌∙◌, arith, add-one, append-nil, append_assoc}
+use Rattle.std.proofs.Common.{◌≡◌, ℕ, zero, suc, ◌+◌, ◌-◌, ◌<◌, ◌≤◌, Bool, true, false, cond, List, [], ◌∷◌, ◌++◌, length, map, filter, get_or, refl, sym, ap, subst, ◌∙◌, arith, add-one, append-nil, append_assoc}
 use Rattle.std.specs.Prelude.{slice_get, Some}
 use Rattle.std.specs.List.{All, flat_map}
 use Rattle.std.proofs.lemmas.List.{length-map, map-append}
@@ -9,7 +9,7 @@ use Rattle.std.proofs.lemmas.Option.{get_or_from_slice_get, slice_get-map, slice
 use Rattle.std.specs.Option.{option_map}
 use Rattle.ring_box.specs.declared.vectors.CellBits.{CellBits}
 use Rattle.cell_tiles.specs.Cells.{are_near, cells_of, numbers_below}
-use Rattle.cell_tiles.specs.Tiles.{tiles_of, tiles_with}
+use Rattle.cell_tiles.specs.Tiles.{AreFar, tiles_of, tiles_with}
 use Rattle.cell_tiles.proofs.CountLemmas.{below_more, below_suc, below_zero, one_filtered}
 
 -- the tiles of the cell d with the cells below n, and those of the cells below n with the cells up to them
@@ -38,9 +38,17 @@ with_more bits d n b e =
 pub with_near : (bits : CellBits) (d n : ℕ) (ts : List (ℕ × ℕ)) → are_near bits n d ≡ true → (ts ++ with_below bits d n) ++ (n, d) ∷ [] ≡ ts ++ with_below bits d (n + 1)
 with_near bits d n ts e = append_assoc ts (with_below bits d n) ((n, d) ∷ []) ∙ ap (λ us. ts ++ us) (sym (with_more bits d n true e))
 
--- a cell that is not near d makes none
-pub with_far : (bits : CellBits) (d n : ℕ) (ts : List (ℕ × ℕ)) → are_near bits n d ≡ false → ts ++ with_below bits d n ≡ ts ++ with_below bits d (n + 1)
-with_far bits d n ts e = ap (λ us. ts ++ us) (sym (with_more bits d n false e ∙ append-nil (with_below bits d n)))
+-- cells that aren't near d make none, one after another
+far_run : (bits : CellBits) (d n k : ℕ) → AreFar bits d n (n + k) → with_below bits d n ≡ with_below bits d (n + k)
+far_run bits d n zero far = ap (with_below bits d) (omega arith)
+far_run bits d n (suc k) far =
+    far_run bits d n k (λ e le lt. far e le (omega arith))
+    ∙ (sym (with_more bits d (n + k) false (far (n + k) (omega arith) (omega arith)) ∙ append-nil (with_below bits d (n + k))) ∙ ap (with_below bits d) (omega arith))
+
+pub with_run : (bits : CellBits) (d n m : ℕ) (ts : List (ℕ × ℕ)) → n < m → AreFar bits d n m → ts ++ with_below bits d n ≡ ts ++ with_below bits d m
+with_run bits d n m ts le far =
+    let end : n + (m - n) ≡ m = omega arith in
+    ap (λ us. ts ++ us) (far_run bits d n (m - n) (λ e p q. far e p (omega arith)) ∙ ap (with_below bits d) end)
 
 -- with the cells up to d all tiles of d are there
 pub with_all : (bits : CellBits) (d : ℕ) → with_below bits d (d + 1) ≡ tiles_with bits d

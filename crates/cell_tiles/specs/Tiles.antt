@@ -1,5 +1,5 @@
 -- Tiles: two neighbouring cells, or a cell with itself; and the pairs of atoms that lie in them.
-use Rattle.std.specs.Prelude.{ℕ, zero, suc, ◌==◌, nat_lt, if◌then◌else◌, List, [], ◌++◌, length, map, filter, take, flat_map, slice_index, slice_index_or}
+use Rattle.std.specs.Prelude.{ℕ, zero, suc, ◌==◌, ◌≡◌, ◌<◌, ◌≤◌, false, nat_lt, if◌then◌else◌, List, [], ◌++◌, length, map, filter, take, flat_map, slice_index, slice_index_or}
 use Rattle.ring_box.specs.declared.vectors.CellBits.{CellBits}
 use Rattle.ring_box.specs.declared.vectors.Place3.{Place3}
 use Rattle.cell_tiles.specs.Cells.{are_near, cells_of, members_of, numbers_below}
@@ -7,6 +7,10 @@ use Rattle.cell_tiles.specs.Cells.{are_near, cells_of, members_of, numbers_below
 -- the tiles of a cell with the cells up to it: two cells, the lower number first
 abbrev pub tiles_with : CellBits → ℕ → List (ℕ × ℕ)
 tiles_with bits d = map (λ c. (c, d)) (filter (λ c. are_near bits c d) (numbers_below (suc d)))
+
+-- no cell from c up to e, e left out, is near d
+abbrev pub AreFar : CellBits → ℕ → ℕ → ℕ → Type 0
+AreFar bits d c e = (k : ℕ) → c ≤ k → k < e → are_near bits k d ≡ false
 
 -- all tiles, each once
 abbrev pub tiles_of : CellBits → List (ℕ × ℕ)

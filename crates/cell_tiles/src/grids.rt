@@ -1,7 +1,8 @@
 //! How a box is cut into cells, and the number of each cell.
 
-ghost use Rattle.std.specs.Prelude.{◌≡◌, ◌^◌, ◌<◌, ◌≤◌};
+ghost use Rattle.std.specs.Prelude.{◌≡◌, ◌^◌, ◌<◌, ◌≤◌, false};
 ghost use Rattle.cell_tiles.specs.Cells.{IsBits, IsGrid, are_near, cell_number, cells_of, numbers_of};
+ghost use Rattle.cell_tiles.specs.Tiles.{AreFar};
 ghost use Rattle.ring_box.specs.Acting.{AreCellNumbers};
 ghost use Rattle.ring_box.specs.Places.{ArePlaces};
 
@@ -78,5 +79,29 @@ impl Grid {
         let c = self.numbers(c);
         let d = self.numbers(d);
         are_near_cells(x, c.x, d.x) && are_near_cells(y, c.y, d.y) && are_near_cells(z, c.z, d.z)
+    }
+
+    // The next cell that may be near `d`, after a cell `c` that isn't. A slab and a row with none that is near are passed
+    // over at once.
+    pub(crate) fn past_far(&self, c: u32, d: u32) -> u32
+        requires order { c ≤ d }
+        requires d { d < cells_of self.now.bits }
+        requires far { are_near self.now.bits c d ≡ false }
+        ensures after { c < result }
+        ensures order { result ≤ d }
+        ensures far { AreFar self.now.bits d c result }
+    {
+        let CellBits { x, y, .. } = self.bits;
+        let rows = along(y);
+        let columns = along(self.bits.z);
+        let here = self.numbers(c);
+        let other = self.numbers(d);
+        if !are_near_cells(x, here.x, other.x) {
+            (here.x + 1) * rows * columns
+        } else if !are_near_cells(y, here.y, other.y) {
+            (c / columns + 1) * columns
+        } else {
+            c + 1
+        }
     }
 }

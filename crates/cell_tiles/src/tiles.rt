@@ -33,12 +33,16 @@ fn add_tiles_with<A: Allocator + Copy>(
     ensures { OnOk result (map (λ t. (t.first, t.second)) tiles.new.items
         ≡ map (λ t. (t.first, t.second)) tiles.old.items ++ tiles_with grid.now.bits d) }
 {
-    for c in 0..d + 1 {
+    let mut c = 0;
+    while c <= d {
         if grid.are_near(c, d) {
             tiles.push(Tile {
                 first: c,
                 second: d,
             })?;
+            c += 1;
+        } else {
+            c = grid.past_far(c, d);
         }
     }
     Ok(())

@@ -1,6 +1,6 @@
 -- Sums of whole numbers: over a list in parts, over lists in which each element stands as often, and what they don't
 -- pass.
-use Rattle.std.proofs.Common.{◌≡◌, ℕ, suc, ◌+◌, ◌<◌, ◌≤◌, List, [], ◌∷◌, ◌++◌, length, take, get_or, sum_by, ℤ, pos, negsuc, ◌+ℤ◌, inl, inr, arith, refl, ap, ap₂, ◌∙◌}
+use Rattle.std.proofs.Common.{◌≡◌, ℕ, suc, ◌+◌, ◌<◌, ◌≤◌, List, [], ◌∷◌, ◌++◌, length, take, get_or, sum_by, ℤ, pos, negsuc, ◌+ℤ◌, inl, inr, arith, refl, ap, ◌∙◌}
 use Rattle.std.specs.Prelude.{slice_index_or, unsigned_abs}
 use Rattle.std.proofs.lemmas.Bool.{cases_lt}
 use Rattle.std.proofs.lemmas.Grind.{take_at_read}
@@ -38,10 +38,6 @@ module _ {X : Type 0} (f : X → ℤ) where
   pub over_append : (xs ys : List X) → sum_over f (xs ++ ys) ≡ sum_over f xs +ℤ sum_over f ys
   over_append [] ys = omega (arith, ints)
   over_append (x ∷ xs) ys = let rest : sum_over f (xs ++ ys) ≡ sum_over f xs +ℤ sum_over f ys = over_append xs ys in omega (arith, ints)
-
-  pub over_same : (g : X → ℤ) (xs : List X) → ((x : X) → f x ≡ g x) → sum_over f xs ≡ sum_over g xs
-  over_same g [] h = refl
-  over_same g (x ∷ xs) h = ap₂ (λ a b. a +ℤ b) (h x) (over_same g xs h)
 
   -- a sum so far with the next element
   pub over_next : (xs : List X) (i : ℕ) (d : X) (sum v new : ℤ) → i < length xs → sum ≡ sum_over f (take i xs) → v ≡ f (get_or xs i d) → new ≡ sum +ℤ v → new ≡ sum_over f (take (i + 1) xs)

@@ -20,12 +20,12 @@ use Rattle.ring_box.specs.Acting.{between}
 use Rattle.ring_box.specs.Cells.{NearAreNeighbours}
 use Rattle.ring_box.specs.Distances.{is_near, square_of}
 use Rattle.ring_box.specs.Forces.{acting_distance_of, taken_distance_of}
-use Rattle.ring_box.specs.Places.{ArePlaces}
+use Rattle.ring_box.specs.Places.{ArePlaces, places_of}
 use Rattle.ring_box.specs.declared.vectors.Place3.{Place3}
 use Rattle.tile_round.specs.Tiles.{acting}
 use Rattle.integrator.proofs.ForceLaws.{ArePairsOf, frame_pairs, pairs_parts}
 use Rattle.integrator.specs.Forces.{pairs_from, pairs_of, pairs_with}
-use Rattle.integrator.specs.Frames.{Frame, places_of}
+use Rattle.integrator.specs.Frames.{Frame}
 use Rattle.integrator.specs.declared.systems.System.{System}
 use Rattle.engine.proofs.EnergySumLaws.{over_append, over_tiles}
 use Rattle.potential.proofs.PotentialLaws.{HasNumber, small_parts}

@@ -2,8 +2,9 @@
 use Rattle.std.proofs.Common.{◌≡◌, ℕ, ◌-◌, ◌*◌, ◌^◌, ◌≤◌, Bool, true, false, List, ℤ, pos, negsuc, ◌+ℤ◌, ◌-ℤ◌, ◌≤ℤ◌, Some, None, Ok, Err, arith, refl, ap, sym, ◌∙◌, ◌<◌, length}
 use Rattle.std.specs.Prelude.{nat_lt, is_none}
 use Rattle.std.proofs.lemmas.Int.{ints}
-use Rattle.std.proofs.lemmas.Bool.{lt-ltb, ltb-false, ltb-true}
+use Rattle.std.proofs.lemmas.Bool.{ltb-false, ltb-true}
 use Rattle.fixed.specs.Arithmetic.{in_range}
+use Rattle.fixed.proofs.IntegerLaws.{in_range_between}
 use Rattle.energy_program.specs.Faults as energies
 use Rattle.energy_program.specs.declared.faults.ExprFault.{ExprFault}
 use Rattle.job.specs.Views as jobs
@@ -79,21 +80,9 @@ unstarted w n e (step.Memory done) fits h = rw h (omega arith, went_nowhere w e 
 
 -- ---- some of the steps
 
-upper : (m : ℕ) (c : ℤ) → in_range c ≡ true → pos m ≤ℤ c → in_range (pos m) ≡ true
-upper m (pos k) h l = let b = ltb-true k (2 ^ 63) h in lt-ltb m (2 ^ 63) (omega (arith, ints))
-upper m (negsuc k) h l = absurd (omega (arith, ints))
-
-lower : (m : ℕ) (a : ℤ) → in_range a ≡ true → a ≤ℤ negsuc m → in_range (negsuc m) ≡ true
-lower m (negsuc j) h l = let b = ltb-true j (2 ^ 63) h in lt-ltb m (2 ^ 63) (omega (arith, ints))
-lower m (pos j) h l = absurd (omega (arith, ints))
-
-between : (a b c : ℤ) → in_range a ≡ true → in_range c ≡ true → a ≤ℤ b → b ≤ℤ c → in_range b ≡ true
-between a (pos m) c h k l u = upper m c k u
-between a (negsuc m) c h k l u = lower m a h l
-
 fits_between : (w : Direction) (z : ℤ) (k n : ℕ) → in_range z ≡ true → in_range (counter_at w z n) ≡ true → k ≤ n → in_range (counter_at w z k) ≡ true
-fits_between Forward z k n h f l = between z (z +ℤ pos k) (z +ℤ pos n) h f (omega (arith, ints)) (omega (arith, ints))
-fits_between Back z k n h f l = between (z -ℤ pos n) (z -ℤ pos k) z f h (omega (arith, ints)) (omega (arith, ints))
+fits_between Forward z k n h f l = in_range_between z (z +ℤ pos k) (z +ℤ pos n) h f (omega (arith, ints)) (omega (arith, ints))
+fits_between Back z k n h f l = in_range_between (z -ℤ pos n) (z -ℤ pos k) z f h (omega (arith, ints)) (omega (arith, ints))
 
 -- where the counter fits after all steps it does after some of them
 pub counter_reached : (w : Direction) (z : ℤ) (k n : ℕ) → in_range z ≡ true → k ≤ n → is_none (counter_after w z n) ≡ false → counter_after w z k ≡ Some (counter_at w z k)

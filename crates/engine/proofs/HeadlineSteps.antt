@@ -15,12 +15,12 @@ use Rattle.job.specs.Values.{JobValue, TypeValue}
 use Rattle.state.specs.StateText.{StateView}
 use Rattle.ring_box.specs.Distances.{square_of, x_separation, y_separation, z_separation}
 use Rattle.ring_box.specs.Forces.{acting_distance_of, force_along_of, line_force_of, no_force}
-use Rattle.ring_box.specs.Places.{nowhere}
+use Rattle.ring_box.specs.Places.{nowhere, places_of}
 use Rattle.ring_box.specs.declared.boxes.RingBox.{RingBox}
 use Rattle.ring_box.specs.declared.vectors.Force.{Force}
 use Rattle.ring_box.specs.declared.vectors.Place3.{Place3}
 use Rattle.integrator.specs.Forces.{force_or_none, numbers_from, pairs_of, plus, share_of, sum_of_shares}
-use Rattle.integrator.specs.Frames.{Dynamics, Frame, Frames, exchanged, force_at, frames, moved_frame, next_frame, next_places, pair_force, places_of, steps_in}
+use Rattle.integrator.specs.Frames.{Dynamics, Frame, Frames, exchanged, force_at, frames, moved_frame, next_frame, next_places, pair_force, steps_in}
 use Rattle.integrator.specs.Starts.{as_written, pair_inputs}
 use Rattle.potential.specs.Tables.{global_values, no_type}
 use Rattle.integrator.specs.States.{counter_at, frames_of}

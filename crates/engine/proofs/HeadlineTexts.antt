@@ -22,8 +22,8 @@ use Rattle.job.specs.Values.{JobValue, TypeValue}
 use Rattle.state.specs.StateText.{AtomView, StateView}
 use Rattle.potential.specs.Energies.{Energy, energy_from, energy_of, job_program}
 use Rattle.ring_box.specs.Cells.{has_room, holds_two, need_of, room_of}
-use Rattle.ring_box.specs.Places.{nowhere}
-use Rattle.integrator.specs.Frames.{Frames, frames, places_of}
+use Rattle.ring_box.specs.Places.{nowhere, places_of}
+use Rattle.integrator.specs.Frames.{Frames, frames}
 use Rattle.integrator.specs.Starts.{are_alike, atom_types, known, ring_of, type_with, unknown_type}
 use Rattle.potential.specs.Tables.{no_type}
 use Rattle.integrator.specs.States.{frames_of, moved_state, nobody, placed, placed_atoms, previous_frame, current_frame}

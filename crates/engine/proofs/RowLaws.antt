@@ -11,7 +11,8 @@ use Rattle.cell_tiles.specs.Near.{AreNear, those_acting}
 use Rattle.tile_round.proofs.ActingLemmas.{acting_append, take_next}
 use Rattle.tile_round.specs.Tiles.{AreNextActing, IsPairOf, acting}
 use Rattle.tile_round.specs.declared.work.PairAdd.{PairAdd}
-use Rattle.integrator.specs.Frames.{Frame, places_of}
+use Rattle.ring_box.specs.Places.{places_of}
+use Rattle.integrator.specs.Frames.{Frame}
 use Rattle.integrator.specs.declared.systems.System.{System}
 use Rattle.engine.specs.Rounds.{add_of, pair_add}
 use Rattle.engine.specs.Rows.{AreNextFound, IsFound, IsSlope, add_found, ask_of, found_of, reach_of}

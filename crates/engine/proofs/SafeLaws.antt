@@ -12,7 +12,8 @@ use Rattle.ring_box.specs.Forces.{IsWithin, acting_distance_of, force_along_of, 
 use Rattle.ring_box.proofs.ForceLemmas.{max_high, max_low}
 use Rattle.integrator.proofs.BoundLaws.{along_within, none_within, within-weaker}
 use Rattle.line_text.proofs.StepLaws.{none_is_no_some}
-use Rattle.integrator.specs.Frames.{Frame, force_at, pair_force, places_of}
+use Rattle.ring_box.specs.Places.{places_of}
+use Rattle.integrator.specs.Frames.{Frame, force_at, pair_force}
 use Rattle.potential.specs.Potentials.{minus, potential_of, slope_at}
 use Rattle.potential.proofs.PotentialLaws.{HasNumber, has_slope, minus_is}
 use Rattle.engine.specs.SafeSystems.{IsSafeSystem, safe_dynamics}

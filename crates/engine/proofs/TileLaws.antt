@@ -17,7 +17,7 @@ use Rattle.cell_tiles.proofs.SumLemmas.{sums_as_all}
 use Rattle.ring_box.specs.Cells.{NearAreNeighbours, are_neighbours}
 use Rattle.ring_box.specs.Distances.{is_near, square_of}
 use Rattle.ring_box.specs.Forces.{acting_distance_of, force_along_of, taken_distance_of}
-use Rattle.ring_box.specs.Places.{ArePlaces}
+use Rattle.ring_box.specs.Places.{ArePlaces, places_of}
 use Rattle.ring_box.specs.declared.vectors.CellBits.{CellBits}
 use Rattle.ring_box.specs.declared.vectors.Force.{Force}
 use Rattle.tile_pool.specs.Totals.{AreTotals}
@@ -28,7 +28,7 @@ use Rattle.tile_round.specs.Tiles as round
 use Rattle.tile_round.specs.declared.work.PairAdd.{PairAdd}
 use Rattle.line_text.proofs.StepLaws.{none_is_no_some}
 use Rattle.integrator.specs.Forces.{pairs_from, pairs_of, pairs_with}
-use Rattle.integrator.specs.Frames.{Frame, pair_force, places_of}
+use Rattle.integrator.specs.Frames.{Frame, pair_force}
 use Rattle.integrator.specs.declared.systems.System.{System}
 use Rattle.engine.proofs.RoundLaws.{AddsForce, round_forces, weight}
 use Rattle.engine.proofs.SafeLaws.{bound_fits, forced, has_force, slopes}

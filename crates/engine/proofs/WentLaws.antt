@@ -8,7 +8,8 @@ use Rattle.std.proofs.lemmas.Option.{same_Some}
 use Rattle.state.specs.StateText.{AtomView, StateView}
 use Rattle.ring_box.specs.Forces.{no_force}
 use Rattle.ring_box.specs.declared.vectors.Force.{Force}
-use Rattle.integrator.specs.Frames.{Dynamics, Frame, Frames, frame_forces, frames, moved_frame, next_frame, next_places, opposite, places_of, step_in, steps_in}
+use Rattle.ring_box.specs.Places.{places_of}
+use Rattle.integrator.specs.Frames.{Dynamics, Frame, Frames, frame_forces, frames, moved_frame, next_frame, next_places, opposite, step_in, steps_in}
 use Rattle.fixed.specs.Arithmetic.{in_range}
 use Rattle.fixed.proofs.IntegerLaws.{in_range_is}
 use Rattle.integrator.specs.States.{counter_at, frames_of, moved_state}

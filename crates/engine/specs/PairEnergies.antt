@@ -7,7 +7,8 @@ use Rattle.potential.specs.Energies.{job_tree}
 use Rattle.potential.specs.EnergyKernels.{HasNoEnergyKernel}
 use Rattle.engine.specs.Engines.{EngineView, engine_dynamics, IsEngineOfTexts}
 use Rattle.integrator.specs.Forces.{pairs_of}
-use Rattle.integrator.specs.Frames.{Dynamics, Frame, places_of}
+use Rattle.ring_box.specs.Places.{places_of}
+use Rattle.integrator.specs.Frames.{Dynamics, Frame}
 use Rattle.integrator.specs.Starts.{pair_inputs}
 use Rattle.integrator.specs.States.{current_frame}
 use Rattle.potential.specs.declared.faults.EnergyFault.{EnergyFault}

@@ -8,7 +8,8 @@ use Rattle.ring_box.specs.declared.vectors.Force.{Force}
 use Rattle.tile_round.specs.Tiles.{component}
 use Rattle.tile_round.specs.declared.work.PairAdd.{PairAdd}
 use Rattle.integrator.specs.Forces.{numbers_from}
-use Rattle.integrator.specs.Frames.{Frame, frame_forces, places_of}
+use Rattle.ring_box.specs.Places.{places_of}
+use Rattle.integrator.specs.Frames.{Frame, frame_forces}
 use Rattle.integrator.specs.declared.systems.System.{System}
 use Rattle.potential.specs.Potentials.{minus, potential_of, slope_at}
 use Rattle.engine.specs.SafeSystems.{safe_dynamics}

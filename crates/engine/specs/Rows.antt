@@ -7,7 +7,8 @@ use Rattle.kernel_lanes.specs.Flats.{ask_at}
 use Rattle.ring_box.specs.Acting.{Reach, acting_of, force_of}
 use Rattle.tile_round.specs.Tiles.{acting}
 use Rattle.tile_round.specs.declared.work.PairAdd.{PairAdd}
-use Rattle.integrator.specs.Frames.{Frame, places_of}
+use Rattle.ring_box.specs.Places.{places_of}
+use Rattle.integrator.specs.Frames.{Frame}
 use Rattle.integrator.specs.declared.systems.System.{System}
 use Rattle.engine.specs.Rounds.{grid_of, pair_add}
 use Rattle.potential.specs.Potentials.{minus, potential_of, slope_at}

@@ -19,3 +19,12 @@ refused_for view seen holds (Err Memory) said causes h = tt
 pub IfOk_of : {X E P : Type 0} (r : Result X E) → P → IfOk r (λ _. P)
 IfOk_of (Ok x) p = p
 IfOk_of (Err e) p = tt
+
+-- A consequence of what a refusal means is one of the failure.
+pub refused_weaker : {R : Type 0} (P Q : R → Type 0) (failure : Failure R) → ((fault : R) → P fault → Q fault) → IfRefused failure P → IfRefused failure Q
+refused_weaker P Q (Refused fault) g h = g fault h
+refused_weaker P Q Memory g h = tt
+
+-- Out of memory says nothing.
+pub refused_memory : {R : Type 0} (P : R → Type 0) (failure : Failure R) → failure ≡ Memory → IfRefused failure P
+refused_memory P failure e = rw e tt

@@ -3,12 +3,12 @@ use Rattle.std.proofs.Common.{◌≡◌, ℕ, zero, suc, ◌+◌, List, length, 
 use Rattle.std.specs.Prelude.{option_map, slice_index}
 use Rattle.std.specs.Option.{option_and_then}
 use Rattle.line_text.proofs.StepLaws.{none_is_no_some}
-use Rattle.integrator.specs.Frames.{AreOfSameAtoms, Dynamics, Frame, Frames, frame_forces, frames, moved_frame, next_at, next_frame, next_places, places_of, step_in, steps_in, exchanged, opposite}
+use Rattle.integrator.specs.Frames.{AreOfSameAtoms, Dynamics, Frame, Frames, frame_forces, frames, moved_frame, next_at, next_frame, next_places, step_in, steps_in, exchanged, opposite}
 use Rattle.integrator.specs.Forces.{numbers_from}
 use Rattle.integrator.proofs.NumberLaws.{length-numbers, made_of_numbers, number_at}
 use Rattle.integrator.proofs.StepLemmas.{there_and_back}
 use Rattle.ring_box.specs.Forces.{no_force}
-use Rattle.ring_box.specs.Places.{ArePlaces, nowhere}
+use Rattle.ring_box.specs.Places.{ArePlaces, nowhere, places_of}
 use Rattle.ring_box.proofs.PlaceLemmas.{place_below}
 use Rattle.ring_box.specs.declared.vectors.Force.{Force}
 use Rattle.ring_box.specs.declared.vectors.Place3.{Place3}

@@ -4,12 +4,12 @@ use Rattle.std.specs.Prelude.{map}
 use Rattle.std.proofs.lemmas.List.{get_or-map, get_or-set_same, get_or-set_other}
 use Rattle.std.proofs.lemmas.Simd.{map-map}
 use Rattle.std.proofs.lemmas.Bool.{cases_eq}
-use Rattle.ring_box.specs.Places.{nowhere}
+use Rattle.ring_box.specs.Places.{nowhere, places_of}
 use Rattle.state.specs.StateText.{AtomView, StateView}
 use Rattle.state.specs.StateViews.{atom_view}
 use Rattle.state.specs.declared.states.Atom.{Atom}
 use Rattle.integrator.specs.Forces.{numbers_from}
-use Rattle.integrator.specs.Frames.{Frames, frames, places_of}
+use Rattle.integrator.specs.Frames.{Frames, frames}
 use Rattle.integrator.specs.States.{current_frame, frames_of, moved_state, nobody, placed, placed_at, placed_atoms, previous_frame}
 use Rattle.integrator.proofs.NumberLaws.{length-numbers, made_of_numbers, number_at}
 

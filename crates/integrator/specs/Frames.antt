@@ -10,7 +10,7 @@ use Rattle.ring_box.specs.declared.vectors.Force.{Force}
 use Rattle.ring_box.specs.declared.vectors.Place3.{Place3}
 use Rattle.ring_box.specs.Distances.{square_of}
 use Rattle.ring_box.specs.Forces.{acting_distance_of, force_along_of, no_force}
-use Rattle.ring_box.specs.Places.{ArePlaces, nowhere}
+use Rattle.ring_box.specs.Places.{ArePlaces, places_of}
 use Rattle.integrator.specs.Displacement.{displacement_of, next_place_of}
 use Rattle.integrator.specs.Forces.{forces_of, numbers_from}
 use Rattle.integrator.specs.declared.direction.Direction.{Direction}
@@ -30,10 +30,6 @@ pub record Dynamics : Type 0 where
   pub time_step : ℕ
   pub masses : List ℕ
   pub slope : ℕ × ℕ → ℤ → Option ℤ
-
--- where one atom is
-abbrev pub places_of : Frame → ℕ → Place3
-places_of frame a = slice_index_or frame a nowhere
 
 -- the force on the lower atom of a pair at the places p and q: none where the pair does not act, and along no line
 -- where both atoms are at one place

@@ -1,11 +1,11 @@
 -- A state's two frames, and the state after some steps.
 use Rattle.std.specs.Prelude.{ℕ, ℤ, pos, ◌+ℤ◌, ◌-ℤ◌, List, [], length, map, Option, Some, None, slice_index_or, if◌then◌else◌}
 use Rattle.fixed.specs.Arithmetic.{in_range}
-use Rattle.ring_box.specs.Places.{nowhere}
+use Rattle.ring_box.specs.Places.{nowhere, places_of}
 use Rattle.ring_box.specs.declared.vectors.Place3.{Place3}
 use Rattle.state.specs.StateText.{AtomView, StateView}
 use Rattle.integrator.specs.Forces.{numbers_from}
-use Rattle.integrator.specs.Frames.{Frame, Frames, frames, places_of}
+use Rattle.integrator.specs.Frames.{Frame, Frames, frames}
 use Rattle.integrator.specs.declared.direction.Direction.{Direction}
 use Rattle.integrator.specs.declared.direction.Direction.TheVariants.{Forward, Back}
 

@@ -4,4 +4,3 @@ pub mod Standing
 pub mod Refusals
 pub mod Judgements
 pub mod OneJudgement
-pub mod AttainedLaws

@@ -1,3 +1,2 @@
 pub mod Misfits
 pub mod Meetings
-pub mod Attained

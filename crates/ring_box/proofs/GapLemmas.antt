@@ -16,8 +16,9 @@ use Rattle.ring_box.proofs.ActingLemmas.{idle}
 signed_far : (m r : ℕ) → m < 2 ^ 32 → r ≤ m → r + m ≤ 2 ^ 32 → r ≤ unsigned_abs (signed m)
 signed_far m r p q h = grind (arith, nat_tests)
 
--- from the first of the places on round the ring, x comes behind the last of them
-gap_below : (x y first width r : ℕ) → x < 2 ^ 32 → y < 2 ^ 32 → first ≤ y → y < first + width → width ≤ (x + (2 ^ 32 - first)) % 2 ^ 32 →
+-- from the first of some places on round the ring, x comes behind the last of them: it is as far from each as from the
+-- nearer end
+pub gap_below : (x y first width r : ℕ) → x < 2 ^ 32 → y < 2 ^ 32 → first ≤ y → y < first + width → width ≤ (x + (2 ^ 32 - first)) % 2 ^ 32 →
     r + (width - 1) ≤ (x + (2 ^ 32 - first)) % 2 ^ 32 → r + (x + (2 ^ 32 - first)) % 2 ^ 32 ≤ 2 ^ 32 → r ≤ unsigned_abs (difference x y)
 gap_below x y first width r p q low high out after before =
     elim (cases_lt x first) [

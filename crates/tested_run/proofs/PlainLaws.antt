@@ -17,7 +17,8 @@ use Rattle.line_text.proofs.StepLaws.{none_is_no_some}
 use Rattle.potential.specs.Energies.{Energy}
 use Rattle.tested_run.specs.Outcomes.{where_given}
 use Rattle.integrator.specs.Forces.{plus, share_of, sum_of_shares, pairs_of, force_or_none, forces_of, numbers_from}
-use Rattle.integrator.specs.Frames.{Frame, Frames, force_at, frame_forces, frames, moved_frame, next_frame, pair_force, places_of, step_in, steps_in}
+use Rattle.ring_box.specs.Places.{places_of}
+use Rattle.integrator.specs.Frames.{Frame, Frames, force_at, frame_forces, frames, moved_frame, next_frame, pair_force, step_in, steps_in}
 use Rattle.integrator.specs.Starts.{Start, dynamics_by, pair_inputs, plain, start_at}
 use Rattle.tested_run.specs.TestedStarts.{pair_outcome, tested}
 use Rattle.integrator.specs.States.{frames_of}

@@ -8,7 +8,8 @@ use Rattle.integrator.specs.declared.systems.System.{System}
 use Rattle.tested_run.specs.declared.slope_faults.SlopeFault.{SlopeFault}
 use Rattle.integrator.specs.declared.direction.Direction.{Direction}
 use Rattle.integrator.specs.declared.direction.Direction.TheVariants.{Forward, Back}
-use Rattle.integrator.specs.Frames.{Frame, Frames, places_of, Dynamics, pair_force, steps_in}
+use Rattle.ring_box.specs.Places.{places_of}
+use Rattle.integrator.specs.Frames.{Frame, Frames, Dynamics, pair_force, steps_in}
 use Rattle.integrator.specs.Forces.{pairs_of}
 
 -- the first pair without a force, by the lower index, then by the higher

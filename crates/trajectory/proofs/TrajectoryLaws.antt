@@ -121,10 +121,6 @@ pub none_is : (o : Option ℤ) → is_none o ≡ true → o ≡ None
 none_is None h = refl
 none_is (Some z) h = absurd (false≢true h)
 
--- the counter that is asked of an equal state
-pub counter_of : (w : Direction) (n : ℕ) (s t : StateView) (o : Option ℤ) → o ≡ counter_after w s.step n → s ≡ t → o ≡ counter_after w t.step n
-counter_of w n s t o is same = is ∙ ap (λ (v : StateView). counter_after w v.step n) same
-
 -- a counter that fits after no step
 pub fits_now : (w : Direction) (z : ℤ) → is_none (counter_after w z 0) ≡ false → in_range z ≡ true
 fits_now w z h = subst (λ (x : ℤ). in_range x ≡ true) (counter_stays w z) (counter_fits w z 0 h)

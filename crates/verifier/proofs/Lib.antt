@@ -1,5 +1,4 @@
 pub mod Causes
-pub mod Refusals
 pub mod Joining
 pub mod Within
 pub mod Standing

@@ -2,7 +2,8 @@ use Rattle.std.proofs.Common.{◌≡◌, get_or, length, arith, ap, sym, ◌∙�
 use Rattle.std.specs.Prelude.{map}
 use Rattle.std.proofs.lemmas.List.{length-map, map-set, get_or-map}
 use Rattle.state.specs.StateViews.{atom_view}
-use Rattle.integrator.specs.Frames.{frames, places_of}
+use Rattle.ring_box.specs.Places.{places_of}
+use Rattle.integrator.specs.Frames.{frames}
 use Rattle.integrator.specs.States.{nobody, placed, placed_at}
 use Rattle.integrator.proofs.NumberLaws.{made_of_numbers}
 use Rattle.integrator.proofs.StateLaws.{kept_more, placed_more}

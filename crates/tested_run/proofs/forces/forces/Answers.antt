@@ -2,7 +2,8 @@ use Rattle.std.proofs.Common.{◌≡◌, ◌≤◌, ◌^◌, ◌-◌, ◌*◌, l
 use Rattle.std.proofs.lemmas.Result.{on_ok_weaker, MatchResult-weaker}
 use Rattle.integrator.specs.Forces.{pairs_of, forces_of}
 use Rattle.tested_run.specs.Adding.{with_pairs}
-use Rattle.integrator.specs.Frames.{pair_force, places_of}
+use Rattle.ring_box.specs.Places.{places_of}
+use Rattle.integrator.specs.Frames.{pair_force}
 use Rattle.integrator.specs.Systems.{dynamics_of}
 use Rattle.ring_box.specs.Forces.{acting_distance_of, no_force}
 use Rattle.std.specs.Prelude.{slice_index}

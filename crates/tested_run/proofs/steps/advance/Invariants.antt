@@ -1,5 +1,6 @@
 use Rattle.std.proofs.Common.{◌≡◌, ℕ, ◌<◌, ◌≤◌}
-use Rattle.integrator.specs.Frames.{next_at, places_of}
+use Rattle.ring_box.specs.Places.{places_of}
+use Rattle.integrator.specs.Frames.{next_at}
 use Rattle.integrator.specs.Systems.{dynamics_of}
 use Rattle.tested_run.proofs.steps.advance.Given as goal
 

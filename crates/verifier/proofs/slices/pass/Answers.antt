@@ -5,7 +5,7 @@ use Rattle.kernel_code.proofs.Runs.{instruction_at}
 use Rattle.verifier.specs.Frames.{IsPlain}
 use Rattle.verifier.specs.Places.{Stops, StopsAt}
 use Rattle.verifier.proofs.Attaining.{at_hand, height_behind, meets, plain_next}
-use Rattle.verifier.proofs.Refusals.{refused_memory, refused_weaker}
+use Rattle.fallible.proofs.FailureLaws.{refused_memory, refused_weaker}
 use Rattle.verifier.proofs.Joining.{branch_within, jump_within}
 use Rattle.verifier.proofs.Standing.{stands_branch, stands_jump, stands_past, stands_plain, stops_at}
 use Rattle.verifier.proofs.slices.pass.Goals as goal

@@ -3,7 +3,7 @@ use Rattle.kernel_code.specs.Code.{IsCode}
 use Rattle.verifier.specs.Safety.{IsRefusal}
 use Rattle.verifier.specs.Verdicts.{IsVerdict, range}
 use Rattle.verifier.specs.declared.faults.VerifyFault.{VerifyFault}
-use Rattle.verifier.proofs.Refusals.{refused_weaker}
+use Rattle.fallible.proofs.FailureLaws.{refused_weaker}
 use Rattle.verifier.proofs.OneVerdict.{verdict_same}
 use Rattle.verifier.proofs.Soundness.{accepted_is_safe, refused_is_wrong}
 use Rattle.verifier.proofs.verified.verify.Goals as goal
