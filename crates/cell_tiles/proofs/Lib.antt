@@ -9,5 +9,7 @@ pub mod TileLemmas
 pub mod CoverLemmas
 pub mod SumLemmas
 pub mod WalkLemmas
+pub mod BlockLemmas
+pub mod LaneLemmas
+pub mod ListLemmas
 pub mod NearLemmas
-pub mod MarkedLemmas

@@ -1,10 +1,10 @@
 -- The pairs of a tile that may act, as they are listed.
-use Rattle.std.proofs.Common.{◌≡◌, ℕ, zero, suc, ◌+◌, ◌<◌, ◌≤◌, Bool, true, false, List, [], ◌∷◌, ◌++◌, length, get_or, set, take, drop, map, filter, None, inl, inr, refl, subst, sym, ap, ◌∙◌, arith, eqb, eqb-true, length-append, length-drop}
+use Rattle.std.proofs.Common.{◌≡◌, ℕ, zero, suc, ◌+◌, ◌<◌, ◌≤◌, Bool, true, false, List, [], ◌∷◌, ◌++◌, length, get_or, take, drop, filter, None, inl, inr, refl, subst, sym, ap, ◌∙◌, arith, eqb, eqb-true, length-append, length-drop}
 use Rattle.std.specs.Prelude.{nat_lt}
 use Rattle.std.specs.List.{All}
 use Rattle.std.proofs.lemmas.Bool.{cases_Bool}
-use Rattle.std.proofs.lemmas.List.{append_assoc, drop-append-le, drop-drop, drop-map, drop_all, get_or-map, get_or_append_left, length-map, map-append, take-append-drop, take_more, take_more_set}
-use Rattle.std.proofs.lemmas.List.Elements.{All-drop, All-from_get_or, All-get_or, All-push, All-take, All-weaker, filter-append, filter_passes}
+use Rattle.std.proofs.lemmas.List.{append_assoc, drop-append-le, drop-drop, drop_all, get_or-map, get_or_append_left, length-map, take-append-drop}
+use Rattle.std.proofs.lemmas.List.Elements.{All-drop, All-from_get_or, All-get_or, All-take, All-weaker, filter-append, filter_passes}
 use Rattle.ring_box.specs.Acting.{AreInCell, Reach, acting_of}
 use Rattle.ring_box.specs.Places.{ArePlaces, places_of}
 use Rattle.ring_box.specs.declared.boxes.RingBox.{RingBox}
@@ -59,19 +59,6 @@ module _ (acts : ℕ × ℕ → Bool) where
   none_left (suc n) [] h = refl
   none_left (suc n) (p ∷ ps) h = rw (h 0 (omega arith)) (none_left n ps (λ j lt. h (suc j) (omega arith)))
 
-  -- the next pair is listed
-  pub listed_next : {X : Type 0} (pair : X → ℕ × ℕ) (xs : List X) (x : X) (count : ℕ) (old ps : List (ℕ × ℕ)) (j : ℕ) → count < length xs → j < length ps → pair x ≡ get_or ps j (0, 0)
-      → filter acts (map pair (take count xs)) ≡ filter acts old ++ filter acts (take j ps) → filter acts (map pair (take (count + 1) (set xs count x))) ≡ filter acts old ++ filter acts (take (j + 1) ps)
-  listed_next pair xs x count old ps j room lt is before =
-      ap (λ ys. filter acts (map pair ys)) (take_more_set xs count x room)
-      ∙ (ap (filter acts) (map-append pair (take count xs) (x ∷ []))
-      ∙ (filter-append acts (map pair (take count xs)) (pair x ∷ [])
-      ∙ (ap (λ ys. ys ++ filter acts (pair x ∷ [])) before
-      ∙ (append_assoc (filter acts old) (filter acts (take j ps)) (filter acts (pair x ∷ []))
-      ∙ ap (λ ys. filter acts old ++ ys)
-      (ap (λ p. filter acts (take j ps) ++ filter acts (p ∷ [])) is
-      ∙ (sym (filter-append acts (take j ps) (get_or ps j (0, 0) ∷ [])) ∙ ap (filter acts) (sym (take_more ps j (0, 0) lt))))))))
-
   -- some of a row are come past
   come_past : (ps near new row rest : List (ℕ × ℕ)) (k next seen : ℕ) → drop next ps ≡ row ++ rest → seen ≤ length row → filter acts new ≡ filter acts near ++ filter acts (take seen row)
       → filter acts (drop k ps) ≡ filter acts near ++ filter acts (drop next ps) → filter acts (drop k ps) ≡ filter acts new ++ filter acts (drop (next + seen) ps)
@@ -82,11 +69,6 @@ module _ (acts : ℕ × ℕ → Bool) where
       before
       ∙ (ap (λ ys. filter acts near ++ ys) (ap (filter acts) (here ∙ split) ∙ filter-append acts (take seen row) (drop (next + seen) ps))
       ∙ (sym (append_assoc (filter acts near) (filter acts (take seen row)) (filter acts (drop (next + seen) ps))) ∙ ap (λ ys. ys ++ filter acts (drop (next + seen) ps)) (sym listed)))
-
--- one pair more
-pub all_listed : {X : Type 0} (P : ℕ × ℕ → Type 0) (pair : X → ℕ × ℕ) (xs : List X) (x : X) (count : ℕ) → count < length xs → All P (map pair (take count xs)) → P (pair x) → All P (map pair (take (count + 1) (set xs count x)))
-all_listed P pair xs x count room all one =
-    rw (take_more_set xs count x room, map-append pair (take count xs) (x ∷ [])) (All-push P (map pair (take count xs)) (pair x) all one)
 
 -- ---- rows
 
@@ -125,24 +107,3 @@ members_lie bits frame c h =
 -- so has each of some of them
 pub part_lies : (P : ℕ → Type 0) (xs ys : List ℕ) (from count : ℕ) → xs ≡ take count (drop from ys) → All P ys → All P xs
 part_lies P xs ys from count part all = rw part (All-take P count (drop from ys) (All-drop P from ys all))
-
--- ---- places beside atoms
-
--- the places of the atoms of a cell
-pub places_at : (f : ℕ → Place3) (members : List (List ℕ)) (c : ℕ) → get_or (map (map f) members) c [] ≡ map f (members_at members c)
-places_at f [] c = refl
-places_at f (m ∷ members) zero = refl
-places_at f (m ∷ members) (suc c) = places_at f members c
-
--- the places that are kept of a cell are those of its atoms
-pub cell_places : (f : ℕ → Place3) (members : List (List ℕ)) (places : List (List Place3)) (c : ℕ) (kept : List Place3) → kept ≡ get_or places c [] → places ≡ map (map f) members → kept ≡ map f (members_at members c)
-cell_places f members places c kept is are = is ∙ (ap (λ ps. get_or ps c []) are ∙ places_at f members c)
-
-take_map : (f : ℕ → Place3) (n : ℕ) (xs : List ℕ) → take n (map f xs) ≡ map f (take n xs)
-take_map f zero xs = refl
-take_map f (suc n) [] = refl
-take_map f (suc n) (x ∷ xs) = ap (λ ys. f x ∷ ys) (take_map f n xs)
-
--- those of some of them
-pub part_places : (f : ℕ → Place3) (xs ys : List ℕ) (from count : ℕ) → xs ≡ take count (drop from ys) → take count (drop from (map f ys)) ≡ map f xs
-part_places f xs ys from count part = ap (take count) (drop-map f from ys) ∙ (take_map f count (drop from ys) ∙ ap (map f) (sym part))

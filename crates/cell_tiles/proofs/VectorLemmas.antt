@@ -2,20 +2,11 @@
 use Rattle.std.proofs.Common.{◌≡◌, ℕ, ◌+◌, ◌<◌, ◌≤◌, List, [], ◌∷◌, ◌++◌, length, map, get_or, set, take, replicate, Result, Ok, Err, sym, ap, subst, ◌∙◌, arith}
 use Rattle.std.specs.Prelude.{OnErr}
 use Rattle.std.specs.List.{All}
-use Rattle.std.proofs.lemmas.List.{get_or-map, length-map, length-replicate, map-set, replicate_more, set-get_or, take_all, take_more, take_more_set}
+use Rattle.std.proofs.lemmas.List.{get_or-map, length-map, length-replicate, map-set, replicate_more, set-get_or, take_all, take_more_set}
 use Rattle.std.proofs.lemmas.List.Elements.{All-get_or, All-replicate, All-same}
 use Rattle.cell_tiles.specs.Tiles.{members_at}
 
 module _ {T E : Type 0} (view : T → List E) where
-  -- one list more is as wanted, behind those that are
-  pub laid_more : (xs : List T) (ws : List (List E)) (i : ℕ) (y : T) → i < length xs → i < length ws → view y ≡ get_or ws i [] → take i (map view xs) ≡ take i ws → take (i + 1) (map view (set xs i y)) ≡ take (i + 1) ws
-  laid_more xs ws i y lt inside e h =
-      let l : length (map view xs) ≡ length xs = length-map xs view in
-      ap (take (i + 1)) (map-set view xs i y)
-      ∙ (take_more_set (map view xs) i (view y) (omega arith)
-      ∙ (ap (λ z. take i (map view xs) ++ z ∷ []) e
-      ∙ (ap (λ zs. zs ++ get_or ws i [] ∷ []) h ∙ sym (take_more ws i [] inside))))
-
   -- there are as many lists as empty ones are seen
   pub length_empty : (xs : List T) (n : ℕ) → map view xs ≡ replicate n [] → length xs ≡ n
   length_empty xs n e = sym (length-map xs view) ∙ (ap length e ∙ length-replicate n [])

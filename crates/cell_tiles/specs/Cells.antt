@@ -1,7 +1,9 @@
 -- The cells of a box, each by one number, and the atoms in them (GROMACS manual, Neighbor searching, grid search).
-use Rattle.std.specs.Prelude.{ℕ, zero, suc, ◌+◌, ◌*◌, ◌/◌, ◌%◌, ◌^◌, ◌==◌, ◌≤◌, Bool, ◌&&◌, List, [], ◌∷◌, ◌++◌, length, map, filter, slice_index_or}
+use Rattle.std.specs.Prelude.{◌≡◌, ℕ, zero, suc, ◌+◌, ◌*◌, ◌/◌, ◌%◌, ◌^◌, ◌==◌, ◌<◌, ◌≤◌, Bool, ◌&&◌, List, [], ◌∷◌, ◌++◌, length, map, filter, slice_index, slice_index_or}
+use Rattle.ring_box.specs.Blocks.{IsLane}
 use Rattle.ring_box.specs.Cells.{are_near_cells, cell_of}
 use Rattle.ring_box.specs.Places.{places_of}
+use Rattle.ring_box.specs.declared.blocks.Block.{Block}
 use Rattle.ring_box.specs.declared.vectors.CellBits.{CellBits}
 use Rattle.ring_box.specs.declared.vectors.CellNumbers.{CellNumbers}
 use Rattle.ring_box.specs.declared.vectors.Place3.{Place3}
@@ -56,12 +58,35 @@ first_members bits frame n = map (members_among bits frame n) (numbers_below (ce
 abbrev pub members_of : CellBits → List Place3 → List (List ℕ)
 members_of bits frame = first_members bits frame (length frame)
 
--- the places of the atoms of each cell, in their order
-abbrev pub member_places : List Place3 → List (List ℕ) → List (List Place3)
-member_places frame members = map (map (places_of frame)) members
+-- ---- blocks beside the atoms
 
--- the atoms of the cells: how the box is cut, the atoms of each cell, and beside each atom its places
+-- the block of a look-up that finds none
+abbrev pub no_block : Block
+no_block = record { x = []; y = []; z = [] }
+
+-- these atoms of a frame have the lanes of a block from the lane `first` on
+abbrev pub AreLanes : List Place3 → Block → ℕ → List ℕ → Type 0
+AreLanes frame block first atoms = (i : ℕ) → i < length atoms → IsLane block (first + i) (places_of frame (slice_index atoms i))
+
+-- they have the lanes of these blocks, sixteen in each, from the lane `first` on
+abbrev pub AreInBlocks : List Place3 → List Block → ℕ → List ℕ → Type 0
+AreInBlocks frame blocks first atoms =
+    (i : ℕ) → i < length atoms → IsLane (slice_index_or blocks ((first + i) / 16) no_block) ((first + i) % 16) (places_of frame (slice_index atoms i))
+
+-- beside these atoms of a frame stand the upper halves of their places, in blocks of sixteen
+pub record AreBlocks (frame : List Place3) (atoms : List ℕ) (blocks : List Block) : Type 0 where
+  pub long : length blocks ≡ (length atoms + 15) / 16
+  pub lanes : AreInBlocks frame blocks 0 atoms
+
+-- the atoms of the cells: how the box is cut, the atoms of each cell, and the blocks beside them
 pub record CellAtoms : Type 0 where
   pub bits : CellBits
   pub members : List (List ℕ)
-  pub places : List (List Place3)
+  pub blocks : List (List Block)
+
+-- so for each of some cells
+abbrev pub AreBlocksOfEach : List Place3 → List (List ℕ) → List (List Block) → Type 0
+AreBlocksOfEach frame members blocks = (c : ℕ) → AreBlocks frame (slice_index_or members c []) (slice_index_or blocks c [])
+
+abbrev pub AreBeside : List Place3 → CellAtoms → Type 0
+AreBeside frame cells = AreBlocksOfEach frame cells.members cells.blocks

@@ -1,9 +1,11 @@
 -- The pairs of a tile that act, listed in order with some that may not.
-use Rattle.std.specs.Prelude.{◌≡◌, ◌<◌, ◌≤◌, ◌++◌, ℕ, zero, suc, Bool, false, is_some, if◌then◌else◌, List, [], ◌∷◌, filter, length, drop, slice_index_or}
+use Rattle.std.specs.Prelude.{◌≡◌, ◌<◌, ◌≤◌, ◌++◌, ◌==◌, ℕ, Bool, is_some, List, filter, length, drop}
+use Rattle.std.specs.Int.{bit_at}
 use Rattle.ring_box.specs.Acting.{Reach, acting_of}
 use Rattle.ring_box.specs.declared.boxes.RingBox.{RingBox}
 use Rattle.ring_box.specs.declared.vectors.Place3.{Place3}
 use Rattle.ring_box.specs.Places.{places_of}
+use Rattle.cell_tiles.specs.Cells.{numbers_below}
 
 -- two atoms of a frame act
 abbrev pub pair_acts : Reach → RingBox → List Place3 → ℕ × ℕ → Bool
@@ -23,7 +25,6 @@ pub record AreNear (d : Reach) (b : RingBox) (frame : List Place3) (pairs : List
   pub within : n ≤ length pairs
   pub acting : those_acting d b frame (drop k pairs) ≡ those_acting d b frame near ++ those_acting d b frame (drop n pairs)
 
--- the numbers below this one of those that are marked
-unfoldable pub marked : List Bool → ℕ → List ℕ
-marked marks zero = []
-marked marks (suc j) = if slice_index_or marks j false then marked marks j ++ (j ∷ []) else marked marks j
+-- the lanes of sixteen whose bits are set, ascending
+unfoldable pub lanes_of : ℕ → List ℕ
+lanes_of bits = filter (λ k. bit_at bits k == 1) (numbers_below 16)

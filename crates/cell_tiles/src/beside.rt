@@ -1,42 +1,55 @@
-//! The places of the atoms of each cell, beside them: so that those of a row of pairs lie one behind the other.
+//! The upper halves of the places of the atoms of each cell, beside them: in blocks of sixteen, which are tested at once.
 
-ghost use Rattle.std.specs.Prelude.{◌≡◌, ◌<◌, length, map, OnOk};
+ghost use Rattle.std.specs.Prelude.{◌≡◌, ℕ, ◌+◌, ◌*◌, ◌<◌, [], length, map, slice_index, slice_index_or, OnOk};
 ghost use Rattle.std.specs.List.{All};
-ghost use Rattle.ring_box.specs.Places.{places_of};
-ghost use Rattle.cell_tiles.specs.Cells.{member_places};
+ghost use Rattle.ring_box.specs.Blocks.{IsLane};
+ghost use Rattle.ring_box.specs.Places.{nowhere, places_of};
+ghost use Rattle.cell_tiles.specs.Cells.{AreBlocks, AreBlocksOfEach, AreLanes};
 
-use ring_box::Place3;
+use ring_box::{Block, Place3};
 use std::alloc::{AllocError, Allocator};
 
-// The places of these atoms of a frame, in place of what was there.
+// The block of these atoms of a frame, the first sixteen at most.
+fn block_of(atoms: &[u32], frame: &[Place3]) -> Block
+    requires { All (λ a. a < length frame.now) atoms.now }
+    ensures { (i : ℕ) → i < 16 → i < length atoms.now → IsLane result i (places_of frame.now (slice_index atoms.now i)) }
+{
+    let mut places = [Place3 { x: 0, y: 0, z: 0 }; 16];
+    for i in 0..atoms.len().min(16) {
+        places[i] = frame[atoms[i] as usize];
+    }
+    Block::of(&places)
+}
+
+// The blocks of these atoms of a frame, in place of what was there.
 fn lay_out<A: Allocator + Copy>(
-    places: &mut Vec<Place3, A>,
+    blocks: &mut Vec<Block, A>,
     atoms: &[u32],
     frame: &[Place3],
 ) -> Result<(), AllocError>
     requires { All (λ a. a < length frame.now) atoms.now }
-    ensures { OnOk result (places.new.items ≡ map (places_of frame.now) atoms.now) }
+    ensures { OnOk result (AreBlocks frame.now atoms.now blocks.new.items) }
 {
-    places.clear();
-    for i in 0..atoms.len() {
-        places.push(frame[atoms[i] as usize])?;
+    blocks.clear();
+    for block in 0..atoms.len().div_ceil(16) {
+        blocks.push(block_of(&atoms[16 * block..], frame))?;
     }
     Ok(())
 }
 
-/// The places of the atoms of each cell, in place of what was there. `AllocError` where memory is refused.
+/// The blocks of the atoms of each cell, in place of what was there. `AllocError` where memory is refused.
 pub(crate) fn lay_out_all<A: Allocator + Copy>(
-    places: &mut Vec<Vec<Place3, A>, A>,
+    blocks: &mut Vec<Vec<Block, A>, A>,
     members: &[Vec<u32, A>],
     frame: &[Place3],
 ) -> Result<(), AllocError>
-    requires cells { length places.old.items ≡ length members.now }
+    requires cells { length blocks.old.items ≡ length members.now }
     requires inside { All (λ m. All (λ a. a < length frame.now) m.items) members.now }
-    ensures value { OnOk result (map (λ p. p.items) places.new.items ≡ member_places frame.now (map (λ m. m.items) members.now)) }
-    ensures cells { length places.new.items ≡ length places.old.items }
+    ensures blocks { OnOk result (AreBlocksOfEach frame.now (map (λ m. m.items) members.now) (map (λ b. b.items) blocks.new.items)) }
+    ensures cells { length blocks.new.items ≡ length blocks.old.items }
 {
     for cell in 0..members.len() {
-        lay_out(&mut places[cell], members[cell].as_slice(), frame)?;
+        lay_out(&mut blocks[cell], members[cell].as_slice(), frame)?;
     }
     Ok(())
 }

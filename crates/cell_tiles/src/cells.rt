@@ -1,27 +1,28 @@
-//! The atoms of each cell, and their places.
+//! The atoms of each cell, and beside them the upper halves of their places.
 
-ghost use Rattle.std.specs.Prelude.{◌≡◌, ◌+◌, ◌^◌, ◌<◌, ◌≤◌, [], ◌∷◌, ◌++◌, drop, length, map, replicate, slice_get, slice_index_or, slice_set, take, Some, IfOk, OnOk, OnErr};
+ghost use Rattle.std.specs.Prelude.{◌≡◌, ◌+◌, ◌^◌, ◌<◌, ◌≤◌, [], ◌∷◌, ◌++◌, drop, length, map, replicate, slice_get, slice_index_or, slice_set, Some, IfOk, OnOk, OnErr};
 ghost use Rattle.std.specs.List.{All};
-ghost use Rattle.cell_tiles.specs.Cells.{CellAtoms, cells_of, first_members, member_places, members_of};
+ghost use Rattle.cell_tiles.specs.Cells.{AreBeside, CellAtoms, cells_of, first_members, members_of};
 ghost use Rattle.cell_tiles.specs.Tiles.{members_at, pairs_in};
 ghost use Rattle.ring_box.specs.Places.{ArePlaces};
 
 use crate::beside::lay_out_all;
 use crate::grids::Grid;
+use crate::lists::PairList;
 use crate::near::{FrameInBox, NearPairs};
 use crate::pairs::{AtomPair, count_among, count_between, pair_among, pair_between};
 use crate::tiles::Tile;
 use crate::walks::{TileRow, TileRows, walk_among, walk_between};
-use ring_box::Place3;
+use ring_box::{Block, Place3};
 use std::alloc::{AllocError, Allocator};
 use std::marker::Model;
 
-/// The atoms of each cell of a grid, ascending, and beside each atom its places.
+/// The atoms of each cell of a grid, ascending, and beside them the upper halves of their places in blocks.
 #[derive(Drop)]
 pub struct Cells<A: Allocator + Copy> {
     grid: Grid,
     members: Vec<Vec<u32, A>, A>,
-    places: Vec<Vec<Place3, A>, A>,
+    blocks: Vec<Vec<Block, A>, A>,
 }
 
 impl<A: Allocator + Copy> Model for Cells<A> {
@@ -31,9 +32,9 @@ impl<A: Allocator + Copy> Model for Cells<A> {
 
     ghost Value = { CellAtoms };
 
-    ghost view = { λ c. record { bits = c.grid.bits; members = map (λ m. m.items) c.members.items; places = map (λ p. p.items) c.places.items } };
+    ghost view = { λ c. record { bits = c.grid.bits; members = map (λ m. m.items) c.members.items; blocks = map (λ b. b.items) c.blocks.items } };
 
-    ghost invariant = { λ c. (length c.members.items ≡ cells_of c.grid.bits) × All (λ m. length m.items ≤ 65536) c.members.items × (length c.places.items ≡ cells_of c.grid.bits) };
+    ghost invariant = { λ c. (length c.members.items ≡ cells_of c.grid.bits) × All (λ m. length m.items ≤ 65536) c.members.items × (length c.blocks.items ≡ cells_of c.grid.bits) };
 }
 
 // Empties each cell, and keeps its memory.
@@ -101,28 +102,28 @@ impl<A: Allocator + Copy> Cells<A> {
         ensures empty { IfOk result (λ c. c.members ≡ replicate (cells_of grid.bits) []) }
     {
         let members = empty_cells(alloc, &grid)?;
-        let places = empty_cells(alloc, &grid)?;
+        let blocks = empty_cells(alloc, &grid)?;
         Ok(Cells {
             grid,
             members,
-            places,
+            blocks,
         })
     }
 
-    /// Puts each atom of a frame, of at most 65,536, into its cell in place of what the cells held, and its places
-    /// beside it. It keeps the memory that the cells have, and answers `AllocError` where more is refused: the cells
+    /// Puts each atom of a frame, of at most 65,536, into its cell in place of what the cells held, and the upper halves
+    /// of its places beside it. It keeps the memory that the cells have, and answers `AllocError` where more is refused: the cells
     /// then hold some of the atoms, and can be filled again.
     pub fn fill(&mut self, frame: &[Place3]) -> Result<(), AllocError>
         requires { length frame.now ≤ 65536 }
         ensures bits { self.new.bits ≡ self.old.bits }
         ensures ok { OnOk result (self.new.members ≡ members_of self.old.bits frame.now) }
-        ensures beside { OnOk result (self.new.places ≡ member_places frame.now self.new.members) }
+        ensures beside { OnOk result (AreBeside frame.now self.new) }
         // What the frame's type says of each atom, at hand for all of them.
         ensures on_ring { OnOk result (All ArePlaces frame.now) }
     {
         clear_all(&mut self.members);
         put_all(&mut self.members, &self.grid, frame)?;
-        lay_out_all(&mut self.places, &self.members, frame)
+        lay_out_all(&mut self.blocks, &self.members, frame)
     }
 
     // The atoms of a cell.
@@ -136,12 +137,12 @@ impl<A: Allocator + Copy> Cells<A> {
         }
     }
 
-    // The places of the atoms of a cell, in their order.
-    fn places(&self, cell: u32) -> &[Place3]
-        ensures { result.now ≡ slice_index_or self.now.places cell [] }
+    // The blocks beside the atoms of a cell.
+    fn blocks(&self, cell: u32) -> &[Block]
+        ensures { result.now ≡ slice_index_or self.now.blocks cell [] }
     {
-        match self.places.get(cell as usize) {
-            Some(places) => places.as_slice(),
+        match self.blocks.get(cell as usize) {
+            Some(blocks) => blocks.as_slice(),
             None => &[],
         }
     }
@@ -189,22 +190,13 @@ impl<A: Allocator + Copy> Cells<A> {
 
 // ---- pairs that act
 
-// The places of what is left of a row, of those of the atoms that it is cut from.
-fn places_beside<'a>(places: &'a [Place3], row: &TileRow<'_>) -> &'a [Place3]
-    requires { row.now.column + length row.now.others.now ≤ length places.now }
-    ensures { result.now ≡ take (length row.now.others.now) (drop row.now.column places.now) }
-{
-    let from = row.column as usize;
-    &places[from..from + row.others.len()]
-}
-
 impl<A: Allocator + Copy> Cells<A> {
-    ghost use Rattle.std.specs.Prelude.{ℕ, ◌≡◌, ◌+◌, ◌<◌, ◌≤◌, ◌++◌, length, take, IsTrue, None};
+    ghost use Rattle.std.specs.Prelude.{ℕ, ◌≡◌, ◌+◌, ◌<◌, ◌≤◌, ◌++◌, drop, length, take, IsTrue, None};
     ghost use Rattle.ring_box.specs.Acting.{acting_of};
     ghost use Rattle.ring_box.specs.Places.{places_of};
-    ghost use Rattle.cell_tiles.specs.Cells.{cell_number, member_places};
+    ghost use Rattle.cell_tiles.specs.Cells.{AreBeside, cell_number, members_of};
     ghost use Rattle.cell_tiles.specs.Near.{AreNear, IsPairOf, those_acting};
-    ghost use Rattle.cell_tiles.specs.Tiles.{pairs_with};
+    ghost use Rattle.cell_tiles.specs.Tiles.{members_at, pairs_with};
 
     // Whether no atom of a cell acts with this one, as far as the ends of the cell tell.
     fn is_cell_far(&self, frame: &FrameInBox, atom: u32, cell: u32) -> bool
@@ -222,60 +214,80 @@ impl<A: Allocator + Copy> Cells<A> {
         )
     }
 
-    // Lists the pairs of an atom with others of a cell that may act, until there is no room, and answers how many of
-    // the pairs it has come past.
+    // Lists the pairs of a row of a tile, or of what is left of one, that may act, until there might be no room. It
+    // answers how many of the pairs it has come past.
     fn list_row(
         &self,
         frame: &FrameInBox,
-        cell: u32,
-        atom: u32,
-        others: &[u32],
-        places: &[Place3],
-        near: &mut NearPairs,
+        tile: Tile,
+        row: &TileRow<'_>,
+        near: &mut PairList,
     ) -> usize
-        requires cell { cell < cells_of self.now.bits }
-        requires there { 0 < length others.now }
-        requires beside { places.now ≡ map (places_of frame.now.places.now) others.now }
-        requires others { All (λ b. cell_number self.now.bits (places_of frame.now.places.now b) ≡ cell) others.now }
-        requires pairs { All (IsPairOf (length frame.now.places.now)) (pairs_with atom others.now) }
+        requires cell { tile.second < cells_of self.now.bits }
+        requires members { self.now.members ≡ members_of self.now.bits frame.now.places.now }
+        requires beside { AreBeside frame.now.places.now self.now }
+        requires there { 0 < length row.now.others.now }
+        requires part { row.now.others.now ≡ take (length row.now.others.now) (drop row.now.column (members_at self.now.members tile.second)) }
+        requires within { row.now.column + length row.now.others.now ≤ length (members_at self.now.members tile.second) }
+        requires pairs { All (IsPairOf (length frame.now.places.now)) (pairs_with row.now.atom row.now.others.now) }
         ensures acting { those_acting frame.now.reach.now frame.now.ring.now frame.now.places.now near.new
-            ≡ those_acting frame.now.reach.now frame.now.ring.now frame.now.places.now near.old ++ those_acting frame.now.reach.now frame.now.ring.now frame.now.places.now (take result (pairs_with atom others.now)) }
+            ≡ those_acting frame.now.reach.now frame.now.ring.now frame.now.places.now near.old ++ those_acting frame.now.reach.now frame.now.ring.now frame.now.places.now (take result (pairs_with row.now.atom row.now.others.now)) }
         ensures listed { All (IsPairOf (length frame.now.places.now)) near.old → All (IsPairOf (length frame.now.places.now)) near.new }
-        ensures within { result ≤ length others.now }
-        ensures onward { length near.old < 64 → 0 < result }
+        ensures within { result ≤ length row.now.others.now }
+        ensures onward { length near.old ≤ 112 → 0 < result }
         ensures few { length near.new ≤ length near.old + result }
     {
-        if self.is_cell_far(frame, atom, cell) {
-            others.len()
-        } else {
-            near.list(frame, atom, others, places)
+        if tile.first != tile.second && self.is_cell_far(frame, row.atom, tile.second) {
+            return row.others.len();
         }
+        let halves = frame.places[row.atom as usize].upper_halves();
+        let blocks = self.blocks(tile.second);
+        near.add_row(
+            frame,
+            row.atom,
+            halves,
+            blocks,
+            row.column as usize,
+            row.others,
+        )
     }
 
-    /// Lists the pairs of a tile that act, from that with the number `k` on, in place of what `near` held: at most 64
-    /// of them, in order, with some that may not act. It answers the number of the pair with which to go on. The
-    /// caller's condition: the cells hold the atoms of the frame, and there is such a pair.
-    pub fn near_from(&self, frame: &FrameInBox, tile: Tile, k: u64, near: &mut NearPairs) -> u64
+    // Lists the pairs of a tile that act, from that with the number `k` on, row by row, in place of what `near` held. It
+    // answers the number of the pair with which to go on.
+    fn near_by_rows(&self, frame: &FrameInBox, tile: Tile, k: u64, near: &mut PairList) -> u64
         requires k { k < length (pairs_in self.now.members (tile.first, tile.second)) }
         requires cell { tile.second < cells_of self.now.bits }
         requires members { self.now.members ≡ members_of self.now.bits frame.now.places.now }
-        requires beside { self.now.places ≡ member_places frame.now.places.now self.now.members }
+        requires beside { AreBeside frame.now.places.now self.now }
         requires pairs { All (IsPairOf (length frame.now.places.now)) (pairs_in self.now.members (tile.first, tile.second)) }
         ensures near { AreNear frame.now.reach.now frame.now.ring.now frame.now.places.now (pairs_in self.now.members (tile.first, tile.second)) k near.new result }
         ensures listed { All (IsPairOf (length frame.now.places.now)) near.new }
     {
         near.clear();
-        let places = self.places(tile.second);
         let mut rows = self.rows_from(tile, k);
         let mut next = k;
         while let Some(row) = rows.next() {
-            let beside = places_beside(places, &row);
-            let seen = self.list_row(frame, tile.second, row.atom, row.others, beside, near);
+            let seen = self.list_row(frame, tile, &row, near);
             next += seen as u64;
             if seen < row.others.len() {
                 return next;
             }
         }
         next
+    }
+
+    /// Lists the pairs of a tile that act, from that with the number `k` on, in place of what `near` held: at most
+    /// 128 of them, in order, with some that may not act. It answers the number of the pair with which to go on. The
+    /// caller's condition: the cells hold the atoms of the frame, and there is such a pair.
+    pub fn near_from(&self, frame: &FrameInBox, tile: Tile, k: u64, near: &mut NearPairs) -> u64
+        requires k { k < length (pairs_in self.now.members (tile.first, tile.second)) }
+        requires cell { tile.second < cells_of self.now.bits }
+        requires members { self.now.members ≡ members_of self.now.bits frame.now.places.now }
+        requires beside { AreBeside frame.now.places.now self.now }
+        requires pairs { All (IsPairOf (length frame.now.places.now)) (pairs_in self.now.members (tile.first, tile.second)) }
+        ensures near { AreNear frame.now.reach.now frame.now.ring.now frame.now.places.now (pairs_in self.now.members (tile.first, tile.second)) k near.new result }
+        ensures listed { All (IsPairOf (length frame.now.places.now)) near.new }
+    {
+        self.near_by_rows(frame, tile, k, &mut near.list)
     }
 }

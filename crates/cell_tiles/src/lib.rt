@@ -5,7 +5,9 @@
 mod beside;
 mod cells;
 mod grids;
+mod lanes;
 mod laws;
+mod lists;
 mod near;
 mod pairs;
 mod tiles;

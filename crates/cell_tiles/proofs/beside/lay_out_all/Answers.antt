@@ -1,32 +1,36 @@
 use Rattle.std.specs.List.{All}
-use Rattle.std.proofs.Common.{◌≡◌, ◌<◌, ◌∙◌, [], ap, arith, get_or, length, length-set, map, sym}
+use Rattle.std.proofs.Common.{◌≡◌, ◌<◌, ◌∙◌, [], ap, arith, get_or, inl, inr, length, length-set, map, sym}
+use Rattle.std.proofs.lemmas.Bool.{cases_lt}
 use Rattle.std.proofs.lemmas.List.{get_or-map, length-map}
 use Rattle.std.proofs.lemmas.List.Elements.{All-get_or}
-use Rattle.ring_box.specs.Places.{places_of}
-use Rattle.cell_tiles.specs.Cells.{member_places}
-use Rattle.cell_tiles.proofs.NearLemmas.{places_at}
-use Rattle.cell_tiles.proofs.VectorLemmas.{laid_more}
+use Rattle.cell_tiles.proofs.BlockLemmas.{cell_more, no_cell}
 use Rattle.cell_tiles.proofs.beside.lay_out_all.Goals as goal
 
 pub loop-cell-preserved : goal.loop-cell-preserved
 loop-cell-preserved g c =
-    let frame = c.args.frame.now in
-    let ms = map (λ m. m.items) c.args.members.now in
+    let members = map (λ m. m.items) c.args.members.now in
     let cell = c.loop-cell.cell in
     let kept = c.loop-cell.invariant in
-    let some : length ms ≡ length c.args.members.now = length-map c.args.members.now (λ m. m.items) in
-    let many : length (member_places frame ms) ≡ length ms = length-map ms (map (places_of frame)) in
-    let there : get_or ms cell [] ≡ c.as_slice.result.now =
+    let there : get_or members cell [] ≡ c.as_slice.result.now =
     get_or-map (λ m. m.items) c.args.members.now cell c.index-members-cell.result [] (omega (arith, c.loop-cell-test.true))
     ∙ sym (c.as_slice.ensures.value ∙ ap (λ m. m.items) c.index-members-cell.is) in
-    let laid = c.in_ok-lay_out.ensures ∙ sym (places_at (places_of frame) ms cell ∙ ap (map (places_of frame)) there) in
     record {
-      laid = laid_more (λ p. p.items) c.loop-cell.places.items (member_places frame ms) cell c.lay_out.new.places
-          (omega (arith, kept.whole, c.requires.cells, c.loop-cell-test.true)) (omega (arith, many, some, c.loop-cell-test.true)) laid kept.laid;
-      whole = length-set c.loop-cell.places.items cell c.lay_out.new.places ∙ kept.whole;
+      blocks = cell_more c.args.frame.now (λ b. b.items) members c.loop-cell.blocks.items cell c.lay_out.new.blocks (omega (arith, kept.whole, c.requires.cells, c.loop-cell-test.true)) (rw there c.in_ok-lay_out.ensures) kept.blocks;
+      whole = length-set c.loop-cell.blocks.items cell c.lay_out.new.blocks ∙ kept.whole;
     }
 
 pub lay_out-requires : goal.lay_out-requires
 lay_out-requires g c =
     let inside = All-get_or (λ m. All (λ a. a < length c.args.frame.now) m.items) c.args.members.now c.loop-cell.cell c.index-members-cell.result (omega (arith, c.loop-cell-test.true)) c.requires.inside in
     rw (c.as_slice.ensures.value, c.index-members-cell.is) inside
+
+pub returns-clause-blocks : goal.returns-clause-blocks
+returns-clause-blocks g c n =
+    let members = map (λ m. m.items) c.args.members.now in
+    let blocks = map (λ b. b.items) c.loop-cell.blocks.items in
+    let many : length members ≡ length c.args.members.now = length-map c.args.members.now (λ m. m.items) in
+    let same : length blocks ≡ length c.loop-cell.blocks.items = length-map c.loop-cell.blocks.items (λ b. b.items) in
+    elim (cases_lt n c.loop-cell.cell) [
+      | inl lt ↦ c.loop-cell.invariant.blocks n lt
+      | inr le ↦ no_cell c.args.frame.now members blocks n (omega (arith, many, c.loop-cell-test.false, le)) (omega (arith, same, c.loop-cell.invariant.whole, c.requires.cells, c.loop-cell-test.false, le))
+    ]

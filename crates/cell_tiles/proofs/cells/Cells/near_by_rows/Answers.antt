@@ -1,14 +1,12 @@
-use Rattle.std.proofs.Common.{◌≡◌, ◌≤◌, ◌+◌, ◌++◌, ap, arith, drop, inl, inr, length, sym, take, ◌∙◌}
+use Rattle.std.proofs.Common.{◌≡◌, ◌≤◌, ◌+◌, ◌++◌, arith, drop, inl, inr, length, sym, ◌∙◌}
 use Rattle.std.proofs.lemmas.Bool.{cases_lt}
 use Rattle.std.proofs.lemmas.List.{length-map}
-use Rattle.ring_box.specs.Places.{places_of}
-use Rattle.cell_tiles.specs.Cells.{cell_number}
 use Rattle.cell_tiles.specs.Near.{IsPairOf, those_acting}
-use Rattle.cell_tiles.specs.Tiles.{members_at, pair_of, pairs_in, pairs_with}
-use Rattle.cell_tiles.proofs.NearLemmas.{cell_places, members_lie, part_lies, part_places, row_all, row_passed, row_seen}
-use Rattle.cell_tiles.proofs.cells.Cells.near_from.Given.{Over}
-use Rattle.cell_tiles.proofs.cells.Cells.near_from.Goals.{After-list_row-seen}
-use Rattle.cell_tiles.proofs.cells.Cells.near_from.Goals as goal
+use Rattle.cell_tiles.specs.Tiles.{pair_of, pairs_in, pairs_with}
+use Rattle.cell_tiles.proofs.NearLemmas.{row_all, row_passed, row_seen}
+use Rattle.cell_tiles.proofs.cells.Cells.near_by_rows.Given.{Over}
+use Rattle.cell_tiles.proofs.cells.Cells.near_by_rows.Goals.{After-list_row-seen}
+use Rattle.cell_tiles.proofs.cells.Cells.near_by_rows.Goals as goal
 
 -- the pairs of a row that were seen are come past
 
@@ -22,30 +20,11 @@ past g c =
     let seen = c.list_row-seen.ensures in
     row_seen _ _ _ _ _ _ _ _ _ _ kept.within (sym kept.rows ∙ c.in-Some.ensures.some) seen.within seen.acting kept.acting
 
-pub list_row-seen-requires-clause-others : goal.list_row-seen-requires-clause-others
-list_row-seen-requires-clause-others g c =
-    let cells = c.args.self.now in
-    let frame = c.args.frame.now.places.now in
-    let lie = rw (← c.requires.members) at (members_lie cells.bits frame c.args.tile.second c.requires.cell) in
-    part_lies (λ b. cell_number cells.bits (places_of frame b) ≡ c.args.tile.second) _ _ _ _ (rw c.loop-next.invariant.others at c.in-Some.ensures.part) lie
+pub list_row-seen-requires-clause-part : goal.list_row-seen-requires-clause-part
+list_row-seen-requires-clause-part g c = rw c.loop-next.invariant.others at c.in-Some.ensures.part
 
-pub places_beside-beside-requires : goal.places_beside-beside-requires
-places_beside-beside-requires g c =
-    let members = c.args.self.now.members in
-    let f = places_of c.args.frame.now.places.now in
-    let there = cell_places f members _ _ _ c.places-places.ensures c.requires.beside in
-    let within = rw c.loop-next.invariant.others at c.in-Some.ensures.within in
-    omega (arith, within, ap length there, length-map (members_at members c.args.tile.second) f)
-
-pub list_row-seen-requires-clause-beside : goal.list_row-seen-requires-clause-beside
-list_row-seen-requires-clause-beside g c =
-    let row = c.in-Some.row in
-    let members = c.args.self.now.members in
-    let f = places_of c.args.frame.now.places.now in
-    let there = cell_places f members _ _ _ c.places-places.ensures c.requires.beside in
-    c.places_beside-beside.ensures
-    ∙ (ap (λ ps. take (length row.others.now) (drop row.column ps)) there
-    ∙ part_places f row.others.now (members_at members c.args.tile.second) row.column (length row.others.now) (rw c.loop-next.invariant.others at c.in-Some.ensures.part))
+pub list_row-seen-requires-clause-within : goal.list_row-seen-requires-clause-within
+list_row-seen-requires-clause-within g c = rw c.loop-next.invariant.others at c.in-Some.ensures.within
 
 pub list_row-seen-requires-clause-pairs : goal.list_row-seen-requires-clause-pairs
 list_row-seen-requires-clause-pairs g c =

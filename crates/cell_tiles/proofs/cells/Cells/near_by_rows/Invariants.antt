@@ -2,7 +2,7 @@ use Rattle.std.proofs.Common.{◌≡◌, ◌-◌, ◌≤◌, ◌++◌, length, d
 use Rattle.std.specs.List.{All}
 use Rattle.cell_tiles.specs.Near.{IsPairOf, those_acting}
 use Rattle.cell_tiles.specs.Tiles.{members_at, pairs_in}
-use Rattle.cell_tiles.proofs.cells.Cells.near_from.Given as goal
+use Rattle.cell_tiles.proofs.cells.Cells.near_by_rows.Given as goal
 
 abbrev pub invariant-loop-next : goal.invariant-loop-next
 invariant-loop-next g l =

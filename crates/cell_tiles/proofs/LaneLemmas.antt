@@ -1,0 +1,216 @@
+-- Masks of sixteen bits: the lanes whose bits are set, and what they leave out.
+use Rattle.std.proofs.Common.{◌≡◌, ◌≢◌, ℕ, zero, suc, ◌+◌, ◌-◌, ◌*◌, ◌/◌, ◌%◌, ◌^◌, ◌<◌, ◌≤◌, ◌⊎◌, Bool, true, false, cond, eqb, List, [], ◌∷◌, ◌++◌, length, get_or, map, filter, bit_and, min, refl, sym, ap, ◌∙◌, ⊎_elim, inl, inr, arith, append-nil}
+use Rattle.std.specs.Int.{bit_at}
+use Rattle.std.proofs.lemmas.Bool.{cases_eq, cases_lt, eq-eqb, ne_eqb}
+use Rattle.std.proofs.lemmas.List.{ext_get_or, get_or-map, length-map, map-append}
+use Rattle.std.proofs.lemmas.List.Elements.{filter-append}
+use Rattle.std.proofs.Math.Nat.{pow-le-pow_right}
+use Rattle.std.proofs.lemmas.Nat.{and_mask, one_shl, shr-shr, shr_split}
+use Rattle.std.proofs.lemmas.Nat.Bits.{bit_at-lt, bit_at-suc, bit_at-zero, bit_at_above, bit_at_and, bit_at_cat_low, bit_at_lowest}
+use Rattle.cell_tiles.specs.Cells.{numbers_below}
+use Rattle.cell_tiles.specs.Near.{lanes_of}
+use Rattle.cell_tiles.proofs.CountLemmas.{below_suc, below_zero, get_below, length_below, one_filtered}
+
+-- ---- a part of a mask
+
+-- the lower `count` bits from the bit `first` on, as a shift and a mask make them
+pub part_is : (bits first count : ℕ) → count < 64 → bit_and (bits / 2 ^ first) (1 * 2 ^ count % 2 ^ 64 - 1) ≡ bits / 2 ^ first % 2 ^ count
+part_is bits first count few = ap (λ n. bit_and (bits / 2 ^ first) (n - 1)) (one_shl count 64 few) ∙ and_mask (bits / 2 ^ first) count
+
+-- each of them is the bit that many places on
+pub part_each : (bits first count k : ℕ) → k < count → bit_at (bits / 2 ^ first % 2 ^ count) k ≡ bit_at bits (first + k)
+part_each bits first count k lt =
+    let n = bits / 2 ^ first in
+    let whole : n / 2 ^ count * 2 ^ count + n % 2 ^ count ≡ n = shr_split n count in
+    sym (bit_at_cat_low (n / 2 ^ count) count (n % 2 ^ count) k lt) ∙ ap (λ m. bit_at m k) whole ∙ ap (λ m. m % 2) (shr-shr bits first k)
+
+-- ---- the lowest bit
+
+-- a mask without its lowest set bit t: up to t nothing is set, and behind it what was
+pub without_lowest : (t b : ℕ) → bit_at b t ≡ 1 → ((k : ℕ) → k < t → bit_at b k ≡ 0)
+    → ((k : ℕ) → k ≤ t → bit_at (bit_and b (b - 1)) k ≡ 0) × ((k : ℕ) → t < k → bit_at (bit_and b (b - 1)) k ≡ bit_at b k)
+without_lowest zero b set least =
+    let odd : b % 2 ≡ 1 = sym (bit_at_lowest b) ∙ set in
+    let half : (b - 1) / 2 ≡ b / 2 = omega arith in
+    let even : (b - 1) % 2 ≡ 0 = omega arith in (
+      λ k le.
+          let e : k ≡ 0 = omega arith in
+          let low : bit_at (b - 1) 0 ≡ 0 = bit_at_lowest (b - 1) ∙ even in
+          ap (bit_at (bit_and b (b - 1))) e ∙ bit_at_and b (b - 1) 0 ∙ zero_right (bit_at b 0) (bit_at (b - 1) 0) low,
+      λ k lt.
+          let j = k - 1 in
+          let e : k ≡ suc j = omega arith in
+          let same : bit_at (b - 1) (suc j) ≡ bit_at b (suc j) = bit_at-suc (b - 1) j ∙ ap (λ n. bit_at n j) half ∙ sym (bit_at-suc b j) in
+          ap (bit_at (bit_and b (b - 1))) e ∙ bit_at_and b (b - 1) (suc j) ∙ same_both (bit_at b (suc j)) (bit_at (b - 1) (suc j)) same ∙ ap (bit_at b) (sym e),
+    )
+  where
+    zero_right : (x y : ℕ) → y ≡ 0 → min x y ≡ 0
+    zero_right x y e = omega arith
+
+    same_both : (x y : ℕ) → y ≡ x → min x y ≡ x
+    same_both x y e = omega arith
+without_lowest (suc t) b set least =
+    let even : b % 2 ≡ 0 = sym (bit_at_lowest b) ∙ least 0 (omega arith) in
+    let some : 0 < b = not_zero (cases_eq b 0) in
+    let half : (b - 1) / 2 ≡ b / 2 - 1 = omega arith in
+    let rest = without_lowest t (b / 2) (sym (bit_at-suc b t) ∙ set) (λ k lt. sym (bit_at-suc b k) ∙ least (suc k) (omega arith)) in (
+      λ k le. by_zero (cases_eq k 0) (λ j e. ap (bit_at (bit_and b (b - 1))) e ∙ halved half j ∙ rest.0 j (omega arith)) (λ e. ap (bit_at (bit_and b (b - 1))) e ∙ bit_at_and b (b - 1) 0 ∙ zero_left (bit_at b 0) (bit_at (b - 1) 0) (bit_at_lowest b ∙ even)),
+      λ k lt.
+          let j = k - 1 in
+          let e : k ≡ suc j = omega arith in
+          ap (bit_at (bit_and b (b - 1))) e ∙ halved half j ∙ rest.1 j (omega arith) ∙ sym (bit_at-suc b j) ∙ ap (bit_at b) (sym e),
+    )
+  where
+    zero_left : (x y : ℕ) → x ≡ 0 → min x y ≡ 0
+    zero_left x y e = omega arith
+
+    not_zero : (b ≡ 0) ⊎ (b ≢ 0) → 0 < b
+    not_zero (inl e) = let z : ◌≡◌ {A = ℕ} 0 1 = sym (bit_at-zero (suc t)) ∙ ap (λ n. bit_at n (suc t)) (sym e) ∙ set in absurd (omega (arith, z))
+    not_zero (inr ne) = omega arith
+
+    halved : (b - 1) / 2 ≡ b / 2 - 1 → (j : ℕ) → bit_at (bit_and b (b - 1)) (suc j) ≡ bit_at (bit_and (b / 2) (b / 2 - 1)) j
+    halved half j =
+        bit_at_and b (b - 1) (suc j)
+        ∙ ap (λ x. min x (bit_at (b - 1) (suc j))) (bit_at-suc b j)
+        ∙ ap (λ y. min (bit_at (b / 2) j) y) (bit_at-suc (b - 1) j ∙ ap (λ n. bit_at n j) half)
+        ∙ sym (bit_at_and (b / 2) (b / 2 - 1) j)
+
+    by_zero : {P : Type 0} {k : ℕ} → (k ≡ 0) ⊎ (k ≢ 0) → ((j : ℕ) → k ≡ suc j → P) → (k ≡ 0 → P) → P
+    by_zero {P} {k} (inl e) f g = g e
+    by_zero {P} {k} (inr ne) f g = f (k - 1) (omega arith)
+
+-- ---- numbers below a bound that pass a test
+
+-- where none passes none is left
+pub none_below : (p : ℕ → Bool) (n : ℕ) → ((k : ℕ) → k < n → p k ≡ false) → filter p (numbers_below n) ≡ []
+none_below p zero h = ap (filter p) below_zero
+none_below p (suc n) h =
+    ap (filter p) (below_suc n) ∙ filter-append p (numbers_below n) (n ∷ [])
+    ∙ ap (λ xs. xs ++ filter p (n ∷ [])) (none_below p n (λ k lt. h k (omega arith)))
+    ∙ one_filtered p n false (h n (omega arith))
+
+-- the first that passes, and the others
+pub first_below : (p q : ℕ → Bool) (t n : ℕ) → t < n → p t ≡ true → ((k : ℕ) → k < t → p k ≡ false) → ((k : ℕ) → k ≤ t → q k ≡ false) → ((k : ℕ) → t < k → q k ≡ p k)
+    → filter p (numbers_below n) ≡ t ∷ filter q (numbers_below n)
+first_below p q t zero lt here before none behind = absurd (omega arith)
+first_below p q t (suc n) lt here before none behind =
+    ap (filter p) (below_suc n) ∙ filter-append p (numbers_below n) (n ∷ [])
+    ∙ (⊎_elim last (λ ne. earlier ne (λ less. first_below p q t n less here before none behind)) (cases_eq n t) ∙ ap (λ xs. t ∷ xs) (sym (ap (filter q) (below_suc n) ∙ filter-append q (numbers_below n) (n ∷ []))))
+  where
+    last : n ≡ t → filter p (numbers_below n) ++ filter p (n ∷ []) ≡ t ∷ (filter q (numbers_below n) ++ filter q (n ∷ []))
+    last e =
+        ap (λ xs. xs ++ filter p (n ∷ [])) (none_below p n (λ k l. before k (omega arith)))
+        ∙ one_filtered p n true (ap p e ∙ here)
+        ∙ ap (λ m. m ∷ []) e
+        ∙ ap (λ xs. t ∷ xs) (sym (ap (λ xs. xs ++ filter q (n ∷ [])) (none_below q n (λ k l. none k (omega arith))) ∙ one_filtered q n false (none n (omega arith))))
+
+    earlier : n ≢ t → (t < n → filter p (numbers_below n) ≡ t ∷ filter q (numbers_below n)) → filter p (numbers_below n) ++ filter p (n ∷ []) ≡ t ∷ (filter q (numbers_below n) ++ filter q (n ∷ []))
+    earlier ne rest =
+        let less : t < n = omega arith in
+        ap (λ xs. xs ++ filter p (n ∷ [])) (rest less)
+        ∙ ap (λ xs. t ∷ (filter q (numbers_below n) ++ xs)) (one_filtered p n (q n) (sym (behind n less)) ∙ sym (one_filtered q n (q n) refl))
+
+-- where none passes from n on, those below a higher bound are those below n
+pub none_above : (p : ℕ → Bool) (n d : ℕ) → ((k : ℕ) → n ≤ k → p k ≡ false) → filter p (numbers_below (n + d)) ≡ filter p (numbers_below n)
+none_above p n zero h = let e : n + 0 ≡ n = omega arith in ap (λ m. filter p (numbers_below m)) e
+none_above p n (suc d) h =
+    let e : n + suc d ≡ suc (n + d) = omega arith in
+    ap (λ m. filter p (numbers_below m)) e ∙ ap (filter p) (below_suc (n + d)) ∙ filter-append p (numbers_below (n + d)) ((n + d) ∷ [])
+    ∙ ap (λ xs. filter p (numbers_below (n + d)) ++ xs) (one_filtered p (n + d) false (h (n + d) (omega arith)))
+    ∙ append-nil (filter p (numbers_below (n + d)))
+    ∙ none_above p n d h
+
+-- ---- lanes
+
+abbrev pub is_set : ℕ → ℕ → Bool
+is_set bits k = eqb (bit_at bits k) 1
+
+pub set_true : (bits k : ℕ) → bit_at bits k ≡ 1 → is_set bits k ≡ true
+set_true bits k e = eq-eqb _ _ e
+
+pub set_false : (bits k : ℕ) → bit_at bits k ≡ 0 → is_set bits k ≡ false
+set_false bits k e = ne_eqb _ _ (λ (o : bit_at bits k ≡ 1). let z : ◌≡◌ {A = ℕ} 0 1 = sym e ∙ o in omega (arith, z))
+
+-- the lane of the lowest set bit, and those of the others
+pub next_lanes : (bits t : ℕ) → t < 16 → bit_at bits t ≡ 1 → ((k : ℕ) → k < t → bit_at bits k ≡ 0) → lanes_of bits ≡ t ∷ lanes_of (bit_and bits (bits - 1))
+unfolding lanes_of
+next_lanes bits t lt set least =
+    let rest = without_lowest t bits set least in
+    first_below (is_set bits) (is_set (bit_and bits (bits - 1))) t 16 lt (set_true bits t set) (λ k l. set_false bits k (least k l))
+    (λ k l. set_false (bit_and bits (bits - 1)) k (rest.0 k l)) (λ k l. ap (λ b. eqb b 1) (rest.1 k l))
+
+-- no bit is set in 0
+pub no_lanes : lanes_of 0 ≡ []
+unfolding lanes_of
+no_lanes = none_below (is_set 0) 16 (λ k lt. set_false 0 k (bit_at-zero k))
+
+-- the lanes of a mask of n bits are below n
+pub lanes_below : (bits n : ℕ) → bits < 2 ^ n → n ≤ 16 → lanes_of bits ≡ filter (is_set bits) (numbers_below n)
+unfolding lanes_of
+lanes_below bits n small few =
+    let d = 16 - n in
+    let e : n + d ≡ 16 = omega arith in
+    ap (λ m. filter (is_set bits) (numbers_below m)) (sym e) ∙ none_above (is_set bits) n d (λ k le. set_false bits k (bit_at_above bits n k small le))
+
+filter_short : (p : ℕ → Bool) (xs : List ℕ) → length (filter p xs) ≤ length xs
+filter_short p [] = omega arith
+filter_short p (x ∷ xs) = by_test (p x) (filter_short p xs)
+  where
+    by_test : (b : Bool) → length (filter p xs) ≤ length xs → length (cond b (x ∷ filter p xs) (filter p xs)) ≤ suc (length xs)
+    by_test true h = omega arith
+    by_test false h = omega arith
+
+-- no more are set than the mask has bits
+pub length_lanes : (bits n : ℕ) → bits < 2 ^ n → n ≤ 16 → length (lanes_of bits) ≤ n
+length_lanes bits n small few =
+    let e : length (lanes_of bits) ≡ length (filter (is_set bits) (numbers_below n)) = ap length (lanes_below bits n small few) in
+    let s = filter_short (is_set bits) (numbers_below n) in
+    let l = length_below n in
+    omega arith
+
+-- a mask of so few bits is one of sixteen
+pub small_mask : (bits n : ℕ) → bits < 2 ^ n → n ≤ 16 → bits < 65536
+small_mask bits n small few = let p : 2 ^ n ≤ 2 ^ 16 = pow-le-pow_right (omega arith) few in omega (arith, p)
+
+-- a set bit of a mask of n bits is below n
+pub lane_below : (bits n t : ℕ) → bits < 2 ^ n → bit_at bits t ≡ 1 → t < n
+lane_below bits n t small set = ⊎_elim (λ lt. lt) (λ le. let z : ◌≡◌ {A = ℕ} 0 1 = sym (bit_at_above bits n t small le) ∙ set in absurd (omega (arith, z))) (cases_lt t n)
+
+-- ---- what is left out
+
+module _ {X : Type 0} (acts : X → Bool) (at : ℕ → X) where
+  -- of the images of those that pass, those that act are all that act, where one that doesn't pass doesn't
+  pub filter_passing : (p : ℕ → Bool) (n : ℕ) → ((k : ℕ) → k < n → p k ≡ false → acts (at k) ≡ false) → filter acts (map at (filter p (numbers_below n))) ≡ filter acts (map at (numbers_below n))
+  filter_passing p zero h = ap (λ xs. filter acts (map at xs)) (ap (filter p) below_zero ∙ sym below_zero)
+  filter_passing p (suc n) h =
+      ap (λ xs. filter acts (map at xs)) (ap (filter p) (below_suc n) ∙ filter-append p (numbers_below n) (n ∷ []))
+      ∙ split (filter p (numbers_below n)) (filter p (n ∷ []))
+      ∙ ap (λ xs. xs ++ filter acts (map at (filter p (n ∷ [])))) (filter_passing p n (λ k lt. h k (omega arith)))
+      ∙ ap (λ xs. filter acts (map at (numbers_below n)) ++ xs) (by_test (p n) refl)
+      ∙ sym (ap (λ xs. filter acts (map at xs)) (below_suc n) ∙ split (numbers_below n) (n ∷ []))
+    where
+      split : (xs ys : List ℕ) → filter acts (map at (xs ++ ys)) ≡ filter acts (map at xs) ++ filter acts (map at ys)
+      split xs ys = ap (filter acts) (map-append at xs ys) ∙ filter-append acts (map at xs) (map at ys)
+
+      by_test : (b : Bool) → p n ≡ b → filter acts (map at (filter p (n ∷ []))) ≡ filter acts (map at (n ∷ []))
+      by_test true e = ap (λ xs. filter acts (map at xs)) (one_filtered p n true e)
+      by_test false e = ap (λ xs. filter acts (map at xs)) (one_filtered p n false e) ∙ sym (rw (h n (omega arith) e) refl)
+
+  -- so of the lanes of a mask of n bits
+  pub lanes_act : (bits n : ℕ) → bits < 2 ^ n → n ≤ 16 → ((k : ℕ) → k < n → bit_at bits k ≡ 0 → acts (at k) ≡ false) → filter acts (map at (lanes_of bits)) ≡ filter acts (map at (numbers_below n))
+  lanes_act bits n small few idle =
+      ap (λ xs. filter acts (map at xs)) (lanes_below bits n small few) ∙ filter_passing (is_set bits) n (λ k lt e. idle k lt (unset k e))
+    where
+      unset : (k : ℕ) → is_set bits k ≡ false → bit_at bits k ≡ 0
+      unset k e = ⊎_elim (λ (o : bit_at bits k ≡ 1). absurd (contrary (sym (eq-eqb _ _ o) ∙ e))) (λ ne. let two = bit_at-lt bits k in omega arith) (cases_eq (bit_at bits k) 1)
+        where
+          contrary : true ≡ false → ⊥
+          contrary z = cc
+
+-- a list by its places
+pub by_places : (xs : List ℕ) → map (λ j. get_or xs j 0) (numbers_below (length xs)) ≡ xs
+by_places xs =
+    let l = length_below (length xs) in
+    let m = length-map (numbers_below (length xs)) (λ (j : ℕ). get_or xs j 0) in
+    ext_get_or 0 (map (λ j. get_or xs j 0) (numbers_below (length xs))) xs (omega arith)
+    (λ i lt. let inside : i < length xs = omega arith in get_or-map (λ (j : ℕ). get_or xs j 0) (numbers_below (length xs)) i 0 0 (omega arith) ∙ ap (λ j. get_or xs j 0) (get_below (length xs) i 0 inside))

@@ -1,0 +1,123 @@
+-- A list of pairs that is written pair by pair, block by block, row by row.
+use Rattle.std.proofs.Common.{◌≡◌, ℕ, ◌+◌, ◌/◌, ◌%◌, ◌^◌, ◌<◌, ◌≤◌, Bool, false, List, [], ◌∷◌, ◌++◌, length, get_or, set, take, drop, map, filter, subst, sym, ap, ◌∙◌, arith, take-add}
+use Rattle.std.specs.Coded.{Coded-set, coded_bool}
+use Rattle.std.specs.Int.{bit_at}
+use Rattle.std.specs.List.{All}
+use Rattle.std.proofs.Math.Logic.{∥∥₁_elim}
+use Rattle.std.proofs.lemmas.List.{append_assoc, drop-map, get_or-drop, get_or-map, get_or-take, length-append, length-drop, length-map, length-take-le, map-append, take-map, take_more_set}
+use Rattle.std.proofs.lemmas.List.Elements.{All-append, All-drop, All-filter, All-from_get_or, All-get_or, All-map, All-take, filter-append}
+use Rattle.std.proofs.lemmas.Simd.{map-map}
+use Rattle.ring_box.specs.Acting.{Reach}
+use Rattle.ring_box.specs.Blocks.{AreInSpan, AreUpperHalves, IsCoarseReach, IsLane, LeavesOut, LeavesOutOfSpan}
+use Rattle.ring_box.specs.Places.{ArePlaces, places_of}
+use Rattle.ring_box.specs.declared.blocks.Block.{Block}
+use Rattle.ring_box.specs.declared.boxes.RingBox.{RingBox}
+use Rattle.ring_box.specs.declared.coarse_reaches.CoarseReach.{CoarseReach}
+use Rattle.ring_box.specs.declared.upper_halves.CellSpan.{CellSpan}
+use Rattle.ring_box.specs.declared.upper_halves.UpperHalves.{UpperHalves}
+use Rattle.ring_box.specs.declared.vectors.Place3.{Place3}
+use Rattle.cell_tiles.specs.Cells.{AreInBlocks, AreLanes, no_block, numbers_below}
+use Rattle.cell_tiles.specs.Near.{lanes_of, pair_acts}
+use Rattle.cell_tiles.specs.Tiles.{pair_of, pairs_with}
+use Rattle.cell_tiles.proofs.CountLemmas.{get_below, length_below}
+use Rattle.cell_tiles.proofs.LaneLemmas.{by_places, is_set, lanes_act, lanes_below, length_lanes}
+use Rattle.cell_tiles.proofs.NearLemmas.{pair_idle}
+
+-- one pair more
+pub listed_more : {X : Type 0} (pair : X → ℕ × ℕ) (xs : List X) (x : X) (count : ℕ) (p : ℕ × ℕ) (more : List (ℕ × ℕ)) → count < length xs → pair x ≡ p
+    → map pair (take count xs) ++ p ∷ more ≡ map pair (take (count + 1) (set xs count x)) ++ more
+listed_more pair xs x count p more room is =
+    let next : map pair (take (count + 1) (set xs count x)) ≡ map pair (take count xs) ++ p ∷ [] =
+    ap (map pair) (take_more_set xs count x room) ∙ map-append pair (take count xs) (x ∷ []) ∙ ap (λ q. map pair (take count xs) ++ q ∷ []) is in
+    sym (ap (λ ys. ys ++ more) next ∙ append_assoc (map pair (take count xs)) (p ∷ []) more)
+
+-- ---- a block
+
+-- an atom in a lane whose bit isn't set makes no pair that acts with one at these upper halves
+pub lane_idle : (d : Reach) (b : RingBox) (frame : List Place3) (coarse : CoarseReach) (block : Block) (halves : UpperHalves) (bits first a : ℕ) (bs : List ℕ) (j : ℕ) → All ArePlaces frame → ∥ IsCoarseReach d b coarse ∥₁
+    → ((d : Reach) (b : RingBox) → IsCoarseReach d b coarse → LeavesOut d b block halves bits) → AreUpperHalves halves (places_of frame a) → AreLanes frame block first bs → first + length bs ≤ 16 → j < length bs
+    → bit_at bits (first + j) ≡ 0 → pair_acts d b frame (pair_of a (get_or bs j 0)) ≡ false
+lane_idle d b frame coarse block halves bits first a bs j places reach left_out here lanes within lt unset =
+    ∥∥₁_elim reach (Coded-set coded_bool _ _)
+    (λ r. pair_idle d b frame a (get_or bs j 0) places (left_out d b r (first + j) (places_of frame a) (places_of frame (get_or bs j 0)) (omega arith) here (lanes j lt) unset))
+
+-- so of an atom in a lane and any in a span
+pub span_idle : (d : Reach) (b : RingBox) (frame : List Place3) (coarse : CoarseReach) (block : Block) (span : CellSpan) (bits first a : ℕ) (bs : List ℕ) (j : ℕ) → All ArePlaces frame → ∥ IsCoarseReach d b coarse ∥₁
+    → ((d : Reach) (b : RingBox) → IsCoarseReach d b coarse → LeavesOutOfSpan d b block span bits) → AreInSpan span (places_of frame a) → AreLanes frame block first bs → first + length bs ≤ 16 → j < length bs
+    → bit_at bits (first + j) ≡ 0 → pair_acts d b frame (pair_of a (get_or bs j 0)) ≡ false
+span_idle d b frame coarse block span bits first a bs j places reach left_out here lanes within lt unset =
+    ∥∥₁_elim reach (Coded-set coded_bool _ _)
+    (λ r. pair_idle d b frame a (get_or bs j 0) places (left_out d b r (first + j) (places_of frame a) (places_of frame (get_or bs j 0)) (omega arith) here (lanes j lt) unset))
+
+module _ (a : ℕ) (bs : List ℕ) where
+  -- the pairs of an atom with those of the others that stand at these places
+  abbrev pub pairs_at : List ℕ → List (ℕ × ℕ)
+  pairs_at js = map (λ j. pair_of a (get_or bs j 0)) js
+
+  pairs_all : pairs_at (numbers_below (length bs)) ≡ pairs_with a bs
+  pairs_all = sym (map-map (pair_of a) (λ (j : ℕ). get_or bs j 0) (numbers_below (length bs))) ∙ ap (map (pair_of a)) (by_places bs)
+
+  -- once the pairs of those lanes are added whose bits are set, those that act are there
+  pub marked_act : (acts : ℕ × ℕ → Bool) (bits : ℕ) (old new : List (ℕ × ℕ)) → bits < 2 ^ length bs → length bs ≤ 16 → ((j : ℕ) → j < length bs → bit_at bits j ≡ 0 → acts (pair_of a (get_or bs j 0)) ≡ false)
+      → new ≡ old ++ pairs_at (lanes_of bits) → filter acts new ≡ filter acts old ++ filter acts (pairs_with a bs)
+  marked_act acts bits old new small few idle is =
+      ap (filter acts) is ∙ filter-append acts old (pairs_at (lanes_of bits))
+      ∙ ap (λ ys. filter acts old ++ ys) (lanes_act acts (λ j. pair_of a (get_or bs j 0)) bits (length bs) small few idle ∙ ap (filter acts) pairs_all)
+
+  -- they are pairs of the row
+  pub marked_listed : (P : ℕ × ℕ → Type 0) (bits : ℕ) (old new : List (ℕ × ℕ)) → bits < 2 ^ length bs → length bs ≤ 16 → All P (pairs_with a bs) → All P old → new ≡ old ++ pairs_at (lanes_of bits) → All P new
+  marked_listed P bits old new small few all before is =
+      let each : All (λ j. P (pair_of a (get_or bs j 0))) (numbers_below (length bs)) =
+      All-from_get_or (λ j. P (pair_of a (get_or bs j 0))) (numbers_below (length bs)) 0
+      (λ i lt.
+      let inside : i < length bs = omega (arith, length_below (length bs), lt) in
+      let here : P (get_or (pairs_with a bs) i (0, 0)) = All-get_or P (pairs_with a bs) i (0, 0) (omega (arith, length-map bs (pair_of a), inside)) all in
+      subst (λ j. P (pair_of a (get_or bs j 0))) (sym (get_below (length bs) i 0 inside)) (subst P (get_or-map (pair_of a) bs i 0 (0, 0) inside) here)) in
+      let passing = All-filter (is_set bits) (λ j. P (pair_of a (get_or bs j 0))) (numbers_below (length bs)) each in
+      let those : All P (pairs_at (lanes_of bits)) = rw (lanes_below bits (length bs) small few) (All-map P (λ (j : ℕ). pair_of a (get_or bs j 0)) _ passing) in
+      rw is (All-append P old (pairs_at (lanes_of bits)) before those)
+
+  -- and no more than the row has
+  pub marked_few : (bits : ℕ) (old new : List (ℕ × ℕ)) → bits < 2 ^ length bs → length bs ≤ 16 → new ≡ old ++ pairs_at (lanes_of bits) → length new ≤ length old + length bs
+  marked_few bits old new small few is =
+      omega (arith, ap length is, length-append old (pairs_at (lanes_of bits)), length-map (lanes_of bits) (λ (j : ℕ). pair_of a (get_or bs j 0)), length_lanes bits (length bs) small few)
+
+-- ---- a row, block by block
+
+-- a part of a row
+part_is : (a s n : ℕ) (bs : List ℕ) → pairs_with a (take n (drop s bs)) ≡ take n (drop s (pairs_with a bs))
+part_is a s n bs = sym (take-map (pair_of a) n (drop s bs)) ∙ ap (take n) (sym (drop-map (pair_of a) s bs))
+
+-- a row is passed by one part more
+pub part_passed : (acts : ℕ × ℕ → Bool) (a s n t : ℕ) (bs : List ℕ) (old now new : List (ℕ × ℕ)) → t ≡ s + n → filter acts new ≡ filter acts now ++ filter acts (pairs_with a (take n (drop s bs)))
+    → filter acts now ≡ filter acts old ++ filter acts (take s (pairs_with a bs)) → filter acts new ≡ filter acts old ++ filter acts (take t (pairs_with a bs))
+part_passed acts a s n t bs old now new end part before =
+    let ps = pairs_with a bs in
+    part ∙ ap (λ ys. ys ++ filter acts (pairs_with a (take n (drop s bs)))) before
+    ∙ append_assoc (filter acts old) (filter acts (take s ps)) (filter acts (pairs_with a (take n (drop s bs))))
+    ∙ ap (λ ys. filter acts old ++ ys)
+    (ap (λ ys. filter acts (take s ps) ++ filter acts ys) (part_is a s n bs) ∙ sym (filter-append acts (take s ps) (take n (drop s ps))) ∙ ap (filter acts) (sym (take-add s n ps) ∙ ap (λ k. take k ps) (sym end)))
+
+-- what holds of each pair of a row holds of those of a part
+pub part_all : (P : ℕ × ℕ → Type 0) (a s n : ℕ) (bs : List ℕ) → All P (pairs_with a bs) → All P (pairs_with a (take n (drop s bs)))
+part_all P a s n bs all = rw (part_is a s n bs) (All-take P n (drop s (pairs_with a bs)) (All-drop P s (pairs_with a bs) all))
+
+-- the atoms of a part of a row that doesn't reach the next block have lanes of one block
+pub part_lanes : (frame : List Place3) (blocks : List Block) (block : Block) (first s n : ℕ) (bs : List ℕ) → (first + s) % 16 + n ≤ 16 → s + n ≤ length bs → block ≡ get_or blocks ((first + s) / 16) no_block
+    → AreInBlocks frame blocks first bs → AreLanes frame block ((first + s) % 16) (take n (drop s bs))
+part_lanes frame blocks block first s n bs one within is lanes i lt =
+    let long : length (take n (drop s bs)) ≡ n = length-take-le n (drop s bs) (omega (arith, length-drop s bs)) in
+    let below : i < n = omega arith in
+    let atom : get_or (take n (drop s bs)) i 0 ≡ get_or bs (s + i) 0 = get_or-take n (drop s bs) i 0 below ∙ get_or-drop s bs i 0 in
+    let same : (first + (s + i)) / 16 ≡ (first + s) / 16 = omega arith in
+    let lane : (first + (s + i)) % 16 ≡ (first + s) % 16 + i = omega arith in
+    let here : IsLane (get_or blocks ((first + (s + i)) / 16) no_block) ((first + (s + i)) % 16) (places_of frame (get_or bs (s + i) 0)) = lanes (s + i) (omega arith) in
+    rw (is, atom, ← same, ← lane) here
+
+-- the atoms of a row have the lanes of those of the atoms that it is cut from
+pub row_lanes : (frame : List Place3) (blocks : List Block) (column : ℕ) (bs ys : List ℕ) → bs ≡ take (length bs) (drop column ys) → column + length bs ≤ length ys → AreInBlocks frame blocks 0 ys → AreInBlocks frame blocks column bs
+row_lanes frame blocks column bs ys part within lanes i lt =
+    let atom : get_or bs i 0 ≡ get_or ys (column + i) 0 = ap (λ xs. get_or xs i 0) part ∙ get_or-take (length bs) (drop column ys) i 0 lt ∙ get_or-drop column ys i 0 in
+    let zero_more : 0 + (column + i) ≡ column + i = omega arith in
+    let here : IsLane (get_or blocks ((0 + (column + i)) / 16) no_block) ((0 + (column + i)) % 16) (places_of frame (get_or ys (column + i) 0)) = lanes (column + i) (omega arith) in
+    rw atom (subst (λ k. IsLane (get_or blocks (k / 16) no_block) (k % 16) (places_of frame (get_or ys (column + i) 0))) zero_more here)

@@ -1,0 +1,68 @@
+use Rattle.std.proofs.Common.{◌≡◌, ℕ, ◌+◌, ◌++◌, [], length, map, get_or, take, ap, sym, ◌∙◌, arith, append-nil}
+use Rattle.std.proofs.lemmas.List.{length-map, length-set, length-take-le}
+use Rattle.cell_tiles.specs.declared.pairs.AtomPair.{AtomPair}
+use Rattle.cell_tiles.specs.Near.{lanes_of}
+use Rattle.cell_tiles.specs.Tiles.{pair_of}
+use Rattle.cell_tiles.proofs.LaneLemmas.{lane_below, length_lanes, no_lanes, small_mask}
+use Rattle.cell_tiles.proofs.ListLemmas.{listed_more}
+use Rattle.cell_tiles.proofs.lists.PairList.add_marked.Goals as goal
+
+-- as many pairs are listed as are counted
+pub loop-left-init : goal.loop-left-init
+loop-left-init c =
+    let at = λ (j : ℕ). pair_of c.args.atom (get_or c.args.others.now j 0) in
+    let wide : length c.self.inside.pairs ≡ 128 = omega (arith, c.self.ranges) in
+    let many : length c.args.self.now ≡ c.self.inside.count = ap length (sym c.self.view_is) ∙ length-map (take c.self.inside.count c.self.inside.pairs) (λ (p : AtomPair). (p.low, p.high)) ∙ length-take-le c.self.inside.count c.self.inside.pairs (omega (arith, wide, c.self.invariant)) in
+    record {
+      listed = ap (λ ps. ps ++ map at (lanes_of c.args.marked)) (sym c.self.view_is);
+      room = omega (arith, many, length_lanes c.args.marked (length c.args.others.now) c.requires.marked c.requires.few, c.requires.room);
+      small = c.requires.marked;
+      wide = wide;
+    }
+
+pub next_lane-lane-requires-clause-few : goal.next_lane-lane-requires-clause-few
+next_lane-lane-requires-clause-few c = small_mask c.loop-left.left (length c.args.others.now) c.loop-left.invariant.small c.requires.few
+
+pub bounds-others-lane : goal.bounds-others-lane
+bounds-others-lane c = lane_below c.loop-left.left (length c.args.others.now) _ c.loop-left.invariant.small c.next_lane-lane.ensures.set
+
+pub offset_bounds-others-lane : goal.offset_bounds-others-lane
+offset_bounds-others-lane c =
+    let below = lane_below c.loop-left.left (length c.args.others.now) _ c.loop-left.invariant.small c.next_lane-lane.ensures.set in
+    record { fits = omega (arith, below, c.requires.few) }
+
+pub bounds-self-inside-count : goal.bounds-self-inside-count
+bounds-self-inside-count c = omega (arith, ap length c.next_lane-lane.ensures.lanes, c.loop-left.invariant.room)
+
+pub offset_bounds-self-inside-count : goal.offset_bounds-self-inside-count
+offset_bounds-self-inside-count c = record { fits = omega (arith, ap length c.next_lane-lane.ensures.lanes, c.loop-left.invariant.room) }
+
+pub overflow_add-count : goal.overflow_add-count
+overflow_add-count c = record { fits = omega (arith, ap length c.next_lane-lane.ensures.lanes, c.loop-left.invariant.room) }
+
+pub loop-left-preserved : goal.loop-left-preserved
+loop-left-preserved c =
+    let at = λ (j : ℕ). pair_of c.args.atom (get_or c.args.others.now j 0) in
+    let kept = c.loop-left.invariant in
+    let lane = c.next_lane-lane.ensures in
+    let more : length (lanes_of c.loop-left.left) ≡ length (lanes_of c.next_lane-lane.result.1) + 1 = ap length lane.lanes ∙ omega arith in
+    record {
+      listed =
+          kept.listed
+          ∙ ap (λ js. map (λ (p : AtomPair). (p.low, p.high)) (take c.loop-left.count c.loop-left.self-inside.pairs) ++ map at js) lane.lanes
+          ∙ listed_more (λ (p : AtomPair). (p.low, p.high)) c.loop-left.self-inside.pairs c.in_order.result c.loop-left.count (at c.next_lane-lane.result.0) (map at (lanes_of c.next_lane-lane.result.1)) (omega (arith, kept.room, kept.wide, more)) c.in_order.ensures;
+      room = omega (arith, kept.room, more);
+      small = omega (arith, kept.small, lane.less);
+      wide = length-set c.loop-left.self-inside.pairs c.loop-left.count c.in_order.result ∙ kept.wide;
+    }
+
+pub invariant_of-self : goal.invariant_of-self
+invariant_of-self c = omega (arith, c.loop-left.invariant.room)
+
+pub returns : goal.returns
+returns c =
+    let at = λ (j : ℕ). pair_of c.args.atom (get_or c.args.others.now j 0) in
+    let done : c.loop-left.left ≡ 0 = c.loop-left-test.false in
+    let listed = map (λ (p : AtomPair). (p.low, p.high)) (take c.loop-left.count c.loop-left.self-inside.pairs) in
+    let none : map at (lanes_of c.loop-left.left) ≡ [] = ap (λ b. map at (lanes_of b)) done ∙ ap (map at) no_lanes in
+    sym (c.loop-left.invariant.listed ∙ (ap (λ ys. listed ++ ys) none ∙ append-nil listed))

@@ -1,0 +1,152 @@
+//! A list of pairs, and the pairs of an atom with others: those that may act, as far as the upper halves of their places
+//! tell, are listed.
+
+ghost use Rattle.std.specs.Prelude.{◌≡◌, ◌+◌, ◌*◌, ◌^◌, ◌<◌, ◌≤◌, ◌++◌, ℕ, length, map, slice_index, take};
+ghost use Rattle.std.specs.List.{All};
+ghost use Rattle.ring_box.specs.Blocks.{AreUpperHalves};
+ghost use Rattle.ring_box.specs.Places.{places_of};
+ghost use Rattle.cell_tiles.specs.Cells.{AreInBlocks, AreLanes};
+ghost use Rattle.cell_tiles.specs.Near.{IsPairOf, lanes_of, those_acting};
+ghost use Rattle.cell_tiles.specs.Tiles.{pair_of, pairs_with};
+
+use crate::lanes::{bits_of, next_lane};
+use crate::near::FrameInBox;
+use crate::pairs::{AtomPair, in_order};
+use ring_box::{Block, UpperHalves};
+use std::marker::Model;
+
+/// At most 128 pairs of atoms, in order. A contract sees the list of them.
+#[derive(Drop)]
+pub(crate) struct PairList {
+    pairs: [AtomPair; 128],
+    count: usize,
+}
+
+impl Model for PairList {
+    ghost use Rattle.std.specs.Prelude.{ℕ, List, ◌≤◌, map, take};
+
+    ghost Value = { List (ℕ × ℕ) };
+
+    ghost view = { λ n. map (λ p. (p.low, p.high)) (take n.count n.pairs) };
+
+    ghost invariant = { λ n. n.count ≤ 128 };
+}
+
+impl PairList {
+    ghost use Rattle.std.specs.Prelude.{[]};
+
+    /// No pairs.
+    pub(crate) fn new() -> PairList
+        ensures { result ≡ [] }
+    {
+        PairList {
+            pairs: [AtomPair { low: 0, high: 0 }; 128],
+            count: 0,
+        }
+    }
+
+    /// The pairs.
+    pub(crate) fn as_slice(&self) -> &[AtomPair]
+        ensures value { map (λ p. (p.low, p.high)) result.now ≡ self.now }
+        ensures few { length result.now ≤ 128 }
+    {
+        &self.pairs[..self.count]
+    }
+
+    /// Lets go of all pairs.
+    pub(crate) fn clear(&mut self)
+        ensures { self.new ≡ [] }
+    {
+        self.count = 0;
+    }
+
+    /// How many pairs there are.
+    #[inline(always)]
+    pub(crate) fn len(&self) -> usize
+        ensures value { result ≡ length self.now }
+        ensures few { result ≤ 128 }
+    {
+        self.as_slice().len()
+    }
+
+    /// Adds the pairs of an atom with those of up to sixteen others whose bits are set.
+    #[inline(always)]
+    fn add_marked(&mut self, atom: u32, others: &[u32], marked: u64)
+        requires few { length others.now ≤ 16 }
+        requires room { length self.old + length others.now ≤ 128 }
+        requires marked { marked < 2 ^ length others.now }
+        ensures { self.new ≡ self.old ++ map (λ j. pair_of atom (slice_index others.now j)) (lanes_of marked) }
+    {
+        let mut count = self.count;
+        let mut left = marked;
+        while left != 0 {
+            let (lane, rest) = next_lane(left);
+            self.pairs[count] = in_order(atom, others[lane]);
+            count += 1;
+            left = rest;
+        }
+        self.count = count;
+    }
+
+    /// Adds the pairs of an atom with others that may act. The others have the lanes of a block from the lane `first` on.
+    #[inline(always)]
+    fn add_block(
+        &mut self,
+        frame: &FrameInBox,
+        atom: u32,
+        halves: UpperHalves,
+        block: &Block,
+        first: usize,
+        others: &[u32],
+    )
+        requires lanes { first + length others.now ≤ 16 }
+        requires room { length self.old + length others.now ≤ 128 }
+        requires halves { AreUpperHalves halves (places_of frame.now.places.now atom) }
+        requires beside { AreLanes frame.now.places.now block.now first others.now }
+        requires pairs { All (IsPairOf (length frame.now.places.now)) (pairs_with atom others.now) }
+        ensures acting { those_acting frame.now.reach.now frame.now.ring.now frame.now.places.now self.new
+            ≡ those_acting frame.now.reach.now frame.now.ring.now frame.now.places.now self.old ++ those_acting frame.now.reach.now frame.now.ring.now frame.now.places.now (pairs_with atom others.now) }
+        ensures listed { All (IsPairOf (length frame.now.places.now)) self.old → All (IsPairOf (length frame.now.places.now)) self.new }
+        ensures few { length self.new ≤ length self.old + length others.now }
+    {
+        let near = frame.coarse.near(block, halves);
+        self.add_marked(atom, others, bits_of(near, first, others.len()));
+    }
+
+    /// Adds the pairs of an atom with others that may act, block by block, until there might be no room. It answers how
+    /// many of the pairs it has come past. The others have the lanes of these blocks from the lane `first` on.
+    pub(crate) fn add_row(
+        &mut self,
+        frame: &FrameInBox,
+        atom: u32,
+        halves: UpperHalves,
+        blocks: &[Block],
+        first: usize,
+        others: &[u32],
+    ) -> usize
+        requires long { first + length others.now ≤ 16 * length blocks.now }
+        requires halves { AreUpperHalves halves (places_of frame.now.places.now atom) }
+        requires beside { AreInBlocks frame.now.places.now blocks.now first others.now }
+        requires pairs { All (IsPairOf (length frame.now.places.now)) (pairs_with atom others.now) }
+        ensures acting { those_acting frame.now.reach.now frame.now.ring.now frame.now.places.now self.new
+            ≡ those_acting frame.now.reach.now frame.now.ring.now frame.now.places.now self.old ++ those_acting frame.now.reach.now frame.now.ring.now frame.now.places.now (take result (pairs_with atom others.now)) }
+        ensures listed { All (IsPairOf (length frame.now.places.now)) self.old → All (IsPairOf (length frame.now.places.now)) self.new }
+        ensures within { result ≤ length others.now }
+        ensures onward { 0 < length others.now → length self.old ≤ 112 → 0 < result }
+        ensures whole { length self.old + length others.now ≤ 128 → result ≡ length others.now }
+        ensures few { length self.new ≤ length self.old + result }
+    {
+        let mut seen = 0;
+        while seen < others.len() {
+            let lane = (first + seen) % 16;
+            let end = others.len().min(seen + (16 - lane));
+            if self.len() + (end - seen) > 128 {
+                return seen;
+            }
+            let block = &blocks[(first + seen) / 16];
+            self.add_block(frame, atom, halves, block, lane, &others[seen..end]);
+            seen = end;
+        }
+        seen
+    }
+}
