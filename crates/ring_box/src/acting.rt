@@ -1,7 +1,7 @@
 //! The force of a pair in two halves, so that one step can be made for many pairs before the next.
 
 ghost use Rattle.std.specs.Prelude.{ℕ, ◌≡◌, ◌≤◌, ◌<◌, ◌+◌, ◌*◌, ◌/◌, ◌^◌, ℤ, IsTrue, unsigned_abs};
-ghost use Rattle.ring_box.specs.Places.{difference, nowhere};
+ghost use Rattle.ring_box.specs.Places.{difference};
 ghost use Rattle.ring_box.specs.Acting.{IsInCell, IsReach, Reach, HalvesAreWhole, acting_of, force_of, length_of};
 ghost use Rattle.ring_box.specs.Distances.{square};
 ghost use Rattle.ring_box.specs.Forces.{IsWithin};
@@ -12,7 +12,6 @@ use crate::boxes::RingBox;
 use crate::distances::distance_by_root;
 use crate::forces::outside_core;
 use crate::lines::PairLine;
-use crate::places::diff;
 use crate::reaches::Reach;
 use crate::sides::Side;
 use crate::vectors::{CellBits, CellNumbers, Force, Place3};
@@ -118,41 +117,9 @@ fn are_far(x: u32, y: u32, z: u32, limit: u128) -> bool
     x * x + y * y + z * z > coarse_limit(limit)
 }
 
-/// How many places lie between two, the shorter way round the ring.
-fn apart(x: u32, y: u32) -> u32
-    ensures value { result ≡ unsigned_abs (difference x y) }
-    ensures half { result ≤ 2 ^ 31 }
-{
-    diff(x, y).unsigned_abs()
-}
-
 impl RingBox {
-    ghost use Rattle.std.specs.Prelude.{◌≡◌, ℕ, ◌<◌, ◌≤◌, ◌≤ℤ◌, ◌<ℤ◌, length, slice_index_or, true, false, IfSome, IsTrue, None};
+    ghost use Rattle.std.specs.Prelude.{◌≡◌, ◌≤ℤ◌, ◌<ℤ◌, IfSome};
     ghost use Rattle.ring_box.specs.Acting.{acting_of};
-
-    /// Whether two atoms at `p` and `q` don't act, as far as 2^40 units of their separation tell. A no says nothing.
-    #[inline(always)]
-    pub fn is_far(&self, reach: &Reach, p: Place3, q: Place3) -> bool
-        ensures { IsTrue result → acting_of reach.now self.now p q ≡ None }
-    {
-        are_far(
-            coarse_length(apart(p.x, q.x), self.x),
-            coarse_length(apart(p.y, q.y), self.y),
-            coarse_length(apart(p.z, q.z), self.z),
-            reach.limit(),
-        )
-    }
-
-    /// Marks the atoms, at most 128 at the places `qs`, which may act with one at `p`: one that isn't marked doesn't.
-    /// What stands behind their marks is of no meaning.
-    pub fn mark_near(&self, reach: &Reach, p: Place3, qs: &[Place3], near: &mut [bool; 128])
-        requires { length qs.now ≤ 128 }
-        ensures { (j : ℕ) → j < length qs.now → slice_index_or near.new j true ≡ false → acting_of reach.now self.now p (slice_index_or qs.now j nowhere) ≡ None }
-    {
-        for j in 0..qs.len() {
-            near[j] = !self.is_far(reach, p, qs[j]);
-        }
-    }
 
     /// The pair of two atoms at `p` and `q`, its line and its distance; `None` where the distance isn't below the
     /// cutoff: they don't act.
