@@ -50,7 +50,7 @@ impl<W: RowWork<()> + Drop> RowWork<()> for Rowed<W> {
         scratch: &mut (),
         tile: u64,
         k: u64,
-        adds: &mut ArrayVec<PairAdd, 64>,
+        adds: &mut ArrayVec<PairAdd, 128>,
     ) -> u64 {
         self.work.next_adds(scratch, tile, k, adds)
     }

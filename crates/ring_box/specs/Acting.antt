@@ -1,11 +1,12 @@
 -- The force of a pair in two halves, so that one step can be made for many pairs before the next is: what two atoms
 -- that act have between them, and the force that a slope gives them along it.
 use Rattle.std.specs.Prelude.{ℕ, ℤ, pos, ◌≡◌, ◌+◌, ◌-◌, ◌*◌, ◌/◌, ◌^◌, ◌==◌, ◌≤◌, ◌<◌, ◌≤ℤ◌, ◌<ℤ◌, unsigned_abs, if◌then◌else◌, Option, None, option_map}
+use Rattle.std.specs.Int.{int_max}
 use Rattle.fixed.specs.Fractions.{bits_of}
 use Rattle.fixed.specs.Roots.{root}
 use Rattle.fixed.specs.declared.frac.Frac.{Frac}
 use Rattle.ring_box.specs.Cells.{cell_of}
-use Rattle.ring_box.specs.Distances.{square_of, unit_of, widening_of, x_separation, y_separation, z_separation}
+use Rattle.ring_box.specs.Distances.{distance_at, square_of, unit_of, widening_of, x_separation, y_separation, z_separation}
 use Rattle.ring_box.specs.Forces.{acting_distance_of, line_force_of, pair_force_of}
 use Rattle.ring_box.specs.declared.boxes.RingBox.{RingBox}
 use Rattle.ring_box.specs.declared.vectors.CellBits.{CellBits}
@@ -59,6 +60,11 @@ between b p q r =
 
 abbrev pub acting_of : Reach → RingBox → Place3 → Place3 → Option ActingPair
 acting_of d b p q = option_map (between b p q) (acting_distance_of d.frac b d.core d.cutoff p q)
+
+-- the same from their separation and its square
+abbrev pub acting_from : Reach → ℤ → ℤ → ℤ → ℕ → ActingPair
+acting_from d x y z s =
+    record { x = x; y = y; z = z; length = length_of s; distance = int_max (pos (distance_at d.frac s)) d.core }
 
 -- ---- the force along it
 

@@ -21,11 +21,11 @@ use std::marker::Model;
 /// Two atoms that act: the line through them, and the distance at which their force is taken.
 #[derive(Clone, Copy)]
 pub struct ActingPair {
-    x: i64,
-    y: i64,
-    z: i64,
-    length: u64,
-    distance: Fx,
+    pub(crate) x: i64,
+    pub(crate) y: i64,
+    pub(crate) z: i64,
+    pub(crate) length: u64,
+    pub(crate) distance: Fx,
 }
 
 impl Model for ActingPair {
@@ -83,6 +83,22 @@ impl ActingPair {
             length: self.length,
         };
         line.small_force(minus_slope.raw())
+    }
+
+    /// The same force from an estimate, which mostly is that force.
+    #[inline(always)]
+    pub fn force_near(self, minus_slope: Fx, estimate: Force<i64>) -> Force<i64>
+        requires { unsigned_abs minus_slope < 2 ^ 63 }
+        ensures value { result ≡ force_of self minus_slope }
+        ensures bound { IsWithin (unsigned_abs minus_slope) result }
+    {
+        let line = PairLine {
+            x: self.x,
+            y: self.y,
+            z: self.z,
+            length: self.length,
+        };
+        line.force_near(minus_slope.raw(), estimate)
     }
 }
 

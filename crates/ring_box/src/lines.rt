@@ -57,7 +57,7 @@ fn length_elsewhere(s: u128) -> u64
 
 /// The length of a line whose square is `s`, from an estimate, which mostly is that length.
 #[inline(always)]
-fn length_near(s: u128, estimate: u64) -> u64
+pub(crate) fn length_near(s: u128, estimate: u64) -> u64
     ensures value { result ≡ length_of s }
     ensures positive { 0 < result }
     ensures longest { (a : ℕ) → a * a ≤ s → a ≤ result }
@@ -159,7 +159,16 @@ impl PairLine {
         ensures value { result ≡ line_force_of g self.x self.y self.z self.length }
         ensures bound { IsWithin (unsigned_abs g) result }
     {
-        let estimate = self.force_estimate(g);
+        self.force_near(g, self.force_estimate(g))
+    }
+
+    /// The same from an estimate, which mostly is that force.
+    #[inline(always)]
+    pub(crate) fn force_near(self, g: i64, estimate: Force<i64>) -> Force<i64>
+        requires { unsigned_abs g < 2 ^ 63 }
+        ensures value { result ≡ line_force_of g self.x self.y self.z self.length }
+        ensures bound { IsWithin (unsigned_abs g) result }
+    {
         Force {
             x: small_component(g, self.x, self.length, estimate.x),
             y: small_component(g, self.y, self.length, estimate.y),

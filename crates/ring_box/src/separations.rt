@@ -48,14 +48,30 @@ impl RingBox {
     }
 }
 
+/// About a separation, in floating point.
+#[derive(Clone, Copy)]
+pub(crate) struct FloatSeparation {
+    pub x: f64,
+    pub y: f64,
+    pub z: f64,
+}
+
 impl RingBox {
+    /// About the separation.
+    #[inline(always)]
+    pub(crate) fn float_separation(&self, p: Place3, q: Place3) -> FloatSeparation {
+        FloatSeparation {
+            x: diff(p.x, q.x) as f64 * self.x.get() as f64,
+            y: diff(p.y, q.y) as f64 * self.y.get() as f64,
+            z: diff(p.z, q.z) as f64 * self.z.get() as f64,
+        }
+    }
+
     /// About the root of the square of the separation.
     #[inline(always)]
     pub(crate) fn root_estimate(&self, p: Place3, q: Place3) -> u64 {
-        let a = diff(p.x, q.x) as f64 * self.x.get() as f64;
-        let b = diff(p.y, q.y) as f64 * self.y.get() as f64;
-        let c = diff(p.z, q.z) as f64 * self.z.get() as f64;
-        floor_estimate((a * a + b * b + c * c).sqrt()).cast_unsigned()
+        let FloatSeparation { x, y, z } = self.float_separation(p, q);
+        floor_estimate((x * x + y * y + z * z).sqrt()).cast_unsigned()
     }
 }
 

@@ -36,7 +36,7 @@ fn add_tile<S, W: RowWork<S>>(
     sums: &mut [i64],
     work: &W,
     scratch: &mut S,
-    adds: &mut ArrayVec<PairAdd, 64>,
+    adds: &mut ArrayVec<PairAdd, 128>,
     tile: u64,
 )
     requires tile { tile < length (W.plan work.now) }

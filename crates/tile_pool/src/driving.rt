@@ -21,7 +21,7 @@ fn deposit_tile<S, W: RowWork<S>>(
     table: &PoolTable<W>,
     seat: &mut PoolSeat,
     scratch: &mut S,
-    adds: &mut ArrayVec<PairAdd, 64>,
+    adds: &mut ArrayVec<PairAdd, 128>,
     work: &W,
     tile: u64,
 )

@@ -83,7 +83,7 @@ pub trait Work {
 
 /// Work that hands out what its pairs add row by row. A worker keeps an `S` at hand for it, which changes no answer.
 pub trait RowWork<S>: Work {
-    /// The forces of the pairs from the number `k` on that act, in order: at most 64 of them in place of what `adds`
+    /// The forces of the pairs from the number `k` on that act, in order: at most 128 of them in place of what `adds`
     /// held. The answer is the number of the pair with which the next call goes on. Work that finds the forces of many
     /// pairs together has a body of its own; this one asks for each pair by its number. The caller's condition: there
     /// is such a tile, and it has more than `k` pairs.
@@ -92,7 +92,7 @@ pub trait RowWork<S>: Work {
         _scratch: &mut S,
         tile: u64,
         k: u64,
-        adds: &mut ArrayVec<PairAdd, 64>,
+        adds: &mut ArrayVec<PairAdd, 128>,
     ) -> u64
         requires tile { tile < length (Self.plan self.now) }
         requires start { k < length (pairs_at (Self.plan self.now) tile) }
