@@ -38,7 +38,7 @@ use Rattle.engine.specs.Rounds.{grid_of}
 use Rattle.engine.specs.Rows.{AreNextFound, ask_of, found_of}
 use Rattle.engine.specs.SafeEnergies.{AreEnergies, AllHaveEnergies, IsEnergyFor, energy_at_types, energy_between, found_energy, safe_value}
 use Rattle.engine.specs.SafeSystems.{IsSafeSystem, safe_dynamics}
-use Rattle.engine.specs.declared.rows.FoundPair.{FoundPair}
+use Rattle.ring_box.specs.declared.found_pairs.FoundPair.{FoundPair}
 use Rattle.potential.specs.declared.slope_kernels.SlopeKernel.{SlopeKernel}
 
 -- ---- how many pairs there are

@@ -1,10 +1,11 @@
 -- Pairs that act, in rows: first what their atoms have between them, then the slopes of their energies, then what they
 -- add.
-use Rattle.std.specs.Prelude.{ℕ, ◌<◌, ◌≤◌, ℤ, ◌≤ℤ◌, ◌<ℤ◌, ◌≡◌, ◌^◌, List, [], ◌++◌, length, map, neg_ℤ, pos, take, unsigned_abs, Option, option_map, slice_index, slice_index_or}
+use Rattle.std.specs.Prelude.{ℕ, ◌<◌, ◌≤◌, ℤ, ◌≤ℤ◌, ◌<ℤ◌, ◌≡◌, ◌^◌, List, [], ◌++◌, length, map, neg_ℤ, pos, take, unsigned_abs, Option, slice_index, slice_index_or}
 use Rattle.cell_tiles.specs.Tiles.{tile_pairs}
 use Rattle.kernel_lanes.specs.declared.asks.Ask.{Ask}
 use Rattle.kernel_lanes.specs.Flats.{ask_at}
-use Rattle.ring_box.specs.Acting.{Reach, acting_of, force_of}
+use Rattle.ring_box.specs.Acting.{Reach, force_of}
+use Rattle.ring_box.specs.FoundPairs.{found_pair_of}
 use Rattle.tile_round.specs.Tiles.{acting}
 use Rattle.tile_round.specs.declared.work.PairAdd.{PairAdd}
 use Rattle.ring_box.specs.Places.{places_of}
@@ -12,7 +13,7 @@ use Rattle.integrator.specs.Frames.{Frame}
 use Rattle.integrator.specs.declared.systems.System.{System}
 use Rattle.engine.specs.Rounds.{grid_of, pair_add}
 use Rattle.potential.specs.Potentials.{minus, potential_of, slope_at}
-use Rattle.engine.specs.declared.rows.FoundPair.{FoundPair}
+use Rattle.ring_box.specs.declared.found_pairs.FoundPair.{FoundPair}
 use Rattle.potential.specs.declared.slope_kernels.SlopeKernel.{SlopeKernel}
 
 module _ {A : Type 0} (s : System (SlopeKernel A) A) where
@@ -22,7 +23,7 @@ module _ {A : Type 0} (s : System (SlopeKernel A) A) where
 
   -- a pair with what its atoms have between them; none where it doesn't act
   abbrev pub found_of : Frame → ℕ × ℕ → Option FoundPair
-  found_of frame p = option_map (λ a. record { low = p.0; high = p.1; acting = a }) (acting_of reach_of s.ring (places_of frame p.0) (places_of frame p.1))
+  found_of frame p = found_pair_of reach_of s.ring p.0 p.1 (places_of frame p.0) (places_of frame p.1)
 
   -- its atoms are two of `atoms`, the lower first, and its force is taken within reach
   pub record IsFound (atoms : ℕ) (f : FoundPair) : Type 0 where

@@ -12,7 +12,7 @@ use Rattle.potential.specs.Magnitudes.{is_small}
 use Rattle.engine.specs.PairEnergies.{energy_sum, pair_energy}
 use Rattle.engine.specs.Rows.{ask_of}
 use Rattle.engine.specs.SafeSystems.{safe_dynamics}
-use Rattle.engine.specs.declared.rows.FoundPair.{FoundPair}
+use Rattle.ring_box.specs.declared.found_pairs.FoundPair.{FoundPair}
 use Rattle.potential.specs.declared.slope_kernels.SlopeKernel.{SlopeKernel}
 use Rattle.integrator.specs.declared.systems.System.{System}
 

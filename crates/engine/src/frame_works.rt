@@ -1,6 +1,6 @@
 //! The pairs of a frame, tile by tile, as the work of a round.
 
-ghost use Rattle.std.specs.Prelude.{◌≡◌, ◌<◌, length, map, slice_get, Some, IfSome};
+ghost use Rattle.std.specs.Prelude.{◌≡◌, ◌<◌, ◌≤◌, length, map, slice_get, Some, IfSome};
 ghost use Rattle.std.specs.List.{All};
 ghost use Rattle.cell_tiles.specs.Cells.{AreBeside, members_of};
 ghost use Rattle.cell_tiles.specs.Tiles.{pairs_in, tiles_of};
@@ -9,11 +9,11 @@ ghost use Rattle.tile_round.specs.Tiles.{pairs_at, AreNextActing, IsPairOf};
 ghost use Rattle.engine.specs.Rounds.{grid_of, plan_of};
 ghost use Rattle.engine.specs.Rows.{AreNextFound, IsFound, add_found, tile_at};
 
-use crate::rows::{FoundPair, Scratch};
+use crate::rows::Scratch;
 use crate::safe_systems::SafeSystem;
 use arrayvec::ArrayVec;
 use cell_tiles::{AtomPair, Cells, FrameInBox, NearPairs, Tile, Tiles};
-use ring_box::Place3;
+use ring_box::{FoundPairs, Place3};
 use std::alloc::Allocator;
 use tile_round::{PairAdd, RowWork, Work};
 
@@ -71,13 +71,15 @@ impl<'a, A: Allocator + Copy> FrameWork<'a, A> {
         tile: u64,
         k: u64,
         near: &mut NearPairs,
-        found: &mut ArrayVec<FoundPair, 64>,
+        found: &mut FoundPairs,
     ) -> u64
         requires tile { tile < length (plan_of self.now.motion.now.system self.now.frame.now) }
         requires start { k < length (pairs_at (plan_of self.now.motion.now.system self.now.frame.now) tile) }
-        ensures sieved { AreNextFound self.now.motion.now.system self.now.frame.now (tile_at self.now.motion.now.system self.now.frame.now tile) k found.new.items result }
-        ensures next { AreNextActing (pairs_at (plan_of self.now.motion.now.system self.now.frame.now) tile) k (map (add_found self.now.motion.now.system) found.new.items) result }
-        ensures found { All (IsFound self.now.motion.now.system (length self.now.frame.now)) found.new.items }
+        ensures sieved { AreNextFound self.now.motion.now.system self.now.frame.now (tile_at self.now.motion.now.system self.now.frame.now tile) k found.new.pairs result }
+        ensures next { AreNextActing (pairs_at (plan_of self.now.motion.now.system self.now.frame.now) tile) k (map (add_found self.now.motion.now.system) found.new.pairs) result }
+        ensures measured { found.new.measured ≡ length found.new.pairs }
+        ensures found { All (IsFound self.now.motion.now.system (length self.now.frame.now)) found.new.pairs }
+        ensures few { length found.new.pairs ≤ 64 }
     {
         let reach = self.motion.reach();
         let frame = FrameInBox {
@@ -102,7 +104,7 @@ impl<'a, A: Allocator + Copy, B: Allocator> RowWork<Scratch<B>> for FrameWork<'a
         scratch: &mut Scratch<B>,
         tile: u64,
         k: u64,
-        adds: &mut ArrayVec<PairAdd, 64>,
+        adds: &mut ArrayVec<PairAdd, 128>,
     ) -> u64 {
         let next = self.find(tile, k, &mut scratch.near, &mut scratch.found);
         self.motion.adds(scratch, adds);

@@ -2,39 +2,44 @@
 
 ghost use Rattle.std.specs.Prelude.{◌≡◌, ◌<◌, ◌^◌, neg_ℤ, unsigned_abs};
 ghost use Rattle.ring_box.specs.Acting.{force_of};
+ghost use Rattle.engine.specs.Rounds.{pair_add};
 
 use arrayvec::ArrayVec;
 use cell_tiles::NearPairs;
 use fixed::Fx;
 use kernel_lanes::Ask;
 use potential::LaneRows;
-use ring_box::ActingPair;
+use ring_box::{Force, FoundPair, FoundPairs};
 use std::alloc::{AllocError, Allocator};
 use tile_round::PairAdd;
 
-/// Two atoms that act, the lower first, and what they have between them.
-#[derive(Clone, Copy, Default)]
-pub(crate) struct FoundPair {
-    pub low: u32,
-    pub high: u32,
-    pub acting: ActingPair,
+/// The force of a pair as it is added.
+fn added(low: u32, high: u32, force: Force<i64>) -> PairAdd
+    ensures { result ≡ pair_add low high force }
+{
+    PairAdd {
+        low,
+        high,
+        force: [force.x, force.y, force.z],
+    }
 }
 
-impl FoundPair {
-    ghost use Rattle.engine.specs.Rounds.{pair_add};
+/// The force of a pair, in 2^-bits kJ/mol/nm, where this is the slope of its energy.
+pub(crate) fn add_at(pair: &FoundPair, slope: Fx) -> PairAdd
+    requires { unsigned_abs slope < 2 ^ 63 }
+    ensures { result ≡ pair_add pair.now.low pair.now.high (force_of pair.now.acting (neg_ℤ slope)) }
+{
+    added(pair.low, pair.high, pair.acting.force(opposite(slope)))
+}
 
-    /// The force of the pair, in 2^-bits kJ/mol/nm, where this is the slope of its energy.
-    pub(crate) fn add(&self, slope: Fx) -> PairAdd
-        requires { unsigned_abs slope < 2 ^ 63 }
-        ensures { result ≡ pair_add self.now.low self.now.high (force_of self.now.acting (neg_ℤ slope)) }
-    {
-        let force = self.acting.force(opposite(slope));
-        PairAdd {
-            low: self.low,
-            high: self.high,
-            force: [force.x, force.y, force.z],
-        }
-    }
+/// The same from an estimate of the force.
+#[inline(always)]
+pub(crate) fn add_near(pair: &FoundPair, slope: Fx, estimate: Force<i64>) -> PairAdd
+    requires { unsigned_abs slope < 2 ^ 63 }
+    ensures { result ≡ pair_add pair.now.low pair.now.high (force_of pair.now.acting (neg_ℤ slope)) }
+{
+    let force = pair.acting.force_near(opposite(slope), estimate);
+    added(pair.low, pair.high, force)
 }
 
 fn opposite(slope: Fx) -> Fx
@@ -50,9 +55,9 @@ fn opposite(slope: Fx) -> Fx
 #[derive(Drop)]
 pub(crate) struct Scratch<A: Allocator> {
     pub near: NearPairs,
-    pub found: ArrayVec<FoundPair, 64>,
-    pub asks: ArrayVec<Ask, 64>,
-    pub slopes: [Fx; 64],
+    pub found: FoundPairs,
+    pub asks: ArrayVec<Ask, 128>,
+    pub slopes: [Fx; 128],
     pub rows: LaneRows<A>,
 }
 
@@ -62,9 +67,9 @@ impl<A: Allocator + Copy> Scratch<A> {
         let rows = LaneRows::new(alloc)?;
         Ok(Scratch {
             near: NearPairs::new(),
-            found: ArrayVec::new(),
+            found: FoundPairs::new(),
             asks: ArrayVec::new(),
-            slopes: [Fx::from_raw(0); 64],
+            slopes: [Fx::from_raw(0); 128],
             rows,
         })
     }

@@ -82,10 +82,12 @@ impl<'a, A: Allocator> SafeEnergy<'a, A> {
         self.kernel.values(asks, rows, energies);
     }
 
-    /// The energy of the pairs found.
+    /// The energy of the pairs found. Where there are none, no code is run.
     fn of_found<B: Allocator>(&self, scratch: &mut Scratch<B>) -> i128
-        requires found { All (IsFound self.now.motion.now.system (length self.now.motion.now.system.types.items)) scratch.old.found.items }
-        ensures value { result ≡ sum_over (found_energy self.now.motion.now.system) scratch.old.found.items }
+        requires few { length scratch.old.found.pairs ≤ 64 }
+        requires measured { scratch.old.found.measured ≡ length scratch.old.found.pairs }
+        requires found { All (IsFound self.now.motion.now.system (length self.now.motion.now.system.types.items)) scratch.old.found.pairs }
+        ensures value { result ≡ sum_over (found_energy self.now.motion.now.system) scratch.old.found.pairs }
         ensures bound { unsigned_abs result ≤ 2 ^ 63 * 64 }
     {
         let Scratch {
@@ -95,7 +97,10 @@ impl<'a, A: Allocator> SafeEnergy<'a, A> {
             rows,
             ..
         } = scratch;
-        self.motion.ask_all(found.as_slice(), asks);
+        if found.len() == 0 {
+            return 0;
+        }
+        self.motion.ask_all(found, asks);
         self.energies(asks.as_slice(), rows, energies);
         sum_of_first(energies, found.len())
     }

@@ -4,7 +4,7 @@ ghost use Rattle.std.specs.Prelude.{◌≡◌, length};
 ghost use Rattle.std.specs.List.{All};
 ghost use Rattle.engine.specs.SafeSystems.{IsSafeSystem};
 
-use crate::rows::{FoundPair, Scratch};
+use crate::rows::{Scratch, add_at, add_near};
 use arrayvec::ArrayVec;
 use cell_tiles::AtomPair;
 use fixed::Fx;
@@ -12,7 +12,7 @@ use integrator::System;
 use kernel_lanes::Ask;
 use kernel_machine::Stack;
 use potential::{LaneRows, SlopeKernel};
-use ring_box::{Place3, Reach};
+use ring_box::{FoundPair, FoundPairs, Place3, Reach};
 use std::alloc::Allocator;
 use tile_round::PairAdd;
 
@@ -67,21 +67,25 @@ impl<A: Allocator> SafeSystem<A> {
         reach: &Reach,
         frame: &[Place3],
         near: &[AtomPair],
-        found: &mut ArrayVec<FoundPair, 64>,
+        found: &mut FoundPairs,
     )
         requires reach { reach.now ≡ reach_of self.now.system }
         requires few { length near.now ≤ 64 }
         requires pairs { All (IsPairOf (length frame.now)) (map (λ p. (p.low, p.high)) near.now) }
-        ensures value { found.new.items ≡ acting (map (found_of self.now.system frame.now) (map (λ p. (p.low, p.high)) near.now)) }
-        ensures found { All (IsFound self.now.system (length frame.now)) found.new.items }
+        ensures value { found.new.pairs ≡ acting (map (found_of self.now.system frame.now) (map (λ p. (p.low, p.high)) near.now)) }
+        ensures measured { found.new.measured ≡ length found.new.pairs }
+        ensures found { All (IsFound self.now.system (length frame.now)) found.new.pairs }
+        ensures few { length found.new.pairs ≤ 64 }
     {
-        found.clear();
+        found.clear(reach);
+        let ring = self.system.ring;
         for l in 0..near.len() {
-            match self.found(reach, frame, near[l].low, near[l].high) {
-                Some(pair) => found.push(pair),
-                None => {}
-            }
+            let AtomPair { low, high } = near[l];
+            let x = frame[low as usize];
+            let y = frame[high as usize];
+            found.put(&ring, low, high, x, y);
         }
+        found.measure();
     }
 }
 
@@ -106,15 +110,60 @@ impl<A: Allocator> SafeSystem<A> {
     }
 
     /// The asks for these pairs, in their order, at most 64.
-    pub(crate) fn ask_all(&self, found: &[FoundPair], asks: &mut ArrayVec<Ask, 64>)
-        requires few { length found.now ≤ 64 }
-        requires found { All (IsFound self.now.system (length self.now.system.types.items)) found.now }
-        ensures value { asks.new.items ≡ map (ask_of self.now.system) found.now }
+    fn ask_each(&self, found: &FoundPairs, asks: &mut ArrayVec<Ask, 128>)
+        requires few { length found.now.pairs ≤ 64 }
+        requires measured { found.now.measured ≡ length found.now.pairs }
+        requires found { All (IsFound self.now.system (length self.now.system.types.items)) found.now.pairs }
+        ensures value { asks.new.items ≡ map (ask_of self.now.system) found.now.pairs }
         ensures served { All (IsServed self.now.system.kernel.verified) asks.new.items }
     {
         asks.clear();
         for l in 0..found.len() {
-            asks.push(self.ask(&found[l]));
+            asks.push(self.ask(&found.found(l)));
+        }
+    }
+
+    /// The ask for a pair where there is one type.
+    fn ask_alike(&self, pair: &FoundPair) -> Ask
+        requires one { length self.now.system.kernel.verified.table.rows ≡ 1 }
+        requires found { IsFound self.now.system (length self.now.system.types.items) pair.now }
+        ensures value { result ≡ ask_of self.now.system pair.now }
+        ensures served { IsServed self.now.system.kernel.verified result }
+    {
+        Ask {
+            a: 0,
+            b: 0,
+            r: pair.acting.distance(),
+        }
+    }
+
+    /// The asks for these pairs where there is one type: no atom's is looked up.
+    fn ask_each_alike(&self, found: &FoundPairs, asks: &mut ArrayVec<Ask, 128>)
+        requires one { length self.now.system.kernel.verified.table.rows ≡ 1 }
+        requires few { length found.now.pairs ≤ 64 }
+        requires measured { found.now.measured ≡ length found.now.pairs }
+        requires found { All (IsFound self.now.system (length self.now.system.types.items)) found.now.pairs }
+        ensures value { asks.new.items ≡ map (ask_of self.now.system) found.now.pairs }
+        ensures served { All (IsServed self.now.system.kernel.verified) asks.new.items }
+    {
+        asks.clear();
+        for l in 0..found.len() {
+            asks.push(self.ask_alike(&found.found(l)));
+        }
+    }
+
+    /// The asks for these pairs, in their order, at most 64.
+    pub(crate) fn ask_all(&self, found: &FoundPairs, asks: &mut ArrayVec<Ask, 128>)
+        requires few { length found.now.pairs ≤ 64 }
+        requires measured { found.now.measured ≡ length found.now.pairs }
+        requires found { All (IsFound self.now.system (length self.now.system.types.items)) found.now.pairs }
+        ensures value { asks.new.items ≡ map (ask_of self.now.system) found.now.pairs }
+        ensures served { All (IsServed self.now.system.kernel.verified) asks.new.items }
+    {
+        if self.system.kernel.verified.types() == 1 {
+            self.ask_each_alike(found, asks);
+        } else {
+            self.ask_each(found, asks);
         }
     }
 
@@ -146,7 +195,7 @@ impl<A: Allocator> SafeSystem<A> {
     {
         let ask = self.ask(pair);
         let slope = self.system.kernel.verified.value(&mut Stack::new(), ask);
-        pair.add(slope)
+        add_at(pair, slope)
     }
 
     /// The force of a pair of atoms of a frame; `None` where it doesn't act.
@@ -163,27 +212,31 @@ impl<A: Allocator> SafeSystem<A> {
     }
 
     /// The forces of the pairs found, by their slopes, at most 64.
-    fn add_all(&self, found: &[FoundPair], slopes: &[Fx], adds: &mut ArrayVec<PairAdd, 64>)
-        requires few { length found.now ≤ 64 }
-        requires room { length found.now ≤ length slopes.now }
-        requires slopes { AreSlopes self.now.system (map (ask_of self.now.system) found.now) slopes.now }
-        ensures { adds.new.items ≡ map (add_found self.now.system) found.now }
+    fn add_all(&self, found: &FoundPairs, slopes: &[Fx], adds: &mut ArrayVec<PairAdd, 128>)
+        requires few { length found.now.pairs ≤ 64 }
+        requires measured { found.now.measured ≡ length found.now.pairs }
+        requires room { length found.now.pairs ≤ length slopes.now }
+        requires slopes { AreSlopes self.now.system (map (ask_of self.now.system) found.now.pairs) slopes.now }
+        ensures { adds.new.items ≡ map (add_found self.now.system) found.now.pairs }
     {
         adds.clear();
         for l in 0..found.len() {
-            adds.push(found[l].add(slopes[l]));
+            let pair = found.found(l);
+            adds.push(add_near(&pair, slopes[l], found.force_estimate(l)));
         }
     }
 
-    /// The forces of the pairs found.
+    /// The forces of the pairs found. Where there are none, no code is run.
     pub(crate) fn adds<B: Allocator>(
         &self,
         scratch: &mut Scratch<B>,
-        adds: &mut ArrayVec<PairAdd, 64>,
+        adds: &mut ArrayVec<PairAdd, 128>,
     )
-        requires found { All (IsFound self.now.system (length self.now.system.types.items)) scratch.old.found.items }
+        requires few { length scratch.old.found.pairs ≤ 64 }
+        requires measured { scratch.old.found.measured ≡ length scratch.old.found.pairs }
+        requires found { All (IsFound self.now.system (length self.now.system.types.items)) scratch.old.found.pairs }
         requires bound { self.now.system.kernel.verified.bound < 2 ^ 63 }
-        ensures { adds.new.items ≡ map (add_found self.now.system) scratch.old.found.items }
+        ensures { adds.new.items ≡ map (add_found self.now.system) scratch.old.found.pairs }
     {
         let Scratch {
             found,
@@ -192,8 +245,13 @@ impl<A: Allocator> SafeSystem<A> {
             rows,
             ..
         } = scratch;
-        self.ask_all(found.as_slice(), asks);
+        if found.len() == 0 {
+            adds.clear();
+            return;
+        }
+        self.ask_all(found, asks);
         self.slopes(asks.as_slice(), rows, slopes);
-        self.add_all(found.as_slice(), slopes, adds);
+        found.estimate_ratios(slopes);
+        self.add_all(found, slopes, adds);
     }
 }

@@ -37,7 +37,7 @@ returns-clause-sieved g c =
     let tile : ℕ × ℕ = (c.get.result.first, c.get.result.second) in
     let listed = tile_listed s w.frame.now c.args.tile tile (rw w.grid at c.get.ensures.value) in
     rw listed
-    (near_found s w.frame.now (pairs_in (members_of (grid_of s) w.frame.now) tile) c.near_from-next.new.near c.args.k c.near_from-next.result c.find_all.new.found.items
+    (near_found s w.frame.now (pairs_in (members_of (grid_of s) w.frame.now) tile) c.near_from-next.new.near c.args.k c.near_from-next.result c.find_all.new.found.pairs
     (rw (w.members, c.reach-reach.ensures) at c.near_from-next.ensures.near) (rw c.as_slice.ensures.value at c.find_all.ensures.value))
 
 pub returns-clause-next : goal.returns-clause-next
@@ -47,6 +47,6 @@ returns-clause-next g c =
     let tile : ℕ × ℕ = (c.get.result.first, c.get.result.second) in
     let planned = tile_planned s w.frame.now c.args.tile tile (rw w.grid at c.get.ensures.value) in
     rw planned
-    (next_add s w.frame.now (pairs_in (members_of (grid_of s) w.frame.now) tile) c.args.k c.near_from-next.result c.find_all.new.found.items
-    (near_found s w.frame.now (pairs_in (members_of (grid_of s) w.frame.now) tile) c.near_from-next.new.near c.args.k c.near_from-next.result c.find_all.new.found.items
+    (next_add s w.frame.now (pairs_in (members_of (grid_of s) w.frame.now) tile) c.args.k c.near_from-next.result c.find_all.new.found.pairs
+    (near_found s w.frame.now (pairs_in (members_of (grid_of s) w.frame.now) tile) c.near_from-next.new.near c.args.k c.near_from-next.result c.find_all.new.found.pairs
     (rw (w.members, c.reach-reach.ensures) at c.near_from-next.ensures.near) (rw c.as_slice.ensures.value at c.find_all.ensures.value)))

@@ -19,4 +19,4 @@ returns-clause-atoms g c =
     let w = c.args.self.now in
     let s = w.motion.now.system in
     let n = length w.frame.now in
-    rw c.adds.ensures (All-map (IsPairOf n) (add_found s) c.find-next.new.found.items (λ k d lt. found_is_pair s n _ (c.find-next.ensures.found k d lt)))
+    rw c.adds.ensures (All-map (IsPairOf n) (add_found s) c.find-next.new.found.pairs (λ k d lt. found_is_pair s n _ (c.find-next.ensures.found k d lt)))

@@ -7,13 +7,13 @@ use Rattle.engine.proofs.safe_energies.SafeEnergy.of_found.Goals as goal
 pub energies-requires-clause-served : goal.energies-requires-clause-served
 energies-requires-clause-served g c =
     let e = c.args.self.now in
-    rw c.as_slice-2.ensures.value (λ k d lt. served_too e.motion.now.system e.kernel e.motion.now.accepted e.table e.core e.cutoff _ (c.ask_all.ensures.served k d lt))
+    rw c.as_slice.ensures.value (λ k d lt. served_too e.motion.now.system e.kernel e.motion.now.accepted e.table e.core e.cutoff _ (c.ask_all.ensures.served k d lt))
 
 pub returns-clause-value : goal.returns-clause-value
 returns-clause-value g c =
     let s = c.args.self.now.motion.now.system in
-    let found = c.args.scratch.now.found.items in
-    let are = rw (c.as_slice-2.ensures.value, c.ask_all.ensures.value, c.as_slice.ensures.value) at c.energies.ensures.energies in
-    let count : c.len.result ≡ length found = omega (arith, c.len.ensures) in
+    let found = c.args.scratch.now.found.pairs in
+    let are = rw (c.as_slice.ensures.value, c.ask_all.ensures.value) at c.energies.ensures.energies in
+    let count : c.len-2.result ≡ length found = omega (arith, c.len-2.ensures.value) in
     let same : to_z w128 (of_z w128 c.sum_of_first.result) ≡ c.sum_of_first.result = search rules in
     same ∙ c.sum_of_first.ensures.value ∙ (ap (λ n. sum_over (λ v. v) (take n c.energies.new.energies)) count ∙ energies_summed s found c.energies.new.energies (omega (arith, c.energies.ensures.len)) are)

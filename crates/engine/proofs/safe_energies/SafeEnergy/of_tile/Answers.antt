@@ -13,7 +13,7 @@ use Rattle.engine.proofs.safe_energies.SafeEnergy.of_tile.Goals as goal
 pub of_found-requires : goal.of_found-requires
 of_found-requires g c =
     let w = c.args.work.now in
-    record { found = rw (← c.requires.motion, ← w.atoms) c.find-next.ensures.found }
+    record { few = c.find-next.ensures.few; measured = c.find-next.ensures.measured; found = rw (← c.requires.motion, ← w.atoms) c.find-next.ensures.found }
 
 pub plus-sum-requires-clause-sum : goal.plus-sum-requires-clause-sum
 plus-sum-requires-clause-sum g c =
@@ -34,8 +34,8 @@ loop-next-preserved g c =
     let sieved = c.find-next.ensures.sieved in
     let same : to_z w128 (of_z w128 c.of_found.result) ≡ c.of_found.result = search rules in
     let new : to_z w128 (of_z w128 c.plus-sum.result) ≡ c.plus-sum.result = search rules in
-    let found : c.of_found.result ≡ sum_over (found_energy s) c.find-next.new.found.items = rw c.requires.motion c.of_found.ensures.value in
-    let more : sum_over e (take c.find-next.result ps) ≡ sum_over e (take c.loop-next.next ps) +ℤ sum_over (found_energy s) c.find-next.new.found.items = found_next s w.frame.now ps c.loop-next.next c.find-next.result c.find-next.new.found.items sieved in
+    let found : c.of_found.result ≡ sum_over (found_energy s) c.find-next.new.found.pairs = rw c.requires.motion c.of_found.ensures.value in
+    let more : sum_over e (take c.find-next.result ps) ≡ sum_over e (take c.loop-next.next ps) +ℤ sum_over (found_energy s) c.find-next.new.found.pairs = found_next s w.frame.now ps c.loop-next.next c.find-next.result c.find-next.new.found.pairs sieved in
     record {
       value = omega (arith, ints, same, new, found, more, c.plus-sum.ensures, c.loop-next.invariant.value);
       within = sieved.within;

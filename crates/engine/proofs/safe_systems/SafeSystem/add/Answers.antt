@@ -6,4 +6,4 @@ returns g c =
     let s = c.args.self.now.system in
     let ask = c.ask-ask in
     let slope = slope_is s ask.result c.value-slope.result ask.ensures.served c.requires.bound c.value-slope.ensures in
-    slope_adds s c.args.pair.now ask.result c.value-slope.result slope ask.ensures.value c.add.result c.add.ensures
+    slope_adds s c.args.pair.now ask.result c.value-slope.result slope ask.ensures.value c.add_at.result c.add_at.ensures

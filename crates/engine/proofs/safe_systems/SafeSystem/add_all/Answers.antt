@@ -1,6 +1,6 @@
-use Rattle.std.proofs.Common.{◌<◌, ◌++◌, [], ◌∷◌, ℤ, length, map, take, refl, sym, ap, pos, arith, ◌∙◌, subst}
+use Rattle.std.proofs.Common.{◌<◌, ◌++◌, [], ◌∷◌, ℤ, length, map, take, sym, ap, pos, arith, ◌∙◌, subst}
 use Rattle.std.proofs.lemmas.List.{get_or_read, length-map}
-use Rattle.std.proofs.lemmas.Option.{slice_get_read}
+use Rattle.std.proofs.lemmas.Option.{slice_get_within}
 use Rattle.kernel_lanes.specs.Flats.{ask_at}
 use Rattle.engine.proofs.RowLaws.{asked_at, mapped_next, slope_adds}
 use Rattle.engine.specs.Rows.{IsSlope, add_found, ask_of}
@@ -9,15 +9,16 @@ use Rattle.engine.proofs.safe_systems.SafeSystem.add_all.Goals as goal
 pub loop-l-preserved : goal.loop-l-preserved
 loop-l-preserved g c =
     let s = c.args.self.now.system in
-    let found = c.args.found.now in
+    let found = c.args.found.now.pairs in
     let l = c.loop-l.l in
-    let pair = c.index-found-l.result in
+    let pair = c.found-pair.result in
     let v = c.index-slopes-l.result in
-    let at = slice_get_read found (length found) l pair refl c.loop-l-test.true c.index-found-l.is in
-    let inside : l < length (map (ask_of s) found) = omega (arith, length-map found (ask_of s)) in
+    let at = c.found-pair.ensures in
+    let below : l < length found = slice_get_within found l pair at in
+    let inside : l < length (map (ask_of s) found) = omega (arith, below, length-map found (ask_of s)) in
     let slope : IsSlope s (ask_at (map (ask_of s) found) l) v = subst (λ (u : ℤ). IsSlope s (ask_at (map (ask_of s) found) l) u) (sym (get_or_read c.args.slopes.now l v (omega arith) c.index-slopes-l.is (pos 0))) (c.requires.slopes l inside) in
-    let added = slope_adds s pair (ask_at (map (ask_of s) found) l) v slope (asked_at s found l pair c.loop-l-test.true c.index-found-l.is) c.add.result c.add.ensures in
+    let added = slope_adds s pair (ask_at (map (ask_of s) found) l) v slope (asked_at s found l pair at) c.add_near.result c.add_near.ensures in
     record {
-      value = c.push.ensures.items ∙ (ap (λ adds. adds ++ c.add.result ∷ []) c.loop-l.invariant.value ∙ (ap (λ add. map (add_found s) (take l found) ++ add ∷ []) added ∙ sym (mapped_next (add_found s) found l pair at)));
+      value = c.push.ensures.items ∙ (ap (λ adds. adds ++ c.add_near.result ∷ []) c.loop-l.invariant.value ∙ (ap (λ add. map (add_found s) (take l found) ++ add ∷ []) added ∙ sym (mapped_next (add_found s) found l pair at)));
       len = omega (arith, c.push.ensures.len, c.loop-l.invariant.len);
     }
