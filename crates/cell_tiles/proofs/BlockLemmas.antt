@@ -2,9 +2,9 @@
 use Rattle.std.proofs.Common.{◌≡◌, ℕ, ◌+◌, ◌*◌, ◌/◌, ◌%◌, ◌<◌, ◌≤◌, List, [], ◌∷◌, ◌++◌, length, get_or, set, drop, map, refl, subst, sym, ap, ◌∙◌, ⊎_elim, arith}
 use Rattle.std.proofs.lemmas.Bool.{cases_eq, cases_lt}
 use Rattle.std.proofs.lemmas.List.{get_or-drop, get_or-set_other, get_or-set_same, get_or_append_left, get_or_past, get_or_push, length-drop, length-map, map-set}
-use Rattle.ring_box.specs.Blocks.{IsLane}
+use Rattle.place_blocks.specs.Blocks.{IsLane}
 use Rattle.ring_box.specs.Places.{places_of}
-use Rattle.ring_box.specs.declared.blocks.Block.{Block}
+use Rattle.place_blocks.specs.declared.blocks.Block.{Block}
 use Rattle.ring_box.specs.declared.vectors.Place3.{Place3}
 use Rattle.cell_tiles.specs.Cells.{AreBlocks, no_block}
 

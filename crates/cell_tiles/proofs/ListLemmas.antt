@@ -8,13 +8,13 @@ use Rattle.std.proofs.lemmas.List.{append_assoc, drop-map, get_or-drop, get_or-m
 use Rattle.std.proofs.lemmas.List.Elements.{All-append, All-drop, All-filter, All-from_get_or, All-get_or, All-map, All-take, filter-append}
 use Rattle.std.proofs.lemmas.Simd.{map-map}
 use Rattle.ring_box.specs.Acting.{Reach}
-use Rattle.ring_box.specs.Blocks.{AreInSpan, AreUpperHalves, IsCoarseReach, IsLane, LeavesOut, LeavesOutOfSpan}
+use Rattle.place_blocks.specs.Blocks.{AreInSpan, AreUpperHalves, IsCoarseReach, IsLane, LeavesOut, LeavesOutOfSpan}
 use Rattle.ring_box.specs.Places.{ArePlaces, places_of}
-use Rattle.ring_box.specs.declared.blocks.Block.{Block}
+use Rattle.place_blocks.specs.declared.blocks.Block.{Block}
 use Rattle.ring_box.specs.declared.boxes.RingBox.{RingBox}
-use Rattle.ring_box.specs.declared.coarse_reaches.CoarseReach.{CoarseReach}
-use Rattle.ring_box.specs.declared.upper_halves.CellSpan.{CellSpan}
-use Rattle.ring_box.specs.declared.upper_halves.UpperHalves.{UpperHalves}
+use Rattle.place_blocks.specs.declared.coarse_reaches.CoarseReach.{CoarseReach}
+use Rattle.place_blocks.specs.declared.upper_halves.CellSpan.{CellSpan}
+use Rattle.place_blocks.specs.declared.upper_halves.UpperHalves.{UpperHalves}
 use Rattle.ring_box.specs.declared.vectors.Place3.{Place3}
 use Rattle.cell_tiles.specs.Cells.{AreInBlocks, AreLanes, no_block, numbers_below}
 use Rattle.cell_tiles.specs.Near.{lanes_of, pair_acts}

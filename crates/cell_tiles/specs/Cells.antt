@@ -1,9 +1,9 @@
 -- The cells of a box, each by one number, and the atoms in them (GROMACS manual, Neighbor searching, grid search).
 use Rattle.std.specs.Prelude.{◌≡◌, ℕ, zero, suc, ◌+◌, ◌*◌, ◌/◌, ◌%◌, ◌^◌, ◌==◌, ◌<◌, ◌≤◌, Bool, ◌&&◌, List, [], ◌∷◌, ◌++◌, length, map, filter, slice_index, slice_index_or}
-use Rattle.ring_box.specs.Blocks.{IsLane}
+use Rattle.place_blocks.specs.Blocks.{IsLane}
 use Rattle.ring_box.specs.Cells.{are_near_cells, cell_of}
 use Rattle.ring_box.specs.Places.{places_of}
-use Rattle.ring_box.specs.declared.blocks.Block.{Block}
+use Rattle.place_blocks.specs.declared.blocks.Block.{Block}
 use Rattle.ring_box.specs.declared.vectors.CellBits.{CellBits}
 use Rattle.ring_box.specs.declared.vectors.CellNumbers.{CellNumbers}
 use Rattle.ring_box.specs.declared.vectors.Place3.{Place3}

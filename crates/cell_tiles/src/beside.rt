@@ -2,11 +2,12 @@
 
 ghost use Rattle.std.specs.Prelude.{◌≡◌, ℕ, ◌+◌, ◌*◌, ◌<◌, [], length, map, slice_index, slice_index_or, OnOk};
 ghost use Rattle.std.specs.List.{All};
-ghost use Rattle.ring_box.specs.Blocks.{IsLane};
+ghost use Rattle.place_blocks.specs.Blocks.{IsLane};
 ghost use Rattle.ring_box.specs.Places.{nowhere, places_of};
 ghost use Rattle.cell_tiles.specs.Cells.{AreBlocks, AreBlocksOfEach, AreLanes};
 
-use ring_box::{Block, Place3};
+use place_blocks::Block;
+use ring_box::Place3;
 use std::alloc::{AllocError, Allocator};
 
 // The block of these atoms of a frame, the first sixteen at most.

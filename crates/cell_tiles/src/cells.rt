@@ -13,7 +13,8 @@ use crate::near::{FrameInBox, NearPairs};
 use crate::pairs::{AtomPair, count_among, count_between, pair_among, pair_between};
 use crate::tiles::Tile;
 use crate::walks::{TileRow, TileRows, walk_among, walk_between};
-use ring_box::{Block, Place3};
+use place_blocks::{Block, UpperHalves};
+use ring_box::Place3;
 use std::alloc::{AllocError, Allocator};
 use std::marker::Model;
 
@@ -240,7 +241,7 @@ impl<A: Allocator + Copy> Cells<A> {
         if tile.first != tile.second && self.is_cell_far(frame, row.atom, tile.second) {
             return row.others.len();
         }
-        let halves = frame.places[row.atom as usize].upper_halves();
+        let halves = UpperHalves::of(frame.places[row.atom as usize]);
         let blocks = self.blocks(tile.second);
         near.add_row(
             frame,

@@ -3,7 +3,7 @@
 
 ghost use Rattle.std.specs.Prelude.{◌≡◌, ◌+◌, ◌*◌, ◌^◌, ◌<◌, ◌≤◌, ◌++◌, ℕ, length, map, slice_index, take};
 ghost use Rattle.std.specs.List.{All};
-ghost use Rattle.ring_box.specs.Blocks.{AreUpperHalves};
+ghost use Rattle.place_blocks.specs.Blocks.{AreUpperHalves};
 ghost use Rattle.ring_box.specs.Places.{places_of};
 ghost use Rattle.cell_tiles.specs.Cells.{AreInBlocks, AreLanes};
 ghost use Rattle.cell_tiles.specs.Near.{IsPairOf, lanes_of, those_acting};
@@ -12,7 +12,7 @@ ghost use Rattle.cell_tiles.specs.Tiles.{pair_of, pairs_with};
 use crate::lanes::{bits_of, next_lane};
 use crate::near::FrameInBox;
 use crate::pairs::{AtomPair, in_order};
-use ring_box::{Block, UpperHalves};
+use place_blocks::{Block, UpperHalves};
 use std::marker::Model;
 
 /// At most 128 pairs of atoms, in order. A contract sees the list of them.

@@ -2,12 +2,13 @@
 
 ghost use Rattle.std.specs.Prelude.{◌≡◌, ◌≤◌, length, map};
 ghost use Rattle.std.specs.List.{All};
-ghost use Rattle.ring_box.specs.Blocks.{IsCoarseReach};
+ghost use Rattle.place_blocks.specs.Blocks.{IsCoarseReach};
 ghost use Rattle.ring_box.specs.Places.{ArePlaces};
 
 use crate::lists::PairList;
 use crate::pairs::AtomPair;
-use ring_box::{CoarseReach, Place3, Reach, RingBox};
+use place_blocks::CoarseReach;
+use ring_box::{Place3, Reach, RingBox};
 use std::marker::Model;
 
 /// The atoms of a frame at their places in a box, and how far forces reach in it.
@@ -15,7 +16,7 @@ use std::marker::Model;
 pub struct FrameInBox<'a> {
     pub ring: &'a RingBox,
     pub reach: &'a Reach,
-    /// What `RingBox::coarse_reach` answers for them.
+    /// What `CoarseReach::new` answers for them.
     pub coarse: CoarseReach,
     pub places: &'a [Place3],
     pub ghost on_ring: { All ArePlaces places.now },

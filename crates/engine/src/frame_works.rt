@@ -13,6 +13,7 @@ use crate::rows::Scratch;
 use crate::safe_systems::SafeSystem;
 use arrayvec::ArrayVec;
 use cell_tiles::{AtomPair, Cells, FrameInBox, NearPairs, Tile, Tiles};
+use place_blocks::CoarseReach;
 use ring_box::{FoundPairs, Place3};
 use std::alloc::Allocator;
 use tile_round::{PairAdd, RowWork, Work};
@@ -85,7 +86,7 @@ impl<'a, A: Allocator + Copy> FrameWork<'a, A> {
         let frame = FrameInBox {
             ring: &self.motion.system.ring,
             reach: &reach,
-            coarse: self.motion.system.ring.coarse_reach(&reach),
+            coarse: CoarseReach::new(&self.motion.system.ring, &reach),
             places: self.frame,
         };
         let next = self.cells.near_from(&frame, self.tiles.get(tile), k, near);

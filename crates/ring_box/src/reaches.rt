@@ -75,7 +75,7 @@ impl Reach {
     }
 
     /// The least square that is out of reach.
-    pub(crate) fn limit(&self) -> u128
+    pub fn limit(&self) -> u128
         ensures value { result ≡ limit_of self.now.frac self.now.cutoff }
         ensures reach { IsReach self.now }
     {

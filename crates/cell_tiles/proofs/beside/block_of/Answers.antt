@@ -1,5 +1,5 @@
 use Rattle.std.proofs.Common.{ℕ, ◌∙◌, arith, get_or, length-set, refl, subst}
-use Rattle.ring_box.specs.Blocks.{IsLane}
+use Rattle.place_blocks.specs.Blocks.{IsLane}
 use Rattle.ring_box.specs.Places.{nowhere, places_of}
 use Rattle.cell_tiles.proofs.BlockLemmas.{set_next}
 use Rattle.cell_tiles.proofs.beside.block_of.Goals as goal

@@ -1,6 +1,6 @@
 use Rattle.std.proofs.Common.{ℕ, ◌≡◌, ◌*◌, ◌-◌, ◌<◌, ap, arith, drop, get_or, length, length-drop, subst, take}
 use Rattle.std.proofs.lemmas.List.{length_push, take_all}
-use Rattle.ring_box.specs.Blocks.{IsLane}
+use Rattle.place_blocks.specs.Blocks.{IsLane}
 use Rattle.ring_box.specs.Places.{places_of}
 use Rattle.cell_tiles.proofs.BlockLemmas.{block_more}
 use Rattle.cell_tiles.proofs.beside.lay_out.Goals as goal

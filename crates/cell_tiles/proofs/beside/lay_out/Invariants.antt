@@ -1,5 +1,5 @@
 use Rattle.std.proofs.Common.{◌≡◌, ℕ, ◌*◌, ◌/◌, ◌%◌, ◌<◌, get_or, length}
-use Rattle.ring_box.specs.Blocks.{IsLane}
+use Rattle.place_blocks.specs.Blocks.{IsLane}
 use Rattle.ring_box.specs.Places.{places_of}
 use Rattle.cell_tiles.specs.Cells.{no_block}
 use Rattle.cell_tiles.proofs.beside.lay_out.Given as goal

@@ -1,0 +1,18 @@
+use Rattle.std.proofs.Common.{◌≡◌, ℕ, ◌<◌, ◌≤◌, length, slice_index_or, get_or}
+use Rattle.place_blocks.specs.Blocks.{IsUpperHalf}
+use Rattle.ring_box.specs.Places.{nowhere}
+use Rattle.place_blocks.proofs.blocks.Block.of.Given as goal
+
+-- the upper halves of the first i places, and 0 behind them
+abbrev pub invariant-loop-i : goal.invariant-loop-i
+invariant-loop-i l = record {
+  x_long : length l.x ≡ 16;
+  y_long : length l.y ≡ 16;
+  z_long : length l.z ≡ 16;
+  x : (k : ℕ) → k < l.i → IsUpperHalf (get_or l.x k 0) (slice_index_or l.places k nowhere).x;
+  y : (k : ℕ) → k < l.i → IsUpperHalf (get_or l.y k 0) (slice_index_or l.places k nowhere).y;
+  z : (k : ℕ) → k < l.i → IsUpperHalf (get_or l.z k 0) (slice_index_or l.places k nowhere).z;
+  x_rest : (k : ℕ) → l.i ≤ k → get_or l.x k 0 ≡ 0;
+  y_rest : (k : ℕ) → l.i ≤ k → get_or l.y k 0 ≡ 0;
+  z_rest : (k : ℕ) → l.i ≤ k → get_or l.z k 0 ≡ 0;
+}

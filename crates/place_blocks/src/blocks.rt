@@ -1,0 +1,77 @@
+//! Blocks of sixteen atoms, by the upper halves of their places.
+
+use crate::lanes::{lane_of, with_lane};
+use crate::upper_halves::UpperHalves;
+use ring_box::Place3;
+use std::simd::prelude::*;
+
+/// The upper halves of the places of sixteen atoms, by axis: an atom is a lane.
+#[derive(Clone, Copy)]
+pub struct Block {
+    pub x: u16x16,
+    pub y: u16x16,
+    pub z: u16x16,
+}
+
+impl Block {
+    ghost use Rattle.std.specs.Prelude.{ℕ, ◌≡◌, ◌≢◌, ◌<◌, slice_index_or};
+    ghost use Rattle.place_blocks.specs.Blocks.{IsLane, halves_at};
+    ghost use Rattle.ring_box.specs.Places.{nowhere};
+
+    /// The block whose lanes are all 0.
+    #[inline(always)]
+    pub fn empty() -> Block
+        ensures { (k : ℕ) → k < 16 → IsLane result k nowhere }
+    {
+        Block {
+            x: u16x16::splat(0),
+            y: u16x16::splat(0),
+            z: u16x16::splat(0),
+        }
+    }
+
+    /// The block of the first sixteen of these places at most; the lanes past the last are 0.
+    pub fn of(places: &[Place3]) -> Block
+        ensures { (k : ℕ) → k < 16 → IsLane result k (slice_index_or places.now k nowhere) }
+    {
+        let mut x = [0u16; 16];
+        let mut y = [0u16; 16];
+        let mut z = [0u16; 16];
+        for i in 0..places.len().min(16) {
+            let halves = UpperHalves::of(places[i]);
+            x[i] = halves.x;
+            y[i] = halves.y;
+            z[i] = halves.z;
+        }
+        Block {
+            x: u16x16::from_array(x),
+            y: u16x16::from_array(y),
+            z: u16x16::from_array(z),
+        }
+    }
+
+    /// The upper halves in a lane.
+    #[inline(always)]
+    pub fn at(&self, lane: usize) -> UpperHalves
+        requires { lane < 16 }
+        ensures { result ≡ halves_at self.now lane }
+    {
+        UpperHalves {
+            x: lane_of(&self.x, lane),
+            y: lane_of(&self.y, lane),
+            z: lane_of(&self.z, lane),
+        }
+    }
+
+    /// Puts other upper halves into a lane.
+    #[inline(always)]
+    pub fn set(&mut self, lane: usize, halves: UpperHalves)
+        requires { lane < 16 }
+        ensures here { halves_at self.new lane ≡ halves }
+        ensures others { (k : ℕ) → k ≢ lane → halves_at self.new k ≡ halves_at self.old k }
+    {
+        self.x = with_lane(self.x, lane, halves.x);
+        self.y = with_lane(self.y, lane, halves.y);
+        self.z = with_lane(self.z, lane, halves.z);
+    }
+}

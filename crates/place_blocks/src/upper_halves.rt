@@ -1,0 +1,87 @@
+//! The upper halves of places: the upper 16 of the 32 bits of each number.
+
+ghost use Rattle.std.specs.Prelude.{ℕ, ◌≡◌, ◌*◌, ◌-◌, ◌^◌};
+ghost use Rattle.ring_box.specs.Acting.{IsCellNumber};
+ghost use Rattle.place_blocks.specs.Blocks.{IsUpperHalf};
+
+use ring_box::{CellBits, CellNumbers, Place3};
+
+/// The upper halves of the numbers of an atom's place.
+#[derive(Clone, Copy, PartialEq, Eq, Debug)]
+pub struct UpperHalves {
+    pub x: u16,
+    pub y: u16,
+    pub z: u16,
+}
+
+/// The upper halves from a first one on, along each axis, and how many there are: those of the places of a cell.
+#[derive(Clone, Copy, PartialEq, Eq, Debug)]
+pub struct CellSpan {
+    pub first: UpperHalves,
+    pub width: UpperHalves,
+}
+
+#[inline(always)]
+fn upper_half(x: u32) -> u16
+    ensures { IsUpperHalf result x }
+{
+    (x >> 16) as u16
+}
+
+impl UpperHalves {
+    ghost use Rattle.place_blocks.specs.Blocks.{AreUpperHalves};
+
+    /// The upper halves of a place's numbers.
+    #[inline(always)]
+    pub fn of(place: Place3) -> UpperHalves
+        ensures { AreUpperHalves result place }
+    {
+        UpperHalves {
+            x: upper_half(place.x),
+            y: upper_half(place.y),
+            z: upper_half(place.z),
+        }
+    }
+}
+
+fn first_half(b: u32, cell: u32) -> u16
+    requires { IsCellNumber b cell }
+    ensures { result ≡ cell * 2 ^ (16 - b) }
+{
+    (cell << (16 - b)) as u16
+}
+
+fn halves_of_a_cell(b: u32, cell: u32) -> u16
+    requires { IsCellNumber b cell }
+    ensures { result ≡ 2 ^ (16 - b) }
+{
+    1 << (16 - b)
+}
+
+impl CellSpan {
+    ghost use Rattle.std.specs.Prelude.{◌≡◌};
+    ghost use Rattle.ring_box.specs.Acting.{AreCellNumbers, AreInCell};
+    ghost use Rattle.place_blocks.specs.Blocks.{AreInSpan, cell_span_of};
+    ghost use Rattle.ring_box.specs.declared.vectors.Place3.{Place3};
+
+    /// The span of the upper halves of the places of a cell, given by its numbers along the sides, which are cut into
+    /// 2^bits cells, 1 to 4 bits each.
+    pub fn of(bits: CellBits, cell: CellNumbers) -> CellSpan
+        requires { AreCellNumbers bits cell }
+        ensures value { result ≡ cell_span_of bits cell }
+        ensures whole { (q : Place3) → AreInCell bits cell q → AreInSpan result q }
+    {
+        CellSpan {
+            first: UpperHalves {
+                x: first_half(bits.x, cell.x),
+                y: first_half(bits.y, cell.y),
+                z: first_half(bits.z, cell.z),
+            },
+            width: UpperHalves {
+                x: halves_of_a_cell(bits.x, cell.x),
+                y: halves_of_a_cell(bits.y, cell.y),
+                z: halves_of_a_cell(bits.z, cell.z),
+            },
+        }
+    }
+}
