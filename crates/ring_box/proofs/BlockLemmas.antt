@@ -13,6 +13,7 @@ use Rattle.ring_box.specs.declared.boxes.RingBox.{RingBox}
 use Rattle.ring_box.specs.declared.coarse_reaches.CoarseReach.{CoarseReach}
 use Rattle.ring_box.specs.declared.upper_halves.CellSpan.{CellSpan}
 use Rattle.ring_box.specs.declared.vectors.Place3.{Place3}
+use Rattle.ring_box.proofs.DistanceLemmas.{squared}
 use Rattle.ring_box.proofs.GapLemmas.{beyond, gap_below}
 use Rattle.ring_box.proofs.PlaceLemmas.{difference_turned}
 
@@ -46,9 +47,6 @@ length_below gap w cut d side p q =
     let c : v * 2 ^ 16 * s ≤ gap * w * s = mul-le (v * 2 ^ 16) s (gap * w) s b (omega arith) in
     let f : gap * 2 ^ 16 * (w * s) ≤ d * side = mul-le (gap * 2 ^ 16) (w * s) d side p q in
     rw a (omega (arith, c, f))
-
-squared : (v a u : ℕ) → v * u ≤ a → v * v * (u * u) ≤ a * a
-squared v a u h = omega (arith, mul-le (v * u) (v * u) a a h h)
 
 square_below : (gap w cut d side : ℕ) → gap * 2 ^ 16 ≤ d → w * 2 ^ cut ≤ side →
     coarse_square gap w * 2 ^ (64 + 2 * cut) ≤ d * side * (d * side)

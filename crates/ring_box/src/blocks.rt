@@ -57,9 +57,9 @@ impl Block {
         ensures { result ≡ halves_at self.now lane }
     {
         UpperHalves {
-            x: lane_of(self.x, lane),
-            y: lane_of(self.y, lane),
-            z: lane_of(self.z, lane),
+            x: lane_of(&self.x, lane),
+            y: lane_of(&self.y, lane),
+            z: lane_of(&self.z, lane),
         }
     }
 

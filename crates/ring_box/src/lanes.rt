@@ -76,21 +76,22 @@ pub(crate) fn at_most(a: u32x16, limit: u32) -> u64
 
 /// A lane.
 #[inline(always)]
-pub(crate) fn lane_of(a: u16x16, lane: usize) -> u16
+pub(crate) fn lane_of(a: &u16x16, lane: usize) -> u16
     requires { lane < 16 }
-    ensures { result ≡ slice_index a lane }
+    ensures { result ≡ slice_index a.now lane }
 {
-    a[lane]
+    a.as_array()[lane]
 }
 
-/// The vector with one lane replaced.
+/// The vector with one lane replaced: chosen, since a lane that is written would be waited for where all are read next.
 #[inline(always)]
 pub(crate) fn with_lane(a: u16x16, lane: usize, value: u16) -> u16x16
     requires { lane < 16 }
     ensures here { slice_index result lane ≡ value }
     ensures others { (k : ℕ) → k ≢ lane → slice_index result k ≡ slice_index a k }
 {
-    let mut lanes = a.to_array();
-    lanes[lane] = value;
-    u16x16::from_array(lanes)
+    let lanes = u16x16::from_array([0, 1, 2, 3, 4, 5, 6, 7, 8, 9, 10, 11, 12, 13, 14, 15]);
+    lanes
+        .simd_eq(u16x16::splat(lane as u16))
+        .select(u16x16::splat(value), a)
 }
