@@ -1,12 +1,13 @@
 -- Blocks that are laid out beside atoms, one after another.
-use Rattle.std.proofs.Common.{◌≡◌, ℕ, ◌+◌, ◌*◌, ◌/◌, ◌%◌, ◌<◌, ◌≤◌, List, [], ◌∷◌, ◌++◌, length, get_or, set, drop, map, refl, subst, sym, ap, ◌∙◌, ⊎_elim, arith}
+use Rattle.std.proofs.Common.{◌≡◌, ◌≢◌, ℕ, ◌+◌, ◌*◌, ◌/◌, ◌%◌, ◌<◌, ◌≤◌, List, [], ◌∷◌, ◌++◌, length, get_or, set, drop, map, refl, subst, sym, ap, ◌∙◌, ⊎_elim, arith}
 use Rattle.std.proofs.lemmas.Bool.{cases_eq, cases_lt}
-use Rattle.std.proofs.lemmas.List.{get_or-drop, get_or-set_other, get_or-set_same, get_or_append_left, get_or_past, get_or_push, length-drop, length-map, map-set}
-use Rattle.ring_box.specs.Blocks.{IsLane}
+use Rattle.std.proofs.lemmas.List.{get_or-drop, get_or-set_other, get_or-set_same, get_or_append_left, get_or_past, get_or_push, length-drop, length-map, length_push, map-set}
+use Rattle.ring_box.specs.Blocks.{AreUpperHalves, IsLane, halves_at}
 use Rattle.ring_box.specs.Places.{places_of}
 use Rattle.ring_box.specs.declared.blocks.Block.{Block}
+use Rattle.ring_box.specs.declared.upper_halves.UpperHalves.{UpperHalves}
 use Rattle.ring_box.specs.declared.vectors.Place3.{Place3}
-use Rattle.cell_tiles.specs.Cells.{AreBlocks, no_block}
+use Rattle.cell_tiles.specs.Cells.{AreBlocks, AreInBlocks, no_block}
 
 -- one element more is as wanted
 pub set_next : {X : Type 0} (xs : List X) (i : ℕ) (x d : X) (f : ℕ → X) → i < length xs → ((k : ℕ) → k < i → get_or xs k d ≡ f k) → x ≡ f i → (k : ℕ) → k < i + 1 → get_or (set xs i x) k d ≡ f k
@@ -44,3 +45,35 @@ module _ (frame : List Place3) {Y : Type 0} (blocks_of : Y → List Block) where
 -- where there is no cell no block is wanted
 pub no_cell : (frame : List Place3) (members : List (List ℕ)) (blocks : List (List Block)) (c : ℕ) → length members ≤ c → length blocks ≤ c → AreBlocks frame (get_or members c []) (get_or blocks c [])
 no_cell frame members blocks c m b = rw (get_or_past members c [] m, get_or_past blocks c [] b) (record { long = refl; lanes = λ i lt. absurd (omega arith) })
+
+-- ---- lanes that are filled one after another
+
+-- a lane more is filled
+pub lane_more : (frame : List Place3) (blocks : List Block) (n x : ℕ) (xs : List ℕ) (here : Block) (halves : UpperHalves) → length xs ≡ n → n / 16 < length blocks
+    → halves_at here (n % 16) ≡ halves → ((k : ℕ) → k ≢ n % 16 → halves_at here k ≡ halves_at (get_or blocks (n / 16) no_block) k) → AreUpperHalves halves (places_of frame x)
+    → AreInBlocks frame blocks 0 xs → AreInBlocks frame (set blocks (n / 16) here) 0 (xs ++ x ∷ [])
+lane_more frame blocks n x xs here halves long room set_to kept is before i lt =
+    ⊎_elim last earlier (cases_eq i n)
+  where
+    last : i ≡ n → IsLane (get_or (set blocks (n / 16) here) ((0 + i) / 16) no_block) ((0 + i) % 16) (places_of frame (get_or (xs ++ x ∷ []) i 0))
+    last e =
+        let m : 0 + i ≡ n = omega arith in
+        let atom : get_or (xs ++ x ∷ []) i 0 ≡ x = get_or_push xs x 0 i (omega arith) in
+        let block : get_or (set blocks (n / 16) here) (n / 16) no_block ≡ here = get_or-set_same blocks (n / 16) here no_block room in
+        subst (λ k. IsLane (get_or (set blocks (n / 16) here) (k / 16) no_block) (k % 16) (places_of frame (get_or (xs ++ x ∷ []) i 0))) (sym m)
+        (subst (λ a. IsLane (get_or (set blocks (n / 16) here) (n / 16) no_block) (n % 16) (places_of frame a)) (sym atom)
+        (subst (λ b. IsLane b (n % 16) (places_of frame x)) (sym block) (subst (λ h. AreUpperHalves h (places_of frame x)) (sym set_to) is)))
+
+    earlier : i ≢ n → IsLane (get_or (set blocks (n / 16) here) ((0 + i) / 16) no_block) ((0 + i) % 16) (places_of frame (get_or (xs ++ x ∷ []) i 0))
+    earlier ne =
+        let below : i < length xs = omega (arith, length_push xs x) in
+        let atom : get_or (xs ++ x ∷ []) i 0 ≡ get_or xs i 0 = get_or_append_left xs (x ∷ []) 0 i below in
+        subst (λ a. IsLane (get_or (set blocks (n / 16) here) ((0 + i) / 16) no_block) ((0 + i) % 16) (places_of frame a)) (sym atom)
+        (⊎_elim
+        (λ (same : (0 + i) / 16 ≡ n / 16).
+        let block : get_or (set blocks (n / 16) here) ((0 + i) / 16) no_block ≡ here = ap (λ j. get_or (set blocks (n / 16) here) j no_block) same ∙ get_or-set_same blocks (n / 16) here no_block room in
+        let other : (0 + i) % 16 ≢ n % 16 = λ e. ne (omega arith) in
+        let halves_kept : halves_at here ((0 + i) % 16) ≡ halves_at (get_or blocks ((0 + i) / 16) no_block) ((0 + i) % 16) = kept ((0 + i) % 16) other ∙ ap (λ j. halves_at (get_or blocks j no_block) ((0 + i) % 16)) (sym same) in
+        subst (λ b. IsLane b ((0 + i) % 16) (places_of frame (get_or xs i 0))) (sym block) (subst (λ h. AreUpperHalves h (places_of frame (get_or xs i 0))) (sym halves_kept) (before i below)))
+        (λ ne'. subst (λ b. IsLane b ((0 + i) % 16) (places_of frame (get_or xs i 0))) (sym (get_or-set_other blocks (n / 16) ((0 + i) / 16) here no_block ne')) (before i below))
+        (cases_eq ((0 + i) / 16) (n / 16)))

@@ -10,6 +10,7 @@ pub mod CoverLemmas
 pub mod SumLemmas
 pub mod WalkLemmas
 pub mod BlockLemmas
+pub mod RowLemmas
 pub mod LaneLemmas
 pub mod ListLemmas
 pub mod NearLemmas

@@ -1,13 +1,14 @@
 -- A list of pairs that is written pair by pair, block by block, row by row.
-use Rattle.std.proofs.Common.{◌≡◌, ℕ, ◌+◌, ◌/◌, ◌%◌, ◌^◌, ◌<◌, ◌≤◌, Bool, false, List, [], ◌∷◌, ◌++◌, length, get_or, set, take, drop, map, filter, subst, sym, ap, ◌∙◌, arith, take-add}
+use Rattle.std.proofs.Common.{◌≡◌, ℕ, ◌+◌, ◌/◌, ◌%◌, ◌^◌, ◌<◌, ◌≤◌, Bool, false, None, List, [], ◌∷◌, ◌++◌, length, get_or, set, take, drop, map, filter, subst, sym, ap, ◌∙◌, arith, take-add}
 use Rattle.std.specs.Coded.{Coded-set, coded_bool}
 use Rattle.std.specs.Int.{bit_at}
 use Rattle.std.specs.List.{All}
 use Rattle.std.proofs.Math.Logic.{∥∥₁_elim}
-use Rattle.std.proofs.lemmas.List.{append_assoc, drop-map, get_or-drop, get_or-map, get_or-take, length-append, length-drop, length-map, length-take-le, map-append, take-map, take_more_set}
+use Rattle.std.proofs.lemmas.List.{append_assoc, drop-map, get_or-drop, get_or-map, get_or-take, length-append, length-drop, length-map, length-take-le, map-append, take-map, take_all, take_more_set}
 use Rattle.std.proofs.lemmas.List.Elements.{All-append, All-drop, All-filter, All-from_get_or, All-get_or, All-map, All-take, filter-append}
 use Rattle.std.proofs.lemmas.Simd.{map-map}
-use Rattle.ring_box.specs.Acting.{Reach}
+use Rattle.ring_box.proofs.ActingLemmas.{idle_turned}
+use Rattle.ring_box.specs.Acting.{Reach, acting_of}
 use Rattle.ring_box.specs.Blocks.{AreInSpan, AreUpperHalves, IsCoarseReach, IsLane, LeavesOut, LeavesOutOfSpan}
 use Rattle.ring_box.specs.Places.{ArePlaces, places_of}
 use Rattle.ring_box.specs.declared.blocks.Block.{Block}
@@ -19,9 +20,10 @@ use Rattle.ring_box.specs.declared.vectors.Place3.{Place3}
 use Rattle.cell_tiles.specs.Cells.{AreInBlocks, AreLanes, no_block, numbers_below}
 use Rattle.cell_tiles.specs.Near.{lanes_of, pair_acts}
 use Rattle.cell_tiles.specs.Tiles.{pair_of, pairs_with}
+use Rattle.cell_tiles.proofs.CellLemmas.{are_places}
 use Rattle.cell_tiles.proofs.CountLemmas.{get_below, length_below}
 use Rattle.cell_tiles.proofs.LaneLemmas.{by_places, is_set, lanes_act, lanes_below, length_lanes}
-use Rattle.cell_tiles.proofs.NearLemmas.{pair_idle}
+use Rattle.cell_tiles.proofs.NearLemmas.{none_left, pair_idle}
 
 -- one pair more
 pub listed_more : {X : Type 0} (pair : X → ℕ × ℕ) (xs : List X) (x : X) (count : ℕ) (p : ℕ × ℕ) (more : List (ℕ × ℕ)) → count < length xs → pair x ≡ p
@@ -121,3 +123,53 @@ row_lanes frame blocks column bs ys part within lanes i lt =
     let zero_more : 0 + (column + i) ≡ column + i = omega arith in
     let here : IsLane (get_or blocks ((0 + (column + i)) / 16) no_block) ((0 + (column + i)) % 16) (places_of frame (get_or ys (column + i) 0)) = lanes (column + i) (omega arith) in
     rw atom (subst (λ k. IsLane (get_or blocks (k / 16) no_block) (k % 16) (places_of frame (get_or ys (column + i) 0))) zero_more here)
+
+-- ---- atoms that are gathered
+
+-- the pairs with those of some atoms that are gathered
+pub gathered_more : (a : ℕ) (bs old new : List ℕ) (bits : ℕ) → new ≡ old ++ map (λ j. get_or bs j 0) (lanes_of bits) → pairs_with a new ≡ pairs_with a old ++ pairs_at a bs (lanes_of bits)
+gathered_more a bs old new bits is =
+    ap (pairs_with a) is ∙ map-append (pair_of a) old (map (λ j. get_or bs j 0) (lanes_of bits)) ∙ ap (λ ys. pairs_with a old ++ ys) (map-map (pair_of a) (λ (j : ℕ). get_or bs j 0) (lanes_of bits))
+
+-- what holds of each of some atoms holds of each that is gathered of them
+pub gathered_all : (P : ℕ → Type 0) (bs old new : List ℕ) (bits : ℕ) → bits < 2 ^ length bs → length bs ≤ 16 → All P bs → All P old → new ≡ old ++ map (λ j. get_or bs j 0) (lanes_of bits) → All P new
+gathered_all P bs old new bits small few all before is =
+    let each : All (λ j. P (get_or bs j 0)) (numbers_below (length bs)) =
+    All-from_get_or (λ j. P (get_or bs j 0)) (numbers_below (length bs)) 0
+    (λ i lt. let inside : i < length bs = omega (arith, length_below (length bs), lt) in subst (λ j. P (get_or bs j 0)) (sym (get_below (length bs) i 0 inside)) (All-get_or P bs i 0 inside all)) in
+    let passing = All-filter (is_set bits) (λ j. P (get_or bs j 0)) (numbers_below (length bs)) each in
+    let those : All P (map (λ j. get_or bs j 0) (lanes_of bits)) = rw (lanes_below bits (length bs) small few) (All-map P (λ (j : ℕ). get_or bs j 0) _ passing) in
+    rw is (All-append P old (map (λ j. get_or bs j 0) (lanes_of bits)) before those)
+
+-- some of the atoms of one block have its lanes from that of the first of them on
+pub own_lanes : (frame : List Place3) (blocks : List Block) (s n : ℕ) (bs : List ℕ) → s % 16 + n ≤ 16 → s + n ≤ length bs → AreInBlocks frame blocks 0 bs → AreLanes frame (get_or blocks (s / 16) no_block) (s % 16) (take n (drop s bs))
+own_lanes frame blocks s n bs one within lanes =
+    let zero_more : 0 + s ≡ s = omega arith in
+    let lane : (0 + s) % 16 ≡ s % 16 = omega arith in
+    subst (λ k. AreLanes frame (get_or blocks (s / 16) no_block) k (take n (drop s bs))) lane
+    (part_lanes frame blocks (get_or blocks (s / 16) no_block) 0 s n bs (omega (arith, lane)) within (ap (λ k. get_or blocks (k / 16) no_block) (sym zero_more)) lanes)
+
+-- so from the first lane on
+pub first_lanes : (frame : List Place3) (blocks : List Block) (s n : ℕ) (bs : List ℕ) → s % 16 ≡ 0 → n ≤ 16 → s + n ≤ length bs → AreInBlocks frame blocks 0 bs → AreLanes frame (get_or blocks (s / 16) no_block) 0 (take n (drop s bs))
+first_lanes frame blocks s n bs aligned few within lanes =
+    subst (λ k. AreLanes frame (get_or blocks (s / 16) no_block) k (take n (drop s bs))) aligned (own_lanes frame blocks s n bs (omega arith) within lanes)
+
+-- an atom in a lane whose bit isn't set makes no pair that acts with any of those in a span
+pub row_idle : (d : Reach) (b : RingBox) (frame : List Place3) (coarse : CoarseReach) (block : Block) (span : CellSpan) (bits first : ℕ) (atoms ys : List ℕ) (j : ℕ) → All ArePlaces frame → ∥ IsCoarseReach d b coarse ∥₁
+    → ((d : Reach) (b : RingBox) → IsCoarseReach d b coarse → LeavesOutOfSpan d b block span bits) → All (λ y. AreInSpan span (places_of frame y)) ys → AreLanes frame block first atoms → first + length atoms ≤ 16 → j < length atoms
+    → bit_at bits (first + j) ≡ 0 → filter (pair_acts d b frame) (pairs_with (get_or atoms j 0) ys) ≡ []
+row_idle d b frame coarse block span bits first atoms ys j places reach left_out spans lanes within lt unset =
+    let a = get_or atoms j 0 in
+    let ps = pairs_with a ys in
+    let acts = pair_acts d b frame in
+    let whole : take (length ps) ps ≡ ps = take_all (length ps) ps (omega arith) in
+    ap (filter acts) (sym whole)
+    ∙ none_left acts (length ps) ps
+    (λ i below.
+    let inside : i < length ys = omega (arith, length-map ys (pair_of a), below) in
+    let y = get_or ys i 0 in
+    ap acts (get_or-map (pair_of a) ys i 0 (0, 0) inside)
+    ∙ ∥∥₁_elim reach (Coded-set coded_bool _ _)
+    (λ r.
+    let apart : acting_of d b (places_of frame y) (places_of frame a) ≡ None = left_out d b r (first + j) (places_of frame y) (places_of frame a) (omega arith) (All-get_or (λ y. AreInSpan span (places_of frame y)) ys i 0 inside spans) (lanes j lt) unset in
+    pair_idle d b frame a y places (idle_turned d b (places_of frame y) (places_of frame a) (are_places frame y places) (are_places frame a places) apart)))

@@ -1,8 +1,8 @@
 -- The atoms of each cell, as one atom after another is put into its cell.
 use Rattle.std.proofs.Common.{◌≡◌, ℕ, ◌+◌, ◌<◌, ◌≤◌, ◌≢◌, Bool, true, false, cond, eqb, List, [], ◌∷◌, ◌++◌, length, filter, get_or, set, replicate, sym, ap, ◌∙◌, ⊎_elim, arith, append-nil}
 use Rattle.std.specs.List.{All}
-use Rattle.std.proofs.lemmas.Bool.{cases_eq, eq-eqb, ne_eqb}
-use Rattle.std.proofs.lemmas.List.{ext_get_or, get_or-map, get_or-replicate, get_or-set_other, get_or-set_same, length-map, length-replicate, length-set}
+use Rattle.std.proofs.lemmas.Bool.{cases_eq, cases_lt, eq-eqb, ne_eqb}
+use Rattle.std.proofs.lemmas.List.{ext_get_or, get_or-map, get_or-replicate, get_or-set_other, get_or-set_same, get_or_past, length-map, length-replicate, length-set}
 use Rattle.std.proofs.lemmas.List.Elements.{All-filter, All-from_get_or, filter-append}
 use Rattle.std.proofs.lemmas.List.Sums.{count_by-le-length, length-filter}
 use Rattle.ring_box.specs.declared.vectors.CellBits.{CellBits}
@@ -96,3 +96,9 @@ few_members bits frame n m h =
         let g = count_by-le-length p (numbers_below n) in
         let k = length_below n in
         omega arith
+
+-- a cell that holds an atom is one of the cells that there are
+pub cell_inside : (bits : CellBits) (frame : List Place3) (members : List (List ℕ)) (c : ℕ) → members ≡ members_of bits frame → 0 < length (members_at members c) → c < cells_of bits
+cell_inside bits frame members c are some =
+    let l : length members ≡ cells_of bits = ap length are ∙ length_members bits frame (length frame) in
+    ⊎_elim (λ lt. omega arith) (λ le. let none : length (members_at members c) ≡ 0 = ap length (get_or_past members c [] le) in absurd (omega arith)) (cases_lt c (length members))

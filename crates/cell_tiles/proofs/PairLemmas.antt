@@ -1,10 +1,10 @@
 -- How often a pair stands among the pairs of two lists, and among those of one.
-use Rattle.std.proofs.Common.{◌≡◌, ℕ, zero, suc, ◌+◌, ◌*◌, ◌<◌, ◌≤◌, Bool, true, false, cond, ◌&&◌, eqb, ltb, leb, List, [], ◌∷◌, ◌++◌, length, take, get_or, sum_by, refl, ap, ◌∙◌, ⊎_elim, arith}
+use Rattle.std.proofs.Common.{◌≡◌, ◌≢◌, ℕ, zero, suc, ◌+◌, ◌*◌, ◌<◌, ◌≤◌, Bool, true, false, cond, ◌&&◌, eqb, ltb, leb, List, [], ◌∷◌, ◌++◌, length, take, get_or, sum_by, refl, ap, ◌∙◌, ⊎_elim, arith}
 use Rattle.std.proofs.lemmas.Bool.Decides.{nat_tests}
-use Rattle.std.proofs.lemmas.Bool.{cases_lt, cases_eq, lt-ltb, le-ltb, le-leb, lt-leb}
+use Rattle.std.proofs.lemmas.Bool.{cases_lt, cases_eq, lt-ltb, le-ltb, le-leb, lt-leb, ne_eqb}
 use Rattle.std.proofs.lemmas.List.Sums.{sum_by-cons, sum_by-append}
 use Rattle.std.proofs.Math.Seq.{take-suc}
-use Rattle.cell_tiles.specs.Tiles.{pair_of, pairs_among, pairs_between, pairs_with}
+use Rattle.cell_tiles.specs.Tiles.{members_at, pair_of, pairs_among, pairs_between, pairs_in, pairs_with}
 use Rattle.cell_tiles.specs.Cover.{is_same, times}
 use Rattle.cell_tiles.proofs.CountLemmas.{count, count_push, same, same_else, sum_flat_map, sum_map, sum_same}
 
@@ -175,3 +175,7 @@ times_turned lo hi xs (suc m) p =
     let u : leb lo hi ≡ false = lt-leb lo hi p in
     let v : ltb lo hi ≡ false = le-ltb lo hi (omega arith) in
     rw (times_among_suc lo hi xs m, rest, u, v) (omega arith)
+
+-- the pairs of a tile of two cells
+pub pairs_of_two : (members : List (List ℕ)) (c d : ℕ) → c ≢ d → pairs_in members (c, d) ≡ pairs_between (members_at members c) (members_at members d)
+pairs_of_two members c d ne = rw (ne_eqb c d ne) refl

@@ -78,6 +78,11 @@ pub record AreBlocks (frame : List Place3) (atoms : List ℕ) (blocks : List Blo
   pub long : length blocks ≡ (length atoms + 15) / 16
   pub lanes : AreInBlocks frame blocks 0 atoms
 
+-- some atoms, and blocks in which they have lanes
+pub record BlockAtoms : Type 0 where
+  pub atoms : List ℕ
+  pub blocks : List Block
+
 -- the atoms of the cells: how the box is cut, the atoms of each cell, and the blocks beside them
 pub record CellAtoms : Type 0 where
   pub bits : CellBits

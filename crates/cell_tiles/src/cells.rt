@@ -13,7 +13,7 @@ use crate::near::{FrameInBox, NearPairs};
 use crate::pairs::{AtomPair, count_among, count_between, pair_among, pair_between};
 use crate::tiles::Tile;
 use crate::walks::{TileRow, TileRows, walk_among, walk_between};
-use ring_box::{Block, Place3};
+use ring_box::{Block, CellSpan, Place3};
 use std::alloc::{AllocError, Allocator};
 use std::marker::Model;
 
@@ -191,12 +191,14 @@ impl<A: Allocator + Copy> Cells<A> {
 // ---- pairs that act
 
 impl<A: Allocator + Copy> Cells<A> {
-    ghost use Rattle.std.specs.Prelude.{ℕ, ◌≡◌, ◌+◌, ◌<◌, ◌≤◌, ◌++◌, drop, length, take, IsTrue, None};
+    ghost use Rattle.std.specs.Prelude.{ℕ, ◌≡◌, ◌≢◌, ◌+◌, ◌*◌, ◌<◌, ◌≤◌, ◌++◌, IfSome, drop, length, take, IsTrue, None};
     ghost use Rattle.ring_box.specs.Acting.{acting_of};
     ghost use Rattle.ring_box.specs.Places.{places_of};
     ghost use Rattle.cell_tiles.specs.Cells.{AreBeside, cell_number, members_of};
     ghost use Rattle.cell_tiles.specs.Near.{AreNear, IsPairOf, those_acting};
-    ghost use Rattle.cell_tiles.specs.Tiles.{members_at, pairs_with};
+    ghost use Rattle.cell_tiles.specs.Tiles.{members_at, pairs_between, pairs_with};
+    ghost use Rattle.ring_box.specs.Blocks.{AreInSpan};
+    ghost use Rattle.ring_box.specs.declared.vectors.Place3.{Place3};
 
     // Whether no atom of a cell acts with this one, as far as the ends of the cell tell.
     fn is_cell_far(&self, frame: &FrameInBox, atom: u32, cell: u32) -> bool
@@ -276,6 +278,67 @@ impl<A: Allocator + Copy> Cells<A> {
         next
     }
 
+    // The span of the upper halves of the places in a cell.
+    fn span(&self, cell: u32) -> CellSpan
+        requires { cell < cells_of self.now.bits }
+        ensures { (p : Place3) → ArePlaces p → cell_number self.now.bits p ≡ cell → AreInSpan result p }
+    {
+        self.grid.bits.span(self.grid.numbers(cell))
+    }
+
+    // The row of two cells that a pair begins, where the second cell has at most 128 atoms.
+    fn short_row(&self, tile: Tile, k: u64) -> Option<usize>
+        requires { k < length (pairs_in self.now.members (tile.first, tile.second)) }
+        ensures two { IfSome result (λ row. tile.first ≢ tile.second) }
+        ensures row { IfSome result (λ row. row < length (members_at self.now.members tile.first)) }
+        ensures begins { IfSome result (λ row. row * length (members_at self.now.members tile.second) ≡ k) }
+        ensures few { IfSome result (λ row. length (members_at self.now.members tile.second) ≤ 128) }
+    {
+        if tile.first == tile.second {
+            return None;
+        }
+        let width = self.atoms(tile.second).len() as u64;
+        if width <= 128 && k % width == 0 {
+            Some((k / width) as usize)
+        } else {
+            None
+        }
+    }
+
+    // The same for two cells, of which the second has at most 128 atoms, from the beginning of a row on: with those atoms
+    // of the second alone that may act with some atom of the first, and of the first alone that may act with some of the
+    // second.
+    fn near_between(&self, frame: &FrameInBox, tile: Tile, row: usize, near: &mut NearPairs) -> u64
+        requires row { row < length (members_at self.now.members tile.first) }
+        requires few { length (members_at self.now.members tile.second) ≤ 128 }
+        requires some { 0 < length (members_at self.now.members tile.second) }
+        requires first { tile.first < cells_of self.now.bits }
+        requires second { tile.second < cells_of self.now.bits }
+        requires members { self.now.members ≡ members_of self.now.bits frame.now.places.now }
+        requires beside { AreBeside frame.now.places.now self.now }
+        requires pairs { All (IsPairOf (length frame.now.places.now)) (pairs_between (members_at self.now.members tile.first) (members_at self.now.members tile.second)) }
+        ensures near { AreNear frame.now.reach.now frame.now.ring.now frame.now.places.now (pairs_between (members_at self.now.members tile.first) (members_at self.now.members tile.second)) (row * length (members_at self.now.members tile.second)) near.new result }
+        ensures listed { All (IsPairOf (length frame.now.places.now)) near.new }
+    {
+        let others = self.atoms(tile.second);
+        near.gathered.gather(
+            frame,
+            others,
+            self.blocks(tile.second),
+            &self.span(tile.first),
+        );
+        near.list.clear();
+        let next = near.list.add_cell(
+            frame,
+            &near.gathered,
+            &self.span(tile.second),
+            self.atoms(tile.first),
+            self.blocks(tile.first),
+            row,
+        );
+        next as u64 * others.len() as u64
+    }
+
     /// Lists the pairs of a tile that act, from that with the number `k` on, in place of what `near` held: at most
     /// 128 of them, in order, with some that may not act. It answers the number of the pair with which to go on. The
     /// caller's condition: the cells hold the atoms of the frame, and there is such a pair.
@@ -288,6 +351,9 @@ impl<A: Allocator + Copy> Cells<A> {
         ensures near { AreNear frame.now.reach.now frame.now.ring.now frame.now.places.now (pairs_in self.now.members (tile.first, tile.second)) k near.new result }
         ensures listed { All (IsPairOf (length frame.now.places.now)) near.new }
     {
-        self.near_by_rows(frame, tile, k, &mut near.list)
+        match self.short_row(tile, k) {
+            Some(row) => self.near_between(frame, tile, row, near),
+            None => self.near_by_rows(frame, tile, k, &mut near.list),
+        }
     }
 }

@@ -12,6 +12,7 @@ pub(crate) fn next_lane(bits: u64) -> (usize, u64)
     ensures lanes { lanes_of bits ≡ result.0 ∷ lanes_of result.1 }
     ensures set { bit_at bits result.0 ≡ 1 }
     ensures before { (k : ℕ) → k < result.0 → bit_at bits k ≡ 0 }
+    ensures gone { (k : ℕ) → k ≤ result.0 → bit_at result.1 k ≡ 0 }
     ensures behind { (k : ℕ) → result.0 < k → bit_at result.1 k ≡ bit_at bits k }
     ensures less { result.1 < bits }
 {

@@ -4,6 +4,7 @@
 
 mod beside;
 mod cells;
+mod gathered;
 mod grids;
 mod lanes;
 mod laws;

@@ -9,10 +9,11 @@ ghost use Rattle.cell_tiles.specs.Cells.{AreInBlocks, AreLanes};
 ghost use Rattle.cell_tiles.specs.Near.{IsPairOf, lanes_of, those_acting};
 ghost use Rattle.cell_tiles.specs.Tiles.{pair_of, pairs_with};
 
+use crate::gathered::Gathered;
 use crate::lanes::{bits_of, next_lane};
 use crate::near::FrameInBox;
 use crate::pairs::{AtomPair, in_order};
-use ring_box::{Block, UpperHalves};
+use ring_box::{Block, CellSpan, UpperHalves};
 use std::marker::Model;
 
 /// At most 128 pairs of atoms, in order. A contract sees the list of them.
@@ -148,5 +149,94 @@ impl PairList {
             seen = end;
         }
         seen
+    }
+}
+
+// ---- rows of pairs with atoms that are gathered
+
+impl PairList {
+    ghost use Rattle.std.specs.Prelude.{◌-◌, [], drop};
+    ghost use Rattle.std.specs.Int.{bit_at};
+    ghost use Rattle.ring_box.specs.Blocks.{AreInSpan};
+    ghost use Rattle.cell_tiles.specs.Cells.{AreBlocks};
+    ghost use Rattle.cell_tiles.specs.Tiles.{pairs_between};
+
+    /// Adds the pairs that may act of those of up to sixteen atoms whose bits are set with all gathered ones, row by
+    /// row, until there might be no room for a row. It answers how many of the atoms it has come past. The atoms have the
+    /// lanes of a block from the lane `first` on.
+    #[inline(always)]
+    fn add_rows(
+        &mut self,
+        frame: &FrameInBox,
+        gathered: &Gathered,
+        block: &Block,
+        first: usize,
+        atoms: &[u32],
+        marked: u64,
+    ) -> usize
+        requires lanes { first + length atoms.now ≤ 16 }
+        requires marked { marked < 2 ^ length atoms.now }
+        requires beside { AreLanes frame.now.places.now block.now first atoms.now }
+        requires gathered { AreInBlocks frame.now.places.now gathered.now.blocks 0 gathered.now.atoms }
+        requires pairs { All (λ a. All (IsPairOf (length frame.now.places.now)) (pairs_with a gathered.now.atoms)) atoms.now }
+        requires idle { (j : ℕ) → j < length atoms.now → bit_at marked j ≡ 0
+            → those_acting frame.now.reach.now frame.now.ring.now frame.now.places.now (pairs_with (slice_index atoms.now j) gathered.now.atoms) ≡ [] }
+        ensures acting { those_acting frame.now.reach.now frame.now.ring.now frame.now.places.now self.new
+            ≡ those_acting frame.now.reach.now frame.now.ring.now frame.now.places.now self.old ++ those_acting frame.now.reach.now frame.now.ring.now frame.now.places.now (pairs_between (take result atoms.now) gathered.now.atoms) }
+        ensures listed { All (IsPairOf (length frame.now.places.now)) self.old → All (IsPairOf (length frame.now.places.now)) self.new }
+        ensures within { result ≤ length atoms.now }
+        ensures onward { 0 < length atoms.now → length self.old ≡ 0 → 0 < result }
+    {
+        let others = gathered.atoms();
+        let blocks = gathered.blocks();
+        let mut next = 0;
+        let mut left = marked;
+        while left != 0 {
+            if self.len() + others.len() > 128 {
+                return next;
+            }
+            let (row, rest) = next_lane(left);
+            self.add_row(frame, atoms[row], block.at(first + row), blocks, 0, others);
+            next = row + 1;
+            left = rest;
+        }
+        atoms.len()
+    }
+
+    /// Adds the pairs that may act of these atoms from the number `from` on with all gathered ones, row by row, until
+    /// there might be no room for a row. It answers the number of the atom to go on with. The blocks stand beside the
+    /// atoms, and the gathered ones lie in the span: so sixteen rows at once are seen to be far.
+    pub(crate) fn add_cell(
+        &mut self,
+        frame: &FrameInBox,
+        gathered: &Gathered,
+        span: &CellSpan,
+        atoms: &[u32],
+        blocks: &[Block],
+        from: usize,
+    ) -> usize
+        requires beside { AreBlocks frame.now.places.now atoms.now blocks.now }
+        requires gathered { AreInBlocks frame.now.places.now gathered.now.blocks 0 gathered.now.atoms }
+        requires span { All (λ b. AreInSpan span.now (places_of frame.now.places.now b)) gathered.now.atoms }
+        requires pairs { All (λ a. All (IsPairOf (length frame.now.places.now)) (pairs_with a gathered.now.atoms)) atoms.now }
+        requires from { from < length atoms.now }
+        ensures acting { those_acting frame.now.reach.now frame.now.ring.now frame.now.places.now self.new
+            ≡ those_acting frame.now.reach.now frame.now.ring.now frame.now.places.now self.old ++ those_acting frame.now.reach.now frame.now.ring.now frame.now.places.now (pairs_between (take (result - from) (drop from atoms.now)) gathered.now.atoms) }
+        ensures listed { All (IsPairOf (length frame.now.places.now)) self.old → All (IsPairOf (length frame.now.places.now)) self.new }
+        ensures within { result ≤ length atoms.now }
+        ensures onward { length self.old ≡ 0 → from < result }
+    {
+        let mut next = from;
+        while next < atoms.len() {
+            let lane = next % 16;
+            let end = atoms.len().min(next + (16 - lane));
+            let block = &blocks[next / 16];
+            let marked = bits_of(frame.coarse.near_cell(block, span), lane, end - next);
+            next += self.add_rows(frame, gathered, block, lane, &atoms[next..end], marked);
+            if next < end {
+                return next;
+            }
+        }
+        next
     }
 }

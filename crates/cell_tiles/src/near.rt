@@ -5,6 +5,7 @@ ghost use Rattle.std.specs.List.{All};
 ghost use Rattle.ring_box.specs.Blocks.{IsCoarseReach};
 ghost use Rattle.ring_box.specs.Places.{ArePlaces};
 
+use crate::gathered::Gathered;
 use crate::lists::PairList;
 use crate::pairs::AtomPair;
 use ring_box::{CoarseReach, Place3, Reach, RingBox};
@@ -26,6 +27,8 @@ pub struct FrameInBox<'a> {
 #[derive(Drop)]
 pub struct NearPairs {
     pub(crate) list: PairList,
+    // where the atoms of a cell are gathered that may act with some of another
+    pub(crate) gathered: Gathered,
 }
 
 impl Model for NearPairs {
@@ -45,6 +48,7 @@ impl NearPairs {
     {
         NearPairs {
             list: PairList::new(),
+            gathered: Gathered::new(),
         }
     }
 

@@ -9,6 +9,11 @@ returns-clause-set c = (bit_at-trailing_zeros w64 c.args.bits c.requires.some c.
 pub returns-clause-before : goal.returns-clause-before
 returns-clause-before c = (bit_at-trailing_zeros w64 c.args.bits c.requires.some c.ranges.bits.fits).2
 
+pub returns-clause-gone : goal.returns-clause-gone
+returns-clause-gone c =
+    let t = bit_at-trailing_zeros w64 c.args.bits c.requires.some c.ranges.bits.fits in
+    (without_lowest _ c.args.bits t.1 t.2).0
+
 pub returns-clause-behind : goal.returns-clause-behind
 returns-clause-behind c =
     let t = bit_at-trailing_zeros w64 c.args.bits c.requires.some c.ranges.bits.fits in

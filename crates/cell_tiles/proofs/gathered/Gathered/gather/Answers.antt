@@ -1,0 +1,82 @@
+use Rattle.std.proofs.Common.{◌≡◌, ℕ, ◌+◌, ◌-◌, ◌/◌, ◌^◌, ◌<◌, ◌≤◌, [], ap, arith, drop, get_or, length, length-append, length-drop, map, refl, subst, sym, take, true, ◌∙◌}
+use Rattle.std.proofs.lemmas.List.{length-map, length-take-le, take_all}
+use Rattle.std.proofs.lemmas.List.Elements.{All-drop, All-take}
+use Rattle.cell_tiles.specs.Cells.{no_block}
+use Rattle.cell_tiles.specs.Near.{IsPairOf, lanes_of, pair_acts, those_acting}
+use Rattle.cell_tiles.specs.Tiles.{pair_of, pairs_with}
+use Rattle.cell_tiles.proofs.LaneLemmas.{length_lanes}
+use Rattle.cell_tiles.proofs.ListLemmas.{first_lanes, gathered_all, gathered_more, marked_act, marked_listed, part_all, part_passed, span_idle}
+use Rattle.cell_tiles.proofs.gathered.Gathered.gather.Goals as goal
+
+pub loop-seen-init : goal.loop-seen-init
+loop-seen-init c = record {
+  lanes = λ i lt. absurd (omega arith);
+  those = λ p all k d lt. absurd (omega arith);
+  pairs = λ n a all k d lt. absurd (omega arith);
+  acting = λ a near. refl;
+  few = omega arith;
+  within = omega arith;
+  aligned = λ lt. refl;
+}
+
+pub add_marked-requires-clause-room : goal.add_marked-requires-clause-room
+add_marked-requires-clause-room c =
+    let seen = c.loop-seen.seen in
+    let n = c.min-end.result - seen in
+    let is = c.min-end.ensures in
+    let long : length (take n (drop seen c.args.atoms.now)) ≡ n = length-take-le n (drop seen c.args.atoms.now) (omega (arith, length-drop seen c.args.atoms.now, is)) in
+    omega (arith, long, is, c.loop-seen.invariant.few, c.loop-seen-test.true, c.requires.few)
+
+pub loop-seen-preserved : goal.loop-seen-preserved
+loop-seen-preserved c =
+    let f = c.args.frame.now in
+    let frame = f.places.now in
+    let acts = pair_acts f.reach.now f.ring.now frame in
+    let atoms = c.args.atoms.now in
+    let seen = c.loop-seen.seen in
+    let end = c.min-end.result in
+    let n = end - seen in
+    let is = c.min-end.ensures in
+    let kept = c.loop-seen.invariant in
+    let part = take n (drop seen atoms) in
+    let bits = c.bits_of.result in
+    let old = c.loop-seen.self.atoms in
+    let new = c.add_marked.new.self.atoms in
+    let whole : seen + n ≡ end = omega (arith, is, c.loop-seen-test.true) in
+    let within : seen + n ≤ length atoms = omega (arith, is, c.loop-seen-test.true) in
+    let long : length part ≡ n = length-take-le n (drop seen atoms) (omega (arith, length-drop seen atoms, is)) in
+    let few : length part ≤ 16 = omega (arith, long, is) in
+    let small : bits < 2 ^ length part = subst (λ m. bits < 2 ^ m) (sym long) c.bits_of.ensures.bound in
+    let lanes = first_lanes frame c.args.blocks.now seen n atoms (kept.aligned c.loop-seen-test.true) (omega (arith, is)) within c.requires.beside.lanes in
+    record {
+      lanes = c.add_marked.ensures.lanes frame kept.lanes lanes;
+      those = λ p all. gathered_all (λ a. p a ≡ true) part old new bits small few (All-take (λ a. p a ≡ true) n (drop seen atoms) (All-drop (λ a. p a ≡ true) seen atoms all)) (kept.those p all) c.add_marked.ensures.atoms;
+      pairs = λ m a all. marked_listed a part (IsPairOf m) bits (pairs_with a old) (pairs_with a new) small few (part_all (IsPairOf m) a seen n atoms all) (kept.pairs m a all) (gathered_more a part old new bits c.add_marked.ensures.atoms);
+      acting = λ a near.
+          part_passed acts a seen n end atoms [] (pairs_with a old) (pairs_with a new) (sym whole)
+          (marked_act a part acts bits (pairs_with a old) (pairs_with a new) small few
+          (λ j lt unset.
+          span_idle f.reach.now f.ring.now frame f.coarse (get_or c.args.blocks.now (seen / 16) no_block) c.args.span.now c.near_cell-near.result 0 a part j f.on_ring f.is_coarse c.near_cell-near.ensures.left_out near lanes (omega (arith, few)) lt
+          (sym (c.bits_of.ensures.each j (omega (arith, lt, long))) ∙ unset))
+          (gathered_more a part old new bits c.add_marked.ensures.atoms))
+          (kept.acting a near);
+      few = omega (arith, ap length c.add_marked.ensures.atoms, length-append old (map (λ j. get_or part j 0) (lanes_of bits)), length-map (lanes_of bits) (λ (j : ℕ). get_or part j 0), length_lanes bits (length part) small few, long, kept.few, whole);
+      within = omega (arith, is);
+      aligned = λ more. omega (arith, is, more, kept.aligned c.loop-seen-test.true);
+    }
+
+pub returns-clause-lanes : goal.returns-clause-lanes
+returns-clause-lanes c = c.loop-seen.invariant.lanes
+
+pub returns-clause-those : goal.returns-clause-those
+returns-clause-those c = c.loop-seen.invariant.those
+
+pub returns-clause-pairs : goal.returns-clause-pairs
+returns-clause-pairs c = c.loop-seen.invariant.pairs
+
+pub returns-clause-acting : goal.returns-clause-acting
+returns-clause-acting c a near =
+    let f = c.args.frame.now in
+    let ps = pairs_with a c.args.atoms.now in
+    c.loop-seen.invariant.acting a near
+    ∙ ap (those_acting f.reach.now f.ring.now f.places.now) (take_all c.loop-seen.seen ps (omega (arith, length-map c.args.atoms.now (pair_of a), c.loop-seen-test.false)))
