@@ -78,33 +78,33 @@ Memory may be wanted for the line of a refusal too.
   pairmd: Memory [4]
   all
 
-Several workers ask for more than one: for a list of scratches, for the scratch of each, two blocks, and at each step for the words that all of them
-add to, and for their table, two blocks more than those words.
+Several workers ask for more than one: for a list of scratches, for the scratch of each, and at each step for the words that all of them add to, and for
+their table, two blocks more than those words.
 
   $ memory pairmd run job state --steps 2
-  2 workers: 9 requests more
-  3 workers: 2 requests more
+  2 workers: 8 requests more
+  3 workers: 1 requests more
   $ memory pairmd back job state --steps 2
-  2 workers: 9 requests more
-  3 workers: 2 requests more
+  2 workers: 8 requests more
+  3 workers: 1 requests more
   $ memory pairmd trajectory job state --steps 2 --every 2
-  2 workers: 9 requests more
-  3 workers: 2 requests more
+  2 workers: 8 requests more
+  3 workers: 1 requests more
   $ memory pairmd trajectory job state --steps 2 --every 2 --back
-  2 workers: 9 requests more
-  3 workers: 2 requests more
+  2 workers: 8 requests more
+  3 workers: 1 requests more
 
 They begin anew behind each frame, and where it is told how far a run has come.
 
   $ memory pairmd trajectory job state --steps 2 --every 1
-  2 workers: 12 requests more
-  3 workers: 4 requests more
+  2 workers: 10 requests more
+  3 workers: 2 requests more
   $ memory pairmd run job state --steps 2 --progress
-  2 workers: 12 requests more
-  3 workers: 4 requests more
+  2 workers: 10 requests more
+  3 workers: 2 requests more
   $ memory pairmd back job state --steps 2 --progress
-  2 workers: 12 requests more
-  3 workers: 4 requests more
+  2 workers: 10 requests more
+  3 workers: 2 requests more
   $ memory pairmd trajectory job state --steps 2 --every 2 --progress
-  2 workers: 12 requests more
-  3 workers: 4 requests more
+  2 workers: 10 requests more
+  3 workers: 2 requests more
