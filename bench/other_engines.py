@@ -69,12 +69,12 @@ class OpenMM:
 
 class OpenMMText(OpenMM):
     name, force, pace = "OpenMM text", "text", 1
-    computes = "the formula (`CustomNonbondedForce`), in floats"
+    computes = "the formula (`CustomNonbondedForce`), single precision"
 
 
 class OpenMMBuiltIn(OpenMM):
     name, force, pace = "OpenMM built in", "built-in", 4
-    computes = "Lennard-Jones (`NonbondedForce`), in floats"
+    computes = "Lennard-Jones (`NonbondedForce`), single precision"
 
 
 # ---- LAMMPS
@@ -130,7 +130,7 @@ class LAMMPS:
 
 class LAMMPSTable(LAMMPS):
     name, pace = "LAMMPS table", 4
-    computes = "a table of the formula (`pair_style table`, splines), in doubles"
+    computes = "a table of the formula (`pair_style table`, splines), double precision"
     rows, least = 4000, 2.0  # Angstrom
 
     def pair(self, room):
@@ -145,7 +145,7 @@ class LAMMPSTable(LAMMPS):
 
 class LAMMPSBuiltIn(LAMMPS):
     name, pace = "LAMMPS lj/cut", 4
-    computes = "Lennard-Jones (`pair_style lj/cut`), in doubles"
+    computes = "Lennard-Jones (`pair_style lj/cut`), double precision"
 
     def pair(self, room):
         return f"pair_style lj/cut {10 * float(CUTOFF)}\npair_coeff 1 1 {EPSILON / CALORIE:.9f} {10 * SIGMA}"
@@ -188,7 +188,7 @@ class GROMACS:
     """GROMACS, by threads: the time of a run less that of a short one."""
 
     name, engine, pace = "GROMACS", "GROMACS", 16
-    computes = "Lennard-Jones, in floats"
+    computes = "Lennard-Jones, mixed precision"
 
     def version(self):
         told = found(r"GROMACS version: *([^\s-]*)", printed("gmx", "--version"))
@@ -208,8 +208,8 @@ class GROMACS:
         write(room, "start.gro", self.frame(system.liquid))
         env = shutil.which("env")
         gmx = [env, "GMX_MAXBACKUP=-1", f"OMP_NUM_THREADS={threads}", "gmx", "-quiet"]
-        prepared = [*gmx, *f"grompp -f {room}/run.mdp -c {room}/start.gro -p {room}/argon.top -o {room}/run.tpr -po {room}/out.mdp -maxwarn 5".split()]
-        subprocess.run(prepared, check=True, stdout=subprocess.DEVNULL, stderr=subprocess.DEVNULL)
+        files = f"-f {room}/run.mdp -c {room}/start.gro -p {room}/argon.top -o {room}/run.tpr -po {room}/out.mdp"
+        subprocess.run([*gmx, "grompp", *files.split(), "-maxwarn", "5"], check=True, stdout=subprocess.DEVNULL, stderr=subprocess.DEVNULL)
         words = [*gmx, *f"mdrun -s {room}/run.tpr -deffnm {room}/run -ntmpi 1 -ntomp {threads} -nb cpu -pin off -noconfout".split()]
         return less_a_short_run(words, steps, "-nsteps", subprocess.DEVNULL)
 

@@ -129,10 +129,10 @@ def compared(figures, engine, named):
     """What part of another engine's time pairmd takes, with the least and with the greatest number of workers."""
     if engine not in figures.engines:
         return ""
-    first, last = figures.ends[0], figures.ends[-1]
-    clock, later = (figures.times(engine, workers, "clock") for workers in (first, last))
-    processor = figures.times(engine, last, "processor")
-    return f"pairmd takes {clock} of the time of {named} with {first} worker; with {last}, {later} by the clock and {processor} of all processors."
+    counts = [f"{count} worker{'s' * (count > 1)}" for count in figures.ends]
+    parts = " and ".join(f"{figures.times(engine, workers, 'processor')} ({it})" for workers, it in zip(figures.ends, counts))
+    clock = " and ".join(figures.times(engine, workers, "clock") for workers in figures.ends)
+    return f"pairmd takes {parts} of the processor time of {named}; by the clock, {clock}."
 
 
 def text_block(figures):
@@ -153,8 +153,8 @@ def instead_block(figures):
     rows = []
     for name, (engine, computes) in {**own, **others}.items():
         if name in figures.engines:
-            rows.append([engine, computes, *(f"{figures.at[(*system, workers, name)].clock:.0f}" for workers in counts)])
-    head = f"Nanoseconds by the clock, {system[0]:,} atoms in {BOXES[system[1]]}, in the same run:"
+            rows.append([engine, computes, *(figures.both(system, workers, name) for workers in counts)])
+    head = f"So by the same run, {system[0]:,} atoms in {BOXES[system[1]]}, by the clock / of all processors:"
     return [*paragraph(head), "", *table(["Engine", "What it computes", f"{counts[0]} thread", *counts[1:]], rows)]
 
 
