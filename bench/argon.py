@@ -12,6 +12,7 @@ from fractions import Fraction
 
 PLACES = 2**32
 DENSITY = 21.0  # atoms in a cubic nanometre: liquid argon near its boiling point
+MASS, SIGMA, EPSILON = 39.948, 0.34, 0.996  # u, nm, kJ/mol
 CORE = "0.25"  # below every distance of the shaken grid; with 0.2 the forces of 16,000 atoms might pass 64 bits (A3)
 CUTOFF = "0.9"
 SHAKE = 0.02  # nm
@@ -25,11 +26,11 @@ CUBES = {1000: (10, 10, 10), 4000: (16, 16, 16), 16000: (25, 25, 26), 65536: (40
 SHAPES = {"tight": TIGHT, "cubes": CUBES}
 
 
-def job(energy, cutoff, bits=32):
-    """The text of a job of argon with this energy, and with so many bits behind the point."""
+def job(energy, cutoff, bits=32, step=2):
+    """The text of a job of argon with this energy, so many bits behind the point, and steps of so many fs."""
     return (
-        f"pairmd job 1\nenergy {energy}\ncore {CORE}\ncutoff {cutoff}\ndt 2\n"
-        "parameter sigma\nparameter epsilon\ntype AR 39.948 0.34 0.996\n"
+        f"pairmd job 1\nenergy {energy}\ncore {CORE}\ncutoff {cutoff}\ndt {step}\n"
+        f"parameter sigma\nparameter epsilon\ntype AR {MASS} {SIGMA} {EPSILON}\n"
         + f"bits {bits}\n" * (bits != 32)
     )
 
@@ -60,14 +61,13 @@ def argon(atoms, grid, seed=1):
     return sides, [places[k] for k in kept]
 
 
-def state(sides, places, bits=32):
-    """The text of a state at rest."""
+def state(sides, places, bits=32, before=None):
+    """The text of a state with these places a step before; at rest, where none are given."""
     said = [] if bits == 32 else [f"bits {bits}"]
     lines = [f"pairmd state {1 + len(said)}", "title liquid argon", "step 0", *said]
     lines += [f"atoms {len(places)}", "box " + " ".join(map(str, sides))]
-    for number, at in enumerate(places):
-        x = " ".join(map(str, at))
-        lines.append(f"{number % 100_000:5}{'AR':<5}{'AR':>5} {x} {x}")
+    for number, both in enumerate(zip(before or places, places)):
+        lines.append(f"{number % 100_000:5}{'AR':<5}{'AR':>5} " + " ".join(str(x) for at in both for x in at))
     return "\n".join(lines) + "\n"
 
 

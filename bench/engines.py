@@ -1,100 +1,120 @@
 #!/usr/bin/env python3
-"""What a step costs by pairmd and by other engines, side by side in one run: nanoseconds a pair that acts, and an atom-step.
+"""What a step costs by pairmd and by other engines, side by side in one run: nanoseconds a pair that acts, by the clock and of all processors.
 
-Liquid argon on a grid that is shaken a little, under Lennard-Jones as the user's text; in cubes and in boxes whose cells fit the cutoff. A
-figure is the time by the clock of a run less that of a shorter run, the least of several, of which each engine has one in turn: what else runs
-on the machine falls on all of them. With --examples the six example energies at 4,000 atoms in their place.
+Liquid argon that the program melts first, under Lennard-Jones as the user's text; in cubes and in boxes whose cells fit the cutoff. A figure is the
+time of a run less that of a shorter run, or what the engine tells of its steps; the least of several, of which each engine has one in turn, over
+all systems and numbers of workers: what else runs on the machine falls on all of them.
 
+  --examples               programs alone, under the six example energies in place of Lennard-Jones, with 4,000 atoms in a cube
   --beside NAME=PROGRAM    a program that takes the words of `pairmd run`, as one of an earlier commit; may stand more than once
-  --openmm PYTHON          an interpreter that has OpenMM; its CPU platform is left out, with a word, where it hasn't
+  --python PYTHON          an interpreter that has OpenMM, and for --write matplotlib, where this one hasn't
+  --write                  keeps the figures in pictures/step-times.tsv, draws them, and writes the tables of README.md and docs/PERFORMANCE.md
+  --kept                   measures nothing: draws and writes what was kept
 
-Needs nothing but Python and the program: `make pairmd`, then `bench/engines.py`.
+OpenMM, LAMMPS and GROMACS are left out, with a word, where they aren't there. Needs nothing else but Python and the program: `make pairmd`, then
+`bench/engines.py`.
 """
 
 import argparse
-import json
-import os
 import subprocess
 import sys
 import tempfile
+import time
 
-from argon import CUTOFF, EXAMPLES, LENNARD_JONES, PLACES, SHAPES, TIGHT, acting_pairs, argon, example_job, job, state
-from running import Steps
+import pages
+from argon import CUTOFF, EXAMPLES, LENNARD_JONES, SHAPES, TIGHT, acting_pairs, example_job, job
+from melted import Melted
+from other_engines import all_engines, less_a_short_run
+from running import write
 
-HERE = os.path.dirname(os.path.realpath(__file__))
-ATOM_STEPS = 200_000  # about how many the longer run of a size takes
-
-
-def write(room, name, text):
-    path = os.path.join(room, name)
-    with open(path, "w", encoding="ascii") as file:
-        file.write(text)
-    return path
+ATOM_STEPS = 200_000  # about how many of them a run takes, `pace` times
 
 
 class Program:
     """A program that takes the words of `pairmd run`."""
 
+    pace = 2
+
     def __init__(self, name, path):
         self.name, self.path = name, path
 
-    def timed(self, system, workers, few, many):
-        steps, words = Steps(few, many), [self.path, "run", system.job, system.state, "--workers", str(workers)]
-        return lambda: steps.take(words), steps.wall
-
-
-class OpenMM:
-    """OpenMM's CPU platform, in an interpreter of its own; it tells the seconds of a step itself."""
-
-    name = "OpenMM CPU"
-
-    def __init__(self, python):
-        self.python = python
-
-    def is_there(self):
-        found = subprocess.run([self.python, f"{HERE}/openmm_steps.py", "--is-there"], capture_output=True, check=False)
-        return found.returncode == 0
-
-    def timed(self, system, workers, few, many):
-        taken, words = [], [self.python, f"{HERE}/openmm_steps.py", system.frame, str(workers), str(many - few)]
-        return lambda: taken.append(float(subprocess.run(words, stdout=subprocess.PIPE, check=True).stdout)), lambda: min(taken)
+    def timing(self, system, workers, steps, room):
+        words = [self.path, "run", write(room, "job", system.job), write(room, "state", system.liquid.state()), "--workers", str(workers)]
+        return less_a_short_run(words, steps)
 
 
 class System:
-    """Argon in a box under an energy: its files, and how many of its pairs act."""
+    """Melted argon under an energy, in a box of a name, and how many of its pairs act."""
 
-    def __init__(self, name, atoms, shape, energy, room):
-        sides, places = argon(atoms, SHAPES[shape][atoms])
-        self.name, self.atoms, self.acting = name, atoms, acting_pairs(sides, places, CUTOFF)
-        self.state = write(room, f"{name}.state".replace(" ", "-"), state(sides, places))
-        self.job = write(room, f"{name}.job".replace(" ", "-"), energy)
-        box = [side / 100_000 for side in sides]
-        told = {"box": box, "places": [[x / PLACES * side for x, side in zip(at, box)] for at in places], "cutoff": float(CUTOFF), "energy": LENNARD_JONES}
-        self.frame = write(room, f"{name}.json".replace(" ", "-"), json.dumps(told))
-
-
-def rows(system, engines, workers, repeats):
-    """A row for each engine and number of workers."""
-    many = 1 + max(4, ATOM_STEPS // system.atoms)
-    timed = {(it.name, count): it.timed(system, count, 1, many) for count in workers for it in engines}
-    for _ in range(repeats):
-        for take, _ in timed.values():
-            take()
-    seconds = {key: step() for key, (_, step) in timed.items()}
-    for (name, count), step in seconds.items():
-        whole = seconds[engines[0].name, count]
-        acting = f"{step / system.acting * 1e9:10.0f}"
-        yield f"{system.name:<28}{name:<20}{count:>8}{acting}{step / system.atoms * 1e9:14,.0f}{step / whole:10.2f}"
+    def __init__(self, liquid, box, energy):
+        self.liquid, self.box, self.job, self.atoms = liquid, box, energy, len(liquid.places)
+        self.acting = acting_pairs(liquid.sides, liquid.places, CUTOFF)
 
 
 def systems(asked, room):
     if asked.examples:
+        liquid = Melted(asked.program, 4000, SHAPES["cubes"][4000], room)
         for name in EXAMPLES:
-            yield System(name, 4000, "cubes", example_job(name), room)
-    else:
-        for shape in asked.shapes:
-            for atoms in asked.atoms:
-                yield System(f"{atoms:,} {shape}", atoms, shape, job(LENNARD_JONES, CUTOFF), room)
+            yield System(liquid, name, example_job(name))
+        return
+    for box in asked.shapes:
+        for atoms in asked.atoms:
+            yield System(Melted(asked.program, atoms, SHAPES[box][atoms], room), box, job(LENNARD_JONES, CUTOFF))
+
+
+def measured(asked, engines, room):
+    """A row for each system, number of workers and engine."""
+    timings = []
+    for system in systems(asked, room):
+        for workers in asked.workers:
+            for engine in engines:
+                steps = max(4, ATOM_STEPS * engine.pace // system.atoms)
+                timings.append((system, workers, engine, *engine.timing(system, workers, steps, tempfile.mkdtemp(dir=room))))
+    for repeat in range(asked.repeats):
+        began = time.perf_counter()
+        for *_, take, _ in timings:
+            take()
+        print(f"repeat {repeat + 1} of {asked.repeats}: {time.perf_counter() - began:.0f} s", file=sys.stderr, flush=True)
+    for system, workers, engine, _, told in timings:
+        clock, processor = (seconds / system.acting * 1e9 for seconds in told())
+        yield pages.Row(system.atoms, system.box, system.acting, workers, engine.name, clock, processor)
+
+
+def shown(rows):
+    """The rows as lines, each beside that of the first engine."""
+    yield f"{'atoms':>6} {'box':<17}{'workers':>7}  {'engine':<18}{'ns/acting':>10}{'processors':>11}{'ns/atom-step':>13}{'of pairmd':>10}"
+    first = {}
+    for row in rows:
+        one = first.setdefault((row.atoms, row.box, row.workers), row)
+        figures = f"{row.clock:10.1f}{row.processor:11.1f}{row.clock * row.acting / row.atoms:13,.0f}{row.clock / one.clock:10.2f}"
+        yield f"{row.atoms:6} {row.box:<17}{row.workers:>7}  {row.engine:<18}{figures}"
+
+
+def there(asked):
+    """The other engines that are there, and the versions of all."""
+    kept, versions = [], {}
+    for engine in all_engines(asked.python):
+        version = engine.version()
+        if version:
+            kept.append(engine)
+            versions[engine.engine] = version
+        else:
+            print(f"{engine.name} isn't there: left out", file=sys.stderr)
+    return kept, versions
+
+
+def measure(asked):
+    """Measures, prints, and with --write keeps what was measured."""
+    others, versions = ([], {}) if asked.examples else there(asked)
+    said = {**pages.of_now(asked.repeats, asked.commit), **versions}
+    if float(said["load before"]) > 1:
+        print(f"the machine's load is {said['load before']}: threads and processes that wait for one another in a loop suffer most", file=sys.stderr)
+    with tempfile.TemporaryDirectory() as room:
+        rows = list(measured(asked, [Program("pairmd", asked.program), *asked.beside, *others], room))
+    print(*(f"{name} {value}" for name, value in said.items()), sep=", ")
+    print(*shown(rows), sep="\n", flush=True)
+    if asked.write:
+        pages.keep(said, rows)
 
 
 def named(word):
@@ -104,29 +124,34 @@ def named(word):
     return Program(name, path)
 
 
-def main():
+def arguments():
     parser = argparse.ArgumentParser(description=__doc__, formatter_class=argparse.RawDescriptionHelpFormatter)
     parser.add_argument("--program", default="./pairmd")
     parser.add_argument("--beside", type=named, action="append", default=[], metavar="NAME=PROGRAM")
-    parser.add_argument("--openmm", default="python3", metavar="PYTHON")
-    parser.add_argument("--atoms", type=int, nargs="+", default=[4000, 16000, 65536], choices=sorted(TIGHT))
+    parser.add_argument("--python", default=sys.executable, metavar="PYTHON")
+    parser.add_argument("--atoms", type=int, nargs="+", default=[4000, 16000], choices=sorted(TIGHT))
     parser.add_argument("--shapes", nargs="+", default=["cubes", "tight"], choices=sorted(SHAPES))
     parser.add_argument("--workers", type=int, nargs="+", default=[1, 2, 4])
     parser.add_argument("--examples", action="store_true")
-    parser.add_argument("--repeats", type=int, default=6)
+    parser.add_argument("--repeats", type=int, default=4)
+    parser.add_argument("--commit", help="whose program it is, where that isn't HEAD")
+    parser.add_argument("--write", action="store_true")
+    parser.add_argument("--kept", action="store_true")
     asked = parser.parse_args()
-    engines = [Program("pairmd", asked.program), *asked.beside]
-    openmm = OpenMM(asked.openmm)
-    if not asked.examples and openmm.is_there():
-        engines.append(openmm)
-    elif not asked.examples:
-        print(f"{asked.openmm} has no OpenMM with a CPU platform: left out")
-    print(f"{'system':<28}{'engine':<20}{'workers':>8}{'ns/acting':>10}{'ns/atom-step':>14}{'of pairmd':>10}")
-    with tempfile.TemporaryDirectory() as room:
-        for system in systems(asked, room):
-            for row in rows(system, engines, asked.workers, asked.repeats):
-                print(row)
-            sys.stdout.flush()
+    if asked.write and asked.examples:
+        parser.error("--write keeps no examples")
+    if (asked.write or asked.kept) and subprocess.run([asked.python, "-c", "import matplotlib"], stderr=subprocess.DEVNULL, check=False).returncode:
+        parser.error(f"{asked.python} has no matplotlib to draw with; --python names another")
+    return asked
+
+
+def main():
+    asked = arguments()
+    if not asked.kept:
+        measure(asked)
+    if asked.write or asked.kept:
+        subprocess.run([asked.python, f"{pages.ROOT}/pictures/step_times.py"], check=True)
+        pages.write()
 
 
 if __name__ == "__main__":

@@ -8,18 +8,10 @@ With --before PROGRAM, that program's run at 32 bits stands beside them. Needs n
 """
 
 import argparse
-import os
 import tempfile
 
 from argon import CUTOFF, LENNARD_JONES, TIGHT, acting_pairs, argon, job, state
-from running import Steps
-
-
-def write(room, name, text):
-    path = os.path.join(room, name)
-    with open(path, "w", encoding="ascii") as file:
-        file.write(text)
-    return path
+from running import Steps, write
 
 
 def main():

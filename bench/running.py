@@ -16,6 +16,14 @@ print(os.waitstatus_to_exitcode(status), time.perf_counter() - before, usage.ru_
 """
 
 
+def write(room, name, text):
+    """Puts a text into a file of a folder, and returns the file's path."""
+    path = os.path.join(room, name)
+    with open(path, "w", encoding="ascii") as file:
+        file.write(text)
+    return path
+
+
 class Ran:
     """What a run took: seconds by the clock, seconds of the processors, and the most memory, in MB."""
 
@@ -23,12 +31,12 @@ class Ran:
         self.wall, self.processor, self.memory = wall, processor, memory
 
 
-def run(words, out=os.devnull):
+def run(words, out=os.devnull, err=None):
     """Runs a program, its standard output into the file `out`. One that ends with another status than 0 ends the script."""
     if not os.access(words[0], os.X_OK):
         sys.exit(f"no program at {words[0]}: `make pairmd` leaves it at ./pairmd")
     launcher = [sys.executable, "-I", "-S", "-c", LAUNCHER, out, *words]
-    told = subprocess.run(launcher, stdout=subprocess.PIPE, check=True, text=True).stdout.split()
+    told = subprocess.run(launcher, stdout=subprocess.PIPE, stderr=err, check=True, text=True).stdout.split()
     if told[0] != "0":
         sys.exit(f"status {told[0]} of: {' '.join(words)}")
     return Ran(float(told[1]), float(told[2]), int(told[3]) / 1024)
@@ -46,10 +54,10 @@ class Steps:
         self.few, self.many = few, many
         self.runs = {few: [], many: []}
 
-    def take(self, words):
+    def take(self, words, option="--steps", err=None):
         """Runs both numbers of steps once more."""
         for steps in (self.few, self.many):
-            self.runs[steps].append(run([*words, "--steps", str(steps)]))
+            self.runs[steps].append(run([*words, option, str(steps)], err=err))
 
     def seconds(self, of):
         """The seconds of one step, `of` a run being those that count."""

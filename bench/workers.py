@@ -15,16 +15,9 @@ import sys
 import tempfile
 
 from argon import CUTOFF, LENNARD_JONES, SHAPES, TIGHT, acting_pairs, argon, asked_pairs, job, least_cutoff, state
-from running import Steps, least_memory, run
+from running import Steps, least_memory, run, write
 
 ATOM_STEPS = 200_000  # about how many the longer run of a size takes, where --steps doesn't say
-
-
-def write(room, name, text):
-    path = os.path.join(room, name)
-    with open(path, "w", encoding="ascii") as file:
-        file.write(text)
-    return path
 
 
 class Liquid:

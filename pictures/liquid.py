@@ -89,7 +89,7 @@ def write_table(name, head, rows):
 
 def read_table(name):
     with open(table(name), encoding="ascii") as it:
-        head, *rows = [line.split() for line in it]
+        head, *rows = [line.rstrip("\n").split("\t") for line in it if not line.startswith("# ")]
     return [dict(zip(head, row)) for row in rows]
 
 

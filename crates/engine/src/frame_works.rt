@@ -1,6 +1,6 @@
 //! The pairs of a frame, tile by tile, as the work of a round.
 
-ghost use Rattle.std.specs.Prelude.{◌≡◌, ◌<◌, ◌≤◌, length, map, slice_get, Some, IfSome};
+ghost use Rattle.std.specs.Prelude.{◌≡◌, ◌<◌, length, map, slice_get, Some, IfSome};
 ghost use Rattle.std.specs.List.{All};
 ghost use Rattle.cell_tiles.specs.Cells.{AreBeside, members_of};
 ghost use Rattle.cell_tiles.specs.Tiles.{pairs_in, tiles_of};
@@ -66,7 +66,7 @@ impl<'a, A: Allocator + Copy> Work for FrameWork<'a, A> {
 }
 
 impl<'a, A: Allocator + Copy> FrameWork<'a, A> {
-    // The next pairs that act, at most 64 of them, and the number of the pair with which to go on.
+    // The next pairs that act, and the number of the pair with which to go on.
     pub(crate) fn find(
         &self,
         tile: u64,
@@ -80,7 +80,6 @@ impl<'a, A: Allocator + Copy> FrameWork<'a, A> {
         ensures next { AreNextActing (pairs_at (plan_of self.now.motion.now.system self.now.frame.now) tile) k (map (add_found self.now.motion.now.system) found.new.pairs) result }
         ensures measured { found.new.measured ≡ length found.new.pairs }
         ensures found { All (IsFound self.now.motion.now.system (length self.now.frame.now)) found.new.pairs }
-        ensures few { length found.new.pairs ≤ 64 }
     {
         let reach = self.motion.reach();
         let frame = FrameInBox {

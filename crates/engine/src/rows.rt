@@ -1,4 +1,4 @@
-//! Pairs that act, in rows of at most 64.
+//! Pairs that act, in rows of at most 128.
 
 ghost use Rattle.std.specs.Prelude.{◌≡◌, ◌<◌, ◌^◌, neg_ℤ, unsigned_abs};
 ghost use Rattle.ring_box.specs.Acting.{force_of};

@@ -49,10 +49,10 @@ fn wide(value: Fx) -> i128
 
 /// The sum of the first `n` values.
 fn sum_of_first(values: &[Fx], n: usize) -> i128
-    requires few { n ≤ 64 }
+    requires few { n ≤ 128 }
     requires there { n ≤ length values.now }
     ensures value { result ≡ sum_over (λ v. v) (take n values.now) }
-    ensures bound { unsigned_abs result ≤ 2 ^ 63 * 64 }
+    ensures bound { unsigned_abs result ≤ 2 ^ 63 * 128 }
 {
     let mut sum = 0;
     for l in 0..n {
@@ -73,7 +73,7 @@ impl<'a, A: Allocator> SafeEnergy<'a, A> {
 
     /// The energies that are asked for.
     fn energies<B: Allocator>(&self, asks: &[Ask], rows: &mut LaneRows<B>, energies: &mut [Fx])
-        requires few { length asks.now ≤ 64 }
+        requires few { length asks.now ≤ 128 }
         requires room { length asks.now ≤ length energies.old }
         requires served { All (IsServed self.now.kernel) asks.now }
         ensures energies { AreEnergies self.now.motion.now.system asks.now energies.new }
@@ -84,11 +84,10 @@ impl<'a, A: Allocator> SafeEnergy<'a, A> {
 
     /// The energy of the pairs found. Where there are none, no code is run.
     fn of_found<B: Allocator>(&self, scratch: &mut Scratch<B>) -> i128
-        requires few { length scratch.old.found.pairs ≤ 64 }
         requires measured { scratch.old.found.measured ≡ length scratch.old.found.pairs }
         requires found { All (IsFound self.now.motion.now.system (length self.now.motion.now.system.types.items)) scratch.old.found.pairs }
         ensures value { result ≡ sum_over (found_energy self.now.motion.now.system) scratch.old.found.pairs }
-        ensures bound { unsigned_abs result ≤ 2 ^ 63 * 64 }
+        ensures bound { unsigned_abs result ≤ 2 ^ 63 * 128 }
     {
         let Scratch {
             found,

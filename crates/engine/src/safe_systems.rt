@@ -61,7 +61,7 @@ impl<A: Allocator> SafeSystem<A> {
         }
     }
 
-    /// Those of at most 64 pairs that act, with what their atoms have between them.
+    /// Those of at most 128 pairs that act, with what their atoms have between them.
     pub(crate) fn find_all(
         &self,
         reach: &Reach,
@@ -70,12 +70,11 @@ impl<A: Allocator> SafeSystem<A> {
         found: &mut FoundPairs,
     )
         requires reach { reach.now ≡ reach_of self.now.system }
-        requires few { length near.now ≤ 64 }
+        requires few { length near.now ≤ 128 }
         requires pairs { All (IsPairOf (length frame.now)) (map (λ p. (p.low, p.high)) near.now) }
         ensures value { found.new.pairs ≡ acting (map (found_of self.now.system frame.now) (map (λ p. (p.low, p.high)) near.now)) }
         ensures measured { found.new.measured ≡ length found.new.pairs }
         ensures found { All (IsFound self.now.system (length frame.now)) found.new.pairs }
-        ensures few { length found.new.pairs ≤ 64 }
     {
         found.clear(reach);
         let ring = self.system.ring;
@@ -109,9 +108,8 @@ impl<A: Allocator> SafeSystem<A> {
         }
     }
 
-    /// The asks for these pairs, in their order, at most 64.
+    /// The asks for these pairs, in their order.
     fn ask_each(&self, found: &FoundPairs, asks: &mut ArrayVec<Ask, 128>)
-        requires few { length found.now.pairs ≤ 64 }
         requires measured { found.now.measured ≡ length found.now.pairs }
         requires found { All (IsFound self.now.system (length self.now.system.types.items)) found.now.pairs }
         ensures value { asks.new.items ≡ map (ask_of self.now.system) found.now.pairs }
@@ -140,7 +138,6 @@ impl<A: Allocator> SafeSystem<A> {
     /// The asks for these pairs where there is one type: no atom's is looked up.
     fn ask_each_alike(&self, found: &FoundPairs, asks: &mut ArrayVec<Ask, 128>)
         requires one { length self.now.system.kernel.verified.table.rows ≡ 1 }
-        requires few { length found.now.pairs ≤ 64 }
         requires measured { found.now.measured ≡ length found.now.pairs }
         requires found { All (IsFound self.now.system (length self.now.system.types.items)) found.now.pairs }
         ensures value { asks.new.items ≡ map (ask_of self.now.system) found.now.pairs }
@@ -152,9 +149,8 @@ impl<A: Allocator> SafeSystem<A> {
         }
     }
 
-    /// The asks for these pairs, in their order, at most 64.
+    /// The asks for these pairs, in their order.
     pub(crate) fn ask_all(&self, found: &FoundPairs, asks: &mut ArrayVec<Ask, 128>)
-        requires few { length found.now.pairs ≤ 64 }
         requires measured { found.now.measured ≡ length found.now.pairs }
         requires found { All (IsFound self.now.system (length self.now.system.types.items)) found.now.pairs }
         ensures value { asks.new.items ≡ map (ask_of self.now.system) found.now.pairs }
@@ -169,7 +165,7 @@ impl<A: Allocator> SafeSystem<A> {
 
     /// The slopes that are asked for.
     fn slopes<B: Allocator>(&self, asks: &[Ask], rows: &mut LaneRows<B>, slopes: &mut [Fx])
-        requires few { length asks.now ≤ 64 }
+        requires few { length asks.now ≤ 128 }
         requires room { length asks.now ≤ length slopes.old }
         requires served { All (IsServed self.now.system.kernel.verified) asks.now }
         requires bound { self.now.system.kernel.verified.bound < 2 ^ 63 }
@@ -211,9 +207,8 @@ impl<A: Allocator> SafeSystem<A> {
         }
     }
 
-    /// The forces of the pairs found, by their slopes, at most 64.
+    /// The forces of the pairs found, by their slopes.
     fn add_all(&self, found: &FoundPairs, slopes: &[Fx], adds: &mut ArrayVec<PairAdd, 128>)
-        requires few { length found.now.pairs ≤ 64 }
         requires measured { found.now.measured ≡ length found.now.pairs }
         requires room { length found.now.pairs ≤ length slopes.now }
         requires slopes { AreSlopes self.now.system (map (ask_of self.now.system) found.now.pairs) slopes.now }
@@ -232,7 +227,6 @@ impl<A: Allocator> SafeSystem<A> {
         scratch: &mut Scratch<B>,
         adds: &mut ArrayVec<PairAdd, 128>,
     )
-        requires few { length scratch.old.found.pairs ≤ 64 }
         requires measured { scratch.old.found.measured ≡ length scratch.old.found.pairs }
         requires found { All (IsFound self.now.system (length self.now.system.types.items)) scratch.old.found.pairs }
         requires bound { self.now.system.kernel.verified.bound < 2 ^ 63 }

@@ -25,7 +25,8 @@ pub struct CoarseReach {
 /// How many upper halves lie at least between each lane's and any of the span.
 #[inline(always)]
 fn gaps(x: u16x16, first: u16, width: u16) -> u16x16
-    ensures { HasLanes result (λ k. least_gap (slice_index x k) first width) }
+    ensures value { HasLanes result (λ k. least_gap (slice_index x k) first width) }
+    ensures small { (k : ℕ) → k < 16 → slice_index result k < 2 ^ 15 }
 {
     let behind = less_round(x, first);
     least(less_or_zero(behind, width), flipped(behind))

@@ -39,12 +39,24 @@ pub(crate) fn flipped(a: u16x16) -> u16x16
     !a
 }
 
-/// The upper half of each lane's product with `w`.
+/// The number `w` in each lane, for a product with lanes of 15 bits. It is put together with their upper bits, which
+/// aren't set: a factor that is the same in each turn of a loop would be widened before the loop, and then 32 bits be
+/// multiplied by 32 where 16 by 16 do.
+#[inline(always)]
+fn factor(a: u16x16, w: u16) -> u16x16
+    requires { (k : ℕ) → k < 16 → slice_index a k < 2 ^ 15 }
+    ensures { HasLanes result (λ k. w) }
+{
+    u16x16::splat(w) | (a >> u16x16::splat(15))
+}
+
+/// The upper half of the product of each lane, of 15 bits, with `w`.
 #[inline(always)]
 pub(crate) fn upper_product(a: u16x16, w: u16) -> u16x16
+    requires { (k : ℕ) → k < 16 → slice_index a k < 2 ^ 15 }
     ensures { HasLanes result (λ k. slice_index a k * w % 2 ^ 32 / 2 ^ 16) }
 {
-    let product = a.cast::<u32>() * u16x16::splat(w).cast::<u32>();
+    let product = a.cast::<u32>() * factor(a, w).cast::<u32>();
     (product >> u32x16::splat(16)).cast::<u16>()
 }
 

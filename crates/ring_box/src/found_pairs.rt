@@ -100,8 +100,8 @@ impl Reach {
 // ---- pairs that are found
 
 /// At most 128 pairs of atoms that act. Each step is made for all of them before the next: they are put; they are
-/// measured; and when the slopes of their energies are known, their forces are estimated. What was estimated in floating
-/// point for one step serves the next; the exact numbers decide wherever an estimate is taken.
+/// measured; and when the slopes of their energies are known, their forces are estimated. What was estimated in
+/// floating point for one step serves the next; the exact numbers decide wherever an estimate is taken.
 #[derive(Drop)]
 pub struct FoundPairs {
     reach: Reach,

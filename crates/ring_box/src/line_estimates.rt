@@ -7,8 +7,8 @@ use crate::separations::FloatSeparation;
 use crate::vectors::Force;
 use fixed::Fx;
 
-/// About the separations of at most 128 pairs along each axis, the lengths of their lines, and how much of a slope falls
-/// to a unit of length.
+/// About the separations of at most 128 pairs along each axis, the lengths of their lines, and how much of a slope
+/// falls to a unit of length.
 #[derive(Clone, Copy)]
 pub(crate) struct LineEstimates {
     x: [f64; 128],

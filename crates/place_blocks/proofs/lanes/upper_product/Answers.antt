@@ -9,8 +9,9 @@ overflow_cast-result c =
     let f = λ (k : ℕ). get_or a k 0 in
     let mul = λ (m n : ℕ). m * n % 2 ^ 32 in
     let wide = mapped (λ (x : ℕ). x) a f (itself a c.fits-a.0) in
-    let product = zipped mul (map (λ (x : ℕ). x) a) (replicate 16 c.args.w) f (λ (k : ℕ). c.args.w) wide (splat c.args.w) in
-    narrows (λ (k : ℕ). mul (f k) c.args.w) (zip2 mul (map (λ (x : ℕ). x) a) (replicate 16 c.args.w)) product (λ k l. omega arith)
+    let factors = mapped (λ (x : ℕ). x) c.factor.result (λ (k : ℕ). c.args.w) c.factor.ensures in
+    let product = zipped mul (map (λ (x : ℕ). x) a) (map (λ (x : ℕ). x) c.factor.result) f (λ (k : ℕ). c.args.w) wide factors in
+    narrows (λ (k : ℕ). mul (f k) c.args.w) _ product (λ k l. omega arith)
 
 pub returns : goal.returns
 returns c =
@@ -18,6 +19,7 @@ returns c =
     let f = λ (k : ℕ). get_or a k 0 in
     let mul = λ (m n : ℕ). m * n % 2 ^ 32 in
     let wide = mapped (λ (x : ℕ). x) a f (itself a c.fits-a.0) in
-    let product = zipped mul (map (λ (x : ℕ). x) a) (replicate 16 c.args.w) f (λ (k : ℕ). c.args.w) wide (splat c.args.w) in
-    let upper = zipped (λ (m n : ℕ). m / 2 ^ n) (zip2 mul (map (λ (x : ℕ). x) a) (replicate 16 c.args.w)) (replicate 16 16) (λ (k : ℕ). mul (f k) c.args.w) (λ (k : ℕ). 16) product (splat 16) in
+    let factors = mapped (λ (x : ℕ). x) c.factor.result (λ (k : ℕ). c.args.w) c.factor.ensures in
+    let product = zipped mul (map (λ (x : ℕ). x) a) (map (λ (x : ℕ). x) c.factor.result) f (λ (k : ℕ). c.args.w) wide factors in
+    let upper = zipped (λ (m n : ℕ). m / 2 ^ n) _ (replicate 16 16) (λ (k : ℕ). mul (f k) c.args.w) (λ (k : ℕ). 16) product (splat 16) in
     mapped (λ (x : ℕ). x) _ (λ (k : ℕ). mul (f k) c.args.w / 2 ^ 16) upper

@@ -13,7 +13,7 @@ use Rattle.engine.proofs.safe_energies.SafeEnergy.of_tile.Goals as goal
 pub of_found-requires : goal.of_found-requires
 of_found-requires g c =
     let w = c.args.work.now in
-    record { few = c.find-next.ensures.few; measured = c.find-next.ensures.measured; found = rw (← c.requires.motion, ← w.atoms) c.find-next.ensures.found }
+    record { measured = c.find-next.ensures.measured; found = rw (← c.requires.motion, ← w.atoms) c.find-next.ensures.found }
 
 pub plus-sum-requires-clause-sum : goal.plus-sum-requires-clause-sum
 plus-sum-requires-clause-sum g c =

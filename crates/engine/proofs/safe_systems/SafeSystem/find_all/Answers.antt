@@ -71,11 +71,3 @@ returns-clause-found g c =
     let n = length c.args.frame.now in
     let pair : AtomPair → ℕ × ℕ = λ p. (p.low, p.high) in
     subst (λ fs. All (IsFound s n) fs) (sym (all_found g c)) (all_are_found s n c.args.frame.now (map pair c.args.near.now) c.requires.pairs)
-
-pub returns-clause-few : goal.returns-clause-few
-returns-clause-few g c =
-    let s = c.args.self.now.system in
-    let pair : AtomPair → ℕ × ℕ = λ p. (p.low, p.high) in
-    let ps = map pair c.args.near.now in
-    let few = few_act (map (found_of s c.args.frame.now) ps) in
-    omega (arith, ap length (all_found g c), few, length-map ps (found_of s c.args.frame.now), length-map c.args.near.now pair, c.requires.few)

@@ -1,0 +1,178 @@
+#!/usr/bin/env python3
+"""Where the time of a pair goes: nanoseconds of processor time and instructions of each stage, of one worker, by programs side by side.
+
+Melted argon in a cube under Lennard-Jones as the user's text. The time is the processor time of a run less that of a run of one step, the least
+of several, of which each program has one in turn; perf's samples say how it falls to the program's functions. Instructions are callgrind's of a
+run of three steps less one of one. A stage is what its functions take that are not called by name below; what was inlined counts where it is.
+
+  --beside NAME=PROGRAM    as one of an earlier commit; may stand more than once
+  --write                  writes the table of docs/PERFORMANCE.md
+
+Needs perf and valgrind (linux-perf, valgrind), and the program: `make pairmd`, then `bench/stages.py`.
+"""
+
+import argparse
+import collections
+import os
+import re
+import shutil
+import subprocess
+import sys
+import tempfile
+
+import pages
+from argon import CUTOFF, LENNARD_JONES, SHAPES, TIGHT, acting_pairs, example_job, job
+from melted import Melted
+from running import Steps, write
+
+TIMED, SAMPLED = 20, 200  # steps whose time is taken, and that perf looks at
+
+# The first whose pattern is found in a function's name has it. Where the compiler puts one function into another, the stages are together.
+STAGES = [
+    ("slopes", r"potential|kernel_lanes|lane_paths"),
+    ("what lanes are asked for, forces", r"next_adds|ask_all|add_all|ActingPair::force|FoundPair::add"),
+    ("finding the pairs, separations, roots", r"FrameWork::find|find_all|cell_tiles|ring_box|fixed::roots"),
+    ("additions", r"Engine::make_steps|forces_alone|tile_round|tile_pool"),
+    ("the rest of the step", ""),
+]
+
+
+def stage_of(function):
+    return next(name for name, pattern in STAGES if re.search(pattern, function))
+
+
+def samples(words, room):
+    """How many of perf's samples fell to each function."""
+    data = os.path.join(room, "perf.data")
+    record = ["perf", "record", "-q", "-e", "cpu-clock:u", "-F", "4000", "-o", data, "--", *words]
+    subprocess.run(record, check=True, stdout=subprocess.DEVNULL, stderr=subprocess.DEVNULL)
+    listed = ["perf", "script", "-i", data, "-F", "ip,sym"]
+    text = subprocess.run(listed, check=True, stdout=subprocess.PIPE, stderr=subprocess.DEVNULL, text=True).stdout
+    return collections.Counter(line.split(None, 1)[1] for line in text.splitlines() if line.strip())
+
+
+def instructions(words, room):
+    """How many instructions callgrind counts of each function, without those that it calls."""
+    out = os.path.join(room, "callgrind.out")
+    run = ["valgrind", "--tool=callgrind", f"--callgrind-out-file={out}", *words]
+    subprocess.run(run, check=True, stdout=subprocess.DEVNULL, stderr=subprocess.DEVNULL)
+    names, counted, function, is_call = {}, collections.Counter(), None, False
+    with open(out, encoding="utf-8") as file:
+        for line in file:
+            named = re.match(r"(c?)fn=\((\d+)\)(?: (.*))?", line)
+            if named:
+                name = names.setdefault(named[2], named[3])
+                function = function if named[1] else name
+            elif line.startswith("calls="):
+                is_call = True
+            elif re.match(r"[+\-*\d]", line):
+                # the line after a call has what the called function took
+                counted[function] += 0 if is_call else int(line.split()[1])
+                is_call = False
+    return counted
+
+
+def by_stage(counted):
+    total = collections.Counter()
+    for function, count in counted.items():
+        total[stage_of(function)] += count
+    return total
+
+
+def of_two_steps(words, room, group):
+    """What steps 2 and 3 take, in instructions."""
+    long, short = (group(instructions([*words, "--steps", count], room)) for count in ("3", "1"))
+    long.subtract(short)
+    return collections.Counter({it: count / 2 for it, count in long.items()})
+
+
+class Liquid:
+    """Melted argon in a box: its state's file, and how many pairs act."""
+
+    def __init__(self, program, atoms, box, room):
+        self.melted = Melted(program, atoms, SHAPES[box][atoms], room)
+        self.state = write(room, f"{box}.state", self.melted.state())
+        self.acting = acting_pairs(self.melted.sides, self.melted.places, CUTOFF)
+
+
+# ---- stages
+
+def timed(liquid, programs, repeats, room):
+    """What runs each program, and the processor time of a step by it."""
+    job_file = write(room, "job", job(LENNARD_JONES, CUTOFF))
+    runs = {name: ([path, "run", job_file, liquid.state], Steps(1, 1 + TIMED)) for name, path in programs.items()}
+    for _ in range(repeats):
+        for words, steps in runs.values():
+            steps.take(words)
+    return {name: (words, steps.processor()) for name, (words, steps) in runs.items()}
+
+
+def stage_rows(liquid, programs, repeats, group, room):
+    """A row for each stage: its nanoseconds and instructions of a pair, by each program."""
+    columns = []
+    for words, whole in timed(liquid, programs, repeats, room).values():
+        share, counted = group(samples([*words, "--steps", str(SAMPLED)], room)), of_two_steps(words, room, group)
+        nanoseconds = {it: whole * 1e9 / liquid.acting * count / share.total() for it, count in share.items()}
+        columns.append({it: (nanoseconds.get(it, 0), counted[it] / liquid.acting) for it in {**nanoseconds, **counted}})
+    stages = sorted({it for column in columns for it in column}, key=lambda it: (it == STAGES[-1][0], -columns[0].get(it, (0, 0))[0]))
+    for stage in stages:
+        figures = [column.get(stage, (0, 0)) for column in columns]
+        if any(nanoseconds > 0.05 for nanoseconds, _ in figures):
+            yield [stage, *(f"{it:.{digits}f}" for both in figures for it, digits in zip(both, (1, 0)))]
+    whole = [(sum(it[k] for it in column.values())) for column in columns for k in (0, 1)]
+    yield ["all", *(f"{it:.{1 - k % 2}f}" for k, it in enumerate(whole))]
+
+
+# ---- instructions
+
+def instruction_rows(liquids, programs, room):
+    """A row for each energy: the instructions of a pair in each box, by each program."""
+    for said, energy in (("Lennard-Jones", job(LENNARD_JONES, CUTOFF)), ("`examples/switched.job`, whose code jumps", example_job("switched"))):
+        job_file = write(room, "job", energy)
+        words = [([path, "run", job_file, liquid.state], liquid.acting) for path in programs.values() for liquid in liquids]
+        yield [said, *(f"{of_two_steps(it, room, collections.Counter).total() / acting:,.0f}" for it, acting in words)]
+
+
+def shown(title, head, rows):
+    print(title)
+    for row in [head, *rows]:
+        print(f"  {row[0]:<44}" + "".join(f"{it:>24}" for it in row[1:]))
+
+
+def arguments():
+    parser = argparse.ArgumentParser(description=__doc__, formatter_class=argparse.RawDescriptionHelpFormatter)
+    parser.add_argument("--program", default="./pairmd")
+    parser.add_argument("--beside", action="append", default=[], metavar="NAME=PROGRAM")
+    parser.add_argument("--atoms", type=int, default=4000, choices=sorted(TIGHT))
+    parser.add_argument("--repeats", type=int, default=8)
+    parser.add_argument("--commit", help="whose program it is, where that isn't HEAD")
+    parser.add_argument("--functions", action="store_true", help="shows each function, in place of the stages")
+    parser.add_argument("--write", action="store_true")
+    asked = parser.parse_args()
+    missing = [it for it in ("perf", "valgrind") if not shutil.which(it)]
+    if missing:
+        parser.error(f"not there: {', '.join(missing)}")
+    return asked
+
+
+def main():
+    asked = arguments()
+    said = pages.of_now(asked.repeats, asked.commit)
+    programs = {**dict(it.split("=", 1) for it in asked.beside), "pairmd": asked.program}
+    with tempfile.TemporaryDirectory() as room:
+        liquids = [Liquid(asked.program, asked.atoms, box, room) for box in ("cubes", "tight")]
+        group = collections.Counter if asked.functions else by_stage
+        stages = list(stage_rows(liquids[0], programs, asked.repeats, group, room))
+        energies = [] if asked.functions else list(instruction_rows(liquids, programs, room))
+    stages_head = ["Stage", *(it for name in programs for it in (f"{name}: ns", "instructions"))]
+    energies_head = ["Energy", *(it for name in programs for it in (f"{name}: a cube", "fits the cells"))]
+    shown("stages", stages_head, stages)
+    shown("instructions", energies_head, energies)
+    if asked.write:
+        which = pages.paragraph(pages.which_run(said), pages.which_load(said))
+        pages.put("docs/PERFORMANCE.md", "bench/stages.py", "stages", [*which, "", *pages.table(stages_head, stages)])
+        pages.put("docs/PERFORMANCE.md", "bench/stages.py", "instructions", pages.table(energies_head, energies))
+
+
+if __name__ == "__main__":
+    main()
