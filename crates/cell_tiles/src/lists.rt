@@ -147,7 +147,7 @@ impl PairList {
             if self.len() + (end - seen) > 128 {
                 return seen;
             }
-            let reached = &blocks[(first + seen) / 16..(first + end + 15) / 16];
+            let reached = &blocks[(first + seen) / 16..(first + end).div_ceil(16)];
             self.add_blocks(frame, atom, halves, reached, lane, &others[seen..end]);
             seen = end;
         }

@@ -1,4 +1,4 @@
-use Rattle.std.proofs.Common.{◌≡◌, ◌-◌, append-nil, arith, drop, length, length-drop, refl, sym, take}
+use Rattle.std.proofs.Common.{◌≡◌, ◌-◌, append-nil, arith, drop, length, length-drop, sym, take}
 use Rattle.std.proofs.lemmas.List.{length-take-le}
 use Rattle.cell_tiles.specs.Near.{IsPairOf, pair_acts, those_acting}
 use Rattle.cell_tiles.proofs.ListLemmas.{part_all, part_in_blocks, part_passed}
