@@ -24,6 +24,7 @@ part_is bits first count few =
     let e : 64 - (64 - count) ≡ count = omega arith in
     ap (bit_and (bits / 2 ^ first)) (ones_shr 64 (64 - count) (omega arith) ∙ ap (λ n. 2 ^ n - 1) e) ∙ and_mask (bits / 2 ^ first) count
 
+-- so many bits hold them
 pub part_bound : (bits first count : ℕ) → count ≤ 64 → bit_and (bits / 2 ^ first) ((2 ^ 64 - 1) / 2 ^ (64 - count)) < 2 ^ count
 part_bound bits first count few = let lt = mod-lt (bits / 2 ^ first) (pow_pos count) in omega (arith, part_is bits first count few, lt)
 

@@ -89,7 +89,7 @@ impl PairList {
         self.count = count;
     }
 
-    /// Adds the pairs of an atom with others that may act. The others have the lanes of these blocks, of up to four, from
+    /// Adds the pairs of an atom with others that may act. The others have the lanes of these blocks, up to four, from
     /// the lane `first` on.
     #[inline(always)]
     fn add_blocks(
@@ -118,7 +118,8 @@ impl PairList {
     }
 
     /// Adds the pairs of an atom with others that may act, up to four blocks at once, until there might be no room. It
-    /// answers how many of the pairs it has come past. The others have the lanes of these blocks from the lane `first` on.
+    /// answers how many of the pairs it has come past. The others have the lanes of these blocks from the lane `first`
+    /// on.
     pub(crate) fn add_row(
         &mut self,
         frame: &FrameInBox,
