@@ -1,8 +1,8 @@
 use Rattle.std.proofs.Common.{ℕ, ◌/◌, ◌^◌, replicate, get_or, arith, ap, ◌∙◌}
 use Rattle.std.specs.Int.Bits.{bit_or, or_zero_r}
 use Rattle.std.specs.Simd.Lanes.{zip2}
-use Rattle.ring_box.proofs.LaneLemmas.{itself, splat, zipped, same}
-use Rattle.ring_box.proofs.lanes.factor.Goals as goal
+use Rattle.place_blocks.proofs.LaneLemmas.{itself, splat, zipped, same}
+use Rattle.place_blocks.proofs.lanes.factor.Goals as goal
 
 pub returns : goal.returns
 returns c =
