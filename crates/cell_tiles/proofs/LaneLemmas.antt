@@ -1,21 +1,31 @@
--- Masks of sixteen bits: the lanes whose bits are set, and what they leave out.
-use Rattle.std.proofs.Common.{◌≡◌, ◌≢◌, ℕ, zero, suc, ◌+◌, ◌-◌, ◌*◌, ◌/◌, ◌%◌, ◌^◌, ◌<◌, ◌≤◌, ◌⊎◌, Bool, true, false, cond, eqb, List, [], ◌∷◌, ◌++◌, length, get_or, map, filter, bit_and, min, refl, sym, ap, ◌∙◌, ⊎_elim, inl, inr, arith, append-nil}
+-- Masks of up to 64 bits: the lanes whose bits are set, and what they leave out.
+use Rattle.std.proofs.Common.{◌≡◌, ◌≢◌, ℕ, zero, suc, ◌+◌, ◌-◌, ◌*◌, ◌/◌, ◌%◌, ◌^◌, ◌<◌, ◌≤◌, ◌⊎◌, Bool, true, false, cond, eqb, List, [], ◌∷◌, ◌++◌, length, get_or, map, filter, bit_and, bit_or, None, min, refl, subst, sym, ap, ◌∙◌, ⊎_elim, inl, inr, arith, append-nil}
 use Rattle.std.specs.Int.{bit_at}
 use Rattle.std.proofs.lemmas.Bool.{cases_eq, cases_lt, eq-eqb, ne_eqb}
 use Rattle.std.proofs.lemmas.List.{ext_get_or, get_or-map, length-map, map-append}
 use Rattle.std.proofs.lemmas.List.Elements.{filter-append}
-use Rattle.std.proofs.Math.Nat.{pow-le-pow_right}
-use Rattle.std.proofs.lemmas.Nat.{and_mask, one_shl, shr-shr, shr_split}
-use Rattle.std.proofs.lemmas.Nat.Bits.{bit_at-lt, bit_at-suc, bit_at-zero, bit_at_above, bit_at_and, bit_at_cat_low, bit_at_lowest}
-use Rattle.cell_tiles.specs.Cells.{numbers_below}
+use Rattle.std.proofs.Math.Nat.{mod-eq_of_lt, mod-lt, pow-le-pow_right}
+use Rattle.std.proofs.lemmas.Nat.{and_mask, mul-le, or_comm, or_shifted, pow-add, pow_pos, shr-shr, shr_split}
+use Rattle.std.proofs.lemmas.Nat.Bits.{bit_at-lt, bit_at-suc, bit_at-zero, bit_at_above, bit_at_and, bit_at_cat_high, bit_at_cat_low, bit_at_lowest, ones_shr}
+use Rattle.place_blocks.specs.Blocks.{IsLane, LeavesOut}
+use Rattle.ring_box.specs.Acting.{Reach, acting_of}
+use Rattle.place_blocks.specs.declared.blocks.Block.{Block}
+use Rattle.ring_box.specs.declared.boxes.RingBox.{RingBox}
+use Rattle.place_blocks.specs.declared.upper_halves.UpperHalves.{UpperHalves}
+use Rattle.cell_tiles.specs.Cells.{LeavesOutOfFirst, no_block, numbers_below}
 use Rattle.cell_tiles.specs.Near.{lanes_of}
 use Rattle.cell_tiles.proofs.CountLemmas.{below_suc, below_zero, get_below, length_below, one_filtered}
 
 -- ---- a part of a mask
 
--- the lower `count` bits from the bit `first` on, as a shift and a mask make them
-pub part_is : (bits first count : ℕ) → count < 64 → bit_and (bits / 2 ^ first) (1 * 2 ^ count % 2 ^ 64 - 1) ≡ bits / 2 ^ first % 2 ^ count
-part_is bits first count few = ap (λ n. bit_and (bits / 2 ^ first) (n - 1)) (one_shl count 64 few) ∙ and_mask (bits / 2 ^ first) count
+-- the lower `count` bits from the bit `first` on, as shifts and a mask make them
+pub part_is : (bits first count : ℕ) → count ≤ 64 → bit_and (bits / 2 ^ first) ((2 ^ 64 - 1) / 2 ^ (64 - count)) ≡ bits / 2 ^ first % 2 ^ count
+part_is bits first count few =
+    let e : 64 - (64 - count) ≡ count = omega arith in
+    ap (bit_and (bits / 2 ^ first)) (ones_shr 64 (64 - count) (omega arith) ∙ ap (λ n. 2 ^ n - 1) e) ∙ and_mask (bits / 2 ^ first) count
+
+pub part_bound : (bits first count : ℕ) → count ≤ 64 → bit_and (bits / 2 ^ first) ((2 ^ 64 - 1) / 2 ^ (64 - count)) < 2 ^ count
+part_bound bits first count few = let lt = mod-lt (bits / 2 ^ first) (pow_pos count) in omega (arith, part_is bits first count few, lt)
 
 -- each of them is the bit that many places on
 pub part_each : (bits first count k : ℕ) → k < count → bit_at (bits / 2 ^ first % 2 ^ count) k ≡ bit_at bits (first + k)
@@ -23,6 +33,37 @@ part_each bits first count k lt =
     let n = bits / 2 ^ first in
     let whole : n / 2 ^ count * 2 ^ count + n % 2 ^ count ≡ n = shr_split n count in
     sym (bit_at_cat_low (n / 2 ^ count) count (n % 2 ^ count) k lt) ∙ ap (λ m. bit_at m k) whole ∙ ap (λ m. m % 2) (shr-shr bits first k)
+
+-- ---- masks of sixteen beside one another
+
+-- one mask more has its place behind those of n blocks
+pub mask_bound : (near mask n : ℕ) → near < 2 ^ (16 * n) → mask < 2 ^ 16 → mask * 2 ^ (16 * n) + near < 2 ^ (16 * (n + 1))
+mask_bound near mask n small few =
+    let e : 2 ^ (16 * (n + 1)) ≡ 2 ^ 16 * 2 ^ (16 * n) = ap (λ k. 2 ^ k) (omega arith) ∙ pow-add 2 16 (16 * n) in
+    let m : (mask + 1) * 2 ^ (16 * n) ≤ 2 ^ 16 * 2 ^ (16 * n) = mul-le (mask + 1) (2 ^ (16 * n)) (2 ^ 16) (2 ^ (16 * n)) (omega arith) (omega arith) in
+    omega (arith, e, m, small)
+
+-- it is put there by a shift, which 64 bits hold
+pub mask_joined : (near mask n : ℕ) → n < 4 → near < 2 ^ (16 * n) → mask < 2 ^ 16 → bit_or near (mask * 2 ^ (16 * n) % 2 ^ 64) ≡ mask * 2 ^ (16 * n) + near
+mask_joined near mask n room small few =
+    let bound = mask_bound near mask n small few in
+    let last : 16 * (n + 1) ≤ 64 = omega arith in
+    let within : 2 ^ (16 * (n + 1)) ≤ 2 ^ 64 = pow-le-pow_right (omega arith) last in
+    let fits : mask * 2 ^ (16 * n) % 2 ^ 64 ≡ mask * 2 ^ (16 * n) = mod-eq_of_lt (omega (arith, bound, within)) in
+    ap (bit_or near) fits ∙ or_comm near (mask * 2 ^ (16 * n)) ∙ or_shifted mask (16 * n) near small
+
+-- then none acts that isn't set, of one block more
+pub leaves_out_more : (d : Reach) (b : RingBox) (blocks : List Block) (n : ℕ) (halves : UpperHalves) (near mask : ℕ) → near < 2 ^ (16 * n) → LeavesOutOfFirst d b blocks n halves near → LeavesOut d b (get_or blocks n no_block) halves mask
+    → LeavesOutOfFirst d b blocks (n + 1) halves (mask * 2 ^ (16 * n) + near)
+leaves_out_more d b blocks n halves near mask small before more k p q lt here lane unset =
+    ⊎_elim (λ below. before k p q below here lane (sym (bit_at_cat_low mask (16 * n) near k below) ∙ unset)) last (cases_lt k (16 * n))
+  where
+    last : 16 * n ≤ k → acting_of d b p q ≡ None
+    last le =
+        let block : k / 16 ≡ n = omega arith in
+        let own : k % 16 ≡ k - 16 * n = omega arith in
+        more (k - 16 * n) p q (omega arith) here (subst (λ j. IsLane (get_or blocks n no_block) j q) own (subst (λ i. IsLane (get_or blocks i no_block) (k % 16) q) block lane))
+        (sym (bit_at_cat_high mask (16 * n) near k small le) ∙ unset)
 
 -- ---- the lowest bit
 
@@ -132,24 +173,24 @@ pub set_false : (bits k : ℕ) → bit_at bits k ≡ 0 → is_set bits k ≡ fal
 set_false bits k e = ne_eqb _ _ (λ (o : bit_at bits k ≡ 1). let z : ◌≡◌ {A = ℕ} 0 1 = sym e ∙ o in omega (arith, z))
 
 -- the lane of the lowest set bit, and those of the others
-pub next_lanes : (bits t : ℕ) → t < 16 → bit_at bits t ≡ 1 → ((k : ℕ) → k < t → bit_at bits k ≡ 0) → lanes_of bits ≡ t ∷ lanes_of (bit_and bits (bits - 1))
+pub next_lanes : (bits t : ℕ) → t < 64 → bit_at bits t ≡ 1 → ((k : ℕ) → k < t → bit_at bits k ≡ 0) → lanes_of bits ≡ t ∷ lanes_of (bit_and bits (bits - 1))
 unfolding lanes_of
 next_lanes bits t lt set least =
     let rest = without_lowest t bits set least in
-    first_below (is_set bits) (is_set (bit_and bits (bits - 1))) t 16 lt (set_true bits t set) (λ k l. set_false bits k (least k l))
+    first_below (is_set bits) (is_set (bit_and bits (bits - 1))) t 64 lt (set_true bits t set) (λ k l. set_false bits k (least k l))
     (λ k l. set_false (bit_and bits (bits - 1)) k (rest.0 k l)) (λ k l. ap (λ b. eqb b 1) (rest.1 k l))
 
 -- no bit is set in 0
 pub no_lanes : lanes_of 0 ≡ []
 unfolding lanes_of
-no_lanes = none_below (is_set 0) 16 (λ k lt. set_false 0 k (bit_at-zero k))
+no_lanes = none_below (is_set 0) 64 (λ k lt. set_false 0 k (bit_at-zero k))
 
 -- the lanes of a mask of n bits are below n
-pub lanes_below : (bits n : ℕ) → bits < 2 ^ n → n ≤ 16 → lanes_of bits ≡ filter (is_set bits) (numbers_below n)
+pub lanes_below : (bits n : ℕ) → bits < 2 ^ n → n ≤ 64 → lanes_of bits ≡ filter (is_set bits) (numbers_below n)
 unfolding lanes_of
 lanes_below bits n small few =
-    let d = 16 - n in
-    let e : n + d ≡ 16 = omega arith in
+    let d = 64 - n in
+    let e : n + d ≡ 64 = omega arith in
     ap (λ m. filter (is_set bits) (numbers_below m)) (sym e) ∙ none_above (is_set bits) n d (λ k le. set_false bits k (bit_at_above bits n k small le))
 
 filter_short : (p : ℕ → Bool) (xs : List ℕ) → length (filter p xs) ≤ length xs
@@ -161,16 +202,12 @@ filter_short p (x ∷ xs) = by_test (p x) (filter_short p xs)
     by_test false h = omega arith
 
 -- no more are set than the mask has bits
-pub length_lanes : (bits n : ℕ) → bits < 2 ^ n → n ≤ 16 → length (lanes_of bits) ≤ n
+pub length_lanes : (bits n : ℕ) → bits < 2 ^ n → n ≤ 64 → length (lanes_of bits) ≤ n
 length_lanes bits n small few =
     let e : length (lanes_of bits) ≡ length (filter (is_set bits) (numbers_below n)) = ap length (lanes_below bits n small few) in
     let s = filter_short (is_set bits) (numbers_below n) in
     let l = length_below n in
     omega arith
-
--- a mask of so few bits is one of sixteen
-pub small_mask : (bits n : ℕ) → bits < 2 ^ n → n ≤ 16 → bits < 65536
-small_mask bits n small few = let p : 2 ^ n ≤ 2 ^ 16 = pow-le-pow_right (omega arith) few in omega (arith, p)
 
 -- a set bit of a mask of n bits is below n
 pub lane_below : (bits n t : ℕ) → bits < 2 ^ n → bit_at bits t ≡ 1 → t < n
@@ -197,7 +234,7 @@ module _ {X : Type 0} (acts : X → Bool) (at : ℕ → X) where
       by_test false e = ap (λ xs. filter acts (map at xs)) (one_filtered p n false e) ∙ sym (rw (h n (omega arith) e) refl)
 
   -- so of the lanes of a mask of n bits
-  pub lanes_act : (bits n : ℕ) → bits < 2 ^ n → n ≤ 16 → ((k : ℕ) → k < n → bit_at bits k ≡ 0 → acts (at k) ≡ false) → filter acts (map at (lanes_of bits)) ≡ filter acts (map at (numbers_below n))
+  pub lanes_act : (bits n : ℕ) → bits < 2 ^ n → n ≤ 64 → ((k : ℕ) → k < n → bit_at bits k ≡ 0 → acts (at k) ≡ false) → filter acts (map at (lanes_of bits)) ≡ filter acts (map at (numbers_below n))
   lanes_act bits n small few idle =
       ap (λ xs. filter acts (map at xs)) (lanes_below bits n small few) ∙ filter_passing (is_set bits) n (λ k lt e. idle k lt (unset k e))
     where

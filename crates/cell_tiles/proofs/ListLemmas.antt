@@ -1,5 +1,5 @@
--- A list of pairs that is written pair by pair, block by block, row by row.
-use Rattle.std.proofs.Common.{◌≡◌, ℕ, ◌+◌, ◌/◌, ◌%◌, ◌^◌, ◌<◌, ◌≤◌, Bool, false, None, List, [], ◌∷◌, ◌++◌, length, get_or, set, take, drop, map, filter, subst, sym, ap, ◌∙◌, arith, take-add}
+-- A list of pairs that is written pair by pair, some blocks at once, row by row.
+use Rattle.std.proofs.Common.{◌≡◌, ℕ, ◌+◌, ◌*◌, ◌/◌, ◌%◌, ◌^◌, ◌<◌, ◌≤◌, Bool, false, None, List, [], ◌∷◌, ◌++◌, length, get_or, set, take, drop, map, filter, subst, sym, ap, ◌∙◌, arith, take-add}
 use Rattle.std.specs.Coded.{Coded-set, coded_bool}
 use Rattle.std.specs.Int.{bit_at}
 use Rattle.std.specs.List.{All}
@@ -9,7 +9,7 @@ use Rattle.std.proofs.lemmas.List.Elements.{All-append, All-drop, All-filter, Al
 use Rattle.std.proofs.lemmas.Simd.{map-map}
 use Rattle.ring_box.proofs.ActingLemmas.{idle_turned}
 use Rattle.ring_box.specs.Acting.{Reach, acting_of}
-use Rattle.place_blocks.specs.Blocks.{AreInSpan, AreUpperHalves, IsCoarseReach, IsLane, LeavesOut, LeavesOutOfSpan}
+use Rattle.place_blocks.specs.Blocks.{AreInSpan, AreUpperHalves, IsCoarseReach, IsLane, LeavesOutOfSpan}
 use Rattle.ring_box.specs.Places.{ArePlaces, places_of}
 use Rattle.place_blocks.specs.declared.blocks.Block.{Block}
 use Rattle.ring_box.specs.declared.boxes.RingBox.{RingBox}
@@ -17,7 +17,7 @@ use Rattle.place_blocks.specs.declared.coarse_reaches.CoarseReach.{CoarseReach}
 use Rattle.place_blocks.specs.declared.upper_halves.CellSpan.{CellSpan}
 use Rattle.place_blocks.specs.declared.upper_halves.UpperHalves.{UpperHalves}
 use Rattle.ring_box.specs.declared.vectors.Place3.{Place3}
-use Rattle.cell_tiles.specs.Cells.{AreInBlocks, AreLanes, no_block, numbers_below}
+use Rattle.cell_tiles.specs.Cells.{AreInBlocks, AreLanes, LeavesOutOfFirst, no_block, numbers_below}
 use Rattle.cell_tiles.specs.Near.{lanes_of, pair_acts}
 use Rattle.cell_tiles.specs.Tiles.{pair_of, pairs_with}
 use Rattle.cell_tiles.proofs.CellLemmas.{are_places}
@@ -33,13 +33,13 @@ listed_more pair xs x count p more room is =
     ap (map pair) (take_more_set xs count x room) ∙ map-append pair (take count xs) (x ∷ []) ∙ ap (λ q. map pair (take count xs) ++ q ∷ []) is in
     sym (ap (λ ys. ys ++ more) next ∙ append_assoc (map pair (take count xs)) (p ∷ []) more)
 
--- ---- a block
+-- ---- some blocks at once
 
 -- an atom in a lane whose bit isn't set makes no pair that acts with one at these upper halves
-pub lane_idle : (d : Reach) (b : RingBox) (frame : List Place3) (coarse : CoarseReach) (block : Block) (halves : UpperHalves) (bits first a : ℕ) (bs : List ℕ) (j : ℕ) → All ArePlaces frame → ∥ IsCoarseReach d b coarse ∥₁
-    → ((d : Reach) (b : RingBox) → IsCoarseReach d b coarse → LeavesOut d b block halves bits) → AreUpperHalves halves (places_of frame a) → AreLanes frame block first bs → first + length bs ≤ 16 → j < length bs
+pub lane_idle : (d : Reach) (b : RingBox) (frame : List Place3) (coarse : CoarseReach) (blocks : List Block) (halves : UpperHalves) (bits first a : ℕ) (bs : List ℕ) (j : ℕ) → All ArePlaces frame → ∥ IsCoarseReach d b coarse ∥₁
+    → ((d : Reach) (b : RingBox) → IsCoarseReach d b coarse → LeavesOutOfFirst d b blocks (length blocks) halves bits) → AreUpperHalves halves (places_of frame a) → AreInBlocks frame blocks first bs → first + length bs ≤ 16 * length blocks → j < length bs
     → bit_at bits (first + j) ≡ 0 → pair_acts d b frame (pair_of a (get_or bs j 0)) ≡ false
-lane_idle d b frame coarse block halves bits first a bs j places reach left_out here lanes within lt unset =
+lane_idle d b frame coarse blocks halves bits first a bs j places reach left_out here lanes within lt unset =
     ∥∥₁_elim reach (Coded-set coded_bool _ _)
     (λ r. pair_idle d b frame a (get_or bs j 0) places (left_out d b r (first + j) (places_of frame a) (places_of frame (get_or bs j 0)) (omega arith) here (lanes j lt) unset))
 
@@ -60,14 +60,14 @@ module _ (a : ℕ) (bs : List ℕ) where
   pairs_all = sym (map-map (pair_of a) (λ (j : ℕ). get_or bs j 0) (numbers_below (length bs))) ∙ ap (map (pair_of a)) (by_places bs)
 
   -- once the pairs of those lanes are added whose bits are set, those that act are there
-  pub marked_act : (acts : ℕ × ℕ → Bool) (bits : ℕ) (old new : List (ℕ × ℕ)) → bits < 2 ^ length bs → length bs ≤ 16 → ((j : ℕ) → j < length bs → bit_at bits j ≡ 0 → acts (pair_of a (get_or bs j 0)) ≡ false)
+  pub marked_act : (acts : ℕ × ℕ → Bool) (bits : ℕ) (old new : List (ℕ × ℕ)) → bits < 2 ^ length bs → length bs ≤ 64 → ((j : ℕ) → j < length bs → bit_at bits j ≡ 0 → acts (pair_of a (get_or bs j 0)) ≡ false)
       → new ≡ old ++ pairs_at (lanes_of bits) → filter acts new ≡ filter acts old ++ filter acts (pairs_with a bs)
   marked_act acts bits old new small few idle is =
       ap (filter acts) is ∙ filter-append acts old (pairs_at (lanes_of bits))
       ∙ ap (λ ys. filter acts old ++ ys) (lanes_act acts (λ j. pair_of a (get_or bs j 0)) bits (length bs) small few idle ∙ ap (filter acts) pairs_all)
 
   -- they are pairs of the row
-  pub marked_listed : (P : ℕ × ℕ → Type 0) (bits : ℕ) (old new : List (ℕ × ℕ)) → bits < 2 ^ length bs → length bs ≤ 16 → All P (pairs_with a bs) → All P old → new ≡ old ++ pairs_at (lanes_of bits) → All P new
+  pub marked_listed : (P : ℕ × ℕ → Type 0) (bits : ℕ) (old new : List (ℕ × ℕ)) → bits < 2 ^ length bs → length bs ≤ 64 → All P (pairs_with a bs) → All P old → new ≡ old ++ pairs_at (lanes_of bits) → All P new
   marked_listed P bits old new small few all before is =
       let each : All (λ j. P (pair_of a (get_or bs j 0))) (numbers_below (length bs)) =
       All-from_get_or (λ j. P (pair_of a (get_or bs j 0))) (numbers_below (length bs)) 0
@@ -80,11 +80,11 @@ module _ (a : ℕ) (bs : List ℕ) where
       rw is (All-append P old (pairs_at (lanes_of bits)) before those)
 
   -- and no more than the row has
-  pub marked_few : (bits : ℕ) (old new : List (ℕ × ℕ)) → bits < 2 ^ length bs → length bs ≤ 16 → new ≡ old ++ pairs_at (lanes_of bits) → length new ≤ length old + length bs
+  pub marked_few : (bits : ℕ) (old new : List (ℕ × ℕ)) → bits < 2 ^ length bs → length bs ≤ 64 → new ≡ old ++ pairs_at (lanes_of bits) → length new ≤ length old + length bs
   marked_few bits old new small few is =
       omega (arith, ap length is, length-append old (pairs_at (lanes_of bits)), length-map (lanes_of bits) (λ (j : ℕ). pair_of a (get_or bs j 0)), length_lanes bits (length bs) small few)
 
--- ---- a row, block by block
+-- ---- a row, part by part
 
 -- a part of a row
 part_is : (a s n : ℕ) (bs : List ℕ) → pairs_with a (take n (drop s bs)) ≡ take n (drop s (pairs_with a bs))
@@ -116,6 +116,24 @@ part_lanes frame blocks block first s n bs one within is lanes i lt =
     let here : IsLane (get_or blocks ((first + (s + i)) / 16) no_block) ((first + (s + i)) % 16) (places_of frame (get_or bs (s + i) 0)) = lanes (s + i) (omega arith) in
     rw (is, atom, ← same, ← lane) here
 
+-- the atoms of a part of a row have lanes of those blocks alone that it reaches
+pub part_in_blocks : (frame : List Place3) (blocks : List Block) (first s n m : ℕ) (bs : List ℕ) → (first + s) % 16 + n ≤ 16 * m → s + n ≤ length bs → AreInBlocks frame blocks first bs
+    → AreInBlocks frame (take m (drop ((first + s) / 16) blocks)) ((first + s) % 16) (take n (drop s bs))
+part_in_blocks frame blocks first s n m bs reached within lanes i lt =
+    let q = (first + s) / 16 in
+    let k = (first + s) % 16 + i in
+    let long : length (take n (drop s bs)) ≡ n = length-take-le n (drop s bs) (omega (arith, length-drop s bs)) in
+    let below : i < n = omega arith in
+    let atom : get_or (take n (drop s bs)) i 0 ≡ get_or bs (s + i) 0 = get_or-take n (drop s bs) i 0 below ∙ get_or-drop s bs i 0 in
+    let there : q + k / 16 ≡ (first + (s + i)) / 16 = omega arith in
+    let block : get_or (take m (drop q blocks)) (k / 16) no_block ≡ get_or blocks ((first + (s + i)) / 16) no_block =
+    get_or-take m (drop q blocks) (k / 16) no_block (omega arith) ∙ get_or-drop q blocks (k / 16) no_block ∙ ap (λ j. get_or blocks j no_block) there in
+    let lane : (first + (s + i)) % 16 ≡ k % 16 = omega arith in
+    let here : IsLane (get_or blocks ((first + (s + i)) / 16) no_block) ((first + (s + i)) % 16) (places_of frame (get_or bs (s + i) 0)) = lanes (s + i) (omega arith) in
+    subst (λ x. IsLane x (k % 16) (places_of frame (get_or (take n (drop s bs)) i 0))) (sym block)
+    (subst (λ j. IsLane (get_or blocks ((first + (s + i)) / 16) no_block) j (places_of frame (get_or (take n (drop s bs)) i 0))) lane
+    (subst (λ a. IsLane (get_or blocks ((first + (s + i)) / 16) no_block) ((first + (s + i)) % 16) (places_of frame a)) (sym atom) here))
+
 -- the atoms of a row have the lanes of those of the atoms that it is cut from
 pub row_lanes : (frame : List Place3) (blocks : List Block) (column : ℕ) (bs ys : List ℕ) → bs ≡ take (length bs) (drop column ys) → column + length bs ≤ length ys → AreInBlocks frame blocks 0 ys → AreInBlocks frame blocks column bs
 row_lanes frame blocks column bs ys part within lanes i lt =
@@ -132,7 +150,7 @@ gathered_more a bs old new bits is =
     ap (pairs_with a) is ∙ map-append (pair_of a) old (map (λ j. get_or bs j 0) (lanes_of bits)) ∙ ap (λ ys. pairs_with a old ++ ys) (map-map (pair_of a) (λ (j : ℕ). get_or bs j 0) (lanes_of bits))
 
 -- what holds of each of some atoms holds of each that is gathered of them
-pub gathered_all : (P : ℕ → Type 0) (bs old new : List ℕ) (bits : ℕ) → bits < 2 ^ length bs → length bs ≤ 16 → All P bs → All P old → new ≡ old ++ map (λ j. get_or bs j 0) (lanes_of bits) → All P new
+pub gathered_all : (P : ℕ → Type 0) (bs old new : List ℕ) (bits : ℕ) → bits < 2 ^ length bs → length bs ≤ 64 → All P bs → All P old → new ≡ old ++ map (λ j. get_or bs j 0) (lanes_of bits) → All P new
 gathered_all P bs old new bits small few all before is =
     let each : All (λ j. P (get_or bs j 0)) (numbers_below (length bs)) =
     All-from_get_or (λ j. P (get_or bs j 0)) (numbers_below (length bs)) 0

@@ -1,9 +1,13 @@
 -- The cells of a box, each by one number, and the atoms in them (GROMACS manual, Neighbor searching, grid search).
-use Rattle.std.specs.Prelude.{◌≡◌, ℕ, zero, suc, ◌+◌, ◌*◌, ◌/◌, ◌%◌, ◌^◌, ◌==◌, ◌<◌, ◌≤◌, Bool, ◌&&◌, List, [], ◌∷◌, ◌++◌, length, map, filter, slice_index, slice_index_or}
-use Rattle.place_blocks.specs.Blocks.{IsLane}
+use Rattle.std.specs.Prelude.{◌≡◌, ℕ, zero, suc, ◌+◌, ◌*◌, ◌/◌, ◌%◌, ◌^◌, ◌==◌, ◌<◌, ◌≤◌, Bool, ◌&&◌, List, [], ◌∷◌, ◌++◌, None, length, map, filter, slice_index, slice_index_or}
+use Rattle.std.specs.Int.{bit_at}
+use Rattle.place_blocks.specs.Blocks.{AreUpperHalves, IsLane}
+use Rattle.ring_box.specs.Acting.{Reach, acting_of}
 use Rattle.ring_box.specs.Cells.{are_near_cells, cell_of}
 use Rattle.ring_box.specs.Places.{places_of}
 use Rattle.place_blocks.specs.declared.blocks.Block.{Block}
+use Rattle.place_blocks.specs.declared.upper_halves.UpperHalves.{UpperHalves}
+use Rattle.ring_box.specs.declared.boxes.RingBox.{RingBox}
 use Rattle.ring_box.specs.declared.vectors.CellBits.{CellBits}
 use Rattle.ring_box.specs.declared.vectors.CellNumbers.{CellNumbers}
 use Rattle.ring_box.specs.declared.vectors.Place3.{Place3}
@@ -72,6 +76,11 @@ AreLanes frame block first atoms = (i : ℕ) → i < length atoms → IsLane blo
 abbrev pub AreInBlocks : List Place3 → List Block → ℕ → List ℕ → Type 0
 AreInBlocks frame blocks first atoms =
     (i : ℕ) → i < length atoms → IsLane (slice_index_or blocks ((first + i) / 16) no_block) ((first + i) % 16) (places_of frame (slice_index atoms i))
+
+-- an atom in a lane of the first n of these blocks whose bit isn't set doesn't act with an atom at these upper halves
+abbrev pub LeavesOutOfFirst : Reach → RingBox → List Block → ℕ → UpperHalves → ℕ → Type 0
+LeavesOutOfFirst d b blocks n h bits =
+    (k : ℕ) (p q : Place3) → k < 16 * n → AreUpperHalves h p → IsLane (slice_index_or blocks (k / 16) no_block) (k % 16) q → bit_at bits k ≡ 0 → acting_of d b p q ≡ None
 
 -- beside these atoms of a frame stand the upper halves of their places, in blocks of sixteen
 pub record AreBlocks (frame : List Place3) (atoms : List ℕ) (blocks : List Block) : Type 0 where

@@ -25,6 +25,6 @@ pub record AreNear (d : Reach) (b : RingBox) (frame : List Place3) (pairs : List
   pub within : n ≤ length pairs
   pub acting : those_acting d b frame (drop k pairs) ≡ those_acting d b frame near ++ those_acting d b frame (drop n pairs)
 
--- the lanes of sixteen whose bits are set, ascending
+-- the lanes of 64 whose bits are set, ascending
 unfoldable pub lanes_of : ℕ → List ℕ
-lanes_of bits = filter (λ k. bit_at bits k == 1) (numbers_below 16)
+lanes_of bits = filter (λ k. bit_at bits k == 1) (numbers_below 64)

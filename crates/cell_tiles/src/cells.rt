@@ -237,7 +237,7 @@ impl<A: Allocator + Copy> Cells<A> {
             ≡ those_acting frame.now.reach.now frame.now.ring.now frame.now.places.now near.old ++ those_acting frame.now.reach.now frame.now.ring.now frame.now.places.now (take result (pairs_with row.now.atom row.now.others.now)) }
         ensures listed { All (IsPairOf (length frame.now.places.now)) near.old → All (IsPairOf (length frame.now.places.now)) near.new }
         ensures within { result ≤ length row.now.others.now }
-        ensures onward { length near.old ≤ 112 → 0 < result }
+        ensures onward { length near.old ≤ 64 → 0 < result }
         ensures few { length near.new ≤ length near.old + result }
     {
         if tile.first != tile.second && self.is_cell_far(frame, row.atom, tile.second) {

@@ -1,14 +1,19 @@
-//! Masks of sixteen bits: one for each lane of a block.
+//! Masks of up to 64 bits: one for each lane of a block, or of up to four.
 
-ghost use Rattle.std.specs.Prelude.{◌≡◌, ℕ, ◌+◌, ◌/◌, ◌%◌, ◌^◌, ◌<◌, ◌≤◌, ◌∷◌};
+ghost use Rattle.std.specs.Prelude.{◌≡◌, ℕ, ◌+◌, ◌*◌, ◌/◌, ◌%◌, ◌^◌, ◌<◌, ◌≤◌, ◌∷◌, length};
 ghost use Rattle.std.specs.Int.{bit_at};
+ghost use Rattle.place_blocks.specs.Blocks.{IsCoarseReach};
+ghost use Rattle.ring_box.specs.Acting.{Reach};
+ghost use Rattle.ring_box.specs.declared.boxes.RingBox.{RingBox};
+ghost use Rattle.cell_tiles.specs.Cells.{LeavesOutOfFirst};
 ghost use Rattle.cell_tiles.specs.Near.{lanes_of};
+
+use place_blocks::{Block, CoarseReach, UpperHalves};
 
 /// The lowest lane whose bit is set, and the bits of the others.
 #[inline(always)]
 pub(crate) fn next_lane(bits: u64) -> (usize, u64)
     requires some { 0 < bits }
-    requires few { bits < 2 ^ 16 }
     ensures lanes { lanes_of bits ≡ result.0 ∷ lanes_of result.1 }
     ensures set { bit_at bits result.0 ≡ 1 }
     ensures before { (k : ℕ) → k < result.0 → bit_at bits k ≡ 0 }
@@ -22,10 +27,26 @@ pub(crate) fn next_lane(bits: u64) -> (usize, u64)
 /// The bits of `count` lanes from the lane `first` on.
 #[inline(always)]
 pub(crate) fn bits_of(bits: u64, first: usize, count: usize) -> u64
-    requires { first + count ≤ 16 }
+    requires some { 0 < count }
+    requires within { first + count ≤ 64 }
     ensures value { result ≡ bits / 2 ^ first % 2 ^ count }
     ensures bound { result < 2 ^ count }
     ensures each { (k : ℕ) → k < count → bit_at result k ≡ bit_at bits (first + k) }
 {
-    (bits >> first) & ((1 << count) - 1)
+    (bits >> first) & (u64::MAX >> (64 - count))
+}
+
+/// A bit for each lane of up to four blocks, those of the first the lowest, whose atom may act with one at these upper
+/// halves: one without doesn't.
+#[inline(always)]
+pub(crate) fn near_lanes(coarse: &CoarseReach, blocks: &[Block], halves: UpperHalves) -> u64
+    requires { length blocks.now ≤ 4 }
+    ensures bound { result < 2 ^ (16 * length blocks.now) }
+    ensures left_out { (d : Reach) (b : RingBox) → IsCoarseReach d b coarse.now → LeavesOutOfFirst d b blocks.now (length blocks.now) halves result }
+{
+    let mut near = 0;
+    for (i, block) in blocks.iter().enumerate() {
+        near |= coarse.near(block, halves) << (16 * i);
+    }
+    near
 }

@@ -5,12 +5,12 @@ ghost use Rattle.std.specs.Prelude.{◌≡◌, ◌+◌, ◌*◌, ◌^◌, ◌<�
 ghost use Rattle.std.specs.List.{All};
 ghost use Rattle.place_blocks.specs.Blocks.{AreUpperHalves};
 ghost use Rattle.ring_box.specs.Places.{places_of};
-ghost use Rattle.cell_tiles.specs.Cells.{AreInBlocks, AreLanes};
+ghost use Rattle.cell_tiles.specs.Cells.{AreInBlocks};
 ghost use Rattle.cell_tiles.specs.Near.{IsPairOf, lanes_of, those_acting};
 ghost use Rattle.cell_tiles.specs.Tiles.{pair_of, pairs_with};
 
 use crate::gathered::Gathered;
-use crate::lanes::{bits_of, next_lane};
+use crate::lanes::{bits_of, near_lanes, next_lane};
 use crate::near::FrameInBox;
 use crate::pairs::{AtomPair, in_order};
 use place_blocks::{Block, CellSpan, UpperHalves};
@@ -70,10 +70,10 @@ impl PairList {
         self.as_slice().len()
     }
 
-    /// Adds the pairs of an atom with those of up to sixteen others whose bits are set.
+    /// Adds the pairs of an atom with those of up to 64 others whose bits are set.
     #[inline(always)]
     fn add_marked(&mut self, atom: u32, others: &[u32], marked: u64)
-        requires few { length others.now ≤ 16 }
+        requires few { length others.now ≤ 64 }
         requires room { length self.old + length others.now ≤ 128 }
         requires marked { marked < 2 ^ length others.now }
         ensures { self.new ≡ self.old ++ map (λ j. pair_of atom (slice_index others.now j)) (lanes_of marked) }
@@ -89,33 +89,36 @@ impl PairList {
         self.count = count;
     }
 
-    /// Adds the pairs of an atom with others that may act. The others have the lanes of a block from the lane `first` on.
+    /// Adds the pairs of an atom with others that may act. The others have the lanes of these blocks, of up to four, from
+    /// the lane `first` on.
     #[inline(always)]
-    fn add_block(
+    fn add_blocks(
         &mut self,
         frame: &FrameInBox,
         atom: u32,
         halves: UpperHalves,
-        block: &Block,
+        blocks: &[Block],
         first: usize,
         others: &[u32],
     )
-        requires lanes { first + length others.now ≤ 16 }
+        requires few { length blocks.now ≤ 4 }
+        requires some { 0 < length others.now }
+        requires lanes { first + length others.now ≤ 16 * length blocks.now }
         requires room { length self.old + length others.now ≤ 128 }
         requires halves { AreUpperHalves halves (places_of frame.now.places.now atom) }
-        requires beside { AreLanes frame.now.places.now block.now first others.now }
+        requires beside { AreInBlocks frame.now.places.now blocks.now first others.now }
         requires pairs { All (IsPairOf (length frame.now.places.now)) (pairs_with atom others.now) }
         ensures acting { those_acting frame.now.reach.now frame.now.ring.now frame.now.places.now self.new
             ≡ those_acting frame.now.reach.now frame.now.ring.now frame.now.places.now self.old ++ those_acting frame.now.reach.now frame.now.ring.now frame.now.places.now (pairs_with atom others.now) }
         ensures listed { All (IsPairOf (length frame.now.places.now)) self.old → All (IsPairOf (length frame.now.places.now)) self.new }
         ensures few { length self.new ≤ length self.old + length others.now }
     {
-        let near = frame.coarse.near(block, halves);
+        let near = near_lanes(&frame.coarse, blocks, halves);
         self.add_marked(atom, others, bits_of(near, first, others.len()));
     }
 
-    /// Adds the pairs of an atom with others that may act, block by block, until there might be no room. It answers how
-    /// many of the pairs it has come past. The others have the lanes of these blocks from the lane `first` on.
+    /// Adds the pairs of an atom with others that may act, up to four blocks at once, until there might be no room. It
+    /// answers how many of the pairs it has come past. The others have the lanes of these blocks from the lane `first` on.
     pub(crate) fn add_row(
         &mut self,
         frame: &FrameInBox,
@@ -133,19 +136,19 @@ impl PairList {
             ≡ those_acting frame.now.reach.now frame.now.ring.now frame.now.places.now self.old ++ those_acting frame.now.reach.now frame.now.ring.now frame.now.places.now (take result (pairs_with atom others.now)) }
         ensures listed { All (IsPairOf (length frame.now.places.now)) self.old → All (IsPairOf (length frame.now.places.now)) self.new }
         ensures within { result ≤ length others.now }
-        ensures onward { 0 < length others.now → length self.old ≤ 112 → 0 < result }
+        ensures onward { 0 < length others.now → length self.old ≤ 64 → 0 < result }
         ensures whole { length self.old + length others.now ≤ 128 → result ≡ length others.now }
         ensures few { length self.new ≤ length self.old + result }
     {
         let mut seen = 0;
         while seen < others.len() {
             let lane = (first + seen) % 16;
-            let end = others.len().min(seen + (16 - lane));
+            let end = others.len().min(seen + (64 - lane));
             if self.len() + (end - seen) > 128 {
                 return seen;
             }
-            let block = &blocks[(first + seen) / 16];
-            self.add_block(frame, atom, halves, block, lane, &others[seen..end]);
+            let reached = &blocks[(first + seen) / 16..(first + end).div_ceil(16)];
+            self.add_blocks(frame, atom, halves, reached, lane, &others[seen..end]);
             seen = end;
         }
         seen
@@ -158,7 +161,7 @@ impl PairList {
     ghost use Rattle.std.specs.Prelude.{◌-◌, [], drop};
     ghost use Rattle.std.specs.Int.{bit_at};
     ghost use Rattle.place_blocks.specs.Blocks.{AreInSpan};
-    ghost use Rattle.cell_tiles.specs.Cells.{AreBlocks};
+    ghost use Rattle.cell_tiles.specs.Cells.{AreBlocks, AreLanes};
     ghost use Rattle.cell_tiles.specs.Tiles.{pairs_between};
 
     /// Adds the pairs that may act of those of up to sixteen atoms whose bits are set with all gathered ones, row by

@@ -22,4 +22,4 @@ returns-clause-behind c =
 pub returns-clause-lanes : goal.returns-clause-lanes
 returns-clause-lanes c =
     let t = bit_at-trailing_zeros w64 c.args.bits c.requires.some c.ranges.bits.fits in
-    next_lanes c.args.bits _ (lane_below c.args.bits 16 _ c.requires.few t.1) t.1 t.2
+    next_lanes c.args.bits _ (lane_below c.args.bits 64 _ c.ranges.bits.fits t.1) t.1 t.2

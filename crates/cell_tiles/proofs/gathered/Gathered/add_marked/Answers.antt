@@ -4,7 +4,7 @@ use Rattle.place_blocks.specs.Blocks.{AreUpperHalves, halves_at}
 use Rattle.ring_box.specs.Places.{places_of}
 use Rattle.cell_tiles.specs.Near.{lanes_of}
 use Rattle.cell_tiles.proofs.BlockLemmas.{lane_more}
-use Rattle.cell_tiles.proofs.LaneLemmas.{lane_below, length_lanes, no_lanes, small_mask}
+use Rattle.cell_tiles.proofs.LaneLemmas.{lane_below, length_lanes, no_lanes}
 use Rattle.cell_tiles.proofs.gathered.Gathered.add_marked.Goals as goal
 
 pub loop-left-init : goal.loop-left-init
@@ -16,14 +16,11 @@ loop-left-init c =
     record {
       listed = ap (λ xs. xs ++ map at (lanes_of c.args.marked)) (sym there);
       lanes = λ frame before beside. rw (there, ap (λ v. v.blocks) c.self.view_is) before;
-      room = omega (arith, many, length_lanes c.args.marked (length c.args.atoms.now) c.requires.marked c.requires.few, c.requires.room);
+      room = omega (arith, many, length_lanes c.args.marked (length c.args.atoms.now) c.requires.marked (omega (arith, c.requires.few)), c.requires.room);
       small = c.requires.marked;
       wide = wide;
       high = omega (arith, c.self.ranges);
     }
-
-pub next_lane-lane-requires-clause-few : goal.next_lane-lane-requires-clause-few
-next_lane-lane-requires-clause-few c = small_mask c.loop-left.left (length c.args.atoms.now) c.loop-left.invariant.small c.requires.few
 
 pub bounds-atoms-lane : goal.bounds-atoms-lane
 bounds-atoms-lane c = lane_below c.loop-left.left (length c.args.atoms.now) _ c.loop-left.invariant.small c.next_lane-lane.ensures.set

@@ -45,7 +45,8 @@ loop-seen-preserved c =
     let whole : seen + n ≡ end = omega (arith, is, c.loop-seen-test.true) in
     let within : seen + n ≤ length atoms = omega (arith, is, c.loop-seen-test.true) in
     let long : length part ≡ n = length-take-le n (drop seen atoms) (omega (arith, length-drop seen atoms, is)) in
-    let few : length part ≤ 16 = omega (arith, long, is) in
+    let one : length part ≤ 16 = omega (arith, long, is) in
+    let few : length part ≤ 64 = omega (arith, one) in
     let small : bits < 2 ^ length part = subst (λ m. bits < 2 ^ m) (sym long) c.bits_of.ensures.bound in
     let lanes = first_lanes frame c.args.blocks.now seen n atoms (kept.aligned c.loop-seen-test.true) (omega (arith, is)) within c.requires.beside.lanes in
     record {
@@ -56,7 +57,7 @@ loop-seen-preserved c =
           part_passed acts a seen n end atoms [] (pairs_with a old) (pairs_with a new) (sym whole)
           (marked_act a part acts bits (pairs_with a old) (pairs_with a new) small few
           (λ j lt unset.
-          span_idle f.reach.now f.ring.now frame f.coarse (get_or c.args.blocks.now (seen / 16) no_block) c.args.span.now c.near_cell-near.result 0 a part j f.on_ring f.is_coarse c.near_cell-near.ensures.left_out near lanes (omega (arith, few)) lt
+          span_idle f.reach.now f.ring.now frame f.coarse (get_or c.args.blocks.now (seen / 16) no_block) c.args.span.now c.near_cell-near.result 0 a part j f.on_ring f.is_coarse c.near_cell-near.ensures.left_out near lanes (omega (arith, one)) lt
           (sym (c.bits_of.ensures.each j (omega (arith, lt, long))) ∙ unset))
           (gathered_more a part old new bits c.add_marked.ensures.atoms))
           (kept.acting a near);

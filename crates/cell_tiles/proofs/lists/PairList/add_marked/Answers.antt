@@ -3,7 +3,7 @@ use Rattle.std.proofs.lemmas.List.{length-map, length-set, length-take-le}
 use Rattle.cell_tiles.specs.declared.pairs.AtomPair.{AtomPair}
 use Rattle.cell_tiles.specs.Near.{lanes_of}
 use Rattle.cell_tiles.specs.Tiles.{pair_of}
-use Rattle.cell_tiles.proofs.LaneLemmas.{lane_below, length_lanes, no_lanes, small_mask}
+use Rattle.cell_tiles.proofs.LaneLemmas.{lane_below, length_lanes, no_lanes}
 use Rattle.cell_tiles.proofs.ListLemmas.{listed_more}
 use Rattle.cell_tiles.proofs.lists.PairList.add_marked.Goals as goal
 
@@ -19,9 +19,6 @@ loop-left-init c =
       small = c.requires.marked;
       wide = wide;
     }
-
-pub next_lane-lane-requires-clause-few : goal.next_lane-lane-requires-clause-few
-next_lane-lane-requires-clause-few c = small_mask c.loop-left.left (length c.args.others.now) c.loop-left.invariant.small c.requires.few
 
 pub bounds-others-lane : goal.bounds-others-lane
 bounds-others-lane c = lane_below c.loop-left.left (length c.args.others.now) _ c.loop-left.invariant.small c.next_lane-lane.ensures.set

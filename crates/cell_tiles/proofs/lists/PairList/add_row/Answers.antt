@@ -1,7 +1,7 @@
-use Rattle.std.proofs.Common.{◌≡◌, ◌-◌, append-nil, arith, drop, length, length-drop, refl, sym, take}
+use Rattle.std.proofs.Common.{◌≡◌, ◌-◌, append-nil, arith, drop, length, length-drop, sym, take}
 use Rattle.std.proofs.lemmas.List.{length-take-le}
 use Rattle.cell_tiles.specs.Near.{IsPairOf, pair_acts, those_acting}
-use Rattle.cell_tiles.proofs.ListLemmas.{part_all, part_lanes, part_passed}
+use Rattle.cell_tiles.proofs.ListLemmas.{part_all, part_in_blocks, part_passed}
 use Rattle.cell_tiles.proofs.lists.PairList.add_row.Goals as goal
 
 pub loop-seen-init : goal.loop-seen-init
@@ -12,29 +12,29 @@ loop-seen-init c = record {
   few = omega arith;
 }
 
-pub add_block-requires-clause-lanes : goal.add_block-requires-clause-lanes
-add_block-requires-clause-lanes c =
+pub add_blocks-requires-clause-lanes : goal.add_blocks-requires-clause-lanes
+add_blocks-requires-clause-lanes c =
     let seen = c.loop-seen.seen in
     let end = c.min-end.result in
     let is = c.min-end.ensures in
     let long : length (take (end - seen) (drop seen c.args.others.now)) ≡ end - seen = length-take-le (end - seen) (drop seen c.args.others.now) (omega (arith, length-drop seen c.args.others.now, is)) in
     omega (arith, long, is)
 
-pub add_block-requires-clause-room : goal.add_block-requires-clause-room
-add_block-requires-clause-room c =
+pub add_blocks-requires-clause-room : goal.add_blocks-requires-clause-room
+add_blocks-requires-clause-room c =
     let seen = c.loop-seen.seen in
     let end = c.min-end.result in
     let is = c.min-end.ensures in
     let long : length (take (end - seen) (drop seen c.args.others.now)) ≡ end - seen = length-take-le (end - seen) (drop seen c.args.others.now) (omega (arith, length-drop seen c.args.others.now, is)) in
     omega (arith, long, c.len.ensures.value, c.if-len-end-gt128.false)
 
-pub add_block-requires-clause-beside : goal.add_block-requires-clause-beside
-add_block-requires-clause-beside c =
+pub add_blocks-requires-clause-beside : goal.add_blocks-requires-clause-beside
+add_blocks-requires-clause-beside c =
     let is = c.min-end.ensures in
-    part_lanes c.args.frame.now.places.now c.args.blocks.now _ c.args.first c.loop-seen.seen (c.min-end.result - c.loop-seen.seen) c.args.others.now (omega (arith, is)) (omega (arith, is, c.loop-seen-test.true)) refl c.requires.beside
+    part_in_blocks c.args.frame.now.places.now c.args.blocks.now c.args.first c.loop-seen.seen (c.min-end.result - c.loop-seen.seen) _ c.args.others.now (omega (arith, is, c.loop-seen-test.true)) (omega (arith, is, c.loop-seen-test.true)) c.requires.beside
 
-pub add_block-requires-clause-pairs : goal.add_block-requires-clause-pairs
-add_block-requires-clause-pairs c = part_all (IsPairOf (length c.args.frame.now.places.now)) c.args.atom c.loop-seen.seen (c.min-end.result - c.loop-seen.seen) c.args.others.now c.requires.pairs
+pub add_blocks-requires-clause-pairs : goal.add_blocks-requires-clause-pairs
+add_blocks-requires-clause-pairs c = part_all (IsPairOf (length c.args.frame.now.places.now)) c.args.atom c.loop-seen.seen (c.min-end.result - c.loop-seen.seen) c.args.others.now c.requires.pairs
 
 pub loop-seen-preserved : goal.loop-seen-preserved
 loop-seen-preserved c =
@@ -45,10 +45,10 @@ loop-seen-preserved c =
     let kept = c.loop-seen.invariant in
     let long : length (take (end - seen) (drop seen c.args.others.now)) ≡ end - seen = length-take-le (end - seen) (drop seen c.args.others.now) (omega (arith, length-drop seen c.args.others.now, is)) in
     record {
-      acting = part_passed (pair_acts f.reach.now f.ring.now f.places.now) c.args.atom seen (end - seen) end c.args.others.now c.args.self.now c.loop-seen.self c.add_block.new.self (omega (arith, is, c.loop-seen-test.true)) c.add_block.ensures.acting kept.acting;
-      listed = λ all. c.add_block.ensures.listed (kept.listed all);
+      acting = part_passed (pair_acts f.reach.now f.ring.now f.places.now) c.args.atom seen (end - seen) end c.args.others.now c.args.self.now c.loop-seen.self c.add_blocks.new.self (omega (arith, is, c.loop-seen-test.true)) c.add_blocks.ensures.acting kept.acting;
+      listed = λ all. c.add_blocks.ensures.listed (kept.listed all);
       within = omega (arith, is);
-      few = omega (arith, kept.few, c.add_block.ensures.few, long, is, c.loop-seen-test.true);
+      few = omega (arith, kept.few, c.add_blocks.ensures.few, long, is, c.loop-seen-test.true);
     }
 
 pub returns-then-len-end-gt128-clause-acting : goal.returns-then-len-end-gt128-clause-acting

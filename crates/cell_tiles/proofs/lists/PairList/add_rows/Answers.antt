@@ -8,7 +8,7 @@ use Rattle.place_blocks.specs.Blocks.{AreUpperHalves}
 use Rattle.ring_box.specs.Places.{places_of}
 use Rattle.cell_tiles.specs.Near.{IsPairOf, pair_acts, those_acting}
 use Rattle.cell_tiles.specs.Tiles.{pair_of, pairs_between, pairs_with}
-use Rattle.cell_tiles.proofs.LaneLemmas.{lane_below, small_mask}
+use Rattle.cell_tiles.proofs.LaneLemmas.{lane_below}
 use Rattle.cell_tiles.proofs.RowLemmas.{not_passed, rows_on, rows_passed}
 use Rattle.cell_tiles.proofs.lists.PairList.add_rows.Goals.{After-next_lane-row}
 use Rattle.cell_tiles.proofs.lists.PairList.add_rows.Goals as goal
@@ -40,9 +40,6 @@ returns-then-len-others-gt128-clause-onward c some none =
     let empty : length c.loop-left.self ≡ 0 = c.loop-left.invariant.first e ∙ none in
     omega (arith, empty, c.len.ensures.value, c.atoms-others.ensures.few, c.if-len-others-gt128.true) in
     omega (arith, first)
-
-pub next_lane-row-requires-clause-few : goal.next_lane-row-requires-clause-few
-next_lane-row-requires-clause-few c = small_mask c.loop-left.left (length c.args.atoms.now) c.loop-left.invariant.small (omega (arith, c.requires.lanes))
 
 below : (c : After-next_lane-row) → c.next_lane-row.result.0 < length c.args.atoms.now
 below c = lane_below c.loop-left.left (length c.args.atoms.now) _ c.loop-left.invariant.small c.next_lane-row.ensures.set
