@@ -50,3 +50,6 @@ returns-clause-next g c =
     (next_add s w.frame.now (pairs_in (members_of (grid_of s) w.frame.now) tile) c.args.k c.near_from-next.result c.find_all.new.found.pairs
     (near_found s w.frame.now (pairs_in (members_of (grid_of s) w.frame.now) tile) c.near_from-next.new.near c.args.k c.near_from-next.result c.find_all.new.found.pairs
     (rw (w.members, c.reach-reach.ensures) at c.near_from-next.ensures.near) (rw c.as_slice.ensures.value at c.find_all.ensures.value)))
+
+pub invariant_of-frame-clause-is_coarse : goal.invariant_of-frame-clause-is_coarse
+invariant_of-frame-clause-is_coarse g c = ∣ c.new.ensures.reach ∣₁
