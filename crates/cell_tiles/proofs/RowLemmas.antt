@@ -1,4 +1,5 @@
--- The rows of two lists of atoms: which of them act, where some act with none, and where others stand for the second list.
+-- The rows of two lists of atoms: which of them act, where some act with none, and where others stand for the second
+-- list.
 use Rattle.std.proofs.Common.{◌≡◌, ℕ, zero, suc, ◌+◌, ◌*◌, ◌-◌, ◌<◌, ◌≤◌, Bool, List, [], ◌∷◌, ◌++◌, length, get_or, take, drop, filter, refl, subst, sym, ap, ◌∙◌, ⊎_elim, arith, append-nil, take-add}
 use Rattle.std.specs.Int.{bit_at}
 use Rattle.std.specs.List.{All}

@@ -1,4 +1,5 @@
-//! The upper halves of the places of the atoms of each cell, beside them: in blocks of sixteen, which are tested at once.
+//! The upper halves of the places of the atoms of each cell, beside them: in blocks of sixteen, which are tested at
+//! once.
 
 ghost use Rattle.std.specs.Prelude.{◌≡◌, ℕ, ◌+◌, ◌*◌, ◌<◌, [], length, map, slice_index, slice_index_or, OnOk};
 ghost use Rattle.std.specs.List.{All};

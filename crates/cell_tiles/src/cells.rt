@@ -111,9 +111,9 @@ impl<A: Allocator + Copy> Cells<A> {
         })
     }
 
-    /// Puts each atom of a frame, of at most 65,536, into its cell in place of what the cells held, and the upper halves
-    /// of its places beside it. It keeps the memory that the cells have, and answers `AllocError` where more is refused: the cells
-    /// then hold some of the atoms, and can be filled again.
+    /// Puts each atom of a frame, of at most 65,536, into its cell in place of what the cells held, and the upper
+    /// halves of its places beside it. It keeps the memory that the cells have, and answers `AllocError` where more is
+    /// refused: the cells then hold some of the atoms, and can be filled again.
     pub fn fill(&mut self, frame: &[Place3]) -> Result<(), AllocError>
         requires { length frame.now ≤ 65536 }
         ensures bits { self.new.bits ≡ self.old.bits }
@@ -255,8 +255,8 @@ impl<A: Allocator + Copy> Cells<A> {
         )
     }
 
-    // Lists the pairs of a tile that act, from that with the number `k` on, row by row, in place of what `near` held. It
-    // answers the number of the pair with which to go on.
+    // Lists the pairs of a tile that act, from that with the number `k` on, row by row, in place of what `near` held.
+    // It answers the number of the pair with which to go on.
     fn near_by_rows(&self, frame: &FrameInBox, tile: Tile, k: u64, near: &mut PairList) -> u64
         requires k { k < length (pairs_in self.now.members (tile.first, tile.second)) }
         requires cell { tile.second < cells_of self.now.bits }
@@ -306,9 +306,9 @@ impl<A: Allocator + Copy> Cells<A> {
         }
     }
 
-    // The same for two cells, of which the second has at most 128 atoms, from the beginning of a row on: with those atoms
-    // of the second alone that may act with some atom of the first, and of the first alone that may act with some of the
-    // second.
+    // Lists the pairs of a tile of two cells, of which the second has at most 128 atoms, from the beginning of a row on,
+    // in place of what `near` held: of those atoms of the second that may act with some atom of the first, and those of
+    // the first that may act with some of the second. It answers the number of the pair with which to go on.
     fn near_between(&self, frame: &FrameInBox, tile: Tile, row: usize, near: &mut NearPairs) -> u64
         requires row { row < length (members_at self.now.members tile.first) }
         requires few { length (members_at self.now.members tile.second) ≤ 128 }

@@ -1,4 +1,5 @@
-//! The atoms of a cell that may act with some atom of another, gathered from the cell's blocks into blocks of their own.
+//! The atoms of a cell that may act with some atom of another, gathered from the cell's blocks into blocks of their
+//! own.
 
 ghost use Rattle.std.specs.Prelude.{◌≡◌, ℕ, ◌+◌, ◌^◌, ◌<◌, ◌≤◌, ◌++◌, Bool, true, List, length, map, slice_index};
 ghost use Rattle.std.specs.List.{All};

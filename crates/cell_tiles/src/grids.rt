@@ -81,8 +81,8 @@ impl Grid {
         are_near_cells(x, c.x, d.x) && are_near_cells(y, c.y, d.y) && are_near_cells(z, c.z, d.z)
     }
 
-    // The next cell that may be near `d`, after a cell `c` that isn't. A slab and a row with none that is near are passed
-    // over at once.
+    // The next cell that may be near `d`, after a cell `c` that isn't. A slab and a row with none that is near are
+    // passed over at once.
     pub(crate) fn past_far(&self, c: u32, d: u32) -> u32
         requires order { c ≤ d }
         requires d { d < cells_of self.now.bits }

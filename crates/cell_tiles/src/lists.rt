@@ -1,5 +1,5 @@
-//! A list of pairs, and the pairs of an atom with others: those that may act, as far as the upper halves of their places
-//! tell, are listed.
+//! A list of pairs, and the pairs of an atom with others: those that may act, as far as the upper halves of their
+//! places tell, are listed.
 
 ghost use Rattle.std.specs.Prelude.{◌≡◌, ◌+◌, ◌*◌, ◌^◌, ◌<◌, ◌≤◌, ◌++◌, ℕ, length, map, slice_index, take};
 ghost use Rattle.std.specs.List.{All};
@@ -166,8 +166,8 @@ impl PairList {
     ghost use Rattle.cell_tiles.specs.Tiles.{pairs_between};
 
     /// Adds the pairs that may act of those of up to sixteen atoms whose bits are set with all gathered ones, row by
-    /// row, until there might be no room for a row. It answers how many of the atoms it has come past. The atoms have the
-    /// lanes of a block from the lane `first` on.
+    /// row, until there might be no room for a row. It answers how many of the atoms it has come past. The atoms have
+    /// the lanes of a block from the lane `first` on.
     #[inline(always)]
     fn add_rows(
         &mut self,
