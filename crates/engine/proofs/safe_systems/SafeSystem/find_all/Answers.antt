@@ -8,7 +8,7 @@ use Rattle.ring_box.specs.FoundPairs.{FoundPairs, found_pair_of, with_pair}
 use Rattle.cell_tiles.specs.Near.{IsPairOf}
 use Rattle.cell_tiles.specs.declared.pairs.AtomPair.{AtomPair}
 use Rattle.tile_round.specs.Tiles.{acting}
-use Rattle.integrator.specs.Frames.{places_of}
+use Rattle.ring_box.specs.Places.{places_of}
 use Rattle.engine.proofs.RowLaws.{all_are_found, few_act, put_next}
 use Rattle.engine.proofs.TileLaws.{mapped_at}
 use Rattle.engine.specs.Rows.{IsFound, found_of, reach_of}
