@@ -1,7 +1,9 @@
 # try: builds the program with nothing proved, at ./pairmd-unproved, and runs the stored example.
 # run: proves and builds the program, and runs the stored example. pairmd: leaves the proved program at ./pairmd.
 # test: the whole gate. install: puts the proved program and its man page below PREFIX.
-# guide: counts what the pages state, runs every command of README.md and docs/GUIDE.md, and compares.
+# guide: counts what the pages state, runs every command of README.md and docs/GUIDE.md, and compares; OVER=.. takes
+# pages and program from a package that is unpacked there.
+# dist: packs the proved program with its pages and examples, for those who haven't the toolchain.
 # transcripts: plays the transcripts of crates/transcripts/data.
 # edits: tries the edits that the gate doesn't try, NAMES=.. of some crates.
 #
@@ -14,7 +16,7 @@ JOBS ?= $(shell tools/build.py --count)
 PREFIX ?= /usr/local
 SOURCES := $(shell find crates -path '*/src/*' -name '*.rt')
 
-.PHONY: try run test edits transcripts pairmd install guide
+.PHONY: try run test edits transcripts pairmd install guide dist
 
 try: pairmd-unproved
 	@cd crates/pairmd/data && ../../../pairmd-unproved $$(cat ../args)
@@ -47,4 +49,7 @@ install: pairmd
 
 guide:
 	tools/counts.py
-	tools/guide.py
+	tools/guide.py $(if $(OVER),--over $(OVER))
+
+dist: pairmd
+	tools/dist.py

@@ -1,7 +1,10 @@
 #!/usr/bin/env python3
 """Runs every command of README.md and docs/GUIDE.md, and compares what it prints with what stands there.
 
-  tools/guide.py [--program FILE] [--write] [PAGE ..]   the program is ./pairmd where neither FILE nor PAIRMD names one
+  tools/guide.py [--over FOLDER] [--program FILE] [--write] [PAGE ..]
+
+The program is ./pairmd where neither FILE nor PAIRMD names one. --over takes pages, examples and program from another
+folder, as from a package that is unpacked there (`tools/dist.py`).
 
 The commands are the lines behind `$ ` in blocks that are fenced as `console`; the lines up to the next command are what
 it prints, on standard output and standard error. Blocks of other fences are text to read, and those fenced as `sh` are
@@ -52,21 +55,21 @@ def ran(command, folder):
     return subprocess.run(words, cwd=folder, **how).stdout.splitlines(keepends=True)
 
 
-def laid_out(folder, program):
+def laid_out(root, folder, program):
     """A folder as the pages say."""
     for part in LAID_OUT:
-        shutil.copytree(f"{ROOT}/{part}", f"{folder}/{part}")
+        shutil.copytree(f"{root}/{part}", f"{folder}/{part}")
     os.symlink(program, f"{folder}/pairmd")
     return folder
 
 
-def play(page, program, write):
+def play(root, page, program, write):
     """Runs the commands of a page, and returns how many printed what stands there, and how many didn't."""
-    with open(os.path.join(ROOT, page), encoding="utf-8") as it:
+    with open(os.path.join(root, page), encoding="utf-8") as it:
         parts = cut(it.read())
     same, other = 0, 0
     with tempfile.TemporaryDirectory(prefix="guide-") as folder:
-        laid_out(folder, program)
+        laid_out(root, folder, program)
         for at, (command, stands) in [(at, part) for at, part in enumerate(parts) if isinstance(part, tuple)]:
             printed = ran(command, folder)
             same, other = same + (printed == stands), other + (printed != stands)
@@ -74,7 +77,7 @@ def play(page, program, write):
                 print(f"{page}: {''.join(command)}{''.join(difflib.ndiff(stands, printed))}", flush=True)
             parts[at] = command, printed
     if write and other:
-        with open(os.path.join(ROOT, page), "w", encoding="utf-8") as it:
+        with open(os.path.join(root, page), "w", encoding="utf-8") as it:
             it.write("".join(part if isinstance(part, str) else "".join(part[0] + part[1]) for part in parts))
     return same, other
 
@@ -82,15 +85,17 @@ def play(page, program, write):
 def main():
     parser = argparse.ArgumentParser(description=__doc__, formatter_class=argparse.RawDescriptionHelpFormatter)
     parser.add_argument("pages", nargs="*", metavar="PAGE")
-    parser.add_argument("--program", default=os.environ.get("PAIRMD", f"{ROOT}/pairmd"))
+    parser.add_argument("--over", default=ROOT, metavar="FOLDER")
+    parser.add_argument("--program", default=os.environ.get("PAIRMD"))
     parser.add_argument("--write", action="store_true", help="put what was printed into the pages")
     told = parser.parse_args()
-    program = os.path.realpath(told.program)
+    root = os.path.realpath(told.over)
+    program = os.path.realpath(told.program or f"{root}/pairmd")
     if not os.access(program, os.X_OK):
         sys.exit(f"no program at {program}: `make pairmd` leaves it at ./pairmd; PAIRMD names another")
     passed, failed = 0, 0
     for page in told.pages or PAGES:
-        same, other = play(page, program, told.write)
+        same, other = play(root, page, program, told.write)
         print(f"{page}: {same} commands printed what stands there, {other} did not", flush=True)
         passed, failed = passed + same, failed + other
     return 1 if failed or not passed else 0
