@@ -12,7 +12,7 @@ pub mod HeadlineLaws
 pub mod ToldRuns
 pub mod WentLaws
 pub mod SafeRuns
-pub mod EnergySumLaws
 pub mod EnergyTileLaws
 pub mod EngineEnergyLaws
 pub mod EngineForceLaws
+pub mod FrameSumLaws

@@ -5,8 +5,8 @@ pub mod Headline
 pub mod EngineSteps
 pub mod EngineViews
 pub mod EngineForces
+pub mod FrameSums
 pub mod PairEnergies
-pub mod EnergySums
 pub mod SafeEnergies
 pub mod Rounds
 pub mod Rows

@@ -3,7 +3,7 @@
 ghost use Rattle.std.specs.Prelude.{◌≡◌, ◌<◌, ◌≤◌, ◌^◌, ◌*◌, ◌+ℤ◌, unsigned_abs, length, take};
 ghost use Rattle.energy_program.specs.Programs.{program_tree};
 ghost use Rattle.potential.specs.EnergyKernels.{GivesEnergy};
-ghost use Rattle.engine.specs.EnergySums.{sum_over};
+ghost use Rattle.pair_sums.specs.Sums.{sum_over};
 ghost use Rattle.engine.specs.SafeEnergies.{AllHaveEnergies};
 
 use crate::frame_sums::Desk;
@@ -67,7 +67,7 @@ impl<'a, A: Allocator> SafeEnergy<'a, A> {
     ghost use Rattle.std.specs.Prelude.{◌≡◌, ◌*◌, ◌^◌, ◌≤◌, length, unsigned_abs};
     ghost use Rattle.std.specs.List.{All};
     ghost use Rattle.kernel_lanes.specs.Lanes.{IsServed};
-    ghost use Rattle.engine.specs.EnergySums.{sum_over};
+    ghost use Rattle.pair_sums.specs.Sums.{sum_over};
     ghost use Rattle.engine.specs.Rows.{IsFound};
     ghost use Rattle.engine.specs.SafeEnergies.{AreEnergies, found_energy};
 
@@ -111,7 +111,7 @@ impl<'a, A: Allocator + Copy> SafeEnergy<'a, A> {
     ghost use Rattle.std.specs.Prelude.{◌≡◌, ◌<◌, ◌≤◌, ◌^◌, length, map, sum_by, unsigned_abs, Some, IfOk};
     ghost use Rattle.ring_box.specs.Cells.{NearAreNeighbours};
     ghost use Rattle.integrator.specs.Forces.{pairs_of};
-    ghost use Rattle.engine.specs.EnergySums.{sum_over};
+    ghost use Rattle.pair_sums.specs.Sums.{sum_over};
     ghost use Rattle.engine.specs.PairEnergies.{energy_sum, pair_energy};
     ghost use Rattle.engine.specs.Rounds.{grid_of, plan_of};
     ghost use Rattle.engine.specs.Rows.{tile_at};

@@ -1,7 +1,7 @@
 use Rattle.std.proofs.Common.{◌≡◌, ap, arith, length, take, ◌∙◌, rules, to_z, of_z}
 use mir.Syntax.{w128}
 use Rattle.engine.proofs.EnergyTileLaws.{energies_summed, served_too}
-use Rattle.engine.specs.EnergySums.{sum_over}
+use Rattle.pair_sums.specs.Sums.{sum_over}
 use Rattle.engine.proofs.safe_energies.SafeEnergy.of_found.Goals as goal
 
 pub energies-requires-clause-served : goal.energies-requires-clause-served
