@@ -21,13 +21,7 @@ use std::thread::Threads;
 ///
 /// `Memory`: an allocation was refused after `done` steps, and whole texts are written. `Out`: a write failed, after a
 /// beginning of the texts.
-fn show_each<
-    R: Threads + Sync,
-    A: Allocator + Copy + Send + Sync,
-    S: Show<A>,
-    W: Watch,
-    O: Out,
->(
+fn show_each<R: Threads + Sync, A: Allocator + Copy + Send + Sync, S: Show<A>, W: Watch, O: Out>(
     rt: &R,
     engine: &mut Engine<A>,
     every: u64,
@@ -63,13 +57,7 @@ fn show_each<
 /// `Steps` with `StepRange` exactly where the counter would leave an i64 within the n steps, and then nothing is shown.
 /// `Steps` with `Memory`: an allocation was refused after `done` steps; the states up to there are shown, maybe without
 /// that after just `done`, and never the last one. `Out`: a write failed, after a beginning of the texts.
-pub fn visit<
-    R: Threads + Sync,
-    A: Allocator + Copy + Send + Sync,
-    S: Show<A>,
-    W: Watch,
-    O: Out,
->(
+pub fn visit<R: Threads + Sync, A: Allocator + Copy + Send + Sync, S: Show<A>, W: Watch, O: Out>(
     rt: &R,
     engine: &mut Engine<A>,
     steps: u64,

@@ -89,12 +89,7 @@ pub fn states_bytes<R: Threads + Sync, A: Allocator + Copy + Send + Sync, O: Out
 
 /// As `states_bytes`, and tells a watcher after each hundredth of the steps up to the last state. What is written is
 /// the same whoever watches.
-pub fn watched_states_bytes<
-    R: Threads + Sync,
-    A: Allocator + Copy + Send + Sync,
-    W: Watch,
-    O: Out,
->(
+pub fn watched_states_bytes<R: Threads + Sync, A: Allocator + Copy + Send + Sync, W: Watch, O: Out>(
     rt: &R,
     alloc: A,
     job: &[u8],

@@ -1,7 +1,7 @@
 use Rattle.std.proofs.Common.{◌≡◌, ◌*◌, ◌/◌, false, true, ap, arith, refl, rules, sym, ◌∙◌}
 use Rattle.std.specs.Prelude.{is_none}
 use Rattle.std.proofs.lemmas.Nat.{div-add-mod'}
-use Rattle.std.proofs.lemmas.Result.{err_from_is_err_and, on_ok_weaker}
+use Rattle.std.proofs.lemmas.Result.{err_from_is_err_and}
 use Rattle.state.specs.StateText.{StateView}
 use Rattle.integrator.specs.States.{counter_after}
 use Rattle.trajectory.proofs.HundredthLaws.{nothing_told}

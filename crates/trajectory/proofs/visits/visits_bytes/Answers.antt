@@ -19,10 +19,10 @@ returns-in_err-engine-clause-told_some g c =
     rw p.1 (nothing_told (c.args.steps / c.args.every * c.args.every) (g.W.Watch.told c.args.watch.now c.args.watch.now) (g.met.W.Watch.told_nothing c.args.watch.now))
 
 pub visit-done-requires-clause-ready : goal.visit-done-requires-clause-ready
-visit-done-requires-clause-ready g c = c.requires.ready c.in_ok-engine.engine
+visit-done-requires-clause-ready g c = λ _ _. c.requires.ready c.in_ok-engine.engine
 
 pub visit-done-requires-clause-range : goal.visit-done-requires-clause-range
-visit-done-requires-clause-range g c = λ _ _ _. engine_in_range c.args.job.now c.args.state.now c.in_ok-engine.engine c.in_ok-engine.ensures.opens
+visit-done-requires-clause-range g c = λ _ _. engine_in_range c.args.job.now c.args.state.now c.in_ok-engine.engine c.in_ok-engine.ensures.opens
 
 -- why not all states are shown
 pub returns-clause-refused : goal.returns-clause-refused
