@@ -105,7 +105,7 @@ def square_of(bits, a):
 
 
 def quotient_of(bits, a, b):
-    """fixed/specs/Arithmetic: quotient_of"""
+    """fixed/specs/Arithmetic: quotient_of and is_zero"""
     if b == 0:
         return Fault.ZeroDivisor
     return number_or_overflow(floor_of(a * one(bits), b))

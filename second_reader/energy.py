@@ -14,7 +14,9 @@ def is_taken(variables, name):
 
 
 def are_new(variables, names):
-    """expr/specs/Definitions: AreNew and IsNew. No name is taken, and none is given twice."""
+    """expr/specs/Definitions: AreNew, IsNew, is_given and number_from; expr/specs/Syntax: defined_names. No name is
+    taken, and none is given twice.
+    """
     return not any(is_taken(variables, name) or name in names[:number] for number, name in enumerate(names))
 
 
@@ -22,8 +24,9 @@ def are_new(variables, names):
 
 
 def used(variables, first, later, name):
-    """expr/specs/Uses: used and used_later. A name is one of the variables, or one that a later definition gives; the
-    later ones are numbered from the first. None where the name stands for nothing.
+    """expr/specs/Uses: used and used_later; energy_program/specs/Names: input_of. A name is one of the variables, or
+    one that a later definition gives; the later ones are numbered from the first. None where the name stands for
+    nothing.
     """
     number = position(name, variables)
     if number is not None:
@@ -33,7 +36,9 @@ def used(variables, first, later, name):
 
 
 def resolved(variables, first, later, syntax):
-    """expr/specs/Uses: resolved, the tree of what is written, or None where a name stands for nothing."""
+    """expr/specs/Uses: resolved, the tree of what is written, or None where a name stands for nothing
+    (energy_program/specs/Faults: Refusal).
+    """
     if isinstance(syntax, Name):
         return used(variables, first, later, syntax.name)
     parts = [resolved(variables, first, later, part) for part in parts_of(syntax)]
@@ -41,8 +46,8 @@ def resolved(variables, first, later, syntax):
 
 
 def meaning_of(variables, body, definitions):
-    """expr/specs/Uses: source_meaning, trees and all_resolved, the tree of a text with its definitions put in place, or
-    None. To the body all definitions are later, and to each those behind it.
+    """expr/specs/Uses: source_meaning, in_place, trees and all_resolved, the tree of a text with its definitions put
+    in place, or None. To the body all definitions are later, and to each those behind it.
     """
     names = [name for name, _ in definitions]
     trees = [resolved(variables, 0, names, body)]

@@ -26,12 +26,14 @@ def called(callee, arguments):
 
 
 def with_argument(arguments, x):
-    """expr/specs/Syntax: with_argument. Arguments are at most three, or more; more stand as four."""
+    """expr/specs/Syntax: with_argument and Arguments. These are at most three, or more; more stand as four."""
     return arguments + (x,) if len(arguments) < 4 else arguments
 
 
 def whole_numbers(tokens):
-    """expr/specs/Grammar: IsWhole, a number from 1 to 32 in digits alone (is_whole), maybe with a minus."""
+    """expr/specs/Grammar: IsWhole; energy_program/specs/Tree: is_whole. A number from 1 to 32 in digits alone, maybe
+    with a minus.
+    """
     if not tokens or tokens[-1].kind is not Kind.Number or not 0 < tokens[-1].whole <= 32:
         return []
     if len(tokens) == 1:
@@ -138,7 +140,7 @@ class Grammar:
         return []
 
     def calls(self, levels, name, first, end):
-        """expr/specs/Grammar: IsAtom, its case `call`, and IsArguments: the arguments are between the parentheses."""
+        """expr/specs/Grammar: IsArguments and IsAtom, its case `call`: the arguments are between the parentheses."""
         if name not in FUNCTIONS:
             return []
         arguments = [()] if first == end else self.lists(levels, first, end)

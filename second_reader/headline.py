@@ -52,8 +52,9 @@ def global_names(j):
 
 
 def energy_of(j):
-    """engine/specs/Headline: IsJobEnergy, the tree that the energy's text of a job says, with at most 64 parentheses and
-    minus signs open. No two of its variables have one name, and none but the distance has a reserved one.
+    """engine/specs/Headline: IsJobEnergy, the tree that the energy's text of a job says, with at most 64 parentheses
+    and minus signs open. No two of its variables have one name (job/specs/JobText: AreApart), and none but the
+    distance has a reserved one.
     """
     variables = variables_of(j.parameters, global_names(j))
     if not all_apart(variables):
@@ -142,15 +143,16 @@ class Rule:
 
     def follows(self, p, c):
         """engine/specs/Headline: Follows, the frame that follows the frames p and c: each pair of atoms has a force at
-        c, and each atom moves on by the exact sum of its shares over all pairs.
+        c, and each atom moves on by the exact sum of its shares over all pairs. A look-up outside of a frame, which
+        would find ring_box/specs/Places: nowhere, isn't reached.
         """
         forces = {pair: self.pair_force(pair, c[pair[0]], c[pair[1]]) for pair in pairs_of(len(c))}
         sums = sums_of_shares(forces, len(c))
         return [self.next_of(self.types[a].mass, p[a], c[a], sums[a]) for a in range(len(c))]
 
     def lead(self, n, p, c):
-        """engine/specs/Headline: Lead, the last two of n + 2 frames, p and c the first two, where each but the first two
-        follows the two before it.
+        """engine/specs/Headline: Lead, the last two of n + 2 frames, p and c the first two, where each but the first
+        two follows the two before it.
         """
         for _ in range(n):
             p, c = c, self.follows(p, c)
@@ -161,8 +163,9 @@ class Rule:
 
 
 def leads(direction, rule, n, s):
-    """engine/specs/Headline: Leads, the state to which n steps in a direction lead, and its counter as far: back is
-    forward with the frames exchanged. Only places and counter change (the fields `same` and `kept`).
+    """engine/specs/Headline: Leads, previous, current and who. The state to which n steps in a direction lead, and
+    its counter as far: back is forward with the frames exchanged. Only places and counter change (the fields `same`
+    and `kept`).
     """
     previous = [atom.previous for atom in s.atoms]
     current = [atom.current for atom in s.atoms]

@@ -52,15 +52,19 @@ class Counts:
     types: int
 
 
-LIMITS = Counts(parameters=8, globals=16, types=64)  # job/specs/JobText: limits
-HEADER = b"pairmd job 1"  # job/specs/JobText: header
+# job/specs/JobText: limits.
+LIMITS = Counts(parameters=8, globals=16, types=64)
+# job/specs/JobText: header.
+HEADER = b"pairmd job 1"
 
 # ---- what lines have said
 
 
 @dataclass
 class Said:
-    """job/specs/Faults: Said, what lines have said. What no line has said is None."""
+    """job/specs/Faults: Said and TypeLine, what lines have said. What no line has said is None. The number of a type's
+    line is left out, as only a refusal tells it.
+    """
 
     energy: Optional[bytes]
     core: Optional[int]
@@ -74,8 +78,9 @@ class Said:
 
 
 def summary(entries):
-    """job/specs/Faults: summary, summary_of and type_lines, of the entries of lines, which here are read once. A number
-    that is out of its range says nothing.
+    """job/specs/Faults: summary, summary_of, type_lines, energy_in, core_in, cutoff_in, time_step_in, slices_in,
+    bits_in, parameter_in, global_in and type_in, of the entries of lines, which here are read once. A number that is
+    out of its range says nothing.
     """
     statements = [entry for entry in entries if entry is not None]
 
@@ -114,8 +119,8 @@ def listed(names, name, fits):
 
 
 def statement_fault(most, said, statement):
-    """job/specs/Faults: statement_fault, whether the statement has a fault below lines that have said this. Which one
-    the page doesn't ask.
+    """job/specs/Faults: statement_fault and Refusal, whether the statement has a fault below lines that have said this.
+    Which one the page doesn't ask.
     """
     value = statement.value
     if statement.key is None:

@@ -22,7 +22,7 @@ def lines_of(text):
     return [without_return(line) for line in parts[:-1]] + parts[-1:]
 
 
-# ---- numbers: each reading is a number, BadNumber or NumberRange
+# ---- numbers (job/specs/Numbers: Reading): each reading is a number, BadNumber or NumberRange
 
 
 def is_fault(reading):
@@ -38,7 +38,7 @@ def both(x, y):
 
 
 def then_read(reading, read):
-    """line_text/specs/Steps: `>>=`, a further reading of a number; a fault stays."""
+    """job/specs/Numbers: mapped, what is made of a number; a fault stays. So does `>>=` (line_text/specs/Steps)."""
     return reading if is_fault(reading) else read(reading)
 
 
@@ -102,7 +102,7 @@ def mass_from(whole, part):
 
 
 def mass_of(word):
-    """job/specs/Numbers: mass_of and mass_parts, digits, and behind a point one to five more."""
+    """job/specs/Numbers: mass_of and mass_parts: digits, and behind a point one to five more."""
     parts = cut_at(ord("."), word)
     if parts is None:
         return mass_from(word, b"")

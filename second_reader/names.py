@@ -36,7 +36,8 @@ class Callee:
     makes: Optional[Enum] = None
 
 
-FUNCTIONS = {  # energy_program/specs/Names: function_of and lookup
+# energy_program/specs/Names: function_of and lookup.
+FUNCTIONS = {
     b"sqrt": Callee(1, Function.SquareRoot),
     b"abs": Callee(1, Function.Absolute),
     b"step": Callee(1, Function.Step),
@@ -48,7 +49,8 @@ FUNCTIONS = {  # energy_program/specs/Names: function_of and lookup
     b"select": Callee(3),
 }
 
-LEFT_OUT = (  # energy_program/specs/Names: is_left_out
+# energy_program/specs/Names: is_left_out.
+LEFT_OUT = (
     b"exp", b"log", b"sin", b"cos", b"sec", b"csc", b"tan", b"cot", b"asin", b"acos", b"atan", b"atan2", b"sinh",
     b"cosh", b"tanh", b"erf", b"erfc",
 )  # fmt: skip

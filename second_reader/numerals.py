@@ -16,7 +16,7 @@ class NumFault(Enum):
 
 @dataclass(frozen=True)
 class Exponent:
-    """fixed/specs/Numerals: Exponent, a letter, maybe a sign (`+` or `-`, else no byte), and digits."""
+    """fixed/specs/Numerals: Exponent and Sign, a letter, maybe a sign (`+` or `-`, else no byte), and digits."""
 
     letter: bytes
     sign: bytes
@@ -25,8 +25,8 @@ class Exponent:
 
 @dataclass(frozen=True)
 class Numeral:
-    """fixed/specs/Numerals: Numeral. The fraction is the digits behind a point, or None where there is no point; the
-    exponent is None where there is none.
+    """fixed/specs/Numerals: Numeral and Fraction. The fraction is the digits behind a point, or None where there is
+    no point; the exponent is None where there is none.
     """
 
     whole: bytes
@@ -60,7 +60,7 @@ def numeral_text(n):
 
 
 def is_exponent(exponent):
-    """fixed/specs/Numerals: IsExponent, an exponent part has a digit."""
+    """fixed/specs/Numerals: IsExponent and is_letter, an exponent part has a digit behind an `e` or `E`."""
     if exponent is None:
         return True
     return exponent.letter in (b"e", b"E") and all_ascii_digits(exponent.digits) and len(exponent.digits) > 0
@@ -146,7 +146,9 @@ def numeral_of(text):
 def reading_of(bits, text):
     """fixed/specs/Numerals: IsReading, the value of the numeral that the text is, and BadNumber where it is none.
 
-    fixed/specs/NumeralParts: reading_of gives the same by taking the longest numeral from the front.
+    This is the relation. The function that says the same from left to right, by the longest numeral in front, is
+    fixed/specs/NumeralParts: reading_of, begins_numeral, is_allowed, numeral_of, front_digits, fraction_of,
+    exponent_of, sign_of, after_digits, after_fraction, after_exponent and after_numeral.
     """
     n = numeral_of(text)
     return NumFault.BadNumber if n is None else value_of(bits, n)
@@ -184,7 +186,7 @@ def spoils(pointed, rest):
 
 
 def ends_before(n, rest):
-    """fixed/specs/Numerals: EndsBefore, the numeral ends before the rest."""
+    """fixed/specs/Numerals: EndsBefore, has_point and has_exponent. The numeral ends before the rest."""
     pointed = n.fraction is not None
     lettered = n.exponent is not None
     return not lengthens(pointed, lettered, rest) and not spoils(pointed, rest)

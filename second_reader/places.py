@@ -75,8 +75,10 @@ def square_of(b, p, q):
     return x * x + y * y + z * z
 
 
-UNITS = {Frac.F24: 25600000, Frac.F32: 100000, Frac.F40: 100000}  # ring_box/specs/Distances: unit_of
-WIDENINGS = {Frac.F24: 1, Frac.F32: 1, Frac.F40: 65536}  # ring_box/specs/Distances: widening_of
+# ring_box/specs/Distances: unit_of.
+UNITS = {Frac.F24: 25600000, Frac.F32: 100000, Frac.F40: 100000}
+# ring_box/specs/Distances: widening_of.
+WIDENINGS = {Frac.F24: 1, Frac.F32: 1, Frac.F40: 65536}
 
 
 def distance_at(frac, s):
@@ -97,7 +99,8 @@ def acting_distance_of(frac, b, core, cutoff, p, q):
 # ---- forces
 
 
-NO_FORCE = Force(0, 0, 0)  # ring_box/specs/Forces: no_force
+# ring_box/specs/Forces: no_force.
+NO_FORCE = Force(0, 0, 0)
 
 
 def component_of(g, a, d):

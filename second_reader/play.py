@@ -25,7 +25,8 @@ FIELDS = {
     "J": "job_text", "S": "state_text'", "E": "energy", "A6": "alike", "A1": "typed", "A2": "room", "A4": "after_text",
 }  # fmt: skip
 BEYOND = ("A3", "V2", "V3", "E10")  # refused whether or not the page has a text
-OTHERS = (b"beginnings", b"outputs", b"errors", b"requests", b"memory")  # of outputs and of memory the page says nothing
+# Of outputs that fail and of memory the page says nothing.
+OTHERS = (b"beginnings", b"outputs", b"errors", b"requests", b"memory")
 OPPOSITE = {Direction.Forward: Direction.Back, Direction.Back: Direction.Forward}
 
 
@@ -162,7 +163,8 @@ class Player:
         elif text is None and field in lacking:
             self.counts[f"played: no text, as by {code[0] if code[0] in FIELDS else code}"] += 1
         else:
-            self.disagree(row, f"refused by {code}, but the page {'lacks ' + ', '.join(lacking) if lacking else 'has a text'}")
+            has = f"lacks {', '.join(lacking)}" if lacking else "has a text"
+            self.disagree(row, f"refused by {code}, but the page {has}")
 
     def make(self, row, words, files, name):
         """Plays a row of a program that makes or compares files."""

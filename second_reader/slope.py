@@ -10,8 +10,9 @@ def whole(bits, n):
     return n * 2**bits
 
 
-# ---- the table: `u` and `v` are the values of the parts, `du` and `dv` their slopes. The table is told there of any
-# numbers with its operations (Operations); here of fixed-point numbers alone (fixed_point).
+# ---- the table: `u` and `v` are the values of the parts, `du` and `dv` their slopes. The page tells it of any numbers
+# with such operations (derivative/specs/Slope: Operations), here it is that of fixed-point numbers alone
+# (derivative/specs/Slope: fixed_point).
 
 
 def product_row(bits, free_u, free_v, u, v, du, dv):

@@ -32,7 +32,7 @@ class StateView:
 
 
 class Version(Enum):
-    """state/specs/declared/versions/Version: Version, with the lines of state/specs/StateText: head_line"""
+    """state/specs/declared/versions/Version: Version, by the lines of state/specs/StateText: head_line."""
 
     First = b"pairmd state 1"
     Second = b"pairmd state 2"
@@ -101,7 +101,9 @@ def is_atom(atom):
 
 
 def is_state(s):
-    """state/specs/StateText: IsState. The counter fits 63 bits and a sign."""
+    """state/specs/StateText: IsState. The counter fits 63 bits and a sign, and there are three sides
+    (line_text/specs/Parts: AreThree).
+    """
     return (
         is_title(s.title)
         and -(2**63) <= s.step < 2**63

@@ -10,7 +10,7 @@ def is_blank(byte):
 
 
 def words(text):
-    """line_text/specs/Words: words, the parts between blanks."""
+    """line_text/specs/Words: words and is_empty, the parts between blanks."""
     parts = text.replace(b"\t", b" ").split(b" ")
     return [part for part in parts if part]
 
@@ -83,7 +83,7 @@ def is_name(text):
 
 
 def is_title(text):
-    """line_text/specs/Parts: is_title, any bytes but LF, not ending in CR."""
+    """line_text/specs/Parts: is_title and lacks, any bytes but LF, not ending in CR."""
     return b"\n" not in text and slice_index(text, less(len(text), 1)) != 13
 
 

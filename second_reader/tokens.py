@@ -27,8 +27,8 @@ class Kind(Enum):
 
 @dataclass
 class Token:
-    """expr/specs/Tokens: Lexeme. A number stands as its raw value, and as the whole number that it writes in digits
-    alone; a name as its bytes. Where a token stands (`Placed`) no rule asks.
+    """expr/specs/Tokens: Lexeme and Placed. A number stands as its raw value, and as the whole number that it writes in
+    digits alone; a name as its bytes. Where a token stands is left out, as no rule asks.
     """
 
     kind: Kind
@@ -41,13 +41,13 @@ SYMBOLS = {kind.value: kind for kind in Kind if isinstance(kind.value, bytes)}
 
 
 def is_space(byte):
-    """expr/specs/Bytes: is_space, space, tab, CR, LF"""
+    """expr/specs/Bytes: is_space, one of space, tab, CR and LF."""
     return byte in b" \t\r\n"
 
 
 def whole_in(text):
-    """expr/specs/Tokens: whole_in and up_to_100, the number that the bytes write in digits alone, or 100 where it is
-    more; otherwise 0.
+    """expr/specs/Tokens: whole_in and up_to_100; line_text/specs/Columns: digits_of. The number that the bytes write
+    in digits alone, or 100 where it is more; otherwise 0.
     """
     return min(digits_value(text), 100) if all_ascii_digits(text) else 0
 
@@ -67,7 +67,9 @@ def numbers_at(bits, text):
 
 
 def names_at(text):
-    """expr/specs/Text: IsToken, its case `name`: a name that the text begins with is as long as it can be."""
+    """expr/specs/Text: Every, Stops and IsToken, its case `name`: a name that the text begins with is as long as it
+    can be.
+    """
     if not is_identifier_start(text[0]):
         return []
     size = prefix_len(is_identifier_continue, text)

@@ -105,8 +105,8 @@ class Files:
         return self.files[name]
 
     def changed(self, words):
-        """The files as the words `with NAME N TEXT` and `listing LINES` in front of a command change them, and the words
-        behind these.
+        """The files as the words `with NAME N TEXT` and `listing LINES` in front of a command change them, and the
+        words behind these.
         """
         changed = Files(self.folder)
         changed.files = dict(self.files)

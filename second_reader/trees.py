@@ -1,5 +1,8 @@
-"""Trees of energies: expr/specs/Syntax, where names stand as they are written, and energy_program/specs/Tree, where a
-variable stands as its input number and a use of a definition as the definition's number. One set of parts serves both.
+"""Trees of energies. What a text writes is an expr/specs/Syntax: Syntax, where names stand as they are written. What
+it means is an energy_program/specs/Tree: Tree, where a variable stands as its input number, and a use of a definition
+as the definition's number. One set of parts serves both. A definition that is written is a pair of a name and what it
+stands for (expr/specs/Syntax: Definition), and a text a body with such definitions (expr/specs/Syntax: Source); what
+that means is a tree with trees (energy_program/specs/Programs: Trees).
 """
 from dataclasses import dataclass
 from typing import Any
