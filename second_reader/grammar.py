@@ -12,6 +12,10 @@ from trees import Applied, Binary, Name, Negated, Number, Power, Select
 
 SUMS = {Kind.Plus: Operator.Add, Kind.Minus: Operator.Subtract}
 PRODUCTS = {Kind.Star: Operator.Multiply, Kind.Slash: Operator.Divide}
+# What an operand ends with.
+OPERAND_ENDS = (Kind.Number, Kind.Name, Kind.Close)
+# Of texts of up to so many tokens every way to part them is tried.
+SHORT = 60
 
 
 def called(callee, arguments):
@@ -70,9 +74,15 @@ class Grammar:
     def places(self, first, end, kinds):
         """Where one of these tokens can stand between two parts of a rule: outside of all parentheses, as what a rule
         relates to a tree has as many that open as that close.
+
+        Of a long text only the last such place behind an operand is tried. No other can be it: the left part ends with
+        an operand, and the right one has no such token outside of its parentheses but where an operand begins.
         """
         inner = range(first + 1, end - 1)
-        return [at for at in inner if self.kinds[at] in kinds and self.depths[at] == self.depths[first]]
+        found = [at for at in inner if self.kinds[at] in kinds and self.depths[at] == self.depths[first]]
+        if len(self.kinds) <= SHORT:
+            return found
+        return [at for at in found if self.kinds[at - 1] in OPERAND_ENDS][-1:]
 
     def is_grouped(self, first, end):
         """The tokens stand between parentheses."""
