@@ -5,6 +5,7 @@
 # pages and program from a package that is unpacked there.
 # dist: packs the proved program with its pages and examples, for those who haven't the toolchain.
 # transcripts: plays the transcripts of crates/transcripts/data.
+# second-reading: plays each run of the transcripts by second_reader, which follows the headline's page in plain Python.
 # edits: tries the edits that the gate doesn't try, NAMES=.. of some crates.
 #
 # A program is built only once every crate that it stands on is proved. What was proved is kept in crates/*/out, so the
@@ -16,7 +17,7 @@ JOBS ?= $(shell tools/build.py --count)
 PREFIX ?= /usr/local
 SOURCES := $(shell find crates -path '*/src/*' -name '*.rt')
 
-.PHONY: try run test edits transcripts pairmd install guide dist
+.PHONY: try run test edits transcripts second-reading pairmd install guide dist
 
 try: pairmd-unproved
 	@cd crates/pairmd/data && ../../../pairmd-unproved $$(cat ../args)
@@ -38,6 +39,10 @@ edits:
 transcripts:
 	tools/build.py transcripts --jobs $(JOBS)
 	cd crates/transcripts/data && ../out/transcripts $$(cat ../args)
+
+second-reading:
+	python3 second_reader/citations.py
+	python3 second_reader/play.py
 
 pairmd:
 	tools/build.py pairmd --jobs $(JOBS)

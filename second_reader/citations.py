@@ -1,0 +1,122 @@
+#!/usr/bin/env python3
+"""Looks whether what the functions of the second reader cite is what the headline's page stands on.
+
+Each function, record and table here names its definitions, as `crate/specs/File: name, name and name`. This finds the
+definitions that `IsLevesqueVerletRun` stands on, by the names in each and the `use` lines of its file, and tells each
+one that nothing here cites, and each citation that its file doesn't define. Status 1 where there is one.
+"""
+import re
+import sys
+from pathlib import Path
+
+HERE = Path(__file__).resolve().parent
+CRATES = HERE.parent / "crates"
+PAGE = ("engine/specs/Headline", "IsLevesqueVerletRun")
+
+DEFINED = re.compile(r"\s{0,2}(?:(?:abbrev|unfoldable|record|data|pub)\s+)+([^\s({:]+)")
+USE = re.compile(r"^use Rattle\.(\S+?)(?:\.\{([^}]*)\}| as (\w+))?$", re.MULTILINE)
+CITED = re.compile(r"([a-z_]+/specs/[\w/]+): ((?:(?![a-z_]+/specs/)[^;.:`()])*)")
+
+
+class File:
+    """A file of definitions: the lines of each, by its name, and where the names that it uses are from."""
+
+    def __init__(self, path):
+        text = (CRATES / f"{path}.antt").read_text(encoding="utf-8")
+        self.definitions = {}
+        self.used = {}
+        for module, names, alias in USE.findall(text):
+            module = module.replace(".", "/")
+            for name in filter(None, names.split(", ")):
+                self.used[name] = (module, name)
+            if alias:
+                self.used[alias] = (module, None)
+        self.read(text)
+
+    def read(self, text):
+        """Each definition goes up to the next; a line of comment is part of none."""
+        name = None
+        for line in text.split("\n"):
+            if line.startswith("use ") or line.lstrip().startswith("--"):
+                continue
+            begun = DEFINED.match(line)
+            if begun and not re.match(r"\s+pub [\w']+ :", line):
+                name = begun[1]
+                self.definitions[name] = ""
+            if name:
+                self.definitions[name] += line + "\n"
+
+    def owner(self, name):
+        """The definition that a name here belongs to: its own, or that of which it is a case or a field."""
+        if name in self.definitions:
+            return name
+        case = re.compile(rf"^\s+(?:pub )?{re.escape(name)} :", re.MULTILINE)
+        return next((owner for owner, text in self.definitions.items() if case.search(text)), None)
+
+
+class Page:
+    """The definitions that a definition stands on, by file."""
+
+    def __init__(self):
+        self.files = {}
+        self.found = {}
+
+    def file(self, path):
+        """The file of a path; None where it is the standard library's, or is made from a source."""
+        if path not in self.files:
+            is_here = (CRATES / f"{path}.antt").is_file()
+            self.files[path] = File(path) if is_here else None
+        return self.files[path]
+
+    def stands_on(self, path, name):
+        """Finds a definition, and what its lines name."""
+        file = self.file(path)
+        owner = file.owner(name) if file else None
+        if owner is None or owner in self.found.setdefault(path, []):
+            return
+        self.found[path].append(owner)
+        for word in re.findall(r"[A-Za-z_][\w']*(?:\.[A-Za-z_][\w']*)?", file.definitions[owner]):
+            first, _, rest = word.partition(".")
+            if first in file.used:
+                module, known = file.used[first]
+                self.stands_on(module, known or rest)
+            elif first in file.definitions:
+                self.stands_on(path, first)
+
+
+def citations():
+    """What the modules of the second reader cite: for each file of definitions its names, and where they are cited."""
+    cited = {}
+    for module in sorted(HERE.glob("*.py")):
+        if module.name == Path(__file__).name:
+            continue
+        text = re.sub(r"\s+(?:# )?", " ", module.read_text(encoding="utf-8").replace('"""', "."))
+        for path, words in CITED.findall(text):
+            for piece in re.split(r", and |, | and ", words.strip(" ,")):
+                if not re.fullmatch(r"[\w']+", piece):
+                    break
+                cited.setdefault((path, piece), module.name)
+    return cited
+
+
+def main():
+    page, cited = Page(), citations()
+    page.stands_on(*PAGE)
+    wrong = 0
+    for path, names in page.found.items():
+        for name in names:
+            if (path, name) not in cited:
+                print(f"{path}: {name}: the page stands on it, and nothing here cites it")
+                wrong += 1
+    for (path, name), module in cited.items():
+        file = page.file(path)
+        if "/declared/" not in path and not path.startswith("std/") and not (file and file.owner(name)):
+            print(f"{module}: {path}: {name}: no such definition")
+            wrong += 1
+    count = sum(map(len, page.found.values()))
+    print(f"the page stands on {count} definitions in {len(page.found)} files; {wrong} citations are wrong or lacking")
+    return 1 if wrong else 0
+
+
+if __name__ == "__main__":
+    sys.exit(main())

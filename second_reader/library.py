@@ -1,0 +1,77 @@
+"""What the definitions take from the standard library of their language, where Python has no word of its own for it.
+
+A text is `bytes`, a natural number or an integer an `int`, a list a `list` or a `tuple`. A value that may be missing
+(`Option`) is `None` where it is missing. A result (`Result`) is its value, or else a fault, which is a member of an
+enum. `+`, `-`, `*` and `**` are exact, and `//` and `%` are floor and rest.
+"""
+
+
+def is_ascii_digit(byte):
+    """std/specs/Char: is_ascii_digit"""
+    return 48 <= byte <= 57
+
+
+def is_ascii_alphabetic(byte):
+    """std/specs/Char: is_ascii_alphabetic"""
+    return 65 <= byte <= 90 or 97 <= byte <= 122
+
+
+def all_ascii_digits(text):
+    """std/specs/Str: all_ascii_digits"""
+    return all(is_ascii_digit(byte) for byte in text)
+
+
+def digits_value(digits):
+    """std/specs/Str/Parse: digits_value, in the radix 10: the number that digits write; no digits write 0."""
+    value = 0
+    for digit in digits:
+        value = value * 10 + (digit - 48)
+    return value
+
+
+def decimal(number):
+    """std/specs/Prelude: decimal, the decimal digits of a natural number."""
+    return str(number).encode("ascii")
+
+
+def signed_decimal(number):
+    """std/specs/Fmt: signed_decimal, the same of an integer, with a minus before it where it is below 0."""
+    return decimal(number) if number >= 0 else b"-" + decimal(-number)
+
+
+def slice_index(items, place):
+    """std/specs/Prelude: slice_index, the item at a place, and 0 where there is none."""
+    return items[place] if place < len(items) else 0
+
+
+def less(a, b):
+    """std/specs/Prelude: the difference of natural numbers, which is 0 where b is more than a."""
+    return max(a - b, 0)
+
+
+def prefix_len(test, items):
+    """std/specs/List: prefix_len, how many items pass from the front on."""
+    count = 0
+    while count < len(items) and test(items[count]):
+        count += 1
+    return count
+
+
+def position_or_len(test, items):
+    """std/specs/List: position_or_len, the first place at which an item passes, or the length."""
+    return prefix_len(lambda item: not test(item), items)
+
+
+def position(item, items):
+    """std/specs/List: position, the first place of an item, where it has one."""
+    return items.index(item) if item in items else None
+
+
+def first_or_none(items):
+    """job/specs/Faults: first, the first item, where there is one."""
+    return items[0] if items else None
+
+
+def all_apart(items):
+    """std/specs/Prelude: AllPairs, where no two are to be equal."""
+    return all(items[i] != items[k] for k in range(len(items)) for i in range(k))

@@ -1,0 +1,198 @@
+#!/usr/bin/env python3
+"""Plays each `run` and `back` of the transcripts by the definitions, and compares what the transcripts have.
+
+  play.py [TRANSCRIPT ..]     all of crates/transcripts/data where none is named
+
+Where a row prints a state, the page has to have that text; with `returns` as many steps the other way have to lead to
+the state of the row. Where a row is refused for what the page speaks of, the page has to have no text, for want of the
+field that the refusal names (FIELDS). A3, V2 and V3 refuse more than the page, and E10 where slope or code is too
+large: there it may have a text, and this is told. Rows of `cat`, `cmp`, `head` and `sed` compare the files that runs
+have written. A line for each disagreement; status 1 where there is one, or where nothing was played.
+"""
+import sys
+from collections import Counter
+from pathlib import Path
+
+from headline import NoText, TooMuchWork, levesque_verlet_run
+from read import with_deep_stack
+from steps import Direction
+from transcripts import Files, NoSuchFile, made_by, rows_of
+
+DATA = Path(__file__).resolve().parent.parent / "crates" / "transcripts" / "data"
+
+# For each refusal that the page speaks of, the field of IsLevesqueVerletRun that can't be had.
+FIELDS = {
+    "J": "job_text", "S": "state_text'", "E": "energy", "A6": "alike", "A1": "typed", "A2": "room", "A4": "after_text",
+}  # fmt: skip
+BEYOND = ("A3", "V2", "V3", "E10")  # refused whether or not the page has a text
+# Of outputs that fail and of memory the page says nothing.
+OTHERS = (b"beginnings", b"outputs", b"errors", b"requests", b"memory")
+OPPOSITE = {Direction.Forward: Direction.Back, Direction.Back: Direction.Forward}
+
+
+class LeftOut(Exception):
+    """A row that isn't played, and why."""
+
+
+def request_of(words):
+    """Direction, job, state and number of steps that the words behind `pairmd` name."""
+    direction = Direction.Forward if words[0] == b"run" else Direction.Back
+    names, steps, rest = [], None, words[1:]
+    while rest:
+        if rest[0] in (b"--steps", b"--workers") and len(rest) > 1:
+            steps = rest[1] if rest[0] == b"--steps" else steps
+            rest = rest[1:]
+        elif rest[0].startswith(b"--steps="):
+            steps = rest[0].removeprefix(b"--steps=")
+        elif not rest[0].startswith(b"--"):
+            names.append(rest[0])
+        elif rest[0] != b"--progress":
+            raise LeftOut("for its words")
+        rest = rest[1:]
+    if len(names) != 2 or steps is None or not steps.isdigit():
+        raise LeftOut("for its words")
+    return direction, names[0], names[1], int(steps)
+
+
+def read_by(words, row, files, returns):
+    """What the page has for the words behind `pairmd`: a text, or else the fields that lack; and whether as many steps
+    the other way lead to the state, where that is asked.
+    """
+    if row.status == 2:
+        raise LeftOut("for its words")
+    direction, job, state, steps = request_of(words)
+    if row.status == 5:
+        raise LeftOut("for files that can't be read")
+    try:
+        job, state = files.read(job), files.read(state)
+    except NoSuchFile:
+        raise LeftOut("as another command makes its state") from None
+    try:
+        text = levesque_verlet_run(job, state, direction, steps)
+        comes_back = not returns or levesque_verlet_run(job, text, OPPOSITE[direction], steps) == state
+        return text, (), comes_back
+    except NoText as it:
+        return None, it.fields, True
+    except TooMuchWork:
+        raise LeftOut("as too much work") from None
+
+
+class Player:
+    """Plays rows, and counts them."""
+
+    def __init__(self):
+        self.counts = Counter()
+        self.disagreements = 0
+        self.files = Files(DATA)
+        self.known = {}  # what other commands print, as the transcript has it, by their words and files
+
+    def play_transcript(self, path):
+        self.files = Files(DATA)
+        self.known = {}
+        for row in rows_of(path.name, path.read_bytes()):
+            self.play(row)
+
+    def disagree(self, row, why):
+        self.disagreements += 1
+        print(f"{row.transcript}:{row.line}: {why}: {b' '.join(row.words)[:100].decode('utf-8', 'replace')}")
+
+    def play(self, row):
+        """Plays a row, and writes its file where it names one."""
+        words, name = row.words, None
+        if words[:2] == [b"cat", b">"]:
+            self.files.write(words[2], b"".join(line + b"\n" for line in row.written[:-1]))
+            return
+        if words[-2:-1] == [b">"]:
+            words, name = words[:-2], words[-1]
+        text = self.outcome(row, words, name)
+        if name is not None:
+            self.files.write(name, text)
+
+    def outcome(self, row, words, name):
+        """What a row prints, None where that isn't known."""
+        files, words_behind = self.files.changed(words)
+        prefix = words_behind[0] if words_behind[1:2] == [b"pairmd"] else None
+        command = words_behind[1:] if prefix else words_behind
+        if command[0] == b"pairmd" and command[1:2] in ([b"run"], [b"back"]):
+            return self.run(row, prefix, command[1:], files, name)
+        if b"pairmd" in words_behind:
+            key = (tuple(words), tuple(self.files.files.get(word) for word in words))
+            if name is None:
+                self.known[key] = row.text()
+            return self.known.get(key)
+        return self.make(row, words, files, name)
+
+    def run(self, row, prefix, words, files, name):
+        """Plays a row of `run` or `back`."""
+        self.counts["rows"] += 1
+        try:
+            if prefix in OTHERS:
+                raise LeftOut("of outputs or memory")
+            text, lacking, comes_back = read_by(words, row, files, prefix == b"returns")
+        except LeftOut as it:
+            self.counts[f"left out {it}"] += 1
+            return None
+        if row.status == 0:
+            self.compare(row, text, lacking, name)
+            if not comes_back:
+                self.disagree(row, "the way back doesn't lead to the state")
+        else:
+            self.compare_refusal(row, text, lacking)
+        if prefix == b"returns":
+            self.files.write(b"there", text)
+        return text if row.status == 0 else b""
+
+    def compare(self, row, text, lacking, name):
+        """Where a row prints a state, the page has to have that text."""
+        if text is None:
+            self.disagree(row, f"no text by the page, which lacks {', '.join(lacking)}")
+        elif name is not None:
+            self.counts["played: a text, written to a file"] += 1
+        elif text == row.text():
+            self.counts["played: the same text"] += 1
+        else:
+            self.disagree(row, "another text by the page")
+
+    def compare_refusal(self, row, text, lacking):
+        """Where a row is refused, the page has to have no text, if it speaks of what it is refused for."""
+        code = row.told()[-1].split()[1].decode()
+        field = FIELDS.get(code) or FIELDS.get(code[0])
+        if code in BEYOND and field not in lacking:
+            has = "a text" if text is not None else "none"
+            self.counts[f"played: refused by {code}, which the page doesn't know; it has {has}"] += 1
+        elif text is None and field in lacking:
+            self.counts[f"played: no text, as by {code[0] if code[0] in FIELDS else code}"] += 1
+        else:
+            has = f"lacks {', '.join(lacking)}" if lacking else "has a text"
+            self.disagree(row, f"refused by {code}, but the page {has}")
+
+    def make(self, row, words, files, name):
+        """Plays a row of a program that makes or compares files."""
+        try:
+            text = made_by(files, words)
+        except NoSuchFile:
+            learned = row.text() if words[0] == b"cat" and len(words) == 2 and name is None else None
+            if learned is not None and row.status == 0:
+                self.files.write(words[1], learned)
+            return None
+        if text is not None and name is None:
+            self.counts["files compared or shown"] += 1
+            if text != row.text():
+                self.disagree(row, "other files by the page")
+        return text
+
+
+def main():
+    paths = [Path(name) for name in sys.argv[1:]] or sorted(DATA.glob("*.t"))
+    player = Player()
+    for path in paths:
+        player.play_transcript(path)
+    for what, count in sorted(player.counts.items()):
+        print(f"{count:5} {what}")
+    played = sum(count for what, count in player.counts.items() if what.startswith("played"))
+    print(f"{played} rows of run and back were played by the second reader; {player.disagreements} disagree")
+    return 1 if player.disagreements or not played else 0
+
+
+if __name__ == "__main__":
+    sys.exit(with_deep_stack(main))

@@ -1,0 +1,49 @@
+#!/usr/bin/env python3
+"""Prints the text of a run, by the definitions of the headline's page alone.
+
+  read.py JOB STATE forward|back N
+
+Status 0 with the text; 1 where the page has no text, with the fields of `IsLevesqueVerletRun` that lack; 99 where it is
+more work than this program takes on.
+"""
+import sys
+import threading
+
+from headline import NoText, TooMuchWork, levesque_verlet_run
+from steps import Direction
+
+
+def with_deep_stack(function):
+    """What a function gives, called with room for trees as deep as energies can be."""
+    given = []
+    sys.setrecursionlimit(1_000_000)
+    threading.stack_size(512 * 2**20)
+    thread = threading.Thread(target=lambda: given.append(function()))
+    thread.start()
+    thread.join()
+    return given[0] if given else 1
+
+
+def bytes_of(path):
+    with open(path, "rb") as it:
+        return it.read()
+
+
+def main():
+    if len(sys.argv) != 5 or sys.argv[3] not in ("forward", "back") or not sys.argv[4].isdecimal():
+        print(__doc__, file=sys.stderr)
+        return 2
+    job, state = bytes_of(sys.argv[1]), bytes_of(sys.argv[2])
+    try:
+        sys.stdout.buffer.write(levesque_verlet_run(job, state, Direction(sys.argv[3]), int(sys.argv[4])))
+    except NoText as it:
+        print("none:", it, file=sys.stderr)
+        return 1
+    except TooMuchWork as it:
+        print("too much work:", it, file=sys.stderr)
+        return 99
+    return 0
+
+
+if __name__ == "__main__":
+    sys.exit(with_deep_stack(main))

@@ -1,0 +1,95 @@
+"""Which bytes spell which tokens: expr/specs/Bytes, Tokens and Text."""
+from dataclasses import dataclass
+from enum import Enum
+from typing import Optional
+
+from library import all_ascii_digits, digits_value, is_ascii_digit, prefix_len
+from numerals import NumFault, ends_before, numeral_of, value_of
+from texts import is_identifier_continue, is_identifier_start
+
+
+class Kind(Enum):
+    """expr/specs/Tokens: Lexeme, its variants."""
+
+    Number = "number"
+    Name = "name"
+    Plus = b"+"
+    Minus = b"-"
+    Star = b"*"
+    Slash = b"/"
+    Caret = b"^"
+    Open = b"("
+    Close = b")"
+    Comma = b","
+    Semicolon = b";"
+    Equals = b"="
+
+
+@dataclass
+class Token:
+    """expr/specs/Tokens: Lexeme and Placed. A number stands as its raw value, and as the whole number that it writes in
+    digits alone; a name as its bytes. Where a token stands is left out, as no rule asks.
+    """
+
+    kind: Kind
+    value: Optional[int] = None
+    whole: int = 0
+    name: Optional[bytes] = None
+
+
+SYMBOLS = {kind.value: kind for kind in Kind if isinstance(kind.value, bytes)}
+
+
+def is_space(byte):
+    """expr/specs/Bytes: is_space, one of space, tab, CR and LF."""
+    return byte in b" \t\r\n"
+
+
+def whole_in(text):
+    """expr/specs/Tokens: whole_in and up_to_100; line_text/specs/Columns: digits_of. The number that the bytes write
+    in digits alone, or 100 where it is more; otherwise 0.
+    """
+    return min(digits_value(text), 100) if all_ascii_digits(text) else 0
+
+
+def numbers_at(bits, text):
+    """expr/specs/Text: IsToken, its case `number`: the numerals that the text begins with, and their lengths."""
+    found = []
+    most = prefix_len(lambda byte: is_ascii_digit(byte) or byte in b".eE+-", text)
+    for size in range(1, most + 1):
+        n = numeral_of(text[:size])
+        if n is None or not ends_before(n, text[size:]):
+            continue
+        z = value_of(bits, n)
+        if not isinstance(z, NumFault):
+            found.append((Token(Kind.Number, value=z, whole=whole_in(text[:size])), size))
+    return found
+
+
+def names_at(text):
+    """expr/specs/Text: Every, Stops and IsToken, its case `name`: a name that the text begins with is as long as it
+    can be.
+    """
+    if not is_identifier_start(text[0]):
+        return []
+    size = prefix_len(is_identifier_continue, text)
+    return [(Token(Kind.Name, name=text[:size]), size)]
+
+
+def tokens_at(bits, text):
+    """expr/specs/Text: IsToken, every token that the text begins with, and its length."""
+    symbol = SYMBOLS.get(text[:1])
+    symbols = [] if symbol is None else [(Token(symbol), 1)]
+    return symbols + numbers_at(bits, text) + names_at(text)
+
+
+def all_texts(bits, text):
+    """expr/specs/Text: IsText and IsFront, every list of tokens that the text is, with spaces between them."""
+    ways = {0: [[]]}
+    for at in range(len(text)):
+        for tokens in ways.pop(at, []):
+            if is_space(text[at]):
+                ways.setdefault(at + 1, []).append(tokens)
+            for token, size in tokens_at(bits, text[at:]):
+                ways.setdefault(at + size, []).append(tokens + [token])
+    return ways.get(len(text), [])
