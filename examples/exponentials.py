@@ -28,7 +28,7 @@ RECIPES = [
     "(1-z*(1-z/2*(1-z/3*(1-z/4))))^32; z=x/32",
     "((1-z*(1-z/2*(1-z/3*(1-z/4))))^32)^2; z=x/64",
 ]
-SHOWN = (-4, 1, 2, 4, 8, 12)  # x of the relative errors
+SHOWN = (-4, 1, 4, 8, 12)  # x of the relative errors
 
 # The energies of the jobs with a true exp, of two atoms of the first type.
 JOBS = {
@@ -127,6 +127,12 @@ def energy(job, state, raw):
     return int(program("energy", job, state).split()[1])
 
 
+def share(error):
+    """A relative error, as the table has it."""
+    size = abs(error)
+    return f"{size:.1e}" if size < 2e-3 else f"{100 * size:.{0 if size > 9.5e-3 else 1}f} %"
+
+
 def tried(recipe, folder):
     """A row of the table of recipes."""
     job, state = f"{folder}/job", f"{folder}/state"
@@ -142,7 +148,7 @@ def tried(recipe, folder):
         if count % 256 == 0 and count < 2_016:
             assert energy(job, state, r.raw) == value(recipe, x).raw, (recipe, count)
     relative = [float(value(recipe, Number(x * ONE))) / math.exp(-x) - 1 for x in SHOWN]
-    return [f"`{recipe}`", str(len(listing)), f"{max(values):.1e}", f"{max(slopes):.1e}", *(f"{it:+.1e}" for it in relative)]
+    return [f"`{recipe}`", str(len(listing)), f"{max(values):.1e}", f"{max(slopes):.1e}", *map(share, relative)]
 
 
 def of_a_job(name, formula, folder):
@@ -163,7 +169,7 @@ def of_a_job(name, formula, folder):
 
 def main():
     with tempfile.TemporaryDirectory() as folder:
-        print("| " + " | ".join(["Recipe", "Instructions", "Value off by", "Slope off by", *(f"at x = {x}" for x in SHOWN)]) + " |")
+        print("| " + " | ".join(["For `exp(-x)`", "Instructions", "Off by at most", "Its slope", f"Off by, of itself, at x = {SHOWN[0]}", *map(str, SHOWN[1:])]) + " |")
         for recipe in RECIPES:
             print("| " + " | ".join(tried(recipe, folder)) + " |", flush=True)
         for name, formula in JOBS.items():

@@ -4,11 +4,12 @@
   examples/pieces.py TABLE          prints the line `energy ..` for a job
 
 TABLE has two numbers a line, r in nm and the energy in kJ/mol, r in equal stretches; lines that begin with # are
-skipped. Take the first r for the job's core, or less, and the last one for its cutoff. Each cubic has the table's
+skipped. The job's core must not be less than the first r, and its cutoff not more than the last. Each cubic has the table's
 values at both ends of its stretch, and there the slope of the parabola through three neighbouring values, so that
 energy and force have no jump. Which stretch it is, t, and how far along, u, come from one product, so that both agree at
 every distance. Some 130 stretches are as many as an energy of 4,096 tokens holds (`E10` refuses more).
 """
+import math
 import sys
 
 
@@ -58,7 +59,7 @@ def main():
     start, width, values = table(sys.argv[1])
     ends = list(zip(values, slopes(values)))
     cubics = [cubic(value, then, slope, slope_then) for (value, slope), (then, slope_then) in zip(ends, ends[1:])]
-    print(f"energy {chosen(cubics, 0)}; u=t-floor(t); t=(r-{numeral(start)})*{numeral(1 / width)}")
+    print(f"energy {chosen(cubics, 0)}; u=t-floor(t); t=(r-{numeral(start)})*{numeral(math.floor(1e9 / width + 1e-3) / 1e9)}")  # rounded down, so that t stays below the last stretch's end
 
 
 if __name__ == "__main__":

@@ -14,8 +14,8 @@ half a place a new step.
 Not kept: the time of the velocities. They were those half an old step before the current places, and are now taken as
 those half a new step before them, so the total energy is a little another one. Steps back from the new state don't lead
 to where the old one came from. The step counter stays what it was, so the times that `pairmd trajectory` prints, which
-are counter times `dt`, jump. From a longer step the
-script leads back to the same bytes, from a shorter one only up to that rounding.
+are counter times `dt`, jump. Brought to a longer step and then back by this script, a state has its bytes again; brought
+to a shorter one and back it has them only up to that rounding.
 
 Both jobs must have the state's bits, and the state's types, which `pairmd run` tests and this script doesn't.
 """
