@@ -87,12 +87,14 @@ class Player:
         self.known = {}  # what other commands print, as the transcript has it, by their words and files
 
     def play_transcript(self, path):
+        """Plays a transcript from its first row, with no file written yet."""
         self.files = Files(DATA)
         self.known = {}
         for row in rows_of(path.name, path.read_bytes()):
             self.play(row)
 
     def disagree(self, row, why):
+        """Tells and counts a disagreement."""
         self.disagreements += 1
         print(f"{row.transcript}:{row.line}: {why}: {b' '.join(row.words)[:100].decode('utf-8', 'replace')}")
 
@@ -111,20 +113,20 @@ class Player:
     def outcome(self, row, words, name):
         """What a row prints, None where that isn't known."""
         files, words_behind = self.files.changed(words)
-        prefix = words_behind[0] if words_behind[1:2] == [b"pairmd"] else None
-        command = words_behind[1:] if prefix else words_behind
-        if command[0] == b"pairmd" and command[1:2] in ([b"run"], [b"back"]):
-            return self.run(row, prefix, command[1:], files, name)
-        if b"pairmd" in words_behind:
+        if b"pairmd" not in words_behind:
+            return self.make(row, words_behind, files, name)
+        program = words_behind.index(b"pairmd")
+        command = words_behind[program + 1 :]
+        if command[:1] not in ([b"run"], [b"back"]):
             key = (tuple(words), tuple(self.files.files.get(word) for word in words))
             if name is None:
                 self.known[key] = row.text()
             return self.known.get(key)
-        return self.make(row, words, files, name)
+        return self.run(row, words_behind[0], command, files, name)
 
     def run(self, row, prefix, words, files, name):
-        """Plays a row of `run` or `back`."""
-        self.counts["rows"] += 1
+        """Plays a row of `run` or `back`, where the prefix is the first word of those that change no file."""
+        self.counts["rows of run and back, of which were"] += 1
         try:
             if prefix in OTHERS:
                 raise LeftOut("of outputs or memory")
@@ -176,7 +178,7 @@ class Player:
                 self.files.write(words[1], learned)
             return None
         if text is not None and name is None:
-            self.counts["files compared or shown"] += 1
+            self.counts["rows of cat, cmp, head and sed"] += 1
             if text != row.text():
                 self.disagree(row, "other files by the page")
         return text
@@ -187,7 +189,7 @@ def main():
     player = Player()
     for path in paths:
         player.play_transcript(path)
-    for what, count in sorted(player.counts.items()):
+    for what, count in sorted(player.counts.items(), reverse=True):
         print(f"{count:5} {what}")
     played = sum(count for what, count in player.counts.items() if what.startswith("played"))
     print(f"{played} rows of run and back were played by the second reader; {player.disagreements} disagree")
