@@ -119,14 +119,18 @@ def time_step():
     """Five states of a run at 2 fs, each brought to another time step: by how much the total energy is another one."""
     own, steps = liquid.Path(2), (1, 5, 10)
     others = [liquid.Path(step) for step in steps]
-    print("total energy less that at 2 fs, kJ/mol, at", ", ".join(f"{step} fs" for step in steps))
+    print("total energy less that at 2 fs, kJ/mol, at", ", ".join(f"{step} fs" for step in steps), "without NEXT, and with it")
     for _ in range(5):
         own.go(400)
         was, off = total(own, 2), []
-        for step, other in zip(steps, others):
-            words = [f"{liquid.EXAMPLES}/time_step.py", own.job, own.file, other.job]
-            other.put(subprocess.run(words, check=True, stdout=subprocess.PIPE, stderr=subprocess.DEVNULL, text=True).stdout)
-            off.append(total(other, step) - was)
+        following = f"{own.folder.name}/next"
+        with open(following, "w", encoding="ascii") as it:
+            it.write(own.ahead(1).text)
+        for more in ([], [following]):
+            for step, other in zip(steps, others):
+                words = [f"{liquid.EXAMPLES}/time_step.py", own.job, own.file, other.job, *more]
+                other.put(subprocess.run(words, check=True, stdout=subprocess.PIPE, stderr=subprocess.DEVNULL, text=True).stdout)
+                off.append(total(other, step) - was)
         print(f"{2 * own.state.step / 1000:.1f} ps:", ", ".join(f"{it:+.3f}" for it in off), flush=True)
 
 

@@ -7,7 +7,7 @@ For each recipe, at 2,049 numbers x from 0 to 64, in the arithmetic of 32 bits: 
 the slope along x, the relative error of the value at some x, and how many instructions the code of its slope has. The
 values are computed here, as docs/FORMATS.md defines the operations, and at some x compared with `pairmd energy`; the
 slopes by the listing that `pairmd code` prints. Then, for each job of this folder that has such a recipe, how far its
-energy is from the formula with exp that its second line names, at 101 distances from core to cutoff, by `pairmd energy`.
+energy is from the formula with a true exp (JOBS), at 101 distances from core to cutoff, by `pairmd energy`.
 """
 import functools
 import math

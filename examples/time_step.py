@@ -1,7 +1,7 @@
 #!/usr/bin/env python3
 """Brings a state to another time step: prints it with its velocities as they are under a job with another `dt`.
 
-  examples/time_step.py JOB STATE NEW_JOB > new_state
+  examples/time_step.py JOB STATE NEW_JOB [NEXT] > new_state
 
 The two frames of a state are one time step of its job apart, so its velocities are their difference over that step. The
 script moves each atom's earlier place: from the current one it lies as far back as before, times the new step over the
@@ -11,11 +11,18 @@ so the same bytes anywhere. On standard error it tells the temperature under bot
 Kept: all current places; the box, the title, the counter of steps, names and the order of atoms; each velocity, up to
 half a place a new step.
 
-Not kept: the time of the velocities. They were those half an old step before the current places, and are now taken as
-those half a new step before them, so the total energy is a little another one. Steps back from the new state don't lead
-to where the old one came from. The step counter stays what it was, so the times that `pairmd trajectory` prints, which
-are counter times `dt`, jump. Brought to a longer step and then back by this script, a state has its bytes again; brought
-to a shorter one and back it has them only up to that rounding.
+NEXT is the state one step on, `pairmd run JOB STATE --steps 1`. With it the velocities go to the new time as well: with m
+the move of the last step, n that of the next one and f the new step over the old one, the earlier place is
+(m+n) f/2 - (n-m) f^2/2 before the current one, to the nearest place. That is the parabola through the three frames, taken
+at the new time; so where the steps are equal it changes nothing.
+
+Not kept without NEXT: the time of the velocities. They were those half an old step before the current places, and are
+now taken as those half a new step before them, so the total energy is another one (docs/GUIDE.md says by how much).
+Brought to a longer step and then back in this way, a state has its bytes again; brought to a shorter one and back it has
+them only up to that rounding.
+
+Never kept: the way back, since steps back from the new state don't lead to where the old one came from; and the times
+that `pairmd trajectory` prints, which are counter times `dt`, since the step counter stays what it was.
 
 Both jobs must have the state's bits, and the state's types, which `pairmd run` tests and this script doesn't.
 """
@@ -61,10 +68,13 @@ class State:
         )
         return doubled / (3 * max(len(self.now) - 1, 1) * BOLTZMANN)
 
-    def brought(self, old, new):
-        """The state with its moves those of a step of `new` fs, where they were those of one of `old`."""
-        for was, now, move in zip(self.before, self.now, self.moves()):
-            scaled = [(2 * by * new + old) // (2 * old) for by in move]
+    def brought(self, old, new, following):
+        """The state with its moves those of a step of `new` fs, where they were those of one of `old`; `following`, if any, is the state one step on."""
+        for was, now, move, then in zip(self.before, self.now, self.moves(), following.moves() if following else self.moves()):
+            if following:
+                scaled = [nearest((m + n) * new * old - (n - m) * new**2, 2 * old**2) for m, n in zip(move, then)]
+            else:
+                scaled = [nearest(m * new, old) for m in move]
             if max(map(abs, scaled)) >= PLACES // 2:
                 sys.exit("an atom would move by half a side or more in one step: the new time step is too long")
             was[:] = [(at - by) % PLACES for at, by in zip(now, scaled)]
@@ -74,14 +84,25 @@ class State:
         return "\n".join(self.head + rows) + "\n"
 
 
+def nearest(dividend, divisor):
+    """The whole number nearest to a quotient, a half upward."""
+    return (2 * dividend + divisor) // (2 * divisor)
+
+
+def state_in(path):
+    with open(path, encoding="latin-1", newline="\n") as it:
+        return State(it.read())
+
+
 def main():
-    if len(sys.argv) != 4:
-        sys.exit("usage: time_step.py JOB STATE NEW_JOB")
+    if len(sys.argv) not in (4, 5):
+        sys.exit("usage: time_step.py JOB STATE NEW_JOB [NEXT]")
     old, new = Job(sys.argv[1]), Job(sys.argv[3])
-    with open(sys.argv[2], encoding="latin-1", newline="\n") as it:
-        state = State(it.read())
+    state, following = state_in(sys.argv[2]), state_in(sys.argv[4]) if len(sys.argv) == 5 else None
+    if following and following.before != state.now:
+        sys.exit("NEXT isn't the state one step on: its earlier frame isn't the current one of STATE")
     print(f"{state.kelvin(old):.2f} K at {old.step} fs", file=sys.stderr)
-    state.brought(old.step, new.step)
+    state.brought(old.step, new.step, following)
     print(f"{state.kelvin(new):.2f} K at {new.step} fs", file=sys.stderr)
     sys.stdout.reconfigure(encoding="latin-1", newline="\n")
     sys.stdout.write(state.text())
