@@ -164,8 +164,8 @@ class Player:
             self.disagree(row, "another text by the page")
 
     def judge(self, row, job, files):
-        """Plays a row of `check` or `code`, by what a run has of its job: whether its text says a job, and that an energy.
-        Of E10 the page may know nothing.
+        """Plays a row of `check` or `code`, by what a run has of its job: whether its text says a job, and that an
+        energy. Of E10 the page may know nothing.
         """
         try:
             lacking = ()
