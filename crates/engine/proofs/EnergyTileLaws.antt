@@ -1,9 +1,8 @@
 -- The energy of a frame over its tiles is that over all pairs.
-use Rattle.std.proofs.Common.{◌≡◌, ℕ, zero, suc, ◌*◌, ◌^◌, ◌<◌, ◌≤◌, Bool, false, List, [], ◌∷◌, length, map, take, sum_by, ℤ, pos, ◌+ℤ◌, Option, Some, None, arith, refl, ap, ap₂, sym, ◌∙◌}
+use Rattle.std.proofs.Common.{◌≡◌, ℕ, suc, ◌*◌, ◌^◌, ◌<◌, ◌≤◌, Bool, false, List, [], ◌∷◌, length, map, take, sum_by, ℤ, pos, ◌+ℤ◌, Option, Some, None, arith, refl, ap, ap₂, sym, ◌∙◌}
 use Rattle.std.specs.Prelude.{◌≤ℤ◌, ◌<ℤ◌, if◌then◌else◌, option_map, slice_index, unsigned_abs, unwrap_or}
 use Rattle.std.specs.List.{All}
 use Rattle.std.proofs.lemmas.Int.{ints}
-use Rattle.std.proofs.lemmas.List.{length-append}
 use Rattle.std.proofs.lemmas.List.Sums.{sum_by-cons}
 use Rattle.fixed.specs.Fractions.{bits_of}
 use Rattle.energy_program.specs.Programs.{program_tree}
@@ -24,15 +23,15 @@ use Rattle.ring_box.specs.Places.{ArePlaces, places_of}
 use Rattle.ring_box.specs.declared.vectors.Place3.{Place3}
 use Rattle.tile_round.specs.Tiles.{acting}
 use Rattle.integrator.proofs.ForceLaws.{ArePairsOf, frame_pairs, pairs_parts}
-use Rattle.integrator.specs.Forces.{pairs_from, pairs_of, pairs_with}
+use Rattle.integrator.specs.Forces.{pairs_of}
 use Rattle.integrator.specs.Frames.{Frame}
 use Rattle.integrator.specs.declared.systems.System.{System}
-use Rattle.engine.proofs.EnergySumLaws.{over_append, over_tiles}
+use Rattle.pair_sums.proofs.SumLaws.{over_append, over_tiles}
 use Rattle.potential.proofs.PotentialLaws.{HasNumber, small_parts}
 use Rattle.potential.specs.EnergyKernels.{HasEnergies}
 use Rattle.engine.proofs.SafeLaws.{in_range}
-use Rattle.engine.proofs.TileLaws.{are_pairs, far_apart}
-use Rattle.engine.specs.EnergySums.{sum_over}
+use Rattle.engine.proofs.TileLaws.{are_pairs, far_apart, few_pairs}
+use Rattle.pair_sums.specs.Sums.{sum_over}
 use Rattle.engine.specs.PairEnergies.{energy_at, energy_sum, pair_energy, plus_energy}
 use Rattle.engine.specs.Rounds.{grid_of}
 use Rattle.engine.specs.Rows.{AreNextFound, ask_of, found_of}
@@ -40,20 +39,6 @@ use Rattle.engine.specs.SafeEnergies.{AreEnergies, AllHaveEnergies, IsEnergyFor,
 use Rattle.engine.specs.SafeSystems.{IsSafeSystem, safe_dynamics}
 use Rattle.ring_box.specs.declared.found_pairs.FoundPair.{FoundPair}
 use Rattle.potential.specs.declared.slope_kernels.SlopeKernel.{SlopeKernel}
-
--- ---- how many pairs there are
-
-length_row : (i j m : ℕ) → length (pairs_with i j m) ≡ m
-unfolding pairs_with
-length_row i j zero = refl
-length_row i j (suc m) = let rest : length (pairs_with i (suc j) m) ≡ m = length_row i (suc j) m in omega arith
-
-few_pairs : (i m : ℕ) → m ≤ 65536 → length (pairs_from i m) ≤ m * 65536
-unfolding pairs_from
-few_pairs i zero h = omega arith
-few_pairs i (suc m) h =
-    let rest : length (pairs_from (suc i) m) ≤ m * 65536 = few_pairs (suc i) m (omega arith) in
-    omega (arith, length-append (pairs_with i (suc i) m) (pairs_from (suc i) m), length_row i (suc i) m)
 
 told : (o rest : Option ℤ) (v z : ℤ) → o ≡ Some v → rest ≡ Some z → plus_energy o rest ≡ Some (unwrap_or o (pos 0) +ℤ z)
 told o rest v z is are = rw (is, are) refl
@@ -180,5 +165,5 @@ module _ {A : Type 0} (s : System (SlopeKernel A) A) where
           let small : sum_by (λ p. unsigned_abs (energy_between s frame p)) (pairs_of n) ≤ length (pairs_of n) * 2 ^ 64 = all_small n (pairs_of n) (omega arith) (frame_pairs n 0 n (omega arith)) in
           let size : length s.types.items ≡ length s.masses.items = s.atoms in
           let most : length s.masses.items ≤ 65536 = s.most_atoms in
-          let few : length (pairs_of n) ≤ n * 65536 = few_pairs 0 n (omega arith) in
+          let few : length (pairs_of n) ≤ n * 65535 = few_pairs 0 n (omega arith) in
           omega (arith, same, small, few)

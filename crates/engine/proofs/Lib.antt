@@ -12,6 +12,8 @@ pub mod HeadlineLaws
 pub mod ToldRuns
 pub mod WentLaws
 pub mod SafeRuns
-pub mod EnergySumLaws
 pub mod EnergyTileLaws
 pub mod EngineEnergyLaws
+pub mod EngineForceLaws
+pub mod FrameSumLaws
+pub mod ObserverLaws

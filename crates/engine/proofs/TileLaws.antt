@@ -1,10 +1,10 @@
 -- The pairs of a frame: all of them, each once; and those that the tiles leave out, which add nothing.
-use Rattle.std.proofs.Common.{◌≡◌, ◌≢◌, ℕ, zero, suc, ◌+◌, ◌^◌, ◌<◌, ◌≤◌, Bool, true, false, cond, List, [], ◌∷◌, length, get_or, ℤ, Option, Some, None, inl, inr, arith, refl, ap, subst, sym, ◌∙◌}
+use Rattle.std.proofs.Common.{◌≡◌, ◌≢◌, ℕ, zero, suc, ◌+◌, ◌*◌, ◌^◌, ◌<◌, ◌≤◌, Bool, true, false, cond, List, [], ◌∷◌, length, get_or, ℤ, Option, Some, None, inl, inr, arith, refl, ap, subst, sym, ◌∙◌}
 use Rattle.std.specs.Prelude.{IfSome, map, slice_get, option_map, nat_lt, ◌&&◌, if◌then◌else◌, slice_index, slice_index_or}
 use Rattle.std.specs.List.{All}
 use Rattle.std.proofs.lemmas.Bool.{and_parts, cases_eq, cases_lt, ltb-true, true≢false}
 use Rattle.std.proofs.lemmas.Bool.Decides.{nat_tests}
-use Rattle.std.proofs.lemmas.List.{get_or-map, length-map}
+use Rattle.std.proofs.lemmas.List.{get_or-map, length-append, length-map}
 use Rattle.std.proofs.lemmas.List.Elements.{All-from_get_or}
 use Rattle.std.proofs.lemmas.Option.{slice_get-get_or, same_Some}
 use Rattle.std.proofs.lemmas.List.Sums.{sum_by-append, sum_by-cons}
@@ -257,6 +257,20 @@ some_pair_of n p (Some v) apart below = record { ordered = apart; inside = below
 pub add_is_of_pair : {A : Type 0} (s : System (SlopeKernel A) A) (frame : Frame) (p : ℕ × ℕ) → p.0 < p.1 → p.1 < length frame → IfSome (add_of s frame p) (IsPairOf (length frame))
 add_is_of_pair s frame p apart below = some_pair_of (length frame) p (acting_force s frame p) apart below
 
+-- ---- how many pairs there are
+
+length_row : (i j m : ℕ) → length (pairs_with i j m) ≡ m
+unfolding pairs_with
+length_row i j zero = refl
+length_row i j (suc m) = let rest : length (pairs_with i (suc j) m) ≡ m = length_row i (suc j) m in omega arith
+
+pub few_pairs : (i m : ℕ) → m ≤ 65536 → length (pairs_from i m) ≤ m * 65535
+unfolding pairs_from
+few_pairs i zero h = omega arith
+few_pairs i (suc m) h =
+    let rest : length (pairs_from (suc i) m) ≤ m * 65535 = few_pairs (suc i) m (omega arith) in
+    omega (arith, length-append (pairs_with i (suc i) m) (pairs_from (suc i) m), length_row i (suc i) m)
+
 -- ---- atoms that are not close add nothing
 
 far_is_apart : (near close : Bool) → (near ≡ true → close ≡ true) → close ≡ false → near ≡ false
@@ -280,11 +294,12 @@ module _ {A : Type 0} (s : System (SlopeKernel A) A) (frame : Frame) where
   adds_nothing p true e = absurd (true≢false e)
   adds_nothing p false e = refl
 
+  -- nor do they add anything
+  pub far_adds_none : (p : ℕ × ℕ) → NearAreNeighbours s.frac s.ring s.cutoff (grid_of s) → All ArePlaces frame → are_close (grid_of s) frame p ≡ false → add_of s frame p ≡ None
+  far_adds_none p law places far = adds_nothing p (is_near s.frac (square_of s.ring (places_of frame p.0) (places_of frame p.1)) s.cutoff) (far_apart p law places far)
+
   far_adds_nothing : (e : ℕ) (p : ℕ × ℕ) → NearAreNeighbours s.frac s.ring s.cutoff (grid_of s) → All ArePlaces frame → are_close (grid_of s) frame p ≡ false → weight (add_of s frame) e p ≡ 0
-  far_adds_nothing e p law places far =
-      let near = is_near s.frac (square_of s.ring (places_of frame p.0) (places_of frame p.1)) s.cutoff in
-      let none : add_of s frame p ≡ None = adds_nothing p near (far_apart p law places far) in
-      ap (λ o. on_entry e (additions_of o)) none
+  far_adds_nothing e p law places far = ap (λ o. on_entry e (additions_of o)) (far_adds_none p law places far)
 
   adds_force : IsSafeSystem s → (i j : ℕ) → i < j → j < length s.types.items → AddsForce (pair_force (safe_dynamics s) frame) (add_of s frame) (i, j)
   adds_force accepted i j apart below =

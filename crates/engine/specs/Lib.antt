@@ -4,8 +4,10 @@ pub mod Engines
 pub mod Headline
 pub mod EngineSteps
 pub mod EngineViews
+pub mod EngineForces
+pub mod FrameSums
 pub mod PairEnergies
-pub mod EnergySums
+pub mod Observers
 pub mod SafeEnergies
 pub mod Rounds
 pub mod Rows

@@ -7,6 +7,7 @@ use crate::pools::{Crew, Pool};
 use crate::rows::Scratch;
 use crate::safe_systems::SafeSystem;
 use cell_tiles::{Cells, Grid, Tiles};
+use pair_sums::{BoxFrame, PairSums, sums_alone};
 use ring_box::Place3;
 use std::alloc::{AllocError, Allocator};
 use std::thread::Threads;
@@ -34,7 +35,9 @@ impl<A: Allocator + Copy> SafeSystem<A> {
     ghost use Rattle.std.specs.List.{All};
     ghost use Rattle.cell_tiles.specs.Cells.{AreBeside, members_of};
     ghost use Rattle.ring_box.specs.Places.{ArePlaces};
+    ghost use Rattle.engine.specs.FrameSums.{ArePairSums};
     ghost use Rattle.engine.specs.Rounds.{AreForces, grid_of};
+    ghost use Rattle.engine.specs.SafeSystems.{safe_dynamics};
     ghost use Rattle.engine.specs.Tilings.{IsTilingOf};
 
     /// The cells of the system's box and their tiles.
@@ -120,6 +123,27 @@ impl<A: Allocator + Copy> SafeSystem<A> {
         self.fill(&mut desk.tiling, frame)?;
         let work = self.work(&desk.tiling, frame);
         forces_alone(alloc, &work, &mut desk.scratch, work.frame.len() as u32)
+    }
+
+    /// What the pairs of a frame that act come to, on the caller's thread. `AllocError` only where memory is refused.
+    pub(crate) fn pair_sums<B: Allocator>(
+        &self,
+        desk: &mut Desk<A, Scratch<B>>,
+        frame: &[Place3],
+    ) -> Result<PairSums, AllocError>
+        requires atoms { length frame.now ≡ length self.now.system.masses.items }
+        requires tiling { IsTilingOf self.now.system desk.old.tiling }
+        ensures sums { IfOk result (ArePairSums (safe_dynamics self.now.system) frame.now) }
+        ensures tiling { IsTilingOf self.now.system desk.new.tiling }
+    {
+        self.fill(&mut desk.tiling, frame)?;
+        let work = self.work(&desk.tiling, frame);
+        let places = BoxFrame {
+            frac: self.system.frac,
+            ring: &self.system.ring,
+            places: frame,
+        };
+        Ok(sums_alone(&work, &places, &mut desk.scratch))
     }
 }
 

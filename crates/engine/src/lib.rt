@@ -4,10 +4,12 @@
 mod engine_runs;
 mod engines;
 mod faults;
+mod frame_forces;
 mod frame_steps;
 mod frame_sums;
 mod frame_works;
 mod laws;
+mod observers;
 mod pools;
 mod rows;
 mod safe_energies;
@@ -17,3 +19,4 @@ pub use engine_runs::{open, run_bytes};
 pub use engines::Engine;
 pub use faults::{EngineFault, OpenFault, RunFault};
 pub use laws::{runs_are_told, runs_stay_safe, steps_add, steps_return};
+pub use observers::{FrameSums, Observer};

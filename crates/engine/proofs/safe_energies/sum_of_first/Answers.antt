@@ -2,8 +2,8 @@ use Rattle.std.proofs.Common.{◌≡◌, ◌<◌, ◌+ℤ◌, ℤ, arith, get_or
 use mir.Syntax.{w128}
 use Rattle.std.proofs.lemmas.Int.{ints}
 use Rattle.std.proofs.lemmas.List.{get_or_read}
-use Rattle.engine.proofs.EnergySumLaws.{over_next}
-use Rattle.engine.specs.EnergySums.{sum_over}
+use Rattle.pair_sums.proofs.SumLaws.{over_next}
+use Rattle.pair_sums.specs.Sums.{sum_over}
 use Rattle.engine.proofs.safe_energies.sum_of_first.Goals as goal
 
 pub loop-l-preserved : goal.loop-l-preserved

@@ -1,6 +1,6 @@
 use Rattle.std.proofs.Common.{◌≡◌, ◌*◌, ◌^◌, ◌≤◌, take}
 use Rattle.std.specs.Prelude.{unsigned_abs}
-use Rattle.engine.specs.EnergySums.{sum_over}
+use Rattle.pair_sums.specs.Sums.{sum_over}
 use Rattle.engine.proofs.safe_energies.sum_of_first.Given as goal
 
 abbrev pub invariant-loop-l : goal.invariant-loop-l

@@ -1,13 +1,13 @@
 use Rattle.std.proofs.Common.{◌≡◌, ap, arith, length, take, ◌∙◌, rules, to_z, of_z}
 use mir.Syntax.{w128}
 use Rattle.engine.proofs.EnergyTileLaws.{energies_summed, served_too}
-use Rattle.engine.specs.EnergySums.{sum_over}
+use Rattle.pair_sums.specs.Sums.{sum_over}
 use Rattle.engine.proofs.safe_energies.SafeEnergy.of_found.Goals as goal
 
 pub energies-requires-clause-served : goal.energies-requires-clause-served
 energies-requires-clause-served g c =
     let e = c.args.self.now in
-    rw c.as_slice.ensures.value (λ k d lt. served_too e.motion.now.system e.kernel e.motion.now.accepted e.table e.core e.cutoff _ (c.ask_all.ensures.served k d lt))
+    rw c.as_slice.ensures.value (λ k d lt. served_too e.motion.now.system e.kernel.now e.motion.now.accepted e.table e.core e.cutoff _ (c.ask_all.ensures.served k d lt))
 
 pub returns-clause-value : goal.returns-clause-value
 returns-clause-value g c =

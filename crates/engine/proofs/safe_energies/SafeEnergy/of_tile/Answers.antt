@@ -2,10 +2,10 @@ use Rattle.std.proofs.Common.{◌≡◌, ◌≤◌, ◌+ℤ◌, ◌^◌, arith, 
 use mir.Syntax.{w128}
 use Rattle.std.specs.Prelude.{unsigned_abs}
 use Rattle.std.proofs.lemmas.Int.{ints}
-use Rattle.engine.proofs.EnergySumLaws.{over_all, over_first_within}
+use Rattle.pair_sums.proofs.SumLaws.{over_all, over_first_within}
 use Rattle.engine.proofs.EnergyTileLaws.{found_next}
 use Rattle.engine.proofs.TileLaws.{tile_size}
-use Rattle.engine.specs.EnergySums.{sum_over}
+use Rattle.pair_sums.specs.Sums.{sum_over}
 use Rattle.engine.specs.Rows.{tile_at}
 use Rattle.engine.specs.SafeEnergies.{energy_between, found_energy}
 use Rattle.engine.proofs.safe_energies.SafeEnergy.of_tile.Goals as goal

@@ -1,5 +1,5 @@
 use Rattle.std.proofs.Common.{◌≡◌, ◌≤◌, ◌-◌, length, take}
-use Rattle.engine.specs.EnergySums.{sum_over}
+use Rattle.pair_sums.specs.Sums.{sum_over}
 use Rattle.engine.specs.Rows.{tile_at}
 use Rattle.engine.specs.SafeEnergies.{energy_between}
 use Rattle.engine.proofs.safe_energies.SafeEnergy.of_tile.Given as goal

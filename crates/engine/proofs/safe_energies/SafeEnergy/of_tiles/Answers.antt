@@ -3,9 +3,9 @@ use Rattle.std.specs.Prelude.{unsigned_abs}
 use mir.Syntax.{w128}
 use Rattle.std.proofs.lemmas.List.{length-map}
 use Rattle.cell_tiles.specs.Tiles.{tile_pairs}
-use Rattle.engine.proofs.EnergySumLaws.{first_tiles_within, over_all, over_next, over_within, tile_within}
+use Rattle.pair_sums.proofs.SumLaws.{first_tiles_within, over_all, over_next, over_within, tile_within}
 use Rattle.engine.proofs.EnergyTileLaws.{tiles_small, tiles_told}
-use Rattle.engine.specs.EnergySums.{sum_over}
+use Rattle.pair_sums.specs.Sums.{sum_over}
 use Rattle.engine.specs.Rounds.{add_of, grid_of}
 use Rattle.engine.specs.Rows.{tile_at}
 use Rattle.engine.specs.SafeEnergies.{energy_between}

@@ -1,6 +1,6 @@
 use Rattle.std.proofs.Common.{◌≡◌, take}
 use Rattle.cell_tiles.specs.Tiles.{tile_pairs}
-use Rattle.engine.specs.EnergySums.{sum_over}
+use Rattle.pair_sums.specs.Sums.{sum_over}
 use Rattle.engine.specs.Rounds.{grid_of}
 use Rattle.engine.specs.SafeEnergies.{energy_between}
 use Rattle.engine.proofs.safe_energies.SafeEnergy.of_tiles.Given as goal

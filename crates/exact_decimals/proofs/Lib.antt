@@ -1,0 +1,4 @@
+pub mod LimbLaws
+pub mod ProductLaws
+pub mod RatioLaws
+pub mod Zeros

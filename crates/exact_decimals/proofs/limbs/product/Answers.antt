@@ -1,0 +1,16 @@
+use Rattle.std.proofs.Common.{arith}
+use Rattle.std.proofs.lemmas.List.{length-set}
+use Rattle.exact_decimals.proofs.LimbLaws.{product_more, eight_multiplied}
+use Rattle.exact_decimals.proofs.limbs.product.Goals as goal
+
+pub loop-i-preserved : goal.loop-i-preserved
+loop-i-preserved c =
+    let n = c.loop-i.invariant.0 in (
+      omega (arith, length-set c.loop-i.product c.loop-i.i c.carrying_mul-limb.result.0),
+      product_more c.args.a.now c.loop-i.product c.args.factor c.loop-i.i c.carrying_mul-limb.result.0 c.loop-i.over c.carrying_mul-limb.result.1 c.args.carry
+          (omega arith) (omega arith) c.loop-i.invariant.1 c.carrying_mul-limb.ensures,
+    )
+
+pub returns : goal.returns
+returns c =
+    eight_multiplied c.loop-i.product c.args.a.now c.args.factor c.loop-i.i c.loop-i.over c.args.carry (omega arith) c.loop-i.invariant.0 c.told-a c.loop-i.invariant.1

@@ -1,0 +1,3 @@
+pub mod Limbs
+pub mod Products
+pub mod Ratios

@@ -1,0 +1,31 @@
+-- Exact fractions of whole numbers, not reduced, and the decimals nearest to them.
+use Rattle.std.specs.Prelude.{ℕ, ◌*◌, ◌^◌, ◌≤◌, ℤ, pos, ◌+ℤ◌, ◌*ℤ◌, unsigned_abs}
+use Rattle.fixed.specs.Rounding.{nearest_of}
+
+-- the fraction of the numerator over the denominator, which isn't 0
+pub record Ratio : Type 0 where
+  pub numerator : ℤ
+  pub denominator : ℕ
+
+-- the sum of two fractions
+abbrev pub plus : Ratio → Ratio → Ratio
+plus x y = record {
+  numerator = x.numerator *ℤ pos y.denominator +ℤ y.numerator *ℤ pos x.denominator;
+  denominator = x.denominator * y.denominator;
+}
+
+-- the product of a fraction and a number
+abbrev pub times : Ratio → ℕ → Ratio
+times x k = record { numerator = x.numerator *ℤ pos k; denominator = x.denominator }
+
+-- the quotient of a fraction and a number
+abbrev pub over : Ratio → ℕ → Ratio
+over x k = record { numerator = x.numerator; denominator = x.denominator * k }
+
+-- the whole number of units of the last of these decimals that is nearest to a fraction, and the upper one of two
+abbrev pub decimal_of : ℕ → Ratio → ℤ
+decimal_of places x = nearest_of (x.numerator *ℤ pos (10 ^ places)) (pos x.denominator)
+
+-- a fraction from -k to k
+pub record IsWithin (k : ℕ) (x : Ratio) : Type 0 where
+  pub within : unsigned_abs x.numerator ≤ k * x.denominator

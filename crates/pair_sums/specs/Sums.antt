@@ -1,0 +1,16 @@
+-- Sums of whole numbers over lists, and the least of those that there are.
+use Rattle.std.specs.Prelude.{ℕ, ℤ, pos, ◌+ℤ◌, List, [], ◌∷◌, Option, Some, None, min}
+
+abbrev pub sum_over : {X : Type 0} → (X → ℤ) → List X → ℤ
+sum_over f [] = pos 0
+sum_over f (x ∷ xs) = f x +ℤ sum_over f xs
+
+-- the lesser of two numbers, of those that there are
+abbrev pub lesser : Option ℕ → Option ℕ → Option ℕ
+lesser None other = other
+lesser (Some a) None = Some a
+lesser (Some a) (Some b) = Some (min a b)
+
+abbrev pub least_over : {X : Type 0} → (X → Option ℕ) → List X → Option ℕ
+least_over f [] = None
+least_over f (x ∷ xs) = lesser (f x) (least_over f xs)

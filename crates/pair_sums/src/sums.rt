@@ -1,0 +1,177 @@
+//! What pairs come to, one after the other.
+
+ghost use Rattle.std.specs.Prelude.{◌≡◌, ◌-◌, ◌≤◌, ◌^◌, ◌*ℤ◌, Some, length, option_map, unsigned_abs};
+ghost use Rattle.std.specs.List.{All};
+ghost use Rattle.ring_box.specs.Distances.{square_of};
+ghost use Rattle.ring_box.specs.Places.{difference};
+ghost use Rattle.tile_round.specs.Tiles.{IsPairOf};
+ghost use Rattle.pair_sums.specs.PairSums.{IsOfPairs, apart, force_in, nearer, no_sums, plus_sums, plus_virial, sums_of, sums_over, virial_between};
+
+use fixed::{Frac, Fx};
+use ring_box::{Place3, RingBox, diff};
+use tile_round::PairAdd;
+
+/// A frame in its box: where each atom is, and how many fraction bits a distance has.
+#[derive(Clone, Copy)]
+pub struct BoxFrame<'a> {
+    pub frac: Frac,
+    pub ring: &'a RingBox,
+    pub places: &'a [Place3],
+}
+
+/// The virial of pairs along each axis: the sum of the forces on their lower atoms, in 2^-bits kJ/mol/nm, each times
+/// the whole number of places from the higher atom to the lower, the shorter way round the ring of 2^32 places.
+#[derive(Clone, Copy)]
+pub struct Virial {
+    pub x: i128,
+    pub y: i128,
+    pub z: i128,
+}
+
+/// How far two atoms are apart: the distance in nm, rounded down, and its exact square, in the square of 10^-5 nm over
+/// 2^32.
+#[derive(Clone, Copy)]
+pub struct Apart {
+    pub square: u128,
+    pub distance: Fx,
+}
+
+/// What pairs that act come to.
+#[derive(Clone, Copy)]
+pub struct PairSums {
+    /// Their virial.
+    pub virial: Virial,
+    /// How far the nearest of them are apart; `None` where there are none.
+    pub nearest: Option<Apart>,
+}
+
+/// A component of a force times the places from `y` to `x`.
+fn moment(component: i64, x: u32, y: u32) -> i128
+    ensures value { result ≡ component *ℤ difference x y }
+    ensures bound { unsigned_abs result ≤ 2 ^ 94 }
+{
+    i128::from(component) * i128::from(diff(x, y))
+}
+
+impl Virial {
+    /// The virial of a pair of atoms at `p` and `q`.
+    fn of_pair(add: &PairAdd, p: Place3, q: Place3) -> Virial
+        ensures value { result ≡ virial_between (force_in add.now.force) p q }
+        ensures bound { IsOfPairs 1 result }
+    {
+        Virial {
+            x: moment(add.force[0], p.x, q.x),
+            y: moment(add.force[1], p.y, q.y),
+            z: moment(add.force[2], p.z, q.z),
+        }
+    }
+
+    /// The virial of these pairs and more.
+    fn plus(self, more: Virial) -> Virial
+        requires these { IsOfPairs (2 ^ 32 - 1) self }
+        requires more { IsOfPairs (2 ^ 32 - 1) more }
+        ensures { result ≡ plus_virial self more }
+    {
+        Virial {
+            x: self.x + more.x,
+            y: self.y + more.y,
+            z: self.z + more.z,
+        }
+    }
+}
+
+/// The nearer of two pairs, of those that there are; the first where both are as near.
+fn nearer(a: Option<Apart>, b: Option<Apart>) -> Option<Apart>
+    ensures { result ≡ nearer a b }
+{
+    match (a, b) {
+        (Some(a), Some(b)) => {
+            if b.square < a.square {
+                Some(b)
+            } else {
+                Some(a)
+            }
+        }
+        (Some(a), None) => Some(a),
+        (None, b) => b,
+    }
+}
+
+impl<'a> BoxFrame<'a> {
+    /// The nearer of a pair and of two atoms at `p` and `q`. A distance is found only where these are nearer.
+    fn nearer_at(&self, nearest: Option<Apart>, p: Place3, q: Place3) -> Option<Apart>
+        ensures { result ≡ nearer nearest (Some (apart self.now.frac (square_of self.now.ring.now p q))) }
+    {
+        let square = self.ring.square(p, q);
+        match nearest {
+            Some(pair) if pair.square <= square => Some(pair),
+            _ => Some(Apart {
+                square,
+                distance: self.ring.distance(self.frac, p, q),
+            }),
+        }
+    }
+
+    /// What pairs come to with one more.
+    fn with_pair(&self, sums: PairSums, add: &PairAdd) -> PairSums
+        requires atoms { IsPairOf (length self.now.places.now) add.now }
+        requires room { IsOfPairs 127 sums.virial }
+        ensures value { result ≡ plus_sums sums (sums_of self.now.frac self.now.ring.now self.now.places.now add.now) }
+        ensures one { IsOfPairs 1 (sums_of self.now.frac self.now.ring.now self.now.places.now add.now).virial }
+    {
+        let p = self.places[add.low as usize];
+        let q = self.places[add.high as usize];
+        PairSums {
+            virial: sums.virial.plus(Virial::of_pair(add, p, q)),
+            nearest: self.nearer_at(sums.nearest, p, q),
+        }
+    }
+
+    /// What at most 128 pairs come to.
+    pub(crate) fn pair_sums(&self, adds: &[PairAdd]) -> PairSums
+        requires few { length adds.now ≤ 128 }
+        requires atoms { All (IsPairOf (length self.now.places.now)) adds.now }
+        ensures value { result ≡ sums_over self.now.frac self.now.ring.now self.now.places.now adds.now }
+        ensures bound { IsOfPairs (length adds.now) result.virial }
+    {
+        let mut sums = PairSums::none();
+        for k in 0..adds.len() {
+            sums = self.with_pair(sums, &adds[k]);
+        }
+        sums
+    }
+}
+
+impl PairSums {
+    /// What no pairs come to.
+    pub(crate) fn none() -> PairSums
+        ensures { result ≡ no_sums }
+    {
+        PairSums {
+            virial: Virial { x: 0, y: 0, z: 0 },
+            nearest: None,
+        }
+    }
+
+    /// What these pairs come to with more.
+    pub(crate) fn plus(self, more: PairSums) -> PairSums
+        requires these { IsOfPairs (2 ^ 32 - 1) self.virial }
+        requires more { IsOfPairs (2 ^ 32 - 1) more.virial }
+        ensures { result ≡ plus_sums self more }
+    {
+        PairSums {
+            virial: self.virial.plus(more.virial),
+            nearest: nearer(self.nearest, more.nearest),
+        }
+    }
+
+    /// The distance of the nearest two atoms in nm, rounded down; `None` where there are no pairs.
+    pub fn distance(&self) -> Option<Fx>
+        ensures { result ≡ option_map (λ pair. pair.distance) self.now.nearest }
+    {
+        match self.nearest {
+            Some(pair) => Some(pair.distance),
+            None => None,
+        }
+    }
+}

@@ -1,0 +1,47 @@
+//! What the pairs of a frame come to, tile by tile.
+
+ghost use Rattle.std.specs.Prelude.{◌≡◌, ◌<◌, ◌^◌, length};
+ghost use Rattle.tile_round.specs.Tiles.{acting, pairs_at};
+ghost use Rattle.pair_sums.specs.PairSums.{IsOfPairs, all_acting, sums_over};
+
+use crate::sums::{BoxFrame, PairSums};
+use arrayvec::ArrayVec;
+use tile_round::RowWork;
+
+/// What the pairs of a tile come to.
+fn tile_sums<S, W: RowWork<S>>(
+    work: &W,
+    frame: &BoxFrame<'_>,
+    scratch: &mut S,
+    tile: u64,
+) -> PairSums
+    requires tile { tile < length (W.plan work.now) }
+    requires atoms { W.atoms work.now ≡ length frame.now.places.now }
+    requires few { length (acting (pairs_at (W.plan work.now) tile)) < 2 ^ 32 }
+    ensures value { result ≡ sums_over frame.now.frac frame.now.ring.now frame.now.places.now (acting (pairs_at (W.plan work.now) tile)) }
+    ensures bound { IsOfPairs (length (acting (pairs_at (W.plan work.now) tile))) result.virial }
+{
+    let pairs = work.pairs(tile);
+    let mut adds = ArrayVec::new();
+    let mut sums = PairSums::none();
+    let mut k = 0;
+    while k < pairs {
+        k = work.next_adds(scratch, tile, k, &mut adds);
+        sums = sums.plus(frame.pair_sums(adds.as_slice()));
+    }
+    sums
+}
+
+/// What all pairs of a frame that act come to, on the caller's thread. The caller sees that the work is that of the
+/// frame's atoms, and that fewer than 2^32 of its pairs act.
+pub fn sums_alone<S, W: RowWork<S>>(work: &W, frame: &BoxFrame<'_>, scratch: &mut S) -> PairSums
+    requires atoms { W.atoms work.now ≡ length frame.now.places.now }
+    requires few { length (all_acting (W.plan work.now)) < 2 ^ 32 }
+    ensures { result ≡ sums_over frame.now.frac frame.now.ring.now frame.now.places.now (all_acting (W.plan work.now)) }
+{
+    let mut sums = PairSums::none();
+    for tile in 0..work.tiles() {
+        sums = sums.plus(tile_sums(work, frame, scratch, tile));
+    }
+    sums
+}
