@@ -7,13 +7,14 @@ Where a row prints a state, the page has to have that text; with `returns` as ma
 the state of the row. Where a row is refused for what the page speaks of, the page has to have no text, for want of the
 field that the refusal names (FIELDS). A3, V2 and V3 refuse more than the page, and E10 where slope or code is too
 large: there it may have a text, and this is told. Rows of `cat`, `cmp`, `head` and `sed` compare the files that runs
-have written. A line for each disagreement; status 1 where there is one, or where nothing was played.
+have written, and of the jobs of `check` and `code` it is judged whether they say a job and an energy. A line for each
+disagreement; status 1 where there is one, or where nothing was played.
 """
 import sys
 from collections import Counter
 from pathlib import Path
 
-from headline import NoText, TooMuchWork, levesque_verlet_run
+from headline import NoText, TooMuchWork, job_says, levesque_verlet_run
 from read import with_deep_stack
 from steps import Direction
 from transcripts import Files, NoSuchFile, made_by, rows_of
@@ -77,6 +78,11 @@ def read_by(words, row, files, returns):
         raise LeftOut("as too much work") from None
 
 
+def code_of(row):
+    """The code of the refusal that a row tells, or nothing."""
+    return row.told()[-1].split()[1].decode() if row.status else ""
+
+
 class Player:
     """Plays rows, and counts them."""
 
@@ -117,6 +123,8 @@ class Player:
             return self.make(row, words_behind, files, name)
         program = words_behind.index(b"pairmd")
         command = words_behind[program + 1 :]
+        if command[:1] in ([b"check"], [b"code"]) and len(command) == 2 and row.status in (0, 1, 3) and program == 0:
+            self.judge(row, command[1], files)
         if command[:1] not in ([b"run"], [b"back"]):
             key = (tuple(words), tuple(self.files.files.get(word) for word in words))
             if name is None:
@@ -155,9 +163,26 @@ class Player:
         else:
             self.disagree(row, "another text by the page")
 
+    def judge(self, row, job, files):
+        """Plays a row of `check` or `code`, by what a run has of its job: whether its text says a job, and that an
+        energy. Of E10 the page may know nothing.
+        """
+        try:
+            lacking = ()
+            job_says(files.read(job))
+        except NoSuchFile:
+            return
+        except NoText as it:
+            lacking = it.fields
+        code = code_of(row)
+        field = FIELDS.get(code[:1])
+        self.counts["judged: the job of a row of check or code"] += 1
+        if lacking != ((field,) if field else ()) and code != "E10":
+            self.disagree(row, f"{code or 'accepted'}, but the page lacks {', '.join(lacking) or 'nothing'}")
+
     def compare_refusal(self, row, text, lacking):
         """Where a row is refused, the page has to have no text, if it speaks of what it is refused for."""
-        code = row.told()[-1].split()[1].decode()
+        code = code_of(row)
         field = FIELDS.get(code) or FIELDS.get(code[0])
         if code in BEYOND and field not in lacking:
             has = "a text" if text is not None else "none"
@@ -178,7 +203,7 @@ class Player:
                 self.files.write(words[1], learned)
             return None
         if text is not None and name is None:
-            self.counts["rows of cat, cmp, head and sed"] += 1
+            self.counts["compared: files, by cat, cmp, head or sed"] += 1
             if text != row.text():
                 self.disagree(row, "other files by the page")
         return text
