@@ -169,9 +169,10 @@ def of_a_job(name, formula, folder):
 
 def main():
     with tempfile.TemporaryDirectory() as folder:
-        head = ["For `exp(-x)`", "Instructions", "Off by at most", "Its slope", f"Off by, of itself, at x = {SHOWN[0]}"]
-        for row in [[*head, *map(str, SHOWN[1:])], *(tried(recipe, folder) for recipe in RECIPES)]:
-            print(f"| {' | '.join(row)} |", flush=True)
+        head = ["Value off by at most", "Slope off by at most", f"Value, of itself, at x = {SHOWN[0]}", *map(str, SHOWN[1:])]
+        print("| For `exp(-x)` | Instructions |", " | ".join(head), "|")
+        for recipe in RECIPES:
+            print("|", " | ".join(tried(recipe, folder)), "|", flush=True)
         for name, formula in JOBS.items():
             print(of_a_job(name, formula, folder), flush=True)
 
