@@ -1,9 +1,9 @@
 #!/usr/bin/env python3
-"""What it does to liquid argon that atoms stand at whole places and move by whole places: 500 atoms of examples/argon.gro.
+"""What it does to liquid argon that atoms move by whole places: the 500 atoms of examples/argon.gro.
 
   bench/grid.py places                  what a place is, and which force moves an argon atom by one, at some time steps
-  bench/grid.py energy                  how far the total energy wanders by the rounding of places, from the table of pictures/energies.py
-  bench/grid.py time_step               what becomes of the total energy where examples/time_step.py changes the time step
+  bench/grid.py energy                  how far the total energy wanders, by the table of pictures/energies.py
+  bench/grid.py time_step               what becomes of the total energy by examples/time_step.py
   bench/grid.py growth                  how fast a small change of the start grows
   bench/grid.py echo                    the same on the way back: what a change at the turn has grown to at the start
   /usr/bin/python3 bench/grid.py openmm   one step's displacement, and the energy, beside OpenMM's Reference platform
@@ -35,8 +35,8 @@ def places():
 
 
 def predicted(step, kinetic):
-    """By how much the square of the wandering grows in a ps: each step kicks each coordinate's velocity by a rounding, which is even from minus half
-    a place a step to half a one, so of variance 1/12; and a kick dv changes the energy by m v dv."""
+    """By how much the square of the wandering grows in a ps. Each step kicks each coordinate's velocity by a rounding,
+    even from minus half a place a step to half a one: its variance is 1/12. A kick dv changes the energy by m v dv."""
     kick = SIDE / liquid.PLACES / (step / 1000)
     return 1000 / step * liquid.MASS * 2 * kinetic * kick**2 / 12
 
@@ -47,16 +47,17 @@ def slope(xs, ys):
 
 
 def energy():
-    """The total energy of pictures/energies.tsv, which pictures/energies.py measured: 20 ps in samples of 0.2. Where it wanders, the mean square of its
-    change over a time grows with the time; what else it does makes up a constant."""
+    """The total energy of pictures/energies.tsv, which pictures/energies.py measured: 20 ps in samples of 0.2. Where it
+    wanders, the mean square of its change over a time grows with the time; what else it does makes up a constant."""
     rows = liquid.read_table("energies")
     for step in (1, 2):
         seen, kinetic = ([float(row[name]) for row in rows if int(row["fs"]) == step] for name in ("total", "kinetic"))
         lags = range(5, 51, 5)  # 1 to 10 ps
         squares = [sum((b - a) ** 2 for a, b in zip(seen, seen[lag:])) / (len(seen) - lag) for lag in lags]
         grows, foretold = slope([lag / 5 for lag in lags], squares), predicted(step, sum(kinetic) / len(kinetic))
-        print(f"{step} fs: the square of the change grows by {grows:.1e} (kJ/mol)^2 a ps, predicted {foretold:.1e}: {math.sqrt(foretold * 20):.4f} kJ/mol in 20 ps")
-        print(f"      its square root over 1, 2, 5 and 10 ps: {', '.join(f'{math.sqrt(squares[at]):.4f}' for at in (0, 1, 4, 9))} kJ/mol")
+        print(f"{step} fs: the square of the change grows by {grows:.1e} (kJ/mol)^2 a ps, predicted {foretold:.1e},")
+        print(f"      which is {math.sqrt(foretold * 20):.4f} kJ/mol in 20 ps; its square root over 1, 2, 5 and 10 ps:", end=" ")
+        print(*(f"{math.sqrt(squares[at]):.4f}" for at in (0, 1, 4, 9)))
 
 
 def moved(text, atom, axis, by):
@@ -78,7 +79,8 @@ CHANGES = [(0, 0), (100, 1), (200, 2), (300, 0), (400, 1)]  # atoms and axes tha
 
 
 def growth():
-    """A change of one coordinate by 10^5 places at the start: how far the two runs are apart, and by how much its logarithm grows in a ps."""
+    """A change of one coordinate by 10^5 places at the start: how far the two runs are apart, over the change, and how
+    much the logarithm of that grows in a ps."""
     step, by, every, samples = 2, 100_000, 100, 25
     own = liquid.Path(step)
     others = [liquid.Path(step) for _ in CHANGES]
@@ -135,7 +137,7 @@ def time_step():
 
 
 class OpenMM:
-    """The forces and the energy of places by OpenMM's Reference platform, in doubles, under the text of examples/argon.job."""
+    """Forces and energy by OpenMM's Reference platform, in doubles, under the text of examples/argon.job."""
 
     def __init__(self, places):
         sys.path.insert(1, f"{ROOT}/bench/peers")
@@ -187,11 +189,9 @@ def openmm():
                     turns = (by - near + liquid.PLACES // 2) % liquid.PLACES - liquid.PLACES // 2
                     off.append((turns + near - wanted) * place)
             own = int(liquid.program("energy", path.job, path.file).split()[1]) / 2**bits
-            print(
-                f"{bits} bits, {step} fs: a displacement is off by as much as a force of {max(map(abs, off)):.1e} kJ/mol/nm at most, "
-                f"{math.sqrt(sum(it * it for it in off) / len(off)):.1e} in the mean square; the energy by {abs(own - other.energy):.1e} kJ/mol",
-                flush=True,
-            )
+            most, mean = max(map(abs, off)), math.sqrt(sum(it * it for it in off) / len(off))
+            print(f"{bits} bits, {step} fs: a displacement is off by as much as a force of {most:.1e} kJ/mol/nm at most,", end=" ")
+            print(f"{mean:.1e} in the mean square; the energy by {abs(own - other.energy):.1e} kJ/mol", flush=True)
 
 
 def main():

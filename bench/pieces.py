@@ -1,8 +1,9 @@
 #!/usr/bin/env python3
-"""What a table of values costs as an energy: the pieces of examples/pieces.py, beside the formula that the values are of.
+"""What a table of values costs as an energy: pieces by examples/pieces.py, beside the formula that the values are of.
 
 Liquid argon under Lennard-Jones from 0.3 to 0.9 nm, as a formula and as a table in 8, 30, 60 and 120 stretches: the
-energy of the start, and the processor time of a step by one worker, less reading, verifying and writing; the least of several.
+energy of the start, and the processor time of a step by one worker, less reading, verifying and writing; the least of
+several.
 
   bench/pieces.py [--program ./pairmd]
 """

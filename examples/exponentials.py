@@ -1,5 +1,5 @@
 #!/usr/bin/env python3
-"""Tries what stands for exp(-x) in an energy, which has no exp: how far its values and its slopes are off, and what it costs.
+"""Tries what stands for exp(-x) in an energy, which has no exp: how far values and slopes are off, and what they cost.
 
   examples/exponentials.py          PAIRMD=path of the program, ./pairmd where it isn't said
 
@@ -74,7 +74,7 @@ class Number:
 
 @functools.cache
 def formulas(recipe):
-    """The formulas of a recipe, the last definition first, as Python reads them: its signs bind as those of an energy."""
+    """The formulas of a recipe, the last definition first, as Python reads them: its signs bind as an energy's."""
     body, *definitions = recipe.split(";")
     made = []
     for text in [*reversed(definitions), f"body={body}"]:
@@ -163,15 +163,16 @@ def of_a_job(name, formula, folder):
         r = max(raw / ONE, core)
         if r > 0:
             off.append((abs(energy(job, state, raw) / ONE - formula(r)), abs(formula(r)), r))
-    worst, inner = max(off), [it for it in off if it[1] < 20]
-    return f"{name}.job: at most {worst[0]:.1e} kJ/mol off, at {worst[2]:.3f} nm where it is {worst[1]:.4g}; below 20 kJ/mol at most {max(inner)[0]:.1e}"
+    (worst, there, at), inner = max(off), max(it[0] for it in off if it[1] < 20)
+    return f"{name}.job: at most {worst:.1e} kJ/mol off, at {at:.3f} nm where it is {there:.4g}; below 20 at most {inner:.1e}"
 
 
 def main():
     with tempfile.TemporaryDirectory() as folder:
-        print("| " + " | ".join(["For `exp(-x)`", "Instructions", "Off by at most", "Its slope", f"Off by, of itself, at x = {SHOWN[0]}", *map(str, SHOWN[1:])]) + " |")
+        head = ["Value off by at most", "Slope off by at most", f"Value, of itself, at x = {SHOWN[0]}", *map(str, SHOWN[1:])]
+        print("| For `exp(-x)` | Instructions |", " | ".join(head), "|")
         for recipe in RECIPES:
-            print("| " + " | ".join(tried(recipe, folder)) + " |", flush=True)
+            print("|", " | ".join(tried(recipe, folder)), "|", flush=True)
         for name, formula in JOBS.items():
             print(of_a_job(name, formula, folder), flush=True)
 

@@ -4,10 +4,10 @@
   examples/pieces.py TABLE          prints the line `energy ..` for a job
 
 TABLE has two numbers a line, r in nm and the energy in kJ/mol, r in equal stretches; lines that begin with # are
-skipped. The job's core must not be less than the first r, and its cutoff not more than the last. Each cubic has the table's
-values at both ends of its stretch, and there the slope of the parabola through three neighbouring values, so that
-energy and force have no jump. Which stretch it is, t, and how far along, u, come from one product, so that both agree at
-every distance. Some 130 stretches are as many as an energy of 4,096 tokens holds (`E10` refuses more).
+skipped. The job's core must not be less than the first r, and its cutoff not more than the last. Each cubic has the
+table's values at both ends of its stretch, and there the slope of the parabola through three neighbouring values, so
+that energy and force have no jump. Which stretch it is, t, and how far along, u, come from one product, so that both
+agree at every distance. Some 130 stretches are as many as an energy of 4,096 tokens holds (`E10` refuses more).
 """
 import math
 import sys
@@ -23,7 +23,7 @@ def table(path):
 
 
 def slopes(values):
-    """The slope at each value for a stretch of one: of the parabola through it and its neighbours, or the three at its end."""
+    """The slope at each value, for a stretch of 1: of the parabola through it and its neighbours, or the last three."""
     inner = [(after - before) / 2 for before, after in zip(values, values[2:])]
     first = (4 * values[1] - 3 * values[0] - values[2]) / 2
     last = (3 * values[-1] - 4 * values[-2] + values[-3]) / 2
@@ -34,15 +34,15 @@ def numeral(value):
     return f"{abs(value):.9f}".rstrip("0").rstrip(".")
 
 
-def added(value):
-    return ("-" if value < 0 else "+") + numeral(value)
+def signed(value, plus=""):
+    return ("-" if value < 0 else plus) + numeral(value)
 
 
 def cubic(value, then, slope, slope_then):
     """v + u (s + u (b + u c)) for u from 0 to 1, with these values and slopes at the ends."""
     rise = then - value
     b, c = 3 * rise - 2 * slope - slope_then, slope + slope_then - 2 * rise
-    return f"{'-' if value < 0 else ''}{numeral(value)}+u*({'-' if slope < 0 else ''}{numeral(slope)}+u*({'-' if b < 0 else ''}{numeral(b)}{added(c)}*u))"
+    return f"{signed(value)}+u*({signed(slope)}+u*({signed(b)}{signed(c, '+')}*u))"
 
 
 def chosen(cubics, first):
@@ -59,7 +59,9 @@ def main():
     start, width, values = table(sys.argv[1])
     ends = list(zip(values, slopes(values)))
     cubics = [cubic(value, then, slope, slope_then) for (value, slope), (then, slope_then) in zip(ends, ends[1:])]
-    print(f"energy {chosen(cubics, 0)}; u=t-floor(t); t=(r-{numeral(start)})*{numeral(math.floor(1e9 / width + 1e-3) / 1e9)}")  # rounded down, so that t stays below the last stretch's end
+    # rounded down, so that t stays below the end of the last stretch
+    stretches = math.floor(1e9 / width + 1e-3) / 1e9
+    print(f"energy {chosen(cubics, 0)}; u=t-floor(t); t=(r-{numeral(start)})*{numeral(stretches)}")
 
 
 if __name__ == "__main__":

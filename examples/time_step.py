@@ -11,15 +11,15 @@ so the same bytes anywhere. On standard error it tells the temperature under bot
 Kept: all current places; the box, the title, the counter of steps, names and the order of atoms; each velocity, up to
 half a place a new step.
 
-NEXT is the state one step on, `pairmd run JOB STATE --steps 1`. With it the velocities go to the new time as well: with m
-the move of the last step, n that of the next one and f the new step over the old one, the earlier place is
-(m+n) f/2 - (n-m) f^2/2 before the current one, to the nearest place. That is the parabola through the three frames, taken
-at the new time; so where the steps are equal it changes nothing.
+NEXT is the state one step on, `pairmd run JOB STATE --steps 1`. With it the velocities go to the new time as well: with
+m the move of the last step, n that of the next one and f the new step over the old one, the earlier place is
+(m+n) f/2 - (n-m) f^2/2 before the current one, to the nearest place. That is the parabola through the three frames,
+taken at the new time; so where the steps are equal it changes nothing.
 
 Not kept without NEXT: the time of the velocities. They were those half an old step before the current places, and are
 now taken as those half a new step before them, so the total energy is another one (docs/GUIDE.md says by how much).
-Brought to a longer step and then back in this way, a state has its bytes again; brought to a shorter one and back it has
-them only up to that rounding.
+Brought to a longer step and then back in this way, a state has its bytes again; brought to a shorter one and back it
+has them only up to that rounding.
 
 Never kept: the way back, since steps back from the new state don't lead to where the old one came from; and the times
 that `pairmd trajectory` prints, which are counter times `dt`, since the step counter stays what it was.
@@ -69,8 +69,10 @@ class State:
         return doubled / (3 * max(len(self.now) - 1, 1) * BOLTZMANN)
 
     def brought(self, old, new, following):
-        """The state with its moves those of a step of `new` fs, where they were those of one of `old`; `following`, if any, is the state one step on."""
-        for was, now, move, then in zip(self.before, self.now, self.moves(), following.moves() if following else self.moves()):
+        """The state with its moves those of a step of `new` fs, where they were those of one of `old`. `following` is
+        the state one step on, if there is one."""
+        moves = self.moves()
+        for was, now, move, then in zip(self.before, self.now, moves, following.moves() if following else moves):
             if following:
                 scaled = [nearest((m + n) * new * old - (n - m) * new**2, 2 * old**2) for m, n in zip(move, then)]
             else:
@@ -80,7 +82,8 @@ class State:
             was[:] = [(at - by) % PLACES for at, by in zip(now, scaled)]
 
     def text(self):
-        rows = [name + "".join(f" {place}" for place in was + now) for name, was, now in zip(self.names, self.before, self.now)]
+        atoms = zip(self.names, self.before, self.now)
+        rows = [name + "".join(f" {place}" for place in was + now) for name, was, now in atoms]
         return "\n".join(self.head + rows) + "\n"
 
 
