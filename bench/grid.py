@@ -6,7 +6,8 @@
   bench/grid.py time_step               what becomes of the total energy by examples/time_step.py
   bench/grid.py growth                  how fast a small change of the start grows
   bench/grid.py echo                    the same on the way back: what a change at the turn has grown to at the start
-  /usr/bin/python3 bench/grid.py openmm   one step's displacement, and the energy, beside OpenMM's Reference platform
+  /usr/bin/python3 bench/grid.py openmm   one step's displacement and the energy beside OpenMM's Reference platform, and
+                                          how far two runs from one state are apart
 
 PAIRMD names the program, ./pairmd where it isn't said. Only `openmm` needs more than Python: Debian's python3-simtk.
 """
@@ -137,9 +138,9 @@ def time_step():
 
 
 class OpenMM:
-    """Forces and energy by OpenMM's Reference platform, in doubles, under the text of examples/argon.job."""
+    """Argon at a state's places by OpenMM's Reference platform, in doubles, under the text of examples/argon.job."""
 
-    def __init__(self, places):
+    def __init__(self, state, step):
         sys.path.insert(1, f"{ROOT}/bench/peers")
         import peer
 
@@ -151,18 +152,27 @@ class OpenMM:
         force, system = openmm.CustomNonbondedForce(text), openmm.System()
         for name, value in values.items():
             force.addGlobalParameter(name, value)
-        for _ in places:
+        for _ in state.places:
             system.addParticle(liquid.MASS)
             force.addParticle([])
         system.setDefaultPeriodicBoxVectors((SIDE, 0, 0), (0, SIDE, 0), (0, 0, SIDE))
         force.setNonbondedMethod(openmm.CustomNonbondedForce.CutoffPeriodic)
         force.setCutoffDistance(peer.CUTOFF)
         system.addForce(force)
-        self.context = openmm.Context(system, openmm.VerletIntegrator(0.002), openmm.Platform.getPlatformByName("Reference"))
-        self.context.setPositions([tuple(place * SIDE / liquid.PLACES for place in at) for at in places])
-        state = self.context.getState(getForces=True, getEnergy=True)
-        self.forces = [tuple(it._value) for it in state.getForces()]
-        self.energy = state.getPotentialEnergy()._value
+        place, self.integrator = SIDE / liquid.PLACES, openmm.VerletIntegrator(step / 1000)
+        self.context = openmm.Context(system, self.integrator, openmm.Platform.getPlatformByName("Reference"))
+        self.context.setPositions([tuple(x * place for x in at) for at in state.places])
+        # both take velocities as those half a step before the positions
+        self.context.setVelocities([tuple(by * place / (step / 1000) for by in move) for move in state.moves()])
+        told = self.context.getState(getForces=True, getEnergy=True)
+        self.forces = [tuple(it._value) for it in told.getForces()]
+        self.energy = told.getPotentialEnergy()._value
+
+    def apart(self, state):
+        """How far the farthest coordinate is from a state's, in nm."""
+        at = [tuple(it._value) for it in self.context.getState(getPositions=True).getPositions()]
+        off = [x - p * SIDE / liquid.PLACES for xs, ps in zip(at, state.places) for x, p in zip(xs, ps)]
+        return max(abs(it - SIDE * round(it / SIDE)) for it in off)
 
 
 def displacement(path):
@@ -171,16 +181,20 @@ def displacement(path):
     return [[then - was for was, then in zip(*both)] for both in zip(before, after)]
 
 
+def path_of(bits, step):
+    """The start at a time step, of so many fraction bits."""
+    path = liquid.Path(step)
+    with open(path.job, "a", encoding="ascii") as job:
+        job.write(f"bits {bits}\n")
+    path.put(liquid.program("start", path.job, f"{liquid.EXAMPLES}/argon.gro"))
+    return path
+
+
 def openmm():
     for bits in (32, 40):
         for step in (2, 10, 1000):
-            path = liquid.Path(step)
-            with open(path.job, encoding="ascii") as job:
-                text = job.read()
-            with open(path.job, "w", encoding="ascii") as job:
-                job.write(f"{text}bits {bits}\n")
-            path.put(liquid.program("start", path.job, f"{liquid.EXAMPLES}/argon.gro"))
-            other, place = OpenMM(path.state.places), force_of_a_place(step)
+            path = path_of(bits, step)
+            other, place = OpenMM(path.state, step), force_of_a_place(step)
             off = []
             for move, force in zip(displacement(path), other.forces):
                 for by, size in zip(move, force):
@@ -192,6 +206,13 @@ def openmm():
             most, mean = max(map(abs, off)), math.sqrt(sum(it * it for it in off) / len(off))
             print(f"{bits} bits, {step} fs: a displacement is off by as much as a force of {most:.1e} kJ/mol/nm at most,", end=" ")
             print(f"{mean:.1e} in the mean square; the energy by {abs(own - other.energy):.1e} kJ/mol", flush=True)
+    for bits in (32, 40):
+        path = path_of(bits, 2)
+        other = OpenMM(path.state, 2)
+        for picosecond in range(1, 5):
+            path.go(500)
+            other.integrator.step(500)
+            print(f"{bits} bits, 2 fs, after {picosecond} ps: the farthest coordinate is {other.apart(path.state):.1e} nm off", flush=True)
 
 
 def main():
