@@ -1,5 +1,5 @@
 -- The energy of a frame over its tiles is that over all pairs.
-use Rattle.std.proofs.Common.{◌≡◌, ℕ, ◌*◌, ◌^◌, ◌<◌, ◌≤◌, Bool, false, List, [], ◌∷◌, length, map, take, sum_by, ℤ, pos, ◌+ℤ◌, Option, Some, None, arith, refl, ap, ap₂, sym, ◌∙◌}
+use Rattle.std.proofs.Common.{◌≡◌, ℕ, suc, ◌*◌, ◌^◌, ◌<◌, ◌≤◌, Bool, false, List, [], ◌∷◌, length, map, take, sum_by, ℤ, pos, ◌+ℤ◌, Option, Some, None, arith, refl, ap, ap₂, sym, ◌∙◌}
 use Rattle.std.specs.Prelude.{◌≤ℤ◌, ◌<ℤ◌, if◌then◌else◌, option_map, slice_index, unsigned_abs, unwrap_or}
 use Rattle.std.specs.List.{All}
 use Rattle.std.proofs.lemmas.Int.{ints}

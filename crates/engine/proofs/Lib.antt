@@ -16,3 +16,4 @@ pub mod EnergyTileLaws
 pub mod EngineEnergyLaws
 pub mod EngineForceLaws
 pub mod FrameSumLaws
+pub mod ObserverLaws

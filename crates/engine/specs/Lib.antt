@@ -7,6 +7,7 @@ pub mod EngineViews
 pub mod EngineForces
 pub mod FrameSums
 pub mod PairEnergies
+pub mod Observers
 pub mod SafeEnergies
 pub mod Rounds
 pub mod Rows

@@ -11,25 +11,28 @@ ghost use Rattle.state.specs.StateViews.{state_view};
 ghost use Rattle.engine.specs.Engines.{AreReached, HasNoEngine, IsEngineOf, SaysOnly, Stopped, Went};
 ghost use Rattle.engine.specs.EngineViews.{IsEngine, engine_view};
 ghost use Rattle.engine.specs.EngineForces.{AreForcesOfEngine};
+ghost use Rattle.engine.specs.Observers.{AreSumsOfEngine, IsNextFrameOfEngine, IsObserverOf};
 ghost use Rattle.engine.specs.PairEnergies.{HasNoEnergy, IsEnergyOfEngine};
 ghost use Rattle.integrator.specs.Frames.{frames};
 ghost use Rattle.integrator.specs.Starts.{mass_of};
 ghost use Rattle.potential.specs.Verdicts.{IsUnder};
-ghost use Rattle.integrator.specs.States.{counter_after};
+ghost use Rattle.integrator.specs.States.{counter_after, current_frame};
 ghost use Rattle.integrator.specs.declared.direction.Direction.TheVariants.{Back, Forward};
 
 use crate::faults::EngineFault;
 use crate::frame_sums::{Desk, Tiling};
+use crate::observers::{FrameSums, Observer};
 use crate::pools::{Crew, NoGate, Pool};
 use crate::rows::Scratch;
 use crate::safe_systems::SafeSystem;
 use fallible::Failure;
 use integrator::{
-    Direction, StepFault, Stepped, System, TypedAtoms, Workers, advance, counter_after, typed_atoms,
+    Direction, StepFault, Stepped, System, TypedAtoms, Workers, advance, counter_after,
+    current_frame, previous_frame, typed_atoms,
 };
 use job::{Job, TimeStep};
 use potential::{EnergyFault, SlopeKernel, energy_kernel, job_slope};
-use ring_box::Force;
+use ring_box::{Force, Place3};
 use state::State;
 use std::alloc::{AllocError, Allocator};
 use std::marker::Model;
@@ -174,23 +177,90 @@ impl<A: Allocator + Copy> Engine<A> {
         self.job.time_step
     }
 
-    /// The energy of the current frame in 2^-bits kJ/mol: the exact sum, over all pairs of atoms that act, of the job's
-    /// energy at their distance, or at the core where that is more; also where both are at one place.
+    /// The current frame.
+    fn frame(&self) -> Result<Vec<Place3, A>, AllocError>
+        ensures { IfOk result (λ frame. frame.items ≡ current_frame self.now.state.atoms) }
+    {
+        current_frame(self.alloc, &self.state.atoms)
+    }
+
+    /// An observer of the engine.
     ///
     /// `Energy` where the code of the energy itself would be too large, `Kernel` where the verifier refuses it, though
     /// it accepts that of the slope. `Memory`: an allocation was refused.
-    pub fn energy(&self) -> Result<i128, Failure<EnergyFault<A>>>
-        ensures value { IfOk result (IsEnergyOfEngine self.now) }
+    pub fn observer(&self) -> Result<Observer<A>, Failure<EnergyFault<A>>>
+        ensures observer { IfOk result (IsObserverOf self.now) }
         ensures refused { IfErr result (λ failure. IfRefused failure (HasNoEnergy self.now)) }
     {
         let program = &self.motion.system.kernel.energy;
         match energy_kernel(self.alloc, &self.job, program) {
-            Ok(kernel) => match self.motion.energy(self.alloc, kernel, &self.state.atoms) {
-                Ok(sum) => Ok(sum),
+            Ok(kernel) => match self.motion.desk(self.alloc, None, Scratch::new(self.alloc)) {
+                Ok(desk) => Ok(Observer { kernel, desk }),
                 Err(_) => Err(Failure::Memory),
             },
             Err(failure) => Err(failure),
         }
+    }
+
+    /// The energy of the current frame by an observer of the engine.
+    fn energy_by(&self, observer: &mut Observer<A>, frame: &[Place3]) -> Result<i128, AllocError>
+        requires observer { IsObserverOf self.now observer.old }
+        requires frame { frame.now ≡ current_frame self.now.state.atoms }
+        ensures energy { IfOk result (IsEnergyOfEngine self.now) }
+        ensures observer { IsObserverOf self.now observer.new }
+    {
+        let Observer { kernel, desk } = observer;
+        self.motion.energy(kernel, desk, frame)
+    }
+
+    /// The energy of the current frame in 2^-bits kJ/mol: the exact sum, over all pairs of atoms that act, of the job's
+    /// energy at their distance, or at the core where that is more; also where both are at one place. The refusals are
+    /// those of `observer`.
+    pub fn energy(&self) -> Result<i128, Failure<EnergyFault<A>>>
+        ensures value { IfOk result (IsEnergyOfEngine self.now) }
+        ensures refused { IfErr result (λ failure. IfRefused failure (HasNoEnergy self.now)) }
+    {
+        let mut observer = match self.observer() {
+            Ok(observer) => observer,
+            Err(failure) => return Err(failure),
+        };
+        let Ok(frame) = self.frame() else {
+            return Err(Failure::Memory);
+        };
+        match self.energy_by(&mut observer, &frame) {
+            Ok(sum) => Ok(sum),
+            Err(_) => Err(Failure::Memory),
+        }
+    }
+
+    /// What an observer of the engine sees of the current frame: its energy, the virial of its pairs, and the nearest
+    /// two atoms that act. `AllocError` only where memory is refused.
+    pub fn observe(&self, observer: &mut Observer<A>) -> Result<FrameSums, AllocError>
+        requires { IsObserverOf self.now observer.old }
+        ensures sums { IfOk result (AreSumsOfEngine self.now) }
+        ensures observer { IsObserverOf self.now observer.new }
+    {
+        let frame = self.frame()?;
+        let energy = self.energy_by(observer, &frame)?;
+        let sums = self.motion.pair_sums(&mut observer.desk, &frame)?;
+        Ok(FrameSums {
+            energy,
+            virial: sums.virial,
+            nearest: sums.distance(),
+        })
+    }
+
+    /// The frame that follows the current one: where one step forward would move the atoms. `AllocError` only where
+    /// memory is refused.
+    pub fn next_frame(&self, observer: &mut Observer<A>) -> Result<Vec<Place3, A>, AllocError>
+        requires { IsObserverOf self.now observer.old }
+        ensures next { IfOk result (λ frame. IsNextFrameOfEngine self.now frame.items) }
+        ensures observer { IsObserverOf self.now observer.new }
+    {
+        let frame = self.frame()?;
+        let before = previous_frame(self.alloc, &self.state.atoms)?;
+        self.motion
+            .next_frame(self.alloc, &mut observer.desk, before, &frame)
     }
 
     /// The forces on the atoms of the current frame, in their order and in 2^-bits kJ/mol/nm: on each atom the exact

@@ -71,6 +71,37 @@ impl<A: Allocator> SafeSystem<A> {
 }
 
 impl<A: Allocator + Copy> SafeSystem<A> {
+    ghost use Rattle.std.specs.Prelude.{◌≡◌, length, IfOk, Some};
+    ghost use Rattle.integrator.specs.Frames.{next_frame};
+    ghost use Rattle.engine.specs.SafeSystems.{safe_dynamics};
+    ghost use Rattle.engine.specs.Tilings.{IsTilingOf};
+
+    /// The frame that follows `before` and `middle`. `AllocError` only where memory is refused.
+    pub(crate) fn next_frame<B: Allocator>(
+        &self,
+        alloc: A,
+        desk: &mut Desk<A, Scratch<B>>,
+        before: Vec<Place3, A>,
+        middle: &[Place3],
+    ) -> Result<Vec<Place3, A>, AllocError>
+        requires before { length before.items ≡ length middle.now }
+        requires atoms { length middle.now ≡ length self.now.system.masses.items }
+        requires tiling { IsTilingOf self.now.system desk.old.tiling }
+        ensures next { IfOk result (λ frame. next_frame (safe_dynamics self.now.system) before.items middle.now ≡ Some frame.items) }
+        ensures tiling { IsTilingOf self.now.system desk.new.tiling }
+    {
+        let mut frame = before;
+        match self.sums_alone(alloc, desk, middle) {
+            Ok(sums) => {
+                self.advance(&mut frame, middle, sums.as_slice());
+                Ok(frame)
+            }
+            Err(_) => Err(AllocError),
+        }
+    }
+}
+
+impl<A: Allocator + Copy> SafeSystem<A> {
     ghost use Rattle.std.specs.Prelude.{◌≡◌, length, IfOk, IfErr, IfSome, is_none, false};
     ghost use Rattle.state.specs.StateViews.{state_view};
     ghost use Rattle.integrator.specs.States.{counter_after, frames_of};

@@ -11,11 +11,9 @@ use crate::frame_works::FrameWork;
 use crate::rows::Scratch;
 use crate::safe_systems::SafeSystem;
 use fixed::Fx;
-use integrator::current_frame;
 use kernel_lanes::Ask;
 use potential::{LaneKernel, LaneRows};
 use ring_box::Place3;
-use state::Atom;
 use std::alloc::{AllocError, Allocator};
 use tile_round::Work;
 
@@ -23,12 +21,12 @@ use tile_round::Work;
 #[derive(Drop)]
 struct SafeEnergy<'a, A: Allocator> {
     pub motion: &'a SafeSystem<A>,
-    pub kernel: LaneKernel<A>,
-    pub ghost table: { kernel.table ≡ motion.now.system.kernel.verified.table },
-    pub ghost core: { kernel.core ≡ motion.now.system.core },
-    pub ghost cutoff: { kernel.cutoff ≡ motion.now.system.cutoff },
+    pub kernel: &'a LaneKernel<A>,
+    pub ghost table: { kernel.now.table ≡ motion.now.system.kernel.verified.table },
+    pub ghost core: { kernel.now.core ≡ motion.now.system.core },
+    pub ghost cutoff: { kernel.now.cutoff ≡ motion.now.system.cutoff },
     pub ghost given: { AllHaveEnergies motion.now.system },
-    pub ghost gives: { GivesEnergy (program_tree motion.now.system.kernel.energy) kernel },
+    pub ghost gives: { GivesEnergy (program_tree motion.now.system.kernel.energy) kernel.now },
 }
 
 fn plus(sum: i128, more: i128) -> i128
@@ -75,7 +73,7 @@ impl<'a, A: Allocator> SafeEnergy<'a, A> {
     fn energies<B: Allocator>(&self, asks: &[Ask], rows: &mut LaneRows<B>, energies: &mut [Fx])
         requires few { length asks.now ≤ 128 }
         requires room { length asks.now ≤ length energies.old }
-        requires served { All (IsServed self.now.kernel) asks.now }
+        requires served { All (IsServed self.now.kernel.now) asks.now }
         ensures energies { AreEnergies self.now.motion.now.system asks.now energies.new }
         ensures len { length energies.new ≡ length energies.old }
     {
@@ -162,50 +160,43 @@ impl<'a, A: Allocator + Copy> SafeEnergy<'a, A> {
     ) -> Result<i128, AllocError>
         requires atoms { length frame.now ≡ length self.now.motion.now.system.types.items }
         requires tiling { IsTilingOf self.now.motion.now.system desk.old.tiling }
-        ensures { IfOk result (IsEnergyOf self.now.motion.now.system frame.now) }
+        ensures energy { IfOk result (IsEnergyOf self.now.motion.now.system frame.now) }
+        ensures tiling { IsTilingOf self.now.motion.now.system desk.new.tiling }
     {
         self.motion.fill(&mut desk.tiling, frame)?;
         let work = self.motion.work(&desk.tiling, frame);
         Ok(self.of_tiles(&work, &mut desk.scratch))
     }
-
-    /// The energy of the current frame of these atoms, in 2^-bits kJ/mol. `AllocError` only where memory is refused.
-    fn of_atoms(&self, alloc: A, atoms: &[Atom]) -> Result<i128, AllocError>
-        requires { length atoms.now ≡ length self.now.motion.now.system.types.items }
-        ensures { IfOk result (IsEnergyOf self.now.motion.now.system (map (λ a. a.current) atoms.now)) }
-    {
-        let frame = current_frame(alloc, atoms)?;
-        let mut desk = self.motion.desk(alloc, None, Scratch::new(alloc))?;
-        self.at_desk(&mut desk, &frame)
-    }
 }
 
 impl<A: Allocator + Copy> SafeSystem<A> {
-    ghost use Rattle.std.specs.Prelude.{◌≡◌, length, map, IfOk};
+    ghost use Rattle.std.specs.Prelude.{◌≡◌, length, IfOk};
     ghost use Rattle.energy_program.specs.Programs.{program_tree};
     ghost use Rattle.engine.specs.SafeEnergies.{IsEnergyOf};
+    ghost use Rattle.engine.specs.Tilings.{IsTilingOf};
     ghost use Rattle.potential.specs.EnergyKernels.{GivesEnergy, HasEnergies};
 
-    /// The energy of the current frame of these atoms, by accepted code of it, in 2^-bits kJ/mol. `AllocError` only
-    /// where memory is refused.
-    pub(crate) fn energy(
+    /// The energy of a frame by accepted code of it, in 2^-bits kJ/mol. `AllocError` only where memory is refused.
+    pub(crate) fn energy<B: Allocator>(
         &self,
-        alloc: A,
-        kernel: LaneKernel<A>,
-        atoms: &[Atom],
+        kernel: &LaneKernel<A>,
+        desk: &mut Desk<A, Scratch<B>>,
+        frame: &[Place3],
     ) -> Result<i128, AllocError>
-        requires table { kernel.table ≡ self.now.system.kernel.verified.table }
-        requires core { kernel.core ≡ self.now.system.core }
-        requires cutoff { kernel.cutoff ≡ self.now.system.cutoff }
-        requires gives { GivesEnergy (program_tree self.now.system.kernel.energy) kernel }
-        requires has { HasEnergies (program_tree self.now.system.kernel.energy) kernel }
-        requires atoms { length atoms.now ≡ length self.now.system.types.items }
-        ensures { IfOk result (IsEnergyOf self.now.system (map (λ a. a.current) atoms.now)) }
+        requires table { kernel.now.table ≡ self.now.system.kernel.verified.table }
+        requires core { kernel.now.core ≡ self.now.system.core }
+        requires cutoff { kernel.now.cutoff ≡ self.now.system.cutoff }
+        requires gives { GivesEnergy (program_tree self.now.system.kernel.energy) kernel.now }
+        requires has { HasEnergies (program_tree self.now.system.kernel.energy) kernel.now }
+        requires atoms { length frame.now ≡ length self.now.system.types.items }
+        requires tiling { IsTilingOf self.now.system desk.old.tiling }
+        ensures energy { IfOk result (IsEnergyOf self.now.system frame.now) }
+        ensures tiling { IsTilingOf self.now.system desk.new.tiling }
     {
         let energy = SafeEnergy {
             motion: self,
             kernel,
         };
-        energy.of_atoms(alloc, atoms)
+        energy.at_desk(desk, frame)
     }
 }

@@ -1,6 +1,6 @@
 //! What pairs come to, one after the other.
 
-ghost use Rattle.std.specs.Prelude.{◌≡◌, ◌-◌, ◌≤◌, ◌^◌, ◌*ℤ◌, Some, length, unsigned_abs};
+ghost use Rattle.std.specs.Prelude.{◌≡◌, ◌-◌, ◌≤◌, ◌^◌, ◌*ℤ◌, Some, length, option_map, unsigned_abs};
 ghost use Rattle.std.specs.List.{All};
 ghost use Rattle.ring_box.specs.Distances.{square_of};
 ghost use Rattle.ring_box.specs.Places.{difference};
@@ -162,6 +162,16 @@ impl PairSums {
         PairSums {
             virial: self.virial.plus(more.virial),
             nearest: nearer(self.nearest, more.nearest),
+        }
+    }
+
+    /// The distance of the nearest two atoms in nm, rounded down; `None` where there are no pairs.
+    pub fn distance(&self) -> Option<Fx>
+        ensures { result ≡ option_map (λ pair. pair.distance) self.now.nearest }
+    {
+        match self.nearest {
+            Some(pair) => Some(pair.distance),
+            None => None,
         }
     }
 }

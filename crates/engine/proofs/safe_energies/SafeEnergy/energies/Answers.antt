@@ -13,4 +13,4 @@ returns-clause-energies g c l lt =
     let v = slice_index_or c.values.new.values l (pos 0) in
     let served = c.requires.served l _ lt in
     let value = c.values.ensures.each l lt in
-    energy_is e.motion.now.system e.kernel.table ask v e.table (e.gives ask.a ask.b ask.r value.n v served.first served.second value.ends)
+    energy_is e.motion.now.system e.kernel.now.table ask v e.table (e.gives ask.a ask.b ask.r value.n v served.first served.second value.ends)

@@ -7,7 +7,7 @@ use Rattle.engine.proofs.safe_energies.SafeEnergy.of_found.Goals as goal
 pub energies-requires-clause-served : goal.energies-requires-clause-served
 energies-requires-clause-served g c =
     let e = c.args.self.now in
-    rw c.as_slice.ensures.value (λ k d lt. served_too e.motion.now.system e.kernel e.motion.now.accepted e.table e.core e.cutoff _ (c.ask_all.ensures.served k d lt))
+    rw c.as_slice.ensures.value (λ k d lt. served_too e.motion.now.system e.kernel.now e.motion.now.accepted e.table e.core e.cutoff _ (c.ask_all.ensures.served k d lt))
 
 pub returns-clause-value : goal.returns-clause-value
 returns-clause-value g c =
