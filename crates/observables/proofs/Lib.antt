@@ -1,0 +1,3 @@
+pub mod ObservableLaws
+pub mod RowLaws
+pub mod SumLaws

@@ -1,0 +1,95 @@
+-- Rows, column by column.
+use Rattle.std.proofs.Common.{◌≡◌, ℕ, ◌^◌, ◌<◌, ◌≤◌, List, [], ◌∷◌, ◌++◌, ℤ, pos, negsuc, unsigned_abs, decimal, Option, Some, None, refl, sym, ap, append_assoc, append-nil, ◌∙◌, arith}
+use Rattle.std.specs.Fmt.{signed_decimal}
+use Rattle.std.specs.Int.{cast_signed, cast_unsigned, w128}
+use Rattle.std.specs.List.{flat_map, join_with_byte}
+use Rattle.std.specs.Option.{option_map}
+use Rattle.std.proofs.lemmas.Int.{to_z-of_z, to_z_pos}
+use lib.Signed.{mag}
+use Rattle.line_text.specs.Columns.{decimals_text}
+use Rattle.line_text.specs.Parts.{ended}
+use Rattle.exact_decimals.specs.Ratios.{Ratio, decimal_of}
+use Rattle.observables.specs.Rows.{closed, ratio_text, row_of, text_or_dash}
+
+-- columns with a blank behind each, and a last one with a LF, are a row
+pub closed_row : (columns : List (List ℕ)) (last : List ℕ) → closed columns ++ (last ++ 10 ∷ []) ≡ row_of (columns ++ last ∷ [])
+closed_row [] last = refl
+closed_row (text ∷ []) last = simp (append_assoc, append-nil)
+closed_row (text ∷ (next ∷ columns)) last =
+    append_assoc (text ++ 32 ∷ []) (closed (next ∷ columns)) (last ++ 10 ∷ [])
+    ∙ append_assoc text (32 ∷ []) (closed (next ∷ columns) ++ (last ++ 10 ∷ []))
+    ∙ ap (λ (t : List ℕ). text ++ 32 ∷ t) (closed_row (next ∷ columns) last)
+    ∙ sym (append_assoc text (32 ∷ join_with_byte 32 (next ∷ columns ++ last ∷ [])) (10 ∷ []))
+
+pub regroup_two : (r a b : List ℕ) → r ++ a ++ b ≡ r ++ (a ++ (b ++ []))
+regroup_two r a b = simp (append_assoc, append-nil)
+
+pub regroup_three : (r a b c : List ℕ) → r ++ a ++ b ++ c ≡ r ++ (a ++ (b ++ (c ++ [])))
+regroup_three r a b c = simp (append_assoc, append-nil)
+
+pub regroup_five : (r a b c d e : List ℕ) → r ++ a ++ b ++ c ++ d ++ e ≡ r ++ (a ++ (b ++ (c ++ (d ++ (e ++ [])))))
+regroup_five r a b c d e = simp (append_assoc, append-nil)
+
+pub regroup_six : (r a b c d e f : List ℕ) → r ++ a ++ b ++ c ++ d ++ e ++ f ≡ r ++ (a ++ (b ++ (c ++ (d ++ (e ++ (f ++ []))))))
+regroup_six r a b c d e f = simp (append_assoc, append-nil)
+
+-- ---- columns that are appended
+
+-- three columns, five, six
+pub append_three : (r p q s a b c : List ℕ) → p ≡ r ++ a → q ≡ p ++ b → s ≡ q ++ c → s ≡ r ++ (a ++ (b ++ (c ++ [])))
+append_three r p q s a b c e f g = rw (g, f, e) (regroup_three r a b c)
+
+pub append_two : (r p q a b : List ℕ) → p ≡ r ++ a → q ≡ p ++ b → q ≡ r ++ (a ++ (b ++ []))
+append_two r p q a b e f = rw (f, e) (regroup_two r a b)
+
+pub append_five : (r p q s t u a b c d e : List ℕ) → p ≡ r ++ a → q ≡ p ++ b → s ≡ q ++ c → t ≡ s ++ d → u ≡ t ++ e → u ≡ r ++ (a ++ (b ++ (c ++ (d ++ (e ++ [])))))
+append_five r p q s t u a b c d e h i j k l = rw (l, k, j, i, h) (regroup_five r a b c d e)
+
+pub append_six : (r p q s t u v a b c d e f : List ℕ) → p ≡ r ++ a → q ≡ p ++ b → s ≡ q ++ c → t ≡ s ++ d → u ≡ t ++ e → v ≡ u ++ f
+    → v ≡ r ++ (a ++ (b ++ (c ++ (d ++ (e ++ (f ++ []))))))
+append_six r p q s t u v a b c d e f h i j k l m = rw (m, l, k, j, i, h) (regroup_six r a b c d e f)
+
+-- a number that fits its 128 bits is held as it is
+pub held : (z : ℤ) → mag z < 2 ^ 127 → cast_signed w128 (cast_unsigned w128 z) ≡ z
+held z h = to_z-of_z w128 z (record { sfits = h })
+
+pub whole_put : (old new : List ℕ) (z v : ℤ) → mag z < 2 ^ 127 → z ≡ v → new ≡ old ++ (signed_decimal (cast_signed w128 (cast_unsigned w128 z)) ++ 32 ∷ []) → new ≡ old ++ (signed_decimal v ++ 32 ∷ [])
+whole_put old new z v h e n = n ∙ ap (λ (y : ℤ). old ++ (signed_decimal y ++ 32 ∷ [])) (held z h ∙ e)
+
+pub natural_put : (old new : List ℕ) (n : ℕ) → n < 2 ^ 127 → new ≡ old ++ (signed_decimal (cast_signed w128 n) ++ 32 ∷ []) → new ≡ old ++ (decimal n ++ 32 ∷ [])
+natural_put old new n h e = e ∙ ap (λ (y : ℤ). old ++ (signed_decimal y ++ 32 ∷ [])) (to_z_pos w128 n h)
+
+pub decimal_put : (places : ℕ) (old new : List ℕ) (z v : ℤ) → mag z < 2 ^ 127 → z ≡ v → new ≡ old ++ (decimals_text places (cast_signed w128 (cast_unsigned w128 z)) ++ 32 ∷ []) → new ≡ old ++ (decimals_text places v ++ 32 ∷ [])
+decimal_put places old new z v h e n = n ∙ ap (λ (y : ℤ). old ++ (decimals_text places y ++ 32 ∷ [])) (held z h ∙ e)
+
+-- a number within bounds fits
+pub mag_within : (z : ℤ) (limit : ℕ) → unsigned_abs z ≤ limit → limit < 2 ^ 127 → mag z < 2 ^ 127
+mag_within (pos n) limit h l = omega arith
+mag_within (negsuc n) limit h l = omega arith
+
+-- the decimal nearest to a fraction, where there is one
+pub dash_of_decimal : (places : ℕ) (x : Option Ratio) → text_or_dash (decimals_text places) (option_map (decimal_of places) x) ≡ text_or_dash (ratio_text places) x
+dash_of_decimal places None = refl
+dash_of_decimal places (Some x) = refl
+
+pub dash_put : (text : ℤ → List ℕ) (end : ℕ) (old new : List ℕ) (x y : Option ℤ) → x ≡ y → new ≡ old ++ (text_or_dash text x ++ end ∷ []) → new ≡ old ++ (text_or_dash text y ++ end ∷ [])
+dash_put text end old new x y e n = n ∙ ap (λ (o : Option ℤ). old ++ (text_or_dash text o ++ end ∷ [])) e
+
+pub dash_decimal_put : (places end : ℕ) (old new : List ℕ) (x : Option ℤ) (y : Option Ratio) → x ≡ option_map (decimal_of places) y → new ≡ old ++ (text_or_dash (decimals_text places) x ++ end ∷ [])
+    → new ≡ old ++ (text_or_dash (ratio_text places) y ++ end ∷ [])
+dash_decimal_put places end old new x y e n =
+    n ∙ ap (λ (o : Option ℤ). old ++ (text_or_dash (decimals_text places) o ++ end ∷ [])) e ∙ ap (λ (t : List ℕ). old ++ (t ++ end ∷ [])) (dash_of_decimal places y)
+
+-- ---- whole rows
+
+pub closed_append : (xs ys : List (List ℕ)) → closed (xs ++ ys) ≡ closed xs ++ closed ys
+closed_append [] ys = refl
+closed_append (x ∷ xs) ys = ap (λ (t : List ℕ). (x ++ 32 ∷ []) ++ t) (closed_append xs ys) ∙ sym (append_assoc (x ++ 32 ∷ []) (closed xs) (closed ys))
+
+-- a row from two groups of columns and a last one, and from three
+pub row_of_two : (r p q t : List ℕ) (a b : List (List ℕ)) (last : List ℕ) → r ≡ [] → p ≡ r ++ closed a → q ≡ p ++ closed b → t ≡ q ++ (last ++ 10 ∷ []) → t ≡ row_of (a ++ b ++ last ∷ [])
+row_of_two r p q t a b last e f g h = rw (h, g, f, e, ← closed_append a b) (closed_row (a ++ b) last)
+
+pub row_of_three : (r p q s t : List ℕ) (a b c : List (List ℕ)) (last : List ℕ) → r ≡ [] → p ≡ r ++ closed a → q ≡ p ++ closed b → s ≡ q ++ closed c → t ≡ s ++ (last ++ 10 ∷ [])
+    → t ≡ row_of (a ++ b ++ c ++ last ∷ [])
+row_of_three r p q s t a b c last e f g h i = rw (i, h, g, f, e, ← closed_append a b, ← closed_append (a ++ b) c) (closed_row (a ++ b ++ c) last)

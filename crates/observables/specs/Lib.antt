@@ -1,0 +1,4 @@
+pub mod Bounds
+pub mod Sums
+pub mod Observables
+pub mod Rows

@@ -1,0 +1,133 @@
+//! Sums over the atoms of frames.
+
+ghost use Rattle.std.specs.Prelude.{◌≡◌, ◌*◌, ◌^◌, ◌<◌, ◌≤◌, ◌+◌, pos, ◌*ℤ◌, unsigned_abs, length};
+ghost use Rattle.std.specs.List.{All};
+ghost use Rattle.ring_box.specs.Distances.{square};
+ghost use Rattle.ring_box.specs.Places.{difference};
+ghost use Rattle.observables.specs.Bounds.{AreBelow, AreWithin};
+ghost use Rattle.observables.specs.Sums.{along, moments_along, moments_between, squares_about, squares_along};
+
+use crate::axes::{Axes, Axis};
+use ring_box::{Place3, diff};
+
+fn along(axis: Axis, place: Place3) -> u32
+    ensures { result ≡ along axis place }
+{
+    match axis {
+        Axis::X => place.x,
+        Axis::Y => place.y,
+        Axis::Z => place.z,
+    }
+}
+
+// A mass times the square of a displacement.
+fn weighed_square(mass: u32, from: u32, to: u32) -> u128
+    requires { mass ≤ 100000000 }
+    ensures value { result ≡ mass * square (difference to from) }
+    ensures bound { result ≤ 2 ^ 89 }
+{
+    let places = u128::from(diff(to, from).unsigned_abs());
+    u128::from(mass) * (places * places)
+}
+
+// A mass times a displacement.
+fn weighed(mass: u32, from: u32, to: u32) -> i128
+    requires { mass ≤ 100000000 }
+    ensures value { result ≡ pos mass *ℤ difference to from }
+    ensures bound { unsigned_abs result ≤ 2 ^ 58 }
+{
+    i128::from(mass) * i128::from(diff(to, from))
+}
+
+fn squares_along(axis: Axis, masses: &[u32], from: &[Place3], to: &[Place3]) -> u128
+    requires from { length from.now ≡ length masses.now }
+    requires to { length to.now ≡ length masses.now }
+    requires few { length masses.now ≤ 65536 }
+    requires light { All (λ m. m ≤ 100000000) masses.now }
+    ensures value { result ≡ squares_along axis masses.now from.now to.now }
+    ensures bound { result ≤ 2 ^ 105 }
+{
+    let mut sum = 0;
+    for i in 0..masses.len() {
+        sum += weighed_square(masses[i], along(axis, from[i]), along(axis, to[i]));
+    }
+    sum
+}
+
+fn moments_along(axis: Axis, masses: &[u32], from: &[Place3], to: &[Place3]) -> i128
+    requires from { length from.now ≡ length masses.now }
+    requires to { length to.now ≡ length masses.now }
+    requires few { length masses.now ≤ 65536 }
+    requires light { All (λ m. m ≤ 100000000) masses.now }
+    ensures value { result ≡ moments_along axis masses.now from.now to.now }
+    ensures bound { unsigned_abs result ≤ 2 ^ 74 }
+{
+    let mut sum = 0;
+    for i in 0..masses.len() {
+        sum += weighed(masses[i], along(axis, from[i]), along(axis, to[i]));
+    }
+    sum
+}
+
+// Along an axis, from the frame before to this one, and from this one to the next.
+fn squares_about(
+    axis: Axis,
+    masses: &[u32],
+    previous: &[Place3],
+    current: &[Place3],
+    next: &[Place3],
+) -> u128
+    requires previous { length previous.now ≡ length masses.now }
+    requires current { length current.now ≡ length masses.now }
+    requires next { length next.now ≡ length masses.now }
+    requires few { length masses.now ≤ 65536 }
+    requires light { All (λ m. m ≤ 100000000) masses.now }
+    ensures value { result ≡ squares_along axis masses.now previous.now current.now + squares_along axis masses.now current.now next.now }
+    ensures bound { result ≤ 2 ^ 106 }
+{
+    squares_along(axis, masses, previous, current) + squares_along(axis, masses, current, next)
+}
+
+/// Along each axis the sum over the atoms of mass times the square of the places from the frame before to this one, and
+/// of those from this one to the next, the shorter way round the ring.
+///
+/// The caller sees that the frames are of the same atoms, at most 65,536, of at most 100,000,000 times 10^-5 u each.
+pub fn squares(
+    masses: &[u32],
+    previous: &[Place3],
+    current: &[Place3],
+    next: &[Place3],
+) -> Axes<u128>
+    requires previous { length previous.now ≡ length masses.now }
+    requires current { length current.now ≡ length masses.now }
+    requires next { length next.now ≡ length masses.now }
+    requires few { length masses.now ≤ 65536 }
+    requires light { All (λ m. m ≤ 100000000) masses.now }
+    ensures value { result ≡ squares_about masses.now previous.now current.now next.now }
+    ensures bound { AreBelow (2 ^ 107) result }
+{
+    Axes {
+        x: squares_about(Axis::X, masses, previous, current, next),
+        y: squares_about(Axis::Y, masses, previous, current, next),
+        z: squares_about(Axis::Z, masses, previous, current, next),
+    }
+}
+
+/// Along each axis the sum over the atoms of mass times the places from the frame before to this one, the shorter way
+/// round the ring.
+///
+/// The caller sees that both frames are of the same atoms, at most 65,536, of at most 100,000,000 times 10^-5 u each.
+pub fn momentum(masses: &[u32], previous: &[Place3], current: &[Place3]) -> Axes<i128>
+    requires previous { length previous.now ≡ length masses.now }
+    requires current { length current.now ≡ length masses.now }
+    requires few { length masses.now ≤ 65536 }
+    requires light { All (λ m. m ≤ 100000000) masses.now }
+    ensures value { result ≡ moments_between masses.now previous.now current.now }
+    ensures bound { AreWithin (2 ^ 74) result }
+{
+    Axes {
+        x: moments_along(Axis::X, masses, previous, current),
+        y: moments_along(Axis::Y, masses, previous, current),
+        z: moments_along(Axis::Z, masses, previous, current),
+    }
+}

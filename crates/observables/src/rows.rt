@@ -1,0 +1,188 @@
+//! Rows of a table.
+
+ghost use Rattle.std.specs.Prelude.{◌≡◌, ◌+◌, ◌<◌, ◌≤◌, ◌++◌, ◌∷◌, [], length};
+ghost use Rattle.std.specs.Fmt.{signed_decimal};
+ghost use Rattle.arrayvec.specs.ArrayVec.{array_vec_len};
+ghost use Rattle.line_text.specs.Columns.{decimals_text};
+ghost use Rattle.observables.specs.Rows.{head_text, text_or_dash, exact_head_text};
+
+use crate::columns::momentum_on;
+use crate::observations::Observation;
+use crate::scales::Scales;
+use arrayvec::ArrayVec;
+use exact_decimals::{put_decimals, put_integer};
+use line_text::Line;
+
+/// A row of a table, on the stack.
+pub type Row = ArrayVec<u8, 640>;
+
+/// Appends a column, and what ends it: a blank, or the row's LF.
+fn put(row: &mut Row, text: &[u8], end: u8)
+    requires { array_vec_len row.old + length text.now < 640 }
+    ensures items { row.new.items ≡ row.old.items ++ (text.now ++ end ∷ []) }
+    ensures len { array_vec_len row.new ≡ array_vec_len row.old + length text.now + 1 }
+{
+    let _ = row.try_extend_from_slice(text);
+    row.push(end);
+}
+
+fn put_decimal(row: &mut Row, places: usize, number: i128, end: u8)
+    requires room { array_vec_len row.old + 49 ≤ 640 }
+    requires some { 0 < places }
+    requires few { places ≤ 6 }
+    ensures items { row.new.items ≡ row.old.items ++ (decimals_text places number ++ end ∷ []) }
+    ensures len { array_vec_len row.new ≤ array_vec_len row.old + 49 }
+{
+    let mut line = Line::new();
+    put_decimals(&mut line, places, number);
+    put(row, line.as_slice(), end);
+}
+
+fn put_decimal_or_dash(row: &mut Row, places: usize, number: Option<i128>, end: u8)
+    requires room { array_vec_len row.old + 49 ≤ 640 }
+    requires some { 0 < places }
+    requires few { places ≤ 6 }
+    ensures items { row.new.items ≡ row.old.items ++ (text_or_dash (decimals_text places) number ++ end ∷ []) }
+    ensures len { array_vec_len row.new ≤ array_vec_len row.old + 49 }
+{
+    match number {
+        Some(number) => put_decimal(row, places, number, end),
+        None => put(row, b"-", end),
+    }
+}
+
+fn put_whole(row: &mut Row, number: i128, end: u8)
+    requires { array_vec_len row.old + 49 ≤ 640 }
+    ensures items { row.new.items ≡ row.old.items ++ (signed_decimal number ++ end ∷ []) }
+    ensures len { array_vec_len row.new ≤ array_vec_len row.old + 49 }
+{
+    let mut line = Line::new();
+    put_integer(&mut line, number);
+    put(row, line.as_slice(), end);
+}
+
+fn put_whole_or_dash(row: &mut Row, number: Option<i128>, end: u8)
+    requires { array_vec_len row.old + 49 ≤ 640 }
+    ensures items { row.new.items ≡ row.old.items ++ (text_or_dash signed_decimal number ++ end ∷ []) }
+    ensures len { array_vec_len row.new ≤ array_vec_len row.old + 49 }
+{
+    match number {
+        Some(number) => put_whole(row, number, end),
+        None => put(row, b"-", end),
+    }
+}
+
+/// The line before the rows of decimals, which names the columns and their units.
+pub fn head() -> &'static [u8]
+    ensures { result.now ≡ head_text }
+{
+    b"# step time/ps potential/(kJ/mol) kinetic/(kJ/mol) total/(kJ/mol) temperature/K pressure/bar momentum-x/(u.nm/ps) momentum-y momentum-z nearest/nm
+"
+}
+
+/// The line before the rows of whole numbers, which names the columns and their units.
+pub fn exact_head() -> &'static [u8]
+    ensures { result.now ≡ exact_head_text }
+{
+    b"# step time/fs potential/(2^-bits.kJ/mol) squares-x/(1e-5.u.place^2) squares-y squares-z virial-x/(2^-bits.kJ/mol/nm.place) virial-y virial-z momentum-x/(1e-5.u.place) momentum-y momentum-z nearest/(2^-bits.nm)
+"
+}
+
+impl Observation {
+    ghost use Rattle.std.specs.Prelude.{◌≡◌, ◌+◌, ◌≤◌, ◌++◌};
+    ghost use Rattle.arrayvec.specs.ArrayVec.{array_vec_len};
+    ghost use Rattle.observables.specs.Rows.{closed, energy_columns, heat_columns, momentum_columns, row_text, exact_energy_columns, exact_sum_columns, exact_row_text};
+
+    // Step, time and energies.
+    fn put_energies(&self, scales: &Scales, row: &mut Row)
+        requires { array_vec_len row.old ≤ 10 }
+        ensures items { row.new.items ≡ row.old.items ++ closed (energy_columns scales.now self.now) }
+        ensures len { array_vec_len row.new ≤ array_vec_len row.old + 245 }
+    {
+        put_whole(row, i128::from(self.step), b' ');
+        put_decimal(row, 3, self.time(scales), b' ');
+        put_decimal(row, 6, self.potential_energy(scales), b' ');
+        put_decimal(row, 6, self.kinetic_energy(scales), b' ');
+        put_decimal(row, 6, self.total_energy(scales), b' ');
+    }
+
+    // Temperature and pressure.
+    fn put_heat(&self, scales: &Scales, row: &mut Row)
+        requires { array_vec_len row.old ≤ 300 }
+        ensures items { row.new.items ≡ row.old.items ++ closed (heat_columns scales.now self.now) }
+        ensures len { array_vec_len row.new ≤ array_vec_len row.old + 98 }
+    {
+        put_decimal_or_dash(row, 3, self.temperature(scales), b' ');
+        put_decimal(row, 3, self.pressure(scales), b' ');
+    }
+
+    // The momentum along each axis.
+    fn put_momentum(&self, scales: &Scales, row: &mut Row)
+        requires { array_vec_len row.old ≤ 400 }
+        ensures items { row.new.items ≡ row.old.items ++ closed (momentum_columns scales.now self.now) }
+        ensures len { array_vec_len row.new ≤ array_vec_len row.old + 147 }
+    {
+        let momentum = self.momentum;
+        put_decimal(row, 6, momentum_on(scales.ring.x, momentum.x, scales), b' ');
+        put_decimal(row, 6, momentum_on(scales.ring.y, momentum.y, scales), b' ');
+        put_decimal(row, 6, momentum_on(scales.ring.z, momentum.z, scales), b' ');
+    }
+
+    /// The row of an observation: step, time in ps, potential, kinetic and total energy in kJ/mol, temperature in K,
+    /// pressure in bar, momentum along each axis in u nm/ps, and the least distance of two atoms that act in nm, each
+    /// the decimal nearest to its exact value, with a blank between them and a LF behind. `-` stands for a temperature
+    /// of less than two atoms, and for a distance where none act.
+    pub fn row(&self, scales: &Scales) -> Row
+        ensures { result.items ≡ row_text scales.now self.now }
+    {
+        let mut row = Row::new();
+        self.put_energies(scales, &mut row);
+        self.put_heat(scales, &mut row);
+        self.put_momentum(scales, &mut row);
+        put_decimal_or_dash(&mut row, 6, self.nearest_distance(scales), b'\n');
+        row
+    }
+
+    // Step, time in fs, potential energy and squares.
+    fn put_exact_energies(&self, scales: &Scales, row: &mut Row)
+        requires { array_vec_len row.old ≤ 10 }
+        ensures items { row.new.items ≡ row.old.items ++ closed (exact_energy_columns scales.now self.now) }
+        ensures len { array_vec_len row.new ≤ array_vec_len row.old + 294 }
+    {
+        let squares = self.squares;
+        put_whole(row, i128::from(self.step), b' ');
+        put_whole(row, self.time(scales), b' ');
+        put_whole(row, self.potential, b' ');
+        put_whole(row, squares.x as i128, b' ');
+        put_whole(row, squares.y as i128, b' ');
+        put_whole(row, squares.z as i128, b' ');
+    }
+
+    // Virial and momentum along each axis.
+    fn put_exact_sums(&self, row: &mut Row)
+        requires { array_vec_len row.old ≤ 304 }
+        ensures items { row.new.items ≡ row.old.items ++ closed (exact_sum_columns self.now) }
+        ensures len { array_vec_len row.new ≤ array_vec_len row.old + 294 }
+    {
+        let virial = self.virial;
+        let momentum = self.momentum;
+        put_whole(row, virial.x, b' ');
+        put_whole(row, virial.y, b' ');
+        put_whole(row, virial.z, b' ');
+        put_whole(row, momentum.x, b' ');
+        put_whole(row, momentum.y, b' ');
+        put_whole(row, momentum.z, b' ');
+    }
+
+    /// The whole numbers of an observation: step, time in fs, potential energy, squares, virial and momentum along each
+    /// axis, and the least distance of two atoms that act, `-` where none act; with a blank between them and a LF behind.
+    pub fn exact_row(&self, scales: &Scales) -> Row
+        ensures { result.items ≡ exact_row_text scales.now self.now }
+    {
+        let mut row = Row::new();
+        self.put_exact_energies(scales, &mut row);
+        self.put_exact_sums(&mut row);
+        put_whole_or_dash(&mut row, self.nearest_raw(), b'\n');
+        row
+    }
+}
