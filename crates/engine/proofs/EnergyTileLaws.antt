@@ -1,9 +1,11 @@
 -- The energy of a frame over its tiles is that over all pairs.
-use Rattle.std.proofs.Common.{◌≡◌, ℕ, suc, ◌*◌, ◌^◌, ◌<◌, ◌≤◌, Bool, false, List, [], ◌∷◌, length, map, take, sum_by, ℤ, pos, ◌+ℤ◌, Option, Some, None, arith, refl, ap, ap₂, sym, ◌∙◌}
+use Rattle.std.proofs.Common.{◌≡◌, ℕ, suc, ◌+◌, ◌*◌, ◌^◌, ◌<◌, ◌≤◌, Bool, false, List, [], ◌∷◌, length, map, take, sum_by, ℤ, pos, ◌+ℤ◌, Option, Some, None, arith, refl, ap, ap₂, sym, ◌∙◌}
 use Rattle.std.specs.Prelude.{◌≤ℤ◌, ◌<ℤ◌, if◌then◌else◌, option_map, slice_index, unsigned_abs, unwrap_or}
 use Rattle.std.specs.List.{All}
 use Rattle.std.proofs.lemmas.Int.{ints}
 use Rattle.std.proofs.lemmas.List.Sums.{sum_by-cons}
+use Rattle.std.proofs.lemmas.Option.{same_Some}
+use Rattle.std.proofs.Math.Nat.{mul-le-mul_left}
 use Rattle.fixed.specs.Fractions.{bits_of}
 use Rattle.energy_program.specs.Programs.{program_tree}
 use Rattle.energy_program.specs.Value.{value_of}
@@ -26,11 +28,11 @@ use Rattle.integrator.proofs.ForceLaws.{ArePairsOf, frame_pairs, pairs_parts}
 use Rattle.integrator.specs.Forces.{pairs_of}
 use Rattle.integrator.specs.Frames.{Frame}
 use Rattle.integrator.specs.declared.systems.System.{System}
-use Rattle.pair_sums.proofs.SumLaws.{over_append, over_tiles}
+use Rattle.pair_sums.proofs.SumLaws.{over_append, over_tiles, over_within}
 use Rattle.potential.proofs.PotentialLaws.{HasNumber, small_parts}
 use Rattle.potential.specs.EnergyKernels.{HasEnergies}
 use Rattle.engine.proofs.SafeLaws.{in_range}
-use Rattle.engine.proofs.TileLaws.{are_pairs, far_apart, few_pairs}
+use Rattle.engine.proofs.TileLaws.{are_pairs, far_apart, few_pairs, twice_pairs}
 use Rattle.pair_sums.specs.Sums.{sum_over}
 use Rattle.engine.specs.PairEnergies.{energy_at, energy_sum, pair_energy, plus_energy}
 use Rattle.engine.specs.Rounds.{grid_of}
@@ -135,6 +137,21 @@ module _ {A : Type 0} (s : System (SlopeKernel A) A) where
         let first : unsigned_abs (energy_between s frame p) ≤ 2 ^ 64 = magnitude (between_atoms frame p) e.v (2 ^ 64) e.has e.small in
         let rest : sum_by (λ q. unsigned_abs (energy_between s frame q)) ps ≤ length ps * 2 ^ 64 = all_small n ps h q.1 in
         omega (arith, sum_by-cons (λ q. unsigned_abs (energy_between s frame q)) p ps)
+
+    -- the energy of all pairs is small
+    pub energy_small : (z : ℤ) → length frame ≡ length s.types.items → energy_sum (between_atoms frame) (pairs_of (length frame)) ≡ Some z → unsigned_abs z < 2 ^ 95
+    energy_small z atoms is =
+        let n = length frame in
+        let pairs = frame_pairs n 0 n (omega arith) in
+        let sum : ℤ = sum_over (energy_between s frame) (pairs_of n) in
+        let same : z ≡ sum = same_Some z sum (sym is ∙ all_told n (pairs_of n) (omega arith) pairs) in
+        let within : unsigned_abs sum ≤ sum_by (λ p. unsigned_abs (energy_between s frame p)) (pairs_of n) = over_within (energy_between s frame) (pairs_of n) in
+        let small : sum_by (λ p. unsigned_abs (energy_between s frame p)) (pairs_of n) ≤ length (pairs_of n) * 2 ^ 64 = all_small n (pairs_of n) (omega arith) pairs in
+        let size : length s.types.items ≡ length s.masses.items = s.atoms in
+        let most : length s.masses.items ≤ 65536 = s.most_atoms in
+        let most_squares : n * n ≤ n * 65536 = mul-le-mul_left n (omega arith) in
+        let count : 2 * length (pairs_of n) + n ≡ n * n = twice_pairs 0 n in
+        rw same (omega (arith, within, small, most_squares, count))
 
     -- ---- by tiles
 

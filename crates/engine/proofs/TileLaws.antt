@@ -271,6 +271,14 @@ few_pairs i (suc m) h =
     let rest : length (pairs_from (suc i) m) ≤ m * 65535 = few_pairs (suc i) m (omega arith) in
     omega (arith, length-append (pairs_with i (suc i) m) (pairs_from (suc i) m), length_row i (suc i) m)
 
+-- exactly
+pub twice_pairs : (i m : ℕ) → 2 * length (pairs_from i m) + m ≡ m * m
+unfolding pairs_from
+twice_pairs i zero = refl
+twice_pairs i (suc m) =
+    let rest : 2 * length (pairs_from (suc i) m) + m ≡ m * m = twice_pairs (suc i) m in
+    omega (arith, rest, length-append (pairs_with i (suc i) m) (pairs_from (suc i) m), length_row i (suc i) m)
+
 -- ---- atoms that are not close add nothing
 
 far_is_apart : (near close : Bool) → (near ≡ true → close ≡ true) → close ≡ false → near ≡ false

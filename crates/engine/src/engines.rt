@@ -1,6 +1,6 @@
 //! Engines: a job and a state, with a slope that the verifier accepts.
 
-ghost use Rattle.std.specs.Prelude.{◌≡◌, ◌<◌, ◌-◌, ◌*◌, ◌^◌, nat_lt, length, map, Ok, Some, true, IfOk, IfErr};
+ghost use Rattle.std.specs.Prelude.{◌≡◌, ◌<◌, ◌≤◌, ◌-◌, ◌*◌, ◌^◌, nat_lt, length, map, unsigned_abs, Ok, Some, true, IfOk, IfErr};
 ghost use Rattle.std.specs.List.{All};
 ghost use Rattle.energy_program.specs.Programs.{program_tree, trees_of};
 ghost use Rattle.fallible.specs.Failures.{IfRefused};
@@ -8,7 +8,7 @@ ghost use Rattle.job.specs.Views.{job_value, type_value};
 ghost use Rattle.potential.specs.Energies.{job_program, job_tree};
 ghost use Rattle.ring_box.specs.Cells.{has_room};
 ghost use Rattle.state.specs.StateViews.{state_view};
-ghost use Rattle.engine.specs.Engines.{AreReached, HasNoEngine, IsEngineOf, SaysOnly, Stopped, Went};
+ghost use Rattle.engine.specs.Engines.{AreReached, engine_dynamics, HasNoEngine, IsEngineOf, SaysOnly, Stopped, Went};
 ghost use Rattle.engine.specs.EngineViews.{IsEngine, engine_view};
 ghost use Rattle.engine.specs.EngineForces.{AreForcesOfEngine};
 ghost use Rattle.engine.specs.Observers.{AreSumsOfEngine, IsNextFrameOfEngine, IsObserverOf};
@@ -26,6 +26,7 @@ use crate::pools::{Crew, NoGate, Pool};
 use crate::rows::Scratch;
 use crate::safe_systems::SafeSystem;
 use fallible::Failure;
+use fixed::Frac;
 use integrator::{
     Direction, StepFault, Stepped, System, TypedAtoms, Workers, advance, counter_after,
     current_frame, previous_frame, typed_atoms,
@@ -177,6 +178,23 @@ impl<A: Allocator + Copy> Engine<A> {
         self.job.time_step
     }
 
+    /// The fraction bits of the engine's numbers.
+    pub fn frac(&self) -> Frac
+        ensures { result ≡ self.now.job.frac }
+    {
+        self.job.frac
+    }
+
+    /// The mass of each atom in 10^-5 u, in the order of the state's atoms.
+    pub fn masses(&self) -> &[u32]
+        ensures value { result.now ≡ (engine_dynamics self.now).masses }
+        ensures atoms { length result.now ≡ length self.now.state.atoms }
+        ensures few { length result.now ≤ 65536 }
+        ensures light { All (λ m. m ≤ 100000000) result.now }
+    {
+        &self.motion.system.masses
+    }
+
     /// The current frame.
     fn frame(&self) -> Result<Vec<Place3, A>, AllocError>
         ensures { IfOk result (λ frame. frame.items ≡ current_frame self.now.state.atoms) }
@@ -207,6 +225,7 @@ impl<A: Allocator + Copy> Engine<A> {
         requires observer { IsObserverOf self.now observer.old }
         requires frame { frame.now ≡ current_frame self.now.state.atoms }
         ensures energy { IfOk result (IsEnergyOfEngine self.now) }
+        ensures small { IfOk result (λ energy. unsigned_abs energy < 2 ^ 95) }
         ensures observer { IsObserverOf self.now observer.new }
     {
         let Observer { kernel, desk } = observer;

@@ -31,9 +31,10 @@ pub(crate) struct Desk<A: Allocator + Copy, S: Drop> {
 }
 
 impl<A: Allocator + Copy> SafeSystem<A> {
-    ghost use Rattle.std.specs.Prelude.{◌≡◌, length, IfOk, IfSome, OnOk};
+    ghost use Rattle.std.specs.Prelude.{◌≡◌, ◌-◌, ◌^◌, length, IfOk, IfSome, OnOk};
     ghost use Rattle.std.specs.List.{All};
     ghost use Rattle.cell_tiles.specs.Cells.{AreBeside, members_of};
+    ghost use Rattle.pair_sums.specs.PairSums.{IsOfPairs};
     ghost use Rattle.ring_box.specs.Places.{ArePlaces};
     ghost use Rattle.engine.specs.FrameSums.{ArePairSums};
     ghost use Rattle.engine.specs.Rounds.{AreForces, grid_of};
@@ -134,6 +135,7 @@ impl<A: Allocator + Copy> SafeSystem<A> {
         requires atoms { length frame.now ≡ length self.now.system.masses.items }
         requires tiling { IsTilingOf self.now.system desk.old.tiling }
         ensures sums { IfOk result (ArePairSums (safe_dynamics self.now.system) frame.now) }
+        ensures small { IfOk result (λ sums. IsOfPairs (2 ^ 32 - 1) sums.virial) }
         ensures tiling { IsTilingOf self.now.system desk.new.tiling }
     {
         self.fill(&mut desk.tiling, frame)?;

@@ -1,5 +1,8 @@
 //! Observers: what is kept from one look at an engine to the next, so that a look costs no verdict.
 
+ghost use Rattle.std.specs.Prelude.{◌<◌, ◌-◌, ◌^◌, unsigned_abs};
+ghost use Rattle.pair_sums.specs.PairSums.{IsOfPairs};
+
 use crate::frame_sums::Desk;
 use crate::rows::Scratch;
 use fixed::Fx;
@@ -17,6 +20,8 @@ pub struct FrameSums {
     pub virial: Virial,
     /// The distance in nm, rounded down, of the nearest two atoms that act; `None` where none act.
     pub nearest: Option<Fx>,
+    pub ghost small_energy: { unsigned_abs energy < 2 ^ 95 },
+    pub ghost small_virial: { IsOfPairs (2 ^ 32 - 1) virial },
 }
 
 /// Accepted code of the energy of an engine's job, and work space for sums over the pairs of a frame in the engine's

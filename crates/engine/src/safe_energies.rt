@@ -170,7 +170,7 @@ impl<'a, A: Allocator + Copy> SafeEnergy<'a, A> {
 }
 
 impl<A: Allocator + Copy> SafeSystem<A> {
-    ghost use Rattle.std.specs.Prelude.{◌≡◌, length, IfOk};
+    ghost use Rattle.std.specs.Prelude.{◌≡◌, ◌<◌, ◌^◌, length, unsigned_abs, IfOk};
     ghost use Rattle.energy_program.specs.Programs.{program_tree};
     ghost use Rattle.engine.specs.SafeEnergies.{IsEnergyOf};
     ghost use Rattle.engine.specs.Tilings.{IsTilingOf};
@@ -191,6 +191,7 @@ impl<A: Allocator + Copy> SafeSystem<A> {
         requires atoms { length frame.now ≡ length self.now.system.types.items }
         requires tiling { IsTilingOf self.now.system desk.old.tiling }
         ensures energy { IfOk result (IsEnergyOf self.now.system frame.now) }
+        ensures small { IfOk result (λ energy. unsigned_abs energy < 2 ^ 95) }
         ensures tiling { IsTilingOf self.now.system desk.new.tiling }
     {
         let energy = SafeEnergy {

@@ -1,6 +1,6 @@
 //! What the pairs of a frame come to, tile by tile.
 
-ghost use Rattle.std.specs.Prelude.{◌≡◌, ◌<◌, ◌^◌, length};
+ghost use Rattle.std.specs.Prelude.{◌≡◌, ◌<◌, ◌-◌, ◌^◌, length};
 ghost use Rattle.tile_round.specs.Tiles.{acting, pairs_at};
 ghost use Rattle.pair_sums.specs.PairSums.{IsOfPairs, all_acting, sums_over};
 
@@ -37,7 +37,8 @@ fn tile_sums<S, W: RowWork<S>>(
 pub fn sums_alone<S, W: RowWork<S>>(work: &W, frame: &BoxFrame<'_>, scratch: &mut S) -> PairSums
     requires atoms { W.atoms work.now ≡ length frame.now.places.now }
     requires few { length (all_acting (W.plan work.now)) < 2 ^ 32 }
-    ensures { result ≡ sums_over frame.now.frac frame.now.ring.now frame.now.places.now (all_acting (W.plan work.now)) }
+    ensures value { result ≡ sums_over frame.now.frac frame.now.ring.now frame.now.places.now (all_acting (W.plan work.now)) }
+    ensures small { IsOfPairs (2 ^ 32 - 1) result.virial }
 {
     let mut sums = PairSums::none();
     for tile in 0..work.tiles() {

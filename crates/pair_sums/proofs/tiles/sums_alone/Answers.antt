@@ -34,3 +34,8 @@ loop-tile-preserved g c =
       bound = subst (λ s. IsOfPairs (length (all_acting (take (t + 1) plan))) s.virial) (sym c.plus-sums.ensures)
           (of_both (length (all_acting (take t plan))) (length tile) (length (all_acting (take (t + 1) plan))) c.loop-tile.sums.virial c.tile_sums.result.virial count before.bound c.tile_sums.ensures.bound);
     }
+
+pub returns-clause-small : goal.returns-clause-small
+returns-clause-small g c =
+    let plan = g.W.Work.plan c.args.work.now in
+    of_more (length (all_acting (take c.loop-tile.tile plan))) 4294967295 c.loop-tile.sums.virial (omega (arith, few_in_tiles plan c.loop-tile.tile, c.requires.few)) c.loop-tile.invariant.bound

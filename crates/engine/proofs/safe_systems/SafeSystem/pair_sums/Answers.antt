@@ -16,4 +16,4 @@ returns-clause-sums g c =
     let work = c.work-work.result in
     let grid = rw c.requires.tiling.grid at c.args.desk.now.tiling.tiles.grid.in_range in
     work_told s work.motion.now.system c.args.frame.now work.frame.now (ap (λ m. m.system) c.work-work.ensures.motion) c.work-work.ensures.frame
-    c.args.self.now.accepted c.requires.tiling.neighbours grid c.in_ok-fill.ensures.places (c.requires.atoms ∙ sym s.atoms) c.sums_alone.result c.sums_alone.ensures
+    c.args.self.now.accepted c.requires.tiling.neighbours grid c.in_ok-fill.ensures.places (c.requires.atoms ∙ sym s.atoms) c.sums_alone.result c.sums_alone.ensures.value
