@@ -1,7 +1,8 @@
 # try: builds the program with nothing proved, at ./pairmd-unproved, and runs the stored example.
 # run: proves and builds the program, and runs the stored example. pairmd: leaves the proved program at ./pairmd.
 # test: the whole gate. install: puts the proved program and its man page below PREFIX.
-# guide: counts what the pages state, runs every command of README.md and docs/GUIDE.md, and compares.
+# guide: counts what the pages state, compares the refusals of docs/FORMATS.md with what `pairmd explain` prints, runs
+# every command of README.md and docs/GUIDE.md, and compares.
 # transcripts: plays the transcripts of crates/transcripts/data.
 # edits: tries the edits that the gate doesn't try, NAMES=.. of some crates.
 #
@@ -47,4 +48,5 @@ install: pairmd
 
 guide:
 	tools/counts.py
+	tools/explanations.py
 	tools/guide.py
