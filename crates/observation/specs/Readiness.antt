@@ -1,7 +1,9 @@
 -- What looks at an engine, and can do so wherever the engine's steps lead.
 use Rattle.std.proofs.Common.{ℕ, subst, sym, ◌∙◌}
 use Rattle.integrator.proofs.ReturnLaws.{system-placed}
+use Rattle.integrator.specs.States.{moved_state}
 use Rattle.integrator.specs.declared.direction.Direction.{Direction}
+use Rattle.engine.proofs.ObserverLaws.{observer_goes_on}
 use Rattle.engine.specs.Engines.{EngineView, Went}
 use Rattle.engine.specs.Observers.{IsObserverOf, ObserverView}
 use Rattle.observation.specs.Observations.{IsTyped}
@@ -14,9 +16,10 @@ pub record IsReadyFor (e : EngineView) (o : ObserverView) : Type 0 where
 -- it is one after more steps
 pub ready_on : (o : ObserverView) (direction : Direction) (steps : ℕ) (e f : EngineView) → Went direction steps e f → IsReadyFor e o → IsReadyFor f o
 ready_on o direction steps e f went ready =
-    let is = ready.observes in
-    subst (λ v. IsReadyFor v o) (sym went.moved)
-    (record {
-      observes = record { under = is.under; gives = is.gives; has = is.has; grid = is.grid; neighbours = is.neighbours };
-      typed = record { system = ready.typed.system; made = system-placed e.job e.state went.frames' went.counter ∙ ready.typed.made; types = ready.typed.types };
-    })
+    let there = record e { state = moved_state e.state went.frames' went.counter } in
+    let stays : IsTyped there = record {
+      system = ready.typed.system;
+      made = system-placed e.job e.state went.frames' went.counter ∙ ready.typed.made;
+      types = ready.typed.types;
+    } in
+    record { observes = observer_goes_on direction steps e f o went ready.observes; typed = subst IsTyped (sym went.moved) stays }
