@@ -1,6 +1,6 @@
 -- How great the fractions are that are observed, and that they have decimals.
-use Rattle.std.proofs.Common.{◌≡◌, ℕ, zero, suc, ◌+◌, ◌*◌, ◌^◌, ◌<◌, ◌≤◌, ℤ, pos, negsuc, ◌+ℤ◌, ◌*ℤ◌, unsigned_abs, refl, sym, ap, ◌∙◌, arith}
-use Rattle.std.proofs.lemmas.Int.{ints, unsigned_abs-mul}
+use Rattle.std.proofs.Common.{◌≡◌, ℕ, ◌+◌, ◌*◌, ◌^◌, ◌<◌, ◌≤◌, ℤ, pos, ◌+ℤ◌, ◌*ℤ◌, unsigned_abs, arith}
+use Rattle.std.proofs.lemmas.Int.{unsigned_abs-mul}
 use Rattle.std.proofs.lemmas.Nat.{mul-le, mul-lt}
 use Rattle.fixed.specs.Rounding.{nearest_of}
 use Rattle.exact_decimals.specs.Ratios.{Ratio, plus, times, over, decimal_of, IsWithin}
@@ -24,12 +24,12 @@ decimal_is places x n q d en ed e = rw (en, ed) at e
 pub kinetic_within : (s u : ℕ) → s < 2 ^ 157 → 2 ^ 95 ≤ u → IsWithin (2 ^ 62) (ratio (pos s) u)
 kinetic_within s u h l = record { within = omega arith }
 
-pub potential_within : (e : ℤ) (o : ℕ) → unsigned_abs e < 2 ^ 95 → 2 ^ 24 ≤ o → IsWithin (2 ^ 71) (ratio e o)
+pub potential_within : (e : ℤ) (o : ℕ) → unsigned_abs e < 2 ^ 100 → 2 ^ 24 ≤ o → IsWithin (2 ^ 76) (ratio e o)
 potential_within e o h l = record { within = omega arith }
 
-pub total_within : (e : ℤ) (s o u : ℕ) → unsigned_abs e < 2 ^ 95 → s < 2 ^ 157 → 2 ^ 24 ≤ o → 2 ^ 95 ≤ u → IsWithin (2 ^ 72) (plus (ratio e o) (ratio (pos s) u))
+pub total_within : (e : ℤ) (s o u : ℕ) → unsigned_abs e < 2 ^ 100 → s < 2 ^ 157 → 2 ^ 24 ≤ o → 2 ^ 95 ≤ u → IsWithin (2 ^ 77) (plus (ratio e o) (ratio (pos s) u))
 total_within e s o u he hs lo lu =
-    within_more (2 ^ 71 + 2 ^ 62) (2 ^ 72) (plus (ratio e o) (ratio (pos s) u)) (omega arith) (within_plus (2 ^ 71) (2 ^ 62) (ratio e o) (ratio (pos s) u) (potential_within e o he lo) (kinetic_within s u hs lu))
+    within_more (2 ^ 76 + 2 ^ 62) (2 ^ 77) (plus (ratio e o) (ratio (pos s) u)) (omega arith) (within_plus (2 ^ 76) (2 ^ 62) (ratio e o) (ratio (pos s) u) (potential_within e o he lo) (kinetic_within s u hs lu))
 
 pub temperature_within : (s u m : ℕ) → s < 2 ^ 157 → 2 ^ 95 ≤ u → 2 ^ 51 ≤ m → IsWithin (2 ^ 71) (over (times (ratio (pos s) u) (2 * 10 ^ 17)) m)
 temperature_within s u m h l k =

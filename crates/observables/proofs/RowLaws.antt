@@ -2,12 +2,11 @@
 use Rattle.std.proofs.Common.{◌≡◌, ℕ, ◌^◌, ◌<◌, ◌≤◌, List, [], ◌∷◌, ◌++◌, ℤ, pos, negsuc, unsigned_abs, decimal, Option, Some, None, refl, sym, ap, append_assoc, append-nil, ◌∙◌, arith}
 use Rattle.std.specs.Fmt.{signed_decimal}
 use Rattle.std.specs.Int.{cast_signed, cast_unsigned, w128}
-use Rattle.std.specs.List.{flat_map, join_with_byte}
+use Rattle.std.specs.List.{join_with_byte}
 use Rattle.std.specs.Option.{option_map}
 use Rattle.std.proofs.lemmas.Int.{to_z-of_z, to_z_pos}
 use lib.Signed.{mag}
 use Rattle.line_text.specs.Columns.{decimals_text}
-use Rattle.line_text.specs.Parts.{ended}
 use Rattle.exact_decimals.specs.Ratios.{Ratio, decimal_of}
 use Rattle.observables.specs.Rows.{closed, ratio_text, row_of, text_or_dash}
 

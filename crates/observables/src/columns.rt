@@ -113,8 +113,8 @@ impl Observation {
     // The potential and the kinetic energy, over both their units.
     fn total_lengths(&self, scales: &Scales) -> Whole
         ensures value { result ≡ (total_energy scales.now self.now).numerator }
-        ensures bound { unsigned_abs result < 2 ^ 213 }
-        ensures within { IsWithin (2 ^ 72) (total_energy scales.now self.now) }
+        ensures bound { unsigned_abs result < 2 ^ 218 }
+        ensures within { IsWithin (2 ^ 77) (total_energy scales.now self.now) }
         ensures kinetic { IsBetween (2 ^ 95) (2 ^ 117) (kinetic_unit scales.now.time_step) }
         ensures potential { IsBetween (2 ^ 24) (2 ^ 41) (2 ^ bits_of scales.now.frac) }
     {

@@ -23,7 +23,7 @@ pub struct Observation {
     pub momentum: Axes<i128>,
     /// The least distance in nm of two atoms that act; `None` where none act.
     pub nearest: Option<Fx>,
-    pub ghost small_potential: { unsigned_abs potential < 2 ^ 95 },
+    pub ghost small_potential: { unsigned_abs potential < 2 ^ 100 },
     pub ghost small_squares: { AreBelow (2 ^ 107) squares },
     pub ghost small_virial: { AreWithin (2 ^ 126) virial },
     pub ghost small_momentum: { AreWithin (2 ^ 74) momentum },

@@ -1,4 +1,4 @@
-use Rattle.std.proofs.Common.{◌≡◌, ◌*◌, ◌^◌, ◌<◌, ℤ, pos, ◌*ℤ◌, ap, ◌∙◌, lit<, arith}
+use Rattle.std.proofs.Common.{◌^◌, ℤ, pos, ◌*ℤ◌, ap, ◌∙◌, lit<, arith}
 use Rattle.observables.specs.Observables.{kinetic_energy, kinetic_unit, square_lengths}
 use Rattle.observables.proofs.ObservableLaws.{decimal_ready, kinetic_within}
 use Rattle.observables.proofs.observations.Observation.kinetic_energy.Goals as goal

@@ -1,4 +1,4 @@
-use Rattle.std.proofs.Common.{◌*◌, ◌^◌, ℤ, pos, ◌*ℤ◌, ap, ◌∙◌, lit<}
+use Rattle.std.proofs.Common.{◌^◌, ℤ, pos, ◌*ℤ◌, ap, ◌∙◌, lit<}
 use Rattle.exact_decimals.specs.Products.{product_of}
 use Rattle.exact_decimals.specs.Ratios.{plus, times}
 use Rattle.exact_decimals.proofs.RatioLaws.{HasDecimal}

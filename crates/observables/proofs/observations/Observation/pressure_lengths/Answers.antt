@@ -1,5 +1,4 @@
-use Rattle.std.proofs.Common.{◌≡◌, ◌+◌, ◌*◌, ◌^◌, ◌<◌, ◌≤◌, pos, unsigned_abs, arith}
-use Rattle.std.proofs.lemmas.Int.{unsigned_abs-mul}
+use Rattle.std.proofs.Common.{◌+◌, ◌*◌, ◌^◌, ◌<◌, unsigned_abs, arith}
 use Rattle.exact_decimals.specs.Products.{product_of}
 use Rattle.exact_decimals.proofs.RatioLaws.{abs_sum}
 use Rattle.observables.specs.Observables.{kinetic_unit, lengths, square_lengths, virial_unit, volume}

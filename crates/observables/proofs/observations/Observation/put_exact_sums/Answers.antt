@@ -1,4 +1,4 @@
-use Rattle.std.proofs.Common.{◌^◌, ◌<◌, lit<, refl}
+use Rattle.std.proofs.Common.{◌^◌, lit<, refl}
 use Rattle.observables.proofs.RowLaws.{append_six, mag_within, whole_put}
 use Rattle.observables.proofs.observations.Observation.put_exact_sums.Goals as goal
 

@@ -1,5 +1,4 @@
-use Rattle.std.proofs.Common.{◌≡◌, ◌+◌, ◌*◌, pos, refl, arith}
-use Rattle.std.proofs.lemmas.Int.{ints}
+use Rattle.std.proofs.Common.{◌≡◌, ◌+◌, ◌*◌, pos, refl}
 use Rattle.observables.proofs.ObservableLaws.{squares_within_volume}
 use Rattle.observables.proofs.observations.Observation.square_lengths.Goals as goal
 

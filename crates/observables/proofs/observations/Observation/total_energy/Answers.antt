@@ -1,4 +1,4 @@
-use Rattle.std.proofs.Common.{◌*◌, ◌^◌, ◌≤◌, ℤ, pos, ◌*ℤ◌, ap, ◌∙◌, lit<, arith}
+use Rattle.std.proofs.Common.{◌^◌, ℤ, pos, ◌*ℤ◌, ap, ◌∙◌, lit<}
 use Rattle.fixed.specs.Fractions.{bits_of}
 use Rattle.exact_decimals.specs.Products.{product_of}
 use Rattle.observables.specs.Observables.{kinetic_unit, total_energy}
@@ -12,7 +12,7 @@ ready c =
     let s = c.args.scales.now in
     let l = c.total_lengths.ensures in
     let d = total_denominator (2 ^ bits_of s.frac) (kinetic_unit s.time_step) l.potential.least l.potential.below l.kinetic.least l.kinetic.below in
-    decimal_ready 6 (2 ^ 72) (total_energy s c.args.self.now) c.times.result (product_of c.total_divisors.result)
+    decimal_ready 6 (2 ^ 77) (total_energy s c.args.self.now) c.times.result (product_of c.total_divisors.result)
     (c.times.ensures ∙ ap (λ (z : ℤ). z *ℤ pos 1000000) l.value) c.total_divisors.ensures.value d.0 d.1 (lit< tt) l.within
 
 pub nearest-requires-clause-positive : goal.nearest-requires-clause-positive

@@ -1,4 +1,4 @@
-use Rattle.std.proofs.Common.{◌≡◌, ◌+◌, ◌*◌, ◌^◌, ◌<◌, unsigned_abs, rules, arith}
+use Rattle.std.proofs.Common.{◌≡◌, ◌+◌, ◌^◌, ◌<◌, unsigned_abs, rules, arith}
 use Rattle.fixed.specs.Fractions.{bits_of}
 use Rattle.exact_decimals.specs.Products.{product_of}
 use Rattle.observables.specs.Observables.{kinetic_unit, square_lengths}
@@ -7,14 +7,14 @@ use Rattle.observables.proofs.ObservableLaws.{product_below, total_within}
 use Rattle.observables.proofs.observations.Observation.total_lengths.Goals as goal
 use Rattle.observables.proofs.observations.Observation.total_lengths.Goals.{After-times-kinetic}
 
-sizes : (c : After-times-kinetic) → unsigned_abs c.scaled-potential.result + unsigned_abs c.times-kinetic.result < 2 ^ 213
+sizes : (c : After-times-kinetic) → unsigned_abs c.scaled-potential.result + unsigned_abs c.times-kinetic.result < 2 ^ 218
 sizes c =
     let e : c.of.result ≡ c.args.self.now.potential = search rules in
-    let small : unsigned_abs c.of.result < 2 ^ 95 = rw e c.args.self.now.small_potential in
+    let small : unsigned_abs c.of.result < 2 ^ 100 = rw e c.args.self.now.small_potential in
     let unit = c.kinetic_divisors.ensures in
     omega (
       arith,
-      product_below c.scaled-potential.result c.of.result (product_of c.kinetic_divisors.result) (2 ^ 95) (2 ^ 117) c.scaled-potential.ensures small (rw unit.value unit.unit.below),
+      product_below c.scaled-potential.result c.of.result (product_of c.kinetic_divisors.result) (2 ^ 100) (2 ^ 117) c.scaled-potential.ensures small (rw unit.value unit.unit.below),
       product_below c.times-kinetic.result c.square_lengths.result c.one.result (2 ^ 157) (2 ^ 41) c.times-kinetic.ensures c.square_lengths.ensures.bound (omega (arith, c.one.ensures.most)),
     )
 
