@@ -1,5 +1,5 @@
 -- Fractions within bounds, and the decimals nearest to them.
-use Rattle.std.proofs.Common.{◌≡◌, ℕ, zero, suc, ◌+◌, ◌*◌, ◌^◌, ◌<◌, ◌≤◌, ℤ, pos, negsuc, ◌+ℤ◌, ◌*ℤ◌, ◌<ℤ◌, unsigned_abs, refl, sym, ap, ◌∙◌, arith}
+use Rattle.std.proofs.Common.{ℕ, suc, ◌+◌, ◌*◌, ◌^◌, ◌<◌, ◌≤◌, ℤ, pos, negsuc, ◌+ℤ◌, ◌*ℤ◌, unsigned_abs, refl, arith}
 use Rattle.std.specs.Prelude.{FitsSigned}
 use Rattle.std.specs.Int.{w128}
 use Rattle.std.proofs.lemmas.Bool.{cases_lt}
@@ -8,7 +8,7 @@ use Rattle.std.proofs.lemmas.Nat.{mul-le}
 use Rattle.std.proofs.Common.{inl, inr}
 use Rattle.fixed.specs.Rounding.{IsNearest, nearest_of}
 use Rattle.fixed.proofs.FloorLemmas.{nearest_is}
-use Rattle.exact_decimals.specs.Ratios.{Ratio, plus, times, over, decimal_of, IsWithin}
+use Rattle.exact_decimals.specs.Ratios.{Ratio, plus, times, over, IsWithin}
 
 nearest_at_most : (a q : ℤ) (b k : ℕ) → 0 < b → unsigned_abs a ≤ k * b → IsNearest a (pos b) q → unsigned_abs q ≤ k
 nearest_at_most a (pos n) b k p h i =

@@ -1,0 +1,2 @@
+pub mod ObservationLaws
+pub mod TableLaws

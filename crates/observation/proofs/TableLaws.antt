@@ -1,0 +1,73 @@
+-- Tables: rows that are shown of an engine, and why a table ends early.
+use Rattle.std.proofs.Common.{◌≡◌, ◌≢◌, ℕ, zero, suc, List, ◌++◌, refl, subst, sym}
+use Rattle.fallible.specs.Failures.{IfRefused}
+use Rattle.fallible.specs.Out.{Appends, AppendsBeginning, Output}
+use Rattle.fallible.specs.declared.failure.Failure.{Failure}
+use Rattle.fallible.specs.declared.failure.Failure.TheVariants.{Memory, Refused}
+use Rattle.integrator.specs.declared.direction.Direction.{Direction}
+use Rattle.potential.specs.declared.faults.EnergyFault.{EnergyFault}
+use Rattle.engine.specs.Engines.{EngineView, HasNoEngineOfTexts, IsEngineOfTexts}
+use Rattle.engine.specs.Observers.{IsObserverOf, ObserverView}
+use Rattle.engine.specs.PairEnergies.{HasNoEnergy}
+use Rattle.engine.specs.declared.faults.RunFault.{RunFault}
+use Rattle.engine.specs.declared.faults.RunFault.TheVariants as run
+use Rattle.observables.specs.declared.observations.Observation.{Observation}
+use Rattle.observables.specs.declared.scales.Scales.{Scales}
+use Rattle.trajectory.specs.Visits.{BeganText, IsWayUnshown, Showing, WroteText}
+use Rattle.trajectory.proofs.VisitLaws.{texts_unwritten}
+use Rattle.observation.specs.Observations.{AreScalesOf, IsObservationOf, IsTableText, IsTyped, ShowsTable, head_by, headed, row_by}
+use Rattle.observation.specs.Readiness.{IsReadyFor}
+use Rattle.observation.specs.Tables.{AreRowsUnwritten, IsTableUnshown, observe_fault_of}
+use Rattle.observation.specs.declared.columns.Columns.{Columns}
+use Rattle.observation.specs.declared.faults.ObserveFault.{ObserveFault}
+use Rattle.observation.specs.declared.faults.ObserveFault.TheVariants as observe
+
+-- ---- rows
+
+-- a row behind the first has no head line before it
+pub headed_later : (number : ℕ) (head row : List ℕ) → number ≢ 0 → headed number head row ≡ row
+headed_later zero head row later = absurd (later refl)
+headed_later (suc number) head row later = refl
+
+module _ (columns : Columns) (number : ℕ) (e : EngineView) (scales : Scales) (o : Observation) (typed : IsTyped e) (counts : AreScalesOf e scales) (observed : IsObservationOf e o) where
+  text : List ℕ
+  text = headed number (head_by columns) (row_by columns scales o)
+
+  -- it is what the table has of the state that the engine has come to
+  table_text : IsTableText columns e.job number e.state text
+  table_text = record { scales = scales; observation = o; are = record { types = e.types; typed = typed; counts = counts; observed = observed }; is = refl }
+
+  pub shown_row : (before after : Output) → Appends before after text → WroteText (ShowsTable columns e.job number e.state) before after
+  shown_row before after appends = record { text = text; shown = table_text; appends = appends }
+
+  pub began_row : (before after : Output) → AppendsBeginning before after text → BeganText (ShowsTable columns e.job number e.state) before after
+  began_row before after beginning = record { text = text; shown = table_text; beginning = beginning }
+
+-- ---- engines of texts
+
+-- the atoms of one have the types of its job
+pub typed_of_texts : (job state : List ℕ) (e : EngineView) → IsEngineOfTexts job state e → IsTyped e
+typed_of_texts job state e t = subst IsTyped (sym t.it.is) (record { system = t.it.system; made = t.it.made; types = refl })
+
+-- ---- why a table ends early
+
+-- the energy itself has no accepted code, or memory ran out over it
+pub energy_unshown : {A : Type 0} (Shows : Showing) (w : Direction) (steps every : ℕ) (e : EngineView) (output : Output) (failure : Failure (EnergyFault A)) → IfRefused failure (HasNoEnergy e)
+    → IsTableUnshown Shows w steps every e output output (observe_fault_of failure)
+energy_unshown Shows w steps every e output (Refused f) h = (h, refl)
+energy_unshown Shows w steps every e output Memory h = (refl, refl)
+
+-- not all states on the way were shown
+pub way_unshown : {A : Type 0} (Shows : Showing) (w : Direction) (steps every : ℕ) (e : EngineView) (before after : Output) (f : RunFault A) → IsWayUnshown Shows w steps every e before after f
+    → IsTableUnshown Shows w steps every e before after (observe.Run f)
+way_unshown Shows w steps every e before after (run.Open failure) h = absurd h
+way_unshown Shows w steps every e before after (run.Steps f) h = h
+way_unshown Shows w steps every e before after (run.Out f) h = h
+
+-- what keeps the rows of an engine of texts from being shown keeps those of the texts from being written
+pub rows_unwritten : {A : Type 0} (Shows : Showing) (job state : List ℕ) (w : Direction) (steps every : ℕ) (e : EngineView) (before after : Output) → IsEngineOfTexts job state e → (fault : ObserveFault A)
+    → IsTableUnshown Shows w steps every e before after fault → AreRowsUnwritten Shows job state w steps every before after fault
+rows_unwritten Shows job state w steps every e before after t (observe.Run (run.Open failure)) h = (subst (λ x. IfRefused x (HasNoEngineOfTexts job state)) (sym h.0) tt, h.1)
+rows_unwritten Shows job state w steps every e before after t (observe.Run (run.Steps f)) h = texts_unwritten Shows job state w steps every e before after t (run.Steps f) h
+rows_unwritten Shows job state w steps every e before after t (observe.Run (run.Out f)) h = texts_unwritten Shows job state w steps every e before after t (run.Out f) h
+rows_unwritten Shows job state w steps every e before after t (observe.Energy f) h = (record { engine = e; opens = t; why = h.0 }, h.1)

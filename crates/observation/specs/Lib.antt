@@ -1,0 +1,3 @@
+pub mod Observations
+pub mod Readiness
+pub mod Tables

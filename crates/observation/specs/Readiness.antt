@@ -1,0 +1,25 @@
+-- What looks at an engine, and can do so wherever the engine's steps lead.
+use Rattle.std.proofs.Common.{ℕ, subst, sym, ◌∙◌}
+use Rattle.integrator.proofs.ReturnLaws.{system-placed}
+use Rattle.integrator.specs.States.{moved_state}
+use Rattle.integrator.specs.declared.direction.Direction.{Direction}
+use Rattle.engine.proofs.ObserverLaws.{observer_goes_on}
+use Rattle.engine.specs.Engines.{EngineView, Went}
+use Rattle.engine.specs.Observers.{IsObserverOf, ObserverView}
+use Rattle.observation.specs.Observations.{IsTyped}
+
+-- an observer of the engine, whose atoms have the types of its job
+pub record IsReadyFor (e : EngineView) (o : ObserverView) : Type 0 where
+  pub observes : IsObserverOf e o
+  pub typed : IsTyped e
+
+-- it is one after more steps
+pub ready_on : (o : ObserverView) (direction : Direction) (steps : ℕ) (e f : EngineView) → Went direction steps e f → IsReadyFor e o → IsReadyFor f o
+ready_on o direction steps e f went ready =
+    let there = record e { state = moved_state e.state went.frames' went.counter } in
+    let stays : IsTyped there = record {
+      system = ready.typed.system;
+      made = system-placed e.job e.state went.frames' went.counter ∙ ready.typed.made;
+      types = ready.typed.types;
+    } in
+    record { observes = observer_goes_on direction steps e f o went ready.observes; typed = subst IsTyped (sym went.moved) stays }

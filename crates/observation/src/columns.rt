@@ -1,0 +1,37 @@
+//! How the columns of a table are written.
+
+ghost use Rattle.std.specs.Prelude.{◌≡◌};
+ghost use Rattle.observation.specs.Observations.{head_by, row_by};
+
+use observables::{Observation, Row, Scales, exact_head, head};
+
+/// How the columns of a table are written.
+#[derive(Clone, Copy, PartialEq, Eq, Debug)]
+pub enum Columns {
+    /// As decimals, each the nearest to the exact value of its definition.
+    Decimals,
+    /// As the whole numbers behind them, from which each of them follows.
+    WholeNumbers,
+}
+
+impl Columns {
+    /// The line before the first row.
+    pub(crate) fn head(self) -> &'static [u8]
+        ensures { result.now ≡ head_by self }
+    {
+        match self {
+            Columns::Decimals => head(),
+            Columns::WholeNumbers => exact_head(),
+        }
+    }
+
+    /// The row of an observation.
+    pub(crate) fn row(self, observation: &Observation, scales: &Scales) -> Row
+        ensures { result.items ≡ row_by self scales.now observation.now }
+    {
+        match self {
+            Columns::Decimals => observation.row(scales),
+            Columns::WholeNumbers => observation.exact_row(scales),
+        }
+    }
+}

@@ -1,0 +1,12 @@
+//! Tables of a run: what is observed of the states on its way, a row for each.
+#![tactic(auto)]
+
+mod columns;
+mod faults;
+mod looks;
+mod rows;
+mod tables;
+
+pub use columns::Columns;
+pub use faults::ObserveFault;
+pub use tables::{observe_bytes, watched_observe_bytes};
