@@ -1,5 +1,5 @@
 -- Observers of an engine: their code and cells are those of its system, and what they see is the engine's.
-use Rattle.std.proofs.Common.{◌≡◌, ℕ, length, ℤ, List, Option, Some, ap, refl, sym, ◌∙◌}
+use Rattle.std.proofs.Common.{◌≡◌, ℕ, length, ℤ, List, Option, Some, ap, refl, subst, sym, ◌∙◌}
 use Rattle.std.specs.Prelude.{map, option_map}
 use Rattle.std.proofs.lemmas.List.{length-map}
 use Rattle.energy_program.specs.Programs.{program_tree}
@@ -10,20 +10,19 @@ use Rattle.state.specs.StateViews.{sides_view}
 use Rattle.state.specs.declared.states.State.{State}
 use Rattle.verifier.specs.Kernels.{Kernel}
 use Rattle.ring_box.specs.Cells.{NearAreNeighbours, cell_bits_of}
-use Rattle.ring_box.specs.declared.boxes.RingBox.{RingBox}
-use Rattle.fixed.specs.declared.frac.Frac.{Frac}
 use Rattle.pair_sums.specs.declared.sums.Apart.{Apart}
 use Rattle.pair_sums.specs.declared.sums.PairSums.{PairSums}
 use Rattle.integrator.specs.Forces.{pairs_of}
 use Rattle.integrator.specs.Frames.{Frame, frame_forces, moved_frame, next_frame}
 use Rattle.integrator.specs.Starts.{ring_of}
-use Rattle.integrator.specs.States.{current_frame}
+use Rattle.integrator.specs.States.{current_frame, moved_state}
+use Rattle.integrator.specs.declared.direction.Direction.{Direction}
 use Rattle.integrator.specs.declared.systems.System.{System}
 use Rattle.potential.specs.EnergyKernels.{GivesEnergy, HasEnergies}
 use Rattle.potential.specs.Verdicts.{IsUnder}
 use Rattle.potential.specs.declared.slope_kernels.SlopeKernel.{SlopeKernel}
 use Rattle.engine.proofs.EngineEnergyLaws.{engine_energy}
-use Rattle.engine.specs.Engines.{EngineView, engine_dynamics}
+use Rattle.engine.specs.Engines.{EngineView, Went, engine_dynamics}
 use Rattle.engine.specs.EngineViews.{IsEngine, engine_view}
 use Rattle.engine.specs.FrameSums.{ArePairSums, nearest_of, virial_of}
 use Rattle.engine.specs.Observers.{IsObserverOf, ObserverView, engine_grid}
@@ -99,3 +98,12 @@ pub next_by : {A : Type 0} (s : System (SlopeKernel A) A) (before middle next : 
 next_by s before middle next sums given same are made =
     ap (option_map (moved_frame (safe_dynamics s) before middle)) are.1
     ∙ ap Some (sym (made ∙ ap (λ xs. moved_frame (safe_dynamics s) before middle (forces_from xs (length middle))) same))
+
+-- ---- steps
+
+-- an observer of an engine is one wherever the engine's steps lead
+pub observer_goes_on : (w : Direction) (n : ℕ) (before after : EngineView) (o : ObserverView) → Went w n before after → IsObserverOf before o → IsObserverOf after o
+observer_goes_on w n before after o went is =
+    let there = record before { state = moved_state before.state went.frames' went.counter } in
+    let stays : IsObserverOf there o = record { under = is.under; gives = is.gives; has = is.has; grid = is.grid; neighbours = is.neighbours } in
+    subst (λ (e : EngineView). IsObserverOf e o) (sym went.moved) stays
