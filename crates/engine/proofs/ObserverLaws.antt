@@ -1,6 +1,6 @@
 -- Observers of an engine: their code and cells are those of its system, and what they see is the engine's.
-use Rattle.std.proofs.Common.{◌≡◌, ℕ, length, ℤ, List, Option, Some, ap, refl, subst, sym, ◌∙◌}
-use Rattle.std.specs.Prelude.{map, option_map}
+use Rattle.std.proofs.Common.{◌≡◌, ℕ, length, ℤ, List, Some, ap, refl, subst, sym, ◌∙◌}
+use Rattle.std.specs.Prelude.{option_map}
 use Rattle.std.proofs.lemmas.List.{length-map}
 use Rattle.energy_program.specs.Programs.{program_tree}
 use Rattle.job.specs.Views.{job_value}
@@ -13,7 +13,7 @@ use Rattle.ring_box.specs.Cells.{NearAreNeighbours, cell_bits_of}
 use Rattle.pair_sums.specs.declared.sums.Apart.{Apart}
 use Rattle.pair_sums.specs.declared.sums.PairSums.{PairSums}
 use Rattle.integrator.specs.Forces.{pairs_of}
-use Rattle.integrator.specs.Frames.{Frame, frame_forces, moved_frame, next_frame}
+use Rattle.integrator.specs.Frames.{Frame, moved_frame, next_frame}
 use Rattle.integrator.specs.Starts.{ring_of}
 use Rattle.integrator.specs.States.{current_frame, moved_state}
 use Rattle.integrator.specs.declared.direction.Direction.{Direction}
@@ -61,10 +61,6 @@ module _ {A : Type 0} (j : Job A) (s : State A) (y : System (SlopeKernel A) A) (
     grid = tiling.grid ∙ grid_is;
     neighbours = rw near_is at tiling.neighbours;
   }
-
-  -- it is one with other cells of that box
-  pub observer_kept : (o : ObserverView) (t : Tiling A) → IsObserverOf (engine_view j s y) o → IsTilingOf y t → IsObserverOf (engine_view j s y) (record { kernel = o.kernel; grid = t.tiles.grid.bits })
-  observer_kept o t is tiling = record { under = is.under; gives = is.gives; has = is.has; grid = tiling.grid ∙ grid_is; neighbours = is.neighbours }
 
   -- ---- what is seen
 
