@@ -15,3 +15,4 @@ pub mod SafeRuns
 pub mod EnergySumLaws
 pub mod EnergyTileLaws
 pub mod EngineEnergyLaws
+pub mod EngineForceLaws

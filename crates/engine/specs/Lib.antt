@@ -4,6 +4,7 @@ pub mod Engines
 pub mod Headline
 pub mod EngineSteps
 pub mod EngineViews
+pub mod EngineForces
 pub mod PairEnergies
 pub mod EnergySums
 pub mod SafeEnergies

@@ -48,3 +48,7 @@ forces_from sums n = map (forces_in sums) (numbers_from 0 n)
 -- the sums are the forces on the atoms of the frame
 abbrev pub AreForces : {A : Type 0} → System (SlopeKernel A) A → Frame → List ℤ → Type 0
 AreForces s frame sums = (length sums ≡ 3 * length frame) × (frame_forces (safe_dynamics s) frame ≡ Some (forces_from sums (length frame)))
+
+-- these are the forces on the atoms of the frame
+abbrev pub AreForcesOn : {A : Type 0} → System (SlopeKernel A) A → Frame → List (Force ℤ) → Type 0
+AreForcesOn s frame forces = frame_forces (safe_dynamics s) frame ≡ Some forces

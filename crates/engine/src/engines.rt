@@ -10,6 +10,7 @@ ghost use Rattle.ring_box.specs.Cells.{has_room};
 ghost use Rattle.state.specs.StateViews.{state_view};
 ghost use Rattle.engine.specs.Engines.{AreReached, HasNoEngine, IsEngineOf, SaysOnly, Stopped, Went};
 ghost use Rattle.engine.specs.EngineViews.{IsEngine, engine_view};
+ghost use Rattle.engine.specs.EngineForces.{AreForcesOfEngine};
 ghost use Rattle.engine.specs.PairEnergies.{HasNoEnergy, IsEnergyOfEngine};
 ghost use Rattle.integrator.specs.Frames.{frames};
 ghost use Rattle.integrator.specs.Starts.{mass_of};
@@ -28,8 +29,9 @@ use integrator::{
 };
 use job::{Job, TimeStep};
 use potential::{EnergyFault, SlopeKernel, energy_kernel, job_slope};
+use ring_box::Force;
 use state::State;
-use std::alloc::Allocator;
+use std::alloc::{AllocError, Allocator};
 use std::marker::Model;
 use std::thread::Threads;
 use tile_pool::Gate;
@@ -189,6 +191,15 @@ impl<A: Allocator + Copy> Engine<A> {
             },
             Err(failure) => Err(failure),
         }
+    }
+
+    /// The forces on the atoms of the current frame, in their order and in 2^-bits kJ/mol/nm: on each atom the exact
+    /// sum, over all pairs in which it acts, of the pair's force or its negative, by which the next step moves it. They
+    /// are found on the caller's thread. `AllocError` only where memory is refused.
+    pub fn forces(&self) -> Result<Vec<Force<i64>, A>, AllocError>
+        ensures { IfOk result (λ forces. AreForcesOfEngine self.now forces.items) }
+    {
+        self.motion.forces(self.alloc, &self.state.atoms)
     }
 
     /// Takes over the frames after the steps that were made, of all those that were asked for.

@@ -4,6 +4,7 @@
 mod engine_runs;
 mod engines;
 mod faults;
+mod frame_forces;
 mod frame_steps;
 mod frame_sums;
 mod frame_works;
