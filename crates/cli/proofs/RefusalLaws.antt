@@ -18,7 +18,7 @@ use Rattle.integrator.specs.declared.faults.StepFault.TheVariants as step
 use Rattle.engine.specs.Engines.{IsRunUnwritten}
 use Rattle.engine.specs.declared.faults.RunFault.{RunFault}
 use Rattle.engine.specs.declared.faults.RunFault.TheVariants as run
-use Rattle.trajectory.specs.Trajectories.{AreFramesUnwritten}
+use Rattle.trajectory.specs.Visits.{AreTextsUnwritten, Showing}
 use Rattle.cli.specs.Asked.{also_asked}
 use Rattle.cli.specs.Kept.{IsKept}
 use Rattle.cli.specs.Performed.{WritesLine, WritesText}
@@ -105,13 +105,13 @@ kept_run job state direction steps before after (run.Open failure) h = inl h.1
 kept_run job state direction steps before after (run.Steps f) h = inl h.1
 kept_run job state direction steps before after (run.Out o) h = inr h.1.beginning.failed
 
--- of its frames whole ones may be left where an allocation is refused
-kept_frames : {A : Type 0} (job state : List ℕ) (direction : Direction) (steps every : ℕ) (before after : Output) (f : RunFault A) → AreFramesUnwritten job state direction steps every before after f
+-- of what is shown on its way whole texts may be left where an allocation is refused
+kept_texts : {A : Type 0} (Shows : Showing) (job state : List ℕ) (direction : Direction) (steps every : ℕ) (before after : Output) (f : RunFault A) → AreTextsUnwritten Shows job state direction steps every before after f
     → IsKept before after ⊎ (status_of (fault_of_run f) ≡ status.Memory)
-kept_frames job state direction steps every before after (run.Open failure) h = inl (inl h.1)
-kept_frames job state direction steps every before after (run.Steps step.StepRange) h = inl (inl h.1)
-kept_frames job state direction steps every before after (run.Steps (step.Memory done)) h = inr refl
-kept_frames job state direction steps every before after (run.Out o) h = inl (inr h.1.began.beginning.failed)
+kept_texts Shows job state direction steps every before after (run.Open failure) h = inl (inl h.1)
+kept_texts Shows job state direction steps every before after (run.Steps step.StepRange) h = inl (inl h.1)
+kept_texts Shows job state direction steps every before after (run.Steps (step.Memory done)) h = inr refl
+kept_texts Shows job state direction steps every before after (run.Out o) h = inl (inr h.1.began.beginning.failed)
 
 kept_verdict : {A : Type 0} (held : List ℕ → Option (List ℕ)) (job : List ℕ) (listing : Option (Bor (List ℕ))) (before after : Output) (f : CommandFault A)
     → IsVerdictUndone held job listing before after f → IsKept before after
@@ -123,7 +123,7 @@ kept_refused : {A : Type 0} (words : List (List ℕ)) (held : List ℕ → Optio
     → IsCommandRefused held c before after f → IsKept before after ⊎ ((status_of f ≡ status.Memory) × AsksForTrajectory words)
 kept_refused words held (command.Start start) before after f is h = inl (kept_unwritten _ _ before after f h.4 (λ b. b.written.failed))
 kept_refused words held (command.Run r) before after f is h = inl (kept_run _ _ _ _ before after h.4.0 h.4.2)
-kept_refused words held (command.Trajectory t) before after f is h = trajectory (kept_frames _ _ _ _ _ before after h.4.0 h.4.2)
+kept_refused words held (command.Trajectory t) before after f is h = trajectory (kept_texts _ _ _ _ _ _ before after h.4.0 h.4.2)
   where
     trajectory : IsKept before after ⊎ (status_of (fault_of_run h.4.0) ≡ status.Memory) → IsKept before after ⊎ ((status_of f ≡ status.Memory) × AsksForTrajectory words)
     trajectory (inl kept) = inl kept

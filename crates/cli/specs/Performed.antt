@@ -6,7 +6,8 @@ use Rattle.command_line.specs.declared.commands.Run.{Run}
 use Rattle.command_line.specs.declared.commands.Trajectory.{Trajectory}
 use Rattle.engine.specs.Headline.{WroteLevesqueVerletRun}
 use Rattle.fallible.specs.Out.{Appends, Output}
-use Rattle.trajectory.specs.Trajectories.{IsFrameOfRun, WroteFrames}
+use Rattle.trajectory.specs.Trajectories.{ShowsFrame}
+use Rattle.trajectory.specs.Visits.{IsTextOfRun, WroteTexts}
 use Rattle.cli.specs.Printed.{HasPrinted}
 use Rattle.cli.specs.Reads.{asked_by}
 use Rattle.cli.specs.Refusals.{IsRunUndone, IsTextUnwritten, IsTrajectoryUndone, IsUndone}
@@ -29,7 +30,7 @@ WritesRun job state run before after result =
 -- the frames of a run were written; or this is why not all were
 abbrev pub WritesFrames : {T A : Type 0} → (job state : List ℕ) → Trajectory → (before after : Output) → Result T (CommandFault A) → Type 0
 WritesFrames job state t before after result =
-    MatchResult result (λ _. WroteFrames (IsFrameOfRun job state t.direction t.every) (suc (t.steps / t.every)) before after) (IsTrajectoryUndone job state t before after)
+    MatchResult result (λ _. WroteTexts (IsTextOfRun ShowsFrame job state t.direction t.every) (suc (t.steps / t.every)) before after) (IsTrajectoryUndone job state t before after)
 
 -- a command was done: it asked for its files, and has printed what it is for; or this is why it was not
 abbrev pub Performs : {T A : Type 0} → (List ℕ → Option (List ℕ)) → (asked_before asked_after : Option (List (List ℕ))) → Command → (before after : Output) → Result T (CommandFault A) → Type 0

@@ -2,7 +2,8 @@
 use Rattle.std.specs.Prelude.{◌≡◌, ◌⊎◌, ◌/◌, ℕ, suc, List, Option, Some, None}
 use Rattle.std.specs.Borrow.{Bor}
 use Rattle.engine.specs.Headline.{WroteLevesqueVerletRun}
-use Rattle.trajectory.specs.Trajectories.{IsFrameOfRun, WroteFrames}
+use Rattle.trajectory.specs.Trajectories.{ShowsFrame}
+use Rattle.trajectory.specs.Visits.{IsTextOfRun, WroteTexts}
 use Rattle.command_line.specs.CommandLine.{AsksForHelp, AsksForVersion, IsCommand}
 use Rattle.command_line.specs.declared.commands.Command.{Command}
 use Rattle.command_line.specs.declared.commands.Command.TheVariants as command
@@ -24,7 +25,7 @@ HasVerdict held job (Some listing) Wrote = OfTwo held job listing.now (λ j l. I
 abbrev pub HasPrinted : (List ℕ → Option (List ℕ)) → Command → Output → Output → Type 0
 HasPrinted held (command.Start start) before after = OfTwo held start.job.now start.gro.now (λ job gro. IsStartText job gro start.frame (Appends before after))
 HasPrinted held (command.Run run) before after = OfTwo held run.job.now run.state.now (λ job state. WroteLevesqueVerletRun job state run.direction run.steps before after)
-HasPrinted held (command.Trajectory t) before after = OfTwo held t.job.now t.state.now (λ job state. WroteFrames (IsFrameOfRun job state t.direction t.every) (suc (t.steps / t.every)) before after)
+HasPrinted held (command.Trajectory t) before after = OfTwo held t.job.now t.state.now (λ job state. WroteTexts (IsTextOfRun ShowsFrame job state t.direction t.every) (suc (t.steps / t.every)) before after)
 HasPrinted held (command.Frame frame) before after = OfOne held frame.state.now (λ state. IsFrameText state (Appends before after))
 HasPrinted held (command.Energy energy) before after = OfTwo held energy.job.now energy.state.now (λ job state. IsEnergyText job state (Appends before after))
 HasPrinted held (command.Check check) before after = HasVerdict held check.job.now check.listing (Appends before after)

@@ -31,7 +31,8 @@ use Rattle.kernel_code.specs.declared.instructions.Instr.{Instr}
 use Rattle.ring_box.specs.declared.faults.BoxFault.{BoxFault}
 use Rattle.state.specs.Starts.{start_of_frame}
 use Rattle.state.specs.StateReading.{state_of}
-use Rattle.trajectory.specs.Trajectories.{AreFramesUnwritten}
+use Rattle.trajectory.specs.Trajectories.{ShowsFrame}
+use Rattle.trajectory.specs.Visits.{AreTextsUnwritten}
 use Rattle.cli.specs.Asked.{also_asked}
 use Rattle.cli.specs.Conversions.{IsCodeText, IsFrameOf, IsFrameText, IsStartText}
 use Rattle.cli.specs.Explained.{IsExplanation}
@@ -150,7 +151,7 @@ IsRunUndone {A} job state run before after f = (g : RunFault A) × (f ≡ fault_
 -- why not all frames of a run were written: where an allocation is refused in it whole frames may have been, and a
 -- failed output is left with a beginning of them
 abbrev pub IsTrajectoryUndone : {A : Type 0} → (job state : List ℕ) → Trajectory → Output → Output → CommandFault A → Type 0
-IsTrajectoryUndone {A} job state t before after f = (g : RunFault A) × (f ≡ fault_of_run g) × AreFramesUnwritten job state t.direction t.steps t.every before after g
+IsTrajectoryUndone {A} job state t before after f = (g : RunFault A) × (f ≡ fault_of_run g) × AreTextsUnwritten ShowsFrame job state t.direction t.steps t.every before after g
 
 -- ---- of a command, whose files gave these bytes
 

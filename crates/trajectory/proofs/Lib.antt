@@ -1,3 +1,5 @@
 pub mod FrameTitleLaws
 pub mod HundredthLaws
-pub mod TrajectoryLaws
+pub mod RunTextLaws
+pub mod VisitLaws
+pub mod WayLaws

@@ -1,3 +1,5 @@
 pub mod FrameTitles
 pub mod Trajectories
+pub mod Visits
 pub mod Watching
+pub mod WholeStates

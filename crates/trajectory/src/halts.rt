@@ -1,7 +1,7 @@
 //! Halts: the ends of a run that has begun.
 
 ghost use Rattle.std.specs.Prelude.{◌≡◌};
-ghost use Rattle.trajectory.specs.Trajectories.{run_fault_of};
+ghost use Rattle.trajectory.specs.Visits.{run_fault_of};
 ghost use Rattle.trajectory.specs.declared.halts.Halt.TheVariants as halt;
 
 use engine::{Engine, RunFault};
@@ -11,7 +11,7 @@ use std::alloc::Allocator;
 
 /// The halt of a run that has begun, before its last frame or its last step.
 #[derive(Clone, Copy)]
-pub(crate) enum Halt {
+pub enum Halt {
     /// An allocation was refused after `done` whole steps.
     Memory { done: u64 },
     /// The output failed. A beginning of what was to be written was.

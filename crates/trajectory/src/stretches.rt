@@ -3,7 +3,7 @@
 ghost use Rattle.std.specs.Prelude.{◌≡◌, ◌≤◌, ◌<◌, ◌+◌, ◌*◌, ◌^◌, ℕ, is_none, false, OnOk, IfErr};
 ghost use Rattle.engine.specs.Engines.{Went};
 ghost use Rattle.integrator.specs.States.{counter_after};
-ghost use Rattle.trajectory.specs.Trajectories.{IsStopped};
+ghost use Rattle.trajectory.specs.Visits.{IsStopped};
 ghost use Rattle.trajectory.specs.Watching.{IsNextHundredth, hundredths_behind};
 
 use crate::halts::Halt;

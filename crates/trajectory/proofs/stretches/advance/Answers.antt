@@ -3,7 +3,7 @@ use Rattle.std.proofs.lemmas.Result.{err_from_is_err_and}
 use Rattle.engine.proofs.EngineLaws.{went_nowhere}
 use Rattle.engine.proofs.WentLaws.{steps_add}
 use Rattle.trajectory.proofs.HundredthLaws.{hundredths-zero, no_more_hundredth, one_more_hundredth}
-use Rattle.trajectory.proofs.TrajectoryLaws.{fits_further, fits_now, stopped_later}
+use Rattle.trajectory.proofs.WayLaws.{fits_further, fits_now, stopped_later}
 use Rattle.trajectory.proofs.stretches.advance.Goals as goal
 
 pub loop-made-init : goal.loop-made-init

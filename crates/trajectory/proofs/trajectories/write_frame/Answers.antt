@@ -4,8 +4,8 @@ use Rattle.gro.specs.Frames.{frame_view}
 use Rattle.gro.specs.GroWriting.{frame_text}
 use Rattle.trajectory.proofs.trajectories.write_frame.Goals as goal
 
-pub returns-in_err-write-clause-unwritten : goal.returns-in_err-write-clause-unwritten
-returns-in_err-write-clause-unwritten g c =
+pub returns-in_err-write-clause-unshown : goal.returns-in_err-write-clause-unshown
+returns-in_err-write-clause-unshown g c =
     let p = err_from_is_err_and c.from_residual.result c.from_residual.ensures.1 in
     rw (p.1, p.2)
     (record {

@@ -4,7 +4,7 @@ use Rattle.std.proofs.lemmas.Result.{err_from_is_err_and}
 use Rattle.state.specs.StateText.{StateView}
 use Rattle.integrator.specs.States.{counter_after}
 use Rattle.trajectory.proofs.HundredthLaws.{nothing_told}
-use Rattle.trajectory.proofs.TrajectoryLaws.{fits_among, none_is, steps_stopped}
+use Rattle.trajectory.proofs.WayLaws.{fits_among, none_is, steps_stopped}
 use Rattle.trajectory.proofs.watched_runs.run.Goals as goal
 
 -- why nothing is written

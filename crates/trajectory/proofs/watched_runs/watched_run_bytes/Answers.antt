@@ -8,7 +8,7 @@ use Rattle.engine.proofs.HeadlineLaws.{only_told, told}
 use Rattle.engine.proofs.OneAnswer.{only_memory}
 use Rattle.engine.proofs.UnwrittenLaws.{run_unwritten, run_wants}
 use Rattle.trajectory.proofs.HundredthLaws.{nothing_told}
-use Rattle.trajectory.proofs.TrajectoryLaws.{engine_in_range}
+use Rattle.trajectory.proofs.WayLaws.{engine_in_range}
 use Rattle.trajectory.proofs.watched_runs.watched_run_bytes.Goals as goal
 
 -- why there is no engine

@@ -1,31 +1,29 @@
 use Rattle.std.proofs.Common.{◌≡◌, ◌+◌, ◌*◌, suc, arith, subst, sym}
 use Rattle.std.proofs.lemmas.Result.{err_from_is_err_and}
-use Rattle.state.specs.StateViews.{state_view}
-use Rattle.trajectory.specs.Trajectories.{IsFrameOnWay, WroteFrames}
+use Rattle.trajectory.specs.Visits.{IsTextOnWay, WroteTexts}
 use Rattle.trajectory.specs.Watching.{hundredths_behind}
 use Rattle.trajectory.proofs.HundredthLaws.{hundredths-zero, more_told, nothing_told}
-use Rattle.trajectory.proofs.TrajectoryLaws.{first_left, first_written, fits_further, fits_now, next_left, next_written, steps_left, within}
-use Rattle.trajectory.proofs.trajectories.write_frames.Goals as goal
+use Rattle.trajectory.proofs.VisitLaws.{first_shown, first_unshown, next_shown, next_unshown, steps_left}
+use Rattle.trajectory.proofs.WayLaws.{fits_further, fits_now, within}
+use Rattle.trajectory.proofs.visits.show_each.Goals as goal
 
-pub returns-in_err-write_frame-clause-left : goal.returns-in_err-write_frame-clause-left
-returns-in_err-write_frame-clause-left g c =
+pub returns-in_err-show-clause-left : goal.returns-in_err-show-clause-left
+returns-in_err-show-clause-left g c =
     let p = err_from_is_err_and c.from_residual.result c.from_residual.ensures.1 in
-    let state = c.state.result.now in
+    let shows = g.S.Show.shows c.args.show.now in
     let fits = fits_now c.args.direction c.args.engine.now.state.step (c.requires.fits 0 (omega arith)) in
-    let before = g.O.Out.output c.args.out.now in
-    let after = g.O.Out.output c.write_frame.new.out in
     rw (p.1, p.2)
-    (first_left c.args.direction c.args.every c.args.most c.args.engine.now (state_view state) c.time_step-time_step.result before after c.in_err-write_frame.field-0.0 fits c.state.ensures c.time_step-time_step.ensures c.in_err-write_frame.ensures.unwritten)
+    (first_unshown shows shows (λ _ _ _ _ shown. shown) c.args.direction c.args.every c.args.engine.now c.args.most _ _ c.in_err-show.field-0.0 fits c.in_err-show.ensures.unshown)
 
 pub loop-number-init : goal.loop-number-init
 loop-number-init g c =
     let all = c.args.most * c.args.every in
     let none : 0 * c.args.every ≡ 0 = omega arith in
     let told_first = subst (λ k. g.W.Watch.told c.args.watch.now c.args.watch.now (hundredths_behind all 0 k)) (sym none) (subst (g.W.Watch.told c.args.watch.now c.args.watch.now) (sym (hundredths-zero all 0)) (g.met.W.Watch.told_nothing c.args.watch.now)) in
-    let state = c.state.result.now in
+    let shows = g.S.Show.shows c.args.show.now in
     let fits = fits_now c.args.direction c.args.engine.now.state.step (c.requires.fits 0 (omega arith)) in
-    let first = first_written c.args.direction c.args.every c.args.engine.now (state_view state) c.time_step-time_step.result _ _ fits c.state.ensures c.time_step-time_step.ensures c.in_ok-write_frame.ensures.wrote in
-    record { went = first.0; wrote = first.1; told = told_first }
+    let first = first_shown shows shows (λ _ _ _ _ shown. shown) c.args.direction c.args.every c.args.engine.now _ _ fits c.in_ok-show.ensures.wrote in
+    record { went = first.0; ready = c.in_ok-show.ensures.ready; same = c.show.ensures.same; wrote = first.1; told = told_first }
 
 pub advance-requires-clause-fits : goal.advance-requires-clause-fits
 advance-requires-clause-fits g c =
@@ -42,37 +40,36 @@ returns-in_err-advance-clause-left g c =
     let before = g.O.Out.output c.args.out.now in
     let after = g.O.Out.output c.loop-number.out in
     rw (p.1, p.2)
-    (steps_left (IsFrameOnWay c.args.direction c.args.every c.args.engine.now) c.args.every c.args.most c.loop-number.number before after c.in_err-advance.field-0.0 c.loop-number-test.true c.loop-number.invariant.wrote c.in_err-advance.ensures.stopped)
+    (steps_left (IsTextOnWay (g.S.Show.shows c.args.show.now) c.args.direction c.args.every c.args.engine.now) c.args.every c.args.most c.loop-number.number before after c.in_err-advance.field-0.0 c.loop-number-test.true c.loop-number.invariant.wrote
+    c.in_err-advance.ensures.stopped)
 
-pub returns-in_err-write_frame-2-clause-left : goal.returns-in_err-write_frame-2-clause-left
-returns-in_err-write_frame-2-clause-left g c =
-    let p = err_from_is_err_and c.from_residual-in_err-write_frame-2.result c.from_residual-in_err-write_frame-2.ensures.1 in
-    let before = g.O.Out.output c.args.out.now in
-    let on_way = g.O.Out.output c.loop-number.out in
-    let after = g.O.Out.output c.write_frame-in-loop-number.new.out in
+pub returns-in_err-show-2-clause-left : goal.returns-in_err-show-2-clause-left
+returns-in_err-show-2-clause-left g c =
+    let p = err_from_is_err_and c.from_residual-in_err-show-2.result c.from_residual-in_err-show-2.ensures.1 in
     rw (p.1, p.2)
-    (next_left c.args.direction c.args.every c.args.most c.loop-number.number c.args.engine.now c.loop-number.engine c.advance.new.engine (state_view c.state-in-loop-number.result.now) c.time_step-time_step.result before on_way after
-    c.in_err-write_frame-2.field-0.0 c.loop-number-test.true c.loop-number.invariant.went c.in_ok-advance.ensures.went c.state-in-loop-number.ensures c.time_step-time_step.ensures c.loop-number.invariant.wrote
-    c.in_err-write_frame-2.ensures.unwritten)
+    (next_unshown (g.S.Show.shows c.args.show.now) (g.S.Show.shows c.loop-number.show) c.loop-number.invariant.same c.args.direction c.args.every c.args.engine.now c.args.most c.loop-number.number c.loop-number.engine c.advance.new.engine _ _ _
+    c.in_err-show-2.field-0.0 c.loop-number-test.true c.loop-number.invariant.went c.in_ok-advance.ensures.went c.loop-number.invariant.wrote c.in_err-show-2.ensures.unshown)
 
 pub loop-number-preserved : goal.loop-number-preserved
 loop-number-preserved g c =
-    let next = next_written c.args.direction c.args.every c.loop-number.number c.args.engine.now c.loop-number.engine c.advance.new.engine (state_view c.state-in-loop-number.result.now) c.time_step-time_step.result _ _ _
-    c.loop-number.invariant.went c.in_ok-advance.ensures.went c.state-in-loop-number.ensures c.time_step-time_step.ensures c.loop-number.invariant.wrote c.in_ok-write_frame-2.ensures.wrote in
+    let next = next_shown (g.S.Show.shows c.args.show.now) (g.S.Show.shows c.loop-number.show) c.loop-number.invariant.same c.args.direction c.args.every c.args.engine.now c.loop-number.number c.loop-number.engine c.advance.new.engine _ _ _
+    c.loop-number.invariant.went c.in_ok-advance.ensures.went c.loop-number.invariant.wrote c.in_ok-show-2.ensures.wrote in
     let number = c.loop-number.number in
     let every = c.args.every in
     let steps : (number + 1) * every ≡ number * every + every = omega arith in
     record {
       went = next.0;
+      ready = c.in_ok-show-2.ensures.ready;
+      same = λ job number s text shown. c.loop-number.invariant.same job number s text (c.show-in-loop-number.ensures.same job number s text shown);
       wrote = next.1;
       told = subst (λ k. g.W.Watch.told c.args.watch.now c.advance.new.watch (hundredths_behind (c.args.most * every) 0 k)) (sym steps)
           (more_told g.W.Watch.told g.met.W.Watch.told_more (c.args.most * every) (number * every) every _ _ _ c.loop-number.invariant.told c.in_ok-advance.ensures.told);
     }
 
--- the counts that the watcher was told where no more frame comes
+-- the counts that the watcher was told where no more text comes
 
-pub returns-in_err-write_frame-clause-told_some : goal.returns-in_err-write_frame-clause-told_some
-returns-in_err-write_frame-clause-told_some g c =
+pub returns-in_err-show-clause-told_some : goal.returns-in_err-show-clause-told_some
+returns-in_err-show-clause-told_some g c =
     let p = err_from_is_err_and c.from_residual.result c.from_residual.ensures.1 in
     rw p.1 (nothing_told (c.args.most * c.args.every) (g.W.Watch.told c.args.watch.now c.args.watch.now) (g.met.W.Watch.told_nothing c.args.watch.now))
 
@@ -87,9 +84,9 @@ returns-in_err-advance-clause-told_some g c =
       more_told g.W.Watch.told g.met.W.Watch.told_more (c.args.most * c.args.every) before some.0 _ _ _ c.loop-number.invariant.told some.2,
     )
 
-pub returns-in_err-write_frame-2-clause-told_some : goal.returns-in_err-write_frame-2-clause-told_some
-returns-in_err-write_frame-2-clause-told_some g c =
-    let p = err_from_is_err_and c.from_residual-in_err-write_frame-2.result c.from_residual-in_err-write_frame-2.ensures.1 in
+pub returns-in_err-show-2-clause-told_some : goal.returns-in_err-show-2-clause-told_some
+returns-in_err-show-2-clause-told_some g c =
+    let p = err_from_is_err_and c.from_residual-in_err-show-2.result c.from_residual-in_err-show-2.ensures.1 in
     let before = c.loop-number.number * c.args.every in
     rw p.1 (
       before + c.args.every,
@@ -105,17 +102,20 @@ overflow_mul-before g c = omega (arith, within c.args.every c.args.most c.loop-n
 pub overflow_add-before : goal.overflow_add-before
 overflow_add-before g c = omega (arith, within c.args.every c.args.most c.loop-number.number c.loop-number-test.true, c.requires.range)
 
--- the output
+-- what shows the next state
 
-pub write_frame-requires-in-loop-number : goal.write_frame-requires-in-loop-number
-write_frame-requires-in-loop-number g c = record { room = rw c.loop-number.invariant.wrote.appends.failed c.requires.room }
+pub show-requires-in-loop-number : goal.show-requires-in-loop-number
+show-requires-in-loop-number g c = record {
+  ready = g.met.S.Show.goes_on c.loop-number.show c.args.direction c.args.every c.loop-number.engine c.advance.new.engine c.in_ok-advance.ensures.went c.loop-number.invariant.ready;
+  room = rw c.loop-number.invariant.wrote.appends.failed c.requires.room;
+}
 
--- all frames
+-- all texts
 
 pub returns-clause-wrote : goal.returns-clause-wrote
 returns-clause-wrote g c =
     let all : c.loop-number.number ≡ c.args.most = omega (arith, c.loop-number-test.false) in
-    subst (λ k. WroteFrames (IsFrameOnWay c.args.direction c.args.every c.args.engine.now) (suc k) (g.O.Out.output c.args.out.now) (g.O.Out.output c.loop-number.out)) all c.loop-number.invariant.wrote
+    subst (λ k. WroteTexts (IsTextOnWay (g.S.Show.shows c.args.show.now) c.args.direction c.args.every c.args.engine.now) (suc k) (g.O.Out.output c.args.out.now) (g.O.Out.output c.loop-number.out)) all c.loop-number.invariant.wrote
 
 pub returns-clause-told : goal.returns-clause-told
 returns-clause-told g c =

@@ -1,0 +1,136 @@
+-- Visits: the states after 0, k, 2k, .. steps of a run, and the texts that are shown of them, one after the other.
+use Rattle.std.specs.Prelude.{◌≡◌, ℕ, zero, suc, ◌+◌, ◌-◌, ◌*◌, ◌/◌, ◌≤◌, List, [], ◌++◌, None, Ok, false, is_none}
+use Rattle.fallible.specs.Failures.{IfRefused}
+use Rattle.fallible.specs.Out.{Output, Appends, AppendsBeginning}
+use Rattle.job.specs.JobText.{reading_of, limits}
+use Rattle.job.specs.Values.{JobValue}
+use Rattle.state.specs.StateText.{StateView}
+use Rattle.integrator.specs.Runs.{IsAfter}
+use Rattle.integrator.specs.Starts.{plain}
+use Rattle.integrator.specs.States.{counter_after}
+use Rattle.integrator.specs.declared.direction.Direction.{Direction}
+use Rattle.integrator.specs.declared.faults.StepFault.TheVariants as step
+use Rattle.engine.specs.Engines.{AreSafe, AreStopped, EngineView, HasNoEngineOfTexts, OfTexts, Went}
+use Rattle.engine.specs.declared.faults.RunFault.{RunFault}
+use Rattle.engine.specs.declared.faults.RunFault.TheVariants as run
+use Rattle.trajectory.specs.declared.halts.Halt.{Halt}
+use Rattle.trajectory.specs.declared.halts.Halt.TheVariants as halt
+
+-- ---- what ends a run that has begun
+
+-- the fault of the run
+abbrev pub run_fault_of : {A : Type 0} → Halt → RunFault A
+run_fault_of (halt.Memory done) = run.Steps (step.Memory done)
+run_fault_of (halt.Out f) = run.Out f
+
+-- an allocation refused in one of `steps` more steps: the last of them isn't made then
+pub record IsStopped (before steps : ℕ) (h : Halt) : Type 0 where
+  pub more : ℕ
+  pub few : more ≤ steps - 1
+  pub is : h ≡ halt.Memory (before + more)
+
+-- ---- what is shown of a state
+
+-- which texts are shown of a state in a run of a job; states are numbered from 0
+abbrev pub Showing : Type 1
+Showing = (job : JobValue) → (number : ℕ) → StateView → (text : List ℕ) → Type 0
+
+-- what is shown by the one way is shown by the other
+abbrev pub IsShownBy : (other one : Showing) → Type 0
+IsShownBy other one = (job : JobValue) (number : ℕ) (s : StateView) (text : List ℕ) → one job number s text → other job number s text
+
+-- such a text was written
+pub record WroteText (IsText : List ℕ → Type 0) (before after : Output) : Type 0 where
+  pub text : List ℕ
+  pub shown : IsText text
+  pub appends : Appends before after text
+
+-- a write failed, after a beginning of it
+pub record BeganText (IsText : List ℕ → Type 0) (before after : Output) : Type 0 where
+  pub text : List ℕ
+  pub shown : IsText text
+  pub beginning : AppendsBeginning before after text
+
+-- why it was not, after `steps` steps, and what the output is left with
+abbrev pub IsUnshown : (IsText : List ℕ → Type 0) → (steps : ℕ) → (before after : Output) → Halt → Type 0
+IsUnshown IsText steps before after (halt.Memory done) = (done ≡ steps) × (after ≡ before)
+IsUnshown IsText steps before after (halt.Out f) = BeganText IsText before after
+
+-- ---- texts one after the other
+
+-- n texts one after the other. What each is, its number from 0 says.
+abbrev pub AreJoined : (ℕ → List ℕ → Type 0) → ℕ → List ℕ → Type 0
+AreJoined IsText zero text = text ≡ []
+AreJoined IsText (suc n) text = (front : List ℕ) × (last : List ℕ) × AreJoined IsText n front × IsText n last × (text ≡ front ++ last)
+
+-- what is shown of the state that an engine comes to by this many times `every` steps
+pub record IsTextOnWay (Shows : Showing) (direction : Direction) (every : ℕ) (e : EngineView) (number : ℕ) (text : List ℕ) : Type 0 where
+  pub reached : EngineView
+  pub went : Went direction (number * every) e reached
+  pub shown : Shows e.job number reached.state text
+
+-- what is shown of the state after this many times `every` steps of the run from these texts
+pub record IsTextOfRun (Shows : Showing) (job state : List ℕ) (direction : Direction) (every number : ℕ) (text : List ℕ) : Type 0 where
+  pub said : JobValue
+  pub after : StateView
+  pub job_read : reading_of limits job ≡ Ok said
+  pub run : IsAfter plain job state direction (number * every) after
+  pub shown : Shows said number after text
+
+-- ---- the output
+
+-- `count` texts were written
+pub record WroteTexts (IsText : ℕ → List ℕ → Type 0) (count : ℕ) (before after : Output) : Type 0 where
+  pub text : List ℕ
+  pub texts : AreJoined IsText count text
+  pub appends : Appends before after text
+
+-- a write failed, after a beginning of `count` texts
+pub record BeganTexts (IsText : ℕ → List ℕ → Type 0) (count : ℕ) (before after : Output) : Type 0 where
+  pub text : List ℕ
+  pub texts : AreJoined IsText count text
+  pub beginning : AppendsBeginning before after text
+
+-- whole texts are left where memory ran out after `done` steps, and never that of the last state: those up to there,
+-- maybe without that after just `done`
+pub record LeftWhole (IsText : ℕ → List ℕ → Type 0) (every most done : ℕ) (before after : Output) : Type 0 where
+  pub count : ℕ
+  pub few : count ≤ most
+  pub up_to : done ≤ count * every
+  pub no_more : count * every ≤ done + every
+  pub wrote : WroteTexts IsText count before after
+
+-- a beginning of the texts is left, up to the first or to one of `most` behind it
+pub record LeftBeginning (IsText : ℕ → List ℕ → Type 0) (most : ℕ) (before after : Output) : Type 0 where
+  pub count : ℕ
+  pub few : count ≤ most
+  pub began : BeganTexts IsText (suc count) before after
+
+-- the output that a run that was ended leaves, of the texts after 0, k, 2k, .. up to `most` times k steps
+abbrev pub Halts : (ℕ → List ℕ → Type 0) → (every most : ℕ) → (before after : Output) → Halt → Type 0
+Halts IsText every most before after (halt.Memory done) = LeftWhole IsText every most done before after
+Halts IsText every most before after (halt.Out f) = LeftBeginning IsText most before after
+
+-- why the states after 0, k, 2k, .. of n steps of an engine were not all shown, and what the output is left with:
+-- nothing, where the counter would leave 64 bits
+abbrev pub IsWayUnshown : {A : Type 0} → Showing → Direction → (steps every : ℕ) → EngineView → (before after : Output) → RunFault A → Type 0
+IsWayUnshown Shows direction steps every e before after (run.Open failure) = ⊥
+IsWayUnshown Shows direction steps every e before after (run.Steps step.StepRange) = (counter_after direction e.state.step steps ≡ None) × (after ≡ before)
+IsWayUnshown Shows direction steps every e before after (run.Steps (step.Memory done)) = LeftWhole (IsTextOnWay Shows direction every e) every (steps / every) done before after
+IsWayUnshown Shows direction steps every e before after (run.Out f) = LeftBeginning (IsTextOnWay Shows direction every e) (steps / every) before after
+
+-- ---- from bytes to bytes
+
+-- the counter fits after so many steps from the state of these texts
+abbrev pub CounterFits : (job state : List ℕ) → Direction → (steps : ℕ) → Type 0
+CounterFits job state direction steps = OfTexts job state (λ j s. is_none (counter_after direction s.step steps) ≡ false)
+
+-- why the states on the way of a run from these texts were not all shown, and what the output is left with: nothing,
+-- where they have no engine or the counter would leave 64 bits
+abbrev pub AreTextsUnwritten : {A : Type 0} → Showing → (job state : List ℕ) → Direction → (steps every : ℕ) → (before after : Output) → RunFault A → Type 0
+AreTextsUnwritten Shows job state direction steps every before after (run.Open failure) = IfRefused failure (HasNoEngineOfTexts job state) × (after ≡ before)
+AreTextsUnwritten Shows job state direction steps every before after (run.Steps step.StepRange) = AreStopped job state direction steps step.StepRange × (after ≡ before)
+AreTextsUnwritten Shows job state direction steps every before after (run.Steps (step.Memory done)) =
+    AreSafe job state × LeftWhole (IsTextOfRun Shows job state direction every) every (steps / every) done before after
+AreTextsUnwritten Shows job state direction steps every before after (run.Out f) =
+    AreSafe job state × LeftBeginning (IsTextOfRun Shows job state direction every) (steps / every) before after

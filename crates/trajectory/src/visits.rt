@@ -1,0 +1,139 @@
+//! Visits: the states after 0, k, 2k, .. steps of a run, and a text that is shown of each.
+
+ghost use Rattle.std.specs.Prelude.{◌≡◌, ◌<◌, ◌≤◌, ◌-◌, ◌*◌, ◌/◌, ◌^◌, ℕ, suc, is_none, true, false, OnOk, IfErr};
+ghost use Rattle.fixed.specs.Arithmetic.{in_range};
+ghost use Rattle.engine.specs.Engines.{AreReadOnce, AreSafe, EngineView};
+ghost use Rattle.integrator.specs.States.{counter_after};
+ghost use Rattle.trajectory.specs.Visits.{AreTextsUnwritten, CounterFits, Halts, IsTextOfRun, IsTextOnWay, IsWayUnshown, WroteTexts};
+ghost use Rattle.trajectory.specs.Watching.{SomeHundredths, hundredths};
+
+use crate::halts::{Halt, drop_engine};
+use crate::showing::Show;
+use crate::stretches::advance;
+use crate::watching::Watch;
+use engine::{Engine, RunFault, open};
+use fallible::Out;
+use integrator::{Direction, StepFault, Workers, counter_after};
+use std::alloc::Allocator;
+use std::thread::Threads;
+
+/// Shows the state of an engine, and then `most` times the state after `every` more steps.
+///
+/// `Memory`: an allocation was refused after `done` steps, and whole texts are written. `Out`: a write failed, after a
+/// beginning of the texts.
+fn show_each<R: Threads + Sync, A: Allocator + Copy + Send + Sync, S: Show<A>, W: Watch, O: Out>(
+    rt: &R,
+    engine: &mut Engine<A>,
+    every: u64,
+    most: u64,
+    direction: Direction,
+    workers: Workers,
+    show: &mut S,
+    watch: &mut W,
+    out: &mut O,
+) -> Result<(), Halt>
+    requires ready { S.is_for show.old engine.old }
+    requires fits { (k : ℕ) → k ≤ most * every → is_none (counter_after direction engine.old.state.step k) ≡ false }
+    requires range { most * every < 2 ^ 64 }
+    requires room { (O.output out.old).failed < 2 ^ 64 - 1 }
+    ensures wrote { OnOk result (WroteTexts (IsTextOnWay (S.shows show.old) direction every engine.old) (suc most) (O.output out.old) (O.output out.new)) }
+    ensures left { IfErr result (Halts (IsTextOnWay (S.shows show.old) direction every engine.old) every most (O.output out.old) (O.output out.new)) }
+    ensures told { OnOk result (W.told watch.old watch.new (hundredths (most * every))) }
+    ensures told_some { IfErr result (λ _. SomeHundredths (most * every) (W.told watch.old watch.new)) }
+{
+    let all = most * every;
+    show.show(engine, 0, 0, out)?;
+    for number in 0..most {
+        let before = number * every;
+        advance(rt, engine, direction, every, workers, before, all, watch)?;
+        show.show(engine, number + 1, before + every, out)?;
+    }
+    Ok(())
+}
+
+/// Makes n steps of an engine in a direction, by so many workers, and shows the states after 0, k, 2k, .. of them, for
+/// k = `every`; tells a watcher of each hundredth of the steps up to the last such state. Steps behind it are not made.
+///
+/// `Steps` with `StepRange` exactly where the counter would leave an i64 within the n steps, and then nothing is shown.
+/// `Steps` with `Memory`: an allocation was refused after `done` steps; the states up to there are shown, maybe without
+/// that after just `done`, and never the last one. `Out`: a write failed, after a beginning of the texts.
+pub fn visit<R: Threads + Sync, A: Allocator + Copy + Send + Sync, S: Show<A>, W: Watch, O: Out>(
+    rt: &R,
+    engine: &mut Engine<A>,
+    steps: u64,
+    every: u64,
+    direction: Direction,
+    workers: Workers,
+    show: &mut S,
+    watch: &mut W,
+    out: &mut O,
+) -> Result<(), RunFault<A>>
+    requires ready { S.is_for show.old engine.old }
+    requires every { 0 < every }
+    requires range { in_range engine.old.state.step ≡ true }
+    requires count { (O.output out.old).failed < 2 ^ 64 - 1 }
+    ensures wrote { OnOk result (WroteTexts (IsTextOnWay (S.shows show.old) direction every engine.old) (suc (steps / every)) (O.output out.old) (O.output out.new)) }
+    ensures fits { OnOk result (is_none (counter_after direction engine.old.state.step steps) ≡ false) }
+    ensures unshown { IfErr result (IsWayUnshown (S.shows show.old) direction steps every engine.old (O.output out.old) (O.output out.new)) }
+    ensures told { OnOk result (W.told watch.old watch.new (hundredths (steps / every * every))) }
+    ensures told_some { IfErr result (λ _. SomeHundredths (steps / every * every) (W.told watch.old watch.new)) }
+{
+    if counter_after(direction, engine.state(), steps).is_none() {
+        return Err(RunFault::Steps(StepFault::StepRange));
+    }
+    let most = steps / every;
+    show_each(
+        rt, engine, every, most, direction, workers, show, watch, out,
+    )?;
+    Ok(())
+}
+
+/// Runs a state from bytes, and shows the states after 0, k, 2k, .. of the steps, as `visit` does.
+///
+/// The refusals come in this order: `Open` with those of the job, of the state and of `Engine::new`, or where an
+/// allocation was refused before there was an engine, and nothing is shown; then those of `visit`.
+pub(crate) fn visits_bytes<
+    R: Threads + Sync,
+    A: Allocator + Copy + Send + Sync,
+    S: Show<A>,
+    W: Watch,
+    O: Out,
+>(
+    rt: &R,
+    alloc: A,
+    job: &[u8],
+    state: &[u8],
+    steps: u64,
+    every: u64,
+    direction: Direction,
+    workers: Workers,
+    show: &mut S,
+    watch: &mut W,
+    out: &mut O,
+) -> Result<(), RunFault<A>>
+    requires ready { (e : EngineView) → S.is_for show.old e }
+    requires every { 0 < every }
+    requires count { (O.output out.old).failed < 2 ^ 64 - 1 }
+    ensures safe { OnOk result (AreSafe job.now state.now) }
+    ensures once { OnOk result (AreReadOnce job.now state.now) }
+    ensures fits { OnOk result (CounterFits job.now state.now direction steps) }
+    ensures wrote { OnOk result (WroteTexts (IsTextOfRun (S.shows show.old) job.now state.now direction every) (suc (steps / every)) (O.output out.old) (O.output out.new)) }
+    ensures refused { IfErr result (AreTextsUnwritten (S.shows show.old) job.now state.now direction steps every (O.output out.old) (O.output out.new)) }
+    ensures told { OnOk result (W.told watch.old watch.new (hundredths (steps / every * every))) }
+    ensures told_some { IfErr result (λ _. SomeHundredths (steps / every * every) (W.told watch.old watch.new)) }
+{
+    let mut engine = open(alloc, job, state)?;
+    let done = visit(
+        rt,
+        &mut engine,
+        steps,
+        every,
+        direction,
+        workers,
+        show,
+        watch,
+        out,
+    );
+    drop_engine(engine);
+    done
+}

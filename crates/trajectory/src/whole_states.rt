@@ -1,0 +1,134 @@
+//! Whole states from bytes to bytes: the states of a run, one every k steps.
+
+ghost use Rattle.std.specs.Prelude.{◌<◌, ◌-◌, ◌*◌, ◌/◌, ◌^◌, suc, OnOk, IfErr};
+ghost use Rattle.engine.specs.Engines.{AreSafe};
+ghost use Rattle.trajectory.specs.Visits.{AreTextsUnwritten, CounterFits, IsTextOfRun, WroteTexts};
+ghost use Rattle.trajectory.specs.Watching.{SomeHundredths, hundredths};
+ghost use Rattle.trajectory.specs.WholeStates.{IsRunOnWay, ShowsState};
+
+use crate::halts::Halt;
+use crate::showing::Show;
+use crate::visits::visits_bytes;
+use crate::watching::{Unwatched, Watch};
+use engine::{Engine, RunFault};
+use fallible::Out;
+use integrator::{Direction, Workers};
+use std::alloc::Allocator;
+use std::thread::Threads;
+
+/// Shows each state whole.
+#[derive(Clone, Copy)]
+struct StateTexts;
+
+impl<A: Allocator + Copy> Show<A> for StateTexts {
+    ghost shows = { λ _. ShowsState };
+
+    ghost is_for = { λ _ _. Unit {0} };
+
+    fn show<O: Out>(
+        &mut self,
+        engine: &Engine<A>,
+        _number: u64,
+        _steps: u64,
+        out: &mut O,
+    ) -> Result<(), Halt> {
+        engine.state().write(out)?;
+        Ok(())
+    }
+
+    ghost goes_on = { λ _ _ _ _ _ _ _. tt };
+}
+
+/// Runs a state n steps in a direction, by so many workers, and writes the states after 0, k, 2k, .. of the steps, for
+/// k = `every`, each as `run_bytes` writes it, one after the other.
+///
+/// `job` and `state` are the bytes of a job and a state file, `steps` at most 1,000,000,000,000, `every` at least 1.
+/// Each state's text is just what `run_bytes` writes for that many steps, and so it can be run on, or back; it begins
+/// with its line `pairmd state 1` or `pairmd state 2`. Steps behind the last state are not made.
+///
+/// The refusals are those of `trajectory_bytes`, in the same order, of states in place of frames. An allocation is
+/// wanted by the steps alone.
+pub fn states_bytes<R: Threads + Sync, A: Allocator + Copy + Send + Sync, O: Out>(
+    rt: &R,
+    alloc: A,
+    job: &[u8],
+    state: &[u8],
+    steps: u64,
+    every: u64,
+    direction: Direction,
+    workers: Workers,
+    out: &mut O,
+) -> Result<(), RunFault<A>>
+    requires every { 0 < every }
+    requires count { (O.output out.old).failed < 2 ^ 64 - 1 }
+    // No instruction of the slope's code goes wrong, and no pair takes more of them than the certified number.
+    ensures safe { OnOk result (AreSafe job.now state.now) }
+    // The counter fits after all steps.
+    ensures fits { OnOk result (CounterFits job.now state.now direction steps) }
+    // The states after 0, k, 2k, .. steps are written.
+    ensures wrote { OnOk result (WroteTexts (IsTextOfRun ShowsState job.now state.now direction every) (suc (steps / every)) (O.output out.old) (O.output out.new)) }
+    // The same by the page of relations between texts: each is the text of a run of so many steps, and the only one.
+    ensures runs { OnOk result (WroteTexts (IsRunOnWay job.now state.now direction every) (suc (steps / every)) (O.output out.old) (O.output out.new)) }
+    // Why they are not, and what is written then: nothing before the first state, whole states where memory ran out, a
+    // beginning of them where the output failed.
+    ensures refused { IfErr result (AreTextsUnwritten ShowsState job.now state.now direction steps every (O.output out.old) (O.output out.new)) }
+{
+    watched_states_bytes(
+        rt,
+        alloc,
+        job,
+        state,
+        steps,
+        every,
+        direction,
+        workers,
+        &mut Unwatched,
+        out,
+    )
+}
+
+/// As `states_bytes`, and tells a watcher after each hundredth of the steps up to the last state. What is written is
+/// the same whoever watches.
+pub fn watched_states_bytes<R: Threads + Sync, A: Allocator + Copy + Send + Sync, W: Watch, O: Out>(
+    rt: &R,
+    alloc: A,
+    job: &[u8],
+    state: &[u8],
+    steps: u64,
+    every: u64,
+    direction: Direction,
+    workers: Workers,
+    watch: &mut W,
+    out: &mut O,
+) -> Result<(), RunFault<A>>
+    requires every { 0 < every }
+    requires count { (O.output out.old).failed < 2 ^ 64 - 1 }
+    // No instruction of the slope's code goes wrong, and no pair takes more of them than the certified number.
+    ensures safe { OnOk result (AreSafe job.now state.now) }
+    // The counter fits after all steps.
+    ensures fits { OnOk result (CounterFits job.now state.now direction steps) }
+    // The states after 0, k, 2k, .. steps are written.
+    ensures wrote { OnOk result (WroteTexts (IsTextOfRun ShowsState job.now state.now direction every) (suc (steps / every)) (O.output out.old) (O.output out.new)) }
+    // The same by the page of relations between texts: each is the text of a run of so many steps, and the only one.
+    ensures runs { OnOk result (WroteTexts (IsRunOnWay job.now state.now direction every) (suc (steps / every)) (O.output out.old) (O.output out.new)) }
+    // Why they are not, and what is written then: nothing before the first state, whole states where memory ran out, a
+    // beginning of them where the output failed.
+    ensures refused { IfErr result (AreTextsUnwritten ShowsState job.now state.now direction steps every (O.output out.old) (O.output out.new)) }
+    // The watcher is told of each hundredth of the steps up to the last state, or of those among the first steps.
+    ensures told { OnOk result (W.told watch.old watch.new (hundredths (steps / every * every))) }
+    ensures told_some { IfErr result (λ _. SomeHundredths (steps / every * every) (W.told watch.old watch.new)) }
+{
+    visits_bytes(
+        rt,
+        alloc,
+        job,
+        state,
+        steps,
+        every,
+        direction,
+        workers,
+        &mut StateTexts,
+        watch,
+        out,
+    )
+}
