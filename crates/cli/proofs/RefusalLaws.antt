@@ -1,5 +1,5 @@
 -- Laws of refused commands: which files they asked for, what is left of their output, and what their status tells.
-use Rattle.std.proofs.Common.{◌≡◌, ◌≢◌, ◌⊎◌, ◌∙◌, ◌<◌, ◌-◌, ◌^◌, ℕ, List, Option, Some, None, ap, arith, inl, inr, refl, subst, sym}
+use Rattle.std.proofs.Common.{◌≡◌, ◌≢◌, ◌⊎◌, ◌∙◌, ◌<◌, ◌≤◌, ◌-◌, ◌^◌, ℕ, List, Option, Some, None, ap, arith, inl, inr, refl, subst, sym}
 use Rattle.std.specs.Borrow.{Bor}
 use Rattle.std.specs.Prelude.{IfErr, Result, Ok, Err}
 use Rattle.command_line.specs.CommandLine.{AsksForHelp, AsksForVisits, AsksForVersion, IsCommand, IsMisuse, faults_of}
@@ -36,7 +36,7 @@ use Rattle.cli.specs.declared.faults.Status.TheVariants as status
 use Rattle.cli.specs.declared.files.ReadFault.{ReadFault}
 use Rattle.cli.specs.declared.files.ReadFault.TheVariants as read
 use Rattle.cli.proofs.ProgressLaws.{says}
-use Rattle.cli.proofs.StatusLaws.{IsOfWords, code_two, code_zero, file_failed, memory_wanted, never_done, of_files_alone, of_run, words_alone}
+use Rattle.cli.proofs.StatusLaws.{IsOfWords, code_two, code_zero, file_failed, memory_wanted, never_done, number_most, of_files_alone, of_run, words_alone}
 
 abbrev Paths : Type 0
 Paths = Option (List (List ℕ))
@@ -175,6 +175,11 @@ kept_told words held asked asked' before after f result Text Memory is told = by
 pub some_told : {A : Type 0} (f : CommandFault A) (result : ℕ) (Text Memory : Type 0) → HasStatus f result Text Memory → result ≢ 0
 some_told f result Text Memory (inl told) zero = never_done f (code_zero (status_of f) (sym told.0 ∙ zero))
 some_told f result Text Memory (inr told) zero = let bad : 4 ≡ 0 = sym told.0 ∙ zero in absurd (omega (arith, bad))
+
+-- and by one of at most 5
+pub most_told : {A : Type 0} (f : CommandFault A) (result : ℕ) (Text Memory : Type 0) → HasStatus f result Text Memory → result ≤ 5
+most_told f result Text Memory (inl told) = omega (arith, told.0, number_most (status_of f))
+most_told f result Text Memory (inr told) = let memory : result ≡ 4 = told.0 in omega (arith, memory)
 
 -- no file's fault is one of the words
 unread_of_words : {A : Type 0} (held : List ℕ → Option (List ℕ)) (path : List ℕ) (before after : Paths) (f : CommandFault A) → IsOfWords f → IsUnread held path before after f → ⊥
