@@ -1,6 +1,6 @@
 -- Laws of statuses: no fault has that of a command that was done, and only those of words have that of the command
 -- line.
-use Rattle.std.proofs.Common.{◌≡◌, ◌≢◌, ◌⊎◌, ◌∙◌, ap, arith, inl, inr, refl, sym}
+use Rattle.std.proofs.Common.{◌≡◌, ◌≢◌, ◌⊎◌, ◌∙◌, ◌≤◌, ap, arith, inl, inr, refl, sym}
 use Rattle.clap.specs.declared.error.Error.{Error}
 use Rattle.fallible.specs.declared.failure.Failure.TheVariants.{Refused, Memory}
 use Rattle.integrator.specs.declared.faults.StepFault.{StepFault}
@@ -16,6 +16,15 @@ use Rattle.cli.specs.declared.faults.CommandFault.{CommandFault}
 use Rattle.cli.specs.declared.faults.CommandFault.TheVariants as fault
 use Rattle.cli.specs.declared.faults.Status.{Status}
 use Rattle.cli.specs.declared.faults.Status.TheVariants as status
+
+-- statuses are at most 5
+pub number_most : (s : Status) → status_number s ≤ 5
+number_most status.Done = omega arith
+number_most status.RefusedData = omega arith
+number_most status.CommandLine = omega arith
+number_most status.RefusedKernel = omega arith
+number_most status.Memory = omega arith
+number_most status.File = omega arith
 
 -- the status of a refusal, of out of memory, of a file or of the output
 abbrev pub IsOfFiles : Status → Type 0

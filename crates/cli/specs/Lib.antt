@@ -1,6 +1,7 @@
 pub mod Asked
 pub mod Explained
 pub mod Failures
+pub mod ForceTexts
 pub mod Held
 pub mod Conversions
 pub mod Host

@@ -18,9 +18,11 @@ also_asked_if paths (Some path) = also_asked paths path.now
 abbrev pub asked_by : Option (List (List ℕ)) → Command → Option (List (List ℕ))
 asked_by paths (command.Start start) = also_asked (also_asked paths start.job.now) start.gro.now
 asked_by paths (command.Run run) = also_asked (also_asked paths run.job.now) run.state.now
-asked_by paths (command.Trajectory t) = also_asked (also_asked paths t.job.now) t.state.now
+asked_by paths (command.Trajectory v) = also_asked (also_asked paths v.job.now) v.state.now
+asked_by paths (command.States v) = also_asked (also_asked paths v.job.now) v.state.now
 asked_by paths (command.Frame frame) = also_asked paths frame.state.now
-asked_by paths (command.Energy energy) = also_asked (also_asked paths energy.job.now) energy.state.now
+asked_by paths (command.Energy s) = also_asked (also_asked paths s.job.now) s.state.now
+asked_by paths (command.Forces s) = also_asked (also_asked paths s.job.now) s.state.now
 asked_by paths (command.Check check) = also_asked_if (also_asked paths check.job.now) check.listing
 asked_by paths (command.Code l) = also_asked paths l.job.now
 asked_by paths (command.Explain e) = paths
@@ -29,9 +31,11 @@ asked_by paths (command.Explain e) = paths
 abbrev pub AsksFor : Command → Option (List (List ℕ)) → Option (List (List ℕ)) → Type 0
 AsksFor (command.Start start) before after = (after ≡ also_asked before start.job.now) ⊎ (after ≡ asked_by before (command.Start start))
 AsksFor (command.Run run) before after = (after ≡ also_asked before run.job.now) ⊎ (after ≡ asked_by before (command.Run run))
-AsksFor (command.Trajectory t) before after = (after ≡ also_asked before t.job.now) ⊎ (after ≡ asked_by before (command.Trajectory t))
+AsksFor (command.Trajectory v) before after = (after ≡ also_asked before v.job.now) ⊎ (after ≡ asked_by before (command.Trajectory v))
+AsksFor (command.States v) before after = (after ≡ also_asked before v.job.now) ⊎ (after ≡ asked_by before (command.States v))
 AsksFor (command.Frame frame) before after = after ≡ asked_by before (command.Frame frame)
-AsksFor (command.Energy energy) before after = (after ≡ also_asked before energy.job.now) ⊎ (after ≡ asked_by before (command.Energy energy))
+AsksFor (command.Energy s) before after = (after ≡ also_asked before s.job.now) ⊎ (after ≡ asked_by before (command.Energy s))
+AsksFor (command.Forces s) before after = (after ≡ also_asked before s.job.now) ⊎ (after ≡ asked_by before (command.Forces s))
 AsksFor (command.Check check) before after = (after ≡ also_asked before check.job.now) ⊎ (after ≡ asked_by before (command.Check check))
 AsksFor (command.Code l) before after = after ≡ asked_by before (command.Code l)
 AsksFor (command.Explain e) before after = after ≡ before

@@ -6,6 +6,7 @@ mod conversions;
 mod execution;
 mod faults;
 mod files;
+mod forces;
 mod host;
 mod processes;
 mod progress;
