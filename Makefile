@@ -1,8 +1,9 @@
 # try: builds the program with nothing proved, at ./pairmd-unproved, and runs the stored example.
 # run: proves and builds the program, and runs the stored example. pairmd: leaves the proved program at ./pairmd.
 # test: the whole gate. install: puts the proved program and its man page below PREFIX.
-# guide: counts what the pages state, runs every command of README.md and docs/GUIDE.md, and compares; OVER=.. takes
-# pages and program from a package that is unpacked there.
+# guide: counts what the pages state, compares the refusals of docs/FORMATS.md with what `pairmd explain` prints, runs
+# every command of README.md and docs/GUIDE.md, and compares; OVER=.. takes pages and program from a package that is
+# unpacked there.
 # dist: packs the proved program with its pages and examples, for those who haven't the toolchain.
 # transcripts: plays the transcripts of crates/transcripts/data.
 # second-reading: plays each run of the transcripts by second_reader, which follows the headline's page in plain Python.
@@ -54,6 +55,7 @@ install: pairmd
 
 guide:
 	tools/counts.py
+	tools/explanations.py
 	tools/guide.py $(if $(OVER),--over $(OVER))
 
 dist: pairmd

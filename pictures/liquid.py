@@ -28,7 +28,7 @@ class State:
 
     def __init__(self, text):
         self.text = text
-        lines = text.splitlines()
+        lines = [line for line in text.splitlines() if not line.startswith("bits ")]
         self.step = int(lines[2].split()[1])
         self.sides = [int(word) / 100_000 for word in lines[4].split()[1:]]
         rows = [[int(word) for word in line[15:].split()] for line in lines[5:]]

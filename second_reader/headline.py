@@ -179,17 +179,22 @@ def leads(direction, rule, n, s):
     return replace(s, step=step, atoms=[replace(atom, previous=p, current=c) for atom, p, c in moved])
 
 
-def texts_say(job, state):
-    """The job, its tree and the state that the texts say: the fields `job_text`, `energy` and `state_text'` of
-    engine/specs/Headline: IsLevesqueVerletRun.
+def job_says(job):
+    """The job and its tree that a text says: the fields `job_text` and `energy` of engine/specs/Headline:
+    IsLevesqueVerletRun.
     """
+    j = the_only(all_jobs(LIMITS, job), "job_text")
+    return j, energy_of(j)
+
+
+def texts_say(job, state):
+    """The job, its tree and the state that the texts say: the same, and the field `state_text'`."""
     lacking = []
     before = state_of(state)
     if before is None:
         lacking.append("state_text'")
     try:
-        j = the_only(all_jobs(LIMITS, job), "job_text")
-        tree = energy_of(j)
+        j, tree = job_says(job)
     except NoText as it:
         lacking += it.fields
     if lacking:

@@ -85,6 +85,7 @@ def summary(entries):
     statements = [entry for entry in entries if entry is not None]
 
     def values_said(key):
+        """The statements of this key with a value that is in its range."""
         return [it for it in statements if it.key is key and it.value is not None]
 
     def first_value(key):

@@ -26,6 +26,7 @@ def lines_of(text):
 
 
 def is_fault(reading):
+    """There is no number."""
     return isinstance(reading, NumFault)
 
 

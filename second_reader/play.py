@@ -7,13 +7,14 @@ Where a row prints a state, the page has to have that text; with `returns` as ma
 the state of the row. Where a row is refused for what the page speaks of, the page has to have no text, for want of the
 field that the refusal names (FIELDS). A3, V2 and V3 refuse more than the page, and E10 where slope or code is too
 large: there it may have a text, and this is told. Rows of `cat`, `cmp`, `head` and `sed` compare the files that runs
-have written. A line for each disagreement; status 1 where there is one, or where nothing was played.
+have written, and of the jobs of `check` and `code` it is judged whether they say a job and an energy. A line for each
+disagreement; status 1 where there is one, or where nothing was played.
 """
 import sys
 from collections import Counter
 from pathlib import Path
 
-from headline import NoText, TooMuchWork, levesque_verlet_run
+from headline import NoText, TooMuchWork, job_says, levesque_verlet_run
 from read import with_deep_stack
 from steps import Direction
 from transcripts import Files, NoSuchFile, made_by, rows_of
@@ -77,6 +78,11 @@ def read_by(words, row, files, returns):
         raise LeftOut("as too much work") from None
 
 
+def code_of(row):
+    """The code of the refusal that a row tells, or nothing."""
+    return row.told()[-1].split()[1].decode() if row.status else ""
+
+
 class Player:
     """Plays rows, and counts them."""
 
@@ -87,12 +93,14 @@ class Player:
         self.known = {}  # what other commands print, as the transcript has it, by their words and files
 
     def play_transcript(self, path):
+        """Plays a transcript from its first row, with no file written yet."""
         self.files = Files(DATA)
         self.known = {}
         for row in rows_of(path.name, path.read_bytes()):
             self.play(row)
 
     def disagree(self, row, why):
+        """Tells and counts a disagreement."""
         self.disagreements += 1
         print(f"{row.transcript}:{row.line}: {why}: {b' '.join(row.words)[:100].decode('utf-8', 'replace')}")
 
@@ -111,20 +119,22 @@ class Player:
     def outcome(self, row, words, name):
         """What a row prints, None where that isn't known."""
         files, words_behind = self.files.changed(words)
-        prefix = words_behind[0] if words_behind[1:2] == [b"pairmd"] else None
-        command = words_behind[1:] if prefix else words_behind
-        if command[0] == b"pairmd" and command[1:2] in ([b"run"], [b"back"]):
-            return self.run(row, prefix, command[1:], files, name)
-        if b"pairmd" in words_behind:
+        if b"pairmd" not in words_behind:
+            return self.make(row, words_behind, files, name)
+        program = words_behind.index(b"pairmd")
+        command = words_behind[program + 1 :]
+        if command[:1] in ([b"check"], [b"code"]) and len(command) == 2 and row.status in (0, 1, 3) and program == 0:
+            self.judge(row, command[1], files)
+        if command[:1] not in ([b"run"], [b"back"]):
             key = (tuple(words), tuple(self.files.files.get(word) for word in words))
             if name is None:
                 self.known[key] = row.text()
             return self.known.get(key)
-        return self.make(row, words, files, name)
+        return self.run(row, words_behind[0], command, files, name)
 
     def run(self, row, prefix, words, files, name):
-        """Plays a row of `run` or `back`."""
-        self.counts["rows"] += 1
+        """Plays a row of `run` or `back`, where the prefix is the first word of those that change no file."""
+        self.counts["rows of run and back, of which were"] += 1
         try:
             if prefix in OTHERS:
                 raise LeftOut("of outputs or memory")
@@ -153,9 +163,26 @@ class Player:
         else:
             self.disagree(row, "another text by the page")
 
+    def judge(self, row, job, files):
+        """Plays a row of `check` or `code`, by what a run has of its job: whether its text says a job, and that an
+        energy. Of E10 the page may know nothing.
+        """
+        try:
+            lacking = ()
+            job_says(files.read(job))
+        except NoSuchFile:
+            return
+        except NoText as it:
+            lacking = it.fields
+        code = code_of(row)
+        field = FIELDS.get(code[:1])
+        self.counts["judged: the job of a row of check or code"] += 1
+        if lacking != ((field,) if field else ()) and code != "E10":
+            self.disagree(row, f"{code or 'accepted'}, but the page lacks {', '.join(lacking) or 'nothing'}")
+
     def compare_refusal(self, row, text, lacking):
         """Where a row is refused, the page has to have no text, if it speaks of what it is refused for."""
-        code = row.told()[-1].split()[1].decode()
+        code = code_of(row)
         field = FIELDS.get(code) or FIELDS.get(code[0])
         if code in BEYOND and field not in lacking:
             has = "a text" if text is not None else "none"
@@ -176,7 +203,7 @@ class Player:
                 self.files.write(words[1], learned)
             return None
         if text is not None and name is None:
-            self.counts["files compared or shown"] += 1
+            self.counts["compared: files, by cat, cmp, head or sed"] += 1
             if text != row.text():
                 self.disagree(row, "other files by the page")
         return text
@@ -187,7 +214,7 @@ def main():
     player = Player()
     for path in paths:
         player.play_transcript(path)
-    for what, count in sorted(player.counts.items()):
+    for what, count in sorted(player.counts.items(), reverse=True):
         print(f"{count:5} {what}")
     played = sum(count for what, count in player.counts.items() if what.startswith("played"))
     print(f"{played} rows of run and back were played by the second reader; {player.disagreements} disagree")

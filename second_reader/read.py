@@ -25,6 +25,7 @@ def with_deep_stack(function):
 
 
 def bytes_of(path):
+    """The bytes of a file."""
     with open(path, "rb") as it:
         return it.read()
 

@@ -3,7 +3,7 @@ from dataclasses import dataclass
 from enum import Enum
 from typing import Optional
 
-from library import all_ascii_digits, digits_value, is_ascii_digit, prefix_len
+from library import all_ascii_digits, digits_value, is_ascii_digit, less, prefix_len
 from numerals import NumFault, ends_before, numeral_of, value_of
 from texts import is_identifier_continue, is_identifier_start
 
@@ -52,10 +52,17 @@ def whole_in(text):
     return min(digits_value(text), 100) if all_ascii_digits(text) else 0
 
 
+def can_be_in_numeral(text, place):
+    """The byte at a place can be part of a numeral: a digit, a point, a letter, or a sign behind a letter."""
+    if text[place] in b"+-":
+        return text[less(place, 1)] in b"eE"
+    return is_ascii_digit(text[place]) or text[place] in b".eE"
+
+
 def numbers_at(bits, text):
     """expr/specs/Text: IsToken, its case `number`: the numerals that the text begins with, and their lengths."""
     found = []
-    most = prefix_len(lambda byte: is_ascii_digit(byte) or byte in b".eE+-", text)
+    most = prefix_len(lambda place: can_be_in_numeral(text, place), range(len(text)))
     for size in range(1, most + 1):
         n = numeral_of(text[:size])
         if n is None or not ends_before(n, text[size:]):

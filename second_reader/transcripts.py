@@ -120,6 +120,7 @@ class Files:
         return changed, words
 
     def with_line_or_unknown(self, name, number, text):
+        """The file with a text in the place of a line, None where the file isn't known."""
         try:
             return with_line(self.read(name), int(number), text)
         except NoSuchFile:

@@ -146,4 +146,9 @@ def substituted(body, definitions):
 @remembered
 def is_free_of_distance(tree):
     """energy_program/specs/Tree: is_free_of_distance, the distance, input 0, doesn't occur in the tree."""
-    return not (isinstance(tree, Input) and tree.number == 0) and all(map(is_free_of_distance, parts_of(tree)))
+    if isinstance(tree, Input):
+        return tree.number != 0
+    for part in parts_of(tree):
+        if not is_free_of_distance(part):
+            return False
+    return True

@@ -1,9 +1,10 @@
 -- Masks of up to 64 bits: the lanes whose bits are set, and what they leave out.
 use Rattle.std.proofs.Common.{◌≡◌, ◌≢◌, ℕ, zero, suc, ◌+◌, ◌-◌, ◌*◌, ◌/◌, ◌%◌, ◌^◌, ◌<◌, ◌≤◌, ◌⊎◌, Bool, true, false, cond, eqb, List, [], ◌∷◌, ◌++◌, length, get_or, map, filter, bit_and, bit_or, None, min, refl, subst, sym, ap, ◌∙◌, ⊎_elim, inl, inr, arith, append-nil}
 use Rattle.std.specs.Int.{bit_at}
+use Rattle.std.specs.List.{All}
 use Rattle.std.proofs.lemmas.Bool.{cases_eq, cases_lt, eq-eqb, ne_eqb}
-use Rattle.std.proofs.lemmas.List.{ext_get_or, get_or-map, length-map, map-append}
-use Rattle.std.proofs.lemmas.List.Elements.{filter-append}
+use Rattle.std.proofs.lemmas.List.{append_assoc, ext_get_or, get_or-map, length-map, map-append}
+use Rattle.std.proofs.lemmas.List.Elements.{All-filter, All-from_get_or, filter-append}
 use Rattle.std.proofs.Math.Nat.{mod-eq_of_lt, mod-lt, pow-le-pow_right}
 use Rattle.std.proofs.lemmas.Nat.{and_mask, mul-le, or_comm, or_shifted, pow-add, pow_pos, shr-shr, shr_split}
 use Rattle.std.proofs.lemmas.Nat.Bits.{bit_at-lt, bit_at-suc, bit_at-zero, bit_at_above, bit_at_and, bit_at_cat_high, bit_at_cat_low, bit_at_lowest, ones_shr}
@@ -162,6 +163,38 @@ none_above p n (suc d) h =
     ∙ append-nil (filter p (numbers_below (n + d)))
     ∙ none_above p n d h
 
+-- tests that agree below n
+pub same_below : (p q : ℕ → Bool) (n : ℕ) → ((k : ℕ) → k < n → p k ≡ q k) → filter p (numbers_below n) ≡ filter q (numbers_below n)
+same_below p q zero h = ap (filter p) below_zero ∙ sym (ap (filter q) below_zero)
+same_below p q (suc n) h =
+    ap (filter p) (below_suc n) ∙ filter-append p (numbers_below n) (n ∷ [])
+    ∙ ap (λ xs. xs ++ filter p (n ∷ [])) (same_below p q n (λ k lt. h k (omega arith)))
+    ∙ ap (λ xs. filter q (numbers_below n) ++ xs) (one_filtered p n (q n) (h n (omega arith)) ∙ sym (one_filtered q n (q n) refl))
+    ∙ sym (ap (filter q) (below_suc n) ∙ filter-append q (numbers_below n) (n ∷ []))
+
+-- those that pass of n numbers and m more
+pub passing_more : (p : ℕ → Bool) (n m : ℕ) → filter p (numbers_below (n + m)) ≡ filter p (numbers_below n) ++ map (λ k. n + k) (filter (λ k. p (n + k)) (numbers_below m))
+passing_more p n zero =
+    let e : n + 0 ≡ n = omega arith in
+    ap (λ k. filter p (numbers_below k)) e ∙ sym (ap (λ xs. filter p (numbers_below n) ++ map (λ k. n + k) (filter (λ k. p (n + k)) xs)) below_zero ∙ append-nil (filter p (numbers_below n)))
+passing_more p n (suc m) =
+    let e : n + suc m ≡ suc (n + m) = omega arith in
+    ap (λ k. filter p (numbers_below k)) e ∙ ap (filter p) (below_suc (n + m)) ∙ filter-append p (numbers_below (n + m)) ((n + m) ∷ [])
+    ∙ ap (λ xs. xs ++ filter p ((n + m) ∷ [])) (passing_more p n m)
+    ∙ append_assoc (filter p (numbers_below n)) (map f (filter q (numbers_below m))) (filter p ((n + m) ∷ []))
+    ∙ ap (λ xs. filter p (numbers_below n) ++ (map f (filter q (numbers_below m)) ++ xs)) (by_test (q m) refl)
+    ∙ ap (λ xs. filter p (numbers_below n) ++ xs) (sym (ap (map f) (ap (filter q) (below_suc m) ∙ filter-append q (numbers_below m) (m ∷ [])) ∙ map-append f (filter q (numbers_below m)) (filter q (m ∷ []))))
+  where
+    f : ℕ → ℕ
+    f k = n + k
+
+    q : ℕ → Bool
+    q k = p (n + k)
+
+    by_test : (b : Bool) → q m ≡ b → filter p ((n + m) ∷ []) ≡ map f (filter q (m ∷ []))
+    by_test true e = one_filtered p (n + m) true e ∙ sym (ap (map f) (one_filtered q m true e))
+    by_test false e = one_filtered p (n + m) false e ∙ sym (ap (map f) (one_filtered q m false e))
+
 -- ---- lanes
 
 abbrev pub is_set : ℕ → ℕ → Bool
@@ -193,6 +226,25 @@ lanes_below bits n small few =
     let d = 64 - n in
     let e : n + d ≡ 64 = omega arith in
     ap (λ m. filter (is_set bits) (numbers_below m)) (sym e) ∙ none_above (is_set bits) n d (λ k le. set_false bits k (bit_at_above bits n k small le))
+
+-- each lane of a mask of n bits is below n
+pub each_lane_below : (bits n : ℕ) → bits < 2 ^ n → n ≤ 64 → All (λ j. j < n) (lanes_of bits)
+each_lane_below bits n small few =
+    let each : All (λ j. j < n) (numbers_below n) =
+    All-from_get_or (λ j. j < n) (numbers_below n) 0 (λ i lt. let inside : i < n = omega (arith, length_below n, lt) in subst (λ j. j < n) (sym (get_below n i 0 inside)) inside) in
+    rw (lanes_below bits n small few) (All-filter (is_set bits) (λ j. j < n) (numbers_below n) each)
+
+-- the lanes of two bytes beside one another
+pub lanes_joined : (low high : ℕ) → low < 2 ^ 8 → high < 2 ^ 8 → lanes_of (high * 2 ^ 8 + low) ≡ lanes_of low ++ map (λ k. 8 + k) (lanes_of high)
+lanes_joined low high few more =
+    let bits = high * 2 ^ 8 + low in
+    lanes_below bits 16 (omega (arith, few, more)) (omega arith)
+    ∙ passing_more (is_set bits) 8 8
+    ∙ ap (λ xs. xs ++ map (λ k. 8 + k) (filter (λ k. is_set bits (8 + k)) (numbers_below 8)))
+    (same_below (is_set bits) (is_set low) 8 (λ k lt. ap (λ b. eqb b 1) (bit_at_cat_low high 8 low k lt)) ∙ sym (lanes_below low 8 few (omega arith)))
+    ∙ ap (λ xs. lanes_of low ++ map (λ k. 8 + k) xs)
+    (same_below (λ k. is_set bits (8 + k)) (is_set high) 8 (λ k lt. let e : 8 + k - 8 ≡ k = omega arith in ap (λ b. eqb b 1) (bit_at_cat_high high 8 low (8 + k) few (omega arith) ∙ ap (bit_at high) e))
+    ∙ sym (lanes_below high 8 more (omega arith)))
 
 filter_short : (p : ℕ → Bool) (xs : List ℕ) → length (filter p xs) ≤ length xs
 filter_short p [] = omega arith

@@ -14,3 +14,4 @@ pub mod RowLemmas
 pub mod LaneLemmas
 pub mod ListLemmas
 pub mod NearLemmas
+pub mod MarkLemmas

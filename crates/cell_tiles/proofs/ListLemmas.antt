@@ -9,7 +9,7 @@ use Rattle.std.proofs.lemmas.List.Elements.{All-append, All-drop, All-filter, Al
 use Rattle.std.proofs.lemmas.Simd.{map-map}
 use Rattle.ring_box.proofs.ActingLemmas.{idle_turned}
 use Rattle.ring_box.specs.Acting.{Reach, acting_of}
-use Rattle.place_blocks.specs.Blocks.{AreInSpan, AreUpperHalves, IsCoarseReach, IsLane, LeavesOutOfSpan}
+use Rattle.place_blocks.specs.Blocks.{AreInSpan, AreUpperHalves, IsCoarseReach, IsLane, LeavesOut, LeavesOutOfSpan}
 use Rattle.ring_box.specs.Places.{ArePlaces, places_of}
 use Rattle.place_blocks.specs.declared.blocks.Block.{Block}
 use Rattle.ring_box.specs.declared.boxes.RingBox.{RingBox}
@@ -48,6 +48,14 @@ pub span_idle : (d : Reach) (b : RingBox) (frame : List Place3) (coarse : Coarse
     → ((d : Reach) (b : RingBox) → IsCoarseReach d b coarse → LeavesOutOfSpan d b block span bits) → AreInSpan span (places_of frame a) → AreLanes frame block first bs → first + length bs ≤ 16 → j < length bs
     → bit_at bits (first + j) ≡ 0 → pair_acts d b frame (pair_of a (get_or bs j 0)) ≡ false
 span_idle d b frame coarse block span bits first a bs j places reach left_out here lanes within lt unset =
+    ∥∥₁_elim reach (Coded-set coded_bool _ _)
+    (λ r. pair_idle d b frame a (get_or bs j 0) places (left_out d b r (first + j) (places_of frame a) (places_of frame (get_or bs j 0)) (omega arith) here (lanes j lt) unset))
+
+-- so of an atom in a lane and one at these upper halves
+pub block_idle : (d : Reach) (b : RingBox) (frame : List Place3) (coarse : CoarseReach) (block : Block) (halves : UpperHalves) (bits first a : ℕ) (bs : List ℕ) (j : ℕ) → All ArePlaces frame → ∥ IsCoarseReach d b coarse ∥₁
+    → ((d : Reach) (b : RingBox) → IsCoarseReach d b coarse → LeavesOut d b block halves bits) → AreUpperHalves halves (places_of frame a) → AreLanes frame block first bs → first + length bs ≤ 16 → j < length bs
+    → bit_at bits (first + j) ≡ 0 → pair_acts d b frame (pair_of a (get_or bs j 0)) ≡ false
+block_idle d b frame coarse block halves bits first a bs j places reach left_out here lanes within lt unset =
     ∥∥₁_elim reach (Coded-set coded_bool _ _)
     (λ r. pair_idle d b frame a (get_or bs j 0) places (left_out d b r (first + j) (places_of frame a) (places_of frame (get_or bs j 0)) (omega arith) here (lanes j lt) unset))
 

@@ -1,11 +1,13 @@
 -- The pairs of a tile that act, listed in order with some that may not.
-use Rattle.std.specs.Prelude.{◌≡◌, ◌<◌, ◌≤◌, ◌++◌, ◌==◌, ℕ, Bool, is_some, List, filter, length, drop}
+use Rattle.std.specs.Prelude.{◌≡◌, ◌<◌, ◌≤◌, ◌++◌, ◌==◌, ℕ, Bool, is_some, List, [], filter, length, map, drop, slice_index, take}
 use Rattle.std.specs.Int.{bit_at}
 use Rattle.ring_box.specs.Acting.{Reach, acting_of}
 use Rattle.ring_box.specs.declared.boxes.RingBox.{RingBox}
 use Rattle.ring_box.specs.declared.vectors.Place3.{Place3}
 use Rattle.ring_box.specs.Places.{places_of}
 use Rattle.cell_tiles.specs.Cells.{numbers_below}
+use Rattle.cell_tiles.specs.Tiles.{pair_of}
+use Rattle.cell_tiles.specs.declared.byte_lanes.ByteLanes.{ByteLanes}
 
 -- two atoms of a frame act
 abbrev pub pair_acts : Reach → RingBox → List Place3 → ℕ × ℕ → Bool
@@ -28,3 +30,26 @@ pub record AreNear (d : Reach) (b : RingBox) (frame : List Place3) (pairs : List
 -- the lanes of 64 whose bits are set, ascending
 unfoldable pub lanes_of : ℕ → List ℕ
 lanes_of bits = filter (λ k. bit_at bits k == 1) (numbers_below 64)
+
+-- ---- marks: an atom, and the place of another among some that are named later
+
+abbrev pub mark : ℕ → ℕ → ℕ × ℕ
+mark a place = (a, place)
+
+-- the pairs that are marked with these
+abbrev pub named : List ℕ → List (ℕ × ℕ) → List (ℕ × ℕ)
+named others ms = map (λ m. pair_of m.0 (slice_index others m.1)) ms
+
+-- a mark's place is one of n
+abbrev pub IsMarkBelow : ℕ → ℕ × ℕ → Type 0
+IsMarkBelow n m = m.1 < n
+
+-- the lanes of a look-up that finds none
+abbrev pub no_byte : ByteLanes
+no_byte = record { lanes = []; count = 0 }
+
+-- the first of these lanes are those of a byte whose bits are set
+pub record AreByteLanes (byte : ℕ) (of : ByteLanes) : Type 0 where
+  pub long : length of.lanes ≡ 8
+  pub few : of.count ≤ 8
+  pub lanes : take of.count of.lanes ≡ lanes_of byte

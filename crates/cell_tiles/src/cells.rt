@@ -328,8 +328,8 @@ impl<A: Allocator + Copy> Cells<A> {
             self.blocks(tile.second),
             &self.span(tile.first),
         );
-        near.list.clear();
-        let next = near.list.add_cell(
+        near.marks.clear();
+        let next = near.marks.mark_cell(
             frame,
             &near.gathered,
             &self.span(tile.second),
@@ -337,6 +337,7 @@ impl<A: Allocator + Copy> Cells<A> {
             self.blocks(tile.first),
             row,
         );
+        near.list.name(&near.marks, near.gathered.atoms());
         next as u64 * others.len() as u64
     }
 

@@ -3,12 +3,14 @@
 #![tactic(auto)]
 
 mod beside;
+mod byte_lanes;
 mod cells;
 mod gathered;
 mod grids;
 mod lanes;
 mod laws;
 mod lists;
+mod marks;
 mod near;
 mod pairs;
 mod tiles;

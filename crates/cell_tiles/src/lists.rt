@@ -6,14 +6,14 @@ ghost use Rattle.std.specs.List.{All};
 ghost use Rattle.place_blocks.specs.Blocks.{AreUpperHalves};
 ghost use Rattle.ring_box.specs.Places.{places_of};
 ghost use Rattle.cell_tiles.specs.Cells.{AreInBlocks};
-ghost use Rattle.cell_tiles.specs.Near.{IsPairOf, lanes_of, those_acting};
+ghost use Rattle.cell_tiles.specs.Near.{IsMarkBelow, IsPairOf, lanes_of, named, those_acting};
 ghost use Rattle.cell_tiles.specs.Tiles.{pair_of, pairs_with};
 
-use crate::gathered::Gathered;
 use crate::lanes::{bits_of, near_lanes, next_lane};
+use crate::marks::Marks;
 use crate::near::FrameInBox;
 use crate::pairs::{AtomPair, in_order};
-use place_blocks::{Block, CellSpan, UpperHalves};
+use place_blocks::{Block, UpperHalves};
 use std::marker::Model;
 
 /// At most 128 pairs of atoms, in order. A contract sees the list of them.
@@ -68,6 +68,19 @@ impl PairList {
         ensures few { result ≤ 128 }
     {
         self.as_slice().len()
+    }
+
+    /// The pairs of these marks, in place of what was listed: each mark's place is one among the others.
+    pub(crate) fn name(&mut self, marks: &Marks, others: &[u32])
+        requires { All (IsMarkBelow (length others.now)) marks.now }
+        ensures { self.new ≡ named others.now marks.now }
+    {
+        let count = marks.len();
+        for e in 0..count {
+            let (atom, place) = marks.at(e);
+            self.pairs[e] = in_order(atom, others[place]);
+        }
+        self.count = count;
     }
 
     /// Adds the pairs of an atom with those of up to 64 others whose bits are set.
@@ -138,7 +151,6 @@ impl PairList {
         ensures listed { All (IsPairOf (length frame.now.places.now)) self.old → All (IsPairOf (length frame.now.places.now)) self.new }
         ensures within { result ≤ length others.now }
         ensures onward { 0 < length others.now → length self.old ≤ 64 → 0 < result }
-        ensures whole { length self.old + length others.now ≤ 128 → result ≡ length others.now }
         ensures few { length self.new ≤ length self.old + result }
     {
         let mut seen = 0;
@@ -153,94 +165,5 @@ impl PairList {
             seen = end;
         }
         seen
-    }
-}
-
-// ---- rows of pairs with atoms that are gathered
-
-impl PairList {
-    ghost use Rattle.std.specs.Prelude.{◌-◌, [], drop};
-    ghost use Rattle.std.specs.Int.{bit_at};
-    ghost use Rattle.place_blocks.specs.Blocks.{AreInSpan};
-    ghost use Rattle.cell_tiles.specs.Cells.{AreBlocks, AreLanes};
-    ghost use Rattle.cell_tiles.specs.Tiles.{pairs_between};
-
-    /// Adds the pairs that may act of those of up to sixteen atoms whose bits are set with all gathered ones, row by
-    /// row, until there might be no room for a row. It answers how many of the atoms it has come past. The atoms have
-    /// the lanes of a block from the lane `first` on.
-    #[inline(always)]
-    fn add_rows(
-        &mut self,
-        frame: &FrameInBox,
-        gathered: &Gathered,
-        block: &Block,
-        first: usize,
-        atoms: &[u32],
-        marked: u64,
-    ) -> usize
-        requires lanes { first + length atoms.now ≤ 16 }
-        requires marked { marked < 2 ^ length atoms.now }
-        requires beside { AreLanes frame.now.places.now block.now first atoms.now }
-        requires gathered { AreInBlocks frame.now.places.now gathered.now.blocks 0 gathered.now.atoms }
-        requires pairs { All (λ a. All (IsPairOf (length frame.now.places.now)) (pairs_with a gathered.now.atoms)) atoms.now }
-        requires idle { (j : ℕ) → j < length atoms.now → bit_at marked j ≡ 0
-            → those_acting frame.now.reach.now frame.now.ring.now frame.now.places.now (pairs_with (slice_index atoms.now j) gathered.now.atoms) ≡ [] }
-        ensures acting { those_acting frame.now.reach.now frame.now.ring.now frame.now.places.now self.new
-            ≡ those_acting frame.now.reach.now frame.now.ring.now frame.now.places.now self.old ++ those_acting frame.now.reach.now frame.now.ring.now frame.now.places.now (pairs_between (take result atoms.now) gathered.now.atoms) }
-        ensures listed { All (IsPairOf (length frame.now.places.now)) self.old → All (IsPairOf (length frame.now.places.now)) self.new }
-        ensures within { result ≤ length atoms.now }
-        ensures onward { 0 < length atoms.now → length self.old ≡ 0 → 0 < result }
-    {
-        let others = gathered.atoms();
-        let blocks = gathered.blocks();
-        let mut next = 0;
-        let mut left = marked;
-        while left != 0 {
-            if self.len() + others.len() > 128 {
-                return next;
-            }
-            let (row, rest) = next_lane(left);
-            self.add_row(frame, atoms[row], block.at(first + row), blocks, 0, others);
-            next = row + 1;
-            left = rest;
-        }
-        atoms.len()
-    }
-
-    /// Adds the pairs that may act of these atoms from the number `from` on with all gathered ones, row by row, until
-    /// there might be no room for a row. It answers the number of the atom to go on with. The blocks stand beside the
-    /// atoms, and the gathered ones lie in the span: so sixteen rows at once are seen to be far.
-    pub(crate) fn add_cell(
-        &mut self,
-        frame: &FrameInBox,
-        gathered: &Gathered,
-        span: &CellSpan,
-        atoms: &[u32],
-        blocks: &[Block],
-        from: usize,
-    ) -> usize
-        requires beside { AreBlocks frame.now.places.now atoms.now blocks.now }
-        requires gathered { AreInBlocks frame.now.places.now gathered.now.blocks 0 gathered.now.atoms }
-        requires span { All (λ b. AreInSpan span.now (places_of frame.now.places.now b)) gathered.now.atoms }
-        requires pairs { All (λ a. All (IsPairOf (length frame.now.places.now)) (pairs_with a gathered.now.atoms)) atoms.now }
-        requires from { from < length atoms.now }
-        ensures acting { those_acting frame.now.reach.now frame.now.ring.now frame.now.places.now self.new
-            ≡ those_acting frame.now.reach.now frame.now.ring.now frame.now.places.now self.old ++ those_acting frame.now.reach.now frame.now.ring.now frame.now.places.now (pairs_between (take (result - from) (drop from atoms.now)) gathered.now.atoms) }
-        ensures listed { All (IsPairOf (length frame.now.places.now)) self.old → All (IsPairOf (length frame.now.places.now)) self.new }
-        ensures within { result ≤ length atoms.now }
-        ensures onward { length self.old ≡ 0 → from < result }
-    {
-        let mut next = from;
-        while next < atoms.len() {
-            let lane = next % 16;
-            let end = atoms.len().min(next + (16 - lane));
-            let block = &blocks[next / 16];
-            let marked = bits_of(frame.coarse.near_cell(block, span), lane, end - next);
-            next += self.add_rows(frame, gathered, block, lane, &atoms[next..end], marked);
-            if next < end {
-                return next;
-            }
-        }
-        next
     }
 }

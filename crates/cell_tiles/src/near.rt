@@ -7,6 +7,7 @@ ghost use Rattle.ring_box.specs.Places.{ArePlaces};
 
 use crate::gathered::Gathered;
 use crate::lists::PairList;
+use crate::marks::Marks;
 use crate::pairs::AtomPair;
 use place_blocks::CoarseReach;
 use ring_box::{Place3, Reach, RingBox};
@@ -30,6 +31,8 @@ pub struct NearPairs {
     pub(crate) list: PairList,
     // where the atoms of a cell are gathered that may act with some of another
     pub(crate) gathered: Gathered,
+    // and the pairs of some with these, until they are named
+    pub(crate) marks: Marks,
 }
 
 impl Model for NearPairs {
@@ -50,6 +53,7 @@ impl NearPairs {
         NearPairs {
             list: PairList::new(),
             gathered: Gathered::new(),
+            marks: Marks::new(),
         }
     }
 

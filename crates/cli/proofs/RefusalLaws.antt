@@ -50,6 +50,7 @@ asks_all (command.Frame frame) before after all = all
 asks_all (command.Energy energy) before after all = inr all
 asks_all (command.Check check) before after all = inr all
 asks_all (command.Code l) before after all = all
+asks_all (command.Explain e) before after all = all
 
 asks_of_two : {A : Type 0} (held : List ℕ → Option (List ℕ)) (first second : List ℕ) (before after : Paths) (f : CommandFault A) → IsUnreadOfTwo held first second before after f
     → (after ≡ also_asked before first) ⊎ (after ≡ also_asked (also_asked before first) second)
@@ -69,6 +70,7 @@ asks_without_bytes held (command.Frame frame) before after f h = h.asked
 asks_without_bytes held (command.Energy energy) before after f h = asks_of_two held _ _ _ _ f h
 asks_without_bytes held (command.Check check) before after f h = asks_of_some held _ check.listing _ _ f h
 asks_without_bytes held (command.Code l) before after f h = h.asked
+asks_without_bytes held (command.Explain e) before after f h = absurd h
 
 asks_undone : {A : Type 0} (held : List ℕ → Option (List ℕ)) (asked asked' : Paths) (c : Command) (before after : Output) (f : CommandFault A)
     → IsUndone held asked asked' c before after f → AsksFor c asked asked'
@@ -130,6 +132,7 @@ kept_refused words held (command.Frame frame) before after f is h = inl (kept_un
 kept_refused words held (command.Energy energy) before after f is h = inl (kept_unwritten _ _ before after f h.4 (λ b. b.written.failed))
 kept_refused words held (command.Check check) before after f is h = inl (kept_verdict held _ check.listing before after f h)
 kept_refused words held (command.Code l) before after f is h = inl (kept_unwritten _ _ before after f h.2 (λ b. b.written.failed))
+kept_refused words held (command.Explain e) before after f is h = inl (kept_unwritten _ _ before after f h (λ b. b.written.failed))
 
 kept_unanswered : {A : Type 0} (words : List (List ℕ)) (before after : Output) (f : CommandFault A) → IsUnanswered words before after f → IsKept before after
 kept_unanswered words before after f (inl h) = inl h.3
@@ -187,6 +190,7 @@ bytes_of_words held (command.Frame frame) before after f of_words h = unread_of_
 bytes_of_words held (command.Energy energy) before after f of_words h = two_of_words held _ _ _ _ f of_words h
 bytes_of_words held (command.Check check) before after f of_words h = some_of_words held _ check.listing _ _ f of_words h
 bytes_of_words held (command.Code l) before after f of_words h = unread_of_words held _ _ _ f of_words h
+bytes_of_words held (command.Explain e) before after f of_words h = h
 
 -- a refusal of texts isn't a fault of the words, nor is a failed output
 unwritten_of_words : {A : Type 0} (Why Began : Type 0) (before after : Output) (f : CommandFault A) → IsOfWords f → (Why → ⊥) → Unwritten Why Began before after f → ⊥
@@ -213,6 +217,7 @@ refused_of_words held (command.Check check) before after f of_words job frame st
     by_listing None h = unwritten_of_words _ _ before after f of_words (under_of_words _ _ _ (job h.0) slope) h.2
     by_listing (Some l) h = unwritten_of_words _ _ before after f of_words (under_of_words _ _ _ (job h.0) (listing h.1)) h.4
 refused_of_words held (command.Code l) before after f of_words job frame state code slope listing energy h = unwritten_of_words _ _ before after f of_words (under_of_words _ _ _ (job h.0) code) h.2
+refused_of_words held (command.Explain e) before after f of_words job frame state code slope listing energy h = unwritten_of_words _ _ before after f of_words (λ none. none) h
 
 -- words that name a command have no fault of their own
 command_of_words : {A : Type 0} (held : List ℕ → Option (List ℕ)) (asked asked' : Paths) (c : Command) (before after : Output) (f : CommandFault A) → IsOfWords f

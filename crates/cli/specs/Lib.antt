@@ -1,4 +1,5 @@
 pub mod Asked
+pub mod Explained
 pub mod Failures
 pub mod Held
 pub mod Conversions

@@ -8,6 +8,7 @@ use Rattle.command_line.specs.CommandLine.{AsksForHelp, AsksForVersion, IsComman
 use Rattle.command_line.specs.declared.commands.Command.{Command}
 use Rattle.command_line.specs.declared.commands.Command.TheVariants as command
 use Rattle.cli.specs.Conversions.{IsCodeText, IsFrameText, IsStartText}
+use Rattle.cli.specs.Explained.{IsExplanation}
 use Rattle.cli.specs.Held.{OfOne, OfTwo}
 use Rattle.fallible.specs.Out.{Output, Appends}
 use Rattle.cli.specs.Reads.{asked_by}
@@ -19,7 +20,8 @@ HasVerdict held job None Wrote = OfOne held job (λ j. IsSlopeVerdict j Wrote)
 HasVerdict held job (Some listing) Wrote = OfTwo held job listing.now (λ j l. IsListingVerdict j l Wrote)
 
 -- A command has printed what it is for, of the bytes of its files: a started state, the text of a state after n steps,
--- frames on the way (with `--progress` as without), a state's frame or energy, a verdict, or a listing.
+-- frames on the way (with `--progress` as without), a state's frame or energy, a verdict, or a listing; or what a
+-- refusal means.
 abbrev pub HasPrinted : (List ℕ → Option (List ℕ)) → Command → Output → Output → Type 0
 HasPrinted held (command.Start start) before after = OfTwo held start.job.now start.gro.now (λ job gro. IsStartText job gro start.frame (Appends before after))
 HasPrinted held (command.Run run) before after = OfTwo held run.job.now run.state.now (λ job state. WroteLevesqueVerletRun job state run.direction run.steps before after)
@@ -28,6 +30,7 @@ HasPrinted held (command.Frame frame) before after = OfOne held frame.state.now 
 HasPrinted held (command.Energy energy) before after = OfTwo held energy.job.now energy.state.now (λ job state. IsEnergyText job state (Appends before after))
 HasPrinted held (command.Check check) before after = HasVerdict held check.job.now check.listing (Appends before after)
 HasPrinted held (command.Code l) before after = OfOne held l.job.now (λ job. IsCodeText job (Appends before after))
+HasPrinted held (command.Explain e) before after = IsExplanation e.code.now (Appends before after)
 
 -- The words were carried out: help or the version, and no file was asked for; or a command, which asked for its files
 -- and printed what they say.

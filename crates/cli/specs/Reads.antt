@@ -23,6 +23,7 @@ asked_by paths (command.Frame frame) = also_asked paths frame.state.now
 asked_by paths (command.Energy energy) = also_asked (also_asked paths energy.job.now) energy.state.now
 asked_by paths (command.Check check) = also_asked_if (also_asked paths check.job.now) check.listing
 asked_by paths (command.Code l) = also_asked paths l.job.now
+asked_by paths (command.Explain e) = paths
 
 -- a command has asked for its files in their order, or for the first of them
 abbrev pub AsksFor : Command → Option (List (List ℕ)) → Option (List (List ℕ)) → Type 0
@@ -33,6 +34,7 @@ AsksFor (command.Frame frame) before after = after ≡ asked_by before (command.
 AsksFor (command.Energy energy) before after = (after ≡ also_asked before energy.job.now) ⊎ (after ≡ asked_by before (command.Energy energy))
 AsksFor (command.Check check) before after = (after ≡ also_asked before check.job.now) ⊎ (after ≡ asked_by before (command.Check check))
 AsksFor (command.Code l) before after = after ≡ asked_by before (command.Code l)
+AsksFor (command.Explain e) before after = after ≡ before
 
 -- the fault of a command whose file at this path gave no bytes
 abbrev pub unread : {A : Type 0} → ReadFault → Bor (List ℕ) → CommandFault A

@@ -35,6 +35,7 @@ use Rattle.trajectory.specs.Trajectories.{ShowsFrame}
 use Rattle.trajectory.specs.Visits.{AreTextsUnwritten}
 use Rattle.cli.specs.Asked.{also_asked}
 use Rattle.cli.specs.Conversions.{IsCodeText, IsFrameOf, IsFrameText, IsStartText}
+use Rattle.cli.specs.Explained.{IsExplanation}
 use Rattle.cli.specs.Failures.{fault_of_run}
 use Rattle.cli.specs.Held.{OfOne, OfTwo}
 use Rattle.cli.specs.Reads.{asked_by, unread}
@@ -138,6 +139,10 @@ IsListingUndone job listing before after f = IsTextUnwritten (RefusesUnder job (
 abbrev pub IsEnergyUndone : {A : Type 0} → (job state : List ℕ) → Output → Output → CommandFault A → Type 0
 IsEnergyUndone job state before after f = IsTextUnwritten (RefusesEnergy job state) (IsEnergyText job state) before after f
 
+-- why no explanation was written: there is one, so only the output can have failed
+abbrev pub IsExplanationUndone : {A : Type 0} → List ℕ → Output → Output → CommandFault A → Type 0
+IsExplanationUndone code before after f = IsTextUnwritten (λ f. ⊥) (IsExplanation code) before after f
+
 -- why no run of a state under a job was written: a failed output is left with a beginning of its text, and what else
 -- there is writes nothing
 abbrev pub IsRunUndone : {A : Type 0} → (job state : List ℕ) → Run → Output → Output → CommandFault A → Type 0
@@ -162,6 +167,7 @@ IsCommandRefused held (command.Frame frame) before after f = OfOne held frame.st
 IsCommandRefused held (command.Energy energy) before after f = OfTwo held energy.job.now energy.state.now (λ job state. IsEnergyUndone job state before after f)
 IsCommandRefused held (command.Check check) before after f = IsVerdictUndone held check.job.now check.listing before after f
 IsCommandRefused held (command.Code l) before after f = OfOne held l.job.now (λ job. IsCodeUndone job before after f)
+IsCommandRefused held (command.Explain e) before after f = IsExplanationUndone e.code.now before after f
 
 -- ---- files that give no bytes
 
@@ -193,6 +199,7 @@ HasNoBytes held (command.Frame frame) asked_before asked_after f = IsUnread held
 HasNoBytes held (command.Energy energy) asked_before asked_after f = IsUnreadOfTwo held energy.job.now energy.state.now asked_before asked_after f
 HasNoBytes held (command.Check check) asked_before asked_after f = IsUnreadOfSome held check.job.now check.listing asked_before asked_after f
 HasNoBytes held (command.Code l) asked_before asked_after f = IsUnread held l.job.now asked_before asked_after f
+HasNoBytes held (command.Explain e) asked_before asked_after f = ⊥
 
 -- ---- of words
 

@@ -1,6 +1,6 @@
 //! Doing what the words ask for.
 
-ghost use Rattle.std.specs.Prelude.{◌≡◌, ◌≢◌, ◌⊎◌, ◌≤◌, ◌<◌, ◌-◌, ◌^◌, ℕ, List, Some, None, IfOk, OnOk, OnErr, IfErr, map, string_bytes};
+ghost use Rattle.std.specs.Prelude.{◌≡◌, ◌≢◌, ◌⊎◌, ◌≤◌, ◌<◌, ◌-◌, ◌^◌, ℕ, List, Option, Some, None, IfOk, OnOk, OnErr, IfErr, map, string_bytes};
 ghost use Rattle.std.specs.Result.{MatchResult};
 ghost use Rattle.clap.specs.Words.{kind_of};
 ghost use Rattle.clap.specs.declared.error.kind.ErrorKind.TheVariants.{DisplayHelp, DisplayVersion};
@@ -19,14 +19,16 @@ ghost use Rattle.cli.specs.Statuses.{status_of};
 ghost use Rattle.cli.specs.declared.faults.CommandFault.{CommandFault};
 
 use crate::conversions::{code_bytes, frame_bytes, start_bytes};
-use crate::faults::{CommandFault, Status, ran};
+use crate::faults::{CommandFault, Status, ran, written};
 use crate::files::{Files, ReadFault};
 use crate::progress::{run_watched, trajectory_watched};
 use crate::verdicts::{energy_bytes, listing_verdict_bytes, slope_verdict_bytes};
 use crate::writing::write_line;
 use clap::Error;
 use clap::error::ErrorKind;
-use command_line::{Check, Command, Energy, Frame, Listing, Run, Start, Trajectory, parse};
+use command_line::{
+    Check, Command, Energy, Explain, Frame, Listing, Run, Start, Trajectory, parse,
+};
 use engine::run_bytes;
 use fallible::{Out, write_all};
 use integrator::Workers;
@@ -125,6 +127,7 @@ fn perform<'a, R: Threads + Sync, A: Allocator + Copy + Send + Sync, F: Files, O
         Command::Energy(energy) => perform_energy(alloc, energy, files, out),
         Command::Check(check) => perform_check(alloc, check, files, out),
         Command::Code(listing) => perform_code(alloc, listing, files, out),
+        Command::Explain(explain) => perform_explain(explain, out),
     }
 }
 
@@ -227,6 +230,18 @@ fn perform_code<'a, A: Allocator + Copy, F: Files, O: Out>(
 {
     let job = read(alloc, listing.job, files)?;
     code_bytes(alloc, &job, out)
+}
+
+/// Prints what a refusal means.
+fn perform_explain<'a, A: Allocator, O: Out>(
+    explain: Explain<'a>,
+    out: &mut O,
+) -> Result<(), CommandFault<'a, A>>
+    requires { (O.output out.old).failed < 2 ^ 64 - 1 }
+    ensures { (held : List ℕ → Option (List ℕ)) (asked : Option (List (List ℕ)))
+        → Performs held asked asked (Command.Explain explain.entry) (O.output out.old) (O.output out.new) result }
+{
+    written(write_all(out, explain.text.as_bytes()))
 }
 
 /// Reads the job and then the state, and runs it.

@@ -9,7 +9,7 @@ use Rattle.clap.specs.Words.{App, HasKind, HasMatchesOf, IsAmong, Kinds, ReadsOn
 use Rattle.clap.specs.declared.builder.command.Command as parser
 use Rattle.clap.specs.declared.error.Error.{Error}
 use Rattle.clap.specs.declared.error.kind.ErrorKind.{ErrorKind}
-use Rattle.clap.specs.declared.error.kind.ErrorKind.TheVariants.{DisplayHelp, DisplayVersion, OutOfMemory, MissingRequiredArgument}
+use Rattle.clap.specs.declared.error.kind.ErrorKind.TheVariants.{DisplayHelp, DisplayVersion, OutOfMemory, InvalidValue}
 use Rattle.clap.specs.Kinds.{or_else}
 use Rattle.clap.specs.declared.parser.matches.ArgMatches.{ArgMatches}
 use Rattle.clap.specs.declared.parser.matches.Found.{Found}
@@ -59,15 +59,15 @@ or_else_kind (k ∷ ks) next e has = has
 
 -- an error of a kind that the parser finds in the words has a kind that the words' faults have
 pub faulty_has_kind : (words : List Text) (e : Error) → HasKind (fault_of program words) e → HasKind (faults_of words) e
-faulty_has_kind words e has = or_else_kind (fault_of program words) (MissingRequiredArgument ∷ []) e has
+faulty_has_kind words e has = or_else_kind (fault_of program words) (InvalidValue ∷ []) e has
 
 or_else_none : (kinds : Kinds) (k : ErrorKind) (e : Error) → kinds ≡ [] → kind_of e ≡ k → HasKind (or_else kinds (k ∷ [])) e
 or_else_none [] k e none is = inr (inl is)
 or_else_none (x ∷ xs) k e none is = cc
 
 -- the error that is made where words without a fault name no command
-pub faultless_has_kind : (words : List Text) (e : Error) → fault_of program words ≡ [] → kind_of e ≡ MissingRequiredArgument → HasKind (faults_of words) e
-faultless_has_kind words e none is = or_else_none (fault_of program words) MissingRequiredArgument e none is
+pub faultless_has_kind : (words : List Text) (e : Error) → fault_of program words ≡ [] → kind_of e ≡ InvalidValue → HasKind (faults_of words) e
+faultless_has_kind words e none is = or_else_none (fault_of program words) InvalidValue e none is
 
 -- the parser's clauses, of a command that is this program
 pub program_fails : (a : App) (words : List Text) (e : Error) → a ≡ program

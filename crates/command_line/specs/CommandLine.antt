@@ -8,7 +8,7 @@ use Rattle.clap.specs.declared.builder.command.Command as parser
 use Rattle.clap.specs.declared.builder.command.Command.TheViews.{out-Command}
 use Rattle.clap.specs.Kinds.{or_else}
 use Rattle.clap.specs.declared.error.kind.ErrorKind.{ErrorKind}
-use Rattle.clap.specs.declared.error.kind.ErrorKind.TheVariants.{DisplayHelp, DisplayVersion, MissingRequiredArgument}
+use Rattle.clap.specs.declared.error.kind.ErrorKind.TheVariants.{DisplayHelp, DisplayVersion, InvalidValue}
 use Rattle.clap.specs.declared.builder.action.ArgAction.TheVariants.{SetTrue}
 use Rattle.clap.specs.declared.builder.value_parser.ValueParser.TheVariants.{Unsigned}
 use Rattle.integrator.specs.declared.direction.Direction.{Direction}
@@ -17,6 +17,7 @@ use Rattle.command_line.specs.declared.commands.Command.{Command}
 use Rattle.command_line.specs.declared.commands.Command.TheVariants as command
 use Rattle.command_line.specs.declared.commands.Check.{Check}
 use Rattle.command_line.specs.declared.commands.Energy.{Energy}
+use Rattle.command_line.specs.declared.commands.Explain.{Explain}
 use Rattle.command_line.specs.declared.commands.Frame.{Frame}
 use Rattle.command_line.specs.declared.commands.Listing.{Listing}
 use Rattle.command_line.specs.declared.commands.Run.{Run}
@@ -25,8 +26,9 @@ use Rattle.command_line.specs.declared.commands.Trajectory.{Trajectory}
 
 -- ---- what the program takes
 
-abbrev pub path_rule : Text → Rule
-path_rule name = record (new_rule name) { required = true }
+-- an argument that is known by its place, and must be given
+abbrev pub operand_rule : Text → Rule
+operand_rule name = record (new_rule name) { required = true }
 
 -- an argument that is given after its name
 abbrev pub option_rule : Text → Rule
@@ -93,11 +95,11 @@ code_rule = record (new_rule (codes "code")) {
 
 -- the command that takes a job, a GRO file and the number of a frame
 abbrev pub starting : Shape
-starting = (with_rule (with_rule (with_rule (new_app (codes "start")) (path_rule (codes "JOB"))) (path_rule (codes "GRO"))) frame_rule).top
+starting = (with_rule (with_rule (with_rule (new_app (codes "start")) (operand_rule (codes "JOB"))) (operand_rule (codes "GRO"))) frame_rule).top
 
 -- a command that takes a job, a state, a number of steps and one of workers, and whether it tells how far it has come
 abbrev pub stepped : Text → App
-stepped name = with_rule (with_rule (with_rule (with_rule (with_rule (new_app name) (path_rule (codes "JOB"))) (path_rule (codes "STATE"))) steps_rule) workers_rule) progress_rule
+stepped name = with_rule (with_rule (with_rule (with_rule (with_rule (new_app name) (operand_rule (codes "JOB"))) (operand_rule (codes "STATE"))) steps_rule) workers_rule) progress_rule
 
 abbrev pub stepping : Text → Shape
 stepping name = (stepped name).top
@@ -108,19 +110,23 @@ filming = (with_rule (with_rule (stepped (codes "trajectory")) every_rule) back_
 
 -- the command that takes a job and a state
 abbrev pub weighing : Shape
-weighing = (with_rule (with_rule (new_app (codes "energy")) (path_rule (codes "JOB"))) (path_rule (codes "STATE"))).top
+weighing = (with_rule (with_rule (new_app (codes "energy")) (operand_rule (codes "JOB"))) (operand_rule (codes "STATE"))).top
 
 -- the command that takes a job and may take a listing
 abbrev pub checking : Shape
-checking = (with_rule (with_rule (new_app (codes "check")) (path_rule (codes "JOB"))) code_rule).top
+checking = (with_rule (with_rule (new_app (codes "check")) (operand_rule (codes "JOB"))) code_rule).top
 
 -- the command that takes a job alone
 abbrev pub listing : Shape
-listing = (with_rule (new_app (codes "code")) (path_rule (codes "JOB"))).top
+listing = (with_rule (new_app (codes "code")) (operand_rule (codes "JOB"))).top
+
+-- the command that takes the code of a refusal
+abbrev pub explaining : Shape
+explaining = (with_rule (new_app (codes "explain")) (operand_rule (codes "CODE"))).top
 
 -- the command that takes a state alone
 abbrev pub framing : Shape
-framing = (with_rule (new_app (codes "frame")) (path_rule (codes "STATE"))).top
+framing = (with_rule (new_app (codes "frame")) (operand_rule (codes "STATE"))).top
 
 -- a program that takes no words but those of its commands, and wants one, or that its version is asked for
 abbrev pub bare : App
@@ -137,7 +143,7 @@ abbrev pub judging : App
 judging = with_subcommand (with_subcommand returning weighing) checking
 
 abbrev pub program : App
-program = with_subcommand judging listing
+program = with_subcommand (with_subcommand judging listing) explaining
 
 -- ---- commands of the parser
 
@@ -241,6 +247,10 @@ pub record SaysCheck (rows : List Row) (check : Check) : Type 0 where
 pub record IsListing (rows : List Row) (l : Listing) : Type 0 where
   pub job : first_of (codes "JOB") rows ≡ Some l.job.now
 
+-- the values of the arguments of `explain` say this refusal, which is one that there is (`known`)
+pub record SaysExplain (rows : List Row) (e : Explain) : Type 0 where
+  pub code : first_of (codes "CODE") rows ≡ Some e.code.now
+
 -- a command's name and the values of its arguments say this command
 abbrev pub IsNamed : Text → List Row → Command → Type 0
 IsNamed name rows (command.Start start) = (name ≡ codes "start") × SaysStart rows start
@@ -250,6 +260,7 @@ IsNamed name rows (command.Frame frame) = (name ≡ codes "frame") × SaysFrame 
 IsNamed name rows (command.Energy energy) = (name ≡ codes "energy") × SaysEnergy rows energy
 IsNamed name rows (command.Check check) = (name ≡ codes "check") × SaysCheck rows check
 IsNamed name rows (command.Code l) = (name ≡ codes "code") × IsListing rows l
+IsNamed name rows (command.Explain e) = (name ≡ codes "explain") × SaysExplain rows e
 
 abbrev pub IsNamedOf : Option (Text × List Row) → Command → Type 0
 IsNamedOf None c = ⊥
@@ -263,9 +274,10 @@ IsCommand words c = (fault_of program words ≡ []) × IsNamedOf (subcommand_of 
 abbrev pub AsksForTrajectory : List Text → Type 0
 AsksForTrajectory words = (t : Trajectory) × IsCommand words (command.Trajectory t)
 
--- the kinds of fault of words that say no command: those of the first step of the parse that fails
+-- the kinds of fault of words that say no command: those of the first step of the parse that fails; where none does,
+-- they ask what a refusal means that there isn't
 abbrev pub faults_of : List Text → Kinds
-faults_of words = or_else (fault_of program words) (MissingRequiredArgument ∷ [])
+faults_of words = or_else (fault_of program words) (InvalidValue ∷ [])
 
 -- the words ask for help
 abbrev pub AsksForHelp : List Text → Type 0

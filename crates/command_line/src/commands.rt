@@ -1,6 +1,7 @@
 //! The commands of the program.
 
-ghost use Rattle.std.specs.Prelude.{◌≤◌, ◌<◌, ◌^◌};
+ghost use Rattle.std.specs.Prelude.{◌≡◌, ◌≤◌, ◌<◌, ◌^◌, Some};
+ghost use Rattle.explanations.specs.Explanations.{explanation_of};
 
 use integrator::Direction;
 
@@ -30,6 +31,8 @@ pub enum Command<'a> {
     Check(Check<'a>),
     /// `code`: the listing of the code of a job's slope.
     Code(Listing<'a>),
+    /// `explain`: what a refusal means.
+    Explain(Explain<'a>),
 }
 
 /// A state to start.
@@ -119,4 +122,14 @@ pub struct Check<'a> {
 pub struct Listing<'a> {
     /// The path of the job.
     pub job: &'a str,
+}
+
+/// A refusal to explain.
+#[derive(Clone, Copy)]
+pub struct Explain<'a> {
+    /// The code of the refusal.
+    pub code: &'a str,
+    /// The text that says what it means.
+    pub text: &'static str,
+    ghost known: { explanation_of code.now ≡ Some text.now },
 }

@@ -5,6 +5,7 @@ mod commands;
 mod parsing;
 
 pub use commands::{
-    Check, Command, Energy, Frame, Listing, MAX_STEPS, MAX_WORKERS, Run, Start, Trajectory, VERSION,
+    Check, Command, Energy, Explain, Frame, Listing, MAX_STEPS, MAX_WORKERS, Run, Start,
+    Trajectory, VERSION,
 };
 pub use parsing::parse;

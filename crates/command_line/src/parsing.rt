@@ -2,21 +2,24 @@
 
 ghost use Rattle.std.specs.Prelude.{◌≡◌, ◌≤◌, ◌<◌, ◌^◌, ◌⊎◌, ℕ, IfOk, IfErr, MatchOption, codes, option_map, map, false};
 ghost use Rattle.clap.specs.Words.{App, HasKind, Rule, Shape, app_of, first_of, found_of, kind_of, new_app, rows_of, rule_of, subcommand_rows_of, with_rule, with_subcommand};
-ghost use Rattle.clap.specs.declared.error.kind.ErrorKind.TheVariants.{OutOfMemory};
-ghost use Rattle.command_line.specs.CommandLine.{IsBuilt, SaysCheck, IsCommand, SaysEnergy, SaysFrame, IsGiven, IsListing, IsNamed, IsNamedOf, SaysRun, IsShaped, SaysNumber, SaysStart, SaysSteps, SaysTrajectory, IsTurned, back_rule, bare, checking, code_rule, command_name, every_rule, faults_of, filming, flag_rule, forward, frame_rule, framing, judging, listing, number_rule, option_rule, path_rule, program, progress_rule, returning, starting, stepped, steps_rule, stepping, weighing, workers_rule};
+ghost use Rattle.clap.specs.declared.error.kind.ErrorKind.TheVariants.{InvalidValue, OutOfMemory};
+ghost use Rattle.command_line.specs.CommandLine.{IsBuilt, SaysCheck, IsCommand, SaysEnergy, SaysExplain, SaysFrame, IsGiven, IsListing, IsNamed, IsNamedOf, SaysRun, IsShaped, SaysNumber, SaysStart, SaysSteps, SaysTrajectory, IsTurned, back_rule, bare, checking, code_rule, command_name, every_rule, explaining, faults_of, filming, flag_rule, forward, frame_rule, framing, judging, listing, number_rule, operand_rule, option_rule, program, progress_rule, returning, starting, stepped, steps_rule, stepping, weighing, workers_rule};
 ghost use Rattle.command_line.specs.declared.commands.Start.{Start};
 ghost use Rattle.command_line.specs.declared.commands.Frame.{Frame};
 ghost use Rattle.command_line.specs.declared.commands.Listing.{Listing};
 ghost use Rattle.command_line.specs.declared.commands.Energy.{Energy};
+ghost use Rattle.command_line.specs.declared.commands.Explain.{Explain};
 ghost use Rattle.command_line.specs.declared.commands.Check.{Check};
 ghost use Rattle.command_line.specs.declared.commands.Trajectory.{Trajectory};
 
 use crate::commands::{
-    Check, Command, Energy, Frame, Listing, MAX_STEPS, MAX_WORKERS, Run, Start, Trajectory, VERSION,
+    Check, Command, Energy, Explain, Frame, Listing, MAX_STEPS, MAX_WORKERS, Run, Start,
+    Trajectory, VERSION,
 };
 use clap::builder::ValueParser;
 use clap::error::ErrorKind;
 use clap::{Arg, ArgAction, ArgMatches, Error};
+use explanations::{Codes, explain};
 use integrator::Direction;
 use std::alloc::{AllocError, Global};
 use std::convert::AsStr;
@@ -32,13 +35,14 @@ pub fn parse<'a, S: AsStr>(alloc: Global, words: &'a [S]) -> Result<Command<'a>,
     ensures kind { IfErr result (HasKind (faults_of (map S.text words.entry.now))) }
 {
     let mut program = program(alloc)?;
-    let command = parse_by(&mut program, words);
+    let command = parse_by(alloc, &mut program, words);
     drop(program);
     command
 }
 
 /// The command that the words name to this program.
 fn parse_by<'a, S: AsStr>(
+    alloc: Global,
     parser: &mut clap::Command<'a>,
     words: &'a [S],
 ) -> Result<Command<'a>, Error>
@@ -50,12 +54,35 @@ fn parse_by<'a, S: AsStr>(
 {
     let matches = parser.try_get_matches_from_mut(words)?;
     let command = command_of(&matches);
+    let code = code_of(&matches);
     drop(matches);
     match command {
         Some(command) => Ok(command),
-        // The parser has met the arguments that it requires, and numbers in their ranges.
-        None => Err(parser.error(ErrorKind::MissingRequiredArgument, "incomplete command")?),
+        // The parser has met the arguments that it requires, and numbers in their ranges. It doesn't know the codes.
+        None => Err(unknown_code(alloc, parser, code)?),
     }
+}
+
+/// The code of a refusal that the matches name.
+fn code_of<'a>(matches: &ArgMatches<'a>) -> Option<&'a str> {
+    let (_, matches) = matches.subcommand()?;
+    matches.get_str("CODE")
+}
+
+/// The error of words that ask what a refusal means, and name none.
+fn unknown_code(
+    alloc: Global,
+    parser: &mut clap::Command<'_>,
+    code: Option<&str>,
+) -> Result<Error, AllocError>
+    ensures { IfOk result (λ e. kind_of e ≡ InvalidValue) }
+{
+    let code = code.unwrap_or("");
+    let codes = Codes;
+    let message = format!(in alloc;
+        "invalid value '{code}' for '<CODE>'\n  [possible values: {codes}]"
+    )?;
+    parser.error(ErrorKind::InvalidValue, &message)
 }
 
 /// The command that the matches say, if they say one.
@@ -79,6 +106,7 @@ fn command_by<'a>(name: &str, matches: &ArgMatches<'a>) -> Option<Command<'a>>
         "energy" => energy_of(matches),
         "check" => check_of(matches),
         "code" => listing_of(matches),
+        "explain" => explain_of(matches),
         _ => run_by(name, matches),
     }
 }
@@ -180,6 +208,16 @@ fn listing_of<'a>(matches: &ArgMatches<'a>) -> Option<Command<'a>>
     Some(Command::Code(Listing { job }))
 }
 
+/// The refusal to explain that these matches say, if there is one.
+fn explain_of<'a>(matches: &ArgMatches<'a>) -> Option<Command<'a>>
+    ensures { MatchOption result ((e : Explain) → SaysExplain (rows_of (found_of matches.now)) e → ⊥)
+        (λ c. (e : Explain) × (c ≡ Command.Explain e) × SaysExplain (rows_of (found_of matches.now)) e) }
+{
+    let code = path_of(matches, "CODE")?;
+    let text = explain(code)?;
+    Some(Command::Explain(Explain { code, text }))
+}
+
 fn path_of<'a>(matches: &ArgMatches<'a>, name: &str) -> Option<&'a str>
     ensures { option_map (λ s. s.now) result ≡ first_of name.now (rows_of (found_of matches.now)) }
 {
@@ -237,7 +275,10 @@ type BuiltCommand<'a> = Result<clap::Command<'a>, AllocError>;
 fn program<'a>(alloc: Global) -> BuiltCommand<'a>
     ensures { IfOk result (λ c. app_of c ≡ program) }
 {
-    with_command(judging(alloc), listing(alloc))
+    with_command(
+        with_command(judging(alloc), listing(alloc)),
+        explaining(alloc),
+    )
 }
 
 /// The program that starts states, and runs them forwards.
@@ -288,7 +329,7 @@ fn starting<'a>(alloc: Global) -> BuiltCommand<'a>
         "start",
         "Prints the state that begins at a frame of a GRO file",
     );
-    let command = with_arg(command, path(alloc, "GRO", "The GRO file"));
+    let command = with_arg(command, operand(alloc, "GRO", "The GRO file"));
     with_arg(command, frame_number(alloc))
 }
 
@@ -355,19 +396,30 @@ fn listing<'a>(alloc: Global) -> BuiltCommand<'a>
     of_job(alloc, "code", "Prints the code of a job's slope")
 }
 
+/// The command that takes the code of a refusal.
+fn explaining<'a>(alloc: Global) -> BuiltCommand<'a>
+    ensures { IsShaped result explaining }
+{
+    let command = clap::Command::new(alloc, "explain").about("Prints what a refusal means");
+    with_arg(
+        Ok(command),
+        operand(alloc, "CODE", "The code of the refusal, as V3"),
+    )
+}
+
 /// A command that takes a job, so far.
 fn of_job<'a>(alloc: Global, name: &'a str, about: &'a str) -> BuiltCommand<'a>
-    ensures { IsBuilt result (with_rule (new_app name.entry.now) (path_rule (codes "JOB"))) }
+    ensures { IsBuilt result (with_rule (new_app name.entry.now) (operand_rule (codes "JOB"))) }
 {
     let command = clap::Command::new(alloc, name).about(about);
-    command.arg(path(alloc, "JOB", "The file of the job"))
+    command.arg(operand(alloc, "JOB", "The file of the job"))
 }
 
 /// A command that takes a state besides what it takes.
 fn of_state<'a>(alloc: Global, command: BuiltCommand<'a>) -> BuiltCommand<'a>
-    ensures { (app : App) → IsBuilt command.entry app → IsBuilt result (with_rule app (path_rule (codes "STATE"))) }
+    ensures { (app : App) → IsBuilt command.entry app → IsBuilt result (with_rule app (operand_rule (codes "STATE"))) }
 {
-    with_arg(command, path(alloc, "STATE", "The file of the state"))
+    with_arg(command, operand(alloc, "STATE", "The file of the state"))
 }
 
 /// A command with one argument more.
@@ -405,8 +457,9 @@ fn with_command<'a>(program: BuiltCommand<'a>, command: BuiltCommand<'a>) -> Bui
     }
 }
 
-fn path<'a>(alloc: Global, name: &'a str, help: &'a str) -> Arg<'a>
-    ensures rule { rule_of result ≡ path_rule name.entry.now }
+/// An argument that is known by its place, and must be given.
+fn operand<'a>(alloc: Global, name: &'a str, help: &'a str) -> Arg<'a>
+    ensures rule { rule_of result ≡ operand_rule name.entry.now }
     ensures local { result.global ≡ false }
 {
     Arg::new(alloc, name).required(true).help(help)

@@ -1,6 +1,6 @@
 -- What the pairs of a frame come to over its tiles is what all its pairs come to.
 use Rattle.std.proofs.Common.{◌≡◌, ℕ, ◌*◌, ◌^◌, ◌<◌, ◌≤◌, List, [], ◌∷◌, length, sum_by, ℤ, pos, ◌+ℤ◌, Option, Some, None, arith, refl, ap, ap₂, subst, sym, ◌∙◌}
-use Rattle.std.specs.Prelude.{◌*ℤ◌, map, option_map, slice_index, unwrap_or}
+use Rattle.std.specs.Prelude.{◌*ℤ◌, option_map, slice_index, unwrap_or}
 use Rattle.std.specs.List.{All}
 use Rattle.std.proofs.lemmas.Int.{ints}
 use Rattle.fixed.specs.declared.frac.Frac.{Frac}

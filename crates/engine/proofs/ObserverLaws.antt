@@ -13,7 +13,7 @@ use Rattle.ring_box.specs.Cells.{NearAreNeighbours, cell_bits_of}
 use Rattle.pair_sums.specs.declared.sums.Apart.{Apart}
 use Rattle.pair_sums.specs.declared.sums.PairSums.{PairSums}
 use Rattle.integrator.specs.Forces.{pairs_of}
-use Rattle.integrator.specs.Frames.{Frame, frame_forces, moved_frame, next_frame}
+use Rattle.integrator.specs.Frames.{Frame, moved_frame, next_frame}
 use Rattle.integrator.specs.Starts.{ring_of}
 use Rattle.integrator.specs.States.{current_frame, moved_state}
 use Rattle.integrator.specs.declared.direction.Direction.{Direction}
@@ -61,10 +61,6 @@ module _ {A : Type 0} (j : Job A) (s : State A) (y : System (SlopeKernel A) A) (
     grid = tiling.grid ∙ grid_is;
     neighbours = rw near_is at tiling.neighbours;
   }
-
-  -- it is one with other cells of that box
-  pub observer_kept : (o : ObserverView) (t : Tiling A) → IsObserverOf (engine_view j s y) o → IsTilingOf y t → IsObserverOf (engine_view j s y) (record { kernel = o.kernel; grid = t.tiles.grid.bits })
-  observer_kept o t is tiling = record { under = is.under; gives = is.gives; has = is.has; grid = tiling.grid ∙ grid_is; neighbours = is.neighbours }
 
   -- ---- what is seen
 

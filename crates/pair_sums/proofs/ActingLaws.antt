@@ -1,10 +1,9 @@
 -- Sums over those that act of the elements of some lists: they are sums over another list where each element that acts
 -- stands as often.
-use Rattle.std.proofs.Common.{◌≡◌, ℕ, ◌+◌, ◌≤◌, List, [], ◌∷◌, ◌++◌, length, sum_by, ℤ, pos, ◌+ℤ◌, Option, Some, None, arith, refl, ap, sym, ◌∙◌}
+use Rattle.std.proofs.Common.{◌≡◌, ℕ, ◌+◌, ◌≤◌, List, [], ◌∷◌, ◌++◌, length, sum_by, ℤ, pos, ◌+ℤ◌, Option, Some, None, arith, refl, ap, ◌∙◌}
 use Rattle.std.specs.Prelude.{map, option_map}
 use Rattle.std.specs.List.{flat_map}
 use Rattle.std.proofs.lemmas.Int.{ints}
-use Rattle.std.proofs.lemmas.List.{length-append}
 use Rattle.std.proofs.lemmas.List.Sums.{sum_by-append, sum_by-cons}
 use Rattle.tile_round.specs.Tiles.{acting}
 use Rattle.pair_sums.specs.Sums.{least_over, sum_over}

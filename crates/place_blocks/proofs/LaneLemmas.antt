@@ -1,12 +1,10 @@
 -- What the operations on vectors of sixteen lanes hold at each lane.
-use Rattle.std.proofs.Common.{◌≡◌, ℕ, zero, suc, ◌+◌, ◌-◌, ◌/◌, ◌%◌, ◌^◌, ◌<◌, ◌≢◌, List, [], ◌∷◌, Bool, false, cond, eqb, ltb, leb, length, get_or, map, replicate, refl, sym, ap, subst, ◌∙◌, arith, Fits, w16, w32, inl, inr, min}
+use Rattle.std.proofs.Common.{◌≡◌, ℕ, zero, suc, ◌+◌, ◌-◌, ◌/◌, ◌%◌, ◌^◌, ◌<◌, List, [], ◌∷◌, Bool, false, cond, ltb, leb, length, get_or, map, replicate, refl, sym, ap, subst, ◌∙◌, arith, Fits, w16, w32, inl, inr, min}
 use Rattle.std.specs.Int.{bit_at}
 use Rattle.std.specs.Simd.Lanes.{zip2, sel_l, mask_l, top, Each1}
 use Rattle.std.proofs.lemmas.Simd.{length-zip2, get_or-zip2, get_or-replicate, length-sel_l, get_or-sel_l, bit_mask_l, tops_compared, bitmask_splat, mask_l-lt, Each1-get_or, Each1-from_get_or}
-use Rattle.std.specs.List.{range_with_len}
-use Rattle.std.proofs.lemmas.List.{get_or_past, length-map}
-use Rattle.std.proofs.lemmas.List.FromFn.{get_or-range_with_len}
-use Rattle.std.proofs.lemmas.Bool.{cases_lt, cond-true, cond-false, eq-eqb, lt-ltb, le-ltb, ne_eqb}
+use Rattle.std.proofs.lemmas.List.{length-map}
+use Rattle.std.proofs.lemmas.Bool.{cases_lt, cond-true, cond-false, lt-ltb, le-ltb}
 use Rattle.std.proofs.lemmas.Bool.Decides.{nat_tests}
 use Rattle.place_blocks.specs.Lanes.{HasLanes}
 
@@ -103,26 +101,3 @@ within a limit e =
     let ms = map (λ x. leb x limit) a in
     let long : length ms ≡ 16 = length-map a (λ x. leb x limit) ∙ e in
     rw (bitmask_splat w32 leb a 16 limit e (omega arith)) (subst (λ n. mask_l ms < 2 ^ n) long (mask_l-lt ms))
-
--- ---- one lane replaced
-
-counted : HasLanes (range_with_len 0 16) (λ k. k)
-counted = record { long = refl; each = λ k l. let e = get_or-range_with_len 0 16 k 0 l in omega (arith, e) }
-
--- a choice by the number of a lane
-pub replaced : (a : List ℕ) (lane value : ℕ) → length a ≡ 16
-    → HasLanes (sel_l (map (top 15) (zip2 (λ m n. cond (eqb m n) (2 ^ 16 - 1) 0) (range_with_len 0 16) (replicate 16 lane))) (replicate 16 value) a) (λ k. cond (eqb k lane) value (get_or a k 0))
-replaced a lane value e =
-    chosen eqb (range_with_len 0 16) (replicate 16 lane) (replicate 16 value) a (λ (k : ℕ). k) (λ (k : ℕ). lane) (λ (k : ℕ). value) (λ (k : ℕ). get_or a k 0) counted (splat lane) (splat value) (itself a e)
-
--- there it holds the other value
-pub lane_is : (a v : List ℕ) (lane value : ℕ) → lane < 16 → HasLanes v (λ k. cond (eqb k lane) value (get_or a k 0)) → get_or v lane 0 ≡ value
-lane_is a v lane value l h = h.each lane l ∙ cond-true (eqb lane lane) value (get_or a lane 0) (eq-eqb lane lane refl)
-
--- and elsewhere what it held, past the sixteen too
-pub others_are : (a v : List ℕ) (lane value k : ℕ) → length a ≡ 16 → HasLanes v (λ k. cond (eqb k lane) value (get_or a k 0)) → k ≢ lane → get_or v k 0 ≡ get_or a k 0
-others_are a v lane value k e h ne =
-    elim (cases_lt k 16) [
-      | inl l ↦ h.each k l ∙ cond-false (eqb k lane) value (get_or a k 0) (ne_eqb k lane ne)
-      | inr g ↦ let long = h.long in get_or_past v k 0 (omega arith) ∙ sym (get_or_past a k 0 (omega arith))
-    ]

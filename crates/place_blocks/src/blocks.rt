@@ -1,16 +1,14 @@
 //! Blocks of sixteen atoms, by the upper halves of their places.
 
-use crate::lanes::{lane_of, with_lane};
 use crate::upper_halves::UpperHalves;
 use ring_box::Place3;
-use std::simd::prelude::*;
 
 /// The upper halves of the places of sixteen atoms, by axis: an atom is a lane.
 #[derive(Clone, Copy)]
 pub struct Block {
-    pub x: u16x16,
-    pub y: u16x16,
-    pub z: u16x16,
+    pub x: [u16; 16],
+    pub y: [u16; 16],
+    pub z: [u16; 16],
 }
 
 impl Block {
@@ -24,9 +22,9 @@ impl Block {
         ensures { (k : ℕ) → k < 16 → IsLane result k nowhere }
     {
         Block {
-            x: u16x16::splat(0),
-            y: u16x16::splat(0),
-            z: u16x16::splat(0),
+            x: [0; 16],
+            y: [0; 16],
+            z: [0; 16],
         }
     }
 
@@ -34,20 +32,16 @@ impl Block {
     pub fn of(places: &[Place3]) -> Block
         ensures { (k : ℕ) → k < 16 → IsLane result k (slice_index_or places.now k nowhere) }
     {
-        let mut x = [0u16; 16];
-        let mut y = [0u16; 16];
-        let mut z = [0u16; 16];
+        let mut x = [0; 16];
+        let mut y = [0; 16];
+        let mut z = [0; 16];
         for i in 0..places.len().min(16) {
             let halves = UpperHalves::of(places[i]);
             x[i] = halves.x;
             y[i] = halves.y;
             z[i] = halves.z;
         }
-        Block {
-            x: u16x16::from_array(x),
-            y: u16x16::from_array(y),
-            z: u16x16::from_array(z),
-        }
+        Block { x, y, z }
     }
 
     /// The upper halves in a lane.
@@ -57,9 +51,9 @@ impl Block {
         ensures { result ≡ halves_at self.now lane }
     {
         UpperHalves {
-            x: lane_of(&self.x, lane),
-            y: lane_of(&self.y, lane),
-            z: lane_of(&self.z, lane),
+            x: self.x[lane],
+            y: self.y[lane],
+            z: self.z[lane],
         }
     }
 
@@ -70,8 +64,8 @@ impl Block {
         ensures here { halves_at self.new lane ≡ halves }
         ensures others { (k : ℕ) → k ≢ lane → halves_at self.new k ≡ halves_at self.old k }
     {
-        self.x = with_lane(self.x, lane, halves.x);
-        self.y = with_lane(self.y, lane, halves.y);
-        self.z = with_lane(self.z, lane, halves.z);
+        self.x[lane] = halves.x;
+        self.y[lane] = halves.y;
+        self.z[lane] = halves.z;
     }
 }

@@ -99,9 +99,24 @@ impl CoarseReach {
         ensures value { HasLanes result (coarse_square_of self.now span.now block.now) }
         ensures small { (k : ℕ) → k < 16 → slice_index result k < 2 ^ 32 - 1 }
     {
-        let x = gap_squares(block.x, span.first.x, span.width.x, self.x);
-        let y = gap_squares(block.y, span.first.y, span.width.y, self.y);
-        let z = gap_squares(block.z, span.first.z, span.width.z, self.z);
+        let x = gap_squares(
+            u16x16::from_array(block.x),
+            span.first.x,
+            span.width.x,
+            self.x,
+        );
+        let y = gap_squares(
+            u16x16::from_array(block.y),
+            span.first.y,
+            span.width.y,
+            self.y,
+        );
+        let z = gap_squares(
+            u16x16::from_array(block.z),
+            span.first.z,
+            span.width.z,
+            self.z,
+        );
         sum(x, y, z)
     }
 

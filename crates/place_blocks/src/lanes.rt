@@ -1,6 +1,6 @@
 //! Vectors of sixteen lanes: each operation that the test of a block uses, with what its lanes hold.
 
-ghost use Rattle.std.specs.Prelude.{◌≡◌, ◌≢◌, ℕ, ◌+◌, ◌-◌, ◌*◌, ◌/◌, ◌%◌, ◌^◌, ◌<◌, min, nat_le, slice_index, if◌then◌else◌};
+ghost use Rattle.std.specs.Prelude.{◌≡◌, ℕ, ◌+◌, ◌-◌, ◌*◌, ◌/◌, ◌%◌, ◌^◌, ◌<◌, min, nat_le, slice_index, if◌then◌else◌};
 ghost use Rattle.std.specs.Int.{bit_at};
 ghost use Rattle.place_blocks.specs.Blocks.{behind};
 ghost use Rattle.place_blocks.specs.Lanes.{HasLanes};
@@ -84,26 +84,4 @@ pub(crate) fn at_most(a: u32x16, limit: u32) -> u64
     ensures bound { result < 2 ^ 16 }
 {
     a.simd_le(u32x16::splat(limit)).to_bitmask()
-}
-
-/// A lane.
-#[inline(always)]
-pub(crate) fn lane_of(a: &u16x16, lane: usize) -> u16
-    requires { lane < 16 }
-    ensures { result ≡ slice_index a.now lane }
-{
-    a.as_array()[lane]
-}
-
-/// The vector with one lane replaced: chosen, since a lane that is written would be waited for where all are read next.
-#[inline(always)]
-pub(crate) fn with_lane(a: u16x16, lane: usize, value: u16) -> u16x16
-    requires { lane < 16 }
-    ensures here { slice_index result lane ≡ value }
-    ensures others { (k : ℕ) → k ≢ lane → slice_index result k ≡ slice_index a k }
-{
-    let lanes = u16x16::from_array([0, 1, 2, 3, 4, 5, 6, 7, 8, 9, 10, 11, 12, 13, 14, 15]);
-    lanes
-        .simd_eq(u16x16::splat(lane as u16))
-        .select(u16x16::splat(value), a)
 }

@@ -16,6 +16,7 @@ Help goes to standard output, and ends with status 0.
     energy      Prints the energy of a state
     check       Judges the code of a job's slope, or other code under the job
     code        Prints the code of a job's slope
+    explain     Prints what a refusal means
     help        Print this message or the help of the given subcommand(s)
   
   Options:
@@ -35,6 +36,7 @@ Help goes to standard output, and ends with status 0.
     energy      Prints the energy of a state
     check       Judges the code of a job's slope, or other code under the job
     code        Prints the code of a job's slope
+    explain     Prints what a refusal means
     help        Print this message or the help of the given subcommand(s)
   
   Options:
@@ -163,7 +165,7 @@ Words that name no command, and options that no command has. Standard output sta
 
   $ pairmd
   error: 'pairmd' requires a subcommand but one was not provided
-    [subcommands: start, run, back, trajectory, frame, energy, check, code, help]
+    [subcommands: start, run, back, trajectory, frame, energy, check, code, explain, help]
   
   Usage: pairmd <COMMAND>
   

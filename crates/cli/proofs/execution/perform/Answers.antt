@@ -1,4 +1,5 @@
 -- each command does what its own call does
+use Rattle.std.proofs.Common.{None}
 use Rattle.cli.proofs.PerformLaws.{tells_nothing}
 use Rattle.cli.proofs.execution.perform.Goals as goal
 
@@ -40,6 +41,12 @@ returns-in-Check-clause-tells g c = rw c.in-Check.is (tells_nothing c.perform_ch
 
 pub returns-in-Code-clause-performs : goal.returns-in-Code-clause-performs
 returns-in-Code-clause-performs g c = rw c.in-Code.is c.perform_code.ensures
+
+pub returns-in-Explain-clause-performs : goal.returns-in-Explain-clause-performs
+returns-in-Explain-clause-performs g c = rw c.in-Explain.is (c.perform_explain.ensures (λ path. None) _)
+
+pub returns-in-Explain-clause-tells : goal.returns-in-Explain-clause-tells
+returns-in-Explain-clause-tells g c = rw c.in-Explain.is (tells_nothing c.perform_explain.result _)
 
 pub returns-in-Code-clause-tells : goal.returns-in-Code-clause-tells
 returns-in-Code-clause-tells g c = rw c.in-Code.is (tells_nothing c.perform_code.result _)

@@ -1,7 +1,7 @@
 use Rattle.std.proofs.Common.{◌≡◌, ◌+◌, ◌<◌, ap, arith, length, subst, sym, take, ◌∙◌}
-use Rattle.std.proofs.lemmas.List.{length-append, take_all}
+use Rattle.std.proofs.lemmas.List.{length-append}
 use Rattle.tile_round.specs.Tiles.{acting, pairs_at}
-use Rattle.pair_sums.specs.PairSums.{IsOfPairs, all_acting, sums_over}
+use Rattle.pair_sums.specs.PairSums.{IsOfPairs, all_acting}
 use Rattle.pair_sums.proofs.PairSumLaws.{few_in_tile, few_in_tiles, of_both, of_more, sums_tile, tiles_next}
 use Rattle.pair_sums.proofs.tiles.sums_alone.Goals as goal
 

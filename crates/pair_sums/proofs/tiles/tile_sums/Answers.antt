@@ -1,7 +1,7 @@
 use Rattle.std.proofs.Common.{◌≡◌, ◌+◌, ap, arith, length, subst, sym, take, ◌∙◌}
-use Rattle.std.proofs.lemmas.List.{length-append, take_all}
+use Rattle.std.proofs.lemmas.List.{length-append}
 use Rattle.tile_round.specs.Tiles.{AreNextActing, acting, pairs_at}
-use Rattle.pair_sums.specs.PairSums.{IsOfPairs, sums_over}
+use Rattle.pair_sums.specs.PairSums.{IsOfPairs}
 use Rattle.pair_sums.proofs.PairSumLaws.{few_taken, of_both, of_more, sums_row}
 use Rattle.pair_sums.proofs.tiles.tile_sums.Goals as goal
 

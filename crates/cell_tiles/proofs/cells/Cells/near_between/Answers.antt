@@ -1,4 +1,4 @@
-use Rattle.std.proofs.Common.{◌≡◌, ◌-◌, ◌<◌, ◌≤◌, ◌++◌, true, eqb, eqb-true, ap, arith, drop, length, take, ◌∙◌}
+use Rattle.std.proofs.Common.{◌≡◌, ℕ, ◌-◌, ◌<◌, ◌≤◌, ◌++◌, List, true, eqb, eqb-true, ap, arith, drop, length, take, ◌∙◌}
 use Rattle.std.specs.List.{All}
 use Rattle.std.proofs.lemmas.Bool.{eq-eqb}
 use Rattle.std.proofs.lemmas.List.Elements.{All-weaker}
@@ -6,7 +6,7 @@ use Rattle.std.proofs.lemmas.Nat.{mul-le}
 use Rattle.place_blocks.specs.Blocks.{AreInSpan}
 use Rattle.ring_box.specs.Places.{places_of}
 use Rattle.cell_tiles.specs.Cells.{cell_number}
-use Rattle.cell_tiles.specs.Near.{IsPairOf, pair_acts, those_acting}
+use Rattle.cell_tiles.specs.Near.{IsPairOf, named, pair_acts, those_acting}
 use Rattle.cell_tiles.specs.Tiles.{members_at, pairs_between, pairs_with}
 use Rattle.cell_tiles.proofs.CellLemmas.{are_places}
 use Rattle.cell_tiles.proofs.NearLemmas.{members_lie}
@@ -14,8 +14,8 @@ use Rattle.cell_tiles.proofs.NumberLemmas.{length_between}
 use Rattle.cell_tiles.proofs.RowLemmas.{between_near, each_row, more_rows}
 use Rattle.cell_tiles.proofs.cells.Cells.near_between.Goals as goal
 
-pub add_cell-next-requires-clause-span : goal.add_cell-next-requires-clause-span
-add_cell-next-requires-clause-span g c =
+pub mark_cell-next-requires-clause-span : goal.mark_cell-next-requires-clause-span
+mark_cell-next-requires-clause-span g c =
     let cells = c.args.self.now in
     let frame = c.args.frame.now.places.now in
     let second = c.args.tile.second in
@@ -25,8 +25,8 @@ add_cell-next-requires-clause-span g c =
     All-weaker (λ a. eqb (cell_number cells.bits (places_of frame a)) second ≡ true) (λ a. AreInSpan c.span-2.result (places_of frame a))
     (λ a e. c.span-2.ensures (places_of frame a) (are_places frame a c.args.frame.now.on_ring) (eqb-true _ _ e)) c.gather.new.self.atoms (c.gather.ensures.those (λ a. eqb (cell_number cells.bits (places_of frame a)) second) tested)
 
-pub add_cell-next-requires-clause-pairs : goal.add_cell-next-requires-clause-pairs
-add_cell-next-requires-clause-pairs g c =
+pub mark_cell-next-requires-clause-pairs : goal.mark_cell-next-requires-clause-pairs
+mark_cell-next-requires-clause-pairs g c =
     let cells = c.args.self.now in
     let n = length c.args.frame.now.places.now in
     let ys = members_at cells.members c.args.tile.second in
@@ -44,8 +44,8 @@ returns-clause-near g c =
     let xs = members_at cells.members first in
     let ys = members_at cells.members c.args.tile.second in
     let zs = c.gather.new.self.atoms in
-    let next = c.add_cell-next.result in
-    let done = c.add_cell-next.ensures in
+    let next = c.mark_cell-next.result in
+    let done = c.mark_cell-next.ensures in
     let lie = rw (← c.requires.members) at (members_lie cells.bits frame first c.requires.first) in
     let same : All (λ a. those_acting f.reach.now f.ring.now frame (pairs_with a zs) ≡ those_acting f.reach.now f.ring.now frame (pairs_with a ys)) xs =
     All-weaker (λ a. cell_number cells.bits (places_of frame a) ≡ first) (λ a. those_acting f.reach.now f.ring.now frame (pairs_with a zs) ≡ those_acting f.reach.now f.ring.now frame (pairs_with a ys))
@@ -54,13 +54,16 @@ returns-clause-near g c =
     let wide : length c.atoms-others.result.now ≡ length ys = ap length c.atoms-others.ensures.value in
     let onward : c.args.row < next = done.onward (ap length c.clear.ensures) in
     let within : next ≤ length xs = rw (← c.atoms.ensures.value) done.within in
-    let found : those_acting f.reach.now f.ring.now frame c.add_cell-next.new.self ≡ those_acting f.reach.now f.ring.now frame (pairs_between (take (next - c.args.row) (drop c.args.row xs)) zs) =
-    done.acting
-    ∙ ap (λ old. those_acting f.reach.now f.ring.now frame old ++ those_acting f.reach.now f.ring.now frame (pairs_between (take (next - c.args.row) (drop c.args.row c.atoms.result.now)) zs)) c.clear.ensures
-    ∙ ap (λ l. those_acting f.reach.now f.ring.now frame (pairs_between (take (next - c.args.row) (drop c.args.row l)) zs)) c.atoms.ensures.value in
+    let acting = those_acting f.reach.now f.ring.now frame in
+    let rows = λ (l : List ℕ). pairs_between (take (next - c.args.row) (drop c.args.row l)) zs in
+    let is : c.name.new.self ≡ named zs c.mark_cell-next.new.self = c.name.ensures ∙ ap (λ l. named l c.mark_cell-next.new.self) c.atoms-2.ensures.value in
+    let found : acting c.name.new.self ≡ acting (rows xs) =
+    ap acting is ∙ done.acting
+    ∙ ap (λ ms. acting (named zs ms) ++ acting (rows c.atoms.result.now)) c.clear.ensures
+    ∙ ap (λ l. acting (rows l)) c.atoms.ensures.value in
     rw wide
     (record {
       onward = more_rows c.args.row next (length ys) onward c.requires.some;
       within = omega (arith, length_between xs ys, mul-le next (length ys) (length xs) (length ys) within (omega arith));
-      acting = between_near acts xs ys zs c.add_cell-next.new.self c.args.row next (omega (arith, onward)) within found same;
+      acting = between_near acts xs ys zs c.name.new.self c.args.row next (omega (arith, onward)) within found same;
     })

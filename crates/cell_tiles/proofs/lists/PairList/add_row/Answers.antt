@@ -60,9 +60,6 @@ returns-then-len-end-gt128-clause-listed c = c.loop-seen.invariant.listed
 pub returns-then-len-end-gt128-clause-onward : goal.returns-then-len-end-gt128-clause-onward
 returns-then-len-end-gt128-clause-onward c some room = omega (arith, c.loop-seen.invariant.few, c.len.ensures.value, c.min-end.ensures, c.if-len-end-gt128.true, room)
 
-pub returns-then-len-end-gt128-clause-whole : goal.returns-then-len-end-gt128-clause-whole
-returns-then-len-end-gt128-clause-whole c room = absurd (omega (arith, c.loop-seen.invariant.few, c.len.ensures.value, c.min-end.ensures, c.if-len-end-gt128.true, room))
-
 pub returns-then-len-end-gt128-clause-few : goal.returns-then-len-end-gt128-clause-few
 returns-then-len-end-gt128-clause-few c = c.loop-seen.invariant.few
 
@@ -74,9 +71,6 @@ returns-clause-listed c = c.loop-seen.invariant.listed
 
 pub returns-clause-within : goal.returns-clause-within
 returns-clause-within c = c.loop-seen.invariant.within
-
-pub returns-clause-whole : goal.returns-clause-whole
-returns-clause-whole c room = omega (arith, c.loop-seen.invariant.within, c.loop-seen-test.false)
 
 pub returns-clause-few : goal.returns-clause-few
 returns-clause-few c = c.loop-seen.invariant.few

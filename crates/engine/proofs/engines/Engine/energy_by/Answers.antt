@@ -3,7 +3,7 @@ use Rattle.std.proofs.lemmas.Result.{IfOk-weaker}
 use Rattle.energy_program.specs.Programs.{program_tree}
 use Rattle.integrator.specs.States.{current_frame}
 use Rattle.potential.specs.EnergyKernels.{GivesEnergy}
-use Rattle.engine.proofs.ObserverLaws.{observer_kept, seen_energy, tiling_of_observer}
+use Rattle.engine.proofs.ObserverLaws.{seen_energy, tiling_of_observer}
 use Rattle.engine.specs.EngineViews.{engine_view}
 use Rattle.engine.proofs.engines.Engine.energy_by.Goals as goal
 

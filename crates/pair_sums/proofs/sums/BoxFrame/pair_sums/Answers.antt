@@ -1,5 +1,5 @@
 use Rattle.std.proofs.Common.{◌+◌, [], arith, refl, subst, sym, ◌∙◌}
-use Rattle.pair_sums.specs.PairSums.{IsOfPairs, sums_of}
+use Rattle.pair_sums.specs.PairSums.{IsOfPairs}
 use Rattle.pair_sums.proofs.PairSumLaws.{of_both, of_more, sums_next}
 use Rattle.pair_sums.proofs.sums.BoxFrame.pair_sums.Goals as goal
 

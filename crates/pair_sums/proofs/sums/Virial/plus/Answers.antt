@@ -1,6 +1,5 @@
-use Rattle.std.proofs.Common.{◌≡◌, ◌<◌, ◌≤◌, ◌^◌, ◌*◌, ℤ, ◌+ℤ◌, arith, refl, rules, to_z, of_z}
+use Rattle.std.proofs.Common.{◌≡◌, ◌+ℤ◌, refl, rules, to_z, of_z}
 use mir.Syntax.{w128}
-use Rattle.std.specs.Prelude.{unsigned_abs}
 use Rattle.pair_sums.proofs.sums.Virial.plus.Goals as goal
 
 pub returns : goal.returns

@@ -1,23 +1,24 @@
 use Rattle.std.proofs.Common.{◌≡◌, ◌+◌, ◌-◌, ◌<◌, ◌≤◌, ◌++◌, ap, append-nil, arith, get_or, length, refl, subst, sym, take, ◌∙◌}
 use Rattle.std.specs.Int.{bit_at}
 use Rattle.std.specs.List.{All}
-use Rattle.std.proofs.lemmas.List.{append_assoc, length-map, take_all}
+use Rattle.std.proofs.lemmas.List.{append_assoc}
 use Rattle.std.proofs.lemmas.List.Elements.{All-get_or}
 use Rattle.std.proofs.lemmas.Nat.Bits.{bit_at-zero}
 use Rattle.place_blocks.specs.Blocks.{AreUpperHalves}
 use Rattle.ring_box.specs.Places.{places_of}
-use Rattle.cell_tiles.specs.Near.{IsPairOf, pair_acts, those_acting}
-use Rattle.cell_tiles.specs.Tiles.{pair_of, pairs_between, pairs_with}
+use Rattle.cell_tiles.specs.Near.{IsPairOf, named, pair_acts, those_acting}
+use Rattle.cell_tiles.specs.Tiles.{pairs_between, pairs_with}
 use Rattle.cell_tiles.proofs.LaneLemmas.{lane_below}
 use Rattle.cell_tiles.proofs.RowLemmas.{not_passed, rows_on, rows_passed}
-use Rattle.cell_tiles.proofs.lists.PairList.add_rows.Goals.{After-next_lane-row}
-use Rattle.cell_tiles.proofs.lists.PairList.add_rows.Goals as goal
+use Rattle.cell_tiles.proofs.marks.Marks.mark_rows.Goals.{After-next_lane-row}
+use Rattle.cell_tiles.proofs.marks.Marks.mark_rows.Goals as goal
 
 pub loop-left-init : goal.loop-left-init
 loop-left-init c =
     record {
-      acting = sym (append-nil (those_acting c.args.frame.now.reach.now c.args.frame.now.ring.now c.args.frame.now.places.now c.args.self.now));
+      acting = sym (append-nil (those_acting c.args.frame.now.reach.now c.args.frame.now.ring.now c.args.frame.now.places.now (named c.args.gathered.now.atoms c.args.self.now)));
       listed = λ all. all;
+      below = λ all. all;
       within = omega arith;
       small = c.requires.marked;
       passed = λ k lt. absurd (omega arith);
@@ -25,20 +26,20 @@ loop-left-init c =
       first = λ e. refl;
     }
 
-pub returns-then-len-others-gt128-clause-acting : goal.returns-then-len-others-gt128-clause-acting
-returns-then-len-others-gt128-clause-acting c = c.loop-left.invariant.acting
+pub returns-then-len-count-gt128-clause-acting : goal.returns-then-len-count-gt128-clause-acting
+returns-then-len-count-gt128-clause-acting c = c.loop-left.invariant.acting
 
-pub returns-then-len-others-gt128-clause-listed : goal.returns-then-len-others-gt128-clause-listed
-returns-then-len-others-gt128-clause-listed c = c.loop-left.invariant.listed
+pub returns-then-len-count-gt128-clause-listed : goal.returns-then-len-count-gt128-clause-listed
+returns-then-len-count-gt128-clause-listed c = c.loop-left.invariant.listed
 
-pub returns-then-len-others-gt128-clause-within : goal.returns-then-len-others-gt128-clause-within
-returns-then-len-others-gt128-clause-within c = c.loop-left.invariant.within
+pub returns-then-len-count-gt128-clause-within : goal.returns-then-len-count-gt128-clause-within
+returns-then-len-count-gt128-clause-within c = c.loop-left.invariant.within
 
-pub returns-then-len-others-gt128-clause-onward : goal.returns-then-len-others-gt128-clause-onward
-returns-then-len-others-gt128-clause-onward c some none =
+pub returns-then-len-count-gt128-clause-onward : goal.returns-then-len-count-gt128-clause-onward
+returns-then-len-count-gt128-clause-onward c some none =
     let first : c.loop-left.next ≡ 0 → ⊥ = λ e.
     let empty : length c.loop-left.self ≡ 0 = c.loop-left.invariant.first e ∙ none in
-    omega (arith, empty, c.len.ensures.value, c.atoms-others.ensures.few, c.if-len-others-gt128.true) in
+    omega (arith, empty, c.len.ensures.value, c.atoms-count.ensures.few, c.if-len-count-gt128.true) in
     omega (arith, first)
 
 below : (c : After-next_lane-row) → c.next_lane-row.result.0 < length c.args.atoms.now
@@ -56,16 +57,16 @@ overflow_add-first c = let lt = below (goal.at.overflow_add-first c).After-next_
 pub at-requires : goal.at-requires
 at-requires c = let lt = below (goal.at.at-requires c).After-next_lane-row in omega (arith, lt, c.requires.lanes)
 
-pub add_row-requires-clause-halves : goal.add_row-requires-clause-halves
-add_row-requires-clause-halves c =
+pub mark_row-requires-clause-halves : goal.mark_row-requires-clause-halves
+mark_row-requires-clause-halves c =
     subst (λ h. AreUpperHalves h (places_of c.args.frame.now.places.now (get_or c.args.atoms.now c.next_lane-row.result.0 0))) (sym c.at.ensures)
-    (c.requires.beside c.next_lane-row.result.0 (below (goal.at.add_row-requires-clause-halves c).After-next_lane-row))
+    (c.requires.beside c.next_lane-row.result.0 (below (goal.at.mark_row-requires-clause-halves c).After-next_lane-row))
 
-pub add_row-requires-clause-pairs : goal.add_row-requires-clause-pairs
-add_row-requires-clause-pairs c =
+pub mark_row-requires-clause-pairs : goal.mark_row-requires-clause-pairs
+mark_row-requires-clause-pairs c =
     let n = length c.args.frame.now.places.now in
-    let lt = below (goal.at.add_row-requires-clause-pairs c).After-next_lane-row in
-    rw c.atoms-others.ensures.value (All-get_or (λ a. All (IsPairOf n) (pairs_with a c.args.gathered.now.atoms)) c.args.atoms.now c.next_lane-row.result.0 0 lt c.requires.pairs)
+    let lt = below (goal.at.mark_row-requires-clause-pairs c).After-next_lane-row in
+    (All-get_or (λ a. All (IsPairOf n) (pairs_with a c.args.gathered.now.atoms)) c.args.atoms.now c.next_lane-row.result.0 0 lt c.requires.pairs)
 
 pub overflow_add-next : goal.overflow_add-next
 overflow_add-next c = let lt = below (goal.at.overflow_add-next c).After-next_lane-row in record { fits = omega (arith, lt, c.requires.lanes) }
@@ -84,16 +85,15 @@ loop-left-preserved c =
     let lt = below (goal.at.loop-left-preserved c).After-next_lane-row in
     let ge : next ≤ r = not_passed c.loop-left.left r next kept.passed lane.set in
     let row = pairs_with (get_or atoms r 0) ys in
-    let all : take c.add_row.result (pairs_with (get_or atoms r 0) c.atoms-others.result.now) ≡ row =
-    ap (λ zs. take c.add_row.result (pairs_with (get_or atoms r 0) zs)) c.atoms-others.ensures.value
-    ∙ take_all c.add_row.result row (omega (arith, length-map ys (pair_of (get_or atoms r 0)), c.add_row.ensures.whole (omega (arith, c.len.ensures.value, c.if-len-others-gt128.false)), ap length c.atoms-others.ensures.value)) in
+    let old = acting (named ys c.args.self.now) in
     let on = rows_on acts atoms ys next r ge lt (λ k le less. c.requires.idle k (omega (arith, less, lt)) (sym (kept.ahead k le) ∙ lane.before k less)) in
     record {
       acting =
-          c.add_row.ensures.acting ∙ ap (λ ps. acting c.loop-left.self ++ acting ps) all ∙ ap (λ ps. ps ++ acting row) kept.acting
-          ∙ append_assoc (acting c.args.self.now) (acting (pairs_between (take next atoms) ys)) (acting row)
-          ∙ ap (λ ps. acting c.args.self.now ++ ps) (sym on);
-      listed = λ listed. c.add_row.ensures.listed (kept.listed listed);
+          c.mark_row.ensures.acting ∙ ap (λ ps. ps ++ acting row) kept.acting
+          ∙ append_assoc old (acting (pairs_between (take next atoms) ys)) (acting row)
+          ∙ ap (λ ps. old ++ ps) (sym on);
+      listed = λ listed. c.mark_row.ensures.listed (kept.listed listed);
+      below = λ below. c.mark_row.ensures.below (kept.below below);
       within = omega (arith, lt);
       small = omega (arith, kept.small, lane.less);
       passed = λ k less. lane.gone k (omega arith);
@@ -114,7 +114,13 @@ returns-clause-acting c =
     let end : next + d ≡ length atoms = omega (arith, kept.within) in
     let done : c.loop-left.left ≡ 0 = c.loop-left-test.false in
     let rest = rows_passed acts atoms ys next d (omega (arith, end)) (λ k le lt. c.requires.idle k (omega (arith, lt, end)) (sym (kept.ahead k le) ∙ (ap (λ b. bit_at b k) done ∙ bit_at-zero k))) in
-    kept.acting ∙ ap (λ ps. acting c.args.self.now ++ ps) (sym (ap (λ m. acting (pairs_between (take m atoms) ys)) (sym end) ∙ rest))
+    kept.acting ∙ ap (λ ps. acting (named ys c.args.self.now) ++ ps) (sym (ap (λ m. acting (pairs_between (take m atoms) ys)) (sym end) ∙ rest))
 
 pub returns-clause-listed : goal.returns-clause-listed
 returns-clause-listed c = c.loop-left.invariant.listed
+
+pub returns-clause-below : goal.returns-clause-below
+returns-clause-below c = c.loop-left.invariant.below
+
+pub returns-then-len-count-gt128-clause-below : goal.returns-then-len-count-gt128-clause-below
+returns-then-len-count-gt128-clause-below c = c.loop-left.invariant.below

@@ -1,16 +1,17 @@
 use Rattle.std.proofs.Common.{◌≡◌, ℕ, ◌^◌, ◌<◌, ◌≤◌, ◌++◌, length, take}
 use Rattle.std.specs.Int.{bit_at}
 use Rattle.std.specs.List.{All}
-use Rattle.cell_tiles.specs.Near.{IsPairOf, those_acting}
+use Rattle.cell_tiles.specs.Near.{IsMarkBelow, IsPairOf, named, those_acting}
 use Rattle.cell_tiles.specs.Tiles.{pairs_between}
-use Rattle.cell_tiles.proofs.lists.PairList.add_rows.Given as goal
+use Rattle.cell_tiles.proofs.marks.Marks.mark_rows.Given as goal
 
 abbrev pub invariant-loop-left : goal.invariant-loop-left
 invariant-loop-left l =
     let frame = l.frame.places.now in
     record {
-      acting : those_acting l.frame.reach.now l.frame.ring.now frame l.self ≡ those_acting l.frame.reach.now l.frame.ring.now frame l.fn.self ++ those_acting l.frame.reach.now l.frame.ring.now frame (pairs_between (take l.next l.atoms) l.gathered.atoms);
-      listed : All (IsPairOf (length frame)) l.fn.self → All (IsPairOf (length frame)) l.self;
+      acting : those_acting l.frame.reach.now l.frame.ring.now frame (named l.gathered.atoms l.self) ≡ those_acting l.frame.reach.now l.frame.ring.now frame (named l.gathered.atoms l.fn.self) ++ those_acting l.frame.reach.now l.frame.ring.now frame (pairs_between (take l.next l.atoms) l.gathered.atoms);
+      listed : All (IsPairOf (length frame)) (named l.gathered.atoms l.fn.self) → All (IsPairOf (length frame)) (named l.gathered.atoms l.self);
+      below : All (IsMarkBelow (length l.gathered.atoms)) l.fn.self → All (IsMarkBelow (length l.gathered.atoms)) l.self;
       within : l.next ≤ length l.atoms;
       small : l.left < 2 ^ length l.atoms;
       passed : (k : ℕ) → k < l.next → bit_at l.left k ≡ 0;

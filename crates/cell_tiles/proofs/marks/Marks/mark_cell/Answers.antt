@@ -3,37 +3,38 @@ use Rattle.std.specs.List.{All}
 use Rattle.std.proofs.lemmas.Bool.{cases_eq}
 use Rattle.std.proofs.lemmas.List.{append_assoc, length-take-le}
 use Rattle.std.proofs.lemmas.List.Elements.{All-drop, All-take}
-use Rattle.cell_tiles.specs.Near.{IsPairOf, pair_acts, those_acting}
+use Rattle.cell_tiles.specs.Near.{IsPairOf, named, pair_acts, those_acting}
 use Rattle.cell_tiles.specs.Tiles.{pairs_between, pairs_with}
 use Rattle.cell_tiles.proofs.ListLemmas.{own_lanes, row_idle}
 use Rattle.cell_tiles.proofs.RowLemmas.{nothing_from, rows_behind}
-use Rattle.cell_tiles.proofs.lists.PairList.add_cell.Goals.{After-add_rows-next}
-use Rattle.cell_tiles.proofs.lists.PairList.add_cell.Goals as goal
+use Rattle.cell_tiles.proofs.marks.Marks.mark_cell.Goals.{After-mark_rows-next}
+use Rattle.cell_tiles.proofs.marks.Marks.mark_cell.Goals as goal
 
 pub loop-next-init : goal.loop-next-init
 loop-next-init c =
     let f = c.args.frame.now in
     let acting = those_acting f.reach.now f.ring.now f.places.now in
     record {
-      acting = sym (ap (λ m. acting c.args.self.now ++ acting (pairs_between (take m (drop c.args.from c.args.atoms.now)) c.args.gathered.now.atoms)) (nothing_from c.args.from) ∙ append-nil (acting c.args.self.now));
+      acting = sym (ap (λ m. acting (named c.args.gathered.now.atoms c.args.self.now) ++ acting (pairs_between (take m (drop c.args.from c.args.atoms.now)) c.args.gathered.now.atoms)) (nothing_from c.args.from) ∙ append-nil (acting (named c.args.gathered.now.atoms c.args.self.now)));
       listed = λ all. all;
+      below = λ all. all;
       within = omega (arith, c.requires.from);
       onward = omega arith;
       first = λ e. refl;
     }
 
-pub add_rows-next-requires-clause-beside : goal.add_rows-next-requires-clause-beside
-add_rows-next-requires-clause-beside c =
+pub mark_rows-next-requires-clause-beside : goal.mark_rows-next-requires-clause-beside
+mark_rows-next-requires-clause-beside c =
     let is = c.min-end.ensures in
     own_lanes c.args.frame.now.places.now c.args.blocks.now c.loop-next.next (c.min-end.result - c.loop-next.next) c.args.atoms.now (omega (arith, is)) (omega (arith, is, c.loop-next-test.true)) c.requires.beside.lanes
 
-pub add_rows-next-requires-clause-pairs : goal.add_rows-next-requires-clause-pairs
-add_rows-next-requires-clause-pairs c =
+pub mark_rows-next-requires-clause-pairs : goal.mark_rows-next-requires-clause-pairs
+mark_rows-next-requires-clause-pairs c =
     let P = λ (a : ℕ). All (IsPairOf (length c.args.frame.now.places.now)) (pairs_with a c.args.gathered.now.atoms) in
     All-take P (c.min-end.result - c.loop-next.next) (drop c.loop-next.next c.args.atoms.now) (All-drop P c.loop-next.next c.args.atoms.now c.requires.pairs)
 
-pub add_rows-next-requires-clause-idle : goal.add_rows-next-requires-clause-idle
-add_rows-next-requires-clause-idle c j lt unset =
+pub mark_rows-next-requires-clause-idle : goal.mark_rows-next-requires-clause-idle
+mark_rows-next-requires-clause-idle c j lt unset =
     let f = c.args.frame.now in
     let is = c.min-end.ensures in
     let next = c.loop-next.next in
@@ -46,11 +47,11 @@ add_rows-next-requires-clause-idle c j lt unset =
 
 -- so many rows more are come past
 
-past : (c : After-add_rows-next) →
+past : (c : After-mark_rows-next) →
     let acting = those_acting c.args.frame.now.reach.now c.args.frame.now.ring.now c.args.frame.now.places.now in
-    let next = c.loop-next.next + c.add_rows-next.result in
-    (c.add_rows-next.result ≤ c.min-end.result - c.loop-next.next)
-    × (acting c.add_rows-next.new.self ≡ acting c.args.self.now ++ acting (pairs_between (take (next - c.args.from) (drop c.args.from c.args.atoms.now)) c.args.gathered.now.atoms))
+    let next = c.loop-next.next + c.mark_rows-next.result in
+    (c.mark_rows-next.result ≤ c.min-end.result - c.loop-next.next)
+    × (acting (named c.args.gathered.now.atoms c.mark_rows-next.new.self) ≡ acting (named c.args.gathered.now.atoms c.args.self.now) ++ acting (pairs_between (take (next - c.args.from) (drop c.args.from c.args.atoms.now)) c.args.gathered.now.atoms))
 past c =
     let f = c.args.frame.now in
     let acts = pair_acts f.reach.now f.ring.now f.places.now in
@@ -61,22 +62,22 @@ past c =
     let xs = c.args.atoms.now in
     let ys = c.args.gathered.now.atoms in
     let kept = c.loop-next.invariant in
-    let seen = c.add_rows-next.result in
+    let seen = c.mark_rows-next.result in
     let long : length (take n (drop next xs)) ≡ n = length-take-le n (drop next xs) (omega (arith, length-drop next xs, is)) in
-    let within : seen ≤ n = omega (arith, long, c.add_rows-next.ensures.within) in
+    let within : seen ≤ n = omega (arith, long, c.mark_rows-next.ensures.within) in
     let before = pairs_between (take (next - c.args.from) (drop c.args.from xs)) ys in
     let rows = pairs_between (take seen (take n (drop next xs))) ys in (
       within,
-      c.add_rows-next.ensures.acting ∙ ap (λ ps. ps ++ acting rows) kept.acting
-          ∙ append_assoc (acting c.args.self.now) (acting before) (acting rows)
-          ∙ ap (λ ps. acting c.args.self.now ++ ps) (sym (rows_behind acts xs ys c.args.from next c.min-end.result seen kept.onward within)),
+      c.mark_rows-next.ensures.acting ∙ ap (λ ps. ps ++ acting rows) kept.acting
+          ∙ append_assoc (acting (named ys c.args.self.now)) (acting before) (acting rows)
+          ∙ ap (λ ps. acting (named ys c.args.self.now) ++ ps) (sym (rows_behind acts xs ys c.args.from next c.min-end.result seen kept.onward within)),
     )
 
 pub returns-then-next-end-clause-acting : goal.returns-then-next-end-clause-acting
-returns-then-next-end-clause-acting c = (past (goal.at.returns-then-next-end-clause-acting c).After-add_rows-next).1
+returns-then-next-end-clause-acting c = (past (goal.at.returns-then-next-end-clause-acting c).After-mark_rows-next).1
 
 pub returns-then-next-end-clause-listed : goal.returns-then-next-end-clause-listed
-returns-then-next-end-clause-listed c all = c.add_rows-next.ensures.listed (c.loop-next.invariant.listed all)
+returns-then-next-end-clause-listed c all = c.mark_rows-next.ensures.listed (c.loop-next.invariant.listed all)
 
 pub returns-then-next-end-clause-onward : goal.returns-then-next-end-clause-onward
 returns-then-next-end-clause-onward c none =
@@ -86,17 +87,18 @@ returns-then-next-end-clause-onward c none =
     let kept = c.loop-next.invariant in
     let long : length (take n (drop next c.args.atoms.now)) ≡ n = length-take-le n (drop next c.args.atoms.now) (omega (arith, length-drop next c.args.atoms.now, is)) in
     elim (cases_eq next c.args.from) [
-      | inl e ↦ let some = c.add_rows-next.ensures.onward (omega (arith, long, is, c.loop-next-test.true)) (kept.first e ∙ none) in omega (arith, some, kept.onward)
+      | inl e ↦ let some = c.mark_rows-next.ensures.onward (omega (arith, long, is, c.loop-next-test.true)) (kept.first e ∙ none) in omega (arith, some, kept.onward)
       | inr ne ↦ omega (arith, ne, kept.onward)
     ]
 
 pub loop-next-preserved : goal.loop-next-preserved
 loop-next-preserved c =
     let is = c.min-end.ensures in
-    let on = past (goal.at.loop-next-preserved c).After-add_rows-next in
+    let on = past (goal.at.loop-next-preserved c).After-mark_rows-next in
     record {
       acting = on.1;
-      listed = λ all. c.add_rows-next.ensures.listed (c.loop-next.invariant.listed all);
+      listed = λ all. c.mark_rows-next.ensures.listed (c.loop-next.invariant.listed all);
+      below = λ all. c.mark_rows-next.ensures.below (c.loop-next.invariant.below all);
       within = omega (arith, on.0, is, c.loop-next-test.true);
       onward = omega (arith, c.loop-next.invariant.onward);
       first = λ e. absurd (omega (arith, e, c.if-next-end.false, is, c.loop-next.invariant.onward, c.loop-next-test.true));
@@ -110,3 +112,9 @@ returns-clause-listed c = c.loop-next.invariant.listed
 
 pub returns-clause-within : goal.returns-clause-within
 returns-clause-within c = c.loop-next.invariant.within
+
+pub returns-clause-below : goal.returns-clause-below
+returns-clause-below c = c.loop-next.invariant.below
+
+pub returns-then-next-end-clause-below : goal.returns-then-next-end-clause-below
+returns-then-next-end-clause-below c all = c.mark_rows-next.ensures.below (c.loop-next.invariant.below all)

@@ -1,0 +1,226 @@
+#!/usr/bin/env python3
+"""What it does to liquid argon that atoms move by whole places: the 500 atoms of examples/argon.gro.
+
+  bench/grid.py places                  what a place is, and which force moves an argon atom by one, at some time steps
+  bench/grid.py energy                  how far the total energy wanders, by the table of pictures/energies.py
+  bench/grid.py time_step               what becomes of the total energy by examples/time_step.py
+  bench/grid.py growth                  how fast a small change of the start grows
+  bench/grid.py echo                    the same on the way back: what a change at the turn has grown to at the start
+  /usr/bin/python3 bench/grid.py openmm   one step's displacement and the energy beside OpenMM's Reference platform, and
+                                          how far two runs from one state are apart
+
+PAIRMD names the program, ./pairmd where it isn't said. Only `openmm` needs more than Python: Debian's python3-simtk.
+"""
+import argparse
+import math
+import os
+import subprocess
+import sys
+
+ROOT = os.path.dirname(os.path.dirname(os.path.realpath(__file__)))
+sys.path.insert(1, f"{ROOT}/pictures")
+import liquid  # noqa: E402
+
+SIDE = 2.877  # nm
+
+
+def force_of_a_place(step):
+    """The force, in kJ/mol/nm, that moves an argon atom by one place in a step of so many fs: F = m D / dt^2."""
+    return liquid.MASS * SIDE / liquid.PLACES / (step / 1000) ** 2
+
+
+def places():
+    print(f"a place is {SIDE / liquid.PLACES:.3e} nm on a side of {SIDE} nm")
+    for step in (1, 2, 5, 10, 1000):
+        print(f"{step:5} fs: a force of {force_of_a_place(step):.2e} kJ/mol/nm moves an argon atom by one place")
+
+
+def predicted(step, kinetic):
+    """By how much the square of the wandering grows in a ps. Each step kicks each coordinate's velocity by a rounding,
+    even from minus half a place a step to half a one: its variance is 1/12. A kick dv changes the energy by m v dv."""
+    kick = SIDE / liquid.PLACES / (step / 1000)
+    return 1000 / step * liquid.MASS * 2 * kinetic * kick**2 / 12
+
+
+def slope(xs, ys):
+    middle, mean = sum(xs) / len(xs), sum(ys) / len(ys)
+    return sum((x - middle) * (y - mean) for x, y in zip(xs, ys)) / sum((x - middle) ** 2 for x in xs)
+
+
+def energy():
+    """The total energy of pictures/energies.tsv, which pictures/energies.py measured: 20 ps in samples of 0.2. Where it
+    wanders, the mean square of its change over a time grows with the time; what else it does makes up a constant."""
+    rows = liquid.read_table("energies")
+    for step in (1, 2):
+        seen, kinetic = ([float(row[name]) for row in rows if int(row["fs"]) == step] for name in ("total", "kinetic"))
+        lags = range(5, 51, 5)  # 1 to 10 ps
+        squares = [sum((b - a) ** 2 for a, b in zip(seen, seen[lag:])) / (len(seen) - lag) for lag in lags]
+        grows, foretold = slope([lag / 5 for lag in lags], squares), predicted(step, sum(kinetic) / len(kinetic))
+        print(f"{step} fs: the square of the change grows by {grows:.1e} (kJ/mol)^2 a ps, predicted {foretold:.1e},")
+        print(f"      which is {math.sqrt(foretold * 20):.4f} kJ/mol in 20 ps; its square root over 1, 2, 5 and 10 ps:", end=" ")
+        print(*(f"{math.sqrt(squares[at]):.4f}" for at in (0, 1, 4, 9)))
+
+
+def moved(text, atom, axis, by):
+    """The state with one coordinate of one atom moved by so many places, in both frames: its velocity stays."""
+    lines = text.splitlines()
+    head, row = lines[5 + atom][:15], [int(word) for word in lines[5 + atom][15:].split()]
+    for at in (axis, axis + 3):
+        row[at] = (row[at] + by) % liquid.PLACES
+    lines[5 + atom] = head + "".join(f" {place}" for place in row)
+    return "\n".join(lines) + "\n"
+
+
+def apart(one, other):
+    """The root of the sum of the squares by which the places of two states differ."""
+    return math.sqrt(sum(by * by for row in liquid.moves(one.places, other.places) for by in row))
+
+
+CHANGES = [(0, 0), (100, 1), (200, 2), (300, 0), (400, 1)]  # atoms and axes that are changed, one in each run
+
+
+def growth():
+    """A change of one coordinate by 10^5 places at the start: how far the two runs are apart, over the change, and how
+    much the logarithm of that grows in a ps."""
+    step, by, every, samples = 2, 100_000, 100, 25
+    own = liquid.Path(step)
+    others = [liquid.Path(step) for _ in CHANGES]
+    for path, (atom, axis) in zip(others, CHANGES):
+        path.put(moved(own.state.text, atom, axis, by))
+    times, logs = [], []
+    for sample in range(1, samples + 1):
+        own.go(every)
+        grown = [apart(own.state, path.go(every)) / by for path in others]
+        times.append(sample * every * step / 1000)
+        logs.append(sum(math.log(it) for it in grown) / len(grown))
+        print(f"{times[-1]:.1f} ps: {math.exp(logs[-1]):10.1f} times, from {min(grown):.1f} to {max(grown):.1f}", flush=True)
+    taken = [at for at, time in enumerate(times) if 1 <= time <= 4]
+    rate = slope([times[at] for at in taken], [logs[at] for at in taken])
+    print(f"from 1 to 4 ps: the logarithm grows by {rate:.2f} a ps, so tenfold every {math.log(10) / rate:.2f} ps")
+
+
+def echo():
+    """1,000 steps of 2 fs, a change, 1,000 steps back: how far from the start, in changes."""
+    own = liquid.Path(2)
+    start, there = own.state, own.go(1000)
+    other = liquid.Path(2)
+    for by in (1, 10, 100, 1_000, 10_000, 100_000, 1_000_000):
+        grown = []
+        for atom, axis in CHANGES:
+            other.put(moved(there.text, atom, axis, by))
+            grown.append(apart(start, other.go(1000, back=True)) / by)
+        mean = math.exp(sum(math.log(it) for it in grown) / len(grown))
+        print(f"{by:8} places ({by * SIDE / liquid.PLACES:.1e} nm): {mean:12,.1f} times, from {min(grown):,.1f} to {max(grown):,.1f}", flush=True)
+
+
+def total(path, step):
+    """The energy in kJ/mol: of the pairs now, and the mean of the kinetic energies half a step before and after."""
+    return path.potential() + (path.state.kinetic(step) + path.ahead(1).kinetic(step)) / 2
+
+
+def time_step():
+    """Five states of a run at 2 fs, each brought to another time step: by how much the total energy is another one."""
+    own, steps = liquid.Path(2), (1, 5, 10)
+    others = [liquid.Path(step) for step in steps]
+    print("total energy less that at 2 fs, kJ/mol, at", ", ".join(f"{step} fs" for step in steps), "without NEXT, and with it")
+    for _ in range(5):
+        own.go(400)
+        was, off = total(own, 2), []
+        following = f"{own.folder.name}/next"
+        with open(following, "w", encoding="ascii") as it:
+            it.write(own.ahead(1).text)
+        for more in ([], [following]):
+            for step, other in zip(steps, others):
+                words = [f"{liquid.EXAMPLES}/time_step.py", own.job, own.file, other.job, *more]
+                other.put(subprocess.run(words, check=True, stdout=subprocess.PIPE, stderr=subprocess.DEVNULL, text=True).stdout)
+                off.append(total(other, step) - was)
+        print(f"{2 * own.state.step / 1000:.1f} ps:", ", ".join(f"{it:+.3f}" for it in off), flush=True)
+
+
+class OpenMM:
+    """Argon at a state's places by OpenMM's Reference platform, in doubles, under the text of examples/argon.job."""
+
+    def __init__(self, state, step):
+        sys.path.insert(1, f"{ROOT}/bench/peers")
+        import peer
+
+        try:
+            import openmm
+        except ImportError:
+            from simtk import openmm
+        text, values = peer.energy()
+        force, system = openmm.CustomNonbondedForce(text), openmm.System()
+        for name, value in values.items():
+            force.addGlobalParameter(name, value)
+        for _ in state.places:
+            system.addParticle(liquid.MASS)
+            force.addParticle([])
+        system.setDefaultPeriodicBoxVectors((SIDE, 0, 0), (0, SIDE, 0), (0, 0, SIDE))
+        force.setNonbondedMethod(openmm.CustomNonbondedForce.CutoffPeriodic)
+        force.setCutoffDistance(peer.CUTOFF)
+        system.addForce(force)
+        place, self.integrator = SIDE / liquid.PLACES, openmm.VerletIntegrator(step / 1000)
+        self.context = openmm.Context(system, self.integrator, openmm.Platform.getPlatformByName("Reference"))
+        self.context.setPositions([tuple(x * place for x in at) for at in state.places])
+        # both take velocities as those half a step before the positions
+        self.context.setVelocities([tuple(by * place / (step / 1000) for by in move) for move in state.moves()])
+        told = self.context.getState(getForces=True, getEnergy=True)
+        self.forces = [tuple(it._value) for it in told.getForces()]
+        self.energy = told.getPotentialEnergy()._value
+
+    def apart(self, state):
+        """How far the farthest coordinate is from a state's, in nm."""
+        at = [tuple(it._value) for it in self.context.getState(getPositions=True).getPositions()]
+        off = [x - p * SIDE / liquid.PLACES for xs, ps in zip(at, state.places) for x, p in zip(xs, ps)]
+        return max(abs(it - SIDE * round(it / SIDE)) for it in off)
+
+
+def displacement(path):
+    """By how many places the forces of a frame move each coordinate in a step: n - 2c + p, the shorter way round."""
+    before, after = path.state.moves(), path.ahead(1).moves()
+    return [[then - was for was, then in zip(*both)] for both in zip(before, after)]
+
+
+def path_of(bits, step):
+    """The start at a time step, of so many fraction bits."""
+    path = liquid.Path(step)
+    with open(path.job, "a", encoding="ascii") as job:
+        job.write(f"bits {bits}\n")
+    path.put(liquid.program("start", path.job, f"{liquid.EXAMPLES}/argon.gro"))
+    return path
+
+
+def openmm():
+    for bits in (32, 40):
+        for step in (2, 10, 1000):
+            path = path_of(bits, step)
+            other, place = OpenMM(path.state, step), force_of_a_place(step)
+            off = []
+            for move, force in zip(displacement(path), other.forces):
+                for by, size in zip(move, force):
+                    wanted = size / place
+                    near = round(wanted)
+                    turns = (by - near + liquid.PLACES // 2) % liquid.PLACES - liquid.PLACES // 2
+                    off.append((turns + near - wanted) * place)
+            own = int(liquid.program("energy", path.job, path.file).split()[1]) / 2**bits
+            most, mean = max(map(abs, off)), math.sqrt(sum(it * it for it in off) / len(off))
+            print(f"{bits} bits, {step} fs: a displacement is off by as much as a force of {most:.1e} kJ/mol/nm at most,", end=" ")
+            print(f"{mean:.1e} in the mean square; the energy by {abs(own - other.energy):.1e} kJ/mol", flush=True)
+    for bits in (32, 40):
+        path = path_of(bits, 2)
+        other = OpenMM(path.state, 2)
+        for picosecond in range(1, 5):
+            path.go(500)
+            other.integrator.step(500)
+            print(f"{bits} bits, 2 fs, after {picosecond} ps: the farthest coordinate is {other.apart(path.state):.1e} nm off", flush=True)
+
+
+def main():
+    parser = argparse.ArgumentParser(description=__doc__, formatter_class=argparse.RawDescriptionHelpFormatter)
+    measures = {"places": places, "energy": energy, "time_step": time_step, "growth": growth, "echo": echo, "openmm": openmm}
+    parser.add_argument("what", choices=measures)
+    measures[parser.parse_args().what]()
+
+
+if __name__ == "__main__":
+    main()

@@ -1,0 +1,88 @@
+use Rattle.std.proofs.Common.{◌≡◌, ℕ, ◌+◌, ◌-◌, ◌/◌, ◌^◌, ◌<◌, ◌≤◌, ◌++◌, ap, append-nil, arith, drop, get_or, length, length-drop, map, refl, subst, sym, take, ◌∙◌}
+use Rattle.std.proofs.lemmas.List.{length-append, length-map, length-take-le, take_all}
+use Rattle.cell_tiles.specs.Cells.{no_block}
+use Rattle.cell_tiles.specs.Near.{IsPairOf, lanes_of, mark, named, pair_acts, those_acting}
+use Rattle.cell_tiles.specs.Tiles.{pair_of, pairs_with}
+use Rattle.cell_tiles.proofs.LaneLemmas.{each_lane_below, length_lanes}
+use Rattle.cell_tiles.proofs.ListLemmas.{block_idle, first_lanes, marked_act, marked_listed, part_all, part_passed}
+use Rattle.cell_tiles.proofs.MarkLemmas.{marks_below, named_more}
+use Rattle.cell_tiles.proofs.marks.Marks.mark_row.Goals as goal
+
+pub loop-seen-init : goal.loop-seen-init
+loop-seen-init c = record {
+  acting = sym (append-nil (those_acting c.args.frame.now.reach.now c.args.frame.now.ring.now c.args.frame.now.places.now (named c.args.gathered.now.atoms c.args.self.now)));
+  listed = λ all. all;
+  below = λ all. all;
+  few = omega arith;
+  within = omega arith;
+  aligned = λ lt. refl;
+}
+
+pub mark_block-requires-clause-room : goal.mark_block-requires-clause-room
+mark_block-requires-clause-room c =
+    let is = c.min-end.ensures in
+    let wide = ap length c.atoms-count.ensures.value in
+    let n = c.min-end.result - c.loop-seen.seen in
+    let some = length_lanes c.bits_of.result n c.bits_of.ensures.bound (omega (arith, is)) in
+    omega (arith, some, is, wide, c.requires.room, c.loop-seen.invariant.few, c.loop-seen.invariant.within, c.loop-seen-test.true)
+
+pub loop-seen-preserved : goal.loop-seen-preserved
+loop-seen-preserved c =
+    let f = c.args.frame.now in
+    let frame = f.places.now in
+    let acts = pair_acts f.reach.now f.ring.now frame in
+    let a = c.args.atom in
+    let ys = c.args.gathered.now.atoms in
+    let seen = c.loop-seen.seen in
+    let end = c.min-end.result in
+    let n = end - seen in
+    let is = c.min-end.ensures in
+    let kept = c.loop-seen.invariant in
+    let wide = ap length c.atoms-count.ensures.value in
+    let bits = c.bits_of.result in
+    let part = take n (drop seen ys) in
+    let old = c.loop-seen.self in
+    let new = c.mark_block.new.self in
+    let whole : seen + n ≡ end = omega (arith, is, c.loop-seen-test.true) in
+    let within : seen + n ≤ length ys = omega (arith, is, wide, c.loop-seen-test.true) in
+    let long : length part ≡ n = length-take-le n (drop seen ys) (omega (arith, length-drop seen ys, is, wide)) in
+    let one : length part ≤ 16 = omega (arith, long, is) in
+    let few : length part ≤ 64 = omega (arith, one) in
+    let small : bits < 2 ^ length part = subst (λ m. bits < 2 ^ m) (sym long) c.bits_of.ensures.bound in
+    let each = each_lane_below bits n c.bits_of.ensures.bound (omega (arith, is)) in
+    let lanes = first_lanes frame c.args.gathered.now.blocks seen n ys (kept.aligned (omega (arith, wide, c.loop-seen-test.true))) (omega (arith, is)) within c.requires.gathered in
+    let more = named_more a seen n ys (lanes_of bits) old new each c.mark_block.ensures in
+    record {
+      acting =
+          part_passed acts a seen n end ys (named ys c.args.self.now) (named ys old) (named ys new) (sym whole)
+          (marked_act a part acts bits (named ys old) (named ys new) small few
+          (λ j lt unset.
+          block_idle f.reach.now f.ring.now frame f.coarse (get_or c.args.gathered.now.blocks (seen / 16) no_block) c.args.halves c.near-near.result 0 a part j f.on_ring f.is_coarse (rw c.blocks-blocks.ensures.value at c.near-near.ensures.left_out) c.requires.halves lanes (omega (arith, one)) lt
+          (sym (c.bits_of.ensures.each j (omega (arith, lt, long))) ∙ unset))
+          more)
+          kept.acting;
+      listed = λ all. marked_listed a part (IsPairOf (length frame)) bits (named ys old) (named ys new) small few (part_all (IsPairOf (length frame)) a seen n ys c.requires.pairs) (kept.listed all) more;
+      below = λ all. marks_below a seen n (length ys) (lanes_of bits) old new within each (kept.below all) c.mark_block.ensures;
+      few =
+          omega (arith, ap length c.mark_block.ensures, length-append old (map (λ j. mark a (seen + j)) (lanes_of bits)), length-map (lanes_of bits) (λ (j : ℕ). mark a (seen + j)), length_lanes bits (length part) small few, long, kept.few, whole);
+      within = omega (arith, is, wide);
+      aligned = λ lt. omega (arith, is, wide, lt, kept.aligned (omega (arith, wide, c.loop-seen-test.true)));
+    }
+
+pub returns-clause-acting : goal.returns-clause-acting
+returns-clause-acting c =
+    let f = c.args.frame.now in
+    let acting = those_acting f.reach.now f.ring.now f.places.now in
+    let ys = c.args.gathered.now.atoms in
+    let ps = pairs_with c.args.atom ys in
+    c.loop-seen.invariant.acting
+    ∙ ap (λ qs. acting (named ys c.args.self.now) ++ acting qs) (take_all c.loop-seen.seen ps (omega (arith, length-map ys (pair_of c.args.atom), ap length c.atoms-count.ensures.value, c.loop-seen-test.false)))
+
+pub returns-clause-listed : goal.returns-clause-listed
+returns-clause-listed c = c.loop-seen.invariant.listed
+
+pub returns-clause-below : goal.returns-clause-below
+returns-clause-below c = c.loop-seen.invariant.below
+
+pub returns-clause-few : goal.returns-clause-few
+returns-clause-few c = omega (arith, c.loop-seen.invariant.few, c.loop-seen.invariant.within)

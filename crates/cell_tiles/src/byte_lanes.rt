@@ -1,0 +1,62 @@
+//! The lanes of each byte whose bits are set, by a table, so that no walk over its bits has an end that a processor
+//! doesn't foresee.
+
+ghost use Rattle.std.specs.Prelude.{◌≡◌, ◌<◌, ℕ, slice_index_or};
+ghost use Rattle.cell_tiles.specs.Near.{AreByteLanes, no_byte};
+
+use crate::lanes::next_lane;
+
+/// The lanes of a byte whose bits are set, ascending: the first `count` of eight places.
+#[derive(Clone, Copy)]
+pub(crate) struct ByteLanes {
+    pub lanes: [u8; 8],
+    pub count: usize,
+}
+
+/// The lanes of a byte, by a walk over its bits.
+fn lanes_of_byte(byte: u64) -> ByteLanes
+    requires { byte < 256 }
+    ensures { AreByteLanes byte result }
+{
+    let mut lanes = [0; 8];
+    let mut count = 0;
+    let mut left = byte;
+    while left != 0 {
+        let (lane, rest) = next_lane(left);
+        lanes[count] = lane as u8;
+        count += 1;
+        left = rest;
+    }
+    ByteLanes { lanes, count }
+}
+
+/// The lanes of all bytes.
+#[derive(Drop)]
+pub(crate) struct ByteTable {
+    bytes: [ByteLanes; 256],
+    ghost each: { (b : ℕ) → b < 256 → AreByteLanes b (slice_index_or bytes b no_byte) },
+}
+
+impl ByteTable {
+    /// The table.
+    pub(crate) fn new() -> ByteTable {
+        let none = ByteLanes {
+            lanes: [0; 8],
+            count: 0,
+        };
+        let mut bytes = [none; 256];
+        for b in 0..256 {
+            bytes[b] = lanes_of_byte(b as u64);
+        }
+        ByteTable { bytes }
+    }
+
+    /// The lanes of a byte.
+    #[inline(always)]
+    pub(crate) fn of(&self, byte: usize) -> ByteLanes
+        requires { byte < 256 }
+        ensures { AreByteLanes byte result }
+    {
+        self.bytes[byte]
+    }
+}

@@ -1,0 +1,240 @@
+//! Pairs that may act, marked by an atom and the place of another among those that are gathered, and named later.
+
+ghost use Rattle.std.specs.Prelude.{◌≡◌, ℕ, ◌+◌, ◌%◌, ◌^◌, ◌<◌, ◌≤◌, ◌++◌, length, map, replicate, slice_index_or};
+ghost use Rattle.std.specs.Simd.Lanes.{put_chunk};
+ghost use Rattle.std.specs.List.{All};
+ghost use Rattle.place_blocks.specs.Blocks.{AreUpperHalves};
+ghost use Rattle.ring_box.specs.Places.{places_of};
+ghost use Rattle.cell_tiles.specs.Cells.{AreInBlocks};
+ghost use Rattle.cell_tiles.specs.Near.{IsMarkBelow, IsPairOf, lanes_of, mark, named, those_acting};
+ghost use Rattle.cell_tiles.specs.Tiles.{pairs_with};
+
+use crate::byte_lanes::ByteTable;
+use crate::gathered::Gathered;
+use crate::lanes::{bits_of, next_lane};
+use crate::near::FrameInBox;
+use place_blocks::{Block, CellSpan, UpperHalves};
+use std::marker::Model;
+use std::simd::prelude::*;
+
+/// At most 128 marks, in order: each an atom, and the place of another among some that are named later. A contract
+/// sees the list of them. Eight are written at once, and those counted that are meant, so that there is room for 136.
+#[derive(Drop)]
+pub(crate) struct Marks {
+    atoms: [u32; 136],
+    places: [u8; 136],
+    count: usize,
+    table: ByteTable,
+}
+
+impl Model for Marks {
+    ghost use Rattle.std.specs.Prelude.{ℕ, List, ◌≤◌, take};
+    ghost use Rattle.std.specs.Simd.Lanes.{zip2};
+    ghost use Rattle.cell_tiles.specs.Near.{mark};
+
+    ghost Value = { List (ℕ × ℕ) };
+
+    ghost view = { λ m. zip2 mark (take m.count m.atoms) (take m.count m.places) };
+
+    ghost invariant = { λ m. m.count ≤ 128 };
+}
+
+// Writes an atom eight times, from one place of the list on.
+#[inline(always)]
+fn put_atom(atoms: &mut [u32], at: usize, atom: u32)
+    requires { at + 8 ≤ length atoms.old }
+    ensures { atoms.new ≡ put_chunk at atoms.old (replicate 8 atom) }
+{
+    u32x8::splat(atom).copy_to_slice(&mut atoms[at..]);
+}
+
+// Writes eight lanes as places from the first on, from one place of the list on.
+#[inline(always)]
+fn put_places(places: &mut [u8], at: usize, first: u8, lanes: [u8; 8])
+    requires { at + 8 ≤ length places.old }
+    ensures { places.new ≡ put_chunk at places.old (map (λ j. (j + first) % 2 ^ 8) lanes) }
+{
+    let eight = u8x8::from_array(lanes) + u8x8::splat(first);
+    eight.copy_to_slice(&mut places[at..]);
+}
+
+impl Marks {
+    ghost use Rattle.std.specs.Prelude.{[]};
+
+    /// No marks.
+    pub(crate) fn new() -> Marks
+        ensures { result ≡ [] }
+    {
+        Marks {
+            atoms: [0; 136],
+            places: [0; 136],
+            count: 0,
+            table: ByteTable::new(),
+        }
+    }
+
+    /// Lets go of all marks.
+    pub(crate) fn clear(&mut self)
+        ensures { self.new ≡ [] }
+    {
+        self.count = 0;
+    }
+
+    /// How many marks there are.
+    #[inline(always)]
+    pub(crate) fn len(&self) -> usize
+        ensures value { result ≡ length self.now }
+        ensures few { result ≤ 128 }
+    {
+        self.count
+    }
+
+    /// The mark with this number.
+    #[inline(always)]
+    pub(crate) fn at(&self, e: usize) -> (u32, usize)
+        requires { e < length self.now }
+        ensures { result ≡ slice_index_or self.now e (0, 0) }
+    {
+        let Marks { atoms, places, .. } = self;
+        (atoms[e], places[e] as usize)
+    }
+
+    /// Marks an atom with those of eight places from the first on whose bits are set in a byte.
+    #[inline(always)]
+    fn mark_byte(&mut self, atom: u32, first: u8, byte: usize)
+        requires byte { byte < 256 }
+        requires first { first ≤ 248 }
+        requires room { length self.old + length (lanes_of byte) ≤ 128 }
+        ensures { self.new ≡ self.old ++ map (λ j. mark atom (first + j)) (lanes_of byte) }
+    {
+        let lanes = self.table.of(byte);
+        put_atom(&mut self.atoms, self.count, atom);
+        put_places(&mut self.places, self.count, first, lanes.lanes);
+        self.count += lanes.count;
+    }
+
+    /// Marks an atom with those of sixteen places from the first on whose bits are set.
+    #[inline(always)]
+    fn mark_block(&mut self, atom: u32, first: u8, bits: u64)
+        requires bits { bits < 2 ^ 16 }
+        requires first { first ≤ 240 }
+        requires room { length self.old + length (lanes_of bits) ≤ 128 }
+        ensures { self.new ≡ self.old ++ map (λ j. mark atom (first + j)) (lanes_of bits) }
+    {
+        self.mark_byte(atom, first, (bits % 256) as usize);
+        self.mark_byte(atom, first + 8, (bits / 256) as usize);
+    }
+}
+
+// ---- rows of pairs with atoms that are gathered
+
+impl Marks {
+    ghost use Rattle.std.specs.Prelude.{◌-◌, [], drop, take, slice_index};
+    ghost use Rattle.std.specs.Int.{bit_at};
+    ghost use Rattle.place_blocks.specs.Blocks.{AreInSpan};
+    ghost use Rattle.cell_tiles.specs.Cells.{AreBlocks, AreLanes};
+    ghost use Rattle.cell_tiles.specs.Tiles.{pairs_between};
+
+    /// Marks an atom at these upper halves with those of the gathered atoms that it may act with.
+    #[inline(always)]
+    fn mark_row(&mut self, frame: &FrameInBox, atom: u32, halves: UpperHalves, gathered: &Gathered)
+        requires room { length self.old + length gathered.now.atoms ≤ 128 }
+        requires halves { AreUpperHalves halves (places_of frame.now.places.now atom) }
+        requires gathered { AreInBlocks frame.now.places.now gathered.now.blocks 0 gathered.now.atoms }
+        requires pairs { All (IsPairOf (length frame.now.places.now)) (pairs_with atom gathered.now.atoms) }
+        ensures acting { those_acting frame.now.reach.now frame.now.ring.now frame.now.places.now (named gathered.now.atoms self.new)
+            ≡ those_acting frame.now.reach.now frame.now.ring.now frame.now.places.now (named gathered.now.atoms self.old) ++ those_acting frame.now.reach.now frame.now.ring.now frame.now.places.now (pairs_with atom gathered.now.atoms) }
+        ensures listed { All (IsPairOf (length frame.now.places.now)) (named gathered.now.atoms self.old) → All (IsPairOf (length frame.now.places.now)) (named gathered.now.atoms self.new) }
+        ensures below { All (IsMarkBelow (length gathered.now.atoms)) self.old → All (IsMarkBelow (length gathered.now.atoms)) self.new }
+        ensures few { length self.new ≤ length self.old + length gathered.now.atoms }
+    {
+        let count = gathered.atoms().len();
+        let blocks = gathered.blocks();
+        let mut seen = 0;
+        while seen < count {
+            let end = count.min(seen + 16);
+            let near = frame.coarse.near(&blocks[seen / 16], halves);
+            self.mark_block(atom, seen as u8, bits_of(near, 0, end - seen));
+            seen = end;
+        }
+    }
+    /// Marks the pairs that may act of those of up to sixteen atoms whose bits are set with all gathered ones, row by
+    /// row, until there might be no room for a row. It answers how many of the atoms it has come past. The atoms have
+    /// the lanes of a block from the lane `first` on.
+    #[inline(always)]
+    fn mark_rows(
+        &mut self,
+        frame: &FrameInBox,
+        gathered: &Gathered,
+        block: &Block,
+        first: usize,
+        atoms: &[u32],
+        marked: u64,
+    ) -> usize
+        requires lanes { first + length atoms.now ≤ 16 }
+        requires marked { marked < 2 ^ length atoms.now }
+        requires beside { AreLanes frame.now.places.now block.now first atoms.now }
+        requires gathered { AreInBlocks frame.now.places.now gathered.now.blocks 0 gathered.now.atoms }
+        requires pairs { All (λ a. All (IsPairOf (length frame.now.places.now)) (pairs_with a gathered.now.atoms)) atoms.now }
+        requires idle { (j : ℕ) → j < length atoms.now → bit_at marked j ≡ 0
+            → those_acting frame.now.reach.now frame.now.ring.now frame.now.places.now (pairs_with (slice_index atoms.now j) gathered.now.atoms) ≡ [] }
+        ensures acting { those_acting frame.now.reach.now frame.now.ring.now frame.now.places.now (named gathered.now.atoms self.new)
+            ≡ those_acting frame.now.reach.now frame.now.ring.now frame.now.places.now (named gathered.now.atoms self.old) ++ those_acting frame.now.reach.now frame.now.ring.now frame.now.places.now (pairs_between (take result atoms.now) gathered.now.atoms) }
+        ensures listed { All (IsPairOf (length frame.now.places.now)) (named gathered.now.atoms self.old) → All (IsPairOf (length frame.now.places.now)) (named gathered.now.atoms self.new) }
+        ensures below { All (IsMarkBelow (length gathered.now.atoms)) self.old → All (IsMarkBelow (length gathered.now.atoms)) self.new }
+        ensures within { result ≤ length atoms.now }
+        ensures onward { 0 < length atoms.now → length self.old ≡ 0 → 0 < result }
+    {
+        let count = gathered.atoms().len();
+        let mut next = 0;
+        let mut left = marked;
+        while left != 0 {
+            if self.len() + count > 128 {
+                return next;
+            }
+            let (row, rest) = next_lane(left);
+            self.mark_row(frame, atoms[row], block.at(first + row), gathered);
+            next = row + 1;
+            left = rest;
+        }
+        atoms.len()
+    }
+
+    /// Marks the pairs that may act of these atoms from the number `from` on with all gathered ones, row by row, until
+    /// there might be no room for a row. It answers the number of the atom to go on with. The blocks stand beside the
+    /// atoms, and the gathered ones lie in the span: so sixteen rows at once are seen to be far.
+    pub(crate) fn mark_cell(
+        &mut self,
+        frame: &FrameInBox,
+        gathered: &Gathered,
+        span: &CellSpan,
+        atoms: &[u32],
+        blocks: &[Block],
+        from: usize,
+    ) -> usize
+        requires beside { AreBlocks frame.now.places.now atoms.now blocks.now }
+        requires gathered { AreInBlocks frame.now.places.now gathered.now.blocks 0 gathered.now.atoms }
+        requires span { All (λ b. AreInSpan span.now (places_of frame.now.places.now b)) gathered.now.atoms }
+        requires pairs { All (λ a. All (IsPairOf (length frame.now.places.now)) (pairs_with a gathered.now.atoms)) atoms.now }
+        requires from { from < length atoms.now }
+        ensures acting { those_acting frame.now.reach.now frame.now.ring.now frame.now.places.now (named gathered.now.atoms self.new)
+            ≡ those_acting frame.now.reach.now frame.now.ring.now frame.now.places.now (named gathered.now.atoms self.old) ++ those_acting frame.now.reach.now frame.now.ring.now frame.now.places.now (pairs_between (take (result - from) (drop from atoms.now)) gathered.now.atoms) }
+        ensures listed { All (IsPairOf (length frame.now.places.now)) (named gathered.now.atoms self.old) → All (IsPairOf (length frame.now.places.now)) (named gathered.now.atoms self.new) }
+        ensures below { All (IsMarkBelow (length gathered.now.atoms)) self.old → All (IsMarkBelow (length gathered.now.atoms)) self.new }
+        ensures within { result ≤ length atoms.now }
+        ensures onward { length self.old ≡ 0 → from < result }
+    {
+        let mut next = from;
+        while next < atoms.len() {
+            let lane = next % 16;
+            let end = atoms.len().min(next + (16 - lane));
+            let block = &blocks[next / 16];
+            let marked = bits_of(frame.coarse.near_cell(block, span), lane, end - next);
+            next += self.mark_rows(frame, gathered, block, lane, &atoms[next..end], marked);
+            if next < end {
+                return next;
+            }
+        }
+        next
+    }
+}

@@ -1,0 +1,181 @@
+#!/usr/bin/env python3
+"""Tries what stands for exp(-x) in an energy, which has no exp: how far values and slopes are off, and what they cost.
+
+  examples/exponentials.py          PAIRMD=path of the program, ./pairmd where it isn't said
+
+For each recipe, at 2,049 numbers x from 0 to 64, in the arithmetic of 32 bits: the largest errors of the value and of
+the slope along x, the relative error of the value at some x, and how many instructions the code of its slope has. The
+values are computed here, as docs/FORMATS.md defines the operations, and at some x compared with `pairmd energy`; the
+slopes by the listing that `pairmd code` prints. Then, for each job of this folder that has such a recipe, how far its
+energy is from the formula with a true exp (JOBS), at 101 distances from core to cutoff, by `pairmd energy`.
+"""
+import functools
+import math
+import os
+import re
+import subprocess
+import tempfile
+
+HERE = os.path.dirname(os.path.realpath(__file__))
+PROGRAM = os.environ.get("PAIRMD", "./pairmd")
+ONE = 1 << 32
+
+RECIPES = [
+    "((1-x/64)^32)^2",
+    "((1-z)/(1+z))^32; z=x/64",
+    "((1-z*(1-z/2))^32)^2; z=x/64",
+    "((1-z*(1-z/2))^32)^32; z=x/1024",
+    "(1-z*(1-z/2*(1-z/3*(1-z/4))))^32; z=x/32",
+    "((1-z*(1-z/2*(1-z/3*(1-z/4))))^32)^2; z=x/64",
+]
+SHOWN = (-4, 1, 4, 8, 12)  # x of the relative errors
+
+# The energies of the jobs with a true exp, of two atoms of the first type.
+JOBS = {
+    "buckingham": lambda r: 3.9413 * math.exp(-36.6 * (r - 0.34)) - 0.0062 / r**6,
+    "morse": lambda r: 1.19 * (math.exp(-2 * 16.8 * (r - 0.376)) - 2 * math.exp(-16.8 * (r - 0.376))),
+    "yukawa": lambda r: 138.935456 / 78.3 * math.exp(-r / 0.304) / r,
+    "gaussian": lambda r: 5 * math.exp(-((r / 0.3) ** 2)),
+}
+
+
+class Number:
+    """A number of 32 fraction bits: each operation is exact, rounded down."""
+
+    def __init__(self, raw):
+        if not -(1 << 63) <= raw < 1 << 63:
+            raise OverflowError
+        self.raw = raw
+
+    def __add__(self, other):
+        return Number(self.raw + other.raw)
+
+    def __sub__(self, other):
+        return Number(self.raw - other.raw)
+
+    def __neg__(self):
+        return Number(-self.raw)
+
+    def __mul__(self, other):
+        return Number(self.raw * other.raw >> 32)
+
+    def __truediv__(self, other):
+        return Number((self.raw << 32) // other.raw)
+
+    def __pow__(self, exponent):
+        if exponent == 1:
+            return self
+        root = self ** (exponent // 2)
+        return root * root * self if exponent % 2 else root * root
+
+    def __float__(self):
+        return self.raw / ONE
+
+
+@functools.cache
+def formulas(recipe):
+    """The formulas of a recipe, the last definition first, as Python reads them: its signs bind as an energy's."""
+    body, *definitions = recipe.split(";")
+    made = []
+    for text in [*reversed(definitions), f"body={body}"]:
+        name, formula = text.strip().split("=")
+        formula = re.sub(r"(?<![\w^])\d+", lambda it: f"Number({int(it[0]) * ONE})", formula)
+        made.append((name, compile(formula.replace("^", "**"), recipe, "eval")))
+    return made
+
+
+def value(recipe, x):
+    """What a recipe gives for x."""
+    names = {"x": x, "Number": Number}
+    for name, formula in formulas(recipe):
+        names[name] = eval(formula, names)
+    return names["body"]
+
+
+def run(listing, inputs):
+    """The value of code without jumps on its inputs."""
+    stack, kept = [], {}
+    for word, *operand in map(str.split, listing):
+        if word == "push":
+            stack.append(Number(int(operand[0])))
+        elif word == "input":
+            stack.append(inputs[int(operand[0])])
+        elif word == "keep":
+            kept[operand[0]] = stack.pop()
+        elif word == "get":
+            stack.append(kept[operand[0]])
+        elif word in ("neg", "sq"):
+            a = stack.pop()
+            stack.append(-a if word == "neg" else a * a)
+        else:
+            b, a = stack.pop(), stack.pop()
+            stack.append({"add": a.__add__, "sub": a.__sub__, "mul": a.__mul__, "div": a.__truediv__}[word](b))
+    return stack.pop()
+
+
+def program(*words):
+    """What the program prints."""
+    return subprocess.run([PROGRAM, *words], check=True, stdout=subprocess.PIPE, text=True).stdout
+
+
+def energy(job, state, raw):
+    """What `pairmd energy` says of two atoms of the type AR at this distance, on a side of 2 nm."""
+    with open(state, "w", encoding="ascii") as it:
+        it.write("pairmd state 1\ntitle two atoms\nstep 0\natoms 2\nbox 200000 200000 200000\n")
+        for place in (0, raw // 2):
+            it.write(f"    1AR      AR {place} 0 0 {place} 0 0\n")
+    return int(program("energy", job, state).split()[1])
+
+
+def share(error):
+    """A relative error, as the table has it."""
+    size = abs(error)
+    return f"{size:.1e}" if size < 2e-3 else f"{100 * size:.{0 if size > 9.5e-3 else 1}f} %"
+
+
+def tried(recipe, folder):
+    """A row of the table of recipes."""
+    job, state = f"{folder}/job", f"{folder}/state"
+    with open(job, "w", encoding="ascii") as it:
+        it.write(f"pairmd job 1\nenergy {recipe}; x=b*r\ncore 0\ncutoff 0.99\ndt 2\nglobal b 64\ntype AR 40\n")
+    listing = program("code", job).splitlines()[1:]
+    values, slopes = [], []
+    for count in range(2_049):  # x is count / 32, and r that over 64
+        x, r = Number(count * ONE // 32), Number(count * ONE // 2_048)
+        exact = math.exp(-count / 32)
+        values.append(abs(float(value(recipe, x)) - exact))
+        slopes.append(abs(float(run(listing, [r, Number(64 * ONE)])) / 64 + exact))
+        if count % 256 == 0 and count < 2_016:
+            assert energy(job, state, r.raw) == value(recipe, x).raw, (recipe, count)
+    relative = [float(value(recipe, Number(x * ONE))) / math.exp(-x) - 1 for x in SHOWN]
+    return [f"`{recipe}`", str(len(listing)), f"{max(values):.1e}", f"{max(slopes):.1e}", *map(share, relative)]
+
+
+def of_a_job(name, formula, folder):
+    """How far the energy of a job is off, and where."""
+    job, state = f"{HERE}/{name}.job", f"{folder}/state"
+    with open(job, encoding="ascii") as it:
+        said = dict(line.split(None, 1) for line in it if line.split()[0] in ("core", "cutoff"))
+    core, cutoff = float(said["core"]), float(said["cutoff"])
+    off = []
+    for count in range(101):
+        raw = int((core + (cutoff - core) * count / 101) * ONE) // 2 * 2
+        r = max(raw / ONE, core)
+        if r > 0:
+            off.append((abs(energy(job, state, raw) / ONE - formula(r)), abs(formula(r)), r))
+    (worst, there, at), inner = max(off), max(it[0] for it in off if it[1] < 20)
+    return f"{name}.job: at most {worst:.1e} kJ/mol off, at {at:.3f} nm where it is {there:.4g}; below 20 at most {inner:.1e}"
+
+
+def main():
+    with tempfile.TemporaryDirectory() as folder:
+        head = ["Value off by at most", "Slope off by at most", f"Value, of itself, at x = {SHOWN[0]}", *map(str, SHOWN[1:])]
+        print("| For `exp(-x)` | Instructions |", " | ".join(head), "|")
+        for recipe in RECIPES:
+            print("|", " | ".join(tried(recipe, folder)), "|", flush=True)
+        for name, formula in JOBS.items():
+            print(of_a_job(name, formula, folder), flush=True)
+
+
+if __name__ == "__main__":
+    main()
