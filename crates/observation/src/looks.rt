@@ -36,20 +36,14 @@ pub(crate) fn scales<A: Allocator + Copy>(engine: &Engine<A>) -> Scales
 }
 
 /// The previous frame of the state that an engine has come to.
-fn previous<A: Allocator + Copy>(
-    alloc: A,
-    engine: &Engine<A>,
-) -> Result<Vec<Place3, A>, AllocError>
+fn previous<A: Allocator + Copy>(alloc: A, engine: &Engine<A>) -> Result<Vec<Place3, A>, AllocError>
     ensures { IfOk result (λ frame. frame.items ≡ previous_frame engine.now.state.atoms) }
 {
     previous_frame(alloc, &engine.state().atoms)
 }
 
 /// Its current frame.
-fn current<A: Allocator + Copy>(
-    alloc: A,
-    engine: &Engine<A>,
-) -> Result<Vec<Place3, A>, AllocError>
+fn current<A: Allocator + Copy>(alloc: A, engine: &Engine<A>) -> Result<Vec<Place3, A>, AllocError>
     ensures { IfOk result (λ frame. frame.items ≡ current_frame engine.now.state.atoms) }
 {
     current_frame(alloc, &engine.state().atoms)
