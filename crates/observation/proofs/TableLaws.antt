@@ -30,7 +30,7 @@ headed_later zero head row later = absurd (later refl)
 headed_later (suc number) head row later = refl
 
 module _ (columns : Columns) (number : ℕ) (e : EngineView) (scales : Scales) (o : Observation) (typed : IsTyped e) (counts : AreScalesOf e scales) (observed : IsObservationOf e o) where
-  text : List ℕ
+  abbrev text : List ℕ
   text = headed number (head_by columns) (row_by columns scales o)
 
   -- it is what the table has of the state that the engine has come to

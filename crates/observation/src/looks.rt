@@ -1,6 +1,7 @@
 //! Looks at an engine: what is observed of the state that it has come to.
 
 ghost use Rattle.std.specs.Prelude.{◌≡◌, IfOk};
+ghost use Rattle.integrator.specs.States.{current_frame, previous_frame};
 ghost use Rattle.engine.specs.Observers.{IsObserverOf};
 ghost use Rattle.observation.specs.Observations.{AreScalesOf, IsObservationOf, axes_of};
 
@@ -8,6 +9,7 @@ use engine::{Engine, Observer};
 use integrator::{current_frame, previous_frame};
 use observables::{Axes, Observation, Scales, momentum, squares};
 use pair_sums::Virial;
+use ring_box::Place3;
 use std::alloc::{AllocError, Allocator};
 
 /// A virial by its axes.
@@ -33,6 +35,20 @@ pub(crate) fn scales<A: Allocator + Copy>(engine: &Engine<A>) -> Scales
     }
 }
 
+/// The previous frame of the state that an engine has come to.
+fn previous<A: Allocator + Copy>(alloc: A, engine: &Engine<A>) -> Result<Vec<Place3, A>, AllocError>
+    ensures { IfOk result (λ frame. frame.items ≡ previous_frame engine.now.state.atoms) }
+{
+    previous_frame(alloc, &engine.state().atoms)
+}
+
+/// Its current frame.
+fn current<A: Allocator + Copy>(alloc: A, engine: &Engine<A>) -> Result<Vec<Place3, A>, AllocError>
+    ensures { IfOk result (λ frame. frame.items ≡ current_frame engine.now.state.atoms) }
+{
+    current_frame(alloc, &engine.state().atoms)
+}
+
 /// What is observed of the state that an engine has come to. `AllocError` only where memory is refused.
 pub(crate) fn observe<A: Allocator + Copy>(
     alloc: A,
@@ -43,14 +59,13 @@ pub(crate) fn observe<A: Allocator + Copy>(
     ensures observation { IfOk result (IsObservationOf engine.now) }
     ensures observer { IsObserverOf engine.now observer.new }
 {
-    let state = engine.state();
-    let masses = engine.masses();
     let sums = engine.observe(observer)?;
-    let previous = previous_frame(alloc, &state.atoms)?;
-    let current = current_frame(alloc, &state.atoms)?;
+    let previous = previous(alloc, engine)?;
+    let current = current(alloc, engine)?;
     let next = engine.next_frame(observer)?;
+    let masses = engine.masses();
     Ok(Observation {
-        step: state.step,
+        step: engine.state().step,
         potential: sums.energy,
         squares: squares(masses, &previous, &current, &next),
         virial: by_axes(sums.virial),

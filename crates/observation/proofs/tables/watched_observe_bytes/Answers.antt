@@ -1,0 +1,49 @@
+use Rattle.std.proofs.Common.{◌*◌, ◌/◌, refl}
+use Rattle.std.proofs.lemmas.Result.{IfErr-weaker, err_from_is_err_and, on_ok_weaker}
+use Rattle.engine.proofs.EngineLaws.{safe_texts}
+use Rattle.trajectory.specs.Visits.{IsTextOfRun, IsTextOnWay}
+use Rattle.trajectory.proofs.HundredthLaws.{nothing_told}
+use Rattle.trajectory.proofs.VisitLaws.{text_of_run, wrote_map}
+use Rattle.trajectory.proofs.WayLaws.{engine_in_range, texts_fit}
+use Rattle.observation.specs.Observations.{ShowsTable}
+use Rattle.observation.proofs.TableLaws.{rows_unwritten, typed_of_texts}
+use Rattle.observation.proofs.tables.watched_observe_bytes.Goals as goal
+
+-- why there is no engine
+pub returns-in_err-engine-clause-refused : goal.returns-in_err-engine-clause-refused
+returns-in_err-engine-clause-refused g c =
+    let p = err_from_is_err_and c.from_residual.result c.from_residual.ensures.1 in
+    rw (p.1, p.2) (c.in_err-engine.ensures.refused, refl)
+
+pub returns-in_err-engine-clause-told_some : goal.returns-in_err-engine-clause-told_some
+returns-in_err-engine-clause-told_some g c =
+    let p = err_from_is_err_and c.from_residual.result c.from_residual.ensures.1 in
+    rw p.1 (nothing_told (c.args.steps / c.args.every * c.args.every) (g.W.Watch.told c.args.watch.now c.args.watch.now) (g.met.W.Watch.told_nothing c.args.watch.now))
+
+pub table-done-requires-clause-typed : goal.table-done-requires-clause-typed
+table-done-requires-clause-typed g c = λ _ _. typed_of_texts c.args.job.now c.args.state.now c.in_ok-engine.engine c.in_ok-engine.ensures.opens
+
+pub table-done-requires-clause-range : goal.table-done-requires-clause-range
+table-done-requires-clause-range g c = λ _ _. engine_in_range c.args.job.now c.args.state.now c.in_ok-engine.engine c.in_ok-engine.ensures.opens
+
+-- why not all rows are written
+pub returns-clause-refused : goal.returns-clause-refused
+returns-clause-refused g c =
+    IfErr-weaker c.table-done.result _ _ (rows_unwritten (ShowsTable c.args.columns) c.args.job.now c.args.state.now c.args.direction c.args.steps c.args.every c.in_ok-engine.engine _ _ c.in_ok-engine.ensures.opens)
+    c.table-done.ensures.unshown
+
+-- the rows that are written
+pub returns-clause-safe : goal.returns-clause-safe
+returns-clause-safe g c = on_ok_weaker c.table-done.result (λ _. safe_texts c.args.job.now c.args.state.now c.in_ok-engine.engine c.in_ok-engine.ensures.opens) c.table-done.ensures.wrote
+
+pub returns-clause-fits : goal.returns-clause-fits
+returns-clause-fits g c = on_ok_weaker c.table-done.result (texts_fit c.args.job.now c.args.state.now c.args.direction c.args.steps c.in_ok-engine.engine c.in_ok-engine.ensures.opens) c.table-done.ensures.fits
+
+pub returns-clause-wrote : goal.returns-clause-wrote
+returns-clause-wrote g c =
+    let e = c.in_ok-engine.engine in
+    let shows = ShowsTable c.args.columns in
+    on_ok_weaker c.table-done.result
+    (wrote_map (IsTextOnWay shows c.args.direction c.args.every e) (IsTextOfRun shows c.args.job.now c.args.state.now c.args.direction c.args.every) _ _ _
+    (text_of_run shows c.args.job.now c.args.state.now c.args.direction c.args.every e c.in_ok-engine.ensures.opens))
+    c.table-done.ensures.wrote
