@@ -163,8 +163,8 @@ def lines_of(text):
 
 def states_of(text):
     """The states of a run, each of which begins with its first line."""
-    parts = text.split(b"pairmd state ")[1:]
-    return [b"pairmd state " + part for part in parts]
+    parts = (b"\n" + text)[:-1].split(b"\npairmd state ")[1:]
+    return [b"pairmd state " + part + b"\n" for part in parts]
 
 
 class Case:
