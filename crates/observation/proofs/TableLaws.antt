@@ -67,7 +67,7 @@ way_unshown Shows w steps every e before after (run.Out f) h = h
 -- what keeps the rows of an engine of texts from being shown keeps those of the texts from being written
 pub rows_unwritten : {A : Type 0} (Shows : Showing) (job state : List ℕ) (w : Direction) (steps every : ℕ) (e : EngineView) (before after : Output) → IsEngineOfTexts job state e → (fault : ObserveFault A)
     → IsTableUnshown Shows w steps every e before after fault → AreRowsUnwritten Shows job state w steps every before after fault
-rows_unwritten Shows job state w steps every e before after t (observe.Run (run.Open failure)) h = (subst (λ x. IfRefused x (HasNoEngineOfTexts job state)) (sym h.0) tt, h.1)
-rows_unwritten Shows job state w steps every e before after t (observe.Run (run.Steps f)) h = texts_unwritten Shows job state w steps every e before after t (run.Steps f) h
-rows_unwritten Shows job state w steps every e before after t (observe.Run (run.Out f)) h = texts_unwritten Shows job state w steps every e before after t (run.Out f) h
-rows_unwritten Shows job state w steps every e before after t (observe.Energy f) h = (record { engine = e; opens = t; why = h.0 }, h.1)
+rows_unwritten {A} Shows job state w steps every e before after t (observe.Run (run.Open failure)) h = (subst (λ x. IfRefused x (HasNoEngineOfTexts job state)) (sym h.0) tt, h.1)
+rows_unwritten {A} Shows job state w steps every e before after t (observe.Run (run.Steps f)) h = texts_unwritten {A = A} Shows job state w steps every e before after t (run.Steps f) h
+rows_unwritten {A} Shows job state w steps every e before after t (observe.Run (run.Out f)) h = texts_unwritten {A = A} Shows job state w steps every e before after t (run.Out f) h
+rows_unwritten {A} Shows job state w steps every e before after t (observe.Energy f) h = (record { engine = e; opens = t; why = h.0 }, h.1)
