@@ -1,5 +1,5 @@
 -- Tables: rows that are shown of an engine, and why a table ends early.
-use Rattle.std.proofs.Common.{◌≡◌, ◌≢◌, ℕ, zero, suc, List, ◌++◌, refl, subst, sym}
+use Rattle.std.proofs.Common.{◌≡◌, ◌≢◌, ℕ, zero, suc, List, refl, subst, sym}
 use Rattle.fallible.specs.Failures.{IfRefused}
 use Rattle.fallible.specs.Out.{Appends, AppendsBeginning, Output}
 use Rattle.fallible.specs.declared.failure.Failure.{Failure}
@@ -7,7 +7,6 @@ use Rattle.fallible.specs.declared.failure.Failure.TheVariants.{Memory, Refused}
 use Rattle.integrator.specs.declared.direction.Direction.{Direction}
 use Rattle.potential.specs.declared.faults.EnergyFault.{EnergyFault}
 use Rattle.engine.specs.Engines.{EngineView, HasNoEngineOfTexts, IsEngineOfTexts}
-use Rattle.engine.specs.Observers.{IsObserverOf, ObserverView}
 use Rattle.engine.specs.PairEnergies.{HasNoEnergy}
 use Rattle.engine.specs.declared.faults.RunFault.{RunFault}
 use Rattle.engine.specs.declared.faults.RunFault.TheVariants as run
@@ -16,7 +15,6 @@ use Rattle.observables.specs.declared.scales.Scales.{Scales}
 use Rattle.trajectory.specs.Visits.{BeganText, IsWayUnshown, Showing, WroteText}
 use Rattle.trajectory.proofs.VisitLaws.{texts_unwritten}
 use Rattle.observation.specs.Observations.{AreScalesOf, IsObservationOf, IsTableText, IsTyped, ShowsTable, head_by, headed, row_by}
-use Rattle.observation.specs.Readiness.{IsReadyFor}
 use Rattle.observation.specs.Tables.{AreRowsUnwritten, IsTableUnshown, observe_fault_of}
 use Rattle.observation.specs.declared.columns.Columns.{Columns}
 use Rattle.observation.specs.declared.faults.ObserveFault.{ObserveFault}

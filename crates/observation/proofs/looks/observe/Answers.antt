@@ -4,7 +4,7 @@ use Rattle.std.proofs.lemmas.List.{length-map}
 use Rattle.state.specs.StateText.{AtomView, StateView}
 use Rattle.observables.specs.Sums.{moments_between, squares_about}
 use Rattle.observation.specs.Observations.{axes_of}
-use Rattle.observation.proofs.ObservationLaws.{next_sized, virial_small}
+use Rattle.observation.proofs.ObservationLaws.{next_sized}
 use Rattle.observation.proofs.looks.observe.Goals as goal
 
 -- all frames are of the engine's atoms
