@@ -2,10 +2,9 @@
 use Rattle.std.proofs.Common.{◌≡◌, ◌≢◌, ◌⊎◌, ◌∙◌, ◌<◌, ◌≤◌, ◌-◌, ◌^◌, ℕ, List, Option, Some, None, ap, arith, inl, inr, refl, subst, sym}
 use Rattle.std.specs.Borrow.{Bor}
 use Rattle.std.specs.Prelude.{IfErr, Result, Ok, Err}
-use Rattle.command_line.specs.CommandLine.{AsksForHelp, AsksForVisits, AsksForVersion, IsCommand, IsMisuse, faults_of}
+use Rattle.command_line.specs.CommandLine.{AsksForHelp, AsksForVisits, AsksForVersion, IsCommand, IsMisuse, IsOfVisits, faults_of}
 use Rattle.command_line.specs.declared.commands.Command.{Command}
 use Rattle.command_line.specs.declared.commands.Command.TheVariants as command
-use Rattle.command_line.specs.declared.commands.Visits.{Visits}
 use Rattle.command_line.proofs.CommandLineLaws.{asks_for_help, asks_for_version, is_misuse}
 use Rattle.clap.specs.Words.{HasKind, kind_of}
 use Rattle.clap.specs.declared.error.Error.{Error}
@@ -19,6 +18,9 @@ use Rattle.integrator.specs.declared.faults.StepFault.TheVariants as step
 use Rattle.engine.specs.Engines.{IsRunUnwritten}
 use Rattle.engine.specs.declared.faults.RunFault.{RunFault}
 use Rattle.engine.specs.declared.faults.RunFault.TheVariants as run
+use Rattle.observation.specs.Tables.{AreRowsUnwritten}
+use Rattle.observation.specs.declared.faults.ObserveFault.{ObserveFault}
+use Rattle.observation.specs.declared.faults.ObserveFault.TheVariants as observe
 use Rattle.trajectory.specs.Visits.{AreTextsUnwritten, Showing}
 use Rattle.cli.specs.Asked.{also_asked}
 use Rattle.cli.specs.Kept.{IsKept}
@@ -28,7 +30,7 @@ use Rattle.cli.specs.Progress.{IsBegun, IsTold, PrintsIfCounted}
 use Rattle.cli.specs.Reads.{AsksFor, also_asked_if, asked_by, unread}
 use Rattle.cli.specs.Refusals.{HasNoBytes, IsFaultOf, IsNoAnswer, IsCommandRefused, IsUnanswered, IsUndone, IsUnread, IsUnreadOfSome, IsUnreadOfTwo, IsVerdictUndone, RefusesCode, RefusesEnergy, RefusesForces, RefusesFrame, RefusesJob, RefusesListing, RefusesSlope, RefusesState, RefusesUnder}
 use Rattle.cli.specs.Reports.{IsReported}
-use Rattle.cli.specs.Failures.{fault_of_run}
+use Rattle.cli.specs.Failures.{fault_of_observe, fault_of_run}
 use Rattle.cli.specs.Statuses.{status_number, status_of}
 use Rattle.cli.specs.declared.faults.CommandFault.{CommandFault}
 use Rattle.cli.specs.declared.faults.CommandFault.TheVariants as fault
@@ -36,7 +38,7 @@ use Rattle.cli.specs.declared.faults.Status.TheVariants as status
 use Rattle.cli.specs.declared.files.ReadFault.{ReadFault}
 use Rattle.cli.specs.declared.files.ReadFault.TheVariants as read
 use Rattle.cli.proofs.ProgressLaws.{says}
-use Rattle.cli.proofs.StatusLaws.{IsOfWords, code_two, code_zero, file_failed, memory_wanted, never_done, number_most, of_files_alone, of_run, words_alone}
+use Rattle.cli.proofs.StatusLaws.{IsOfWords, code_two, code_zero, file_failed, memory_wanted, never_done, number_most, of_files_alone, of_observe, of_run, words_alone}
 
 abbrev Paths : Type 0
 Paths = Option (List (List ℕ))
@@ -48,6 +50,7 @@ asks_all (command.Start start) before after all = inr all
 asks_all (command.Run run) before after all = inr all
 asks_all (command.Trajectory v) before after all = inr all
 asks_all (command.States v) before after all = inr all
+asks_all (command.Observe o) before after all = inr all
 asks_all (command.Frame frame) before after all = all
 asks_all (command.Energy energy) before after all = inr all
 asks_all (command.Forces energy) before after all = inr all
@@ -70,6 +73,7 @@ asks_without_bytes held (command.Start start) before after f h = asks_of_two hel
 asks_without_bytes held (command.Run run) before after f h = asks_of_two held _ _ _ _ f h
 asks_without_bytes held (command.Trajectory v) before after f h = asks_of_two held _ _ _ _ f h
 asks_without_bytes held (command.States v) before after f h = asks_of_two held _ _ _ _ f h
+asks_without_bytes held (command.Observe o) before after f h = asks_of_two held _ _ _ _ f h
 asks_without_bytes held (command.Frame frame) before after f h = h.asked
 asks_without_bytes held (command.Energy energy) before after f h = asks_of_two held _ _ _ _ f h
 asks_without_bytes held (command.Forces energy) before after f h = asks_of_two held _ _ _ _ f h
@@ -118,16 +122,22 @@ kept_texts Shows job state direction steps every before after (run.Steps step.St
 kept_texts Shows job state direction steps every before after (run.Steps (step.Memory done)) h = inr refl
 kept_texts Shows job state direction steps every before after (run.Out o) h = inl (inr h.1.began.beginning.failed)
 
+-- the same of a table's rows
+kept_rows : {A : Type 0} (Shows : Showing) (job state : List ℕ) (direction : Direction) (steps every : ℕ) (before after : Output) (f : ObserveFault A) → AreRowsUnwritten Shows job state direction steps every before after f
+    → IsKept before after ⊎ (status_of (fault_of_observe f) ≡ status.Memory)
+kept_rows Shows job state direction steps every before after (observe.Run f) h = kept_texts Shows job state direction steps every before after f h
+kept_rows Shows job state direction steps every before after (observe.Energy f) h = inl (inl h.1)
+
 kept_verdict : {A : Type 0} (held : List ℕ → Option (List ℕ)) (job : List ℕ) (listing : Option (Bor (List ℕ))) (before after : Output) (f : CommandFault A)
     → IsVerdictUndone held job listing before after f → IsKept before after
 kept_verdict held job None before after f h = kept_unwritten _ _ before after f h.2 (λ b. b.written.failed)
 kept_verdict held job (Some listing) before after f h = kept_unwritten _ _ before after f h.4 (λ b. b.written.failed)
 
 -- the fault of a command that shows states on the way is that of its run
-visited : {A : Type 0} {before after : Output} (words : List (List ℕ)) (f : CommandFault A) (g : RunFault A) (v : Visits) → f ≡ fault_of_run g → IsCommand words (command.Trajectory v) ⊎ IsCommand words (command.States v)
-    → IsKept before after ⊎ (status_of (fault_of_run g) ≡ status.Memory) → IsKept before after ⊎ ((status_of f ≡ status.Memory) × AsksForVisits words)
-visited words f g v is asked (inl kept) = inl kept
-visited words f g v is asked (inr memory) = inr (ap status_of is ∙ memory, (v, asked))
+visited : {A : Type 0} {before after : Output} (words : List (List ℕ)) (f g : CommandFault A) (c : Command) → f ≡ g → IsCommand words c → IsOfVisits c
+    → IsKept before after ⊎ (status_of g ≡ status.Memory) → IsKept before after ⊎ ((status_of f ≡ status.Memory) × AsksForVisits words)
+visited words f g c is asked visits (inl kept) = inl kept
+visited words f g c is asked visits (inr memory) = inr (ap status_of is ∙ memory, (c, asked, visits))
 
 -- the output of a command that was refused: one that shows states on the way may leave whole texts where an allocation
 -- is refused
@@ -135,8 +145,9 @@ kept_refused : {A : Type 0} (words : List (List ℕ)) (held : List ℕ → Optio
     → IsCommandRefused held c before after f → IsKept before after ⊎ ((status_of f ≡ status.Memory) × AsksForVisits words)
 kept_refused words held (command.Start start) before after f is h = inl (kept_unwritten _ _ before after f h.4 (λ b. b.written.failed))
 kept_refused words held (command.Run r) before after f is h = inl (kept_run _ _ _ _ before after h.4.0 h.4.2)
-kept_refused words held (command.Trajectory v) before after f is h = visited words f h.4.0 v h.4.1 (inl is) (kept_texts _ _ _ _ _ _ before after h.4.0 h.4.2)
-kept_refused words held (command.States v) before after f is h = visited words f h.4.0 v h.4.1 (inr is) (kept_texts _ _ _ _ _ _ before after h.4.0 h.4.2)
+kept_refused words held (command.Trajectory v) before after f is h = visited words f (fault_of_run h.4.0) (command.Trajectory v) h.4.1 is tt (kept_texts _ _ _ _ _ _ before after h.4.0 h.4.2)
+kept_refused words held (command.States v) before after f is h = visited words f (fault_of_run h.4.0) (command.States v) h.4.1 is tt (kept_texts _ _ _ _ _ _ before after h.4.0 h.4.2)
+kept_refused words held (command.Observe o) before after f is h = visited words f (fault_of_observe h.4.0) (command.Observe o) h.4.1 is tt (kept_rows _ _ _ _ _ _ before after h.4.0 h.4.2)
 kept_refused words held (command.Frame frame) before after f is h = inl (kept_unwritten _ _ before after f h.2 (λ b. b.written.failed))
 kept_refused words held (command.Energy energy) before after f is h = inl (kept_unwritten _ _ before after f h.4 (λ b. b.written.failed))
 kept_refused words held (command.Forces energy) before after f is h = inl (kept_unwritten _ _ before after f h.4 (λ b. b.written.failed))
@@ -202,6 +213,7 @@ bytes_of_words held (command.Start start) before after f of_words h = two_of_wor
 bytes_of_words held (command.Run r) before after f of_words h = two_of_words held _ _ _ _ f of_words h
 bytes_of_words held (command.Trajectory v) before after f of_words h = two_of_words held _ _ _ _ f of_words h
 bytes_of_words held (command.States v) before after f of_words h = two_of_words held _ _ _ _ f of_words h
+bytes_of_words held (command.Observe o) before after f of_words h = two_of_words held _ _ _ _ f of_words h
 bytes_of_words held (command.Frame frame) before after f of_words h = unread_of_words held _ _ _ f of_words h
 bytes_of_words held (command.Energy energy) before after f of_words h = two_of_words held _ _ _ _ f of_words h
 bytes_of_words held (command.Forces energy) before after f of_words h = two_of_words held _ _ _ _ f of_words h
@@ -227,6 +239,7 @@ refused_of_words held (command.Start start) before after f of_words job frame st
 refused_of_words held (command.Run r) before after f of_words job frame state code slope listing energy forces h = of_files_alone (fault_of_run h.4.0) (of_run h.4.0) (subst IsOfWords h.4.1 of_words)
 refused_of_words held (command.Trajectory v) before after f of_words job frame state code slope listing energy forces h = of_files_alone (fault_of_run h.4.0) (of_run h.4.0) (subst IsOfWords h.4.1 of_words)
 refused_of_words held (command.States v) before after f of_words job frame state code slope listing energy forces h = of_files_alone (fault_of_run h.4.0) (of_run h.4.0) (subst IsOfWords h.4.1 of_words)
+refused_of_words held (command.Observe o) before after f of_words job frame state code slope listing energy forces h = of_files_alone (fault_of_observe h.4.0) (of_observe h.4.0) (subst IsOfWords h.4.1 of_words)
 refused_of_words held (command.Frame fr) before after f of_words job frame state code slope listing energy forces h = unwritten_of_words _ _ before after f of_words (state h.0) h.2
 refused_of_words held (command.Energy e) before after f of_words job frame state code slope listing energy forces h = unwritten_of_words _ _ before after f of_words (energy h.0 h.1) h.4
 refused_of_words held (command.Forces s) before after f of_words job frame state code slope listing energy forces h = unwritten_of_words _ _ before after f of_words (forces h.0 h.1) h.4

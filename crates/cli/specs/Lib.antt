@@ -13,4 +13,5 @@ pub mod Refusals
 pub mod Reports
 pub mod Statuses
 pub mod Kept
+pub mod Tables
 pub mod Verdicts

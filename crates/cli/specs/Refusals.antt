@@ -8,6 +8,7 @@ use Rattle.clap.specs.declared.error.kind.ErrorKind.TheVariants.{DisplayHelp, Di
 use Rattle.command_line.specs.CommandLine.{AsksForHelp, AsksForVersion, IsCommand, IsMisuse}
 use Rattle.command_line.specs.declared.commands.Command.{Command}
 use Rattle.command_line.specs.declared.commands.Command.TheVariants as command
+use Rattle.command_line.specs.declared.commands.Observe.{Observe}
 use Rattle.command_line.specs.declared.commands.Run.{Run}
 use Rattle.command_line.specs.declared.commands.Visits.{Visits}
 use Rattle.energy_program.specs.Faults as energies
@@ -28,6 +29,9 @@ use Rattle.job.specs.Values.{JobValue}
 use Rattle.job.specs.Views as jobs
 use Rattle.kernel_code.specs.ListingReading.{code_of}
 use Rattle.kernel_code.specs.declared.instructions.Instr.{Instr}
+use Rattle.observation.specs.Observations.{ShowsTable}
+use Rattle.observation.specs.Tables.{AreRowsUnwritten}
+use Rattle.observation.specs.declared.faults.ObserveFault.{ObserveFault}
 use Rattle.ring_box.specs.declared.faults.BoxFault.{BoxFault}
 use Rattle.state.specs.Starts.{start_of_frame}
 use Rattle.state.specs.StateReading.{state_of}
@@ -37,10 +41,11 @@ use Rattle.trajectory.specs.WholeStates.{ShowsState}
 use Rattle.cli.specs.Asked.{also_asked}
 use Rattle.cli.specs.Conversions.{IsCodeText, IsFrameOf, IsFrameText, IsStartText}
 use Rattle.cli.specs.Explained.{IsExplanation}
-use Rattle.cli.specs.Failures.{fault_of_run}
+use Rattle.cli.specs.Failures.{fault_of_observe, fault_of_run}
 use Rattle.cli.specs.ForceTexts.{IsForcesText}
 use Rattle.cli.specs.Held.{OfOne, OfTwo}
 use Rattle.cli.specs.Reads.{asked_by, unread}
+use Rattle.cli.specs.Tables.{columns_of}
 use Rattle.cli.specs.Verdicts.{IsEnergyText, IsListingVerdict, IsSlopeVerdict}
 use Rattle.cli.specs.declared.faults.CommandFault.{CommandFault}
 use Rattle.cli.specs.declared.faults.CommandFault.TheVariants as fault
@@ -170,6 +175,11 @@ IsTrajectoryUndone {A} job state v before after f = (g : RunFault A) × (f ≡ f
 abbrev pub AreStatesUndone : {A : Type 0} → (job state : List ℕ) → Visits → Output → Output → CommandFault A → Type 0
 AreStatesUndone {A} job state v before after f = (g : RunFault A) × (f ≡ fault_of_run g) × AreTextsUnwritten ShowsState job state v.direction v.steps v.every before after g
 
+-- the same of the rows of its table, of which nothing is written where the energy itself is refused
+abbrev pub IsTableUndone : {A : Type 0} → (job state : List ℕ) → Observe → Output → Output → CommandFault A → Type 0
+IsTableUndone {A} job state o before after f = (g : ObserveFault A) × (f ≡ fault_of_observe g)
+    × AreRowsUnwritten (ShowsTable (columns_of o.exact)) job state o.visits.direction o.visits.steps o.visits.every before after g
+
 -- ---- of a command, whose files gave these bytes
 
 abbrev pub IsVerdictUndone : {A : Type 0} → (List ℕ → Option (List ℕ)) → List ℕ → Option (Bor (List ℕ)) → Output → Output → CommandFault A → Type 0
@@ -181,6 +191,7 @@ IsCommandRefused held (command.Start start) before after f = OfTwo held start.jo
 IsCommandRefused held (command.Run run) before after f = OfTwo held run.job.now run.state.now (λ job state. IsRunUndone job state run before after f)
 IsCommandRefused held (command.Trajectory v) before after f = OfTwo held v.job.now v.state.now (λ job state. IsTrajectoryUndone job state v before after f)
 IsCommandRefused held (command.States v) before after f = OfTwo held v.job.now v.state.now (λ job state. AreStatesUndone job state v before after f)
+IsCommandRefused held (command.Observe o) before after f = OfTwo held o.visits.job.now o.visits.state.now (λ job state. IsTableUndone job state o before after f)
 IsCommandRefused held (command.Frame frame) before after f = OfOne held frame.state.now (λ state. IsFrameUndone state before after f)
 IsCommandRefused held (command.Energy s) before after f = OfTwo held s.job.now s.state.now (λ job state. IsEnergyUndone job state before after f)
 IsCommandRefused held (command.Forces s) before after f = OfTwo held s.job.now s.state.now (λ job state. AreForcesUndone job state before after f)
@@ -215,6 +226,7 @@ HasNoBytes held (command.Start start) asked_before asked_after f = IsUnreadOfTwo
 HasNoBytes held (command.Run run) asked_before asked_after f = IsUnreadOfTwo held run.job.now run.state.now asked_before asked_after f
 HasNoBytes held (command.Trajectory v) asked_before asked_after f = IsUnreadOfTwo held v.job.now v.state.now asked_before asked_after f
 HasNoBytes held (command.States v) asked_before asked_after f = IsUnreadOfTwo held v.job.now v.state.now asked_before asked_after f
+HasNoBytes held (command.Observe o) asked_before asked_after f = IsUnreadOfTwo held o.visits.job.now o.visits.state.now asked_before asked_after f
 HasNoBytes held (command.Frame frame) asked_before asked_after f = IsUnread held frame.state.now asked_before asked_after f
 HasNoBytes held (command.Energy s) asked_before asked_after f = IsUnreadOfTwo held s.job.now s.state.now asked_before asked_after f
 HasNoBytes held (command.Forces s) asked_before asked_after f = IsUnreadOfTwo held s.job.now s.state.now asked_before asked_after f

@@ -23,12 +23,13 @@ use crate::faults::{CommandFault, Status, ran, written};
 use crate::files::{Files, ReadFault};
 use crate::forces::forces_bytes;
 use crate::progress::{run_watched, states_watched, trajectory_watched};
+use crate::tables::observe_texts;
 use crate::verdicts::{energy_bytes, listing_verdict_bytes, slope_verdict_bytes};
 use crate::writing::write_line;
 use clap::Error;
 use clap::error::ErrorKind;
 use command_line::{
-    Check, Command, Explain, Frame, Listing, Run, Start, StateUnderJob, Visits, parse,
+    Check, Command, Explain, Frame, Listing, Observe, Run, Start, StateUnderJob, Visits, parse,
 };
 use engine::run_bytes;
 use fallible::{Out, write_all};
@@ -125,6 +126,7 @@ fn perform<'a, R: Threads + Sync, A: Allocator + Copy + Send + Sync, F: Files, O
             rt, alloc, trajectory, files, out, err,
         ),
         Command::States(states) => perform_states(rt, alloc, states, files, out, err),
+        Command::Observe(observe) => perform_observe(rt, alloc, observe, files, out, err),
         Command::Frame(frame) => perform_frame(alloc, frame, files, out),
         Command::Energy(energy) => perform_energy(alloc, energy, files, out),
         Command::Forces(state) => perform_forces(alloc, state, files, out),
@@ -461,6 +463,31 @@ fn states_unwatched<'a, R: Threads + Sync, A: Allocator + Copy + Send + Sync, O:
         Workers::new(states.workers),
         out,
     ))
+}
+
+/// Reads the job and then the state, and prints a table of the run.
+fn perform_observe<
+    'a,
+    R: Threads + Sync,
+    A: Allocator + Copy + Send + Sync,
+    F: Files,
+    O: Out,
+    E: Out,
+>(
+    rt: &R,
+    alloc: A,
+    observe: Observe<'a>,
+    files: &mut F,
+    out: &mut O,
+    err: &mut E,
+) -> Result<(), CommandFault<'a, A>>
+    requires { (O.output out.old).failed < 2 ^ 64 - 1 }
+    ensures performs { Performs (F.held files.old) (F.asked files.old) (F.asked files.new) (Command.Observe observe.entry) (O.output out.old) (O.output out.new) result }
+    ensures tells { Tells (told_of (Command.Observe observe.entry)) (E.output err.old) (E.output err.new) result }
+{
+    let visits = observe.visits;
+    let (job, state) = read_two(alloc, visits.job, visits.state, files)?;
+    observe_texts(rt, alloc, &job, &state, &observe, out, err)
 }
 
 /// Reads one file and then another.

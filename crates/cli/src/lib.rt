@@ -10,6 +10,7 @@ mod forces;
 mod host;
 mod processes;
 mod progress;
+mod tables;
 mod verdicts;
 mod writing;
 

@@ -18,9 +18,9 @@ use trajectory::{Watch, watched_run_bytes, watched_states_bytes, watched_traject
 ///
 /// It takes no memory. A write that fails is passed over.
 #[derive(Drop)]
-struct ProgressLines<'a, E: Out> {
-    err: &'a mut E,
-    steps: u64,
+pub(crate) struct ProgressLines<'a, E: Out> {
+    pub(crate) err: &'a mut E,
+    pub(crate) steps: u64,
 }
 
 /// It is another one's later value where it has that one's output and its number of steps.

@@ -19,6 +19,7 @@ use Rattle.command_line.specs.declared.commands.Check.{Check}
 use Rattle.command_line.specs.declared.commands.Explain.{Explain}
 use Rattle.command_line.specs.declared.commands.Frame.{Frame}
 use Rattle.command_line.specs.declared.commands.Listing.{Listing}
+use Rattle.command_line.specs.declared.commands.Observe.{Observe}
 use Rattle.command_line.specs.declared.commands.Run.{Run}
 use Rattle.command_line.specs.declared.commands.Start.{Start}
 use Rattle.command_line.specs.declared.commands.StateUnderJob.{StateUnderJob}
@@ -86,6 +87,10 @@ back_rule = flag_rule (codes "back")
 abbrev pub progress_rule : Rule
 progress_rule = flag_rule (codes "progress")
 
+-- `--exact`
+abbrev pub exact_rule : Rule
+exact_rule = flag_rule (codes "exact")
+
 -- `--code LISTING`, which need not be given
 abbrev pub code_rule : Rule
 code_rule = record (new_rule (codes "code")) {
@@ -105,8 +110,15 @@ abbrev pub stepping : Text → Shape
 stepping name = (stepped name).top
 
 -- a command that takes besides how many steps lie between the states that it shows, and whether the run goes back
+abbrev pub visited : Text → App
+visited name = with_rule (with_rule (stepped name) every_rule) back_rule
+
 abbrev pub visiting : Text → Shape
-visiting name = (with_rule (with_rule (stepped name) every_rule) back_rule).top
+visiting name = (visited name).top
+
+-- the command that takes besides whether whole numbers are asked for
+abbrev pub observing : Shape
+observing = (with_rule (visited (codes "observe")) exact_rule).top
 
 -- a command that takes a job and a state
 abbrev pub weighing : Text → Shape
@@ -142,8 +154,11 @@ returning = with_subcommand (with_subcommand forward (stepping (codes "back"))) 
 abbrev pub showing : App
 showing = with_subcommand (with_subcommand returning (visiting (codes "states"))) framing
 
+abbrev pub tabling : App
+tabling = with_subcommand showing observing
+
 abbrev pub measuring : App
-measuring = with_subcommand (with_subcommand showing (weighing (codes "energy"))) (weighing (codes "forces"))
+measuring = with_subcommand (with_subcommand tabling (weighing (codes "energy"))) (weighing (codes "forces"))
 
 abbrev pub judging : App
 judging = with_subcommand (with_subcommand measuring checking) listing
@@ -225,7 +240,7 @@ pub record SaysSteps (rows : List Row) (run : Run) : Type 0 where
   pub workers : IsWorkers rows run.workers
   pub progress : IsProgress rows run.progress
 
--- the values of the arguments of `trajectory` or `states` say these states
+-- the values of the arguments of `trajectory`, `states` or `observe` say these states
 pub record SaysVisits (rows : List Row) (v : Visits) : Type 0 where
   pub direction : IsTurned rows v.direction
   pub job : first_of (codes "JOB") rows ≡ Some v.job.now
@@ -234,6 +249,11 @@ pub record SaysVisits (rows : List Row) (v : Visits) : Type 0 where
   pub every : IsEvery rows v.every
   pub workers : IsWorkers rows v.workers
   pub progress : IsProgress rows v.progress
+
+-- the values of the arguments of `observe` say this table
+pub record SaysObserve (rows : List Row) (o : Observe) : Type 0 where
+  pub visits : SaysVisits rows o.visits
+  pub exact : IsGiven (codes "exact") rows o.exact
 
 -- the values of the arguments of `frame` say this frame
 pub record SaysFrame (rows : List Row) (frame : Frame) : Type 0 where
@@ -263,6 +283,7 @@ IsNamed name rows (command.Start start) = (name ≡ codes "start") × SaysStart 
 IsNamed name rows (command.Run run) = SaysRun name rows run
 IsNamed name rows (command.Trajectory v) = (name ≡ codes "trajectory") × SaysVisits rows v
 IsNamed name rows (command.States v) = (name ≡ codes "states") × SaysVisits rows v
+IsNamed name rows (command.Observe o) = (name ≡ codes "observe") × SaysObserve rows o
 IsNamed name rows (command.Frame frame) = (name ≡ codes "frame") × SaysFrame rows frame
 IsNamed name rows (command.Energy s) = (name ≡ codes "energy") × SaysStateUnderJob rows s
 IsNamed name rows (command.Forces s) = (name ≡ codes "forces") × SaysStateUnderJob rows s
@@ -278,9 +299,16 @@ IsNamedOf (Some said) c = IsNamed said.0 said.1 c
 abbrev pub IsCommand : List Text → Command → Type 0
 IsCommand words c = (fault_of program words ≡ []) × IsNamedOf (subcommand_of program words) c
 
--- the words ask for states on the way of a run: for their frames, or for whole states
+-- the command shows states on the way of a run: their frames, the whole states, or a table of them
+abbrev pub IsOfVisits : Command → Type 0
+IsOfVisits (command.Trajectory v) = Unit {0}
+IsOfVisits (command.States v) = Unit {0}
+IsOfVisits (command.Observe o) = Unit {0}
+IsOfVisits _ = ⊥
+
+-- the words ask for states on the way of a run
 abbrev pub AsksForVisits : List Text → Type 0
-AsksForVisits words = (v : Visits) × (IsCommand words (command.Trajectory v) ⊎ IsCommand words (command.States v))
+AsksForVisits words = (c : Command) × IsCommand words c × IsOfVisits c
 
 -- the kinds of fault of words that say no command: those of the first step of the parse that fails; where none does,
 -- they ask what a refusal means that there isn't

@@ -6,7 +6,7 @@ ghost use Rattle.explanations.specs.Explanations.{explanation_of};
 use integrator::Direction;
 
 /// The version of the program, which `--version` prints.
-pub const VERSION: &str = "1.0.0";
+pub const VERSION: &str = "1.1.0";
 
 /// The most steps that one command takes.
 pub const MAX_STEPS: u64 = 1_000_000_000_000;
@@ -25,6 +25,8 @@ pub enum Command<'a> {
     Trajectory(Visits<'a>),
     /// `states`: whole states of a run.
     States(Visits<'a>),
+    /// `observe`: a table of what is observed of states of a run.
+    Observe(Observe<'a>),
     /// `frame`: the current frame of a state as a GRO file.
     Frame(Frame<'a>),
     /// `energy`: the energy of a state.
@@ -94,6 +96,15 @@ pub struct Visits<'a> {
     ghost near: { every ≤ 1000000000000 },
     ghost some: { 1 ≤ workers },
     ghost few: { workers ≤ 64 },
+}
+
+/// A table of a run: what is observed of the states after 0, k, 2k, .. of its steps.
+#[derive(Clone, Copy)]
+pub struct Observe<'a> {
+    /// The states that are observed.
+    pub visits: Visits<'a>,
+    /// Whether the table has the whole numbers that are observed, and else decimals.
+    pub exact: bool,
 }
 
 /// A frame to print.

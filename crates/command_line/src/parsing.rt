@@ -3,7 +3,7 @@
 ghost use Rattle.std.specs.Prelude.{◌≡◌, ◌≤◌, ◌<◌, ◌^◌, ◌⊎◌, ℕ, IfOk, IfErr, MatchOption, codes, option_map, map, false};
 ghost use Rattle.clap.specs.Words.{App, HasKind, Rule, Shape, app_of, first_of, found_of, kind_of, new_app, rows_of, rule_of, subcommand_rows_of, with_rule, with_subcommand};
 ghost use Rattle.clap.specs.declared.error.kind.ErrorKind.TheVariants.{InvalidValue, OutOfMemory};
-ghost use Rattle.command_line.specs.CommandLine.{IsBuilt, SaysCheck, IsCommand, SaysExplain, SaysFrame, IsGiven, IsListing, IsNamed, IsNamedOf, SaysRun, IsShaped, SaysNumber, SaysStart, SaysSteps, SaysStateUnderJob, SaysVisits, IsTurned, back_rule, bare, checking, code_rule, command_name, every_rule, explaining, faults_of, flag_rule, forward, frame_rule, framing, judging, listing, measuring, number_rule, operand_rule, option_rule, program, progress_rule, returning, showing, starting, stepped, steps_rule, stepping, visiting, weighing, workers_rule};
+ghost use Rattle.command_line.specs.CommandLine.{IsBuilt, SaysCheck, IsCommand, SaysExplain, SaysFrame, IsGiven, IsListing, IsNamed, IsNamedOf, SaysObserve, SaysRun, IsShaped, SaysNumber, SaysStart, SaysSteps, SaysStateUnderJob, SaysVisits, IsTurned, back_rule, bare, checking, code_rule, command_name, every_rule, exact_rule, explaining, faults_of, flag_rule, forward, frame_rule, framing, judging, listing, measuring, number_rule, observing, operand_rule, option_rule, program, progress_rule, returning, showing, starting, stepped, steps_rule, stepping, tabling, visited, visiting, weighing, workers_rule};
 ghost use Rattle.command_line.specs.declared.commands.Start.{Start};
 ghost use Rattle.command_line.specs.declared.commands.Frame.{Frame};
 ghost use Rattle.command_line.specs.declared.commands.Listing.{Listing};
@@ -11,10 +11,11 @@ ghost use Rattle.command_line.specs.declared.commands.StateUnderJob.{StateUnderJ
 ghost use Rattle.command_line.specs.declared.commands.Explain.{Explain};
 ghost use Rattle.command_line.specs.declared.commands.Check.{Check};
 ghost use Rattle.command_line.specs.declared.commands.Visits.{Visits};
+ghost use Rattle.command_line.specs.declared.commands.Observe.{Observe};
 
 use crate::commands::{
-    Check, Command, Explain, Frame, Listing, MAX_STEPS, MAX_WORKERS, Run, Start, StateUnderJob,
-    VERSION, Visits,
+    Check, Command, Explain, Frame, Listing, MAX_STEPS, MAX_WORKERS, Observe, Run, Start,
+    StateUnderJob, VERSION, Visits,
 };
 use clap::builder::ValueParser;
 use clap::error::ErrorKind;
@@ -103,6 +104,7 @@ fn command_by<'a>(name: &str, matches: &ArgMatches<'a>) -> Option<Command<'a>>
         "start" => start_of(matches),
         "trajectory" => trajectory_of(matches),
         "states" => states_of(matches),
+        "observe" => observe_of(matches),
         "frame" => frame_of(matches),
         "energy" => energy_of(matches),
         "forces" => forces_of(matches),
@@ -170,6 +172,16 @@ fn states_of<'a>(matches: &ArgMatches<'a>) -> Option<Command<'a>>
 {
     let visits = visits_of(matches)?;
     Some(Command::States(visits))
+}
+
+/// The table of a run that these matches say.
+fn observe_of<'a>(matches: &ArgMatches<'a>) -> Option<Command<'a>>
+    ensures { MatchOption result ((o : Observe) → SaysObserve (rows_of (found_of matches.now)) o → ⊥)
+        (λ c. (o : Observe) × (c ≡ Command.Observe o) × SaysObserve (rows_of (found_of matches.now)) o) }
+{
+    let visits = visits_of(matches)?;
+    let exact = is_given(matches, "exact");
+    Some(Command::Observe(Observe { visits, exact }))
 }
 
 /// The states of a run to show that these matches say.
@@ -342,13 +354,20 @@ fn showing<'a>(alloc: Global) -> BuiltCommand<'a>
     with_command(with_command(returning(alloc), states), framing(alloc))
 }
 
+/// The program that tables runs too.
+fn tabling<'a>(alloc: Global) -> BuiltCommand<'a>
+    ensures { IsBuilt result tabling }
+{
+    with_command(showing(alloc), observing(alloc))
+}
+
 /// The program that tells energies and forces too.
 fn measuring<'a>(alloc: Global) -> BuiltCommand<'a>
     ensures { IsBuilt result measuring }
 {
     let energy = weighing(alloc, "energy", "Prints the energy of a state");
     let forces = weighing(alloc, "forces", "Prints the forces on the atoms of a state");
-    with_command(with_command(showing(alloc), energy), forces)
+    with_command(with_command(tabling(alloc), energy), forces)
 }
 
 /// The program that judges code too, and prints it.
@@ -404,8 +423,23 @@ fn stepped<'a>(alloc: Global, name: &'a str, about: &'a str) -> BuiltCommand<'a>
 fn visiting<'a>(alloc: Global, name: &'a str, about: &'a str) -> BuiltCommand<'a>
     ensures { IsShaped result (visiting name.entry.now) }
 {
+    visited(alloc, name, about)
+}
+
+/// Such a command, so far.
+fn visited<'a>(alloc: Global, name: &'a str, about: &'a str) -> BuiltCommand<'a>
+    ensures { IsBuilt result (visited name.entry.now) }
+{
     let command = stepped(alloc, name, about);
     with_arg(with_arg(command, every(alloc)), back(alloc))
+}
+
+/// The command that takes besides whether whole numbers are asked for.
+fn observing<'a>(alloc: Global) -> BuiltCommand<'a>
+    ensures { IsShaped result observing }
+{
+    let about = "Prints a table of energies, temperature, pressure and momentum of a run";
+    with_arg(visited(alloc, "observe", about), exact(alloc))
 }
 
 /// The command that takes a state alone.
@@ -576,6 +610,13 @@ fn back<'a>(alloc: Global) -> Arg<'a>
     ensures local { result.global ≡ false }
 {
     flag(alloc, "back").help("Goes back")
+}
+
+fn exact<'a>(alloc: Global) -> Arg<'a>
+    ensures rule { rule_of result ≡ exact_rule }
+    ensures local { result.global ≡ false }
+{
+    flag(alloc, "exact").help("Prints whole numbers in place of decimals")
 }
 
 fn progress<'a>(alloc: Global) -> Arg<'a>

@@ -13,6 +13,7 @@ Help goes to standard output, and ends with status 0.
     back        Prints the state so many steps back
     trajectory  Prints frames of a run as a GRO file
     states      Prints states of a run
+    observe     Prints a table of energies, temperature, pressure and momentum of a run
     frame       Prints the current frame of a state as a GRO file
     energy      Prints the energy of a state
     forces      Prints the forces on the atoms of a state
@@ -35,6 +36,7 @@ Help goes to standard output, and ends with status 0.
     back        Prints the state so many steps back
     trajectory  Prints frames of a run as a GRO file
     states      Prints states of a run
+    observe     Prints a table of energies, temperature, pressure and momentum of a run
     frame       Prints the current frame of a state as a GRO file
     energy      Prints the energy of a state
     forces      Prints the forces on the atoms of a state
@@ -137,11 +139,11 @@ Help goes to standard output, and ends with status 0.
 So does the version. It is the program's and not a command's.
 
   $ pairmd --version
-  pairmd 1.0.0
+  pairmd 1.1.0
   $ pairmd -V
-  pairmd 1.0.0
+  pairmd 1.1.0
   $ pairmd --version run job
-  pairmd 1.0.0
+  pairmd 1.1.0
   $ outputs pairmd --version
   0-12: a beginning, pairmd: O2 CannotWrite [5]
   13: all

@@ -45,6 +45,12 @@ returns-in-States-clause-performs g c = rw c.in-States.is c.perform_states.ensur
 pub returns-in-States-clause-tells : goal.returns-in-States-clause-tells
 returns-in-States-clause-tells g c = rw c.in-States.is c.perform_states.ensures.tells
 
+pub returns-in-Observe-clause-performs : goal.returns-in-Observe-clause-performs
+returns-in-Observe-clause-performs g c = rw c.in-Observe.is c.perform_observe.ensures.performs
+
+pub returns-in-Observe-clause-tells : goal.returns-in-Observe-clause-tells
+returns-in-Observe-clause-tells g c = rw c.in-Observe.is c.perform_observe.ensures.tells
+
 pub returns-in-Forces-clause-performs : goal.returns-in-Forces-clause-performs
 returns-in-Forces-clause-performs g c = rw c.in-Forces.is c.perform_forces.ensures
 
