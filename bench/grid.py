@@ -101,18 +101,28 @@ def growth():
     print(f"from 1 to 4 ps: the logarithm grows by {rate:.2f} a ps, so tenfold every {math.log(10) / rate:.2f} ps")
 
 
-def echo():
-    """1,000 steps of 2 fs, a change, 1,000 steps back: how far from the start, in changes."""
+def echoes(steps=1000):
+    """So many steps of 2 fs, a change of so many places, as many steps back: for each size of a change how far from the
+    start that ends, in changes, for each of the five."""
     own = liquid.Path(2)
-    start, there = own.state, own.go(1000)
+    start, there = own.state, own.go(steps)
     other = liquid.Path(2)
     for by in (1, 10, 100, 1_000, 10_000, 100_000, 1_000_000):
         grown = []
         for atom, axis in CHANGES:
             other.put(moved(there.text, atom, axis, by))
-            grown.append(apart(start, other.go(1000, back=True)) / by)
-        mean = math.exp(sum(math.log(it) for it in grown) / len(grown))
-        print(f"{by:8} places ({by * SIDE / liquid.PLACES:.1e} nm): {mean:12,.1f} times, from {min(grown):,.1f} to {max(grown):,.1f}", flush=True)
+            grown.append(apart(start, other.go(steps, back=True)) / by)
+        yield by, grown
+
+
+def geometric_mean(numbers):
+    return math.exp(sum(math.log(it) for it in numbers) / len(numbers))
+
+
+def echo():
+    for by, grown in echoes():
+        mean, nm = geometric_mean(grown), by * SIDE / liquid.PLACES
+        print(f"{by:8} places ({nm:.1e} nm): {mean:12,.1f} times, from {min(grown):,.1f} to {max(grown):,.1f}", flush=True)
 
 
 def total(path, step):
