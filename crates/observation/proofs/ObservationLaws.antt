@@ -1,9 +1,8 @@
 -- Observations: frames of as many atoms, and sums that are small.
-use Rattle.std.proofs.Common.{◌≡◌, ℕ, ◌-◌, ◌≤◌, ◌^◌, length, ℤ, Some, arith, refl, ◌∙◌}
-use Rattle.std.specs.Prelude.{unsigned_abs}
+use Rattle.std.proofs.Common.{◌≡◌, ◌-◌, ◌^◌, length, arith, ◌∙◌}
 use Rattle.std.proofs.lemmas.List.{length-map}
 use Rattle.state.specs.StateText.{AtomView}
-use Rattle.integrator.specs.Frames.{Dynamics, Frame, frame_forces}
+use Rattle.integrator.specs.Frames.{Frame, frame_forces}
 use Rattle.integrator.specs.States.{current_frame}
 use Rattle.pair_sums.specs.PairSums.{IsOfPairs}
 use Rattle.pair_sums.specs.declared.sums.Virial.{Virial}

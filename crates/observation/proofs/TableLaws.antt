@@ -1,5 +1,5 @@
 -- Tables: rows that are shown of an engine, and why a table ends early.
-use Rattle.std.proofs.Common.{◌≡◌, ◌≢◌, ℕ, zero, suc, List, ◌++◌, refl, subst, sym}
+use Rattle.std.proofs.Common.{◌≡◌, ◌≢◌, ℕ, zero, suc, List, refl, subst, sym}
 use Rattle.fallible.specs.Failures.{IfRefused}
 use Rattle.fallible.specs.Out.{Appends, AppendsBeginning, Output}
 use Rattle.fallible.specs.declared.failure.Failure.{Failure}
@@ -7,7 +7,6 @@ use Rattle.fallible.specs.declared.failure.Failure.TheVariants.{Memory, Refused}
 use Rattle.integrator.specs.declared.direction.Direction.{Direction}
 use Rattle.potential.specs.declared.faults.EnergyFault.{EnergyFault}
 use Rattle.engine.specs.Engines.{EngineView, HasNoEngineOfTexts, IsEngineOfTexts}
-use Rattle.engine.specs.Observers.{IsObserverOf, ObserverView}
 use Rattle.engine.specs.PairEnergies.{HasNoEnergy}
 use Rattle.engine.specs.declared.faults.RunFault.{RunFault}
 use Rattle.engine.specs.declared.faults.RunFault.TheVariants as run
@@ -16,7 +15,6 @@ use Rattle.observables.specs.declared.scales.Scales.{Scales}
 use Rattle.trajectory.specs.Visits.{BeganText, IsWayUnshown, Showing, WroteText}
 use Rattle.trajectory.proofs.VisitLaws.{texts_unwritten}
 use Rattle.observation.specs.Observations.{AreScalesOf, IsObservationOf, IsTableText, IsTyped, ShowsTable, head_by, headed, row_by}
-use Rattle.observation.specs.Readiness.{IsReadyFor}
 use Rattle.observation.specs.Tables.{AreRowsUnwritten, IsTableUnshown, observe_fault_of}
 use Rattle.observation.specs.declared.columns.Columns.{Columns}
 use Rattle.observation.specs.declared.faults.ObserveFault.{ObserveFault}
@@ -67,7 +65,7 @@ way_unshown Shows w steps every e before after (run.Out f) h = h
 -- what keeps the rows of an engine of texts from being shown keeps those of the texts from being written
 pub rows_unwritten : {A : Type 0} (Shows : Showing) (job state : List ℕ) (w : Direction) (steps every : ℕ) (e : EngineView) (before after : Output) → IsEngineOfTexts job state e → (fault : ObserveFault A)
     → IsTableUnshown Shows w steps every e before after fault → AreRowsUnwritten Shows job state w steps every before after fault
-rows_unwritten Shows job state w steps every e before after t (observe.Run (run.Open failure)) h = (subst (λ x. IfRefused x (HasNoEngineOfTexts job state)) (sym h.0) tt, h.1)
-rows_unwritten Shows job state w steps every e before after t (observe.Run (run.Steps f)) h = texts_unwritten Shows job state w steps every e before after t (run.Steps f) h
-rows_unwritten Shows job state w steps every e before after t (observe.Run (run.Out f)) h = texts_unwritten Shows job state w steps every e before after t (run.Out f) h
-rows_unwritten Shows job state w steps every e before after t (observe.Energy f) h = (record { engine = e; opens = t; why = h.0 }, h.1)
+rows_unwritten {A} Shows job state w steps every e before after t (observe.Run (run.Open failure)) h = (subst (λ x. IfRefused x (HasNoEngineOfTexts job state)) (sym h.0) tt, h.1)
+rows_unwritten {A} Shows job state w steps every e before after t (observe.Run (run.Steps f)) h = texts_unwritten {A = A} Shows job state w steps every e before after t (run.Steps f) h
+rows_unwritten {A} Shows job state w steps every e before after t (observe.Run (run.Out f)) h = texts_unwritten {A = A} Shows job state w steps every e before after t (run.Out f) h
+rows_unwritten {A} Shows job state w steps every e before after t (observe.Energy f) h = (record { engine = e; opens = t; why = h.0 }, h.1)

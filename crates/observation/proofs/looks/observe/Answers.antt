@@ -1,9 +1,10 @@
-use Rattle.std.proofs.Common.{◌≡◌, length, ap, refl, sym, ◌∙◌}
+use Rattle.std.proofs.Common.{◌≡◌, length, ap, refl, sym, ◌∙◌, rules, to_z, of_z, w64}
+use mir.Syntax.{w128}
 use Rattle.std.proofs.lemmas.List.{length-map}
 use Rattle.state.specs.StateText.{AtomView, StateView}
 use Rattle.observables.specs.Sums.{moments_between, squares_about}
 use Rattle.observation.specs.Observations.{axes_of}
-use Rattle.observation.proofs.ObservationLaws.{next_sized, virial_small}
+use Rattle.observation.proofs.ObservationLaws.{next_sized}
 use Rattle.observation.proofs.looks.observe.Goals as goal
 
 -- all frames are of the engine's atoms
@@ -31,9 +32,11 @@ momentum-requires-clause-current g c =
 pub returns-clause-observation : goal.returns-clause-observation
 returns-clause-observation g c =
     let masses = c.masses-masses.ensures.value in
+    let step : to_z w64 (of_z w64 c.state.result.now.step) ≡ c.state.result.now.step = search rules in
+    let energy : to_z w128 (of_z w128 c.in_ok-sums.sums.energy) ≡ c.in_ok-sums.sums.energy = search rules in
     record {
-      step = ap (λ (s : StateView). s.step) c.state.ensures;
-      potential = c.in_ok-sums.ensures.sums.energy;
+      step = step ∙ ap (λ (s : StateView). s.step) c.state.ensures;
+      potential = rw energy c.in_ok-sums.ensures.sums.energy;
       virial = c.by_axes.ensures ∙ ap axes_of c.in_ok-sums.ensures.sums.virial;
       nearest = c.in_ok-sums.ensures.sums.nearest;
       next = c.in_ok-next.next.items;
