@@ -1,4 +1,5 @@
 pub mod FailureLaws
+pub mod ForceTextLaws
 pub mod PerformLaws
 pub mod Printing
 pub mod ProgressLaws

@@ -1,8 +1,8 @@
 -- Laws of refused commands: which files they asked for, what is left of their output, and what their status tells.
-use Rattle.std.proofs.Common.{◌≡◌, ◌≢◌, ◌⊎◌, ◌∙◌, ◌<◌, ◌-◌, ◌^◌, ℕ, List, Option, Some, None, ap, arith, inl, inr, refl, subst, sym}
+use Rattle.std.proofs.Common.{◌≡◌, ◌≢◌, ◌⊎◌, ◌∙◌, ◌<◌, ◌≤◌, ◌-◌, ◌^◌, ℕ, List, Option, Some, None, ap, arith, inl, inr, refl, subst, sym}
 use Rattle.std.specs.Borrow.{Bor}
 use Rattle.std.specs.Prelude.{IfErr, Result, Ok, Err}
-use Rattle.command_line.specs.CommandLine.{AsksForHelp, AsksForTrajectory, AsksForVersion, IsCommand, IsMisuse, faults_of}
+use Rattle.command_line.specs.CommandLine.{AsksForHelp, AsksForVisits, AsksForVersion, IsCommand, IsMisuse, IsOfVisits, faults_of}
 use Rattle.command_line.specs.declared.commands.Command.{Command}
 use Rattle.command_line.specs.declared.commands.Command.TheVariants as command
 use Rattle.command_line.proofs.CommandLineLaws.{asks_for_help, asks_for_version, is_misuse}
@@ -18,6 +18,9 @@ use Rattle.integrator.specs.declared.faults.StepFault.TheVariants as step
 use Rattle.engine.specs.Engines.{IsRunUnwritten}
 use Rattle.engine.specs.declared.faults.RunFault.{RunFault}
 use Rattle.engine.specs.declared.faults.RunFault.TheVariants as run
+use Rattle.observation.specs.Tables.{AreRowsUnwritten}
+use Rattle.observation.specs.declared.faults.ObserveFault.{ObserveFault}
+use Rattle.observation.specs.declared.faults.ObserveFault.TheVariants as observe
 use Rattle.trajectory.specs.Visits.{AreTextsUnwritten, Showing}
 use Rattle.cli.specs.Asked.{also_asked}
 use Rattle.cli.specs.Kept.{IsKept}
@@ -25,9 +28,9 @@ use Rattle.cli.specs.Performed.{WritesLine, WritesText}
 use Rattle.cli.specs.Printed.{IsDone}
 use Rattle.cli.specs.Progress.{IsBegun, IsTold, PrintsIfCounted}
 use Rattle.cli.specs.Reads.{AsksFor, also_asked_if, asked_by, unread}
-use Rattle.cli.specs.Refusals.{HasNoBytes, IsFaultOf, IsNoAnswer, IsCommandRefused, IsUnanswered, IsUndone, IsUnread, IsUnreadOfSome, IsUnreadOfTwo, IsVerdictUndone, RefusesCode, RefusesEnergy, RefusesFrame, RefusesJob, RefusesListing, RefusesSlope, RefusesState, RefusesUnder}
+use Rattle.cli.specs.Refusals.{HasNoBytes, IsFaultOf, IsNoAnswer, IsCommandRefused, IsUnanswered, IsUndone, IsUnread, IsUnreadOfSome, IsUnreadOfTwo, IsVerdictUndone, RefusesCode, RefusesEnergy, RefusesForces, RefusesFrame, RefusesJob, RefusesListing, RefusesSlope, RefusesState, RefusesUnder}
 use Rattle.cli.specs.Reports.{IsReported}
-use Rattle.cli.specs.Failures.{fault_of_run}
+use Rattle.cli.specs.Failures.{fault_of_observe, fault_of_run}
 use Rattle.cli.specs.Statuses.{status_number, status_of}
 use Rattle.cli.specs.declared.faults.CommandFault.{CommandFault}
 use Rattle.cli.specs.declared.faults.CommandFault.TheVariants as fault
@@ -35,7 +38,7 @@ use Rattle.cli.specs.declared.faults.Status.TheVariants as status
 use Rattle.cli.specs.declared.files.ReadFault.{ReadFault}
 use Rattle.cli.specs.declared.files.ReadFault.TheVariants as read
 use Rattle.cli.proofs.ProgressLaws.{says}
-use Rattle.cli.proofs.StatusLaws.{IsOfWords, code_two, code_zero, file_failed, memory_wanted, never_done, of_files_alone, of_run, words_alone}
+use Rattle.cli.proofs.StatusLaws.{IsOfWords, code_two, code_zero, file_failed, memory_wanted, never_done, number_most, of_files_alone, of_observe, of_run, words_alone}
 
 abbrev Paths : Type 0
 Paths = Option (List (List ℕ))
@@ -45,9 +48,12 @@ Paths = Option (List (List ℕ))
 asks_all : (c : Command) (before after : Paths) → after ≡ asked_by before c → AsksFor c before after
 asks_all (command.Start start) before after all = inr all
 asks_all (command.Run run) before after all = inr all
-asks_all (command.Trajectory t) before after all = inr all
+asks_all (command.Trajectory v) before after all = inr all
+asks_all (command.States v) before after all = inr all
+asks_all (command.Observe o) before after all = inr all
 asks_all (command.Frame frame) before after all = all
 asks_all (command.Energy energy) before after all = inr all
+asks_all (command.Forces energy) before after all = inr all
 asks_all (command.Check check) before after all = inr all
 asks_all (command.Code l) before after all = all
 asks_all (command.Explain e) before after all = all
@@ -65,9 +71,12 @@ asks_of_some held first (Some second) before after f h = asks_of_two held first 
 asks_without_bytes : {A : Type 0} (held : List ℕ → Option (List ℕ)) (c : Command) (before after : Paths) (f : CommandFault A) → HasNoBytes held c before after f → AsksFor c before after
 asks_without_bytes held (command.Start start) before after f h = asks_of_two held _ _ _ _ f h
 asks_without_bytes held (command.Run run) before after f h = asks_of_two held _ _ _ _ f h
-asks_without_bytes held (command.Trajectory t) before after f h = asks_of_two held _ _ _ _ f h
+asks_without_bytes held (command.Trajectory v) before after f h = asks_of_two held _ _ _ _ f h
+asks_without_bytes held (command.States v) before after f h = asks_of_two held _ _ _ _ f h
+asks_without_bytes held (command.Observe o) before after f h = asks_of_two held _ _ _ _ f h
 asks_without_bytes held (command.Frame frame) before after f h = h.asked
 asks_without_bytes held (command.Energy energy) before after f h = asks_of_two held _ _ _ _ f h
+asks_without_bytes held (command.Forces energy) before after f h = asks_of_two held _ _ _ _ f h
 asks_without_bytes held (command.Check check) before after f h = asks_of_some held _ check.listing _ _ f h
 asks_without_bytes held (command.Code l) before after f h = h.asked
 asks_without_bytes held (command.Explain e) before after f h = absurd h
@@ -113,23 +122,35 @@ kept_texts Shows job state direction steps every before after (run.Steps step.St
 kept_texts Shows job state direction steps every before after (run.Steps (step.Memory done)) h = inr refl
 kept_texts Shows job state direction steps every before after (run.Out o) h = inl (inr h.1.began.beginning.failed)
 
+-- the same of a table's rows
+kept_rows : {A : Type 0} (Shows : Showing) (job state : List ℕ) (direction : Direction) (steps every : ℕ) (before after : Output) (f : ObserveFault A) → AreRowsUnwritten Shows job state direction steps every before after f
+    → IsKept before after ⊎ (status_of (fault_of_observe f) ≡ status.Memory)
+kept_rows Shows job state direction steps every before after (observe.Run f) h = kept_texts Shows job state direction steps every before after f h
+kept_rows Shows job state direction steps every before after (observe.Energy f) h = inl (inl h.1)
+
 kept_verdict : {A : Type 0} (held : List ℕ → Option (List ℕ)) (job : List ℕ) (listing : Option (Bor (List ℕ))) (before after : Output) (f : CommandFault A)
     → IsVerdictUndone held job listing before after f → IsKept before after
 kept_verdict held job None before after f h = kept_unwritten _ _ before after f h.2 (λ b. b.written.failed)
 kept_verdict held job (Some listing) before after f h = kept_unwritten _ _ before after f h.4 (λ b. b.written.failed)
 
--- the output of a command that was refused: a trajectory may leave whole frames where an allocation is refused
+-- the fault of a command that shows states on the way is that of its run
+visited : {A : Type 0} {before after : Output} (words : List (List ℕ)) (f g : CommandFault A) (c : Command) → f ≡ g → IsCommand words c → IsOfVisits c
+    → IsKept before after ⊎ (status_of g ≡ status.Memory) → IsKept before after ⊎ ((status_of f ≡ status.Memory) × AsksForVisits words)
+visited words f g c is asked visits (inl kept) = inl kept
+visited words f g c is asked visits (inr memory) = inr (ap status_of is ∙ memory, (c, asked, visits))
+
+-- the output of a command that was refused: one that shows states on the way may leave whole texts where an allocation
+-- is refused
 kept_refused : {A : Type 0} (words : List (List ℕ)) (held : List ℕ → Option (List ℕ)) (c : Command) (before after : Output) (f : CommandFault A) → IsCommand words c
-    → IsCommandRefused held c before after f → IsKept before after ⊎ ((status_of f ≡ status.Memory) × AsksForTrajectory words)
+    → IsCommandRefused held c before after f → IsKept before after ⊎ ((status_of f ≡ status.Memory) × AsksForVisits words)
 kept_refused words held (command.Start start) before after f is h = inl (kept_unwritten _ _ before after f h.4 (λ b. b.written.failed))
 kept_refused words held (command.Run r) before after f is h = inl (kept_run _ _ _ _ before after h.4.0 h.4.2)
-kept_refused words held (command.Trajectory t) before after f is h = trajectory (kept_texts _ _ _ _ _ _ before after h.4.0 h.4.2)
-  where
-    trajectory : IsKept before after ⊎ (status_of (fault_of_run h.4.0) ≡ status.Memory) → IsKept before after ⊎ ((status_of f ≡ status.Memory) × AsksForTrajectory words)
-    trajectory (inl kept) = inl kept
-    trajectory (inr memory) = inr (ap status_of h.4.1 ∙ memory, (t, is))
+kept_refused words held (command.Trajectory v) before after f is h = visited words f (fault_of_run h.4.0) (command.Trajectory v) h.4.1 is tt (kept_texts _ _ _ _ _ _ before after h.4.0 h.4.2)
+kept_refused words held (command.States v) before after f is h = visited words f (fault_of_run h.4.0) (command.States v) h.4.1 is tt (kept_texts _ _ _ _ _ _ before after h.4.0 h.4.2)
+kept_refused words held (command.Observe o) before after f is h = visited words f (fault_of_observe h.4.0) (command.Observe o) h.4.1 is tt (kept_rows _ _ _ _ _ _ before after h.4.0 h.4.2)
 kept_refused words held (command.Frame frame) before after f is h = inl (kept_unwritten _ _ before after f h.2 (λ b. b.written.failed))
 kept_refused words held (command.Energy energy) before after f is h = inl (kept_unwritten _ _ before after f h.4 (λ b. b.written.failed))
+kept_refused words held (command.Forces energy) before after f is h = inl (kept_unwritten _ _ before after f h.4 (λ b. b.written.failed))
 kept_refused words held (command.Check check) before after f is h = inl (kept_verdict held _ check.listing before after f h)
 kept_refused words held (command.Code l) before after f is h = inl (kept_unwritten _ _ before after f h.2 (λ b. b.written.failed))
 kept_refused words held (command.Explain e) before after f is h = inl (kept_unwritten _ _ before after f h (λ b. b.written.failed))
@@ -140,7 +161,7 @@ kept_unanswered words before after f (inr (inl h)) = inr h.3
 kept_unanswered words before after f (inr (inr h)) = inl h.1
 
 kept_faulty : {A : Type 0} (words : List (List ℕ)) (held : List ℕ → Option (List ℕ)) (asked asked' : Paths) (before after : Output) (f : CommandFault A)
-    → IsFaultOf words held asked asked' before after f → IsKept before after ⊎ ((status_of f ≡ status.Memory) × AsksForTrajectory words)
+    → IsFaultOf words held asked asked' before after f → IsKept before after ⊎ ((status_of f ≡ status.Memory) × AsksForVisits words)
 kept_faulty words held asked asked' before after f (inl h) = inl (kept_unanswered words before after f h.0)
 kept_faulty words held asked asked' before after f (inr (c, is, inl h)) = inl (inl h.1)
 kept_faulty words held asked asked' before after f (inr (c, is, inr h)) = kept_refused words held c before after f is h.1
@@ -151,10 +172,10 @@ HasStatus f result Text Memory = ((result ≡ status_number (status_of f)) × Te
 
 -- the same as the status tells it
 pub kept_told : {A : Type 0} (words : List (List ℕ)) (held : List ℕ → Option (List ℕ)) (asked asked' : Paths) (before after : Output) (f : CommandFault A) (result : ℕ) (Text Memory : Type 0)
-    → IsFaultOf words held asked asked' before after f → HasStatus f result Text Memory → IsKept before after ⊎ ((result ≡ 4) × AsksForTrajectory words)
+    → IsFaultOf words held asked asked' before after f → HasStatus f result Text Memory → IsKept before after ⊎ ((result ≡ 4) × AsksForVisits words)
 kept_told words held asked asked' before after f result Text Memory is told = by_status (kept_faulty words held asked asked' before after f is) told
   where
-    by_status : IsKept before after ⊎ ((status_of f ≡ status.Memory) × AsksForTrajectory words) → HasStatus f result Text Memory → IsKept before after ⊎ ((result ≡ 4) × AsksForTrajectory words)
+    by_status : IsKept before after ⊎ ((status_of f ≡ status.Memory) × AsksForVisits words) → HasStatus f result Text Memory → IsKept before after ⊎ ((result ≡ 4) × AsksForVisits words)
     by_status (inl kept) told = inl kept
     by_status (inr h) (inl told) = inr (told.0 ∙ ap status_number h.0, h.1)
     by_status (inr h) (inr told) = inr (told.0, h.1)
@@ -165,6 +186,11 @@ kept_told words held asked asked' before after f result Text Memory is told = by
 pub some_told : {A : Type 0} (f : CommandFault A) (result : ℕ) (Text Memory : Type 0) → HasStatus f result Text Memory → result ≢ 0
 some_told f result Text Memory (inl told) zero = never_done f (code_zero (status_of f) (sym told.0 ∙ zero))
 some_told f result Text Memory (inr told) zero = let bad : 4 ≡ 0 = sym told.0 ∙ zero in absurd (omega (arith, bad))
+
+-- and by one of at most 5
+pub most_told : {A : Type 0} (f : CommandFault A) (result : ℕ) (Text Memory : Type 0) → HasStatus f result Text Memory → result ≤ 5
+most_told f result Text Memory (inl told) = omega (arith, told.0, number_most (status_of f))
+most_told f result Text Memory (inr told) = let memory : result ≡ 4 = told.0 in omega (arith, memory)
 
 -- no file's fault is one of the words
 unread_of_words : {A : Type 0} (held : List ℕ → Option (List ℕ)) (path : List ℕ) (before after : Paths) (f : CommandFault A) → IsOfWords f → IsUnread held path before after f → ⊥
@@ -185,9 +211,12 @@ some_of_words held first (Some second) before after f of_words h = two_of_words 
 bytes_of_words : {A : Type 0} (held : List ℕ → Option (List ℕ)) (c : Command) (before after : Paths) (f : CommandFault A) → IsOfWords f → HasNoBytes held c before after f → ⊥
 bytes_of_words held (command.Start start) before after f of_words h = two_of_words held _ _ _ _ f of_words h
 bytes_of_words held (command.Run r) before after f of_words h = two_of_words held _ _ _ _ f of_words h
-bytes_of_words held (command.Trajectory t) before after f of_words h = two_of_words held _ _ _ _ f of_words h
+bytes_of_words held (command.Trajectory v) before after f of_words h = two_of_words held _ _ _ _ f of_words h
+bytes_of_words held (command.States v) before after f of_words h = two_of_words held _ _ _ _ f of_words h
+bytes_of_words held (command.Observe o) before after f of_words h = two_of_words held _ _ _ _ f of_words h
 bytes_of_words held (command.Frame frame) before after f of_words h = unread_of_words held _ _ _ f of_words h
 bytes_of_words held (command.Energy energy) before after f of_words h = two_of_words held _ _ _ _ f of_words h
+bytes_of_words held (command.Forces energy) before after f of_words h = two_of_words held _ _ _ _ f of_words h
 bytes_of_words held (command.Check check) before after f of_words h = some_of_words held _ check.listing _ _ f of_words h
 bytes_of_words held (command.Code l) before after f of_words h = unread_of_words held _ _ _ f of_words h
 bytes_of_words held (command.Explain e) before after f of_words h = h
@@ -204,30 +233,33 @@ under_of_words Job Read Refuses' none never (inr h) = never h.0 h.2
 refused_of_words : {A : Type 0} (held : List ℕ → Option (List ℕ)) (c : Command) (before after : Output) (f : CommandFault A) → IsOfWords f
     → ((job : List ℕ) → RefusesJob job f → ⊥) → ((gro : List ℕ) (n : ℕ) (said : JobValue) → RefusesFrame gro n said f → ⊥) → ((state : List ℕ) → RefusesState state f → ⊥)
     → ((said : JobValue) → RefusesCode said f → ⊥) → ((said : JobValue) → RefusesSlope said f → ⊥) → ((listing : List ℕ) (said : JobValue) → RefusesListing listing said f → ⊥)
-    → ((job state : List ℕ) → RefusesEnergy job state f → ⊥) → IsCommandRefused held c before after f → ⊥
-refused_of_words held (command.Start start) before after f of_words job frame state code slope listing energy h =
+    → ((job state : List ℕ) → RefusesEnergy job state f → ⊥) → ((job state : List ℕ) → RefusesForces job state f → ⊥) → IsCommandRefused held c before after f → ⊥
+refused_of_words held (command.Start start) before after f of_words job frame state code slope listing energy forces h =
     unwritten_of_words _ _ before after f of_words (under_of_words _ _ _ (job h.0) (frame h.1 start.frame)) h.4
-refused_of_words held (command.Run r) before after f of_words job frame state code slope listing energy h = of_files_alone (fault_of_run h.4.0) (of_run h.4.0) (subst IsOfWords h.4.1 of_words)
-refused_of_words held (command.Trajectory t) before after f of_words job frame state code slope listing energy h = of_files_alone (fault_of_run h.4.0) (of_run h.4.0) (subst IsOfWords h.4.1 of_words)
-refused_of_words held (command.Frame fr) before after f of_words job frame state code slope listing energy h = unwritten_of_words _ _ before after f of_words (state h.0) h.2
-refused_of_words held (command.Energy e) before after f of_words job frame state code slope listing energy h = unwritten_of_words _ _ before after f of_words (energy h.0 h.1) h.4
-refused_of_words held (command.Check check) before after f of_words job frame state code slope listing energy h = by_listing check.listing h
+refused_of_words held (command.Run r) before after f of_words job frame state code slope listing energy forces h = of_files_alone (fault_of_run h.4.0) (of_run h.4.0) (subst IsOfWords h.4.1 of_words)
+refused_of_words held (command.Trajectory v) before after f of_words job frame state code slope listing energy forces h = of_files_alone (fault_of_run h.4.0) (of_run h.4.0) (subst IsOfWords h.4.1 of_words)
+refused_of_words held (command.States v) before after f of_words job frame state code slope listing energy forces h = of_files_alone (fault_of_run h.4.0) (of_run h.4.0) (subst IsOfWords h.4.1 of_words)
+refused_of_words held (command.Observe o) before after f of_words job frame state code slope listing energy forces h = of_files_alone (fault_of_observe h.4.0) (of_observe h.4.0) (subst IsOfWords h.4.1 of_words)
+refused_of_words held (command.Frame fr) before after f of_words job frame state code slope listing energy forces h = unwritten_of_words _ _ before after f of_words (state h.0) h.2
+refused_of_words held (command.Energy e) before after f of_words job frame state code slope listing energy forces h = unwritten_of_words _ _ before after f of_words (energy h.0 h.1) h.4
+refused_of_words held (command.Forces s) before after f of_words job frame state code slope listing energy forces h = unwritten_of_words _ _ before after f of_words (forces h.0 h.1) h.4
+refused_of_words held (command.Check check) before after f of_words job frame state code slope listing energy forces h = by_listing check.listing h
   where
     by_listing : (l : Option (Bor (List ℕ))) → IsVerdictUndone held check.job.now l before after f → ⊥
     by_listing None h = unwritten_of_words _ _ before after f of_words (under_of_words _ _ _ (job h.0) slope) h.2
     by_listing (Some l) h = unwritten_of_words _ _ before after f of_words (under_of_words _ _ _ (job h.0) (listing h.1)) h.4
-refused_of_words held (command.Code l) before after f of_words job frame state code slope listing energy h = unwritten_of_words _ _ before after f of_words (under_of_words _ _ _ (job h.0) code) h.2
-refused_of_words held (command.Explain e) before after f of_words job frame state code slope listing energy h = unwritten_of_words _ _ before after f of_words (λ none. none) h
+refused_of_words held (command.Code l) before after f of_words job frame state code slope listing energy forces h = unwritten_of_words _ _ before after f of_words (under_of_words _ _ _ (job h.0) code) h.2
+refused_of_words held (command.Explain e) before after f of_words job frame state code slope listing energy forces h = unwritten_of_words _ _ before after f of_words (λ none. none) h
 
 -- words that name a command have no fault of their own
 command_of_words : {A : Type 0} (held : List ℕ → Option (List ℕ)) (asked asked' : Paths) (c : Command) (before after : Output) (f : CommandFault A) → IsOfWords f
     → IsUndone held asked asked' c before after f → ⊥
 command_of_words held asked asked' c before after f of_words (inl h) = bytes_of_words held c asked asked' f of_words h.0
 command_of_words held asked asked' c before after f (inl (e, is)) (inr h) =
-    refused_of_words held c before after (fault.CommandLine e) (inl (e, refl)) (λ job x. x) (λ gro n said x. x) (λ state x. x) (λ said x. x) (λ said x. x) (λ listing said x. x) (λ job state x. x)
+    refused_of_words held c before after (fault.CommandLine e) (inl (e, refl)) (λ job x. x) (λ gro n said x. x) (λ state x. x) (λ said x. x) (λ said x. x) (λ listing said x. x) (λ job state x. x) (λ job state x. x)
     (subst (λ g. IsCommandRefused held c before after g) is h.1)
 command_of_words held asked asked' c before after f (inr is) (inr h) =
-    refused_of_words held c before after fault.NotText (inr refl) (λ job x. x) (λ gro n said x. x) (λ state x. x) (λ said x. x) (λ said x. x) (λ listing said x. x) (λ job state x. x)
+    refused_of_words held c before after fault.NotText (inr refl) (λ job x. x) (λ gro n said x. x) (λ state x. x) (λ said x. x) (λ said x. x) (λ listing said x. x) (λ job state x. x) (λ job state x. x)
     (subst (λ g. IsCommandRefused held c before after g) is h.1)
 
 unanswered_of_words : {A : Type 0} (words : List (List ℕ)) (before after : Output) (f : CommandFault A) → IsOfWords f → IsUnanswered words before after f

@@ -1,6 +1,6 @@
 -- Laws of statuses: no fault has that of a command that was done, and only those of words have that of the command
 -- line.
-use Rattle.std.proofs.Common.{◌≡◌, ◌≢◌, ◌⊎◌, ◌∙◌, ap, arith, inl, inr, refl, sym}
+use Rattle.std.proofs.Common.{◌≡◌, ◌≢◌, ◌⊎◌, ◌∙◌, ◌≤◌, ap, arith, inl, inr, refl, sym}
 use Rattle.clap.specs.declared.error.Error.{Error}
 use Rattle.fallible.specs.declared.failure.Failure.TheVariants.{Refused, Memory}
 use Rattle.integrator.specs.declared.faults.StepFault.{StepFault}
@@ -10,12 +10,23 @@ use Rattle.engine.specs.declared.faults.EngineFault.TheVariants as engine
 use Rattle.engine.specs.declared.faults.OpenFault.TheVariants as opened
 use Rattle.engine.specs.declared.faults.RunFault.{RunFault}
 use Rattle.engine.specs.declared.faults.RunFault.TheVariants as run
-use Rattle.cli.specs.Failures.{fault_of_run}
+use Rattle.observation.specs.declared.faults.ObserveFault.{ObserveFault}
+use Rattle.observation.specs.declared.faults.ObserveFault.TheVariants as observe
+use Rattle.cli.specs.Failures.{fault_of_observe, fault_of_run}
 use Rattle.cli.specs.Statuses.{status_number, engine_status, status_of, steps_status}
 use Rattle.cli.specs.declared.faults.CommandFault.{CommandFault}
 use Rattle.cli.specs.declared.faults.CommandFault.TheVariants as fault
 use Rattle.cli.specs.declared.faults.Status.{Status}
 use Rattle.cli.specs.declared.faults.Status.TheVariants as status
+
+-- statuses are at most 5
+pub number_most : (s : Status) → status_number s ≤ 5
+number_most status.Done = omega arith
+number_most status.RefusedData = omega arith
+number_most status.CommandLine = omega arith
+number_most status.RefusedKernel = omega arith
+number_most status.Memory = omega arith
+number_most status.File = omega arith
 
 -- the status of a refusal, of out of memory, of a file or of the output
 abbrev pub IsOfFiles : Status → Type 0
@@ -52,6 +63,11 @@ of_run (run.Open (Refused (opened.Engine f))) = of_engine f
 of_run (run.Open Memory) = memory_wanted
 of_run (run.Steps f) = of_steps f
 of_run (run.Out o) = file_failed
+
+-- the same of a table's
+pub of_observe : {A : Type 0} (f : ObserveFault A) → IsOfFiles (status_of (fault_of_observe f))
+of_observe (observe.Run f) = of_run f
+of_observe (observe.Energy f) = kernel_refused
 
 -- a fault of the words themselves
 abbrev pub IsOfWords : {A : Type 0} → CommandFault A → Type 0

@@ -5,6 +5,8 @@ use Rattle.engine.specs.declared.faults.OpenFault.{OpenFault}
 use Rattle.engine.specs.declared.faults.OpenFault.TheVariants as opened
 use Rattle.engine.specs.declared.faults.RunFault.{RunFault}
 use Rattle.engine.specs.declared.faults.RunFault.TheVariants as run
+use Rattle.observation.specs.declared.faults.ObserveFault.{ObserveFault}
+use Rattle.observation.specs.declared.faults.ObserveFault.TheVariants as observe
 use Rattle.cli.specs.declared.faults.CommandFault.{CommandFault}
 use Rattle.cli.specs.declared.faults.CommandFault.TheVariants as fault
 
@@ -24,3 +26,8 @@ abbrev pub fault_of_run : {A : Type 0} → RunFault A → CommandFault A
 fault_of_run (run.Open failure) = command_fault fault_of_open failure
 fault_of_run (run.Steps f) = fault.Steps f
 fault_of_run (run.Out f) = fault.Out f
+
+-- the fault of a command whose table has not all of its rows
+abbrev pub fault_of_observe : {A : Type 0} → ObserveFault A → CommandFault A
+fault_of_observe (observe.Run f) = fault_of_run f
+fault_of_observe (observe.Energy f) = fault.Energy f

@@ -1,6 +1,7 @@
 pub mod Asked
 pub mod Explained
 pub mod Failures
+pub mod ForceTexts
 pub mod Held
 pub mod Conversions
 pub mod Host
@@ -12,4 +13,5 @@ pub mod Refusals
 pub mod Reports
 pub mod Statuses
 pub mod Kept
+pub mod Tables
 pub mod Verdicts

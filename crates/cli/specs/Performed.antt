@@ -2,15 +2,19 @@
 use Rattle.std.specs.Prelude.{◌≡◌, ◌/◌, ℕ, suc, List, Option, Result}
 use Rattle.std.specs.Result.{MatchResult}
 use Rattle.command_line.specs.declared.commands.Command.{Command}
+use Rattle.command_line.specs.declared.commands.Observe.{Observe}
 use Rattle.command_line.specs.declared.commands.Run.{Run}
-use Rattle.command_line.specs.declared.commands.Trajectory.{Trajectory}
+use Rattle.command_line.specs.declared.commands.Visits.{Visits}
 use Rattle.engine.specs.Headline.{WroteLevesqueVerletRun}
 use Rattle.fallible.specs.Out.{Appends, Output}
+use Rattle.observation.specs.Observations.{ShowsTable}
 use Rattle.trajectory.specs.Trajectories.{ShowsFrame}
 use Rattle.trajectory.specs.Visits.{IsTextOfRun, WroteTexts}
+use Rattle.trajectory.specs.WholeStates.{IsRunOnWay}
 use Rattle.cli.specs.Printed.{HasPrinted}
 use Rattle.cli.specs.Reads.{asked_by}
-use Rattle.cli.specs.Refusals.{IsRunUndone, IsTextUnwritten, IsTrajectoryUndone, IsUndone}
+use Rattle.cli.specs.Refusals.{AreStatesUndone, IsRunUndone, IsTableUndone, IsTextUnwritten, IsTrajectoryUndone, IsUndone}
+use Rattle.cli.specs.Tables.{columns_of}
 use Rattle.cli.specs.declared.faults.CommandFault.{CommandFault}
 use Rattle.cli.specs.declared.faults.CommandFault.TheVariants as fault
 
@@ -28,9 +32,19 @@ WritesRun job state run before after result =
     MatchResult result (λ _. WroteLevesqueVerletRun job state run.direction run.steps before after) (IsRunUndone job state run before after)
 
 -- the frames of a run were written; or this is why not all were
-abbrev pub WritesFrames : {T A : Type 0} → (job state : List ℕ) → Trajectory → (before after : Output) → Result T (CommandFault A) → Type 0
-WritesFrames job state t before after result =
-    MatchResult result (λ _. WroteTexts (IsTextOfRun ShowsFrame job state t.direction t.every) (suc (t.steps / t.every)) before after) (IsTrajectoryUndone job state t before after)
+abbrev pub WritesFrames : {T A : Type 0} → (job state : List ℕ) → Visits → (before after : Output) → Result T (CommandFault A) → Type 0
+WritesFrames job state v before after result =
+    MatchResult result (λ _. WroteTexts (IsTextOfRun ShowsFrame job state v.direction v.every) (suc (v.steps / v.every)) before after) (IsTrajectoryUndone job state v before after)
+
+-- the states on the way of a run were written, each the text of a run that ends there; or this is why not all were
+abbrev pub WritesStates : {T A : Type 0} → (job state : List ℕ) → Visits → (before after : Output) → Result T (CommandFault A) → Type 0
+WritesStates job state v before after result =
+    MatchResult result (λ _. WroteTexts (IsRunOnWay job state v.direction v.every) (suc (v.steps / v.every)) before after) (AreStatesUndone job state v before after)
+
+-- the rows of a run's table were written; or this is why not all were
+abbrev pub WritesTable : {T A : Type 0} → (job state : List ℕ) → Observe → (before after : Output) → Result T (CommandFault A) → Type 0
+WritesTable job state o before after result =
+    MatchResult result (λ _. WroteTexts (IsTextOfRun (ShowsTable (columns_of o.exact)) job state o.visits.direction o.visits.every) (suc (o.visits.steps / o.visits.every)) before after) (IsTableUndone job state o before after)
 
 -- a command was done: it asked for its files, and has printed what it is for; or this is why it was not
 abbrev pub Performs : {T A : Type 0} → (List ℕ → Option (List ℕ)) → (asked_before asked_after : Option (List (List ℕ))) → Command → (before after : Output) → Result T (CommandFault A) → Type 0

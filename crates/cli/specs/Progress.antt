@@ -19,10 +19,12 @@ told_if true steps = Some steps
 told_if false steps = None
 
 -- of how many steps a command tells how far it has come, if it does: those that it makes, which end with a trajectory's
--- last frame
+-- last frame, with the last of the states, or with a table's last row
 abbrev pub told_of : Command → Option ℕ
 told_of (command.Run run) = told_if run.progress run.steps
-told_of (command.Trajectory t) = told_if t.progress (t.steps / t.every * t.every)
+told_of (command.Trajectory v) = told_if v.progress (v.steps / v.every * v.every)
+told_of (command.States v) = told_if v.progress (v.steps / v.every * v.every)
+told_of (command.Observe o) = told_if o.visits.progress (o.visits.steps / o.visits.every * o.visits.every)
 told_of _ = None
 
 -- A text was printed, as far as the output took it. An output of which no more failed writes can be counted is left as

@@ -8,8 +8,9 @@ use Rattle.clap.specs.declared.error.kind.ErrorKind.TheVariants.{DisplayHelp, Di
 use Rattle.command_line.specs.CommandLine.{AsksForHelp, AsksForVersion, IsCommand, IsMisuse}
 use Rattle.command_line.specs.declared.commands.Command.{Command}
 use Rattle.command_line.specs.declared.commands.Command.TheVariants as command
+use Rattle.command_line.specs.declared.commands.Observe.{Observe}
 use Rattle.command_line.specs.declared.commands.Run.{Run}
-use Rattle.command_line.specs.declared.commands.Trajectory.{Trajectory}
+use Rattle.command_line.specs.declared.commands.Visits.{Visits}
 use Rattle.energy_program.specs.Faults as energies
 use Rattle.engine.specs.Engines.{HasNoEngineOfTexts, IsRunUnwritten}
 use Rattle.engine.specs.PairEnergies.{HasNoEnergyOfTexts}
@@ -28,17 +29,23 @@ use Rattle.job.specs.Values.{JobValue}
 use Rattle.job.specs.Views as jobs
 use Rattle.kernel_code.specs.ListingReading.{code_of}
 use Rattle.kernel_code.specs.declared.instructions.Instr.{Instr}
+use Rattle.observation.specs.Observations.{ShowsTable}
+use Rattle.observation.specs.Tables.{AreRowsUnwritten}
+use Rattle.observation.specs.declared.faults.ObserveFault.{ObserveFault}
 use Rattle.ring_box.specs.declared.faults.BoxFault.{BoxFault}
 use Rattle.state.specs.Starts.{start_of_frame}
 use Rattle.state.specs.StateReading.{state_of}
 use Rattle.trajectory.specs.Trajectories.{ShowsFrame}
 use Rattle.trajectory.specs.Visits.{AreTextsUnwritten}
+use Rattle.trajectory.specs.WholeStates.{ShowsState}
 use Rattle.cli.specs.Asked.{also_asked}
 use Rattle.cli.specs.Conversions.{IsCodeText, IsFrameOf, IsFrameText, IsStartText}
 use Rattle.cli.specs.Explained.{IsExplanation}
-use Rattle.cli.specs.Failures.{fault_of_run}
+use Rattle.cli.specs.Failures.{fault_of_observe, fault_of_run}
+use Rattle.cli.specs.ForceTexts.{IsForcesText}
 use Rattle.cli.specs.Held.{OfOne, OfTwo}
 use Rattle.cli.specs.Reads.{asked_by, unread}
+use Rattle.cli.specs.Tables.{columns_of}
 use Rattle.cli.specs.Verdicts.{IsEnergyText, IsListingVerdict, IsSlopeVerdict}
 use Rattle.cli.specs.declared.faults.CommandFault.{CommandFault}
 use Rattle.cli.specs.declared.faults.CommandFault.TheVariants as fault
@@ -112,6 +119,14 @@ RefusesEnergy {A} job state (fault.Energy f) = HasNoEnergyOfTexts job state f
 RefusesEnergy {A} job state fault.Memory = Unit {0}
 RefusesEnergy {A} job state _ = ⊥
 
+-- a job and a state have no engine, which alone has no forces
+abbrev pub RefusesForces : {A : Type 0} → (job state : List ℕ) → CommandFault A → Type 0
+RefusesForces {A} job state (fault.Job f) = HasNoEngineOfTexts {A = A} job state (opened.Job f)
+RefusesForces {A} job state (fault.State f) = HasNoEngineOfTexts {A = A} job state (opened.State f)
+RefusesForces {A} job state (fault.Engine f) = HasNoEngineOfTexts {A = A} job state (opened.Engine f)
+RefusesForces {A} job state fault.Memory = Unit {0}
+RefusesForces {A} job state _ = ⊥
+
 -- ---- what an output is left with
 
 -- nothing was written, and this is why; or there was a text to write, a write failed, and a beginning of it went out
@@ -120,7 +135,7 @@ IsTextUnwritten Why HasText before after f = (Why f × (after ≡ before))
     ⊎ ((o : OutFault) × (f ≡ fault.Out o) × HasText (AppendsBeginning before after))
 
 -- why no text was written of the state that begins at a frame, of a state's frame, of a listing, of a verdict, of an
--- energy
+-- energy, of forces
 abbrev pub IsStartUndone : {A : Type 0} → (job gro : List ℕ) → ℕ → Output → Output → CommandFault A → Type 0
 IsStartUndone job gro number before after f = IsTextUnwritten (RefusesUnder job (RefusesFrame gro number)) (IsStartText job gro number) before after f
 
@@ -139,6 +154,9 @@ IsListingUndone job listing before after f = IsTextUnwritten (RefusesUnder job (
 abbrev pub IsEnergyUndone : {A : Type 0} → (job state : List ℕ) → Output → Output → CommandFault A → Type 0
 IsEnergyUndone job state before after f = IsTextUnwritten (RefusesEnergy job state) (IsEnergyText job state) before after f
 
+abbrev pub AreForcesUndone : {A : Type 0} → (job state : List ℕ) → Output → Output → CommandFault A → Type 0
+AreForcesUndone job state before after f = IsTextUnwritten (RefusesForces job state) (IsForcesText job state) before after f
+
 -- why no explanation was written: there is one, so only the output can have failed
 abbrev pub IsExplanationUndone : {A : Type 0} → List ℕ → Output → Output → CommandFault A → Type 0
 IsExplanationUndone code before after f = IsTextUnwritten (λ f. ⊥) (IsExplanation code) before after f
@@ -150,8 +168,17 @@ IsRunUndone {A} job state run before after f = (g : RunFault A) × (f ≡ fault_
 
 -- why not all frames of a run were written: where an allocation is refused in it whole frames may have been, and a
 -- failed output is left with a beginning of them
-abbrev pub IsTrajectoryUndone : {A : Type 0} → (job state : List ℕ) → Trajectory → Output → Output → CommandFault A → Type 0
-IsTrajectoryUndone {A} job state t before after f = (g : RunFault A) × (f ≡ fault_of_run g) × AreTextsUnwritten ShowsFrame job state t.direction t.steps t.every before after g
+abbrev pub IsTrajectoryUndone : {A : Type 0} → (job state : List ℕ) → Visits → Output → Output → CommandFault A → Type 0
+IsTrajectoryUndone {A} job state v before after f = (g : RunFault A) × (f ≡ fault_of_run g) × AreTextsUnwritten ShowsFrame job state v.direction v.steps v.every before after g
+
+-- the same of its states
+abbrev pub AreStatesUndone : {A : Type 0} → (job state : List ℕ) → Visits → Output → Output → CommandFault A → Type 0
+AreStatesUndone {A} job state v before after f = (g : RunFault A) × (f ≡ fault_of_run g) × AreTextsUnwritten ShowsState job state v.direction v.steps v.every before after g
+
+-- the same of the rows of its table, of which nothing is written where the energy itself is refused
+abbrev pub IsTableUndone : {A : Type 0} → (job state : List ℕ) → Observe → Output → Output → CommandFault A → Type 0
+IsTableUndone {A} job state o before after f = (g : ObserveFault A) × (f ≡ fault_of_observe g)
+    × AreRowsUnwritten (ShowsTable (columns_of o.exact)) job state o.visits.direction o.visits.steps o.visits.every before after g
 
 -- ---- of a command, whose files gave these bytes
 
@@ -162,9 +189,12 @@ IsVerdictUndone held job (Some listing) before after f = OfTwo held job listing.
 abbrev pub IsCommandRefused : {A : Type 0} → (List ℕ → Option (List ℕ)) → Command → Output → Output → CommandFault A → Type 0
 IsCommandRefused held (command.Start start) before after f = OfTwo held start.job.now start.gro.now (λ job gro. IsStartUndone job gro start.frame before after f)
 IsCommandRefused held (command.Run run) before after f = OfTwo held run.job.now run.state.now (λ job state. IsRunUndone job state run before after f)
-IsCommandRefused held (command.Trajectory t) before after f = OfTwo held t.job.now t.state.now (λ job state. IsTrajectoryUndone job state t before after f)
+IsCommandRefused held (command.Trajectory v) before after f = OfTwo held v.job.now v.state.now (λ job state. IsTrajectoryUndone job state v before after f)
+IsCommandRefused held (command.States v) before after f = OfTwo held v.job.now v.state.now (λ job state. AreStatesUndone job state v before after f)
+IsCommandRefused held (command.Observe o) before after f = OfTwo held o.visits.job.now o.visits.state.now (λ job state. IsTableUndone job state o before after f)
 IsCommandRefused held (command.Frame frame) before after f = OfOne held frame.state.now (λ state. IsFrameUndone state before after f)
-IsCommandRefused held (command.Energy energy) before after f = OfTwo held energy.job.now energy.state.now (λ job state. IsEnergyUndone job state before after f)
+IsCommandRefused held (command.Energy s) before after f = OfTwo held s.job.now s.state.now (λ job state. IsEnergyUndone job state before after f)
+IsCommandRefused held (command.Forces s) before after f = OfTwo held s.job.now s.state.now (λ job state. AreForcesUndone job state before after f)
 IsCommandRefused held (command.Check check) before after f = IsVerdictUndone held check.job.now check.listing before after f
 IsCommandRefused held (command.Code l) before after f = OfOne held l.job.now (λ job. IsCodeUndone job before after f)
 IsCommandRefused held (command.Explain e) before after f = IsExplanationUndone e.code.now before after f
@@ -194,9 +224,12 @@ IsUnreadOfSome held first (Some second) asked_before asked_after f = IsUnreadOfT
 abbrev pub HasNoBytes : {A : Type 0} → (List ℕ → Option (List ℕ)) → Command → (asked_before asked_after : Option (List (List ℕ))) → CommandFault A → Type 0
 HasNoBytes held (command.Start start) asked_before asked_after f = IsUnreadOfTwo held start.job.now start.gro.now asked_before asked_after f
 HasNoBytes held (command.Run run) asked_before asked_after f = IsUnreadOfTwo held run.job.now run.state.now asked_before asked_after f
-HasNoBytes held (command.Trajectory t) asked_before asked_after f = IsUnreadOfTwo held t.job.now t.state.now asked_before asked_after f
+HasNoBytes held (command.Trajectory v) asked_before asked_after f = IsUnreadOfTwo held v.job.now v.state.now asked_before asked_after f
+HasNoBytes held (command.States v) asked_before asked_after f = IsUnreadOfTwo held v.job.now v.state.now asked_before asked_after f
+HasNoBytes held (command.Observe o) asked_before asked_after f = IsUnreadOfTwo held o.visits.job.now o.visits.state.now asked_before asked_after f
 HasNoBytes held (command.Frame frame) asked_before asked_after f = IsUnread held frame.state.now asked_before asked_after f
-HasNoBytes held (command.Energy energy) asked_before asked_after f = IsUnreadOfTwo held energy.job.now energy.state.now asked_before asked_after f
+HasNoBytes held (command.Energy s) asked_before asked_after f = IsUnreadOfTwo held s.job.now s.state.now asked_before asked_after f
+HasNoBytes held (command.Forces s) asked_before asked_after f = IsUnreadOfTwo held s.job.now s.state.now asked_before asked_after f
 HasNoBytes held (command.Check check) asked_before asked_after f = IsUnreadOfSome held check.job.now check.listing asked_before asked_after f
 HasNoBytes held (command.Code l) asked_before asked_after f = IsUnread held l.job.now asked_before asked_after f
 HasNoBytes held (command.Explain e) asked_before asked_after f = ⊥

@@ -4,12 +4,12 @@ ghost use Rattle.std.specs.Prelude.{◌≡◌, ◌≢◌, ◌⊎◌, ◌≤◌, 
 ghost use Rattle.std.specs.Result.{MatchResult};
 ghost use Rattle.clap.specs.Words.{kind_of};
 ghost use Rattle.clap.specs.declared.error.kind.ErrorKind.TheVariants.{DisplayHelp, DisplayVersion};
-ghost use Rattle.command_line.specs.CommandLine.{AsksForTrajectory, IsCommand, IsMisuse};
+ghost use Rattle.command_line.specs.CommandLine.{AsksForVisits, IsCommand, IsMisuse};
 ghost use Rattle.command_line.specs.declared.commands.Command.{Command};
 ghost use Rattle.cli.specs.Asked.{also_asked};
 ghost use Rattle.cli.specs.Held.{IsHeld};
 ghost use Rattle.cli.specs.Kept.{IsKept};
-ghost use Rattle.cli.specs.Performed.{Performs, WritesFrames, WritesRun};
+ghost use Rattle.cli.specs.Performed.{Performs, WritesFrames, WritesRun, WritesStates};
 ghost use Rattle.cli.specs.Printed.{IsDone};
 ghost use Rattle.cli.specs.Progress.{IsBegun, IsQuiet, IsTold, PrintsIfCounted, Tells, told_of};
 ghost use Rattle.cli.specs.Reads.{AsksFor, unread};
@@ -21,13 +21,15 @@ ghost use Rattle.cli.specs.declared.faults.CommandFault.{CommandFault};
 use crate::conversions::{code_bytes, frame_bytes, start_bytes};
 use crate::faults::{CommandFault, Status, ran, written};
 use crate::files::{Files, ReadFault};
-use crate::progress::{run_watched, trajectory_watched};
+use crate::forces::forces_bytes;
+use crate::progress::{run_watched, states_watched, trajectory_watched};
+use crate::tables::observe_texts;
 use crate::verdicts::{energy_bytes, listing_verdict_bytes, slope_verdict_bytes};
 use crate::writing::write_line;
 use clap::Error;
 use clap::error::ErrorKind;
 use command_line::{
-    Check, Command, Energy, Explain, Frame, Listing, Run, Start, Trajectory, parse,
+    Check, Command, Explain, Frame, Listing, Observe, Run, Start, StateUnderJob, Visits, parse,
 };
 use engine::run_bytes;
 use fallible::{Out, write_all};
@@ -35,7 +37,7 @@ use integrator::Workers;
 use std::alloc::{AllocError, Allocator, Global};
 use std::convert::AsStr;
 use std::thread::Threads;
-use trajectory::trajectory_bytes;
+use trajectory::{states_bytes, trajectory_bytes};
 
 /// Does what the words ask for, and answers the status to end with, from 0 to 5.
 ///
@@ -58,7 +60,7 @@ pub fn execute<
     ensures undone { result ≢ 0 → (f : CommandFault A) × IsFaultOf (map S.text words.now) (F.held files.old) (F.asked files.old) (F.asked files.new) (O.output out.old) (O.output out.new) f
         × IsTold (map S.text words.now) f result (E.output err.old) (E.output err.new) }
     ensures kept { result ≢ 0 → IsKept (O.output out.old) (O.output out.new)
-        ⊎ ((result ≡ 4) × AsksForTrajectory (map S.text words.now)) }
+        ⊎ ((result ≡ 4) × AsksForVisits (map S.text words.now)) }
     ensures misuse { result ≡ 2 → IsMisuse (map S.text words.now) × (O.output out.new ≡ O.output out.old) }
     ensures done { result ≡ 0 → IsDone (map S.text words.now) (F.held files.old) (F.asked files.old) (F.asked files.new) (O.output out.old) (O.output out.new) }
     ensures reads { (F.asked files.new ≡ F.asked files.old)
@@ -123,8 +125,11 @@ fn perform<'a, R: Threads + Sync, A: Allocator + Copy + Send + Sync, F: Files, O
         Command::Trajectory(trajectory) => perform_trajectory(
             rt, alloc, trajectory, files, out, err,
         ),
+        Command::States(states) => perform_states(rt, alloc, states, files, out, err),
+        Command::Observe(observe) => perform_observe(rt, alloc, observe, files, out, err),
         Command::Frame(frame) => perform_frame(alloc, frame, files, out),
         Command::Energy(energy) => perform_energy(alloc, energy, files, out),
+        Command::Forces(state) => perform_forces(alloc, state, files, out),
         Command::Check(check) => perform_check(alloc, check, files, out),
         Command::Code(listing) => perform_code(alloc, listing, files, out),
         Command::Explain(explain) => perform_explain(explain, out),
@@ -162,7 +167,7 @@ fn perform_frame<'a, A: Allocator + Copy, F: Files, O: Out>(
 /// Reads the job and then the state, and prints its energy.
 fn perform_energy<'a, A: Allocator + Copy, F: Files, O: Out>(
     alloc: A,
-    energy: Energy<'a>,
+    energy: StateUnderJob<'a>,
     files: &mut F,
     out: &mut O,
 ) -> Result<(), CommandFault<'a, A>>
@@ -171,6 +176,20 @@ fn perform_energy<'a, A: Allocator + Copy, F: Files, O: Out>(
 {
     let (job, state) = read_two(alloc, energy.job, energy.state, files)?;
     energy_bytes(alloc, &job, &state, out)
+}
+
+/// Reads the job and then the state, and prints the forces on its atoms.
+fn perform_forces<'a, A: Allocator + Copy, F: Files, O: Out>(
+    alloc: A,
+    asked: StateUnderJob<'a>,
+    files: &mut F,
+    out: &mut O,
+) -> Result<(), CommandFault<'a, A>>
+    requires { (O.output out.old).failed < 2 ^ 64 - 1 }
+    ensures { Performs (F.held files.old) (F.asked files.old) (F.asked files.new) (Command.Forces asked.entry) (O.output out.old) (O.output out.new) result }
+{
+    let (job, state) = read_two(alloc, asked.job, asked.state, files)?;
+    forces_bytes(alloc, &job, &state, out)
 }
 
 /// Judges the code of the job's slope, or that of the listing if there is one.
@@ -317,7 +336,7 @@ fn perform_trajectory<
 >(
     rt: &R,
     alloc: A,
-    trajectory: Trajectory<'a>,
+    trajectory: Visits<'a>,
     files: &mut F,
     out: &mut O,
     err: &mut E,
@@ -336,7 +355,7 @@ fn trajectory_texts<'a, R: Threads + Sync, A: Allocator + Copy + Send + Sync, O:
     alloc: A,
     job: &[u8],
     state: &[u8],
-    trajectory: &Trajectory<'a>,
+    trajectory: &Visits<'a>,
     out: &mut O,
     err: &mut E,
 ) -> Result<(), CommandFault<'a, A>>
@@ -357,7 +376,7 @@ fn trajectory_unwatched<'a, R: Threads + Sync, A: Allocator + Copy + Send + Sync
     alloc: A,
     job: &[u8],
     state: &[u8],
-    trajectory: &Trajectory<'a>,
+    trajectory: &Visits<'a>,
     out: &mut O,
 ) -> Result<(), CommandFault<'a, A>>
     requires { (O.output out.old).failed < 2 ^ 64 - 1 }
@@ -374,6 +393,101 @@ fn trajectory_unwatched<'a, R: Threads + Sync, A: Allocator + Copy + Send + Sync
         Workers::new(trajectory.workers),
         out,
     ))
+}
+
+/// Reads the job and then the state, and prints states of the run.
+fn perform_states<
+    'a,
+    R: Threads + Sync,
+    A: Allocator + Copy + Send + Sync,
+    F: Files,
+    O: Out,
+    E: Out,
+>(
+    rt: &R,
+    alloc: A,
+    states: Visits<'a>,
+    files: &mut F,
+    out: &mut O,
+    err: &mut E,
+) -> Result<(), CommandFault<'a, A>>
+    requires { (O.output out.old).failed < 2 ^ 64 - 1 }
+    ensures performs { Performs (F.held files.old) (F.asked files.old) (F.asked files.new) (Command.States states.entry) (O.output out.old) (O.output out.new) result }
+    ensures tells { Tells (told_of (Command.States states.entry)) (E.output err.old) (E.output err.new) result }
+{
+    let (job, state) = read_two(alloc, states.job, states.state, files)?;
+    states_texts(rt, alloc, &job, &state, &states, out, err)
+}
+
+/// Prints states of the run of a state under a job, and tells how far the run has come where that is asked for.
+fn states_texts<'a, R: Threads + Sync, A: Allocator + Copy + Send + Sync, O: Out, E: Out>(
+    rt: &R,
+    alloc: A,
+    job: &[u8],
+    state: &[u8],
+    states: &Visits<'a>,
+    out: &mut O,
+    err: &mut E,
+) -> Result<(), CommandFault<'a, A>>
+    requires { (O.output out.old).failed < 2 ^ 64 - 1 }
+    ensures writes { WritesStates job.now state.now states.now (O.output out.old) (O.output out.new) result }
+    ensures tells { Tells (told_of (Command.States states.now)) (E.output err.old) (E.output err.new) result }
+{
+    if states.progress {
+        states_watched(rt, alloc, job, state, states, out, err)
+    } else {
+        states_unwatched(rt, alloc, job, state, states, out)
+    }
+}
+
+/// Prints states of the run of a state under a job.
+fn states_unwatched<'a, R: Threads + Sync, A: Allocator + Copy + Send + Sync, O: Out>(
+    rt: &R,
+    alloc: A,
+    job: &[u8],
+    state: &[u8],
+    states: &Visits<'a>,
+    out: &mut O,
+) -> Result<(), CommandFault<'a, A>>
+    requires { (O.output out.old).failed < 2 ^ 64 - 1 }
+    ensures { WritesStates job.now state.now states.now (O.output out.old) (O.output out.new) result }
+{
+    ran(states_bytes(
+        rt,
+        alloc,
+        job,
+        state,
+        states.steps,
+        states.every,
+        states.direction,
+        Workers::new(states.workers),
+        out,
+    ))
+}
+
+/// Reads the job and then the state, and prints a table of the run.
+fn perform_observe<
+    'a,
+    R: Threads + Sync,
+    A: Allocator + Copy + Send + Sync,
+    F: Files,
+    O: Out,
+    E: Out,
+>(
+    rt: &R,
+    alloc: A,
+    observe: Observe<'a>,
+    files: &mut F,
+    out: &mut O,
+    err: &mut E,
+) -> Result<(), CommandFault<'a, A>>
+    requires { (O.output out.old).failed < 2 ^ 64 - 1 }
+    ensures performs { Performs (F.held files.old) (F.asked files.old) (F.asked files.new) (Command.Observe observe.entry) (O.output out.old) (O.output out.new) result }
+    ensures tells { Tells (told_of (Command.Observe observe.entry)) (E.output err.old) (E.output err.new) result }
+{
+    let visits = observe.visits;
+    let (job, state) = read_two(alloc, visits.job, visits.state, files)?;
+    observe_texts(rt, alloc, &job, &state, &observe, out, err)
 }
 
 /// Reads one file and then another.

@@ -2,7 +2,7 @@
 
 ghost use Rattle.std.specs.Prelude.{◌≡◌, ◌≤◌};
 ghost use Rattle.std.specs.Result.{result_map_both};
-ghost use Rattle.cli.specs.Failures.{command_fault, fault_of_open, fault_of_run};
+ghost use Rattle.cli.specs.Failures.{command_fault, fault_of_observe, fault_of_open, fault_of_run};
 ghost use Rattle.cli.specs.declared.faults.CommandFault.TheVariants as command;
 ghost use Rattle.potential.specs.declared.faults.EnergyFault.TheVariants as energy;
 
@@ -14,6 +14,7 @@ use gro::GroFault;
 use integrator::StepFault;
 use job::JobFault;
 use kernel_code::CodeFault;
+use observation::ObserveFault;
 use potential::{EnergyFault, KernelRefusal};
 use ring_box::BoxFault;
 use state::StateFault;
@@ -84,7 +85,7 @@ pub enum CommandFault<'a, A: Allocator> {
     /// The listing to judge is refused.
     #[error(transparent)]
     Listing(CodeFault),
-    /// The job's energy, or its slope, has no accepted code, where `code`, `check` or `energy` asks for one.
+    /// The job's energy, or its slope, has no accepted code, where `code`, `check`, `energy` or `observe` asks for one.
     #[error(transparent)]
     Energy(EnergyFault<A>),
     /// The verifier refuses the code of the listing to judge.
@@ -154,6 +155,14 @@ impl<'a, A: Allocator> From<RunFault<A>> for CommandFault<'a, A> {
 
     fn from(fault: RunFault<A>) -> CommandFault<'a, A> {
         CommandFault::of_run(fault)
+    }
+}
+
+impl<'a, A: Allocator> From<ObserveFault<A>> for CommandFault<'a, A> {
+    ghost from_gives = { λ f e. e ≡ fault_of_observe f };
+
+    fn from(fault: ObserveFault<A>) -> CommandFault<'a, A> {
+        CommandFault::of_observe(fault)
     }
 }
 
@@ -257,7 +266,7 @@ impl<'a, A: Allocator> From<Failure<ExprFault<A>>> for CommandFault<'a, A> {
 }
 
 impl<'a, A: Allocator> CommandFault<'a, A> {
-    ghost use Rattle.cli.specs.Failures.{fault_of_open, fault_of_run};
+    ghost use Rattle.cli.specs.Failures.{fault_of_observe, fault_of_open, fault_of_run};
 
     /// The fault of texts that have no engine.
     fn of_open(fault: OpenFault<A>) -> CommandFault<'a, A>
@@ -279,6 +288,16 @@ impl<'a, A: Allocator> CommandFault<'a, A> {
             RunFault::Open(Failure::Memory) => CommandFault::Memory,
             RunFault::Steps(fault) => CommandFault::Steps(fault),
             RunFault::Out(fault) => CommandFault::Out(fault),
+        }
+    }
+
+    /// The fault of a table that has not all of its rows.
+    fn of_observe(fault: ObserveFault<A>) -> CommandFault<'a, A>
+        ensures { result ≡ fault_of_observe fault }
+    {
+        match fault {
+            ObserveFault::Run(fault) => CommandFault::of_run(fault),
+            ObserveFault::Energy(fault) => CommandFault::Energy(fault),
         }
     }
 }

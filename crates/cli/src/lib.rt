@@ -6,9 +6,11 @@ mod conversions;
 mod execution;
 mod faults;
 mod files;
+mod forces;
 mod host;
 mod processes;
 mod progress;
+mod tables;
 mod verdicts;
 mod writing;
 

@@ -2,25 +2,25 @@
 
 ghost use Rattle.std.specs.Prelude.{◌≡◌, ◌<◌, ◌*◌, ◌/◌, ◌-◌, ◌^◌, Some, refl};
 ghost use Rattle.std.proofs.Common.{◌∙◌};
-ghost use Rattle.cli.specs.Performed.{WritesFrames, WritesRun};
+ghost use Rattle.cli.specs.Performed.{WritesFrames, WritesRun, WritesStates};
 ghost use Rattle.cli.specs.Progress.{PrintsProgress, Tells, prints_also};
 
 use crate::faults::CommandFault;
-use command_line::{Run, Trajectory};
+use command_line::{Run, Visits};
 use fallible::{Out, write_all};
 use integrator::Workers;
 use line_text::{Line, put, put_natural};
 use std::alloc::Allocator;
 use std::thread::Threads;
-use trajectory::{Watch, watched_run_bytes, watched_trajectory_bytes};
+use trajectory::{Watch, watched_run_bytes, watched_states_bytes, watched_trajectory_bytes};
 
 /// Tells an output how far a run of n steps has come, in a line each time: `pairmd: 1200 of 10000 steps`.
 ///
 /// It takes no memory. A write that fails is passed over.
 #[derive(Drop)]
-struct ProgressLines<'a, E: Out> {
-    err: &'a mut E,
-    steps: u64,
+pub(crate) struct ProgressLines<'a, E: Out> {
+    pub(crate) err: &'a mut E,
+    pub(crate) steps: u64,
 }
 
 /// It is another one's later value where it has that one's output and its number of steps.
@@ -97,7 +97,7 @@ pub(crate) fn trajectory_watched<
     alloc: A,
     job: &[u8],
     state: &[u8],
-    trajectory: &Trajectory<'a>,
+    trajectory: &Visits<'a>,
     out: &mut O,
     err: &mut E,
 ) -> Result<(), CommandFault<'a, A>>
@@ -117,6 +117,45 @@ pub(crate) fn trajectory_watched<
         trajectory.every,
         trajectory.direction,
         Workers::new(trajectory.workers),
+        &mut watch,
+        out,
+    )?;
+    Ok(())
+}
+
+/// Prints states of the run of a state under a job, and tells how far the run has come, of the steps up to the last of
+/// them.
+pub(crate) fn states_watched<
+    'a,
+    R: Threads + Sync,
+    A: Allocator + Copy + Send + Sync,
+    O: Out,
+    E: Out,
+>(
+    rt: &R,
+    alloc: A,
+    job: &[u8],
+    state: &[u8],
+    states: &Visits<'a>,
+    out: &mut O,
+    err: &mut E,
+) -> Result<(), CommandFault<'a, A>>
+    requires { (O.output out.old).failed < 2 ^ 64 - 1 }
+    ensures writes { WritesStates job.now state.now states.now (O.output out.old) (O.output out.new) result }
+    ensures tells { Tells (Some (states.now.steps / states.now.every * states.now.every))
+        (E.output err.old) (E.output err.new) result }
+{
+    let steps = states.steps / states.every * states.every;
+    let mut watch = ProgressLines { err, steps };
+    watched_states_bytes(
+        rt,
+        alloc,
+        job,
+        state,
+        states.steps,
+        states.every,
+        states.direction,
+        Workers::new(states.workers),
         &mut watch,
         out,
     )?;

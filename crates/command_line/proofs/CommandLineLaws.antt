@@ -16,10 +16,10 @@ use Rattle.clap.specs.declared.parser.matches.Found.{Found}
 use Rattle.clap.proofs.WalkLemmas.{one_text-rows}
 use Rattle.clap.proofs.OnLiterals.{clap_on_literals}
 use Rattle.integrator.specs.declared.direction.Direction.{Direction}
-use Rattle.command_line.specs.CommandLine.{AsksForHelp, AsksForVersion, IsBuilt, IsCommand, IsMisuse, IsNamedOf, IsShaped, SaysNumber, SaysRun, SaysSteps, SaysTrajectory, WritesNumber, command_name, faults_of, program}
+use Rattle.command_line.specs.CommandLine.{AsksForHelp, AsksForVersion, IsBuilt, IsCommand, IsMisuse, IsNamedOf, IsShaped, SaysNumber, SaysRun, SaysSteps, SaysVisits, WritesNumber, command_name, faults_of, program}
 use Rattle.command_line.specs.declared.commands.Command.{Command}
 use Rattle.command_line.specs.declared.commands.Run.{Run}
-use Rattle.command_line.specs.declared.commands.Trajectory.{Trajectory}
+use Rattle.command_line.specs.declared.commands.Visits.{Visits}
 
 -- ---- building the program
 
@@ -153,8 +153,8 @@ run_said name rows r d named same is =
 pub run_unsaid : (name : Text) (rows : List Row) → ((r : Run) → SaysSteps rows r → ⊥) → (r : Run) → SaysRun name rows r → ⊥
 run_unsaid name rows none r is = none r (record { job = is.job; state = is.state; steps = is.steps; workers = is.workers; progress = is.progress })
 
--- nor do they say frames of one
-pub trajectory_unsaid : (rows : List Row) → ((r : Run) → SaysSteps rows r → ⊥) → (t : Trajectory) → SaysTrajectory rows t → ⊥
-trajectory_unsaid rows none t is =
-    let run : Run = record { direction = t.direction; job = t.job; state = t.state; steps = t.steps; workers = t.workers; progress = t.progress; within = t.within; some = t.some; few = t.few } in
+-- nor do they say states on the way of one
+pub visits_unsaid : (rows : List Row) → ((r : Run) → SaysSteps rows r → ⊥) → (v : Visits) → SaysVisits rows v → ⊥
+visits_unsaid rows none v is =
+    let run : Run = record { direction = v.direction; job = v.job; state = v.state; steps = v.steps; workers = v.workers; progress = v.progress; within = v.within; some = v.some; few = v.few } in
     none run (record { job = is.job; state = is.state; steps = is.steps; workers = is.workers; progress = is.progress })

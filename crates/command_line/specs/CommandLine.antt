@@ -1,6 +1,6 @@
 -- The command line: which words name which command. Words are read by the rules of utilities (POSIX.1-2017, Utility
 -- Syntax Guidelines), as `clap` states them.
-use Rattle.std.specs.Prelude.{◌≡◌, ◌≢◌, ℕ, Bool, List, [], ◌∷◌, Option, Some, None, Result, IfOk, option_map, true, false, codes}
+use Rattle.std.specs.Prelude.{◌≡◌, ◌≢◌, ◌⊎◌, ℕ, Bool, List, [], ◌∷◌, Option, Some, None, Result, IfOk, option_map, true, false, codes}
 use Rattle.std.specs.Str.Parse.{IsNumeral, digits_value, without_leading_plus}
 use Rattle.std.specs.declared.alloc.AllocError.{AllocError}
 use Rattle.clap.specs.Words.{App, IsAmong, Kinds, Row, Rule, Shape, Text, app_of, fault_of, first_of, new_app, new_rule, one_of, shape_of, subcommand_of, with_rule, with_subcommand}
@@ -16,13 +16,14 @@ use Rattle.integrator.specs.declared.direction.Direction.TheVariants.{Forward, B
 use Rattle.command_line.specs.declared.commands.Command.{Command}
 use Rattle.command_line.specs.declared.commands.Command.TheVariants as command
 use Rattle.command_line.specs.declared.commands.Check.{Check}
-use Rattle.command_line.specs.declared.commands.Energy.{Energy}
 use Rattle.command_line.specs.declared.commands.Explain.{Explain}
 use Rattle.command_line.specs.declared.commands.Frame.{Frame}
 use Rattle.command_line.specs.declared.commands.Listing.{Listing}
+use Rattle.command_line.specs.declared.commands.Observe.{Observe}
 use Rattle.command_line.specs.declared.commands.Run.{Run}
 use Rattle.command_line.specs.declared.commands.Start.{Start}
-use Rattle.command_line.specs.declared.commands.Trajectory.{Trajectory}
+use Rattle.command_line.specs.declared.commands.StateUnderJob.{StateUnderJob}
+use Rattle.command_line.specs.declared.commands.Visits.{Visits}
 
 -- ---- what the program takes
 
@@ -86,6 +87,10 @@ back_rule = flag_rule (codes "back")
 abbrev pub progress_rule : Rule
 progress_rule = flag_rule (codes "progress")
 
+-- `--exact`
+abbrev pub exact_rule : Rule
+exact_rule = flag_rule (codes "exact")
+
 -- `--code LISTING`, which need not be given
 abbrev pub code_rule : Rule
 code_rule = record (new_rule (codes "code")) {
@@ -104,13 +109,20 @@ stepped name = with_rule (with_rule (with_rule (with_rule (with_rule (new_app na
 abbrev pub stepping : Text → Shape
 stepping name = (stepped name).top
 
--- the command that takes besides how many steps lie between frames, and whether the run goes back
-abbrev pub filming : Shape
-filming = (with_rule (with_rule (stepped (codes "trajectory")) every_rule) back_rule).top
+-- a command that takes besides how many steps lie between the states that it shows, and whether the run goes back
+abbrev pub visited : Text → App
+visited name = with_rule (with_rule (stepped name) every_rule) back_rule
 
--- the command that takes a job and a state
-abbrev pub weighing : Shape
-weighing = (with_rule (with_rule (new_app (codes "energy")) (operand_rule (codes "JOB"))) (operand_rule (codes "STATE"))).top
+abbrev pub visiting : Text → Shape
+visiting name = (visited name).top
+
+-- the command that takes besides whether whole numbers are asked for
+abbrev pub observing : Shape
+observing = (with_rule (visited (codes "observe")) exact_rule).top
+
+-- a command that takes a job and a state
+abbrev pub weighing : Text → Shape
+weighing name = (with_rule (with_rule (new_app name) (operand_rule (codes "JOB"))) (operand_rule (codes "STATE"))).top
 
 -- the command that takes a job and may take a listing
 abbrev pub checking : Shape
@@ -137,13 +149,22 @@ abbrev pub forward : App
 forward = with_subcommand (with_subcommand bare starting) (stepping (codes "run"))
 
 abbrev pub returning : App
-returning = with_subcommand (with_subcommand (with_subcommand forward (stepping (codes "back"))) filming) framing
+returning = with_subcommand (with_subcommand forward (stepping (codes "back"))) (visiting (codes "trajectory"))
+
+abbrev pub showing : App
+showing = with_subcommand (with_subcommand returning (visiting (codes "states"))) framing
+
+abbrev pub tabling : App
+tabling = with_subcommand showing observing
+
+abbrev pub measuring : App
+measuring = with_subcommand (with_subcommand tabling (weighing (codes "energy"))) (weighing (codes "forces"))
 
 abbrev pub judging : App
-judging = with_subcommand (with_subcommand returning weighing) checking
+judging = with_subcommand (with_subcommand measuring checking) listing
 
 abbrev pub program : App
-program = with_subcommand (with_subcommand judging listing) explaining
+program = with_subcommand judging explaining
 
 -- ---- commands of the parser
 
@@ -219,24 +240,29 @@ pub record SaysSteps (rows : List Row) (run : Run) : Type 0 where
   pub workers : IsWorkers rows run.workers
   pub progress : IsProgress rows run.progress
 
--- the values of the arguments of `trajectory` say these frames
-pub record SaysTrajectory (rows : List Row) (t : Trajectory) : Type 0 where
-  pub direction : IsTurned rows t.direction
-  pub job : first_of (codes "JOB") rows ≡ Some t.job.now
-  pub state : first_of (codes "STATE") rows ≡ Some t.state.now
-  pub steps : IsSteps rows t.steps
-  pub every : IsEvery rows t.every
-  pub workers : IsWorkers rows t.workers
-  pub progress : IsProgress rows t.progress
+-- the values of the arguments of `trajectory`, `states` or `observe` say these states
+pub record SaysVisits (rows : List Row) (v : Visits) : Type 0 where
+  pub direction : IsTurned rows v.direction
+  pub job : first_of (codes "JOB") rows ≡ Some v.job.now
+  pub state : first_of (codes "STATE") rows ≡ Some v.state.now
+  pub steps : IsSteps rows v.steps
+  pub every : IsEvery rows v.every
+  pub workers : IsWorkers rows v.workers
+  pub progress : IsProgress rows v.progress
+
+-- the values of the arguments of `observe` say this table
+pub record SaysObserve (rows : List Row) (o : Observe) : Type 0 where
+  pub visits : SaysVisits rows o.visits
+  pub exact : IsGiven (codes "exact") rows o.exact
 
 -- the values of the arguments of `frame` say this frame
 pub record SaysFrame (rows : List Row) (frame : Frame) : Type 0 where
   pub state : first_of (codes "STATE") rows ≡ Some frame.state.now
 
--- the values of the arguments of `energy` say this job and this state
-pub record SaysEnergy (rows : List Row) (energy : Energy) : Type 0 where
-  pub job : first_of (codes "JOB") rows ≡ Some energy.job.now
-  pub state : first_of (codes "STATE") rows ≡ Some energy.state.now
+-- the values of the arguments of `energy` or `forces` say this job and this state
+pub record SaysStateUnderJob (rows : List Row) (s : StateUnderJob) : Type 0 where
+  pub job : first_of (codes "JOB") rows ≡ Some s.job.now
+  pub state : first_of (codes "STATE") rows ≡ Some s.state.now
 
 -- the values of the arguments of `check` say this job, and this listing if any
 pub record SaysCheck (rows : List Row) (check : Check) : Type 0 where
@@ -255,9 +281,12 @@ pub record SaysExplain (rows : List Row) (e : Explain) : Type 0 where
 abbrev pub IsNamed : Text → List Row → Command → Type 0
 IsNamed name rows (command.Start start) = (name ≡ codes "start") × SaysStart rows start
 IsNamed name rows (command.Run run) = SaysRun name rows run
-IsNamed name rows (command.Trajectory t) = (name ≡ codes "trajectory") × SaysTrajectory rows t
+IsNamed name rows (command.Trajectory v) = (name ≡ codes "trajectory") × SaysVisits rows v
+IsNamed name rows (command.States v) = (name ≡ codes "states") × SaysVisits rows v
+IsNamed name rows (command.Observe o) = (name ≡ codes "observe") × SaysObserve rows o
 IsNamed name rows (command.Frame frame) = (name ≡ codes "frame") × SaysFrame rows frame
-IsNamed name rows (command.Energy energy) = (name ≡ codes "energy") × SaysEnergy rows energy
+IsNamed name rows (command.Energy s) = (name ≡ codes "energy") × SaysStateUnderJob rows s
+IsNamed name rows (command.Forces s) = (name ≡ codes "forces") × SaysStateUnderJob rows s
 IsNamed name rows (command.Check check) = (name ≡ codes "check") × SaysCheck rows check
 IsNamed name rows (command.Code l) = (name ≡ codes "code") × IsListing rows l
 IsNamed name rows (command.Explain e) = (name ≡ codes "explain") × SaysExplain rows e
@@ -270,9 +299,16 @@ IsNamedOf (Some said) c = IsNamed said.0 said.1 c
 abbrev pub IsCommand : List Text → Command → Type 0
 IsCommand words c = (fault_of program words ≡ []) × IsNamedOf (subcommand_of program words) c
 
--- the words say a trajectory
-abbrev pub AsksForTrajectory : List Text → Type 0
-AsksForTrajectory words = (t : Trajectory) × IsCommand words (command.Trajectory t)
+-- the command shows states on the way of a run: their frames, the whole states, or a table of them
+abbrev pub IsOfVisits : Command → Type 0
+IsOfVisits (command.Trajectory v) = Unit {0}
+IsOfVisits (command.States v) = Unit {0}
+IsOfVisits (command.Observe o) = Unit {0}
+IsOfVisits _ = ⊥
+
+-- the words ask for states on the way of a run
+abbrev pub AsksForVisits : List Text → Type 0
+AsksForVisits words = (c : Command) × IsCommand words c × IsOfVisits c
 
 -- the kinds of fault of words that say no command: those of the first step of the parse that fails; where none does,
 -- they ask what a refusal means that there isn't

@@ -6,7 +6,7 @@ ghost use Rattle.explanations.specs.Explanations.{explanation_of};
 use integrator::Direction;
 
 /// The version of the program, which `--version` prints.
-pub const VERSION: &str = "1.0.0";
+pub const VERSION: &str = "1.1.0";
 
 /// The most steps that one command takes.
 pub const MAX_STEPS: u64 = 1_000_000_000_000;
@@ -22,11 +22,17 @@ pub enum Command<'a> {
     /// `run` and `back`: the state after n steps.
     Run(Run<'a>),
     /// `trajectory`: frames of a run as a GRO file.
-    Trajectory(Trajectory<'a>),
+    Trajectory(Visits<'a>),
+    /// `states`: whole states of a run.
+    States(Visits<'a>),
+    /// `observe`: a table of what is observed of states of a run.
+    Observe(Observe<'a>),
     /// `frame`: the current frame of a state as a GRO file.
     Frame(Frame<'a>),
     /// `energy`: the energy of a state.
-    Energy(Energy<'a>),
+    Energy(StateUnderJob<'a>),
+    /// `forces`: the forces on the atoms of a state.
+    Forces(StateUnderJob<'a>),
     /// `check`: what is known of a job's code, or of a listing under the job.
     Check(Check<'a>),
     /// `code`: the listing of the code of a job's slope.
@@ -68,9 +74,9 @@ pub struct Run<'a> {
     ghost few: { workers ≤ 64 },
 }
 
-/// Frames of a run to print: those after 0, k, 2k, .. of its steps.
+/// States of a run to show: those after 0, k, 2k, .. of its steps.
 #[derive(Clone, Copy)]
-pub struct Trajectory<'a> {
+pub struct Visits<'a> {
     /// Which way the run goes.
     pub direction: Direction,
     /// The path of the job.
@@ -79,7 +85,7 @@ pub struct Trajectory<'a> {
     pub state: &'a str,
     /// How many steps.
     pub steps: u64,
-    /// How many steps from one frame to the next, from 1.
+    /// How many steps from one to the next, from 1.
     pub every: u64,
     /// How many workers, from 1.
     pub workers: u32,
@@ -92,6 +98,15 @@ pub struct Trajectory<'a> {
     ghost few: { workers ≤ 64 },
 }
 
+/// A table of a run: what is observed of the states after 0, k, 2k, .. of its steps.
+#[derive(Clone, Copy)]
+pub struct Observe<'a> {
+    /// The states that are observed.
+    pub visits: Visits<'a>,
+    /// Whether the table has the whole numbers that are observed, and else decimals.
+    pub exact: bool,
+}
+
 /// A frame to print.
 #[derive(Clone, Copy)]
 pub struct Frame<'a> {
@@ -99,9 +114,9 @@ pub struct Frame<'a> {
     pub state: &'a str,
 }
 
-/// A state whose energy is asked for.
+/// A state, and the job under which its energy or its forces are asked for.
 #[derive(Clone, Copy)]
-pub struct Energy<'a> {
+pub struct StateUnderJob<'a> {
     /// The path of the job.
     pub job: &'a str,
     /// The path of the state.

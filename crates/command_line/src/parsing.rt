@@ -3,18 +3,19 @@
 ghost use Rattle.std.specs.Prelude.{◌≡◌, ◌≤◌, ◌<◌, ◌^◌, ◌⊎◌, ℕ, IfOk, IfErr, MatchOption, codes, option_map, map, false};
 ghost use Rattle.clap.specs.Words.{App, HasKind, Rule, Shape, app_of, first_of, found_of, kind_of, new_app, rows_of, rule_of, subcommand_rows_of, with_rule, with_subcommand};
 ghost use Rattle.clap.specs.declared.error.kind.ErrorKind.TheVariants.{InvalidValue, OutOfMemory};
-ghost use Rattle.command_line.specs.CommandLine.{IsBuilt, SaysCheck, IsCommand, SaysEnergy, SaysExplain, SaysFrame, IsGiven, IsListing, IsNamed, IsNamedOf, SaysRun, IsShaped, SaysNumber, SaysStart, SaysSteps, SaysTrajectory, IsTurned, back_rule, bare, checking, code_rule, command_name, every_rule, explaining, faults_of, filming, flag_rule, forward, frame_rule, framing, judging, listing, number_rule, operand_rule, option_rule, program, progress_rule, returning, starting, stepped, steps_rule, stepping, weighing, workers_rule};
+ghost use Rattle.command_line.specs.CommandLine.{IsBuilt, SaysCheck, IsCommand, SaysExplain, SaysFrame, IsGiven, IsListing, IsNamed, IsNamedOf, SaysObserve, SaysRun, IsShaped, SaysNumber, SaysStart, SaysSteps, SaysStateUnderJob, SaysVisits, IsTurned, back_rule, bare, checking, code_rule, command_name, every_rule, exact_rule, explaining, faults_of, flag_rule, forward, frame_rule, framing, judging, listing, measuring, number_rule, observing, operand_rule, option_rule, program, progress_rule, returning, showing, starting, stepped, steps_rule, stepping, tabling, visited, visiting, weighing, workers_rule};
 ghost use Rattle.command_line.specs.declared.commands.Start.{Start};
 ghost use Rattle.command_line.specs.declared.commands.Frame.{Frame};
 ghost use Rattle.command_line.specs.declared.commands.Listing.{Listing};
-ghost use Rattle.command_line.specs.declared.commands.Energy.{Energy};
+ghost use Rattle.command_line.specs.declared.commands.StateUnderJob.{StateUnderJob};
 ghost use Rattle.command_line.specs.declared.commands.Explain.{Explain};
 ghost use Rattle.command_line.specs.declared.commands.Check.{Check};
-ghost use Rattle.command_line.specs.declared.commands.Trajectory.{Trajectory};
+ghost use Rattle.command_line.specs.declared.commands.Visits.{Visits};
+ghost use Rattle.command_line.specs.declared.commands.Observe.{Observe};
 
 use crate::commands::{
-    Check, Command, Energy, Explain, Frame, Listing, MAX_STEPS, MAX_WORKERS, Run, Start,
-    Trajectory, VERSION,
+    Check, Command, Explain, Frame, Listing, MAX_STEPS, MAX_WORKERS, Observe, Run, Start,
+    StateUnderJob, VERSION, Visits,
 };
 use clap::builder::ValueParser;
 use clap::error::ErrorKind;
@@ -102,8 +103,11 @@ fn command_by<'a>(name: &str, matches: &ArgMatches<'a>) -> Option<Command<'a>>
     match name {
         "start" => start_of(matches),
         "trajectory" => trajectory_of(matches),
+        "states" => states_of(matches),
+        "observe" => observe_of(matches),
         "frame" => frame_of(matches),
         "energy" => energy_of(matches),
+        "forces" => forces_of(matches),
         "check" => check_of(matches),
         "code" => listing_of(matches),
         "explain" => explain_of(matches),
@@ -154,12 +158,40 @@ fn run_of<'a>(matches: &ArgMatches<'a>, direction: Direction) -> Option<Run<'a>>
 
 /// The frames of a run that these matches say.
 fn trajectory_of<'a>(matches: &ArgMatches<'a>) -> Option<Command<'a>>
-    ensures { MatchOption result ((t : Trajectory) → SaysTrajectory (rows_of (found_of matches.now)) t → ⊥)
-        (λ c. (t : Trajectory) × (c ≡ Command.Trajectory t) × SaysTrajectory (rows_of (found_of matches.now)) t) }
+    ensures { MatchOption result ((v : Visits) → SaysVisits (rows_of (found_of matches.now)) v → ⊥)
+        (λ c. (v : Visits) × (c ≡ Command.Trajectory v) × SaysVisits (rows_of (found_of matches.now)) v) }
+{
+    let visits = visits_of(matches)?;
+    Some(Command::Trajectory(visits))
+}
+
+/// The whole states of a run that these matches say.
+fn states_of<'a>(matches: &ArgMatches<'a>) -> Option<Command<'a>>
+    ensures { MatchOption result ((v : Visits) → SaysVisits (rows_of (found_of matches.now)) v → ⊥)
+        (λ c. (v : Visits) × (c ≡ Command.States v) × SaysVisits (rows_of (found_of matches.now)) v) }
+{
+    let visits = visits_of(matches)?;
+    Some(Command::States(visits))
+}
+
+/// The table of a run that these matches say.
+fn observe_of<'a>(matches: &ArgMatches<'a>) -> Option<Command<'a>>
+    ensures { MatchOption result ((o : Observe) → SaysObserve (rows_of (found_of matches.now)) o → ⊥)
+        (λ c. (o : Observe) × (c ≡ Command.Observe o) × SaysObserve (rows_of (found_of matches.now)) o) }
+{
+    let visits = visits_of(matches)?;
+    let exact = is_given(matches, "exact");
+    Some(Command::Observe(Observe { visits, exact }))
+}
+
+/// The states of a run to show that these matches say.
+fn visits_of<'a>(matches: &ArgMatches<'a>) -> Option<Visits<'a>>
+    ensures { MatchOption result ((v : Visits) → SaysVisits (rows_of (found_of matches.now)) v → ⊥)
+        (SaysVisits (rows_of (found_of matches.now))) }
 {
     let run = run_of(matches, turned_of(matches))?;
     let every = number_of(matches, "every", 1, MAX_STEPS)?;
-    Some(Command::Trajectory(Trajectory {
+    Some(Visits {
         direction: run.direction,
         job: run.job,
         state: run.state,
@@ -167,7 +199,7 @@ fn trajectory_of<'a>(matches: &ArgMatches<'a>) -> Option<Command<'a>>
         every,
         workers: run.workers,
         progress: run.progress,
-    }))
+    })
 }
 
 /// The frame to print that these matches say.
@@ -179,14 +211,32 @@ fn frame_of<'a>(matches: &ArgMatches<'a>) -> Option<Command<'a>>
     Some(Command::Frame(Frame { state }))
 }
 
-/// The state to weigh that these matches say.
+/// The state whose energy these matches ask for.
 fn energy_of<'a>(matches: &ArgMatches<'a>) -> Option<Command<'a>>
-    ensures { MatchOption result ((e : Energy) → SaysEnergy (rows_of (found_of matches.now)) e → ⊥)
-        (λ c. (e : Energy) × (c ≡ Command.Energy e) × SaysEnergy (rows_of (found_of matches.now)) e) }
+    ensures { MatchOption result ((s : StateUnderJob) → SaysStateUnderJob (rows_of (found_of matches.now)) s → ⊥)
+        (λ c. (s : StateUnderJob) × (c ≡ Command.Energy s) × SaysStateUnderJob (rows_of (found_of matches.now)) s) }
+{
+    let state = state_under_job_of(matches)?;
+    Some(Command::Energy(state))
+}
+
+/// The state on whose atoms these matches ask for the forces.
+fn forces_of<'a>(matches: &ArgMatches<'a>) -> Option<Command<'a>>
+    ensures { MatchOption result ((s : StateUnderJob) → SaysStateUnderJob (rows_of (found_of matches.now)) s → ⊥)
+        (λ c. (s : StateUnderJob) × (c ≡ Command.Forces s) × SaysStateUnderJob (rows_of (found_of matches.now)) s) }
+{
+    let state = state_under_job_of(matches)?;
+    Some(Command::Forces(state))
+}
+
+/// The job and the state that these matches say.
+fn state_under_job_of<'a>(matches: &ArgMatches<'a>) -> Option<StateUnderJob<'a>>
+    ensures { MatchOption result ((s : StateUnderJob) → SaysStateUnderJob (rows_of (found_of matches.now)) s → ⊥)
+        (SaysStateUnderJob (rows_of (found_of matches.now))) }
 {
     let job = path_of(matches, "JOB")?;
     let state = path_of(matches, "STATE")?;
-    Some(Command::Energy(Energy { job, state }))
+    Some(StateUnderJob { job, state })
 }
 
 /// The code to judge that these matches say.
@@ -275,10 +325,7 @@ type BuiltCommand<'a> = Result<clap::Command<'a>, AllocError>;
 fn program<'a>(alloc: Global) -> BuiltCommand<'a>
     ensures { IfOk result (λ c. app_of c ≡ program) }
 {
-    with_command(
-        with_command(judging(alloc), listing(alloc)),
-        explaining(alloc),
-    )
+    with_command(judging(alloc), explaining(alloc))
 }
 
 /// The program that starts states, and runs them forwards.
@@ -289,23 +336,46 @@ fn forward<'a>(alloc: Global) -> BuiltCommand<'a>
     with_command(with_command(bare(alloc), starting(alloc)), run)
 }
 
-/// The program that runs states back too, and prints frames of runs and of states.
+/// The program that runs states back too, and prints frames of runs.
 fn returning<'a>(alloc: Global) -> BuiltCommand<'a>
     ensures { IsBuilt result returning }
 {
     let back = stepping(alloc, "back", "Prints the state so many steps back");
-    let program = with_command(with_command(forward(alloc), back), filming(alloc));
-    with_command(program, framing(alloc))
+    let about = "Prints frames of a run as a GRO file";
+    let trajectory = visiting(alloc, "trajectory", about);
+    with_command(with_command(forward(alloc), back), trajectory)
 }
 
-/// The program that weighs states too, and judges code.
+/// The program that prints states of runs too, and frames of states.
+fn showing<'a>(alloc: Global) -> BuiltCommand<'a>
+    ensures { IsBuilt result showing }
+{
+    let states = visiting(alloc, "states", "Prints states of a run");
+    with_command(with_command(returning(alloc), states), framing(alloc))
+}
+
+/// The program that tables runs too.
+fn tabling<'a>(alloc: Global) -> BuiltCommand<'a>
+    ensures { IsBuilt result tabling }
+{
+    with_command(showing(alloc), observing(alloc))
+}
+
+/// The program that tells energies and forces too.
+fn measuring<'a>(alloc: Global) -> BuiltCommand<'a>
+    ensures { IsBuilt result measuring }
+{
+    let energy = weighing(alloc, "energy", "Prints the energy of a state");
+    let forces = weighing(alloc, "forces", "Prints the forces on the atoms of a state");
+    with_command(with_command(tabling(alloc), energy), forces)
+}
+
+/// The program that judges code too, and prints it.
 fn judging<'a>(alloc: Global) -> BuiltCommand<'a>
     ensures { IsBuilt result judging }
 {
-    with_command(
-        with_command(returning(alloc), weighing(alloc)),
-        checking(alloc),
-    )
+    let judged = with_command(measuring(alloc), checking(alloc));
+    with_command(judged, listing(alloc))
 }
 
 /// The program without its commands.
@@ -349,12 +419,27 @@ fn stepped<'a>(alloc: Global, name: &'a str, about: &'a str) -> BuiltCommand<'a>
     with_arg(command, progress(alloc))
 }
 
-/// The command that takes besides how many steps lie between frames, and whether the run goes back.
-fn filming<'a>(alloc: Global) -> BuiltCommand<'a>
-    ensures { IsShaped result filming }
+/// A command that takes besides how many steps lie between the states that it shows, and whether the run goes back.
+fn visiting<'a>(alloc: Global, name: &'a str, about: &'a str) -> BuiltCommand<'a>
+    ensures { IsShaped result (visiting name.entry.now) }
 {
-    let command = stepped(alloc, "trajectory", "Prints frames of a run as a GRO file");
+    visited(alloc, name, about)
+}
+
+/// Such a command, so far.
+fn visited<'a>(alloc: Global, name: &'a str, about: &'a str) -> BuiltCommand<'a>
+    ensures { IsBuilt result (visited name.entry.now) }
+{
+    let command = stepped(alloc, name, about);
     with_arg(with_arg(command, every(alloc)), back(alloc))
+}
+
+/// The command that takes besides whether whole numbers are asked for.
+fn observing<'a>(alloc: Global) -> BuiltCommand<'a>
+    ensures { IsShaped result observing }
+{
+    let about = "Prints a table of energies, temperature, pressure and momentum of a run";
+    with_arg(visited(alloc, "observe", about), exact(alloc))
 }
 
 /// The command that takes a state alone.
@@ -367,14 +452,11 @@ fn framing<'a>(alloc: Global) -> BuiltCommand<'a>
     of_state(alloc, Ok(command))
 }
 
-/// The command that takes a job and a state.
-fn weighing<'a>(alloc: Global) -> BuiltCommand<'a>
-    ensures { IsShaped result weighing }
+/// A command that takes a job and a state.
+fn weighing<'a>(alloc: Global, name: &'a str, about: &'a str) -> BuiltCommand<'a>
+    ensures { IsShaped result (weighing name.entry.now) }
 {
-    of_state(
-        alloc,
-        of_job(alloc, "energy", "Prints the energy of a state"),
-    )
+    of_state(alloc, of_job(alloc, name, about))
 }
 
 /// The command that takes a job and may take a listing.
@@ -512,7 +594,7 @@ fn every<'a>(alloc: Global) -> Arg<'a>
 {
     number(alloc, "every", "k", 1, MAX_STEPS)
         .required(true)
-        .help("How many steps from frame to frame, from 1 to 1000000000000")
+        .help("How many steps from one to the next, from 1 to 1000000000000")
 }
 
 /// An argument that says something by standing there.
@@ -528,6 +610,13 @@ fn back<'a>(alloc: Global) -> Arg<'a>
     ensures local { result.global ≡ false }
 {
     flag(alloc, "back").help("Goes back")
+}
+
+fn exact<'a>(alloc: Global) -> Arg<'a>
+    ensures rule { rule_of result ≡ exact_rule }
+    ensures local { result.global ≡ false }
+{
+    flag(alloc, "exact").help("Prints whole numbers in place of decimals")
 }
 
 fn progress<'a>(alloc: Global) -> Arg<'a>

@@ -4,9 +4,11 @@
 
 mod decimals;
 mod fractions;
+mod laws;
 mod limbs;
 mod whole;
 
 pub use decimals::{put_decimals, put_integer};
 pub use fractions::{nearest, scaled};
+pub use laws::decimals_are_nearest;
 pub use whole::Whole;

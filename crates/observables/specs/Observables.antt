@@ -1,6 +1,6 @@
--- What is observed of a state, as exact fractions. Masses count 10^-5 u, sides 10^-5 nm, and a side has 2^32 places; the
--- time step dt counts fs, which are 10^-3 ps. Energies and forces have the fraction bits of the job. Of the units
--- u nm^2/ps^2 is kJ/mol (GROMACS manual, Definitions and Units).
+-- What is observed of a state, as exact fractions. Masses count 10^-5 u, sides 10^-5 nm, and a side has 2^32 places;
+-- the time step dt counts fs, which are 10^-3 ps. Energies and forces have the fraction bits of the job. 1 u nm^2/ps^2
+-- is 1 kJ/mol (GROMACS manual, Definitions and Units).
 use Rattle.std.specs.Prelude.{ℕ, ℤ, pos, ◌+◌, ◌-◌, ◌*◌, ◌^◌, ◌+ℤ◌, ◌*ℤ◌, nat_lt, if◌then◌else◌, Option, Some, None}
 use Rattle.std.specs.Option.{option_map}
 use Rattle.fixed.specs.Fractions.{bits_of}

@@ -1,5 +1,6 @@
-//! What is observed of a state, exactly: energies, temperature, pressure, momentum and the nearest pair, each printed as
-//! the decimal nearest to the exact value of its definition (`specs/Observables.antt`), or as the whole numbers behind it.
+//! What is observed of a state, exactly: energies, temperature, pressure, momentum and the nearest pair, each printed
+//! as the decimal nearest to the exact value of its definition (`specs/Observables.antt`), or as the whole numbers
+//! behind it.
 #![tactic(auto)]
 
 mod axes;

@@ -175,7 +175,8 @@ impl Observation {
     }
 
     /// The whole numbers of an observation: step, time in fs, potential energy, squares, virial and momentum along each
-    /// axis, and the least distance of two atoms that act, `-` where none act; with a blank between them and a LF behind.
+    /// axis, and the least distance of two atoms that act, `-` where none act; with a blank between them and a LF
+    /// behind.
     pub fn exact_row(&self, scales: &Scales) -> Row
         ensures { result.items ≡ exact_row_text scales.now self.now }
     {

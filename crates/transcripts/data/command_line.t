@@ -12,8 +12,11 @@ Help goes to standard output, and ends with status 0.
     run         Prints the state after so many steps
     back        Prints the state so many steps back
     trajectory  Prints frames of a run as a GRO file
+    states      Prints states of a run
+    observe     Prints a table of energies, temperature, pressure and momentum of a run
     frame       Prints the current frame of a state as a GRO file
     energy      Prints the energy of a state
+    forces      Prints the forces on the atoms of a state
     check       Judges the code of a job's slope, or other code under the job
     code        Prints the code of a job's slope
     explain     Prints what a refusal means
@@ -32,8 +35,11 @@ Help goes to standard output, and ends with status 0.
     run         Prints the state after so many steps
     back        Prints the state so many steps back
     trajectory  Prints frames of a run as a GRO file
+    states      Prints states of a run
+    observe     Prints a table of energies, temperature, pressure and momentum of a run
     frame       Prints the current frame of a state as a GRO file
     energy      Prints the energy of a state
+    forces      Prints the forces on the atoms of a state
     check       Judges the code of a job's slope, or other code under the job
     code        Prints the code of a job's slope
     explain     Prints what a refusal means
@@ -95,7 +101,7 @@ Help goes to standard output, and ends with status 0.
         --steps <n>    How many steps, from 0 to 1000000000000
         --workers <w>  How many workers, from 1 to 64 [default: 1]
         --progress     Tells how far the run has come, at each hundredth of its steps
-        --every <k>    How many steps from frame to frame, from 1 to 1000000000000
+        --every <k>    How many steps from one to the next, from 1 to 1000000000000
         --back         Goes back
     -h, --help         Print help
   $ pairmd frame --help
@@ -133,11 +139,11 @@ Help goes to standard output, and ends with status 0.
 So does the version. It is the program's and not a command's.
 
   $ pairmd --version
-  pairmd 1.0.0
+  pairmd 1.1.0
   $ pairmd -V
-  pairmd 1.0.0
+  pairmd 1.1.0
   $ pairmd --version run job
-  pairmd 1.0.0
+  pairmd 1.1.0
   $ outputs pairmd --version
   0-12: a beginning, pairmd: O2 CannotWrite [5]
   13: all
@@ -165,7 +171,7 @@ Words that name no command, and options that no command has. Standard output sta
 
   $ pairmd
   error: 'pairmd' requires a subcommand but one was not provided
-    [subcommands: start, run, back, trajectory, frame, energy, check, code, explain, help]
+    [subcommands: start, run, back, trajectory, states, frame, energy, forces, check, code, explain, help]
   
   Usage: pairmd <COMMAND>
   

@@ -1,6 +1,6 @@
 use Rattle.std.proofs.Common.{arith}
 use Rattle.std.proofs.lemmas.Grind.{common_steps}
-use Rattle.cli.proofs.RefusalLaws.{asks_done, asks_faulty, kept_told, misuse_told, some_told, told_behind}
+use Rattle.cli.proofs.RefusalLaws.{asks_done, asks_faulty, kept_told, misuse_told, most_told, some_told, told_behind}
 use Rattle.cli.proofs.execution.execute.Goals as goal
 
 pub returns-in-Ok-clause-undone : goal.returns-in-Ok-clause-undone
@@ -14,6 +14,9 @@ returns-in-Ok-clause-misuse g c = grind (arith, common_steps)
 
 pub returns-in-Ok-clause-reads : goal.returns-in-Ok-clause-reads
 returns-in-Ok-clause-reads g c = asks_done _ _ _ _ _ _ c.in-Ok.ensures.done
+
+pub returns-in-Err-clause-most : goal.returns-in-Err-clause-most
+returns-in-Err-clause-most g c = most_told _ _ _ _ c.report_if_counted-status.ensures
 
 pub returns-in-Err-clause-quiet : goal.returns-in-Err-clause-quiet
 returns-in-Err-clause-quiet g c = λ zero. absurd (some_told _ _ _ _ c.report_if_counted-status.ensures zero)

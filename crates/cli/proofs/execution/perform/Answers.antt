@@ -39,6 +39,24 @@ returns-in-Check-clause-performs g c = rw c.in-Check.is c.perform_check.ensures
 pub returns-in-Check-clause-tells : goal.returns-in-Check-clause-tells
 returns-in-Check-clause-tells g c = rw c.in-Check.is (tells_nothing c.perform_check.result _)
 
+pub returns-in-States-clause-performs : goal.returns-in-States-clause-performs
+returns-in-States-clause-performs g c = rw c.in-States.is c.perform_states.ensures.performs
+
+pub returns-in-States-clause-tells : goal.returns-in-States-clause-tells
+returns-in-States-clause-tells g c = rw c.in-States.is c.perform_states.ensures.tells
+
+pub returns-in-Observe-clause-performs : goal.returns-in-Observe-clause-performs
+returns-in-Observe-clause-performs g c = rw c.in-Observe.is c.perform_observe.ensures.performs
+
+pub returns-in-Observe-clause-tells : goal.returns-in-Observe-clause-tells
+returns-in-Observe-clause-tells g c = rw c.in-Observe.is c.perform_observe.ensures.tells
+
+pub returns-in-Forces-clause-performs : goal.returns-in-Forces-clause-performs
+returns-in-Forces-clause-performs g c = rw c.in-Forces.is c.perform_forces.ensures
+
+pub returns-in-Forces-clause-tells : goal.returns-in-Forces-clause-tells
+returns-in-Forces-clause-tells g c = rw c.in-Forces.is (tells_nothing c.perform_forces.result _)
+
 pub returns-in-Code-clause-performs : goal.returns-in-Code-clause-performs
 returns-in-Code-clause-performs g c = rw c.in-Code.is c.perform_code.ensures
 

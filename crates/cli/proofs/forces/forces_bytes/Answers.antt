@@ -1,0 +1,18 @@
+-- what was written, or begun, are the lines of the forces
+use Rattle.std.proofs.Common.{inl, refl}
+use Rattle.cli.specs.ForceTexts.{IsForcesText}
+use Rattle.cli.specs.Refusals.{RefusesForces}
+use Rattle.cli.proofs.PerformLaws.{handed_on, text_written}
+use Rattle.cli.proofs.forces.forces_bytes.Goals as goal
+
+pub returns-in_err-lines : goal.returns-in_err-lines
+returns-in_err-lines g c = handed_on c.from_residual.result _ _ _ c.from_residual.ensures.1 (inl (c.in_err-lines.ensures.refused, refl))
+
+pub returns : goal.returns
+returns g c =
+    let job = c.args.job.now in
+    let state = c.args.state.now in
+    let is = c.in_ok-lines.ensures.is in
+    text_written c.write_all.result c.written.result (RefusesForces job state) (IsForcesText job state) _ _ _ c.written.ensures (rw (c.deref.ensures.value, is.written) at c.write_all.ensures)
+    (λ written. record { engine = is.engine; forces = is.forces; opens = is.opens; are = is.are; written = written })
+    (λ begun. record { engine = is.engine; forces = is.forces; opens = is.opens; are = is.are; written = begun })

@@ -1,0 +1,15 @@
+-- The lines that are printed of forces: from the bytes that are read to those that are printed. How a text went to an
+-- output is told by what it is asked to meet.
+use Rattle.std.specs.Prelude.{ℕ, ℤ, List}
+use Rattle.engine.specs.EngineForces.{AreForcesOfEngine}
+use Rattle.engine.specs.Engines.{EngineView, IsEngineOfTexts}
+use Rattle.force_lines.specs.ForceLines.{force_lines}
+use Rattle.ring_box.specs.declared.vectors.Force.{Force}
+
+-- the forces on the atoms of a state, by which the next step moves them, were written in the atoms' lines
+pub record IsForcesText (job state : List ℕ) (Wrote : List ℕ → Type 0) : Type 0 where
+  pub engine : EngineView
+  pub forces : List (Force ℤ)
+  pub opens : IsEngineOfTexts job state engine
+  pub are : AreForcesOfEngine engine forces
+  pub written : Wrote (force_lines engine.state.atoms forces)

@@ -1,0 +1,9 @@
+-- Which columns the table has that is asked for.
+use Rattle.std.specs.Prelude.{Bool, true, false}
+use Rattle.observation.specs.declared.columns.Columns.{Columns}
+use Rattle.observation.specs.declared.columns.Columns.TheVariants.{Decimals, WholeNumbers}
+
+-- whole numbers with `--exact`, and else decimals
+abbrev pub columns_of : Bool → Columns
+columns_of true = WholeNumbers
+columns_of false = Decimals

@@ -1,0 +1,5 @@
+use Rattle.std.proofs.Common.{refl}
+use Rattle.command_line.proofs.parsing.states_of.Goals as goal
+
+pub returns : goal.returns
+returns c = (_, refl, c.in_ok-visits.ensures)

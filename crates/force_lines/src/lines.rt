@@ -1,0 +1,71 @@
+//! The lines of forces.
+
+ghost use Rattle.std.specs.Prelude.{◌≡◌, ◌+◌, ◌≤◌, ◌++◌, ◌∷◌, IfOk, map};
+ghost use Rattle.std.specs.Fmt.{signed_decimal};
+ghost use Rattle.arrayvec.specs.ArrayVec.{array_vec_len};
+ghost use Rattle.line_text.specs.Parts.{ended};
+ghost use Rattle.state.specs.StateViews.{atom_view};
+ghost use Rattle.force_lines.specs.ForceLines.{columns_of, force_line, force_lines};
+
+use itoa::Buffer;
+use line_text::{Line, put, put_integer, put_left, put_right};
+use ring_box::Force;
+use state::Atom;
+use std::alloc::{AllocError, Allocator};
+
+/// The lines of the forces on these atoms: residue number, residue name and atom name in the columns that they have in
+/// a state, and the force along each axis, with a blank before it. `AllocError` only where memory is refused.
+pub fn force_lines<A: Allocator + Copy>(
+    alloc: A,
+    mut atoms: &[Atom],
+    mut forces: &[Force<i64>],
+) -> Result<Vec<u8, A>, AllocError>
+    ensures { IfOk result (λ text. text.items ≡ force_lines (map atom_view atoms.entry.now) forces.entry.now) }
+{
+    let mut text = Vec::new(alloc);
+    while let [atom, more_atoms @ ..] = atoms {
+        let [force, more_forces @ ..] = forces else {
+            break;
+        };
+        let line = whole_line(atom, force);
+        text.extend_from_slice(line.as_slice())?;
+        atoms = more_atoms;
+        forces = more_forces;
+    }
+    Ok(text)
+}
+
+/// An atom's line, with its line feed.
+fn whole_line(atom: &Atom, force: &Force<i64>) -> Line
+    ensures { result.items ≡ ended (force_line (atom_view atom.now) force.now) }
+{
+    let mut line = Line::new();
+    put_columns(&mut line, atom);
+    put_component(&mut line, force.x);
+    put_component(&mut line, force.y);
+    put_component(&mut line, force.z);
+    put(&mut line, b"\n");
+    line
+}
+
+/// Appends what a state calls an atom.
+fn put_columns(line: &mut Line, atom: &Atom)
+    requires { array_vec_len line.old + 15 ≤ 160 }
+    ensures items { line.new.items ≡ line.old.items ++ columns_of (atom_view atom.now) }
+    ensures len { array_vec_len line.new ≡ array_vec_len line.old + 15 }
+{
+    let mut buffer = Buffer::new();
+    put_right(line, 5, buffer.format(atom.residue_number).as_bytes());
+    put_left(line, 5, atom.residue.as_bytes());
+    put_right(line, 5, atom.name.as_bytes());
+}
+
+/// Appends a blank and a number.
+fn put_component(line: &mut Line, component: i64)
+    requires { array_vec_len line.old + 21 ≤ 160 }
+    ensures items { line.new.items ≡ line.old.items ++ 32 ∷ signed_decimal component }
+    ensures len { array_vec_len line.new ≤ array_vec_len line.old + 21 }
+{
+    put(line, b" ");
+    put_integer(line, component);
+}
