@@ -13,8 +13,8 @@ Help goes to standard output, and ends with status 0.
     back        Prints the state so many steps back
     trajectory  Prints frames of a run as a GRO file
     states      Prints states of a run
-    observe     Prints a table of energies, temperature, pressure and momentum of a run
     frame       Prints the current frame of a state as a GRO file
+    observe     Prints a table of energies, temperature, pressure and momentum of a run
     energy      Prints the energy of a state
     forces      Prints the forces on the atoms of a state
     check       Judges the code of a job's slope, or other code under the job
@@ -36,8 +36,8 @@ Help goes to standard output, and ends with status 0.
     back        Prints the state so many steps back
     trajectory  Prints frames of a run as a GRO file
     states      Prints states of a run
-    observe     Prints a table of energies, temperature, pressure and momentum of a run
     frame       Prints the current frame of a state as a GRO file
+    observe     Prints a table of energies, temperature, pressure and momentum of a run
     energy      Prints the energy of a state
     forces      Prints the forces on the atoms of a state
     check       Judges the code of a job's slope, or other code under the job
@@ -171,7 +171,7 @@ Words that name no command, and options that no command has. Standard output sta
 
   $ pairmd
   error: 'pairmd' requires a subcommand but one was not provided
-    [subcommands: start, run, back, trajectory, states, frame, energy, forces, check, code, explain, help]
+    [subcommands: start, run, back, trajectory, states, frame, observe, energy, forces, check, code, explain, help]
   
   Usage: pairmd <COMMAND>
   

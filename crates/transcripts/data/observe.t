@@ -6,9 +6,20 @@ Two atoms at rest, 0.5 nm apart: 2 kJ/mol of 1/r, and a force of 4 kJ/mol/nm on 
 kinetic energy at once. The same rows by any number of workers.
 
   $ workers pairmd observe job state --steps 2 --every 1
+  # step time/ps potential/(kJ/mol) kinetic/(kJ/mol) total/(kJ/mol) temperature/K pressure/bar momentum-x/(u.nm/ps) momentum-y momentum-z nearest/nm
+  0 0.000 2.000000 0.000032 2.000032 0.003 1.384 0.000000 0.000000 0.000000 0.500000
+  1 0.002 1.999872 0.000160 2.000032 0.013 1.384 0.000000 0.000000 0.000000 0.500032
+  2 0.004 1.999616 0.000416 2.000032 0.033 1.384 0.000000 0.000000 0.000000 0.500096
   $ workers pairmd observe job state --steps 2 --every 1 --exact
+  # step time/fs potential/(2^-bits.kJ/mol) squares-x/(1e-5.u.place^2) squares-y squares-z virial-x/(2^-bits.kJ/mol/nm.place) virial-y virial-z momentum-x/(1e-5.u.place) momentum-y momentum-z nearest/(2^-bits.nm)
+  0 0 8589934592 236121920000000 0 0 18446744073709551616 0 0 0 0 0 2147483648
+  1 2 8589384867 1180472165000000 0 0 18445563556071896928 0 0 0 0 0 2147621088
+  2 4 8588285708 3068705413800000 0 0 18443203133913632382 0 0 0 0 0 2147895948
   $ pairmd energy job state
+  energy 8589934592
   $ pairmd forces job state
+      1AR      AR -17179869184 0 0
+      1AR      AR 17179869184 0 0
 
 An atom alone that goes by an eighth of the ring at each step of 2 fs, a quarter of a nanometre: at 125 nm/ps it has 125 u nm/ps and
 7812.5 kJ/mol, and 3 V of 24 nm^3 bear 15625 kJ/mol, which are 10810.8 bar. It has no temperature, and no nearest other.
@@ -22,26 +33,54 @@ An atom alone that goes by an eighth of the ring at each step of 2 fs, a quarter
   >     1AR      AR 4026531840 0 0 268435456 0 0
   > END
   $ workers pairmd observe job point --steps 1 --every 1
+  # step time/ps potential/(kJ/mol) kinetic/(kJ/mol) total/(kJ/mol) temperature/K pressure/bar momentum-x/(u.nm/ps) momentum-y momentum-z nearest/nm
+  -7 -0.014 0.000000 7812.500000 7812.500000 - 10810.801 125.000000 0.000000 0.000000 -
+  -6 -0.012 0.000000 7812.500000 7812.500000 - 10810.801 125.000000 0.000000 0.000000 -
   $ pairmd observe job point --steps 1 --every 1 --exact
+  # step time/fs potential/(2^-bits.kJ/mol) squares-x/(1e-5.u.place^2) squares-y squares-z virial-x/(2^-bits.kJ/mol/nm.place) virial-y virial-z momentum-x/(1e-5.u.place) momentum-y momentum-z nearest/(2^-bits.nm)
+  -7 -14 0 57646075230342348800000 0 0 0 0 0 53687091200000 0 0 -
+  -6 -12 0 57646075230342348800000 0 0 0 0 0 53687091200000 0 0 -
   $ with job 7 'type AR 0.00001' with point 6 '    1AR      AR 0 0 0 0 4294967295 1' pairmd observe job point --steps 0 --every 1
+  # step time/ps potential/(kJ/mol) kinetic/(kJ/mol) total/(kJ/mol) temperature/K pressure/bar momentum-x/(u.nm/ps) momentum-y momentum-z nearest/nm
+  -7 -0.014 0.000000 0.000000 0.000000 - 0.000 0.000000 0.000000 0.000000 -
   $ with job 7 'type AR 0.00001' with point 6 '    1AR      AR 0 0 0 0 4294967295 1' pairmd observe job point --steps 0 --every 1 --exact
+  # step time/fs potential/(2^-bits.kJ/mol) squares-x/(1e-5.u.place^2) squares-y squares-z virial-x/(2^-bits.kJ/mol/nm.place) virial-y virial-z momentum-x/(1e-5.u.place) momentum-y momentum-z nearest/(2^-bits.nm)
+  -7 -14 0 0 2 2 0 0 0 0 -1 1 -
 
 No atom has no energy, and no pressure.
 
-  $ printf 'pairmd state 1\ntitle nothing\nstep 1000\natoms 0\nbox 100000 200000 300000\n' > nothing
+  $ printf 'pairmd state 1\ntitle nothing\nstep 1000\natoms 0\nbox 200000 200000 300000\n' > nothing
   $ pairmd observe job nothing --steps 2 --every 2
+  # step time/ps potential/(kJ/mol) kinetic/(kJ/mol) total/(kJ/mol) temperature/K pressure/bar momentum-x/(u.nm/ps) momentum-y momentum-z nearest/nm
+  1000 2.000 0.000000 0.000000 0.000000 - 0.000 0.000000 0.000000 0.000000 -
+  1002 2.004 0.000000 0.000000 0.000000 - 0.000 0.000000 0.000000 0.000000 -
   $ pairmd observe job nothing --steps 2 --every 2 --exact
+  # step time/fs potential/(2^-bits.kJ/mol) squares-x/(1e-5.u.place^2) squares-y squares-z virial-x/(2^-bits.kJ/mol/nm.place) virial-y virial-z momentum-x/(1e-5.u.place) momentum-y momentum-z nearest/(2^-bits.nm)
+  1000 2000 0 0 0 0 0 0 0 0 0 0 -
+  1002 2004 0 0 0 0 0 0 0 0 0 0 -
 
 Two atoms that go on against each other have a temperature; beyond the cutoff no energy, and no nearest pair.
 
   $ with state 6 '    1AR      AR 0 0 0 4294967 0 0' with state 7 '    1AR      AR 2147483648 0 0 2143188681 0 0' pairmd observe job state --steps 0 --every 1
+  # step time/ps potential/(kJ/mol) kinetic/(kJ/mol) total/(kJ/mol) temperature/K pressure/bar momentum-x/(u.nm/ps) momentum-y momentum-z nearest/nm
+  0 0.000 0.000000 1.000000 1.000000 80.182 1.384 0.000000 0.000000 0.000000 -
   $ with state 6 '    1AR      AR 0 0 0 4294967 0 0' with state 7 '    1AR      AR 2147483648 0 0 2143188681 0 0' pairmd observe job state --steps 0 --every 1 --exact
+  # step time/fs potential/(2^-bits.kJ/mol) squares-x/(1e-5.u.place^2) squares-y squares-z virial-x/(2^-bits.kJ/mol/nm.place) virial-y virial-z momentum-x/(1e-5.u.place) momentum-y momentum-z nearest/(2^-bits.nm)
+  0 0 0 7378696612435600000 0 0 0 0 0 0 0 0 -
 
 At one place they have the energy of the core and no force, and are 0 apart; across the edge they are near too.
 
   $ with state 7 '    1AR      AR 1073741824 0 0 1073741824 0 0' pairmd observe job state --steps 1 --every 1
+  # step time/ps potential/(kJ/mol) kinetic/(kJ/mol) total/(kJ/mol) temperature/K pressure/bar momentum-x/(u.nm/ps) momentum-y momentum-z nearest/nm
+  0 0.000 5.000000 0.000000 5.000000 0.000 0.000 0.000000 0.000000 0.000000 0.000000
+  1 0.002 5.000000 0.000000 5.000000 0.000 0.000 0.000000 0.000000 0.000000 0.000000
   $ with state 7 '    1AR      AR 1073741824 0 0 1073741824 0 0' pairmd observe job state --steps 1 --every 1 --exact
+  # step time/fs potential/(2^-bits.kJ/mol) squares-x/(1e-5.u.place^2) squares-y squares-z virial-x/(2^-bits.kJ/mol/nm.place) virial-y virial-z momentum-x/(1e-5.u.place) momentum-y momentum-z nearest/(2^-bits.nm)
+  0 0 21474836485 0 0 0 0 0 0 0 0 0 0
+  1 2 21474836485 0 0 0 0 0 0 0 0 0 0
   $ with state 6 '    1AR      AR 0 0 0 0 0 0' with state 7 '    1AR      AR 3221225472 0 0 3221225472 0 0' pairmd observe job state --steps 0 --every 1 --exact
+  # step time/fs potential/(2^-bits.kJ/mol) squares-x/(1e-5.u.place^2) squares-y squares-z virial-x/(2^-bits.kJ/mol/nm.place) virial-y virial-z momentum-x/(1e-5.u.place) momentum-y momentum-z nearest/(2^-bits.nm)
+  0 0 8589934592 236121920000000 0 0 18446744073709551616 0 0 0 0 0 2147483648
 
 Three atoms of two masses, in a box of three sides.
 
@@ -56,7 +95,15 @@ Three atoms of two masses, in a box of three sides.
   >     3AR      AR 4000000000 1000000000 9 3999990000 999980000 12
   > END
   $ with job 7 'type AR 39.948\ntype B 4.0026' workers pairmd observe job three --steps 40 --every 20
+  # step time/ps potential/(kJ/mol) kinetic/(kJ/mol) total/(kJ/mol) temperature/K pressure/bar momentum-x/(u.nm/ps) momentum-y momentum-z nearest/nm
+  12 0.024 5.012170 0.001152 5.013322 0.046 1.850 0.062288 -0.315082 0.001200 0.465659
+  32 0.064 5.005379 0.007944 5.013322 0.318 1.853 0.062296 -0.315035 0.001200 0.466810
+  52 0.104 4.984190 0.029132 5.013322 1.168 1.861 0.062284 -0.315057 0.001200 0.470360
   $ with job 7 'type AR 39.948\ntype B 4.0026' workers pairmd observe job three --steps 40 --every 20 --exact
+  # step time/fs potential/(2^-bits.kJ/mol) squares-x/(1e-5.u.place^2) squares-y squares-z virial-x/(2^-bits.kJ/mol/nm.place) virial-y virial-z momentum-x/(1e-5.u.place) momentum-y momentum-z nearest/(2^-bits.nm)
+  12 24 21527108257 2951566272891840 3551149138834560 55112260800 26309740469860456088 15935498035263497360 365681 26752300800 -108261514800 343552800 1999991434
+  32 64 21497936987 53101870958211300 3527979774663300 55112260800 26268354034943742003 15918491312312955188 130603069 26756140680 -108245355180 343552800 2004933547
+  52 104 21406932800 200368945981589400 9335957478173400 55112260800 26126423751735264506 15875691536030575899 487286481 26750784420 -108252639300 343552800 2020181314
 
 ## Bits, steps and times
 
@@ -64,29 +111,75 @@ With 24 bits and with 40.
 
   $ with job 6 'bits 24' pairmd start job gro > begun
   $ with job 6 'bits 24' pairmd observe job begun --steps 1 --every 1
+  # step time/ps potential/(kJ/mol) kinetic/(kJ/mol) total/(kJ/mol) temperature/K pressure/bar momentum-x/(u.nm/ps) momentum-y momentum-z nearest/nm
+  0 0.000 2.000000 0.000032 2.000032 0.003 1.384 0.000000 0.000000 0.000000 0.500000
+  1 0.002 1.999872 0.000160 2.000032 0.013 1.384 0.000000 0.000000 0.000000 0.500032
   $ with job 6 'bits 24' pairmd observe job begun --steps 1 --every 1 --exact
+  # step time/fs potential/(2^-bits.kJ/mol) squares-x/(1e-5.u.place^2) squares-y squares-z virial-x/(2^-bits.kJ/mol/nm.place) virial-y virial-z momentum-x/(1e-5.u.place) momentum-y momentum-z nearest/(2^-bits.nm)
+  0 0 33554432 236121920000000 0 0 72057594037927936 0 0 0 0 0 8388608
+  1 2 33552288 1180472165000000 0 0 72052998907457760 0 0 0 0 0 8389144
   $ with job 6 'bits 40' pairmd start job gro > begun
   $ with job 6 'bits 40' pairmd observe job begun --steps 1 --every 1
+  # step time/ps potential/(kJ/mol) kinetic/(kJ/mol) total/(kJ/mol) temperature/K pressure/bar momentum-x/(u.nm/ps) momentum-y momentum-z nearest/nm
+  0 0.000 2.000000 0.000032 2.000032 0.003 1.384 0.000000 0.000000 0.000000 0.500000
+  1 0.002 1.999872 0.000160 2.000032 0.013 1.384 0.000000 0.000000 0.000000 0.500032
   $ with job 6 'bits 40' pairmd observe job begun --steps 1 --every 1 --exact
+  # step time/fs potential/(2^-bits.kJ/mol) squares-x/(1e-5.u.place^2) squares-y squares-z virial-x/(2^-bits.kJ/mol/nm.place) virial-y virial-z momentum-x/(1e-5.u.place) momentum-y momentum-z nearest/(2^-bits.nm)
+  0 0 2199023255552 236121920000000 0 0 4722366482869645213696 0 0 0 0 0 549755813888
+  1 2 2198882525998 1180472165000000 0 0 4722064268472015729936 0 0 0 0 0 549790998528
 
-Steps of 1000 fs, and of 1 fs.
+Steps of 1000 fs, and of 1 fs. In a picosecond 4 kJ/mol/nm move an atom of 1 u by 4 nm, twice round the box, so it stands still.
 
   $ with job 5 'dt 1000' pairmd observe job state --steps 2 --every 1
+  # step time/ps potential/(kJ/mol) kinetic/(kJ/mol) total/(kJ/mol) temperature/K pressure/bar momentum-x/(u.nm/ps) momentum-y momentum-z nearest/nm
+  0 0.000 2.000000 0.000000 2.000000 0.000 1.384 0.000000 0.000000 0.000000 0.500000
+  1 1.000 2.000000 0.000000 2.000000 0.000 1.384 0.000000 0.000000 0.000000 0.500000
+  2 2.000 2.000000 0.000000 2.000000 0.000 1.384 0.000000 0.000000 0.000000 0.500000
   $ with job 5 'dt 1000' pairmd observe job state --steps 2 --every 1 --exact
+  # step time/fs potential/(2^-bits.kJ/mol) squares-x/(1e-5.u.place^2) squares-y squares-z virial-x/(2^-bits.kJ/mol/nm.place) virial-y virial-z momentum-x/(1e-5.u.place) momentum-y momentum-z nearest/(2^-bits.nm)
+  0 0 8589934592 0 0 0 18446744073709551616 0 0 0 0 0 2147483648
+  1 1000 8589934592 0 0 0 18446744073709551616 0 0 0 0 0 2147483648
+  2 2000 8589934592 0 0 0 18446744073709551616 0 0 0 0 0 2147483648
+  $ with job 5 'dt 1000' with job 7 'type AR 39.948' workers pairmd observe job state --steps 2 --every 1
+  # step time/ps potential/(kJ/mol) kinetic/(kJ/mol) total/(kJ/mol) temperature/K pressure/bar momentum-x/(u.nm/ps) momentum-y momentum-z nearest/nm
+  0 0.000 2.000000 0.200260 2.200260 16.057 1.661 0.000000 0.000000 0.000000 0.500000
+  1 1.000 1.428040 0.656768 2.084808 52.661 1.897 0.000000 0.000000 0.000000 0.700260
+  2 2.000 0.000000 0.913015 0.913015 73.207 1.263 0.000000 0.000000 0.000000 -
   $ with job 5 'dt 1' pairmd observe job state --steps 2 --every 2
+  # step time/ps potential/(kJ/mol) kinetic/(kJ/mol) total/(kJ/mol) temperature/K pressure/bar momentum-x/(u.nm/ps) momentum-y momentum-z nearest/nm
+  0 0.000 2.000000 0.000008 2.000008 0.001 1.384 0.000000 0.000000 0.000000 0.500000
+  2 0.002 1.999904 0.000104 2.000008 0.008 1.384 0.000000 0.000000 0.000000 0.500024
 
 At the ends of the counter a time still has its three decimals.
 
   $ with job 5 'dt 1000' with state 3 'step 9223372036854775807' pairmd observe job state --steps 0 --every 1
+  # step time/ps potential/(kJ/mol) kinetic/(kJ/mol) total/(kJ/mol) temperature/K pressure/bar momentum-x/(u.nm/ps) momentum-y momentum-z nearest/nm
+  9223372036854775807 9223372036854775807.000 2.000000 0.000000 2.000000 0.000 1.384 0.000000 0.000000 0.000000 0.500000
   $ with job 5 'dt 999' with state 3 'step -9223372036854775808' pairmd observe job state --steps 0 --every 1
+  # step time/ps potential/(kJ/mol) kinetic/(kJ/mol) total/(kJ/mol) temperature/K pressure/bar momentum-x/(u.nm/ps) momentum-y momentum-z nearest/nm
+  -9223372036854775808 -9214148664817921032.192 2.000000 0.000032 2.000032 0.003 1.384 0.000000 0.000000 0.000000 0.500000
   $ with job 5 'dt 999' with state 3 'step -9223372036854775808' pairmd observe job state --steps 0 --every 1 --exact
+  # step time/fs potential/(2^-bits.kJ/mol) squares-x/(1e-5.u.place^2) squares-y squares-z virial-x/(2^-bits.kJ/mol/nm.place) virial-y virial-z momentum-x/(1e-5.u.place) momentum-y momentum-z nearest/(2^-bits.nm)
+  -9223372036854775808 -9214148664817921032192 8589934592 58970564499168200000 0 0 18446744073709551616 0 0 0 0 0 2147483648
 
 There and back the rows are the same.
 
   $ pairmd run job state --steps 100 > hundred
   $ workers pairmd observe job state --steps 100 --every 50
+  # step time/ps potential/(kJ/mol) kinetic/(kJ/mol) total/(kJ/mol) temperature/K pressure/bar momentum-x/(u.nm/ps) momentum-y momentum-z nearest/nm
+  0 0.000 2.000000 0.000032 2.000032 0.003 1.384 0.000000 0.000000 0.000000 0.500000
+  50 0.100 1.852700 0.147323 2.000024 11.813 1.486 0.000000 0.000000 0.000000 0.539753
+  100 0.200 1.544697 0.455316 2.000013 36.508 1.699 0.000000 0.000000 0.000000 0.647376
   $ workers pairmd observe job hundred --steps 100 --every 50 --back
+  # step time/ps potential/(kJ/mol) kinetic/(kJ/mol) total/(kJ/mol) temperature/K pressure/bar momentum-x/(u.nm/ps) momentum-y momentum-z nearest/nm
+  100 0.200 1.544697 0.455316 2.000013 36.508 1.699 0.000000 0.000000 0.000000 0.647376
+  50 0.100 1.852700 0.147323 2.000024 11.813 1.486 0.000000 0.000000 0.000000 0.539753
+  0 0.000 2.000000 0.000032 2.000032 0.003 1.384 0.000000 0.000000 0.000000 0.500000
   $ workers pairmd observe job hundred --steps 100 --every 50 --back --exact
+  # step time/fs potential/(2^-bits.kJ/mol) squares-x/(1e-5.u.place^2) squares-y squares-z virial-x/(2^-bits.kJ/mol/nm.place) virial-y virial-z momentum-x/(1e-5.u.place) momentum-y momentum-z nearest/(2^-bits.nm)
+  100 200 6634421592 3359642408045200000 0 0 14247311891477460992 0 0 0 0 0 2780460032
+  50 100 7957287031 1087054425778600000 0 0 17088143790057160912 0 0 0 0 0 2318220268
+  0 0 8589934592 236121920000000 0 0 18446744073709551616 0 0 0 0 0 2147483648
 
 Steps behind the last row make no difference, and the words may stand in any order.
 
@@ -94,45 +187,172 @@ Steps behind the last row make no difference, and the words may stand in any ord
   $ pairmd observe --every=+50 job --steps=+149 state > longer
   $ cmp table longer
   $ pairmd observe job state --exact --steps 0 --every 1000000000000
+  # step time/fs potential/(2^-bits.kJ/mol) squares-x/(1e-5.u.place^2) squares-y squares-z virial-x/(2^-bits.kJ/mol/nm.place) virial-y virial-z momentum-x/(1e-5.u.place) momentum-y momentum-z nearest/(2^-bits.nm)
+  0 0 8589934592 236121920000000 0 0 18446744073709551616 0 0 0 0 0 2147483648
 
 Progress is told of the steps up to the last row.
 
   $ pairmd observe job state --steps 5 --every 2 --progress
+  # step time/ps potential/(kJ/mol) kinetic/(kJ/mol) total/(kJ/mol) temperature/K pressure/bar momentum-x/(u.nm/ps) momentum-y momentum-z nearest/nm
+  0 0.000 2.000000 0.000032 2.000032 0.003 1.384 0.000000 0.000000 0.000000 0.500000
+  2 0.004 1.999616 0.000416 2.000032 0.033 1.384 0.000000 0.000000 0.000000 0.500096
+  4 0.008 1.998721 0.001311 2.000032 0.105 1.385 0.000000 0.000000 0.000000 0.500320
+  pairmd: 1 of 4 steps
+  pairmd: 2 of 4 steps
+  pairmd: 3 of 4 steps
+  pairmd: 4 of 4 steps
   $ pairmd observe job state --steps 5 --every 2 --progress --exact
+  # step time/fs potential/(2^-bits.kJ/mol) squares-x/(1e-5.u.place^2) squares-y squares-z virial-x/(2^-bits.kJ/mol/nm.place) virial-y virial-z momentum-x/(1e-5.u.place) momentum-y momentum-z nearest/(2^-bits.nm)
+  0 0 8589934592 236121920000000 0 0 18446744073709551616 0 0 0 0 0 2147483648
+  2 4 8588285708 3068705413800000 0 0 18443203133913632382 0 0 0 0 0 2147895948
+  4 8 8584441594 9672410709200000 0 0 18434947963323825128 0 0 0 0 0 2148857776
+  pairmd: 1 of 4 steps
+  pairmd: 2 of 4 steps
+  pairmd: 3 of 4 steps
+  pairmd: 4 of 4 steps
 
 ## Refusals
 
 An energy that has no value is refused, though its slope is accepted and a run takes it; and before the counter is looked at.
 
   $ with job 2 'energy 2147483647+1' pairmd states job state --steps 0 --every 1
+  pairmd state 1
+  title two atoms
+  step 0
+  atoms 2
+  box 200000 200000 200000
+      1AR      AR 1073741824 0 0 1073741824 0 0
+      1AR      AR 2147483648 0 0 2147483648 0 0
   $ with job 2 'energy 2147483647+1' pairmd energy job state
+  pairmd: V2 Fault AR AR r 858993459 pc 2 F1 Overflow
+  [3]
   $ with job 2 'energy 2147483647+1' pairmd observe job state --steps 0 --every 1
+  pairmd: V2 Fault AR AR r 858993459 pc 2 F1 Overflow
+  [3]
   $ with job 2 'energy 2147483647+1' with state 3 'step 9223372036854775807' pairmd observe job state --steps 1 --every 1 --progress
+  pairmd: V2 Fault AR AR r 858993459 pc 2 F1 Overflow
+  [3]
   $ with job 2 'energy 1/(r-0.5)' pairmd observe job state --steps 0 --every 1
+  pairmd: V2 Fault AR AR r 2147390967 pc 12 F1 Overflow
+  [3]
 
 The counter must have room for all steps. What a run refuses is refused here.
 
   $ with state 3 'step 9223372036854775806' pairmd observe job state --steps 2 --every 2
+  pairmd: A4 StepRange
+  [1]
   $ with state 3 'step -9223372036854775807' pairmd observe job state --steps 2 --every 3 --back
+  pairmd: A4 StepRange
+  [1]
   $ with job 4 'cutoff 1.5' pairmd observe job state --steps 2 --every 2
+  pairmd: A2 CutoffTooLong
+  [1]
   $ with job 7 'type B 1' pairmd observe job state --steps 2 --every 2
+  pairmd: A1 UnknownType 1
+  [1]
   $ with state 1 'pairmd state 9' pairmd observe job state --steps 2 --every 2
+  pairmd: S1 BadLine 1
+  [1]
   $ pairmd observe nowhere state --steps 2 --every 2
+  pairmd: O1 CannotRead nowhere
+  [5]
   $ pairmd observe job nowhere --steps 2 --every 2
+  pairmd: O1 CannotRead nowhere
+  [5]
 
 An output that fails is left with a beginning of the table, and a refused allocation with whole rows.
 
   $ outputs pairmd observe job point --steps 1 --every 1
+  0-318: a beginning, pairmd: O2 CannotWrite [5]
+  319: all
   $ outputs pairmd observe job point --steps 1 --every 1 --exact
+  0-338: a beginning, pairmd: O2 CannotWrite [5]
+  339: all
   $ requests pairmd observe job state --steps 2 --every 1
+  pairmd: Memory [4]
+  all
+  pairmd: Memory after 0 steps [4]
+  # step time/ps potential/(kJ/mol) kinetic/(kJ/mol) total/(kJ/mol) temperature/K pressure/bar momentum-x/(u.nm/ps) momentum-y momentum-z nearest/nm
+  0 0.000 2.000000 0.000032 2.000032 0.003 1.384 0.000000 0.000000 0.000000 0.500000
+  pairmd: Memory after 0 steps [4]
+  # step time/ps potential/(kJ/mol) kinetic/(kJ/mol) total/(kJ/mol) temperature/K pressure/bar momentum-x/(u.nm/ps) momentum-y momentum-z nearest/nm
+  0 0.000 2.000000 0.000032 2.000032 0.003 1.384 0.000000 0.000000 0.000000 0.500000
+  pairmd: Memory after 1 steps [4]
+  # step time/ps potential/(kJ/mol) kinetic/(kJ/mol) total/(kJ/mol) temperature/K pressure/bar momentum-x/(u.nm/ps) momentum-y momentum-z nearest/nm
+  0 0.000 2.000000 0.000032 2.000032 0.003 1.384 0.000000 0.000000 0.000000 0.500000
+  1 0.002 1.999872 0.000160 2.000032 0.013 1.384 0.000000 0.000000 0.000000 0.500032
+  pairmd: Memory after 1 steps [4]
+  # step time/ps potential/(kJ/mol) kinetic/(kJ/mol) total/(kJ/mol) temperature/K pressure/bar momentum-x/(u.nm/ps) momentum-y momentum-z nearest/nm
+  0 0.000 2.000000 0.000032 2.000032 0.003 1.384 0.000000 0.000000 0.000000 0.500000
+  1 0.002 1.999872 0.000160 2.000032 0.013 1.384 0.000000 0.000000 0.000000 0.500032
+  pairmd: Memory after 2 steps [4]
   $ requests pairmd observe job state --steps 1 --every 1 --exact --workers 3
+  pairmd: Memory [4]
+  all
+  pairmd: Memory after 0 steps [4]
+  # step time/fs potential/(2^-bits.kJ/mol) squares-x/(1e-5.u.place^2) squares-y squares-z virial-x/(2^-bits.kJ/mol/nm.place) virial-y virial-z momentum-x/(1e-5.u.place) momentum-y momentum-z nearest/(2^-bits.nm)
+  0 0 8589934592 236121920000000 0 0 18446744073709551616 0 0 0 0 0 2147483648
+  pairmd: Memory after 0 steps [4]
+  # step time/fs potential/(2^-bits.kJ/mol) squares-x/(1e-5.u.place^2) squares-y squares-z virial-x/(2^-bits.kJ/mol/nm.place) virial-y virial-z momentum-x/(1e-5.u.place) momentum-y momentum-z nearest/(2^-bits.nm)
+  0 0 8589934592 236121920000000 0 0 18446744073709551616 0 0 0 0 0 2147483648
+  pairmd: Memory after 1 steps [4]
   $ memory pairmd observe job state --steps 2 --every 2
+  2 workers: 8 requests more
+  3 workers: 1 requests more
 
 ## Words
 
   $ pairmd help observe
+  Prints a table of energies, temperature, pressure and momentum of a run
+  
+  Usage: pairmd observe [OPTIONS] --steps <n> --every <k> <JOB> <STATE>
+  
+  Arguments:
+    <JOB>    The file of the job
+    <STATE>  The file of the state
+  
+  Options:
+        --steps <n>    How many steps, from 0 to 1000000000000
+        --workers <w>  How many workers, from 1 to 64 [default: 1]
+        --progress     Tells how far the run has come, at each hundredth of its steps
+        --every <k>    How many steps from one to the next, from 1 to 1000000000000
+        --back         Goes back
+        --exact        Prints whole numbers in place of decimals
+    -h, --help         Print help
   $ pairmd observe job state --steps 1
+  error: the following required arguments were not provided:
+    --every <k>
+  
+  Usage: pairmd observe --steps <n> --every <k> <JOB> <STATE>
+  
+  For more information, try '--help'.
+  [2]
   $ pairmd observe job state --every 1
+  error: the following required arguments were not provided:
+    --steps <n>
+  
+  Usage: pairmd observe --steps <n> --every <k> <JOB> <STATE>
+  
+  For more information, try '--help'.
+  [2]
   $ pairmd observe job state --steps 1 --every 0
+  error: invalid value '0' for '--every <k>': 0 is not in 1..=1000000000000
+  
+  For more information, try '--help'.
+  [2]
   $ pairmd observe job state --steps 1 --every 1 --exact=1
+  error: unexpected value '1' for '--exact' found; no more were expected
+  
+  Usage: pairmd observe --steps <n> --every <k> --exact <JOB> <STATE>
+  
+  For more information, try '--help'.
+  [2]
   $ pairmd states job state --steps 1 --every 1 --exact
+  error: unexpected argument '--exact' found
+  
+    tip: to pass '--exact' as a value, use '-- --exact'
+  
+  Usage: pairmd states --steps <n> --every <k> <JOB> <STATE>
+  
+  For more information, try '--help'.
+  [2]
