@@ -268,7 +268,8 @@ def observed():
             kinetic = sum(row[3:6]) * (SIDE / liquid.PLACES / (step / 1000)) ** 2 / 4 / 10**5
             own = forces_of(path, state, bits)
             force = max(abs(x - y) for xs, ys in zip(own, other.forces) for x, y in zip(xs, ys))
-            off.append([abs(row[2] / 2**bits - other.energy), abs(kinetic - other.kinetic - other.spread()), force, other.spread()])
+            spread = other.spread()
+            off.append([abs(row[2] / 2**bits - other.energy), abs(kinetic - other.kinetic - spread), force, spread])
         energy, kinetic, force, spread = map(max, zip(*off))
         print(f"{bits} bits, {len(off)} states: potential {energy:.1e} kJ/mol off at most, kinetic {kinetic:.1e},", end=" ")
         print(f"a force {force:.1e} kJ/mol/nm; OpenMM's own kinetic energy is less by up to {spread:.3f}", flush=True)

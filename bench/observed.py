@@ -61,7 +61,8 @@ class Observed:
     def __init__(self, job, text):
         j, tree = job_says(job)
         state = state_of(text)
-        self.state, self.step, self.sides, self.dt, self.bits = state, state.step, state.sides, j.time_step, bits_of(j.frac)
+        self.state, self.step, self.sides = state, state.step, state.sides
+        self.dt, self.bits = j.time_step, bits_of(j.frac)
         rule = Rule(j, tree, state.sides, types_of(j, state.atoms))
         before, now = [atom.previous for atom in state.atoms], [atom.current for atom in state.atoms]
         self.atoms, self.potential, self.virial, self.nearest = len(now), 0, [0, 0, 0], None
@@ -196,7 +197,8 @@ class Case:
                     said = " ".join([self.name, *ways, f"by {workers}", *more])
                     count.compare(said, lines_of(program(*words)), wanted)
         for which, state, text in (("start", start, there[0]), ("end", end, there[-1])):
-            count.compare(f"{self.name}: forces at the {which}", lines_of(program("forces", job, state)), seen[text].force_lines())
+            printed = lines_of(program("forces", job, state))
+            count.compare(f"{self.name}: forces at the {which}", printed, seen[text].force_lines())
 
 
 # ---- cases

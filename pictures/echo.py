@@ -1,11 +1,11 @@
 #!/usr/bin/env python3
-"""Draws echo.svg: how far from its start an echo ends, by the size of the change at its turn, and prints it over the change.
+"""Draws echo.svg: how far from its start an echo ends, by the size of the change at its turn, and prints it.
 
   PAIRMD=./pairmd pictures/echo.py        runs the program, 36,000 steps, and draws
   pictures/echo.py --draw                 draws the table of an earlier run
 
-500 atoms of liquid argon go 1,000 steps of 2 fs, one coordinate is moved, and they go back: by bench/grid.py, whose figures these are. A
-distance is the root of the sum of squares over all coordinates.
+500 atoms of liquid argon go 1,000 steps of 2 fs, one coordinate is moved, and they go back: by bench/grid.py, whose
+figures these are. A distance is the root of the sum of squares over all coordinates.
 """
 
 import os
@@ -29,16 +29,19 @@ def draw():
     sizes, ends = [row[0] * PLACE for row in rows], [row[1:] for row in rows]
     means = [grid.geometric_mean(it) for it in ends]
     for size, mean, end in zip(sizes, means, ends):
-        print(f"{size:.1e} nm: {mean / size:,.1f} times, from {min(end) / size:,.1f} to {max(end) / size:,.1f}; {mean:.1e} nm")
+        grown = f"{mean / size:,.1f} times, from {min(end) / size:,.1f} to {max(end) / size:,.1f}"
+        print(f"{size:.1e} nm: {grown}; {mean:.1e} nm")
     made, axes = liquid.figure(7.2, 3.2)
     factor = means[-1] / sizes[-1]
     axes.plot(sizes, [factor * size for size in sizes], color=liquid.INK, linewidth=1, linestyle=":")
-    axes.fill_between(sizes, [min(it) for it in ends], [max(it) for it in ends], color=liquid.BLUE, alpha=0.25, linewidth=0)
+    least, most = [min(it) for it in ends], [max(it) for it in ends]
+    axes.fill_between(sizes, least, most, color=liquid.BLUE, alpha=0.25, linewidth=0)
     axes.plot(sizes, means, color=liquid.BLUE, linewidth=1.5, marker="o", markersize=4)
     axes.set_xscale("log")
     axes.set_yscale("log")
-    axes.annotate(f"{factor:.0f} times the change", (sizes[2], factor * sizes[2]), (8, -10), textcoords="offset points", va="top")
-    axes.annotate("the rounding of places", (sizes[0], max(ends[0])), (0, 8), textcoords="offset points")
+    beside = {"textcoords": "offset points"}
+    axes.annotate(f"{factor:.0f} times the change", (sizes[2], factor * sizes[2]), (8, -10), va="top", **beside)
+    axes.annotate("the rounding of places", (sizes[0], most[0]), (0, 8), **beside)
     axes.set_xlabel("change of one coordinate at the turn, nm")
     axes.set_ylabel("distance from the\nstart at the end, nm")
     liquid.save(made, "echo.svg")

@@ -1,11 +1,12 @@
 #!/usr/bin/env python3
-"""Draws energies.svg: the total energy of 500 atoms of liquid argon over 20 ps, at time steps of 2, 5 and 10 fs, and prints how far it strays.
+"""Draws energies.svg: the total energy of 500 atoms of liquid argon over 20 ps, at time steps of 2, 5 and 10 fs, and
+prints how far it strays.
 
   PAIRMD=./pairmd pictures/energies.py        runs the program, 36,000 steps, and draws
   pictures/energies.py --draw                 draws the table of an earlier run
 
-The total is that of `pairmd observe`: the energy of the pairs at a step, and the mean of the kinetic energies half a step before and half a
-step after it.
+The total is that of `pairmd observe`: the energy of the pairs at a step, and the mean of the kinetic energies half a
+step before and half a step after it.
 """
 
 import liquid
