@@ -8,8 +8,10 @@
   bench/grid.py echo                    the same on the way back: what a change at the turn has grown to at the start
   /usr/bin/python3 bench/grid.py openmm   one step's displacement and the energy beside OpenMM's Reference platform, and
                                           how far two runs from one state are apart
+  /usr/bin/python3 bench/grid.py observed what `pairmd observe` and `forces` print of a run's states beside it
 
-PAIRMD names the program, ./pairmd where it isn't said. Only `openmm` needs more than Python: Debian's python3-simtk.
+PAIRMD names the program, ./pairmd where it isn't said. Only `openmm` and `observed` need more than
+Python: Debian's python3-simtk.
 """
 import argparse
 import math
@@ -99,18 +101,28 @@ def growth():
     print(f"from 1 to 4 ps: the logarithm grows by {rate:.2f} a ps, so tenfold every {math.log(10) / rate:.2f} ps")
 
 
-def echo():
-    """1,000 steps of 2 fs, a change, 1,000 steps back: how far from the start, in changes."""
+def echoes(steps=1000):
+    """So many steps of 2 fs, a change of so many places, as many steps back: for each size of a change how far from the
+    start that ends, in changes, for each of the five."""
     own = liquid.Path(2)
-    start, there = own.state, own.go(1000)
+    start, there = own.state, own.go(steps)
     other = liquid.Path(2)
     for by in (1, 10, 100, 1_000, 10_000, 100_000, 1_000_000):
         grown = []
         for atom, axis in CHANGES:
             other.put(moved(there.text, atom, axis, by))
-            grown.append(apart(start, other.go(1000, back=True)) / by)
-        mean = math.exp(sum(math.log(it) for it in grown) / len(grown))
-        print(f"{by:8} places ({by * SIDE / liquid.PLACES:.1e} nm): {mean:12,.1f} times, from {min(grown):,.1f} to {max(grown):,.1f}", flush=True)
+            grown.append(apart(start, other.go(steps, back=True)) / by)
+        yield by, grown
+
+
+def geometric_mean(numbers):
+    return math.exp(sum(math.log(it) for it in numbers) / len(numbers))
+
+
+def echo():
+    for by, grown in echoes():
+        mean, nm = geometric_mean(grown), by * SIDE / liquid.PLACES
+        print(f"{by:8} places ({nm:.1e} nm): {mean:12,.1f} times, from {min(grown):,.1f} to {max(grown):,.1f}", flush=True)
 
 
 def total(path, step):
@@ -159,14 +171,27 @@ class OpenMM:
         force.setNonbondedMethod(openmm.CustomNonbondedForce.CutoffPeriodic)
         force.setCutoffDistance(peer.CUTOFF)
         system.addForce(force)
-        place, self.integrator = SIDE / liquid.PLACES, openmm.VerletIntegrator(step / 1000)
+        self.integrator = openmm.VerletIntegrator(step / 1000)
         self.context = openmm.Context(system, self.integrator, openmm.Platform.getPlatformByName("Reference"))
+        self.step = step / 1000
+        self.put(state)
+
+    def put(self, state):
+        """Takes places and velocities of a state. Both programs take velocities as those half a step before."""
+        place = SIDE / liquid.PLACES
         self.context.setPositions([tuple(x * place for x in at) for at in state.places])
-        # both take velocities as those half a step before the positions
-        self.context.setVelocities([tuple(by * place / (step / 1000) for by in move) for move in state.moves()])
+        self.context.setVelocities([tuple(by * place / self.step for by in move) for move in state.moves()])
+        self.look()
+
+    def look(self):
         told = self.context.getState(getForces=True, getEnergy=True)
         self.forces = [tuple(it._value) for it in told.getForces()]
-        self.energy = told.getPotentialEnergy()._value
+        self.energy, self.kinetic = told.getPotentialEnergy()._value, told.getKineticEnergy()._value
+
+    def spread(self):
+        """The sum of F^2 dt^2 / 8 m: by this the mean of the kinetic energies half a step before and after is more than
+        that of the mean velocity, which OpenMM tells."""
+        return sum(f * f for force in self.forces for f in force) * self.step**2 / (8 * liquid.MASS)
 
     def apart(self, state):
         """How far the farthest coordinate is from a state's, in nm."""
@@ -215,9 +240,42 @@ def openmm():
             print(f"{bits} bits, 2 fs, after {picosecond} ps: the farthest coordinate is {other.apart(path.state):.1e} nm off", flush=True)
 
 
+def whole_numbers(path, steps, every):
+    """The rows of `observe --exact`, and the states that they are of."""
+    how = [path.job, path.file, "--steps", str(steps), "--every", str(every)]
+    rows = [[int(word) for word in line.split()] for line in liquid.program("observe", *how, "--exact").splitlines()[1:]]
+    texts = ("\n" + liquid.program("states", *how))[:-1].split("\npairmd state ")[1:]
+    return zip(rows, (liquid.State(f"pairmd state {text}\n") for text in texts))
+
+
+def forces_of(path, state, bits):
+    """What `forces` prints, in kJ/mol/nm."""
+    path.put(state.text)
+    lines = liquid.program("forces", path.job, path.file).splitlines()
+    return [[int(word) / 2**bits for word in line[15:].split()] for line in lines]
+
+
+def observed():
+    """A run of 1,000 steps of 2 fs at 24, 32 and 40 bits, each 100th state of it: how far OpenMM is at most."""
+    step = 2
+    for bits in (24, 32, 40):
+        path, other, off = path_of(bits, step), None, []
+        for row, state in whole_numbers(path, 1000, 100):
+            other = other or OpenMM(state, step)
+            other.put(state)
+            # FORMATS.md, Table: squares of places times masses in 10^-5 u
+            kinetic = sum(row[3:6]) * (SIDE / liquid.PLACES / (step / 1000)) ** 2 / 4 / 10**5
+            own = forces_of(path, state, bits)
+            force = max(abs(x - y) for xs, ys in zip(own, other.forces) for x, y in zip(xs, ys))
+            off.append([abs(row[2] / 2**bits - other.energy), abs(kinetic - other.kinetic - other.spread()), force, other.spread()])
+        energy, kinetic, force, spread = map(max, zip(*off))
+        print(f"{bits} bits, {len(off)} states: potential {energy:.1e} kJ/mol off at most, kinetic {kinetic:.1e},", end=" ")
+        print(f"a force {force:.1e} kJ/mol/nm; OpenMM's own kinetic energy is less by up to {spread:.3f}", flush=True)
+
+
 def main():
     parser = argparse.ArgumentParser(description=__doc__, formatter_class=argparse.RawDescriptionHelpFormatter)
-    measures = {"places": places, "energy": energy, "time_step": time_step, "growth": growth, "echo": echo, "openmm": openmm}
+    measures = {"places": places, "energy": energy, "time_step": time_step, "growth": growth, "echo": echo, "openmm": openmm, "observed": observed}
     parser.add_argument("what", choices=measures)
     measures[parser.parse_args().what]()
 

@@ -5,6 +5,8 @@
 
 500 of the 512 sites of a grid, velocities from a fixed seed. Then runs of 50 steps: behind each the velocities, which are the
 differences of a state's two frames, are scaled to the temperature of 94 K; at last 2,000 steps that nothing touches, and one scaling by their mean.
+`temperature.py` is the shorter way, by what `pairmd observe` prints. This one counts the kinetic energy of the last step alone, as before there was
+`observe`: it would make other bytes by the mean of two, and argon.gro is to stay what it is.
 """
 import os
 import subprocess

@@ -4,8 +4,8 @@
   PAIRMD=./pairmd pictures/energies.py        runs the program, 36,000 steps, and draws
   pictures/energies.py --draw                 draws the table of an earlier run
 
-The total at a step is the potential energy there (`pairmd energy`) and the mean of the kinetic energies half a step before and half a step
-after it, which the two frames of this state and of the next one give.
+The total is that of `pairmd observe`: the energy of the pairs at a step, and the mean of the kinetic energies half a step before and half a
+step after it.
 """
 
 import liquid
@@ -14,19 +14,14 @@ TIME, SAMPLES = 20_000, 100  # fs
 STEPS = {1: None, 2: liquid.GREEN, 5: liquid.BLUE, 10: liquid.ORANGE}
 
 
-def total(path, step):
-    kinetic = (path.state.kinetic(step) + path.ahead(1).kinetic(step)) / 2
-    return kinetic + path.potential(), kinetic
-
-
 def run():
     rows = []
     for step in STEPS:
         path = liquid.Path(step)
-        for sample in range(SAMPLES + 1):
-            if sample:
-                path.go(TIME // SAMPLES // step)
-            rows.append([step, sample * TIME // SAMPLES / 1000, *(f"{it:.6f}" for it in total(path, step))])
+        how = ["--steps", str(TIME // step), "--every", str(TIME // SAMPLES // step)]
+        for line in liquid.program("observe", path.job, path.file, *how).splitlines()[1:]:
+            _, time, _, kinetic, total, *_ = line.split()
+            rows.append([step, float(time), total, kinetic])
     liquid.write_table("energies", ["fs", "ps", "total", "kinetic"], rows)
 
 

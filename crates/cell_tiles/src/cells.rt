@@ -306,9 +306,9 @@ impl<A: Allocator + Copy> Cells<A> {
         }
     }
 
-    // Lists the pairs of a tile of two cells, of which the second has at most 128 atoms, from the beginning of a row on,
-    // in place of what `near` held: of those atoms of the second that may act with some atom of the first, and those of
-    // the first that may act with some of the second. It answers the number of the pair with which to go on.
+    // Lists the pairs of a tile of two cells, of which the second has at most 128 atoms, from the beginning of a row
+    // on, in place of what `near` held: of those atoms of the second that may act with some atom of the first, and
+    // those of the first that may act with some of the second. It answers the number of the pair with which to go on.
     fn near_between(&self, frame: &FrameInBox, tile: Tile, row: usize, near: &mut NearPairs) -> u64
         requires row { row < length (members_at self.now.members tile.first) }
         requires few { length (members_at self.now.members tile.second) ≤ 128 }

@@ -1,5 +1,5 @@
--- What the pairs of a frame that act come to, as sums over all pairs of its atoms: their virial along each axis, and the
--- distance of the nearest two.
+-- What the pairs of a frame that act come to, as sums over all pairs of its atoms: their virial along each axis, and
+-- the distance of the nearest two.
 use Rattle.std.specs.Prelude.{◌≡◌, ℕ, ℤ, pos, length, Option, option_map}
 use Rattle.ring_box.specs.Distances.{distance_at, square_of}
 use Rattle.ring_box.specs.Forces.{acting_distance_of}

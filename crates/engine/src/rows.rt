@@ -32,7 +32,7 @@ pub(crate) fn add_at(pair: &FoundPair, slope: Fx) -> PairAdd
     added(pair.low, pair.high, pair.acting.force(opposite(slope)))
 }
 
-/// The same from an estimate of the force.
+/// The force of a pair, in 2^-bits kJ/mol/nm, from its slope and an estimate of the force.
 #[inline(always)]
 pub(crate) fn add_near(pair: &FoundPair, slope: Fx, estimate: Force<i64>) -> PairAdd
     requires { unsigned_abs slope < 2 ^ 63 }

@@ -34,7 +34,8 @@ pub record AreScalesOf (e : EngineView) (s : Scales) : Type 0 where
 
 -- what is observed of the state that it has come to: the energy of the current frame; by the forces that the next step
 -- has, the virial of the frame's pairs; the distance of the nearest two atoms that act; squares from the previous frame
--- to the current one and from there to the next by the model; and the momentum from the previous frame to the current one
+-- to the current one and from there to the next by the model; and the momentum from the previous frame to the current
+-- one
 pub record IsObservationOf (e : EngineView) (o : Observation) : Type 0 where
   pub step : o.step ≡ e.state.step
   pub potential : IsEnergyOfEngine e o.potential

@@ -17,8 +17,8 @@ abbrev pub observe_fault_of : {A : Type 0} → Failure (EnergyFault A) → Obser
 observe_fault_of (Refused f) = observe.Energy f
 observe_fault_of Memory = observe.Run (run.Open Memory)
 
--- why not all rows are shown of the states of an engine, and what the output is left with: nothing, where memory ran out
--- over the energy's code or that is refused
+-- why not all rows are shown of the states of an engine, and what the output is left with: nothing, where memory ran
+-- out over the energy's code or that is refused
 abbrev pub IsTableUnshown : {A : Type 0} → Showing → Direction → (steps every : ℕ) → EngineView → (before after : Output) → ObserveFault A → Type 0
 IsTableUnshown {A} Shows direction steps every e before after (observe.Run (run.Open failure)) = (failure ≡ Memory) × (after ≡ before)
 IsTableUnshown {A} Shows direction steps every e before after (observe.Run (run.Steps f)) = IsWayUnshown {A = A} Shows direction steps every e before after (run.Steps f)

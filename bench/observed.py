@@ -1,0 +1,273 @@
+#!/usr/bin/env python3
+"""Checks each digit of `pairmd observe` and each number of `pairmd forces` against exact fractions.
+
+  bench/observed.py [CASE ..]      PAIRMD=path of the program, ./pairmd where it isn't said
+
+Fractions are Python's, of whole numbers without a limit. Job, energy, slope, forces and the next frame are those of
+second_reader/, and what is observed of them is said here by docs/FORMATS.md (Table, Forces): nothing is taken from the
+program but the texts of the states. Each case is a job and a state, run forwards and from its end back, by several
+numbers of workers, with decimals and with --exact. Prints how many rows and columns were compared, and each that
+differs; status 1 where one does, or where nothing was compared. All cases take some minutes, nearly all of it Python's;
+CASE names some.
+"""
+import os
+import random
+import subprocess
+import sys
+import tempfile
+from fractions import Fraction
+from math import floor
+
+ROOT = os.path.dirname(os.path.dirname(os.path.realpath(__file__)))
+EXAMPLES = f"{ROOT}/examples"
+PROGRAM = os.environ.get("PAIRMD", "./pairmd")
+sys.path.insert(1, f"{ROOT}/second_reader")
+from arithmetic import bits_of  # noqa: E402
+from headline import Rule, job_says, types_of  # noqa: E402
+from places import acting_distance_of, difference, distance_at, square_of  # noqa: E402
+from read import with_deep_stack  # noqa: E402
+from state import atom_line, state_of  # noqa: E402
+from steps import pairs_of, sums_of_shares  # noqa: E402
+from value import value_of  # noqa: E402
+
+BOLTZMANN = Fraction("0.00831446261815324")  # kJ/mol/K
+BAR = Fraction(10**10, 602214076)  # of 1 kJ/mol/nm^3
+AXES = (0, 1, 2)
+
+
+def program(*words):
+    """What the program prints, which is to be all that it tells."""
+    done = subprocess.run([PROGRAM, *map(str, words)], stdout=subprocess.PIPE, stderr=subprocess.PIPE)
+    if done.returncode or done.stderr:
+        sys.exit(f"{' '.join(map(str, words))}: status {done.returncode}, {done.stderr.decode(errors='replace')}")
+    return done.stdout
+
+
+# ---- what is observed of a state
+
+
+def xyz(it):
+    return (it.x, it.y, it.z)
+
+
+def moves(before, after):
+    """By how many places each coordinate goes from one frame to the other, the shorter way round."""
+    return [[difference(now, was) for was, now in zip(xyz(p), xyz(q))] for p, q in zip(before, after)]
+
+
+class Observed:
+    """The whole numbers of the columns of --exact, and the force on each atom."""
+
+    def __init__(self, job, text):
+        j, tree = job_says(job)
+        state = state_of(text)
+        self.state, self.step, self.sides, self.dt, self.bits = state, state.step, state.sides, j.time_step, bits_of(j.frac)
+        rule = Rule(j, tree, state.sides, types_of(j, state.atoms))
+        before, now = [atom.previous for atom in state.atoms], [atom.current for atom in state.atoms]
+        self.atoms, self.potential, self.virial, self.nearest = len(now), 0, [0, 0, 0], None
+        forces = {}
+        for pair in pairs_of(len(now)):
+            p, q = now[pair[0]], now[pair[1]]
+            r = acting_distance_of(j.frac, rule.box, j.core, j.cutoff, p, q)
+            if r is None:
+                continue
+            distance = distance_at(j.frac, square_of(rule.box, p, q))
+            self.nearest = distance if self.nearest is None else min(distance, self.nearest)
+            self.potential += value_of(self.bits, rule.inputs(pair, r))(tree)
+            forces[pair] = rule.pair_force(pair, p, q)
+            for axis, force in enumerate(xyz(forces[pair])):
+                self.virial[axis] += force * difference(xyz(p)[axis], xyz(q)[axis])
+        self.forces = sums_of_shares(forces, len(now))
+        masses = [it.mass for it in rule.types]
+        after = [rule.next_of(masses[i], before[i], now[i], self.forces[i]) for i in range(len(now))]
+        last, following = moves(before, now), moves(now, after)
+        self.squares = [sum(m * (v[k] ** 2 + w[k] ** 2) for m, v, w in zip(masses, last, following)) for k in AXES]
+        self.momentum = [sum(m * v[k] for m, v in zip(masses, last)) for k in AXES]
+
+    def exact(self):
+        """A row of --exact."""
+        whole = [self.step, self.step * self.dt, self.potential, *self.squares, *self.virial, *self.momentum]
+        return [str(it) for it in whole] + ["-" if self.nearest is None else str(self.nearest)]
+
+    def row(self):
+        """A row of decimals: masses are in 10^-5 u, sides in 10^-5 nm, a step in 10^-3 ps."""
+        place = [Fraction(side, 10**5 * 2**32) for side in self.sides]
+        dt, mass = Fraction(self.dt, 1000), Fraction(1, 10**5)
+        potential = Fraction(self.potential, 2**self.bits)
+        kinetic = sum(mass * self.squares[k] * (place[k] / dt) ** 2 / 2 for k in AXES) / 2
+        virial = sum(Fraction(self.virial[k], 2**self.bits) * place[k] for k in AXES)
+        volume = Fraction(self.sides[0] * self.sides[1] * self.sides[2], 10**15)
+        row = [str(self.step), decimal(self.step * dt, 3)]
+        row += [decimal(it, 6) for it in (potential, kinetic, potential + kinetic)]
+        row.append("-" if self.atoms < 2 else decimal(2 * kinetic / ((3 * self.atoms - 3) * BOLTZMANN), 3))
+        row.append(decimal((2 * kinetic + virial) / (3 * volume) * BAR, 3))
+        row += [decimal(mass * self.momentum[k] * place[k] / dt, 6) for k in AXES]
+        return row + ["-" if self.nearest is None else decimal(Fraction(self.nearest, 2**self.bits), 6)]
+
+    def force_lines(self):
+        """The lines of `pairmd forces`."""
+        fronts = [atom_line(atom)[:15].decode("latin-1") for atom in self.state.atoms]
+        return [f"{front} {force.x} {force.y} {force.z}" for front, force in zip(fronts, self.forces)]
+
+
+def decimal(number, digits):
+    """The decimal with so many digits that is nearest to a fraction, a half upward."""
+    count = floor(number * 10**digits + Fraction(1, 2))
+    whole, rest = divmod(abs(count), 10**digits)
+    return f"{'-' if count < 0 else ''}{whole}.{rest:0{digits}}"
+
+
+# ---- heads, as docs/FORMATS.md has them
+
+HEAD = (
+    "# step time/ps potential/(kJ/mol) kinetic/(kJ/mol) total/(kJ/mol) temperature/K pressure/bar"
+    " momentum-x/(u.nm/ps) momentum-y momentum-z nearest/nm"
+)
+EXACT_HEAD = (
+    "# step time/fs potential/(2^-bits.kJ/mol) squares-x/(1e-5.u.place^2) squares-y squares-z"
+    " virial-x/(2^-bits.kJ/mol/nm.place) virial-y virial-z momentum-x/(1e-5.u.place) momentum-y momentum-z"
+    " nearest/(2^-bits.nm)"
+)
+
+
+# ---- comparing
+
+
+class Count:
+    """What was compared, and what differed."""
+
+    def __init__(self):
+        self.columns, self.rows, self.other = 0, 0, 0
+
+    def compare(self, said, printed, wanted):
+        """Lines that the program printed, with those that were wanted."""
+        if len(printed) != len(wanted):
+            self.tell(f"{said}: {len(printed)} lines, wanted {len(wanted)}")
+        for number, (line, other) in enumerate(zip(printed, wanted), 1):
+            columns, others = line.split(" "), other.split(" ")
+            self.rows, self.columns = self.rows + 1, self.columns + len(others)
+            if line != other:
+                found = [f"column {at}: {x}, wanted {y}" for at, (x, y) in enumerate(zip(columns, others), 1) if x != y]
+                self.tell(f"{said}: line {number}: {'; '.join(found) or f'{line!r}, wanted {other!r}'}")
+
+    def tell(self, what):
+        self.other += 1
+        print(what, flush=True)
+
+
+def lines_of(text):
+    """The lines of a text, each of which a LF is to end."""
+    lines = text.decode("latin-1").split("\n")
+    return lines[:-1] if lines[-1] == "" else lines + ["(no LF)"]
+
+
+def states_of(text):
+    """The states of a run, each of which begins with its first line."""
+    parts = (b"\n" + text)[:-1].split(b"\npairmd state ")[1:]
+    return [b"pairmd state " + part + b"\n" for part in parts]
+
+
+class Case:
+    """A job and a state in a folder, so many steps, a row every few, by some numbers of workers."""
+
+    def __init__(self, name, job, state, steps, every, workers=(1, 3)):
+        self.name, self.job, self.state, self.steps, self.every, self.workers = name, job, state, steps, every, workers
+
+    def put(self, folder, name, text):
+        path = f"{folder}/{name}"
+        with open(path, "wb") as it:
+            it.write(text)
+        return path
+
+    def play(self, folder, count):
+        job = self.put(folder, "job", self.job)
+        start = self.put(folder, "start", self.state(job) if callable(self.state) else self.state)
+        how = ["--steps", self.steps, "--every", self.every]
+        there = states_of(program("states", job, start, *how))
+        end = self.put(folder, "end", there[-1])
+        back = states_of(program("states", job, end, "--back", *how))
+        seen = {text: Observed(self.job, text) for text in dict.fromkeys(there + back)}
+        for ways, state, texts in (([], start, there), (["--back"], end, back)):
+            rows = [HEAD] + [" ".join(seen[text].row()) for text in texts]
+            exact = [EXACT_HEAD] + [" ".join(seen[text].exact()) for text in texts]
+            for workers in self.workers:
+                for more, wanted in (([], rows), (["--exact"], exact)):
+                    words = ["observe", job, state, *how, "--workers", workers, *ways, *more]
+                    said = " ".join([self.name, *ways, f"by {workers}", *more])
+                    count.compare(said, lines_of(program(*words)), wanted)
+        for which, state, text in (("start", start, there[0]), ("end", end, there[-1])):
+            count.compare(f"{self.name}: forces at the {which}", lines_of(program("forces", job, state)), seen[text].force_lines())
+
+
+# ---- cases
+
+
+def read(name):
+    with open(f"{EXAMPLES}/{name}", "rb") as it:
+        return it.read()
+
+
+def argon_job(bits=32, dt=2):
+    return read("argon.job").replace(b"dt 2\n", b"dt %d\nbits %d\n" % (dt, bits))
+
+
+def liquid(job):
+    """500 atoms of argon."""
+    return program("start", job, f"{EXAMPLES}/argon.gro")
+
+
+def made(sides, places, step=0, name="AR"):
+    """The text of a state: of each atom the place before and now; names take turns."""
+    rows = [f"pairmd state 1\ntitle made\nstep {step}\natoms {len(places)}\nbox {sides[0]} {sides[1]} {sides[2]}\n"]
+    names = name.split()
+    for number, (before, now) in enumerate(places):
+        it = names[number % len(names)]
+        rows.append(f"{number % 100_000:5}{it:<5}{it:>5}" + "".join(f" {x % 2**32}" for x in (*before, *now)) + "\n")
+    return "".join(rows).encode("ascii")
+
+
+def strewn(count, most):
+    """Places from a fixed seed, each of which moved by at most so many."""
+    numbers = random.Random(20261127)
+    now = [[numbers.randrange(2**32) for _ in AXES] for _ in range(count)]
+    return [([x - numbers.randint(-most, most) for x in at], at) for at in now]
+
+
+def cases():
+    here = ([7, 2**32 - 9, 2**31], [0, 2**32 - 1, 2**31])
+    near = [(at, at) for at in ([2**32 - 10**8, 5, 0], [7 * 10**8, 9, 2**32 - 10**8])]
+    mixed = read("lennard-jones.job")
+    return [
+        Case("liquid", argon_job(), liquid, 1000, 100, (1, 2, 3, 64)),
+        Case("24 bits", argon_job(24), liquid, 20, 10),
+        Case("40 bits", argon_job(40), liquid, 20, 10),
+        Case("dt 1000", argon_job(dt=1000), liquid, 4, 2),
+        Case("no atom", argon_job(), made((200_000, 300_000, 180_000), []), 6, 2),
+        Case("one atom", argon_job(), made((200_000, 300_000, 180_000), [here], -3), 6, 2),
+        Case("two atoms", argon_job(), made((200_000, 300_000, 180_000), near, -(2**40)), 6, 2),
+        Case("one place", argon_job(), made((200_000, 300_000, 180_000), [here] * 30), 4, 1),
+        Case("greatest moves", argon_job(dt=1), made((16_000_000,) * 3, strewn(20, 2**31 - 1), 2**62), 3, 1),
+        Case("three sides, two types", mixed, made((190_000, 250_001, 333_337), strewn(60, 10**6), 5, "AR KR"), 6, 2),
+        Case("mixture", mixed, read("mixture.state"), 500, 100),
+    ]
+
+
+def main():
+    known = {it.name: it for it in cases()}
+    other = [name for name in sys.argv[1:] if name not in known]
+    if other:
+        print(f"no case {', '.join(other)}; there are {', '.join(known)}", file=sys.stderr)
+        return 2
+    count = Count()
+    for name in sys.argv[1:] or known:
+        before = count.rows, count.columns, count.other
+        with tempfile.TemporaryDirectory() as folder:
+            known[name].play(folder, count)
+        rows, columns, differ = (now - was for now, was in zip((count.rows, count.columns, count.other), before))
+        print(f"{name}: {rows} lines, {columns} columns, {differ} differ", flush=True)
+    print(f"{count.rows} lines, {count.columns} columns compared, {count.other} differ")
+    return 1 if count.other or not count.rows else 0
+
+
+if __name__ == "__main__":
+    sys.exit(with_deep_stack(main))
