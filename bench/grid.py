@@ -125,9 +125,10 @@ def echo():
         print(f"{by:8} places ({nm:.1e} nm): {mean:12,.1f} times, from {min(grown):,.1f} to {max(grown):,.1f}", flush=True)
 
 
-def total(path, step):
-    """The energy in kJ/mol: of the pairs now, and the mean of the kinetic energies half a step before and after."""
-    return path.potential() + (path.state.kinetic(step) + path.ahead(1).kinetic(step)) / 2
+def total(path):
+    """The total energy in kJ/mol."""
+    row = liquid.program("observe", path.job, path.file, "--steps", "0", "--every", "1").splitlines()[1]
+    return float(row.split()[4])
 
 
 def time_step():
@@ -137,7 +138,7 @@ def time_step():
     print("total energy less that at 2 fs, kJ/mol, at", ", ".join(f"{step} fs" for step in steps), "without NEXT, and with it")
     for _ in range(5):
         own.go(400)
-        was, off = total(own, 2), []
+        was, off = total(own), []
         following = f"{own.folder.name}/next"
         with open(following, "w", encoding="ascii") as it:
             it.write(own.ahead(1).text)
@@ -145,7 +146,7 @@ def time_step():
             for step, other in zip(steps, others):
                 words = [f"{liquid.EXAMPLES}/time_step.py", own.job, own.file, other.job, *more]
                 other.put(subprocess.run(words, check=True, stdout=subprocess.PIPE, stderr=subprocess.DEVNULL, text=True).stdout)
-                off.append(total(other, step) - was)
+                off.append(total(other) - was)
         print(f"{2 * own.state.step / 1000:.1f} ps:", ", ".join(f"{it:+.3f}" for it in off), flush=True)
 
 

@@ -202,13 +202,13 @@ class Case:
 # ---- cases
 
 
-def read(name):
+def example(name):
     with open(f"{EXAMPLES}/{name}", "rb") as it:
         return it.read()
 
 
 def argon_job(bits=32, dt=2):
-    return read("argon.job").replace(b"dt 2\n", b"dt %d\nbits %d\n" % (dt, bits))
+    return example("argon.job").replace(b"dt 2\n", b"dt %d\nbits %d\n" % (dt, bits))
 
 
 def liquid(job):
@@ -236,7 +236,7 @@ def strewn(count, most):
 def cases():
     here = ([7, 2**32 - 9, 2**31], [0, 2**32 - 1, 2**31])
     near = [(at, at) for at in ([2**32 - 10**8, 5, 0], [7 * 10**8, 9, 2**32 - 10**8])]
-    mixed = read("lennard-jones.job")
+    mixed = example("lennard-jones.job")
     return [
         Case("liquid", argon_job(), liquid, 1000, 100, (1, 2, 3, 64)),
         Case("24 bits", argon_job(24), liquid, 20, 10),
@@ -248,7 +248,7 @@ def cases():
         Case("one place", argon_job(), made((200_000, 300_000, 180_000), [here] * 30), 4, 1),
         Case("greatest moves", argon_job(dt=1), made((16_000_000,) * 3, strewn(20, 2**31 - 1), 2**62), 3, 1),
         Case("three sides, two types", mixed, made((190_000, 250_001, 333_337), strewn(60, 10**6), 5, "AR KR"), 6, 2),
-        Case("mixture", mixed, read("mixture.state"), 500, 100),
+        Case("mixture", mixed, example("mixture.state"), 500, 100),
     ]
 
 

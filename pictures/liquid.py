@@ -38,11 +38,6 @@ class State:
         """By how many places each coordinate moved in the last step, the shorter way round the ring."""
         return moves(self.before, self.places)
 
-    def kinetic(self, step):
-        """The kinetic energy half a step of so many fs before the current frame, in kJ/mol: whole numbers up to the last division."""
-        squares = [sum(move[axis] ** 2 for move in self.moves()) for axis in range(3)]
-        return sum(MASS / 2 * it * (side / PLACES / (step / 1000)) ** 2 for it, side in zip(squares, self.sides))
-
 
 def moves(before, after):
     half = PLACES // 2
@@ -71,10 +66,6 @@ class Path:
 
     def go(self, steps, back=False):
         return self.put(self.ahead(steps, back).text)
-
-    def potential(self):
-        """The energy of the pairs, in kJ/mol."""
-        return int(program("energy", self.job, self.file).split()[1]) / 2**32
 
 
 def table(name):
