@@ -12,8 +12,6 @@ use Rattle.ring_box.specs.declared.vectors.Force.{Force}
 use Rattle.cli.specs.Failures.{command_fault, fault_of_open}
 use Rattle.cli.specs.ForceTexts.{IsForcesText}
 use Rattle.cli.specs.Refusals.{RefusesForces}
-use Rattle.cli.specs.declared.faults.CommandFault.{CommandFault}
-use Rattle.cli.specs.declared.faults.CommandFault.TheVariants as fault
 
 -- the lines of the forces of an engine of texts are those of the texts
 pub forces_told : (job state : List ℕ) (e : EngineView) (forces : List (Force ℤ)) (lines : List ℕ) → IsEngineOfTexts job state e → AreForcesOfEngine e forces

@@ -1,6 +1,6 @@
 -- The command line: which words name which command. Words are read by the rules of utilities (POSIX.1-2017, Utility
 -- Syntax Guidelines), as `clap` states them.
-use Rattle.std.specs.Prelude.{◌≡◌, ◌≢◌, ◌⊎◌, ℕ, Bool, List, [], ◌∷◌, Option, Some, None, Result, IfOk, option_map, true, false, codes}
+use Rattle.std.specs.Prelude.{◌≡◌, ◌≢◌, ℕ, Bool, List, [], ◌∷◌, Option, Some, None, Result, IfOk, option_map, true, false, codes}
 use Rattle.std.specs.Str.Parse.{IsNumeral, digits_value, without_leading_plus}
 use Rattle.std.specs.declared.alloc.AllocError.{AllocError}
 use Rattle.clap.specs.Words.{App, IsAmong, Kinds, Row, Rule, Shape, Text, app_of, fault_of, first_of, new_app, new_rule, one_of, shape_of, subcommand_of, with_rule, with_subcommand}

@@ -1,4 +1,3 @@
-use Rattle.std.proofs.Common.{rules}
 use Rattle.std.proofs.lemmas.Result.{err_from_is_err_and}
 use Rattle.cli.proofs.ForceTextLaws.{forces_unopened}
 use Rattle.cli.proofs.forces.forces_known.Goals as goal
