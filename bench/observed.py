@@ -55,6 +55,24 @@ def moves(before, after):
     return [[difference(now, was) for was, now in zip(xyz(p), xyz(q))] for p, q in zip(before, after)]
 
 
+def pairs_near(frame, sides, cutoff):
+    """The pairs whose atoms lie in one cell or in neighbouring cells, which are no shorter than the cutoff along any
+    side: no others act. The cutoff is in 10^-5 nm, as the sides are.
+    """
+    cells = [floor(Fraction(side) / cutoff) for side in sides]
+    if min(cells) < 3:
+        return pairs_of(len(frame))
+    members = {}
+    for atom, place in enumerate(frame):
+        members.setdefault(tuple(x * n // 2**32 for x, n in zip(xyz(place), cells)), []).append(atom)
+    pairs = []
+    for cell, atoms in members.items():
+        beside = [[(at + way) % n for way in (-1, 0, 1)] for at, n in zip(cell, cells)]
+        others = [k for x in beside[0] for y in beside[1] for z in beside[2] for k in members.get((x, y, z), [])]
+        pairs += [(i, k) for i in atoms for k in others if i < k]
+    return pairs
+
+
 class Observed:
     """The whole numbers of the columns of --exact, and the force on each atom."""
 
@@ -67,7 +85,7 @@ class Observed:
         before, now = [atom.previous for atom in state.atoms], [atom.current for atom in state.atoms]
         self.atoms, self.potential, self.virial, self.nearest = len(now), 0, [0, 0, 0], None
         forces = {}
-        for pair in pairs_of(len(now)):
+        for pair in pairs_near(now, state.sides, Fraction(10**5 * j.cutoff, 2**self.bits)):
             p, q = now[pair[0]], now[pair[1]]
             r = acting_distance_of(j.frac, rule.box, j.core, j.cutoff, p, q)
             if r is None:
@@ -235,10 +253,22 @@ def strewn(count, most):
     return [([x - numbers.randint(-most, most) for x in at], at) for at in now]
 
 
+def lattice(counts, most):
+    """As many places along each side, evenly apart, each moved by at most so many, and as far in the step before."""
+    numbers = random.Random(20261127)
+    sites = [(x, y, z) for x in range(counts[0]) for y in range(counts[1]) for z in range(counts[2])]
+    places = []
+    for site in sites:
+        now = [at * (2**32 // n) + numbers.randint(-most, most) for at, n in zip(site, counts)]
+        places.append(([x - numbers.randint(-most, most) for x in now], now))
+    return places
+
+
 def cases():
     here = ([7, 2**32 - 9, 2**31], [0, 2**32 - 1, 2**31])
     near = [(at, at) for at in ([2**32 - 10**8, 5, 0], [7 * 10**8, 9, 2**32 - 10**8])]
     mixed = example("lennard-jones.job")
+    short = argon_job().replace(b"cutoff 0.9\n", b"cutoff 0.4\n")
     return [
         Case("liquid", argon_job(), liquid, 1000, 100, (1, 2, 3, 64)),
         Case("24 bits", argon_job(24), liquid, 20, 10),
@@ -251,6 +281,8 @@ def cases():
         Case("greatest moves", argon_job(dt=1), made((16_000_000,) * 3, strewn(20, 2**31 - 1), 2**62), 3, 1),
         Case("three sides, two types", mixed, made((190_000, 250_001, 333_337), strewn(60, 10**6), 5, "AR KR"), 6, 2),
         Case("mixture", mixed, example("mixture.state"), 500, 100),
+        # 0.36 nm apart, so that each atom acts with its six next ones
+        Case("65,536 atoms", short, made((2_304_000, 1_152_000, 1_152_000), lattice((64, 32, 32), 4 * 10**6)), 1, 1),
     ]
 
 
