@@ -1,0 +1,3 @@
+pub mod SymmetryLemmas
+pub mod TranslationLaws
+pub mod AxisLaws

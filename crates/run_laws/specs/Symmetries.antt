@@ -1,0 +1,132 @@
+-- Two symmetries of the motion: no place is the first, and no axis is. Two more it hasn't. A mirror image of frames
+-- doesn't lead to the mirror images: `component_of` is the floor of g a / d, so that the component along the mirrored
+-- part isn't the negative of the other where the quotient isn't whole. Nor does another order of the atoms lead to the
+-- same frames in that order: the force of a pair is found for the atom with the lower number, and the other has its
+-- negative, which isn't the force that is found for it where a quotient isn't whole.
+use Rattle.std.specs.Prelude.{ℕ, ℤ, pos, ◌+ℤ◌, List, [], ◌∷◌, map, slice_index}
+use Rattle.energy_program.specs.Tree.{Tree}
+use Rattle.job.specs.Values.{JobValue}
+use Rattle.state.specs.StateText.{AtomView, IsState, StateView, state_text}
+use Rattle.ring_box.specs.Places.{ArePlaces, place_at}
+use Rattle.ring_box.specs.declared.vectors.Force.{Force}
+use Rattle.ring_box.specs.declared.vectors.Place3.{Place3}
+use Rattle.integrator.specs.Frames.{AreOfSameAtoms, frames}
+use Rattle.integrator.specs.declared.direction.Direction.{Direction}
+use Rattle.engine.specs.Engines.{AreSafe}
+use Rattle.engine.specs.Headline.{IsLevesqueVerletRun, IsPairForce, Lead, Leads}
+
+-- ---- translations
+
+-- the place that is s places further round the ring
+abbrev pub place_shifted : ℕ → ℕ → ℕ
+place_shifted s x = place_at (pos x +ℤ pos s)
+
+-- so along each axis
+abbrev pub shifted : Place3 → Place3 → Place3
+shifted s p = record { x = place_shifted s.x p.x; y = place_shifted s.y p.y; z = place_shifted s.z p.z }
+
+-- a frame with all its atoms shifted alike
+abbrev pub shifted_frame : Place3 → List Place3 → List Place3
+shifted_frame s frame = map (shifted s) frame
+
+abbrev pub shifted_atom : Place3 → AtomView → AtomView
+shifted_atom s a = record a { previous = shifted s a.previous; current = shifted s a.current }
+
+-- a state with both its frames shifted alike
+abbrev pub shifted_state : Place3 → StateView → StateView
+shifted_state s t = record t { atoms = map (shifted_atom s) t.atoms }
+
+-- two atoms that are shifted alike have the same force
+abbrev pub ForcesAreTranslated : Type 0
+ForcesAreTranslated = (s : Place3) (j : JobValue) (tree : Tree) (sides types : List ℕ) (pair : ℕ × ℕ) (a b : Place3) (v : Force ℤ)
+    → ArePlaces a → ArePlaces b → IsPairForce j tree sides types pair a b v → IsPairForce j tree sides types pair (shifted s a) (shifted s b) v
+
+-- n steps lead from two frames, both shifted alike, to the frames to which they lead from the two themselves, shifted
+-- alike
+abbrev pub StepsAreTranslated : Type 0
+StepsAreTranslated = (s : Place3) (j : JobValue) (tree : Tree) (sides types : List ℕ) (n : ℕ) (p c q e : List Place3)
+    → AreOfSameAtoms (frames p c) → Lead j tree sides types n p c q e → Lead j tree sides types n (shifted_frame s p) (shifted_frame s c) (shifted_frame s q) (shifted_frame s e)
+
+-- so they do with states, in both directions
+abbrev pub StatesAreTranslated : Type 0
+StatesAreTranslated = (s : Place3) (direction : Direction) (j : JobValue) (tree : Tree) (types : List ℕ) (n : ℕ) (before after : StateView)
+    → IsState before → Leads direction j tree types n before after → Leads direction j tree types n (shifted_state s before) (shifted_state s after)
+
+-- and a run from the text of the state that is shifted writes the text of the state that it would have written, shifted
+-- alike
+abbrev pub RunsAreTranslated : Type 0
+RunsAreTranslated = (s : Place3) (job state : List ℕ) (direction : Direction) (n : ℕ) (text : List ℕ) (run : IsLevesqueVerletRun job state direction n text)
+    → IsLevesqueVerletRun job (state_text (shifted_state s run.before)) direction n (state_text (shifted_state s run.after))
+
+-- the code of the job's slope is accepted for that state too
+abbrev pub TranslatedAreSafe : Type 0
+TranslatedAreSafe = (s : Place3) (job : List ℕ) (state : StateView) → IsState state → AreSafe job (state_text state) → AreSafe job (state_text (shifted_state s state))
+
+-- ---- axes
+
+-- which of x, y and z stands first, second and third
+pub data AxisOrder : Type 0 where
+  xyz : AxisOrder
+  xzy : AxisOrder
+  yxz : AxisOrder
+  yzx : AxisOrder
+  zxy : AxisOrder
+  zyx : AxisOrder
+
+-- three values, of x, of y and of z, in an order
+abbrev pub in_order : {X : Type 0} → AxisOrder → X → X → X → X × X × X
+in_order xyz x y z = (x, y, z)
+in_order xzy x y z = (x, z, y)
+in_order yxz x y z = (y, x, z)
+in_order yzx x y z = (y, z, x)
+in_order zxy x y z = (z, x, y)
+in_order zyx x y z = (z, y, x)
+
+abbrev pub reordered : AxisOrder → Place3 → Place3
+reordered o p = record { x = (in_order o p.x p.y p.z).0; y = (in_order o p.x p.y p.z).1; z = (in_order o p.x p.y p.z).2 }
+
+abbrev pub reordered_force : AxisOrder → Force ℤ → Force ℤ
+reordered_force o v = record { x = (in_order o v.x v.y v.z).0; y = (in_order o v.x v.y v.z).1; z = (in_order o v.x v.y v.z).2 }
+
+-- a state's sides are three numbers, x, y and z
+abbrev pub three_in_order : AxisOrder → ℕ → ℕ → ℕ → List ℕ
+three_in_order o x y z = (in_order o x y z).0 ∷ (in_order o x y z).1 ∷ (in_order o x y z).2 ∷ []
+
+abbrev pub reordered_sides : AxisOrder → List ℕ → List ℕ
+reordered_sides o sides = three_in_order o (slice_index sides 0) (slice_index sides 1) (slice_index sides 2)
+
+abbrev pub reordered_frame : AxisOrder → List Place3 → List Place3
+reordered_frame o frame = map (reordered o) frame
+
+abbrev pub reordered_atom : AxisOrder → AtomView → AtomView
+reordered_atom o a = record a { previous = reordered o a.previous; current = reordered o a.current }
+
+-- a state with its box and both its frames in that order
+abbrev pub reordered_state : AxisOrder → StateView → StateView
+reordered_state o t = record t { sides = reordered_sides o t.sides; atoms = map (reordered_atom o) t.atoms }
+
+-- the force of two atoms has its axes in the order in which they and the box have theirs
+abbrev pub ForcesAreReordered : Type 0
+ForcesAreReordered = (o : AxisOrder) (j : JobValue) (tree : Tree) (sides types : List ℕ) (pair : ℕ × ℕ) (a b : Place3) (v : Force ℤ)
+    → IsPairForce j tree sides types pair a b v → IsPairForce j tree (reordered_sides o sides) types pair (reordered o a) (reordered o b) (reordered_force o v)
+
+-- n steps lead from two frames in an order, in a box in that order, to the frames to which they lead from the two in
+-- the order x, y, z, in that order
+abbrev pub StepsAreReordered : Type 0
+StepsAreReordered = (o : AxisOrder) (j : JobValue) (tree : Tree) (sides types : List ℕ) (n : ℕ) (p c q e : List Place3)
+    → Lead j tree sides types n p c q e → Lead j tree (reordered_sides o sides) types n (reordered_frame o p) (reordered_frame o c) (reordered_frame o q) (reordered_frame o e)
+
+-- so they do with states, in both directions
+abbrev pub StatesAreReordered : Type 0
+StatesAreReordered = (o : AxisOrder) (direction : Direction) (j : JobValue) (tree : Tree) (types : List ℕ) (n : ℕ) (before after : StateView)
+    → Leads direction j tree types n before after → Leads direction j tree types n (reordered_state o before) (reordered_state o after)
+
+-- and a run from the text of the state in an order writes the text of the state that it would have written, in that
+-- order
+abbrev pub RunsAreReordered : Type 0
+RunsAreReordered = (o : AxisOrder) (job state : List ℕ) (direction : Direction) (n : ℕ) (text : List ℕ) (run : IsLevesqueVerletRun job state direction n text)
+    → IsLevesqueVerletRun job (state_text (reordered_state o run.before)) direction n (state_text (reordered_state o run.after))
+
+-- the code of the job's slope is accepted for that state too
+abbrev pub ReorderedAreSafe : Type 0
+ReorderedAreSafe = (o : AxisOrder) (job : List ℕ) (state : StateView) → IsState state → AreSafe job (state_text state) → AreSafe job (state_text (reordered_state o state))

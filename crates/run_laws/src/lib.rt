@@ -1,0 +1,6 @@
+//! Laws of runs, for every job and state.
+#![tactic(auto)]
+
+mod symmetries;
+
+pub use symmetries::{axes, translations};
