@@ -170,23 +170,23 @@ place_in_order o (p ∷ frame) zero = refl
 place_in_order o (p ∷ frame) (suc a) = place_in_order o frame a
 
 module _ (o : AxisOrder) (j : JobValue) (tree : Tree) (sides types : List ℕ) where
-  goes_along : GoAlong j tree sides (reordered_sides o sides) types (reordered o) (reordered_force o)
+  goes_along : GoAlong j tree sides (reordered_sides o sides) types (reordered o) (reordered o) (reordered o) (reordered_force o)
   goes_along = record { next = next_in_order o j tree sides types; sums = sums_in_order o }
 
   abbrev AreFrames : List Place3 → List Place3 → Type 0
   AreFrames p c = Unit {0}
 
-  step_along : (p c n : List Place3) → AreFrames p c → Follows j tree sides types p c n
+  step_along : (k : ℕ) (p c n : List Place3) → AreFrames p c → Follows j tree sides types p c n
       → AreFrames c n × Follows j tree (reordered_sides o sides) types (reordered_frame o p) (reordered_frame o c) (reordered_frame o n)
-  step_along p c n are r = (
+  step_along k p c n are r = (
     tt,
-    follows_along j tree sides (reordered_sides o sides) types (reordered o) (reordered_force o) goes_along p c n (λ a l. place_in_order o p a)
+    follows_along j tree sides (reordered_sides o sides) types (reordered o) (reordered o) (reordered o) (reordered_force o) goes_along p c n (λ a l. place_in_order o p a)
         (λ q is v h. forces_reordered o j tree sides types q (places_of c q.0) (places_of c q.1) v h) r,
   )
 
   steps_along : (n : ℕ) (p c q e : List Place3) → AreFrames p c → Lead j tree sides types n p c q e
       → Lead j tree (reordered_sides o sides) types n (reordered_frame o p) (reordered_frame o c) (reordered_frame o q) (reordered_frame o e)
-  steps_along = lead_along j tree sides (reordered_sides o sides) types (reordered o) (reordered_force o) AreFrames step_along
+  steps_along = lead_along j tree sides (reordered_sides o sides) types (λ k. reordered o) AreFrames step_along
 
 -- n steps lead from frames in an order of the axes to frames in that order
 pub steps_reordered : StepsAreReordered

@@ -42,76 +42,78 @@ pairs_weaker P Q n h (p ∷ ps) are all =
 
 -- ---- steps
 
-module _ (j : JobValue) (tree : Tree) (sides others types : List ℕ) (f : Place3 → Place3) (g : Force ℤ → Force ℤ) where
+-- three maps for the places of three frames, each of which follows the two before it, and one for forces
+module _ (j : JobValue) (tree : Tree) (sides others types : List ℕ) (first second third : Place3 → Place3) (g : Force ℤ → Force ℤ) where
   -- next places and sums of shares go along with the maps
   pub record GoAlong : Type 0 where
-    pub next : (m : ℕ) (p c : Place3) (v : Force ℤ) → next_of j tree others types m (f p) (f c) (g v) ≡ f (next_of j tree sides types m p c v)
+    pub next : (m : ℕ) (p c : Place3) (v : Force ℤ) → next_of j tree others types m (first p) (second c) (g v) ≡ third (next_of j tree sides types m p c v)
     pub sums : (force : ℕ × ℕ → Force ℤ) (ps : List (ℕ × ℕ)) (a : ℕ) → sum_of_shares (λ q. g (force q)) ps a ≡ g (sum_of_shares force ps a)
 
   -- so does the force of a pair of atoms at these places
   abbrev pub ForceGoesAlong : ℕ × ℕ → Place3 → Place3 → Type 0
-  ForceGoesAlong q a b = (v : Force ℤ) → IsPairForce j tree sides types q a b v → IsPairForce j tree others types q (f a) (f b) (g v)
+  ForceGoesAlong q a b = (v : Force ℤ) → IsPairForce j tree sides types q a b v → IsPairForce j tree others types q (second a) (second b) (g v)
 
   abbrev mass_of : ℕ → ℕ
   mass_of a = slice_index (map (λ t. (type_at j t).mass) types) a
 
-  moved_along : GoAlong → (p c n : List Place3) → ((a : ℕ) → a < length c → places_of (map f p) a ≡ f (places_of p a)) → (r : Follows j tree sides types p c n) → (a : ℕ) → a < length c
-      → places_of (map f n) a ≡ next_of j tree others types (mass_of a) (places_of (map f p) a) (places_of (map f c) a) (sum_of_shares (λ q. g (r.force q)) (pairs_of (length c)) a)
+  moved_along : GoAlong → (p c n : List Place3) → ((a : ℕ) → a < length c → places_of (map first p) a ≡ first (places_of p a)) → (r : Follows j tree sides types p c n) → (a : ℕ) → a < length c
+      → places_of (map third n) a ≡ next_of j tree others types (mass_of a) (places_of (map first p) a) (places_of (map second c) a) (sum_of_shares (λ q. g (r.force q)) (pairs_of (length c)) a)
   moved_along go p c n there r a l =
       let m = mass_of a in
       let sum = sum_of_shares r.force (pairs_of (length c)) a in
-      place_mapped f n a (omega (arith, l, r.atoms))
-      ∙ ap f (r.moved a l)
+      place_mapped third n a (omega (arith, l, r.atoms))
+      ∙ ap third (r.moved a l)
       ∙ sym (go.next m (places_of p a) (places_of c a) sum)
-      ∙ ap (λ x. next_of j tree others types m x (f (places_of c a)) (g sum)) (sym (there a l))
-      ∙ ap (λ y. next_of j tree others types m (places_of (map f p) a) y (g sum)) (sym (place_mapped f c a l))
-      ∙ ap (λ v. next_of j tree others types m (places_of (map f p) a) (places_of (map f c) a) v) (sym (go.sums r.force (pairs_of (length c)) a))
+      ∙ ap (λ x. next_of j tree others types m x (second (places_of c a)) (g sum)) (sym (there a l))
+      ∙ ap (λ y. next_of j tree others types m (places_of (map first p) a) y (g sum)) (sym (place_mapped second c a l))
+      ∙ ap (λ v. next_of j tree others types m (places_of (map first p) a) (places_of (map second c) a) v) (sym (go.sums r.force (pairs_of (length c)) a))
 
   forces_along : (c : List Place3) → ((q : ℕ × ℕ) → IsPairOf (length c) q → ForceGoesAlong q (places_of c q.0) (places_of c q.1)) → (force : ℕ × ℕ → Force ℤ)
       → All (λ q. IsPairForce j tree sides types q (places_of c q.0) (places_of c q.1) (force q)) (pairs_of (length c))
-      → All (λ q. IsPairForce j tree others types q (places_of (map f c) q.0) (places_of (map f c) q.1) (g (force q))) (pairs_of (length c))
+      → All (λ q. IsPairForce j tree others types q (places_of (map second c) q.0) (places_of (map second c) q.1) (g (force q))) (pairs_of (length c))
   forces_along c along force all =
       pairs_weaker (λ q. IsPairForce j tree sides types q (places_of c q.0) (places_of c q.1) (force q))
-      (λ q. IsPairForce j tree others types q (places_of (map f c) q.0) (places_of (map f c) q.1) (g (force q))) (length c)
+      (λ q. IsPairForce j tree others types q (places_of (map second c) q.0) (places_of (map second c) q.1) (g (force q))) (length c)
       (λ q is h.
       let below = is.below in
       let apart = is.apart in
-      subst (λ b. IsPairForce j tree others types q (places_of (map f c) q.0) b (g (force q))) (sym (place_mapped f c q.1 (omega arith)))
-      (subst (λ a. IsPairForce j tree others types q a (f (places_of c q.1)) (g (force q))) (sym (place_mapped f c q.0 (omega arith))) (along q is (force q) h)))
+      subst (λ b. IsPairForce j tree others types q (places_of (map second c) q.0) b (g (force q))) (sym (place_mapped second c q.1 (omega arith)))
+      (subst (λ a. IsPairForce j tree others types q a (second (places_of c q.1)) (g (force q))) (sym (place_mapped second c q.0 (omega arith))) (along q is (force q) h)))
       (pairs_of (length c)) (frame_pairs (length c) 0 (length c) (omega arith)) all
 
   -- so does a step
-  pub follows_along : GoAlong → (p c n : List Place3) → ((a : ℕ) → a < length c → places_of (map f p) a ≡ f (places_of p a))
+  pub follows_along : GoAlong → (p c n : List Place3) → ((a : ℕ) → a < length c → places_of (map first p) a ≡ first (places_of p a))
       → ((q : ℕ × ℕ) → IsPairOf (length c) q → ForceGoesAlong q (places_of c q.0) (places_of c q.1))
-      → Follows j tree sides types p c n → Follows j tree others types (map f p) (map f c) (map f n)
+      → Follows j tree sides types p c n → Follows j tree others types (map first p) (map second c) (map third n)
   follows_along go p c n there along r =
-      let size : length (map f c) ≡ length c = length-map c f in
+      let size : length (map second c) ≡ length c = length-map c second in
       record {
         force = λ q. g (r.force q);
-        forces = subst (λ m. All (λ q. IsPairForce j tree others types q (places_of (map f c) q.0) (places_of (map f c) q.1) (g (r.force q))) (pairs_of m)) (sym size) (forces_along c along r.force r.forces);
-        atoms = length-map n f ∙ r.atoms ∙ sym size;
+        forces = subst (λ m. All (λ q. IsPairForce j tree others types q (places_of (map second c) q.0) (places_of (map second c) q.1) (g (r.force q))) (pairs_of m)) (sym size) (forces_along c along r.force r.forces);
+        atoms = length-map n third ∙ r.atoms ∙ sym size;
         moved = λ a l.
-            subst (λ m. places_of (map f n) a ≡ next_of j tree others types (mass_of a) (places_of (map f p) a) (places_of (map f c) a) (sum_of_shares (λ q. g (r.force q)) (pairs_of m) a)) (sym size)
+            subst (λ m. places_of (map third n) a ≡ next_of j tree others types (mass_of a) (places_of (map first p) a) (places_of (map second c) a) (sum_of_shares (λ q. g (r.force q)) (pairs_of m) a)) (sym size)
             (moved_along go p c n there r a (omega (arith, l, size)));
       }
 
-  -- and n steps, where what a step needs of two frames the next step finds again
-  module _ (P : List Place3 → List Place3 → Type 0)
-      (step : (p c n : List Place3) → P p c → Follows j tree sides types p c n → P c n × Follows j tree others types (map f p) (map f c) (map f n)) where
-    kept : (n : ℕ) (frame : ℕ → List Place3) → P (frame 0) (frame 1) → ((k : ℕ) → k < n → Follows j tree sides types (frame k) (frame (suc k)) (frame (suc (suc k))))
-        → (k : ℕ) → k ≤ n → P (frame k) (frame (suc k))
-    kept n frame h steps zero l = h
-    kept n frame h steps (suc k) l = (step (frame k) (frame (suc k)) (frame (suc (suc k))) (kept n frame h steps k (omega (arith, l))) (steps k (omega (arith, l)))).0
+-- n steps go along with a map for each frame where each step does, and what it needs of two frames the next step finds
+-- again
+module _ (j : JobValue) (tree : Tree) (sides others types : List ℕ) (f : ℕ → Place3 → Place3) (P : List Place3 → List Place3 → Type 0)
+    (step : (k : ℕ) (p c n : List Place3) → P p c → Follows j tree sides types p c n → P c n × Follows j tree others types (map (f k) p) (map (f (suc k)) c) (map (f (suc (suc k))) n)) where
+  kept : (n : ℕ) (frame : ℕ → List Place3) → P (frame 0) (frame 1) → ((k : ℕ) → k < n → Follows j tree sides types (frame k) (frame (suc k)) (frame (suc (suc k))))
+      → (k : ℕ) → k ≤ n → P (frame k) (frame (suc k))
+  kept n frame h steps zero l = h
+  kept n frame h steps (suc k) l = (step k (frame k) (frame (suc k)) (frame (suc (suc k))) (kept n frame h steps k (omega (arith, l))) (steps k (omega (arith, l)))).0
 
-    pub lead_along : (n : ℕ) (p c q e : List Place3) → P p c → Lead j tree sides types n p c q e → Lead j tree others types n (map f p) (map f c) (map f q) (map f e)
-    lead_along n p c q e h r =
-        let first : P (r.frame 0) (r.frame 1) = subst (λ x. P x (r.frame 1)) (sym r.begins.0) (subst (λ x. P p x) (sym r.begins.1) h) in
-        record {
-          frame = λ k. map f (r.frame k);
-          begins = (ap (map f) r.begins.0, ap (map f) r.begins.1);
-          steps = λ k l. (step (r.frame k) (r.frame (suc k)) (r.frame (suc (suc k))) (kept n r.frame first r.steps k (omega (arith, l))) (r.steps k l)).1;
-          ends = (ap (map f) r.ends.0, ap (map f) r.ends.1);
-        }
+  pub lead_along : (n : ℕ) (p c q e : List Place3) → P p c → Lead j tree sides types n p c q e → Lead j tree others types n (map (f 0) p) (map (f 1) c) (map (f n) q) (map (f (suc n)) e)
+  lead_along n p c q e h r =
+      let start : P (r.frame 0) (r.frame 1) = subst (λ x. P x (r.frame 1)) (sym r.begins.0) (subst (λ x. P p x) (sym r.begins.1) h) in
+      record {
+        frame = λ k. map (f k) (r.frame k);
+        begins = (ap (map (f 0)) r.begins.0, ap (map (f 1)) r.begins.1);
+        steps = λ k l. (step k (r.frame k) (r.frame (suc k)) (r.frame (suc (suc k))) (kept n r.frame start r.steps k (omega (arith, l))) (r.steps k l)).1;
+        ends = (ap (map (f n)) r.ends.0, ap (map (f (suc n))) r.ends.1);
+      }
 
 -- ---- states
 

@@ -1,9 +1,10 @@
--- Two symmetries of the motion: no place is the first, and no axis is. Two more it hasn't. A mirror image of frames
--- doesn't lead to the mirror images: `component_of` is the floor of g a / d, so that the component along the mirrored
--- part isn't the negative of the other where the quotient isn't whole. Nor does another order of the atoms lead to the
--- same frames in that order: the force of a pair is found for the atom with the lower number, and the other has its
--- negative, which isn't the force that is found for it where a quotient isn't whole.
-use Rattle.std.specs.Prelude.{ℕ, ℤ, pos, ◌+ℤ◌, List, [], ◌∷◌, map, slice_index}
+-- Symmetries of the motion: no place is the first, no even drift of all atoms is, and no axis is. Two more it hasn't.
+-- The mirror images of frames need not lead to mirror images: `component_of` is the floor of g a / d, so that the
+-- component of the mirrored part isn't the negative of the other where the quotient isn't whole. Nor need frames with
+-- two atoms of one type exchanged lead to frames with these exchanged: the force of a pair is found for the atom with
+-- the lower number, and the other has its negative, which isn't what would be found for it where a quotient isn't
+-- whole.
+use Rattle.std.specs.Prelude.{ℕ, suc, ◌+◌, ◌*◌, ℤ, pos, ◌+ℤ◌, List, [], ◌∷◌, map, slice_index}
 use Rattle.energy_program.specs.Tree.{Tree}
 use Rattle.job.specs.Values.{JobValue}
 use Rattle.state.specs.StateText.{AtomView, IsState, StateView, state_text}
@@ -46,6 +47,15 @@ ForcesAreTranslated = (s : Place3) (j : JobValue) (tree : Tree) (sides types : L
 abbrev pub StepsAreTranslated : Type 0
 StepsAreTranslated = (s : Place3) (j : JobValue) (tree : Tree) (sides types : List ℕ) (n : ℕ) (p c q e : List Place3)
     → AreOfSameAtoms (frames p c) → Lead j tree sides types n p c q e → Lead j tree sides types n (shifted_frame s p) (shifted_frame s c) (shifted_frame s q) (shifted_frame s e)
+
+-- the shift of the frame k, which is s at the frame 0 and grows by d from each frame to the next
+abbrev pub drifted : Place3 → Place3 → ℕ → Place3
+drifted s d k = record { x = s.x + k * d.x; y = s.y + k * d.y; z = s.z + k * d.z }
+
+-- so they lead where the shift grows by as much in each step: an even drift of all atoms together changes nothing else
+abbrev pub StepsDrift : Type 0
+StepsDrift = (s d : Place3) (j : JobValue) (tree : Tree) (sides types : List ℕ) (n : ℕ) (p c q e : List Place3) → AreOfSameAtoms (frames p c) → Lead j tree sides types n p c q e
+    → Lead j tree sides types n (shifted_frame (drifted s d 0) p) (shifted_frame (drifted s d 1) c) (shifted_frame (drifted s d n) q) (shifted_frame (drifted s d (suc n)) e)
 
 -- so they do with states, in both directions
 abbrev pub StatesAreTranslated : Type 0

@@ -1,4 +1,4 @@
-use Rattle.run_laws.proofs.TranslationLaws.{forces_translated, runs_translated, states_translated, steps_translated, translated_are_safe}
+use Rattle.run_laws.proofs.TranslationLaws.{forces_translated, runs_translated, states_translated, steps_drift, steps_translated, translated_are_safe}
 use Rattle.run_laws.proofs.symmetries.translations.Goals as goal
 
 pub returns-clause-forces : goal.returns-clause-forces
@@ -6,6 +6,9 @@ returns-clause-forces c = forces_translated
 
 pub returns-clause-steps : goal.returns-clause-steps
 returns-clause-steps c = steps_translated
+
+pub returns-clause-drift : goal.returns-clause-drift
+returns-clause-drift c = steps_drift
 
 pub returns-clause-states : goal.returns-clause-states
 returns-clause-states c = states_translated
