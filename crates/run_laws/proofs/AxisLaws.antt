@@ -20,8 +20,17 @@ use Rattle.ring_box.specs.declared.vectors.Place3.{Place3}
 use Rattle.integrator.specs.Forces.{negative, plus, share_of, sum_of_shares}
 use Rattle.integrator.specs.Starts.{ring_of, system_of, types_of}
 use Rattle.engine.specs.Headline.{Follows, HasRoom, Lead, box_of, far, near, next_of, together}
-use Rattle.run_laws.specs.Symmetries.{AxisOrder, ForcesAreReordered, ReorderedAreSafe, RunsAreReordered, StatesAreReordered, StepsAreReordered, in_order, reordered, reordered_atom, reordered_force, reordered_frame, reordered_sides, reordered_state, three_in_order, xyz, xzy, yxz, yzx, zxy, zyx}
+use Rattle.run_laws.specs.Symmetries.{AxisOrder, ForcesAreReordered, OrdersAreUndone, ReorderedAreSafe, RunsAreReordered, StatesAreReordered, StepsAreReordered, in_order, reordered, reordered_atom, reordered_force, reordered_frame, reordered_sides, reordered_state, three_in_order, xyz, xzy, yxz, yzx, zxy, zyx}
 use Rattle.run_laws.proofs.SymmetryLemmas.{GoAlong, follows_along, lead_along, leads_along, mapped_state, run_along, safe_along, state_is, system_mapped}
+
+-- the cycles undo one another, and an exchange undoes itself
+pub orders_are_undone : OrdersAreUndone
+orders_are_undone xyz = (xyz, λ p. refl)
+orders_are_undone xzy = (xzy, λ p. refl)
+orders_are_undone yxz = (yxz, λ p. refl)
+orders_are_undone yzx = (zxy, λ p. refl)
+orders_are_undone zxy = (yzx, λ p. refl)
+orders_are_undone zyx = (zyx, λ p. refl)
 
 -- ---- the separation of two atoms
 

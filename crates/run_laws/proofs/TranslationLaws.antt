@@ -19,7 +19,7 @@ use Rattle.integrator.specs.Displacement.{next_place_of}
 use Rattle.integrator.specs.Frames.{AreOfSameAtoms, frames}
 use Rattle.integrator.proofs.ReturnLaws.{frames_are}
 use Rattle.engine.specs.Headline.{Follows, Lead, box_of, far, near, next_of, together}
-use Rattle.run_laws.specs.Symmetries.{ForcesAreTranslated, RunsAreTranslated, StatesAreTranslated, StepsAreTranslated, StepsDrift, TranslatedAreSafe, drifted, place_shifted, shifted, shifted_atom, shifted_frame, shifted_state}
+use Rattle.run_laws.specs.Symmetries.{ForcesAreTranslated, RunsAreTranslated, ShiftsAreUndone, StatesAreTranslated, StepsAreTranslated, StepsDrift, TranslatedAreSafe, drifted, place_shifted, shifted, shifted_atom, shifted_frame, shifted_state}
 use Rattle.run_laws.proofs.SymmetryLemmas.{follows_along, lead_along, leads_along, place_mapped, run_along, safe_along, state_is, system_mapped}
 
 -- ---- one axis
@@ -53,6 +53,16 @@ next_shifted p c s t u d m =
     let x = next_place_of p c d in
     place_of_turns (pos (2 * place_shifted t c) -ℤ pos (place_shifted s p) +ℤ d) (place_shifted u x) (k.0 +ℤ l.0 +ℤ j.0 -ℤ i.0 -ℤ i.0) (place_below (pos x +ℤ pos u))
     (turns_left p c s t u (place_shifted s p) (place_shifted t c) x (place_shifted u x) d i.0 j.0 k.0 l.0 m i.1 j.1 k.1 l.1)
+
+back_again : (x s : ℕ) → x < 2 ^ 32 → place_shifted (2 ^ 32 - s % 2 ^ 32) (place_shifted s x) ≡ x
+back_again x s h = omega arith
+
+-- a shift by the rest of a turn leads back
+pub shifts_are_undone : ShiftsAreUndone
+shifts_are_undone s = (
+  record { x = 2 ^ 32 - s.x % 2 ^ 32; y = 2 ^ 32 - s.y % 2 ^ 32; z = 2 ^ 32 - s.z % 2 ^ 32 },
+  λ p h. rw (back_again p.x s.x h.x, back_again p.y s.y h.y, back_again p.z s.z h.z) refl,
+)
 
 -- ---- the force of a pair
 

@@ -4,7 +4,7 @@
 -- two atoms of one type exchanged lead to frames with these exchanged: the force of a pair is found for the atom with
 -- the lower number, and the other has its negative, which isn't what would be found for it where a quotient isn't
 -- whole.
-use Rattle.std.specs.Prelude.{ℕ, suc, ◌+◌, ◌*◌, ℤ, pos, ◌+ℤ◌, List, [], ◌∷◌, map, slice_index}
+use Rattle.std.specs.Prelude.{◌≡◌, ℕ, suc, ◌+◌, ◌*◌, ℤ, pos, ◌+ℤ◌, List, [], ◌∷◌, map, slice_index}
 use Rattle.energy_program.specs.Tree.{Tree}
 use Rattle.job.specs.Values.{JobValue}
 use Rattle.state.specs.StateText.{AtomView, IsState, StateView, state_text}
@@ -31,42 +31,46 @@ abbrev pub shifted_frame : Place3 → List Place3 → List Place3
 shifted_frame s frame = map (shifted s) frame
 
 abbrev pub shifted_atom : Place3 → AtomView → AtomView
-shifted_atom s a = record a { previous = shifted s a.previous; current = shifted s a.current }
+shifted_atom s atom = record atom { previous = shifted s atom.previous; current = shifted s atom.current }
 
 -- a state with both its frames shifted alike
 abbrev pub shifted_state : Place3 → StateView → StateView
-shifted_state s t = record t { atoms = map (shifted_atom s) t.atoms }
+shifted_state s state = record state { atoms = map (shifted_atom s) state.atoms }
+
+-- another shift leads back
+abbrev pub ShiftsAreUndone : Type 0
+ShiftsAreUndone = (s : Place3) → (back : Place3) × ((p : Place3) → ArePlaces p → shifted back (shifted s p) ≡ p)
 
 -- two atoms that are shifted alike have the same force
 abbrev pub ForcesAreTranslated : Type 0
 ForcesAreTranslated = (s : Place3) (j : JobValue) (tree : Tree) (sides types : List ℕ) (pair : ℕ × ℕ) (a b : Place3) (v : Force ℤ)
     → ArePlaces a → ArePlaces b → IsPairForce j tree sides types pair a b v → IsPairForce j tree sides types pair (shifted s a) (shifted s b) v
 
--- n steps lead from two frames, both shifted alike, to the frames to which they lead from the two themselves, shifted
+-- k steps lead from two frames, both shifted alike, to the frames to which they lead from the two themselves, shifted
 -- alike
 abbrev pub StepsAreTranslated : Type 0
-StepsAreTranslated = (s : Place3) (j : JobValue) (tree : Tree) (sides types : List ℕ) (n : ℕ) (p c q e : List Place3)
-    → AreOfSameAtoms (frames p c) → Lead j tree sides types n p c q e → Lead j tree sides types n (shifted_frame s p) (shifted_frame s c) (shifted_frame s q) (shifted_frame s e)
+StepsAreTranslated = (s : Place3) (j : JobValue) (tree : Tree) (sides types : List ℕ) (k : ℕ) (p c p' c' : List Place3)
+    → AreOfSameAtoms (frames p c) → Lead j tree sides types k p c p' c' → Lead j tree sides types k (shifted_frame s p) (shifted_frame s c) (shifted_frame s p') (shifted_frame s c')
 
--- the shift of the frame k, which is s at the frame 0 and grows by d from each frame to the next
+-- the shift of the frame t, which is s at the frame 0 and grows by d from each frame to the next
 abbrev pub drifted : Place3 → Place3 → ℕ → Place3
-drifted s d k = record { x = s.x + k * d.x; y = s.y + k * d.y; z = s.z + k * d.z }
+drifted s d t = record { x = s.x + t * d.x; y = s.y + t * d.y; z = s.z + t * d.z }
 
 -- so they lead where the shift grows by as much in each step: an even drift of all atoms together changes nothing else
 abbrev pub StepsDrift : Type 0
-StepsDrift = (s d : Place3) (j : JobValue) (tree : Tree) (sides types : List ℕ) (n : ℕ) (p c q e : List Place3) → AreOfSameAtoms (frames p c) → Lead j tree sides types n p c q e
-    → Lead j tree sides types n (shifted_frame (drifted s d 0) p) (shifted_frame (drifted s d 1) c) (shifted_frame (drifted s d n) q) (shifted_frame (drifted s d (suc n)) e)
+StepsDrift = (s d : Place3) (j : JobValue) (tree : Tree) (sides types : List ℕ) (k : ℕ) (p c p' c' : List Place3) → AreOfSameAtoms (frames p c) → Lead j tree sides types k p c p' c'
+    → Lead j tree sides types k (shifted_frame (drifted s d 0) p) (shifted_frame (drifted s d 1) c) (shifted_frame (drifted s d k) p') (shifted_frame (drifted s d (suc k)) c')
 
 -- so they do with states, in both directions
 abbrev pub StatesAreTranslated : Type 0
-StatesAreTranslated = (s : Place3) (direction : Direction) (j : JobValue) (tree : Tree) (types : List ℕ) (n : ℕ) (before after : StateView)
-    → IsState before → Leads direction j tree types n before after → Leads direction j tree types n (shifted_state s before) (shifted_state s after)
+StatesAreTranslated = (s : Place3) (direction : Direction) (j : JobValue) (tree : Tree) (types : List ℕ) (k : ℕ) (before after : StateView)
+    → IsState before → Leads direction j tree types k before after → Leads direction j tree types k (shifted_state s before) (shifted_state s after)
 
 -- and a run from the text of the state that is shifted writes the text of the state that it would have written, shifted
 -- alike
 abbrev pub RunsAreTranslated : Type 0
-RunsAreTranslated = (s : Place3) (job state : List ℕ) (direction : Direction) (n : ℕ) (text : List ℕ) (run : IsLevesqueVerletRun job state direction n text)
-    → IsLevesqueVerletRun job (state_text (shifted_state s run.before)) direction n (state_text (shifted_state s run.after))
+RunsAreTranslated = (s : Place3) (job state : List ℕ) (direction : Direction) (k : ℕ) (text : List ℕ) (run : IsLevesqueVerletRun job state direction k text)
+    → IsLevesqueVerletRun job (state_text (shifted_state s run.before)) direction k (state_text (shifted_state s run.after))
 
 -- the code of the job's slope is accepted for that state too
 abbrev pub TranslatedAreSafe : Type 0
@@ -109,33 +113,37 @@ abbrev pub reordered_frame : AxisOrder → List Place3 → List Place3
 reordered_frame o frame = map (reordered o) frame
 
 abbrev pub reordered_atom : AxisOrder → AtomView → AtomView
-reordered_atom o a = record a { previous = reordered o a.previous; current = reordered o a.current }
+reordered_atom o atom = record atom { previous = reordered o atom.previous; current = reordered o atom.current }
 
 -- a state with its box and both its frames in that order
 abbrev pub reordered_state : AxisOrder → StateView → StateView
-reordered_state o t = record t { sides = reordered_sides o t.sides; atoms = map (reordered_atom o) t.atoms }
+reordered_state o state = record state { sides = reordered_sides o state.sides; atoms = map (reordered_atom o) state.atoms }
+
+-- another order leads back
+abbrev pub OrdersAreUndone : Type 0
+OrdersAreUndone = (o : AxisOrder) → (back : AxisOrder) × ((p : Place3) → reordered back (reordered o p) ≡ p)
 
 -- the force of two atoms has its axes in the order in which they and the box have theirs
 abbrev pub ForcesAreReordered : Type 0
 ForcesAreReordered = (o : AxisOrder) (j : JobValue) (tree : Tree) (sides types : List ℕ) (pair : ℕ × ℕ) (a b : Place3) (v : Force ℤ)
     → IsPairForce j tree sides types pair a b v → IsPairForce j tree (reordered_sides o sides) types pair (reordered o a) (reordered o b) (reordered_force o v)
 
--- n steps lead from two frames in an order, in a box in that order, to the frames to which they lead from the two in
+-- k steps lead from two frames in an order, in a box in that order, to the frames to which they lead from the two in
 -- the order x, y, z, in that order
 abbrev pub StepsAreReordered : Type 0
-StepsAreReordered = (o : AxisOrder) (j : JobValue) (tree : Tree) (sides types : List ℕ) (n : ℕ) (p c q e : List Place3)
-    → Lead j tree sides types n p c q e → Lead j tree (reordered_sides o sides) types n (reordered_frame o p) (reordered_frame o c) (reordered_frame o q) (reordered_frame o e)
+StepsAreReordered = (o : AxisOrder) (j : JobValue) (tree : Tree) (sides types : List ℕ) (k : ℕ) (p c p' c' : List Place3)
+    → Lead j tree sides types k p c p' c' → Lead j tree (reordered_sides o sides) types k (reordered_frame o p) (reordered_frame o c) (reordered_frame o p') (reordered_frame o c')
 
 -- so they do with states, in both directions
 abbrev pub StatesAreReordered : Type 0
-StatesAreReordered = (o : AxisOrder) (direction : Direction) (j : JobValue) (tree : Tree) (types : List ℕ) (n : ℕ) (before after : StateView)
-    → Leads direction j tree types n before after → Leads direction j tree types n (reordered_state o before) (reordered_state o after)
+StatesAreReordered = (o : AxisOrder) (direction : Direction) (j : JobValue) (tree : Tree) (types : List ℕ) (k : ℕ) (before after : StateView)
+    → Leads direction j tree types k before after → Leads direction j tree types k (reordered_state o before) (reordered_state o after)
 
 -- and a run from the text of the state in an order writes the text of the state that it would have written, in that
 -- order
 abbrev pub RunsAreReordered : Type 0
-RunsAreReordered = (o : AxisOrder) (job state : List ℕ) (direction : Direction) (n : ℕ) (text : List ℕ) (run : IsLevesqueVerletRun job state direction n text)
-    → IsLevesqueVerletRun job (state_text (reordered_state o run.before)) direction n (state_text (reordered_state o run.after))
+RunsAreReordered = (o : AxisOrder) (job state : List ℕ) (direction : Direction) (k : ℕ) (text : List ℕ) (run : IsLevesqueVerletRun job state direction k text)
+    → IsLevesqueVerletRun job (state_text (reordered_state o run.before)) direction k (state_text (reordered_state o run.after))
 
 -- the code of the job's slope is accepted for that state too
 abbrev pub ReorderedAreSafe : Type 0

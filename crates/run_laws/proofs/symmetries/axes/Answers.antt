@@ -1,4 +1,4 @@
-use Rattle.run_laws.proofs.AxisLaws.{forces_reordered, reordered_are_safe, runs_reordered, states_reordered, steps_reordered}
+use Rattle.run_laws.proofs.AxisLaws.{forces_reordered, orders_are_undone, reordered_are_safe, runs_reordered, states_reordered, steps_reordered}
 use Rattle.run_laws.proofs.symmetries.axes.Goals as goal
 
 pub returns-clause-forces : goal.returns-clause-forces
@@ -15,3 +15,6 @@ returns-clause-runs c = runs_reordered
 
 pub returns-clause-safe : goal.returns-clause-safe
 returns-clause-safe c = reordered_are_safe
+
+pub returns-clause-undone : goal.returns-clause-undone
+returns-clause-undone c = orders_are_undone

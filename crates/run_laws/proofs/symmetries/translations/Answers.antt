@@ -1,4 +1,4 @@
-use Rattle.run_laws.proofs.TranslationLaws.{forces_translated, runs_translated, states_translated, steps_drift, steps_translated, translated_are_safe}
+use Rattle.run_laws.proofs.TranslationLaws.{forces_translated, runs_translated, shifts_are_undone, states_translated, steps_drift, steps_translated, translated_are_safe}
 use Rattle.run_laws.proofs.symmetries.translations.Goals as goal
 
 pub returns-clause-forces : goal.returns-clause-forces
@@ -18,3 +18,6 @@ returns-clause-runs c = runs_translated
 
 pub returns-clause-safe : goal.returns-clause-safe
 returns-clause-safe c = translated_are_safe
+
+pub returns-clause-undone : goal.returns-clause-undone
+returns-clause-undone c = shifts_are_undone
