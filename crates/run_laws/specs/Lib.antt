@@ -1,0 +1,2 @@
+pub mod EngineSteps
+pub mod RunTexts

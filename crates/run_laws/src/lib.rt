@@ -1,0 +1,9 @@
+//! Laws of runs, for every job and state: of the headline's own relations, and of the steps of an engine. None of them
+//! computes anything: each is a function whose contract is the law.
+#![tactic(auto)]
+
+mod engine_steps;
+mod run_texts;
+
+pub use engine_steps::{steps_add, steps_return};
+pub use run_texts::{runs_are_accepted, runs_are_told, runs_return, runs_stay_safe};
