@@ -1,1 +1,4 @@
+pub mod SumLaws
+pub mod ThirdLaw
+pub mod MomentumLaws
 pub mod AcceptedRuns

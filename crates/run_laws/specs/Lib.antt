@@ -1,2 +1,4 @@
 pub mod EngineSteps
 pub mod RunTexts
+pub mod AtomSums
+pub mod Momentum

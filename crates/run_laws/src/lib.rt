@@ -3,7 +3,9 @@
 #![tactic(auto)]
 
 mod engine_steps;
+mod momentum;
 mod run_texts;
 
 pub use engine_steps::{steps_add, steps_return};
+pub use momentum::{momentum_is_kept_within, newtons_third_law};
 pub use run_texts::{runs_are_accepted, runs_are_told, runs_return, runs_stay_safe};
