@@ -1,4 +1,9 @@
+pub mod Pigeonhole
+pub mod FrameNumbers
 pub mod SumLaws
 pub mod ThirdLaw
 pub mod MomentumLaws
+pub mod FrameRecurrence
+pub mod LeadLaws
 pub mod AcceptedRuns
+pub mod AcceptedFrames

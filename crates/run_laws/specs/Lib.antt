@@ -2,3 +2,4 @@ pub mod EngineSteps
 pub mod RunTexts
 pub mod AtomSums
 pub mod Momentum
+pub mod Motions
