@@ -1,0 +1,12 @@
+pub mod Pigeonhole
+pub mod FrameNumbers
+pub mod SumLaws
+pub mod ThirdLaw
+pub mod MomentumLaws
+pub mod FrameRecurrence
+pub mod LeadLaws
+pub mod AcceptedRuns
+pub mod AcceptedFrames
+pub mod SymmetryLemmas
+pub mod TranslationLaws
+pub mod AxisLaws
