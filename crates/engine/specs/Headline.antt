@@ -2,10 +2,10 @@
 -- number of steps and a text. It is told by relations; the page names no code, no machine and no order of work.
 --
 -- It stands on the texts of jobs, energies and states (`IsJobText`, `IsEnergy`, `state_text`), on the table of slopes
--- (`slope_of`), on the geometry of a periodic box, and on the step of one coordinate. MODEL lists the files below it in
--- the order of reading. Not all below is told by relations: that no line of a job has a fault is the readers' own
--- function `line_fault`, a job's numerals go by the function `reading_of`, and what an energy's definitions are used
--- for by `source_meaning`. Such a function answers Ok with a value, or Err with a fault; the page asks for the value.
+-- (`slope_of`), on the geometry of a periodic box, and on the step of one coordinate; on no reader. MODEL lists the
+-- files below it in the order of reading. Some functions below answer Ok with a value or Err with a fault, as the
+-- operations on numbers do, and `source_meaning` for what the definitions of an energy stand for: the page asks for the
+-- value.
 --
 -- Units. A place is a whole number below 2^32, as many of which divide each side. Sides are in 10^-5 nm, masses in
 -- 10^-5 u, the time step is in fs. Energies are in kJ/mol and distances in nm, each with `bits` bits behind the point
