@@ -8,6 +8,7 @@ whether the one that they end with is changed just so:
 
 - third law: the exact sums of the forces on all atoms, in 2^-bits kJ/mol/nm;
 - translation: all atoms moved by the same places, round the ring;
+- drift: all atoms given the same velocity besides, so that they are moved by as many places more in each frame;
 - axes: x, y and z of places and sides put into each other order;
 - reversal: the run back, from the frames exchanged, and by `back`;
 - mirror image: all x turned to -x;
@@ -15,7 +16,7 @@ whether the one that they end with is changed just so:
 - momentum: by how much a step changed that of all atoms at most, in places times 10^-5 u a step, and half the sum of
   the masses, which no step can pass.
 
-The first four and the last are laws, proved for every job and state that are accepted. Mirror image and exchange
+The first five and the last are laws, proved for every job and state that are accepted. Mirror image and exchange
 aren't kept: a force's components are rounded down, and that of a pair is found for the atom with the lower number.
 """
 import argparse
@@ -71,6 +72,14 @@ def changed(state, place=lambda p: p, order=None, sides=None):
     return other
 
 
+def shifted(state, was, now):
+    """The state with its two frames moved by so many places, round the ring."""
+    other = State(state.text())
+    for frame, by in ((other.before, was), (other.now, now)):
+        frame[:] = [[(x + move) % PLACES for x, move in zip(place, by)] for place in frame]
+    return other
+
+
 def turned(order):
     return lambda three: [three[at] for at in order]
 
@@ -92,8 +101,10 @@ def main():
         return runs.after(changed(state, **change), steps).text() == changed(end, **change).text()
 
     print("third law    sums", *map(sum, zip(*runs.forces(state))))
-    shift = (1, PLACES // 2, PLACES - 12345)
-    print("translation ", verdict(keeps(place=lambda p: [(x + by) % PLACES for x, by in zip(p, shift)])))
+    shift, drift = (1, PLACES // 2, PLACES - 12345), (7, 100_000, PLACES // 3)
+    print("translation ", verdict(runs.after(shifted(state, shift, shift), steps).text() == shifted(end, shift, shift).text()))
+    begun, ended = [[t * by for by in drift] for t in (0, 1)], [[t * by for by in drift] for t in (steps, steps + 1)]
+    print("drift       ", verdict(runs.after(shifted(state, *begun), steps).text() == shifted(end, *ended).text()))
     orders = list(itertools.permutations(range(3)))[1:]
     print("axes        ", verdict(all(keeps(place=turned(it), sides=turned(it)) for it in orders)))
     print("reversal    ", verdict(runs.after(end, steps, "back").text() == state.text() and exchanged_comes_back(runs, state, end, steps)))
