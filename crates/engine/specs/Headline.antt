@@ -12,12 +12,13 @@
 -- (24, 32 or 40, by the job): a number z stands for z / 2^bits. So slopes and forces are in 2^-bits kJ/mol/nm, and core
 -- and cutoff in 2^-bits nm.
 --
--- Letters. `pair` is two atoms, the lower first, and i one atom, numbered from 0; p, c and n are the previous, the
--- current and the next frame; a and b are places, v a force, m a mass, r a distance, j a job. k counts steps, t frames.
+-- Letters. `pair` is two atoms, the lower first, and i one atom; p, c and n are the previous, the current and the next
+-- frame; a and b are places, v a force, m a mass, r a distance; j is a job and s a state. k counts steps and t frames;
+-- `number` is a type's. Atoms, types and frames are numbered from 0.
 --
--- Declared with the code: a Direction is Forward or Back; a Frac is F24, F32 or F40, and `bits_of` gives the 24, 32 or
--- 40; a RingBox has the sides x, y and z; a Place3 has a place x, y and z, one on each axis; a Force has its components
--- x, y and z. `pos n` is the whole number n, and `negsuc n` is -(n + 1).
+-- Declared with the code: a Direction is Forward or Back; a Frac is F24, F32 or F40, and `bits_of` gives its 24, 32 or
+-- 40; a RingBox has three sides, x, y and z, a Place3 a place on each axis, and a Force its component on each. `pos n`
+-- is the whole number n, `negsuc n` is -(n + 1), and `suc n` is n + 1.
 --
 -- "No text". Where the texts are no job's or no state's, where they don't fit each other, where the slope of a pair on
 -- the way has no value, or where the counter would leave 64 bits, the page relates no text to them. Where two things
