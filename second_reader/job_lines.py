@@ -152,7 +152,7 @@ def energy(line):
 
 
 def one(line, key):
-    """job/specs/JobLines: HasOne, the one word behind the key."""
+    """job/specs/JobLines: HasOneWord, the one word behind the key."""
     ws = behind(line, key)
     return ws[0] if ws is not None and len(ws) == 1 else None
 
@@ -208,7 +208,7 @@ def type_value(frac, line):
 
 
 def line_values(frac, line):
-    """job/specs/JobLines: IsLine, all that the line says, its numerals read at these fraction bits: a core; a cutoff of
+    """job/specs/JobLines: LineSays, all that the line says, its numerals read at these fraction bits: a core; a cutoff of
     more than 0 and at most 80 nm; a time step of 1 to 1000 fs; 1 to 65,536 slices; 24, 32 or 40 fraction bits; the name
     of a parameter; and the lines above.
     """

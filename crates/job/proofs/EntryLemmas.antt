@@ -12,7 +12,7 @@ use Rattle.line_text.proofs.WordLaws.{words_none, words_some}
 use Rattle.job.specs.declared.faults.Key.{Key}
 use Rattle.job.specs.declared.faults.Key.TheVariants as keys
 use Rattle.job.specs.Forms.{is_type_name}
-use Rattle.job.specs.JobLines.{LineValue, says_nothing, says_energy, says_core, says_cutoff, says_time_step, says_slices, says_bits, says_parameter, says_global, says_type, IsEnergyLine, HasOne, IsLine}
+use Rattle.job.specs.JobLines.{LineValue, says_nothing, says_energy, says_core, says_cutoff, says_time_step, says_slices, says_bits, says_parameter, says_global, says_type, IsEnergyLine, HasOneWord, LineSays}
 use Rattle.job.specs.Numbers.{Reading, both, alone, numeral_of, signed_of, values_of, cutoff_of, whole_of, frac_of, mass_of}
 use Rattle.job.specs.Statements.{Statement, skipped, energy_is, core_is, cutoff_is, time_step_is, slices_is, parameter_is, global_is, type_is, bits_is, well_formed, energy_statement, parameter_statement, global_statement, type_statement, key_among, key_of, key_statement, words_statement, entry_of}
 use Rattle.job.proofs.NumberTexts.{number_ok, number_again, signed_ok, signed_again, both_ok, values_ok, values_again, whole_ok, whole_again, cutoff_ok, cutoff_again, frac_ok, frac_again, mass_ok, mass_again}
@@ -165,69 +165,69 @@ alone_ok read (w ∷ v ∷ ws) x e = absurd cc
 module _ (frac : Frac) (line : List ℕ) (v : LineValue) where
   -- a key with one number
   one_ok : {X : Type 0} (key : Key) (make : Option X → Statement) (say : X → LineValue) (read : List ℕ → Reading X) (Is : List ℕ → X → Type 0) → ((o : Option X) → value_said (make o) ≡ option_map say o)
-      → ((word : List ℕ) (x : X) → read word ≡ Ok x → Is word x) → ((x : X) → HasOne line (key_word key) (λ word. Is word x) → IsLine frac line (say x))
-      → words line ≡ key_word key ∷ words (after_word line) → option_and_then value_said (option_map make (well_formed (alone read (words (after_word line))))) ≡ Some v → IsLine frac line v
+      → ((word : List ℕ) (x : X) → read word ≡ Ok x → Is word x) → ((x : X) → HasOneWord line (key_word key) (λ word. Is word x) → LineSays frac line (say x))
+      → words line ≡ key_word key ∷ words (after_word line) → option_and_then value_said (option_map make (well_formed (alone read (words (after_word line))))) ≡ Some v → LineSays frac line v
   one_ok key make say read Is made is line_is all e =
       let n = number_said make say made (alone read (words (after_word line))) v e in
       let a = alone_ok read (words (after_word line)) n.0 n.1 in
-      subst (λ (u : LineValue). IsLine frac line u) n.2 (line_is n.0 (a.0, all ∙ ap (λ (ws : List (List ℕ)). key_word key ∷ ws) a.1, is a.0 n.0 a.2))
+      subst (λ (u : LineValue). LineSays frac line u) n.2 (line_is n.0 (a.0, all ∙ ap (λ (ws : List (List ℕ)). key_word key ∷ ws) a.1, is a.0 n.0 a.2))
 
-  energy_ok : words line ≡ codes "energy" ∷ words (after_word line) → option_and_then value_said (energy_statement (without_blanks (after_word line))) ≡ Some v → IsLine frac line v
+  energy_ok : words line ≡ codes "energy" ∷ words (after_word line) → option_and_then value_said (energy_statement (without_blanks (after_word line))) ≡ Some v → LineSays frac line v
   energy_ok all e = at (without_blanks (after_word line)) refl e
     where
-      at : (text : List ℕ) → without_blanks (after_word line) ≡ text → option_and_then value_said (energy_statement text) ≡ Some v → IsLine frac line v
+      at : (text : List ℕ) → without_blanks (after_word line) ≡ text → option_and_then value_said (energy_statement text) ≡ Some v → LineSays frac line v
       at [] is h = absurd cc
       at (b ∷ bs) is h =
-          subst (λ (u : LineValue). IsLine frac line u) (same_some (says_energy (b ∷ bs)) v h)
+          subst (λ (u : LineValue). LineSays frac line u) (same_some (says_energy (b ∷ bs)) v h)
           (record { others = words (after_word line); key = all; text_is = is; some = omega arith })
 
-  parameter_ok : words line ≡ codes "parameter" ∷ words (after_word line) → option_and_then value_said (parameter_statement (words (after_word line))) ≡ Some v → IsLine frac line v
+  parameter_ok : words line ≡ codes "parameter" ∷ words (after_word line) → option_and_then value_said (parameter_statement (words (after_word line))) ≡ Some v → LineSays frac line v
   parameter_ok all e = at (words (after_word line)) all e
     where
-      named : (name : List ℕ) → words line ≡ codes "parameter" ∷ name ∷ [] → (b : Bool) → is_identifier name ≡ b → option_and_then value_said (if b then Some (parameter_is name) else None) ≡ Some v → IsLine frac line v
+      named : (name : List ℕ) → words line ≡ codes "parameter" ∷ name ∷ [] → (b : Bool) → is_identifier name ≡ b → option_and_then value_said (if b then Some (parameter_is name) else None) ≡ Some v → LineSays frac line v
       named name is false i h = absurd cc
-      named name is true i h = subst (λ (u : LineValue). IsLine frac line u) (same_some (says_parameter name) v h) (name, is, (refl, i))
+      named name is true i h = subst (λ (u : LineValue). LineSays frac line u) (same_some (says_parameter name) v h) (name, is, (refl, i))
 
-      at : (ws : List (List ℕ)) → words line ≡ codes "parameter" ∷ ws → option_and_then value_said (parameter_statement ws) ≡ Some v → IsLine frac line v
+      at : (ws : List (List ℕ)) → words line ≡ codes "parameter" ∷ ws → option_and_then value_said (parameter_statement ws) ≡ Some v → LineSays frac line v
       at [] is h = absurd cc
       at (name ∷ []) is h = named name is (is_identifier name) refl h
       at (name ∷ w ∷ ws) is h = absurd cc
 
-  global_ok : words line ≡ codes "global" ∷ words (after_word line) → option_and_then value_said (global_statement frac (words (after_word line))) ≡ Some v → IsLine frac line v
+  global_ok : words line ≡ codes "global" ∷ words (after_word line) → option_and_then value_said (global_statement frac (words (after_word line))) ≡ Some v → LineSays frac line v
   global_ok all e = at (words (after_word line)) all e
     where
       named : (name word : List ℕ) → words line ≡ codes "global" ∷ name ∷ word ∷ [] → (b : Bool) → is_identifier name ≡ b
-          → option_and_then value_said (if b then option_map (global_is name) (well_formed (signed_of frac word)) else None) ≡ Some v → IsLine frac line v
+          → option_and_then value_said (if b then option_map (global_is name) (well_formed (signed_of frac word)) else None) ≡ Some v → LineSays frac line v
       named name word is false i h = absurd cc
       named name word is true i h =
           let n = number_said (global_is name) (λ z. says_global (record { name = name; value = z })) (λ o. refl) (signed_of frac word) v h in
-          subst (λ (u : LineValue). IsLine frac line u) n.2 (record { word = word; words_are = is; named = i; number = signed_ok frac word n.0 n.1 })
+          subst (λ (u : LineValue). LineSays frac line u) n.2 (record { word = word; words_are = is; named = i; number = signed_ok frac word n.0 n.1 })
 
-      at : (ws : List (List ℕ)) → words line ≡ codes "global" ∷ ws → option_and_then value_said (global_statement frac ws) ≡ Some v → IsLine frac line v
+      at : (ws : List (List ℕ)) → words line ≡ codes "global" ∷ ws → option_and_then value_said (global_statement frac ws) ≡ Some v → LineSays frac line v
       at [] is h = absurd cc
       at (name ∷ []) is h = absurd cc
       at (name ∷ word ∷ []) is h = named name word is (is_identifier name) refl h
       at (name ∷ word ∷ w ∷ ws) is h = absurd cc
 
-  type_ok : words line ≡ codes "type" ∷ words (after_word line) → option_and_then value_said (type_statement frac (words (after_word line))) ≡ Some v → IsLine frac line v
+  type_ok : words line ≡ codes "type" ∷ words (after_word line) → option_and_then value_said (type_statement frac (words (after_word line))) ≡ Some v → LineSays frac line v
   type_ok all e = at (words (after_word line)) all e
     where
       named : (name mass : List ℕ) (numerals : List (List ℕ)) → words line ≡ codes "type" ∷ name ∷ mass ∷ numerals → (b : Bool) → is_type_name name ≡ b
-          → option_and_then value_said (if b then option_map (type_is name) (well_formed (both (mass_of mass) (values_of frac numerals))) else None) ≡ Some v → IsLine frac line v
+          → option_and_then value_said (if b then option_map (type_is name) (well_formed (both (mass_of mass) (values_of frac numerals))) else None) ≡ Some v → LineSays frac line v
       named name mass numerals is false i h = absurd cc
       named name mass numerals is true i h =
           let n = number_said (type_is name) (λ z. says_type (record { name = name; mass = z.0; values = z.1 })) (λ o. refl) (both (mass_of mass) (values_of frac numerals)) v h in
           let b = both_ok (mass_of mass) (values_of frac numerals) n.0 n.1 in
           let m = mass_ok mass n.0.0 b.0 in
-          subst (λ (u : LineValue). IsLine frac line u) n.2
+          subst (λ (u : LineValue). LineSays frac line u) n.2
           (record { mass = mass; numerals = numerals; words_are = is; named = i; mass_is = m.0; some_mass = m.1; most_mass = m.2; numbers = values_ok frac numerals n.0.1 b.1 })
 
-      at : (ws : List (List ℕ)) → words line ≡ codes "type" ∷ ws → option_and_then value_said (type_statement frac ws) ≡ Some v → IsLine frac line v
+      at : (ws : List (List ℕ)) → words line ≡ codes "type" ∷ ws → option_and_then value_said (type_statement frac ws) ≡ Some v → LineSays frac line v
       at [] is h = absurd cc
       at (name ∷ []) is h = absurd cc
       at (name ∷ mass ∷ numerals) is h = named name mass numerals is (is_type_name name) refl h
 
-  key_ok : (key : Key) → words line ≡ key_word key ∷ words (after_word line) → option_and_then value_said (key_statement frac (Some key) (after_word line)) ≡ Some v → IsLine frac line v
+  key_ok : (key : Key) → words line ≡ key_word key ∷ words (after_word line) → option_and_then value_said (key_statement frac (Some key) (after_word line)) ≡ Some v → LineSays frac line v
   key_ok keys.Energy all e = energy_ok all e
   key_ok keys.Core all e = one_ok keys.Core core_is says_core (numeral_of frac) _ (λ o. refl) (number_ok frac) (λ x h. h) all e
   key_ok keys.Cutoff all e = one_ok keys.Cutoff cutoff_is says_cutoff (cutoff_of frac) _ (λ o. refl) (cutoff_ok frac) (λ x h. h) all e
@@ -238,11 +238,11 @@ module _ (frac : Frac) (line : List ℕ) (v : LineValue) where
   key_ok keys.Types all e = type_ok all e
   key_ok keys.Bits all e = one_ok keys.Bits bits_is says_bits frac_of _ (λ o. refl) frac_ok (λ x h. h) all e
 
-  words_ok : (ws : List (List ℕ)) → words line ≡ ws → option_and_then value_said (words_statement frac ws (after_word line)) ≡ Some v → IsLine frac line v
-  words_ok [] is e = subst (λ (u : LineValue). IsLine frac line u) (same_some says_nothing v e) (inr is)
+  words_ok : (ws : List (List ℕ)) → words line ≡ ws → option_and_then value_said (words_statement frac ws (after_word line)) ≡ Some v → LineSays frac line v
+  words_ok [] is e = subst (λ (u : LineValue). LineSays frac line u) (same_some says_nothing v e) (inr is)
   words_ok (word ∷ ws) is e = at (key_of word) refl e
     where
-      at : (k : Option Key) → key_of word ≡ k → option_and_then value_said (key_statement frac k (after_word line)) ≡ Some v → IsLine frac line v
+      at : (k : Option Key) → key_of word ≡ k → option_and_then value_said (key_statement frac k (after_word line)) ≡ Some v → LineSays frac line v
       at None known h = absurd cc
       at (Some key) known h =
           let all : words line ≡ key_word key ∷ words (after_word line) =
@@ -250,12 +250,12 @@ module _ (frac : Frac) (line : List ℕ) (v : LineValue) where
           key_ok key all h
 
   -- a line whose statement has a value says it
-  pub entry_ok : option_and_then value_said (entry_of frac line) ≡ Some v → IsLine frac line v
+  pub entry_ok : option_and_then value_said (entry_of frac line) ≡ Some v → LineSays frac line v
   unfolding entry_of
   entry_ok e = at (slice_index line 0 == 35) (eqb-true (slice_index line 0) 35) e
     where
-      at : (b : Bool) → (b ≡ true → slice_index line 0 ≡ 35) → option_and_then value_said (if b then Some skipped else words_statement frac (words line) (after_word line)) ≡ Some v → IsLine frac line v
-      at true is h = subst (λ (u : LineValue). IsLine frac line u) (same_some says_nothing v h) (inl (comment_is line (is refl)))
+      at : (b : Bool) → (b ≡ true → slice_index line 0 ≡ 35) → option_and_then value_said (if b then Some skipped else words_statement frac (words line) (after_word line)) ≡ Some v → LineSays frac line v
+      at true is h = subst (λ (u : LineValue). LineSays frac line u) (same_some says_nothing v h) (inl (comment_is line (is refl)))
       at false is h = words_ok (words line) refl h
 
 -- ---- from what is said to what is read
@@ -277,7 +277,7 @@ module _ (frac : Frac) (line : List ℕ) where
       at (b ∷ bs) some = refl
 
   -- a line that says a value has its statement
-  pub entry_again : (v : LineValue) → IsLine frac line v → entry_of frac line ≡ Some (stated v)
+  pub entry_again : (v : LineValue) → LineSays frac line v → entry_of frac line ≡ Some (stated v)
   unfolding entry_of
   entry_again says_nothing (inl c) = rw c.1 refl
   entry_again says_nothing (inr none) = rw none (at (slice_index line 0 == 35))

@@ -21,7 +21,7 @@ use Rattle.line_text.proofs.LineLaws.{cut_found, cut_again, uncut}
 use Rattle.line_text.proofs.ResidueNumbers.{T_true, true_T}
 use Rattle.line_text.proofs.StepLaws.{bind_ok, same_ok}
 use Rattle.line_text.proofs.WrittenLaws.{digits_lack_byte}
-use Rattle.job.specs.JobLines.{IsNumber, IsSignedNumber, IsMass, whole, decimal}
+use Rattle.job.specs.JobLines.{IsNumber, IsSignedNumber, IsMass, digits_alone, with_point}
 use Rattle.job.specs.Numbers.{Reading, mapped, both, numeral_of, signed_of, values_of, cutoff_range, cutoff_of, is_whole, within, whole_of, frac_with, frac_of, mass_from, mass_parts, mass_of}
 
 -- ---- numerals
@@ -279,7 +279,7 @@ mass_ok word m e = at (cut_at 46 word) refl e
     behind front part is false some h =
         let p = parts_ok front part m h in
         let n = digits_value 10 front * 10 ^ length part + digits_value 10 part in (
-          decimal (length part) n (some refl) p.few (record { whole = front; part = part; parts = is; whole_form = p.front_form; part_digits = p.part_digits; part_length = refl; value = refl })
+          with_point (length part) n (some refl) p.few (record { whole = front; part = part; parts = is; whole_form = p.front_form; part_digits = p.part_digits; part_length = refl; value = refl })
               (scaled (length part) (digits_value 10 front) (digits_value 10 part) p.few ∙ p.value),
           p.some,
           p.most,
@@ -288,18 +288,18 @@ mass_ok word m e = at (cut_at 46 word) refl e
     at : (o : Option (List ℕ × List ℕ)) → cut_at 46 word ≡ o → mass_parts word o ≡ Ok m → IsMass word m × (1 ≤ m) × (m ≤ 100000000)
     at None c h =
         let p = parts_ok word [] m h in
-        (whole (digits_value 10 word) (record { form = p.front_form; value = refl }) (omega (arith, p.value)), p.some, p.most)
+        (digits_alone (digits_value 10 word) (record { form = p.front_form; value = refl }) (omega (arith, p.value)), p.some, p.most)
     at (Some parts) c h =
         behind parts.0 parts.1 (cut_found 46 word parts.0 parts.1 c).0 (length parts.1 == 0) (λ f. let k : length parts.1 ≡ 0 → ⊥ = eqb-false (length parts.1) 0 f in omega (arith, k)) h
 
 pub mass_again : (word : List ℕ) (m : ℕ) → IsMass word m → 1 ≤ m → m ≤ 100000000 → mass_of word ≡ Ok m
 unfolding mass_of
-mass_again word m (whole n w e) some most =
+mass_again word m (digits_alone n w e) some most =
     let uncut_is : cut_at 46 word ≡ None = uncut 46 word (digits_lack_byte 46 word (omega arith) w.form.digits) in
     let v = w.value in
     ap (mass_parts word) uncut_is
     ∙ parts_again word [] m (record { front_form = w.form; part_digits = refl; few = omega arith; value = omega (arith, v, e); some = some; most = most })
-mass_again word m (decimal places n least few w e) some most =
+mass_again word m (with_point places n least few w e) some most =
     let cut : cut_at 46 word ≡ Some (w.whole, w.part) = ap (cut_at 46) w.parts ∙ cut_again 46 w.whole w.part (digits_lack_byte 46 w.whole (omega arith) w.whole_form.digits) in
     let long = w.part_length in
     let value : digits_value 10 w.whole * 100000 + digits_value 10 w.part * 10 ^ (5 - length w.part) ≡ m =

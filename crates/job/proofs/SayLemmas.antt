@@ -12,7 +12,7 @@ use Rattle.fixed.specs.declared.frac.Frac.TheVariants.{F32}
 use Rattle.job.specs.declared.faults.Key.{Key}
 use Rattle.job.specs.declared.faults.Key.TheVariants as keys
 use Rattle.job.specs.Faults.{Refusal, repeated_name, repeated_type, TypeLine, Said, energy_in, core_in, cutoff_in, time_step_in, slices_in, parameter_in, global_in, type_in, bits_in, first, type_lines, summary, once, knows, listed, statement_fault, entry_fault, line_fault}
-use Rattle.job.specs.JobLines.{LineValue, says_nothing, says_energy, says_core, says_cutoff, says_time_step, says_slices, says_bits, says_parameter, says_global, says_type, IsLine, said_energy, said_core, said_cutoff, said_time_step, said_slices, said_bits, said_parameter, said_global, said_type}
+use Rattle.job.specs.JobLines.{LineValue, says_nothing, says_energy, says_core, says_cutoff, says_time_step, says_slices, says_bits, says_parameter, says_global, says_type, LineSays, said_energy, said_core, said_cutoff, said_time_step, said_slices, said_bits, said_parameter, said_global, said_type}
 use Rattle.job.specs.JobReading.{IsFaultless, IsReadAs, Tells}
 use Rattle.job.specs.JobText.{AreApart, IsJobText, IsSaidOr, SayJob}
 use Rattle.job.specs.Statements.{Statement, skipped, energy_is, core_is, cutoff_is, time_step_is, slices_is, parameter_is, global_is, type_is, bits_is, entry_of}
@@ -23,7 +23,7 @@ use Rattle.job.proofs.OnceLemmas.{keys_once}
 
 -- ---- what lines say is what the draft of their statements has
 
-entries_are : (frac : Frac) (lines : List (List ℕ)) (values : List LineValue) → AllZip (IsLine frac) lines values → filter_map (entry_of frac) lines ≡ map stated values
+entries_are : (frac : Frac) (lines : List (List ℕ)) (values : List LineValue) → AllZip (LineSays frac) lines values → filter_map (entry_of frac) lines ≡ map stated values
 entries_are frac [] [] h = refl
 entries_are frac [] (v ∷ vs) h = absurd h
 entries_are frac (l ∷ ls) [] h = absurd h
@@ -33,7 +33,7 @@ part_is : {X : Type 0} (part : Statement → Option X) (said : LineValue → Opt
 part_is part said h [] = refl
 part_is part said h (v ∷ vs) = rw (h v, part_is part said h vs) refl
 
-said_is : {X : Type 0} (part : Statement → Option X) (said : LineValue → Option X) → ((v : LineValue) → part (stated v) ≡ said v) → (frac : Frac) (lines : List (List ℕ)) (values : List LineValue) → AllZip (IsLine frac) lines values
+said_is : {X : Type 0} (part : Statement → Option X) (said : LineValue → Option X) → ((v : LineValue) → part (stated v) ≡ said v) → (frac : Frac) (lines : List (List ℕ)) (values : List LineValue) → AllZip (LineSays frac) lines values
     → filter_map part (filter_map (entry_of frac) lines) ≡ filter_map said values
 said_is part said h frac lines values each = ap (filter_map part) (entries_are frac lines values each) ∙ part_is part said h values
 
@@ -77,7 +77,7 @@ cons_value : (o : Option TypeLine) (ts : List TypeLine) → map (λ t. t.value) 
 cons_value None ts = refl
 cons_value (Some t) ts = refl
 
-types_are : (frac : Frac) (n : ℕ) (lines : List (List ℕ)) (values : List LineValue) → AllZip (IsLine frac) lines values → map (λ t. t.value) (type_lines frac n lines) ≡ filter_map said_type values
+types_are : (frac : Frac) (n : ℕ) (lines : List (List ℕ)) (values : List LineValue) → AllZip (LineSays frac) lines values → map (λ t. t.value) (type_lines frac n lines) ≡ filter_map said_type values
 types_are frac n [] [] h = refl
 types_are frac n [] (v ∷ vs) h = absurd h
 types_are frac n (l ∷ ls) [] h = absurd h
@@ -98,7 +98,7 @@ record Has (s : Said) (values : List LineValue) : Type 0 where
   globals : s.globals ≡ filter_map said_global values
   types : map (λ t. t.value) s.types ≡ filter_map said_type values
 
-has : (frac : Frac) (lines : List (List ℕ)) (values : List LineValue) → AllZip (IsLine frac) lines values → Has (summary frac lines) values
+has : (frac : Frac) (lines : List (List ℕ)) (values : List LineValue) → AllZip (LineSays frac) lines values → Has (summary frac lines) values
 unfolding summary
 has frac lines values h = record {
   energy = ap first (said_is energy_in said_energy energy_part frac lines values h);
@@ -223,10 +223,10 @@ record SaysAt (frac : Frac) (above : List (List ℕ)) (line : List ℕ) (values 
   value : LineValue
   back : List LineValue
   parts : values ≡ front ++ value ∷ back
-  before : AllZip (IsLine frac) above front
-  here : IsLine frac line value
+  before : AllZip (LineSays frac) above front
+  here : LineSays frac line value
 
-says_at : (frac : Frac) (above below : List (List ℕ)) (line : List ℕ) (values : List LineValue) → AllZip (IsLine frac) (above ++ line ∷ below) values → SaysAt frac above line values
+says_at : (frac : Frac) (above below : List (List ℕ)) (line : List ℕ) (values : List LineValue) → AllZip (LineSays frac) (above ++ line ∷ below) values → SaysAt frac above line values
 says_at frac [] below line [] h = absurd h
 says_at frac (a ∷ cs) below line [] h = absurd h
 says_at frac [] below line (v ∷ vs) h = record { front = []; value = v; back = vs; parts = refl; before = tt; here = h.0 }
@@ -234,10 +234,10 @@ says_at frac (a ∷ cs) below line (v ∷ vs) h =
     let more = says_at frac cs below line vs h.1 in
     record { front = v ∷ more.front; value = more.value; back = more.back; parts = ap (λ (us : List LineValue). v ∷ us) more.parts; before = (h.0, more.before); here = more.here }
 
-faultless_of : (most : Counts) (lines : List (List ℕ)) (values : List LineValue) (job : JobValue) → AllZip (IsLine job.frac) lines values → SayJob most values job → IsFaultless most job.frac lines
+faultless_of : (most : Counts) (lines : List (List ℕ)) (values : List LineValue) (job : JobValue) → AllZip (LineSays job.frac) lines values → SayJob most values job → IsFaultless most job.frac lines
 unfolding line_fault
 faultless_of most lines values job each j above below line e =
-    let at = says_at job.frac above below line values (subst (λ (ls : List (List ℕ)). AllZip (IsLine job.frac) ls values) e each) in
+    let at = says_at job.frac above below line values (subst (λ (ls : List (List ℕ)). AllZip (LineSays job.frac) ls values) e each) in
     ap (entry_fault most (length above + 2) (summary job.frac above)) (entry_again job.frac line at.value at.here)
     ∙ no_fault most job (summary job.frac above) at.front at.back (has job.frac above at.front at.before) at.value (subst (λ (vs : List LineValue). SayJob most vs job) at.parts j)
 
@@ -279,18 +279,18 @@ has_value most s (global_is name None) e = absurd (listed_some (knows (map (λ g
 has_value most s (type_is name (Some x)) e = (says_type (record { name = name; mass = x.0; values = x.1 }), refl)
 has_value most s (type_is name None) e = absurd (listed_some (knows (map (λ t. t.value.name) s.types) name) (repeated_type name) keys.Types e)
 
-line_value : (most : Counts) (frac : Frac) (above : List (List ℕ)) (line : List ℕ) → line_fault most frac above line ≡ None → (v : LineValue) × IsLine frac line v
+line_value : (most : Counts) (frac : Frac) (above : List (List ℕ)) (line : List ℕ) → line_fault most frac above line ≡ None → (v : LineValue) × LineSays frac line v
 unfolding line_fault
 line_value most frac above line e = at (entry_of frac line) refl e
   where
-    at : (o : Option Statement) → entry_of frac line ≡ o → entry_fault most (length above + 2) (summary frac above) o ≡ None → (v : LineValue) × IsLine frac line v
+    at : (o : Option Statement) → entry_of frac line ≡ o → entry_fault most (length above + 2) (summary frac above) o ≡ None → (v : LineValue) × LineSays frac line v
     at None is h = absurd cc
     at (Some it) is h =
         let v = has_value most (summary frac above) it h in
         (v.0, entry_ok frac line v.0 (ap (λ (o : Option Statement). option_and_then value_said o) is ∙ v.1))
 
 line_values : (most : Counts) (frac : Frac) (above lines : List (List ℕ)) → ((front below : List (List ℕ)) (line : List ℕ) → lines ≡ front ++ line ∷ below → line_fault most frac (above ++ front) line ≡ None)
-    → (values : List LineValue) × AllZip (IsLine frac) lines values
+    → (values : List LineValue) × AllZip (LineSays frac) lines values
 line_values most frac above [] h = ([], tt)
 line_values most frac above (line ∷ lines) h =
     let v = line_value most frac above line (ap (λ (z : List (List ℕ)). line_fault most frac z line) (sym (append-nil above)) ∙ h [] lines line refl) in
@@ -308,7 +308,7 @@ or_none default x [] e l = inr (refl, sym e)
 or_none default x (y ∷ []) e l = inl (ap (λ z. z ∷ []) e)
 or_none default x (y ∷ z ∷ zs) e l = absurd (omega (arith, l))
 
-module _ (frac : Frac) (lines : List (List ℕ)) (values : List LineValue) (each : AllZip (IsLine frac) lines values) where
+module _ (frac : Frac) (lines : List (List ℕ)) (values : List LineValue) (each : AllZip (LineSays frac) lines values) where
   -- what one line says
   one_said : {X : Type 0} (part : Statement → Option X) (said : LineValue → Option X) → ((v : LineValue) → part (stated v) ≡ said v) → (x : X) (o : Option X) → o ≡ first (filter_map said values) → o ≡ Some x
       → length (filter_map part (filter_map (entry_of frac) lines)) ≡ 1 → filter_map said values ≡ x ∷ []

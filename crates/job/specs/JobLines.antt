@@ -32,8 +32,8 @@ IsSignedNumber frac word v = WritesSigned (λ numeral n. IsNumber frac numeral (
 
 -- a mass in u, written in digits, or in digits, a point and one to five digits; m counts 10^-5 u
 pub data IsMass (word : List ℕ) (m : ℕ) : Type 0 where
-  whole : (n : ℕ) → WritesWhole word n → n * 100000 ≡ m → IsMass word m
-  decimal : (places n : ℕ) → 1 ≤ places → places ≤ 5 → WritesDecimal places word n → n * 10 ^ (5 - places) ≡ m → IsMass word m
+  digits_alone : (n : ℕ) → WritesWhole word n → n * 100000 ≡ m → IsMass word m
+  with_point : (places n : ℕ) → 1 ≤ places → places ≤ 5 → WritesDecimal places word n → n * 10 ^ (5 - places) ≡ m → IsMass word m
 
 -- ---- lines
 
@@ -62,8 +62,8 @@ pub record IsEnergyLine (line text : List ℕ) : Type 0 where
   pub some : 0 < length text
 
 -- the key and one word, of which this is so
-abbrev pub HasOne : List ℕ → List ℕ → (List ℕ → Type 0) → Type 0
-HasOne line key Is = (word : List ℕ) × (words line ≡ key ∷ word ∷ []) × Is word
+abbrev pub HasOneWord : List ℕ → List ℕ → (List ℕ → Type 0) → Type 0
+HasOneWord line key Is = (word : List ℕ) × (words line ≡ key ∷ word ∷ []) × Is word
 
 -- the key, the name of a global and its value
 pub record IsGlobalLine (frac : Frac) (line : List ℕ) (g : GlobalValue) : Type 0 where
@@ -83,19 +83,19 @@ pub record IsTypeLine (frac : Frac) (line : List ℕ) (t : TypeValue) : Type 0 w
   pub most_mass : t.mass ≤ 100000000
   pub numbers : AllZip (IsSignedNumber frac) numerals t.values
 
--- The line says this, its numerals read at these fraction bits: a core; a cutoff of more than 0 and at most 80 nm; a
--- time step of 1 to 1000 fs; 1 to 65,536 slices; 24, 32 or 40 fraction bits; the name of a parameter.
-abbrev pub IsLine : Frac → List ℕ → LineValue → Type 0
-IsLine frac line says_nothing = IsSilent line
-IsLine frac line (says_energy text) = IsEnergyLine line text
-IsLine frac line (says_core v) = HasOne line (codes "core") (λ word. IsNumber frac word v)
-IsLine frac line (says_cutoff v) = HasOne line (codes "cutoff") (λ word. IsNumber frac word v × (pos 1 ≤ℤ v) × (v ≤ℤ pos (80 * 2 ^ bits_of frac)))
-IsLine frac line (says_time_step n) = HasOne line (codes "dt") (λ word. WritesWhole word n × (1 ≤ n) × (n ≤ 1000))
-IsLine frac line (says_slices n) = HasOne line (codes "slices") (λ word. WritesWhole word n × (1 ≤ n) × (n ≤ 65536))
-IsLine frac line (says_bits said) = HasOne line (codes "bits") (λ word. WritesWhole word (bits_of said))
-IsLine frac line (says_parameter name) = HasOne line (codes "parameter") (λ word. (word ≡ name) × (is_identifier name ≡ true))
-IsLine frac line (says_global g) = IsGlobalLine frac line g
-IsLine frac line (says_type t) = IsTypeLine frac line t
+-- The line says this, its numerals read at these fraction bits: a core, or a cutoff of more than 0 and at most 80 nm,
+-- without a sign; a time step of 1 to 1000 fs; 1 to 65,536 slices; 24, 32 or 40 fraction bits; a parameter's name.
+abbrev pub LineSays : Frac → List ℕ → LineValue → Type 0
+LineSays frac line says_nothing = IsSilent line
+LineSays frac line (says_energy text) = IsEnergyLine line text
+LineSays frac line (says_core v) = HasOneWord line (codes "core") (λ word. IsNumber frac word v)
+LineSays frac line (says_cutoff v) = HasOneWord line (codes "cutoff") (λ word. IsNumber frac word v × (pos 1 ≤ℤ v) × (v ≤ℤ pos (80 * 2 ^ bits_of frac)))
+LineSays frac line (says_time_step n) = HasOneWord line (codes "dt") (λ word. WritesWhole word n × (1 ≤ n) × (n ≤ 1000))
+LineSays frac line (says_slices n) = HasOneWord line (codes "slices") (λ word. WritesWhole word n × (1 ≤ n) × (n ≤ 65536))
+LineSays frac line (says_bits said) = HasOneWord line (codes "bits") (λ word. WritesWhole word (bits_of said))
+LineSays frac line (says_parameter name) = HasOneWord line (codes "parameter") (λ word. (word ≡ name) × (is_identifier name ≡ true))
+LineSays frac line (says_global g) = IsGlobalLine frac line g
+LineSays frac line (says_type t) = IsTypeLine frac line t
 
 -- ---- what lines say of one key
 

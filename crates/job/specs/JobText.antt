@@ -3,7 +3,7 @@ use Rattle.std.specs.Prelude.{◌≡◌, ◌⊎◌, ◌↔◌, ℕ, List, [], �
 use Rattle.std.specs.List.{AllZip}
 use Rattle.fixed.specs.declared.frac.Frac.TheVariants.{F32}
 use Rattle.job.specs.Words.{lines_of}
-use Rattle.job.specs.JobLines.{header, LineValue, IsLine, said_energy, said_core, said_cutoff, said_time_step, said_slices, said_bits, said_parameter, said_global, said_type}
+use Rattle.job.specs.JobLines.{header, LineValue, LineSays, said_energy, said_core, said_cutoff, said_time_step, said_slices, said_bits, said_parameter, said_global, said_type}
 use Rattle.job.specs.Faults.{Refusal}
 use Rattle.job.specs.JobReading.{lines_reading}
 use Rattle.job.specs.Values.{JobValue, Counts}
@@ -54,7 +54,7 @@ pub record IsJobText (most : Counts) (text : List ℕ) (job : JobValue) : Type 0
   pub lines : List (List ℕ)
   pub first_line : lines_of text ≡ header ∷ lines
   pub values : List LineValue
-  pub each : AllZip (IsLine job.frac) lines values
+  pub each : AllZip (LineSays job.frac) lines values
   pub say : SayJob most values job
 
 -- how many parameters, globals and types a job may have
