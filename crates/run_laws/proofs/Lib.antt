@@ -7,3 +7,5 @@ pub mod FrameRecurrence
 pub mod LeadLaws
 pub mod AcceptedRuns
 pub mod AcceptedFrames
+pub mod ReadPrograms
+pub mod ReadSlopes

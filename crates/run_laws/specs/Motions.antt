@@ -5,8 +5,6 @@ use Rattle.job.specs.JobText.{IsJobText, limits}
 use Rattle.job.specs.Values.{JobValue}
 use Rattle.state.specs.StateText.{StateView}
 use Rattle.ring_box.specs.declared.vectors.Place3.{Place3}
-use Rattle.kernel_code.specs.declared.instructions.Instr.{Instr}
-use Rattle.potential.specs.Energies.{IsSlopeCode}
 use Rattle.integrator.specs.Frames.{AreOfSameAtoms, frames}
 use Rattle.engine.specs.Engines.{AreSafe}
 use Rattle.engine.specs.Headline.{AreTypes, Follows, IsJobEnergy, IsTextOf, Lead, current, previous}
@@ -52,13 +50,13 @@ FramesRecur = (j : JobValue) (tree : Tree) (sides types : List ℕ) (n : ℕ) (p
 
 -- ---- accepted jobs
 
--- Where the code of the slope of a job's energy computes it, and is accepted for a state's atoms, each two frames of as
--- many atoms are followed by one.
+-- Where the code of the slope of a job's energy is accepted for a state's atoms, each two frames of as many atoms are
+-- followed by one.
 abbrev pub AcceptedAreFollowed : Type 0
-AcceptedAreFollowed = (job state : List ℕ) (j : JobValue) (tree : Tree) (s : StateView) (types : List ℕ) (code : List Instr) → IsJobText limits job j → IsJobEnergy j tree → IsTextOf state s → AreTypes j s.atoms types → IsSlopeCode j code
-    → AreSafe job state → AreAllFollowed j tree s.sides types (length s.atoms)
+AcceptedAreFollowed = (job state : List ℕ) (j : JobValue) (tree : Tree) (s : StateView) (types : List ℕ) → IsJobText limits job j → IsJobEnergy j tree → IsTextOf state s → AreTypes j s.atoms types → AreSafe job state
+    → AreAllFollowed j tree s.sides types (length s.atoms)
 
 -- so the state's two frames recur
 abbrev pub AcceptedRecur : Type 0
-AcceptedRecur = (job state : List ℕ) (j : JobValue) (tree : Tree) (s : StateView) (types : List ℕ) (code : List Instr) → IsJobText limits job j → IsJobEnergy j tree → IsTextOf state s → AreTypes j s.atoms types → IsSlopeCode j code
-    → AreSafe job state → Recur j tree s.sides types (previous s) (current s)
+AcceptedRecur = (job state : List ℕ) (j : JobValue) (tree : Tree) (s : StateView) (types : List ℕ) → IsJobText limits job j → IsJobEnergy j tree → IsTextOf state s → AreTypes j s.atoms types → AreSafe job state
+    → Recur j tree s.sides types (previous s) (current s)

@@ -22,8 +22,8 @@ pub fn frames_recur()
     ensures { FramesRecur }
 {}
 
-/// So it is for a job and a state that are accepted: each two frames of the state's atoms are followed by one, and its
-/// own two recur. `IsSlopeCode` holds of the code that `potential::slope_code` answers for a job.
+/// So it is for every job and state that are accepted: each two frames of as many atoms as the state's are followed by
+/// one, wherever their atoms are, and the state's own two recur.
 pub fn accepted_frames_recur()
     ensures followed { AcceptedAreFollowed }
     ensures recur { AcceptedRecur }
