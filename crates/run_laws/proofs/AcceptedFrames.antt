@@ -103,6 +103,7 @@ module _ (j : JobValue) (tree : Tree) (sides types : List ℕ) (steps bound : �
       let r = returned Forward motion 1 (frames p c) (frames c next) h e in
       (next, step_follows j tree sides types p c next h.alike r.frames'.alike e)
 
+-- each two frames of an accepted job are followed by one
 pub accepted_are_followed : AcceptedAreFollowed
 accepted_are_followed job state j tree s types job_text says state_text' typed safe =
     let same_job : safe.j ≡ j = same_ok safe.j j (sym safe.job_read ∙ reading_again limits job j job_text) in
@@ -117,6 +118,7 @@ accepted_are_followed job state j tree s types job_text says state_text' typed s
     (each_followed j tree s.sides types safe.it.it.steps safe.it.it.bound energy.code job_text.tells.below_cutoff job_text.tells.whole typed.known certified
     (λ inputs enough n v ends. ap (slope_of (bits_of j.frac) inputs) is_tree ∙ gives_slope j energy made inputs enough n v ends))
 
+-- and a state's two recur
 pub accepted_recur : AcceptedRecur
 accepted_recur job state j tree s types job_text says state_text' typed safe =
     let f = frames_are s state_text'.fits in

@@ -14,9 +14,11 @@ use Rattle.run_laws.specs.Momentum.{BalancedKeepMomentum, NewtonsThirdLaw, Steps
 use Rattle.run_laws.proofs.SumLaws.{moved_within}
 use Rattle.run_laws.proofs.ThirdLaw.{balanced_x, balanced_y, balanced_z}
 
+-- the forces on all atoms come to nothing
 pub third_law : NewtonsThirdLaw
 third_law n force = record { x = balanced_x n force; y = balanced_y n force; z = balanced_z n force }
 
+-- so do those of a step
 pub steps_balanced : StepsAreBalanced
 steps_balanced j tree sides types p c next follows = third_law (length c) follows.force
 
@@ -31,11 +33,13 @@ nearest frac F dt m L long heavy =
     subst (λ (d : ℕ). IsNearest (F *ℤ pos (dt * dt * 10000 * 2 ^ 32)) (pos d) (displacement_of frac F dt m L)) grouped
     (nearest_is (F *ℤ pos (dt * dt * 10000 * 2 ^ 32)) (pos (m * L * 2 ^ bits_of frac)) (displacement_of frac F dt m L) (omega (arith, ints, some)) refl)
 
+-- displacements by forces that come to nothing keep the momentum within half the mass
 pub balanced_keep : BalancedKeepMomentum
 balanced_keep frac dt L n mass force long heavy balanced =
     moved_within (dt * dt * 10000 * 2 ^ 32) (L * 2 ^ bits_of frac) mass force (λ a. displacement_of frac (force a) dt (mass a) L) n (product_some L (2 ^ bits_of frac) long (pow_pos (bits_of frac)))
     (λ a l. nearest frac (force a) dt (mass a) L long (heavy a l)) balanced
 
+-- and so do those of a step
 pub steps_keep : StepsKeepMomentum
 steps_keep j tree sides types p c next follows long heavy =
     let b = third_law (length c) follows.force in
