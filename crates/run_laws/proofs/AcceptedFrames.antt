@@ -115,7 +115,7 @@ accepted_are_followed job state j tree s types job_text says state_text' typed s
     subst (λ (x : JobValue). IsCertified energy.code (table_of x) x.core x.cutoff safe.it.it.steps safe.it.it.bound) same_job safe.it.it.certified in
     let size : length types ≡ length s.atoms = sym (length-map types (λ t. (type_at j t).name)) ∙ ap length typed.named ∙ length-map s.atoms (λ (a : AtomView). a.name) in
     subst (AreAllFollowed j tree s.sides types) size
-    (each_followed j tree s.sides types safe.it.it.steps safe.it.it.bound energy.code job_text.tells.below_cutoff job_text.tells.whole typed.known certified
+    (each_followed j tree s.sides types safe.it.it.steps safe.it.it.bound energy.code job_text.say.below_cutoff job_text.say.whole typed.known certified
     (λ inputs enough n v ends. ap (slope_of (bits_of j.frac) inputs) is_tree ∙ gives_slope j energy made inputs enough n v ends))
 
 -- and a state's two recur

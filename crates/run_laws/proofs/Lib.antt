@@ -9,3 +9,6 @@ pub mod AcceptedRuns
 pub mod AcceptedFrames
 pub mod ReadPrograms
 pub mod ReadSlopes
+pub mod SymmetryLemmas
+pub mod TranslationLaws
+pub mod AxisLaws

@@ -3,3 +3,4 @@ pub mod RunTexts
 pub mod AtomSums
 pub mod Momentum
 pub mod Motions
+pub mod Symmetries
