@@ -11,24 +11,24 @@ use Rattle.engine.specs.Headline.{AreTypes, Follows, IsJobEnergy, IsTextOf, Lead
 
 -- ---- one past, and one future
 
--- Two frames of the same atoms have one past: where n steps lead from two frames, and from two others, to the same two,
+-- Two frames of the same atoms have one past: where k steps lead from two frames, and from two others, to the same two,
 -- they are the same.
 abbrev pub OnePast : Type 0
-OnePast = (j : JobValue) (tree : Tree) (sides types : List ℕ) (n : ℕ) (p c p' c' q e : List Place3) → AreOfSameAtoms (frames p c) → AreOfSameAtoms (frames p' c')
-    → Lead j tree sides types n p c q e → Lead j tree sides types n p' c' q e → (p ≡ p') × (c ≡ c')
+OnePast = (j : JobValue) (tree : Tree) (sides types : List ℕ) (k : ℕ) (p c q e p' c' : List Place3) → AreOfSameAtoms (frames p c) → AreOfSameAtoms (frames q e)
+    → Lead j tree sides types k p c p' c' → Lead j tree sides types k q e p' c' → (p ≡ q) × (c ≡ e)
 
--- and one future: n steps lead from them to no other two
+-- And one future: k steps lead from two frames of as many atoms to no other two.
 abbrev pub OneFuture : Type 0
-OneFuture = (j : JobValue) (tree : Tree) (sides types : List ℕ) (n : ℕ) (p c q e q' e' : List Place3) → length p ≡ length c
-    → Lead j tree sides types n p c q e → Lead j tree sides types n p c q' e' → (q ≡ q') × (e ≡ e')
+OneFuture = (j : JobValue) (tree : Tree) (sides types : List ℕ) (k : ℕ) (p c p' c' q e : List Place3) → length p ≡ length c
+    → Lead j tree sides types k p c p' c' → Lead j tree sides types k p c q e → (p' ≡ q) × (c' ≡ e)
 
 -- ---- reversal
 
--- n steps lead from the frames p, c of the same atoms to q, e exactly where n steps lead from the frames e, q of the
+-- k steps lead from the frames p, c of the same atoms to p', c' exactly where k steps lead from the frames c', p' of the
 -- same atoms to c, p
 abbrev pub StepsReverse : Type 0
-StepsReverse = (j : JobValue) (tree : Tree) (sides types : List ℕ) (n : ℕ) (p c q e : List Place3)
-    → (AreOfSameAtoms (frames p c) × Lead j tree sides types n p c q e) ↔ (AreOfSameAtoms (frames e q) × Lead j tree sides types n e q c p)
+StepsReverse = (j : JobValue) (tree : Tree) (sides types : List ℕ) (k : ℕ) (p c p' c' : List Place3)
+    → (AreOfSameAtoms (frames p c) × Lead j tree sides types k p c p' c') ↔ (AreOfSameAtoms (frames c' p') × Lead j tree sides types k c' p' c p)
 
 -- ---- recurrence
 
