@@ -1,12 +1,12 @@
 -- Accepted jobs: where two atoms act there is a slope, so each pair has a force, and each two frames are followed by
 -- one.
-use Rattle.std.proofs.Common.{◌≡◌, ℕ, ◌<◌, true, List, [], ◌∷◌, length, Option, Some, Ok, ℤ, arith, refl, ap, sym, subst, ◌∙◌}
+use Rattle.std.proofs.Common.{◌≡◌, ℕ, ◌<◌, ◌≤◌, true, List, [], ◌∷◌, length, Option, Some, Ok, ℤ, arith, refl, ap, sym, subst, ◌∙◌}
 use Rattle.std.specs.Prelude.{map, slice_index, is_some, ◌<ℤ◌}
 use Rattle.std.specs.List.{All, list_all}
 use Rattle.std.proofs.lemmas.List.{length-map}
 use Rattle.std.proofs.lemmas.List.Elements.{All-map}
 use Rattle.derivative.specs.Slope.{slope_of}
-use Rattle.energy_program.specs.Tree.{Tree}
+use Rattle.energy_program.specs.Tree.{Tree, variable_count}
 use Rattle.fixed.specs.Fractions.{bits_of}
 use Rattle.job.specs.JobText.{limits}
 use Rattle.job.specs.Values.{JobValue, TypeValue}
@@ -17,7 +17,7 @@ use Rattle.kernel_code.specs.declared.instructions.Instr.{Instr}
 use Rattle.verifier.specs.Safety.{IsCertified}
 use Rattle.line_text.proofs.StepLaws.{same_ok}
 use Rattle.state.specs.StateText.{AtomView}
-use Rattle.potential.specs.Energies.{Energy, IsCompiled, energy_of}
+use Rattle.potential.specs.Energies.{Energy, energy_of}
 use Rattle.potential.specs.Tables.{table_of}
 use Rattle.potential.proofs.CodeSlopeLaws.{enough}
 use Rattle.potential.proofs.PotentialLaws.{HasNumber}
@@ -37,6 +37,7 @@ use Rattle.engine.proofs.HeadlineTexts.{says_energy}
 use Rattle.engine.proofs.SafeLaws.{forced, in_range}
 use Rattle.run_laws.specs.Motions.{AcceptedAreFollowed, AcceptedRecur, AreAllFollowed}
 use Rattle.run_laws.proofs.LeadLaws.{frames_recur, step_follows}
+use Rattle.run_laws.proofs.ReadSlopes.{gives_slope}
 
 -- ---- a step is there where each pair has a force
 
@@ -61,8 +62,8 @@ some_of : {X : Type 0} (o : Option X) (x : X) → o ≡ Some x → is_some o ≡
 some_of o x e = rw e refl
 
 module _ (j : JobValue) (tree : Tree) (sides types : List ℕ) (steps bound : ℕ) (code : List Instr) (below_cutoff : j.core <ℤ j.cutoff) (whole : All (λ (t : TypeValue). length t.values ≡ length j.parameters) j.types)
-    (known : All (λ t. t < length j.types) types) (certified : IsCertified code (table_of j) j.core j.cutoff steps bound) (energy : Energy) (is_code : code ≡ energy.code) (is_tree : tree ≡ energy.tree)
-    (compiled : IsCompiled (bits_of j.frac) (length j.parameters) (length j.globals) energy) where
+    (known : All (λ t. t < length j.types) types) (certified : IsCertified code (table_of j) j.core j.cutoff steps bound)
+    (gives : (inputs : List ℤ) → variable_count (length j.parameters) (length j.globals) ≤ length inputs → (n : ℕ) (v : ℤ) → Ends (bits_of j.frac) code inputs n (Ok v) → slope_of (bits_of j.frac) inputs tree ≡ Some v) where
   abbrev motion : Dynamics
   motion = as_written j sides tree types
 
@@ -84,12 +85,7 @@ module _ (j : JobValue) (tree : Tree) (sides types : List ℕ) (steps bound : �
       let values : All (λ row. length row ≡ table.parameters) table.rows = All-map (λ row. length row ≡ table.parameters) (λ (t : TypeValue). t.values) j.types whole in
       let many = enough table a b r values (row_at q.0 first) (row_at q.1 second) in
       let globals = length-map j.globals (λ g. g.value) in
-      let computes = compiled (inputs_of table a b r) (omega (arith, many, globals)) in
-      record {
-        v = g.value;
-        has = ap (λ (t : Tree). slope_of (bits_of j.frac) (inputs_of table a b r) t) is_tree ∙ computes.value g.n g.value (subst (λ (x : List Instr). Ends (bits_of j.frac) x (inputs_of table a b r) g.n (Ok g.value)) is_code g.ends);
-        small = g.small;
-      }
+      record { v = g.value; has = gives (inputs_of table a b r) (omega (arith, many, globals)) g.n g.value g.ends; small = g.small }
 
   each_force : (c : Frame) → length c ≡ length types → (q : ℕ × ℕ) → IsPairOf (length c) q → is_some (pair_force motion c q) ≡ true
   each_force c size q pair =
@@ -107,21 +103,23 @@ module _ (j : JobValue) (tree : Tree) (sides types : List ℕ) (steps bound : �
       let r = returned Forward motion 1 (frames p c) (frames c next) h e in
       (next, step_follows j tree sides types p c next h.alike r.frames'.alike e)
 
+-- each two frames of an accepted job are followed by one
 pub accepted_are_followed : AcceptedAreFollowed
-accepted_are_followed job state j tree s types code job_text energy state_text' typed slope safe =
+accepted_are_followed job state j tree s types job_text says state_text' typed safe =
     let same_job : safe.j ≡ j = same_ok safe.j j (sym safe.job_read ∙ reading_again limits job j job_text) in
     let parts = system_parts safe.j safe.s safe.it.system safe.it.made in
-    let made : energy_of j ≡ Ok safe.it.system.0 = ap energy_of (sym same_job) ∙ parts.energy_read in
-    let same_energy : slope.energy' ≡ safe.it.system.0 = same_ok slope.energy' safe.it.system.0 (sym slope.says ∙ made) in
-    let is_tree : tree ≡ slope.energy'.tree = (says_energy j slope.energy' slope.says).only tree energy in
-    let certified : IsCertified slope.energy'.code (table_of j) j.core j.cutoff safe.it.it.steps safe.it.it.bound =
-    subst (λ (e : Energy). IsCertified e.code (table_of j) j.core j.cutoff safe.it.it.steps safe.it.it.bound) (sym same_energy)
-    (subst (λ (x : JobValue). IsCertified safe.it.system.0.code (table_of x) x.core x.cutoff safe.it.it.steps safe.it.it.bound) same_job safe.it.it.certified) in
+    let energy : Energy = safe.it.system.0 in
+    let made : energy_of j ≡ Ok energy = ap energy_of (sym same_job) ∙ parts.energy_read in
+    let is_tree : tree ≡ energy.tree = (says_energy j energy made).only tree says in
+    let certified : IsCertified energy.code (table_of j) j.core j.cutoff safe.it.it.steps safe.it.it.bound =
+    subst (λ (x : JobValue). IsCertified energy.code (table_of x) x.core x.cutoff safe.it.it.steps safe.it.it.bound) same_job safe.it.it.certified in
     let size : length types ≡ length s.atoms = sym (length-map types (λ t. (type_at j t).name)) ∙ ap length typed.named ∙ length-map s.atoms (λ (a : AtomView). a.name) in
     subst (AreAllFollowed j tree s.sides types) size
-    (each_followed j tree s.sides types safe.it.it.steps safe.it.it.bound slope.energy'.code job_text.tells.below_cutoff job_text.tells.whole typed.known certified slope.energy' refl is_tree slope.compiled)
+    (each_followed j tree s.sides types safe.it.it.steps safe.it.it.bound energy.code job_text.say.below_cutoff job_text.say.whole typed.known certified
+    (λ inputs enough n v ends. ap (slope_of (bits_of j.frac) inputs) is_tree ∙ gives_slope j energy made inputs enough n v ends))
 
+-- and a state's two recur
 pub accepted_recur : AcceptedRecur
-accepted_recur job state j tree s types code job_text energy state_text' typed slope safe =
+accepted_recur job state j tree s types job_text says state_text' typed safe =
     let f = frames_are s state_text'.fits in
-    frames_recur j tree s.sides types (length s.atoms) _ _ (accepted_are_followed job state j tree s types code job_text energy state_text' typed slope safe) f (length-map s.atoms (λ (a : AtomView). a.current))
+    frames_recur j tree s.sides types (length s.atoms) _ _ (accepted_are_followed job state j tree s types job_text says state_text' typed safe) f (length-map s.atoms (λ (a : AtomView). a.current))

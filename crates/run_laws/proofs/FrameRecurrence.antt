@@ -49,8 +49,6 @@ module _ (d : Dynamics) (n : ℕ) (on : LeadOn d n) where
   next s =
       let g = on s in
       let r = returned Forward d 1 s.at g.0 s.are g.1 in
-      let a = s.are.alike in
-      let b = r.frames'.alike in
       record { at = g.0; are = r.frames'; atoms = sym r.frames'.alike ∙ r.atoms ∙ s.are.alike ∙ s.atoms }
 
   next_at : (s : Stand n) → steps_in Forward d 1 s.at ≡ Some (next s).at

@@ -7,6 +7,8 @@ pub mod FrameRecurrence
 pub mod LeadLaws
 pub mod AcceptedRuns
 pub mod AcceptedFrames
+pub mod ReadPrograms
+pub mod ReadSlopes
 pub mod SymmetryLemmas
 pub mod TranslationLaws
 pub mod AxisLaws

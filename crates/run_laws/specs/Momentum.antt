@@ -2,12 +2,14 @@
 use Rattle.std.specs.Prelude.{◌≡◌, ℕ, ◌*◌, ◌<◌, ◌≤◌, ℤ, pos, ◌*ℤ◌, unsigned_abs, List, length, map, slice_index}
 use Rattle.fixed.specs.declared.frac.Frac.{Frac}
 use Rattle.energy_program.specs.Tree.{Tree}
+use Rattle.job.specs.JobText.{IsJobText, limits}
 use Rattle.job.specs.Values.{JobValue}
+use Rattle.state.specs.StateText.{StateView}
 use Rattle.ring_box.specs.declared.vectors.Force.{Force}
 use Rattle.ring_box.specs.declared.vectors.Place3.{Place3}
 use Rattle.integrator.specs.Displacement.{displacement_of}
 use Rattle.integrator.specs.Forces.{pairs_of, sum_of_shares}
-use Rattle.engine.specs.Headline.{Follows, box_of, type_at}
+use Rattle.engine.specs.Headline.{AreTypes, Follows, IsTextOf, box_of, type_at}
 use Rattle.run_laws.specs.AtomSums.{mass_of_atoms, over_atoms}
 
 -- ---- Newton's third law
@@ -51,3 +53,10 @@ pub record KeepsMomentum (j : JobValue) (sides types : List ℕ) (n : ℕ) (forc
 abbrev pub StepsKeepMomentum : Type 0
 StepsKeepMomentum = (j : JobValue) (tree : Tree) (sides types : List ℕ) (p c next : List Place3) (follows : Follows j tree sides types p c next)
     → (0 < (box_of sides).x) × (0 < (box_of sides).y) × (0 < (box_of sides).z) → ((a : ℕ) → a < length c → 0 < mass_at j types a) → KeepsMomentum j sides types (length c) follows.force
+
+-- ---- of a job and a state
+
+-- So do the atoms of a state, under a job: no mass and no side is nothing.
+abbrev pub AtomsKeepMomentum : Type 0
+AtomsKeepMomentum = (job state : List ℕ) (j : JobValue) (tree : Tree) (s : StateView) (types : List ℕ) (p c next : List Place3) → IsJobText limits job j → IsTextOf state s → AreTypes j s.atoms types
+    → length c ≡ length s.atoms → (follows : Follows j tree s.sides types p c next) → KeepsMomentum j s.sides types (length c) follows.force

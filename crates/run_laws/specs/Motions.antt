@@ -5,32 +5,30 @@ use Rattle.job.specs.JobText.{IsJobText, limits}
 use Rattle.job.specs.Values.{JobValue}
 use Rattle.state.specs.StateText.{StateView}
 use Rattle.ring_box.specs.declared.vectors.Place3.{Place3}
-use Rattle.kernel_code.specs.declared.instructions.Instr.{Instr}
-use Rattle.potential.specs.Energies.{IsSlopeCode}
 use Rattle.integrator.specs.Frames.{AreOfSameAtoms, frames}
 use Rattle.engine.specs.Engines.{AreSafe}
 use Rattle.engine.specs.Headline.{AreTypes, Follows, IsJobEnergy, IsTextOf, Lead, current, previous}
 
 -- ---- one past, and one future
 
--- Two frames of the same atoms have one past: where n steps lead from two frames, and from two others, to the same two,
+-- Two frames of the same atoms have one past: where k steps lead from two frames, and from two others, to the same two,
 -- they are the same.
 abbrev pub OnePast : Type 0
-OnePast = (j : JobValue) (tree : Tree) (sides types : List ℕ) (n : ℕ) (p c p' c' q e : List Place3) → AreOfSameAtoms (frames p c) → AreOfSameAtoms (frames p' c')
-    → Lead j tree sides types n p c q e → Lead j tree sides types n p' c' q e → (p ≡ p') × (c ≡ c')
+OnePast = (j : JobValue) (tree : Tree) (sides types : List ℕ) (k : ℕ) (p c q e p' c' : List Place3) → AreOfSameAtoms (frames p c) → AreOfSameAtoms (frames q e)
+    → Lead j tree sides types k p c p' c' → Lead j tree sides types k q e p' c' → (p ≡ q) × (c ≡ e)
 
--- and one future: n steps lead from them to no other two
+-- And one future: k steps lead from two frames of as many atoms to no other two.
 abbrev pub OneFuture : Type 0
-OneFuture = (j : JobValue) (tree : Tree) (sides types : List ℕ) (n : ℕ) (p c q e q' e' : List Place3) → length p ≡ length c
-    → Lead j tree sides types n p c q e → Lead j tree sides types n p c q' e' → (q ≡ q') × (e ≡ e')
+OneFuture = (j : JobValue) (tree : Tree) (sides types : List ℕ) (k : ℕ) (p c p' c' q e : List Place3) → length p ≡ length c
+    → Lead j tree sides types k p c p' c' → Lead j tree sides types k p c q e → (p' ≡ q) × (c' ≡ e)
 
 -- ---- reversal
 
--- n steps lead from the frames p, c of the same atoms to q, e exactly where n steps lead from the frames e, q of the
+-- k steps lead from the frames p, c of the same atoms to p', c' exactly where k steps lead from the frames c', p' of the
 -- same atoms to c, p
 abbrev pub StepsReverse : Type 0
-StepsReverse = (j : JobValue) (tree : Tree) (sides types : List ℕ) (n : ℕ) (p c q e : List Place3)
-    → (AreOfSameAtoms (frames p c) × Lead j tree sides types n p c q e) ↔ (AreOfSameAtoms (frames e q) × Lead j tree sides types n e q c p)
+StepsReverse = (j : JobValue) (tree : Tree) (sides types : List ℕ) (k : ℕ) (p c p' c' : List Place3)
+    → (AreOfSameAtoms (frames p c) × Lead j tree sides types k p c p' c') ↔ (AreOfSameAtoms (frames c' p') × Lead j tree sides types k c' p' c p)
 
 -- ---- recurrence
 
@@ -52,13 +50,13 @@ FramesRecur = (j : JobValue) (tree : Tree) (sides types : List ℕ) (n : ℕ) (p
 
 -- ---- accepted jobs
 
--- Where the code of the slope of a job's energy computes it, and is accepted for a state's atoms, each two frames of as
--- many atoms are followed by one.
+-- Where the code of the slope of a job's energy is accepted for a state's atoms, each two frames of as many atoms are
+-- followed by one.
 abbrev pub AcceptedAreFollowed : Type 0
-AcceptedAreFollowed = (job state : List ℕ) (j : JobValue) (tree : Tree) (s : StateView) (types : List ℕ) (code : List Instr) → IsJobText limits job j → IsJobEnergy j tree → IsTextOf state s → AreTypes j s.atoms types → IsSlopeCode j code
-    → AreSafe job state → AreAllFollowed j tree s.sides types (length s.atoms)
+AcceptedAreFollowed = (job state : List ℕ) (j : JobValue) (tree : Tree) (s : StateView) (types : List ℕ) → IsJobText limits job j → IsJobEnergy j tree → IsTextOf state s → AreTypes j s.atoms types → AreSafe job state
+    → AreAllFollowed j tree s.sides types (length s.atoms)
 
 -- so the state's two frames recur
 abbrev pub AcceptedRecur : Type 0
-AcceptedRecur = (job state : List ℕ) (j : JobValue) (tree : Tree) (s : StateView) (types : List ℕ) (code : List Instr) → IsJobText limits job j → IsJobEnergy j tree → IsTextOf state s → AreTypes j s.atoms types → IsSlopeCode j code
-    → AreSafe job state → Recur j tree s.sides types (previous s) (current s)
+AcceptedRecur = (job state : List ℕ) (j : JobValue) (tree : Tree) (s : StateView) (types : List ℕ) → IsJobText limits job j → IsJobEnergy j tree → IsTextOf state s → AreTypes j s.atoms types → AreSafe job state
+    → Recur j tree s.sides types (previous s) (current s)

@@ -47,3 +47,8 @@ RunsAreAccepted A = (job state : List ℕ) (direction : Direction) (n : ℕ) (te
 abbrev pub ToldAreAccepted : Type 0 → Type 0
 ToldAreAccepted A = (job state : List ℕ) (direction : Direction) (n : ℕ) (text : List ℕ) (before after : Output) → IsLevesqueVerletRun job state direction n text → AreSafe job state
     → (fault : RunFault A) → IsRunUnwritten job state direction n before after fault → Wants fault
+
+-- and of the way back from the text that is written
+abbrev pub WaysBackAreAccepted : Type 0 → Type 0
+WaysBackAreAccepted A = (job state : List ℕ) (direction : Direction) (n : ℕ) (text : List ℕ) (before after : Output) → IsLevesqueVerletRun job state direction n text → AreSafe job state
+    → (fault : RunFault A) → IsRunUnwritten job text (opposite direction) n before after fault → Wants fault

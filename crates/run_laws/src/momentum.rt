@@ -1,6 +1,6 @@
 //! Laws of forces and of momentum.
 
-ghost use Rattle.run_laws.specs.Momentum.{BalancedKeepMomentum, NewtonsThirdLaw, StepsAreBalanced, StepsKeepMomentum};
+ghost use Rattle.run_laws.specs.Momentum.{AtomsKeepMomentum, BalancedKeepMomentum, NewtonsThirdLaw, StepsAreBalanced, StepsKeepMomentum};
 
 /// Newton's third law: the force of a pair on one of its atoms is the negative of that on the other. So the exact
 /// forces on all atoms of a frame come to nothing along each axis, whatever the forces of the pairs are; and so do
@@ -16,4 +16,5 @@ pub fn newtons_third_law()
 pub fn momentum_is_kept_within()
     ensures balanced { BalancedKeepMomentum }
     ensures steps { StepsKeepMomentum }
+    ensures atoms { AtomsKeepMomentum }
 {}

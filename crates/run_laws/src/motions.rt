@@ -2,14 +2,14 @@
 
 ghost use Rattle.run_laws.specs.Motions.{AcceptedAreFollowed, AcceptedRecur, FramesRecur, OneFuture, OnePast, StepsReverse};
 
-/// Two frames of the same atoms have one past and one future: n steps lead to them from no other two, and from them to
+/// Two frames of the same atoms have one past and one future: k steps lead to them from no other two, and from them to
 /// no other two. A step is one to one: it keeps the number of pairs of frames, as Liouville's theorem says of volumes.
 pub fn one_past()
     ensures past { OnePast }
     ensures future { OneFuture }
 {}
 
-/// Reversal of time: n steps lead from two frames to two others exactly where n steps lead from these to those, the
+/// Reversal of time: k steps lead from two frames to two others exactly where k steps lead from these to those, the
 /// later frame first.
 pub fn steps_reverse()
     ensures { StepsReverse }
@@ -22,8 +22,8 @@ pub fn frames_recur()
     ensures { FramesRecur }
 {}
 
-/// So it is for a job and a state that are accepted: each two frames of the state's atoms are followed by one, and its
-/// own two recur. `IsSlopeCode` holds of the code that `potential::slope_code` answers for a job.
+/// So it is for every job and state that are accepted: each two frames of as many atoms as the state's are followed by
+/// one, wherever their atoms are, and the state's own two recur.
 pub fn accepted_frames_recur()
     ensures followed { AcceptedAreFollowed }
     ensures recur { AcceptedRecur }

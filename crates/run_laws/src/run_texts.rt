@@ -1,6 +1,6 @@
 //! Laws of runs from texts to texts.
 
-ghost use Rattle.run_laws.specs.RunTexts.{RunsAreAccepted, RunsAreTold, RunsReturn, RunsStaySafe, ToldAreAccepted, ToldAreRun, ToldReturn};
+ghost use Rattle.run_laws.specs.RunTexts.{RunsAreAccepted, RunsAreTold, RunsReturn, RunsStaySafe, ToldAreAccepted, ToldAreRun, ToldReturn, WaysBackAreAccepted};
 
 /// The state that a run writes is safe under its job where the one that it began with is: no instruction of the slope's
 /// code goes wrong on the way on, nor on the way back, and no pair takes more of them than the certified number. So the
@@ -25,8 +25,9 @@ pub fn runs_return()
 {}
 
 /// Where texts have a run and their code is accepted, nothing keeps the run from being written but want of memory and a
-/// failed output: no energy is too large, no atom too near, no counter at its end.
+/// failed output; nor does anything else keep the way back, from the text that it writes, from being written.
 pub fn runs_are_accepted<A>()
     ensures run { RunsAreAccepted A }
     ensures told { ToldAreAccepted A }
+    ensures back { WaysBackAreAccepted A }
 {}
