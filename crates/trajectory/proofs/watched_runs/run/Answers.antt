@@ -3,7 +3,7 @@ use Rattle.std.specs.Prelude.{is_none}
 use Rattle.std.proofs.lemmas.Result.{err_from_is_err_and}
 use Rattle.state.specs.StateText.{StateView}
 use Rattle.integrator.specs.States.{counter_after}
-use Rattle.trajectory.proofs.HundredthLaws.{nothing_told}
+use Rattle.trajectory.proofs.HundredthLaws.{told_of_run}
 use Rattle.trajectory.proofs.WayLaws.{fits_among, none_is, steps_stopped}
 use Rattle.trajectory.proofs.watched_runs.run.Goals as goal
 
@@ -29,7 +29,17 @@ returns-in_err-write-clause-unwritten g c =
 
 -- the counts that the watcher was told then
 pub returns-then-is_none-clause-told_some : goal.returns-then-is_none-clause-told_some
-returns-then-is_none-clause-told_some g c = nothing_told c.args.steps (g.W.Watch.told c.args.watch.now c.args.watch.now) (g.met.W.Watch.told_nothing c.args.watch.now)
+returns-then-is_none-clause-told_some g c = g.met.W.Watch.told_nothing c.args.watch.now
+
+pub returns-in_err-advance-clause-told_some : goal.returns-in_err-advance-clause-told_some
+returns-in_err-advance-clause-told_some g c =
+    let p = err_from_is_err_and c.from_residual.result c.from_residual.ensures.1 in
+    rw (p.1, p.2) (told_of_run (g.W.Watch.told c.args.watch.now c.advance.new.watch) c.args.steps c.in_err-advance.field-0.0 c.in_err-advance.ensures.told_some)
+
+pub returns-in_err-write-clause-told_some : goal.returns-in_err-write-clause-told_some
+returns-in_err-write-clause-told_some g c =
+    let p = err_from_is_err_and c.from_residual-in_err-write.result c.from_residual-in_err-write.ensures.1 in
+    rw (p.1, p.2) c.in_ok-advance.ensures.told
 
 pub advance-requires-clause-fits : goal.advance-requires-clause-fits
 advance-requires-clause-fits g c = λ _ _ k few.
