@@ -100,13 +100,13 @@ pub told_unwatched : (told : List ℕ → Type 0) (n first steps : ℕ) (h : Hal
 told_unwatched told n first steps h any stopped = record { made = stopped.more; is = stopped.is; told' = any (hundredths_behind n first stopped.more) }
 
 -- in a run that is one stretch
-pub told_of_run : {A : Type 0} (told : List ℕ → Type 0) (n : ℕ) (h : Halt) → IsToldStopped n 0 told h → IsToldOfRun {A = A} n told (run_fault_of h)
-told_of_run told n h stopped = rw stopped.is (subst (λ k. told (hundredths_behind n 0 k)) (sym (zero-add stopped.made)) stopped.told')
+pub told_of_run : (A : Type 0) (told : List ℕ → Type 0) (n : ℕ) (h : Halt) → IsToldStopped n 0 told h → IsToldOfRun {A = A} n told (run_fault_of h)
+told_of_run A told n h stopped = rw stopped.is (subst (λ k. told (hundredths_behind n 0 k)) (sym (zero-add stopped.made)) stopped.told')
 
 -- in a stretch behind the first steps of a run
-pub told_on_way : {W A : Type 0} (told : W → W → List ℕ → Type 0) → ((u v w : W) (first more : List ℕ) → told u v first → told v w more → told u w (first ++ more))
+pub told_on_way : {W : Type 0} (A : Type 0) (told : W → W → List ℕ → Type 0) → ((u v w : W) (first more : List ℕ) → told u v first → told v w more → told u w (first ++ more))
     → (every n first : ℕ) (u v w : W) (h : Halt) → told u v (hundredths_behind n 0 first) → IsToldStopped n first (told v w) h → IsToldOnWay {A = A} every n (told u w) (run_fault_of h)
-told_on_way told both every n first u v w h so_far stopped = rw stopped.is (more_told told both n first stopped.made u v w so_far stopped.told')
+told_on_way A told both every n first u v w h so_far stopped = rw stopped.is (more_told told both n first stopped.made u v w so_far stopped.told')
 
 -- ---- the next one
 

@@ -12,7 +12,7 @@ use Rattle.engine.specs.Engines.{EngineView, IsEngineOfTexts, Went}
 use Rattle.engine.specs.declared.faults.RunFault.{RunFault}
 use Rattle.engine.specs.declared.faults.RunFault.TheVariants as run
 use Rattle.engine.proofs.EngineLaws.{engine_ran, engine_stops, safe_texts}
-use Rattle.trajectory.specs.Visits.{AreJoined, AreTextsUnwritten, BeganText, Halts, IsShownBy, IsStopped, IsTextOfRun, IsTextOnWay, IsUnshown, IsWayUnshown, LeftBeginning, LeftWhole, Showing, WroteText, WroteTexts, run_fault_of}
+use Rattle.trajectory.specs.Visits.{AreJoined, AreTextsUnwritten, Halts, IsShownBy, IsStopped, IsTextOfRun, IsTextOnWay, IsUnshown, IsWayUnshown, LeftBeginning, LeftWhole, Showing, WroteText, WroteTexts, run_fault_of}
 use Rattle.trajectory.specs.declared.halts.Halt.{Halt}
 use Rattle.trajectory.specs.declared.halts.Halt.TheVariants as halt
 use Rattle.trajectory.specs.Watching.{IsToldOnWay, hundredths_behind}
@@ -155,7 +155,7 @@ way_unshown A Shows w steps every e before after (halt.Out f) fits left = (fits,
 -- ---- what was told up to there
 
 -- up to a text that was not shown
-pub told_up_to : {A : Type 0} (told : List ℕ → Type 0) (IsText : List ℕ → Type 0) (every n number steps : ℕ) (o m : Output) (h : Halt) → steps ≡ number * every → steps ≤ n
+pub told_up_to : (A : Type 0) (told : List ℕ → Type 0) (IsText : List ℕ → Type 0) (every n number steps : ℕ) (o m : Output) (h : Halt) → steps ≡ number * every → steps ≤ n
     → IsUnshown IsText steps o m h → told (hundredths_behind n 0 steps) → IsToldOnWay {A = A} every n told (run_fault_of h)
-told_up_to told IsText every n number steps o m (halt.Memory done) same few left so_far = subst (λ k. told (hundredths_behind n 0 k)) (sym left.0) so_far
-told_up_to told IsText every n number steps o m (halt.Out f) same few left so_far = (number, subst (λ k. k ≤ n) same few, subst (λ k. told (hundredths_behind n 0 k)) same so_far)
+told_up_to A told IsText every n number steps o m (halt.Memory done) same few left so_far = subst (λ k. told (hundredths_behind n 0 k)) (sym left.0) so_far
+told_up_to A told IsText every n number steps o m (halt.Out f) same few left so_far = (number, subst (λ k. k ≤ n) same few, subst (λ k. told (hundredths_behind n 0 k)) same so_far)

@@ -1,12 +1,11 @@
 -- The way of an engine: counters that fit, and where its steps stop.
-use Rattle.std.proofs.Common.{◌≡◌, ℕ, suc, ◌+◌, ◌*◌, ◌<◌, ◌≤◌, true, false, List, ℤ, Option, Some, None, arith, refl, ap, sym, subst, ◌∙◌}
+use Rattle.std.proofs.Common.{◌≡◌, ℕ, suc, ◌+◌, ◌*◌, ◌<◌, ◌≤◌, true, false, List, ℤ, Option, Some, None, arith, refl, ap, subst, ◌∙◌}
 use Rattle.std.specs.Prelude.{is_none, if◌then◌else◌}
 use Rattle.std.proofs.Math.Nat.{mul-le-mul_right}
 use Rattle.std.proofs.lemmas.Bool.{false≢true}
 use Rattle.fixed.specs.Arithmetic.{in_range}
 use Rattle.fixed.proofs.IntegerLaws.{in_range_is}
 use Rattle.fallible.specs.Out.{Output}
-use Rattle.job.specs.Values.{JobValue}
 use Rattle.state.proofs.StateReadsAgain.{one_text}
 use Rattle.integrator.specs.States.{counter_after, counter_at}
 use Rattle.integrator.proofs.CounterLaws.{counter_fits, counter_is, counter_stays}

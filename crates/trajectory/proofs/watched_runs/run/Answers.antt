@@ -34,7 +34,7 @@ returns-then-is_none-clause-told_some g c = g.met.W.Watch.told_nothing c.args.wa
 pub returns-in_err-advance-clause-told_some : goal.returns-in_err-advance-clause-told_some
 returns-in_err-advance-clause-told_some g c =
     let p = err_from_is_err_and c.from_residual.result c.from_residual.ensures.1 in
-    rw (p.1, p.2) (told_of_run (g.W.Watch.told c.args.watch.now c.advance.new.watch) c.args.steps c.in_err-advance.field-0.0 c.in_err-advance.ensures.told_some)
+    rw (p.1, p.2) (told_of_run _ (g.W.Watch.told c.args.watch.now c.advance.new.watch) c.args.steps c.in_err-advance.field-0.0 c.in_err-advance.ensures.told_some)
 
 pub returns-in_err-write-clause-told_some : goal.returns-in_err-write-clause-told_some
 returns-in_err-write-clause-told_some g c =
