@@ -3,10 +3,10 @@
 ghost use Rattle.std.specs.Prelude.{◌≡◌, ◌<◌, ◌-◌, ◌*◌, ◌/◌, ◌^◌, suc, is_none, true, false, OnOk, IfErr};
 ghost use Rattle.fixed.specs.Arithmetic.{in_range};
 ghost use Rattle.integrator.specs.States.{counter_after};
-ghost use Rattle.engine.specs.Engines.{AreSafe};
+ghost use Rattle.engine.specs.Engines.{AreSafe, CounterFits};
 ghost use Rattle.observation.specs.Observations.{IsTyped, ShowsTable};
 ghost use Rattle.observation.specs.Tables.{AreRowsUnwritten, IsTableUnshown, IsToldOfTable};
-ghost use Rattle.trajectory.specs.Visits.{CounterFits, IsShownOfRun, IsTextOfRun, IsTextOnWay, WroteTexts};
+ghost use Rattle.trajectory.specs.Visits.{IsShownOfRun, IsTextOfRun, IsTextOnWay, WroteTexts};
 ghost use Rattle.trajectory.specs.Watching.{hundredths};
 
 use crate::columns::Columns;

@@ -11,12 +11,12 @@ use Rattle.integrator.specs.declared.faults.StepFault.TheVariants as step
 use Rattle.engine.specs.Engines.{EngineView, IsEngineOfTexts, Went}
 use Rattle.engine.specs.declared.faults.RunFault.{RunFault}
 use Rattle.engine.specs.declared.faults.RunFault.TheVariants as run
-use Rattle.engine.proofs.EngineLaws.{engine_ran, engine_stops, safe_texts}
+use Rattle.engine.proofs.EngineLaws.{engine_ran, engine_stops, safe_texts, texts_fit}
 use Rattle.trajectory.specs.Visits.{AreJoined, AreTextsUnwritten, Halts, IsShownBy, IsStopped, IsTextOfRun, IsTextOnWay, IsUnshown, IsWayUnshown, LeftBeginning, LeftWhole, Showing, WroteText, WroteTexts, run_fault_of}
 use Rattle.trajectory.specs.declared.halts.Halt.{Halt}
 use Rattle.trajectory.specs.declared.halts.Halt.TheVariants as halt
 use Rattle.trajectory.specs.Watching.{IsToldOnWay, hundredths_behind}
-use Rattle.trajectory.proofs.WayLaws.{at_first, at_next, job_stays, texts_fit}
+use Rattle.trajectory.proofs.WayLaws.{at_first, at_next, job_stays}
 
 -- ---- texts one after the other
 

@@ -10,7 +10,7 @@ use Rattle.integrator.specs.Starts.{plain}
 use Rattle.integrator.specs.States.{counter_after}
 use Rattle.integrator.specs.declared.direction.Direction.{Direction}
 use Rattle.integrator.specs.declared.faults.StepFault.TheVariants as step
-use Rattle.engine.specs.Engines.{AreSafe, AreStopped, EngineView, HasNoEngineOfTexts, OfTexts, Went}
+use Rattle.engine.specs.Engines.{AreSafe, AreStopped, CounterFits, EngineView, HasNoEngineOfTexts, Went}
 use Rattle.engine.specs.Headline.{IsLevesqueVerletRun, IsTextOf}
 use Rattle.engine.specs.declared.faults.RunFault.{RunFault}
 use Rattle.engine.specs.declared.faults.RunFault.TheVariants as run
@@ -131,10 +131,6 @@ IsWayUnshown Shows direction steps every e before after (run.Out f) =
     (is_none (counter_after direction e.state.step steps) ≡ false) × LeftBeginning (IsTextOnWay Shows direction every e) (steps / every) before after
 
 -- ---- from bytes to bytes
-
--- the counter fits after so many steps from the state of these texts
-abbrev pub CounterFits : (job state : List ℕ) → Direction → (steps : ℕ) → Type 0
-CounterFits job state direction steps = OfTexts job state (λ j s. is_none (counter_after direction s.step steps) ≡ false)
 
 -- why the states on the way of a run from these texts were not all shown, and what the output is left with: nothing,
 -- where they have no engine or the counter would leave 64 bits; wherever a text was written, it fits after all n steps

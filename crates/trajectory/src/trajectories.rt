@@ -3,9 +3,9 @@
 ghost use Rattle.std.specs.Prelude.{◌<◌, ◌-◌, ◌*◌, ◌/◌, ◌^◌, suc, IfOk, OnOk, IfErr};
 ghost use Rattle.gro.specs.Frames.{frame_view};
 ghost use Rattle.state.specs.StateViews.{state_view};
-ghost use Rattle.engine.specs.Engines.{AreSafe};
+ghost use Rattle.engine.specs.Engines.{AreSafe, CounterFits};
 ghost use Rattle.trajectory.specs.Trajectories.{IsTimedFrame, IsTimedText, ShowsFrame};
-ghost use Rattle.trajectory.specs.Visits.{AreTextsUnwritten, CounterFits, IsShownOfRun, IsTextOfRun, IsUnshown, WroteText, WroteTexts};
+ghost use Rattle.trajectory.specs.Visits.{AreTextsUnwritten, IsShownOfRun, IsTextOfRun, IsUnshown, WroteText, WroteTexts};
 ghost use Rattle.trajectory.specs.Watching.{IsToldOnWay, hundredths};
 
 use crate::frame_titles::timed_title;

@@ -2,9 +2,9 @@
 
 ghost use Rattle.std.specs.Prelude.{◌≡◌, ◌<◌, ◌≤◌, ◌-◌, ◌*◌, ◌/◌, ◌^◌, ℕ, suc, is_none, true, false, OnOk, IfErr};
 ghost use Rattle.fixed.specs.Arithmetic.{in_range};
-ghost use Rattle.engine.specs.Engines.{AreSafe, EngineView};
+ghost use Rattle.engine.specs.Engines.{AreSafe, CounterFits, EngineView};
 ghost use Rattle.integrator.specs.States.{counter_after};
-ghost use Rattle.trajectory.specs.Visits.{AreTextsUnwritten, CounterFits, Halts, IsShownOfRun, IsTextOfRun, IsTextOnWay, IsWayUnshown, WroteTexts, run_fault_of};
+ghost use Rattle.trajectory.specs.Visits.{AreTextsUnwritten, Halts, IsShownOfRun, IsTextOfRun, IsTextOnWay, IsWayUnshown, WroteTexts, run_fault_of};
 ghost use Rattle.trajectory.specs.Watching.{IsToldOnWay, hundredths};
 
 use crate::halts::{Halt, drop_engine};

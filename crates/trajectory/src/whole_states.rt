@@ -1,8 +1,8 @@
 //! Whole states from bytes to bytes: the states of a run, one every k steps.
 
 ghost use Rattle.std.specs.Prelude.{◌<◌, ◌-◌, ◌*◌, ◌/◌, ◌^◌, suc, OnOk, IfErr};
-ghost use Rattle.engine.specs.Engines.{AreSafe};
-ghost use Rattle.trajectory.specs.Visits.{AreTextsUnwritten, CounterFits, IsShownOfRun, IsTextOfRun, WroteTexts};
+ghost use Rattle.engine.specs.Engines.{AreSafe, CounterFits};
+ghost use Rattle.trajectory.specs.Visits.{AreTextsUnwritten, IsShownOfRun, IsTextOfRun, WroteTexts};
 ghost use Rattle.trajectory.specs.Watching.{IsToldOnWay, hundredths};
 ghost use Rattle.trajectory.specs.WholeStates.{ShowsState};
 

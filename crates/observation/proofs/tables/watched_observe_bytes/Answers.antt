@@ -1,10 +1,10 @@
 use Rattle.std.proofs.Common.{refl}
 use Rattle.std.proofs.lemmas.Result.{IfErr-weaker, err_from_is_err_and, on_ok_weaker}
-use Rattle.engine.proofs.EngineLaws.{safe_texts}
+use Rattle.engine.proofs.EngineLaws.{safe_texts, texts_fit}
 use Rattle.trajectory.specs.Visits.{IsShownOfRun, IsTextOfRun, IsTextOnWay}
 use Rattle.trajectory.proofs.RunTextLaws.{shown_on_way}
 use Rattle.trajectory.proofs.VisitLaws.{text_of_run, wrote_map}
-use Rattle.trajectory.proofs.WayLaws.{engine_in_range, texts_fit}
+use Rattle.trajectory.proofs.WayLaws.{engine_in_range}
 use Rattle.observation.specs.Observations.{ShowsTable}
 use Rattle.observation.proofs.TableLaws.{rows_unwritten, typed_of_texts}
 use Rattle.observation.proofs.tables.watched_observe_bytes.Goals as goal

@@ -13,7 +13,7 @@ pub returns-then-is_none-clause-unshown : goal.returns-then-is_none-clause-unsho
 returns-then-is_none-clause-unshown g c =
     let none : is_none c.counter_after.result ≡ true = search rules in
     let counted : c.counter_after.result ≡ counter_after c.args.direction c.args.engine.now.state.step c.args.steps =
-    c.counter_after.ensures.value ∙ ap (λ (v : StateView). counter_after c.args.direction v.step c.args.steps) c.state.ensures in
+    c.counter_after.ensures.value ∙ ap (λ (v : StateView). counter_after c.args.direction v.step c.args.steps) c.state.ensures.value in
     (sym counted ∙ none_is c.counter_after.result none, refl)
 
 pub returns-in_err-show_each-clause-unshown : goal.returns-in_err-show_each-clause-unshown
@@ -22,7 +22,7 @@ returns-in_err-show_each-clause-unshown g c =
     let step = c.args.engine.now.state.step in
     let some : is_none c.counter_after.result ≡ false = search rules in
     let counted : c.counter_after.result ≡ counter_after c.args.direction step c.args.steps =
-    c.counter_after.ensures.value ∙ ap (λ (v : StateView). counter_after c.args.direction v.step c.args.steps) c.state.ensures in
+    c.counter_after.ensures.value ∙ ap (λ (v : StateView). counter_after c.args.direction v.step c.args.steps) c.state.ensures.value in
     rw (p.1, p.2)
     (way_unshown _ (g.S.Show.shows c.args.show.now) c.args.direction c.args.steps c.args.every c.args.engine.now (g.O.Out.output c.args.out.now) (g.O.Out.output c.show_each.new.out) c.in_err-show_each.field-0.0 (ap is_none (sym counted) ∙ some) c.in_err-show_each.ensures.left)
 
@@ -40,7 +40,7 @@ show_each-requires-clause-fits g c = λ _ _ k few.
     let step = c.args.engine.now.state.step in
     let some : is_none c.counter_after.result ≡ false = search rules in
     let counted : c.counter_after.result ≡ counter_after c.args.direction step c.args.steps =
-    c.counter_after.ensures.value ∙ ap (λ (v : StateView). counter_after c.args.direction v.step c.args.steps) c.state.ensures in
+    c.counter_after.ensures.value ∙ ap (λ (v : StateView). counter_after c.args.direction v.step c.args.steps) c.state.ensures.value in
     fits_among c.args.direction step k c.args.steps c.requires.range (omega (arith, few, div-add-mod' c.args.steps c.args.every)) (ap is_none (sym counted) ∙ some)
 
 pub returns-clause-fits : goal.returns-clause-fits
@@ -48,5 +48,5 @@ returns-clause-fits g c =
     let step = c.args.engine.now.state.step in
     let some : is_none c.counter_after.result ≡ false = search rules in
     let counted : c.counter_after.result ≡ counter_after c.args.direction step c.args.steps =
-    c.counter_after.ensures.value ∙ ap (λ (v : StateView). counter_after c.args.direction v.step c.args.steps) c.state.ensures in
+    c.counter_after.ensures.value ∙ ap (λ (v : StateView). counter_after c.args.direction v.step c.args.steps) c.state.ensures.value in
     ap is_none (sym counted) ∙ some
