@@ -11,7 +11,7 @@ use Rattle.fixed.specs.Rounding.{IsNearest}
 use Rattle.fixed.specs.declared.frac.Frac.{Frac}
 use Rattle.fixed.proofs.FloorLemmas.{nearest_is}
 use Rattle.line_text.specs.Parts.{AreThree}
-use Rattle.job.specs.JobLines.{IsLine, LineValue, said_type, says_type}
+use Rattle.job.specs.JobLines.{LineSays, LineValue, said_type, says_type}
 use Rattle.job.specs.Values.{TypeValue}
 use Rattle.potential.specs.Tables.{no_type}
 use Rattle.state.specs.StateText.{AtomView, IsSide}
@@ -62,7 +62,7 @@ steps_keep j tree sides types p c next follows long heavy =
 -- ---- of a job and a state
 
 -- each type that the lines of a job say has a mass
-said_masses : (frac : Frac) (lines : List (List ℕ)) (values : List LineValue) → AllZip (IsLine frac) lines values → All (λ (t : TypeValue). 1 ≤ t.mass) (filter_map said_type values)
+said_masses : (frac : Frac) (lines : List (List ℕ)) (values : List LineValue) → AllZip (LineSays frac) lines values → All (λ (t : TypeValue). 1 ≤ t.mass) (filter_map said_type values)
 said_masses frac [] [] h = All-nil (λ (t : TypeValue). 1 ≤ t.mass)
 said_masses frac [] (v ∷ vs) h = absurd h
 said_masses frac (line ∷ lines) [] h = absurd h
