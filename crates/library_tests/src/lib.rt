@@ -1,6 +1,6 @@
 //! Tests. What no command shows of single libraries: other numbers of fraction bits, spans on given ends, how often a
-//! pair asks for its slope, traps of the tested machine, runs and verdicts beside one another, heaps that run out, and long
-//! texts in memory.
+//! pair asks for its slope, traps of the tested machine, runs and verdicts beside one another, heaps that run out, and
+//! long texts in memory.
 #![tactic(auto)]
 
 #[cfg(test)]

@@ -1,4 +1,4 @@
-//! A gate that notes which worker is told to draw which tile, and work whose scratches are numbered as their workers are.
+//! A gate that notes which worker is told to draw which tile, and work whose scratches are numbered as the workers.
 
 use arrayvec::ArrayVec;
 use std::sync::atomic::{AtomicU64, Ordering};
