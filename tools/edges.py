@@ -144,9 +144,10 @@ def try_long_files(room):
     text, comments = state((5, 5, 5), 2), f"# {'-' * 97}\n" * (LONG // 100)
     room.write("job", job())
     room.write("state", text)
-    room.write("long", "pairmd job 1\n" + comments + job().partition("\n")[2])
+    long = "pairmd job 1\n" + comments + job().partition("\n")[2]
+    room.write("long", long)
     room.prints("a job of 12 MB", ["run", "long", "state", "--steps", "0"], text)
-    room.prints("a job of 12 MB by a pipe", ["run", "/dev/stdin", "state", "--steps", "0"], text, given=job() + comments)
+    room.prints("a job of 12 MB by a pipe", ["run", "/dev/stdin", "state", "--steps", "0"], text, given=long)
     room.write("late", job() + comments + "type AR 1\n")
     room.expect("the last line of 12 MB", room.run("check", "late"), Ran(1, "", "pairmd: J5 RepeatedType AR\n"))
     text = state((5, 5, 5), 2, title="t" * LONG)
@@ -243,8 +244,8 @@ def try_workers(room):
     """Each command starts the workers that it is asked for: so many threads are seen, and no more."""
     room.write("job", job())
     room.write("state", state(*MANY))
-    runs = [[name, "--steps", "40"] for name in ("run", "back")]
-    runs += [[name, "--steps", "40", "--every", "20"] for name in ("trajectory", "states", "observe")]
+    runs = [[name, "--steps", "20"] for name in ("run", "back")]
+    runs += [[name, "--steps", "20", "--every", "10"] for name in ("trajectory", "states", "observe")]
     for words in runs:
         for workers in (1, 6):
             most = threads(room, [*words, "--workers", str(workers), "job", "state"])
