@@ -246,10 +246,9 @@ def try_workers(room):
     room.write("state", state(*MANY))
     runs = [[name, "--steps", "20"] for name in ("run", "back")]
     runs += [[name, "--steps", "20", "--every", "10"] for name in ("trajectory", "states", "observe")]
-    for words in runs:
-        for workers in (1, 6):
-            most = threads(room, [*words, "--workers", str(workers), "job", "state"])
-            room.expect(f"{words[0]} by {workers} workers", most, (0, workers))
+    for words, workers in [(runs[0], 1), *((words, 6) for words in runs)]:
+        most = threads(room, [*words, "--workers", str(workers), "job", "state"])
+        room.expect(f"{words[0]} by {workers} workers", most, (0, workers))
 
 
 def threads(room, words):
