@@ -7,8 +7,8 @@ use Rattle.fallible.specs.Out.{Output}
 use Rattle.integrator.specs.Forces.{numbers_from}
 use Rattle.command_line.specs.CommandLine.{IsCommand}
 use Rattle.command_line.specs.declared.commands.Command.{Command}
-use Rattle.cli.specs.Progress.{IsBegun, IsQuiet, PrintsIfCounted, Says, Tells, TellsSome, told_of}
-use Rattle.cli.specs.Reports.{Prints}
+use Rattle.cli.specs.Command.{IsQuiet, Prints, PrintsIfCounted, Says, told_of}
+use Rattle.cli.specs.Progress.{IsBegun, Tells, TellsSome}
 
 -- before the first step nothing is told
 nothing_told : (steps : Option ℕ) (o : Output) → TellsSome steps o o

@@ -3,7 +3,8 @@
 ghost use Rattle.std.specs.Prelude.{◌≡◌, ◌<◌, ◌*◌, ◌/◌, ◌-◌, ◌^◌, Some, refl};
 ghost use Rattle.std.proofs.Common.{◌∙◌};
 ghost use Rattle.cli.specs.Performed.{WritesFrames, WritesRun, WritesStates};
-ghost use Rattle.cli.specs.Progress.{PrintsProgress, Tells, prints_also};
+ghost use Rattle.cli.specs.Command.{PrintsProgress};
+ghost use Rattle.cli.specs.Progress.{Tells, prints_also};
 
 use crate::faults::CommandFault;
 use command_line::{Run, Visits};

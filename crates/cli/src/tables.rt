@@ -2,7 +2,8 @@
 
 ghost use Rattle.std.specs.Prelude.{◌≡◌, ◌<◌, ◌*◌, ◌/◌, ◌-◌, ◌^◌, Some};
 ghost use Rattle.cli.specs.Performed.{WritesTable};
-ghost use Rattle.cli.specs.Progress.{Tells, told_of};
+ghost use Rattle.cli.specs.Command.{told_of};
+ghost use Rattle.cli.specs.Progress.{Tells};
 ghost use Rattle.cli.specs.Tables.{columns_of};
 ghost use Rattle.command_line.specs.declared.commands.Command.{Command};
 
