@@ -2,7 +2,6 @@
 use Rattle.std.proofs.Common.{◌≡◌, ℕ, length, ℤ, Some, ap, sym, ◌∙◌}
 use Rattle.std.specs.Prelude.{slice_index}
 use Rattle.fixed.specs.Fractions.{bits_of}
-use Rattle.energy_program.specs.Faults as energy
 use Rattle.energy_program.specs.Programs.{program_tree}
 use Rattle.energy_program.specs.Tree as trees
 use Rattle.energy_program.specs.Value.{value_of}
@@ -18,8 +17,6 @@ use Rattle.engine.specs.PairEnergies.{energy_sum, engine_value, pair_energy}
 use Rattle.engine.specs.SafeEnergies.{safe_value}
 use Rattle.engine.specs.SafeSystems.{safe_dynamics}
 use Rattle.potential.specs.Tables.{table_of}
-use Rattle.potential.specs.declared.faults.EnergyFault.{EnergyFault}
-use Rattle.potential.specs.declared.faults.EnergyFault.TheVariants as fault
 use Rattle.potential.specs.declared.slope_kernels.SlopeKernel.{SlopeKernel}
 use Rattle.integrator.specs.declared.systems.System.{System}
 

@@ -1,5 +1,5 @@
 -- Engines: what their parts make them, and their steps as runs.
-use Rattle.std.proofs.Common.{◌≡◌, ℕ, ◌-◌, ◌*◌, ◌^◌, ◌≤◌, Bool, true, false, List, ℤ, pos, negsuc, ◌+ℤ◌, ◌-ℤ◌, ◌≤ℤ◌, Some, None, Ok, Err, arith, refl, ap, sym, ◌∙◌, ◌<◌, length}
+use Rattle.std.proofs.Common.{◌≡◌, ℕ, ◌-◌, ◌*◌, ◌^◌, ◌≤◌, Bool, true, false, List, ℤ, pos, ◌+ℤ◌, ◌-ℤ◌, Some, None, Ok, Err, arith, refl, ap, sym, ◌∙◌, ◌<◌, length}
 use Rattle.std.specs.Prelude.{nat_lt, is_none}
 use Rattle.std.proofs.lemmas.Int.{ints}
 use Rattle.std.proofs.lemmas.Bool.{ltb-false, ltb-true}
@@ -17,17 +17,19 @@ use Rattle.kernel_code.specs.declared.instructions.Instr.{Instr}
 use Rattle.state.specs.StateReading.{state_of}
 use Rattle.state.specs.declared.faults.StateFault.{StateFault}
 use Rattle.state.specs.StateText.{StateView}
+use Rattle.state.specs.StateViews.{state_view}
 use Rattle.state.specs.declared.states.State.{State}
 use Rattle.job.specs.declared.jobs.Job.{Job}
 use Rattle.integrator.specs.declared.systems.System.{System}
 use Rattle.potential.specs.declared.slope_kernels.SlopeKernel.{SlopeKernel}
-use Rattle.integrator.proofs.ReturnLaws.{start_from, system_parts}
+use Rattle.integrator.proofs.MotionLaws.{returned}
+use Rattle.integrator.proofs.ReturnLaws.{frames_are, moved_is, start_from, system_parts}
 use Rattle.integrator.proofs.StartLaws.{energy_unready, started}
 use Rattle.integrator.proofs.CounterLaws.{counter_fits, counter_stays}
 use Rattle.integrator.proofs.StateLaws.{at_home}
 use Rattle.potential.specs.Energies.{Energy, energy_of, job_tree}
-use Rattle.engine.specs.EngineViews.{IsEngine}
-use Rattle.engine.specs.Engines.{AreSafe, AreStopped, EngineView, HasNoEngine, HasNoEngineOfTexts, IsEngineOfTexts, Stopped, Went, engine_dynamics}
+use Rattle.engine.specs.EngineViews.{IsEngine, engine_view}
+use Rattle.engine.specs.Engines.{AreSafe, AreStopped, CounterFits, EngineView, HasNoEngine, HasNoEngineOfTexts, IsEngineOfTexts, Stopped, Went, engine_dynamics}
 use Rattle.integrator.specs.Frames.{Frame, frames, steps_in}
 use Rattle.integrator.specs.Runs.{IsAfter}
 use Rattle.integrator.specs.Starts.{plain, start_of_run, start_with, step_range, system_of}
@@ -76,7 +78,7 @@ went_on w n e f p q k stepped counted moved = record { frames' = frames p q; ste
 -- steps that don't start leave an engine as it was
 pub unstarted : (w : Direction) (n : ℕ) (e : EngineView) (fault : StepFault) → in_range e.state.step ≡ true → IsUnstarted w n e.state.step fault → Stopped w n e e fault
 unstarted w n e step.StepRange fits h = (h, refl)
-unstarted w n e (step.Memory done) fits h = rw h (omega arith, went_nowhere w e fits)
+unstarted w n e (step.Memory done) fits h = rw h (omega arith, λ some. absurd (omega (arith, some)), went_nowhere w e fits)
 
 -- ---- some of the steps
 
@@ -125,16 +127,22 @@ no_counter job state w n j s system p q r h = start_from plain job state w n j s
 pub safe_texts : (job state : List ℕ) (e : EngineView) → IsEngineOfTexts job state e → AreSafe job state
 safe_texts job state e t = record { j = t.j; s = t.s; job_read = t.job_read; state_read = t.state_read; it = record { system = t.it.system; made = t.it.made; it = t.it.safe } }
 
+-- where the counter of the engine fits, that of its texts does
+pub texts_fit : (job state : List ℕ) (w : Direction) (n : ℕ) (e : EngineView) → IsEngineOfTexts job state e → is_none (counter_after w e.state.step n) ≡ false → CounterFits job state w n
+texts_fit job state w n e t h = record { j = t.j; s = t.s; job_read = t.job_read; state_read = t.state_read; it = rw t.it.is at h }
+
 -- where its steps stop, those of its texts do
 pub engine_stops : (job state : List ℕ) (w : Direction) (n : ℕ) (e f : EngineView) (fault : StepFault) → IsEngineOfTexts job state e → Stopped w n e f fault → AreStopped job state w n fault
 engine_stops job state w n e f step.StepRange t h =
     let none = rw t.it.is at h.0 in
     (no_counter job state w n t.j t.s t.it.system t.job_read t.state_read t.it.made none, safe_texts job state e t)
-engine_stops job state w n e f (step.Memory done) t h = (h.0, safe_texts job state e t)
+engine_stops job state w n e f (step.Memory done) t h = (h.0, λ some. texts_fit job state w n e t (h.1 some), safe_texts job state e t)
 
--- the system is that of the job in any state with the same box and as many atoms
-pub moves_on : {A : Type 0} (j : Job A) (s t : State A) (y : System (SlopeKernel A) A) → t.ring ≡ s.ring → length t.atoms.items ≡ length s.atoms.items → IsEngine j s y → IsEngine j t y
-moves_on j s t y ring atoms e = record {
+-- the state that an engine's steps come to is a state again, and the system is that of the job in it too
+pub moves_on : {A : Type 0} (w : Direction) (n : ℕ) (j : Job A) (s t : State A) (y : System (SlopeKernel A) A) (p q : Frame) (k : ℤ) → IsEngine j s y → t.ring ≡ s.ring → length t.atoms.items ≡ length s.atoms.items
+    → state_view t ≡ moved_state (state_view s) (frames p q) k → length p ≡ length (state_view s).atoms → steps_in w (engine_dynamics (engine_view j s y)) n (frames_of (state_view s)) ≡ Some (frames p q) → in_range k ≡ true → IsEngine j t y
+moves_on w n j s t y p q k e ring atoms moved size stepped counted = record {
+  fits = rw moved (moved_is (state_view s) (frames p q) k e.fits (returned w (engine_dynamics (engine_view j s y)) n (frames_of (state_view s)) (frames p q) (frames_are (state_view s) e.fits) stepped).frames' size counted);
   dynamics = rw ring e.dynamics;
   energy = e.energy;
   program = e.program;

@@ -1,6 +1,6 @@
 -- The meaning of texts by the headline's page is the one that the readers find.
-use Rattle.std.proofs.Common.{◌≡◌, ℕ, zero, suc, ◌<◌, ◌≤◌, ◌*◌, ◌^◌, Bool, true, false, ltb, List, [], ◌∷◌, ◌++◌, length, get_or, Option, Some, None, Ok, ℤ, arith, refl, ap, sym, subst, ◌∙◌, append_assoc, Result, Err, zero-add}
-use Rattle.std.specs.Prelude.{map, bytes_eq, unsigned_abs, codes, ◌&&◌, ◌||◌, if◌then◌else◌}
+use Rattle.std.proofs.Common.{◌≡◌, ℕ, zero, suc, ◌<◌, ◌≤◌, ◌*◌, Bool, true, false, ltb, List, [], ◌∷◌, ◌++◌, length, get_or, Option, Some, None, Ok, ℤ, arith, refl, ap, sym, subst, ◌∙◌, append_assoc}
+use Rattle.std.specs.Prelude.{map, bytes_eq, codes, ◌&&◌, ◌||◌}
 use Rattle.std.specs.List.{All}
 use Rattle.std.proofs.lemmas.Bool.{and_parts, or_parts, eqb-true, leb-true, ltb-false, ltb-true}
 use Rattle.std.proofs.lemmas.List.{append-nil, ext_get_or, get_or-map, length-map}

@@ -1,6 +1,6 @@
 -- Observers of an engine: their code and cells are those of its system, and what they see is the engine's.
-use Rattle.std.proofs.Common.{◌≡◌, ℕ, length, ℤ, List, Option, Some, ap, refl, subst, sym, ◌∙◌}
-use Rattle.std.specs.Prelude.{map, option_map}
+use Rattle.std.proofs.Common.{◌≡◌, ℕ, length, ℤ, List, Some, ap, refl, subst, sym, ◌∙◌}
+use Rattle.std.specs.Prelude.{option_map}
 use Rattle.std.proofs.lemmas.List.{length-map}
 use Rattle.energy_program.specs.Programs.{program_tree}
 use Rattle.job.specs.Views.{job_value}

@@ -1,19 +1,20 @@
 -- A run leads from safe texts to safe texts: the same code is certified for as many atoms.
-use Rattle.std.proofs.Common.{◌≡◌, ℕ, length, ap, sym, subst, ◌∙◌}
+use Rattle.std.proofs.Common.{◌≡◌, ℕ, List, length, ap, sym, subst, ◌∙◌}
 use Rattle.std.proofs.lemmas.List.{length-map}
 use Rattle.state.specs.StateText.{StateView}
 use Rattle.state.proofs.StateReadsAgain.{one_text}
 use Rattle.integrator.specs.Starts.{system_of}
 use Rattle.integrator.specs.States.{frames_of, moved_state}
+use Rattle.integrator.specs.declared.direction.Direction.{Direction}
 use Rattle.line_text.proofs.StepLaws.{same_ok}
 use Rattle.integrator.proofs.ReturnLaws.{system-placed}
-use Rattle.engine.specs.Headline.{who}
-use Rattle.engine.specs.EngineSteps.{RunsStaySafe}
+use Rattle.engine.specs.Engines.{AreSafe}
+use Rattle.engine.specs.Headline.{IsLevesqueVerletRun, who}
 use Rattle.engine.specs.Ranges.{IsSafeFor}
 use Rattle.engine.proofs.HeadlineTexts.{moved_again}
 
 -- the text that a run writes is that of a state of the same system, with as many atoms
-pub runs_stay_safe : RunsStaySafe
+pub runs_stay_safe : (job state : List ℕ) (w : Direction) (n : ℕ) (text : List ℕ) → IsLevesqueVerletRun job state w n text → AreSafe job state → AreSafe job text
 runs_stay_safe job state w n text r a =
     let s = r.before in
     let t = r.after in

@@ -1,6 +1,6 @@
 -- The model's runs and the headline's page are one: what a run writes is on the page, and what is on the page a run
 -- writes, where the energy's slope isn't too large.
-use Rattle.std.proofs.Common.{◌≡◌, ℕ, suc, ◌<◌, ◌*◌, ◌^◌, Bool, true, false, List, [], ◌∷◌, length, get_or, Option, Some, None, Ok, ℤ, arith, refl, ap, sym, subst, ◌∙◌}
+use Rattle.std.proofs.Common.{◌≡◌, ℕ, suc, ◌<◌, ◌*◌, Bool, true, false, List, [], ◌∷◌, length, get_or, Option, Some, None, Ok, ℤ, arith, refl, ap, sym, subst, ◌∙◌}
 use Rattle.std.specs.Prelude.{map, bytes_eq, if◌then◌else◌}
 use Rattle.std.specs.List.{All}
 use Rattle.std.proofs.lemmas.Bool.{and_from, eq-eqb, le-leb, lt-ltb}
@@ -17,9 +17,9 @@ use Rattle.job.proofs.ApartLemmas.{names_once}
 use Rattle.job.proofs.TextLemmas.{reading_again, reading_ok}
 use Rattle.state.specs.StateText.{AtomView, StateView}
 use Rattle.state.proofs.StateReadsAgain.{one_text}
-use Rattle.potential.specs.Energies.{energy_of}
+use Rattle.potential.specs.Energies.{Energy, energy_of}
 use Rattle.integrator.specs.Frames.{steps_in}
-use Rattle.integrator.specs.Runs.{IsAfter}
+use Rattle.integrator.specs.Runs.{IsAfter, IsRun}
 use Rattle.integrator.specs.Starts.{are_alike, as_written, atom_types, plain, ring_of, start_at, type_with}
 use Rattle.potential.specs.Tables.{no_type}
 use Rattle.integrator.specs.States.{counter_after, counter_at, frames_of}
@@ -31,7 +31,6 @@ use Rattle.integrator.proofs.ReturnLaws.{parts_of, start_from}
 use Rattle.integrator.proofs.StartLaws.{started}
 use Rattle.engine.specs.Engines.{AreReadOnce, SaysOnly}
 use Rattle.engine.specs.Headline.{HasRoom, IsLevesqueVerletRun, box_of}
-use Rattle.engine.specs.EngineSteps.{RunsAreTold, ToldAreRun}
 use Rattle.engine.proofs.EngineLaws.{job_tree_is}
 use Rattle.engine.proofs.HeadlineLaws.{only_told, told}
 use Rattle.engine.proofs.HeadlineSteps.{led_to}
@@ -54,8 +53,9 @@ read_once job state w n after ran =
       it = (names_of_text job p.j p.job_read, subst (SaysOnly p.j) (sym (job_tree_is p.j p.energy p.energy_read)) (says_energy p.j p.energy p.energy_read));
     }
 
--- a run of the model is one of the headline's page
-pub runs_are_told : RunsAreTold
+-- a run of the model is one of the headline's page, which relates no other text to its texts
+pub runs_are_told : (job state : List ℕ) (w : Direction) (n : ℕ) (text : List ℕ) → IsRun plain job state w n text
+    → IsLevesqueVerletRun job state w n text × ((other : List ℕ) → IsLevesqueVerletRun job state w n other → other ≡ text)
 runs_are_told job state w n text r =
     let ran : IsAfter plain job state w n r.after = record { start = r.start; starts = r.starts; ran = r.ran } in
     let once = read_once job state w n r.after ran in
@@ -104,8 +104,9 @@ room_again j sides h =
 counted_again : (z k : ℤ) → k ≡ z → in_range k ≡ true → ◌≡◌ {A = Option ℤ} (if in_range z then Some z else None) (Some k)
 counted_again z k e h = rw (← e, h) refl
 
--- a run of the headline's page is one of the model
-pub told_are_run : ToldAreRun
+-- a run of the headline's page is one of the model, where the slope of the job's energy has a program and code
+pub told_are_run : (job state : List ℕ) (w : Direction) (n : ℕ) (text : List ℕ) (j : JobValue) (energy : Energy) → reading_of limits job ≡ Ok j → energy_of j ≡ Ok energy
+    → IsLevesqueVerletRun job state w n text → IsRun plain job state w n text
 told_are_run job state w n text j energy job_read energy_read r =
     let s = r.before in
     let t = r.after in

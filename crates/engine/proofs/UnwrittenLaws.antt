@@ -11,17 +11,17 @@ use Rattle.integrator.specs.declared.faults.StepFault.TheVariants as step
 use Rattle.engine.specs.Engines.{AreStopped, EngineView, IsEngineOfTexts, IsRunUnwritten, IsStateUnwritten, Stopped, StopsEarly, Wants}
 use Rattle.engine.specs.declared.faults.RunFault.{RunFault}
 use Rattle.engine.specs.declared.faults.RunFault.TheVariants as run
-use Rattle.engine.proofs.EngineLaws.{engine_ran, engine_stops, safe_texts}
+use Rattle.engine.proofs.EngineLaws.{engine_ran, engine_stops, safe_texts, texts_fit}
 use Rattle.engine.proofs.OneAnswer.{only_stops}
 
 -- where the steps of an engine stop, they are not all made
 pub stops_early : (w : Direction) (n : ℕ) (e f : EngineView) (fault : StepFault) → Stopped w n e f fault → StopsEarly w n e fault
 stops_early w n e f step.StepRange h = h.0
-stops_early w n e f (step.Memory done) h = h.0
+stops_early w n e f (step.Memory done) h = (h.0, h.1)
 
 texts_stop : (job state : List ℕ) (w : Direction) (n : ℕ) (e : EngineView) (fault : StepFault) → IsEngineOfTexts job state e → StopsEarly w n e fault → AreStopped job state w n fault
 texts_stop job state w n e step.StepRange t h = engine_stops job state w n e e step.StepRange t (h, refl)
-texts_stop job state w n e (step.Memory done) t h = (h, safe_texts job state e t)
+texts_stop job state w n e (step.Memory done) t h = (h.0, λ some. texts_fit job state w n e t (h.1 some), safe_texts job state e t)
 
 -- the run of the texts isn't written either
 pub run_unwritten : {A : Type 0} (job state : List ℕ) (w : Direction) (n : ℕ) (e f : EngineView) (before after : Output) → IsEngineOfTexts job state e → (fault : RunFault A) → IsStateUnwritten w n e f before after fault

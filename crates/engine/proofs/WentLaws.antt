@@ -5,7 +5,7 @@ use Rattle.std.specs.Option.{option_and_then}
 use Rattle.std.proofs.lemmas.Int.{ints}
 use Rattle.std.proofs.lemmas.List.{length-map}
 use Rattle.std.proofs.lemmas.Option.{same_Some}
-use Rattle.state.specs.StateText.{AtomView, StateView}
+use Rattle.state.specs.StateText.{AtomView, IsState, StateView}
 use Rattle.ring_box.specs.Forces.{no_force}
 use Rattle.ring_box.specs.declared.vectors.Force.{Force}
 use Rattle.ring_box.specs.Places.{places_of}
@@ -22,7 +22,6 @@ use Rattle.integrator.proofs.ReturnLaws.{frames_are}
 use Rattle.integrator.proofs.NumberLaws.{length-numbers}
 use Rattle.integrator.proofs.MotionLaws.{returned}
 use Rattle.engine.specs.Engines.{EngineView, Went, engine_dynamics}
-use Rattle.engine.specs.EngineSteps.{StepsAdd, StepsReturn}
 use Rattle.engine.proofs.HeadlineTexts.{moved_again}
 
 -- ---- how many atoms
@@ -96,7 +95,7 @@ module _ (w : Direction) (n : ℕ) (a b : EngineView) (g : Went w n a b) where
       ap (λ (e : EngineView). frames_of e.state) g.moved ∙ frames_moved s g.frames' g.counter sized.0 sized.1
 
 -- k steps and m more are k + m
-pub steps_add : StepsAdd
+pub steps_add : (w : Direction) (k m : ℕ) (a b c : EngineView) → Went w k a b → Went w m b c → Went w (k + m) a c
 steps_add w k m a b c g h =
     let d = engine_dynamics a in
     let fits = λ (z : ℤ). if in_range z then Some z else None in
@@ -113,7 +112,7 @@ steps_add w k m a b c g h =
     }
 
 -- n steps and n back lead to the engine of the start
-pub steps_return : StepsReturn
+pub steps_return : (w : Direction) (n : ℕ) (a b : EngineView) → IsState a.state → Went w n a b → Went (opposite w) n b a
 steps_return w n a b fits g =
     let s = a.state in
     let d = engine_dynamics a in

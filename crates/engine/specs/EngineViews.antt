@@ -3,6 +3,7 @@ use Rattle.std.specs.Prelude.{◌≡◌, length, Ok}
 use Rattle.energy_program.specs.Programs.{program_tree, trees_of}
 use Rattle.job.specs.Views.{job_value}
 use Rattle.job.specs.declared.jobs.Job.{Job}
+use Rattle.state.specs.StateText.{IsState}
 use Rattle.state.specs.StateViews.{sides_view, state_view}
 use Rattle.state.specs.declared.states.State.{State}
 use Rattle.potential.specs.Energies.{job_program, job_tree}
@@ -16,8 +17,9 @@ use Rattle.integrator.specs.declared.systems.System.{System}
 abbrev pub engine_view : {A : Type 0} → Job A → State A → System (SlopeKernel A) A → EngineView
 engine_view j s y = record { job = job_value j; types = y.types.items; state = state_view s }
 
--- the system is that of the job, for the atoms and the box of the state
+-- the state has a text, and the system is that of the job, for the atoms and the box of the state
 pub record IsEngine {A : Type 0} (j : Job A) (s : State A) (y : System (SlopeKernel A) A) : Type 0 where
+  pub fits : IsState (state_view s)
   pub dynamics : safe_dynamics y ≡ as_written (job_value j) (sides_view s.ring) (job_tree (job_value j)) y.types.items
   pub energy : program_tree y.kernel.energy ≡ job_tree (job_value j)
   pub program : job_program (job_value j) ≡ Ok (trees_of y.kernel.energy)

@@ -1,5 +1,5 @@
 -- Engines: which jobs and states have one, and what its steps do.
-use Rattle.std.specs.Prelude.{◌≡◌, ℕ, ◌-◌, ◌≤◌, ℤ, List, length, Some, None, Ok, Err, false, is_none}
+use Rattle.std.specs.Prelude.{◌≡◌, ℕ, ◌-◌, ◌≤◌, ◌<◌, ℤ, List, length, Some, None, Ok, Err, false, is_none}
 use Rattle.energy_program.specs.Faults as energies
 use Rattle.energy_program.specs.Tree.{Tree}
 use Rattle.fallible.specs.Failures.{IfRefused}
@@ -81,16 +81,21 @@ pub record AreReached (direction : Direction) (n done : ℕ) (e : EngineView) (r
   pub few : done ≤ n
   pub stepped : steps_in direction (engine_dynamics e) done (frames_of e.state) ≡ Some reached
 
+-- where some steps are done, the counter fits after all n of them: that it would leave 64 bits is said before a step is
+-- made
+abbrev pub FitsIfDone : Direction → (n done : ℕ) → EngineView → Type 0
+FitsIfDone direction n done e = 0 < done → is_none (counter_after direction e.state.step n) ≡ false
+
 -- where the counter would leave 64 bits nothing is done; where an allocation is refused, as many steps as are told are
 -- made, and not the last (none of none)
 abbrev pub Stopped : Direction → ℕ → EngineView → EngineView → StepFault → Type 0
 Stopped direction n before after step.StepRange = (counter_after direction before.state.step n ≡ None) × (after ≡ before)
-Stopped direction n before after (step.Memory done) = (done ≤ n - 1) × Went direction done before after
+Stopped direction n before after (step.Memory done) = (done ≤ n - 1) × FitsIfDone direction n done before × Went direction done before after
 
 -- why n steps of an engine are not all made
 abbrev pub StopsEarly : Direction → ℕ → EngineView → StepFault → Type 0
 StopsEarly direction n e step.StepRange = counter_after direction e.state.step n ≡ None
-StopsEarly direction n e (step.Memory done) = done ≤ n - 1
+StopsEarly direction n e (step.Memory done) = (done ≤ n - 1) × FitsIfDone direction n done e
 
 -- why the text of the state behind n steps is not written, and what the output is left with: where all steps were made,
 -- a beginning of the text
@@ -108,6 +113,10 @@ pub record OfTexts (job state : List ℕ) (holds : JobValue → StateView → Ty
   pub job_read : reading_of limits job ≡ Ok j
   pub state_read : state_of state ≡ Ok s
   pub it : holds j s
+
+-- the counter fits after so many steps from the state of these texts
+abbrev pub CounterFits : (job state : List ℕ) → Direction → (steps : ℕ) → Type 0
+CounterFits job state direction steps = OfTexts job state (λ j s. is_none (counter_after direction s.step steps) ≡ false)
 
 -- the engine of texts
 abbrev pub IsEngineOfTexts : List ℕ → List ℕ → EngineView → Type 0
@@ -133,11 +142,11 @@ HasNoEngineOfTexts job state (opened.Job f) = reading_of limits job ≡ Err (job
 HasNoEngineOfTexts job state (opened.State f) = (j : JobValue) × (reading_of limits job ≡ Ok j) × (state_of state ≡ Err f)
 HasNoEngineOfTexts job state (opened.Engine f) = OfTexts job state (λ j s. HasNoEngine j s f)
 
--- why steps of the engine of texts stop: the counter would leave 64 bits, or memory ran out after some of them, and not
--- after the last
+-- why steps of the engine of texts stop: the counter would leave 64 bits, and then none is made; or memory ran out
+-- after some of them, and not after the last
 abbrev pub AreStopped : List ℕ → List ℕ → Direction → ℕ → StepFault → Type 0
 AreStopped job state direction steps step.StepRange = (start_of_run plain job state direction steps ≡ Err step_range) × AreSafe job state
-AreStopped job state direction steps (step.Memory done) = (done ≤ steps - 1) × AreSafe job state
+AreStopped job state direction steps (step.Memory done) = (done ≤ steps - 1) × (0 < done → CounterFits job state direction steps) × AreSafe job state
 
 -- why the text of a run was not written, and what the output is left with: only a failed output is left with a
 -- beginning of the text

@@ -1,6 +1,33 @@
--- The headline on one page: what a run from texts to a text is, in relations alone. It stands on the texts of jobs,
--- energies and states (`IsJobText`, `IsEnergy`, `state_text`), on the table of slopes (`slope_of`), on the geometry of
--- a periodic box, and on the step of one coordinate; on no reader, no fault, no code and no machine.
+-- The headline on one page: what a run is, `IsLevesqueVerletRun`, of a job's text, a state's text, a direction, a
+-- number of steps and a text. It is told by relations; the page names no code, no machine and no order of work.
+--
+-- It stands on the texts of jobs, energies and states (`IsJobText`, `IsEnergy`, `state_text`), on the table of slopes
+-- (`slope_of`), on the geometry of a periodic box, and on the step of one coordinate. MODEL lists the files below it in
+-- the order of reading. Not all below is told by relations: that no line of a job has a fault is the readers' own
+-- function `line_fault`, a job's numerals go by the function `reading_of`, and what an energy's definitions are used
+-- for by `source_meaning`. Such a function answers Ok with a value, or Err with a fault; the page asks for the value.
+--
+-- Units. A place is a whole number below 2^32, as many of which divide each side. Sides are in 10^-5 nm, masses in
+-- 10^-5 u, the time step is in fs. Energies are in kJ/mol and distances in nm, each with `bits` bits behind the point
+-- (24, 32 or 40, by the job): a number z stands for z / 2^bits. So slopes and forces are in 2^-bits kJ/mol/nm, and core
+-- and cutoff in 2^-bits nm.
+--
+-- Letters. `pair` is two atoms, the lower first, and i one atom, numbered from 0; p, c and n are the previous, the
+-- current and the next frame; a and b are places, v a force, m a mass, r a distance, j a job. k counts steps, t frames.
+--
+-- Declared with the code: a Direction is Forward or Back; a Frac is F24, F32 or F40, and `bits_of` gives the 24, 32 or
+-- 40; a RingBox has the sides x, y and z; a Place3 has a place x, y and z, one on each axis; a Force has its components
+-- x, y and z. `pos n` is the whole number n, and `negsuc n` is -(n + 1).
+--
+-- "No text". Where the texts are no job's or no state's, where they don't fit each other, where the slope of a pair on
+-- the way has no value, or where the counter would leave 64 bits, the page relates no text to them. Where two things
+-- are wrong it has no order. And the program refuses more than the page: a slope that is too large for a program and
+-- its code, code that fails or may fail at a distance to which no pair of this run comes (V2, V3), and forces that
+-- might not fit 64 bits (A3).
+--
+-- Look-ups have defaults, since they are total: `slice_index xs i` is 0 and `slice_index_or xs i d` is d where xs ends
+-- before i. In a run none is reached: a state has three sides and as many places as atoms in both frames, each frame
+-- that follows has as many, and there are as many types, all of them the job's.
 use Rattle.std.specs.Prelude.{◌≡◌, ◌≤◌, ◌<◌, ℕ, suc, ◌*◌, ◌^◌, ℤ, pos, neg_ℤ, ◌+ℤ◌, ◌-ℤ◌, unsigned_abs, false, List, [], ◌∷◌, ◌++◌, length, map, slice_index, slice_index_or, Some, None}
 use Rattle.std.specs.List.{All}
 use Rattle.fixed.specs.Fractions.{bits_of}
@@ -26,7 +53,7 @@ use Rattle.integrator.specs.declared.direction.Direction.TheVariants.{Back, Forw
 -- ---- what texts say
 
 abbrev pub global_names : JobValue → List (List ℕ)
-global_names j = map (λ g. g.name) j.globals
+global_names j = map (λ global. global.name) j.globals
 
 -- The energy's text of a job says this tree, with at most 64 parentheses and minus signs open. No two of its variables
 -- have one name, and none but the distance has a reserved one.
@@ -35,93 +62,100 @@ pub record IsJobEnergy (j : JobValue) (tree : Tree) : Type 0 where
   pub free : All (λ name. is_reserved name ≡ false) (parameters_and_globals j.parameters (global_names j))
   pub says : IsEnergy (bits_of j.frac) (variables_of j.parameters (global_names j)) j.energy 64 tree
 
--- The text is the one text of a state.
+-- The text is the one text of a state. No two states have the same (the law `OneText` of states).
 pub record IsTextOf (text : List ℕ) (s : StateView) : Type 0 where
   pub fits : IsState s
   pub is : text ≡ state_text s
 
--- The type of a job that has this number.
+-- The type of a job that has this number, from 0. There is a nameless one past the last, which no atom has.
 abbrev pub type_at : JobValue → ℕ → TypeValue
-type_at j t = slice_index_or j.types t (record { name = []; mass = 0; values = [] })
+type_at j number = slice_index_or j.types number (record { name = []; mass = 0; values = [] })
 
 -- Each atom has the type, told by its number, that has the atom's name.
 pub record AreTypes (j : JobValue) (atoms : List AtomView) (types : List ℕ) : Type 0 where
-  pub known : All (λ t. t < length j.types) types
-  pub named : map (λ t. (type_at j t).name) types ≡ map (λ a. a.name) atoms
+  pub known : All (λ number. number < length j.types) types
+  pub named : map (λ number. (type_at j number).name) types ≡ map (λ atom. atom.name) atoms
 
 -- A side has room for two cutoffs: the cutoff is in 2^-bits nm, the side in 10^-5 nm.
 abbrev pub HasRoom : JobValue → ℕ → Type 0
 HasRoom j side = 200000 * unsigned_abs j.cutoff ≤ side * 2 ^ bits_of j.frac
 
+-- The box with these three sides.
 abbrev pub box_of : List ℕ → RingBox
 box_of sides = record { x = slice_index sides 0; y = slice_index sides 1; z = slice_index sides 2 }
 
 -- ---- the Levesque-Verlet rule (Levesque and Verlet 1993, J. Stat. Phys. 72, 519)
 
--- Under a job whose energy is the tree, in a box with these sides, for atoms of these types. A frame has the place of
--- each atom.
+-- Under a job whose energy is the tree, in a box with these sides, for atoms of these types, told by their numbers. A
+-- frame has the place of each atom. These four are the first arguments of each definition below where it is used
+-- outside: `Lead j tree sides types k p c p' c'`.
 module _ (j : JobValue) (tree : Tree) (sides types : List ℕ) where
   -- The values of the variables, for a pair of atoms at a distance: the distance, the parameters of the first, of the
   -- second, the globals.
   abbrev pub inputs : ℕ × ℕ → ℤ → List ℤ
-  inputs p r = r ∷ ((type_at j (slice_index types p.0)).values ++ ((type_at j (slice_index types p.1)).values ++ map (λ g. g.value) j.globals))
+  inputs pair r = r ∷ ((type_at j (slice_index types pair.0)).values ++ ((type_at j (slice_index types pair.1)).values ++ map (λ global. global.value) j.globals))
 
-  -- v is the force of two atoms at a and b on the first of them: along the line through both, of the size of minus the
-  -- slope of the energy at their distance, or at the core where that is more; none where the distance isn't below the
-  -- cutoff, and none where both are at one place.
-  pub data IsPairForce (p : ℕ × ℕ) (a b : Place3) (v : Force ℤ) : Type 0 where
-    far : acting_distance_of j.frac (box_of sides) j.core j.cutoff a b ≡ None → v ≡ no_force → IsPairForce p a b v
-    together : square_of (box_of sides) a b ≡ 0 → v ≡ no_force → IsPairForce p a b v
-    near : (r slope : ℤ) → acting_distance_of j.frac (box_of sides) j.core j.cutoff a b ≡ Some r → slope_of (bits_of j.frac) (inputs p r) tree ≡ Some slope
-        → v ≡ force_along_of (box_of sides) (neg_ℤ slope) a b → IsPairForce p a b v
+  -- v is the force of the two atoms of a pair, at a and b, on the first of them: along the line through both, of the
+  -- size of minus the slope of the energy at their distance, or at the core where that is more; none where the distance
+  -- isn't below the cutoff, and none where both are at one place. The slope is the rounded one: what the table of
+  -- slopes gives where each of its operations is rounded to `bits` bits. Read over exact numbers the table gives the
+  -- derivative: the law `slopes_are_derivatives` of `derivative` (`IsDerivative`).
+  pub data IsPairForce (pair : ℕ × ℕ) (a b : Place3) (v : Force ℤ) : Type 0 where
+    far : acting_distance_of j.frac (box_of sides) j.core j.cutoff a b ≡ None → v ≡ no_force → IsPairForce pair a b v
+    together : square_of (box_of sides) a b ≡ 0 → v ≡ no_force → IsPairForce pair a b v
+    near : (r slope : ℤ) → acting_distance_of j.frac (box_of sides) j.core j.cutoff a b ≡ Some r → slope_of (bits_of j.frac) (inputs pair r) tree ≡ Some slope
+        → v ≡ force_along_of (box_of sides) (neg_ℤ slope) a b → IsPairForce pair a b v
 
-  -- The place of an atom of the mass m that follows the places p and c, where it feels the force v at c: on each axis 2
-  -- c - p + d round the ring, with d the whole number of places that is nearest to what the force displaces it by.
+  -- The place of an atom of the mass m that was at a, is at b, and feels the force v there: on each axis 2 b - a + d
+  -- round the ring, with d the whole number of places that is nearest to what the force displaces it by in a time step.
   abbrev pub next_of : ℕ → Place3 → Place3 → Force ℤ → Place3
-  next_of m p c v = record {
-    x = next_place_of p.x c.x (displacement_of j.frac v.x j.time_step m (box_of sides).x);
-    y = next_place_of p.y c.y (displacement_of j.frac v.y j.time_step m (box_of sides).y);
-    z = next_place_of p.z c.z (displacement_of j.frac v.z j.time_step m (box_of sides).z);
+  next_of m a b v = record {
+    x = next_place_of a.x b.x (displacement_of j.frac v.x j.time_step m (box_of sides).x);
+    y = next_place_of a.y b.y (displacement_of j.frac v.y j.time_step m (box_of sides).y);
+    z = next_place_of a.z b.z (displacement_of j.frac v.z j.time_step m (box_of sides).z);
   }
 
-  -- The frame n follows the frames p and c: each pair of atoms i < k has a force at c, and each atom moves on by the
-  -- exact sum of its shares over all pairs, the pair's force on the atom i and its negative on k.
+  -- The frame n follows the frames p and c: each pair of atoms has a force at c, and each atom moves on by the exact
+  -- sum of its shares over all pairs, which are the pair's force on its first atom and the negative on its second.
   pub record Follows (p c n : List Place3) : Type 0 where
     pub force : ℕ × ℕ → Force ℤ
-    pub forces : All (λ q. IsPairForce q (slice_index_or c q.0 nowhere) (slice_index_or c q.1 nowhere) (force q)) (pairs_of (length c))
+    pub forces : All (λ pair. IsPairForce pair (slice_index_or c pair.0 nowhere) (slice_index_or c pair.1 nowhere) (force pair)) (pairs_of (length c))
     pub atoms : length n ≡ length c
-    pub moved : (a : ℕ) → a < length c
-        → slice_index_or n a nowhere ≡ next_of (slice_index (map (λ t. (type_at j t).mass) types) a) (slice_index_or p a nowhere) (slice_index_or c a nowhere) (sum_of_shares force (pairs_of (length c)) a)
+    pub moved : (i : ℕ) → i < length c
+        → slice_index_or n i nowhere ≡ next_of (slice_index (map (λ number. (type_at j number).mass) types) i) (slice_index_or p i nowhere) (slice_index_or c i nowhere) (sum_of_shares force (pairs_of (length c)) i)
 
-  -- n steps lead from the frames p, c to the frames q, e: of n + 2 frames, p and c the first two and q and e the last
-  -- two, each but the first two follows the two before it.
-  pub record Lead (n : ℕ) (p c q e : List Place3) : Type 0 where
+  -- k steps lead from the frames p and c to the frames p' and c': of k + 2 frames, p and c are the first two and p' and
+  -- c' the last two, and each but the first two follows the two before it.
+  pub record Lead (k : ℕ) (p c p' c' : List Place3) : Type 0 where
     pub frame : ℕ → List Place3
     pub begins : (frame 0 ≡ p) × (frame 1 ≡ c)
-    pub steps : (k : ℕ) → k < n → Follows (frame k) (frame (suc k)) (frame (suc (suc k)))
-    pub ends : (frame n ≡ q) × (frame (suc n) ≡ e)
+    pub steps : (t : ℕ) → t < k → Follows (frame t) (frame (suc t)) (frame (suc (suc t)))
+    pub ends : (frame k ≡ p') × (frame (suc k) ≡ c')
 
 -- ---- runs
 
+-- The two frames of a state.
 abbrev pub previous : StateView → List Place3
-previous s = map (λ a. a.previous) s.atoms
+previous s = map (λ atom. atom.previous) s.atoms
 
 abbrev pub current : StateView → List Place3
-current s = map (λ a. a.current) s.atoms
+current s = map (λ atom. atom.current) s.atoms
 
--- n steps in a direction lead from a state's two frames to another's, and its counter as far: back is forward with the
+-- k steps in a direction lead from a state's two frames to another's, and its counter as far: back is forward with the
 -- frames exchanged.
 abbrev pub Leads : Direction → JobValue → Tree → List ℕ → ℕ → StateView → StateView → Type 0
-Leads Forward j tree types n s t = Lead j tree s.sides types n (previous s) (current s) (previous t) (current t) × (t.step ≡ s.step +ℤ pos n)
-Leads Back j tree types n s t = Lead j tree s.sides types n (current s) (previous s) (current t) (previous t) × (t.step ≡ s.step -ℤ pos n)
+Leads Forward j tree types k before after =
+    Lead j tree before.sides types k (previous before) (current before) (previous after) (current after) × (after.step ≡ before.step +ℤ pos k)
+Leads Back j tree types k before after =
+    Lead j tree before.sides types k (current before) (previous before) (current after) (previous after) × (after.step ≡ before.step -ℤ pos k)
 
 -- Who an atom is, wherever it is: the number and the name of its residue, and its own name.
 abbrev pub who : AtomView → ℤ × List ℕ × List ℕ
-who a = (a.residue_number, a.residue, a.name)
+who atom = (atom.residue_number, atom.residue, atom.name)
 
--- The text is that of the state to which n Levesque-Verlet steps in a direction lead from the state of a text, under
+-- The text is that of the state to which k Levesque-Verlet steps in a direction lead from the state of a text, under
 -- the job of a text.
-pub record IsLevesqueVerletRun (job state : List ℕ) (direction : Direction) (n : ℕ) (text : List ℕ) : Type 0 where
+pub record IsLevesqueVerletRun (job state : List ℕ) (direction : Direction) (k : ℕ) (text : List ℕ) : Type 0 where
   pub j : JobValue
   pub job_text : IsJobText limits job j
   pub tree : Tree
@@ -134,14 +168,14 @@ pub record IsLevesqueVerletRun (job state : List ℕ) (direction : Direction) (n
   pub room : HasRoom j (box_of before.sides).x × HasRoom j (box_of before.sides).y × HasRoom j (box_of before.sides).z
   pub after : StateView
   pub after_text : IsTextOf text after
-  pub leads : Leads direction j tree types n before after
+  pub leads : Leads direction j tree types k before after
   -- only places and counter change
   pub same : after ≡ record before { step = after.step; atoms = after.atoms }
   pub kept : map who after.atoms ≡ map who before.atoms
 
 -- An output took all of that text, which is the only one.
-pub record WroteLevesqueVerletRun (job state : List ℕ) (direction : Direction) (n : ℕ) (output_before output_after : Output) : Type 0 where
+pub record WroteLevesqueVerletRun (job state : List ℕ) (direction : Direction) (k : ℕ) (output_before output_after : Output) : Type 0 where
   pub text : List ℕ
-  pub run : IsLevesqueVerletRun job state direction n text
-  pub only : (other : List ℕ) → IsLevesqueVerletRun job state direction n other → other ≡ text
+  pub run : IsLevesqueVerletRun job state direction k text
+  pub only : (other : List ℕ) → IsLevesqueVerletRun job state direction k other → other ≡ text
   pub appends : Appends output_before output_after text

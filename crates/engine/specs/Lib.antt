@@ -2,7 +2,6 @@ pub mod SafeSystems
 pub mod Ranges
 pub mod Engines
 pub mod Headline
-pub mod EngineSteps
 pub mod EngineViews
 pub mod EngineForces
 pub mod FrameSums

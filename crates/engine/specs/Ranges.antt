@@ -1,5 +1,5 @@
 -- The range of forces: whether the force on an atom fits 64 bits, by the greatest slope that the verifier found.
-use Rattle.std.specs.Prelude.{◌≡◌, Ok, ℕ, ◌-◌, ◌*◌, ◌^◌, ◌<◌, ◌≤◌, List}
+use Rattle.std.specs.Prelude.{Ok, ℕ, ◌-◌, ◌*◌, ◌^◌, ◌<◌, ◌≤◌, List}
 use Rattle.job.specs.Values.{JobValue}
 use Rattle.kernel_code.specs.declared.instructions.Instr.{Instr}
 use Rattle.potential.specs.Tables.{table_of}

@@ -7,6 +7,7 @@ ghost use Rattle.fallible.specs.Failures.{IfRefused};
 ghost use Rattle.job.specs.Views.{job_value, type_value};
 ghost use Rattle.potential.specs.Energies.{job_program, job_tree};
 ghost use Rattle.ring_box.specs.Cells.{has_room};
+ghost use Rattle.state.specs.StateText.{IsState};
 ghost use Rattle.state.specs.StateViews.{state_view};
 ghost use Rattle.engine.specs.Engines.{AreReached, engine_dynamics, HasNoEngine, IsEngineOf, SaysOnly, Stopped, Went};
 ghost use Rattle.engine.specs.EngineViews.{IsEngine, engine_view};
@@ -74,6 +75,28 @@ fn fits<A: Allocator>(kernel: &SlopeKernel<A>, state: &State<A>) -> bool
     u128::from(kernel.verified.bound()) * (others as u128) < 9_223_372_036_854_775_808
 }
 
+/// A state has a text. Its types say so of each of its numbers, and a proof knows that of those that are read: this
+/// reads them, and nothing else.
+fn has_text<A: Allocator>(state: &State<A>)
+    ensures { IsState (state_view state.now) }
+{
+    let _step = state.step;
+    let _sides = (state.ring.x.get(), state.ring.y.get(), state.ring.z.get());
+    for atom in &state.atoms {
+        let Place3 {
+            x: _x,
+            y: _y,
+            z: _z,
+        } = atom.previous;
+        let Place3 {
+            x: _x,
+            y: _y,
+            z: _z,
+        } = atom.current;
+        let _number = atom.residue_number;
+    }
+}
+
 /// The system of these atoms under this slope, in the box of the state.
 fn motion<A: Allocator>(
     job: &Job<A>,
@@ -94,6 +117,7 @@ fn motion<A: Allocator>(
     ensures types { result.system.types.items ≡ atoms.types.items }
     ensures engine { IsEngine job.now state.now result.system }
 {
+    has_text(state);
     let system = System {
         frac: job.frac,
         ring: state.ring,
@@ -164,9 +188,10 @@ impl<A: Allocator + Copy> Engine<A> {
         }
     }
 
-    /// The state that the engine has come to; at first that which was handed in.
+    /// The state that the engine has come to, which has a text; at first that which was handed in.
     pub fn state(&self) -> &State<A>
-        ensures { state_view result.now ≡ self.now.state }
+        ensures value { state_view result.now ≡ self.now.state }
+        ensures fits { IsState self.now.state }
     {
         &self.state
     }

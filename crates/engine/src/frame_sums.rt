@@ -52,18 +52,8 @@ impl<A: Allocator + Copy> SafeSystem<A> {
         Ok(Tiling { tiles, cells })
     }
 
-    /// The tiles and cells that are kept, or new ones. `AllocError` only where memory is refused.
-    fn kept_tiling(&self, alloc: A, kept: Option<Tiling<A>>) -> Result<Tiling<A>, AllocError>
-        requires { IfSome kept (IsTilingOf self.now.system) }
-        ensures { IfOk result (IsTilingOf self.now.system) }
-    {
-        match kept {
-            Some(tiling) => Ok(tiling),
-            None => self.tiling(alloc),
-        }
-    }
-
-    /// A desk with this scratch. `AllocError` only where memory is refused, or was for the scratch.
+    /// A desk with this scratch, and the tiles and cells that are kept, or new ones. `AllocError` only where memory is
+    /// refused, or was for the scratch.
     pub(crate) fn desk<S: Drop>(
         &self,
         alloc: A,
@@ -74,7 +64,10 @@ impl<A: Allocator + Copy> SafeSystem<A> {
         ensures { IfOk result (λ desk. IsTilingOf self.now.system desk.tiling) }
     {
         let scratch = scratch?;
-        let tiling = self.kept_tiling(alloc, kept)?;
+        if let Some(tiling) = kept {
+            return Ok(Desk { tiling, scratch });
+        }
+        let tiling = self.tiling(alloc)?;
         Ok(Desk { tiling, scratch })
     }
 

@@ -88,11 +88,3 @@ pub record IsTableText (columns : Columns) (j : JobValue) (number : ℕ) (s : St
 -- it is shown of a state
 abbrev pub ShowsTable : Columns → Showing
 ShowsTable columns = IsTableText columns
-
--- the row of decimals
-abbrev pub ShowsRow : Showing
-ShowsRow = ShowsTable Decimals
-
--- the row of whole numbers
-abbrev pub ShowsExactRow : Showing
-ShowsExactRow = ShowsTable WholeNumbers

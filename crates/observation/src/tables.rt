@@ -3,11 +3,11 @@
 ghost use Rattle.std.specs.Prelude.{◌≡◌, ◌<◌, ◌-◌, ◌*◌, ◌/◌, ◌^◌, suc, is_none, true, false, OnOk, IfErr};
 ghost use Rattle.fixed.specs.Arithmetic.{in_range};
 ghost use Rattle.integrator.specs.States.{counter_after};
-ghost use Rattle.engine.specs.Engines.{AreSafe};
+ghost use Rattle.engine.specs.Engines.{AreSafe, CounterFits};
 ghost use Rattle.observation.specs.Observations.{IsTyped, ShowsTable};
-ghost use Rattle.observation.specs.Tables.{AreRowsUnwritten, IsTableUnshown};
-ghost use Rattle.trajectory.specs.Visits.{CounterFits, IsTextOfRun, IsTextOnWay, WroteTexts};
-ghost use Rattle.trajectory.specs.Watching.{SomeHundredths, hundredths};
+ghost use Rattle.observation.specs.Tables.{AreRowsUnwritten, IsTableUnshown, IsToldOfTable};
+ghost use Rattle.trajectory.specs.Visits.{IsShownOfRun, IsTextOfRun, IsTextOnWay, WroteTexts};
+ghost use Rattle.trajectory.specs.Watching.{hundredths};
 
 use crate::columns::Columns;
 use crate::faults::ObserveFault;
@@ -33,7 +33,7 @@ use trajectory::{Unwatched, Watch, visit};
 /// allocation was refused before the first row; `Run` of `Steps` with `StepRange` exactly where the counter would leave
 /// an i64 within the steps; nothing is written then. `Run` of `Steps` with `Memory` where an allocation was refused
 /// after `done` steps: the rows up to there are written whole, maybe without that after just `done`. `Run` of `Out`
-/// comes only where a write failed, after a beginning of the table.
+/// comes only where a write failed, after whole rows and a beginning of the next.
 pub fn observe_bytes<R: Threads + Sync, A: Allocator + Copy + Send + Sync, O: Out>(
     rt: &R,
     alloc: A,
@@ -54,8 +54,10 @@ pub fn observe_bytes<R: Threads + Sync, A: Allocator + Copy + Send + Sync, O: Ou
     ensures fits { OnOk result (CounterFits job.now state.now direction steps) }
     // The head line and the rows of the states after 0, k, 2k, .. steps are written.
     ensures wrote { OnOk result (WroteTexts (IsTextOfRun (ShowsTable columns) job.now state.now direction every) (suc (steps / every)) (O.output out.old) (O.output out.new)) }
-    // Why they are not, and what is written then: nothing before the first row, whole rows where memory ran out, a
-    // beginning of them where the output failed.
+    // The same by the page of relations between texts: of states whose texts are those of runs of so many steps.
+    ensures runs { OnOk result (WroteTexts (IsShownOfRun (ShowsTable columns) job.now state.now direction every) (suc (steps / every)) (O.output out.old) (O.output out.new)) }
+    // Why they are not, and what is written then: nothing before the first row, whole rows where memory ran out, whole
+    // rows and a beginning of the next where the output failed.
     ensures refused { IfErr result (AreRowsUnwritten (ShowsTable columns) job.now state.now direction steps every (O.output out.old) (O.output out.new)) }
 {
     watched_observe_bytes(
@@ -101,12 +103,16 @@ pub fn watched_observe_bytes<
     ensures fits { OnOk result (CounterFits job.now state.now direction steps) }
     // The head line and the rows of the states after 0, k, 2k, .. steps are written.
     ensures wrote { OnOk result (WroteTexts (IsTextOfRun (ShowsTable columns) job.now state.now direction every) (suc (steps / every)) (O.output out.old) (O.output out.new)) }
-    // Why they are not, and what is written then: nothing before the first row, whole rows where memory ran out, a
-    // beginning of them where the output failed.
+    // The same by the page of relations between texts: of states whose texts are those of runs of so many steps.
+    ensures runs { OnOk result (WroteTexts (IsShownOfRun (ShowsTable columns) job.now state.now direction every) (suc (steps / every)) (O.output out.old) (O.output out.new)) }
+    // Why they are not, and what is written then: nothing before the first row, whole rows where memory ran out, whole
+    // rows and a beginning of the next where the output failed.
     ensures refused { IfErr result (AreRowsUnwritten (ShowsTable columns) job.now state.now direction steps every (O.output out.old) (O.output out.new)) }
-    // The watcher is told of each hundredth of the steps up to the last row, or of those among the first steps.
+    // The watcher is told of each hundredth of the steps up to the last row. Where the run ends early, it was told of
+    // nothing before a refusal, of those among the steps that were made where memory ran out, and of those up to a row
+    // where the output failed.
     ensures told { OnOk result (W.told watch.old watch.new (hundredths (steps / every * every))) }
-    ensures told_some { IfErr result (λ _. SomeHundredths (steps / every * every) (W.told watch.old watch.new)) }
+    ensures told_some { IfErr result (IsToldOfTable every (steps / every * every) (W.told watch.old watch.new)) }
 {
     let mut engine = open(alloc, job, state)?;
     let done = table(
@@ -149,7 +155,7 @@ fn table<R: Threads + Sync, A: Allocator + Copy + Send + Sync, W: Watch, O: Out>
     ensures wrote { OnOk result (WroteTexts (IsTextOnWay (ShowsTable columns) direction every engine.old) (suc (steps / every)) (O.output out.old) (O.output out.new)) }
     ensures unshown { IfErr result (IsTableUnshown (ShowsTable columns) direction steps every engine.old (O.output out.old) (O.output out.new)) }
     ensures told { OnOk result (W.told watch.old watch.new (hundredths (steps / every * every))) }
-    ensures told_some { IfErr result (λ _. SomeHundredths (steps / every * every) (W.told watch.old watch.new)) }
+    ensures told_some { IfErr result (IsToldOfTable every (steps / every * every) (W.told watch.old watch.new)) }
 {
     let observer = engine.observer()?;
     let mut rows = Rows {

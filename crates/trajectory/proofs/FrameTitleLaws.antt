@@ -1,15 +1,15 @@
 -- Titles of frames: how a time is written part by part, and that a title with a time is a title.
-use Rattle.std.proofs.Common.{◌≡◌, ℕ, zero, suc, ◌+◌, ◌-◌, ◌*◌, ◌/◌, ◌%◌, ◌^◌, ◌<◌, ◌≤◌, true, false, not, eqb, add-zero, List, [], ◌∷◌, ◌++◌, length, take, drop, get_or, ℤ, pos, negsuc, neg_ℤ, decimal, codes, IsTrue, refl, sym, ap, ◌∙◌, arith, lit<}
+use Rattle.std.proofs.Common.{◌≡◌, ℕ, zero, suc, ◌+◌, ◌-◌, ◌*◌, ◌/◌, ◌%◌, ◌^◌, ◌<◌, ◌≤◌, true, false, not, eqb, List, [], ◌∷◌, ◌++◌, length, take, drop, get_or, ℤ, pos, negsuc, neg_ℤ, decimal, codes, IsTrue, refl, sym, ap, ◌∙◌, arith, lit<}
 use Rattle.std.specs.Prelude.{unsigned_abs}
 use Rattle.std.specs.Fmt.{signed_decimal}
 use Rattle.std.proofs.lemmas.Bool.{and_from, and_parts, ltb-true, ne_eqb}
 use Rattle.std.proofs.lemmas.Fmt.{decimal_nonempty, length-decimal-le}
-use Rattle.std.proofs.lemmas.List.{append_assoc, drop_at, get_or-append-add, get_or-drop, length-append, take-append-drop}
+use Rattle.std.proofs.lemmas.List.{append_assoc, drop_at, get_or-append-add, length-append, take-append-drop}
 use Rattle.std.proofs.Math.Nat.{mul-le-mul}
 use lib.Signed.{lt_z, mag}
 use Rattle.line_text.specs.Parts.{is_title, lacks, right_in}
 use Rattle.line_text.specs.Columns.{decimals_text, with_decimals, zeros_in}
-use Rattle.line_text.proofs.LineLaws.{copies_lack, decimal_lacks, lacks_append, lacks_at, lacks_first, lacks_front, lacks_rest, right_lacks, signed_lacks}
+use Rattle.line_text.proofs.LineLaws.{copies_lack, decimal_lacks, lacks_append, lacks_at, lacks_front, right_lacks, signed_lacks}
 use Rattle.trajectory.specs.FrameTitles.{mark, time_and_step, time_of}
 
 -- ---- a time

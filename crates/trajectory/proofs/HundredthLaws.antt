@@ -9,7 +9,10 @@ use Rattle.std.proofs.lemmas.List.Elements.{filter-append}
 use Rattle.std.proofs.lemmas.Nat.{div-add-mod', div_below, le-div, mod_below}
 use Rattle.std.proofs.Math.Nat.{mul-le-mul_right}
 use Rattle.integrator.specs.Forces.{numbers_from}
-use Rattle.trajectory.specs.Watching.{IsNextHundredth, SomeHundredths, complete, completes, hundredths_behind}
+use Rattle.trajectory.specs.Visits.{IsStopped, run_fault_of}
+use Rattle.trajectory.specs.Watching.{IsNextHundredth, IsToldOfRun, IsToldOnWay, IsToldStopped, complete, completes, hundredths_behind}
+use Rattle.trajectory.specs.declared.halts.Halt.{Halt}
+use Rattle.trajectory.specs.declared.halts.Halt.TheVariants as halt
 
 -- ---- numbers in order
 
@@ -78,9 +81,32 @@ pub more_told : {W : Type 0} (told : W → W → List ℕ → Type 0) → ((u v 
     → (n a b : ℕ) (u v w : W) → told u v (hundredths_behind n 0 a) → told v w (hundredths_behind n a b) → told u w (hundredths_behind n 0 (a + b))
 more_told told both n a b u v w x y = subst (told u w) (sym (hundredths-next n a b)) (both u v w (hundredths_behind n 0 a) (hundredths_behind n a b) x y)
 
--- of no step nothing is told
-pub nothing_told : (n : ℕ) (told : List ℕ → Type 0) → told [] → SomeHundredths n told
-nothing_told n told none = (0, omega arith, subst told (sym (hundredths-zero n 0)) none)
+-- ---- what was told where memory ran out
+
+-- In a stretch that ends with the next hundredth or before it an allocation is refused before that is complete.
+pub told_until : (told : List ℕ → Type 0) (n first made next more : ℕ) (h : Halt) → IsNextHundredth n (first + made) next → 1 ≤ more → more ≤ next → IsStopped (first + made) more h
+    → told (hundredths_behind n first made) → IsToldStopped n first told h
+told_until told n first made next more h hundredth some few stopped so_far =
+    let all : first + made + stopped.more ≡ first + (made + stopped.more) = omega arith in
+    let before : stopped.more < next = omega (arith, stopped.few, some, few) in
+    record {
+      made = made + stopped.more;
+      is = stopped.is ∙ ap halt.Memory all;
+      told' = subst told (sym (no_more_hundredth n first made next stopped.more hundredth before)) so_far;
+    }
+
+-- one who doesn't watch may have been told anything
+pub told_unwatched : (told : List ℕ → Type 0) (n first steps : ℕ) (h : Halt) → ((counts : List ℕ) → told counts) → IsStopped first steps h → IsToldStopped n first told h
+told_unwatched told n first steps h any stopped = record { made = stopped.more; is = stopped.is; told' = any (hundredths_behind n first stopped.more) }
+
+-- in a run that is one stretch
+pub told_of_run : (A : Type 0) (told : List ℕ → Type 0) (n : ℕ) (h : Halt) → IsToldStopped n 0 told h → IsToldOfRun {A = A} n told (run_fault_of h)
+told_of_run A told n h stopped = rw stopped.is (subst (λ k. told (hundredths_behind n 0 k)) (sym (zero-add stopped.made)) stopped.told')
+
+-- in a stretch behind the first steps of a run
+pub told_on_way : {W : Type 0} (A : Type 0) (told : W → W → List ℕ → Type 0) → ((u v w : W) (first more : List ℕ) → told u v first → told v w more → told u w (first ++ more))
+    → (every n first : ℕ) (u v w : W) (h : Halt) → told u v (hundredths_behind n 0 first) → IsToldStopped n first (told v w) h → IsToldOnWay {A = A} every n (told u w) (run_fault_of h)
+told_on_way A told both every n first u v w h so_far stopped = rw stopped.is (more_told told both n first stopped.made u v w so_far stopped.told')
 
 -- ---- the next one
 

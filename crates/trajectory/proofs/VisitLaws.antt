@@ -1,18 +1,21 @@
 -- Visits: what texts one after the other are, and what is left of them where a run ends early.
-use Rattle.std.proofs.Common.{◌≡◌, ℕ, zero, suc, ◌+◌, ◌*◌, ◌/◌, ◌<◌, ◌≤◌, true, List, [], ◌++◌, Ok, arith, refl, ap, sym, subst, ◌∙◌}
+use Rattle.std.proofs.Common.{◌≡◌, ℕ, zero, suc, ◌+◌, ◌*◌, ◌/◌, ◌<◌, ◌≤◌, true, false, List, [], ◌++◌, Ok, arith, refl, ap, sym, subst, ◌∙◌}
+use Rattle.std.specs.Prelude.{is_none}
 use Rattle.fixed.specs.Arithmetic.{in_range}
 use Rattle.fallible.specs.Out.{Output}
-use Rattle.fallible.proofs.Appends.{appends_both, appends_nothing, begins_next}
+use Rattle.fallible.proofs.Appends.{appends_both, appends_nothing}
 use Rattle.job.specs.Values.{JobValue}
+use Rattle.integrator.specs.States.{counter_after}
 use Rattle.integrator.specs.declared.direction.Direction.{Direction}
 use Rattle.integrator.specs.declared.faults.StepFault.TheVariants as step
 use Rattle.engine.specs.Engines.{EngineView, IsEngineOfTexts, Went}
 use Rattle.engine.specs.declared.faults.RunFault.{RunFault}
 use Rattle.engine.specs.declared.faults.RunFault.TheVariants as run
-use Rattle.engine.proofs.EngineLaws.{engine_ran, engine_stops, safe_texts}
-use Rattle.trajectory.specs.Visits.{AreJoined, AreTextsUnwritten, BeganText, BeganTexts, Halts, IsShownBy, IsStopped, IsTextOfRun, IsTextOnWay, IsUnshown, IsWayUnshown, LeftBeginning, LeftWhole, Showing, WroteText, WroteTexts, run_fault_of}
+use Rattle.engine.proofs.EngineLaws.{engine_ran, engine_stops, safe_texts, texts_fit}
+use Rattle.trajectory.specs.Visits.{AreJoined, AreTextsUnwritten, Halts, IsShownBy, IsStopped, IsTextOfRun, IsTextOnWay, IsUnshown, IsWayUnshown, LeftBeginning, LeftWhole, Showing, WroteText, WroteTexts, run_fault_of}
 use Rattle.trajectory.specs.declared.halts.Halt.{Halt}
 use Rattle.trajectory.specs.declared.halts.Halt.TheVariants as halt
+use Rattle.trajectory.specs.Watching.{IsToldOnWay, hundredths_behind}
 use Rattle.trajectory.proofs.WayLaws.{at_first, at_next, job_stays}
 
 -- ---- texts one after the other
@@ -24,10 +27,6 @@ no_text P o = record { text = []; texts = refl; appends = appends_nothing o }
 -- n texts, and then the next
 pub one_more : (P : ℕ → List ℕ → Type 0) (n : ℕ) (o m r : Output) → WroteTexts P n o m → WroteText (P n) m r → WroteTexts P (suc n) o r
 one_more P n o m r h t = record { text = h.text ++ t.text; texts = (h.text, t.text, h.texts, t.shown, refl); appends = appends_both h.appends t.appends }
-
--- n texts, and then a beginning of the next
-pub began_more : (P : ℕ → List ℕ → Type 0) (n : ℕ) (o m r : Output) → WroteTexts P n o m → BeganText (P n) m r → BeganTexts P (suc n) o r
-began_more P n o m r h t = record { text = h.text ++ t.text; texts = (h.text, t.text, h.texts, t.shown, refl); beginning = begins_next h.appends t.beginning }
 
 -- a text that joins texts of some kind joins texts of any kind that each of them is of
 pub joined_map : (P Q : ℕ → List ℕ → Type 0) (n : ℕ) (text : List ℕ) → ((i : ℕ) (t : List ℕ) → P i t → Q i t) → AreJoined P n text → AreJoined Q n text
@@ -42,12 +41,14 @@ wrote_map P Q n o m f h = record { text = h.text; texts = joined_map P Q n h.tex
 left_whole_map : (P Q : ℕ → List ℕ → Type 0) (every most done : ℕ) (o m : Output) → ((i : ℕ) (t : List ℕ) → P i t → Q i t) → LeftWhole P every most done o m → LeftWhole Q every most done o m
 left_whole_map P Q every most done o m f h = record { count = h.count; few = h.few; up_to = h.up_to; no_more = h.no_more; wrote = wrote_map P Q h.count o m f h.wrote }
 
--- and a beginning of them
+-- and those before one of which a beginning is left
 left_beginning_map : (P Q : ℕ → List ℕ → Type 0) (most : ℕ) (o m : Output) → ((i : ℕ) (t : List ℕ) → P i t → Q i t) → LeftBeginning P most o m → LeftBeginning Q most o m
 left_beginning_map P Q most o m f h = record {
   count = h.count;
   few = h.few;
-  began = record { text = h.began.text; texts = joined_map P Q (suc h.count) h.began.text f h.began.texts; beginning = h.began.beginning };
+  between = h.between;
+  wrote = wrote_map P Q h.count o h.between f h.wrote;
+  began = record { text = h.began.text; shown = f h.count h.began.text h.began.shown; beginning = h.began.beginning };
 }
 
 -- ---- on the way: `Shows` says what is shown at the first visit, and `Now` what is shown at this one
@@ -80,7 +81,9 @@ module _ (Shows Now : Showing) (same : IsShownBy Shows Now) (w : Direction) (eve
       record {
         count = number;
         few = few;
-        began = began_more OnWay number o m r wrote (record { text = left.text; shown = on_way number f left.text went left.shown; beginning = left.beginning });
+        between = m;
+        wrote = wrote;
+        began = record { text = left.text; shown = on_way number f left.text went left.shown; beginning = left.beginning };
       }
 
   -- the first text, before any step
@@ -132,13 +135,27 @@ pub texts_unwritten : {A : Type 0} (Shows : Showing) (job state : List ℕ) (w :
     → IsWayUnshown Shows w steps every e before after fault → AreTextsUnwritten Shows job state w steps every before after fault
 texts_unwritten Shows job state w steps every e before after t (run.Open failure) h = absurd h
 texts_unwritten Shows job state w steps every e before after t (run.Steps step.StepRange) h = (engine_stops job state w steps e e step.StepRange t (h.0, refl), h.1)
-texts_unwritten Shows job state w steps every e before after t (run.Steps (step.Memory done)) left =
-    (safe_texts job state e t, left_whole_map (IsTextOnWay Shows w every e) (IsTextOfRun Shows job state w every) every (steps / every) done before after (text_of_run Shows job state w every e t) left)
-texts_unwritten Shows job state w steps every e before after t (run.Out f) left =
-    (safe_texts job state e t, left_beginning_map (IsTextOnWay Shows w every e) (IsTextOfRun Shows job state w every) (steps / every) before after (text_of_run Shows job state w every e t) left)
+texts_unwritten Shows job state w steps every e before after t (run.Steps (step.Memory done)) left = (
+  safe_texts job state e t,
+  texts_fit job state w steps e t left.0,
+  left_whole_map (IsTextOnWay Shows w every e) (IsTextOfRun Shows job state w every) every (steps / every) done before after (text_of_run Shows job state w every e t) left.1,
+)
+texts_unwritten Shows job state w steps every e before after t (run.Out f) left = (
+  safe_texts job state e t,
+  texts_fit job state w steps e t left.0,
+  left_beginning_map (IsTextOnWay Shows w every e) (IsTextOfRun Shows job state w every) (steps / every) before after (text_of_run Shows job state w every e t) left.1,
+)
 
--- a halt of the visits of an engine
-pub way_unshown : (A : Type 0) (Shows : Showing) (w : Direction) (steps every : ℕ) (e : EngineView) (before after : Output) (h : Halt) → Halts (IsTextOnWay Shows w every e) every (steps / every) before after h
-    → IsWayUnshown Shows w steps every e before after (run_fault_of {A = A} h)
-way_unshown A Shows w steps every e before after (halt.Memory done) left = left
-way_unshown A Shows w steps every e before after (halt.Out f) left = left
+-- a halt of the visits of an engine, whose counter fits after all steps
+pub way_unshown : (A : Type 0) (Shows : Showing) (w : Direction) (steps every : ℕ) (e : EngineView) (before after : Output) (h : Halt) → is_none (counter_after w e.state.step steps) ≡ false
+    → Halts (IsTextOnWay Shows w every e) every (steps / every) before after h → IsWayUnshown Shows w steps every e before after (run_fault_of {A = A} h)
+way_unshown A Shows w steps every e before after (halt.Memory done) fits left = (fits, left)
+way_unshown A Shows w steps every e before after (halt.Out f) fits left = (fits, left)
+
+-- ---- what was told up to there
+
+-- up to a text that was not shown
+pub told_up_to : (A : Type 0) (told : List ℕ → Type 0) (IsText : List ℕ → Type 0) (every n number steps : ℕ) (o m : Output) (h : Halt) → steps ≡ number * every → steps ≤ n
+    → IsUnshown IsText steps o m h → told (hundredths_behind n 0 steps) → IsToldOnWay {A = A} every n told (run_fault_of h)
+told_up_to A told IsText every n number steps o m (halt.Memory done) same few left so_far = subst (λ k. told (hundredths_behind n 0 k)) (sym left.0) so_far
+told_up_to A told IsText every n number steps o m (halt.Out f) same few left so_far = (number, subst (λ k. k ≤ n) same few, subst (λ k. told (hundredths_behind n 0 k)) same so_far)

@@ -1,12 +1,11 @@
 -- The way of an engine: counters that fit, and where its steps stop.
-use Rattle.std.proofs.Common.{◌≡◌, ℕ, suc, ◌+◌, ◌*◌, ◌<◌, ◌≤◌, true, false, List, ℤ, Option, Some, None, arith, refl, ap, sym, subst, ◌∙◌}
+use Rattle.std.proofs.Common.{◌≡◌, ℕ, suc, ◌+◌, ◌*◌, ◌<◌, ◌≤◌, true, false, List, ℤ, Option, Some, None, arith, refl, ap, subst, ◌∙◌}
 use Rattle.std.specs.Prelude.{is_none, if◌then◌else◌}
 use Rattle.std.proofs.Math.Nat.{mul-le-mul_right}
 use Rattle.std.proofs.lemmas.Bool.{false≢true}
 use Rattle.fixed.specs.Arithmetic.{in_range}
 use Rattle.fixed.proofs.IntegerLaws.{in_range_is}
 use Rattle.fallible.specs.Out.{Output}
-use Rattle.job.specs.Values.{JobValue}
 use Rattle.state.proofs.StateReadsAgain.{one_text}
 use Rattle.integrator.specs.States.{counter_after, counter_at}
 use Rattle.integrator.proofs.CounterLaws.{counter_fits, counter_is, counter_stays}
@@ -14,7 +13,7 @@ use Rattle.integrator.specs.declared.direction.Direction.{Direction}
 use Rattle.engine.specs.Engines.{EngineView, IsEngineOfTexts, IsStateUnwritten, Went}
 use Rattle.engine.proofs.EngineLaws.{counter_reached, went_nowhere}
 use Rattle.engine.proofs.WentLaws.{counters_add, steps_add}
-use Rattle.trajectory.specs.Visits.{CounterFits, IsStopped, run_fault_of}
+use Rattle.trajectory.specs.Visits.{IsStopped, run_fault_of}
 use Rattle.trajectory.specs.declared.halts.Halt.{Halt}
 use Rattle.trajectory.specs.declared.halts.Halt.TheVariants as halt
 
@@ -57,10 +56,6 @@ job_stays w n e f a = ap (λ (v : EngineView). v.job) a.moved
 pub engine_in_range : (job state : List ℕ) (e : EngineView) → IsEngineOfTexts job state e → in_range e.state.step ≡ true
 engine_in_range job state e t = rw t.it.is (in_range_is t.s.step ((one_text state t.s).0 t.state_read).0.step)
 
--- where its counter fits that of the texts does
-pub texts_fit : (job state : List ℕ) (w : Direction) (n : ℕ) (e : EngineView) → IsEngineOfTexts job state e → is_none (counter_after w e.state.step n) ≡ false → CounterFits job state w n
-texts_fit job state w n e t h = record { j = t.j; s = t.s; job_read = t.job_read; state_read = t.state_read; it = rw t.it.is at h }
-
 -- ---- from visit to visit
 
 -- the steps to the next visit are among all steps
@@ -83,6 +78,7 @@ stopped_later before made steps more h some few stopped =
     let all : before + made + stopped.more ≡ before + (made + stopped.more) = omega arith in
     record { more = made + stopped.more; few = omega (arith, some, few, stopped.few); is = stopped.is ∙ ap halt.Memory all }
 
--- an allocation refused in the steps of an engine
-pub steps_stopped : (A : Type 0) (w : Direction) (steps : ℕ) (e f : EngineView) (output : Output) (h : Halt) → IsStopped 0 steps h → IsStateUnwritten w steps e f output output (run_fault_of {A = A} h)
-steps_stopped A w steps e f output h stopped = rw stopped.is (omega (arith, stopped.few), refl)
+-- an allocation refused in the steps of an engine, whose counter fits after all of them
+pub steps_stopped : (A : Type 0) (w : Direction) (steps : ℕ) (e f : EngineView) (output : Output) (h : Halt) → is_none (counter_after w e.state.step steps) ≡ false → IsStopped 0 steps h
+    → IsStateUnwritten w steps e f output output (run_fault_of {A = A} h)
+steps_stopped A w steps e f output h fits stopped = rw stopped.is ((omega (arith, stopped.few), λ _. fits), refl)

@@ -3,7 +3,6 @@
 use Rattle.std.specs.Prelude.{◌≡◌, ℕ, List}
 use Rattle.gro.specs.Frames.{FrameView}
 use Rattle.gro.specs.GroWriting.{frame_text}
-use Rattle.job.specs.Values.{JobValue}
 use Rattle.state.specs.StateFrames.{frame_of}
 use Rattle.state.specs.StateText.{StateView}
 use Rattle.trajectory.specs.FrameTitles.{IsTimedTitle}

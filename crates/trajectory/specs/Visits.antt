@@ -2,7 +2,7 @@
 use Rattle.std.specs.Prelude.{◌≡◌, ℕ, zero, suc, ◌+◌, ◌-◌, ◌*◌, ◌/◌, ◌≤◌, List, [], ◌++◌, None, Ok, false, is_none}
 use Rattle.fallible.specs.Failures.{IfRefused}
 use Rattle.fallible.specs.Out.{Output, Appends, AppendsBeginning}
-use Rattle.job.specs.JobText.{reading_of, limits}
+use Rattle.job.specs.JobText.{IsJobText, reading_of, limits}
 use Rattle.job.specs.Values.{JobValue}
 use Rattle.state.specs.StateText.{StateView}
 use Rattle.integrator.specs.Runs.{IsAfter}
@@ -10,7 +10,8 @@ use Rattle.integrator.specs.Starts.{plain}
 use Rattle.integrator.specs.States.{counter_after}
 use Rattle.integrator.specs.declared.direction.Direction.{Direction}
 use Rattle.integrator.specs.declared.faults.StepFault.TheVariants as step
-use Rattle.engine.specs.Engines.{AreSafe, AreStopped, EngineView, HasNoEngineOfTexts, OfTexts, Went}
+use Rattle.engine.specs.Engines.{AreSafe, AreStopped, CounterFits, EngineView, HasNoEngineOfTexts, Went}
+use Rattle.engine.specs.Headline.{IsLevesqueVerletRun, IsTextOf}
 use Rattle.engine.specs.declared.faults.RunFault.{RunFault}
 use Rattle.engine.specs.declared.faults.RunFault.TheVariants as run
 use Rattle.trajectory.specs.declared.halts.Halt.{Halt}
@@ -77,6 +78,18 @@ pub record IsTextOfRun (Shows : Showing) (job state : List ℕ) (direction : Dir
   pub run : IsAfter plain job state direction (number * every) after
   pub shown : Shows said number after text
 
+-- The same by the headline's page: shown of the state after this many times `every` steps, whose text is that of a run
+-- of so many steps, and the only one.
+pub record IsShownOfRun (Shows : Showing) (job state : List ℕ) (direction : Direction) (every number : ℕ) (text : List ℕ) : Type 0 where
+  pub said : JobValue
+  pub job_text : IsJobText limits job said
+  pub after : StateView
+  pub that_text : List ℕ
+  pub after_text : IsTextOf that_text after
+  pub run : IsLevesqueVerletRun job state direction (number * every) that_text
+  pub only : (other : List ℕ) → IsLevesqueVerletRun job state direction (number * every) other → other ≡ that_text
+  pub shown : Shows said number after text
+
 -- ---- the output
 
 -- `count` texts were written
@@ -84,12 +97,6 @@ pub record WroteTexts (IsText : ℕ → List ℕ → Type 0) (count : ℕ) (befo
   pub text : List ℕ
   pub texts : AreJoined IsText count text
   pub appends : Appends before after text
-
--- a write failed, after a beginning of `count` texts
-pub record BeganTexts (IsText : ℕ → List ℕ → Type 0) (count : ℕ) (before after : Output) : Type 0 where
-  pub text : List ℕ
-  pub texts : AreJoined IsText count text
-  pub beginning : AppendsBeginning before after text
 
 -- whole texts are left where memory ran out after `done` steps, and never that of the last state: those up to there,
 -- maybe without that after just `done`
@@ -100,11 +107,13 @@ pub record LeftWhole (IsText : ℕ → List ℕ → Type 0) (every most done : �
   pub no_more : count * every ≤ done + every
   pub wrote : WroteTexts IsText count before after
 
--- a beginning of the texts is left, up to the first or to one of `most` behind it
+-- whole texts are left, and a beginning of the next, which is the first or one of `most` behind it
 pub record LeftBeginning (IsText : ℕ → List ℕ → Type 0) (most : ℕ) (before after : Output) : Type 0 where
   pub count : ℕ
   pub few : count ≤ most
-  pub began : BeganTexts IsText (suc count) before after
+  pub between : Output
+  pub wrote : WroteTexts IsText count before between
+  pub began : BeganText (IsText count) between after
 
 -- the output that a run that was ended leaves, of the texts after 0, k, 2k, .. up to `most` times k steps
 abbrev pub Halts : (ℕ → List ℕ → Type 0) → (every most : ℕ) → (before after : Output) → Halt → Type 0
@@ -112,25 +121,23 @@ Halts IsText every most before after (halt.Memory done) = LeftWhole IsText every
 Halts IsText every most before after (halt.Out f) = LeftBeginning IsText most before after
 
 -- why the states after 0, k, 2k, .. of n steps of an engine were not all shown, and what the output is left with:
--- nothing, where the counter would leave 64 bits
+-- nothing, where the counter would leave 64 bits; wherever a text was shown, it fits after all n steps
 abbrev pub IsWayUnshown : {A : Type 0} → Showing → Direction → (steps every : ℕ) → EngineView → (before after : Output) → RunFault A → Type 0
 IsWayUnshown Shows direction steps every e before after (run.Open failure) = ⊥
 IsWayUnshown Shows direction steps every e before after (run.Steps step.StepRange) = (counter_after direction e.state.step steps ≡ None) × (after ≡ before)
-IsWayUnshown Shows direction steps every e before after (run.Steps (step.Memory done)) = LeftWhole (IsTextOnWay Shows direction every e) every (steps / every) done before after
-IsWayUnshown Shows direction steps every e before after (run.Out f) = LeftBeginning (IsTextOnWay Shows direction every e) (steps / every) before after
+IsWayUnshown Shows direction steps every e before after (run.Steps (step.Memory done)) =
+    (is_none (counter_after direction e.state.step steps) ≡ false) × LeftWhole (IsTextOnWay Shows direction every e) every (steps / every) done before after
+IsWayUnshown Shows direction steps every e before after (run.Out f) =
+    (is_none (counter_after direction e.state.step steps) ≡ false) × LeftBeginning (IsTextOnWay Shows direction every e) (steps / every) before after
 
 -- ---- from bytes to bytes
 
--- the counter fits after so many steps from the state of these texts
-abbrev pub CounterFits : (job state : List ℕ) → Direction → (steps : ℕ) → Type 0
-CounterFits job state direction steps = OfTexts job state (λ j s. is_none (counter_after direction s.step steps) ≡ false)
-
 -- why the states on the way of a run from these texts were not all shown, and what the output is left with: nothing,
--- where they have no engine or the counter would leave 64 bits
+-- where they have no engine or the counter would leave 64 bits; wherever a text was written, it fits after all n steps
 abbrev pub AreTextsUnwritten : {A : Type 0} → Showing → (job state : List ℕ) → Direction → (steps every : ℕ) → (before after : Output) → RunFault A → Type 0
 AreTextsUnwritten Shows job state direction steps every before after (run.Open failure) = IfRefused failure (HasNoEngineOfTexts job state) × (after ≡ before)
 AreTextsUnwritten Shows job state direction steps every before after (run.Steps step.StepRange) = AreStopped job state direction steps step.StepRange × (after ≡ before)
 AreTextsUnwritten Shows job state direction steps every before after (run.Steps (step.Memory done)) =
-    AreSafe job state × LeftWhole (IsTextOfRun Shows job state direction every) every (steps / every) done before after
+    AreSafe job state × CounterFits job state direction steps × LeftWhole (IsTextOfRun Shows job state direction every) every (steps / every) done before after
 AreTextsUnwritten Shows job state direction steps every before after (run.Out f) =
-    AreSafe job state × LeftBeginning (IsTextOfRun Shows job state direction every) (steps / every) before after
+    AreSafe job state × CounterFits job state direction steps × LeftBeginning (IsTextOfRun Shows job state direction every) (steps / every) before after

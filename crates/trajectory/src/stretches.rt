@@ -4,7 +4,7 @@ ghost use Rattle.std.specs.Prelude.{◌≡◌, ◌≤◌, ◌<◌, ◌+◌, ◌*
 ghost use Rattle.engine.specs.Engines.{Went};
 ghost use Rattle.integrator.specs.States.{counter_after};
 ghost use Rattle.trajectory.specs.Visits.{IsStopped};
-ghost use Rattle.trajectory.specs.Watching.{IsNextHundredth, hundredths_behind};
+ghost use Rattle.trajectory.specs.Watching.{IsNextHundredth, IsToldStopped, hundredths_behind};
 
 use crate::halts::Halt;
 use crate::watching::Watch;
@@ -65,7 +65,7 @@ pub(crate) fn advance<R: Threads + Sync, A: Allocator + Copy + Send + Sync, W: W
     ensures went { OnOk result (Went direction steps engine.old engine.new) }
     ensures stopped { IfErr result (IsStopped before steps) }
     ensures told { OnOk result (W.told watch.old watch.new (hundredths_behind of before steps)) }
-    ensures told_some { IfErr result (λ _. (made : ℕ) × (made ≤ steps) × W.told watch.old watch.new (hundredths_behind of before made)) }
+    ensures told_some { IfErr result (IsToldStopped of before (W.told watch.old watch.new)) }
 {
     if !watch.watches() {
         return go_on(rt, engine, direction, steps, workers, before);

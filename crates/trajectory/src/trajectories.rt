@@ -3,10 +3,10 @@
 ghost use Rattle.std.specs.Prelude.{◌<◌, ◌-◌, ◌*◌, ◌/◌, ◌^◌, suc, IfOk, OnOk, IfErr};
 ghost use Rattle.gro.specs.Frames.{frame_view};
 ghost use Rattle.state.specs.StateViews.{state_view};
-ghost use Rattle.engine.specs.Engines.{AreSafe};
+ghost use Rattle.engine.specs.Engines.{AreSafe, CounterFits};
 ghost use Rattle.trajectory.specs.Trajectories.{IsTimedFrame, IsTimedText, ShowsFrame};
-ghost use Rattle.trajectory.specs.Visits.{AreTextsUnwritten, CounterFits, IsTextOfRun, IsUnshown, WroteText, WroteTexts};
-ghost use Rattle.trajectory.specs.Watching.{SomeHundredths, hundredths};
+ghost use Rattle.trajectory.specs.Visits.{AreTextsUnwritten, IsShownOfRun, IsTextOfRun, IsUnshown, WroteText, WroteTexts};
+ghost use Rattle.trajectory.specs.Watching.{IsToldOnWay, hundredths};
 
 use crate::frame_titles::timed_title;
 use crate::halts::Halt;
@@ -98,7 +98,7 @@ impl<A: Allocator + Copy> Show<A> for FrameTexts {
 /// allocation was refused before there was an engine; `Steps` with `StepRange` exactly where the counter would leave an
 /// i64 within the steps; nothing is written then. `Steps` with `Memory` where an allocation was refused after `done`
 /// steps: the frames up to there are written whole, maybe without that after just `done`, and never the last one. `Out`
-/// comes only where a write failed, after a beginning of the frames.
+/// comes only where a write failed, after whole frames and a beginning of the next.
 pub fn trajectory_bytes<R: Threads + Sync, A: Allocator + Copy + Send + Sync, O: Out>(
     rt: &R,
     alloc: A,
@@ -118,8 +118,10 @@ pub fn trajectory_bytes<R: Threads + Sync, A: Allocator + Copy + Send + Sync, O:
     ensures fits { OnOk result (CounterFits job.now state.now direction steps) }
     // The frames after 0, k, 2k, .. steps are written.
     ensures wrote { OnOk result (WroteTexts (IsTextOfRun ShowsFrame job.now state.now direction every) (suc (steps / every)) (O.output out.old) (O.output out.new)) }
-    // Why they are not, and what is written then: nothing before the first frame, whole frames where memory ran out, a
-    // beginning of them where the output failed.
+    // The same by the page of relations between texts: of states whose texts are those of runs of so many steps.
+    ensures runs { OnOk result (WroteTexts (IsShownOfRun ShowsFrame job.now state.now direction every) (suc (steps / every)) (O.output out.old) (O.output out.new)) }
+    // Why they are not, and what is written then: nothing before the first frame, whole frames where memory ran out,
+    // whole frames and a beginning of the next where the output failed.
     ensures refused { IfErr result (AreTextsUnwritten ShowsFrame job.now state.now direction steps every (O.output out.old) (O.output out.new)) }
 {
     watched_trajectory_bytes(
@@ -163,12 +165,16 @@ pub fn watched_trajectory_bytes<
     ensures fits { OnOk result (CounterFits job.now state.now direction steps) }
     // The frames after 0, k, 2k, .. steps are written.
     ensures wrote { OnOk result (WroteTexts (IsTextOfRun ShowsFrame job.now state.now direction every) (suc (steps / every)) (O.output out.old) (O.output out.new)) }
-    // Why they are not, and what is written then: nothing before the first frame, whole frames where memory ran out, a
-    // beginning of them where the output failed.
+    // The same by the page of relations between texts: of states whose texts are those of runs of so many steps.
+    ensures runs { OnOk result (WroteTexts (IsShownOfRun ShowsFrame job.now state.now direction every) (suc (steps / every)) (O.output out.old) (O.output out.new)) }
+    // Why they are not, and what is written then: nothing before the first frame, whole frames where memory ran out,
+    // whole frames and a beginning of the next where the output failed.
     ensures refused { IfErr result (AreTextsUnwritten ShowsFrame job.now state.now direction steps every (O.output out.old) (O.output out.new)) }
-    // The watcher is told of each hundredth of the steps up to the last frame, or of those among the first steps.
+    // The watcher is told of each hundredth of the steps up to the last frame. Where the run ends early, it was told of
+    // nothing before a refusal, of those among the steps that were made where memory ran out, and of those up to a
+    // frame where the output failed.
     ensures told { OnOk result (W.told watch.old watch.new (hundredths (steps / every * every))) }
-    ensures told_some { IfErr result (λ _. SomeHundredths (steps / every * every) (W.told watch.old watch.new)) }
+    ensures told_some { IfErr result (IsToldOnWay every (steps / every * every) (W.told watch.old watch.new)) }
 {
     visits_bytes(
         rt,

@@ -2,10 +2,10 @@
 
 ghost use Rattle.std.specs.Prelude.{◌≡◌, ◌<◌, ◌≤◌, ◌-◌, ◌*◌, ◌/◌, ◌^◌, ℕ, suc, is_none, true, false, OnOk, IfErr};
 ghost use Rattle.fixed.specs.Arithmetic.{in_range};
-ghost use Rattle.engine.specs.Engines.{AreReadOnce, AreSafe, EngineView};
+ghost use Rattle.engine.specs.Engines.{AreSafe, CounterFits, EngineView};
 ghost use Rattle.integrator.specs.States.{counter_after};
-ghost use Rattle.trajectory.specs.Visits.{AreTextsUnwritten, CounterFits, Halts, IsTextOfRun, IsTextOnWay, IsWayUnshown, WroteTexts};
-ghost use Rattle.trajectory.specs.Watching.{SomeHundredths, hundredths};
+ghost use Rattle.trajectory.specs.Visits.{AreTextsUnwritten, Halts, IsShownOfRun, IsTextOfRun, IsTextOnWay, IsWayUnshown, WroteTexts, run_fault_of};
+ghost use Rattle.trajectory.specs.Watching.{IsToldOnWay, hundredths};
 
 use crate::halts::{Halt, drop_engine};
 use crate::showing::Show;
@@ -19,8 +19,8 @@ use std::thread::Threads;
 
 /// Shows the state of an engine, and then `most` times the state after `every` more steps.
 ///
-/// `Memory`: an allocation was refused after `done` steps, and whole texts are written. `Out`: a write failed, after a
-/// beginning of the texts.
+/// `Memory`: an allocation was refused after `done` steps, and whole texts are written. `Out`: a write failed, after
+/// whole texts and a beginning of the next.
 fn show_each<R: Threads + Sync, A: Allocator + Copy + Send + Sync, S: Show<A>, W: Watch, O: Out>(
     rt: &R,
     engine: &mut Engine<A>,
@@ -39,7 +39,7 @@ fn show_each<R: Threads + Sync, A: Allocator + Copy + Send + Sync, S: Show<A>, W
     ensures wrote { OnOk result (WroteTexts (IsTextOnWay (S.shows show.old) direction every engine.old) (suc most) (O.output out.old) (O.output out.new)) }
     ensures left { IfErr result (Halts (IsTextOnWay (S.shows show.old) direction every engine.old) every most (O.output out.old) (O.output out.new)) }
     ensures told { OnOk result (W.told watch.old watch.new (hundredths (most * every))) }
-    ensures told_some { IfErr result (λ _. SomeHundredths (most * every) (W.told watch.old watch.new)) }
+    ensures told_some { IfErr result (λ h. IsToldOnWay {A = A} every (most * every) (W.told watch.old watch.new) (run_fault_of h)) }
 {
     let all = most * every;
     show.show(engine, 0, 0, out)?;
@@ -56,7 +56,11 @@ fn show_each<R: Threads + Sync, A: Allocator + Copy + Send + Sync, S: Show<A>, W
 ///
 /// `Steps` with `StepRange` exactly where the counter would leave an i64 within the n steps, and then nothing is shown.
 /// `Steps` with `Memory`: an allocation was refused after `done` steps; the states up to there are shown, maybe without
-/// that after just `done`, and never the last one. `Out`: a write failed, after a beginning of the texts.
+/// that after just `done`, and never the last one. `Out`: a write failed, after whole texts and a beginning of the
+/// next.
+///
+/// Where this is refused, the watcher is told nothing; where memory runs out, the hundredths among the steps that were
+/// made; where the output fails, those up to a visit.
 pub fn visit<R: Threads + Sync, A: Allocator + Copy + Send + Sync, S: Show<A>, W: Watch, O: Out>(
     rt: &R,
     engine: &mut Engine<A>,
@@ -76,7 +80,7 @@ pub fn visit<R: Threads + Sync, A: Allocator + Copy + Send + Sync, S: Show<A>, W
     ensures fits { OnOk result (is_none (counter_after direction engine.old.state.step steps) ≡ false) }
     ensures unshown { IfErr result (IsWayUnshown (S.shows show.old) direction steps every engine.old (O.output out.old) (O.output out.new)) }
     ensures told { OnOk result (W.told watch.old watch.new (hundredths (steps / every * every))) }
-    ensures told_some { IfErr result (λ _. SomeHundredths (steps / every * every) (W.told watch.old watch.new)) }
+    ensures told_some { IfErr result (IsToldOnWay every (steps / every * every) (W.told watch.old watch.new)) }
 {
     if counter_after(direction, engine.state(), steps).is_none() {
         return Err(RunFault::Steps(StepFault::StepRange));
@@ -115,12 +119,12 @@ pub(crate) fn visits_bytes<
     requires every { 0 < every }
     requires count { (O.output out.old).failed < 2 ^ 64 - 1 }
     ensures safe { OnOk result (AreSafe job.now state.now) }
-    ensures once { OnOk result (AreReadOnce job.now state.now) }
     ensures fits { OnOk result (CounterFits job.now state.now direction steps) }
     ensures wrote { OnOk result (WroteTexts (IsTextOfRun (S.shows show.old) job.now state.now direction every) (suc (steps / every)) (O.output out.old) (O.output out.new)) }
+    ensures runs { OnOk result (WroteTexts (IsShownOfRun (S.shows show.old) job.now state.now direction every) (suc (steps / every)) (O.output out.old) (O.output out.new)) }
     ensures refused { IfErr result (AreTextsUnwritten (S.shows show.old) job.now state.now direction steps every (O.output out.old) (O.output out.new)) }
     ensures told { OnOk result (W.told watch.old watch.new (hundredths (steps / every * every))) }
-    ensures told_some { IfErr result (λ _. SomeHundredths (steps / every * every) (W.told watch.old watch.new)) }
+    ensures told_some { IfErr result (IsToldOnWay every (steps / every * every) (W.told watch.old watch.new)) }
 {
     let mut engine = open(alloc, job, state)?;
     let done = visit(

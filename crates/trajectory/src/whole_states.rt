@@ -1,10 +1,10 @@
 //! Whole states from bytes to bytes: the states of a run, one every k steps.
 
 ghost use Rattle.std.specs.Prelude.{◌<◌, ◌-◌, ◌*◌, ◌/◌, ◌^◌, suc, OnOk, IfErr};
-ghost use Rattle.engine.specs.Engines.{AreSafe};
-ghost use Rattle.trajectory.specs.Visits.{AreTextsUnwritten, CounterFits, IsTextOfRun, WroteTexts};
-ghost use Rattle.trajectory.specs.Watching.{SomeHundredths, hundredths};
-ghost use Rattle.trajectory.specs.WholeStates.{IsRunOnWay, ShowsState};
+ghost use Rattle.engine.specs.Engines.{AreSafe, CounterFits};
+ghost use Rattle.trajectory.specs.Visits.{AreTextsUnwritten, IsShownOfRun, IsTextOfRun, WroteTexts};
+ghost use Rattle.trajectory.specs.Watching.{IsToldOnWay, hundredths};
+ghost use Rattle.trajectory.specs.WholeStates.{ShowsState};
 
 use crate::halts::Halt;
 use crate::showing::Show;
@@ -67,10 +67,10 @@ pub fn states_bytes<R: Threads + Sync, A: Allocator + Copy + Send + Sync, O: Out
     ensures fits { OnOk result (CounterFits job.now state.now direction steps) }
     // The states after 0, k, 2k, .. steps are written.
     ensures wrote { OnOk result (WroteTexts (IsTextOfRun ShowsState job.now state.now direction every) (suc (steps / every)) (O.output out.old) (O.output out.new)) }
-    // The same by the page of relations between texts: each is the text of a run of so many steps, and the only one.
-    ensures runs { OnOk result (WroteTexts (IsRunOnWay job.now state.now direction every) (suc (steps / every)) (O.output out.old) (O.output out.new)) }
-    // Why they are not, and what is written then: nothing before the first state, whole states where memory ran out, a
-    // beginning of them where the output failed.
+    // The same by the page of relations between texts: of states whose texts are those of runs of so many steps.
+    ensures runs { OnOk result (WroteTexts (IsShownOfRun ShowsState job.now state.now direction every) (suc (steps / every)) (O.output out.old) (O.output out.new)) }
+    // Why they are not, and what is written then: nothing before the first state, whole states where memory ran out,
+    // whole states and a beginning of the next where the output failed.
     ensures refused { IfErr result (AreTextsUnwritten ShowsState job.now state.now direction steps every (O.output out.old) (O.output out.new)) }
 {
     watched_states_bytes(
@@ -109,14 +109,16 @@ pub fn watched_states_bytes<R: Threads + Sync, A: Allocator + Copy + Send + Sync
     ensures fits { OnOk result (CounterFits job.now state.now direction steps) }
     // The states after 0, k, 2k, .. steps are written.
     ensures wrote { OnOk result (WroteTexts (IsTextOfRun ShowsState job.now state.now direction every) (suc (steps / every)) (O.output out.old) (O.output out.new)) }
-    // The same by the page of relations between texts: each is the text of a run of so many steps, and the only one.
-    ensures runs { OnOk result (WroteTexts (IsRunOnWay job.now state.now direction every) (suc (steps / every)) (O.output out.old) (O.output out.new)) }
-    // Why they are not, and what is written then: nothing before the first state, whole states where memory ran out, a
-    // beginning of them where the output failed.
+    // The same by the page of relations between texts: of states whose texts are those of runs of so many steps.
+    ensures runs { OnOk result (WroteTexts (IsShownOfRun ShowsState job.now state.now direction every) (suc (steps / every)) (O.output out.old) (O.output out.new)) }
+    // Why they are not, and what is written then: nothing before the first state, whole states where memory ran out,
+    // whole states and a beginning of the next where the output failed.
     ensures refused { IfErr result (AreTextsUnwritten ShowsState job.now state.now direction steps every (O.output out.old) (O.output out.new)) }
-    // The watcher is told of each hundredth of the steps up to the last state, or of those among the first steps.
+    // The watcher is told of each hundredth of the steps up to the last state. Where the run ends early, it was told of
+    // nothing before a refusal, of those among the steps that were made where memory ran out, and of those up to a
+    // state where the output failed.
     ensures told { OnOk result (W.told watch.old watch.new (hundredths (steps / every * every))) }
-    ensures told_some { IfErr result (λ _. SomeHundredths (steps / every * every) (W.told watch.old watch.new)) }
+    ensures told_some { IfErr result (IsToldOnWay every (steps / every * every) (W.told watch.old watch.new)) }
 {
     visits_bytes(
         rt,

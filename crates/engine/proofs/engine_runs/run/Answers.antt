@@ -11,7 +11,7 @@ returns-in_err-make_steps-clause-unwritten g c =
 pub returns-in_err-write-clause-unwritten : goal.returns-in_err-write-clause-unwritten
 returns-in_err-write-clause-unwritten g c =
     let p = err_from_is_err_and c.from_residual-in_err-write.result c.from_residual-in_err-write.ensures.1 in
-    rw (p.1, p.2) (c.in_ok-make_steps.ensures.went, rw c.state.ensures at c.in_err-write.ensures.writes)
+    rw (p.1, p.2) (c.in_ok-make_steps.ensures.went, rw c.state.ensures.value at c.in_err-write.ensures.writes)
 
 pub returns-clause-wrote : goal.returns-clause-wrote
-returns-clause-wrote g c = (c.in_ok-make_steps.ensures.went, rw c.state.ensures at c.in_ok-write.ensures.writes)
+returns-clause-wrote g c = (c.in_ok-make_steps.ensures.went, rw c.state.ensures.value at c.in_ok-write.ensures.writes)

@@ -28,6 +28,7 @@ returns-clause-engine g c =
     let types = c.args.job.now.types.items in
     let size : length c.args.atoms.masses.items ≡ length c.args.state.now.atoms.items = ap length c.requires.masses ∙ length-map c.args.atoms.types.items (mass_of (map type_value types)) ∙ c.requires.count in
     record {
+      fits = c.has_text.ensures;
       dynamics = rw (c.requires.under.table, c.requires.masses, c.requires.energy) refl;
       energy = c.requires.energy;
       program = c.requires.program;

@@ -13,5 +13,5 @@ returns g c =
     (λ frame made.
     made
     ∙ (ap (map (λ (a : Atom). a.current)) c.deref.ensures.value
-    ∙ (sym (current_frame-views c.state.result.now.atoms.items) ∙ ap (λ (s : StateView). current_frame s.atoms) c.state.ensures)))
+    ∙ (sym (current_frame-views c.state.result.now.atoms.items) ∙ ap (λ (s : StateView). current_frame s.atoms) c.state.ensures.value)))
     c.current_frame.ensures

@@ -35,7 +35,7 @@ returns-clause-observation g c =
     let step : to_z w64 (of_z w64 c.state.result.now.step) ≡ c.state.result.now.step = search rules in
     let energy : to_z w128 (of_z w128 c.in_ok-sums.sums.energy) ≡ c.in_ok-sums.sums.energy = search rules in
     record {
-      step = step ∙ ap (λ (s : StateView). s.step) c.state.ensures;
+      step = step ∙ ap (λ (s : StateView). s.step) c.state.ensures.value;
       potential = rw energy c.in_ok-sums.ensures.sums.energy;
       virial = c.by_axes.ensures ∙ ap axes_of c.in_ok-sums.ensures.sums.virial;
       nearest = c.in_ok-sums.ensures.sums.nearest;

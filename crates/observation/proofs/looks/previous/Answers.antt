@@ -13,5 +13,5 @@ returns g c =
     (λ frame made.
     made
     ∙ (ap (map (λ (a : Atom). a.previous)) c.deref.ensures.value
-    ∙ (sym (previous_frame-views c.state.result.now.atoms.items) ∙ ap (λ (s : StateView). previous_frame s.atoms) c.state.ensures)))
+    ∙ (sym (previous_frame-views c.state.result.now.atoms.items) ∙ ap (λ (s : StateView). previous_frame s.atoms) c.state.ensures.value)))
     c.previous_frame.ensures

@@ -2,7 +2,7 @@ use Rattle.std.proofs.Common.{◌≡◌, ◌+◌, ◌<◌, arith, rules, sym, su
 use Rattle.std.proofs.lemmas.Result.{err_from_is_err_and}
 use Rattle.engine.proofs.EngineLaws.{went_nowhere}
 use Rattle.engine.proofs.WentLaws.{steps_add}
-use Rattle.trajectory.proofs.HundredthLaws.{hundredths-zero, no_more_hundredth, one_more_hundredth}
+use Rattle.trajectory.proofs.HundredthLaws.{hundredths-zero, no_more_hundredth, one_more_hundredth, told_until}
 use Rattle.trajectory.proofs.WayLaws.{fits_further, fits_now, stopped_later}
 use Rattle.trajectory.proofs.stretches.advance.Goals as goal
 
@@ -48,3 +48,13 @@ returns-in_err-go_on-clause-stopped g c =
     let stopped = c.in_err-go_on.ensures.stopped in
     let made = c.loop-made.made in
     rw (p.1, p.2) (stopped_later c.args.before made c.args.steps c.min-more.result c.in_err-go_on.field-0.0 (omega (arith, c.min-more.ensures, c.until_hundredth-next.ensures.some, c.loop-made-test.true)) (omega (arith, c.min-more.ensures, c.loop-made.invariant.within)) stopped)
+
+-- the counts that the watcher was told then
+pub returns-in_err-go_on-clause-told_some : goal.returns-in_err-go_on-clause-told_some
+returns-in_err-go_on-clause-told_some g c =
+    let p = err_from_is_err_and c.from_residual.result c.from_residual.ensures.1 in
+    let made = c.loop-made.made in
+    let next = c.until_hundredth-next.result in
+    rw (p.1, p.2)
+    (told_until (g.W.Watch.told c.args.watch.now c.loop-made.watch) c.args.of c.args.before made next c.min-more.result c.in_err-go_on.field-0.0 c.until_hundredth-next.ensures
+    (omega (arith, c.min-more.ensures, c.until_hundredth-next.ensures.some, c.loop-made-test.true)) (omega (arith, c.min-more.ensures)) c.in_err-go_on.ensures.stopped c.loop-made.invariant.told)

@@ -2,8 +2,8 @@ use Rattle.std.proofs.Common.{◌≡◌, ◌+◌, ◌*◌, suc, arith, subst, sy
 use Rattle.std.proofs.lemmas.Result.{err_from_is_err_and}
 use Rattle.trajectory.specs.Visits.{IsTextOnWay, WroteTexts}
 use Rattle.trajectory.specs.Watching.{hundredths_behind}
-use Rattle.trajectory.proofs.HundredthLaws.{hundredths-zero, more_told, nothing_told}
-use Rattle.trajectory.proofs.VisitLaws.{first_shown, first_unshown, next_shown, next_unshown, steps_left}
+use Rattle.trajectory.proofs.HundredthLaws.{hundredths-zero, more_told, told_on_way}
+use Rattle.trajectory.proofs.VisitLaws.{first_shown, first_unshown, next_shown, next_unshown, steps_left, told_up_to}
 use Rattle.trajectory.proofs.WayLaws.{fits_further, fits_now, within}
 use Rattle.trajectory.proofs.visits.show_each.Goals as goal
 
@@ -71,28 +71,29 @@ loop-number-preserved g c =
 pub returns-in_err-show-clause-told_some : goal.returns-in_err-show-clause-told_some
 returns-in_err-show-clause-told_some g c =
     let p = err_from_is_err_and c.from_residual.result c.from_residual.ensures.1 in
-    rw p.1 (nothing_told (c.args.most * c.args.every) (g.W.Watch.told c.args.watch.now c.args.watch.now) (g.met.W.Watch.told_nothing c.args.watch.now))
+    let all = c.args.most * c.args.every in
+    let told_first = subst (g.W.Watch.told c.args.watch.now c.args.watch.now) (sym (hundredths-zero all 0)) (g.met.W.Watch.told_nothing c.args.watch.now) in
+    rw (p.1, p.2)
+    (told_up_to _ (g.W.Watch.told c.args.watch.now c.args.watch.now) _ c.args.every all 0 0 _ _ c.in_err-show.field-0.0 (omega arith) (omega arith) c.in_err-show.ensures.unshown told_first)
 
 pub returns-in_err-advance-clause-told_some : goal.returns-in_err-advance-clause-told_some
 returns-in_err-advance-clause-told_some g c =
     let p = err_from_is_err_and c.from_residual-in_err-advance.result c.from_residual-in_err-advance.ensures.1 in
     let before = c.loop-number.number * c.args.every in
-    let some = c.in_err-advance.ensures.told_some in
-    rw p.1 (
-      before + some.0,
-      omega (arith, some.1, within c.args.every c.args.most c.loop-number.number c.loop-number-test.true),
-      more_told g.W.Watch.told g.met.W.Watch.told_more (c.args.most * c.args.every) before some.0 _ _ _ c.loop-number.invariant.told some.2,
-    )
+    rw (p.1, p.2)
+    (told_on_way _ g.W.Watch.told g.met.W.Watch.told_more c.args.every (c.args.most * c.args.every) before _ _ _ c.in_err-advance.field-0.0 c.loop-number.invariant.told c.in_err-advance.ensures.told_some)
 
 pub returns-in_err-show-2-clause-told_some : goal.returns-in_err-show-2-clause-told_some
 returns-in_err-show-2-clause-told_some g c =
     let p = err_from_is_err_and c.from_residual-in_err-show-2.result c.from_residual-in_err-show-2.ensures.1 in
-    let before = c.loop-number.number * c.args.every in
-    rw p.1 (
-      before + c.args.every,
-      within c.args.every c.args.most c.loop-number.number c.loop-number-test.true,
-      more_told g.W.Watch.told g.met.W.Watch.told_more (c.args.most * c.args.every) before c.args.every _ _ _ c.loop-number.invariant.told c.in_ok-advance.ensures.told,
-    )
+    let number = c.loop-number.number in
+    let every = c.args.every in
+    let before = number * every in
+    let all = c.args.most * every in
+    let steps : before + every ≡ (number + 1) * every = omega arith in
+    rw (p.1, p.2)
+    (told_up_to _ (g.W.Watch.told c.args.watch.now c.advance.new.watch) _ every all (number + 1) (before + every) _ _ c.in_err-show-2.field-0.0 steps (within every c.args.most number c.loop-number-test.true) c.in_err-show-2.ensures.unshown
+    (more_told g.W.Watch.told g.met.W.Watch.told_more all before every _ _ _ c.loop-number.invariant.told c.in_ok-advance.ensures.told))
 
 -- the numbers of steps
 

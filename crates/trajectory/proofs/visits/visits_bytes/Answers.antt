@@ -1,10 +1,10 @@
-use Rattle.std.proofs.Common.{◌*◌, ◌/◌, refl}
+use Rattle.std.proofs.Common.{refl}
 use Rattle.std.proofs.lemmas.Result.{IfErr-weaker, err_from_is_err_and, on_ok_weaker}
-use Rattle.trajectory.specs.Visits.{IsTextOfRun, IsTextOnWay}
-use Rattle.engine.proofs.EngineLaws.{safe_texts}
-use Rattle.trajectory.proofs.HundredthLaws.{nothing_told}
+use Rattle.trajectory.specs.Visits.{IsShownOfRun, IsTextOfRun, IsTextOnWay}
+use Rattle.engine.proofs.EngineLaws.{safe_texts, texts_fit}
+use Rattle.trajectory.proofs.RunTextLaws.{shown_on_way}
 use Rattle.trajectory.proofs.VisitLaws.{text_of_run, texts_unwritten, wrote_map}
-use Rattle.trajectory.proofs.WayLaws.{engine_in_range, texts_fit}
+use Rattle.trajectory.proofs.WayLaws.{engine_in_range}
 use Rattle.trajectory.proofs.visits.visits_bytes.Goals as goal
 
 -- why there is no engine
@@ -16,7 +16,7 @@ returns-in_err-engine-clause-refused g c =
 pub returns-in_err-engine-clause-told_some : goal.returns-in_err-engine-clause-told_some
 returns-in_err-engine-clause-told_some g c =
     let p = err_from_is_err_and c.from_residual.result c.from_residual.ensures.1 in
-    rw p.1 (nothing_told (c.args.steps / c.args.every * c.args.every) (g.W.Watch.told c.args.watch.now c.args.watch.now) (g.met.W.Watch.told_nothing c.args.watch.now))
+    rw (p.1, p.2) (g.met.W.Watch.told_nothing c.args.watch.now)
 
 pub visit-done-requires-clause-ready : goal.visit-done-requires-clause-ready
 visit-done-requires-clause-ready g c = λ _ _. c.requires.ready c.in_ok-engine.engine
@@ -34,9 +34,6 @@ returns-clause-refused g c =
 pub returns-clause-safe : goal.returns-clause-safe
 returns-clause-safe g c = on_ok_weaker c.visit-done.result (λ _. safe_texts c.args.job.now c.args.state.now c.in_ok-engine.engine c.in_ok-engine.ensures.opens) c.visit-done.ensures.wrote
 
-pub returns-clause-once : goal.returns-clause-once
-returns-clause-once g c = on_ok_weaker c.visit-done.result (λ _. c.in_ok-engine.ensures.once) c.visit-done.ensures.wrote
-
 pub returns-clause-fits : goal.returns-clause-fits
 returns-clause-fits g c = on_ok_weaker c.visit-done.result (texts_fit c.args.job.now c.args.state.now c.args.direction c.args.steps c.in_ok-engine.engine c.in_ok-engine.ensures.opens) c.visit-done.ensures.fits
 
@@ -47,4 +44,15 @@ returns-clause-wrote g c =
     on_ok_weaker c.visit-done.result
     (wrote_map (IsTextOnWay shows c.args.direction c.args.every e) (IsTextOfRun shows c.args.job.now c.args.state.now c.args.direction c.args.every) _ _ _
     (text_of_run shows c.args.job.now c.args.state.now c.args.direction c.args.every e c.in_ok-engine.ensures.opens))
+    c.visit-done.ensures.wrote
+
+pub returns-clause-runs : goal.returns-clause-runs
+returns-clause-runs g c =
+    let e = c.in_ok-engine.engine in
+    let shows = g.S.Show.shows c.args.show.now in
+    let job = c.args.job.now in
+    let state = c.args.state.now in
+    on_ok_weaker c.visit-done.result
+    (wrote_map (IsTextOnWay shows c.args.direction c.args.every e) (IsShownOfRun shows job state c.args.direction c.args.every) _ _ _
+    (shown_on_way shows job state c.args.direction c.args.every e c.in_ok-engine.ensures.opens c.in_ok-engine.ensures.once))
     c.visit-done.ensures.wrote

@@ -3,11 +3,11 @@ use Rattle.std.proofs.lemmas.Result.{IfErr-weaker, err_from_is_err_and, on_ok_we
 use Rattle.state.specs.StateText.{state_text}
 use Rattle.integrator.specs.Runs.{IsAfter}
 use Rattle.integrator.specs.Starts.{plain}
+use Rattle.integrator.proofs.ReturnLaws.{run_back}
 use Rattle.engine.proofs.EngineLaws.{engine_ran, safe_texts}
-use Rattle.engine.proofs.HeadlineLaws.{only_told, told}
+use Rattle.engine.proofs.HeadlineLaws.{only_told, told, told_back}
 use Rattle.engine.proofs.OneAnswer.{only_memory}
 use Rattle.engine.proofs.UnwrittenLaws.{run_unwritten, run_wants}
-use Rattle.trajectory.proofs.HundredthLaws.{nothing_told}
 use Rattle.trajectory.proofs.WayLaws.{engine_in_range}
 use Rattle.trajectory.proofs.watched_runs.watched_run_bytes.Goals as goal
 
@@ -25,7 +25,13 @@ returns-in_err-engine-clause-only g c = λ text r a.
 pub returns-in_err-engine-clause-told_some : goal.returns-in_err-engine-clause-told_some
 returns-in_err-engine-clause-told_some g c =
     let p = err_from_is_err_and c.from_residual.result c.from_residual.ensures.1 in
-    rw p.1 (nothing_told c.args.steps (g.W.Watch.told c.args.watch.now c.args.watch.now) (g.met.W.Watch.told_nothing c.args.watch.now))
+    rw (p.1, p.2) (g.met.W.Watch.told_nothing c.args.watch.now)
+
+pub returns-in_err-engine-clause-told_back : goal.returns-in_err-engine-clause-told_back
+returns-in_err-engine-clause-told_back g c = told_back c.args.job.now c.args.state.now c.args.direction c.args.steps
+
+pub returns-in_err-engine-clause-returns : goal.returns-in_err-engine-clause-returns
+returns-in_err-engine-clause-returns g c = run_back plain c.args.job.now c.args.state.now c.args.direction c.args.steps
 
 pub run-done-requires-clause-range : goal.run-done-requires-clause-range
 run-done-requires-clause-range g c = λ _ _. engine_in_range c.args.job.now c.args.state.now c.in_ok-engine.engine c.in_ok-engine.ensures.opens
@@ -72,3 +78,10 @@ returns-clause-wrote g c =
       appends = h.1;
     })
     c.run-done.ensures.wrote
+
+-- n steps the other way
+pub returns-clause-told_back : goal.returns-clause-told_back
+returns-clause-told_back g c = told_back c.args.job.now c.args.state.now c.args.direction c.args.steps
+
+pub returns-clause-returns : goal.returns-clause-returns
+returns-clause-returns g c = run_back plain c.args.job.now c.args.state.now c.args.direction c.args.steps

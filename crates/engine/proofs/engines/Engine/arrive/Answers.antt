@@ -35,6 +35,7 @@ returns-then-done-steps-clause-stopped g c =
     let moved : state_view c.advance.new.state ≡ moved_state (state_view i.state) (frames stepped.previous.items stepped.current.items) k = rw counter at c.advance.ensures.value in
     rw (← c.self.view_is) (
       omega (arith, c.if-done-steps.true),
+      λ _. rw (← c.self.view_is) at c.requires.fits,
       went_on c.args.direction c.args.done e _ stepped.previous.items stepped.current.items k (rw (← c.self.view_is) at c.requires.stepped) (sym c.in-Some.ensures.value) (ap (λ (s : StateView). record e { state = s }) moved),
     )
 
@@ -50,5 +51,29 @@ returns-clause-went g c =
     rw (← c.self.view_is, whole)
     (went_on c.args.direction c.args.done e _ stepped.previous.items stepped.current.items k (rw (← c.self.view_is) at c.requires.stepped) (sym c.in-Some.ensures.value) (ap (λ (s : StateView). record e { state = s }) moved))
 
+-- the engine is one again, where steps are left and where none is
 pub invariant_of-self : goal.invariant_of-self
-invariant_of-self g c = let i = c.self.inside in (moves_on i.job i.state c.advance.new.state i.motion.system c.advance.ensures.ring c.advance.ensures.atoms c.self.invariant.0, c.self.invariant.1)
+invariant_of-self g c =
+    let i = c.self.inside in
+    let stepped = c.args.stepped.now in
+    let k = c.in-Some.counter in
+    let counter : to_z w64 (of_z w64 k) ≡ k = search rules in
+    let signed : SFits w64 k = search rules in
+    let moved : state_view c.advance.new.state ≡ moved_state (state_view i.state) (frames stepped.previous.items stepped.current.items) k = rw counter at c.advance.ensures.value in (
+      moves_on c.args.direction c.args.done i.job i.state c.advance.new.state i.motion.system stepped.previous.items stepped.current.items k c.self.invariant.0 c.advance.ensures.ring c.advance.ensures.atoms moved
+          (rw (← c.self.view_is) at c.requires.previous) (rw (← c.self.view_is) at c.requires.stepped) (in_range_is k signed.sfits),
+      c.self.invariant.1,
+    )
+
+pub invariant_of-self-2 : goal.invariant_of-self-2
+invariant_of-self-2 g c =
+    let i = c.self.inside in
+    let stepped = c.args.stepped.now in
+    let k = c.in-Some.counter in
+    let counter : to_z w64 (of_z w64 k) ≡ k = search rules in
+    let signed : SFits w64 k = search rules in
+    let moved : state_view c.advance.new.state ≡ moved_state (state_view i.state) (frames stepped.previous.items stepped.current.items) k = rw counter at c.advance.ensures.value in (
+      moves_on c.args.direction c.args.done i.job i.state c.advance.new.state i.motion.system stepped.previous.items stepped.current.items k c.self.invariant.0 c.advance.ensures.ring c.advance.ensures.atoms moved
+          (rw (← c.self.view_is) at c.requires.previous) (rw (← c.self.view_is) at c.requires.stepped) (in_range_is k signed.sfits),
+      c.self.invariant.1,
+    )
