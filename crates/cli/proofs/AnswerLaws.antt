@@ -22,7 +22,7 @@ use Rattle.engine.proofs.OneAnswer.{only_memory, only_stops}
 use Rattle.engine.proofs.ToldRuns.{told_are_run}
 use Rattle.cli.specs.Command.{Held, IsAnswer, IsDone, IsHeld, IsNotRefused, IsQuiet, IsSaid, NamesRun, Paths, PrintsIfCounted, Says, line}
 use Rattle.cli.specs.Failures.{fault_of_run}
-use Rattle.cli.specs.Progress.{IsBegun, IsTold}
+use Rattle.cli.specs.Progress.{IsBegun}
 use Rattle.cli.specs.Refusals.{HasNoBytes, IsCommandRefused, IsFaultOf, IsUnanswered, IsUndone, IsUnread, unread}
 use Rattle.cli.specs.Reports.{IsReported, said}
 use Rattle.cli.specs.Statuses.{status_number, status_of}
@@ -32,7 +32,8 @@ use Rattle.cli.specs.declared.faults.Status.{Status}
 use Rattle.cli.specs.declared.faults.Status.TheVariants as status
 use Rattle.cli.specs.declared.files.ReadFault.{ReadFault}
 use Rattle.cli.specs.declared.files.ReadFault.TheVariants as read
-use Rattle.cli.proofs.RefusalLaws.{asks_done, asks_faulty, kept_told, misuse_told, most_told, some_told, told_behind}
+use Rattle.cli.proofs.ProgressLaws.{says_told}
+use Rattle.cli.proofs.RefusalLaws.{asks_done, asks_faulty, kept_told, misuse_told, most_told, some_told}
 
 -- ---- runs that there are
 
@@ -129,13 +130,13 @@ answers_done words held asked asked' out out' err err' done quiet = record {
 
 -- where they ended in a fault
 pub answers_fault : {A : Type 0} (words : List (List ℕ)) (held : Held) (asked asked' : Paths) (out out' err between err' : Output) (f : CommandFault A) (result : ℕ) → err.failed < 2 ^ 64 - 1
-    → IsFaultOf words held asked asked' out out' f → IsBegun words err between → IsReported f result (PrintsIfCounted between err')
+    → IsFaultOf words held asked asked' out out' f → IsBegun words f err between → IsReported f result (PrintsIfCounted between err')
     → IsAnswer words held asked asked' out out' err err' result
 answers_fault words held asked asked' out out' err between err' f result room is begun told = record {
   most = most_told f result _ _ told;
   done = λ zero. absurd (some_told f result _ _ told zero);
   quiet = λ zero. absurd (some_told f result _ _ told zero);
-  said = λ some. said_told f result (Says words err err') (told_behind words err between err' f result room begun told);
+  said = λ some. said_told f result (Says words result err err') (says_told words err between err' f result room begun told);
   kept = λ some. kept_told words held asked asked' out out' f result _ _ is told;
   misuse = misuse_told words held asked asked' out out' f result _ _ is told;
   reads = asks_faulty words held asked asked' out out' f is;

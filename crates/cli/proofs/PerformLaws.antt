@@ -8,7 +8,6 @@ use Rattle.fallible.specs.Out.{Appends, AppendsBeginning, Output, Writes}
 use Rattle.fallible.specs.declared.output.OutFault.{OutFault}
 use Rattle.cli.specs.Performed.{Performs, WritesText}
 use Rattle.cli.specs.Command.{Held, IsDone, Paths}
-use Rattle.cli.specs.Progress.{Tells}
 use Rattle.cli.specs.Refusals.{IsFaultOf}
 use Rattle.cli.specs.declared.faults.CommandFault.{CommandFault}
 use Rattle.cli.specs.declared.faults.CommandFault.TheVariants as fault
@@ -51,11 +50,6 @@ text_written (Ok x) r Why HasText before after text is writes whole began = subs
 text_written (Err o) r Why HasText before after text is writes whole began = subst (λ t. WritesText Why HasText before after t) (sym is) (inr (o, refl, began writes))
 
 -- ---- commands
-
--- a command that tells nothing leaves that output as it was
-pub tells_nothing : {T E : Type 0} (r : Result T E) (o : Output) → Tells None o o r
-tells_nothing (Ok x) o = refl
-tells_nothing (Err e) o = refl
 
 -- what a command has done is what its words ask for
 pub done_by_words : {T A : Type 0} (r : Result T (CommandFault A)) (words : List (List ℕ)) (held : Held) (asked asked' : Paths) (c : Command) (before after : Output)

@@ -22,11 +22,9 @@ use Rattle.observation.specs.Tables.{AreRowsUnwritten}
 use Rattle.observation.specs.declared.faults.ObserveFault.{ObserveFault}
 use Rattle.observation.specs.declared.faults.ObserveFault.TheVariants as observe
 use Rattle.trajectory.specs.Visits.{AreTextsUnwritten, Showing}
-use Rattle.cli.specs.Command.{AsksFor, Held, IsDone, IsKept, IsQuiet, Paths, PrintsIfCounted, also_asked, also_asked_if, asked_by, version_line}
+use Rattle.cli.specs.Command.{AsksFor, Held, IsDone, IsKept, IsQuiet, Paths, also_asked, also_asked_if, asked_by, version_line}
 use Rattle.cli.specs.Performed.{HasAnswered, WritesLine, WritesText}
-use Rattle.cli.specs.Progress.{IsBegun, IsTold}
 use Rattle.cli.specs.Refusals.{HasNoBytes, IsFaultOf, IsNoAnswer, IsCommandRefused, IsUnanswered, IsUndone, IsUnread, IsUnreadOfSome, IsUnreadOfTwo, IsVerdictUndone, RefusesCode, RefusesEnergy, RefusesForces, RefusesFrame, RefusesJob, RefusesListing, RefusesSlope, RefusesState, RefusesUnder, unread}
-use Rattle.cli.specs.Reports.{IsReported}
 use Rattle.cli.specs.Failures.{fault_of_observe, fault_of_run}
 use Rattle.cli.specs.Statuses.{status_number, status_of}
 use Rattle.cli.specs.declared.faults.CommandFault.{CommandFault}
@@ -34,7 +32,6 @@ use Rattle.cli.specs.declared.faults.CommandFault.TheVariants as fault
 use Rattle.cli.specs.declared.faults.Status.TheVariants as status
 use Rattle.cli.specs.declared.files.ReadFault.{ReadFault}
 use Rattle.cli.specs.declared.files.ReadFault.TheVariants as read
-use Rattle.cli.proofs.ProgressLaws.{says}
 use Rattle.cli.proofs.StatusLaws.{IsOfWords, code_two, code_zero, file_failed, memory_wanted, never_done, number_most, of_files_alone, of_observe, of_run, words_alone}
 
 -- ---- which files were asked for
@@ -115,12 +112,15 @@ kept_texts : {A : Type 0} (Shows : Showing) (job state : List ℕ) (direction : 
 kept_texts Shows job state direction steps every before after (run.Open failure) h = inl (inl h.1)
 kept_texts Shows job state direction steps every before after (run.Steps step.StepRange) h = inl (inl h.1)
 kept_texts Shows job state direction steps every before after (run.Steps (step.Memory done)) h = inr refl
-kept_texts Shows job state direction steps every before after (run.Out o) h = inl (inr h.1.began.beginning.failed)
+kept_texts Shows job state direction steps every before after (run.Out o) h =
+    let same = h.2.wrote.appends.failed in
+    let failed = h.2.began.beginning.failed in
+    inl (inr (omega (arith, same, failed)))
 
 -- the same of a table's rows
 kept_rows : {A : Type 0} (Shows : Showing) (job state : List ℕ) (direction : Direction) (steps every : ℕ) (before after : Output) (f : ObserveFault A) → AreRowsUnwritten Shows job state direction steps every before after f
     → IsKept before after ⊎ (status_of (fault_of_observe f) ≡ status.Memory)
-kept_rows Shows job state direction steps every before after (observe.Run f) h = kept_texts Shows job state direction steps every before after f h
+kept_rows Shows job state direction steps every before after (observe.Run f) h = kept_texts Shows job state direction steps every before after f h.1
 kept_rows Shows job state direction steps every before after (observe.Energy f) h = inl (inl h.1)
 
 kept_verdict : {A : Type 0} (held : Held) (job : List ℕ) (listing : Option (Bor (List ℕ))) (before after : Output) (f : CommandFault A)
@@ -274,12 +274,6 @@ pub misuse_told : {A : Type 0} (words : List (List ℕ)) (held : Held) (asked as
 misuse_told words held asked asked' before after f result Text Memory is (inl told) two =
     misuse_of words held asked asked' before after f is (words_alone f (code_two (status_of f) (sym told.0 ∙ two)))
 misuse_told words held asked asked' before after f result Text Memory is (inr told) two = let bad : 4 ≡ 2 = sym told.0 ∙ two in absurd (omega (arith, bad))
-
--- a fault is told behind how far a run has come
-pub told_behind : {A : Type 0} (words : List (List ℕ)) (before between after : Output) (f : CommandFault A) (result : ℕ) → before.failed < 2 ^ 64 - 1 → IsBegun words before between
-    → IsReported f result (PrintsIfCounted between after) → IsTold words f result before after
-told_behind words before between after f result room begun (inl told) = inl (told.0, (told.1.0, says words before between after _ room begun told.1.1))
-told_behind words before between after f result room begun (inr told) = inr (told.0, says words before between after _ room begun told.1)
 
 -- ---- words that name no command
 

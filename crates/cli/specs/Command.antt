@@ -12,12 +12,12 @@ use Rattle.command_line.specs.declared.commands.Command.TheVariants as command
 use Rattle.command_line.specs.declared.commands.Run.{Run}
 use Rattle.command_line.specs.declared.commands.Visits.{Visits}
 use Rattle.integrator.specs.declared.direction.Direction.{Direction}
-use Rattle.engine.specs.Engines.{AreSafe}
+use Rattle.engine.specs.Engines.{AreSafe, CounterFits}
 use Rattle.engine.specs.Headline.{IsLevesqueVerletRun, WroteLevesqueVerletRun}
 use Rattle.trajectory.specs.Trajectories.{ShowsFrame}
-use Rattle.trajectory.specs.Visits.{CounterFits, IsTextOfRun, WroteTexts}
-use Rattle.trajectory.specs.Watching.{SomeHundredths, hundredths}
-use Rattle.trajectory.specs.WholeStates.{IsRunOnWay}
+use Rattle.trajectory.specs.Visits.{IsShownOfRun, Showing, WroteTexts}
+use Rattle.trajectory.specs.Watching.{hundredths, hundredths_behind}
+use Rattle.trajectory.specs.WholeStates.{ShowsState}
 use Rattle.observation.specs.Observations.{ShowsTable}
 use Rattle.fallible.specs.Out.{Appends, AppendsBeginning, Output}
 use Rattle.cli.specs.Conversions.{IsCodeText, IsFrameText, IsStartText}
@@ -92,10 +92,11 @@ AsksFor (command.Explain e) before after = after ≡ before
 abbrev pub PrintsRun : (job state : List ℕ) → Run → (before after : Output) → Type 0
 PrintsRun job state run before after = AreSafe job state × WroteLevesqueVerletRun job state run.direction run.steps before after
 
--- Texts of the states after 0, k, 2k, .. steps were printed; that code is accepted, and the counter fits after all steps.
-abbrev pub PrintsVisits : (ℕ → List ℕ → Type 0) → (job state : List ℕ) → Visits → (before after : Output) → Type 0
-PrintsVisits IsText job state v before after =
-    AreSafe job state × CounterFits job state v.direction v.steps × WroteTexts IsText (suc (v.steps / v.every)) before after
+-- What is shown of the states after 0, k, 2k, .. steps was printed, each of which has the text of such a run; that code
+-- is accepted, and the counter fits after all steps.
+abbrev pub PrintsVisits : Showing → (job state : List ℕ) → Visits → (before after : Output) → Type 0
+PrintsVisits Shows job state v before after =
+    AreSafe job state × CounterFits job state v.direction v.steps × WroteTexts (IsShownOfRun Shows job state v.direction v.every) (suc (v.steps / v.every)) before after
 
 -- the verdict on the code of a job's slope, or on that of a listing
 abbrev pub HasVerdict : Held → List ℕ → Option (Bor (List ℕ)) → (List ℕ → Type 0) → Type 0
@@ -109,9 +110,9 @@ HasVerdict held job (Some listing) Wrote = OfTwo held job listing.now (λ j l. I
 abbrev pub HasPrinted : Held → Command → (before after : Output) → Type 0
 HasPrinted held (command.Start start) before after = OfTwo held start.job.now start.gro.now (λ job gro. IsStartText job gro start.frame (Appends before after))
 HasPrinted held (command.Run run) before after = OfTwo held run.job.now run.state.now (λ job state. PrintsRun job state run before after)
-HasPrinted held (command.Trajectory v) before after = OfTwo held v.job.now v.state.now (λ job state. PrintsVisits (IsTextOfRun ShowsFrame job state v.direction v.every) job state v before after)
-HasPrinted held (command.States v) before after = OfTwo held v.job.now v.state.now (λ job state. PrintsVisits (IsRunOnWay job state v.direction v.every) job state v before after)
-HasPrinted held (command.Observe o) before after = OfTwo held o.visits.job.now o.visits.state.now (λ job state. PrintsVisits (IsTextOfRun (ShowsTable (columns_of o.exact)) job state o.visits.direction o.visits.every) job state o.visits before after)
+HasPrinted held (command.Trajectory v) before after = OfTwo held v.job.now v.state.now (λ job state. PrintsVisits ShowsFrame job state v before after)
+HasPrinted held (command.States v) before after = OfTwo held v.job.now v.state.now (λ job state. PrintsVisits ShowsState job state v before after)
+HasPrinted held (command.Observe o) before after = OfTwo held o.visits.job.now o.visits.state.now (λ job state. PrintsVisits (ShowsTable (columns_of o.exact)) job state o.visits before after)
 HasPrinted held (command.Frame frame) before after = OfOne held frame.state.now (λ state. IsFrameText state (Appends before after))
 HasPrinted held (command.Energy s) before after = OfTwo held s.job.now s.state.now (λ job state. IsEnergyText job state (Appends before after))
 HasPrinted held (command.Forces s) before after = OfTwo held s.job.now s.state.now (λ job state. IsForcesText job state (Appends before after))
@@ -189,11 +190,21 @@ line text = codes "pairmd: " ++ text ++ 10 ∷ []
 abbrev pub IsSaid : (status : ℕ) → List ℕ → Type 0
 IsSaid status text = (status ≡ 2) ⊎ ((why : List ℕ) × (text ≡ line why))
 
--- the error output where it does not go well: a text, and before it maybe the progress of a command with `--progress`
-abbrev pub Says : List (List ℕ) → (before after : Output) → List ℕ → Type 0
-Says words before after text = Prints before after text
-    ⊎ ((c : Command) × (steps : ℕ) × (between : Output) × IsCommand words c × (told_of c ≡ Some steps)
-    × SomeHundredths steps (PrintsProgress steps before between) × PrintsIfCounted between after text)
+-- how far a command has come was told, at each hundredth of its steps that it reached
+pub record TellsReached (words : List (List ℕ)) (before after : Output) : Type 0 where
+  pub c : Command
+  pub named : IsCommand words c
+  pub steps : ℕ
+  pub is_told : told_of c ≡ Some steps
+  pub made : ℕ
+  pub reached : made ≤ steps
+  pub told : PrintsProgress steps before after (hundredths_behind steps 0 made)
+
+-- The error output where it does not go well: a text. Before it a command with `--progress` may have told how far it
+-- had come, where memory ran out (4) or the output failed (5); nothing is told before a refusal.
+abbrev pub Says : List (List ℕ) → (status : ℕ) → (before after : Output) → List ℕ → Type 0
+Says words status before after text = Prints before after text
+    ⊎ (((status ≡ 4) ⊎ (status ≡ 5)) × ((between : Output) × TellsReached words before between × PrintsIfCounted between after text))
 
 -- ---- the whole
 
@@ -223,7 +234,7 @@ pub record IsAnswer (words : List (List ℕ)) (held : Held) (asked asked' : Path
   pub quiet : status ≡ 0 → IsQuiet words err err'
   -- else a text was printed to the error output, and standard output is as it was, unless it failed, or memory ran out
   -- between states on the way of a run
-  pub said : status ≢ 0 → (text : List ℕ) × IsSaid status text × Says words err err' text
+  pub said : status ≢ 0 → (text : List ℕ) × IsSaid status text × Says words status err err' text
   pub kept : status ≢ 0 → IsKept out out' ⊎ ((status ≡ 4) × AsksForVisits words)
   -- 2 is the status of words that name nothing
   pub misuse : status ≡ 2 → IsMisuse words × (out' ≡ out)

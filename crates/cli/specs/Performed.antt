@@ -10,8 +10,7 @@ use Rattle.command_line.specs.declared.commands.Visits.{Visits}
 use Rattle.fallible.specs.Out.{Appends, Output}
 use Rattle.observation.specs.Observations.{ShowsTable}
 use Rattle.trajectory.specs.Trajectories.{ShowsFrame}
-use Rattle.trajectory.specs.Visits.{IsTextOfRun}
-use Rattle.trajectory.specs.WholeStates.{IsRunOnWay}
+use Rattle.trajectory.specs.WholeStates.{ShowsState}
 use Rattle.cli.specs.Command.{HasPrinted, Held, Paths, PrintsRun, PrintsSome, PrintsVisits, asked_by, version_line}
 use Rattle.cli.specs.Refusals.{AreStatesUndone, IsRunUndone, IsTableUndone, IsTextUnwritten, IsTrajectoryUndone, IsUndone}
 use Rattle.cli.specs.Tables.{columns_of}
@@ -34,17 +33,17 @@ WritesRun job state run before after result =
 -- the frames of a run were written; or this is why not all were
 abbrev pub WritesFrames : {T A : Type 0} → (job state : List ℕ) → Visits → (before after : Output) → Result T (CommandFault A) → Type 0
 WritesFrames job state v before after result =
-    MatchResult result (λ _. PrintsVisits (IsTextOfRun ShowsFrame job state v.direction v.every) job state v before after) (IsTrajectoryUndone job state v before after)
+    MatchResult result (λ _. PrintsVisits ShowsFrame job state v before after) (IsTrajectoryUndone job state v before after)
 
 -- the states on the way of a run were written, each the text of a run that ends there; or this is why not all were
 abbrev pub WritesStates : {T A : Type 0} → (job state : List ℕ) → Visits → (before after : Output) → Result T (CommandFault A) → Type 0
 WritesStates job state v before after result =
-    MatchResult result (λ _. PrintsVisits (IsRunOnWay job state v.direction v.every) job state v before after) (AreStatesUndone job state v before after)
+    MatchResult result (λ _. PrintsVisits ShowsState job state v before after) (AreStatesUndone job state v before after)
 
 -- the rows of a run's table were written; or this is why not all were
 abbrev pub WritesTable : {T A : Type 0} → (job state : List ℕ) → Observe → (before after : Output) → Result T (CommandFault A) → Type 0
 WritesTable job state o before after result =
-    MatchResult result (λ _. PrintsVisits (IsTextOfRun (ShowsTable (columns_of o.exact)) job state o.visits.direction o.visits.every) job state o.visits before after) (IsTableUndone job state o before after)
+    MatchResult result (λ _. PrintsVisits (ShowsTable (columns_of o.exact)) job state o.visits before after) (IsTableUndone job state o before after)
 
 -- an error of the parser was answered on standard output, by its kind: with help, or with the version
 abbrev pub HasAnswered : ErrorKind → (before after : Output) → Type 0

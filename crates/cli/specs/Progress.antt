@@ -1,32 +1,66 @@
--- The lines of progress that are printed of a run that was not done.
-use Rattle.std.specs.Prelude.{◌≡◌, ◌⊎◌, ℕ, List, [], ◌∷◌, ◌++◌, Option, Some, None, Result}
+-- The lines of progress that are printed of a run before its fault.
+use Rattle.std.specs.Prelude.{◌≡◌, ◌⊎◌, ◌*◌, ◌≤◌, ℕ, List, [], ◌∷◌, ◌++◌, Option, Some, None, Result}
 use Rattle.std.proofs.Common.{subst}
 use Rattle.std.specs.Result.{MatchResult}
 use Rattle.fallible.specs.Out.{Output}
+use Rattle.integrator.specs.declared.faults.StepFault.TheVariants as step
 use Rattle.command_line.specs.CommandLine.{IsCommand}
 use Rattle.command_line.specs.declared.commands.Command.{Command}
-use Rattle.trajectory.specs.Watching.{SomeHundredths}
-use Rattle.cli.specs.Command.{PrintsProgress, Says, TellsAll, told_of}
+use Rattle.command_line.specs.declared.commands.Command.TheVariants as command
+use Rattle.trajectory.specs.Watching.{hundredths, hundredths_behind}
+use Rattle.cli.specs.Command.{PrintsIfCounted, PrintsProgress, TellsAll, told_of}
 use Rattle.cli.specs.Reports.{IsReported}
 use Rattle.cli.specs.declared.faults.CommandFault.{CommandFault}
+use Rattle.cli.specs.declared.faults.CommandFault.TheVariants as fault
 
--- how far a run that ended early has come was told at each hundredth that it reached; nothing where it isn't to be told
-abbrev pub TellsSome : Option ℕ → Output → Output → Type 0
-TellsSome None before after = after ≡ before
-TellsSome (Some steps) before after = SomeHundredths steps (PrintsProgress steps before after)
+-- what was told of n steps where the output failed: of a run all, since its text comes behind its steps
+abbrev pub AllTold : (n : ℕ) → (List ℕ → Type 0) → Type 0
+AllTold n told = told (hundredths n)
 
--- the progress that a command which ended with this result has told: all of it, or the first of it
-abbrev pub Tells : {T E : Type 0} → Option ℕ → Output → Output → Result T E → Type 0
-Tells steps before after result = MatchResult result (λ _. TellsAll steps before after) (λ _. TellsSome steps before after)
+-- and of states on its way the hundredths up to the state whose text failed
+abbrev pub ToldUpToText : (every n : ℕ) → (List ℕ → Type 0) → Type 0
+ToldUpToText every n told = (count : ℕ) × (count * every ≤ n) × told (hundredths_behind n 0 (count * every))
 
--- the error output before a fault's text: the progress of a command with `--progress`, else nothing
-abbrev pub IsBegun : List (List ℕ) → Output → Output → Type 0
-IsBegun words before after = (after ≡ before)
-    ⊎ ((c : Command) × (steps : ℕ) × IsCommand words c × (told_of c ≡ Some steps) × SomeHundredths steps (PrintsProgress steps before after))
+-- the same by a command
+abbrev pub ToldAtOutput : Command → (n : ℕ) → (List ℕ → Type 0) → Type 0
+ToldAtOutput (command.Trajectory v) = ToldUpToText v.every
+ToldAtOutput (command.States v) = ToldUpToText v.every
+ToldAtOutput (command.Observe o) = ToldUpToText o.visits.every
+ToldAtOutput _ = AllTold
+
+-- what was told of n steps before this fault: nothing before a refusal; where memory ran out behind some steps, the
+-- hundredths among them
+abbrev pub ToldBefore : {A : Type 0} → (n : ℕ) → (List ℕ → Type 0) → (failed : Type 0) → CommandFault A → Type 0
+ToldBefore n told failed (fault.Steps (step.Memory done)) = (done ≤ n) × told (hundredths_behind n 0 done)
+ToldBefore n told failed (fault.Out o) = failed
+ToldBefore n told failed _ = told []
+
+-- the progress that was printed of n steps before this fault; nothing where it isn't to be told
+abbrev pub TellsBefore : {A : Type 0} → Option ℕ → (AtOutput : ℕ → (List ℕ → Type 0) → Type 0) → (before after : Output) → CommandFault A → Type 0
+TellsBefore None AtOutput before after f = after ≡ before
+TellsBefore (Some n) AtOutput before after f = ToldBefore n (PrintsProgress n before after) (AtOutput n (PrintsProgress n before after)) f
+
+-- the progress that was printed of n steps which ended with this result: all of it, or that before its fault
+abbrev pub TellsOf : {T A : Type 0} → Option ℕ → (AtOutput : ℕ → (List ℕ → Type 0) → Type 0) → (before after : Output) → Result T (CommandFault A) → Type 0
+TellsOf steps AtOutput before after result = MatchResult result (λ _. TellsAll steps before after) (TellsBefore steps AtOutput before after)
+
+-- the progress that a command has told which ended with this result
+abbrev pub Tells : {T A : Type 0} → Command → (before after : Output) → Result T (CommandFault A) → Type 0
+Tells c before after result = TellsOf (told_of c) (ToldAtOutput c) before after result
+
+-- The error output before the text of a fault: just the progress that the command told. Words that name none, and those
+-- for which memory ran out at once, tell nothing.
+abbrev pub IsBegun : {A : Type 0} → List (List ℕ) → CommandFault A → (before after : Output) → Type 0
+IsBegun words f before after = ((after ≡ before) × ((f ≡ fault.Memory) ⊎ ((c : Command) → IsCommand words c → ⊥)))
+    ⊎ ((c : Command) × IsCommand words c × TellsBefore (told_of c) (ToldAtOutput c) before after f)
+
+-- the error output where something was not done: that progress, and then this text
+abbrev pub SaysBehind : {A : Type 0} → List (List ℕ) → CommandFault A → (before after : Output) → List ℕ → Type 0
+SaysBehind words f before after text = (between : Output) × IsBegun words f before between × PrintsIfCounted between after text
 
 -- a fault was told by a status and a text
-abbrev pub IsTold : {A : Type 0} → List (List ℕ) → CommandFault A → ℕ → Output → Output → Type 0
-IsTold words f result before after = IsReported f result (Says words before after)
+abbrev pub IsTold : {A : Type 0} → List (List ℕ) → CommandFault A → ℕ → (before after : Output) → Type 0
+IsTold words f result before after = IsReported f result (SaysBehind words f before after)
 
 -- progress that was printed, and then more of it, is progress that was printed
 pub prints_more : (steps : ℕ) (first more : List ℕ) (before between after : Output) → PrintsProgress steps before between first

@@ -1,11 +1,11 @@
 //! Doing what the words ask for.
 
-ghost use Rattle.std.specs.Prelude.{◌≡◌, ◌≢◌, ◌<◌, ◌-◌, ◌^◌, ℕ, List, [], Option, Some, None, IfOk, OnOk, OnErr, IfErr, map, string_bytes};
+ghost use Rattle.std.specs.Prelude.{◌≡◌, ◌≢◌, ◌<◌, ◌-◌, ◌^◌, ℕ, List, [], Option, Some, None, IfOk, OnOk, IfErr, map, string_bytes};
 ghost use Rattle.std.specs.Result.{MatchResult};
 ghost use Rattle.clap.specs.Words.{kind_of};
 ghost use Rattle.clap.specs.declared.error.kind.ErrorKind.TheVariants.{DisplayHelp, DisplayVersion};
 ghost use Rattle.command_line.specs.declared.commands.Command.{Command};
-ghost use Rattle.cli.specs.Command.{IsAnswer, IsDone, IsHeld, IsQuiet, Prints, PrintsIfCounted, PrintsSome, also_asked, line, told_of, version_line};
+ghost use Rattle.cli.specs.Command.{IsAnswer, IsDone, IsHeld, IsQuiet, Prints, PrintsIfCounted, PrintsSome, also_asked, line, version_line};
 ghost use Rattle.cli.specs.Performed.{HasAnswered, Performs, WritesFrames, WritesRun, WritesStates};
 ghost use Rattle.cli.specs.Progress.{IsBegun, IsTold, Tells};
 ghost use Rattle.cli.specs.Refusals.{IsFaultOf, IsNoAnswer, IsUnread, IsUnreadOfTwo, unread};
@@ -88,7 +88,7 @@ fn respond<
     requires { (O.output out.old).failed < 2 ^ 64 - 1 }
     ensures undone { IfErr result (IsFaultOf (map S.text words.entry.now) (F.held files.old) (F.asked files.old) (F.asked files.new) (O.output out.old) (O.output out.new)) }
     ensures quiet { OnOk result (IsQuiet (map S.text words.entry.now) (E.output err.old) (E.output err.new)) }
-    ensures begun { OnErr result (IsBegun (map S.text words.entry.now) (E.output err.old) (E.output err.new)) }
+    ensures begun { IfErr result (λ f. IsBegun (map S.text words.entry.now) f (E.output err.old) (E.output err.new)) }
     ensures done { OnOk result (IsDone (map S.text words.entry.now) (F.held files.old) (F.asked files.old) (F.asked files.new) (O.output out.old) (O.output out.new)) }
 {
     match parse(words_alloc, words) {
@@ -108,7 +108,7 @@ fn perform<'a, R: Threads + Sync, A: Allocator + Copy + Send + Sync, F: Files, O
 ) -> Result<(), CommandFault<'a, A>>
     requires { (O.output out.old).failed < 2 ^ 64 - 1 }
     ensures performs { Performs (F.held files.old) (F.asked files.old) (F.asked files.new) command.entry (O.output out.old) (O.output out.new) result }
-    ensures tells { Tells (told_of command.entry) (E.output err.old) (E.output err.new) result }
+    ensures tells { Tells command.entry (E.output err.old) (E.output err.new) result }
 {
     match command {
         Command::Start(start) => perform_start(alloc, start, files, out),
@@ -265,7 +265,7 @@ fn perform_run<'a, R: Threads + Sync, A: Allocator + Copy + Send + Sync, F: File
 ) -> Result<(), CommandFault<'a, A>>
     requires { (O.output out.old).failed < 2 ^ 64 - 1 }
     ensures performs { Performs (F.held files.old) (F.asked files.old) (F.asked files.new) (Command.Run run.entry) (O.output out.old) (O.output out.new) result }
-    ensures tells { Tells (told_of (Command.Run run.entry)) (E.output err.old) (E.output err.new) result }
+    ensures tells { Tells (Command.Run run.entry) (E.output err.old) (E.output err.new) result }
 {
     let (job, state) = read_two(alloc, run.job, run.state, files)?;
     run_texts(rt, alloc, &job, &state, &run, out, err)
@@ -283,7 +283,7 @@ fn run_texts<'a, R: Threads + Sync, A: Allocator + Copy + Send + Sync, O: Out, E
 ) -> Result<(), CommandFault<'a, A>>
     requires { (O.output out.old).failed < 2 ^ 64 - 1 }
     ensures writes { WritesRun job.now state.now run.now (O.output out.old) (O.output out.new) result }
-    ensures tells { Tells (told_of (Command.Run run.now)) (E.output err.old) (E.output err.new) result }
+    ensures tells { Tells (Command.Run run.now) (E.output err.old) (E.output err.new) result }
 {
     if run.progress {
         run_watched(rt, alloc, job, state, run, out, err)
@@ -334,7 +334,7 @@ fn perform_trajectory<
 ) -> Result<(), CommandFault<'a, A>>
     requires { (O.output out.old).failed < 2 ^ 64 - 1 }
     ensures performs { Performs (F.held files.old) (F.asked files.old) (F.asked files.new) (Command.Trajectory trajectory.entry) (O.output out.old) (O.output out.new) result }
-    ensures tells { Tells (told_of (Command.Trajectory trajectory.entry)) (E.output err.old) (E.output err.new) result }
+    ensures tells { Tells (Command.Trajectory trajectory.entry) (E.output err.old) (E.output err.new) result }
 {
     let (job, state) = read_two(alloc, trajectory.job, trajectory.state, files)?;
     trajectory_texts(rt, alloc, &job, &state, &trajectory, out, err)
@@ -352,7 +352,7 @@ fn trajectory_texts<'a, R: Threads + Sync, A: Allocator + Copy + Send + Sync, O:
 ) -> Result<(), CommandFault<'a, A>>
     requires { (O.output out.old).failed < 2 ^ 64 - 1 }
     ensures writes { WritesFrames job.now state.now trajectory.now (O.output out.old) (O.output out.new) result }
-    ensures tells { Tells (told_of (Command.Trajectory trajectory.now)) (E.output err.old) (E.output err.new) result }
+    ensures tells { Tells (Command.Trajectory trajectory.now) (E.output err.old) (E.output err.new) result }
 {
     if trajectory.progress {
         trajectory_watched(rt, alloc, job, state, trajectory, out, err)
@@ -404,7 +404,7 @@ fn perform_states<
 ) -> Result<(), CommandFault<'a, A>>
     requires { (O.output out.old).failed < 2 ^ 64 - 1 }
     ensures performs { Performs (F.held files.old) (F.asked files.old) (F.asked files.new) (Command.States states.entry) (O.output out.old) (O.output out.new) result }
-    ensures tells { Tells (told_of (Command.States states.entry)) (E.output err.old) (E.output err.new) result }
+    ensures tells { Tells (Command.States states.entry) (E.output err.old) (E.output err.new) result }
 {
     let (job, state) = read_two(alloc, states.job, states.state, files)?;
     states_texts(rt, alloc, &job, &state, &states, out, err)
@@ -422,7 +422,7 @@ fn states_texts<'a, R: Threads + Sync, A: Allocator + Copy + Send + Sync, O: Out
 ) -> Result<(), CommandFault<'a, A>>
     requires { (O.output out.old).failed < 2 ^ 64 - 1 }
     ensures writes { WritesStates job.now state.now states.now (O.output out.old) (O.output out.new) result }
-    ensures tells { Tells (told_of (Command.States states.now)) (E.output err.old) (E.output err.new) result }
+    ensures tells { Tells (Command.States states.now) (E.output err.old) (E.output err.new) result }
 {
     if states.progress {
         states_watched(rt, alloc, job, state, states, out, err)
@@ -474,7 +474,7 @@ fn perform_observe<
 ) -> Result<(), CommandFault<'a, A>>
     requires { (O.output out.old).failed < 2 ^ 64 - 1 }
     ensures performs { Performs (F.held files.old) (F.asked files.old) (F.asked files.new) (Command.Observe observe.entry) (O.output out.old) (O.output out.new) result }
-    ensures tells { Tells (told_of (Command.Observe observe.entry)) (E.output err.old) (E.output err.new) result }
+    ensures tells { Tells (Command.Observe observe.entry) (E.output err.old) (E.output err.new) result }
 {
     let visits = observe.visits;
     let (job, state) = read_two(alloc, visits.job, visits.state, files)?;

@@ -2,7 +2,7 @@
 use Rattle.std.proofs.Common.{arith}
 use Rattle.std.proofs.lemmas.Grind.{common_steps}
 use Rattle.cli.proofs.AnswerLaws.{answers_done, answers_fault}
-use Rattle.cli.proofs.RefusalLaws.{told_behind}
+use Rattle.cli.proofs.ProgressLaws.{told_behind}
 use Rattle.cli.proofs.execution.execute.Goals as goal
 
 pub returns-in-Ok-clause-answers : goal.returns-in-Ok-clause-answers
@@ -17,4 +17,4 @@ returns-in-Err-clause-answers g c =
 
 pub returns-in-Err-clause-undone : goal.returns-in-Err-clause-undone
 returns-in-Err-clause-undone g c =
-    λ some. (_, c.in-Err.ensures.undone, told_behind _ _ _ _ _ _ c.requires.err c.in-Err.ensures.begun c.report_if_counted-status.ensures)
+    λ some. (_, c.in-Err.ensures.undone, told_behind _ _ _ _ _ _ c.in-Err.ensures.begun c.report_if_counted-status.ensures)

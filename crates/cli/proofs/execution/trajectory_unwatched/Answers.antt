@@ -9,4 +9,4 @@ pub returns : goal.returns
 returns g c =
     let run = c.trajectory_bytes in
     told_as run.result c.ran.result fault_of_run _ _ c.ran.ensures
-    (MatchResult-from_both run.result _ _ (three_ok run.result _ _ _ run.ensures.safe run.ensures.fits run.ensures.wrote) (IfErr-weaker run.result _ _ (λ f why. (f, refl, why)) run.ensures.refused))
+    (MatchResult-from_both run.result _ _ (three_ok run.result _ _ _ run.ensures.safe run.ensures.fits run.ensures.runs) (IfErr-weaker run.result _ _ (λ f why. (f, refl, why)) run.ensures.refused))
