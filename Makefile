@@ -7,6 +7,8 @@
 # dist: packs the proved program with its pages and examples, for those who haven't the toolchain.
 # transcripts: plays the transcripts of crates/transcripts/data.
 # second-reading: plays each run of the transcripts by second_reader, which follows the headline's page in plain Python.
+# edges: runs the program over the system's files, streams and words, and at the greatest sizes, and compares status and
+# both streams; PROGRAM=.. names another than ./pairmd.
 # edits: tries the edits that the gate doesn't try, NAMES=.. of some crates.
 #
 # A program is built only once every crate that it stands on is proved. What was proved is kept in crates/*/out, so the
@@ -18,7 +20,7 @@ JOBS ?= $(shell tools/build.py --count)
 PREFIX ?= /usr/local
 SOURCES := $(shell find crates -path '*/src/*' -name '*.rt')
 
-.PHONY: try run test edits transcripts second-reading pairmd install guide dist
+.PHONY: try run test edges edits transcripts second-reading pairmd install guide dist
 
 try: pairmd-unproved
 	@cd crates/pairmd/data && ../../../pairmd-unproved $$(cat ../args)
@@ -33,6 +35,9 @@ run: pairmd
 test:
 	rt ci
 	tools/edits.py --stale
+
+edges:
+	tools/edges.py $(if $(PROGRAM),--program $(PROGRAM))
 
 edits:
 	tools/edits.py $(NAMES) --jobs $(JOBS)

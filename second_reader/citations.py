@@ -83,6 +83,11 @@ class Page:
             elif first in file.definitions:
                 self.stands_on(path, first)
 
+    def lines(self):
+        """How many lines the definitions that were found have, without comments and blank ones."""
+        texts = [self.files[path].definitions[name] for path, names in self.found.items() for name in names]
+        return sum(1 for text in texts for line in text.split("\n") if line.strip())
+
 
 def citations():
     """What the modules of the second reader cite: for each file of definitions its names, and where they are cited."""
@@ -114,7 +119,8 @@ def main():
             print(f"{module}: {path}: {name}: no such definition")
             wrong += 1
     count = sum(map(len, page.found.values()))
-    print(f"the page stands on {count} definitions in {len(page.found)} files; {wrong} citations are wrong or lacking")
+    size = f"{count} definitions of {page.lines():,} lines in {len(page.found)} files"
+    print(f"the page stands on {size}; {wrong} citations are wrong or lacking")
     return 1 if wrong else 0
 
 

@@ -1,14 +1,17 @@
-"""The lines of a job and what each says: job/specs/Words, Numbers, Forms, Values and Statements."""
+"""The lines of a job and what each says: job/specs/Words, Forms, Values and JobLines."""
 from dataclasses import dataclass
 from enum import Enum
-from typing import Any, Optional
+from typing import Any, Tuple
 
-from arithmetic import Frac, bits_of
-from library import all_ascii_digits, digits_value, slice_index
-from numerals import NumFault, reading_of
-from texts import after_word, cut_at, is_identifier, without_blanks, words
+from arithmetic import Frac, bits_of, in_range
+from library import all_ascii_digits, digits_value
+from numerals import mantissa_of, nearest_fixed, numeral_of, power_of_ten
+from texts import after_word, is_identifier, without_blanks, words
 
 # ---- lines
+
+# job/specs/JobLines: header, the first line.
+HEADER = b"pairmd job 1"
 
 
 def without_return(line):
@@ -22,92 +25,60 @@ def lines_of(text):
     return [without_return(line) for line in parts[:-1]] + parts[-1:]
 
 
-# ---- numbers (job/specs/Numbers: Reading): each reading is a number, BadNumber or NumberRange
+# ---- numbers: a word is that of one number at most, and of none where the answer is None
 
 
-def is_fault(reading):
-    """There is no number."""
-    return isinstance(reading, NumFault)
+def number(frac, word):
+    """job/specs/JobLines: IsNumber. The whole word is a numeral, and the number of these fraction bits that is nearest
+    to its value is below 2^63.
+    """
+    n = numeral_of(word)
+    if n is None:
+        return None
+    v = nearest_fixed(bits_of(frac), mantissa_of(n), power_of_ten(n))
+    return v if in_range(v) else None
 
 
-def both(x, y):
-    """job/specs/Numbers: both, the two numbers; one that is malformed comes before one that is out of range."""
-    for fault in (NumFault.BadNumber, NumFault.NumberRange):
-        if x is fault or y is fault:
-            return fault
-    return (x, y)
-
-
-def then_read(reading, read):
-    """job/specs/Numbers: mapped, what is made of a number; a fault stays. So does `>>=` (line_text/specs/Steps)."""
-    return reading if is_fault(reading) else read(reading)
-
-
-def alone(read, ws):
-    """job/specs/Numbers: alone and only, the reading of the one word."""
-    return read(ws[0]) if len(ws) == 1 else NumFault.BadNumber
-
-
-def numeral_of(frac, word):
-    """job/specs/Numbers: numeral_of, to the nearest number of these fraction bits."""
-    return reading_of(bits_of(frac), word)
-
-
-def signed_of(frac, word):
-    """job/specs/Numbers: signed_of, a numeral with or without a minus."""
+def signed_number(frac, word):
+    """job/specs/JobLines: IsSignedNumber (line_text/specs/Written: WritesSigned), a numeral, or a minus and a numeral.
+    No numeral begins with a minus.
+    """
     if word[:1] == b"-":
-        return then_read(numeral_of(frac, word[1:]), lambda z: -z)
-    return numeral_of(frac, word)
+        magnitude = number(frac, word[1:])
+        return None if magnitude is None else -magnitude
+    return number(frac, word)
 
 
-def values_of(frac, ws):
-    """job/specs/Numbers: values_of, signed numerals."""
-    values = ()
-    for word in reversed(ws):
-        values = then_read(both(signed_of(frac, word), values), lambda pair: (pair[0],) + pair[1])
-    return values
+def is_digits(text):
+    """line_text/specs/Written: IsDigits, one digit at least."""
+    return len(text) > 0 and all_ascii_digits(text)
 
 
-def cutoff_of(frac, word):
-    """job/specs/Numbers: cutoff_of and cutoff_range, more than 0, and at most 80 nm."""
-    most = 80 * 2 ** bits_of(frac)
-    return then_read(numeral_of(frac, word), lambda z: z if 1 <= z <= most else NumFault.NumberRange)
+def whole(word):
+    """line_text/specs/Written: WritesWhole, digits, zeros in front allowed."""
+    return digits_value(word) if is_digits(word) else None
 
 
-def is_whole(word):
-    """job/specs/Numbers: is_whole, one digit at least."""
-    return len(word) > 0 and all_ascii_digits(word)
-
-
-def within(least, most, n):
-    """job/specs/Numbers: within"""
-    return n if least <= n <= most else NumFault.NumberRange
-
-
-def whole_of(least, most):
-    """job/specs/Numbers: whole_of, the reading of a whole number in a range."""
-    return lambda word: within(least, most, digits_value(word)) if is_whole(word) else NumFault.BadNumber
-
-
-def frac_of(word):
-    """job/specs/Numbers: frac_of and frac_with, how many bits stand behind the point: 24, 32 or 40."""
-    fracs = {frac.value: frac for frac in Frac}
-    return then_read(whole_of(24, 40)(word), lambda n: fracs.get(n, NumFault.NumberRange))
-
-
-def mass_from(whole, part):
-    """job/specs/Numbers: mass_from, a mass of 0.00001 to 1000 u, in units of 10^-5 u."""
-    if is_whole(whole) and all_ascii_digits(part) and len(part) <= 5:
-        return within(1, 100000000, digits_value(whole) * 100000 + digits_value(part) * 10 ** (5 - len(part)))
-    return NumFault.BadNumber
+def decimal(places, word):
+    """line_text/specs/Written: WritesDecimal, digits, a point and so many digits, in units of the last."""
+    front, point, part = word.partition(b".")
+    if not point or not is_digits(front) or not all_ascii_digits(part) or len(part) != places:
+        return None
+    return digits_value(front) * 10**places + digits_value(part)
 
 
 def mass_of(word):
-    """job/specs/Numbers: mass_of and mass_parts: digits, and behind a point one to five more."""
-    parts = cut_at(ord("."), word)
-    if parts is None:
-        return mass_from(word, b"")
-    return mass_from(*parts) if parts[1] else NumFault.BadNumber
+    """job/specs/JobLines: IsMass, a mass in u, written in digits, or in digits, a point and one to five digits. It
+    counts 10^-5 u.
+    """
+    n = whole(word)
+    if n is not None:
+        return n * 100000
+    for places in range(1, 6):
+        n = decimal(places, word)
+        if n is not None:
+            return n * 10 ** (5 - places)
+    return None
 
 
 def is_type_name(text):
@@ -115,97 +86,149 @@ def is_type_name(text):
     return 1 <= len(text) <= 5 and all(33 <= byte <= 126 for byte in text)
 
 
-# ---- statements
-
-
-class Key(Enum):
-    """job/specs/declared/faults/Key: Key. Each key's word is that of job/specs/Statements: key_of and key_among."""
-
-    Energy = b"energy"
-    Core = b"core"
-    Cutoff = b"cutoff"
-    TimeStep = b"dt"
-    Slices = b"slices"
-    Parameter = b"parameter"
-    Global = b"global"
-    Types = b"type"
-    Bits = b"bits"
+# ---- values
 
 
 @dataclass
-class Statement:
-    """job/specs/Statements: Statement, the key of its line (None for `skipped`), the name where the key has one, and
-    the value, None where a number is out of its range.
-    """
+class GlobalValue:
+    """job/specs/Values: GlobalValue"""
 
-    key: Optional[Key]
+    name: bytes
+    value: int
+
+
+@dataclass
+class TypeValue:
+    """job/specs/Values: TypeValue, the mass in 10^-5 u, and a value for each parameter."""
+
+    name: bytes
+    mass: int
+    values: Tuple[int, ...]
+
+
+class Says(Enum):
+    """job/specs/JobLines: LineValue, by its cases: nothing, or the key of a line."""
+
+    NOTHING = b""
+    ENERGY = b"energy"
+    CORE = b"core"
+    CUTOFF = b"cutoff"
+    TIME_STEP = b"dt"
+    SLICES = b"slices"
+    BITS = b"bits"
+    PARAMETER = b"parameter"
+    GLOBAL = b"global"
+    TYPE = b"type"
+
+
+@dataclass
+class LineValue:
+    """job/specs/JobLines: LineValue, what a line says."""
+
+    says: Says
     value: Any = None
-    name: Optional[bytes] = None
 
 
-def well_formed(key, reading, name=None):
-    """job/specs/Statements: well_formed. Nothing is said by what is malformed."""
-    if reading is NumFault.BadNumber:
-        return None
-    return Statement(key, None if reading is NumFault.NumberRange else reading, name)
+# ---- what a line says: each of these is the value that a line says of its key, or None
 
 
-def energy_statement(text):
-    """job/specs/Statements: energy_statement"""
-    return Statement(Key.Energy, text) if text else None
+def is_silent(line):
+    """job/specs/JobLines: IsSilent, a comment, whose very first byte is `#`, or a line without words."""
+    return line[:1] == b"#" or words(line) == []
 
 
-def parameter_statement(ws):
-    """job/specs/Statements: parameter_statement"""
-    return Statement(Key.Parameter, name=ws[0]) if len(ws) == 1 and is_identifier(ws[0]) else None
-
-
-def global_statement(frac, ws):
-    """job/specs/Statements: global_statement"""
-    if len(ws) != 2 or not is_identifier(ws[0]):
-        return None
-    return well_formed(Key.Global, signed_of(frac, ws[1]), ws[0])
-
-
-def type_statement(frac, ws):
-    """job/specs/Statements: type_statement"""
-    if len(ws) < 2 or not is_type_name(ws[0]):
-        return None
-    return well_formed(Key.Types, both(mass_of(ws[1]), values_of(frac, ws[2:])), ws[0])
-
-
-def key_statement(frac, key, text):
-    """job/specs/Statements: key_statement, the line of this key, with this text behind the key."""
-    ws = words(text)
-    if key is Key.Energy:
-        return energy_statement(without_blanks(text))
-    if key is Key.Parameter:
-        return parameter_statement(ws)
-    if key is Key.Global:
-        return global_statement(frac, ws)
-    if key is Key.Types:
-        return type_statement(frac, ws)
-    readings = {
-        Key.Core: lambda word: numeral_of(frac, word),
-        Key.Cutoff: lambda word: cutoff_of(frac, word),
-        Key.TimeStep: whole_of(1, 1000),
-        Key.Slices: whole_of(1, 65536),
-        Key.Bits: frac_of,
-    }
-    return well_formed(key, alone(readings[key], ws))
-
-
-def key_of(word):
-    """job/specs/Statements: key_of"""
-    return next((key for key in Key if key.value == word), None)
-
-
-def entry_of(frac, line):
-    """job/specs/Statements: entry_of and words_statement, the statement of a line, None where it is malformed; a line
-    that begins with `#` and one of blanks alone are skipped.
-    """
+def behind(line, key):
+    """The words behind the key, where the line's first word is the key."""
     ws = words(line)
-    if slice_index(line, 0) == 35 or not ws:
-        return Statement(None)
-    key = key_of(ws[0])
-    return None if key is None else key_statement(frac, key, after_word(line))
+    return ws[1:] if ws[:1] == [key.value] else None
+
+
+def energy(line):
+    """job/specs/JobLines: IsEnergyLine, the key, and a text behind it from its first byte on that is no blank."""
+    if behind(line, Says.ENERGY) is None:
+        return None
+    text = without_blanks(after_word(line))
+    return text if len(text) > 0 else None
+
+
+def one(line, key):
+    """job/specs/JobLines: HasOneWord, the one word behind the key."""
+    ws = behind(line, key)
+    return ws[0] if ws is not None and len(ws) == 1 else None
+
+
+def within(least, n, most):
+    """The number, where it is in its range."""
+    return n if n is not None and least <= n <= most else None
+
+
+def numeral(frac, line, key):
+    """The number of the one word behind the key."""
+    word = one(line, key)
+    return None if word is None else number(frac, word)
+
+
+def digits(line, key):
+    """The whole number of the one word behind the key."""
+    word = one(line, key)
+    return None if word is None else whole(word)
+
+
+def fraction_bits(line):
+    """The fraction bits of a line of `bits`: those of which the one word is the number."""
+    n = digits(line, Says.BITS)
+    return next((frac for frac in Frac if bits_of(frac) == n), None)
+
+
+def parameter(line):
+    """The name on a line of `parameter`."""
+    name = one(line, Says.PARAMETER)
+    return name if name is not None and is_identifier(name) else None
+
+
+def global_value(frac, line):
+    """job/specs/JobLines: IsGlobalLine, the key, the name of a global and its value."""
+    ws = behind(line, Says.GLOBAL)
+    if ws is None or len(ws) != 2 or not is_identifier(ws[0]):
+        return None
+    value = signed_number(frac, ws[1])
+    return None if value is None else GlobalValue(ws[0], value)
+
+
+def type_value(frac, line):
+    """job/specs/JobLines: IsTypeLine, the key, the name of a type, its mass, which is 0.00001 to 1000 u, and its
+    values.
+    """
+    ws = behind(line, Says.TYPE)
+    if ws is None or len(ws) < 2 or not is_type_name(ws[0]):
+        return None
+    mass = within(1, mass_of(ws[1]), 100000000)
+    values = tuple(signed_number(frac, word) for word in ws[2:])
+    return None if mass is None or None in values else TypeValue(ws[0], mass, values)
+
+
+def line_values(frac, line):
+    """job/specs/JobLines: LineSays, all that the line says, its numerals read at these fraction bits: a core; a cutoff of
+    more than 0 and at most 80 nm; a time step of 1 to 1000 fs; 1 to 65,536 slices; 24, 32 or 40 fraction bits; the name
+    of a parameter; and the lines above.
+    """
+    values = {
+        Says.ENERGY: energy(line),
+        Says.CORE: numeral(frac, line, Says.CORE),
+        Says.CUTOFF: within(1, numeral(frac, line, Says.CUTOFF), 80 * 2 ** bits_of(frac)),
+        Says.TIME_STEP: within(1, digits(line, Says.TIME_STEP), 1000),
+        Says.SLICES: within(1, digits(line, Says.SLICES), 65536),
+        Says.BITS: fraction_bits(line),
+        Says.PARAMETER: parameter(line),
+        Says.GLOBAL: global_value(frac, line),
+        Says.TYPE: type_value(frac, line),
+    }
+    silent = [LineValue(Says.NOTHING)] if is_silent(line) else []
+    return silent + [LineValue(says, value) for says, value in values.items() if value is not None]
+
+
+def said(values, says):
+    """job/specs/JobLines: said_energy, said_core, said_cutoff, said_time_step, said_slices, said_bits, said_parameter,
+    said_global and said_type, the values that are said of a key, in their order.
+    """
+    return [it.value for it in values if it.says is says]

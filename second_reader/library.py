@@ -67,11 +67,6 @@ def position(item, items):
     return items.index(item) if item in items else None
 
 
-def first_or_none(items):
-    """job/specs/Faults: first, the first item, where there is one."""
-    return items[0] if items else None
-
-
 def all_apart(items):
     """std/specs/Prelude: AllPairs, where no two are to be equal."""
     return all(items[i] != items[k] for k in range(len(items)) for i in range(k))

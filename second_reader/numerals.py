@@ -143,17 +143,6 @@ def numeral_of(text):
     return n if is_numeral(n) and numeral_text(n) == text else None
 
 
-def reading_of(bits, text):
-    """fixed/specs/Numerals: IsReading, the value of the numeral that the text is, and BadNumber where it is none.
-
-    This is the relation. The function that says the same from left to right, by the longest numeral in front, is
-    fixed/specs/NumeralParts: reading_of, begins_numeral, is_allowed, numeral_of, front_digits, fraction_of,
-    exponent_of, sign_of, after_digits, after_fraction, after_exponent and after_numeral.
-    """
-    n = numeral_of(text)
-    return NumFault.BadNumber if n is None else value_of(bits, n)
-
-
 # ---- where a numeral in front of a text ends
 
 

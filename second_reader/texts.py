@@ -85,12 +85,3 @@ def is_name(text):
 def is_title(text):
     """line_text/specs/Parts: is_title and lacks, any bytes but LF, not ending in CR."""
     return b"\n" not in text and slice_index(text, less(len(text), 1)) != 13
-
-
-# ---- parts
-
-
-def cut_at(byte, text):
-    """line_text/specs/Parts: cut_at, the parts before and after the first such byte, where there is one."""
-    before, found, after = text.partition(bytes([byte]))
-    return (before, after) if found else None

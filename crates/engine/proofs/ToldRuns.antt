@@ -13,7 +13,6 @@ use Rattle.energy_program.specs.Tree.{Tree}
 use Rattle.ring_box.specs.Cells.{has_room, need_of, room_of}
 use Rattle.job.specs.JobText.{AreApart, HasNamesOnce, limits, reading_of}
 use Rattle.job.specs.Values.{JobValue, TypeValue}
-use Rattle.job.proofs.ApartLemmas.{names_once}
 use Rattle.job.proofs.TextLemmas.{reading_again, reading_ok}
 use Rattle.state.specs.StateText.{AtomView, StateView}
 use Rattle.state.proofs.StateReadsAgain.{one_text}
@@ -39,7 +38,7 @@ use Rattle.engine.proofs.HeadlineTexts.{moved_again, one_type, says_energy}
 -- ---- runs are on the page
 
 names_of_text : (job : List ℕ) (j : JobValue) → reading_of limits job ≡ Ok j → HasNamesOnce j
-names_of_text job j read = let t = reading_ok limits job j read in names_once limits j.frac t.lines j t.faultless t.tells
+names_of_text job j read = (reading_ok limits job j read).say.apart
 
 -- texts that have a run are read in one way
 read_once : (job state : List ℕ) (w : Direction) (n : ℕ) (after : StateView) → IsAfter plain job state w n after → AreReadOnce job state

@@ -2,22 +2,23 @@
 -- number of steps and a text. It is told by relations; the page names no code, no machine and no order of work.
 --
 -- It stands on the texts of jobs, energies and states (`IsJobText`, `IsEnergy`, `state_text`), on the table of slopes
--- (`slope_of`), on the geometry of a periodic box, and on the step of one coordinate. MODEL lists the files below it in
--- the order of reading. Not all below is told by relations: that no line of a job has a fault is the readers' own
--- function `line_fault`, a job's numerals go by the function `reading_of`, and what an energy's definitions are used
--- for by `source_meaning`. Such a function answers Ok with a value, or Err with a fault; the page asks for the value.
+-- (`slope_of`), on the geometry of a periodic box, and on the step of one coordinate; on no reader. MODEL lists the
+-- files below it in the order of reading. Some functions below answer Ok with a value or Err with a fault, as the
+-- operations on numbers do, and `source_meaning` for what the definitions of an energy stand for: the page asks for the
+-- value.
 --
 -- Units. A place is a whole number below 2^32, as many of which divide each side. Sides are in 10^-5 nm, masses in
 -- 10^-5 u, the time step is in fs. Energies are in kJ/mol and distances in nm, each with `bits` bits behind the point
 -- (24, 32 or 40, by the job): a number z stands for z / 2^bits. So slopes and forces are in 2^-bits kJ/mol/nm, and core
 -- and cutoff in 2^-bits nm.
 --
--- Letters. `pair` is two atoms, the lower first, and i one atom, numbered from 0; p, c and n are the previous, the
--- current and the next frame; a and b are places, v a force, m a mass, r a distance, j a job. k counts steps, t frames.
+-- Letters. `pair` is two atoms, the lower first, and i one atom; p, c and n are the previous, the current and the next
+-- frame; a and b are places, v a force, m a mass, r a distance; j is a job and s a state. k counts steps and t frames;
+-- `number` is a type's. Atoms, types and frames are numbered from 0.
 --
--- Declared with the code: a Direction is Forward or Back; a Frac is F24, F32 or F40, and `bits_of` gives the 24, 32 or
--- 40; a RingBox has the sides x, y and z; a Place3 has a place x, y and z, one on each axis; a Force has its components
--- x, y and z. `pos n` is the whole number n, and `negsuc n` is -(n + 1).
+-- Declared with the code: a Direction is Forward or Back; a Frac is F24, F32 or F40, and `bits_of` gives its 24, 32 or
+-- 40; a RingBox has three sides, x, y and z, a Place3 a place on each axis, and a Force its component on each. `pos n`
+-- is the whole number n, `negsuc n` is -(n + 1), and `suc n` is n + 1.
 --
 -- "No text". Where the texts are no job's or no state's, where they don't fit each other, where the slope of a pair on
 -- the way has no value, or where the counter would leave 64 bits, the page relates no text to them. Where two things

@@ -37,22 +37,43 @@ box 200000 200000 200000
     1AR      AR 2147518008 0 0 2147586723 0 0
 ";
 
-/// Forty-eight atoms at rest in a box of 2 nm: three layers 0.6 nm apart, each of four rows of four, 0.5 nm apart.
-pub(crate) fn layers(alloc: Global) -> Result<Vec<u8>, AllocError> {
-    let quarters = [0u32, 1073741824, 2147483648, 3221225472];
-    let mut text = Vec::new(alloc);
-    text.extend_from_slice(
-        b"pairmd state 1\ntitle layers\nstep 0\natoms 48\nbox 200000 200000 200000\n",
+/// Atoms at rest in a cube of so many 10^-5 nm, in layers of four rows of four.
+fn lattice(
+    alloc: Global,
+    side: u32,
+    rows: [u32; 4],
+    layers: &[u32],
+) -> Result<Vec<u8>, AllocError> {
+    let head = format!(in alloc;
+        "pairmd state 1\ntitle layers\nstep 0\natoms {}\n",
+        layers.len().saturating_mul(16)
     )?;
-    for z in [0u32, 1288490189, 2576980378] {
-        for y in quarters {
-            for x in quarters {
+    let sides = format!(in alloc; "box {side} {side} {side}\n")?;
+    let mut text = Vec::new(alloc);
+    text.extend_from_slice(head.as_bytes())?;
+    text.extend_from_slice(sides.as_bytes())?;
+    for z in layers {
+        for y in rows {
+            for x in rows {
                 let line = format!(in alloc; "    1AR      AR {x} {y} {z} {x} {y} {z}\n")?;
                 text.extend_from_slice(line.as_bytes())?;
             }
         }
     }
     Ok(text)
+}
+
+/// Forty-eight atoms at rest in a box of 2 nm: three layers 0.6 nm apart, each of four rows of four, 0.5 nm apart.
+pub(crate) fn layers(alloc: Global) -> Result<Vec<u8>, AllocError> {
+    let rows = [0, 1073741824, 2147483648, 3221225472];
+    lattice(alloc, 200000, rows, &[0, 1288490189, 2576980378])
+}
+
+/// Sixty-four atoms at rest in a box of 3.6 nm, along each side at 0.7, 1.1, 2.5 and 2.9 nm: one in each cell of 0.9 nm,
+/// and eight near one another.
+pub(crate) fn clusters(alloc: Global) -> Result<Vec<u8>, AllocError> {
+    let rows = [835132529, 1312351117, 2982616175, 3459834763];
+    lattice(alloc, 360000, rows, &rows)
 }
 
 /// The engine of the job and this state, with memory from this allocator.

@@ -1,6 +1,6 @@
-//! A gate in which two workers meet, on the way forward and on the way back.
+//! A gate in which all workers meet, on the way forward and on the way back.
 
-use crate::fixtures::{engine_over, layers, text_of};
+use crate::fixtures::{clusters, engine_over, text_of};
 use engine::Engine;
 use integrator::{Direction, Workers};
 use std::alloc::Global;
@@ -9,27 +9,46 @@ use std::test::*;
 use std::thread::Threads;
 use tile_pool::Gate;
 
-/// How often a worker that is held looks for another one.
+/// How often a worker that is held looks for the others.
 const TURNS: u64 = 100_000_000;
 
-/// Holds the first tile that enters until another worker has entered one, and counts the tiles, and those that were
-/// held for too many turns.
+/// Holds each worker at its first tile until all have entered one, and counts the tiles, and those that were held for
+/// too many turns, after which no other is held.
 #[derive(Drop)]
 struct Meeting {
+    all: u64,
     entered: AtomicU64,
     tiles: AtomicU64,
     late: AtomicU64,
+}
+
+impl Meeting {
+    /// The gate of so many workers.
+    fn of(workers: Workers) -> Meeting {
+        let count = workers.count();
+        Meeting {
+            all: if count < 64 {
+                (1 << count) - 1
+            } else {
+                u64::MAX
+            },
+            entered: AtomicU64::new(0),
+            tiles: AtomicU64::new(0),
+            late: AtomicU64::new(0),
+        }
+    }
 }
 
 impl Gate for Meeting {
     fn before_tile(&self, worker: u32, _tile: u64) {
         self.tiles.fetch_add(1, Ordering::SeqCst);
         let own = if worker < 64 { 1 << worker } else { 0 };
-        if self.entered.fetch_or(own, Ordering::SeqCst) != 0 {
+        self.entered.fetch_or(own, Ordering::SeqCst);
+        if self.late.load(Ordering::SeqCst) > 0 {
             return;
         }
         for _ in 0..TURNS {
-            if self.entered.load(Ordering::SeqCst) != own {
+            if self.entered.load(Ordering::SeqCst) == self.all {
                 return;
             }
         }
@@ -37,25 +56,22 @@ impl Gate for Meeting {
     }
 }
 
-/// How many tiles a step takes two workers, who meet in them, where the state is that of a step on one thread.
-fn tiles_of_two<R: Threads + Sync + AllocGlobal>(
+/// How many tiles two steps take so many workers, who meet in them, where the state is that of two steps on one thread.
+fn tiles_of_all<R: Threads + Sync + AllocGlobal>(
     rt: &R,
     direction: Direction,
+    workers: Workers,
     alone: &mut Engine<Global>,
     together: &mut Engine<Global>,
 ) -> Option<u64> {
-    let gate = Meeting {
-        entered: AtomicU64::new(0),
-        tiles: AtomicU64::new(0),
-        late: AtomicU64::new(0),
-    };
+    let gate = Meeting::of(workers);
     let went = match direction {
         Direction::Forward => {
-            alone.forward_alone(1).is_ok()
-                && together.forward(rt, 1, Workers::new(2), &gate).is_ok()
+            alone.forward_alone(2).is_ok() && together.forward(rt, 2, workers, &gate).is_ok()
         }
-        Direction::Back => alone.back_alone(1).is_ok()
-            && together.back(rt, 1, Workers::new(2), &gate).is_ok(),
+        Direction::Back => {
+            alone.back_alone(2).is_ok() && together.back(rt, 2, workers, &gate).is_ok()
+        }
     };
     let same = text_of(rt.alloc(), alone) == text_of(rt.alloc(), together);
     if went && same && gate.late.load(Ordering::SeqCst) == 0 {
@@ -65,23 +81,33 @@ fn tiles_of_two<R: Threads + Sync + AllocGlobal>(
     }
 }
 
-/// How many tiles a step of the engine of a state takes two workers, who meet in them.
+/// How many tiles two steps of the engine of a state take so many workers, who meet in them.
 fn tiles_of<R: Threads + Sync + AllocGlobal>(
     rt: &R,
     direction: Direction,
+    workers: Workers,
     state: &[u8],
 ) -> Option<u64> {
     let mut alone = engine_over(rt.alloc(), state)?;
     let mut together = engine_over(rt.alloc(), state)?;
-    tiles_of_two(rt, direction, &mut alone, &mut together)
+    tiles_of_all(rt, direction, workers, &mut alone, &mut together)
 }
 
-// A box of 2 nm has two cells of 1 nm along each side: 8 cells, each the neighbour of each, so 36 tiles.
+// A box of 3.6 nm has four cells of 0.9 nm along each side, 64 in all. Each is the neighbour of 26 others, so there are
+// 64 + 64 * 26 / 2 tiles, of which a step takes each. An atom stands in each cell, so 832 tiles have pairs, and 64
+// workers find something to do.
 #[test]
-fn two_workers_in_tiles_at_once(rt: HostRuntime) -> Result<(), Fail> {
-    let start = layers(rt.alloc())?;
-    let forward = tiles_of(&rt, Direction::Forward, &start);
-    let back = tiles_of(&rt, Direction::Back, &start);
-    assert_eq!(rt; (forward, back), (Some(36), Some(36)));
+fn all_workers_in_tiles_at_once(rt: HostRuntime) -> Result<(), Fail> {
+    let start = clusters(rt.alloc())?;
+    for count in [1, 2, 5, 64] {
+        let workers = Workers::new(count);
+        let forward = tiles_of(&rt, Direction::Forward, workers, &start);
+        let back = tiles_of(&rt, Direction::Back, workers, &start);
+        assert_eq!(rt;
+            (forward, back),
+            (Some(2 * 896), Some(2 * 896)),
+            "{count} workers"
+        );
+    }
     Ok(())
 }

@@ -11,7 +11,9 @@ use Rattle.fixed.specs.declared.frac.Frac.{Frac}
 use Rattle.job.specs.Bits.{frac_in}
 use Rattle.job.specs.Faults.{Refusal, Said, TypeLine, bad_line, first_fault, line_fault, missing, or_else, out_of_range, summary}
 use Rattle.job.specs.JobFaults.{IsCause, IsThere, LacksPart, no_energy, no_core, no_cutoff, no_time_step, short_cutoff, other_values}
-use Rattle.job.specs.JobText.{header, job_from, lines_reading, needed, needed_numbers, reading_at, reading_of, unless, whole_types}
+use Rattle.job.specs.JobLines.{header}
+use Rattle.job.specs.JobReading.{job_from, lines_reading, needed, needed_numbers, reading_at, unless, whole_types}
+use Rattle.job.specs.JobText.{reading_of}
 use Rattle.job.specs.Values.{Counts, JobValue, TypeValue}
 use Rattle.job.specs.Words.{lines_of}
 use Rattle.job.specs.declared.faults.Key.{Key}

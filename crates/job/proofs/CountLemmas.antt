@@ -2,7 +2,7 @@
 use Rattle.std.proofs.Common.{◌≡◌, ℕ, zero, suc, ◌<◌, List, [], ◌∷◌, length, map, get_or, Ok, Err, refl, subst, arith, eq-eqb, ne_eqb}
 use Rattle.std.specs.List.{AllWithin}
 use Rattle.job.specs.Faults.{bad_line, TypeLine}
-use Rattle.job.specs.JobText.{whole_types}
+use Rattle.job.specs.JobReading.{whole_types}
 
 -- the first type with another number of values is the fault, with its line
 pub wrong_at : {X : Type 0} (view : X → TypeLine) (k : ℕ) (xs : List X) (i : ℕ) (x : X) → AllWithin (λ t. length (view t).value.values ≡ k) xs 0 i → i < length xs → x ≡ get_or xs i x

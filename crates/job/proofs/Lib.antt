@@ -1,4 +1,5 @@
 pub mod NumberLemmas
+pub mod NumberTexts
 pub mod FormLemmas
 pub mod PartLemmas
 pub mod DraftLemmas
@@ -10,4 +11,6 @@ pub mod BitsLemmas
 pub mod TextLemmas
 pub mod OnceLemmas
 pub mod ApartLemmas
+pub mod EntryLemmas
+pub mod SayLemmas
 pub mod CauseLemmas

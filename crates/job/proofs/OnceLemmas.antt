@@ -9,7 +9,7 @@ use Rattle.job.specs.Views.{job_value}
 use Rattle.job.specs.Values.{Counts, JobValue}
 use Rattle.job.specs.Statements.{Statement, energy_is, core_is, cutoff_is, time_step_is, slices_is, bits_is, entry_of}
 use Rattle.job.specs.Faults.{first, once, entry_fault, line_fault, summary, energy_in, core_in, cutoff_in, time_step_in, slices_in, bits_in}
-use Rattle.job.specs.JobText.{IsFaultless, IsJobText, below_first, HasKeysOnce, Tells}
+use Rattle.job.specs.JobReading.{IsFaultless, IsReadAs, below_first, HasKeysOnce, Tells}
 use Rattle.job.proofs.FaultLemmas.{and_one, said_more}
 
 abbrev said : {X : Type 0} → Frac → (Statement → Option X) → List (List ℕ) → List X
@@ -108,7 +108,7 @@ keys_once most frac lines job h t =
     }
 
 -- so have the lines of the text that a call read as a job
-pub given_once : {A E : Type 0} (most : Counts) (text : List ℕ) (result : Result (Job A) E) → IfOk result (λ job. IsJobText most text (job_value job))
+pub given_once : {A E : Type 0} (most : Counts) (text : List ℕ) (result : Result (Job A) E) → IfOk result (λ job. IsReadAs most text (job_value job))
     → IfOk result (λ job. HasKeysOnce job.frac (below_first (lines_of text)))
 given_once most text (Err e) h = tt
 given_once most text (Ok job) h = subst (HasKeysOnce job.frac) (sym (ap below_first h.first_line)) (keys_once most job.frac h.lines (job_value job) h.faultless h.tells)

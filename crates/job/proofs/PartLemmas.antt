@@ -5,7 +5,7 @@ use Rattle.job.specs.declared.faults.Key.TheVariants as keys
 use Rattle.line_text.specs.Steps.{◌>>=◌}
 use Rattle.job.specs.Values.{TypeValue}
 use Rattle.job.specs.Faults.{Refusal, Said, missing, out_of_range}
-use Rattle.job.specs.JobText.{needed_numbers, whole_types, job_from}
+use Rattle.job.specs.JobReading.{needed_numbers, whole_types, job_from}
 use Rattle.job.specs.Views.{text_said}
 
 -- ---- the energy

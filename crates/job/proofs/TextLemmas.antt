@@ -17,7 +17,9 @@ use Rattle.job.specs.Bits.{frac_in}
 use Rattle.line_text.specs.Steps.{◌>>=◌}
 use Rattle.line_text.proofs.ResidueNumbers.{T_true, true_T}
 use Rattle.line_text.proofs.StepLaws.{bind_ok}
-use Rattle.job.specs.JobText.{header, IsFaultless, IsJobText, Tells, needed, needed_numbers, whole_types, job_from, unless, reading_at, lines_reading, reading_of, ReadsJobTexts}
+use Rattle.job.specs.JobLines.{header}
+use Rattle.job.specs.JobReading.{IsFaultless, IsReadAs, Tells, needed, needed_numbers, whole_types, job_from, unless, reading_at, lines_reading}
+use Rattle.job.specs.JobText.{IsJobText, reading_of, ReadsJobTexts}
 use Rattle.job.specs.Values.{TypeValue, JobValue, Counts}
 use Rattle.job.specs.declared.jobs.Job.{Job}
 use Rattle.job.specs.declared.faults.JobFault.{JobFault}
@@ -25,6 +27,7 @@ use Rattle.job.specs.Views.{job_value, refusal_of}
 use Rattle.job.specs.Drafts.{nothing, lines_into, lines_job}
 use Rattle.job.proofs.FaultLemmas.{outcome, lines_below}
 use Rattle.job.proofs.BitsLemmas.{frac_said}
+use Rattle.job.proofs.SayLemmas.{text_of_read, read_of_text}
 use Rattle.job.proofs.PartLemmas.{numbers_ok}
 
 -- ---- the reader, line by line
@@ -168,7 +171,7 @@ again_below frac lines job f t = tells_again (summary frac lines) job f t
 frac_told : (frac : Frac) (lines : List (List ℕ)) (job : JobValue) → Tells (summary frac lines) job → frac_in lines ≡ job.frac
 frac_told frac lines job t = sym (frac_said frac lines) ∙ t.frac
 
-lines_ok : (most : Counts) (text : List ℕ) (job : JobValue) (all : List (List ℕ)) → lines_of text ≡ all → lines_reading most all ≡ Ok job → IsJobText most text job
+lines_ok : (most : Counts) (text : List ℕ) (job : JobValue) (all : List (List ℕ)) → lines_of text ≡ all → lines_reading most all ≡ Ok job → IsReadAs most text job
 lines_ok most text job [] e h = absurd cc
 lines_ok most text job (line ∷ lines) e h =
     let p = same_header line most lines job h in
@@ -181,17 +184,23 @@ lines_ok most text job (line ∷ lines) e h =
       tells = subst (λ (frac : Frac). Tells (summary frac lines) job) told t;
     }
 
+read_ok : (most : Counts) (text : List ℕ) (job : JobValue) → reading_of most text ≡ Ok job → IsReadAs most text job
+unfolding reading_of
+read_ok most text job e = lines_ok most text job (lines_of text) refl e
+
+read_again : (most : Counts) (text : List ℕ) (job : JobValue) → IsReadAs most text job → reading_of most text ≡ Ok job
+unfolding reading_of
+read_again most text job r =
+    ap (lines_reading most) r.first_line ∙ ap (λ (frac : Frac). reading_at most frac r.lines) (frac_told job.frac r.lines job r.tells)
+    ∙ ap (λ fault. unless fault (job_from (summary job.frac r.lines))) (faultless_again most job.frac [] r.lines r.faultless) ∙ again_below job.frac r.lines job refl r.tells
+
 -- a text that is read as a job is that job's
 pub reading_ok : (most : Counts) (text : List ℕ) (job : JobValue) → reading_of most text ≡ Ok job → IsJobText most text job
-unfolding reading_of
-reading_ok most text job e = lines_ok most text job (lines_of text) refl e
+reading_ok most text job e = text_of_read most text job (read_ok most text job e)
 
 -- a job's text is read as that job
 pub reading_again : (most : Counts) (text : List ℕ) (job : JobValue) → IsJobText most text job → reading_of most text ≡ Ok job
-unfolding reading_of
-reading_again most text job r =
-    ap (lines_reading most) r.first_line ∙ ap (λ (frac : Frac). reading_at most frac r.lines) (frac_told job.frac r.lines job r.tells)
-    ∙ ap (λ fault. unless fault (job_from (summary job.frac r.lines))) (faultless_again most job.frac [] r.lines r.faultless) ∙ again_below job.frac r.lines job refl r.tells
+reading_again most text job r = read_again most text job (read_of_text most text job r)
 
 -- a text is read as a job exactly where it is that job's
 pub reads_texts : ReadsJobTexts
@@ -218,6 +227,12 @@ pub given_job : {A : Type 0} (most : Counts) (text : List ℕ) (result : Result 
     → IfOk result (λ job. IsJobText most text (job_value job))
 given_job most text (Ok job) h = reading_ok most text (job_value job) h
 given_job most text (Err e) h = tt
+
+-- its lines have no fault, and say that job
+pub given_read : {A : Type 0} (most : Counts) (text : List ℕ) (result : Result (Job A) (Failure (JobFault A))) → Gives job_value refusal_of result (reading_of most text)
+    → IfOk result (λ job. IsReadAs most text (job_value job))
+given_read most text (Ok job) h = read_ok most text (job_value job) h
+given_read most text (Err e) h = tt
 
 -- a call that was given a job's text gives that job, or is out of memory
 pub given_only : {A : Type 0} (most : Counts) (text : List ℕ) (result : Result (Job A) (Failure (JobFault A))) → Gives job_value refusal_of result (reading_of most text)

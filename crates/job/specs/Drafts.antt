@@ -13,7 +13,8 @@ use Rattle.job.specs.Values.{JobValue, Counts}
 use Rattle.job.specs.Faults.{Refusal, bad_line, repeated, repeated_name, out_of_range, repeated_type, Said, knows}
 use Rattle.line_text.specs.Steps.{◌>>=◌}
 use Rattle.job.specs.Bits.{frac_in}
-use Rattle.job.specs.JobText.{header, job_from}
+use Rattle.job.specs.JobLines.{header}
+use Rattle.job.specs.JobReading.{job_from}
 
 -- the number of a key that one line may have
 abbrev pub number_of : {X : Type 0} → ℕ → Key → Option X → Reading X → Result X Refusal

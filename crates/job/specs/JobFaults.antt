@@ -2,7 +2,8 @@
 use Rattle.std.specs.Prelude.{◌≡◌, ◌≢◌, ◌⊎◌, ℕ, ℤ, List, ◌∷◌, ◌++◌, length, Option, Some, None, ◌<ℤ◌, All}
 use Rattle.job.specs.Bits.{frac_in}
 use Rattle.job.specs.Faults.{Refusal, Said, TypeLine, bad_line, line_fault, missing, out_of_range, summary}
-use Rattle.job.specs.JobText.{IsFaultless, header}
+use Rattle.job.specs.JobLines.{header}
+use Rattle.job.specs.JobReading.{IsFaultless}
 use Rattle.job.specs.Values.{Counts}
 use Rattle.job.specs.Words.{lines_of}
 use Rattle.job.specs.declared.faults.Key.TheVariants as keys

@@ -5,6 +5,8 @@ pub mod Values
 pub mod Statements
 pub mod Faults
 pub mod Bits
+pub mod JobLines
+pub mod JobReading
 pub mod JobText
 pub mod Drafts
 pub mod Views

@@ -7,7 +7,9 @@ ghost use Rattle.std.specs.List.{All};
 ghost use Rattle.std.specs.Option.{unwrap_or};
 ghost use Rattle.job.specs.Words.{lines_of, more_lines};
 ghost use Rattle.job.specs.Drafts.{lines_into, lines_job};
-ghost use Rattle.job.specs.JobText.{header, needed_numbers, whole_types, job_from, limits};
+ghost use Rattle.job.specs.JobLines.{header};
+ghost use Rattle.job.specs.JobReading.{needed_numbers, whole_types, job_from};
+ghost use Rattle.job.specs.JobText.{limits};
 ghost use Rattle.job.specs.Views.{said_of, type_line, job_said, job_value, numbers_seen, refusal_of};
 
 use crate::bits::frac_in;
@@ -56,7 +58,7 @@ pub struct Numbers {
 }
 
 /// These numbers, where each is there and the cutoff is more than the core.
-#[tactic(auto, unfolding(crate::specs::JobText::needed_numbers))]
+#[tactic(auto, unfolding(crate::specs::JobReading::needed_numbers))]
 fn needed_numbers<A: Allocator>(
     core: Option<Fx>,
     cutoff: Option<Fx>,
@@ -193,7 +195,8 @@ fn read_lines<A: Allocator + Copy>(alloc: A, bytes: &[u8]) -> Result<Job<A>, Fai
 }
 
 impl<A: Allocator + Copy> Job<A> {
-    ghost use Rattle.job.specs.JobText.{IsJobText, HasKeysOnce, HasNamesOnce, below_first, reading_of};
+    ghost use Rattle.job.specs.JobReading.{HasKeysOnce, below_first};
+    ghost use Rattle.job.specs.JobText.{IsJobText, HasNamesOnce, reading_of};
     ghost use Rattle.job.specs.Values.{JobValue};
     ghost use Rattle.std.specs.Prelude.{IfErr, IfOk};
     ghost use Rattle.fallible.specs.Failures.{Gives, IfRefused, IsOrMemory};

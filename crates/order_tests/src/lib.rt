@@ -14,4 +14,6 @@ mod rounds;
 #[cfg(test)]
 mod rowed;
 #[cfg(test)]
+mod signed;
+#[cfg(test)]
 mod watched;

@@ -5,6 +5,7 @@ ghost use Rattle.std.specs.Prelude.{◌≡◌, ◌<◌, ◌≤◌, IfOk};
 use crate::listed::{Listed, TWO_TILES, add, one_a_tile, two_tiles};
 use crate::noted::{Gated, Noting};
 use crate::rowed::Rowed;
+use crate::signed::{Signed, Signing};
 use crate::watched::Watched;
 use linked_list_allocator::LocalHeap;
 use std::alloc::{AllocError, Global};
@@ -33,7 +34,7 @@ fn come_to<R: Threads + Sync + AllocGlobal, W: RowWork<()> + Sync>(
     requires atoms { W.atoms work.now ≤ atoms }
     requires some { 0 < workers }
 {
-    if work.tiles() > 6 || workers > 64 {
+    if work.tiles() > 64 || workers > 64 {
         return false;
     }
     let mut scratches = [(); 64];
@@ -148,9 +149,11 @@ fn meet<R: Threads + Sync + AllocGlobal>(rt: &R, workers: u32) -> Result<bool, A
 
 #[test]
 fn workers_are_in_pairs_at_once(rt: HostRuntime) -> Result<(), Fail> {
-    let two = meet(&rt, 2)?;
-    let four = meet(&rt, 4)?;
-    assert!(rt; two && four);
+    let mut met = true;
+    for workers in [2, 4, 5, 63] {
+        met = met && meet(&rt, workers)?;
+    }
+    assert!(rt; met);
     Ok(())
 }
 
@@ -175,6 +178,25 @@ fn passes_the_gate_before_each_tile(rt: HostRuntime) -> Result<(), Fail> {
         passed = passed && pass(&rt, workers)?;
     }
     assert!(rt; passed);
+    Ok(())
+}
+
+// Each worker takes the scratch that is numbered as it is: 0 on the caller's thread, and then in order.
+#[test]
+fn tells_the_gate_who_draws(rt: HostRuntime) -> Result<(), Fail> {
+    let gate = Signing::new();
+    let work = Signed::new(pushes(rt.alloc(), 8, 1)?, &gate);
+    if work.tiles() != 8 {
+        return Err("other tiles".into());
+    }
+    let mut scratches = [0u32, 1, 2, 3, 4, 5, 6, 7];
+    let summed = forces(&rt, rt.alloc(), &work, &mut scratches, 2, &gate).is_ok();
+    let late = gate.late.load(Ordering::SeqCst);
+    let foreign = work.foreign.load(Ordering::SeqCst);
+    assert!(rt;
+        summed && late == 0 && foreign == 0,
+        "{late} late, {foreign} foreign"
+    );
     Ok(())
 }
 

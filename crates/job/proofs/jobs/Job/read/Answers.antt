@@ -6,7 +6,7 @@ use Rattle.job.specs.declared.faults.JobFault.{JobFault}
 use Rattle.job.proofs.ApartLemmas.{given_apart}
 use Rattle.job.proofs.CauseLemmas.{faults_have_causes}
 use Rattle.job.proofs.OnceLemmas.{given_once}
-use Rattle.job.proofs.TextLemmas.{given, given_job, given_only}
+use Rattle.job.proofs.TextLemmas.{given, given_job, given_only, given_read}
 use Rattle.job.proofs.jobs.Job.read.Goals as goal
 
 pub returns-clause-exact : goal.returns-clause-exact
@@ -20,7 +20,7 @@ returns-clause-only g c = given_only limits c.args.bytes.now c.read_lines.result
 
 pub returns-clause-once : goal.returns-clause-once
 returns-clause-once g c =
-    given_once limits c.args.bytes.now c.read_lines.result (given_job limits c.args.bytes.now c.read_lines.result (given limits c.args.bytes.now c.read_lines.result c.read_lines.ensures))
+    given_once limits c.args.bytes.now c.read_lines.result (given_read limits c.args.bytes.now c.read_lines.result (given limits c.args.bytes.now c.read_lines.result c.read_lines.ensures))
 
 pub returns-clause-apart : goal.returns-clause-apart
 returns-clause-apart g c =

@@ -1,0 +1,198 @@
+-- What is made of fractions is the same for whichever of their writings.
+use Rattle.std.proofs.Common.{◌≡◌, ℕ, suc, ◌+◌, ◌-◌, ◌*◌, ◌/◌, ◌<◌, ◌≤◌, Bool, true, false, arith, refl, sym, ap, subst, ◌∙◌}
+use Rattle.std.proofs.lemmas.Bool.{eq-eqb, eqb-false, eqb-true, lt-ltb, ltb-false, ltb-true}
+use Rattle.std.proofs.lemmas.Nat.{div_below, le-div}
+use Rattle.exact_fractions.specs.Written.{Written, IsSame, both_below, sum_of, negative_of, product_of, is_nothing, is_below_nothing, reciprocal_of, floor_of}
+
+pub same_sum_left : (a b c : Written) → IsSame a b → IsSame (sum_of a c) (sum_of b c)
+same_sum_left a b c e = cross a.plus a.minus a.below b.plus b.minus b.below c.plus c.minus c.below e
+  where
+    cross : (p m d q n f r l g : ℕ) → p * suc f + n * suc d ≡ q * suc d + m * suc f
+        → (p * suc g + r * suc d) * suc (f * g + f + g) + (n * suc g + l * suc f) * suc (d * g + d + g)
+        ≡ (q * suc g + r * suc f) * suc (d * g + d + g) + (m * suc g + l * suc d) * suc (f * g + f + g)
+    cross p m d q n f r l g e =
+        let k : ℕ = suc g * suc g in
+        let left : (p * suc g + r * suc d) * suc (f * g + f + g) + (n * suc g + l * suc f) * suc (d * g + d + g) ≡ k * (p * suc f + n * suc d) + suc g * (r * suc d * suc f + l * suc f * suc d) = omega arith in
+        let right : (q * suc g + r * suc f) * suc (d * g + d + g) + (m * suc g + l * suc d) * suc (f * g + f + g) ≡ k * (q * suc d + m * suc f) + suc g * (r * suc d * suc f + l * suc f * suc d) = omega arith in
+        left ∙ ap (λ s. k * s + suc g * (r * suc d * suc f + l * suc f * suc d)) e ∙ sym right
+
+pub same_negative : (a b : Written) → IsSame a b → IsSame (negative_of a) (negative_of b)
+same_negative a b e = omega (arith, e)
+
+pub same_product_left : (a b c : Written) → IsSame a b → IsSame (product_of a c) (product_of b c)
+same_product_left a b c e = cross a.plus a.minus a.below b.plus b.minus b.below c.plus c.minus c.below e
+  where
+    cross : (p m d q n f r l g : ℕ) → p * suc f + n * suc d ≡ q * suc d + m * suc f
+        → (p * r + m * l) * suc (f * g + f + g) + (q * l + n * r) * suc (d * g + d + g)
+        ≡ (q * r + n * l) * suc (d * g + d + g) + (p * l + m * r) * suc (f * g + f + g)
+    cross p m d q n f r l g e =
+        let left : (p * r + m * l) * suc (f * g + f + g) + (q * l + n * r) * suc (d * g + d + g) ≡ r * suc g * (p * suc f + n * suc d) + l * suc g * (q * suc d + m * suc f) = omega arith in
+        let right : (q * r + n * l) * suc (d * g + d + g) + (p * l + m * r) * suc (f * g + f + g) ≡ r * suc g * (q * suc d + m * suc f) + l * suc g * (p * suc f + n * suc d) = omega arith in
+        left ∙ ap (λ s. r * suc g * s + l * suc g * (q * suc d + m * suc f)) e ∙ ap (λ s. r * suc g * (q * suc d + m * suc f) + l * suc g * s) (sym e) ∙ sym right
+
+-- factors keep the order, and leave it
+pub times_most : (x y c : ℕ) → x ≤ y → x * suc c ≤ y * suc c
+times_most x y c h =
+    let k : ℕ = y - x in
+    let there : y ≡ x + k = omega (arith, h) in
+    let sums : y * suc c ≡ (x + k) * suc c = ap (λ s. s * suc c) there in
+    omega (arith, sums)
+
+pub most_without : (x y c : ℕ) → x * suc c ≤ y * suc c → x ≤ y
+most_without x y c h = grind (arith, h)
+
+-- two tests are alike where each says yes only where the other does
+pub alike : (x y : Bool) → (x ≡ true → y ≡ true) → (y ≡ true → x ≡ true) → x ≡ y
+alike true true f g = refl
+alike true false f g = sym (f refl)
+alike false true f g = g refl
+alike false false f g = refl
+
+-- of two products with one factor that isn't 0
+factor : (q n d : ℕ) → n * suc d ≡ q * suc d → q ≡ n
+factor q n d e = grind (arith, e)
+
+crossed : (p m d q n f : ℕ) → p * suc f + n * suc d ≡ q * suc d + m * suc f → p ≡ m → q ≡ n
+crossed p m d q n f e is =
+    let there : m * suc f + n * suc d ≡ q * suc d + m * suc f = ap (λ s. s * suc f + n * suc d) (sym is) ∙ e in
+    factor q n d (omega (arith, there))
+
+less : (p m d q n f : ℕ) → p * suc f + n * suc d ≡ q * suc d + m * suc f → p < m → q < n
+less p m d q n f e is =
+    let more : ℕ = m - p - 1 in
+    let there : m ≡ p + suc more = omega (arith, is) in
+    let sums : p * suc f + n * suc d ≡ q * suc d + (p + suc more) * suc f = e ∙ ap (λ s. q * suc d + s * suc f) there in
+    let bigger : q * suc d < n * suc d = omega (arith, sums) in
+    grind (arith, bigger)
+
+pub same_nothing : (a b : Written) → IsSame a b → is_nothing a ≡ is_nothing b
+same_nothing a b e =
+    alike (is_nothing a) (is_nothing b)
+    (λ t. eq-eqb b.plus b.minus (crossed a.plus a.minus a.below b.plus b.minus b.below e (eqb-true a.plus a.minus t)))
+    (λ t. eq-eqb a.plus a.minus (crossed b.plus b.minus b.below a.plus a.minus a.below (sym e) (eqb-true b.plus b.minus t)))
+
+pub same_below_nothing : (a b : Written) → IsSame a b → is_below_nothing a ≡ is_below_nothing b
+same_below_nothing a b e =
+    alike (is_below_nothing a) (is_below_nothing b)
+    (λ t. lt-ltb b.plus b.minus (less a.plus a.minus a.below b.plus b.minus b.below e (ltb-true a.plus a.minus t)))
+    (λ t. lt-ltb a.plus a.minus (less b.plus b.minus b.below a.plus a.minus a.below (sym e) (ltb-true b.plus b.minus t)))
+
+-- the difference of the two numbers above, crosswise
+apart : (p m d q n f : ℕ) → p * suc f + n * suc d ≡ q * suc d + m * suc f → m ≤ p → (p - m) * suc f ≡ (q - n) * suc d
+apart p m d q n f e some =
+    let i : ℕ = p - m in
+    let there : p ≡ m + i = omega (arith, some) in
+    let sums : (m + i) * suc f + n * suc d ≡ q * suc d + m * suc f = ap (λ s. s * suc f + n * suc d) (sym there) ∙ e in
+    let more : i * suc f + n * suc d ≡ q * suc d = omega (arith, sums) in
+    let least : n * suc d ≤ q * suc d = omega (arith, more) in
+    let above : n ≤ q = grind (arith, least) in
+    let j : ℕ = q - n in
+    let also : q ≡ n + j = omega (arith, above) in
+    let ends : i * suc f + n * suc d ≡ (n + j) * suc d = more ∙ ap (λ s. s * suc d) also in
+    omega (arith, ends)
+
+-- quotients of numbers that are the same crosswise
+same_quotient : (i j d f : ℕ) → i * suc f ≡ j * suc d → i / suc d ≡ j / suc f
+same_quotient i j d f e = omega (arith, least i j d f e, least j i f d (sym e))
+  where
+    least : (i j d f : ℕ) → i * suc f ≡ j * suc d → i / suc d ≤ j / suc f
+    least i j d f e =
+        let k : ℕ = i / suc d in
+        let whole : k * suc d ≤ i = omega arith in
+        let wide : k * suc d * suc f ≤ i * suc f = times_most (k * suc d) i f whole in
+        let all : k * suc f * suc d ≤ j * suc d = omega (arith, wide, e) in
+        let cut : k * suc f ≤ j = most_without (k * suc f) j d all in
+        le-div k j (suc f) (omega arith) cut
+
+-- the same of quotients that are rounded up
+same_ceiling : (i j d f : ℕ) → i * suc f ≡ j * suc d → (i + d) / suc d ≡ (j + f) / suc f
+same_ceiling i j d f e = omega (arith, least i j d f e, least j i f d (sym e))
+  where
+    least : (i j d f : ℕ) → i * suc f ≡ j * suc d → (i + d) / suc d ≤ (j + f) / suc f
+    least i j d f e = below_all ((j + f) / suc f) (omega arith)
+      where
+        below_all : (k : ℕ) → j ≤ k * suc f → (i + d) / suc d ≤ k
+        below_all k covers =
+            let wide : j * suc d ≤ k * suc f * suc d = times_most j (k * suc f) d covers in
+            let all : i * suc f ≤ k * suc d * suc f = omega (arith, wide, e) in
+            let cut : i ≤ k * suc d = most_without i (k * suc d) f all in
+            let below : (i + d) / suc d < suc k = div_below (i + d) (suc d) (suc k) (omega arith) (omega (arith, cut)) in
+            omega (arith, below)
+
+-- ---- by cases
+
+pub same_floor : (a b : Written) → IsSame a b → floor_of a ≡ floor_of b
+same_floor a b e = by_sign (is_below_nothing a) (is_below_nothing b) refl refl (same_below_nothing a b e)
+  where
+    by_sign : (x y : Bool) → is_below_nothing a ≡ x → is_below_nothing b ≡ y → is_below_nothing a ≡ is_below_nothing b → floor_of a ≡ floor_of b
+    by_sign true true ax bx alike =
+        let i : ℕ = a.minus - a.plus in
+        let j : ℕ = b.minus - b.plus in
+        let turned : i * suc b.below ≡ j * suc a.below = apart a.minus a.plus a.below b.minus b.plus b.below (omega (arith, e)) (omega (arith, ltb-true a.plus a.minus ax)) in
+        let same : (i + a.below) / suc a.below ≡ (j + b.below) / suc b.below = same_ceiling i j a.below b.below turned in
+        rw (ax, bx, same) refl
+    by_sign false false ax bx alike =
+        let i : ℕ = a.plus - a.minus in
+        let j : ℕ = b.plus - b.minus in
+        let there : i * suc b.below ≡ j * suc a.below = apart a.plus a.minus a.below b.plus b.minus b.below e (ltb-false a.plus a.minus ax) in
+        let same : i / suc a.below ≡ j / suc b.below = same_quotient i j a.below b.below there in
+        rw (ax, bx, same) refl
+    by_sign true false ax bx alike = absurd (cc)
+    by_sign false true ax bx alike = absurd (cc)
+
+pub same_reciprocal : (a b : Written) → IsSame a b → IsSame (reciprocal_of a) (reciprocal_of b)
+same_reciprocal a b e = by_test (is_nothing a) (is_nothing b) (is_below_nothing a) (is_below_nothing b) refl refl refl refl (same_nothing a b e) (same_below_nothing a b e)
+  where
+    -- what stands below the reciprocal is one more than what is written
+    whole : (p m : ℕ) → m < p → suc (p - m - 1) ≡ p - m
+    whole p m h = omega (arith, h)
+
+    by_test : (n n' x y : Bool) → is_nothing a ≡ n → is_nothing b ≡ n' → is_below_nothing a ≡ x → is_below_nothing b ≡ y
+        → is_nothing a ≡ is_nothing b → is_below_nothing a ≡ is_below_nothing b → IsSame (reciprocal_of a) (reciprocal_of b)
+    by_test true true x y an bn ax bx alike also = rw (an, bn) refl
+    by_test false false true true an bn ax bx alike also =
+        let turned : (a.minus - a.plus) * suc b.below ≡ (b.minus - b.plus) * suc a.below = apart a.minus a.plus a.below b.minus b.plus b.below (omega (arith, e)) (omega (arith, ltb-true a.plus a.minus ax)) in
+        let first : suc (a.minus - a.plus - 1) ≡ a.minus - a.plus = whole a.minus a.plus (ltb-true a.plus a.minus ax) in
+        let second : suc (b.minus - b.plus - 1) ≡ b.minus - b.plus = whole b.minus b.plus (ltb-true b.plus b.minus bx) in
+        let goal : suc b.below * suc (a.minus - a.plus - 1) ≡ suc a.below * suc (b.minus - b.plus - 1) =
+        ap (λ s. suc b.below * s) first ∙ omega (arith, turned) ∙ ap (λ s. suc a.below * s) (sym second) in
+        rw (an, bn, ax, bx) (omega (arith, goal))
+    by_test false false false false an bn ax bx alike also =
+        let more : a.minus < a.plus = omega (arith, ltb-false a.plus a.minus ax, eqb-false a.plus a.minus an) in
+        let more' : b.minus < b.plus = omega (arith, ltb-false b.plus b.minus bx, eqb-false b.plus b.minus bn) in
+        let there : (a.plus - a.minus) * suc b.below ≡ (b.plus - b.minus) * suc a.below = apart a.plus a.minus a.below b.plus b.minus b.below e (omega (arith, more)) in
+        let first : suc (a.plus - a.minus - 1) ≡ a.plus - a.minus = whole a.plus a.minus more in
+        let second : suc (b.plus - b.minus - 1) ≡ b.plus - b.minus = whole b.plus b.minus more' in
+        let goal : suc a.below * suc (b.plus - b.minus - 1) ≡ suc b.below * suc (a.plus - a.minus - 1) =
+        ap (λ s. suc a.below * s) second ∙ omega (arith, there) ∙ ap (λ s. suc b.below * s) (sym first) in
+        rw (an, bn, ax, bx) (omega (arith, goal))
+    by_test true false x y an bn ax bx alike also = absurd (cc)
+    by_test false true x y an bn ax bx alike also = absurd (cc)
+    by_test false false true false an bn ax bx alike also = absurd (cc)
+    by_test false false false true an bn ax bx alike also = absurd (cc)
+
+-- ---- as the definitions of fractions take them
+
+pub same_floor_of : (a b : Written) → IsSame a b → IsSame (floor_of a) (floor_of b)
+same_floor_of a b e = rw (same_floor a b e) refl
+
+-- in the other order the sum and the product are the same numbers
+sum_turned : (a b : Written) → sum_of a b ≡ sum_of b a
+sum_turned a b =
+    let below : both_below a.below b.below ≡ both_below b.below a.below = omega arith in
+    let plus : (sum_of a b).plus ≡ (sum_of b a).plus = omega arith in
+    let minus : (sum_of a b).minus ≡ (sum_of b a).minus = omega arith in
+    λ i. record { plus = plus i; minus = minus i; below = below i }
+
+product_turned : (a b : Written) → product_of a b ≡ product_of b a
+product_turned a b =
+    let below : both_below a.below b.below ≡ both_below b.below a.below = omega arith in
+    let plus : (product_of a b).plus ≡ (product_of b a).plus = omega arith in
+    let minus : (product_of a b).minus ≡ (product_of b a).minus = omega arith in
+    λ i. record { plus = plus i; minus = minus i; below = below i }
+
+pub same_sum_right : (a b c : Written) → IsSame b c → IsSame (sum_of a b) (sum_of a c)
+same_sum_right a b c e = subst (λ s. IsSame s (sum_of a c)) (sum_turned b a) (subst (IsSame (sum_of b a)) (sum_turned c a) (same_sum_left b c a e))
+
+pub same_product_right : (a b c : Written) → IsSame b c → IsSame (product_of a b) (product_of a c)
+same_product_right a b c e = subst (λ s. IsSame s (product_of a c)) (product_turned b a) (subst (IsSame (product_of b a)) (product_turned c a) (same_product_left b c a e))

@@ -1,0 +1,136 @@
+-- What a line of a job says, told by its words: the parts of the line between spaces and tabs.
+use Rattle.std.specs.Prelude.{◌≡◌, ◌⊎◌, ◌≤◌, ◌<◌, ◌≤ℤ◌, ℕ, ℤ, pos, ◌-◌, ◌*◌, ◌^◌, true, List, [], ◌∷◌, length, Option, Some, None, codes}
+use Rattle.std.specs.List.{AllZip}
+use Rattle.fixed.specs.Arithmetic.{in_range}
+use Rattle.fixed.specs.Fractions.{bits_of}
+use Rattle.fixed.specs.Numerals.{Numeral, IsNumeral, numeral_text, mantissa_of, power_of_ten, nearest_fixed}
+use Rattle.fixed.specs.declared.frac.Frac.{Frac}
+use Rattle.line_text.specs.Identifiers.{is_identifier}
+use Rattle.line_text.specs.Words.{words, without_blanks, after_word}
+use Rattle.line_text.specs.Written.{WritesDecimal, WritesSigned, WritesWhole}
+use Rattle.job.specs.Forms.{is_type_name}
+use Rattle.job.specs.Values.{GlobalValue, TypeValue}
+
+-- the first line
+abbrev pub header : List ℕ
+header = codes "pairmd job 1"
+
+-- ---- numbers
+
+-- the whole word is a numeral, and v is the number of these fraction bits that is nearest to its value, below 2^63: so
+-- neither `1e3.2` nor `1.5e3.2` is a number
+pub record IsNumber (frac : Frac) (word : List ℕ) (v : ℤ) : Type 0 where
+  pub numeral : Numeral
+  pub well_formed : IsNumeral numeral
+  pub text : numeral_text numeral ≡ word
+  pub nearest : nearest_fixed (bits_of frac) (mantissa_of numeral) (power_of_ten numeral) ≡ v
+  pub fits : in_range v ≡ true
+
+-- a numeral, or a minus and a numeral
+abbrev pub IsSignedNumber : Frac → List ℕ → ℤ → Type 0
+IsSignedNumber frac word v = WritesSigned (λ numeral n. IsNumber frac numeral (pos n)) word v
+
+-- a mass in u, written in digits, or in digits, a point and one to five digits; m counts 10^-5 u
+pub data IsMass (word : List ℕ) (m : ℕ) : Type 0 where
+  digits_alone : (n : ℕ) → WritesWhole word n → n * 100000 ≡ m → IsMass word m
+  with_point : (places n : ℕ) → 1 ≤ places → places ≤ 5 → WritesDecimal places word n → n * 10 ^ (5 - places) ≡ m → IsMass word m
+
+-- ---- lines
+
+-- what a line says: nothing, or the value that its key has
+pub data LineValue : Type 0 where
+  says_nothing : LineValue
+  says_energy : List ℕ → LineValue
+  says_core : ℤ → LineValue
+  says_cutoff : ℤ → LineValue
+  says_time_step : ℕ → LineValue
+  says_slices : ℕ → LineValue
+  says_bits : Frac → LineValue
+  says_parameter : List ℕ → LineValue
+  says_global : GlobalValue → LineValue
+  says_type : TypeValue → LineValue
+
+-- a comment, whose very first byte is `#` (35), or a line without words: ` # x`, with a blank in front, is neither
+abbrev pub IsSilent : List ℕ → Type 0
+IsSilent line = ((rest : List ℕ) × (line ≡ 35 ∷ rest)) ⊎ (words line ≡ [])
+
+-- the key, and a text behind it from its first byte on that is no blank; blanks at its end belong to it
+pub record IsEnergyLine (line text : List ℕ) : Type 0 where
+  pub others : List (List ℕ)
+  pub key : words line ≡ codes "energy" ∷ others
+  pub text_is : without_blanks (after_word line) ≡ text
+  pub some : 0 < length text
+
+-- the key and one word, of which this is so
+abbrev pub HasOneWord : List ℕ → List ℕ → (List ℕ → Type 0) → Type 0
+HasOneWord line key Is = (word : List ℕ) × (words line ≡ key ∷ word ∷ []) × Is word
+
+-- the key, the name of a global and its value
+pub record IsGlobalLine (frac : Frac) (line : List ℕ) (g : GlobalValue) : Type 0 where
+  pub word : List ℕ
+  pub words_are : words line ≡ codes "global" ∷ g.name ∷ word ∷ []
+  pub named : is_identifier g.name ≡ true
+  pub number : IsSignedNumber frac word g.value
+
+-- the key, the name of a type, its mass, which is 0.00001 to 1000 u, and its values
+pub record IsTypeLine (frac : Frac) (line : List ℕ) (t : TypeValue) : Type 0 where
+  pub mass : List ℕ
+  pub numerals : List (List ℕ)
+  pub words_are : words line ≡ codes "type" ∷ t.name ∷ mass ∷ numerals
+  pub named : is_type_name t.name ≡ true
+  pub mass_is : IsMass mass t.mass
+  pub some_mass : 1 ≤ t.mass
+  pub most_mass : t.mass ≤ 100000000
+  pub numbers : AllZip (IsSignedNumber frac) numerals t.values
+
+-- The line says this, its numerals read at these fraction bits: a core, or a cutoff of more than 0 and at most 80 nm,
+-- without a sign; a time step of 1 to 1000 fs; 1 to 65,536 slices; 24, 32 or 40 fraction bits; a parameter's name.
+abbrev pub LineSays : Frac → List ℕ → LineValue → Type 0
+LineSays frac line says_nothing = IsSilent line
+LineSays frac line (says_energy text) = IsEnergyLine line text
+LineSays frac line (says_core v) = HasOneWord line (codes "core") (λ word. IsNumber frac word v)
+LineSays frac line (says_cutoff v) = HasOneWord line (codes "cutoff") (λ word. IsNumber frac word v × (pos 1 ≤ℤ v) × (v ≤ℤ pos (80 * 2 ^ bits_of frac)))
+LineSays frac line (says_time_step n) = HasOneWord line (codes "dt") (λ word. WritesWhole word n × (1 ≤ n) × (n ≤ 1000))
+LineSays frac line (says_slices n) = HasOneWord line (codes "slices") (λ word. WritesWhole word n × (1 ≤ n) × (n ≤ 65536))
+LineSays frac line (says_bits said) = HasOneWord line (codes "bits") (λ word. WritesWhole word (bits_of said))
+LineSays frac line (says_parameter name) = HasOneWord line (codes "parameter") (λ word. (word ≡ name) × (is_identifier name ≡ true))
+LineSays frac line (says_global g) = IsGlobalLine frac line g
+LineSays frac line (says_type t) = IsTypeLine frac line t
+
+-- ---- what lines say of one key
+
+abbrev pub said_energy : LineValue → Option (List ℕ)
+said_energy (says_energy text) = Some text
+said_energy _ = None
+
+abbrev pub said_core : LineValue → Option ℤ
+said_core (says_core v) = Some v
+said_core _ = None
+
+abbrev pub said_cutoff : LineValue → Option ℤ
+said_cutoff (says_cutoff v) = Some v
+said_cutoff _ = None
+
+abbrev pub said_time_step : LineValue → Option ℕ
+said_time_step (says_time_step n) = Some n
+said_time_step _ = None
+
+abbrev pub said_slices : LineValue → Option ℕ
+said_slices (says_slices n) = Some n
+said_slices _ = None
+
+abbrev pub said_bits : LineValue → Option Frac
+said_bits (says_bits frac) = Some frac
+said_bits _ = None
+
+abbrev pub said_parameter : LineValue → Option (List ℕ)
+said_parameter (says_parameter name) = Some name
+said_parameter _ = None
+
+abbrev pub said_global : LineValue → Option GlobalValue
+said_global (says_global g) = Some g
+said_global _ = None
+
+abbrev pub said_type : LineValue → Option TypeValue
+said_type (says_type t) = Some t
+said_type _ = None

@@ -1,0 +1,115 @@
+-- How a job is read: its lines from the top, the first fault of a text, or its job. `JobText` says whose text it is.
+use Rattle.std.specs.Prelude.{◌≡◌, ℕ, ℤ, List, [], ◌∷◌, ◌++◌, length, map, filter_map, ◌≤◌, Option, Some, None, Result, Ok, Err, ◌==◌, ◌<ℤ◌, int_lt, bytes_eq, All, if◌then◌else◌}
+use Rattle.std.specs.Option.{unwrap_or}
+use Rattle.line_text.specs.Steps.{◌>>=◌}
+use Rattle.fixed.specs.declared.frac.Frac.{Frac}
+use Rattle.fixed.specs.declared.frac.Frac.TheVariants.{F32}
+use Rattle.job.specs.declared.faults.Key.{Key}
+use Rattle.job.specs.declared.faults.Key.TheVariants as keys
+use Rattle.job.specs.Words.{lines_of}
+use Rattle.job.specs.JobLines.{header}
+use Rattle.job.specs.Statements.{Statement, entry_of}
+use Rattle.job.specs.Faults.{Refusal, bad_line, missing, out_of_range, TypeLine, Said, energy_in, core_in, cutoff_in, time_step_in, slices_in, bits_in, summary, line_fault, first_fault}
+use Rattle.job.specs.Bits.{frac_in}
+use Rattle.job.specs.Values.{TypeValue, JobValue, Counts}
+
+-- ---- what lines without a fault say
+
+-- each line below these is without a fault
+abbrev pub IsFaultless : Counts → Frac → List (List ℕ) → Type 0
+IsFaultless most frac lines = (above below : List (List ℕ)) (line : List ℕ) → lines ≡ above ++ line ∷ below → line_fault most frac above line ≡ None
+
+-- the lines have said this job: each value is what the line of its key says, the fraction bits are 32 where no line
+-- says them, and each type has a value for each parameter
+pub record Tells (s : Said) (job : JobValue) : Type 0 where
+  pub frac : unwrap_or s.bits F32 ≡ job.frac
+  pub energy : s.energy ≡ Some job.energy
+  pub core : s.core ≡ Some job.core
+  pub cutoff : s.cutoff ≡ Some job.cutoff
+  pub below_cutoff : job.core <ℤ job.cutoff
+  pub time_step : s.time_step ≡ Some job.time_step
+  pub slices : unwrap_or s.slices 64 ≡ job.slices
+  pub parameters : s.parameters ≡ job.parameters
+  pub globals : s.globals ≡ job.globals
+  pub types : map (λ t. t.value) s.types ≡ job.types
+  pub whole : All (λ t. length t.values ≡ length job.parameters) job.types
+
+-- behind the first line no line has a fault, and together they say the job, all numerals read at the fraction bits of
+-- the job
+pub record IsReadAs (most : Counts) (text : List ℕ) (job : JobValue) : Type 0 where
+  pub lines : List (List ℕ)
+  pub first_line : lines_of text ≡ header ∷ lines
+  pub faultless : IsFaultless most job.frac lines
+  pub tells : Tells (summary job.frac lines) job
+
+-- ---- each key once
+
+-- how many lines say this
+abbrev pub times_said : {X : Type 0} → Frac → (Statement → Option X) → List (List ℕ) → ℕ
+times_said frac part lines = length (filter_map part (filter_map (entry_of frac) lines))
+
+abbrev pub below_first : List (List ℕ) → List (List ℕ)
+below_first [] = []
+below_first (line ∷ lines) = lines
+
+-- the lines below the first have each key that a job needs once, and `slices` and `bits` at most once
+pub record HasKeysOnce (frac : Frac) (lines : List (List ℕ)) : Type 0 where
+  pub energy : times_said frac energy_in lines ≡ 1
+  pub core : times_said frac core_in lines ≡ 1
+  pub cutoff : times_said frac cutoff_in lines ≡ 1
+  pub time_step : times_said frac time_step_in lines ≡ 1
+  pub slices : times_said frac slices_in lines ≤ 1
+  pub bits : times_said frac bits_in lines ≤ 1
+
+-- ---- the first fault of a text, or its job
+
+abbrev pub needed : {X : Type 0} → Key → Option X → Result X Refusal
+needed key None = Err (missing key)
+needed key (Some x) = Ok x
+
+abbrev pub ordered : ℤ → ℤ → Result ℤ Refusal
+ordered core cutoff = if int_lt core cutoff then Ok cutoff else Err (out_of_range keys.Cutoff)
+
+-- the core, the cutoff, which is more, and the time step
+unfoldable pub needed_numbers : Option ℤ → Option ℤ → Option ℕ → Result (ℤ × ℤ × ℕ) Refusal
+needed_numbers core cutoff time_step = do
+  core ← needed keys.Core core
+  longest ← needed keys.Cutoff cutoff
+  time_step ← needed keys.TimeStep time_step
+  cutoff ← ordered core longest
+  Ok (core, cutoff, time_step)
+
+-- the types, or the first line of a type with another number of values
+unfoldable pub whole_types : ℕ → List TypeLine → Result (List TypeValue) Refusal
+whole_types k [] = Ok []
+whole_types k (t ∷ ts) = if length t.value.values == k then (whole_types k ts >>= λ us. Ok (t.value ∷ us)) else Err (bad_line t.line)
+
+-- the job of the lines, or the first part that they lack, in this order
+unfoldable pub job_from : Said → Result JobValue Refusal
+job_from s = do
+  energy ← needed keys.Energy s.energy
+  numbers ← needed_numbers s.core s.cutoff s.time_step
+  types ← whole_types (length s.parameters) s.types
+  Ok (record {
+    frac = s.frac;
+    energy = energy;
+    core = numbers.0;
+    cutoff = numbers.1;
+    time_step = numbers.2;
+    slices = unwrap_or s.slices 64;
+    parameters = s.parameters;
+    globals = s.globals;
+    types = types;
+  })
+
+abbrev pub unless : Option Refusal → Result JobValue Refusal → Result JobValue Refusal
+unless (Some fault) job = Err fault
+unless None job = job
+
+-- the lines below the first, their numerals read at these fraction bits
+abbrev pub reading_at : Counts → Frac → List (List ℕ) → Result JobValue Refusal
+reading_at most frac lines = unless (first_fault most frac [] lines) (job_from (summary frac lines))
+
+abbrev pub lines_reading : Counts → List (List ℕ) → Result JobValue Refusal
+lines_reading most [] = Err (bad_line 1)
+lines_reading most (line ∷ lines) = if bytes_eq line header then reading_at most (frac_in lines) lines else Err (bad_line 1)

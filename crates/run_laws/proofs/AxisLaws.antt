@@ -1,0 +1,283 @@
+-- Places and sides in another order of the axes lie as far apart, and forces and next places have that order.
+use Rattle.std.proofs.Common.{◌≡◌, ℕ, zero, suc, ◌+◌, Bool, true, false, List, [], ◌∷◌, Option, Some, None, ℤ, pos, arith, refl, ap, sym, ◌∙◌}
+use Rattle.std.specs.Prelude.{neg_ℤ, slice_index, ◌==◌, ◌&&◌, if◌then◌else◌}
+use Rattle.std.specs.Int.{int_max}
+use Rattle.std.proofs.Math.Bool.{and_comm}
+use Rattle.std.proofs.lemmas.List.{length-map}
+use Rattle.fixed.specs.Roots.{root}
+use Rattle.fixed.specs.declared.frac.Frac.{Frac}
+use Rattle.energy_program.specs.Tree.{Tree}
+use Rattle.job.specs.Values.{JobValue}
+use Rattle.line_text.specs.Parts.{AreThree}
+use Rattle.state.specs.StateText.{IsSide, StateView}
+use Rattle.ring_box.specs.Cells.{has_room, holds_two}
+use Rattle.ring_box.specs.Distances.{distance_at, is_near, square, square_of, x_separation, y_separation, z_separation}
+use Rattle.ring_box.specs.Forces.{acting_distance_of, force_along_of, line_force_of, no_force}
+use Rattle.ring_box.specs.Places.{ArePlaces, nowhere, places_of}
+use Rattle.ring_box.specs.declared.boxes.RingBox.{RingBox}
+use Rattle.ring_box.specs.declared.vectors.Force.{Force}
+use Rattle.ring_box.specs.declared.vectors.Place3.{Place3}
+use Rattle.integrator.specs.Forces.{negative, plus, share_of, sum_of_shares}
+use Rattle.integrator.specs.Starts.{ring_of, system_of, types_of}
+use Rattle.engine.specs.Headline.{Follows, HasRoom, Lead, box_of, far, near, next_of, together}
+use Rattle.run_laws.specs.Symmetries.{AxisOrder, ForcesAreReordered, OrdersAreUndone, ReorderedAreSafe, RunsAreReordered, StatesAreReordered, StepsAreReordered, in_order, reordered, reordered_atom, reordered_force, reordered_frame, reordered_sides, reordered_state, three_in_order, xyz, xzy, yxz, yzx, zxy, zyx}
+use Rattle.run_laws.proofs.SymmetryLemmas.{GoAlong, follows_along, lead_along, leads_along, mapped_state, run_along, safe_along, state_is, system_mapped}
+
+-- the cycles undo one another, and an exchange undoes itself
+pub orders_are_undone : OrdersAreUndone
+orders_are_undone xyz = (xyz, λ p. refl)
+orders_are_undone xzy = (xzy, λ p. refl)
+orders_are_undone yxz = (yxz, λ p. refl)
+orders_are_undone yzx = (zxy, λ p. refl)
+orders_are_undone zxy = (yzx, λ p. refl)
+orders_are_undone zyx = (zyx, λ p. refl)
+
+-- ---- the separation of two atoms
+
+-- along the three axes
+abbrev apart : RingBox → Place3 → Place3 → ℤ × ℤ × ℤ
+apart b p q = (x_separation b p q, y_separation b p q, z_separation b p q)
+
+abbrev sum_of_squares : ℤ × ℤ × ℤ → ℕ
+sum_of_squares d = square d.0 + square d.1 + square d.2
+
+apart_in_order : (o : AxisOrder) (sides : List ℕ) (a b : Place3) → apart (box_of (reordered_sides o sides)) (reordered o a) (reordered o b)
+    ≡ in_order o (x_separation (box_of sides) a b) (y_separation (box_of sides) a b) (z_separation (box_of sides) a b)
+apart_in_order xyz sides a b = refl
+apart_in_order xzy sides a b = refl
+apart_in_order yxz sides a b = refl
+apart_in_order yzx sides a b = refl
+apart_in_order zxy sides a b = refl
+apart_in_order zyx sides a b = refl
+
+sum_in_order : (o : AxisOrder) (a b c : ℕ) → (in_order o a b c).0 + (in_order o a b c).1 + (in_order o a b c).2 ≡ a + b + c
+sum_in_order xyz a b c = refl
+sum_in_order xzy a b c = omega arith
+sum_in_order yxz a b c = omega arith
+sum_in_order yzx a b c = omega arith
+sum_in_order zxy a b c = omega arith
+sum_in_order zyx a b c = omega arith
+
+sum_of_squares_in_order : (o : AxisOrder) (x y z : ℤ) → sum_of_squares (in_order o x y z) ≡ square x + square y + square z
+sum_of_squares_in_order xyz x y z = sum_in_order xyz (square x) (square y) (square z)
+sum_of_squares_in_order xzy x y z = sum_in_order xzy (square x) (square y) (square z)
+sum_of_squares_in_order yxz x y z = sum_in_order yxz (square x) (square y) (square z)
+sum_of_squares_in_order yzx x y z = sum_in_order yzx (square x) (square y) (square z)
+sum_of_squares_in_order zxy x y z = sum_in_order zxy (square x) (square y) (square z)
+sum_of_squares_in_order zyx x y z = sum_in_order zyx (square x) (square y) (square z)
+
+squares_in_order : (o : AxisOrder) (sides : List ℕ) (a b : Place3) → square_of (box_of (reordered_sides o sides)) (reordered o a) (reordered o b) ≡ square_of (box_of sides) a b
+squares_in_order o sides a b =
+    ap sum_of_squares (apart_in_order o sides a b)
+    ∙ sum_of_squares_in_order o (x_separation (box_of sides) a b) (y_separation (box_of sides) a b) (z_separation (box_of sides) a b)
+
+-- ---- the force of a pair
+
+none_in_order : (o : AxisOrder) → no_force ≡ reordered_force o no_force
+none_in_order xyz = refl
+none_in_order xzy = refl
+none_in_order yxz = refl
+none_in_order yzx = refl
+none_in_order zxy = refl
+none_in_order zyx = refl
+
+line_in_order : (o : AxisOrder) (g x y z : ℤ) (d : ℕ) → line_force_of g (in_order o x y z).0 (in_order o x y z).1 (in_order o x y z).2 d ≡ reordered_force o (line_force_of g x y z d)
+line_in_order xyz g x y z d = refl
+line_in_order xzy g x y z d = refl
+line_in_order yxz g x y z d = refl
+line_in_order yzx g x y z d = refl
+line_in_order zxy g x y z d = refl
+line_in_order zyx g x y z d = refl
+
+choice_in_order : (o : AxisOrder) (none : Bool) (g x y z : ℤ) (d : ℕ)
+    → (if none then no_force else line_force_of g (in_order o x y z).0 (in_order o x y z).1 (in_order o x y z).2 d) ≡ reordered_force o (if none then no_force else line_force_of g x y z d)
+choice_in_order o true g x y z d = none_in_order o
+choice_in_order o false g x y z d = line_in_order o g x y z d
+
+-- a force of the size g along a line with these parts, whose square is s
+abbrev force_of_parts : ℤ → ℤ × ℤ × ℤ → ℕ → Force ℤ
+force_of_parts g d s = if s == 0 then no_force else line_force_of g d.0 d.1 d.2 (root s)
+
+along_in_order : (o : AxisOrder) (sides : List ℕ) (g : ℤ) (a b : Place3)
+    → force_along_of (box_of (reordered_sides o sides)) g (reordered o a) (reordered o b) ≡ reordered_force o (force_along_of (box_of sides) g a b)
+along_in_order o sides g a b =
+    let s = square_of (box_of sides) a b in
+    ap (λ d. force_of_parts g d (square_of (box_of (reordered_sides o sides)) (reordered o a) (reordered o b))) (apart_in_order o sides a b)
+    ∙ ap (force_of_parts g (in_order o (x_separation (box_of sides) a b) (y_separation (box_of sides) a b) (z_separation (box_of sides) a b))) (squares_in_order o sides a b)
+    ∙ choice_in_order o (s == 0) g (x_separation (box_of sides) a b) (y_separation (box_of sides) a b) (z_separation (box_of sides) a b) (root s)
+
+-- the distance at which two atoms act whose square is s
+abbrev distance_of : Frac → ℤ → ℤ → ℕ → Option ℤ
+distance_of frac core cutoff s = if is_near frac s cutoff then Some (int_max (pos (distance_at frac s)) core) else None
+
+reached_in_order : (o : AxisOrder) (sides : List ℕ) (frac : Frac) (core cutoff : ℤ) (a b : Place3)
+    → acting_distance_of frac (box_of (reordered_sides o sides)) core cutoff (reordered o a) (reordered o b) ≡ acting_distance_of frac (box_of sides) core cutoff a b
+reached_in_order o sides frac core cutoff a b = ap (distance_of frac core cutoff) (squares_in_order o sides a b)
+
+-- two atoms in an order of the axes have the force in that order
+pub forces_reordered : ForcesAreReordered
+forces_reordered o j tree sides types pair a b v (far e f) = far (reached_in_order o sides j.frac j.core j.cutoff a b ∙ e) (ap (reordered_force o) f ∙ sym (none_in_order o))
+forces_reordered o j tree sides types pair a b v (together e f) = together (squares_in_order o sides a b ∙ e) (ap (reordered_force o) f ∙ sym (none_in_order o))
+forces_reordered o j tree sides types pair a b v (near r g e slope f) =
+    near r g (reached_in_order o sides j.frac j.core j.cutoff a b ∙ e) slope (ap (reordered_force o) f ∙ sym (along_in_order o sides (neg_ℤ g) a b))
+
+-- ---- sums of shares
+
+plus_in_order : (o : AxisOrder) (f g : Force ℤ) → plus (reordered_force o f) (reordered_force o g) ≡ reordered_force o (plus f g)
+plus_in_order xyz f g = refl
+plus_in_order xzy f g = refl
+plus_in_order yxz f g = refl
+plus_in_order yzx f g = refl
+plus_in_order zxy f g = refl
+plus_in_order zyx f g = refl
+
+negative_in_order : (o : AxisOrder) (f : Force ℤ) → negative (reordered_force o f) ≡ reordered_force o (negative f)
+negative_in_order xyz f = refl
+negative_in_order xzy f = refl
+negative_in_order yxz f = refl
+negative_in_order yzx f = refl
+negative_in_order zxy f = refl
+negative_in_order zyx f = refl
+
+share_in_order : (o : AxisOrder) (first second : Bool) (f : Force ℤ)
+    → (if first then reordered_force o f else if second then negative (reordered_force o f) else no_force) ≡ reordered_force o (if first then f else if second then negative f else no_force)
+share_in_order o true second f = refl
+share_in_order o false true f = negative_in_order o f
+share_in_order o false false f = none_in_order o
+
+sums_in_order : (o : AxisOrder) (force : ℕ × ℕ → Force ℤ) (ps : List (ℕ × ℕ)) (a : ℕ) → sum_of_shares (λ q. reordered_force o (force q)) ps a ≡ reordered_force o (sum_of_shares force ps a)
+unfolding sum_of_shares
+sums_in_order o force [] a = none_in_order o
+sums_in_order o force (q ∷ ps) a =
+    ap (λ v. plus v (sum_of_shares (λ q. reordered_force o (force q)) ps a)) (share_in_order o (q.0 == a) (q.1 == a) (force q))
+    ∙ ap (plus (reordered_force o (share_of q (force q) a))) (sums_in_order o force ps a)
+    ∙ plus_in_order o (share_of q (force q) a) (sum_of_shares force ps a)
+
+-- ---- steps
+
+next_in_order : (o : AxisOrder) (j : JobValue) (tree : Tree) (sides types : List ℕ) (m : ℕ) (p c : Place3) (v : Force ℤ)
+    → next_of j tree (reordered_sides o sides) types m (reordered o p) (reordered o c) (reordered_force o v) ≡ reordered o (next_of j tree sides types m p c v)
+next_in_order xyz j tree sides types m p c v = refl
+next_in_order xzy j tree sides types m p c v = refl
+next_in_order yxz j tree sides types m p c v = refl
+next_in_order yzx j tree sides types m p c v = refl
+next_in_order zxy j tree sides types m p c v = refl
+next_in_order zyx j tree sides types m p c v = refl
+
+nowhere_in_order : (o : AxisOrder) → nowhere ≡ reordered o nowhere
+nowhere_in_order xyz = refl
+nowhere_in_order xzy = refl
+nowhere_in_order yxz = refl
+nowhere_in_order yzx = refl
+nowhere_in_order zxy = refl
+nowhere_in_order zyx = refl
+
+-- also of an atom that a frame hasn't
+place_in_order : (o : AxisOrder) (frame : List Place3) (a : ℕ) → places_of (reordered_frame o frame) a ≡ reordered o (places_of frame a)
+place_in_order o [] a = nowhere_in_order o
+place_in_order o (p ∷ frame) zero = refl
+place_in_order o (p ∷ frame) (suc a) = place_in_order o frame a
+
+module _ (o : AxisOrder) (j : JobValue) (tree : Tree) (sides types : List ℕ) where
+  goes_along : GoAlong j tree sides (reordered_sides o sides) types (reordered o) (reordered o) (reordered o) (reordered_force o)
+  goes_along = record { next = next_in_order o j tree sides types; sums = sums_in_order o }
+
+  abbrev AreFrames : List Place3 → List Place3 → Type 0
+  AreFrames p c = Unit {0}
+
+  step_along : (k : ℕ) (p c n : List Place3) → AreFrames p c → Follows j tree sides types p c n
+      → AreFrames c n × Follows j tree (reordered_sides o sides) types (reordered_frame o p) (reordered_frame o c) (reordered_frame o n)
+  step_along k p c n are r = (
+    tt,
+    follows_along j tree sides (reordered_sides o sides) types (reordered o) (reordered o) (reordered o) (reordered_force o) goes_along p c n (λ a l. place_in_order o p a)
+        (λ q is v h. forces_reordered o j tree sides types q (places_of c q.0) (places_of c q.1) v h) r,
+  )
+
+  steps_along : (n : ℕ) (p c q e : List Place3) → AreFrames p c → Lead j tree sides types n p c q e
+      → Lead j tree (reordered_sides o sides) types n (reordered_frame o p) (reordered_frame o c) (reordered_frame o q) (reordered_frame o e)
+  steps_along = lead_along j tree sides (reordered_sides o sides) types (λ k. reordered o) AreFrames step_along
+
+-- n steps lead from frames in an order of the axes to frames in that order
+pub steps_reordered : StepsAreReordered
+steps_reordered o j tree sides types n p c q e l = steps_along o j tree sides types n p c q e tt l
+
+-- so do steps of states
+pub states_reordered : StatesAreReordered
+states_reordered o w j tree types n before after l =
+    leads_along w j tree types n (reordered o) (reordered_sides o) (λ p c. Unit {0}) before after (steps_along o j tree before.sides types n) tt tt l
+
+-- ---- runs
+
+are_places_in_order : (o : AxisOrder) (p : Place3) → ArePlaces p → ArePlaces (reordered o p)
+are_places_in_order xyz p h = record { x = h.x; y = h.y; z = h.z }
+are_places_in_order xzy p h = record { x = h.x; y = h.z; z = h.y }
+are_places_in_order yxz p h = record { x = h.y; y = h.x; z = h.z }
+are_places_in_order yzx p h = record { x = h.y; y = h.z; z = h.x }
+are_places_in_order zxy p h = record { x = h.z; y = h.x; z = h.y }
+are_places_in_order zyx p h = record { x = h.z; y = h.y; z = h.x }
+
+three_are_sides : (o : AxisOrder) (x y z : ℕ) → IsSide x × IsSide y × IsSide z → AreThree IsSide (three_in_order o x y z)
+three_are_sides xyz x y z h = (h.0, h.1, h.2)
+three_are_sides xzy x y z h = (h.0, h.2, h.1)
+three_are_sides yxz x y z h = (h.1, h.0, h.2)
+three_are_sides yzx x y z h = (h.1, h.2, h.0)
+three_are_sides zxy x y z h = (h.2, h.0, h.1)
+three_are_sides zyx x y z h = (h.2, h.1, h.0)
+
+sides_in_order : (o : AxisOrder) (sides : List ℕ) → AreThree IsSide sides → AreThree IsSide (reordered_sides o sides)
+sides_in_order o [] h = elim h [ ]
+sides_in_order o (x ∷ []) h = elim h [ ]
+sides_in_order o (x ∷ (y ∷ [])) h = elim h [ ]
+sides_in_order o (x ∷ (y ∷ (z ∷ []))) h = three_are_sides o x y z h
+sides_in_order o (x ∷ (y ∷ (z ∷ (w ∷ more)))) h = elim h [ ]
+
+room_in_order : (o : AxisOrder) (j : JobValue) (sides : List ℕ) → HasRoom j (box_of sides).x × HasRoom j (box_of sides).y × HasRoom j (box_of sides).z
+    → HasRoom j (box_of (reordered_sides o sides)).x × HasRoom j (box_of (reordered_sides o sides)).y × HasRoom j (box_of (reordered_sides o sides)).z
+room_in_order xyz j sides h = (h.0, h.1, h.2)
+room_in_order xzy j sides h = (h.0, h.2, h.1)
+room_in_order yxz j sides h = (h.1, h.0, h.2)
+room_in_order yzx j sides h = (h.1, h.2, h.0)
+room_in_order zxy j sides h = (h.2, h.0, h.1)
+room_in_order zyx j sides h = (h.2, h.1, h.0)
+
+-- the text of a state in an order of the axes leads to the text of the state that the run writes, in that order
+pub runs_reordered : RunsAreReordered
+runs_reordered o job state w n text r =
+    run_along job state w n text (reordered o) (reordered_sides o) r (are_places_in_order o) (sides_in_order o) (room_in_order o r.j r.before.sides)
+    (states_reordered o w r.j r.tree r.types n r.before r.after r.leads)
+
+-- ---- safe texts
+
+swap_first : (a b c : Bool) → (a && (b && c)) ≡ (b && (a && c))
+swap_first true b c = refl
+swap_first false true c = refl
+swap_first false false c = refl
+
+all_in_order : (o : AxisOrder) (a b c : Bool) → ((in_order o a b c).0 && ((in_order o a b c).1 && (in_order o a b c).2)) ≡ (a && (b && c))
+all_in_order xyz a b c = refl
+all_in_order xzy a b c = ap (λ x. a && x) (and_comm c b)
+all_in_order yxz a b c = swap_first b a c
+all_in_order yzx a b c = ap (λ x. b && x) (and_comm c a) ∙ swap_first b a c
+all_in_order zxy a b c = swap_first c a b ∙ ap (λ x. a && x) (and_comm c b)
+all_in_order zyx a b c = ap (λ x. c && x) (and_comm b a) ∙ swap_first c a b ∙ ap (λ x. a && x) (and_comm c b)
+
+test_in_order : (o : AxisOrder) (sides : List ℕ) (frac : Frac) (cutoff : ℤ) → has_room frac (ring_of (reordered_sides o sides)) cutoff ≡ has_room frac (ring_of sides) cutoff
+test_in_order xyz sides frac cutoff = all_in_order xyz (holds_two frac (slice_index sides 0) cutoff) (holds_two frac (slice_index sides 1) cutoff) (holds_two frac (slice_index sides 2) cutoff)
+test_in_order xzy sides frac cutoff = all_in_order xzy (holds_two frac (slice_index sides 0) cutoff) (holds_two frac (slice_index sides 1) cutoff) (holds_two frac (slice_index sides 2) cutoff)
+test_in_order yxz sides frac cutoff = all_in_order yxz (holds_two frac (slice_index sides 0) cutoff) (holds_two frac (slice_index sides 1) cutoff) (holds_two frac (slice_index sides 2) cutoff)
+test_in_order yzx sides frac cutoff = all_in_order yzx (holds_two frac (slice_index sides 0) cutoff) (holds_two frac (slice_index sides 1) cutoff) (holds_two frac (slice_index sides 2) cutoff)
+test_in_order zxy sides frac cutoff = all_in_order zxy (holds_two frac (slice_index sides 0) cutoff) (holds_two frac (slice_index sides 1) cutoff) (holds_two frac (slice_index sides 2) cutoff)
+test_in_order zyx sides frac cutoff = all_in_order zyx (holds_two frac (slice_index sides 0) cutoff) (holds_two frac (slice_index sides 1) cutoff) (holds_two frac (slice_index sides 2) cutoff)
+
+-- a job and a state make the same system where the box has its sides in another order
+system_in_order : (o : AxisOrder) (j : JobValue) (s : StateView) → system_of j (record s { sides = reordered_sides o s.sides }) ≡ system_of j s
+unfolding system_of types_of
+system_in_order o j s = rw (test_in_order o s.sides j.frac j.cutoff) refl
+
+-- the code is accepted for a state in another order of the axes
+pub reordered_are_safe : ReorderedAreSafe
+reordered_are_safe o job state fits =
+    let elsewhere = mapped_state (reordered o) (λ sides. sides) state in
+    safe_along job state (reordered_state o state) fits
+    (state_is (reordered o) (reordered_sides o) state (are_places_in_order o) (sides_in_order o state.sides) fits)
+    (λ j. system_in_order o j elsewhere ∙ system_mapped j (reordered o) state) (length-map state.atoms (reordered_atom o))

@@ -1,0 +1,14 @@
+pub mod Pigeonhole
+pub mod FrameNumbers
+pub mod SumLaws
+pub mod ThirdLaw
+pub mod MomentumLaws
+pub mod FrameRecurrence
+pub mod LeadLaws
+pub mod AcceptedRuns
+pub mod AcceptedFrames
+pub mod ReadPrograms
+pub mod ReadSlopes
+pub mod SymmetryLemmas
+pub mod TranslationLaws
+pub mod AxisLaws

@@ -1,0 +1,5 @@
+use Rattle.engine.proofs.WentLaws.{steps_return}
+use Rattle.run_laws.proofs.engine_steps.steps_return.Goals as goal
+
+pub returns : goal.returns
+returns c = steps_return

@@ -1,0 +1,6 @@
+pub mod EngineSteps
+pub mod RunTexts
+pub mod AtomSums
+pub mod Momentum
+pub mod Motions
+pub mod Symmetries

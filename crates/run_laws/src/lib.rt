@@ -1,0 +1,15 @@
+//! Laws of runs, for every job and state: of the headline's own relations, and of the steps of an engine. None of them
+//! computes anything: each is a function whose contract is the law.
+#![tactic(auto)]
+
+mod engine_steps;
+mod momentum;
+mod motions;
+mod run_texts;
+mod symmetries;
+
+pub use engine_steps::{steps_add, steps_return};
+pub use momentum::{momentum_is_kept_within, newtons_third_law};
+pub use motions::{accepted_frames_recur, frames_recur, one_past, steps_reverse};
+pub use run_texts::{runs_are_accepted, runs_are_told, runs_return, runs_stay_safe};
+pub use symmetries::{axes, translations};

@@ -1,0 +1,291 @@
+#!/usr/bin/env python3
+"""Runs the program where no contract reaches: over the system's own files and streams, and at sizes that no row has.
+
+  tools/edges.py [--program FILE] [CASE ..]
+
+The program is ./pairmd where neither FILE nor PAIRMD names one. Each case is a function below whose name begins with
+`try_`; CASE names some, without that. The texts that it runs on are made here, in a folder that is removed again, the
+same ones each time. What must be printed is known without the program: no steps, and as many there and back, give the
+start's own bytes; the lines of refusals are those of docs/FORMATS.md; one number of workers prints what another does.
+Status, standard output and standard error are compared, and what differs is printed. Status 1 where something does, or
+where nothing was compared.
+"""
+import argparse
+import itertools
+import os
+import random
+import resource
+import signal
+import subprocess
+import sys
+import tempfile
+import time
+from typing import NamedTuple
+
+ROOT = os.path.dirname(os.path.dirname(os.path.realpath(__file__)))
+LIMIT = 300  # seconds that a command may take
+LONG = 12_000_000  # bytes of a long text
+ENERGY = "4*0.996*((0.34/r)^12-(0.34/r)^6)"
+WRITTEN = "pairmd: O2 CannotWrite\n"
+
+# Atoms on a grid 0.362 nm apart: with the most that a state may have, a box is cut into 16 cells along each side.
+SPACING = 36_200
+MOST = (40, 40, 41), 65_536
+MANY = (20, 20, 20), 8_000
+
+
+def job(energy=ENERGY, core="0.25", more=""):
+    return f"pairmd job 1\nenergy {energy}\ncore {core}\ncutoff 0.9\ndt 2\n{more}type AR 39.948\n"
+
+
+def state(counts, atoms, title="edges"):
+    """Atoms on a grid, each moved at random from its site and on its way."""
+    numbers, lines = random.Random(1), []
+    lines += ["pairmd state 1", f"title {title}", "step 0", f"atoms {atoms}", "box " + " ".join(str(SPACING * it) for it in counts)]
+    for number, site in enumerate(itertools.islice(itertools.product(*map(range, counts)), atoms)):
+        before = [(2**32 * (2 * at + 1) // (2 * count) + numbers.randint(-2_000_000, 2_000_000)) for at, count in zip(site, counts)]
+        after = [at + numbers.randint(-100_000, 100_000) for at in before]
+        lines.append(f"{number:5}AR      AR " + " ".join(map(str, before + after)))
+    return "\n".join(lines) + "\n"
+
+
+class Ran(NamedTuple):
+    status: int
+    out: str
+    err: str
+
+
+class Room:
+    """A folder with texts, in which the program runs, and what was compared there."""
+
+    def __init__(self, program, folder):
+        self.program, self.folder, self.same, self.other = program, folder, 0, 0
+
+    def write(self, name, text):
+        with open(f"{self.folder}/{name}", "w", encoding="ascii") as file:
+            file.write(text)
+
+    def run(self, *words, given="", out=subprocess.PIPE, err=subprocess.PIPE, limits=()):
+        """Runs the program on these words, with a text on its standard input, within limits of the system."""
+
+        def limited():
+            signal.signal(signal.SIGXFSZ, signal.SIG_IGN)
+            for limit, most in limits:
+                resource.setrlimit(limit, (most, most))
+
+        how = {"input": given.encode(), "stdout": out, "stderr": err, "preexec_fn": limited if limits else None, "timeout": LIMIT}
+        ran = subprocess.run([self.program, *words], cwd=self.folder, **how)
+        return Ran(ran.returncode, (ran.stdout or b"").decode(), (ran.stderr or b"").decode())
+
+    def expect(self, what, ran, wanted):
+        """Counts whether a run, or a part of one, is as wanted, and prints where it isn't."""
+        self.same, self.other = self.same + (ran == wanted), self.other + (ran != wanted)
+        if ran != wanted:
+            print(f"{what}:\n  was    {shown(ran)}\n  wanted {shown(wanted)}", flush=True)
+
+    def prints(self, what, words, out, err="", **how):
+        """The command ends well, with this on its standard output."""
+        self.expect(what, self.run(*words, **how), Ran(0, out, err))
+
+    def goes_back(self, what, job_name, start, steps, workers):
+        """So many steps there end well, and as many back give the start again. Returns the state between."""
+        words = ["--steps", str(steps), "--workers", str(workers)]
+        there = self.run("run", job_name, start, *words)
+        self.expect(f"{what}, there", there[::2], (0, ""))
+        self.write("there", there.out)
+        with open(f"{self.folder}/{start}", encoding="ascii") as file:
+            self.prints(f"{what}, back", ["back", job_name, "there", *words], file.read())
+        return there.out
+
+
+def shown(value):
+    """A value, of which a long text is told by its length and its end."""
+    if isinstance(value, tuple):
+        return "(" + ", ".join(map(shown, value)) + ")"
+    return repr(value) if not isinstance(value, str) or len(value) < 300 else f"{len(value)} bytes, to {value[-80:]!r}"
+
+
+def try_many_atoms(room):
+    """The most atoms that a state may have, in 4,096 cells: read and written, and a step by 1, 4 and 64 workers."""
+    text = state(*MOST)
+    room.write("job", job())
+    room.write("state", text)
+    for words in (["run", "--steps", "0"], ["run", "--steps", "0", "--workers", "4"], ["states", "--steps", "9", "--every", "10"]):
+        room.prints(f"65,536 atoms, {' '.join(words)}", [*words, "job", "state"], text)
+    one = room.goes_back("65,536 atoms by one worker", "job", "state", 1, 1)
+    four = room.goes_back("65,536 atoms by four workers", "job", "state", 1, 4)
+    room.expect("65,536 atoms, one worker and four", one == four, True)
+    room.prints("65,536 atoms by 64 workers", ["run", "job", "state", "--steps", "1", "--workers", "64"], one)
+    room.prints("65,536 atoms, states", ["states", "job", "state", "--steps", "1", "--every", "1", "--workers", "4"], text + one)
+    frame = room.run("frame", "state")
+    room.expect("65,536 atoms, frame", (frame.status, frame.out.count("\n"), frame.err), (0, 65_539, ""))
+    table = room.run("observe", "job", "state", "--steps", "1", "--every", "1")
+    room.expect("65,536 atoms, observe", (table.status, table.out.count("\n"), table.err), (0, 3, ""))
+    forces = room.run("forces", "job", "state")
+    sums = [sum(map(int, column)) for column in zip(*(line.split()[-3:] for line in forces.out.splitlines()))]
+    room.expect("65,536 atoms, forces", (forces.status, forces.out.count("\n"), sums, forces.err), (0, 65_536, [0, 0, 0], ""))
+
+
+def try_many_steps(room):
+    """100,000 steps of a small state, alone and by two workers, there and back."""
+    room.write("job", job())
+    room.write("small", state((5, 5, 5), 3))
+    one = room.goes_back("100,000 steps by one worker", "job", "small", 100_000, 1)
+    room.prints("100,000 steps by two workers", ["run", "job", "small", "--steps", "100000", "--workers", "2"], one)
+    frames = room.run("trajectory", "job", "small", "--steps", "100000", "--every", "10")
+    room.expect("10,001 frames", (frames.status, frames.out.count("\n"), frames.err), (0, 60_006, ""))
+    room.write("frames", frames.out)
+    last = room.run("start", "job", "frames", "--frame", "10001")
+    room.expect("the last of 10,001 frames", (last.status, last.out.count("\n"), last.err), (0, 8, ""))
+
+
+def try_long_files(room):
+    """Files of more than ten million bytes, read from the disk and from a pipe, and long lines."""
+    text, comments = state((5, 5, 5), 2), f"# {'-' * 97}\n" * (LONG // 100)
+    room.write("job", job())
+    room.write("state", text)
+    long = "pairmd job 1\n" + comments + job().partition("\n")[2]
+    room.write("long", long)
+    room.prints("a job of 12 MB", ["run", "long", "state", "--steps", "0"], text)
+    room.prints("a job of 12 MB by a pipe", ["run", "/dev/stdin", "state", "--steps", "0"], text, given=long)
+    room.write("late", job() + comments + "type AR 1\n")
+    room.expect("the last line of 12 MB", room.run("check", "late"), Ran(1, "", "pairmd: J5 RepeatedType AR\n"))
+    text = state((5, 5, 5), 2, title="t" * LONG)
+    room.write("titled", text)
+    room.prints("a title of 12 MB", ["run", "job", "titled", "--steps", "0"], text)
+    room.prints("a title of 12 MB by a pipe", ["run", "job", "/dev/stdin", "--steps", "0"], text, given=text)
+    room.write("blank", job(energy=ENERGY.replace("-", " " * 300_000 + "-")))
+    room.expect("an energy of 300,000 bytes", room.run("check", "blank"), room.run("check", "job"))
+    listing = "pairmd code 1\n" + "".join(f"push {it}\nkeep {it}\n" for it in range(256)) + "get 255\n"
+    room.write("listing", listing)
+    room.prints("256 locals", ["check", "job", "--code", "listing"], "accepted: steps 513, bound 255\n")
+
+
+def try_statuses(room):
+    """Each status, with both streams."""
+    text = state((5, 5, 5), 2)
+    room.write("job", job())
+    room.write("core", job(energy="1/r", core="0"))
+    room.write("energy", job(energy="1/s"))
+    room.write("keyless", job().replace("dt 2\n", ""))
+    room.write("state", text)
+    room.write("cut", text[:-1])
+    room.prints("status 0", ["run", "job", "state", "--steps", "0"], text)
+    for status, words, line in [
+        (1, ["run", "keyless", "state", "--steps", "1"], "J2 Missing dt"),
+        (1, ["back", "job", "cut", "--steps", "1"], "S2 Truncated"),
+        (3, ["run", "core", "state", "--steps", "1"], "V2 Fault AR AR r 0 pc 8 F2 ZeroDivisor"),
+        (3, ["observe", "core", "state", "--steps", "1", "--every", "1"], "V2 Fault AR AR r 0 pc 8 F2 ZeroDivisor"),
+        (3, ["check", "energy"], "E04 UnknownName s"),
+        (5, ["frame", "absent"], "O1 CannotRead absent"),
+        (5, ["run", "job", ".", "--steps", "1"], "O1 CannotRead ."),
+    ]:
+        room.expect(f"status {status}", room.run(*words), Ran(status, "", f"pairmd: {line}\n"))
+    misuse = room.run("run", "job", "state")
+    room.expect("status 2", (misuse.status, misuse.out, misuse.err.partition("\n")[0]), (2, "", "error: the following required arguments were not provided:"))
+    room.expect("no text", room.run("frame", b"\xff"), Ran(2, "", "error: a word of the command line is not UTF-8 text\n"))
+    room.write("titled", state((5, 5, 5), 2, title="t" * LONG))
+    room.expect("status 4", room.run("frame", "titled", limits=[(resource.RLIMIT_AS, LONG)]), Ran(4, "", "pairmd: Memory\n"))
+
+
+def try_words(room):
+    """As many words as a command has, each of which counts, in two orders."""
+    room.write("job", job())
+    room.write("state", state((5, 5, 5), 3))
+    options = ["--progress", "--back", "--workers", "2", "--every", "2", "--steps", "4", "--exact"]
+    behind, before = room.run("observe", "job", "state", *options), room.run("observe", *options[::-1][:1], *options[:-1], "--", "job", "state")
+    told = "".join(f"pairmd: {step} of 4 steps\n" for step in range(1, 5))
+    shape = behind.out[:14], [line.split()[0] for line in behind.out.splitlines()[1:]]
+    room.expect("all words of observe", (behind.status, *shape, behind.err), (0, "# step time/fs", ["0", "-2", "-4"], told))
+    room.expect("the files at last", before, behind)
+
+
+def try_streams(room):
+    """Outputs that are files and pipes, that fail at once or on the way, and a standard error that fails."""
+    text = state(*MANY)
+    room.write("job", job())
+    room.write("state", text)
+    words = ["run", "job", "state", "--steps", "0"]
+    with open(f"{room.folder}/out", "wb") as file:
+        room.expect("a file", room.run(*words, out=file), Ran(0, "", ""))
+    room.expect("what the file holds", read(f"{room.folder}/out") == text, True)
+    with open(f"{room.folder}/out", "wb") as file:
+        room.expect("a file that is full on the way", room.run(*words, out=file, limits=[(resource.RLIMIT_FSIZE, 100_000)]), Ran(5, "", WRITTEN))
+    room.expect("what that file holds", read(f"{room.folder}/out") == text[:100_000], True)
+    with open("/dev/full", "wb") as full:
+        room.expect("a full device", room.run(*words, out=full), Ran(5, "", WRITTEN))
+        room.expect("a refusal on a full device", room.run("frame", "absent", err=full), Ran(5, "", ""))
+        room.expect("progress on a full device", room.run(*words, "--progress", err=full), Ran(0, text, ""))
+    closed, end = os.pipe()
+    os.close(closed)
+    room.expect("a pipe that nobody reads", room.run(*words, out=end), Ran(5, "", WRITTEN))
+    room.expect("a refusal that nobody reads", room.run("frame", "absent", err=end), Ran(5, "", ""))
+    os.close(end)
+    room.expect("a pipe that is read slowly", slowly_read(room, words), (0, text))
+
+
+def read(path):
+    with open(path, encoding="ascii") as file:
+        return file.read()
+
+
+def slowly_read(room, words):
+    """The status of a command and what it prints, where its reader takes a few bytes at a time, and pauses."""
+    started = subprocess.Popen([room.program, *words], cwd=room.folder, stdout=subprocess.PIPE, bufsize=0)
+    parts = []
+    with started.stdout as pipe:
+        while part := pipe.read(4_001):
+            parts.append(part)
+            time.sleep(0.0002)
+    return started.wait(), b"".join(parts).decode()
+
+
+def try_workers(room):
+    """Each command starts the workers that it is asked for: so many threads are seen, and no more."""
+    room.write("job", job())
+    room.write("state", state(*MANY))
+    runs = [[name, "--steps", "20"] for name in ("run", "back")]
+    runs += [[name, "--steps", "20", "--every", "10"] for name in ("trajectory", "states", "observe")]
+    for words, workers in [(runs[0], 1), *((words, 6) for words in runs)]:
+        most = threads(room, [*words, "--workers", str(workers), "job", "state"])
+        room.expect(f"{words[0]} by {workers} workers", most, (0, workers))
+
+
+def threads(room, words):
+    """The status of a command, and the most threads that it was seen to have."""
+    started, most = subprocess.Popen([room.program, *words], cwd=room.folder, stdout=subprocess.DEVNULL), 0
+    while started.poll() is None:
+        try:
+            most = max(most, len(os.listdir(f"/proc/{started.pid}/task")))
+        except OSError:
+            pass
+        time.sleep(0.0005)
+    return started.returncode, most
+
+
+CASES = {name[len("try_") :]: it for name, it in globals().items() if name.startswith("try_")}
+
+
+def main():
+    parser = argparse.ArgumentParser(description=__doc__, formatter_class=argparse.RawDescriptionHelpFormatter)
+    parser.add_argument("cases", nargs="*", metavar="CASE", help=f"{', '.join(CASES)}; all where none is named")
+    parser.add_argument("--program", default=os.environ.get("PAIRMD", f"{ROOT}/pairmd"))
+    told = parser.parse_args()
+    program, same, other = os.path.realpath(told.program), 0, 0
+    if not os.access(program, os.X_OK):
+        sys.exit(f"no program at {program}: `make pairmd` leaves it at ./pairmd; PAIRMD names another")
+    for name in told.cases or CASES:
+        if name not in CASES:
+            sys.exit(f"no case {name}: {', '.join(CASES)}")
+        began = time.monotonic()
+        with tempfile.TemporaryDirectory(prefix="edges-") as folder:
+            room = Room(program, folder)
+            CASES[name](room)
+        print(f"{name}: {room.same} as wanted, {room.other} not, {time.monotonic() - began:.1f} s", flush=True)
+        same, other = same + room.same, other + room.other
+    print(f"{same} as wanted, {other} not")
+    return 1 if other or not same else 0
+
+
+if __name__ == "__main__":
+    sys.exit(main())
