@@ -1,20 +1,16 @@
 -- What the program answers, by how its words ended; and that a run which there is isn't refused.
-use Rattle.std.proofs.Common.{◌≡◌, ◌≢◌, ◌⊎◌, ◌∙◌, ◌<◌, ◌-◌, ◌^◌, ℕ, List, Option, Some, None, ap, arith, inl, inr, refl, subst, sym}
+use Rattle.std.proofs.Common.{◌≡◌, ◌⊎◌, ◌∙◌, ◌<◌, ◌-◌, ◌^◌, ℕ, List, Some, None, ap, arith, inl, inr, refl, subst, sym}
 use Rattle.std.specs.Borrow.{Bor}
 use Rattle.std.specs.Prelude.{IfSome, codes}
-use Rattle.command_line.specs.CommandLine.{IsCommand}
-use Rattle.command_line.specs.declared.commands.Command.{Command}
 use Rattle.command_line.specs.declared.commands.Command.TheVariants as command
 use Rattle.command_line.specs.declared.commands.Run.{Run}
-use Rattle.command_line.proofs.OneCommand.{IsThisRun, one_run}
+use Rattle.command_line.proofs.OneCommand.{one_run}
 use Rattle.fallible.specs.Out.{Output}
-use Rattle.fallible.specs.declared.failure.Failure.TheVariants.{Memory, Refused}
 use Rattle.integrator.proofs.ReturnLaws.{system_parts}
 use Rattle.integrator.specs.Runs.{IsRun}
 use Rattle.integrator.specs.Starts.{plain}
 use Rattle.integrator.specs.declared.direction.Direction.{Direction}
-use Rattle.integrator.specs.declared.faults.StepFault.TheVariants as step
-use Rattle.engine.specs.Engines.{AreSafe, IsRunUnwritten, Wants}
+use Rattle.engine.specs.Engines.{AreSafe, IsRunUnwritten}
 use Rattle.engine.specs.Headline.{IsLevesqueVerletRun}
 use Rattle.engine.specs.declared.faults.RunFault.{RunFault}
 use Rattle.engine.specs.declared.faults.RunFault.TheVariants as run
@@ -23,11 +19,10 @@ use Rattle.engine.proofs.ToldRuns.{told_are_run}
 use Rattle.cli.specs.Command.{Held, IsAnswer, IsDone, IsHeld, IsNotRefused, IsQuiet, IsSaid, NamesRun, Paths, PrintsIfCounted, Says, line}
 use Rattle.cli.specs.Failures.{fault_of_run}
 use Rattle.cli.specs.Progress.{IsBegun}
-use Rattle.cli.specs.Refusals.{HasNoBytes, IsCommandRefused, IsFaultOf, IsUnanswered, IsUndone, IsUnread, unread}
+use Rattle.cli.specs.Refusals.{IsFaultOf, IsUndone, IsUnread, unread}
 use Rattle.cli.specs.Reports.{IsReported, said}
 use Rattle.cli.specs.Statuses.{status_number, status_of}
 use Rattle.cli.specs.declared.faults.CommandFault.{CommandFault}
-use Rattle.cli.specs.declared.faults.CommandFault.TheVariants as fault
 use Rattle.cli.specs.declared.faults.Status.{Status}
 use Rattle.cli.specs.declared.faults.Status.TheVariants as status
 use Rattle.cli.specs.declared.files.ReadFault.{ReadFault}

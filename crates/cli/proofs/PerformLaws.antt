@@ -1,5 +1,5 @@
 -- How commands end, by the calls that they end with.
-use Rattle.std.proofs.Common.{◌≡◌, ℕ, List, [], Option, None, inr, refl, subst, sym}
+use Rattle.std.proofs.Common.{◌≡◌, ℕ, List, [], inr, refl, subst, sym}
 use Rattle.std.specs.Prelude.{IfErr, IfOk, OnOk, Result, Ok, Err}
 use Rattle.std.specs.Result.{IsErrAnd, MatchResult, result_map_both}
 use Rattle.command_line.specs.CommandLine.{IsCommand}

@@ -26,7 +26,7 @@ use Rattle.trajectory.specs.Watching.{IsToldOfRun, IsToldOnWay, hundredths_behin
 use Rattle.cli.specs.Command.{Held, IsQuiet, Paths, Prints, PrintsIfCounted, PrintsProgress, Says, TellsReached, told_of}
 use Rattle.cli.specs.Failures.{fault_of_observe, fault_of_run}
 use Rattle.cli.specs.Progress.{AllTold, IsBegun, IsTold, Tells, TellsBefore, TellsOf, ToldAtOutput, ToldBefore, ToldUpToText}
-use Rattle.cli.specs.Refusals.{IsNoAnswer, IsUnread, IsUnreadOfTwo, unread}
+use Rattle.cli.specs.Refusals.{IsNoAnswer, IsUnreadOfTwo, unread}
 use Rattle.cli.specs.Reports.{IsReported}
 use Rattle.cli.specs.Statuses.{status_number, status_of}
 use Rattle.cli.specs.declared.faults.CommandFault.{CommandFault}

@@ -1,8 +1,6 @@
 -- What `pairmd run` has printed `pairmd back` takes, and the other way round.
 use Rattle.std.proofs.Common.{◌≡◌, ◌⊎◌, ◌∙◌, ◌<◌, ℕ, List, ◌++◌, Some, ap, inl, inr, subst, sym}
 use Rattle.std.proofs.lemmas.List.{append_cancel_left}
-use Rattle.command_line.specs.CommandLine.{IsCommand}
-use Rattle.command_line.specs.declared.commands.Command.{Command}
 use Rattle.command_line.specs.declared.commands.Command.TheVariants as command
 use Rattle.command_line.proofs.OneCommand.{no_help, no_version, one_run}
 use Rattle.engine.specs.Engines.{AreSafe}
@@ -13,7 +11,7 @@ use Rattle.integrator.specs.Frames.{opposite}
 use Rattle.integrator.specs.declared.direction.Direction.{Direction}
 use Rattle.fallible.specs.Out.{Appends, Output, appended}
 use Rattle.cli.specs.Command.{HasPrinted, Held, IsDone, IsNotRefused, NamesRun, Paths}
-use Rattle.cli.specs.CommandLaws.{IsAnswered, PrintedRunsReturn, PrintedText, Use}
+use Rattle.cli.specs.CommandLaws.{PrintedRunsReturn}
 use Rattle.cli.proofs.AnswerLaws.{given}
 
 -- what words that name a run have printed is a run of the texts that their files hold

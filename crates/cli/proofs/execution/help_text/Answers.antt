@@ -1,5 +1,5 @@
 -- a text that isn't empty is told as it is
-use Rattle.std.proofs.Common.{◌≡◌, ◌∙◌, ap, arith, length, string_bytes, sym}
+use Rattle.std.proofs.Common.{◌≡◌, ◌∙◌, ap, arith, length, sym}
 use Rattle.std.proofs.lemmas.Result.{IfOk-weaker}
 use Rattle.cli.proofs.execution.help_text.Goals as goal
 
