@@ -1,9 +1,11 @@
+pub mod AnswerLaws
 pub mod FailureLaws
 pub mod ForceTextLaws
 pub mod PerformLaws
 pub mod Printing
 pub mod ProgressLaws
 pub mod RefusalLaws
+pub mod ReturnLaws
 pub mod StartLaws
 pub mod StatusLaws
 pub mod VerdictLaws

@@ -1,5 +1,5 @@
 -- How commands end, by the calls that they end with.
-use Rattle.std.proofs.Common.{◌≡◌, ℕ, List, [], Option, None, inr, refl, subst, sym}
+use Rattle.std.proofs.Common.{◌≡◌, ℕ, List, [], inr, refl, subst, sym}
 use Rattle.std.specs.Prelude.{IfErr, IfOk, OnOk, Result, Ok, Err}
 use Rattle.std.specs.Result.{IsErrAnd, MatchResult, result_map_both}
 use Rattle.command_line.specs.CommandLine.{IsCommand}
@@ -7,8 +7,7 @@ use Rattle.command_line.specs.declared.commands.Command.{Command}
 use Rattle.fallible.specs.Out.{Appends, AppendsBeginning, Output, Writes}
 use Rattle.fallible.specs.declared.output.OutFault.{OutFault}
 use Rattle.cli.specs.Performed.{Performs, WritesText}
-use Rattle.cli.specs.Printed.{IsDone}
-use Rattle.cli.specs.Progress.{Tells}
+use Rattle.cli.specs.Command.{Held, IsDone, Paths}
 use Rattle.cli.specs.Refusals.{IsFaultOf}
 use Rattle.cli.specs.declared.faults.CommandFault.{CommandFault}
 use Rattle.cli.specs.declared.faults.CommandFault.TheVariants as fault
@@ -26,6 +25,16 @@ pub told_as : {T E F : Type 0} (r : Result T E) (s : Result T F) (told : E → F
 told_as (Ok x) s told P Q is h = subst (λ t. MatchResult t P Q) (sym is) h
 told_as (Err e) s told P Q is h = subst (λ t. MatchResult t P Q) (sym is) h
 
+-- two things that hold where a result is ok, hold together
+pub both_ok : {T E : Type 0} (r : Result T E) (P Q : Type 0) → OnOk r P → OnOk r Q → OnOk r (P × Q)
+both_ok (Ok x) P Q p q = (p, q)
+both_ok (Err e) P Q p q = tt
+
+-- the same of three
+pub three_ok : {T E : Type 0} (r : Result T E) (P Q R : Type 0) → OnOk r P → OnOk r Q → OnOk r R → OnOk r (P × Q × R)
+three_ok (Ok x) P Q R p q r' = (p, q, r')
+three_ok (Err e) P Q R p q r' = tt
+
 -- ---- texts
 
 -- the text that was made, if one was
@@ -42,19 +51,14 @@ text_written (Err o) r Why HasText before after text is writes whole began = sub
 
 -- ---- commands
 
--- a command that tells nothing leaves that output as it was
-pub tells_nothing : {T E : Type 0} (r : Result T E) (o : Output) → Tells None o o r
-tells_nothing (Ok x) o = refl
-tells_nothing (Err e) o = refl
-
 -- what a command has done is what its words ask for
-pub done_by_words : {T A : Type 0} (r : Result T (CommandFault A)) (words : List (List ℕ)) (held : List ℕ → Option (List ℕ)) (asked asked' : Option (List (List ℕ))) (c : Command) (before after : Output)
+pub done_by_words : {T A : Type 0} (r : Result T (CommandFault A)) (words : List (List ℕ)) (held : Held) (asked asked' : Paths) (c : Command) (before after : Output)
     → IsCommand words c → Performs held asked asked' c before after r → OnOk r (IsDone words held asked asked' before after)
-done_by_words (Ok x) words held asked asked' c before after is performs = inr (c, is, performs.0, performs.1)
+done_by_words (Ok x) words held asked asked' c before after is performs = inr (inr (c, is, performs.0, performs.1))
 done_by_words (Err f) words held asked asked' c before after is performs = tt
 
 -- why it was not done is why that was not
-pub undone_by_words : {T A : Type 0} (r : Result T (CommandFault A)) (words : List (List ℕ)) (held : List ℕ → Option (List ℕ)) (asked asked' : Option (List (List ℕ))) (c : Command) (before after : Output)
+pub undone_by_words : {T A : Type 0} (r : Result T (CommandFault A)) (words : List (List ℕ)) (held : Held) (asked asked' : Paths) (c : Command) (before after : Output)
     → IsCommand words c → Performs held asked asked' c before after r → IfErr r (IsFaultOf words held asked asked' before after)
 undone_by_words (Ok x) words held asked asked' c before after is performs = tt
 undone_by_words (Err f) words held asked asked' c before after is performs = inr (c, is, performs)

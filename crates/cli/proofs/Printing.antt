@@ -2,7 +2,8 @@
 use Rattle.std.proofs.Common.{◌≡◌, ◌≢◌, ℕ, List, inl, inr, refl}
 use Rattle.std.specs.Prelude.{Result, Ok, Err}
 use Rattle.fallible.specs.Out.{Output, Writes}
-use Rattle.cli.specs.Reports.{Prints, line, said}
+use Rattle.cli.specs.Command.{Prints, line}
+use Rattle.cli.specs.Reports.{said}
 use Rattle.cli.specs.declared.faults.Status.{Status}
 use Rattle.cli.specs.declared.faults.Status.TheVariants as status
 

@@ -1,7 +1,7 @@
 -- Laws of refused commands: which files they asked for, what is left of their output, and what their status tells.
-use Rattle.std.proofs.Common.{◌≡◌, ◌≢◌, ◌⊎◌, ◌∙◌, ◌<◌, ◌≤◌, ◌-◌, ◌^◌, ℕ, List, Option, Some, None, ap, arith, inl, inr, refl, subst, sym}
+use Rattle.std.proofs.Common.{◌≡◌, ◌≢◌, ◌⊎◌, ◌∙◌, ◌<◌, ◌≤◌, ℕ, List, [], ◌∷◌, Option, Some, None, ap, arith, inl, inr, refl, subst, sym}
 use Rattle.std.specs.Borrow.{Bor}
-use Rattle.std.specs.Prelude.{IfErr, Result, Ok, Err}
+use Rattle.std.specs.Prelude.{IfErr, IfOk, OnOk, Result, Ok, Err}
 use Rattle.command_line.specs.CommandLine.{AsksForHelp, AsksForVisits, AsksForVersion, IsCommand, IsMisuse, IsOfVisits, faults_of}
 use Rattle.command_line.specs.declared.commands.Command.{Command}
 use Rattle.command_line.specs.declared.commands.Command.TheVariants as command
@@ -22,14 +22,9 @@ use Rattle.observation.specs.Tables.{AreRowsUnwritten}
 use Rattle.observation.specs.declared.faults.ObserveFault.{ObserveFault}
 use Rattle.observation.specs.declared.faults.ObserveFault.TheVariants as observe
 use Rattle.trajectory.specs.Visits.{AreTextsUnwritten, Showing}
-use Rattle.cli.specs.Asked.{also_asked}
-use Rattle.cli.specs.Kept.{IsKept}
-use Rattle.cli.specs.Performed.{WritesLine, WritesText}
-use Rattle.cli.specs.Printed.{IsDone}
-use Rattle.cli.specs.Progress.{IsBegun, IsTold, PrintsIfCounted}
-use Rattle.cli.specs.Reads.{AsksFor, also_asked_if, asked_by, unread}
-use Rattle.cli.specs.Refusals.{HasNoBytes, IsFaultOf, IsNoAnswer, IsCommandRefused, IsUnanswered, IsUndone, IsUnread, IsUnreadOfSome, IsUnreadOfTwo, IsVerdictUndone, RefusesCode, RefusesEnergy, RefusesForces, RefusesFrame, RefusesJob, RefusesListing, RefusesSlope, RefusesState, RefusesUnder}
-use Rattle.cli.specs.Reports.{IsReported}
+use Rattle.cli.specs.Command.{AsksFor, Held, IsDone, IsKept, IsQuiet, Paths, also_asked, also_asked_if, asked_by, version_line}
+use Rattle.cli.specs.Performed.{HasAnswered, WritesLine, WritesText}
+use Rattle.cli.specs.Refusals.{HasNoBytes, IsFaultOf, IsNoAnswer, IsCommandRefused, IsUnanswered, IsUndone, IsUnread, IsUnreadOfSome, IsUnreadOfTwo, IsVerdictUndone, RefusesCode, RefusesEnergy, RefusesForces, RefusesFrame, RefusesJob, RefusesListing, RefusesSlope, RefusesState, RefusesUnder, unread}
 use Rattle.cli.specs.Failures.{fault_of_observe, fault_of_run}
 use Rattle.cli.specs.Statuses.{status_number, status_of}
 use Rattle.cli.specs.declared.faults.CommandFault.{CommandFault}
@@ -37,11 +32,7 @@ use Rattle.cli.specs.declared.faults.CommandFault.TheVariants as fault
 use Rattle.cli.specs.declared.faults.Status.TheVariants as status
 use Rattle.cli.specs.declared.files.ReadFault.{ReadFault}
 use Rattle.cli.specs.declared.files.ReadFault.TheVariants as read
-use Rattle.cli.proofs.ProgressLaws.{says}
 use Rattle.cli.proofs.StatusLaws.{IsOfWords, code_two, code_zero, file_failed, memory_wanted, never_done, number_most, of_files_alone, of_observe, of_run, words_alone}
-
-abbrev Paths : Type 0
-Paths = Option (List (List ℕ))
 
 -- ---- which files were asked for
 
@@ -58,17 +49,17 @@ asks_all (command.Check check) before after all = inr all
 asks_all (command.Code l) before after all = all
 asks_all (command.Explain e) before after all = all
 
-asks_of_two : {A : Type 0} (held : List ℕ → Option (List ℕ)) (first second : List ℕ) (before after : Paths) (f : CommandFault A) → IsUnreadOfTwo held first second before after f
+asks_of_two : {A : Type 0} (held : Held) (first second : List ℕ) (before after : Paths) (f : CommandFault A) → IsUnreadOfTwo held first second before after f
     → (after ≡ also_asked before first) ⊎ (after ≡ also_asked (also_asked before first) second)
 asks_of_two held first second before after f (inl h) = inl h.asked
 asks_of_two held first second before after f (inr h) = inr h.asked
 
-asks_of_some : {A : Type 0} (held : List ℕ → Option (List ℕ)) (first : List ℕ) (second : Option (Bor (List ℕ))) (before after : Paths) (f : CommandFault A) → IsUnreadOfSome held first second before after f
+asks_of_some : {A : Type 0} (held : Held) (first : List ℕ) (second : Option (Bor (List ℕ))) (before after : Paths) (f : CommandFault A) → IsUnreadOfSome held first second before after f
     → (after ≡ also_asked before first) ⊎ (after ≡ also_asked_if (also_asked before first) second)
 asks_of_some held first None before after f h = inl h.asked
 asks_of_some held first (Some second) before after f h = asks_of_two held first second.now before after f h
 
-asks_without_bytes : {A : Type 0} (held : List ℕ → Option (List ℕ)) (c : Command) (before after : Paths) (f : CommandFault A) → HasNoBytes held c before after f → AsksFor c before after
+asks_without_bytes : {A : Type 0} (held : Held) (c : Command) (before after : Paths) (f : CommandFault A) → HasNoBytes held c before after f → AsksFor c before after
 asks_without_bytes held (command.Start start) before after f h = asks_of_two held _ _ _ _ f h
 asks_without_bytes held (command.Run run) before after f h = asks_of_two held _ _ _ _ f h
 asks_without_bytes held (command.Trajectory v) before after f h = asks_of_two held _ _ _ _ f h
@@ -81,19 +72,20 @@ asks_without_bytes held (command.Check check) before after f h = asks_of_some he
 asks_without_bytes held (command.Code l) before after f h = h.asked
 asks_without_bytes held (command.Explain e) before after f h = absurd h
 
-asks_undone : {A : Type 0} (held : List ℕ → Option (List ℕ)) (asked asked' : Paths) (c : Command) (before after : Output) (f : CommandFault A)
+asks_undone : {A : Type 0} (held : Held) (asked asked' : Paths) (c : Command) (before after : Output) (f : CommandFault A)
     → IsUndone held asked asked' c before after f → AsksFor c asked asked'
 asks_undone held asked asked' c before after f (inl h) = asks_without_bytes held c asked asked' f h.0
 asks_undone held asked asked' c before after f (inr h) = asks_all c asked asked' h.0
 
 -- the files that are asked for where the words were carried out, and where they were not
-pub asks_done : (words : List (List ℕ)) (held : List ℕ → Option (List ℕ)) (asked asked' : Paths) (before after : Output) → IsDone words held asked asked' before after
+pub asks_done : (words : List (List ℕ)) (held : Held) (asked asked' : Paths) (before after : Output) → IsDone words held asked asked' before after
     → (asked' ≡ asked) ⊎ ((c : Command) × IsCommand words c × AsksFor c asked asked')
 asks_done words held asked asked' before after (inl h) = inl h.1
-asks_done words held asked asked' before after (inr h) = inr (h.0, h.1, asks_all h.0 asked asked' h.2)
+asks_done words held asked asked' before after (inr (inl h)) = inl h.1
+asks_done words held asked asked' before after (inr (inr h)) = inr (h.0, h.1, asks_all h.0 asked asked' h.2)
 
 -- the same where the words' wish ended in a fault
-pub asks_faulty : {A : Type 0} (words : List (List ℕ)) (held : List ℕ → Option (List ℕ)) (asked asked' : Paths) (before after : Output) (f : CommandFault A)
+pub asks_faulty : {A : Type 0} (words : List (List ℕ)) (held : Held) (asked asked' : Paths) (before after : Output) (f : CommandFault A)
     → IsFaultOf words held asked asked' before after f → (asked' ≡ asked) ⊎ ((c : Command) × IsCommand words c × AsksFor c asked asked')
 asks_faulty words held asked asked' before after f (inl h) = inl h.1
 asks_faulty words held asked asked' before after f (inr h) = inr (h.0, h.1, asks_undone held asked asked' h.0 before after f h.2)
@@ -120,15 +112,18 @@ kept_texts : {A : Type 0} (Shows : Showing) (job state : List ℕ) (direction : 
 kept_texts Shows job state direction steps every before after (run.Open failure) h = inl (inl h.1)
 kept_texts Shows job state direction steps every before after (run.Steps step.StepRange) h = inl (inl h.1)
 kept_texts Shows job state direction steps every before after (run.Steps (step.Memory done)) h = inr refl
-kept_texts Shows job state direction steps every before after (run.Out o) h = inl (inr h.1.began.beginning.failed)
+kept_texts Shows job state direction steps every before after (run.Out o) h =
+    let same = h.2.wrote.appends.failed in
+    let failed = h.2.began.beginning.failed in
+    inl (inr (omega (arith, same, failed)))
 
 -- the same of a table's rows
 kept_rows : {A : Type 0} (Shows : Showing) (job state : List ℕ) (direction : Direction) (steps every : ℕ) (before after : Output) (f : ObserveFault A) → AreRowsUnwritten Shows job state direction steps every before after f
     → IsKept before after ⊎ (status_of (fault_of_observe f) ≡ status.Memory)
-kept_rows Shows job state direction steps every before after (observe.Run f) h = kept_texts Shows job state direction steps every before after f h
+kept_rows Shows job state direction steps every before after (observe.Run f) h = kept_texts Shows job state direction steps every before after f h.1
 kept_rows Shows job state direction steps every before after (observe.Energy f) h = inl (inl h.1)
 
-kept_verdict : {A : Type 0} (held : List ℕ → Option (List ℕ)) (job : List ℕ) (listing : Option (Bor (List ℕ))) (before after : Output) (f : CommandFault A)
+kept_verdict : {A : Type 0} (held : Held) (job : List ℕ) (listing : Option (Bor (List ℕ))) (before after : Output) (f : CommandFault A)
     → IsVerdictUndone held job listing before after f → IsKept before after
 kept_verdict held job None before after f h = kept_unwritten _ _ before after f h.2 (λ b. b.written.failed)
 kept_verdict held job (Some listing) before after f h = kept_unwritten _ _ before after f h.4 (λ b. b.written.failed)
@@ -141,7 +136,7 @@ visited words f g c is asked visits (inr memory) = inr (ap status_of is ∙ memo
 
 -- the output of a command that was refused: one that shows states on the way may leave whole texts where an allocation
 -- is refused
-kept_refused : {A : Type 0} (words : List (List ℕ)) (held : List ℕ → Option (List ℕ)) (c : Command) (before after : Output) (f : CommandFault A) → IsCommand words c
+kept_refused : {A : Type 0} (words : List (List ℕ)) (held : Held) (c : Command) (before after : Output) (f : CommandFault A) → IsCommand words c
     → IsCommandRefused held c before after f → IsKept before after ⊎ ((status_of f ≡ status.Memory) × AsksForVisits words)
 kept_refused words held (command.Start start) before after f is h = inl (kept_unwritten _ _ before after f h.4 (λ b. b.written.failed))
 kept_refused words held (command.Run r) before after f is h = inl (kept_run _ _ _ _ before after h.4.0 h.4.2)
@@ -160,7 +155,7 @@ kept_unanswered words before after f (inl h) = inl h.3
 kept_unanswered words before after f (inr (inl h)) = inr h.3
 kept_unanswered words before after f (inr (inr h)) = inl h.1
 
-kept_faulty : {A : Type 0} (words : List (List ℕ)) (held : List ℕ → Option (List ℕ)) (asked asked' : Paths) (before after : Output) (f : CommandFault A)
+kept_faulty : {A : Type 0} (words : List (List ℕ)) (held : Held) (asked asked' : Paths) (before after : Output) (f : CommandFault A)
     → IsFaultOf words held asked asked' before after f → IsKept before after ⊎ ((status_of f ≡ status.Memory) × AsksForVisits words)
 kept_faulty words held asked asked' before after f (inl h) = inl (kept_unanswered words before after f h.0)
 kept_faulty words held asked asked' before after f (inr (c, is, inl h)) = inl (inl h.1)
@@ -171,7 +166,7 @@ abbrev HasStatus : {A : Type 0} → CommandFault A → ℕ → Type 0 → Type 0
 HasStatus f result Text Memory = ((result ≡ status_number (status_of f)) × Text) ⊎ ((result ≡ status_number status.Memory) × Memory)
 
 -- the same as the status tells it
-pub kept_told : {A : Type 0} (words : List (List ℕ)) (held : List ℕ → Option (List ℕ)) (asked asked' : Paths) (before after : Output) (f : CommandFault A) (result : ℕ) (Text Memory : Type 0)
+pub kept_told : {A : Type 0} (words : List (List ℕ)) (held : Held) (asked asked' : Paths) (before after : Output) (f : CommandFault A) (result : ℕ) (Text Memory : Type 0)
     → IsFaultOf words held asked asked' before after f → HasStatus f result Text Memory → IsKept before after ⊎ ((result ≡ 4) × AsksForVisits words)
 kept_told words held asked asked' before after f result Text Memory is told = by_status (kept_faulty words held asked asked' before after f is) told
   where
@@ -193,22 +188,22 @@ most_told f result Text Memory (inl told) = omega (arith, told.0, number_most (s
 most_told f result Text Memory (inr told) = let memory : result ≡ 4 = told.0 in omega (arith, memory)
 
 -- no file's fault is one of the words
-unread_of_words : {A : Type 0} (held : List ℕ → Option (List ℕ)) (path : List ℕ) (before after : Paths) (f : CommandFault A) → IsOfWords f → IsUnread held path before after f → ⊥
+unread_of_words : {A : Type 0} (held : Held) (path : List ℕ) (before after : Paths) (f : CommandFault A) → IsOfWords f → IsUnread held path before after f → ⊥
 unread_of_words {A} held path before after f of_words h = unread_no h.why h.lent (subst IsOfWords h.is of_words)
   where
     unread_no : (why : ReadFault) (lent : Bor (List ℕ)) → IsOfWords {A = A} (unread why lent) → ⊥
     unread_no read.CannotRead lent is = of_files_alone (fault.CannotRead lent) file_failed is
     unread_no read.Memory lent is = of_files_alone fault.Memory memory_wanted is
 
-two_of_words : {A : Type 0} (held : List ℕ → Option (List ℕ)) (first second : List ℕ) (before after : Paths) (f : CommandFault A) → IsOfWords f → IsUnreadOfTwo held first second before after f → ⊥
+two_of_words : {A : Type 0} (held : Held) (first second : List ℕ) (before after : Paths) (f : CommandFault A) → IsOfWords f → IsUnreadOfTwo held first second before after f → ⊥
 two_of_words held first second before after f of_words (inl h) = unread_of_words held _ _ _ f of_words h
 two_of_words held first second before after f of_words (inr h) = unread_of_words held _ _ _ f of_words h
 
-some_of_words : {A : Type 0} (held : List ℕ → Option (List ℕ)) (first : List ℕ) (second : Option (Bor (List ℕ))) (before after : Paths) (f : CommandFault A) → IsOfWords f → IsUnreadOfSome held first second before after f → ⊥
+some_of_words : {A : Type 0} (held : Held) (first : List ℕ) (second : Option (Bor (List ℕ))) (before after : Paths) (f : CommandFault A) → IsOfWords f → IsUnreadOfSome held first second before after f → ⊥
 some_of_words held first None before after f of_words h = unread_of_words held _ _ _ f of_words h
 some_of_words held first (Some second) before after f of_words h = two_of_words held _ _ _ _ f of_words h
 
-bytes_of_words : {A : Type 0} (held : List ℕ → Option (List ℕ)) (c : Command) (before after : Paths) (f : CommandFault A) → IsOfWords f → HasNoBytes held c before after f → ⊥
+bytes_of_words : {A : Type 0} (held : Held) (c : Command) (before after : Paths) (f : CommandFault A) → IsOfWords f → HasNoBytes held c before after f → ⊥
 bytes_of_words held (command.Start start) before after f of_words h = two_of_words held _ _ _ _ f of_words h
 bytes_of_words held (command.Run r) before after f of_words h = two_of_words held _ _ _ _ f of_words h
 bytes_of_words held (command.Trajectory v) before after f of_words h = two_of_words held _ _ _ _ f of_words h
@@ -230,7 +225,7 @@ under_of_words : (Job : Type 0) (Read Refuses' : JobValue → Type 0) → (Job �
 under_of_words Job Read Refuses' none never (inl h) = none h
 under_of_words Job Read Refuses' none never (inr h) = never h.0 h.2
 
-refused_of_words : {A : Type 0} (held : List ℕ → Option (List ℕ)) (c : Command) (before after : Output) (f : CommandFault A) → IsOfWords f
+refused_of_words : {A : Type 0} (held : Held) (c : Command) (before after : Output) (f : CommandFault A) → IsOfWords f
     → ((job : List ℕ) → RefusesJob job f → ⊥) → ((gro : List ℕ) (n : ℕ) (said : JobValue) → RefusesFrame gro n said f → ⊥) → ((state : List ℕ) → RefusesState state f → ⊥)
     → ((said : JobValue) → RefusesCode said f → ⊥) → ((said : JobValue) → RefusesSlope said f → ⊥) → ((listing : List ℕ) (said : JobValue) → RefusesListing listing said f → ⊥)
     → ((job state : List ℕ) → RefusesEnergy job state f → ⊥) → ((job state : List ℕ) → RefusesForces job state f → ⊥) → IsCommandRefused held c before after f → ⊥
@@ -252,7 +247,7 @@ refused_of_words held (command.Code l) before after f of_words job frame state c
 refused_of_words held (command.Explain e) before after f of_words job frame state code slope listing energy forces h = unwritten_of_words _ _ before after f of_words (λ none. none) h
 
 -- words that name a command have no fault of their own
-command_of_words : {A : Type 0} (held : List ℕ → Option (List ℕ)) (asked asked' : Paths) (c : Command) (before after : Output) (f : CommandFault A) → IsOfWords f
+command_of_words : {A : Type 0} (held : Held) (asked asked' : Paths) (c : Command) (before after : Output) (f : CommandFault A) → IsOfWords f
     → IsUndone held asked asked' c before after f → ⊥
 command_of_words held asked asked' c before after f of_words (inl h) = bytes_of_words held c asked asked' f of_words h.0
 command_of_words held asked asked' c before after f (inl (e, is)) (inr h) =
@@ -268,23 +263,17 @@ unanswered_of_words words before after f of_words (inl h) = (h.2, h.3)
 unanswered_of_words words before after f of_words (inr (inl h)) = absurd (of_files_alone (fault.Out h.0) file_failed (subst IsOfWords h.1 of_words))
 unanswered_of_words words before after f of_words (inr (inr h)) = absurd (of_files_alone fault.Memory memory_wanted (subst IsOfWords h.0 of_words))
 
-misuse_of : {A : Type 0} (words : List (List ℕ)) (held : List ℕ → Option (List ℕ)) (asked asked' : Paths) (before after : Output) (f : CommandFault A)
+misuse_of : {A : Type 0} (words : List (List ℕ)) (held : Held) (asked asked' : Paths) (before after : Output) (f : CommandFault A)
     → IsFaultOf words held asked asked' before after f → IsOfWords f → IsMisuse words × (after ≡ before)
 misuse_of words held asked asked' before after f (inl h) of_words = unanswered_of_words words before after f of_words h.0
 misuse_of words held asked asked' before after f (inr h) of_words = absurd (command_of_words held asked asked' h.0 before after f of_words h.2)
 
 -- the status of misuse is told of misuse alone
-pub misuse_told : {A : Type 0} (words : List (List ℕ)) (held : List ℕ → Option (List ℕ)) (asked asked' : Paths) (before after : Output) (f : CommandFault A) (result : ℕ) (Text Memory : Type 0)
+pub misuse_told : {A : Type 0} (words : List (List ℕ)) (held : Held) (asked asked' : Paths) (before after : Output) (f : CommandFault A) (result : ℕ) (Text Memory : Type 0)
     → IsFaultOf words held asked asked' before after f → HasStatus f result Text Memory → result ≡ 2 → IsMisuse words × (after ≡ before)
 misuse_told words held asked asked' before after f result Text Memory is (inl told) two =
     misuse_of words held asked asked' before after f is (words_alone f (code_two (status_of f) (sym told.0 ∙ two)))
 misuse_told words held asked asked' before after f result Text Memory is (inr told) two = let bad : 4 ≡ 2 = sym told.0 ∙ two in absurd (omega (arith, bad))
-
--- a fault is told behind how far a run has come
-pub told_behind : {A : Type 0} (words : List (List ℕ)) (before between after : Output) (f : CommandFault A) (result : ℕ) → before.failed < 2 ^ 64 - 1 → IsBegun words before between
-    → IsReported f result (PrintsIfCounted between after) → IsTold words f result before after
-told_behind words before between after f result room begun (inl told) = inl (told.0, (told.1.0, says words before between after _ room begun told.1.1))
-told_behind words before between after f result room begun (inr told) = inr (told.0, says words before between after _ room begun told.1)
 
 -- ---- words that name no command
 
@@ -305,6 +294,39 @@ pub no_answer : {T A : Type 0} (r : Result T (CommandFault A)) (kind : ErrorKind
 no_answer (Ok x) kind text before after asked h = tt
 no_answer (Err f) kind text before after asked (inl h) = inr (inr h)
 no_answer (Err f) kind text before after asked (inr h) = inr (inl (h.0, h.1, asked, h.2.failed))
+
+-- words that were answered with help, or with the version, ask for it
+pub answered : (words : List (List ℕ)) (held : Held) (asked : Paths) (e : Error) (before after : Output) → HasKind (faults_of words) e → HasAnswered (kind_of e) before after
+    → IsDone words held asked asked before after
+answered words held asked e before after kind (inl h) = inl (asks_for_help words e h.0 kind, refl, h.1)
+answered words held asked e before after kind (inr h) = inr (inl (asks_for_version words e h.0 kind, refl, h.1))
+
+-- and nothing was told of them
+pub answered_quiet : (words : List (List ℕ)) (e : Error) (before after told : Output) → HasKind (faults_of words) e → HasAnswered (kind_of e) before after → IsQuiet words told told
+answered_quiet words e before after told kind (inl h) = inl (inl (asks_for_help words e h.0 kind), refl)
+answered_quiet words e before after told kind (inr h) = inl (inr (asks_for_version words e h.0 kind), refl)
+
+-- help that was written, whatever it says, is one that says something
+pub help_answered : {S E T A : Type 0} (bytes : S → List ℕ) (help : Result S E) (r : Result T (CommandFault A)) (kind : ErrorKind) (before after : Output) → kind ≡ DisplayHelp
+    → IfOk help (λ s. bytes s ≢ []) → ((text : List ℕ) → IfOk help (λ s. bytes s ≡ text) → WritesLine text before after r) → OnOk r (HasAnswered kind before after)
+help_answered {S} {E} {T} {A} bytes help r kind before after is some writes = of_text (text_that help some)
+  where
+    text_that : (h : Result S E) → IfOk h (λ s. bytes s ≢ []) → (text : List ℕ) × (text ≢ []) × IfOk h (λ s. bytes s ≡ text)
+    text_that (Ok s) some = (bytes s, some, refl)
+    text_that (Err e) some = (0 ∷ [], (λ none. cc), tt)
+
+    written : (text : List ℕ) (w : Result T (CommandFault A)) → text ≢ [] → WritesLine text before after w → OnOk w (HasAnswered kind before after)
+    written text (Ok x) some h = inl (is, (text, some, h))
+    written text (Err f) some h = tt
+
+    of_text : (text : List ℕ) × (text ≢ []) × IfOk help (λ s. bytes s ≡ text) → OnOk r (HasAnswered kind before after)
+    of_text h = written h.0 r h.1 (writes h.0 h.2)
+
+-- the version that was written is the program's
+pub version_answered : {T A : Type 0} (r : Result T (CommandFault A)) (kind : ErrorKind) (before after : Output) → kind ≡ DisplayVersion → WritesLine version_line before after r
+    → OnOk r (HasAnswered kind before after)
+version_answered (Ok x) kind before after is h = inr (is, h)
+version_answered (Err f) kind before after is h = tt
 
 -- ---- a line that is written behind what is known
 

@@ -3,16 +3,16 @@
 use Rattle.std.specs.Prelude.{◌≡◌, ℕ, ◌-◌, ◌<◌, ◌≤◌, List, length, Ok, slice_index_or}
 use Rattle.fixed.specs.declared.frac.Frac.{Frac}
 use Rattle.gro.specs.Frames.{FrameView}
-use Rattle.gro.specs.GroReading.{frames_of}
+use Rattle.gro.specs.GroText.{IsGroText}
 use Rattle.gro.specs.GroWriting.{frame_text}
 use Rattle.potential.specs.Energies.{slope_code_of}
-use Rattle.job.specs.JobText.{reading_of, limits}
+use Rattle.job.specs.JobText.{IsJobText, limits}
 use Rattle.job.specs.Values.{JobValue}
 use Rattle.kernel_code.specs.Listing.{listing_of}
 use Rattle.kernel_code.specs.declared.instructions.Instr.{Instr}
 use Rattle.state.specs.Starts.{start_of_frame}
 use Rattle.state.specs.StateFrames.{frame_of}
-use Rattle.state.specs.StateReading.{state_of}
+use Rattle.engine.specs.Headline.{IsTextOf}
 use Rattle.state.specs.StateText.{StateView, state_text}
 
 -- the frame of this number, counted from 1
@@ -25,7 +25,7 @@ pub record IsFrameOf (frames : List FrameView) (number : ℕ) (frame : FrameView
 pub record IsStartOf (frac : Frac) (time_step : ℕ) (gro : List ℕ) (number : ℕ) (state : StateView) : Type 0 where
   pub frames : List FrameView
   pub frame : FrameView
-  pub gro_read : frames_of gro ≡ Ok frames
+  pub gro_text : IsGroText gro frames
   pub picked : IsFrameOf frames number frame
   pub started : start_of_frame frac time_step frame ≡ Ok state
 
@@ -33,20 +33,20 @@ pub record IsStartOf (frac : Frac) (time_step : ℕ) (gro : List ℕ) (number : 
 pub record IsStartText (job gro : List ℕ) (number : ℕ) (Wrote : List ℕ → Type 0) : Type 0 where
   pub said : JobValue
   pub state : StateView
-  pub job_read : reading_of limits job ≡ Ok said
+  pub job_text : IsJobText limits job said
   pub started : IsStartOf said.frac said.time_step gro number state
   pub written : Wrote (state_text state)
 
 -- the text of the frame of this state was written
 pub record IsFrameText (state : List ℕ) (Wrote : List ℕ → Type 0) : Type 0 where
   pub said : StateView
-  pub state_read : state_of state ≡ Ok said
+  pub state_text' : IsTextOf state said
   pub written : Wrote (frame_text (frame_of said))
 
 -- the listing of the code of this job's slope was written
 pub record IsCodeText (job : List ℕ) (Wrote : List ℕ → Type 0) : Type 0 where
   pub said : JobValue
   pub code : List Instr
-  pub job_read : reading_of limits job ≡ Ok said
+  pub job_text : IsJobText limits job said
   pub compiled : slope_code_of said ≡ Ok code
   pub written : Wrote (listing_of code)

@@ -1,18 +1,17 @@
 -- How a command ends: by what it printed, or by its fault.
-use Rattle.std.specs.Prelude.{◌≡◌, ◌/◌, ℕ, suc, List, Option, Result}
+use Rattle.std.specs.Prelude.{◌≡◌, ◌⊎◌, ℕ, List, Result}
 use Rattle.std.specs.Result.{MatchResult}
+use Rattle.clap.specs.declared.error.kind.ErrorKind.{ErrorKind}
+use Rattle.clap.specs.declared.error.kind.ErrorKind.TheVariants.{DisplayHelp, DisplayVersion}
 use Rattle.command_line.specs.declared.commands.Command.{Command}
 use Rattle.command_line.specs.declared.commands.Observe.{Observe}
 use Rattle.command_line.specs.declared.commands.Run.{Run}
 use Rattle.command_line.specs.declared.commands.Visits.{Visits}
-use Rattle.engine.specs.Headline.{WroteLevesqueVerletRun}
 use Rattle.fallible.specs.Out.{Appends, Output}
 use Rattle.observation.specs.Observations.{ShowsTable}
 use Rattle.trajectory.specs.Trajectories.{ShowsFrame}
-use Rattle.trajectory.specs.Visits.{IsTextOfRun, WroteTexts}
-use Rattle.trajectory.specs.WholeStates.{IsRunOnWay}
-use Rattle.cli.specs.Printed.{HasPrinted}
-use Rattle.cli.specs.Reads.{asked_by}
+use Rattle.trajectory.specs.WholeStates.{ShowsState}
+use Rattle.cli.specs.Command.{HasPrinted, Held, Paths, PrintsRun, PrintsSome, PrintsVisits, asked_by, version_line}
 use Rattle.cli.specs.Refusals.{AreStatesUndone, IsRunUndone, IsTableUndone, IsTextUnwritten, IsTrajectoryUndone, IsUndone}
 use Rattle.cli.specs.Tables.{columns_of}
 use Rattle.cli.specs.declared.faults.CommandFault.{CommandFault}
@@ -29,24 +28,28 @@ WritesLine text before after result = WritesText (λ f. f ≡ fault.Memory) (λ 
 -- the state was written that a run leads to; or this is why it was not
 abbrev pub WritesRun : {T A : Type 0} → (job state : List ℕ) → Run → (before after : Output) → Result T (CommandFault A) → Type 0
 WritesRun job state run before after result =
-    MatchResult result (λ _. WroteLevesqueVerletRun job state run.direction run.steps before after) (IsRunUndone job state run before after)
+    MatchResult result (λ _. PrintsRun job state run before after) (IsRunUndone job state run before after)
 
 -- the frames of a run were written; or this is why not all were
 abbrev pub WritesFrames : {T A : Type 0} → (job state : List ℕ) → Visits → (before after : Output) → Result T (CommandFault A) → Type 0
 WritesFrames job state v before after result =
-    MatchResult result (λ _. WroteTexts (IsTextOfRun ShowsFrame job state v.direction v.every) (suc (v.steps / v.every)) before after) (IsTrajectoryUndone job state v before after)
+    MatchResult result (λ _. PrintsVisits ShowsFrame job state v before after) (IsTrajectoryUndone job state v before after)
 
 -- the states on the way of a run were written, each the text of a run that ends there; or this is why not all were
 abbrev pub WritesStates : {T A : Type 0} → (job state : List ℕ) → Visits → (before after : Output) → Result T (CommandFault A) → Type 0
 WritesStates job state v before after result =
-    MatchResult result (λ _. WroteTexts (IsRunOnWay job state v.direction v.every) (suc (v.steps / v.every)) before after) (AreStatesUndone job state v before after)
+    MatchResult result (λ _. PrintsVisits ShowsState job state v before after) (AreStatesUndone job state v before after)
 
 -- the rows of a run's table were written; or this is why not all were
 abbrev pub WritesTable : {T A : Type 0} → (job state : List ℕ) → Observe → (before after : Output) → Result T (CommandFault A) → Type 0
 WritesTable job state o before after result =
-    MatchResult result (λ _. WroteTexts (IsTextOfRun (ShowsTable (columns_of o.exact)) job state o.visits.direction o.visits.every) (suc (o.visits.steps / o.visits.every)) before after) (IsTableUndone job state o before after)
+    MatchResult result (λ _. PrintsVisits (ShowsTable (columns_of o.exact)) job state o.visits before after) (IsTableUndone job state o before after)
+
+-- an error of the parser was answered on standard output, by its kind: with help, or with the version
+abbrev pub HasAnswered : ErrorKind → (before after : Output) → Type 0
+HasAnswered kind before after = ((kind ≡ DisplayHelp) × PrintsSome before after) ⊎ ((kind ≡ DisplayVersion) × Appends before after version_line)
 
 -- a command was done: it asked for its files, and has printed what it is for; or this is why it was not
-abbrev pub Performs : {T A : Type 0} → (List ℕ → Option (List ℕ)) → (asked_before asked_after : Option (List (List ℕ))) → Command → (before after : Output) → Result T (CommandFault A) → Type 0
+abbrev pub Performs : {T A : Type 0} → Held → (asked_before asked_after : Paths) → Command → (before after : Output) → Result T (CommandFault A) → Type 0
 Performs held asked_before asked_after c before after result =
     MatchResult result (λ _. (asked_after ≡ asked_by asked_before c) × HasPrinted held c before after) (IsUndone held asked_before asked_after c before after)

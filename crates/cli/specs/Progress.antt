@@ -1,80 +1,66 @@
--- The lines of progress that are printed of a run.
-use Rattle.std.specs.Prelude.{◌≡◌, ◌⊎◌, ◌≤◌, ◌-◌, ◌*◌, ◌/◌, ◌^◌, ℕ, List, [], ◌∷◌, ◌++◌, Bool, true, false, Option, Some, None, Result, map, codes, decimal}
+-- The lines of progress that are printed of a run before its fault.
+use Rattle.std.specs.Prelude.{◌≡◌, ◌⊎◌, ◌*◌, ◌≤◌, ℕ, List, [], ◌∷◌, ◌++◌, Option, Some, None, Result}
 use Rattle.std.proofs.Common.{subst}
 use Rattle.std.specs.Result.{MatchResult}
 use Rattle.fallible.specs.Out.{Output}
-use Rattle.command_line.specs.CommandLine.{AsksForHelp, AsksForVersion, IsCommand}
+use Rattle.integrator.specs.declared.faults.StepFault.TheVariants as step
+use Rattle.command_line.specs.CommandLine.{IsCommand}
 use Rattle.command_line.specs.declared.commands.Command.{Command}
 use Rattle.command_line.specs.declared.commands.Command.TheVariants as command
-use Rattle.trajectory.specs.Watching.{SomeHundredths, hundredths}
-use Rattle.cli.specs.Reports.{IsReported, Prints}
+use Rattle.trajectory.specs.Watching.{hundredths, hundredths_behind}
+use Rattle.cli.specs.Command.{PrintsIfCounted, PrintsProgress, TellsAll, told_of}
+use Rattle.cli.specs.Reports.{IsReported}
 use Rattle.cli.specs.declared.faults.CommandFault.{CommandFault}
+use Rattle.cli.specs.declared.faults.CommandFault.TheVariants as fault
 
--- the line that tells that `made` of the steps are made
-abbrev pub progress_line : (steps made : ℕ) → List ℕ
-progress_line steps made = codes "pairmd: " ++ decimal made ++ codes " of " ++ decimal steps ++ codes " steps\n"
+-- what was told of n steps where the output failed: of a run all, since its text comes behind its steps
+abbrev pub AllTold : (n : ℕ) → (List ℕ → Type 0) → Type 0
+AllTold n told = told (hundredths n)
 
-abbrev pub told_if : Bool → ℕ → Option ℕ
-told_if true steps = Some steps
-told_if false steps = None
+-- and of states on its way the hundredths up to the state whose text failed
+abbrev pub ToldUpToText : (every n : ℕ) → (List ℕ → Type 0) → Type 0
+ToldUpToText every n told = (count : ℕ) × (count * every ≤ n) × told (hundredths_behind n 0 (count * every))
 
--- of how many steps a command tells how far it has come, if it does: those that it makes, which end with a trajectory's
--- last frame, with the last of the states, or with a table's last row
-abbrev pub told_of : Command → Option ℕ
-told_of (command.Run run) = told_if run.progress run.steps
-told_of (command.Trajectory v) = told_if v.progress (v.steps / v.every * v.every)
-told_of (command.States v) = told_if v.progress (v.steps / v.every * v.every)
-told_of (command.Observe o) = told_if o.visits.progress (o.visits.steps / o.visits.every * o.visits.every)
-told_of _ = None
+-- the same by a command
+abbrev pub ToldAtOutput : Command → (n : ℕ) → (List ℕ → Type 0) → Type 0
+ToldAtOutput (command.Trajectory v) = ToldUpToText v.every
+ToldAtOutput (command.States v) = ToldUpToText v.every
+ToldAtOutput (command.Observe o) = ToldUpToText o.visits.every
+ToldAtOutput _ = AllTold
 
--- A text was printed, as far as the output took it. An output of which no more failed writes can be counted is left as
--- it is.
-abbrev pub PrintsIfCounted : Output → Output → List ℕ → Type 0
-PrintsIfCounted before after text = Prints before after text ⊎ ((after ≡ before) × (2 ^ 64 - 1 ≤ before.failed))
+-- what was told of n steps before this fault: nothing before a refusal; where memory ran out behind some steps, the
+-- hundredths among them
+abbrev pub ToldBefore : {A : Type 0} → (n : ℕ) → (List ℕ → Type 0) → (failed : Type 0) → CommandFault A → Type 0
+ToldBefore n told failed (fault.Steps (step.Memory done)) = (done ≤ n) × told (hundredths_behind n 0 done)
+ToldBefore n told failed (fault.Out o) = failed
+ToldBefore n told failed _ = told []
 
--- texts were printed, one after the other
-abbrev pub PrintsEach : List (List ℕ) → Output → Output → Type 0
-PrintsEach [] before after = after ≡ before
-PrintsEach (text ∷ texts) before after = (between : Output) × PrintsIfCounted before between text × PrintsEach texts between after
+-- the progress that was printed of n steps before this fault; nothing where it isn't to be told
+abbrev pub TellsBefore : {A : Type 0} → Option ℕ → (AtOutput : ℕ → (List ℕ → Type 0) → Type 0) → (before after : Output) → CommandFault A → Type 0
+TellsBefore None AtOutput before after f = after ≡ before
+TellsBefore (Some n) AtOutput before after f = ToldBefore n (PrintsProgress n before after) (AtOutput n (PrintsProgress n before after)) f
 
--- for each of these numbers the line that tells that as many of the steps are made
-abbrev pub PrintsProgress : (steps : ℕ) → Output → Output → List ℕ → Type 0
-PrintsProgress steps before after counts = PrintsEach (map (progress_line steps) counts) before after
+-- the progress that was printed of n steps which ended with this result: all of it, or that before its fault
+abbrev pub TellsOf : {T A : Type 0} → Option ℕ → (AtOutput : ℕ → (List ℕ → Type 0) → Type 0) → (before after : Output) → Result T (CommandFault A) → Type 0
+TellsOf steps AtOutput before after result = MatchResult result (λ _. TellsAll steps before after) (TellsBefore steps AtOutput before after)
 
--- how far a run of n steps has come was told at each hundredth; nothing where it isn't to be told
-abbrev pub TellsAll : Option ℕ → Output → Output → Type 0
-TellsAll None before after = after ≡ before
-TellsAll (Some steps) before after = PrintsProgress steps before after (hundredths steps)
+-- the progress that a command has told which ended with this result
+abbrev pub Tells : {T A : Type 0} → Command → (before after : Output) → Result T (CommandFault A) → Type 0
+Tells c before after result = TellsOf (told_of c) (ToldAtOutput c) before after result
 
--- the same of a run that ended early, at each hundredth that it reached
-abbrev pub TellsSome : Option ℕ → Output → Output → Type 0
-TellsSome None before after = after ≡ before
-TellsSome (Some steps) before after = SomeHundredths steps (PrintsProgress steps before after)
+-- The error output before the text of a fault: just the progress that the command told. Words that name none, and those
+-- for which memory ran out at once, tell nothing.
+abbrev pub IsBegun : {A : Type 0} → List (List ℕ) → CommandFault A → (before after : Output) → Type 0
+IsBegun words f before after = ((after ≡ before) × ((f ≡ fault.Memory) ⊎ ((c : Command) → IsCommand words c → ⊥)))
+    ⊎ ((c : Command) × IsCommand words c × TellsBefore (told_of c) (ToldAtOutput c) before after f)
 
--- the progress that a command which ended with this result has told: all of it, or the first of it
-abbrev pub Tells : {T E : Type 0} → Option ℕ → Output → Output → Result T E → Type 0
-Tells steps before after result = MatchResult result (λ _. TellsAll steps before after) (λ _. TellsSome steps before after)
-
--- the error output where all is done: the progress of a command with `--progress`, else nothing
-abbrev pub IsQuiet : List (List ℕ) → Output → Output → Type 0
-IsQuiet words before after = ((AsksForHelp words ⊎ AsksForVersion words) × (after ≡ before))
-    ⊎ ((c : Command) × IsCommand words c × TellsAll (told_of c) before after)
-
--- the error output before a fault's text: the progress of a command with `--progress`, else nothing
-abbrev pub IsBegun : List (List ℕ) → Output → Output → Type 0
-IsBegun words before after = (after ≡ before)
-    ⊎ ((c : Command) × (steps : ℕ) × IsCommand words c × (told_of c ≡ Some steps) × SomeHundredths steps (PrintsProgress steps before after))
-
--- the error output where something was not done: a text, and before it maybe the progress of a command with
--- `--progress`
-abbrev pub Says : List (List ℕ) → Output → Output → List ℕ → Type 0
-Says words before after text = Prints before after text
-    ⊎ ((c : Command) × (steps : ℕ) × (between : Output) × IsCommand words c × (told_of c ≡ Some steps)
-    × SomeHundredths steps (PrintsProgress steps before between) × PrintsIfCounted between after text)
+-- the error output where something was not done: that progress, and then this text
+abbrev pub SaysBehind : {A : Type 0} → List (List ℕ) → CommandFault A → (before after : Output) → List ℕ → Type 0
+SaysBehind words f before after text = (between : Output) × IsBegun words f before between × PrintsIfCounted between after text
 
 -- a fault was told by a status and a text
-abbrev pub IsTold : {A : Type 0} → List (List ℕ) → CommandFault A → ℕ → Output → Output → Type 0
-IsTold words f result before after = IsReported f result (Says words before after)
+abbrev pub IsTold : {A : Type 0} → List (List ℕ) → CommandFault A → ℕ → (before after : Output) → Type 0
+IsTold words f result before after = IsReported f result (SaysBehind words f before after)
 
 -- progress that was printed, and then more of it, is progress that was printed
 pub prints_more : (steps : ℕ) (first more : List ℕ) (before between after : Output) → PrintsProgress steps before between first

@@ -38,13 +38,11 @@ use Rattle.state.specs.StateReading.{state_of}
 use Rattle.trajectory.specs.Trajectories.{ShowsFrame}
 use Rattle.trajectory.specs.Visits.{AreTextsUnwritten}
 use Rattle.trajectory.specs.WholeStates.{ShowsState}
-use Rattle.cli.specs.Asked.{also_asked}
+use Rattle.cli.specs.Command.{Held, OfOne, OfTwo, Paths, also_asked, asked_by}
 use Rattle.cli.specs.Conversions.{IsCodeText, IsFrameOf, IsFrameText, IsStartText}
 use Rattle.cli.specs.Explained.{IsExplanation}
 use Rattle.cli.specs.Failures.{fault_of_observe, fault_of_run}
 use Rattle.cli.specs.ForceTexts.{IsForcesText}
-use Rattle.cli.specs.Held.{OfOne, OfTwo}
-use Rattle.cli.specs.Reads.{asked_by, unread}
 use Rattle.cli.specs.Tables.{columns_of}
 use Rattle.cli.specs.Verdicts.{IsEnergyText, IsListingVerdict, IsSlopeVerdict}
 use Rattle.cli.specs.declared.faults.CommandFault.{CommandFault}
@@ -182,11 +180,11 @@ IsTableUndone {A} job state o before after f = (g : ObserveFault A) × (f ≡ fa
 
 -- ---- of a command, whose files gave these bytes
 
-abbrev pub IsVerdictUndone : {A : Type 0} → (List ℕ → Option (List ℕ)) → List ℕ → Option (Bor (List ℕ)) → Output → Output → CommandFault A → Type 0
+abbrev pub IsVerdictUndone : {A : Type 0} → Held → List ℕ → Option (Bor (List ℕ)) → Output → Output → CommandFault A → Type 0
 IsVerdictUndone held job None before after f = OfOne held job (λ j. IsSlopeUndone j before after f)
 IsVerdictUndone held job (Some listing) before after f = OfTwo held job listing.now (λ j l. IsListingUndone j l before after f)
 
-abbrev pub IsCommandRefused : {A : Type 0} → (List ℕ → Option (List ℕ)) → Command → Output → Output → CommandFault A → Type 0
+abbrev pub IsCommandRefused : {A : Type 0} → Held → Command → Output → Output → CommandFault A → Type 0
 IsCommandRefused held (command.Start start) before after f = OfTwo held start.job.now start.gro.now (λ job gro. IsStartUndone job gro start.frame before after f)
 IsCommandRefused held (command.Run run) before after f = OfTwo held run.job.now run.state.now (λ job state. IsRunUndone job state run before after f)
 IsCommandRefused held (command.Trajectory v) before after f = OfTwo held v.job.now v.state.now (λ job state. IsTrajectoryUndone job state v before after f)
@@ -201,9 +199,14 @@ IsCommandRefused held (command.Explain e) before after f = IsExplanationUndone e
 
 -- ---- files that give no bytes
 
+-- the fault of a command whose file at this path gave no bytes
+abbrev pub unread : {A : Type 0} → ReadFault → Bor (List ℕ) → CommandFault A
+unread read.CannotRead path = fault.CannotRead path
+unread read.Memory path = fault.Memory
+
 -- the file at a path gave no bytes, and was the last to be asked for; one whose bytes are told gives them, unless
 -- memory runs out
-pub record IsUnread {A : Type 0} (held : List ℕ → Option (List ℕ)) (path : List ℕ) (asked_before asked_after : Option (List (List ℕ))) (f : CommandFault A) : Type 0 where
+pub record IsUnread {A : Type 0} (held : Held) (path : List ℕ) (asked_before asked_after : Paths) (f : CommandFault A) : Type 0 where
   pub why : ReadFault
   pub lent : Bor (List ℕ)
   pub is : f ≡ unread why lent
@@ -212,16 +215,16 @@ pub record IsUnread {A : Type 0} (held : List ℕ → Option (List ℕ)) (path :
   pub untold : why ≡ read.CannotRead → held path ≡ None
 
 -- the same of the first or the second of two files
-abbrev pub IsUnreadOfTwo : {A : Type 0} → (List ℕ → Option (List ℕ)) → (first second : List ℕ) → (asked_before asked_after : Option (List (List ℕ))) → CommandFault A → Type 0
+abbrev pub IsUnreadOfTwo : {A : Type 0} → Held → (first second : List ℕ) → (asked_before asked_after : Paths) → CommandFault A → Type 0
 IsUnreadOfTwo held first second asked_before asked_after f = IsUnread held first asked_before asked_after f ⊎ IsUnread held second (also_asked asked_before first) asked_after f
 
 -- the same of the first of two files, or of the second where there is one
-abbrev pub IsUnreadOfSome : {A : Type 0} → (List ℕ → Option (List ℕ)) → (first : List ℕ) → Option (Bor (List ℕ)) → (asked_before asked_after : Option (List (List ℕ))) → CommandFault A → Type 0
+abbrev pub IsUnreadOfSome : {A : Type 0} → Held → (first : List ℕ) → Option (Bor (List ℕ)) → (asked_before asked_after : Paths) → CommandFault A → Type 0
 IsUnreadOfSome held first None asked_before asked_after f = IsUnread held first asked_before asked_after f
 IsUnreadOfSome held first (Some second) asked_before asked_after f = IsUnreadOfTwo held first second.now asked_before asked_after f
 
 -- a file of a command gave no bytes; it asks for no file behind that one
-abbrev pub HasNoBytes : {A : Type 0} → (List ℕ → Option (List ℕ)) → Command → (asked_before asked_after : Option (List (List ℕ))) → CommandFault A → Type 0
+abbrev pub HasNoBytes : {A : Type 0} → Held → Command → (asked_before asked_after : Paths) → CommandFault A → Type 0
 HasNoBytes held (command.Start start) asked_before asked_after f = IsUnreadOfTwo held start.job.now start.gro.now asked_before asked_after f
 HasNoBytes held (command.Run run) asked_before asked_after f = IsUnreadOfTwo held run.job.now run.state.now asked_before asked_after f
 HasNoBytes held (command.Trajectory v) asked_before asked_after f = IsUnreadOfTwo held v.job.now v.state.now asked_before asked_after f
@@ -238,7 +241,7 @@ HasNoBytes held (command.Explain e) asked_before asked_after f = ⊥
 
 -- Why a command was not done: one of its files gave no bytes, and nothing was printed; or all did, and this is what
 -- they are refused for, or what it lacked.
-abbrev pub IsUndone : {A : Type 0} → (List ℕ → Option (List ℕ)) → (asked_before asked_after : Option (List (List ℕ))) → Command → Output → Output → CommandFault A → Type 0
+abbrev pub IsUndone : {A : Type 0} → Held → (asked_before asked_after : Paths) → Command → Output → Output → CommandFault A → Type 0
 IsUndone held asked_before asked_after c before after f = (HasNoBytes held c asked_before asked_after f × (after ≡ before))
     ⊎ ((asked_after ≡ asked_by asked_before c) × IsCommandRefused held c before after f)
 
@@ -257,6 +260,6 @@ IsUnanswered words before after f = ((e : Error) × (f ≡ fault.CommandLine e) 
     ⊎ ((f ≡ fault.Memory) × (after ≡ before))
 
 -- Why what the words ask for was not done.
-abbrev pub IsFaultOf : {A : Type 0} → List (List ℕ) → (List ℕ → Option (List ℕ)) → (asked_before asked_after : Option (List (List ℕ))) → Output → Output → CommandFault A → Type 0
+abbrev pub IsFaultOf : {A : Type 0} → List (List ℕ) → Held → (asked_before asked_after : Paths) → Output → Output → CommandFault A → Type 0
 IsFaultOf words held asked_before asked_after before after f = (IsUnanswered words before after f × (asked_after ≡ asked_before))
     ⊎ ((c : Command) × IsCommand words c × IsUndone held asked_before asked_after c before after f)

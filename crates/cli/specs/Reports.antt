@@ -1,23 +1,15 @@
 -- The line that is printed of a fault.
-use Rattle.std.specs.Prelude.{◌≡◌, ◌⊎◌, ℕ, List, [], ◌∷◌, ◌++◌, codes}
-use Rattle.fallible.specs.Out.{Output, Appends, AppendsBeginning}
+use Rattle.std.specs.Prelude.{◌≡◌, ◌⊎◌, ℕ, List, codes}
+use Rattle.cli.specs.Command.{line}
 use Rattle.cli.specs.Statuses.{status_number, status_of}
 use Rattle.cli.specs.declared.faults.CommandFault.{CommandFault}
 use Rattle.cli.specs.declared.faults.Status.{Status}
 use Rattle.cli.specs.declared.faults.Status.TheVariants as status
 
--- the line of a fault that says this
-abbrev pub line : List ℕ → List ℕ
-line text = codes "pairmd: " ++ text ++ 10 ∷ []
-
 -- A command line fault prints the parser's own text as it is, and every other fault a line.
 abbrev pub said : Status → List ℕ → List ℕ
 said status.CommandLine text = text
 said _ text = line text
-
--- The text was printed: all of it, or a write failed, and then a beginning of it.
-abbrev pub Prints : Output → Output → List ℕ → Type 0
-Prints before after text = Appends before after text ⊎ AppendsBeginning before after text
 
 -- a fault was reported: by its status, with a text as its status has it printed; or memory for the text was refused,
 -- and out of memory was reported in place of it

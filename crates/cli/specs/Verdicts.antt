@@ -1,13 +1,13 @@
 -- The lines that are printed of code that is judged, and of energies: from the bytes that are read to those that are
 -- printed. How a text went to an output is told by what it is asked to meet.
-use Rattle.std.specs.Prelude.{◌≡◌, ℕ, ℤ, List, ◌++◌, [], ◌∷◌, Ok, codes, decimal}
+use Rattle.std.specs.Prelude.{◌≡◌, ℕ, ℤ, List, ◌++◌, [], ◌∷◌, codes, decimal}
 use Rattle.std.specs.Fmt.{signed_decimal}
 use Rattle.engine.specs.PairEnergies.{IsEnergyOfTexts}
 use Rattle.kernel_code.specs.declared.instructions.Instr.{Instr}
 use Rattle.potential.specs.Verdicts.{IsAccepted, IsSlopeKernel}
-use Rattle.job.specs.JobText.{reading_of, limits}
+use Rattle.job.specs.JobText.{IsJobText, limits}
 use Rattle.job.specs.Values.{JobValue}
-use Rattle.kernel_code.specs.ListingReading.{code_of}
+use Rattle.kernel_code.specs.Listing.{IsListed, listing_of}
 use Rattle.verifier.specs.Kernels.{Kernel}
 
 -- the line of accepted code
@@ -19,7 +19,7 @@ verdict_line steps bound = codes "accepted: steps " ++ (decimal steps ++ (codes 
 pub record IsSlopeVerdict (job : List ℕ) (Wrote : List ℕ → Type 0) : Type 0 where
   pub said : JobValue
   pub kernel : Kernel
-  pub job_read : reading_of limits job ≡ Ok said
+  pub job_text : IsJobText limits job said
   pub slope : IsSlopeKernel said kernel
   pub written : Wrote (verdict_line kernel.steps kernel.bound)
 
@@ -28,8 +28,9 @@ pub record IsListingVerdict (job listing : List ℕ) (Wrote : List ℕ → Type 
   pub said : JobValue
   pub code : List Instr
   pub kernel : Kernel
-  pub job_read : reading_of limits job ≡ Ok said
-  pub listing_read : code_of listing ≡ Ok code
+  pub job_text : IsJobText limits job said
+  pub listed : IsListed code
+  pub listing_text : listing ≡ listing_of code
   pub accepted : IsAccepted said code kernel
   pub written : Wrote (verdict_line kernel.steps kernel.bound)
 

@@ -1,20 +1,15 @@
 //! Doing what the words ask for.
 
-ghost use Rattle.std.specs.Prelude.{◌≡◌, ◌≢◌, ◌⊎◌, ◌≤◌, ◌<◌, ◌-◌, ◌^◌, ℕ, List, Option, Some, None, IfOk, OnOk, OnErr, IfErr, map, string_bytes};
+ghost use Rattle.std.specs.Prelude.{◌≡◌, ◌≢◌, ◌<◌, ◌-◌, ◌^◌, ℕ, List, [], Option, Some, None, IfOk, OnOk, IfErr, map, string_bytes};
 ghost use Rattle.std.specs.Result.{MatchResult};
 ghost use Rattle.clap.specs.Words.{kind_of};
 ghost use Rattle.clap.specs.declared.error.kind.ErrorKind.TheVariants.{DisplayHelp, DisplayVersion};
-ghost use Rattle.command_line.specs.CommandLine.{AsksForVisits, IsCommand, IsMisuse};
 ghost use Rattle.command_line.specs.declared.commands.Command.{Command};
-ghost use Rattle.cli.specs.Asked.{also_asked};
-ghost use Rattle.cli.specs.Held.{IsHeld};
-ghost use Rattle.cli.specs.Kept.{IsKept};
-ghost use Rattle.cli.specs.Performed.{Performs, WritesFrames, WritesRun, WritesStates};
-ghost use Rattle.cli.specs.Printed.{IsDone};
-ghost use Rattle.cli.specs.Progress.{IsBegun, IsQuiet, IsTold, PrintsIfCounted, Tells, told_of};
-ghost use Rattle.cli.specs.Reads.{AsksFor, unread};
-ghost use Rattle.cli.specs.Refusals.{IsFaultOf, IsNoAnswer, IsUnread, IsUnreadOfTwo};
-ghost use Rattle.cli.specs.Reports.{IsReported, Prints, line, said};
+ghost use Rattle.cli.specs.Command.{IsAnswer, IsDone, IsHeld, IsQuiet, Prints, PrintsIfCounted, PrintsSome, also_asked, line, version_line};
+ghost use Rattle.cli.specs.Performed.{HasAnswered, Performs, WritesFrames, WritesRun, WritesStates};
+ghost use Rattle.cli.specs.Progress.{IsBegun, IsTold, Tells};
+ghost use Rattle.cli.specs.Refusals.{IsFaultOf, IsNoAnswer, IsUnread, IsUnreadOfTwo, unread};
+ghost use Rattle.cli.specs.Reports.{IsReported, said};
 ghost use Rattle.cli.specs.Statuses.{status_of};
 ghost use Rattle.cli.specs.declared.faults.CommandFault.{CommandFault};
 
@@ -29,7 +24,8 @@ use crate::writing::write_line;
 use clap::Error;
 use clap::error::ErrorKind;
 use command_line::{
-    Check, Command, Explain, Frame, Listing, Observe, Run, Start, StateUnderJob, Visits, parse,
+    Check, Command, Explain, Frame, Listing, Observe, Run, Start, StateUnderJob, VERSION, Visits,
+    parse,
 };
 use engine::run_bytes;
 use fallible::{Out, write_all};
@@ -55,16 +51,11 @@ pub fn execute<
 >(rt: &R, words_alloc: Global, alloc: A, words: &[S], files: &mut F, out: &mut O, err: &mut E) -> u8
     requires out { (O.output out.old).failed < 2 ^ 64 - 1 }
     requires err { (E.output err.old).failed < 2 ^ 64 - 1 }
-    ensures most { result ≤ 5 }
-    ensures quiet { result ≡ 0 → IsQuiet (map S.text words.now) (E.output err.old) (E.output err.new) }
+    // What the program promises, on one page.
+    ensures answers { IsAnswer (map S.text words.now) (F.held files.old) (F.asked files.old) (F.asked files.new) (O.output out.old) (O.output out.new) (E.output err.old) (E.output err.new) result }
+    // Why something was not done, which the status and the line on the error output tell.
     ensures undone { result ≢ 0 → (f : CommandFault A) × IsFaultOf (map S.text words.now) (F.held files.old) (F.asked files.old) (F.asked files.new) (O.output out.old) (O.output out.new) f
         × IsTold (map S.text words.now) f result (E.output err.old) (E.output err.new) }
-    ensures kept { result ≢ 0 → IsKept (O.output out.old) (O.output out.new)
-        ⊎ ((result ≡ 4) × AsksForVisits (map S.text words.now)) }
-    ensures misuse { result ≡ 2 → IsMisuse (map S.text words.now) × (O.output out.new ≡ O.output out.old) }
-    ensures done { result ≡ 0 → IsDone (map S.text words.now) (F.held files.old) (F.asked files.old) (F.asked files.new) (O.output out.old) (O.output out.new) }
-    ensures reads { (F.asked files.new ≡ F.asked files.old)
-        ⊎ ((c : Command) × IsCommand (map S.text words.now) c × AsksFor c (F.asked files.old) (F.asked files.new)) }
 {
     match respond(rt, words_alloc, alloc, words, files, out, err) {
         Ok(()) => Status::Done.code(),
@@ -97,7 +88,7 @@ fn respond<
     requires { (O.output out.old).failed < 2 ^ 64 - 1 }
     ensures undone { IfErr result (IsFaultOf (map S.text words.entry.now) (F.held files.old) (F.asked files.old) (F.asked files.new) (O.output out.old) (O.output out.new)) }
     ensures quiet { OnOk result (IsQuiet (map S.text words.entry.now) (E.output err.old) (E.output err.new)) }
-    ensures begun { OnErr result (IsBegun (map S.text words.entry.now) (E.output err.old) (E.output err.new)) }
+    ensures begun { IfErr result (λ f. IsBegun (map S.text words.entry.now) f (E.output err.old) (E.output err.new)) }
     ensures done { OnOk result (IsDone (map S.text words.entry.now) (F.held files.old) (F.asked files.old) (F.asked files.new) (O.output out.old) (O.output out.new)) }
 {
     match parse(words_alloc, words) {
@@ -117,7 +108,7 @@ fn perform<'a, R: Threads + Sync, A: Allocator + Copy + Send + Sync, F: Files, O
 ) -> Result<(), CommandFault<'a, A>>
     requires { (O.output out.old).failed < 2 ^ 64 - 1 }
     ensures performs { Performs (F.held files.old) (F.asked files.old) (F.asked files.new) command.entry (O.output out.old) (O.output out.new) result }
-    ensures tells { Tells (told_of command.entry) (E.output err.old) (E.output err.new) result }
+    ensures tells { Tells command.entry (E.output err.old) (E.output err.new) result }
 {
     match command {
         Command::Start(start) => perform_start(alloc, start, files, out),
@@ -274,7 +265,7 @@ fn perform_run<'a, R: Threads + Sync, A: Allocator + Copy + Send + Sync, F: File
 ) -> Result<(), CommandFault<'a, A>>
     requires { (O.output out.old).failed < 2 ^ 64 - 1 }
     ensures performs { Performs (F.held files.old) (F.asked files.old) (F.asked files.new) (Command.Run run.entry) (O.output out.old) (O.output out.new) result }
-    ensures tells { Tells (told_of (Command.Run run.entry)) (E.output err.old) (E.output err.new) result }
+    ensures tells { Tells (Command.Run run.entry) (E.output err.old) (E.output err.new) result }
 {
     let (job, state) = read_two(alloc, run.job, run.state, files)?;
     run_texts(rt, alloc, &job, &state, &run, out, err)
@@ -292,7 +283,7 @@ fn run_texts<'a, R: Threads + Sync, A: Allocator + Copy + Send + Sync, O: Out, E
 ) -> Result<(), CommandFault<'a, A>>
     requires { (O.output out.old).failed < 2 ^ 64 - 1 }
     ensures writes { WritesRun job.now state.now run.now (O.output out.old) (O.output out.new) result }
-    ensures tells { Tells (told_of (Command.Run run.now)) (E.output err.old) (E.output err.new) result }
+    ensures tells { Tells (Command.Run run.now) (E.output err.old) (E.output err.new) result }
 {
     if run.progress {
         run_watched(rt, alloc, job, state, run, out, err)
@@ -343,7 +334,7 @@ fn perform_trajectory<
 ) -> Result<(), CommandFault<'a, A>>
     requires { (O.output out.old).failed < 2 ^ 64 - 1 }
     ensures performs { Performs (F.held files.old) (F.asked files.old) (F.asked files.new) (Command.Trajectory trajectory.entry) (O.output out.old) (O.output out.new) result }
-    ensures tells { Tells (told_of (Command.Trajectory trajectory.entry)) (E.output err.old) (E.output err.new) result }
+    ensures tells { Tells (Command.Trajectory trajectory.entry) (E.output err.old) (E.output err.new) result }
 {
     let (job, state) = read_two(alloc, trajectory.job, trajectory.state, files)?;
     trajectory_texts(rt, alloc, &job, &state, &trajectory, out, err)
@@ -361,7 +352,7 @@ fn trajectory_texts<'a, R: Threads + Sync, A: Allocator + Copy + Send + Sync, O:
 ) -> Result<(), CommandFault<'a, A>>
     requires { (O.output out.old).failed < 2 ^ 64 - 1 }
     ensures writes { WritesFrames job.now state.now trajectory.now (O.output out.old) (O.output out.new) result }
-    ensures tells { Tells (told_of (Command.Trajectory trajectory.now)) (E.output err.old) (E.output err.new) result }
+    ensures tells { Tells (Command.Trajectory trajectory.now) (E.output err.old) (E.output err.new) result }
 {
     if trajectory.progress {
         trajectory_watched(rt, alloc, job, state, trajectory, out, err)
@@ -413,7 +404,7 @@ fn perform_states<
 ) -> Result<(), CommandFault<'a, A>>
     requires { (O.output out.old).failed < 2 ^ 64 - 1 }
     ensures performs { Performs (F.held files.old) (F.asked files.old) (F.asked files.new) (Command.States states.entry) (O.output out.old) (O.output out.new) result }
-    ensures tells { Tells (told_of (Command.States states.entry)) (E.output err.old) (E.output err.new) result }
+    ensures tells { Tells (Command.States states.entry) (E.output err.old) (E.output err.new) result }
 {
     let (job, state) = read_two(alloc, states.job, states.state, files)?;
     states_texts(rt, alloc, &job, &state, &states, out, err)
@@ -431,7 +422,7 @@ fn states_texts<'a, R: Threads + Sync, A: Allocator + Copy + Send + Sync, O: Out
 ) -> Result<(), CommandFault<'a, A>>
     requires { (O.output out.old).failed < 2 ^ 64 - 1 }
     ensures writes { WritesStates job.now state.now states.now (O.output out.old) (O.output out.new) result }
-    ensures tells { Tells (told_of (Command.States states.now)) (E.output err.old) (E.output err.new) result }
+    ensures tells { Tells (Command.States states.now) (E.output err.old) (E.output err.new) result }
 {
     if states.progress {
         states_watched(rt, alloc, job, state, states, out, err)
@@ -483,7 +474,7 @@ fn perform_observe<
 ) -> Result<(), CommandFault<'a, A>>
     requires { (O.output out.old).failed < 2 ^ 64 - 1 }
     ensures performs { Performs (F.held files.old) (F.asked files.old) (F.asked files.new) (Command.Observe observe.entry) (O.output out.old) (O.output out.new) result }
-    ensures tells { Tells (told_of (Command.Observe observe.entry)) (E.output err.old) (E.output err.new) result }
+    ensures tells { Tells (Command.Observe observe.entry) (E.output err.old) (E.output err.new) result }
 {
     let visits = observe.visits;
     let (job, state) = read_two(alloc, visits.job, visits.state, files)?;
@@ -538,16 +529,35 @@ fn answer<'a, A: Allocator + Copy, O: Out>(
     out: &mut O,
 ) -> Result<(), CommandFault<'a, A>>
     requires { (O.output out.old).failed < 2 ^ 64 - 1 }
-    ensures help { OnOk result ((kind_of error ≡ DisplayHelp) ⊎ (kind_of error ≡ DisplayVersion)) }
+    ensures answered { OnOk result (HasAnswered (kind_of error) (O.output out.old) (O.output out.new)) }
     ensures unanswered { IfErr result (IsNoAnswer (kind_of error) (O.output out.old) (O.output out.new)) }
 {
     match error.kind() {
         ErrorKind::OutOfMemory => Err(CommandFault::Memory),
-        ErrorKind::DisplayHelp | ErrorKind::DisplayVersion => {
-            write_line(error.to_string(alloc), out)
-        }
+        ErrorKind::DisplayHelp => write_line(help_text(alloc, &error), out),
+        ErrorKind::DisplayVersion => write_line(version_text(alloc), out),
         _ => Err(CommandFault::CommandLine(error)),
     }
+}
+
+/// The help that was asked for. The parser doesn't promise that its text has a letter: the version stands for one that
+/// has none.
+fn help_text<A: Allocator + Copy>(alloc: A, help: &Error) -> Result<String<A>, AllocError>
+    ensures { IfOk result (λ s. string_bytes s ≢ []) }
+{
+    let text = help.to_string(alloc)?;
+    if text.is_empty() {
+        version_text(alloc)
+    } else {
+        Ok(text)
+    }
+}
+
+/// The program's name and its version, as a line.
+fn version_text<A: Allocator + Copy>(alloc: A) -> Result<String<A>, AllocError>
+    ensures { IfOk result (λ s. string_bytes s ≡ version_line) }
+{
+    format!(in alloc; "pairmd {VERSION}\n")
 }
 
 /// Prints what a fault says, unless no more failed writes of the output can be counted, and answers its status.

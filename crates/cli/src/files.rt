@@ -1,8 +1,7 @@
 //! Files, as commands read them.
 
 ghost use Rattle.std.specs.Prelude.{◌≡◌, ℕ, List, Option, None, IfErr, IfOk};
-ghost use Rattle.cli.specs.Asked.{also_asked};
-ghost use Rattle.cli.specs.Held.{IsHeld};
+ghost use Rattle.cli.specs.Command.{IsHeld, also_asked};
 ghost use Rattle.cli.specs.declared.files.ReadFault.{ReadFault};
 
 use std::alloc::Allocator;

@@ -2,12 +2,10 @@
 
 ghost use Rattle.std.specs.Prelude.{◌≡◌, ◌≢◌, ◌⊎◌, ◌-◌, ◌<◌, ◌≤◌, ◌^◌, IfErr, IfOk, map, string_bytes};
 ghost use Rattle.std.specs.Global.{Global};
-ghost use Rattle.command_line.specs.CommandLine.{AsksForVisits, IsMisuse};
-ghost use Rattle.cli.specs.Kept.{IsKept};
-ghost use Rattle.cli.specs.Printed.{IsDone};
+ghost use Rattle.cli.specs.Command.{IsAnswer, Prints};
 ghost use Rattle.cli.specs.Progress.{IsTold};
 ghost use Rattle.cli.specs.Refusals.{IsFaultOf};
-ghost use Rattle.cli.specs.Reports.{IsReported, Prints};
+ghost use Rattle.cli.specs.Reports.{IsReported};
 ghost use Rattle.cli.specs.declared.faults.CommandFault.{CommandFault};
 
 use crate::execution::{execute, report};
@@ -34,10 +32,7 @@ pub fn execute_words<'a, R: Threads + Sync + AllocGlobal, F: Files, O: Out, E: O
     requires out { (O.output out.old).failed < 2 ^ 64 - 1 }
     requires err { (E.output err.old).failed < 2 ^ 64 - 1 }
     ensures most { result ≤ 5 }
-    ensures done { IfOk words.entry (λ ws. result ≡ 0 → IsDone (map string_bytes ws.items) (F.held files.old) (F.asked files.old) (F.asked files.new) (O.output out.old) (O.output out.new)) }
-    ensures misuse { IfOk words.entry (λ ws. result ≡ 2 → IsMisuse (map string_bytes ws.items) × (O.output out.new ≡ O.output out.old)) }
-    ensures kept { IfOk words.entry (λ ws. result ≢ 0 → IsKept (O.output out.old) (O.output out.new)
-        ⊎ ((result ≡ 4) × AsksForVisits (map string_bytes ws.items))) }
+    ensures answers { IfOk words.entry (λ ws. IsAnswer (map string_bytes ws.items) (F.held files.old) (F.asked files.old) (F.asked files.new) (O.output out.old) (O.output out.new) (E.output err.old) (E.output err.new) result) }
     ensures undone { IfOk words.entry (λ ws. result ≢ 0 → (f : CommandFault Global) × IsFaultOf (map string_bytes ws.items) (F.held files.old) (F.asked files.old) (F.asked files.new) (O.output out.old) (O.output out.new) f
         × IsTold (map string_bytes ws.items) f result (E.output err.old) (E.output err.new)) }
     ensures refused { IfErr words.entry (λ f. IsReported f result (Prints (E.output err.old) (E.output err.new)) × (O.output out.new ≡ O.output out.old)) }

@@ -3,7 +3,8 @@
 ghost use Rattle.std.specs.Prelude.{◌≡◌, ◌<◌, ◌*◌, ◌/◌, ◌-◌, ◌^◌, Some, refl};
 ghost use Rattle.std.proofs.Common.{◌∙◌};
 ghost use Rattle.cli.specs.Performed.{WritesFrames, WritesRun, WritesStates};
-ghost use Rattle.cli.specs.Progress.{PrintsProgress, Tells, prints_also};
+ghost use Rattle.cli.specs.Command.{PrintsProgress};
+ghost use Rattle.cli.specs.Progress.{AllTold, TellsOf, ToldUpToText, prints_also};
 
 use crate::faults::CommandFault;
 use command_line::{Run, Visits};
@@ -66,7 +67,7 @@ pub(crate) fn run_watched<'a, R: Threads + Sync, A: Allocator + Copy + Send + Sy
 ) -> Result<(), CommandFault<'a, A>>
     requires { (O.output out.old).failed < 2 ^ 64 - 1 }
     ensures writes { WritesRun job.now state.now run.now (O.output out.old) (O.output out.new) result }
-    ensures tells { Tells (Some run.now.steps) (E.output err.old) (E.output err.new) result }
+    ensures tells { TellsOf (Some run.now.steps) AllTold (E.output err.old) (E.output err.new) result }
 {
     let steps = run.steps;
     let mut watch = ProgressLines { err, steps };
@@ -103,7 +104,7 @@ pub(crate) fn trajectory_watched<
 ) -> Result<(), CommandFault<'a, A>>
     requires { (O.output out.old).failed < 2 ^ 64 - 1 }
     ensures writes { WritesFrames job.now state.now trajectory.now (O.output out.old) (O.output out.new) result }
-    ensures tells { Tells (Some (trajectory.now.steps / trajectory.now.every * trajectory.now.every))
+    ensures tells { TellsOf (Some (trajectory.now.steps / trajectory.now.every * trajectory.now.every)) (ToldUpToText trajectory.now.every)
         (E.output err.old) (E.output err.new) result }
 {
     let steps = trajectory.steps / trajectory.every * trajectory.every;
@@ -142,7 +143,7 @@ pub(crate) fn states_watched<
 ) -> Result<(), CommandFault<'a, A>>
     requires { (O.output out.old).failed < 2 ^ 64 - 1 }
     ensures writes { WritesStates job.now state.now states.now (O.output out.old) (O.output out.new) result }
-    ensures tells { Tells (Some (states.now.steps / states.now.every * states.now.every))
+    ensures tells { TellsOf (Some (states.now.steps / states.now.every * states.now.every)) (ToldUpToText states.now.every)
         (E.output err.old) (E.output err.new) result }
 {
     let steps = states.steps / states.every * states.every;

@@ -2,7 +2,7 @@
 
 ghost use Rattle.std.specs.Prelude.{◌≡◌, ◌<◌, ◌*◌, ◌/◌, ◌-◌, ◌^◌, Some};
 ghost use Rattle.cli.specs.Performed.{WritesTable};
-ghost use Rattle.cli.specs.Progress.{Tells, told_of};
+ghost use Rattle.cli.specs.Progress.{Tells, TellsOf, ToldUpToText};
 ghost use Rattle.cli.specs.Tables.{columns_of};
 ghost use Rattle.command_line.specs.declared.commands.Command.{Command};
 
@@ -33,7 +33,7 @@ pub(crate) fn observe_texts<
 ) -> Result<(), CommandFault<'a, A>>
     requires { (O.output out.old).failed < 2 ^ 64 - 1 }
     ensures writes { WritesTable job.now state.now observe.now (O.output out.old) (O.output out.new) result }
-    ensures tells { Tells (told_of (Command.Observe observe.now)) (E.output err.old) (E.output err.new) result }
+    ensures tells { Tells (Command.Observe observe.now) (E.output err.old) (E.output err.new) result }
 {
     if observe.visits.progress {
         observe_watched(rt, alloc, job, state, observe, out, err)
@@ -55,7 +55,7 @@ fn observe_watched<'a, R: Threads + Sync, A: Allocator + Copy + Send + Sync, O: 
 ) -> Result<(), CommandFault<'a, A>>
     requires { (O.output out.old).failed < 2 ^ 64 - 1 }
     ensures writes { WritesTable job.now state.now observe.now (O.output out.old) (O.output out.new) result }
-    ensures tells { Tells (Some (observe.now.visits.steps / observe.now.visits.every * observe.now.visits.every))
+    ensures tells { TellsOf (Some (observe.now.visits.steps / observe.now.visits.every * observe.now.visits.every)) (ToldUpToText observe.now.visits.every)
         (E.output err.old) (E.output err.new) result }
 {
     let visits = observe.visits;

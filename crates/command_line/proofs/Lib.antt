@@ -1,1 +1,2 @@
 pub mod CommandLineLaws
+pub mod OneCommand

@@ -2,6 +2,7 @@
 use Rattle.std.proofs.Common.{subst, sym}
 use Rattle.std.proofs.lemmas.Result.{IfErr-weaker}
 use Rattle.gro.specs.Frames.{frame_view}
+use Rattle.gro.proofs.FrameLaws.{text_of_frames}
 use Rattle.job.specs.Views.{job_value}
 use Rattle.cli.specs.Refusals.{RefusesFrame}
 use Rattle.cli.proofs.FailureLaws.{frame_refused, gro_refused, refused_by}
@@ -32,7 +33,7 @@ returns-clause-is g c =
     record {
       frames = _;
       frame = _;
-      gro_read = c.in_ok-frames.ensures.exact;
+      gro_text = text_of_frames c.args.gro.now _ c.in_ok-frames.ensures.exact;
       picked = rw c.deref.ensures.value at is;
       started = c.in_ok-start.ensures.exact;
     }

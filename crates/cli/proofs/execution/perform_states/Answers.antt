@@ -9,7 +9,7 @@ pub returns-in_err-job-clause-performs : goal.returns-in_err-job-clause-performs
 returns-in_err-job-clause-performs g c = handed_on c.from_residual.result _ _ _ c.from_residual.ensures.1 (inl (c.in_err-job.ensures, refl))
 
 pub returns-in_err-job-clause-tells : goal.returns-in_err-job-clause-tells
-returns-in_err-job-clause-tells g c = nothing_told_yet c.from_residual.result _ _ c.from_residual.ensures.0
+returns-in_err-job-clause-tells g c = nothing_told_yet c.from_residual.result _ _ _ _ _ _ _ _ _ c.from_residual.ensures.1 c.in_err-job.ensures
 
 pub returns-clause-performs : goal.returns-clause-performs
 returns-clause-performs g c =

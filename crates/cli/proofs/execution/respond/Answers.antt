@@ -1,8 +1,8 @@
 use Rattle.std.proofs.Common.{inl, map, refl}
-use Rattle.std.proofs.lemmas.Result.{IfErr-weaker}
+use Rattle.std.proofs.lemmas.Result.{IfErr-weaker, IfOk-weaker}
 use Rattle.cli.proofs.PerformLaws.{done_by_words, undone_by_words}
-use Rattle.cli.proofs.ProgressLaws.{begun_by_words, quiet_by_words}
-use Rattle.cli.proofs.RefusalLaws.{unanswered}
+use Rattle.cli.proofs.ProgressLaws.{begun_by_none, begun_by_words, quiet_by_words}
+use Rattle.cli.proofs.RefusalLaws.{answered, answered_quiet, unanswered}
 use Rattle.cli.proofs.execution.respond.Goals as goal
 
 pub returns-in-Ok-clause-done : goal.returns-in-Ok-clause-done
@@ -21,3 +21,18 @@ pub returns-in-Err-clause-undone : goal.returns-in-Err-clause-undone
 returns-in-Err-clause-undone g c =
     let words = map g.S.AsStr.text c.args.words.now in
     IfErr-weaker c.answer.result _ _ (λ f h. inl (unanswered words c.in-Err.error _ _ f c.in-Err.ensures.kind c.in-Err.ensures.none h, refl)) c.answer.ensures.unanswered
+
+pub returns-in-Err-clause-done : goal.returns-in-Err-clause-done
+returns-in-Err-clause-done g c =
+    let words = map g.S.AsStr.text c.args.words.now in
+    IfOk-weaker c.answer.result _ _ (λ x h. answered words _ _ c.in-Err.error _ _ c.in-Err.ensures.kind h) c.answer.ensures.answered
+
+pub returns-in-Err-clause-quiet : goal.returns-in-Err-clause-quiet
+returns-in-Err-clause-quiet g c =
+    let words = map g.S.AsStr.text c.args.words.now in
+    IfOk-weaker c.answer.result _ _ (λ x h. answered_quiet words c.in-Err.error _ _ _ c.in-Err.ensures.kind h) c.answer.ensures.answered
+
+pub returns-in-Err-clause-begun : goal.returns-in-Err-clause-begun
+returns-in-Err-clause-begun g c =
+    let words = map g.S.AsStr.text c.args.words.now in
+    IfErr-weaker c.answer.result _ _ (λ f h. begun_by_none words c.in-Err.error _ _ _ f c.in-Err.ensures.none h) c.answer.ensures.unanswered

@@ -1,0 +1,52 @@
+-- What `pairmd run` has printed `pairmd back` takes, and the other way round.
+use Rattle.std.proofs.Common.{◌≡◌, ◌⊎◌, ◌∙◌, ◌<◌, ℕ, List, ◌++◌, Some, ap, inl, inr, subst, sym}
+use Rattle.std.proofs.lemmas.List.{append_cancel_left}
+use Rattle.command_line.specs.declared.commands.Command.TheVariants as command
+use Rattle.command_line.proofs.OneCommand.{no_help, no_version, one_run}
+use Rattle.engine.specs.Engines.{AreSafe}
+use Rattle.engine.specs.Headline.{IsLevesqueVerletRun, WroteLevesqueVerletRun}
+use Rattle.engine.proofs.HeadlineLaws.{told_back}
+use Rattle.engine.proofs.SafeRuns.{runs_stay_safe}
+use Rattle.integrator.specs.Frames.{opposite}
+use Rattle.integrator.specs.declared.direction.Direction.{Direction}
+use Rattle.fallible.specs.Out.{Appends, Output, appended}
+use Rattle.cli.specs.Command.{HasPrinted, Held, IsDone, IsNotRefused, NamesRun, Paths}
+use Rattle.cli.specs.CommandLaws.{PrintedRunsReturn}
+use Rattle.cli.proofs.AnswerLaws.{given}
+
+-- what words that name a run have printed is a run of the texts that their files hold
+printed_run : (words : List (List ℕ)) (held : Held) (asked asked' : Paths) (out out' : Output) (job state : List ℕ) (w : Direction) (n : ℕ) → NamesRun words held job state w n
+    → IsDone words held asked asked' out out' → AreSafe job state × WroteLevesqueVerletRun job state w n out out'
+printed_run words held asked asked' out out' job state w n names (inl help) = absurd (no_help words (command.Run names.run) names.named help.0)
+printed_run words held asked asked' out out' job state w n names (inr (inl version)) = absurd (no_version words (command.Run names.run) names.named version.0)
+printed_run words held asked asked' out out' job state w n names (inr (inr (c, named, all, printed))) =
+    let one = one_run words names.run c names.named named in
+    let it : HasPrinted held (command.Run one.other) out out' = subst (λ d. HasPrinted held d out out') one.is printed in
+    let a_is = given held one.other.job.now it.0 job (ap held one.job ∙ names.job_held) it.2 in
+    let b_is = given held one.other.state.now it.1 state (ap held one.state ∙ names.state_held) it.3 in
+    rw (one.direction ∙ names.way, one.steps ∙ names.count, a_is, b_is) at it.4
+
+-- a text that was appended is the one that an output which tells its bytes has taken
+one_taken : (before after : Output) (bytes text other : List ℕ) → before.taken ≡ Some bytes → after.taken ≡ Some (bytes ++ text) → Appends before after other → other ≡ text
+one_taken before after bytes text other taken taken' appends =
+    let all : Some (bytes ++ other) ≡ Some (bytes ++ text) = sym (appends.taken ∙ ap (λ t. appended t other) taken) ∙ taken' in
+    let same : bytes ++ other ≡ bytes ++ text = cc in
+    append_cancel_left bytes other text same
+
+-- a run that was printed is accepted on the way back
+pub printed_runs_return : PrintedRunsReturn
+printed_runs_return first second job state text w n answer names printed answer' names' =
+    let there = printed_run first.words first.held first.asked first.asked' first.out first.out' job state w n names (answer.done printed.done) in
+    let wrote = there.1 in
+    let same = one_taken first.out first.out' printed.bytes text wrote.text printed.taken printed.taken' wrote.appends in
+    let run : IsLevesqueVerletRun job state w n text = subst (IsLevesqueVerletRun job state w n) same wrote.run in
+    let safe : AreSafe job text = runs_stay_safe job state w n text run there.0 in
+    let back : IsLevesqueVerletRun job text (opposite w) n state = told_back job state w n text run in
+    by_status back (answer'.only job text (opposite w) n state names' back safe)
+  where
+    by_status : IsLevesqueVerletRun job text (opposite w) n state → IsNotRefused second.status second.out second.out'
+        → ((second.status ≡ 0) × Appends second.out second.out' state) ⊎ (second.status ≡ 4) ⊎ ((second.status ≡ 5) × (second.out.failed < second.out'.failed))
+    by_status back (inl zero) =
+        let back' = (printed_run second.words second.held second.asked second.asked' second.out second.out' job text (opposite w) n names' (answer'.done zero)).1 in
+        inl (zero, subst (Appends second.out second.out') (sym (back'.only state back)) back'.appends)
+    by_status back (inr wanting) = inr wanting
