@@ -1,5 +1,5 @@
 -- How far displacements that are rounded keep the momentum.
-use Rattle.std.proofs.Common.{◌∙◌, ap, List, [], ◌∷◌, get_or, ◌≡◌, ℕ, ◌*◌, ◌^◌, ◌<◌, ◌≤◌, length, ℤ, pos, ◌*ℤ◌, arith, refl, subst}
+use Rattle.std.proofs.Common.{◌∙◌, ap, sym, List, [], ◌∷◌, get_or, ◌≡◌, ℕ, ◌*◌, ◌^◌, ◌<◌, ◌≤◌, length, ℤ, pos, ◌*ℤ◌, arith, refl, subst}
 use Rattle.std.specs.Prelude.{filter_map}
 use Rattle.std.specs.List.{All, AllZip}
 use Rattle.std.proofs.lemmas.List.{get_or-map, length-map}
