@@ -40,10 +40,13 @@ def played():
 
 
 HEADLINE = "crates/engine/specs/Headline.antt"
+COMMAND = "crates/cli/specs/Command.antt"
 COUNTS = [
     ("README.md", f"`{HEADLINE}`, has N lines", lambda: lines(HEADLINE)),
     ("README.md", "(`told`) stands on N definitions: N lines in N files", lambda: reading("told")),
     ("README.md", "(`safe`) it is N definitions: N lines in N files", lambda: reading("safe")),
+    ("README.md", f"`{COMMAND}`, has N lines", lambda: lines(COMMAND)),
+    ("README.md", "(`answers`) stands on N definitions: N lines in N files", lambda: reading("command")),
     ("README.md", "are N lines in `crates/*/specs`", lambda: lines("crates/*/specs/**/*.antt")),
     ("README.md", "the code (N lines)", lambda: lines("crates/*/src/**/*.rt")),
     ("README.md", "the proofs (N)", lambda: lines("crates/*/proofs/**/*.antt")),
