@@ -69,8 +69,8 @@ pub(crate) fn layers(alloc: Global) -> Result<Vec<u8>, AllocError> {
     lattice(alloc, 200000, rows, &[0, 1288490189, 2576980378])
 }
 
-/// Sixty-four atoms at rest in a box of 3.6 nm, along each side at 0.7, 1.1, 2.5 and 2.9 nm: one in each cell of 0.9 nm,
-/// and eight near one another.
+/// Sixty-four atoms at rest in a box of 3.6 nm, along each side at 0.7, 1.1, 2.5 and 2.9 nm: one in each cell of 0.9
+/// nm, and eight near one another.
 pub(crate) fn clusters(alloc: Global) -> Result<Vec<u8>, AllocError> {
     let rows = [835132529, 1312351117, 2982616175, 3459834763];
     lattice(alloc, 360000, rows, &rows)

@@ -24,8 +24,8 @@ OneFuture = (j : JobValue) (tree : Tree) (sides types : List ℕ) (k : ℕ) (p c
 
 -- ---- reversal
 
--- k steps lead from the frames p, c of the same atoms to p', c' exactly where k steps lead from the frames c', p' of the
--- same atoms to c, p
+-- k steps lead from the frames p, c of the same atoms to p', c' exactly where k steps lead from the frames c', p' of
+-- the same atoms to c, p
 abbrev pub StepsReverse : Type 0
 StepsReverse = (j : JobValue) (tree : Tree) (sides types : List ℕ) (k : ℕ) (p c p' c' : List Place3)
     → (AreOfSameAtoms (frames p c) × Lead j tree sides types k p c p' c') ↔ (AreOfSameAtoms (frames c' p') × Lead j tree sides types k c' p' c p)

@@ -1,8 +1,8 @@
 //! Plays transcripts: files of commands and of what they must print, in the layout of cram.
 //!
 //! Each word of the command line names a transcript. Where all commands print what stands below them, a line says how
-//! many there were; else it names the first line that is not as written. Behind the word `--print` each transcript is
-//! printed with what its commands do print.
+//! many there were, and so it does where none of them does; else it names the first line that is not as written. Behind
+//! the word `--print` each transcript is printed with what its commands do print.
 #![tactic(auto)]
 
 mod files;
@@ -40,13 +40,16 @@ fn play<R: Files + Threads + Sync + AllocGlobal + Print>(
 ) -> io::Result<()> {
     let text = fs::read_to_string(rt, file)?;
     let player = played(rt, &text)?;
+    if prints {
+        return rt.print(String::from_utf8_lossy(rt.alloc(), player.transcript())?);
+    }
     tell(
         rt,
         file,
         &text,
         player.transcript(),
         player.commands(),
-        prints,
+        player.differing(),
     )
 }
 
@@ -59,23 +62,25 @@ fn played<'a, R: Files + Threads + Sync + AllocGlobal>(
     for line in text.lines() {
         player.take(line)?;
     }
+    player.compare();
     Ok(player)
 }
 
-/// Prints what was played, or tells whether it is as the transcript has it.
+/// Tells whether what was played is as the transcript has it.
 fn tell<R: AllocGlobal + Print>(
     rt: &R,
     file: &str,
     text: &str,
     played: &[u8],
     commands: u64,
-    prints: bool,
+    differing: u64,
 ) -> io::Result<()> {
-    if prints {
-        return rt.print(String::from_utf8_lossy(rt.alloc(), played)?);
-    }
     match first_difference(text.as_bytes(), played) {
+        None if differing == 0 => println!(rt; "{file}: {commands} commands, as written"),
+        None => println!(rt; "{file}: {differing} commands are not as written"),
+        Some(_) if differing == commands => {
+            println!(rt; "{file}: {commands} commands, none as written")
+        }
         Some(line) => println!(rt; "{file}: line {line} is not as written"),
-        None => println!(rt; "{file}: {commands} commands, as written"),
     }
 }

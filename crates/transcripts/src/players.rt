@@ -15,7 +15,12 @@ pub(crate) struct Player<'a, R: Files> {
     /// The file that lines below a command go to.
     writing: Option<String>,
     transcript: Vec<u8>,
+    /// What stands below the last command.
+    written: Vec<u8>,
+    /// What the last command did print, as it is put down.
+    printed: Vec<u8>,
     commands: u64,
+    differing: u64,
 }
 
 impl<'a, R: Files + Threads + Sync + AllocGlobal> Player<'a, R> {
@@ -25,7 +30,10 @@ impl<'a, R: Files + Threads + Sync + AllocGlobal> Player<'a, R> {
             shell: Shell::new(rt),
             writing: None,
             transcript: Vec::new(rt.alloc()),
+            written: Vec::new(rt.alloc()),
+            printed: Vec::new(rt.alloc()),
             commands: 0,
+            differing: 0,
         }
     }
 
@@ -39,6 +47,21 @@ impl<'a, R: Files + Threads + Sync + AllocGlobal> Player<'a, R> {
         self.commands
     }
 
+    /// How many of the commands that were compared printed something else than stands below them.
+    pub(crate) fn differing(&self) -> u64 {
+        self.differing
+    }
+
+    /// Compares what the last command printed with what stands below it. Each command is compared before the next, and
+    /// the last one at the end.
+    pub(crate) fn compare(&mut self) {
+        if self.written != self.printed {
+            self.differing = self.differing.saturating_add(1);
+        }
+        self.written.clear();
+        self.printed.clear();
+    }
+
     /// Plays one line.
     pub(crate) fn take(&mut self, line: &str) -> Result<(), AllocError> {
         let kind = line_of(line);
@@ -46,7 +69,8 @@ impl<'a, R: Files + Threads + Sync + AllocGlobal> Player<'a, R> {
             put_line(&mut self.transcript, line.as_bytes())?;
         }
         match kind {
-            Line::Prose | Line::Printed => Ok(()),
+            Line::Prose => Ok(()),
+            Line::Printed => put_line(&mut self.written, line.as_bytes()),
             Line::Text(text) => self.write_line(text),
             Line::Command(command) => self.run(command),
         }
@@ -70,12 +94,15 @@ impl<'a, R: Files + Threads + Sync + AllocGlobal> Player<'a, R> {
 
     /// Does a command, and puts down what it prints.
     fn run(&mut self, command: &str) -> Result<(), AllocError> {
+        self.compare();
         self.commands = self.commands.saturating_add(1);
         let words = words_of(self.shell.rt.alloc(), command)?;
-        self.run_words(&words)
+        self.run_words(&words)?;
+        self.transcript.extend_from_slice(&self.printed)?;
+        Ok(())
     }
 
-    /// Does the command of these words, and puts down what it prints.
+    /// Does the command of these words, and notes what it prints.
     fn run_words(&mut self, words: &[&str]) -> Result<(), AllocError> {
         match words {
             ["cat", ">", name, "<<", "END"] => self.begin_file(name),
@@ -83,7 +110,7 @@ impl<'a, R: Files + Threads + Sync + AllocGlobal> Player<'a, R> {
             words => self
                 .shell
                 .call(words)?
-                .put(self.shell.rt.alloc(), &mut self.transcript),
+                .put(self.shell.rt.alloc(), &mut self.printed),
         }
     }
 
@@ -95,7 +122,7 @@ impl<'a, R: Files + Threads + Sync + AllocGlobal> Player<'a, R> {
         Ok(())
     }
 
-    /// Does the command of these words, writes what it prints to a file, and puts down what it complains of.
+    /// Does the command of these words, writes what it prints to a file, and notes what it complains of.
     fn run_onto(&mut self, words: &[&str], name: &str) -> Result<(), AllocError> {
         let alloc = self.shell.rt.alloc();
         let Outcome { out, err, status } = self.shell.call(words)?;
@@ -106,6 +133,6 @@ impl<'a, R: Files + Threads + Sync + AllocGlobal> Player<'a, R> {
             status,
         };
         written?;
-        rest.put(alloc, &mut self.transcript)
+        rest.put(alloc, &mut self.printed)
     }
 }
