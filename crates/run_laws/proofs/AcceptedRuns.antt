@@ -1,5 +1,4 @@
--- Texts that have a run, and whose code is accepted: nothing is left to keep it from being written but want of memory
--- and a failed output.
+-- Texts that have a run, and whose code is accepted: it is written unless memory runs out or the output fails.
 use Rattle.std.proofs.Common.{ℕ, List}
 use Rattle.fallible.specs.Out.{Output}
 use Rattle.integrator.specs.Frames.{opposite}

@@ -24,8 +24,8 @@ pub fn runs_return()
     ensures returns { RunsReturn }
 {}
 
-/// Where texts have a run and their code is accepted, nothing keeps the run from being written but want of memory and a
-/// failed output; nor does anything else keep the way back, from the text that it writes, from being written.
+/// Where texts have a run and their code is accepted, the run is written unless memory runs out or the output fails; and
+/// so is the way back, from the text that it writes.
 pub fn runs_are_accepted<A>()
     ensures run { RunsAreAccepted A }
     ensures told { ToldAreAccepted A }
