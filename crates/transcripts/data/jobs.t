@@ -289,3 +289,44 @@ Where a request for memory is refused, nothing else is said.
   $ requests pairmd start mixed gro
   pairmd: Memory [4]
   all
+
+## Lines in runs
+
+A comment begins in the first column of its line. With a blank before it, it is a line that says nothing.
+
+  $ with job 6 '#x' returns pairmd run job state --steps 1
+  pairmd state 1
+  title two atoms
+  step 1
+  atoms 2
+  box 200000 200000 200000
+      1AR      AR 1073741824 0 0 1073707464 0 0
+      1AR      AR 2147483648 0 0 2147518008 0 0
+  $ with job 6 ' # x' pairmd run job state --steps 1
+  pairmd: J1 BadLine 6
+  [1]
+  $ with job 6 'slices 0' pairmd run job state --steps 1
+  pairmd: J4 Range slices
+  [1]
+  $ with job 7 'type AR 1.' pairmd run job state --steps 1
+  pairmd: J1 BadLine 7
+  [1]
+
+A value below 0, of a global and of a type: the slope is -2, and each atom moves by 2 * 40000 / 20000000000 of 2^32 places, which are 17179.87.
+
+  $ with job 2 'energy g*r' with job 6 'global g -2' returns pairmd run job state --steps 1
+  pairmd state 1
+  title two atoms
+  step 1
+  atoms 2
+  box 200000 200000 200000
+      1AR      AR 1073741824 0 0 1073724644 0 0
+      1AR      AR 2147483648 0 0 2147500828 0 0
+  $ with job 2 'energy p1*r' with job 6 'parameter p' with job 7 'type AR 1 -2' returns pairmd run job state --steps 1
+  pairmd state 1
+  title two atoms
+  step 1
+  atoms 2
+  box 200000 200000 200000
+      1AR      AR 1073741824 0 0 1073724644 0 0
+      1AR      AR 2147483648 0 0 2147500828 0 0
