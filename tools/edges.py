@@ -1,5 +1,6 @@
 #!/usr/bin/env python3
-"""Runs the program where no contract reaches: over the system's own files and streams, and at sizes that no row has.
+"""Runs the program where no contract reaches: over the system's own files and streams, and at sizes that no row has; and
+shows the laws of the motion on a liquid.
 
   tools/edges.py [--program FILE] [CASE ..]
 
@@ -263,6 +264,39 @@ def threads(room, words):
             pass
         time.sleep(0.0005)
     return started.returncode, most
+
+
+KEPT = ["third law    sums 0 0 0", "translation  kept", "drift        kept", "axes         kept", "reversal     kept"]
+LIGHT_JOB = "pairmd job 1\nenergy 0.001*r\ncore 0\ncutoff 0.4\ndt 100\ntype A 0.001\ntype B 0.002\n"
+LIGHT_STATE = """pairmd state 1
+title Light atoms
+step 0
+atoms 3
+box 100000 110000 120000
+    1A        A 10 20 30 10 20 30
+    2A        A 700000000 500000000 300000000 700000000 500000000 300000000
+    3B        B 300000000 900000000 600000000 300000000 900000000 600000000
+"""
+
+
+def try_symmetries(room):
+    """What a run keeps exactly, on 500 argon atoms; and on three light ones what it doesn't."""
+    argon = f"{ROOT}/examples/argon.job"
+    room.write("start", room.run("start", argon, f"{ROOT}/examples/argon.gro").out)
+    told = symmetries(room, argon, "start", 100)
+    changed, most = (int(told[-1].split()[at]) for at in (1, -1))
+    room.expect("500 argon atoms, 100 steps", (told[:5], changed <= most), (KEPT, True))
+    room.write("job", LIGHT_JOB)
+    room.write("state", LIGHT_STATE)
+    told = symmetries(room, "job", "state", 1)
+    room.expect("three light atoms, a step", told[:7], [*KEPT, "mirror image not kept", "exchange     not kept"])
+
+
+def symmetries(room, job_name, start, steps):
+    """What `examples/symmetries.py` prints, line by line."""
+    words = [sys.executable, "-B", f"{ROOT}/examples/symmetries.py", job_name, start, "--steps", str(steps)]
+    environment = {**os.environ, "PAIRMD": room.program}
+    return subprocess.run(words, cwd=room.folder, env=environment, check=True, stdout=subprocess.PIPE, encoding="ascii").stdout.splitlines()
 
 
 CASES = {name[len("try_") :]: it for name, it in globals().items() if name.startswith("try_")}
