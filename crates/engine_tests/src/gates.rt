@@ -6,11 +6,11 @@ use integrator::{Direction, Workers};
 use std::alloc::Global;
 use std::sync::atomic::{AtomicU64, Ordering};
 use std::test::*;
-use std::thread::Threads;
+use std::thread::{Threads, yield_now};
 use tile_pool::Gate;
 
-/// How often a worker that is held looks for the others.
-const TURNS: u64 = 100_000_000;
+/// How often a worker that is held looks for the others, and lets them run where they wait for a processor.
+const TURNS: u64 = 10_000_000;
 
 /// Holds each worker at its first tile until all have entered one, and counts the tiles, and those that were held for
 /// too many turns, after which no other is held.
@@ -51,6 +51,7 @@ impl Gate for Meeting {
             if self.entered.load(Ordering::SeqCst) == self.all {
                 return;
             }
+            yield_now();
         }
         self.late.fetch_add(1, Ordering::SeqCst);
     }

@@ -2,11 +2,12 @@
 
 use arrayvec::ArrayVec;
 use std::sync::atomic::{AtomicU64, Ordering};
+use std::thread::yield_now;
 use tile_pool::Gate;
 use tile_round::{PairAdd, RowWork, Work};
 
-/// How often a worker that is held looks for the others.
-const TURNS: u32 = 100_000_000;
+/// How often a worker that is held looks for the others, and lets them run where they wait for a processor.
+const TURNS: u32 = 10_000_000;
 
 /// Notes who draws each of eight tiles, by eight workers. It holds each until all tiles are drawn, so each worker draws
 /// one, and counts those that were held for too many turns.
@@ -46,6 +47,7 @@ impl Gate for Signing {
             if self.drawn.load(Ordering::SeqCst).count_ones() == 8 {
                 return;
             }
+            yield_now();
         }
         self.late.fetch_add(1, Ordering::SeqCst);
     }

@@ -3,10 +3,11 @@
 ghost use Rattle.std.specs.Prelude.{◌<◌};
 
 use std::sync::atomic::{AtomicU64, Ordering};
+use std::thread::yield_now;
 use tile_round::{PairAdd, RowWork, Work};
 
-/// How often a worker that is held looks for the others.
-const TURNS: u32 = 100_000_000;
+/// How often a worker that is held looks for the others, and lets them run where they wait for a processor.
+const TURNS: u32 = 10_000_000;
 
 /// The same work, watched: the pairs are counted that are asked for. Each is held until a pair of each of some tiles
 /// was asked for, and those are counted that were held for too many turns. There are fewer than 64 tiles.
@@ -44,6 +45,7 @@ impl<W: Work + Drop> Watched<W> {
             if self.asked.load(Ordering::SeqCst) & self.met == self.met {
                 return;
             }
+            yield_now();
         }
         self.late.fetch_add(1, Ordering::SeqCst);
     }
