@@ -1,21 +1,24 @@
 #!/usr/bin/env python3
-"""Tries the edits that must fail of crates/NAME/edits: the prover has to refuse each.
+"""Tries the mutants of crates/NAME/edits: the prover has to reject each.
 
-  tools/edits.py [NAME ..] [--jobs N]      those of the named crates, or of all
-  tools/edits.py --stale [--jobs N]        those of each crate that has changed since they were last all refused
+  tools/edits.py [NAME ..] [--jobs N]      the mutants of the named crates, or of all
+  tools/edits.py --stale [--jobs N]        the mutants of each crate that changed since all of them were rejected
 
-They have the form of the edits in crates/NAME/must-fail, which the gate tries itself. Each is tried over the work that a
-check has kept, so that no crate is proved again for it. Where all edits of a crate were refused, crates/NAME/edits/stamp
-gets the sum of the crate's src, specs and edits; while it fits, they would be refused again. --stale works over the
-libraries that the gate has just built, and else none is built anew; it proves each crate once for its edits, and writes
-no stamp. The first line says how many edits will be tried and about how long that takes. The crates with the fewest
-edits go first, and a crate's edits go before the next crate is begun, so that a run that is cut off leaves few crates
+A mutant has the form of the edits in crates/NAME/must-fail, which the CI gate tries itself. Each is tried over the work
+that a check has kept, so no crate is proved again for a mutant. If all mutants of a crate were rejected, the script
+writes a checksum of the crate's src, specs and edits to crates/NAME/edits/stamp. While the stamp fits, they would be
+rejected again. The checksum leaves out comments and blank lines, which no proof reads; a mutant whose old text doesn't
+occur exactly once makes its crate stale whatever the stamp. --stale uses the libraries that the CI gate has just built;
+without --stale they are built first. With --stale each crate is proved once for its mutants, and no stamp is written.
+The first line of output gives the number of mutants and an estimate of the time. Crates with the fewest mutants come
+first, and all mutants of a crate are tried before the next crate is begun, so an interrupted run leaves few crates
 untried.
 """
 import argparse
 import functools
 import hashlib
 import os
+import re
 import shutil
 import sys
 import threading
@@ -26,7 +29,7 @@ import build
 import kit
 
 PARTS = ("edits", "specs", "src")
-# about how long one core takes: to try an edit over what is proved of its crate, and to prove a crate for its edits
+# seconds of one core, about: to try a mutant over its proved crate, and to prove a crate for its mutants
 SECONDS_OF_AN_EDIT = 24
 SECONDS_OF_A_CRATE = 90
 
@@ -37,8 +40,25 @@ def edits_of(crate):
     return [f"{folder}/{name}" for name in names if name.endswith(".edit")]
 
 
+# a string, a character or a comment, whichever begins first; of Rattle's code, and of definitions
+TOKENS = {
+    ".rt": re.compile(r'"(?:\\.|[^"\\])*"|\'(?:\\[^u]|\\u\{\w+\}|[^\\\'])\'|(?P<comment>//[^\n]*)', re.DOTALL),
+    ".antt": re.compile(r'"(?:\\.|[^"\\])*"|(?P<comment>(?<![^\s(])--[^\n]*)', re.DOTALL),
+}
+
+
+def without_comments(name, text):
+    """Returns a file's text without its comments and blank lines."""
+    tokens = TOKENS.get(os.path.splitext(name)[1])
+    if tokens is None:
+        return text
+    # a line feed inside a string isn't the end of a line
+    code = tokens.sub(lambda it: "" if it["comment"] else it[0].replace("\n", "\0"), text)
+    return "".join(f"{line.rstrip()}\n" for line in code.splitlines() if line.strip())
+
+
 def sum_of(crate):
-    """Returns the sum of what decides whether the edits are refused: the crate's code, its definitions, and the edits."""
+    """Returns the checksum of what decides whether the mutants are rejected: code, definitions and edits."""
     found = hashlib.sha256()
     for part in PARTS:
         for at, folders, files in os.walk(f"{crate.folder}/{part}"):
@@ -46,9 +66,18 @@ def sum_of(crate):
             for name in sorted(files):
                 if name != "stamp":
                     path = f"{at}/{name}"
-                    with open(path, "rb") as it:
-                        found.update(f"{os.path.relpath(path, crate.folder)}\0".encode() + it.read() + b"\0")
+                    with open(path, encoding="utf-8") as it:
+                        text = without_comments(name, it.read())
+                    found.update(f"{os.path.relpath(path, crate.folder)}\0{text}\0".encode())
     return found.hexdigest()
+
+
+def applies(crate, edit):
+    """Whether the first old text of a mutant occurs exactly once in its file."""
+    with open(edit, encoding="utf-8") as it:
+        given = dict(line.split(": ", 1) for line in reversed(it.read().splitlines()) if ": " in line)
+    with open(f"{crate.folder}/{given['file']}", encoding="utf-8") as it:
+        return it.read().count(given["old"]) == 1
 
 
 def stamp_of(crate):
@@ -59,16 +88,20 @@ def stamp_of(crate):
         return None
 
 
+def is_stale(crate):
+    return stamp_of(crate) != sum_of(crate) or not all(applies(crate, it) for it in edits_of(crate))
+
+
 def planned(crates, lanes):
-    """Returns the crates in the order in which they are begun, and what is to be said beforehand."""
+    """Returns the crates in the order in which they are begun, and the first line of output."""
     ordered = sorted(crates, key=lambda it: len(edits_of(it)))
     edits = sum(len(edits_of(it)) for it in ordered)
     seconds = edits * SECONDS_OF_AN_EDIT + len(ordered) * SECONDS_OF_A_CRATE
-    return ordered, f"{edits} edits of {len(ordered)} crates, about {seconds / lanes / 60:.0f} minutes with {lanes} jobs"
+    return ordered, f"{edits} mutants of {len(ordered)} crates, about {seconds / lanes / 60:.0f} minutes with {lanes} jobs"
 
 
 class Edits:
-    """Tries the edits of crates side by side, and counts."""
+    """Tries the mutants of crates side by side, and counts."""
 
     def __init__(self, trial, over_gate, crates):
         self.trial, self.over_gate = trial, over_gate
@@ -76,12 +109,12 @@ class Edits:
         self.passed, self.failed, self.guard = 0, 0, threading.Condition()
 
     def run(self):
-        """Does what is to be done, one after the other, until nothing is left."""
+        """Runs one task after the other until none is left."""
         while task := self.next():
             task()
 
     def next(self):
-        """Returns the next edit of the crates that were begun, or else the beginning of the next crate."""
+        """Returns the next mutant of the crates that were begun, or else the beginning of the next crate."""
         with self.guard:
             self.guard.wait_for(lambda: self.trials or self.crates or not self.beginning)
             if not self.trials and self.crates:
@@ -90,7 +123,7 @@ class Edits:
             return self.trials.popleft() if self.trials else None
 
     def begin(self, crate):
-        """Proves a crate, and lines up the trials of its edits."""
+        """Proves a crate, and queues the trials of its mutants."""
         trials = []
         try:
             own = f"{crate.folder}/out/incremental"
@@ -107,7 +140,7 @@ class Edits:
                 self.guard.notify_all()
 
     def one(self, crate, room, edit, left):
-        """Tries an edit. Behind the last of a crate's it writes the stamp, where all were refused."""
+        """Tries a mutant. After the last one of a crate it writes the stamp, if all were rejected."""
         refused, said = self.trial.refused(crate, edit, room)
         self.tell(refused, said.replace("must-fail ", "edits/", 1))
         with self.guard:
@@ -130,25 +163,25 @@ def main():
     parser.add_argument("names", nargs="*")
     parser.add_argument("--stale", action="store_true")
     parser.add_argument("--jobs", type=int, default=build.jobs())
-    told = parser.parse_args()
+    given = parser.parse_args()
     trial = kit.Trial()
     rtlib = trial.rt.rtlib
     os.chdir(kit.ROOT)
-    crates = [it for it in rtlib.crates_below(kit.ROOT) if edits_of(it) and (not told.names or it.name in told.names)]
-    if told.stale:
-        crates = [it for it in crates if stamp_of(it) != sum_of(it)]
+    crates = [it for it in rtlib.crates_below(kit.ROOT) if edits_of(it) and (not given.names or it.name in given.names)]
+    if given.stale:
+        crates = [it for it in crates if is_stale(it)]
         # as the gate builds its libraries: those above load their statements
         rtlib.Crate.cuts_libraries = True
-    elif not all(build.build(rtlib, it, told.jobs) for it in crates):
+    elif not all(build.build(rtlib, it, given.jobs) for it in crates):
         return 1
     if not crates:
-        print("the edits of all crates were refused as they stand, by their stamps")
+        print("no mutant is stale: the stamps of all crates fit")
         return 0
-    ordered, said = planned(crates, told.jobs)
+    ordered, said = planned(crates, given.jobs)
     print(said, flush=True)
-    edits = Edits(trial, told.stale, ordered)
-    with ThreadPoolExecutor(told.jobs) as pool:
-        for lane in [pool.submit(edits.run) for _ in range(told.jobs)]:
+    edits = Edits(trial, given.stale, ordered)
+    with ThreadPoolExecutor(given.jobs) as pool:
+        for lane in [pool.submit(edits.run) for _ in range(given.jobs)]:
             lane.result()
     print(f"edits: {edits.passed} passed, {edits.failed} failed")
     return 1 if edits.failed else 0
