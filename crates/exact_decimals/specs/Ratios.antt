@@ -1,8 +1,8 @@
--- Exact fractions of whole numbers, not reduced, and the decimals nearest to them.
+-- Exact fractions of integers, not reduced, and the decimals nearest to them.
 use Rattle.std.specs.Prelude.{ℕ, ◌*◌, ◌^◌, ◌≤◌, ℤ, pos, ◌+ℤ◌, ◌*ℤ◌, unsigned_abs}
 use Rattle.fixed.specs.Rounding.{nearest_of}
 
--- the fraction of the numerator over the denominator, which isn't 0
+-- a fraction of integers; the denominator isn't 0
 pub record Ratio : Type 0 where
   pub numerator : ℤ
   pub denominator : ℕ
@@ -22,10 +22,10 @@ times x k = record { numerator = x.numerator *ℤ pos k; denominator = x.denomin
 abbrev pub over : Ratio → ℕ → Ratio
 over x k = record { numerator = x.numerator; denominator = x.denominator * k }
 
--- the whole number of units of the last of these decimals that is nearest to a fraction, and the upper one of two
+-- the decimal with `places` decimals that is nearest to a fraction, in units of its last decimal; a tie rounds up
 abbrev pub decimal_of : ℕ → Ratio → ℤ
 decimal_of places x = nearest_of (x.numerator *ℤ pos (10 ^ places)) (pos x.denominator)
 
--- a fraction from -k to k
+-- the fraction x is from -k to k
 pub record IsWithin (k : ℕ) (x : Ratio) : Type 0 where
   pub within : unsigned_abs x.numerator ≤ k * x.denominator

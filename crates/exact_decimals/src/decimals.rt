@@ -1,4 +1,4 @@
-//! Whole numbers and decimals as text.
+//! Writing integers and decimals of 128 bits as text.
 
 ghost use Rattle.std.specs.Prelude.{◌≡◌, ◌+◌, ◌^◌, ◌<◌, ◌≤◌, ◌++◌, length, decimal};
 ghost use Rattle.std.specs.Fmt.{signed_decimal};
@@ -8,6 +8,7 @@ ghost use Rattle.line_text.specs.Columns.{zeros_in, decimals_text};
 use itoa::Buffer;
 use line_text::{Line, put};
 
+// Appends the number in decimal, without leading zeros: at most 40 bytes.
 fn put_natural(line: &mut Line, number: u128)
     requires { array_vec_len line.old + 40 ≤ 160 }
     ensures items { line.new.items ≡ line.old.items ++ decimal number }
@@ -17,7 +18,7 @@ fn put_natural(line: &mut Line, number: u128)
     put(line, buffer.format(number).as_bytes());
 }
 
-/// Appends the number in decimal, without leading zeros, and with a `-` where it is below 0: at most 40 bytes.
+/// Appends the number in decimal, without leading zeros, and with a `-` if it is below 0: at most 40 bytes.
 pub fn put_integer(line: &mut Line, value: i128)
     requires { array_vec_len line.old + 40 ≤ 160 }
     ensures items { line.new.items ≡ line.old.items ++ signed_decimal value }
@@ -27,7 +28,7 @@ pub fn put_integer(line: &mut Line, value: i128)
     put(line, buffer.format(value).as_bytes());
 }
 
-// Ten to this power.
+// Ten to the power `places`, which is at most 6.
 fn power_of_ten(places: usize) -> u64
     requires { places ≤ 6 }
     ensures exact { result ≡ 10 ^ places }
@@ -45,7 +46,7 @@ fn power_of_ten(places: usize) -> u64
     }
 }
 
-// Appends the digits of a number below a power of ten, with zeros in front.
+// Appends a number below ten to the power `width` as `width` digits (at most 6), with zeros in front.
 fn put_digits(line: &mut Line, width: usize, number: u64)
     requires room { array_vec_len line.old + width ≤ 160 }
     requires some { 0 < width }
@@ -60,7 +61,7 @@ fn put_digits(line: &mut Line, width: usize, number: u64)
     put(line, digits);
 }
 
-/// Appends a number, given in units of its last decimal, with `places` decimals (1 to 6): -1250 with three places is
+/// Appends a number with `places` decimals (1 to 6), given in units of its last decimal: -1250 with three decimals is
 /// `-1.250`. At most 48 bytes.
 pub fn put_decimals(line: &mut Line, places: usize, number: i128)
     requires room { array_vec_len line.old + 48 ≤ 160 }

@@ -1,4 +1,4 @@
-//! Fractions over a product of factors.
+//! Products with several factors, and fractions whose denominator is a product of factors.
 
 ghost use Rattle.std.specs.Prelude.{◌≡◌, pos, ◌*ℤ◌, ◌+◌, ◌*◌, ◌^◌, ◌<◌, unsigned_abs, FitsSigned};
 ghost use Rattle.std.specs.Int.{w128};
@@ -8,7 +8,8 @@ ghost use Rattle.exact_decimals.specs.Products.{product_of};
 
 use crate::whole::Whole;
 
-/// The number times all factors. The caller sees that the product has no more than 512 bits, and that no factor is 0.
+/// The number times the product of the factors. No factor may be 0, and the magnitude of the result must be below
+/// 2^512.
 pub fn scaled(whole: &Whole, factors: &[u64]) -> Whole
     requires positive { 0 < product_of factors.now }
     requires room { unsigned_abs whole.now * product_of factors.now < 2 ^ 512 }
@@ -21,7 +22,7 @@ pub fn scaled(whole: &Whole, factors: &[u64]) -> Whole
     product
 }
 
-// The number over twice all divisors, rounded down.
+// The number divided by twice the product of the divisors, rounded down. No divisor may be 0.
 fn half_floored(whole: &Whole, divisors: &[u64]) -> Whole
     requires { 0 < product_of divisors.now }
     ensures { result ≡ floor_over whole.now (2 * product_of divisors.now) }
@@ -33,11 +34,10 @@ fn half_floored(whole: &Whole, divisors: &[u64]) -> Whole
     quotient
 }
 
-/// The whole number nearest to the fraction of this numerator over the product of the divisors, and the upper one of
-/// two that are as near.
+/// The integer nearest to the numerator divided by the product of the divisors; a tie rounds up.
 ///
-/// The caller sees that no divisor is 0, that twice the numerator and the product together have no more than 512 bits,
-/// and that the nearest number fits an `i128`.
+/// No divisor may be 0. Twice the magnitude of the numerator, plus the product of the divisors, must be below 2^512.
+/// The result must fit an `i128`.
 pub fn nearest(numerator: &Whole, divisors: &[u64]) -> i128
     requires positive { 0 < product_of divisors.now }
     requires room { 2 * unsigned_abs numerator.now + product_of divisors.now < 2 ^ 512 }

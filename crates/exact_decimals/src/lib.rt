@@ -1,5 +1,5 @@
-//! Exact whole numbers with a sign of up to 512 bits, the whole number nearest to a fraction of them, and
-//! decimals of whole numbers as text.
+//! Exact signed integers of up to 512 bits, the integer nearest to a fraction of them, and integers and decimals of 128
+//! bits as text. `observe` computes its decimals with them, so each is the nearest to an exact value.
 #![tactic(auto)]
 
 mod decimals;

@@ -1,8 +1,9 @@
-// Natural numbers of up to 512 bits, as eight limbs of 64 bits with the least first.
+//! Natural numbers of up to 512 bits: eight limbs of 64 bits, the least significant first.
 ghost use Rattle.std.specs.Prelude.{◌≡◌, ◌+◌, ◌*◌, ◌/◌, ◌^◌, ◌<◌};
 ghost use Rattle.std.specs.Int.{from_bool};
 ghost use Rattle.exact_decimals.specs.Limbs.{limbs_value};
 
+// The limbs of `n`.
 pub(crate) fn limbs_of(n: u128) -> [u64; 8]
     ensures { limbs_value result ≡ n }
 {
@@ -11,7 +12,7 @@ pub(crate) fn limbs_of(n: u128) -> [u64; 8]
     [low, high, 0, 0, 0, 0, 0, 0]
 }
 
-// The number, where it fits 128 bits.
+// The number with these limbs, which must be below 2^128.
 pub(crate) fn low_half(limbs: &[u64; 8]) -> u128
     requires { limbs_value limbs.now < 2 ^ 128 }
     ensures { result ≡ limbs_value limbs.now }
@@ -19,7 +20,7 @@ pub(crate) fn low_half(limbs: &[u64; 8]) -> u128
     u128::from(limbs[0]) + (u128::from(limbs[1]) << 64)
 }
 
-// The sum with one more where `carry` says so, and what it carries past 512 bits.
+// The sum `a + b + carry` without its carry out of 512 bits, and this carry.
 pub(crate) fn sum(a: &[u64; 8], b: &[u64; 8], carry: bool) -> ([u64; 8], bool)
     ensures { limbs_value result.0 + from_bool result.1 * 2 ^ 512 ≡ limbs_value a.now + limbs_value b.now + from_bool carry }
 {
@@ -33,7 +34,7 @@ pub(crate) fn sum(a: &[u64; 8], b: &[u64; 8], carry: bool) -> ([u64; 8], bool)
     (sum, over)
 }
 
-// The difference with one less where `borrow` says so, and what it borrows from past 512 bits.
+// The difference `a - b - borrow` modulo 2^512, and whether it borrows from beyond 512 bits.
 pub(crate) fn difference(a: &[u64; 8], b: &[u64; 8], borrow: bool) -> ([u64; 8], bool)
     ensures value { limbs_value result.0 + limbs_value b.now + from_bool borrow ≡ limbs_value a.now + from_bool result.1 * 2 ^ 512 }
     ensures below { limbs_value result.0 < 2 ^ 512 }
@@ -48,7 +49,7 @@ pub(crate) fn difference(a: &[u64; 8], b: &[u64; 8], borrow: bool) -> ([u64; 8],
     (rest, under)
 }
 
-// The product and `carry`, and what they carry past 512 bits.
+// The product `a factor + carry` modulo 2^512, and the limb that it carries out of 512 bits.
 pub(crate) fn product(a: &[u64; 8], factor: u64, carry: u64) -> ([u64; 8], u64)
     ensures { limbs_value result.0 + result.1 * 2 ^ 512 ≡ limbs_value a.now * factor + carry }
 {
@@ -62,7 +63,8 @@ pub(crate) fn product(a: &[u64; 8], factor: u64, carry: u64) -> ([u64; 8], u64)
     (product, over)
 }
 
-// The limb of a quotient, and the rest, where the rest of the limbs above is `rest`.
+// One step of a long division: the quotient and the remainder of `rest 2^64 + limb` by the divisor. The remainder
+// `rest` of the higher limbs must be below the divisor.
 fn quotient_limb(rest: u64, limb: u64, divisor: u64) -> (u64, u64)
     requires { rest < divisor }
     ensures value { result.0 * divisor + result.1 ≡ rest * 2 ^ 64 + limb }
@@ -73,7 +75,7 @@ fn quotient_limb(rest: u64, limb: u64, divisor: u64) -> (u64, u64)
     ((wide / divisor) as u64, (wide % divisor) as u64)
 }
 
-// The quotient, rounded down.
+// The number divided by the divisor, rounded down. The divisor must not be 0.
 pub(crate) fn quotient(a: &[u64; 8], divisor: u64) -> [u64; 8]
     requires { 0 < divisor }
     ensures { limbs_value result ≡ limbs_value a.now / divisor }

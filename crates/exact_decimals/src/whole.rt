@@ -1,4 +1,4 @@
-//! Whole numbers.
+//! Signed integers of up to 512 bits.
 
 ghost use Rattle.std.specs.Prelude.{◌≡◌, ℤ, pos, negsuc, ◌+ℤ◌, ◌*ℤ◌, ◌+◌, ◌*◌, ◌^◌, ◌<◌, unsigned_abs, FitsSigned};
 ghost use Rattle.std.specs.Int.{w128};
@@ -8,10 +8,10 @@ ghost use Rattle.exact_decimals.specs.Limbs.{limbs_value, signed_value};
 use crate::limbs::{difference, limbs_of, low_half, product, quotient, sum};
 use std::marker::Model;
 
-/// A whole number from -2^512 to 2^512 - 1.
+/// An integer from -2^512 to 2^512 - 1.
 #[derive(Drop)]
 pub struct Whole {
-    // Below 0, the limbs are of n, and the number is -(n + 1).
+    // If `negative`, the limbs hold n and the integer is -(n + 1).
     negative: bool,
     limbs: [u64; 8],
 }
@@ -22,7 +22,7 @@ impl Model for Whole {
     ghost view = { λ w. signed_value w.negative (limbs_value w.limbs) };
 }
 
-// a - b - 1
+// `a - b - 1`.
 fn difference_less_one(a: &[u64; 8], b: &[u64; 8]) -> Whole
     ensures { result ≡ pos (limbs_value a.now) +ℤ negsuc (limbs_value b.now) }
 {
@@ -42,7 +42,7 @@ fn difference_less_one(a: &[u64; 8], b: &[u64; 8]) -> Whole
 }
 
 impl Whole {
-    /// The number itself.
+    /// The integer `value`.
     pub fn of(value: i128) -> Whole
         ensures { result ≡ value }
     {
@@ -56,7 +56,7 @@ impl Whole {
         }
     }
 
-    /// The number itself.
+    /// The integer `value`, which isn't negative.
     pub fn of_natural(value: u128) -> Whole
         ensures { result ≡ pos value }
     {
@@ -66,7 +66,7 @@ impl Whole {
         }
     }
 
-    /// The sum. The caller sees that both numbers together have no more than 512 bits.
+    /// The sum. The magnitudes of both summands together must be below 2^512.
     pub fn plus(&self, other: &Whole) -> Whole
         requires { unsigned_abs self.now + unsigned_abs other.now < 2 ^ 512 }
         ensures { result ≡ self.now +ℤ other.now }
@@ -84,7 +84,7 @@ impl Whole {
         }
     }
 
-    /// The product. The caller sees that it has no more than 512 bits.
+    /// The product. Its magnitude must be below 2^512.
     pub fn times(&self, factor: u64) -> Whole
         requires { unsigned_abs self.now * factor < 2 ^ 512 }
         ensures { result ≡ self.now *ℤ pos factor }
@@ -95,7 +95,7 @@ impl Whole {
         Whole { negative, limbs }
     }
 
-    /// The quotient, rounded down. The divisor isn't 0.
+    /// The quotient, rounded down. The divisor must not be 0.
     pub fn divided(&self, divisor: u64) -> Whole
         requires { 0 < divisor }
         ensures { result ≡ floor_over self.now divisor }
@@ -106,7 +106,7 @@ impl Whole {
         }
     }
 
-    /// The number, which fits an `i128`.
+    /// The integer as an `i128`, which it must fit.
     pub fn narrow(&self) -> i128
         requires { FitsSigned w128 self.now }
         ensures { result ≡ self.now }

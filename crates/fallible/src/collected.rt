@@ -1,3 +1,4 @@
+//! Output into memory.
 ghost use Rattle.std.specs.Prelude.{◌≡◌, [], Some};
 ghost use Rattle.fallible.specs.Out.{Collection};
 
@@ -5,8 +6,7 @@ use crate::output::{Out, OutFault};
 use std::alloc::Allocator;
 use std::marker::Model;
 
-/// An output into memory, which keeps the bytes that it takes. A write fails only where memory
-/// for its bytes is refused.
+/// An output that keeps the accepted bytes in memory. A write fails only if the allocation for its bytes fails.
 #[derive(Drop)]
 pub struct Collected<A: Allocator> {
     bytes: Vec<u8, A>,
@@ -20,7 +20,7 @@ impl<A: Allocator> Model for Collected<A> {
 }
 
 impl<A: Allocator> Collected<A> {
-    /// An output that has taken nothing, and takes memory of `alloc` for what it will take.
+    /// An empty output that allocates from `alloc`.
     pub fn new(alloc: A) -> Self
         ensures bytes { result.bytes ≡ [] }
         ensures failures { result.failures ≡ 0 }
@@ -31,14 +31,14 @@ impl<A: Allocator> Collected<A> {
         }
     }
 
-    /// The bytes taken so far.
+    /// The bytes accepted so far.
     pub fn bytes(&self) -> &[u8]
         ensures { result.now ≡ self.now.bytes }
     {
         self.bytes.as_slice()
     }
 
-    /// The bytes taken, in the memory that holds them.
+    /// The accepted bytes, in the memory that holds them.
     pub fn into_bytes(self) -> Vec<u8, A>
         ensures { result.items ≡ self.bytes }
     {
@@ -50,7 +50,7 @@ impl<A: Allocator> Collected<A> {
 impl<A: Allocator> Out for Collected<A> {
     ghost output = { λ c. record { taken = Some c.bytes; failed = c.failures } };
 
-    /// Takes all of the bytes, or none where memory is refused.
+    /// Accepts all of the bytes, or none if the allocation fails.
     fn write(&mut self, bytes: &[u8]) -> Result<usize, OutFault> {
         match self.bytes.extend_from_slice(bytes) {
             Ok(()) => Ok(bytes.len()),

@@ -1,4 +1,10 @@
-//! How calls fail that take memory.
+//! Failures of calls that allocate.
+//!
+//! Running out of memory is separate from faults of the input. A contract fixes every `Refused`, and allows a `Memory`
+//! at any time, so no enum of faults has to define running out of memory once more. Each fault type has only the errors
+//! that its calls can return. The price is a conversion when a caller's fault type includes another one. `?` can't
+//! convert a `Failure` into a `Failure` (the trait and the type would both be another crate's), so callers write a
+//! `match`.
 
 ghost use Rattle.std.specs.Prelude.{◌≡◌};
 ghost use Rattle.fallible.specs.declared.failure.Failure.TheVariants.{Memory};
@@ -7,12 +13,12 @@ use std::alloc::{AllocError, AllocFailed};
 use std::error::Error;
 use std::fmt;
 
-/// Why a call that takes memory has no value. `R` is what its input can be refused for.
+/// Reason why a call that allocates has no value. `R` is the type of faults of its input.
 #[derive(Clone, Copy, Debug, Drop, PartialEq, Eq)]
 pub enum Failure<R> {
-    /// The input is refused.
+    /// The input was rejected.
     Refused(R),
-    /// An allocation was refused.
+    /// An allocation failed.
     Memory,
 }
 

@@ -1,4 +1,8 @@
-//! How calls fail that take memory, `Failure`, and outputs, which take the bytes of a text.
+//! Failures of calls that allocate (`Failure`), and outputs, which accept the bytes of a text (`Out`).
+//!
+//! Two conventions of all crates follow from failing allocations. The allocator is a type parameter, passed as an
+//! argument, so that tests can pass one that fails. Fallible functions borrow, and only their caller owns and drops,
+//! because the prover follows each drop on each path out of a function.
 #![tactic(auto)]
 
 mod collected;

@@ -1,7 +1,8 @@
+//! Pairs of results.
 ghost use Rattle.std.specs.Prelude.{◌≡◌, Ok, IfOk};
 ghost use Rattle.fallible.specs.Failures.{paired};
 
-/// Both values, or why one of them isn't there, the first before the second.
+/// Both values, or the error of the first result that has none.
 pub fn pair<S: Drop, T: Drop, E: Drop>(
     first: Result<S, E>,
     second: Result<T, E>,

@@ -1,14 +1,16 @@
-// Estimates in floating point. Nothing is promised of how near they are: whoever takes one corrects it exactly, and
-// only the time depends on it.
+//! Estimates in floating point. No contract bounds their error: each caller tests the estimate exactly and corrects it,
+//! so an error costs only time.
 ghost use Rattle.std.specs.Prelude.{◌<◌};
 
 use std::num::{f64_to_bits_with_nan, nearest_u64_to_f64, saturating_f64_to_u64};
 
-// Three times 2^51, and its pattern: floats around it are whole numbers, and their patterns count them.
+// 3 * 2^51 and its bit pattern. Floats near it are integers, and their bit patterns are consecutive, so adding it
+// rounds.
 const MIDDLE: f64 = 6755399441055744.0;
 
 const PATTERN_OF_MIDDLE: u64 = 0x4338_0000_0000_0000;
 
+// About `n`.
 fn near_natural(n: u128) -> f64 {
     let high = nearest_u64_to_f64((n >> 64) as u64);
     let low = nearest_u64_to_f64((n & 0xFFFF_FFFF_FFFF_FFFF) as u64);
@@ -21,14 +23,14 @@ pub(crate) fn near_float(n: i64) -> f64 {
     ((n >> 32) as f64) * 4294967296.0 + low as f64
 }
 
-// About the floor of `x`, where `x` lies between -2^51 and 2^51.
+// About the floor of `x`, for `x` between -2^51 and 2^51.
 pub(crate) fn floor_estimate(x: f64) -> i64 {
     f64_to_bits_with_nan(x - 0.5 + MIDDLE)
         .wrapping_sub(PATTERN_OF_MIDDLE)
         .cast_signed()
 }
 
-// About the square root, and at least 1.
+// About the square root of `n`, and at least 1.
 pub(crate) fn root_estimate(n: u128) -> u64
     ensures { 0 < result }
 {

@@ -1,4 +1,4 @@
-//! The text of the forces on the atoms of a state: a line for each atom.
+//! The text of the forces on the atoms of a state, one line per atom.
 #![tactic(auto)]
 
 mod lines;

@@ -1,4 +1,4 @@
-//! The lines of forces.
+//! The lines of the forces.
 
 ghost use Rattle.std.specs.Prelude.{◌≡◌, ◌+◌, ◌≤◌, ◌++◌, ◌∷◌, IfOk, map};
 ghost use Rattle.std.specs.Fmt.{signed_decimal};
@@ -13,8 +13,10 @@ use ring_box::Force;
 use state::Atom;
 use std::alloc::{AllocError, Allocator};
 
-/// The lines of the forces on these atoms: residue number, residue name and atom name in the columns that they have in
-/// a state, and the force along each axis, with a blank before it. `AllocError` only where memory is refused.
+/// The lines of the forces on these atoms: residue number, residue name and atom name in the columns of a state's atom
+/// line, and the force along x, y and z in 2^-bits kJ/mol/nm, each after a space. The text ends with the shorter list.
+///
+/// `AllocError` only if an allocation fails.
 pub fn force_lines<A: Allocator + Copy>(
     alloc: A,
     mut atoms: &[Atom],
@@ -35,7 +37,7 @@ pub fn force_lines<A: Allocator + Copy>(
     Ok(text)
 }
 
-/// An atom's line, with its line feed.
+/// The line of an atom, with its LF.
 fn whole_line(atom: &Atom, force: &Force<i64>) -> Line
     ensures { result.items ≡ ended (force_line (atom_view atom.now) force.now) }
 {
@@ -48,7 +50,7 @@ fn whole_line(atom: &Atom, force: &Force<i64>) -> Line
     line
 }
 
-/// Appends what a state calls an atom.
+/// Appends residue number, residue name and atom name in the columns of a state's atom line.
 fn put_columns(line: &mut Line, atom: &Atom)
     requires { array_vec_len line.old + 15 ≤ 160 }
     ensures items { line.new.items ≡ line.old.items ++ columns_of (atom_view atom.now) }
@@ -60,7 +62,7 @@ fn put_columns(line: &mut Line, atom: &Atom)
     put_right(line, 5, atom.name.as_bytes());
 }
 
-/// Appends a blank and a number.
+/// Appends a space and a number.
 fn put_component(line: &mut Line, component: i64)
     requires { array_vec_len line.old + 21 ≤ 160 }
     ensures items { line.new.items ≡ line.old.items ++ 32 ∷ signed_decimal component }

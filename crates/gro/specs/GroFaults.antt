@@ -1,4 +1,6 @@
--- Which fault a text has that stands for no frames: told by its lines and what they say, and not by how they are read.
+-- The fault of a text that isn't a GRO file, defined from its lines and their contents, without an order of reading.
+-- The module `GroReading` defines the fault a second time, as a function from the top. The contract has both, so a
+-- wrong order in definition and code can't pass unnoticed.
 use Rattle.std.specs.Prelude.{◌≡◌, ◌≢◌, ◌⊎◌, ◌<◌, ◌≤◌, ◌+◌, ℕ, false, true, List, [], ◌∷◌, ◌++◌, length, drop, replicate, ℤ, pos, IsTrue}
 use Rattle.line_text.specs.Parts.{is_printable, lacks}
 use Rattle.line_text.specs.Words.{words}
@@ -8,23 +10,23 @@ use Rattle.gro.specs.GroText.{AreAtoms, AreValues, IsAtomLine, IsCount, IsFrame,
 use Rattle.gro.specs.declared.faults.GroFault.{GroFault}
 use Rattle.gro.specs.declared.faults.GroFault.TheVariants.{Truncated, BadCount, BadColumns, Precision, BadBox, Triclinic, TooManyAtoms}
 
--- ---- what is wrong with a line, whose number is n, and which stands at the front of these bytes
+-- ---- faults of one line, number n, with text `text`, at the start of `bytes`
 
--- it is the last one, and its line feed is missing
+-- the line is the last one and lacks its line feed
 abbrev pub IsUnfinished : List ℕ → Type 0
 IsUnfinished bytes = lacks 10 bytes ≡ true
 
--- A line is needed. It is missing, or it is there and this is wrong with it.
+-- a required line: it is missing (Truncated), or it has a fault
 abbrev pub IsNeeded : (List ℕ → List ℕ → GroFault → Type 0) → List ℕ → GroFault → Type 0
 IsNeeded IsWrong bytes f = ((bytes ≡ []) × (f ≡ Truncated)) ⊎ ((text : List ℕ) × (rest : List ℕ) × IsLine bytes text rest × IsWrong bytes text f)
 
--- it writes no number of atoms; or one that is too great
+-- the line isn't a number of atoms, or the number is above 65,536
 abbrev pub IsCountFault : ℕ → List ℕ → List ℕ → GroFault → Type 0
 IsCountFault n bytes text (BadCount m) = (m ≡ n) × ((digits : List ℕ) (count : ℕ) → IsPadded text digits → WritesWhole digits count → ⊥)
 IsCountFault n bytes text (TooManyAtoms m) = (m ≡ n) × ((digits : List ℕ) × (count : ℕ) × IsPadded text digits × WritesWhole digits count × (65536 < count))
 IsCountFault n bytes text _ = ⊥
 
--- the first two points that stand at or after column 20, and how far they are apart
+-- `distance` is the distance of the first two points at or after column 20
 pub record HasPoints (text : List ℕ) (distance : ℕ) : Type 0 where
   pub before : List ℕ
   pub between : List ℕ
@@ -35,11 +37,12 @@ pub record HasPoints (text : List ℕ) (distance : ℕ) : Type 0 where
   pub second : lacks 46 between ≡ true
   pub apart : distance ≡ length between + 1
 
--- positions of another number of decimals than three
+-- all bytes are printable, but the positions don't have three decimals, as their points aren't eight columns apart
 abbrev pub HasOtherPrecision : List ℕ → Type 0
 HasOtherPrecision text = IsTrue (is_printable text) × ((distance : ℕ) × HasPoints text distance × (distance ≢ 8))
 
--- an unfinished line is too short; else it has another precision; else it is no atom's
+-- The faults of an atom line, in this order: an unfinished line is too short; the positions don't have three decimals;
+-- the line isn't an atom line for another reason.
 abbrev pub IsAtomFault : ℕ → List ℕ → List ℕ → GroFault → Type 0
 IsAtomFault n bytes text Truncated = IsUnfinished bytes × (length text < 44)
 IsAtomFault n bytes text (Precision m) = (m ≡ n) × (IsUnfinished bytes → 44 ≤ length text) × HasOtherPrecision text
@@ -50,16 +53,17 @@ IsAtomFault n bytes text _ = ⊥
 abbrev pub HasValues : List ℕ → List ℤ → Type 0
 HasValues text values = AreValues (words text) values × (3 ≤ length values) × (length values ≤ 9)
 
--- an unfinished line has too few words; else it has no such values; or those behind the third are not all zero
+-- The faults of a box line, in this order: an unfinished line has fewer than three words; the line isn't three to nine
+-- values; a value after the third isn't zero.
 abbrev pub IsBoxFault : ℕ → List ℕ → List ℕ → GroFault → Type 0
 IsBoxFault n bytes text Truncated = IsUnfinished bytes × (length (words text) < 3)
 IsBoxFault n bytes text (BadBox m) = (m ≡ n) × (IsUnfinished bytes → 3 ≤ length (words text)) × ((values : List ℤ) → HasValues text values → ⊥)
 IsBoxFault n bytes text (Triclinic m) = (m ≡ n) × ((values : List ℤ) × HasValues text values × ((zeros : ℕ) → drop 3 values ≡ replicate zeros (pos 0) → ⊥))
 IsBoxFault n bytes text _ = ⊥
 
--- ---- which line it is
+-- ---- the line with the fault
 
--- a frame's title on line n, and its number of atoms, stand there, and then `count` of its atoms
+-- The bytes start with a title, a number of atoms `count`, and the lines of some atoms; then the rest follows.
 pub record HasAtoms (bytes : List ℕ) (count : ℕ) (atoms : List AtomView) (rest : List ℕ) : Type 0 where
   pub title : List ℕ
   pub count_text : List ℕ
@@ -70,19 +74,19 @@ pub record HasAtoms (bytes : List ℕ) (count : ℕ) (atoms : List AtomView) (re
   pub counted : IsCount count_text count
   pub atoms' : AreAtoms after_count atoms rest
 
--- the first line at fault of a frame whose title is on line n
+-- f is the fault of the first faulty line of a frame whose title is on line n
 pub data IsFrameFault (n : ℕ) (bytes : List ℕ) (f : GroFault) : Type 0 where
   no_title : bytes ≡ [] → f ≡ Truncated → IsFrameFault n bytes f
   bad_count : (text rest : List ℕ) → IsLine bytes text rest → IsNeeded (IsCountFault (n + 1)) rest f → IsFrameFault n bytes f
   bad_atom : (count : ℕ) (atoms : List AtomView) (rest : List ℕ) → HasAtoms bytes count atoms rest → length atoms < count → IsNeeded (IsAtomFault (n + 2 + length atoms)) rest f → IsFrameFault n bytes f
   bad_box : (count : ℕ) (atoms : List AtomView) (rest : List ℕ) → HasAtoms bytes count atoms rest → length atoms ≡ count → IsNeeded (IsBoxFault (n + 2 + count)) rest f → IsFrameFault n bytes f
 
--- these frames stand one after the other, and behind the last of them, from line m on, more than blanks is left
+-- these frames follow one another from line n on, and then a rest that isn't all blank, from line m on
 abbrev pub AreFrames : ℕ → List ℕ → List FrameView → ℕ → List ℕ → Type 0
 AreFrames n bytes [] m rest = (m ≡ n) × (rest ≡ bytes)
 AreFrames n bytes (f ∷ frames) m rest = (after : List ℕ) × IsFrame bytes f after × (is_all_blank after ≡ false) × AreFrames (n + length f.atoms + 3) after frames m rest
 
--- whole frames, and then one with a line at fault
+-- the text is a sequence of whole frames, then a frame with a faulty line
 pub record IsTextFault (bytes : List ℕ) (f : GroFault) : Type 0 where
   pub frames : List FrameView
   pub line : ℕ

@@ -1,4 +1,4 @@
-//! The line of an atom.
+//! Reading the line of an atom.
 
 ghost use Rattle.std.specs.Prelude.{◌≡◌, ◌≤◌, ◌<◌, ◌^◌, length, option_map, pos, negsuc, ◌≤ℤ◌, IfSome};
 ghost use Rattle.fallible.specs.Failures.{Answers};
@@ -12,12 +12,14 @@ use crate::frames::GroAtom;
 use crate::lines::InputLine;
 use line_text::{Name, cut, decimal_column, digits, is_printable, trim};
 
-/// The bytes that the residue's number, the names, the atom's index and the position take.
+/// The length of an atom line without its velocity: residue number, two names, index and position.
 const COLUMNS: usize = 44;
 
 /// The atom on the line with this number.
 ///
-/// An unfinished line is judged first, then its bytes, its points, and its fields.
+/// Errors, in this order: `Truncated` for an unfinished line of fewer than 44 bytes; `BadColumns` for a byte outside 32
+/// to 126, or fewer than two points; `Precision` if the positions don't have three decimals; `BadColumns` for any other
+/// form.
 #[tactic(auto, unfolding(crate::specs::GroReading::atom_in))]
 pub fn atom(number: u64, line: InputLine<'_>) -> Result<GroAtom, GroFault>
     ensures { Answers atom_view (λ f. f) result (atom_in number (line_view line.entry)) }
@@ -35,8 +37,8 @@ pub fn atom(number: u64, line: InputLine<'_>) -> Result<GroAtom, GroFault>
     }
 }
 
-/// How far apart the first two points are that stand at or after column 20: as far as a position is
-/// wide, so it tells the number of decimals.
+/// The distance of the first two points at or after column 20. It is the width of a position's column, which depends on
+/// the number of decimals.
 #[tactic(auto, unfolding(crate::specs::GroReading::points_of))]
 fn point_distance(text: &[u8]) -> Option<usize>
     ensures { result ≡ points_of text.now }
@@ -50,6 +52,7 @@ fn point_distance(text: &[u8]) -> Option<usize>
 }
 
 #[tactic(auto, unfolding(crate::specs::GroReading::fields_of))]
+// The atom on a line, from its columns; `None` if a column has another form.
 fn fields(text: &[u8]) -> Option<GroAtom>
     ensures { option_map atom_view result ≡ fields_of text.now }
 {
@@ -70,7 +73,7 @@ fn fields(text: &[u8]) -> Option<GroAtom>
     })
 }
 
-/// Spaces, an optional `-`, digits and spaces, of -9999 to 99999.
+/// The residue number in a column: spaces, an optional `-`, digits and spaces, from -9999 to 99999.
 #[tactic(auto, unfolding(crate::specs::GroReading::residue_number_of))]
 fn residue_number(column: &[u8]) -> Option<i32>
     requires { length column.now ≤ 12 }
@@ -90,7 +93,7 @@ fn residue_number(column: &[u8]) -> Option<i32>
     Some(number as i32)
 }
 
-/// One digit or more.
+/// The number that one or more digits denote.
 fn whole(text: &[u8]) -> Option<u64>
     requires { length text.now ≤ 12 }
     ensures exact { result ≡ whole_of text.now }
@@ -115,7 +118,7 @@ fn three_columns(places: usize, text: &[u8]) -> Option<[i64; 3]>
     Some([x, y, z])
 }
 
-/// The velocity, zero where only spaces stand.
+/// The velocity after the position's columns, zero if there are only spaces.
 #[tactic(auto, unfolding(crate::specs::GroReading::velocity_of))]
 fn velocity(tail: &[u8]) -> Option<[i64; 3]>
     ensures { result ≡ velocity_of tail.now }
@@ -133,6 +136,7 @@ fn velocity(tail: &[u8]) -> Option<[i64; 3]>
     }
 }
 
+// Whether all bytes are spaces.
 fn are_spaces(text: &[u8]) -> bool
     ensures { result ≡ are_spaces text.now }
 {

@@ -1,4 +1,4 @@
-//! The line of a box.
+//! Reading the line of a box.
 
 ghost use Rattle.std.specs.Prelude.{◌≡◌, ◌≤◌, ◌<◌, ◌^◌, length, option_map, IfSome};
 ghost use Rattle.std.specs.List.{list_all};
@@ -14,8 +14,8 @@ use line_text::{cut, digits, next_word, power_of_ten};
 
 /// The sides of the box on the line with this number, in 10^-5 nm.
 ///
-/// An unfinished line of fewer than three values is judged first, then the form of the values, and then
-/// that those after the third are zero.
+/// Errors, in this order: `Truncated` for an unfinished line of fewer than three words; `BadBox` if the line isn't
+/// three to nine values; `Triclinic` if a value after the third isn't zero.
 #[tactic(auto, unfolding(crate::specs::GroReading::sides_in))]
 pub fn sides(number: u64, line: InputLine<'_>) -> Result<[i64; 3], GroFault>
     ensures { Answers (λ x. x) (λ f. f) result (sides_in number (line_view line.entry)) }
@@ -31,7 +31,9 @@ pub fn sides(number: u64, line: InputLine<'_>) -> Result<[i64; 3], GroFault>
     rectangular(number, values.as_slice())
 }
 
-/// The first three values, where the others are zero.
+/// The first three values.
+///
+/// `Triclinic` if another value isn't zero.
 fn rectangular(number: u64, values: &[i64]) -> Result<[i64; 3], GroFault>
     requires { 3 ≤ length values.now }
     ensures { Answers (λ x. x) (λ f. f) result (rectangular number (Some values.now)) }
@@ -44,12 +46,14 @@ fn rectangular(number: u64, values: &[i64]) -> Result<[i64; 3], GroFault>
     }
 }
 
+// Whether all values are zero.
 fn are_zero(values: &[i64]) -> bool
     ensures { result ≡ list_all is_zero values.now }
 {
     values.iter().all(|v| *v == 0)
 }
 
+// The number of words.
 fn word_count(text: &[u8]) -> usize
     ensures { result ≡ length (words text.now) }
 {
@@ -62,7 +66,7 @@ fn word_count(text: &[u8]) -> usize
     count
 }
 
-/// The values of a line that has at most nine.
+/// The values on a line of at most nine words; `None` if a word isn't a value.
 fn values(text: &[u8]) -> Option<ArrayVec<i64, 9>>
     requires { length (words text.now) ≤ 9 }
     ensures exact { option_map (λ v. v.items) result ≡ values_of (words text.now) }
@@ -77,7 +81,7 @@ fn values(text: &[u8]) -> Option<ArrayVec<i64, 9>>
     Some(values)
 }
 
-/// A length with or without a minus, in 10^-5 nm.
+/// A length in 10^-5 nm, possibly with a minus.
 #[tactic(auto, unfolding(crate::specs::GroReading::value_of))]
 fn value(word: &[u8]) -> Option<i64>
     ensures { result ≡ value_of word.now }
@@ -89,7 +93,7 @@ fn value(word: &[u8]) -> Option<i64>
     }
 }
 
-/// 1 to 12 digits, and behind a point 1 to 5 more, in units of the fifth decimal.
+/// A length in 10^-5 nm: 1 to 12 digits, possibly a point and then 1 to 5 digits.
 #[tactic(auto, unfolding(crate::specs::GroReading::length_of))]
 fn unsigned_length(text: &[u8]) -> Option<u64>
     ensures exact { result ≡ length_of text.now }
@@ -105,7 +109,7 @@ fn unsigned_length(text: &[u8]) -> Option<u64>
     }
 }
 
-/// The number that 1 to `most` digits write.
+/// The number that 1 to `most` digits denote.
 #[tactic(auto, unfolding(crate::specs::GroReading::few_digits_of))]
 fn few_digits(most: usize, text: &[u8]) -> Option<u64>
     requires { most ≤ 12 }

@@ -1,4 +1,4 @@
-//! Why a text has no frames, or not the one that is wanted.
+//! Faults of a GRO file.
 
 ghost use Rattle.std.specs.Prelude.{◌≡◌};
 ghost use Rattle.fallible.specs.declared.failure.Failure.TheVariants.{Refused};
@@ -7,36 +7,36 @@ use fallible::Failure;
 use std::fmt;
 use thiserror::Error;
 
-/// The first fault of a GRO file, from the top. Lines are counted from 1.
+/// The first fault of a GRO file from the top, or a frame number that it doesn't have. Lines are counted from 1.
 #[derive(Clone, Copy, Error)]
 pub enum GroFault {
-    /// A needed line is not there, or the last line, without its LF, was cut off.
+    /// A required line is missing, or the last line, without its LF, is cut off.
     #[error("G1 Truncated")]
     Truncated,
-    /// The line is not a number of atoms.
+    /// The line isn't a number of atoms.
     #[error("G2 BadCount {line}")]
     BadCount { line: u64 },
-    /// The line is not an atom's.
+    /// The line isn't an atom line.
     #[error("G3 BadColumns {line}")]
     BadColumns { line: u64 },
-    /// The positions on the line have another number of decimals than three.
+    /// The positions on the line don't have three decimals.
     #[error("G4 Precision {line}")]
     Precision { line: u64 },
-    /// The line is not a box's.
+    /// The line isn't a box line.
     #[error("G5 BadBox {line}")]
     BadBox { line: u64 },
-    /// The box on the line is not rectangular.
+    /// The box on the line isn't rectangular.
     #[error("G6 Triclinic {line}")]
     Triclinic { line: u64 },
-    /// The line asks for more than 65,536 atoms.
+    /// The number of atoms on the line is above 65,536.
     #[error("G7 TooManyAtoms {line}")]
     TooManyAtoms { line: u64 },
-    /// There is no frame of that number.
+    /// The file has no frame with that number.
     #[error("G8 NoSuchFrame")]
     NoSuchFrame,
 }
 
-/// A fault prints the same either way.
+/// `Debug` prints as `Display`. `thiserror` requires it, and a derived one is expensive to prove.
 impl fmt::Debug for GroFault {
     fn fmt<W: fmt::Write>(&self, f: &mut fmt::Formatter<W>) -> fmt::Result {
         fmt::Display::fmt(self, f)

@@ -1,4 +1,4 @@
-//! Frames of a GRO file and their atoms.
+//! Frames of a GRO file, and their atoms.
 
 ghost use Rattle.std.specs.Prelude.{pos, negsuc, ◌≤ℤ◌, ◌≤◌, length, IsTrue};
 ghost use Rattle.line_text.specs.Parts.{is_title};
@@ -13,11 +13,11 @@ pub struct GroAtom {
     pub number: i32,
     /// The name of its residue.
     pub residue: Name,
-    /// Its own name.
+    /// The name of the atom.
     pub name: Name,
-    /// Its position: x, y and z in whole picometres.
+    /// Its position x, y and z, in picometres.
     pub at: [i64; 3],
-    /// Its velocity along x, y and z in 10^-4 nm/ps; zero where the file has none.
+    /// Its velocity along x, y and z in 10^-4 nm/ps; zero if the file has none.
     pub velocity: [i64; 3],
     pub ghost low: { negsuc 9998 ≤ℤ number },
     pub ghost high: { number ≤ℤ pos 99999 },
@@ -26,9 +26,9 @@ pub struct GroAtom {
 /// One frame of a GRO file (GROMACS manual, gro file format).
 #[derive(Drop)]
 pub struct GroFrame<A: Allocator> {
-    /// Any bytes but LF, not ending in CR.
+    /// The title: any bytes except LF, not ending in CR.
     pub title: Vec<u8, A>,
-    /// At most 65,536 atoms.
+    /// The atoms, at most 65,536.
     pub atoms: Vec<GroAtom, A>,
     /// The sides of the rectangular box, in 10^-5 nm.
     pub sides: [i64; 3],

@@ -1,4 +1,4 @@
-//! Frames of GRO files, read by `read_frames` and written by `write`.
+//! GRO files (GROMACS manual, gro file format): `read_frames` reads their frames, `write` writes a frame.
 #![tactic(auto)]
 
 mod atoms;

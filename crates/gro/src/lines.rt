@@ -1,4 +1,4 @@
-//! The lines of a GRO file.
+//! Lines of a GRO file.
 
 ghost use Rattle.std.specs.Prelude.{◌<◌, length, IfOk, IsTrue};
 ghost use Rattle.fallible.specs.Failures.{Answers};
@@ -14,11 +14,13 @@ use line_text::{cut, trim_returns};
 pub struct InputLine<'a> {
     /// Its bytes, without its LF and the CRs before it.
     pub text: &'a [u8],
-    /// Whether its LF is there, which the last line may lack.
+    /// Whether it ends in LF. Only the last line may lack it.
     pub ended: bool,
 }
 
-/// The next line, and what stands after it; `Truncated` where nothing is left.
+/// The next line, and the bytes after it.
+///
+/// `Truncated` if no bytes are left.
 #[tactic(auto, unfolding(crate::specs::GroReading::line_at))]
 pub fn next_line(bytes: &[u8]) -> Result<(InputLine<'_>, &[u8]), GroFault>
     ensures exact { Answers (λ x. (line_view x.0, x.1.now)) (λ f. f) result (line_at bytes.now) }

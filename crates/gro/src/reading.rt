@@ -15,41 +15,44 @@ use fallible::Failure;
 use line_text::{digits_up_to, trim};
 use std::alloc::Allocator;
 
-/// The most atoms that a frame may have.
+/// The largest number of atoms of a frame.
 const MAX_ATOMS: u64 = 65_536;
 
-/// The frames of a GRO file (GROMACS manual, gro file format), with three decimals in positions and
-/// four in velocities.
+/// Reads the frames of a GRO file (GROMACS manual, gro file format). Positions have three decimals, velocities four.
 ///
-/// A frame is a title, the number of its atoms, their lines and its box. Frames follow one another
-/// until only spaces, CRs and LFs are left; there is one at least. Lines end in LF or CR LF.
+/// A frame is a title, the number of its atoms, their lines and its box. There is at least one frame. Frames follow one
+/// another until only spaces, CRs and LFs are left. Lines end in LF or CR LF.
 ///
-/// Lines are judged from the top, and the first fault is the answer. `Truncated`: a needed line is not
-/// there, or the last line, without its LF, is an atom's of fewer than 44 bytes or a box's of fewer than
-/// three values. `BadCount`: the line is not spaces, digits and spaces. `TooManyAtoms`: it says more
-/// than 65,536. `Precision`: the first two points at or after column 20 of an atom's line are not 8
-/// columns apart. `BadColumns`: it has a byte outside 32 to 126, fewer than two points, or another form.
-/// `BadBox`: the line is not 3 to 9 values of 1 to 12 digits and at most 5 decimals. `Triclinic`: a
-/// value after the third is not zero. `Memory`: an allocation was refused.
+/// Errors: lines are checked from the top, and the first fault is returned.
+/// - `Truncated`: a required line is missing, or the last line, without its LF, is an atom line of fewer than 44 bytes
+///   or a box line of fewer than three values.
+/// - `BadCount`: the line of the number of atoms isn't spaces, digits and spaces.
+/// - `TooManyAtoms`: the number of atoms is above 65,536.
+/// - `Precision`: the first two points at or after column 20 of an atom line aren't 8 columns apart.
+/// - `BadColumns`: an atom line has a byte outside 32 to 126, fewer than two points, or another form.
+/// - `BadBox`: a box line isn't 3 to 9 values of 1 to 12 digits and at most 5 decimals.
+/// - `Triclinic`: a value after the third of a box line isn't zero.
+/// - `Memory`: an allocation failed.
 pub fn read_frames<A: Allocator + Copy>(
     alloc: A,
     bytes: &[u8],
 ) -> Result<Vec<GroFrame<A>, A>, Failure<GroFault>>
-    // The frames, or the first fault.
+    // The result is the frames, or the first fault.
     ensures exact { Gives (λ v. map frame_view v.items) (λ f. f) result (frames_of bytes.now) }
-    // What is read, the text says.
+    // The text represents the frames that are returned.
     ensures found { IfOk result (λ v. IsGroText bytes.now (map frame_view v.items)) }
-    // What the text says is read, unless memory runs out.
+    // If the text represents frames, they are returned, unless memory runs out.
     ensures only { (frames : List FrameView) → IsGroText bytes.now frames → Gives (λ v. map frame_view v.items) (λ f. f) result (Ok frames) }
-    // Why the text stands for no frames: by its lines and what they say.
+    // A fault follows from the lines of the text and their contents, independently of the order of reading.
     ensures cause { IfErr result (λ failure. IfRefused failure (IsTextFault bytes.now)) }
-    // The definition reads exactly the texts that stand for frames.
+    // The definition reads a text if and only if the text represents frames.
     ensures texts { ReadsGroTexts }
 {
     frames(alloc, bytes)
 }
 
 #[tactic(auto, unfolding(crate::specs::GroReading::frames_of))]
+// Reads frames until only blanks are left.
 fn frames<A: Allocator + Copy>(
     alloc: A,
     bytes: &[u8],
@@ -70,7 +73,7 @@ fn frames<A: Allocator + Copy>(
     }
 }
 
-/// Whether only spaces, CRs and LFs are left.
+/// Whether there are only spaces, CRs and LFs.
 fn is_all_blank(bytes: &[u8]) -> bool
     ensures { result ≡ is_all_blank bytes.now }
 {
@@ -79,7 +82,7 @@ fn is_all_blank(bytes: &[u8]) -> bool
         .all(|b| *b == b' ' || *b == b'\r' || *b == b'\n')
 }
 
-/// The frame whose title is on the line with this number, and what stands after it.
+/// The frame whose title is on the line with this number, and the bytes after it.
 #[tactic(auto, unfolding(crate::specs::GroReading::frame_at))]
 fn frame<A: Allocator + Copy>(
     alloc: A,
@@ -105,7 +108,7 @@ fn frame<A: Allocator + Copy>(
     ))
 }
 
-/// The number of atoms on the line with this number, and what stands after it.
+/// The number of atoms on the line with this number, and the bytes after it.
 #[tactic(auto, unfolding(crate::specs::GroReading::count_at))]
 fn count(number: u64, bytes: &[u8]) -> Result<(u64, &[u8]), GroFault>
     ensures exact { Answers (λ x. (x.0, x.1.now)) (λ f. f) result (count_at number bytes.now) }
@@ -117,7 +120,9 @@ fn count(number: u64, bytes: &[u8]) -> Result<(u64, &[u8]), GroFault>
     Ok((count, rest))
 }
 
-/// The number of atoms, 0 to 65,536, of a line of spaces, digits and spaces; or the line's fault.
+/// The number of atoms on a line of spaces, digits and spaces.
+///
+/// `BadCount` for any other line, `TooManyAtoms` if the number is above 65,536.
 #[tactic(auto, unfolding(crate::specs::GroReading::count_in))]
 fn line_count(number: u64, text: &[u8]) -> Result<u64, GroFault>
     ensures exact { Answers (λ n. n) (λ f. f) result (count_in number text.now) }
@@ -134,7 +139,7 @@ fn line_count(number: u64, text: &[u8]) -> Result<u64, GroFault>
     Ok(count)
 }
 
-/// `count` atoms, the first on the line with this number, and what stands after them.
+/// `count` atoms, the first on the line with this number, and the bytes after them.
 fn atoms<A: Allocator + Copy>(
     alloc: A,
     number: u64,
@@ -156,7 +161,7 @@ fn atoms<A: Allocator + Copy>(
     Ok((atoms, rest))
 }
 
-/// The atom on the line with this number, and what stands after it.
+/// The atom on the line with this number, and the bytes after it.
 #[tactic(auto, unfolding(crate::specs::GroReading::atom_at))]
 fn atom(number: u64, bytes: &[u8]) -> Result<(GroAtom, &[u8]), GroFault>
     ensures exact { Answers (λ x. (atom_view x.0, x.1.now)) (λ f. f) result (atom_at number bytes.now) }
@@ -167,7 +172,7 @@ fn atom(number: u64, bytes: &[u8]) -> Result<(GroAtom, &[u8]), GroFault>
     Ok((atom, rest))
 }
 
-/// The sides of the box on the line with this number, and what stands after it.
+/// The sides of the box on the line with this number, and the bytes after it.
 #[tactic(auto, unfolding(crate::specs::GroReading::sides_at))]
 fn sides(number: u64, bytes: &[u8]) -> Result<([i64; 3], &[u8]), GroFault>
     ensures exact { Answers (λ x. (x.0, x.1.now)) (λ f. f) result (sides_at number bytes.now) }
@@ -178,7 +183,9 @@ fn sides(number: u64, bytes: &[u8]) -> Result<([i64; 3], &[u8]), GroFault>
     Ok((sides, rest))
 }
 
-/// The frame of this number, counted from 1; `NoSuchFrame` where there is none. It takes no memory.
+/// The frame with this number, counted from 1. It allocates nothing.
+///
+/// `NoSuchFrame` if there is no such frame.
 pub fn pick<A: Allocator>(frames: &[GroFrame<A>], number: u64) -> Result<&GroFrame<A>, GroFault>
     ensures { Picks frames.now number (λ x. x.now) result }
 {

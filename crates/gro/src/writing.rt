@@ -16,15 +16,14 @@ use itoa::Buffer;
 use line_text::{Line, put, put_decimals_right, put_left, put_right};
 use std::alloc::Allocator;
 
-/// Writes the frame's text: its title, the number of its atoms, a line for each, and its box. Numbers
-/// are right in their columns, positions with three decimals and sides with five; velocities are left
-/// out. It takes no memory.
+/// Writes a frame: its title, the number of its atoms, one line per atom, and its box. Positions have three decimals
+/// and sides five, at the right of their columns. Velocities aren't written. It allocates nothing.
 ///
-/// `OutFault` comes only from a write that failed, and then a beginning of the text was written.
+/// `OutFault` only if a write failed; then a prefix of the text has been written.
 pub fn write<A: Allocator, O: Out>(frame: &GroFrame<A>, out: &mut O) -> Result<(), OutFault>
     requires { (O.output out.old).failed < 2 ^ 64 - 1 }
     ensures writes { Writes (O.output out.old) (O.output out.new) (frame_text (frame_view frame.now)) result }
-    // Where its numbers fit their columns, what was written reads as this one frame again.
+    // If the frame's numbers fit their columns, reading the written text gives exactly this frame.
     ensures again { IfOk result (λ _. FitsColumns (frame_view frame.now) → frames_of (frame_text (frame_view frame.now)) ≡ Ok (frame_view frame.now ∷ [])) }
 {
     write_all(out, &frame.title)?;
@@ -51,7 +50,7 @@ fn write_atoms<O: Out>(atoms: &[GroAtom], out: &mut O) -> Result<(), OutFault>
     Ok(())
 }
 
-/// The end of the title's line, and the line of the number of atoms.
+/// The LF of the title's line, and the line of the number of atoms.
 fn count_between<A: Allocator>(frame: &GroFrame<A>) -> Line
     ensures { result.items ≡ 10 ∷ ended (count_line (length (frame_view frame.now).atoms)) }
 {
@@ -69,7 +68,7 @@ fn count_between<A: Allocator>(frame: &GroFrame<A>) -> Line
     line
 }
 
-/// An atom's line with its LF.
+/// An atom line with its LF.
 fn whole_atom_line(index: u64, atom: &GroAtom) -> Line
     ensures items { result.items ≡ ended (atom_line index (atom_view atom.now)) }
     ensures form { HasForm (atom_view atom.now) }
@@ -86,7 +85,7 @@ fn whole_atom_line(index: u64, atom: &GroAtom) -> Line
     line
 }
 
-/// A box's line with its LF.
+/// A box line with its LF.
 fn whole_box_line(sides: &[i64; 3]) -> Line
     ensures { result.items ≡ ended (box_line sides.now) }
 {
@@ -96,7 +95,7 @@ fn whole_box_line(sides: &[i64; 3]) -> Line
     line
 }
 
-/// Appends three numbers, each right in a column of `width` bytes and with `places` decimals.
+/// Appends three numbers with `places` decimals, each at the right of a column of `width` bytes.
 fn put_three(line: &mut Line, width: usize, places: usize, numbers: &[i64; 3])
     requires narrow { width ≤ 10 }
     requires room { array_vec_len line.old + 126 ≤ 160 }

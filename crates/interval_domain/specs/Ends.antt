@@ -1,4 +1,4 @@
--- Which numbers are the ends of a span.
+-- The ends of the smallest interval that contains the results of an operation.
 use Rattle.std.specs.Prelude.{◌≡◌, ℤ, pos, ◌⊎◌, Result, Ok}
 use Rattle.std.specs.Int.{int_max, int_min}
 use Rattle.fixed.specs.declared.faults.Fault.{Fault}
@@ -10,7 +10,7 @@ pub record IsExtremes (p q r s lo hi : ℤ) : Type 0 where
   pub low : lo ≡ int_min (int_min p q) (int_min r s)
   pub high : hi ≡ int_max (int_max p q) (int_max r s)
 
--- these are four numbers, and lo and hi are the least and the greatest of them
+-- all four results are numbers, and lo and hi are the least and the greatest of them
 pub record AreExtremes (p q r s : Result ℤ Fault) (lo hi : ℤ) : Type 0 where
   pub first : ℤ
   pub second : ℤ
@@ -22,8 +22,8 @@ pub record AreExtremes (p q r s : Result ℤ Fault) (lo hi : ℤ) : Type 0 where
   pub fourth_is : s ≡ Ok fourth
   pub extremes : IsExtremes first second third fourth lo hi
 
--- the ends of what a function gives on the members of a, where it is 0 at 0 and no less elsewhere, from its values p
--- and q at the ends of a
+-- lo and hi are the least and the greatest value on a of a function that is 0 at 0, nowhere negative, and monotone on
+-- either side of 0; p and q are its values at the ends of a
 pub record IsSpanFromZero (a : Span) (p q lo hi : ℤ) : Type 0 where
   pub low : (IsMember (pos 0) a × (lo ≡ pos 0)) ⊎ ((IsMember (pos 0) a → ⊥) × (lo ≡ int_min p q))
   pub high : hi ≡ int_max p q

@@ -1,4 +1,4 @@
-// Spans put together and cut.
+//! Joining and cutting intervals.
 ghost use Rattle.std.specs.Prelude.{◌≡◌, pos, ◌≤ℤ◌, ◌<ℤ◌, ◌+ℤ◌, ◌-ℤ◌};
 ghost use Rattle.fixed.specs.Arithmetic.{floor_over};
 ghost use Rattle.interval_domain.specs.Spans.{AreHalves, ArePartsOf, IsHull};
@@ -6,7 +6,7 @@ ghost use Rattle.interval_domain.specs.Spans.{AreHalves, ArePartsOf, IsHull};
 use crate::span::Span;
 use fixed::{Fx, floor_div};
 
-/// The least span that holds both `a` and `b`.
+/// The smallest interval that contains both `a` and `b`.
 pub fn hull(a: Span, b: Span) -> Span
     ensures { IsHull a b result }
 {
@@ -16,7 +16,7 @@ pub fn hull(a: Span, b: Span) -> Span
     }
 }
 
-// Half the way from `lo` to `hi`, rounded down.
+// Half the distance from `lo` to `hi`, rounded down.
 fn half_way(lo: Fx, hi: Fx) -> i128
     requires { lo <ℤ hi }
     ensures value { result ≡ floor_over (hi -ℤ lo) 2 }
@@ -36,9 +36,9 @@ fn middle(lo: Fx, hi: Fx) -> i64
     (i128::from(lo.raw()) + half_way(lo, hi)) as i64
 }
 
-/// The span in two: from `lo` to `lo + (hi - lo) / 2`, rounded down, and from the next number to `hi`.
+/// The two halves of an interval: from `lo` to `lo + (hi - lo) / 2`, rounded down, and from the next number to `hi`.
 ///
-/// The caller sees that the span has two members at least.
+/// The interval must have at least two members.
 pub fn halves(span: Span) -> (Span, Span)
     requires { span.lo <ℤ span.hi }
     ensures cut { AreHalves span result.0 result.1 }

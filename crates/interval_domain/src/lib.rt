@@ -1,6 +1,7 @@
-//! Spans of fixed-point numbers, and the operations on them (interval arithmetic: R. E. Moore, Interval Analysis,
-//! 1966). Each operation gives the least span that holds all its results on members of its arguments, or a fault that
-//! some members really have.
+//! Interval arithmetic on fixed-point numbers (R. E. Moore, Interval Analysis, 1966). The type of intervals is `Span`.
+//!
+//! Each operation returns the smallest interval that contains all results for members of its arguments, or a fault that
+//! really occurs for some members.
 #![tactic(auto)]
 
 mod joins;

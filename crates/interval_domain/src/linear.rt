@@ -1,4 +1,4 @@
-// Sums, differences and negatives: each rises or falls in each argument, so its extremes are at two ends.
+//! Sums, differences and negatives. They are monotone in each argument, so each extreme is at one pair of ends.
 ghost use Rattle.std.specs.Prelude.{IfOk, IfErr};
 ghost use Rattle.fixed.specs.Arithmetic.{difference_of, negative_of, sum_of};
 ghost use Rattle.interval_domain.specs.Spans.{IsLeastSpan, IsOutcome, IsOutcomeOfTwo, MayFault};
@@ -6,9 +6,9 @@ ghost use Rattle.interval_domain.specs.Spans.{IsLeastSpan, IsOutcome, IsOutcomeO
 use crate::span::Span;
 use fixed::{Fault, checked_add, checked_neg, checked_sub};
 
-/// The least span of the sums `x + y`, for members `x` of `a` and `y` of `b`.
+/// The smallest interval of the sums `x + y`, for `x` in `a` and `y` in `b`.
 ///
-/// `Overflow` where some sum is no number.
+/// `Overflow` if some sum isn't representable.
 pub fn add(a: Span, b: Span) -> Result<Span, Fault>
     ensures span { IfOk result (IsLeastSpan (IsOutcomeOfTwo sum_of a b)) }
     ensures fault { IfErr result (MayFault (IsOutcomeOfTwo sum_of a b)) }
@@ -19,9 +19,9 @@ pub fn add(a: Span, b: Span) -> Result<Span, Fault>
     })
 }
 
-/// The least span of the differences `x - y`, for members `x` of `a` and `y` of `b`.
+/// The smallest interval of the differences `x - y`, for `x` in `a` and `y` in `b`.
 ///
-/// `Overflow` where some difference is no number.
+/// `Overflow` if some difference isn't representable.
 pub fn sub(a: Span, b: Span) -> Result<Span, Fault>
     ensures span { IfOk result (IsLeastSpan (IsOutcomeOfTwo difference_of a b)) }
     ensures fault { IfErr result (MayFault (IsOutcomeOfTwo difference_of a b)) }
@@ -32,9 +32,9 @@ pub fn sub(a: Span, b: Span) -> Result<Span, Fault>
     })
 }
 
-/// The least span of the negatives of members of `a`.
+/// The smallest interval of the negatives of members of `a`.
 ///
-/// `Overflow` where the least number is a member.
+/// `Overflow` if the least number is a member.
 pub fn neg(a: Span) -> Result<Span, Fault>
     ensures span { IfOk result (IsLeastSpan (IsOutcome negative_of a)) }
     ensures fault { IfErr result (MayFault (IsOutcome negative_of a)) }

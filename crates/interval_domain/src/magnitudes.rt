@@ -1,4 +1,4 @@
-// Squares, absolute values and the test for 0: they go one way up to 0 and the other way from there.
+//! Squares, absolute values and the test for 0. They are monotone below 0 and monotone above 0.
 ghost use Rattle.std.specs.Prelude.{pos, ◌≤ℤ◌, IfOk, IfErr, Ok};
 ghost use Rattle.fixed.specs.Fractions.{bits_of};
 ghost use Rattle.fixed.specs.Arithmetic.{absolute_of, delta_of, square_of};
@@ -8,7 +8,8 @@ ghost use Rattle.interval_domain.specs.Spans.{IsLeastSpan, IsOutcome, MayFault};
 use crate::span::Span;
 use fixed::{Fault, Frac, Fx, checked_abs, checked_sq};
 
-// The span of an operation that is 0 at 0 and no less elsewhere, from its values at the ends of `a`.
+// The interval of an operation's values on `a`, from its values at the ends of `a`. The operation must be 0 at 0,
+// nowhere negative, and monotone on either side of 0.
 fn from_zero(a: Span, at_lo: Fx, at_hi: Fx) -> Span
     requires lo { pos 0 ≤ℤ at_lo }
     requires hi { pos 0 ≤ℤ at_hi }
@@ -26,9 +27,9 @@ fn from_zero(a: Span, at_lo: Fx, at_hi: Fx) -> Span
     }
 }
 
-/// The least span of the squares of members of `a`, each rounded down.
+/// The smallest interval of the squares of members of `a`, each rounded down.
 ///
-/// `Overflow` where some rounded square is no number.
+/// `Overflow` if some rounded square isn't representable.
 pub fn sq(frac: Frac, a: Span) -> Result<Span, Fault>
     ensures span { IfOk result (IsLeastSpan (IsOutcome (square_of (bits_of frac)) a)) }
     ensures fault { IfErr result (MayFault (IsOutcome (square_of (bits_of frac)) a)) }
@@ -36,9 +37,9 @@ pub fn sq(frac: Frac, a: Span) -> Result<Span, Fault>
     Ok(from_zero(a, checked_sq(frac, a.lo)?, checked_sq(frac, a.hi)?))
 }
 
-/// The least span of the members of `a` without their signs.
+/// The smallest interval of the absolute values of members of `a`.
 ///
-/// `Overflow` where the least number is a member.
+/// `Overflow` if the least number is a member.
 pub fn abs(a: Span) -> Result<Span, Fault>
     ensures span { IfOk result (IsLeastSpan (IsOutcome absolute_of a)) }
     ensures fault { IfErr result (MayFault (IsOutcome absolute_of a)) }
@@ -46,8 +47,8 @@ pub fn abs(a: Span) -> Result<Span, Fault>
     Ok(from_zero(a, checked_abs(a.lo)?, checked_abs(a.hi)?))
 }
 
-/// The least span of what the members of `a` give: one at 0, and 0 elsewhere. So it is 0 alone where 0 is no member,
-/// one alone where 0 is the only member, else from 0 to one.
+/// The smallest interval of the values of `fixed::delta` on members of `a`, which is one at 0 and 0 elsewhere. It is 0
+/// if `a` doesn't contain 0, one if 0 is the only member, else 0 to one.
 pub fn delta(frac: Frac, a: Span) -> Span
     ensures { IsLeastSpan (IsOutcome (λ x. Ok (delta_of (bits_of frac) x)) a) result }
 {

@@ -1,11 +1,11 @@
-// The lesser and the greater of two numbers. They always have a value, and rise in each argument.
+//! Minimum and maximum of two numbers. They always have a value, and are monotone in each argument.
 ghost use Rattle.std.specs.Prelude.{Ok};
 ghost use Rattle.std.specs.Int.{int_max, int_min};
 ghost use Rattle.interval_domain.specs.Spans.{IsLeastSpan, IsOutcomeOfTwo};
 
 use crate::span::Span;
 
-/// The least span of the lesser of `x` and `y`, for members `x` of `a` and `y` of `b`.
+/// The smallest interval of the minima of `x` and `y`, for `x` in `a` and `y` in `b`.
 pub fn min(a: Span, b: Span) -> Span
     ensures { IsLeastSpan (IsOutcomeOfTwo (λ x y. Ok (int_min x y)) a b) result }
 {
@@ -15,7 +15,7 @@ pub fn min(a: Span, b: Span) -> Span
     }
 }
 
-/// The least span of the greater of `x` and `y`, for members `x` of `a` and `y` of `b`.
+/// The smallest interval of the maxima of `x` and `y`, for `x` in `a` and `y` in `b`.
 pub fn max(a: Span, b: Span) -> Span
     ensures { IsLeastSpan (IsOutcomeOfTwo (λ x y. Ok (int_max x y)) a b) result }
 {

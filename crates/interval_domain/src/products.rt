@@ -1,4 +1,4 @@
-// Products and quotients: each rises or falls in each argument alone, so its extremes are among the four pairs of ends.
+//! Products and quotients. They are monotone in each single argument, so the extremes are among the four pairs of ends.
 ghost use Rattle.std.specs.Prelude.{◌≡◌, ◌≢◌, ◌⊎◌, ◌↔◌, pos, IfOk, IfErr, IsTrue, Err};
 ghost use Rattle.fixed.specs.Fractions.{bits_of};
 ghost use Rattle.fixed.specs.Arithmetic.{product_of, quotient_of};
@@ -8,7 +8,7 @@ ghost use Rattle.interval_domain.specs.Spans.{IsLeastSpan, IsMember, IsOutcomeOf
 use crate::span::Span;
 use fixed::{Fault, Frac, Fx, checked_div, checked_mul};
 
-// The least span that holds four numbers.
+// The smallest interval that contains four numbers.
 fn around(p: Fx, q: Fx, r: Fx, s: Fx) -> Span
     ensures { IsExtremes p q r s result.lo result.hi }
 {
@@ -18,7 +18,7 @@ fn around(p: Fx, q: Fx, r: Fx, s: Fx) -> Span
     }
 }
 
-// The same of four results, or the first fault among them.
+// The smallest interval that contains four results, or the first fault among them.
 fn corners(
     p: Result<Fx, Fault>,
     q: Result<Fx, Fault>,
@@ -31,9 +31,9 @@ fn corners(
     Ok(around(p?, q?, r?, s?))
 }
 
-/// The least span of the products `x y`, each rounded down, for members `x` of `a` and `y` of `b`.
+/// The smallest interval of the products `x y`, each rounded down, for `x` in `a` and `y` in `b`.
 ///
-/// `Overflow` where some rounded product is no number.
+/// `Overflow` if some rounded product isn't representable.
 pub fn mul(frac: Frac, a: Span, b: Span) -> Result<Span, Fault>
     ensures span { IfOk result (IsLeastSpan (IsOutcomeOfTwo (product_of (bits_of frac)) a b)) }
     ensures fault { IfErr result (MayFault (IsOutcomeOfTwo (product_of (bits_of frac)) a b)) }
@@ -46,13 +46,17 @@ pub fn mul(frac: Frac, a: Span, b: Span) -> Result<Span, Fault>
     )
 }
 
+// Whether 0 is a member.
 fn holds_zero(span: &Span) -> bool
     ensures { IsTrue result ↔ IsMember (pos 0) span.now }
 {
     span.contains(Fx::from_raw(0))
 }
 
-// The same of the quotients, where 0 is no divisor.
+// The smallest interval of the quotients `x / y`, each rounded down, for `x` in `a` and `y` in `b`. `b` must not
+// contain 0.
+//
+// `Overflow` if some rounded quotient isn't representable.
 fn quotients(frac: Frac, a: Span, b: Span) -> Result<Span, Fault>
     requires { IsMember (pos 0) b → ⊥ }
     ensures span { IfOk result (IsLeastSpan (IsOutcomeOfTwo (quotient_of (bits_of frac)) a b)) }
@@ -67,9 +71,10 @@ fn quotients(frac: Frac, a: Span, b: Span) -> Result<Span, Fault>
     )
 }
 
-/// The least span of the quotients `x / y`, each rounded down, for members `x` of `a` and `y` of `b`.
+/// The smallest interval of the quotients `x / y`, each rounded down, for `x` in `a` and `y` in `b`.
 ///
-/// `ZeroDivisor` where 0 is a member of `b`, whatever else; else `Overflow` where some rounded quotient is no number.
+/// `ZeroDivisor` if `b` contains 0, also if other members overflow; else `Overflow` if some rounded quotient isn't
+/// representable.
 pub fn div(frac: Frac, a: Span, b: Span) -> Result<Span, Fault>
     ensures span { IfOk result (IsLeastSpan (IsOutcomeOfTwo (quotient_of (bits_of frac)) a b)) }
     ensures fault { IfErr result (MayFault (IsOutcomeOfTwo (quotient_of (bits_of frac)) a b)) }

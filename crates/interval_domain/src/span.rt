@@ -1,8 +1,9 @@
+//! The type of intervals.
 ghost use Rattle.std.specs.Prelude.{◌≡◌, ◌≤ℤ◌, ◌↔◌, IsSome, IfSome, IsTrue};
 
 use fixed::Fx;
 
-/// The numbers from `lo` to `hi`, by raw value; there always is one.
+/// A closed interval of fixed-point numbers: all raw values from `lo` to `hi`. It is never empty.
 #[derive(Clone, Copy, PartialEq, Eq, Debug)]
 pub struct Span {
     /// The least member.
@@ -15,9 +16,7 @@ pub struct Span {
 impl Span {
     ghost use Rattle.interval_domain.specs.Spans.{IsMember};
 
-    /// The span with these ends.
-    ///
-    /// `None` where `lo` is above `hi`.
+    /// The interval with these ends; `None` if `lo` is above `hi`.
     pub fn new(lo: Fx, hi: Fx) -> Option<Span>
         ensures ordered { IsSome result ↔ (lo ≤ℤ hi) }
         ensures ends { IfSome result (λ s. (s.lo ≡ lo) × (s.hi ≡ hi)) }
@@ -29,7 +28,7 @@ impl Span {
         }
     }
 
-    /// The span of one number.
+    /// The interval of one number.
     pub fn single(x: Fx) -> Span
         ensures lo { result.lo ≡ x }
         ensures hi { result.hi ≡ x }

@@ -1,4 +1,4 @@
-// Operations that rise in steps: their extremes are at the ends.
+//! Step functions. They are monotone, so their extremes are at the ends.
 ghost use Rattle.std.specs.Prelude.{IfOk, IfErr, Ok};
 ghost use Rattle.fixed.specs.Fractions.{bits_of};
 ghost use Rattle.fixed.specs.Arithmetic.{ceiling_of, step_of, whole_of};
@@ -7,7 +7,7 @@ ghost use Rattle.interval_domain.specs.Spans.{IsLeastSpan, IsOutcome, MayFault};
 use crate::span::Span;
 use fixed::{Fault, Frac, checked_ceil};
 
-/// The least span of what the members of `a` give: 0 below 0, and one from 0 on.
+/// The smallest interval of the values of `fixed::step` on members of `a`, which is 0 below 0, else one.
 pub fn step(frac: Frac, a: Span) -> Span
     ensures { IsLeastSpan (IsOutcome (λ x. Ok (step_of (bits_of frac) x)) a) result }
 {
@@ -17,7 +17,7 @@ pub fn step(frac: Frac, a: Span) -> Span
     }
 }
 
-/// The least span of the members of `a`, each rounded down to a multiple of one.
+/// The smallest interval of the members of `a`, each rounded down to a multiple of one.
 pub fn floor(frac: Frac, a: Span) -> Span
     ensures { IsLeastSpan (IsOutcome (λ x. Ok (whole_of (bits_of frac) x)) a) result }
 {
@@ -27,9 +27,9 @@ pub fn floor(frac: Frac, a: Span) -> Span
     }
 }
 
-/// The least span of the members of `a`, each rounded up to a multiple of one.
+/// The smallest interval of the members of `a`, each rounded up to a multiple of one.
 ///
-/// `Overflow` where a member is above the greatest multiple of one.
+/// `Overflow` if a member is above the greatest multiple of one.
 pub fn ceil(frac: Frac, a: Span) -> Result<Span, Fault>
     ensures span { IfOk result (IsLeastSpan (IsOutcome (ceiling_of (bits_of frac)) a)) }
     ensures fault { IfErr result (MayFault (IsOutcome (ceiling_of (bits_of frac)) a)) }

@@ -1,4 +1,5 @@
--- Reading line by line: each line adds to what was said so far, or is the first fault.
+-- Reading line by line, as the program does: each line extends the draft of a job, or is the first fault. Names ending
+-- in `_into` give the draft after a line; n is the line's number.
 use Rattle.std.specs.Prelude.{◌≡◌, ◌⊎◌, ℕ, ℤ, List, [], ◌∷◌, ◌++◌, ◌+◌, length, map, Option, Some, None, Result, Ok, Err, ◌==◌, nat_lt, slice_index, bytes_eq, if◌then◌else◌}
 use Rattle.fixed.specs.declared.faults.NumFault.TheVariants.{BadNumber, NumberRange}
 use Rattle.fixed.specs.declared.frac.Frac.{Frac}
@@ -16,7 +17,8 @@ use Rattle.job.specs.Bits.{frac_in}
 use Rattle.job.specs.JobLines.{header}
 use Rattle.job.specs.JobReading.{job_from}
 
--- the number of a key that one line may have
+-- the number of a key that may have only one line; a malformed line comes before a repeated key, and this before a
+-- range
 abbrev pub number_of : {X : Type 0} → ℕ → Key → Option X → Reading X → Result X Refusal
 number_of n key old (Err BadNumber) = Err (bad_line n)
 number_of n key (Some x) (Err NumberRange) = Err (repeated key)
@@ -24,11 +26,11 @@ number_of n key None (Err NumberRange) = Err (out_of_range key)
 number_of n key (Some x) (Ok v) = Err (repeated key)
 number_of n key None (Ok v) = Ok v
 
--- what then stands in its place
+-- the slot of this key after the line
 abbrev pub number_put : {X : Type 0} → ℕ → Key → Option X → Reading X → Result (Option X) Refusal
 number_put n key old r = number_of n key old r >>= λ v. Ok (Some v)
 
--- the place of a key's number is as it was, or has the number that was read
+-- the slot is unchanged, or holds the number that was read
 abbrev pub IsPut : {X : Type 0} → Option X → Option X → Reading X → Type 0
 IsPut {X = X} old new reading = (new ≡ old) ⊎ ((v : X) × (new ≡ Some v) × (reading ≡ Ok v))
 
@@ -36,10 +38,12 @@ abbrev pub energy_new : Said → Option (List ℕ) → List ℕ → Result Said 
 energy_new s (Some old) text = Err (repeated keys.Energy)
 energy_new s None text = Ok (record s { energy = Some text })
 
+-- the draft after an energy line with this text
 abbrev pub energy_into : ℕ → Said → List ℕ → Result Said Refusal
 energy_into n s [] = Err (bad_line n)
 energy_into n s (b ∷ bs) = energy_new s s.energy (b ∷ bs)
 
+-- the draft after a line of one number: core, cutoff, time step, slices, or fraction bits
 abbrev pub core_into : ℕ → Said → Reading ℤ → Result Said Refusal
 core_into n s r = number_of n keys.Core s.core r >>= λ v. Ok (record s { core = Some v })
 
@@ -61,6 +65,7 @@ parameter_new most s name =
     else if nat_lt (length s.parameters) most.parameters then Ok (record s { parameters = s.parameters ++ name ∷ [] })
     else Err (out_of_range keys.Parameter)
 
+-- the draft after a parameter line
 abbrev pub parameter_into : Counts → ℕ → Said → Reading (List ℕ) → Result Said Refusal
 parameter_into most n s (Err e) = Err (bad_line n)
 parameter_into most n s (Ok name) = if is_identifier name then parameter_new most s name else Err (bad_line n)
@@ -78,6 +83,7 @@ abbrev pub global_by : Counts → ℕ → Said → List ℕ → Option (Option �
 global_by most n s name None = Err (bad_line n)
 global_by most n s name (Some v) = global_new most s name v
 
+-- the draft after a line of a global
 abbrev pub global_into : Counts → ℕ → Said → List (List ℕ) → Result Said Refusal
 global_into most n s [] = Err (bad_line n)
 global_into most n s (name ∷ []) = Err (bad_line n)
@@ -97,11 +103,13 @@ abbrev pub type_by : Counts → ℕ → Said → List ℕ → Option (Option (�
 type_by most n s name None = Err (bad_line n)
 type_by most n s name (Some v) = type_new most n s name v
 
+-- the draft after a line of a type
 abbrev pub type_into : Counts → ℕ → Said → List (List ℕ) → Result Said Refusal
 type_into most n s [] = Err (bad_line n)
 type_into most n s (name ∷ []) = Err (bad_line n)
 type_into most n s (name ∷ mass ∷ values) = if is_type_name name then type_by most n s name (well_formed (both (mass_of mass) (values_of s.frac values))) else Err (bad_line n)
 
+-- the draft after a line with this key, and this text after the key
 unfoldable pub key_into : Counts → ℕ → Said → Option Key → List ℕ → Result Said Refusal
 key_into most n s None text = Err (bad_line n)
 key_into most n s (Some keys.Energy) text = energy_into n s (without_blanks text)
@@ -118,17 +126,20 @@ abbrev pub words_into : Counts → ℕ → Said → List (List ℕ) → List ℕ
 words_into most n s [] text = Ok s
 words_into most n s (word ∷ ws) text = key_into most n s (key_of word) text
 
+-- the draft after this line; comments (35 is `#`) and blank lines leave it unchanged
 unfoldable pub line_into : Counts → ℕ → Said → List ℕ → Result Said Refusal
 line_into most n s line = if slice_index line 0 == 35 then Ok s else words_into most n s (words line) (after_word line)
 
+-- the draft after these lines, the first of which has the number n
 unfoldable pub lines_into : Counts → ℕ → Said → List (List ℕ) → Result Said Refusal
 lines_into most n s [] = Ok s
 lines_into most n s (line ∷ lines) = line_into most n s line >>= λ t. lines_into most (n + 1) t lines
 
--- the draft of no lines
+-- the empty draft
 abbrev pub nothing : Frac → Said
 nothing frac = record { frac = frac; energy = None; core = None; cutoff = None; time_step = None; slices = None; parameters = []; globals = []; types = []; bits = None }
 
+-- the job of these lines, or their first fault
 abbrev pub lines_job : Counts → List (List ℕ) → Result JobValue Refusal
 lines_job most [] = Err (bad_line 1)
 lines_job most (line ∷ lines) = if bytes_eq line header then (lines_into most 2 (nothing (frac_in lines)) lines >>= job_from) else Err (bad_line 1)

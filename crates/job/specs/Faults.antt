@@ -1,4 +1,4 @@
--- Why a text is no job: the fault of a line, given the lines above it, and the first of all.
+-- Faults of single lines, given the lines above, and the first fault of all lines.
 use Rattle.std.specs.Prelude.{ℕ, ℤ, Bool, ◌&&◌, List, [], ◌∷◌, ◌++◌, ◌+◌, length, map, Option, Some, None, is_some, filter_map, nat_lt, bytes_eq, if◌then◌else◌}
 use Rattle.std.specs.List.{list_any, cons_option}
 use Rattle.fixed.specs.declared.frac.Frac.{Frac}
@@ -7,6 +7,7 @@ use Rattle.job.specs.declared.faults.Key.TheVariants as keys
 use Rattle.job.specs.Statements.{Statement, skipped, energy_is, core_is, cutoff_is, time_step_is, slices_is, parameter_is, global_is, type_is, bits_is, entry_of}
 use Rattle.job.specs.Values.{GlobalValue, TypeValue, Counts}
 
+-- a fault of a job's text
 pub data Refusal : Type 0 where
   bad_line : ℕ → Refusal
   missing : Key → Refusal
@@ -15,14 +16,15 @@ pub data Refusal : Type 0 where
   out_of_range : Key → Refusal
   repeated_type : List ℕ → Refusal
 
--- ---- what lines have said
+-- ---- the values of lines
 
 -- a type, with the number of its line
 pub record TypeLine : Type 0 where
   pub line : ℕ
   pub value : TypeValue
 
--- numerals are read at the fraction bits of `frac`; `bits` is what the lines say of them
+-- The values of lines read so far. Numerals are read with the fraction bits `frac`; `bits` is the value of the `bits`
+-- line.
 pub record Said : Type 0 where
   pub frac : Frac
   pub energy : Option (List ℕ)
@@ -35,6 +37,7 @@ pub record Said : Type 0 where
   pub types : List TypeLine
   pub bits : Option Frac
 
+-- the value of a statement, None if it is a statement of another key or its number is out of range
 abbrev pub energy_in : Statement → Option (List ℕ)
 energy_in (energy_is text) = Some text
 energy_in _ = None
@@ -71,15 +74,17 @@ abbrev pub bits_in : Statement → Option Frac
 bits_in (bits_is v) = v
 bits_in _ = None
 
+-- the first item; None if there is none
 abbrev pub first : {X : Type 0} → List X → Option X
 first [] = None
 first (x ∷ xs) = Some x
 
--- the types of these lines, the first of which has the number n
+-- the types in these lines, the first of which has the number n
 abbrev pub type_lines : Frac → ℕ → List (List ℕ) → List TypeLine
 type_lines frac n [] = []
 type_lines frac n (line ∷ lines) = cons_option (type_in n (entry_of frac line)) (type_lines frac (n + 1) lines)
 
+-- the values of these statements and types
 abbrev pub summary_of : Frac → List Statement → List TypeLine → Said
 summary_of frac statements types = record {
   frac = frac;
@@ -94,25 +99,27 @@ summary_of frac statements types = record {
   bits = first (filter_map bits_in statements);
 }
 
--- the values of the lines below the first line of a text, their numerals read at these fraction bits
+-- the values of the lines after the first line of a text; numerals are read with these fraction bits
 unfoldable pub summary : Frac → List (List ℕ) → Said
 summary frac lines = summary_of frac (filter_map (entry_of frac) lines) (type_lines frac 2 lines)
 
 -- ---- the fault of a line
 
--- of a key that one line may have: that it is repeated, or else that its number is out of range
+-- the fault of a key that may have only one line: repeated, or else a number out of range
 abbrev pub once : {X : Type 0} → Key → Option X → Option X → Option Refusal
 once key (Some old) v = Some (repeated key)
 once key None None = Some (out_of_range key)
 once key None (Some v) = None
 
+-- whether the name is among the names
 abbrev pub knows : List (List ℕ) → List ℕ → Bool
 knows names name = list_any (λ n. bytes_eq n name) names
 
--- of a key that many lines may have: that the name is repeated, or else that the number or the count is out of range
+-- the fault of a key that may have several lines: a repeated name, or else a number or the count out of range
 abbrev pub listed : Bool → Refusal → Bool → Key → Option Refusal
 listed known repetition fits key = if known then Some repetition else if fits then None else Some (out_of_range key)
 
+-- the fault of a statement after lines with the values s
 abbrev pub statement_fault : Counts → Said → Statement → Option Refusal
 statement_fault most s skipped = None
 statement_fault most s (energy_is text) = once keys.Energy s.energy (Some text)
@@ -125,20 +132,21 @@ statement_fault most s (global_is name v) = listed (knows (map (λ g. g.name) s.
 statement_fault most s (type_is name v) = listed (knows (map (λ t. t.value.name) s.types) name) (repeated_type name) (is_some v && nat_lt (length s.types) most.types) keys.Types
 statement_fault most s (bits_is v) = once keys.Bits s.bits v
 
--- with the line's number: that it is malformed, or else the fault of what it says
+-- the fault of a line from its statement: malformed, or else the fault of the statement; n is the number of the line
 abbrev pub entry_fault : Counts → ℕ → Said → Option Statement → Option Refusal
 entry_fault most n s None = Some (bad_line n)
 entry_fault most n s (Some statement) = statement_fault most s statement
 
--- the line below the first line and these
+-- the fault of the line that follows the first line and the lines `above`
 unfoldable pub line_fault : Counts → Frac → List (List ℕ) → List ℕ → Option Refusal
 line_fault most frac above line = entry_fault most (length above + 2) (summary frac above) (entry_of frac line)
 
+-- the first of two faults
 abbrev pub or_else : Option Refusal → Option Refusal → Option Refusal
 or_else (Some fault) later = Some fault
 or_else None later = later
 
--- the first fault of these lines, from the top
+-- the first fault of these lines from the top, after the lines `above`
 unfoldable pub first_fault : Counts → Frac → List (List ℕ) → List (List ℕ) → Option Refusal
 first_fault most frac above [] = None
 first_fault most frac above (line ∷ lines) = or_else (line_fault most frac above line) (first_fault most frac (above ++ line ∷ []) lines)

@@ -1,4 +1,4 @@
--- What a line of a job says, told by its words: the parts of the line between spaces and tabs.
+-- The meaning of a job's lines, defined from their words, which spaces and tabs separate.
 use Rattle.std.specs.Prelude.{◌≡◌, ◌⊎◌, ◌≤◌, ◌<◌, ◌≤ℤ◌, ℕ, ℤ, pos, ◌-◌, ◌*◌, ◌^◌, true, List, [], ◌∷◌, length, Option, Some, None, codes}
 use Rattle.std.specs.List.{AllZip}
 use Rattle.fixed.specs.Arithmetic.{in_range}
@@ -11,14 +11,14 @@ use Rattle.line_text.specs.Written.{WritesDecimal, WritesSigned, WritesWhole}
 use Rattle.job.specs.Forms.{is_type_name}
 use Rattle.job.specs.Values.{GlobalValue, TypeValue}
 
--- the first line
+-- the first line of a job
 abbrev pub header : List ℕ
 header = codes "pairmd job 1"
 
 -- ---- numbers
 
--- the whole word is a numeral, and v is the number of these fraction bits that is nearest to its value, below 2^63: so
--- neither `1e3.2` nor `1.5e3.2` is a number
+-- The whole word is a numeral, and v is the nearest number with these fraction bits, in range. So `1e3.2` and `1.5e3.2`
+-- aren't numbers.
 pub record IsNumber (frac : Frac) (word : List ℕ) (v : ℤ) : Type 0 where
   pub numeral : Numeral
   pub well_formed : IsNumeral numeral
@@ -30,14 +30,14 @@ pub record IsNumber (frac : Frac) (word : List ℕ) (v : ℤ) : Type 0 where
 abbrev pub IsSignedNumber : Frac → List ℕ → ℤ → Type 0
 IsSignedNumber frac word v = WritesSigned (λ numeral n. IsNumber frac numeral (pos n)) word v
 
--- a mass in u, written in digits, or in digits, a point and one to five digits; m counts 10^-5 u
+-- The word is a mass in u: digits, or digits, a point and one to five digits. m is the mass in 10^-5 u.
 pub data IsMass (word : List ℕ) (m : ℕ) : Type 0 where
   digits_alone : (n : ℕ) → WritesWhole word n → n * 100000 ≡ m → IsMass word m
   with_point : (places n : ℕ) → 1 ≤ places → places ≤ 5 → WritesDecimal places word n → n * 10 ^ (5 - places) ≡ m → IsMass word m
 
 -- ---- lines
 
--- what a line says: nothing, or the value that its key has
+-- the meaning of a line: nothing, or a value for its key
 pub data LineValue : Type 0 where
   says_nothing : LineValue
   says_energy : List ℕ → LineValue
@@ -50,29 +50,30 @@ pub data LineValue : Type 0 where
   says_global : GlobalValue → LineValue
   says_type : TypeValue → LineValue
 
--- a comment, whose very first byte is `#` (35), or a line without words: ` # x`, with a blank in front, is neither
+-- The line has no meaning: it is a comment, whose first byte is `#` (35), or it has no words. A line ` # x` with a
+-- space in front is neither.
 abbrev pub IsSilent : List ℕ → Type 0
 IsSilent line = ((rest : List ℕ) × (line ≡ 35 ∷ rest)) ⊎ (words line ≡ [])
 
--- the key, and a text behind it from its first byte on that is no blank; blanks at its end belong to it
+-- An energy line: the key, and the text from the next byte that isn't blank. Blanks at the end belong to the text.
 pub record IsEnergyLine (line text : List ℕ) : Type 0 where
   pub others : List (List ℕ)
   pub key : words line ≡ codes "energy" ∷ others
   pub text_is : without_blanks (after_word line) ≡ text
   pub some : 0 < length text
 
--- the key and one word, of which this is so
+-- the line is this key and one word with the property `Is`
 abbrev pub HasOneWord : List ℕ → List ℕ → (List ℕ → Type 0) → Type 0
 HasOneWord line key Is = (word : List ℕ) × (words line ≡ key ∷ word ∷ []) × Is word
 
--- the key, the name of a global and its value
+-- a line of a global: the key, its name and its value
 pub record IsGlobalLine (frac : Frac) (line : List ℕ) (g : GlobalValue) : Type 0 where
   pub word : List ℕ
   pub words_are : words line ≡ codes "global" ∷ g.name ∷ word ∷ []
   pub named : is_identifier g.name ≡ true
   pub number : IsSignedNumber frac word g.value
 
--- the key, the name of a type, its mass, which is 0.00001 to 1000 u, and its values
+-- a line of a type: the key, its name, its mass from 0.00001 to 1000 u, and its values
 pub record IsTypeLine (frac : Frac) (line : List ℕ) (t : TypeValue) : Type 0 where
   pub mass : List ℕ
   pub numerals : List (List ℕ)
@@ -83,8 +84,9 @@ pub record IsTypeLine (frac : Frac) (line : List ℕ) (t : TypeValue) : Type 0 w
   pub most_mass : t.mass ≤ 100000000
   pub numbers : AllZip (IsSignedNumber frac) numerals t.values
 
--- The line says this, its numerals read at these fraction bits: a core, or a cutoff of more than 0 and at most 80 nm,
--- without a sign; a time step of 1 to 1000 fs; 1 to 65,536 slices; 24, 32 or 40 fraction bits; a parameter's name.
+-- The line has this meaning, with numerals read at these fraction bits. A core and a cutoff have no sign; a cutoff is
+-- above 0 and at most 80 nm after rounding. A time step is 1 to 1000 fs, and slices are 1 to 65,536. Fraction bits are
+-- 24, 32 or 40. A parameter is an identifier.
 abbrev pub LineSays : Frac → List ℕ → LineValue → Type 0
 LineSays frac line says_nothing = IsSilent line
 LineSays frac line (says_energy text) = IsEnergyLine line text
@@ -97,7 +99,7 @@ LineSays frac line (says_parameter name) = HasOneWord line (codes "parameter") (
 LineSays frac line (says_global g) = IsGlobalLine frac line g
 LineSays frac line (says_type t) = IsTypeLine frac line t
 
--- ---- what lines say of one key
+-- ---- the value of a line for one key; None if the line has another meaning
 
 abbrev pub said_energy : LineValue → Option (List ℕ)
 said_energy (says_energy text) = Some text

@@ -1,4 +1,5 @@
--- How a job is read: its lines from the top, the first fault of a text, or its job. `JobText` says whose text it is.
+-- Reading a job from the top, as functions to the job or to the first fault. The module `JobText` defines whose text a
+-- text is.
 use Rattle.std.specs.Prelude.{◌≡◌, ℕ, ℤ, List, [], ◌∷◌, ◌++◌, length, map, filter_map, ◌≤◌, Option, Some, None, Result, Ok, Err, ◌==◌, ◌<ℤ◌, int_lt, bytes_eq, All, if◌then◌else◌}
 use Rattle.std.specs.Option.{unwrap_or}
 use Rattle.line_text.specs.Steps.{◌>>=◌}
@@ -13,14 +14,14 @@ use Rattle.job.specs.Faults.{Refusal, bad_line, missing, out_of_range, TypeLine,
 use Rattle.job.specs.Bits.{frac_in}
 use Rattle.job.specs.Values.{TypeValue, JobValue, Counts}
 
--- ---- what lines without a fault say
+-- ---- the values of lines without faults
 
--- each line below these is without a fault
+-- no line has a fault, given the lines above it
 abbrev pub IsFaultless : Counts → Frac → List (List ℕ) → Type 0
 IsFaultless most frac lines = (above below : List (List ℕ)) (line : List ℕ) → lines ≡ above ++ line ∷ below → line_fault most frac above line ≡ None
 
--- the lines have said this job: each value is what the line of its key says, the fraction bits are 32 where no line
--- says them, and each type has a value for each parameter
+-- The values are those of this job. Without a `bits` line there are 32 fraction bits, without a `slices` line 64
+-- slices. Each type has one value per parameter.
 pub record Tells (s : Said) (job : JobValue) : Type 0 where
   pub frac : unwrap_or s.bits F32 ≡ job.frac
   pub energy : s.energy ≡ Some job.energy
@@ -34,25 +35,26 @@ pub record Tells (s : Said) (job : JobValue) : Type 0 where
   pub types : map (λ t. t.value) s.types ≡ job.types
   pub whole : All (λ t. length t.values ≡ length job.parameters) job.types
 
--- behind the first line no line has a fault, and together they say the job, all numerals read at the fraction bits of
--- the job
+-- After the first line no line has a fault, and the lines' values are those of the job. Numerals are read with the
+-- job's fraction bits.
 pub record IsReadAs (most : Counts) (text : List ℕ) (job : JobValue) : Type 0 where
   pub lines : List (List ℕ)
   pub first_line : lines_of text ≡ header ∷ lines
   pub faultless : IsFaultless most job.frac lines
   pub tells : Tells (summary job.frac lines) job
 
--- ---- each key once
+-- ---- keys that occur once
 
--- how many lines say this
+-- the number of lines that have such a value
 abbrev pub times_said : {X : Type 0} → Frac → (Statement → Option X) → List (List ℕ) → ℕ
 times_said frac part lines = length (filter_map part (filter_map (entry_of frac) lines))
 
+-- the lines after the first
 abbrev pub below_first : List (List ℕ) → List (List ℕ)
 below_first [] = []
 below_first (line ∷ lines) = lines
 
--- the lines below the first have each key that a job needs once, and `slices` and `bits` at most once
+-- each required key occurs once in the lines, and `slices` and `bits` at most once
 pub record HasKeysOnce (frac : Frac) (lines : List (List ℕ)) : Type 0 where
   pub energy : times_said frac energy_in lines ≡ 1
   pub core : times_said frac core_in lines ≡ 1
@@ -61,16 +63,18 @@ pub record HasKeysOnce (frac : Frac) (lines : List (List ℕ)) : Type 0 where
   pub slices : times_said frac slices_in lines ≤ 1
   pub bits : times_said frac bits_in lines ≤ 1
 
--- ---- the first fault of a text, or its job
+-- ---- the job of a text, or its first fault
 
+-- the value of a required key, or Missing
 abbrev pub needed : {X : Type 0} → Key → Option X → Result X Refusal
 needed key None = Err (missing key)
 needed key (Some x) = Ok x
 
+-- the cutoff, if it is above the core
 abbrev pub ordered : ℤ → ℤ → Result ℤ Refusal
 ordered core cutoff = if int_lt core cutoff then Ok cutoff else Err (out_of_range keys.Cutoff)
 
--- the core, the cutoff, which is more, and the time step
+-- the core, the cutoff above it, and the time step
 unfoldable pub needed_numbers : Option ℤ → Option ℤ → Option ℕ → Result (ℤ × ℤ × ℕ) Refusal
 needed_numbers core cutoff time_step = do
   core ← needed keys.Core core
@@ -79,12 +83,12 @@ needed_numbers core cutoff time_step = do
   cutoff ← ordered core longest
   Ok (core, cutoff, time_step)
 
--- the types, or the first line of a type with another number of values
+-- the types, or the line of the first type that doesn't have k values
 unfoldable pub whole_types : ℕ → List TypeLine → Result (List TypeValue) Refusal
 whole_types k [] = Ok []
 whole_types k (t ∷ ts) = if length t.value.values == k then (whole_types k ts >>= λ us. Ok (t.value ∷ us)) else Err (bad_line t.line)
 
--- the job of the lines, or the first part that they lack, in this order
+-- the job with these values, or the first defect: a missing key or a cutoff not above the core, then a type's values
 unfoldable pub job_from : Said → Result JobValue Refusal
 job_from s = do
   energy ← needed keys.Energy s.energy
@@ -102,14 +106,16 @@ job_from s = do
     types = types;
   })
 
+-- the fault if there is one, else the job
 abbrev pub unless : Option Refusal → Result JobValue Refusal → Result JobValue Refusal
 unless (Some fault) job = Err fault
 unless None job = job
 
--- the lines below the first, their numerals read at these fraction bits
+-- the job of the lines after the first, read with these fraction bits, or their first fault
 abbrev pub reading_at : Counts → Frac → List (List ℕ) → Result JobValue Refusal
 reading_at most frac lines = unless (first_fault most frac [] lines) (job_from (summary frac lines))
 
+-- the job of all lines of a text, or their first fault
 abbrev pub lines_reading : Counts → List (List ℕ) → Result JobValue Refusal
 lines_reading most [] = Err (bad_line 1)
 lines_reading most (line ∷ lines) = if bytes_eq line header then reading_at most (frac_in lines) lines else Err (bad_line 1)

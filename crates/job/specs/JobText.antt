@@ -1,4 +1,4 @@
--- Which text is which job's: the first line, and what each other line says.
+-- Texts of jobs, as a relation between a text and the job that it represents.
 use Rattle.std.specs.Prelude.{◌≡◌, ◌⊎◌, ◌↔◌, ℕ, List, [], ◌∷◌, length, map, filter_map, ◌≤◌, AllPairs, Result, Ok, ◌<ℤ◌, All}
 use Rattle.std.specs.List.{AllZip}
 use Rattle.fixed.specs.declared.frac.Frac.TheVariants.{F32}
@@ -8,31 +8,31 @@ use Rattle.job.specs.Faults.{Refusal}
 use Rattle.job.specs.JobReading.{lines_reading}
 use Rattle.job.specs.Values.{JobValue, Counts}
 
--- ---- what lines say together
+-- ---- the meaning of all lines together
 
 -- no two names are equal
 abbrev pub AreApart : List (List ℕ) → Type 0
 AreApart names = AllPairs (λ a b. a ≡ b → ⊥) names
 
--- no two parameters, globals or types of the job have one name
+-- no two parameters, no two globals and no two types of the job have the same name
 pub record HasNamesOnce (job : JobValue) : Type 0 where
   pub parameters : AreApart job.parameters
   pub globals : AreApart (map (λ g. g.name) job.globals)
   pub types : AreApart (map (λ t. t.name) job.types)
 
--- the job has no more parameters, globals and types than these
+-- the job has at most this number of parameters, globals and types
 pub record HasAtMost (most : Counts) (job : JobValue) : Type 0 where
   pub parameters : length job.parameters ≤ most.parameters
   pub globals : length job.globals ≤ most.globals
   pub types : length job.types ≤ most.types
 
--- one line says x; or none does, and x is the default
+-- one line has the value x; or no line has a value, and x is the default
 abbrev pub IsSaidOr : {X : Type 0} → X → List X → X → Type 0
 IsSaidOr default said x = (said ≡ x ∷ []) ⊎ ((said ≡ []) × (x ≡ default))
 
--- The values that the lines of a job say, in the order of the lines: its energy, core, cutoff and time step once each;
--- its slices and its fraction bits once, or not at all, and then they are 64 and 32; its parameters, globals and types.
--- The core is below the cutoff, and each type has a value for each parameter.
+-- The values of a job's lines, in their order. Energy, core, cutoff and time step occur once. Slices and fraction bits
+-- occur at most once, with the defaults 64 and 32. Parameters, globals and types are those of the job. The core is
+-- below the cutoff, and each type has one value per parameter.
 pub record SayJob (most : Counts) (values : List LineValue) (job : JobValue) : Type 0 where
   pub energy : filter_map said_energy values ≡ job.energy ∷ []
   pub core : filter_map said_core values ≡ job.core ∷ []
@@ -48,8 +48,9 @@ pub record SayJob (most : Counts) (values : List LineValue) (job : JobValue) : T
   pub apart : HasNamesOnce job
   pub whole : All (λ t. length t.values ≡ length job.parameters) job.types
 
--- The text is the job's: below the first line each line says a value, its numerals read at the job's fraction bits, and
--- together they say the job. What lines of `bits` say is the same at whatever fraction bits.
+-- The text represents the job. Each line after the first has a value, with numerals read at the job's fraction bits,
+-- and together the values are those of the job. A `bits` line has the same value for any fraction bits, so the
+-- definition isn't circular.
 pub record IsJobText (most : Counts) (text : List ℕ) (job : JobValue) : Type 0 where
   pub lines : List (List ℕ)
   pub first_line : lines_of text ≡ header ∷ lines
@@ -57,16 +58,16 @@ pub record IsJobText (most : Counts) (text : List ℕ) (job : JobValue) : Type 0
   pub each : AllZip (LineSays job.frac) lines values
   pub say : SayJob most values job
 
--- how many parameters, globals and types a job may have
+-- the limits of the number of parameters, globals and types
 abbrev pub limits : Counts
 limits = record { parameters = 8; globals = 16; types = 64 }
 
 -- ---- the reader
 
--- the job whose text this is, or the first fault
+-- the job that a text represents, or the first fault of the text
 unfoldable pub reading_of : Counts → List ℕ → Result JobValue Refusal
 reading_of most text = lines_reading most (lines_of text)
 
--- A text is read as a job exactly where it is that job's.
+-- A text is read as a job if and only if it represents this job.
 abbrev pub ReadsJobTexts : Type 0
 ReadsJobTexts = (most : Counts) (text : List ℕ) (job : JobValue) → (reading_of most text ≡ Ok job) ↔ IsJobText most text job

@@ -1,4 +1,4 @@
--- The statements of a job's lines, by their words.
+-- The statements of a job's lines, as functions of their words.
 use Rattle.std.specs.Prelude.{ℕ, ℤ, List, [], ◌∷◌, Option, Some, None, Ok, Err, option_map, ◌==◌, slice_index, codes, bytes_eq, if◌then◌else◌}
 use Rattle.fixed.specs.declared.frac.Frac.{Frac}
 use Rattle.fixed.specs.declared.faults.NumFault.TheVariants.{BadNumber, NumberRange}
@@ -9,7 +9,7 @@ use Rattle.job.specs.Forms.{is_type_name}
 use Rattle.line_text.specs.Words.{words, without_blanks, after_word}
 use Rattle.job.specs.Numbers.{Reading, both, alone, numeral_of, signed_of, values_of, cutoff_of, whole_of, frac_of, mass_of}
 
--- a number that is out of its range is None
+-- a line's key and value; None is a number out of range
 pub data Statement : Type 0 where
   skipped : Statement
   energy_is : List ℕ → Statement
@@ -22,37 +22,42 @@ pub data Statement : Type 0 where
   type_is : List ℕ → Option (ℕ × List ℤ) → Statement
   bits_is : Option Frac → Statement
 
--- nothing is said by what is malformed
+-- None for a malformed number, Some None for a number out of range
 abbrev pub well_formed : {X : Type 0} → Reading X → Option (Option X)
 well_formed (Ok x) = Some (Some x)
 well_formed (Err NumberRange) = Some None
 well_formed (Err BadNumber) = None
 
+-- the statement of an energy line with this text
 abbrev pub energy_statement : List ℕ → Option Statement
 energy_statement [] = None
 energy_statement (b ∷ bs) = Some (energy_is (b ∷ bs))
 
+-- the statement of a parameter line, from the words after the key
 abbrev pub parameter_statement : List (List ℕ) → Option Statement
 parameter_statement [] = None
 parameter_statement (name ∷ []) = if is_identifier name then Some (parameter_is name) else None
 parameter_statement (name ∷ w ∷ ws) = None
 
+-- the statement of a line of a global, from the words after the key
 abbrev pub global_statement : Frac → List (List ℕ) → Option Statement
 global_statement frac [] = None
 global_statement frac (name ∷ []) = None
 global_statement frac (name ∷ x ∷ []) = if is_identifier name then option_map (global_is name) (well_formed (signed_of frac x)) else None
 global_statement frac (name ∷ x ∷ w ∷ ws) = None
 
+-- the statement of a line of a type, from the words after the key
 abbrev pub type_statement : Frac → List (List ℕ) → Option Statement
 type_statement frac [] = None
 type_statement frac (name ∷ []) = None
 type_statement frac (name ∷ mass ∷ values) = if is_type_name name then option_map (type_is name) (well_formed (both (mass_of mass) (values_of frac values))) else None
 
--- the key of the first entry with the word
+-- the key of the first table entry with this word
 abbrev pub key_among : List (List ℕ × Key) → List ℕ → Option Key
 key_among [] word = None
 key_among (e ∷ es) word = if bytes_eq word e.0 then Some e.1 else key_among es word
 
+-- the key with this word
 unfoldable pub key_of : List ℕ → Option Key
 key_of word = key_among (
     (codes "energy", keys.Energy) ∷ (codes "core", keys.Core) ∷ (codes "cutoff", keys.Cutoff) ∷ (codes "dt", keys.TimeStep)
@@ -60,7 +65,7 @@ key_of word = key_among (
     ∷ (codes "type", keys.Types) ∷ (codes "bits", keys.Bits) ∷ []
     ) word
 
--- the line of this key, with this text behind the key, its numerals read at these fraction bits
+-- the statement of a line with this key and this text after it; numerals are read with these fraction bits
 abbrev pub key_statement : Frac → Option Key → List ℕ → Option Statement
 key_statement frac None text = None
 key_statement frac (Some keys.Energy) text = energy_statement (without_blanks text)
@@ -73,10 +78,11 @@ key_statement frac (Some keys.Global) text = global_statement frac (words text)
 key_statement frac (Some keys.Types) text = type_statement frac (words text)
 key_statement frac (Some keys.Bits) text = option_map bits_is (well_formed (alone frac_of (words text)))
 
+-- the statement of a line with these words
 abbrev pub words_statement : Frac → List (List ℕ) → List ℕ → Option Statement
 words_statement frac [] text = Some skipped
 words_statement frac (word ∷ ws) text = key_statement frac (key_of word) text
 
--- the statement of a line, None where it is malformed; a line that begins with `#` and one of blanks alone are skipped
+-- the statement of a line, None if it is malformed; lines that start with `#` (35) and blank lines are skipped
 unfoldable pub entry_of : Frac → List ℕ → Option Statement
 entry_of frac line = if slice_index line 0 == 35 then Some skipped else words_statement frac (words line) (after_word line)

@@ -1,18 +1,19 @@
--- A job as plain values, without memory.
+-- Jobs as values, independent of memory.
 use Rattle.std.specs.Prelude.{ℕ, ℤ, List}
 use Rattle.fixed.specs.declared.frac.Frac.{Frac}
 
+-- a named constant
 pub record GlobalValue : Type 0 where
   pub name : List ℕ
   pub value : ℤ
 
--- the mass in 10^-5 u, and a value for each parameter
+-- a type: its mass is in 10^-5 u, and it has one value per parameter
 pub record TypeValue : Type 0 where
   pub name : List ℕ
   pub mass : ℕ
   pub values : List ℤ
 
--- a job, whose numbers have as many bits behind the point as `frac` says
+-- a job; its numbers have the fraction bits `frac`
 pub record JobValue : Type 0 where
   pub frac : Frac
   pub energy : List ℕ
@@ -24,7 +25,7 @@ pub record JobValue : Type 0 where
   pub globals : List GlobalValue
   pub types : List TypeValue
 
--- how many lines of these keys a job may have
+-- limits of the number of lines of these keys
 pub record Counts : Type 0 where
   pub parameters : ℕ
   pub globals : ℕ

@@ -1,4 +1,4 @@
--- The code's values as plain ones.
+-- Values of the code's types.
 use Rattle.std.specs.Prelude.{ℕ, ℤ, List, [], ◌∷◌, Option, Some, None, map, string_bytes}
 use Rattle.std.specs.Option.{unwrap_or}
 use Rattle.line_text.specs.Names.{name_text}
@@ -14,12 +14,15 @@ use Rattle.job.specs.declared.reading.Numbers.{Numbers}
 use Rattle.job.specs.Values.{GlobalValue, TypeValue, JobValue}
 use Rattle.job.specs.Faults as plain
 
+-- the value of a global
 abbrev pub global_value : {A : Type 0} → Global A → GlobalValue
 global_value g = record { name = g.name.items; value = g.value }
 
+-- the value of a type
 abbrev pub type_value : {A : Type 0} → AtomType A → TypeValue
 type_value t = record { name = name_text t.name; mass = t.mass; values = t.values.items }
 
+-- the value of a job
 abbrev pub job_value : {A : Type 0} → Job A → JobValue
 job_value j = record {
   frac = j.frac;
@@ -33,17 +36,20 @@ job_value j = record {
   types = map type_value j.types.items;
 }
 
+-- the value of a type with its line
 abbrev pub type_line : {A : Type 0} → TypeLine A → plain.TypeLine
 type_line t = record { line = t.line; value = type_value t.value }
 
+-- the mass and the values of a type
 abbrev pub type_numbers_of : {A : Type 0} → TypeNumbers A → ℕ × List ℤ
 type_numbers_of t = (t.mass, t.values.items)
 
--- a text of which no line is empty, where one has it
+-- the energy's text, None if it is empty, which means that no line had an energy
 abbrev pub text_said : List ℕ → Option (List ℕ)
 text_said [] = None
 text_said (b ∷ bs) = Some (b ∷ bs)
 
+-- the value of a draft
 abbrev pub said_of : {A : Type 0} → Draft A → plain.Said
 said_of d = record {
   frac = d.frac;
@@ -58,10 +64,11 @@ said_of d = record {
   bits = d.bits;
 }
 
+-- core, cutoff and time step
 abbrev pub numbers_seen : Numbers → ℤ × ℤ × ℕ
 numbers_seen n = (n.core, n.cutoff, n.time_step)
 
--- the job of a draft that lacks nothing, with its numbers
+-- the job of a complete draft, with its numbers
 abbrev pub job_said : {A : Type 0} → Draft A → Numbers → JobValue
 job_said d n = record {
   frac = d.frac;
@@ -75,7 +82,7 @@ job_said d n = record {
   types = map (λ t. t.value) (map type_line d.types.items);
 }
 
--- the refusal that a fault tells
+-- the fault of the specification that a fault of the code stands for
 abbrev pub refusal_of : {A : Type 0} → JobFault A → plain.Refusal
 refusal_of (faults.BadLine n) = plain.bad_line n
 refusal_of (faults.Missing key) = plain.missing key

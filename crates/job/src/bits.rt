@@ -1,4 +1,5 @@
-//! How many fraction bits the lines of a job say.
+//! The fraction bits of a job. They are found before its lines are read, because numerals above the `bits` line are
+//! read with them too.
 
 ghost use Rattle.std.specs.Prelude.{◌≡◌, option_map};
 ghost use Rattle.line_text.specs.Words.{words};
@@ -13,14 +14,16 @@ use crate::words::{next_line, only_word};
 use fixed::{Frac, NumFault};
 use line_text::next_word;
 
-/// The fraction bits that the one word of a text is.
+/// The fraction bits in a text of one word.
+///
+/// `BadNumber` if it isn't one word of digits; `NumberRange` if the number isn't 24, 32 or 40.
 pub fn bits_in(text: &[u8]) -> Result<Frac, NumFault>
     ensures { result ≡ alone frac_of (words text.now) }
 {
     frac(only_word(text)?)
 }
 
-// The fraction bits that a line says, where it is a line `bits N` and N is in range.
+// The fraction bits of a line `bits N` with N = 24, 32 or 40; `None` for any other line.
 #[tactic(auto, unfolding(crate::specs::Bits::bits_said))]
 fn bits_said(line: &[u8]) -> Option<Frac>
     ensures { result ≡ bits_said line.now }
@@ -35,7 +38,8 @@ fn bits_said(line: &[u8]) -> Option<Frac>
     }
 }
 
-/// At how many fraction bits the numerals of these lines are read: what the first line says that says it, or 32.
+/// The fraction bits with which the numerals of these lines are read: those of the first `bits` line with an allowed
+/// value, or 32.
 pub fn frac_in(text: Option<&[u8]>) -> Frac
     ensures { result ≡ frac_in (more_lines (option_map (λ x. x.now) text.entry)) }
 {

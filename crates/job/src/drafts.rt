@@ -11,32 +11,32 @@ use crate::time_steps::TimeStep;
 use fixed::{Frac, Fx};
 use std::alloc::Allocator;
 
-/// The numbers on a type's line: its mass and its parameters.
+/// The numbers on the line of a type: its mass and its values.
 #[derive(Drop)]
 pub struct TypeNumbers<A: Allocator> {
     /// The mass in 10^-5 u, 1 to 100,000,000.
     pub mass: u32,
-    /// The values, as many as there are.
+    /// The values, one per parameter in a complete job.
     pub values: Vec<Fx, A>,
     pub ghost some_mass: { 1 ≤ mass },
     pub ghost most_mass: { mass ≤ 100000000 },
 }
 
-/// A type of atoms, and its line.
+/// An atom type, with the number of its line.
 #[derive(Drop)]
 pub struct TypeLine<A: Allocator> {
     /// The number of the line, counted from 1.
     pub line: u64,
-    /// The type that the line says.
+    /// The type on the line.
     pub value: AtomType<A>,
 }
 
-/// A draft of a job: the values of the lines so far, each as in the job; `None` where no line has its key.
+/// A draft of a job: the values of the lines read so far, each as in the job; `None` if no line has had the key.
 #[derive(Drop)]
 pub struct Draft<A: Allocator> {
-    /// At how many fraction bits numerals are read, which a line still to come may say.
+    /// The fraction bits with which numerals are read. A line still to be read may be the `bits` line.
     pub frac: Frac,
-    /// The energy's text, empty where no line has it.
+    /// The energy's text, empty if no line has had it.
     pub energy: Vec<u8, A>,
     /// The core in nm, at least 0.
     pub core: Option<Fx>,
@@ -46,13 +46,13 @@ pub struct Draft<A: Allocator> {
     pub time_step: Option<TimeStep>,
     /// The number of slices, 1 to 65,536.
     pub slices: Option<u32>,
-    /// The parameters' names, at most 8.
+    /// The names of the parameters, at most 8.
     pub parameters: Vec<Vec<u8, A>, A>,
     /// The globals, at most 16.
     pub globals: Vec<Global<A>, A>,
     /// The types, at most 64.
     pub types: Vec<TypeLine<A>, A>,
-    /// How many bits stand behind the point of the job's numbers.
+    /// The fraction bits of the `bits` line.
     pub bits: Option<Frac>,
     ghost least_core: { IfSome core (λ v. pos 0 ≤ℤ v) } by { Prim.hlevel props },
     ghost most_cutoff: { IfSome cutoff (λ v. v ≤ℤ pos (80 * 2 ^ bits_of frac)) } by { Prim.hlevel props },
@@ -68,7 +68,7 @@ impl<A: Allocator + Copy> Draft<A> {
     ghost use Rattle.job.specs.Drafts.{nothing};
     ghost use Rattle.job.specs.Views.{said_of};
 
-    /// The draft of no lines.
+    /// The empty draft.
     pub fn new(alloc: A, frac: Frac) -> Draft<A>
         ensures { said_of result ≡ nothing frac }
     {

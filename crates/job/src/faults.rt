@@ -1,4 +1,4 @@
-//! Why a text is no job.
+//! Faults of a text that isn't a job.
 
 ghost use Rattle.std.specs.Prelude.{◌≡◌};
 ghost use Rattle.fallible.specs.declared.failure.Failure.TheVariants.{Refused};
@@ -8,7 +8,7 @@ use std::alloc::Allocator;
 use std::fmt;
 use thiserror::Error;
 
-/// The word that begins a job's line.
+/// The first word of a job's line.
 #[derive(Clone, Copy, PartialEq, Eq)]
 pub enum Key {
     /// `energy`, of which a job has one line.
@@ -47,26 +47,26 @@ impl fmt::Display for Key {
     }
 }
 
-/// Why a text is no job: the first fault.
+/// The first fault of a text that isn't a job.
 ///
-/// The lines count from the top, and on each line a malformed line comes before a repeated key or name, and that before
-/// a range. What the whole text lacks comes after all lines.
+/// Lines are checked from the top. On a line, a malformed line comes before a repeated key or name, and this before a
+/// number out of range. Defects of the whole text come after all lines.
 #[derive(Drop, Error)]
 pub enum JobFault<A: Allocator> {
-    /// This line, counted from 1, is malformed, or is the first `type` line with another number of values than the job
-    /// has parameters.
+    /// The line with this number, counted from 1, is malformed, or is the first `type` line that doesn't have one value
+    /// per parameter of the job.
     #[error("J1 BadLine {line}")]
     BadLine { line: u64 },
     /// No line has this key.
     #[error("J2 Missing {key}")]
     Missing { key: Key },
-    /// A second line has this key.
+    /// A second line has this key, which may occur only once.
     #[error("J3 Repeated {key}")]
     Repeated { key: Key },
-    /// A second `parameter` line, or a second `global` line, has this name.
+    /// A second `parameter` line or a second `global` line has this name.
     #[error("J3 Repeated {name}")]
     RepeatedName { name: String<A> },
-    /// A number of a line with this key is out of its range, or one more such line stands than a job may have.
+    /// A number on a line with this key is out of range, or there is one line more with this key than a job may have.
     #[error("J4 Range {key}")]
     Range { key: Key },
     /// A second `type` line has this name.
@@ -74,7 +74,7 @@ pub enum JobFault<A: Allocator> {
     RepeatedType { name: String<A> },
 }
 
-/// A fault prints the same either way.
+/// `Debug` prints as `Display`. `thiserror` requires it, and a derived one is expensive to prove.
 impl<A: Allocator> fmt::Debug for JobFault<A> {
     fn fmt<W: fmt::Write>(&self, f: &mut fmt::Formatter<W>) -> fmt::Result {
         fmt::Display::fmt(self, f)

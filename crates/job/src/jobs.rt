@@ -15,46 +15,48 @@ use std::alloc::Allocator;
 /// A constant that the energy may name.
 #[derive(Drop)]
 pub struct Global<A: Allocator> {
-    /// A letter or `_`, then letters, digits and `_`.
+    /// The name: a letter or `_`, then letters, digits and `_`.
     pub name: Vec<u8, A>,
-    /// Its value, of the job's fraction bits.
+    /// Its value, with the job's fraction bits.
     pub value: Fx,
     pub ghost named: { IsTrue (is_identifier name.items) },
 }
 
-/// A type of atoms: those that have its name.
+/// An atom type. Atoms with its name have this type.
 #[derive(Drop)]
 pub struct AtomType<A: Allocator> {
-    /// One to five bytes of 33 to 126.
+    /// The name: one to five bytes from 33 to 126.
     pub name: Name,
     /// The mass in 10^-5 u, 1 to 100,000,000.
     pub mass: u32,
-    /// A value for each of the job's parameters, in their order.
+    /// One value per parameter of the job, in the parameters' order.
     pub values: Vec<Fx, A>,
     pub ghost named: { IsTrue (is_type_name (name_text name)) },
     pub ghost some_mass: { 1 ≤ mass },
     pub ghost most_mass: { mass ≤ 100000000 },
 }
 
-/// A job: the energy between two atoms and what a run with it needs.
+/// A job: the energy of a pair of atoms, and the other input of a run.
 #[derive(Drop)]
 pub struct Job<A: Allocator> {
-    /// How many bits stand behind the point of the job's numbers.
+    /// The number of fraction bits of the job's numbers.
     pub frac: Frac,
-    /// The energy's text, in kJ/mol as a function of the distance `r` in nm. It isn't judged here.
+    /// The text of the energy in kJ/mol, a function of the distance `r` in nm. Reading a job doesn't check this text,
+    /// so faults of the job and the state come before faults of the energy.
     pub energy: Vec<u8, A>,
-    /// The distance in nm at which closer pairs are taken to be, at least 0.
+    /// The core in nm, at least 0: closer pairs are treated as if they were at this distance.
     pub core: Fx,
-    /// The distance in nm from which on pairs don't act: more than `core`, at most 80.
+    /// The cutoff in nm, above `core` and at most 80: only pairs closer than the cutoff interact.
     pub cutoff: Fx,
+    /// The time step in fs.
     pub time_step: TimeStep,
-    /// Into how many slices of distances the kernel's proof is first cut, 1 to 65,536.
+    /// The number of slices of distances in which verification of the kernel starts, 1 to 65,536.
     pub slices: u32,
-    /// The names of what each type has a value for, at most 8.
+    /// The names of the types' parameters, at most 8.
     pub parameters: Vec<Vec<u8, A>, A>,
     /// The named constants, at most 16.
     pub globals: Vec<Global<A>, A>,
-    /// The types, at most 64, of which no two have one name.
+    /// The types, at most 64, all with different names.
     pub types: Vec<AtomType<A>, A>,
     pub ghost least_core: { pos 0 ≤ℤ core },
     pub ghost below_cutoff: { core <ℤ cutoff },

@@ -1,9 +1,8 @@
-//! Law of job texts: reading agrees with the definition.
+//! Law of job texts: reading a job agrees with the definition of its texts.
 
 ghost use Rattle.job.specs.JobText.{ReadsJobTexts};
 
-/// A text is read as a job exactly where it is that job's, whatever the counts: so a text is the text of one job at
-/// most.
+/// A text is read as a job if and only if it represents this job, for any limits. So a text represents at most one job.
 pub fn reads_job_texts()
     ensures { ReadsJobTexts }
 {}

@@ -1,4 +1,4 @@
-//! Reads a job: the lines of text that name a run's energy, core, cutoff, time step and types of atoms.
+//! Reads a job, the input file with a run's energy, core, cutoff, time step and atom types.
 #![tactic(auto)]
 
 mod bits;

@@ -1,4 +1,6 @@
-//! The lines of a job, one after the other: each is added to the draft of those above it, or is refused.
+//! Reading a job line by line: each line is added to the draft of the lines above it, or rejected. The draft is
+//! borrowed, so that the functions here have nothing to drop on their many error paths, which the prover would have to
+//! follow.
 
 ghost use Rattle.std.specs.Prelude.{◌≡◌, ◌≤◌, ◌≤ℤ◌, ◌*◌, ◌^◌, pos, map, true, length, option_map, IfOk, IsTrue, IsAscii, string_bytes, bytes_eq, ok_or, Ok, Err};
 ghost use Rattle.std.specs.Result.{MatchResult};
@@ -30,14 +32,14 @@ use fixed::{Frac, Fx, NumFault};
 use line_text::{Name, is_identifier, next_word, skip_blanks};
 use std::alloc::{AllocError, Allocator};
 
-// How many parameters, globals and types a job may have.
+// The limits of the number of parameters, globals and types of a job.
 const MAX_PARAMETERS: usize = 8;
 
 const MAX_GLOBALS: usize = 16;
 
 const MAX_TYPES: usize = 64;
 
-/// The core in nm of a text of one word: a numeral, at least 0.
+/// The core in nm, at least 0, in a text of one word.
 fn core_in(frac: Frac, text: &[u8]) -> Result<Fx, NumFault>
     ensures value { result ≡ alone (numeral_of frac) (words text.now) }
     ensures least { IfOk result (λ v. pos 0 ≤ℤ v) }
@@ -45,7 +47,7 @@ fn core_in(frac: Frac, text: &[u8]) -> Result<Fx, NumFault>
     numeral(frac, only_word(text)?)
 }
 
-/// The cutoff in nm of a text of one word: a numeral, more than 0 and at most 80.
+/// The cutoff in nm, above 0 and at most 80, in a text of one word.
 fn cutoff_in(frac: Frac, text: &[u8]) -> Result<Fx, NumFault>
     ensures value { result ≡ alone (cutoff_of frac) (words text.now) }
     ensures most { IfOk result (λ v. v ≤ℤ pos (80 * 2 ^ bits_of frac)) }
@@ -53,7 +55,7 @@ fn cutoff_in(frac: Frac, text: &[u8]) -> Result<Fx, NumFault>
     cutoff(frac, only_word(text)?)
 }
 
-/// The whole number, 1 to `most`, of a text of one word.
+/// The integer from 1 to `most` in a text of one word.
 fn whole_in(most: u32, text: &[u8]) -> Result<u32, NumFault>
     requires { most ≤ 65536 }
     ensures value { result ≡ alone (whole_of 1 most) (words text.now) }
@@ -62,14 +64,17 @@ fn whole_in(most: u32, text: &[u8]) -> Result<u32, NumFault>
     whole(1, most, only_word(text)?)
 }
 
+// The time step, 1 to 1000 fs, in a text of one word.
 fn time_step_in(text: &[u8]) -> Result<TimeStep, NumFault>
     ensures { result ≡ alone (whole_of 1 1000) (words text.now) }
 {
     Ok(TimeStep::new(whole_in(1000, text)?))
 }
 
-/// Puts the number of a key that one line may have into its place. Refused where it is malformed, repeated or out of
-/// range.
+/// Stores the number of a key that may have only one line.
+///
+/// Errors, in this order: `BadLine` if the number is malformed, `Repeated` if the key has a number, `Range` if the new
+/// number is out of range.
 fn put_once<T: Copy, A: Allocator>(
     number: u64,
     key: Key,
@@ -90,8 +95,9 @@ fn put_once<T: Copy, A: Allocator>(
     }
 }
 
-/// Puts this line's energy into the draft. `BadLine` where the line has none, `Repeated` where a line before it has
-/// one.
+/// Adds the energy of this line to the draft.
+///
+/// `BadLine` if the line has no text, else `Repeated` if the draft has an energy.
 fn take_energy<A: Allocator>(
     alloc: A,
     draft: &mut Draft<A>,
@@ -111,7 +117,7 @@ fn take_energy<A: Allocator>(
     Ok(())
 }
 
-/// Puts this line's core, in nm, into the draft. Refused where it is malformed, repeated or out of range.
+/// Adds the core of this line, in nm, to the draft. Errors: see `put_once`.
 fn take_core<A: Allocator>(
     draft: &mut Draft<A>,
     number: u64,
@@ -123,7 +129,7 @@ fn take_core<A: Allocator>(
     put_once(number, Key::Core, &mut draft.core, reading)
 }
 
-/// Puts this line's cutoff, in nm, into the draft. Refused where it is malformed, repeated or out of range.
+/// Adds the cutoff of this line, in nm, to the draft. Errors: see `put_once`.
 fn take_cutoff<A: Allocator>(
     draft: &mut Draft<A>,
     number: u64,
@@ -135,7 +141,7 @@ fn take_cutoff<A: Allocator>(
     put_once(number, Key::Cutoff, &mut draft.cutoff, reading)
 }
 
-/// Puts this line's time step, 1 to 1,000 fs, into the draft. Refused where it is malformed, repeated or out of range.
+/// Adds the time step of this line, 1 to 1,000 fs, to the draft. Errors: see `put_once`.
 fn take_time_step<A: Allocator>(
     draft: &mut Draft<A>,
     number: u64,
@@ -147,8 +153,7 @@ fn take_time_step<A: Allocator>(
     put_once(number, Key::TimeStep, &mut draft.time_step, reading)
 }
 
-/// Puts this line's number of slices, 1 to 65,536, into the draft. Refused where it is malformed, repeated or out of
-/// range.
+/// Adds the number of slices of this line, 1 to 65,536, to the draft. Errors: see `put_once`.
 fn take_slices<A: Allocator>(
     draft: &mut Draft<A>,
     number: u64,
@@ -160,8 +165,7 @@ fn take_slices<A: Allocator>(
     put_once(number, Key::Slices, &mut draft.slices, reading)
 }
 
-/// Puts this line's fraction bits, 24, 32 or 40, into the draft. Refused where they are malformed, repeated or out of
-/// range.
+/// Adds the fraction bits of this line, 24, 32 or 40, to the draft. Errors: see `put_once`.
 fn take_bits<A: Allocator>(
     draft: &mut Draft<A>,
     number: u64,
@@ -173,7 +177,7 @@ fn take_bits<A: Allocator>(
     put_once(number, Key::Bits, &mut draft.bits, reading)
 }
 
-/// A name as text.
+/// The name as a string.
 fn text_of<A: Allocator>(alloc: A, name: &[u8]) -> Result<String<A>, AllocError>
     requires { IsAscii name.now }
     ensures { IfOk result (λ s. string_bytes s ≡ name.now) }
@@ -184,7 +188,7 @@ fn text_of<A: Allocator>(alloc: A, name: &[u8]) -> Result<String<A>, AllocError>
     }
 }
 
-/// The refusal of a second `parameter` or `global` line with this name.
+/// The failure for a second `parameter` or `global` line with this name.
 #[tactic(auto, using(line_text::proofs::IdentifierLaws::ascii_identifier))]
 fn repeated_name<A: Allocator>(alloc: A, name: &[u8]) -> Failure<JobFault<A>>
     requires { is_identifier name.now ≡ true }
@@ -196,7 +200,7 @@ fn repeated_name<A: Allocator>(alloc: A, name: &[u8]) -> Failure<JobFault<A>>
     }
 }
 
-/// The refusal of a second `type` line with this name.
+/// The failure for a second `type` line with this name.
 #[tactic(auto, using(crate::proofs::FormLemmas::ascii_type_name))]
 fn repeated_type<A: Allocator>(alloc: A, name: &[u8]) -> Failure<JobFault<A>>
     requires { is_type_name name.now ≡ true }
@@ -208,29 +212,30 @@ fn repeated_type<A: Allocator>(alloc: A, name: &[u8]) -> Failure<JobFault<A>>
     }
 }
 
-/// Whether one of these parameters has the name.
+/// Whether a parameter has the name.
 fn knows_parameter<A: Allocator>(parameters: &[Vec<u8, A>], name: &[u8]) -> bool
     ensures { result ≡ list_any (λ p. bytes_eq p.items name.now) parameters.now }
 {
     parameters.iter().any(|p| p.as_slice() == name)
 }
 
-/// Whether one of these globals has the name.
+/// Whether a global has the name.
 fn knows_global<A: Allocator>(globals: &[Global<A>], name: &[u8]) -> bool
     ensures { result ≡ list_any (λ g. bytes_eq g.name.items name.now) globals.now }
 {
     globals.iter().any(|g| g.name.as_slice() == name)
 }
 
-/// Whether one of these types has the name.
+/// Whether a type has the name.
 fn knows_type<A: Allocator>(types: &[TypeLine<A>], name: &[u8]) -> bool
     ensures { result ≡ list_any (λ t. bytes_eq (name_text t.value.name) name.now) types.now }
 {
     types.iter().any(|t| t.value.name.as_bytes() == name)
 }
 
-/// Puts a parameter of this name into the draft. `RepeatedName` where it has one already, `Range` where it has 8
-/// parameters.
+/// Adds a parameter to the draft.
+///
+/// `RepeatedName` if a parameter has the name, else `Range` if the draft has 8 parameters.
 fn add_parameter<A: Allocator + Copy>(
     alloc: A,
     draft: &mut Draft<A>,
@@ -252,8 +257,9 @@ fn add_parameter<A: Allocator + Copy>(
     Ok(())
 }
 
-/// Puts this line's parameter into the draft. `BadLine` where its text is no identifier; else refused as by
-/// `add_parameter`.
+/// Adds the parameter of this line to the draft.
+///
+/// `BadLine` if the text isn't one identifier, else the errors of `add_parameter`.
 fn take_parameter<A: Allocator + Copy>(
     alloc: A,
     draft: &mut Draft<A>,
@@ -268,8 +274,9 @@ fn take_parameter<A: Allocator + Copy>(
     }
 }
 
-/// Puts a global of this name and value into the draft. `RepeatedName` where it has one already, `Range` where the
-/// value is out of range (`None`) or it has 16 globals.
+/// Adds a global to the draft. The value is `None` if it is out of range.
+///
+/// `RepeatedName` if a global has the name, else `Range` if the value is out of range or the draft has 16 globals.
 fn add_global<A: Allocator + Copy>(
     alloc: A,
     draft: &mut Draft<A>,
@@ -293,7 +300,9 @@ fn add_global<A: Allocator + Copy>(
     Ok(())
 }
 
-// A number that is out of its range is None.
+// The number, `None` if it is out of range.
+//
+// `BadLine` if it is malformed.
 fn well_formed<T, A: Allocator>(
     number: u64,
     reading: Result<T, NumFault>,
@@ -307,8 +316,9 @@ fn well_formed<T, A: Allocator>(
     }
 }
 
-/// Puts this line's global into the draft. `BadLine` where its text is no identifier and numeral; else refused as by
-/// `add_global`.
+/// Adds the global of this line to the draft.
+///
+/// `BadLine` if the text isn't an identifier and a numeral, else the errors of `add_global`.
 fn take_global<A: Allocator + Copy>(
     alloc: A,
     draft: &mut Draft<A>,
@@ -326,8 +336,9 @@ fn take_global<A: Allocator + Copy>(
     }
 }
 
-/// The mass in `mass_word` and the parameter values in `text`; `None` where one of them is out of range. `BadLine`
-/// where one is malformed.
+/// The mass in `mass_word` and the values in `text`; `None` if one of them is out of range.
+///
+/// `BadLine` if one of them is malformed.
 fn type_numbers<A: Allocator>(
     alloc: A,
     frac: Frac,
@@ -345,8 +356,9 @@ fn type_numbers<A: Allocator>(
     }
 }
 
-/// Puts a type of this name and these numbers, from the line `number`, into the draft. `RepeatedType` where it has one
-/// already, `Range` where the numbers are out of range (`None`) or it has 64 types.
+/// Adds a type to the draft, from the line with this number. The numbers are `None` if one of them is out of range.
+///
+/// `RepeatedType` if a type has the name, else `Range` if a number is out of range or the draft has 64 types.
 fn add_type<A: Allocator + Copy>(
     alloc: A,
     draft: &mut Draft<A>,
@@ -378,7 +390,7 @@ fn add_type<A: Allocator + Copy>(
     Ok(())
 }
 
-/// The name of a type, 1 to 5 bytes of 33 to 126.
+/// The name of a type. The word must be one to five bytes from 33 to 126.
 #[tactic(auto, using(crate::proofs::FormLemmas::type_name_is))]
 fn type_name(word: &[u8]) -> Name
     requires { is_type_name word.now ≡ true }
@@ -390,8 +402,10 @@ fn type_name(word: &[u8]) -> Name
     }
 }
 
-/// Puts this line's type into the draft. `BadLine` where name or mass is lacking, or name, mass or a value is
-/// malformed; else refused as by `add_type`.
+/// Adds the type of this line to the draft.
+///
+/// `BadLine` if the name or the mass is missing, or if the name, the mass or a value is malformed; else the errors of
+/// `add_type`.
 fn take_type<A: Allocator + Copy>(
     alloc: A,
     draft: &mut Draft<A>,
@@ -413,7 +427,7 @@ fn take_type<A: Allocator + Copy>(
     add_type(alloc, draft, number, name, numbers)
 }
 
-/// An answer of a call that takes no memory, as that of one that does.
+/// The result of a call that allocates nothing, as a result with a `Failure`.
 fn with_failure<A: Allocator>(answer: Result<(), JobFault<A>>) -> Result<(), Failure<JobFault<A>>>
     ensures { MatchResult answer (λ x. result ≡ Ok x) (λ fault. result ≡ Err (Refused fault)) }
 {
@@ -423,8 +437,9 @@ fn with_failure<A: Allocator>(answer: Result<(), JobFault<A>>) -> Result<(), Fai
     }
 }
 
-/// Puts what the line of this key and text says into the draft. `BadLine` where it has no key of a job; else refused as
-/// by the key's own function.
+/// Adds the value of a line with this key, and this text after the key, to the draft.
+///
+/// `BadLine` if the key isn't a job's, else the errors of the key's function.
 #[tactic(auto, unfolding(crate::specs::Drafts::key_into))]
 fn take_key<A: Allocator + Copy>(
     alloc: A,
@@ -449,7 +464,9 @@ fn take_key<A: Allocator + Copy>(
     }
 }
 
-/// Puts what this line says into the draft of the lines before it.
+/// Adds the value of this line to the draft of the lines above it. Comments and blank lines leave it unchanged.
+///
+/// Errors: see `take_key`.
 #[tactic(auto, unfolding(crate::specs::Drafts::line_into))]
 pub fn take_line<A: Allocator + Copy>(
     alloc: A,

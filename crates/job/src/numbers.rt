@@ -1,4 +1,4 @@
-//! The numbers of a job. A word is malformed (`BadNumber`), or its number is out of its range (`NumberRange`).
+//! Numbers of a job. Errors: `BadNumber` if a word is malformed, else `NumberRange` if its number is out of range.
 
 ghost use Rattle.std.specs.Prelude.{◌≡◌, ◌≤◌, ◌≤ℤ◌, ◌*◌, ◌^◌, pos, IfOk};
 ghost use Rattle.fixed.specs.Fractions.{bits_of};
@@ -9,7 +9,7 @@ use fixed::{Frac, Fx, NumFault};
 use line_text::{cut, digits, digits_up_to, next_word, power_of_ten};
 use std::alloc::{AllocError, Allocator};
 
-/// A numeral, rounded to the nearest number of these fraction bits.
+/// The number with these fraction bits that is nearest to a numeral.
 pub fn numeral(frac: Frac, word: &[u8]) -> Result<Fx, NumFault>
     ensures value { result ≡ numeral_of frac word.now }
     ensures least { IfOk result (λ v. pos 0 ≤ℤ v) }
@@ -17,7 +17,7 @@ pub fn numeral(frac: Frac, word: &[u8]) -> Result<Fx, NumFault>
     fixed::numeral(frac, word)
 }
 
-/// A numeral with or without a minus, judged without it.
+/// A numeral, possibly with a minus. The range is tested without the minus, so -2^63 as a raw value is out of range.
 #[tactic(auto, unfolding(crate::specs::Numbers::signed_of))]
 pub fn signed_numeral(frac: Frac, word: &[u8]) -> Result<Fx, NumFault>
     ensures { result ≡ signed_of frac word.now }
@@ -30,14 +30,14 @@ pub fn signed_numeral(frac: Frac, word: &[u8]) -> Result<Fx, NumFault>
     }
 }
 
-// 80 nm, as a raw value.
+// The raw value of 80 nm.
 fn most_cutoff(frac: Frac) -> i64
     ensures { result ≡ pos (80 * 2 ^ bits_of frac) }
 {
     80 * frac.one()
 }
 
-/// A cutoff in nm: a numeral more than 0 and at most 80.
+/// A cutoff in nm, a numeral above 0 and at most 80 after rounding.
 #[tactic(auto, unfolding(crate::specs::Numbers::cutoff_of))]
 pub fn cutoff(frac: Frac, word: &[u8]) -> Result<Fx, NumFault>
     ensures value { result ≡ cutoff_of frac word.now }
@@ -51,7 +51,7 @@ pub fn cutoff(frac: Frac, word: &[u8]) -> Result<Fx, NumFault>
     }
 }
 
-// The number, where it is in the range.
+// The number, if it is from `least` to `most`.
 fn within(least: u32, most: u32, value: u64) -> Result<u32, NumFault>
     ensures value { result ≡ within least most value }
     ensures range { IfOk result (λ n. (least ≤ n) × (n ≤ most)) }
@@ -63,7 +63,7 @@ fn within(least: u32, most: u32, value: u64) -> Result<u32, NumFault>
     }
 }
 
-/// A whole number in the range, leading zeros allowed.
+/// An integer from `least` to `most`; leading zeros are allowed.
 pub fn whole(least: u32, most: u32, word: &[u8]) -> Result<u32, NumFault>
     ensures value { result ≡ whole_of least most word.now }
     ensures range { IfOk result (λ n. (least ≤ n) × (n ≤ most)) }
@@ -77,7 +77,7 @@ pub fn whole(least: u32, most: u32, word: &[u8]) -> Result<u32, NumFault>
     within(least, most, value)
 }
 
-/// How many fraction bits: a whole number that is 24, 32 or 40.
+/// A number of fraction bits: 24, 32 or 40.
 #[tactic(auto, unfolding(crate::specs::Numbers::frac_of))]
 pub fn frac(word: &[u8]) -> Result<Frac, NumFault>
     ensures { result ≡ frac_of word.now }
@@ -90,9 +90,10 @@ pub fn frac(word: &[u8]) -> Result<Frac, NumFault>
     }
 }
 
-/// The mass in 10^-5 u, 1 to 100,000,000, of the digits before and behind the point. `BadNumber` where `whole` is
-/// empty, one of them has another byte than digits, or `part` has more than 5; `NumberRange` where the mass is out of
-/// range.
+/// The mass in 10^-5 u, 1 to 100,000,000, from the digits before and after the point.
+///
+/// `BadNumber` if `whole` is empty, if a byte isn't a digit, or if `part` has more than 5 bytes; `NumberRange` if the
+/// mass is out of range.
 fn decimal_mass(whole: &[u8], part: &[u8]) -> Result<u32, NumFault>
     ensures value { result ≡ mass_from whole.now part.now }
     ensures range { IfOk result (λ n. (1 ≤ n) × (n ≤ 100000000)) }
@@ -110,7 +111,8 @@ fn decimal_mass(whole: &[u8], part: &[u8]) -> Result<u32, NumFault>
     within(1, 100_000_000, mass)
 }
 
-/// A mass in u, in units of 10^-5 u: digits, and behind a point one to five more.
+/// A mass in units of 10^-5 u, 1 to 100,000,000. The word is the mass in u: digits, possibly a point and then one to
+/// five digits.
 #[tactic(auto, unfolding(crate::specs::Numbers::mass_of))]
 pub fn mass(word: &[u8]) -> Result<u32, NumFault>
     ensures value { result ≡ mass_of word.now }
@@ -123,7 +125,9 @@ pub fn mass(word: &[u8]) -> Result<u32, NumFault>
     }
 }
 
-/// The text's words, each a numeral with or without a minus; a malformed one comes before one that is out of range.
+/// The words of the text as numerals, each possibly with a minus.
+///
+/// `BadNumber` if a word is malformed, else `NumberRange` if a number is out of range.
 pub fn values<A: Allocator>(
     alloc: A,
     frac: Frac,

@@ -1,4 +1,4 @@
-//! Reading a job's text.
+//! Reading the text of a job.
 
 ghost use Rattle.std.specs.Prelude.{◌≡◌, ◌+◌, ◌<◌, ◌≤◌, ◌<ℤ◌, ◌^◌, ℕ, length, map, option_map, position, bytes_eq, IfOk, IfSome};
 ghost use Rattle.fallible.specs.Failures.{Answers, Gives};
@@ -23,11 +23,10 @@ use fallible::Failure;
 use fixed::Fx;
 use std::alloc::{AllocError, Allocator};
 
-/// The number of slices of a job that names none.
+/// The default number of slices.
 const SLICES: u32 = 64;
 
-/// Puts what the lines below the first say, which are numbered from 2, into the draft; or the fault of the first line
-/// that is refused.
+/// Adds the lines after the first, numbered from 2, to the draft. The first fault of a line is returned.
 fn take_lines<A: Allocator + Copy>(
     alloc: A,
     draft: &mut Draft<A>,
@@ -47,17 +46,21 @@ fn take_lines<A: Allocator + Copy>(
     Ok(())
 }
 
-/// The numbers of a job that each has one line for.
+/// The required numbers of a job.
 #[derive(Clone, Copy)]
 pub struct Numbers {
     /// The core in nm.
     pub core: Fx,
     /// The cutoff in nm.
     pub cutoff: Fx,
+    /// The time step in fs.
     pub time_step: TimeStep,
 }
 
-/// These numbers, where each is there and the cutoff is more than the core.
+/// The required numbers, with the cutoff above the core.
+///
+/// Errors, in this order: `Missing` for the core, the cutoff and the time step; `Range` if the cutoff isn't above the
+/// core.
 #[tactic(auto, unfolding(crate::specs::JobReading::needed_numbers))]
 fn needed_numbers<A: Allocator>(
     core: Option<Fx>,
@@ -86,7 +89,9 @@ fn needed_numbers<A: Allocator>(
     }
 }
 
-// The first type with another number of values than this is a fault.
+// Checks that each type has `count` values.
+//
+// `BadLine` for the first type that has another number of values.
 fn check_counts<A: Allocator>(count: usize, types: &[TypeLine<A>]) -> Result<(), JobFault<A>>
     ensures value { Answers (λ _. map (λ t. t.value) (map type_line types.now)) refusal_of result (whole_types count (map type_line types.now)) }
     ensures whole { IfOk result (λ _. All (λ t. length t.value.values.items ≡ count) types.now) }
@@ -99,7 +104,7 @@ fn check_counts<A: Allocator>(count: usize, types: &[TypeLine<A>]) -> Result<(),
     Ok(())
 }
 
-/// The types without the numbers of their lines.
+/// The types, without the numbers of their lines.
 fn without_lines<A: Allocator>(
     alloc: A,
     lines: Vec<TypeLine<A>, A>,
@@ -109,7 +114,9 @@ fn without_lines<A: Allocator>(
     lines.into_iter().map(|line| line.value).collect(alloc)
 }
 
-/// The numbers of a draft that lacks nothing.
+/// The required numbers of a draft.
+///
+/// Errors, in this order: `Missing` for the energy, the errors of `needed_numbers`, the errors of `check_counts`.
 fn complete_numbers<A: Allocator>(draft: &Draft<A>) -> Result<Numbers, JobFault<A>>
     ensures value { Answers (job_said draft.now) refusal_of result (job_from (said_of draft.now)) }
     ensures found { IfOk result (λ n. (draft.now.core ≡ Some n.core) × (draft.now.cutoff ≡ Some n.cutoff)) }
@@ -124,7 +131,7 @@ fn complete_numbers<A: Allocator>(draft: &Draft<A>) -> Result<Numbers, JobFault<
     Ok(numbers)
 }
 
-/// The number of slices, 1 to 65,536; 64 where no line says it.
+/// The number of slices, 1 to 65,536; 64 by default.
 fn slices_or_default(slices: Option<u32>) -> u32
     requires some { IfSome slices (λ n. 1 ≤ n) }
     requires most { IfSome slices (λ n. n ≤ 65536) }
@@ -137,7 +144,7 @@ fn slices_or_default(slices: Option<u32>) -> u32
     }
 }
 
-// The job that the lines have said.
+// The job of a draft with all lines. Errors: see `complete_numbers`.
 fn finish<A: Allocator + Copy>(alloc: A, draft: Draft<A>) -> Result<Job<A>, Failure<JobFault<A>>>
     ensures { Gives job_value refusal_of result (job_from (said_of draft)) }
 {
@@ -165,7 +172,7 @@ fn finish<A: Allocator + Copy>(alloc: A, draft: Draft<A>) -> Result<Job<A>, Fail
     })
 }
 
-/// The number of the first type with this name, from 0; `None` where there is none.
+/// The index of the first type with this name, from 0; `None` if there is none.
 fn place_of<A: Allocator>(types: &[AtomType<A>], name: &[u8]) -> Option<usize>
     ensures place { result ≡ position (λ t. bytes_eq (name_text t.name) name.now) types.now }
     ensures within { IfSome result (λ i. i < length types.now) }
@@ -173,14 +180,14 @@ fn place_of<A: Allocator>(types: &[AtomType<A>], name: &[u8]) -> Option<usize>
     types.iter().position(|t| t.name.as_bytes() == name)
 }
 
-/// Whether the line is a job's first.
+/// Whether the line is the first line of a job.
 fn is_header(line: &[u8]) -> bool
     ensures { result ≡ bytes_eq line.now header }
 {
     line == b"pairmd job 1".as_slice()
 }
 
-/// The job of a text, or the fault of the first line that is refused, or what the lines as a whole lack.
+/// The job of a text. Errors: see `Job::read`.
 fn read_lines<A: Allocator + Copy>(alloc: A, bytes: &[u8]) -> Result<Job<A>, Failure<JobFault<A>>>
     ensures { Gives job_value refusal_of result (lines_job limits (lines_of bytes.now)) }
 {
@@ -203,23 +210,23 @@ impl<A: Allocator + Copy> Job<A> {
     ghost use Rattle.job.specs.JobFaults.{IsCause};
     ghost use Rattle.job.specs.Views.{job_value, refusal_of};
 
-    /// Reads a job's text.
+    /// Reads the text of a job.
     ///
-    /// The first line is `pairmd job 1`. Below it, lines that are blank or begin with `#` are skipped, and the others
-    /// begin with a key, in any order: `energy TEXT`, `core X`, `cutoff X` and `dt N` once, `slices N` and `bits N` at
-    /// most once, and `parameter NAME`, `global NAME X` and `type NAME MASS X..`, of which a job may have at most 8, 16
-    /// and 64. Words are separated by spaces or tabs, and lines end with a line feed, before which one carriage return
-    /// may stand.
+    /// The first line is `pairmd job 1`. After it, blank lines and lines that start with `#` are skipped. The other
+    /// lines start with a key, in any order: `energy TEXT`, `core X`, `cutoff X` and `dt N` once each; `slices N` and
+    /// `bits N` at most once each; `parameter NAME`, `global NAME X` and `type NAME MASS X..` at most 8, 16 and 64
+    /// times. Spaces or tabs separate words. Lines end with a line feed, possibly after one carriage return.
     ///
-    /// `bits N` says how many bits stand behind the point of the job's numbers: 24, 32 or 40. All numerals, those above
-    /// the line too, are read at what the first line says whose N is one of these, and at 32 where no line is such.
+    /// `bits N` is the number of fraction bits of the job's numbers: 24, 32 or 40. All numerals, also those above this
+    /// line, are read with the fraction bits of the first `bits` line with one of these values, or with 32 if there is
+    /// none.
     ///
-    /// The first fault is the answer. Lines are judged from the top, and on each `BadLine` where it is malformed,
-    /// `Repeated` or `RepeatedName` where a line above has its key or its name, `RepeatedType` where a type above has
-    /// its name, and `Range` where a number is out of its range or the line is one too many. Then come `Missing` for
-    /// `energy`, `core`, `cutoff` and `dt` in this order, `Range` where the cutoff isn't more than the core, and
-    /// `BadLine` for the first type with another number of values than there are parameters. `Memory`: an allocation
-    /// was refused.
+    /// Errors: the first fault is returned. Lines are checked from the top, and each line in this order: `BadLine` if
+    /// it is malformed; `Repeated` or `RepeatedName` if a line above has its key or its name, `RepeatedType` if a type
+    /// above has its name; `Range` if a number is out of range or there are too many lines of this key. After all lines
+    /// follow `Missing` for `energy`, `core`, `cutoff` and `dt` in this order, `Range` if the cutoff isn't above the
+    /// core, and `BadLine` for the first type that doesn't have one value per parameter. `Memory` if an allocation
+    /// fails.
     pub fn read(alloc: A, bytes: &[u8]) -> Result<Job<A>, Failure<JobFault<A>>>
         ensures exact { Gives job_value refusal_of result (reading_of limits bytes.now) }
         ensures cause { IfErr result (λ failure. IfRefused failure (λ fault. IsCause limits bytes.now (refusal_of fault))) }
@@ -233,7 +240,7 @@ impl<A: Allocator + Copy> Job<A> {
 }
 
 impl<A: Allocator> Job<A> {
-    /// The index of the type of this name, or None where no type has it.
+    /// The index of the type with this name; `None` if there is none.
     pub fn type_of(&self, name: &[u8]) -> Option<u32>
         ensures place { result ≡ position (λ t. bytes_eq (name_text t.name) name.now) self.now.types.items }
         ensures within { IfSome result (λ i. i < length self.now.types.items) }

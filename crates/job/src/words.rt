@@ -1,4 +1,4 @@
-//! The lines of a text, and texts of one word or two.
+//! The lines of a text, and texts of one or two words.
 
 ghost use Rattle.std.specs.Prelude.{◌≡◌, ◌+◌, ◌<◌, ◌≤◌, ◌∷◌, length, option_map, IfSome};
 ghost use Rattle.line_text.specs.Words.{words};
@@ -8,7 +8,7 @@ ghost use Rattle.job.specs.Numbers.{only, mapped};
 use fixed::NumFault;
 use line_text::{cut, next_word};
 
-/// A line without its last CR, if it ends in one.
+/// The line without a CR at its end.
 fn without_return(line: &[u8]) -> &[u8]
     ensures value { result.now ≡ without_return line.now }
     ensures shorter { length result.now ≤ length line.now }
@@ -19,7 +19,7 @@ fn without_return(line: &[u8]) -> &[u8]
     }
 }
 
-/// The first line, without its end, and what stands behind its line feed, where it has one.
+/// The first line without its line end, and the text after its line feed, if it has one.
 pub fn next_line(text: &[u8]) -> (&[u8], Option<&[u8]>)
     ensures lines { lines_of text.now ≡ result.0.now ∷ more_lines (option_map (λ x. x.now) result.1) }
     ensures shorter { IfSome result.1 (λ x. length result.0.now + length x.now < length text.now) }
@@ -30,7 +30,9 @@ pub fn next_line(text: &[u8]) -> (&[u8], Option<&[u8]>)
     }
 }
 
-/// The one word of a text; `BadNumber` where it has none, or another.
+/// The only word of a text.
+///
+/// `BadNumber` if there are none or several.
 pub fn only_word(text: &[u8]) -> Result<&[u8], NumFault>
     ensures { mapped (λ x. x.now) result ≡ only (words text.now) }
 {
@@ -40,7 +42,7 @@ pub fn only_word(text: &[u8]) -> Result<&[u8], NumFault>
     }
 }
 
-/// The two words of a text; `None` where it has fewer or more.
+/// The two words of a text; `None` if it has fewer or more.
 pub fn two_words(text: &[u8]) -> Option<(&[u8], &[u8])>
     ensures { option_map (λ x. (x.0.now, x.1.now)) result ≡ two (words text.now) }
 {

@@ -1,4 +1,4 @@
-//! Numbers with a fixed number of decimals, held as whole numbers of the last decimal's unit.
+//! Numbers with a fixed number of decimals, as integers in units of the last decimal.
 
 ghost use Rattle.std.specs.Prelude.{◌≡◌, ℕ, ◌+◌, ◌^◌, ◌<◌, ◌≤◌, ◌++◌, length, min, option_map, IfSome, decimal};
 ghost use Rattle.arrayvec.specs.ArrayVec.{array_vec_len};
@@ -9,9 +9,10 @@ use crate::line::{Line, put, put_copies, put_natural};
 use crate::text::trim_front;
 use itoa::Buffer;
 
-/// The number that these digits write, leading zeros allowed; no digits write 0.
+/// The integer that these digits denote. Leading zeros are allowed, and no digits denote 0. The text has at most 12
+/// bytes.
 ///
-/// `None` where a byte is no digit. The text has at most 12 bytes.
+/// `None` if a byte isn't a digit.
 #[tactic(auto, unfolding(crate::specs::Columns::digits_of))]
 pub fn digits(text: &[u8]) -> Option<u64>
     requires { length text.now ≤ 12 }
@@ -28,10 +29,10 @@ pub fn digits(text: &[u8]) -> Option<u64>
     Some(number)
 }
 
-/// The number that these digits write, or the limit where it is more; leading zeros are allowed, and
-/// no digits write 0.
+/// The integer that these digits denote, or `limit` if it is more. Leading zeros are allowed, and no digits denote 0.
+/// The limit is at most 2^32.
 ///
-/// `None` where a byte is no digit.
+/// `None` if a byte isn't a digit.
 pub fn digits_up_to(limit: u64, text: &[u8]) -> Option<u64>
     requires { limit ≤ 2 ^ 32 }
     ensures exact { result ≡ option_map (λ n. min n limit) (digits_of text.now) }
@@ -47,7 +48,7 @@ pub fn digits_up_to(limit: u64, text: &[u8]) -> Option<u64>
     Some(number)
 }
 
-/// Ten to this power.
+/// Ten to the power `places`, which is at most 5.
 pub fn power_of_ten(places: usize) -> u64
     requires { places ≤ 5 }
     ensures exact { result ≡ 10 ^ places }
@@ -64,7 +65,8 @@ pub fn power_of_ten(places: usize) -> u64
     }
 }
 
-/// One or more digits, a point and `places` digits, in units of the last digit.
+/// The number that one or more digits, a point and `places` digits denote, in units of the last digit; `None` for any
+/// other text.
 #[tactic(auto, unfolding(crate::specs::Columns::decimals_of))]
 fn decimals(places: usize, text: &[u8]) -> Option<u64>
     requires few { places ≤ 5 }
@@ -81,10 +83,11 @@ fn decimals(places: usize, text: &[u8]) -> Option<u64>
     Some(whole * power_of_ten(places) + part)
 }
 
-/// The number in a column: spaces, an optional `-`, one or more digits, a point and `places` digits,
-/// in units of the last digit. So `  -1.250` is -1250 with three places.
+/// The number in a column, in units of its last digit: spaces, an optional `-`, one or more digits, a point and
+/// `places` digits. For example, `  -1.250` is -1250 with three decimals. The column has at most 12 bytes, and `places`
+/// is at most 5.
 ///
-/// `None` for any other text. The column has at most 12 bytes, and there are at most five places.
+/// `None` for any other text.
 #[tactic(auto, unfolding(crate::specs::Columns::decimal_column_of))]
 pub fn decimal_column(places: usize, column: &[u8]) -> Option<i64>
     requires few { places ≤ 5 }
@@ -100,7 +103,7 @@ pub fn decimal_column(places: usize, column: &[u8]) -> Option<i64>
     }
 }
 
-/// Appends the digits of a number below a power of ten, with zeros in front.
+/// Appends a number below ten to the power `width` as `width` digits, with zeros in front.
 fn put_digits(line: &mut Line, width: usize, number: u64)
     requires room { array_vec_len line.old + width ≤ 160 }
     requires some { 0 < width }
@@ -114,8 +117,8 @@ fn put_digits(line: &mut Line, width: usize, number: u64)
     put(line, digits);
 }
 
-/// Appends a number, given in units of its last decimal, with `places` decimals (1 to 5):
-/// -1250 with three places is `-1.250`.
+/// Appends a number with `places` decimals (1 to 5), given in units of its last decimal: -1250 with three decimals is
+/// `-1.250`. At most 32 bytes.
 pub fn put_decimals(line: &mut Line, places: usize, number: i64)
     requires room { array_vec_len line.old + 32 ≤ 160 }
     requires some { 0 < places }
@@ -133,8 +136,8 @@ pub fn put_decimals(line: &mut Line, places: usize, number: i64)
     put_digits(line, places, magnitude % unit);
 }
 
-/// Appends what [`put_decimals`] does, right in a column of `width` bytes, as C's `%8.3f` prints it: a
-/// longer number is not cut, and moves what follows it.
+/// Appends a number like [`put_decimals`], at the right of a column of `width` bytes, as C's `%8.3f` does. A longer
+/// number isn't cut; it moves the text after it.
 pub fn put_decimals_right(line: &mut Line, width: usize, places: usize, number: i64)
     requires room { array_vec_len line.old + width + 32 ≤ 160 }
     requires some { 0 < places }

@@ -4,20 +4,21 @@ ghost use Rattle.std.specs.Prelude.{◌≡◌};
 ghost use Rattle.std.specs.List.{list_all};
 ghost use Rattle.line_text.specs.Identifiers.{is_identifier_start, is_identifier_continue, is_identifier};
 
-/// Whether an identifier may begin with the byte: `_` or a letter, `A` to `Z` and `a` to `z`.
+/// Whether an identifier may start with the byte: `_` or a letter, `A` to `Z` or `a` to `z`.
 pub fn is_identifier_start(byte: u8) -> bool
     ensures { result ≡ is_identifier_start byte }
 {
     byte == b'_' || byte.is_ascii_alphabetic()
 }
 
-/// Whether the byte may stand behind the first one of an identifier: `_`, a letter or a digit.
+/// Whether an identifier may have the byte after its first one: `_`, a letter or a digit.
 pub fn is_identifier_continue(byte: u8) -> bool
     ensures { result ≡ is_identifier_continue byte }
 {
     is_identifier_start(byte) || byte.is_ascii_digit()
 }
 
+// Whether an identifier may have each of these bytes after its first one.
 fn all_continue(bytes: &[u8]) -> bool
     ensures { result ≡ list_all is_identifier_continue bytes.now }
 {

@@ -1,6 +1,6 @@
-//! Parts of lines of text, which all formats share: decimals with one spelling, columns, words, cutting
-//! at a byte, trimming, names, identifiers, and lines that are being written. What is written is read again:
-//! `proofs/` has that law for each writer and its reader, over texts alone.
+//! Reading and writing the parts of a line of text, shared by all formats: decimals with one spelling, columns, words,
+//! cutting at a byte, trimming, names and identifiers. `proofs/` shows for each writer that its reader reads the
+//! written text back to the same value.
 #![tactic(auto)]
 
 mod columns;

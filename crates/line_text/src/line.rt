@@ -1,4 +1,4 @@
-//! Writing a line, part by part.
+//! Writing a line, part by part. Lines are on the stack, so writing needs no allocation.
 
 ghost use Rattle.std.specs.Prelude.{◌≡◌, ◌+◌, ◌≤◌, ◌++◌, ◌∷◌, [], length, replicate, decimal};
 ghost use Rattle.std.specs.Fmt.{signed_decimal};
@@ -8,10 +8,10 @@ ghost use Rattle.line_text.specs.Parts.{right_in, left_in};
 use arrayvec::ArrayVec;
 use itoa::Buffer;
 
-/// A line that is being written, on the stack: at most 160 bytes, so that writing takes no memory.
+/// A line under construction: at most 160 bytes, on the stack.
 pub type Line = ArrayVec<u8, 160>;
 
-/// Appends the text. There is room for it.
+/// Appends the text. The line must have room for it.
 pub fn put(line: &mut Line, text: &[u8])
     requires { array_vec_len line.old + length text.now ≤ 160 }
     ensures items { line.new.items ≡ line.old.items ++ text.now }
@@ -31,7 +31,7 @@ pub(crate) fn put_copies(line: &mut Line, count: usize, byte: u8)
     }
 }
 
-/// Appends the text, with `before` spaces before it and `after` behind it.
+/// Appends the text with `before` spaces before it and `after` spaces after it.
 fn put_between(line: &mut Line, before: usize, text: &[u8], after: usize)
     requires { array_vec_len line.old + before + length text.now + after ≤ 160 }
     ensures items { line.new.items ≡ line.old.items ++ (replicate before 32 ++ text.now ++ replicate after 32) }
@@ -42,8 +42,8 @@ fn put_between(line: &mut Line, before: usize, text: &[u8], after: usize)
     put_copies(line, after, b' ');
 }
 
-/// Appends the text, right in a column of `width` bytes: with spaces in front. The text is no longer
-/// than the column.
+/// Appends the text at the right of a column of `width` bytes, with spaces before it. The text must not be longer than
+/// the column.
 pub fn put_right(line: &mut Line, width: usize, text: &[u8])
     requires room { array_vec_len line.old + width ≤ 160 }
     requires fits { length text.now ≤ width }
@@ -53,8 +53,8 @@ pub fn put_right(line: &mut Line, width: usize, text: &[u8])
     put_between(line, width - text.len(), text, 0);
 }
 
-/// Appends the text, left in a column of `width` bytes: with spaces behind. The text is no longer
-/// than the column.
+/// Appends the text at the left of a column of `width` bytes, with spaces after it. The text must not be longer than
+/// the column.
 pub fn put_left(line: &mut Line, width: usize, text: &[u8])
     requires room { array_vec_len line.old + width ≤ 160 }
     requires fits { length text.now ≤ width }
@@ -64,7 +64,7 @@ pub fn put_left(line: &mut Line, width: usize, text: &[u8])
     put_between(line, 0, text, width - text.len());
 }
 
-/// Appends a space and the number in decimal, at most 21 bytes.
+/// Appends a space and the number in decimal: at most 21 bytes.
 pub fn put_word(line: &mut Line, number: u64)
     requires { array_vec_len line.old + 21 ≤ 160 }
     ensures items { line.new.items ≡ line.old.items ++ 32 ∷ decimal number }
@@ -84,8 +84,7 @@ pub fn put_natural(line: &mut Line, number: u64)
     put(line, buffer.format(number).as_bytes());
 }
 
-/// Appends the number in decimal, without leading zeros, and with a `-` where it is below 0: at most
-/// 20 bytes.
+/// Appends the number in decimal, without leading zeros, and with a `-` if it is below 0: at most 20 bytes.
 pub fn put_integer(line: &mut Line, value: i64)
     requires { array_vec_len line.old + 20 ≤ 160 }
     ensures items { line.new.items ≡ line.old.items ++ signed_decimal value }

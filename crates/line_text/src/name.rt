@@ -1,4 +1,4 @@
-//! Names of residues, atoms and types.
+//! Names of residues, atoms and atom types.
 
 ghost use Rattle.std.specs.Prelude.{◌≡◌, ◌≤◌, length, take, option_map, bytes_eq, IsTrue, Some};
 ghost use Rattle.std.specs.Cmp.{partial_equiv_from_equiv};
@@ -8,7 +8,7 @@ ghost use Rattle.line_text.specs.Parts.{is_name, is_printable, has_clean_ends, n
 
 use std::fmt;
 
-/// A name: at most five bytes of 32 to 126, without spaces at its ends. It may be empty.
+/// A name: at most five bytes, each from 32 to 126, without spaces at its ends. It may be empty.
 #[derive(Clone, Copy, Debug)]
 pub struct Name {
     bytes: [u8; 5],
@@ -20,8 +20,9 @@ pub struct Name {
 impl Name {
     ghost use Rattle.line_text.specs.Names.{name_text};
 
-    /// The name with this text; `None` where the text is longer than five bytes, has a byte outside
-    /// 32 to 126, or a space at either end.
+    /// The name with this text.
+    ///
+    /// `None` if the text is longer than five bytes, has a byte outside 32 to 126, or a space at either end.
     #[tactic(auto, unfolding(crate::specs::Parts::name_of))]
     pub fn new(text: &[u8]) -> Option<Name>
         ensures { option_map name_text result ≡ name_of text.now }
@@ -45,7 +46,7 @@ impl Name {
     }
 }
 
-/// Names are equal exactly if their texts are.
+/// Names are equal if and only if their texts are.
 impl PartialEq for Name {
     ghost use Rattle.line_text.specs.Names.{name_text};
 
@@ -64,7 +65,7 @@ impl Eq for Name {
     ghost laws = { on_equiv name_text nat_list_eq_equiv };
 }
 
-/// Prints the text.
+/// Prints the name's text.
 impl fmt::Display for Name {
     ghost use Rattle.line_text.specs.Names.{name_text};
 
@@ -78,6 +79,7 @@ impl fmt::Display for Name {
     }
 }
 
+// Whether the text is a name.
 fn is_name(text: &[u8]) -> bool
     ensures exact { result ≡ is_name text.now }
     ensures short { IsTrue result → length text.now ≤ 5 }
@@ -85,13 +87,14 @@ fn is_name(text: &[u8]) -> bool
     text.len() <= 5 && is_printable(text) && has_clean_ends(text)
 }
 
+// Whether neither end of the text is a space.
 fn has_clean_ends(text: &[u8]) -> bool
     ensures { result ≡ has_clean_ends text.now }
 {
     text.is_empty() || (text[0] != b' ' && text[text.len() - 1] != b' ')
 }
 
-/// Whether all bytes are of 32 to 126.
+/// Whether all bytes are from 32 to 126.
 pub fn is_printable(text: &[u8]) -> bool
     ensures { result ≡ is_printable text.now }
 {

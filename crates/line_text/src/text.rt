@@ -6,10 +6,9 @@ ghost use Rattle.line_text.specs.Parts.{natural_of, integer_of, cut_at, after, w
 
 use itoa::Buffer;
 
-/// The number below the limit whose one decimal form the text is: digits without leading zeros.
+/// The number below `limit` that the text spells in its only accepted form: decimal digits without leading zeros.
 ///
-/// `None` for any other text, as the empty one, `007`, `+1` and ` 1`, and for a number of `limit` or
-/// more.
+/// `None` for any other text, such as the empty text, `007`, `+1` or ` 1`, and for a number of `limit` or more.
 pub fn natural(limit: u64, text: &[u8]) -> Option<u64>
     ensures exact { result ≡ natural_of limit text.now }
     ensures below { IfSome result (λ n. n < limit) }
@@ -31,11 +30,10 @@ pub fn natural(limit: u64, text: &[u8]) -> Option<u64>
     }
 }
 
-/// The signed number of 64 bits whose one decimal form the text is: digits without leading zeros, and
-/// a `-` before a number below 0 alone.
+/// The 64-bit signed integer that the text spells in its only accepted form: decimal digits without leading zeros,
+/// after a `-` only if it is below 0.
 ///
-/// `None` for any other text, as the empty one, `007`, `-0` and `+1`, and for a number outside
-/// -2^63 to 2^63 - 1.
+/// `None` for any other text, such as the empty text, `007`, `-0` or `+1`, and for a number outside -2^63 to 2^63 - 1.
 pub fn integer(text: &[u8]) -> Option<i64>
     ensures { result ≡ integer_of text.now }
 {
@@ -53,7 +51,7 @@ pub fn integer(text: &[u8]) -> Option<i64>
     }
 }
 
-/// The index of the first such byte, or the length where there is none.
+/// The index of the first occurrence of `byte`, or the length of the text if there is none.
 fn first_place(byte: u8, text: &[u8]) -> usize
     ensures place { result ≡ position_or_len (λ b. b == byte) text.now }
     ensures within { result ≤ length text.now }
@@ -66,7 +64,7 @@ fn first_place(byte: u8, text: &[u8]) -> usize
     text.len()
 }
 
-/// The parts of a text before and after the first such byte; `None` where the text has none.
+/// The parts of a text before and after the first occurrence of `byte`; `None` if there is none.
 #[tactic(auto, unfolding(crate::specs::Parts::cut_at))]
 pub fn cut(byte: u8, text: &[u8]) -> Option<(&[u8], &[u8])>
     ensures { option_map (λ x. (x.0.now, x.1.now)) result ≡ cut_at byte text.now }
@@ -79,7 +77,7 @@ pub fn cut(byte: u8, text: &[u8]) -> Option<(&[u8], &[u8])>
     }
 }
 
-/// The text after this front; `None` where the text does not begin with it.
+/// The text after the prefix `front`; `None` if the text doesn't start with it.
 #[tactic(auto, unfolding(crate::specs::Parts::after))]
 pub fn strip<'a>(front: &[u8], text: &'a [u8]) -> Option<&'a [u8]>
     ensures { option_map (λ x. x.now) result ≡ after front.now text.now }
@@ -87,8 +85,8 @@ pub fn strip<'a>(front: &[u8], text: &'a [u8]) -> Option<&'a [u8]>
     text.strip_prefix(front)
 }
 
-/// A space and a number below the limit, which reaches to the next space or to the end; and what
-/// stands from there on. `None` where the text begins otherwise.
+/// The number after a space at the start of the text, and the rest of the text. The number is below `limit` and ends at
+/// the next space or at the end. `None` for any other text.
 #[tactic(auto, unfolding(crate::specs::Parts::word_at))]
 pub(crate) fn word(limit: u64, text: &[u8]) -> Option<(u64, &[u8])>
     ensures exact { option_map (λ x. (x.0, x.1.now)) result ≡ word_at limit text.now }
@@ -101,7 +99,7 @@ pub(crate) fn word(limit: u64, text: &[u8]) -> Option<(u64, &[u8])>
     Some((number, rest))
 }
 
-/// Three numbers as [`word`] reads them, and what stands after them; `None` where one is missing.
+/// Three numbers, each after a space and below `limit`, and the rest of the text; `None` if one of them is missing.
 #[tactic(auto, unfolding(crate::specs::Parts::three_at))]
 pub fn three_words(limit: u64, text: &[u8]) -> Option<(u64, u64, u64, &[u8])>
     ensures exact { option_map (λ x. (x.0 ∷ x.1 ∷ x.2 ∷ [], x.3.now)) result ≡ three_at limit text.now }
@@ -113,7 +111,7 @@ pub fn three_words(limit: u64, text: &[u8]) -> Option<(u64, u64, u64, &[u8])>
     Some((x, y, z, rest))
 }
 
-/// The text without the spaces at its front.
+/// The text without the spaces at its start.
 pub fn trim_front(text: &[u8]) -> &[u8]
     ensures trimmed { result.now ≡ without_spaces text.now }
     ensures shorter { length result.now ≤ length text.now }
@@ -137,7 +135,7 @@ pub fn trim_end(text: &[u8]) -> &[u8]
     rest
 }
 
-/// The text without the spaces at both of its ends.
+/// The text without the spaces at both ends.
 pub fn trim(text: &[u8]) -> &[u8]
     ensures trimmed { result.now ≡ trimmed text.now }
     ensures shorter { length result.now ≤ length text.now }

@@ -4,13 +4,14 @@ ghost use Rattle.std.specs.Prelude.{◌≡◌, ◌<◌, ◌≤◌, length, optio
 ghost use Rattle.std.specs.List.{position_or_len};
 ghost use Rattle.line_text.specs.Words.{is_blank, words, without_blanks, after_word, more_words};
 
+// Whether the byte is a space or a tab.
 fn is_blank(byte: u8) -> bool
     ensures { result ≡ is_blank byte }
 {
     byte == b' ' || byte == b'\t'
 }
 
-/// The text from its first byte on that is neither a space nor a tab; empty where there is none.
+/// The text without the spaces and tabs at its start.
 pub fn skip_blanks(text: &[u8]) -> &[u8]
     ensures value { result.now ≡ without_blanks text.now }
     ensures shorter { length result.now ≤ length text.now }
@@ -22,6 +23,7 @@ pub fn skip_blanks(text: &[u8]) -> &[u8]
     rest
 }
 
+// The number of bytes before the first space or tab.
 fn word_len(text: &[u8]) -> usize
     ensures value { result ≡ position_or_len is_blank text.now }
     ensures within { result ≤ length text.now }
@@ -29,7 +31,7 @@ fn word_len(text: &[u8]) -> usize
     text.iter().take_while(|b| !is_blank(**b)).count()
 }
 
-/// The first word, and what stands behind it; `None` where there is none.
+/// The first word and the text after it; `None` if there is no word.
 pub fn next_word(text: &[u8]) -> Option<(&[u8], &[u8])>
     ensures word { words text.now ≡ more_words (option_map (λ x. (x.0.now, x.1.now)) result) }
     ensures rest { IfSome result (λ x. x.1.now ≡ after_word text.now) }

@@ -1,4 +1,4 @@
--- The rows of a table: columns with a blank between them.
+-- Rows of the table that `observe` prints: columns separated by one space.
 use Rattle.std.specs.Prelude.{ℕ, List, [], ◌∷◌, ◌++◌, Option, Some, None, codes, decimal}
 use Rattle.std.specs.Fmt.{signed_decimal}
 use Rattle.std.specs.List.{flat_map, join_with_byte}
@@ -9,25 +9,26 @@ use Rattle.observables.specs.Observables.{kinetic_energy, potential_energy, tota
 use Rattle.observables.specs.declared.observations.Observation.{Observation}
 use Rattle.observables.specs.declared.scales.Scales.{Scales}
 
--- the decimal nearest to a fraction
+-- the decimal nearest to a fraction, with this number of decimals
 abbrev pub ratio_text : ℕ → Ratio → List ℕ
 ratio_text places x = decimals_text places (decimal_of places x)
 
--- `-` where there is none
+-- the text of a value, `-` if there is none
 abbrev pub text_or_dash : {X : Type 0} → (X → List ℕ) → Option X → List ℕ
 text_or_dash text None = 45 ∷ []
 text_or_dash text (Some x) = text x
 
--- columns with a blank between them, and a LF behind
+-- a row: columns separated by a space, and a LF
 abbrev pub row_of : List (List ℕ) → List ℕ
 row_of columns = ended (join_with_byte 32 columns)
 
--- columns with a blank behind each
+-- columns with a space after each
 abbrev pub closed : List (List ℕ) → List ℕ
 closed columns = flat_map (λ text. text ++ 32 ∷ []) columns
 
 -- ---- a row of decimals
 
+-- step, time in ps, and the potential, kinetic and total energy in kJ/mol
 abbrev pub energy_columns : Scales → Observation → List (List ℕ)
 energy_columns s o =
     signed_decimal o.step
@@ -37,9 +38,11 @@ energy_columns s o =
     ∷ ratio_text 6 (total_energy s o)
     ∷ []
 
+-- temperature in K and pressure in bar
 abbrev pub heat_columns : Scales → Observation → List (List ℕ)
 heat_columns s o = text_or_dash (ratio_text 3) (temperature s o) ∷ ratio_text 3 (pressure s o) ∷ []
 
+-- the momentum along x, y and z in u nm/ps
 abbrev pub momentum_columns : Scales → Observation → List (List ℕ)
 momentum_columns s o =
     ratio_text 6 (momentum s s.ring.x o.momentum.x)
@@ -47,17 +50,21 @@ momentum_columns s o =
     ∷ ratio_text 6 (momentum s s.ring.z o.momentum.z)
     ∷ []
 
+-- the least distance of an interacting pair in nm
 abbrev pub nearest_column : Scales → Observation → List ℕ
 nearest_column s o = text_or_dash (ratio_text 6) (nearest_distance s o)
 
+-- the row of an observation, in decimals
 abbrev pub row_text : Scales → Observation → List ℕ
 row_text s o = row_of (energy_columns s o ++ heat_columns s o ++ momentum_columns s o ++ nearest_column s o ∷ [])
 
+-- the head line of a table in decimals
 abbrev pub head_text : List ℕ
 head_text = codes "# step time/ps potential/(kJ/mol) kinetic/(kJ/mol) total/(kJ/mol) temperature/K pressure/bar momentum-x/(u.nm/ps) momentum-y momentum-z nearest/nm\n"
 
--- ---- a row of whole numbers
+-- ---- a row of integers
 
+-- step, time in fs, potential energy, and the squares along x, y and z
 abbrev pub exact_energy_columns : Scales → Observation → List (List ℕ)
 exact_energy_columns s o =
     signed_decimal o.step
@@ -68,6 +75,7 @@ exact_energy_columns s o =
     ∷ decimal o.squares.z
     ∷ []
 
+-- virial and momentum along x, y and z
 abbrev pub exact_sum_columns : Observation → List (List ℕ)
 exact_sum_columns o =
     signed_decimal o.virial.x
@@ -78,8 +86,10 @@ exact_sum_columns o =
     ∷ signed_decimal o.momentum.z
     ∷ []
 
+-- the row of an observation, in integers
 abbrev pub exact_row_text : Scales → Observation → List ℕ
 exact_row_text s o = row_of (exact_energy_columns s o ++ exact_sum_columns o ++ text_or_dash signed_decimal o.nearest ∷ [])
 
+-- the head line of a table in integers
 abbrev pub exact_head_text : List ℕ
 exact_head_text = codes "# step time/fs potential/(2^-bits.kJ/mol) squares-x/(1e-5.u.place^2) squares-y squares-z virial-x/(2^-bits.kJ/mol/nm.place) virial-y virial-z momentum-x/(1e-5.u.place) momentum-y momentum-z nearest/(2^-bits.nm)\n"

@@ -1,4 +1,4 @@
-//! The axes of a box.
+//! The axes of a box, and vectors along them.
 
 /// An axis of a box.
 #[derive(Clone, Copy, PartialEq, Eq, Debug)]
@@ -8,7 +8,7 @@ pub enum Axis {
     Z,
 }
 
-/// A number for each axis.
+/// One value per axis.
 #[derive(Clone, Copy, PartialEq, Eq, Debug)]
 pub struct Axes<N> {
     pub x: N,

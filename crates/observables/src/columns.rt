@@ -1,4 +1,4 @@
-//! The values of a row's columns: whole numbers of units of their last decimal.
+//! The values of a row's columns, each an integer in units of its last decimal.
 
 ghost use Rattle.std.specs.Prelude.{◌≡◌, ◌≤◌, ◌<◌, ◌*◌, ◌^◌, pos, ◌*ℤ◌, unsigned_abs};
 ghost use Rattle.exact_decimals.specs.Ratios.{decimal_of};
@@ -10,7 +10,7 @@ use exact_decimals::{Whole, nearest, scaled};
 use fixed::Fx;
 use ring_box::Side;
 
-// A sum of squares of places, each times the square of the side.
+// A sum of mass times squared displacement in grid units, times the square of the side.
 fn squares_on(side: Side, squares: u128) -> Whole
     requires { squares < 2 ^ 107 }
     ensures value { result ≡ pos (squares * (side * side)) }
@@ -22,7 +22,7 @@ fn squares_on(side: Side, squares: u128) -> Whole
     Whole::of_natural(squares).times(side).times(side)
 }
 
-// A sum of places, each times the side.
+// A sum in grid units times the side.
 fn length_on(side: Side, places: i128) -> Whole
     requires { unsigned_abs places ≤ 2 ^ 126 }
     ensures value { result ≡ places *ℤ pos side }
@@ -33,7 +33,7 @@ fn length_on(side: Side, places: i128) -> Whole
     Whole::of(places).times(u64::from(side.get()))
 }
 
-// In 10^-6 u nm/ps.
+// The momentum along a side in 10^-6 u nm/ps.
 pub(crate) fn momentum_on(side: Side, moment: i128, scales: &Scales) -> i128
     requires { unsigned_abs moment ≤ 2 ^ 74 }
     ensures { result ≡ decimal_of 6 (momentum scales.now side moment) }
@@ -44,7 +44,7 @@ pub(crate) fn momentum_on(side: Side, moment: i128, scales: &Scales) -> i128
     )
 }
 
-// In 10^-6 nm.
+// A distance in 10^-6 nm.
 fn distance(r: Fx, scales: &Scales) -> i128
     ensures { result ≡ decimal_of 6 (distance scales.now r) }
 {
@@ -62,7 +62,7 @@ impl Observation {
     ghost use Rattle.observables.specs.Bounds.{IsBetween};
     ghost use Rattle.observables.specs.Observables.{square_lengths, lengths, volume, kinetic_energy, potential_energy, total_energy, temperature, pressure, virial, kinetic_unit, virial_unit, nearest_distance, time};
 
-    // The squares in lengths.
+    // The numerator of the kinetic energy.
     fn square_lengths(&self, scales: &Scales) -> Whole
         ensures value { result ≡ pos (square_lengths scales.now.ring self.now.squares) }
         ensures bound { unsigned_abs result < 2 ^ 157 }
@@ -74,7 +74,7 @@ impl Observation {
         x.plus(&y).plus(&z)
     }
 
-    // The virial in lengths.
+    // The numerator of the virial.
     fn virial_lengths(&self, scales: &Scales) -> Whole
         ensures value { result ≡ lengths scales.now.ring self.now.virial }
         ensures bound { unsigned_abs result < 2 ^ 152 }
@@ -86,21 +86,21 @@ impl Observation {
         x.plus(&y).plus(&z)
     }
 
-    // In fs.
+    // The time in fs.
     pub(crate) fn time(&self, scales: &Scales) -> i128
         ensures { result ≡ time scales.now self.now }
     {
         i128::from(self.step) * i128::from(scales.time_step.femtoseconds())
     }
 
-    // In 10^-6 kJ/mol.
+    // The potential energy in 10^-6 kJ/mol.
     pub(crate) fn potential_energy(&self, scales: &Scales) -> i128
         ensures { result ≡ decimal_of 6 (potential_energy scales.now self.now) }
     {
         nearest(&Whole::of(self.potential).times(1_000_000), &[scales.one()])
     }
 
-    // In 10^-6 kJ/mol.
+    // The kinetic energy in 10^-6 kJ/mol.
     pub(crate) fn kinetic_energy(&self, scales: &Scales) -> i128
         ensures { result ≡ decimal_of 6 (kinetic_energy scales.now self.now) }
     {
@@ -110,7 +110,7 @@ impl Observation {
         )
     }
 
-    // The potential and the kinetic energy, over both their units.
+    // The numerator of the total energy. Its denominator is the product of the denominators of both energies.
     fn total_lengths(&self, scales: &Scales) -> Whole
         ensures value { result ≡ (total_energy scales.now self.now).numerator }
         ensures bound { unsigned_abs result < 2 ^ 218 }
@@ -123,7 +123,7 @@ impl Observation {
         potential.plus(&kinetic)
     }
 
-    // In 10^-6 kJ/mol.
+    // The total energy in 10^-6 kJ/mol.
     pub(crate) fn total_energy(&self, scales: &Scales) -> i128
         ensures { result ≡ decimal_of 6 (total_energy scales.now self.now) }
     {
@@ -133,7 +133,7 @@ impl Observation {
         )
     }
 
-    // In 10^-3 K.
+    // The temperature in 10^-3 K; `None` for fewer than two atoms.
     pub(crate) fn temperature(&self, scales: &Scales) -> Option<i128>
         ensures { result ≡ option_map (decimal_of 3) (temperature scales.now self.now) }
     {
@@ -149,7 +149,7 @@ impl Observation {
         ))
     }
 
-    // Twice the kinetic energy and the virial, over both their units.
+    // The numerator of twice the kinetic energy plus the virial. Its denominator is the product of both denominators.
     fn pressure_lengths(&self, scales: &Scales) -> Whole
         ensures value { result ≡ (plus (times (kinetic_energy scales.now self.now) 2) (virial scales.now self.now)).numerator }
         ensures bound { unsigned_abs result < 2 ^ 270 }
@@ -165,7 +165,7 @@ impl Observation {
         kinetic.plus(&virial)
     }
 
-    // In 10^-3 bar.
+    // The pressure in 10^-3 bar.
     pub(crate) fn pressure(&self, scales: &Scales) -> i128
         ensures { result ≡ decimal_of 3 (pressure scales.now self.now) }
     {
@@ -176,7 +176,7 @@ impl Observation {
         nearest(&units.times(1000), &scales.pressure_divisors())
     }
 
-    // In 10^-6 nm.
+    // The least distance of an interacting pair in 10^-6 nm.
     pub(crate) fn nearest_distance(&self, scales: &Scales) -> Option<i128>
         ensures { result ≡ option_map (decimal_of 6) (nearest_distance scales.now self.now) }
     {
@@ -186,6 +186,7 @@ impl Observation {
         }
     }
 
+    // The least distance of an interacting pair as its raw value, in 2^-bits nm.
     pub(crate) fn nearest_raw(&self) -> Option<i128>
         ensures { result ≡ self.now.nearest }
     {

@@ -1,4 +1,4 @@
-//! Sums over the atoms of frames.
+//! Sums over the atoms of two or three frames.
 
 ghost use Rattle.std.specs.Prelude.{◌≡◌, ◌*◌, ◌^◌, ◌<◌, ◌≤◌, ◌+◌, pos, ◌*ℤ◌, unsigned_abs, length};
 ghost use Rattle.std.specs.List.{All};
@@ -10,6 +10,7 @@ ghost use Rattle.observables.specs.Sums.{along, moments_along, moments_between, 
 use crate::axes::{Axes, Axis};
 use ring_box::{Place3, diff};
 
+// The grid coordinate along an axis.
 fn along(axis: Axis, place: Place3) -> u32
     ensures { result ≡ along axis place }
 {
@@ -20,7 +21,7 @@ fn along(axis: Axis, place: Place3) -> u32
     }
 }
 
-// A mass times the square of a displacement.
+// A mass times the square of the displacement from `from` to `to`.
 fn weighed_square(mass: u32, from: u32, to: u32) -> u128
     requires { mass ≤ 100000000 }
     ensures value { result ≡ mass * square (difference to from) }
@@ -30,7 +31,7 @@ fn weighed_square(mass: u32, from: u32, to: u32) -> u128
     u128::from(mass) * (places * places)
 }
 
-// A mass times a displacement.
+// A mass times the displacement from `from` to `to`.
 fn weighed(mass: u32, from: u32, to: u32) -> i128
     requires { mass ≤ 100000000 }
     ensures value { result ≡ pos mass *ℤ difference to from }
@@ -39,6 +40,7 @@ fn weighed(mass: u32, from: u32, to: u32) -> i128
     i128::from(mass) * i128::from(diff(to, from))
 }
 
+// The sum over the atoms of mass times squared displacement along an axis.
 fn squares_along(axis: Axis, masses: &[u32], from: &[Place3], to: &[Place3]) -> u128
     requires from { length from.now ≡ length masses.now }
     requires to { length to.now ≡ length masses.now }
@@ -54,6 +56,7 @@ fn squares_along(axis: Axis, masses: &[u32], from: &[Place3], to: &[Place3]) -> 
     sum
 }
 
+// The sum over the atoms of mass times displacement along an axis.
 fn moments_along(axis: Axis, masses: &[u32], from: &[Place3], to: &[Place3]) -> i128
     requires from { length from.now ≡ length masses.now }
     requires to { length to.now ≡ length masses.now }
@@ -69,7 +72,7 @@ fn moments_along(axis: Axis, masses: &[u32], from: &[Place3], to: &[Place3]) -> 
     sum
 }
 
-// Along an axis, from the frame before to this one, and from this one to the next.
+// The sum over the atoms of mass times squared displacement along an axis, over the steps before and after `current`.
 fn squares_about(
     axis: Axis,
     masses: &[u32],
@@ -88,10 +91,10 @@ fn squares_about(
     squares_along(axis, masses, previous, current) + squares_along(axis, masses, current, next)
 }
 
-/// Along each axis the sum over the atoms of mass times the square of the places from the frame before to this one, and
-/// of those from this one to the next, the shorter way round the ring.
+/// For each axis, the sum over the atoms of mass times squared displacement, over the steps before and after `current`.
+/// Displacements are in grid units, along the shorter way around the periodic box.
 ///
-/// The caller sees that the frames are of the same atoms, at most 65,536, of at most 100,000,000 times 10^-5 u each.
+/// All frames must have one atom per mass, at most 65,536 atoms. Masses are in 10^-5 u and at most 100,000,000.
 pub fn squares(
     masses: &[u32],
     previous: &[Place3],
@@ -113,10 +116,10 @@ pub fn squares(
     }
 }
 
-/// Along each axis the sum over the atoms of mass times the places from the frame before to this one, the shorter way
-/// round the ring.
+/// For each axis, the sum over the atoms of mass times displacement in the step before `current`. Displacements are in
+/// grid units, along the shorter way around the periodic box.
 ///
-/// The caller sees that both frames are of the same atoms, at most 65,536, of at most 100,000,000 times 10^-5 u each.
+/// Both frames must have one atom per mass, at most 65,536 atoms. Masses are in 10^-5 u and at most 100,000,000.
 pub fn momentum(masses: &[u32], previous: &[Place3], current: &[Place3]) -> Axes<i128>
     requires previous { length previous.now ≡ length masses.now }
     requires current { length current.now ≡ length masses.now }

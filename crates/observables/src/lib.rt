@@ -1,6 +1,6 @@
-//! What is observed of a state, exactly: energies, temperature, pressure, momentum and the nearest pair, each printed
-//! as the decimal nearest to the exact value of its definition (`specs/Observables.antt`), or as the whole numbers
-//! behind it.
+//! Exact observables of a state: energies, temperature, pressure, momentum and the least distance of an interacting
+//! pair. Each is printed either as the decimal nearest to the exact value of its definition (`specs/Observables.antt`),
+//! or as the integers from which that value is computed.
 #![tactic(auto)]
 
 mod axes;

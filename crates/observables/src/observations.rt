@@ -1,4 +1,4 @@
-//! Observations.
+//! Observations: the integers from which observables are computed.
 
 ghost use Rattle.std.specs.Prelude.{◌^◌, ◌<◌, ◌≤◌, unsigned_abs};
 ghost use Rattle.observables.specs.Bounds.{AreBelow, AreWithin};
@@ -6,22 +6,23 @@ ghost use Rattle.observables.specs.Bounds.{AreBelow, AreWithin};
 use crate::axes::Axes;
 use fixed::Fx;
 
-/// What is observed of a state, in whole numbers.
+/// The integers observed of a state.
 #[derive(Clone, Copy)]
 pub struct Observation {
-    /// The state's counter.
+    /// The state's step counter.
     pub step: i64,
-    /// The potential energy in 2^-bits kJ/mol, bits of the job.
+    /// The potential energy in 2^-bits kJ/mol, with the fraction bits of the job.
     pub potential: i128,
-    /// Along each axis the sum over the atoms of mass, in 10^-5 u, times the square of the places from the frame before
-    /// to this one, and of those from this one to the next.
+    /// For each axis, the sum over the atoms of mass in 10^-5 u times squared displacement in grid units, over the
+    /// steps before and after the current frame.
     pub squares: Axes<u128>,
-    /// Along each axis the sum over pairs of the force on the lower atom, in 2^-bits kJ/mol/nm, times the places from
-    /// the higher atom to the lower, the shorter way round the ring.
+    /// For each axis, the sum over pairs of the force on the atom of lower index, in 2^-bits kJ/mol/nm, times the
+    /// displacement in grid units from the other atom to it, along the shorter way around the periodic box.
     pub virial: Axes<i128>,
-    /// Along each axis the sum over the atoms of mass, in 10^-5 u, times the places from the frame before to this one.
+    /// For each axis, the sum over the atoms of mass in 10^-5 u times displacement in grid units, in the step before
+    /// the current frame.
     pub momentum: Axes<i128>,
-    /// The least distance in nm of two atoms that act; `None` where none act.
+    /// The least distance of an interacting pair in nm; `None` if no pair interacts.
     pub nearest: Option<Fx>,
     pub ghost small_potential: { unsigned_abs potential < 2 ^ 100 },
     pub ghost small_squares: { AreBelow (2 ^ 107) squares },

@@ -1,4 +1,4 @@
-//! Rows of a table.
+//! Table rows of `observe`.
 
 ghost use Rattle.std.specs.Prelude.{◌≡◌, ◌+◌, ◌<◌, ◌≤◌, ◌++◌, ◌∷◌, [], length};
 ghost use Rattle.std.specs.Fmt.{signed_decimal};
@@ -13,10 +13,10 @@ use arrayvec::ArrayVec;
 use exact_decimals::{put_decimals, put_integer};
 use line_text::Line;
 
-/// A row of a table, on the stack.
+/// A table row under construction, on the stack: at most 640 bytes.
 pub type Row = ArrayVec<u8, 640>;
 
-/// Appends a column, and what ends it: a blank, or the row's LF.
+/// Appends a column and the byte after it: a space, or the row's LF.
 fn put(row: &mut Row, text: &[u8], end: u8)
     requires { array_vec_len row.old + length text.now < 640 }
     ensures items { row.new.items ≡ row.old.items ++ (text.now ++ end ∷ []) }
@@ -26,6 +26,7 @@ fn put(row: &mut Row, text: &[u8], end: u8)
     row.push(end);
 }
 
+// Appends a number in units of its last decimal, with `places` decimals.
 fn put_decimal(row: &mut Row, places: usize, number: i128, end: u8)
     requires room { array_vec_len row.old + 49 ≤ 640 }
     requires some { 0 < places }
@@ -38,6 +39,7 @@ fn put_decimal(row: &mut Row, places: usize, number: i128, end: u8)
     put(row, line.as_slice(), end);
 }
 
+// Appends a number with `places` decimals, or `-` if there is none.
 fn put_decimal_or_dash(row: &mut Row, places: usize, number: Option<i128>, end: u8)
     requires room { array_vec_len row.old + 49 ≤ 640 }
     requires some { 0 < places }
@@ -51,6 +53,7 @@ fn put_decimal_or_dash(row: &mut Row, places: usize, number: Option<i128>, end: 
     }
 }
 
+// Appends an integer.
 fn put_whole(row: &mut Row, number: i128, end: u8)
     requires { array_vec_len row.old + 49 ≤ 640 }
     ensures items { row.new.items ≡ row.old.items ++ (signed_decimal number ++ end ∷ []) }
@@ -61,6 +64,7 @@ fn put_whole(row: &mut Row, number: i128, end: u8)
     put(row, line.as_slice(), end);
 }
 
+// Appends an integer, or `-` if there is none.
 fn put_whole_or_dash(row: &mut Row, number: Option<i128>, end: u8)
     requires { array_vec_len row.old + 49 ≤ 640 }
     ensures items { row.new.items ≡ row.old.items ++ (text_or_dash signed_decimal number ++ end ∷ []) }
@@ -72,7 +76,7 @@ fn put_whole_or_dash(row: &mut Row, number: Option<i128>, end: u8)
     }
 }
 
-/// The line before the rows of decimals, which names the columns and their units.
+/// The head line of a table in decimals: names and units of the columns.
 pub fn head() -> &'static [u8]
     ensures { result.now ≡ head_text }
 {
@@ -80,7 +84,7 @@ pub fn head() -> &'static [u8]
 "
 }
 
-/// The line before the rows of whole numbers, which names the columns and their units.
+/// The head line of a table in integers: names and units of the columns.
 pub fn exact_head() -> &'static [u8]
     ensures { result.now ≡ exact_head_text }
 {
@@ -93,7 +97,7 @@ impl Observation {
     ghost use Rattle.arrayvec.specs.ArrayVec.{array_vec_len};
     ghost use Rattle.observables.specs.Rows.{closed, energy_columns, heat_columns, momentum_columns, row_text, exact_energy_columns, exact_sum_columns, exact_row_text};
 
-    // Step, time and energies.
+    // Appends step, time in ps, and the potential, kinetic and total energy in kJ/mol.
     fn put_energies(&self, scales: &Scales, row: &mut Row)
         requires { array_vec_len row.old ≤ 10 }
         ensures items { row.new.items ≡ row.old.items ++ closed (energy_columns scales.now self.now) }
@@ -106,7 +110,7 @@ impl Observation {
         put_decimal(row, 6, self.total_energy(scales), b' ');
     }
 
-    // Temperature and pressure.
+    // Appends the temperature in K and the pressure in bar.
     fn put_heat(&self, scales: &Scales, row: &mut Row)
         requires { array_vec_len row.old ≤ 300 }
         ensures items { row.new.items ≡ row.old.items ++ closed (heat_columns scales.now self.now) }
@@ -116,7 +120,7 @@ impl Observation {
         put_decimal(row, 3, self.pressure(scales), b' ');
     }
 
-    // The momentum along each axis.
+    // Appends the momentum along each axis in u nm/ps.
     fn put_momentum(&self, scales: &Scales, row: &mut Row)
         requires { array_vec_len row.old ≤ 400 }
         ensures items { row.new.items ≡ row.old.items ++ closed (momentum_columns scales.now self.now) }
@@ -128,10 +132,12 @@ impl Observation {
         put_decimal(row, 6, momentum_on(scales.ring.z, momentum.z, scales), b' ');
     }
 
-    /// The row of an observation: step, time in ps, potential, kinetic and total energy in kJ/mol, temperature in K,
-    /// pressure in bar, momentum along each axis in u nm/ps, and the least distance of two atoms that act in nm, each
-    /// the decimal nearest to its exact value, with a blank between them and a LF behind. `-` stands for a temperature
-    /// of less than two atoms, and for a distance where none act.
+    /// The table row of an observation in decimals: step, time in ps, potential, kinetic and total energy in kJ/mol,
+    /// temperature in K, pressure in bar, momentum along x, y and z in u nm/ps, and the least distance of an
+    /// interacting pair in nm.
+    ///
+    /// Each decimal is the one nearest to the exact value. Columns are separated by one space, and the row ends in LF.
+    /// The temperature is `-` for fewer than two atoms, and the distance is `-` if no pair interacts.
     pub fn row(&self, scales: &Scales) -> Row
         ensures { result.items ≡ row_text scales.now self.now }
     {
@@ -143,7 +149,7 @@ impl Observation {
         row
     }
 
-    // Step, time in fs, potential energy and squares.
+    // Appends step, time in fs, potential energy, and the squares along each axis.
     fn put_exact_energies(&self, scales: &Scales, row: &mut Row)
         requires { array_vec_len row.old ≤ 10 }
         ensures items { row.new.items ≡ row.old.items ++ closed (exact_energy_columns scales.now self.now) }
@@ -158,7 +164,7 @@ impl Observation {
         put_whole(row, squares.z as i128, b' ');
     }
 
-    // Virial and momentum along each axis.
+    // Appends virial and momentum along each axis.
     fn put_exact_sums(&self, row: &mut Row)
         requires { array_vec_len row.old ≤ 304 }
         ensures items { row.new.items ≡ row.old.items ++ closed (exact_sum_columns self.now) }
@@ -174,9 +180,10 @@ impl Observation {
         put_whole(row, momentum.z, b' ');
     }
 
-    /// The whole numbers of an observation: step, time in fs, potential energy, squares, virial and momentum along each
-    /// axis, and the least distance of two atoms that act, `-` where none act; with a blank between them and a LF
-    /// behind.
+    /// The table row of an observation in integers: step, time in fs, potential energy, squares, virial and momentum
+    /// along x, y and z each, and the least distance of an interacting pair, `-` if no pair interacts.
+    ///
+    /// Columns are separated by one space, and the row ends in LF.
     pub fn exact_row(&self, scales: &Scales) -> Row
         ensures { result.items ≡ exact_row_text scales.now self.now }
     {

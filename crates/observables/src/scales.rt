@@ -1,4 +1,4 @@
-//! The scales of a run.
+//! Units of the integers in an observation, and the denominators of its observables.
 
 ghost use Rattle.std.specs.Prelude.{◌≤◌};
 
@@ -6,16 +6,16 @@ use fixed::Frac;
 use job::TimeStep;
 use ring_box::RingBox;
 
-/// What the whole numbers of an observation count: the same for all states of a run.
+/// The units of an observation's integers, constant during a run.
 #[derive(Clone, Copy)]
 pub struct Scales {
     /// The fraction bits of energies, forces and distances.
     pub frac: Frac,
     /// The time step in fs.
     pub time_step: TimeStep,
-    /// The box: a ring of 2^32 places along each side.
+    /// The periodic box, with 2^32 grid coordinates along each side.
     pub ring: RingBox,
-    /// How many atoms there are, at most 65,536.
+    /// The number of atoms, at most 65,536.
     pub atoms: u32,
     pub ghost most_atoms: { atoms ≤ 65536 },
 }
@@ -27,7 +27,7 @@ impl Scales {
     ghost use Rattle.observables.specs.Bounds.{IsBetween};
     ghost use Rattle.observables.specs.Observables.{boltzmann, degrees_of_freedom, kinetic_unit, momentum_unit, virial_unit, volume};
 
-    /// One, in units of the last fraction bit.
+    /// The number 1 in units of the last fraction bit.
     pub(crate) fn one(&self) -> u64
         ensures value { result ≡ 2 ^ bits_of self.now.frac }
         ensures least { 2 ^ 24 ≤ result }
@@ -40,7 +40,8 @@ impl Scales {
         }
     }
 
-    /// The divisors of a kinetic energy.
+    /// The factors of the denominator of a kinetic energy. `exact_decimals` divides by one factor after the other, as
+    /// the products don't always fit 128 bits.
     pub(crate) fn kinetic_divisors(&self) -> [u64; 5]
         ensures value { product_of result ≡ kinetic_unit self.now.time_step }
         ensures unit { IsBetween (2 ^ 95) (2 ^ 117) (kinetic_unit self.now.time_step) }
@@ -49,7 +50,7 @@ impl Scales {
         [4_000_000_000, 4_294_967_296, 4_294_967_296, dt, dt]
     }
 
-    /// The divisors of a total energy.
+    /// The factors of the denominator of a total energy.
     pub(crate) fn total_divisors(&self) -> [u64; 6]
         ensures value { product_of result ≡ 2 ^ bits_of self.now.frac * kinetic_unit self.now.time_step }
     {
@@ -64,7 +65,7 @@ impl Scales {
         ]
     }
 
-    /// The divisors of a temperature. There are two atoms at least.
+    /// The factors of the denominator of a temperature. There must be at least two atoms.
     pub(crate) fn temperature_divisors(&self) -> [u64; 7]
         requires { 2 ≤ self.now.atoms }
         ensures value { product_of result ≡ kinetic_unit self.now.time_step * (degrees_of_freedom self.now.atoms * boltzmann) }
@@ -84,7 +85,7 @@ impl Scales {
         ]
     }
 
-    /// The divisors of a virial.
+    /// The factors of the denominator of a virial.
     pub(crate) fn virial_divisors(&self) -> [u64; 3]
         ensures value { product_of result ≡ virial_unit self.now }
         ensures unit { IsBetween (2 ^ 72) (2 ^ 89) (virial_unit self.now) }
@@ -92,7 +93,7 @@ impl Scales {
         [100_000, 4_294_967_296, self.one()]
     }
 
-    /// The divisors of a pressure.
+    /// The factors of the denominator of a pressure.
     pub(crate) fn pressure_divisors(&self) -> [u64; 13]
         ensures value { product_of result ≡ kinetic_unit self.now.time_step * virial_unit self.now * (3 * volume self.now.ring * 602214076) }
         ensures volume { IsBetween 1 (2 ^ 72) (volume self.now.ring) }
@@ -118,7 +119,7 @@ impl Scales {
         ]
     }
 
-    /// The divisors of a momentum.
+    /// The factors of the denominator of a momentum.
     pub(crate) fn momentum_divisors(&self) -> [u64; 3]
         ensures value { product_of result ≡ momentum_unit self.now.time_step }
         ensures unit { IsBetween (2 ^ 55) (2 ^ 66) (momentum_unit self.now.time_step) }

@@ -1,5 +1,6 @@
--- The state that begins at a frame of a GRO file: the frame's atoms at their places in the box, and where they were one
--- time step before.
+-- The state that starts at a frame of a GRO file: grid coordinates nearest to the frame's positions, and grid
+-- coordinates one time step earlier. The earlier ones are the current ones minus a rounded displacement, reduced into
+-- the periodic box. Definitions are functions first, then a relation.
 use Rattle.std.specs.Prelude.{◌≡◌, ℕ, ℤ, pos, List, map, slice_index, slice_index_or, Result, Ok, Err}
 use Rattle.std.specs.List.{AllZip}
 use Rattle.fixed.specs.declared.frac.Frac.{Frac}
@@ -13,7 +14,7 @@ use Rattle.state.specs.StateText.{AtomView, StateView}
 use Rattle.state.specs.StateViews.{sides_view}
 use Rattle.state.specs.Velocities.{IsPlaceBefore, place_before}
 
--- where an atom is, and where it was one time step before
+-- the grid coordinates nearest to a position in picometres
 abbrev pub current_place : RingBox → List ℤ → Place3
 current_place ring at = record {
   x = place_of_pm (slice_index_or at 0 (pos 0)) ring.x;
@@ -21,6 +22,7 @@ current_place ring at = record {
   z = place_of_pm (slice_index_or at 2 (pos 0)) ring.z;
 }
 
+-- the grid coordinates one time step of dt fs before the current ones
 abbrev pub previous_place : ℕ → RingBox → Place3 → List ℤ → Place3
 previous_place dt ring current velocity = record {
   x = place_before current.x (slice_index_or velocity 0 (pos 0)) dt ring.x;
@@ -28,6 +30,7 @@ previous_place dt ring current velocity = record {
   z = place_before current.z (slice_index_or velocity 2 (pos 0)) dt ring.z;
 }
 
+-- an atom of the frame as an atom of the state
 abbrev pub started_atom : ℕ → RingBox → gro.AtomView → AtomView
 started_atom dt ring a = record {
   residue_number = a.number;
@@ -37,27 +40,30 @@ started_atom dt ring a = record {
   current = current_place ring a.at;
 }
 
--- in a box
+-- the state that starts at a frame, in this box
 abbrev pub start_in : Frac → ℕ → gro.FrameView → RingBox → StateView
 start_in frac dt f ring = record { title = f.title; step = pos 0; frac = frac; sides = sides_view ring; atoms = map (started_atom dt ring) f.atoms }
 
+-- the state in the box, or the fault of the box
 abbrev pub on_box : Result RingBox BoxFault → (RingBox → StateView) → Result StateView BoxFault
 on_box (Ok ring) start = Ok (start ring)
 on_box (Err fault) start = Err fault
 
--- the state with these fraction bits that begins at a frame with a time step of dt fs, or why its sides are no box's
+-- the state with these fraction bits that starts at a frame, for a time step of dt fs; or the fault of the frame's
+-- sides
 abbrev pub start_of_frame : Frac → ℕ → gro.FrameView → Result StateView BoxFault
 start_of_frame frac dt f = on_box (box_of f.sides) (start_in frac dt f)
 
--- ---- the same as a relation
+-- ---- the state as a relation
 
--- One coordinate of an atom that a frame has at p picometres with the velocity v: its place x is the nearest one, and
--- its place y is where the velocity has it one time step before.
+-- One coordinate of an atom with position p in picometres and velocity v: the current grid coordinate x is the nearest
+-- one, and y is the grid coordinate one time step earlier.
 pub record IsStartOnSide (dt L : ℕ) (p v : ℤ) (y x : ℕ) : Type 0 where
   pub nearest : IsPlaceOfPm p L x
   pub before : IsPlaceBefore x v dt L y
 
--- the same of an atom, on each side of the box; its names stay
+-- The atom a of the state has the names of the atom g of the frame, and its coordinates start at position and velocity
+-- of g.
 pub record IsStartOfAtom (dt : ℕ) (sides : List ℕ) (g : gro.AtomView) (a : AtomView) : Type 0 where
   pub number : a.residue_number ≡ g.number
   pub residue : a.residue ≡ g.residue
@@ -66,7 +72,7 @@ pub record IsStartOfAtom (dt : ℕ) (sides : List ℕ) (g : gro.AtomView) (a : A
   pub y : IsStartOnSide dt (slice_index sides 1) (slice_index_or g.at 1 (pos 0)) (slice_index_or g.velocity 1 (pos 0)) a.previous.y a.current.y
   pub z : IsStartOnSide dt (slice_index sides 2) (slice_index_or g.at 2 (pos 0)) (slice_index_or g.velocity 2 (pos 0)) a.previous.z a.current.z
 
--- the state s with these fraction bits begins at the frame f
+-- the state s with these fraction bits starts at the frame f
 pub record BeginsAt (frac : Frac) (dt : ℕ) (f : gro.FrameView) (s : StateView) : Type 0 where
   pub title : s.title ≡ f.title
   pub counter : s.step ≡ pos 0

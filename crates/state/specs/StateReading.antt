@@ -1,4 +1,4 @@
--- Reading a state from the top, to the state or to the first fault that is met.
+-- Reading a state from the top, as functions to the state or to the first fault.
 use Rattle.std.specs.Prelude.{◌≡◌, ◌↔◌, ℕ, zero, suc, ◌+◌, ◌-◌, ◌^◌, ◌&&◌, List, [], ◌∷◌, length, take, drop, codes, Option, Some, None, Result, Ok, Err, nat_lt, ◌==◌, slice_index, bytes_eq, if◌then◌else◌, ℤ}
 use Rattle.std.specs.List.{list_all}
 use Rattle.fixed.specs.declared.frac.Frac.{Frac}
@@ -13,42 +13,48 @@ use Rattle.state.specs.declared.versions.Version.TheVariants.{First, Second}
 use Rattle.state.specs.declared.faults.StateFault.{StateFault}
 use Rattle.state.specs.declared.faults.StateFault.TheVariants.{BadLine, Truncated, Trailing}
 
--- ---- what each line says, without its LF
+-- ---- the value of each line, without its LF
 
+-- the version in the first line
 abbrev pub head_of : List ℕ → Option Version
 head_of line = if bytes_eq line (head_line First) then Some First else if bytes_eq line (head_line Second) then Some Second else None
 
+-- the title in a title line; it must not end in CR (13)
 unfoldable pub title_of : List ℕ → Option (List ℕ)
 title_of line = after (codes "title ") line |> λ t. if slice_index t (length t - 1) == 13 then None else Some t
 
+-- the step counter in a step line
 unfoldable pub step_of : List ℕ → Option ℤ
 step_of line = after (codes "step ") line |> integer_of
 
--- No line says 32.
+-- the fraction bits in a `bits` line; the line never has 32, as then it is left out
 abbrev pub named_frac : ℕ → Option Frac
 named_frac bits = if bits == 24 then Some F24 else if bits == 40 then Some F40 else None
 
+-- the fraction bits in a `bits` line
 unfoldable pub frac_of : List ℕ → Option Frac
 frac_of line = after (codes "bits ") line |> natural_of 41 |> named_frac
 
+-- the number of atoms in its line, at most 65,536
 unfoldable pub count_of : List ℕ → Option ℕ
 count_of line = after (codes "atoms ") line |> natural_of 65537
 
+-- the sides in a box line, 1 to 16,000,000
 unfoldable pub sides_of : List ℕ → Option (List ℕ)
 sides_of line =
     after (codes "box") line |> λ rest.
     three_at 16000001 rest |> λ w.
     if length w.1 == 0 && list_all (λ x. nat_lt 0 x) w.0 then Some w.0 else None
 
--- the place of three numbers
+-- grid coordinates from a list of three numbers
 abbrev pub place_of : List ℕ → Place3
 place_of numbers = record { x = slice_index numbers 0; y = slice_index numbers 1; z = slice_index numbers 2 }
 
--- the place that three words tell, and what stands after them
+-- the grid coordinates in three words, and the rest of the text
 unfoldable pub place_in : List ℕ → Option (Place3 × List ℕ)
 place_in text = three_at (2 ^ 32) text |> λ w. Some (place_of w.0, w.1)
 
--- Read by columns and words; only the line that this atom has is taken.
+-- The atom in an atom line, read by columns and words. The line must equal the atom's line, so each atom has only one.
 unfoldable pub atom_of : List ℕ → Option AtomView
 atom_of line =
     if nat_lt (length line) 15 then None else (
@@ -60,23 +66,24 @@ atom_of line =
     if is_residue_number number && bytes_eq line (atom_line (record { residue_number = number; residue = residue; name = name; previous = previous.0; current = current.0 }))
     then Some (record { residue_number = number; residue = residue; name = name; previous = previous.0; current = current.0 }) else None)
 
--- ---- the lines from the top
+-- ---- reading the lines
 
--- a line that is needed, and what stands after its LF
+-- the next line, which must have an LF, and the bytes after it
 abbrev pub line_at : List ℕ → Result (List ℕ × List ℕ) StateFault
 line_at bytes = said Truncated (cut_at 10 bytes)
 
--- the value of the needed line with this number, and the bytes after it
+-- the value of the next line, number n, and the bytes after it
 abbrev pub field_at : {X : Type 0} → ℕ → (List ℕ → Option X) → List ℕ → Result (X × List ℕ) StateFault
 field_at n read bytes = do
   line ← line_at bytes
   x ← said (BadLine n) (read line.0)
   Ok (x, line.1)
 
+-- the atom in the next line, number n, and the bytes after it
 unfoldable pub atom_at : ℕ → List ℕ → Result (AtomView × List ℕ) StateFault
 atom_at n bytes = field_at n atom_of bytes
 
--- this many atoms, the first on line n
+-- this number of atoms, the first on line n, and the bytes after them
 unfoldable pub atoms_at : ℕ → ℕ → List ℕ → Result (List AtomView × List ℕ) StateFault
 atoms_at n zero bytes = Ok ([], bytes)
 atoms_at n (suc k) bytes = do
@@ -84,55 +91,61 @@ atoms_at n (suc k) bytes = do
   others ← atoms_at (n + 1) k first.1
   Ok (first.0 ∷ others.0, others.1)
 
--- the bits, which only the second version has a line for
+-- the fraction bits: 32 in the first version, which has no line for them; from the fourth line in the second version
 abbrev pub frac_at : Version → List ℕ → Result (Frac × List ℕ) StateFault
 frac_at First bytes = Ok (F32, bytes)
 frac_at Second bytes = field_at 4 frac_of bytes
 
--- the number of the line with the count, which is n below
+-- the number of the line with the number of atoms
 abbrev pub count_number : Version → ℕ
 count_number First = 4
 count_number Second = 5
 
--- the atoms, and then nothing
+-- the state, read from its atoms on; no bytes may follow
 abbrev pub from_atoms : List ℕ → ℤ → Frac → ℕ → ℕ → List ℕ → List ℕ → Result StateView StateFault
 from_atoms title step frac n count sides bytes = do
   atoms ← atoms_at (n + 2) count bytes
   if length atoms.1 == 0 then Ok (record { title = title; step = step; frac = frac; sides = sides; atoms = atoms.0 }) else Err Trailing
 
+-- the state, read from its sides on, line n + 1
 abbrev pub from_sides : List ℕ → ℤ → Frac → ℕ → ℕ → List ℕ → Result StateView StateFault
 from_sides title step frac n count bytes = do
   sides ← field_at (n + 1) sides_of bytes
   from_atoms title step frac n count sides.0 sides.1
 
+-- the state, read from its number of atoms on, line n
 abbrev pub from_count : List ℕ → ℤ → Frac → ℕ → List ℕ → Result StateView StateFault
 from_count title step frac n bytes = do
   count ← field_at n count_of bytes
   from_sides title step frac n count.0 count.1
 
+-- the state, read from its fraction bits on
 abbrev pub from_frac : Version → List ℕ → ℤ → List ℕ → Result StateView StateFault
 from_frac version title step bytes = do
   frac ← frac_at version bytes
   from_count title step frac.0 (count_number version) frac.1
 
+-- the state, read from its step on
 abbrev pub from_step : Version → List ℕ → List ℕ → Result StateView StateFault
 from_step version title bytes = do
   step ← field_at 3 step_of bytes
   from_frac version title step.0 step.1
 
+-- the state, read from its title on
 abbrev pub from_title : Version → List ℕ → Result StateView StateFault
 from_title version bytes = do
   title ← field_at 2 title_of bytes
   from_step version title.0 title.1
 
+-- the state of a text, or the first fault
 unfoldable pub state_of : List ℕ → Result StateView StateFault
 state_of bytes = do
   head ← field_at 1 head_of bytes
   from_title head.0 head.1
 
--- ---- what reading is
+-- ---- properties of the definitions
 
--- Exactly the texts of states are read, each as its state. So a state has one text, and what is written reads as the
--- same state.
+-- A text is read as s if and only if it is the text of the state s. So a state has only one text, and reading a written
+-- text gives the same state.
 abbrev pub OneText : Type 0
 OneText = (bytes : List ℕ) (s : StateView) → (state_of bytes ≡ Ok s) ↔ (IsState s × (bytes ≡ state_text s))

@@ -1,4 +1,4 @@
--- States, without where they lie in memory, and the one text of each state.
+-- States as values, independent of memory, and the only text of each state.
 use Rattle.std.specs.Prelude.{ℕ, ◌<◌, ◌≤◌, ◌^◌, List, [], ◌∷◌, ◌++◌, length, codes, ℤ, pos, negsuc, ◌≤ℤ◌, IsTrue}
 use Rattle.std.specs.Fmt.{signed_decimal}
 use Rattle.std.specs.List.{flat_map, AllByRecursion}
@@ -12,7 +12,7 @@ use Rattle.state.specs.declared.versions.Version.{Version}
 use Rattle.state.specs.declared.versions.Version.TheVariants.{First, Second}
 use lib.Signed.{mag}
 
--- an atom, and where it is in two frames
+-- an atom with its grid coordinates in two frames
 pub record AtomView : Type 0 where
   pub residue_number : ℤ
   pub residue : List ℕ
@@ -20,7 +20,7 @@ pub record AtomView : Type 0 where
   pub previous : Place3
   pub current : Place3
 
--- a state; its numbers have the fraction bits `frac`, and its sides are three numbers, x, y and z
+-- a state; the numbers of its run have the fraction bits `frac`, and it has three sides, along x, y and z
 pub record StateView : Type 0 where
   pub title : List ℕ
   pub step : ℤ
@@ -28,54 +28,62 @@ pub record StateView : Type 0 where
   pub sides : List ℕ
   pub atoms : List AtomView
 
--- ---- the lines of a state, without their LF
+-- ---- the lines of a state, without their LFs
 
--- Of 32 bits a state says nothing, and so it has the first version.
+-- the version of the text; a state with 32 fraction bits has no line for them, which is the first version
 abbrev pub version_of : Frac → Version
 version_of F24 = Second
 version_of F32 = First
 version_of F40 = Second
 
+-- the first line
 abbrev pub head_line : Version → List ℕ
 head_line First = codes "pairmd state 1"
 head_line Second = codes "pairmd state 2"
 
+-- the line of the title
 abbrev pub title_line : List ℕ → List ℕ
 title_line title = codes "title " ++ title
 
+-- the line of the step counter
 abbrev pub step_line : ℤ → List ℕ
 step_line step = codes "step " ++ signed_decimal step
 
+-- the line of the fraction bits
 abbrev pub bits_line : Frac → List ℕ
 bits_line frac = codes "bits" ++ word (bits_of frac)
 
+-- the line of the number of atoms
 abbrev pub count_line : ℕ → List ℕ
 count_line count = codes "atoms" ++ word count
 
+-- the line of the sides, in 10^-5 nm
 abbrev pub box_line : List ℕ → List ℕ
 box_line sides = codes "box" ++ flat_map word sides
 
--- the numbers of a place on an atom's line
+-- the three grid coordinates on an atom line
 abbrev pub numbers_of : Place3 → List ℕ
 numbers_of p = p.x ∷ p.y ∷ p.z ∷ []
 
--- residue number, residue name and atom name in the columns of an atom's line (GROMACS manual, GRO file format), then
--- the two places
+-- an atom line: residue number, residue name and atom name in the columns of a GRO file (GROMACS manual, GRO file
+-- format), then the previous and the current grid coordinates
 abbrev pub atom_line : AtomView → List ℕ
 atom_line a =
     right_in 5 (signed_decimal a.residue_number) ++ left_in 5 a.residue ++ right_in 5 a.name
     ++ flat_map word (numbers_of a.previous) ++ flat_map word (numbers_of a.current)
 
+-- the lines of these atoms
 abbrev pub atom_lines : List AtomView → List ℕ
 atom_lines atoms = flat_map (λ a. ended (atom_line a)) atoms
 
 -- ---- the text
 
--- the line of the bits with its LF, which only the second version has
+-- the line of the fraction bits with its LF, in the second version only
 abbrev pub bits_in : Version → Frac → List ℕ
 bits_in First frac = []
 bits_in Second frac = ended (bits_line frac)
 
+-- the text of a state
 unfoldable pub state_text : StateView → List ℕ
 state_text s =
     ended (head_line (version_of s.frac))
@@ -86,12 +94,13 @@ state_text s =
     ++ ended (box_line s.sides)
     ++ atom_lines s.atoms
 
--- ---- what has a text
+-- ---- the values that have a text
 
--- in 10^-5 nm
+-- a side in 10^-5 nm
 abbrev pub IsSide : ℕ → Type 0
 IsSide x = (0 < x) × (x ≤ 16000000)
 
+-- an atom within the ranges of the text
 pub record IsAtom (a : AtomView) : Type 0 where
   pub low : negsuc 9998 ≤ℤ a.residue_number
   pub high : a.residue_number ≤ℤ pos 99999
@@ -100,6 +109,7 @@ pub record IsAtom (a : AtomView) : Type 0 where
   pub previous : ArePlaces a.previous
   pub current : ArePlaces a.current
 
+-- a state within the ranges of the text
 pub record IsState (s : StateView) : Type 0 where
   pub title : IsTrue (is_title s.title)
   pub step : mag s.step < 2 ^ 63

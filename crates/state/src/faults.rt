@@ -1,4 +1,4 @@
-//! Why a text is no state.
+//! Faults of a text that isn't a state.
 
 ghost use Rattle.std.specs.Prelude.{◌≡◌};
 ghost use Rattle.fallible.specs.declared.failure.Failure.TheVariants.{Refused};
@@ -10,18 +10,18 @@ use thiserror::Error;
 /// The first fault of a text, from the top.
 #[derive(Clone, Copy, Error)]
 pub enum StateFault {
-    /// The line with this number, counted from 1, differs from its form or is out of range.
+    /// The line with this number, counted from 1, has another form, or a number out of range.
     #[error("S1 BadLine {line}")]
     BadLine { line: u64 },
-    /// The text ends before the LF of a needed line.
+    /// The text ends before the LF of a required line.
     #[error("S2 Truncated")]
     Truncated,
-    /// Something stands after the last atom's line.
+    /// The text continues after the line of the last atom.
     #[error("S3 Trailing")]
     Trailing,
 }
 
-/// A fault prints the same either way.
+/// `Debug` prints as `Display`. `thiserror` requires it, and a derived one is expensive to prove.
 impl fmt::Debug for StateFault {
     fn fmt<W: fmt::Write>(&self, f: &mut fmt::Formatter<W>) -> fmt::Result {
         fmt::Display::fmt(self, f)

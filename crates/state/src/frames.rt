@@ -1,4 +1,4 @@
-//! The frame of a state's current places.
+//! The GRO frame of a state's current coordinates.
 
 ghost use Rattle.std.specs.Prelude.{◌≡◌, map, pos, IfOk};
 ghost use Rattle.std.specs.List.{AllByRecursion};
@@ -20,15 +20,15 @@ impl<A: Allocator + Copy> State<A> {
     ghost use Rattle.state.specs.StateFrames.{IsFrameAtRest, frame_of};
     ghost use Rattle.state.specs.StateViews.{state_view};
 
-    /// The frame of the current places, as a GRO file has it: title, residue numbers, names and sides are the state's,
-    /// each position is the whole picometre nearest to its place, and velocities are zero.
+    /// The GRO frame of the current coordinates. Title, residue numbers, names and sides are the state's. Each position
+    /// is the integer number of picometres nearest to its grid coordinate, and velocities are zero.
     ///
-    /// It is refused only where an allocation was.
+    /// `AllocError` only if an allocation fails.
     pub fn frame(&self) -> Result<GroFrame<A>, AllocError>
         ensures value { IfOk result (λ f. frame_view f ≡ frame_of (state_view self.now)) }
-        // Atoms at rest in a box.
+        // All atoms are at rest and inside the box.
         ensures rest { IfOk result (λ f. IsFrameAtRest (frame_view f)) }
-        // So its text reads as the same frame again.
+        // All numbers fit their columns, so reading the frame's text gives the same frame.
         ensures columns { IfOk result (λ f. FitsColumns (frame_view f)) }
     {
         let alloc = *self.atoms.allocator();
@@ -43,6 +43,7 @@ impl<A: Allocator + Copy> State<A> {
     }
 }
 
+// The sides in 10^-5 nm.
 fn sides(ring: &RingBox) -> [i64; 3]
     ensures value { result ≡ map pos (sides_view ring.now) }
     ensures sides { AreThree IsSide result }
@@ -50,6 +51,7 @@ fn sides(ring: &RingBox) -> [i64; 3]
     ring.sides()
 }
 
+// The atoms as atoms of the frame.
 fn framed_atoms<A: Allocator>(
     alloc: A,
     ring: &RingBox,
@@ -65,6 +67,7 @@ fn framed_atoms<A: Allocator>(
     Ok(framed)
 }
 
+// The atom as an atom of the frame.
 fn framed_atom(ring: &RingBox, atom: &Atom) -> GroAtom
     ensures value { gro.atom_view result ≡ framed_atom (sides_view ring.now) (atom_view atom.now) }
     ensures rest { IsAtomAtRest (gro.atom_view result) }
@@ -78,6 +81,7 @@ fn framed_atom(ring: &RingBox, atom: &Atom) -> GroAtom
     }
 }
 
+// The position in picometres.
 fn position(ring: &RingBox, place: Place3) -> [i64; 3]
     ensures value { result ≡ position_of (sides_view ring.now) place }
     ensures within { AreThree IsInBox result }
@@ -89,7 +93,7 @@ fn position(ring: &RingBox, place: Place3) -> [i64; 3]
     ]
 }
 
-/// A place in picometres from the box's corner.
+/// A grid coordinate in picometres from the box's corner.
 fn coordinate(place: u32, side: Side) -> i64
     ensures value { result ≡ pm_of_place place side }
     ensures within { IsInBox result }

@@ -1,4 +1,5 @@
-//! States of a run, two frames that follow one another, and the one text of each: `State::read` and `State::write`.
+//! States of a run: a state is two consecutive frames. Each state has exactly one text, which `State::read` reads and
+//! `State::write` writes.
 #![tactic(auto)]
 
 mod faults;

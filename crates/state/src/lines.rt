@@ -19,7 +19,7 @@ use line_text::{
 };
 use ring_box::{Place3, RingBox, Side};
 
-/// The version, of which the first line alone tells.
+/// The version of the text, which only the first line determines.
 pub fn head(line: &[u8]) -> Option<Version>
     ensures { result ≡ head_of line.now }
 {
@@ -32,7 +32,7 @@ pub fn head(line: &[u8]) -> Option<Version>
     }
 }
 
-/// The title, any bytes but LF that don't end in CR.
+/// The title: any bytes except LF, not ending in CR.
 #[tactic(auto, unfolding(crate::specs::StateReading::title_of))]
 pub fn title(line: &[u8]) -> Option<&[u8]>
     requires { IsTrue (lacks 10 line.now) }
@@ -46,7 +46,7 @@ pub fn title(line: &[u8]) -> Option<&[u8]>
     Some(title)
 }
 
-/// The number of the current frame.
+/// The step counter of the current frame.
 #[tactic(auto, unfolding(crate::specs::StateReading::step_of))]
 pub fn step(line: &[u8]) -> Option<i64>
     ensures { result ≡ step_of line.now }
@@ -54,7 +54,7 @@ pub fn step(line: &[u8]) -> Option<i64>
     integer(strip(b"step ", line)?)
 }
 
-/// The fraction bits, 24 or 40: a state of 32 bits has no such line.
+/// The fraction bits, 24 or 40. A state with 32 fraction bits doesn't have this line.
 #[tactic(auto, unfolding(crate::specs::StateReading::frac_of))]
 pub fn frac(line: &[u8]) -> Option<Frac>
     ensures { result ≡ frac_of line.now }
@@ -75,7 +75,7 @@ pub fn count(line: &[u8]) -> Option<u64>
     natural(65_537, strip(b"atoms ", line)?)
 }
 
-/// The box, of sides from 1 to 16,000,000.
+/// The box, with sides from 1 to 16,000,000 in 10^-5 nm.
 #[tactic(auto, unfolding(crate::specs::StateReading::sides_of))]
 pub fn sides(line: &[u8]) -> Option<RingBox>
     ensures { option_map sides_view result ≡ sides_of line.now }
@@ -93,7 +93,7 @@ pub fn sides(line: &[u8]) -> Option<RingBox>
     }
 }
 
-/// The place that three numbers tell, and what stands after them.
+/// The grid coordinates in three words, and the rest of the text.
 #[tactic(auto, unfolding(crate::specs::StateReading::place_in))]
 fn place(text: &[u8]) -> Option<(Place3, &[u8])>
     ensures { option_map (λ x. (x.0, x.1.now)) result ≡ place_in text.now }
@@ -107,7 +107,7 @@ fn place(text: &[u8]) -> Option<(Place3, &[u8])>
     Some((place, rest))
 }
 
-/// The atom. What the line says is spelled again and compared, so only one line says it.
+/// The atom on its line. The atom is written again and compared with the line, so that only one line represents it.
 #[tactic(auto, unfolding(crate::specs::StateReading::atom_of))]
 pub fn atom(line: &[u8]) -> Option<Atom>
     ensures { option_map atom_view result ≡ atom_of line.now }
@@ -140,7 +140,7 @@ pub fn atom(line: &[u8]) -> Option<Atom>
     }
 }
 
-/// Whether the line is this atom's, without its LF.
+/// Whether the line, without its LF, is the line of this atom.
 fn is_spelled(atom: &Atom, line: &[u8]) -> bool
     ensures { result ≡ bytes_eq line.now (atom_line (atom_view atom.now)) }
 {
@@ -149,7 +149,7 @@ fn is_spelled(atom: &Atom, line: &[u8]) -> bool
     line == spelled.as_slice()
 }
 
-/// Appends the line of the fraction bits with its LF, where a state has one: at 24 and at 40.
+/// Appends the line of the fraction bits with its LF, if there are 24 or 40.
 pub fn put_bits(line: &mut Line, frac: Frac)
     requires { array_vec_len line.old + 26 ≤ 160 }
     ensures items { line.new.items ≡ line.old.items ++ bits_in (version_of frac) frac }
@@ -165,7 +165,7 @@ pub fn put_bits(line: &mut Line, frac: Frac)
     }
 }
 
-/// Appends an atom's line, without its LF.
+/// Appends an atom line, without its LF.
 pub fn put_atom(line: &mut Line, atom: &Atom)
     requires { array_vec_len line.old + 141 ≤ 160 }
     ensures atom { IsAtom (atom_view atom.now) }
@@ -180,7 +180,7 @@ pub fn put_atom(line: &mut Line, atom: &Atom)
     put_place(line, atom.current);
 }
 
-/// Appends a place, with a space before each of its three numbers.
+/// Appends grid coordinates, each after a space.
 fn put_place(line: &mut Line, place: Place3)
     requires { array_vec_len line.old + 63 ≤ 160 }
     ensures place { ArePlaces place }
@@ -192,7 +192,7 @@ fn put_place(line: &mut Line, place: Place3)
     put_word(line, u64::from(place.z));
 }
 
-/// Appends the sides of a box, with a space before each.
+/// Appends the sides of a box, each after a space.
 pub fn put_sides(line: &mut Line, ring: RingBox)
     requires { array_vec_len line.old + 63 ≤ 160 }
     ensures sides { AreThree IsSide (sides_view ring) }

@@ -23,24 +23,24 @@ impl<A: Allocator + Copy> State<A> {
     ghost use Rattle.state.specs.StateViews.{state_view};
     ghost use Rattle.state.specs.StateReading.{OneText, state_of};
 
-    /// The state whose one text the bytes are.
+    /// Reads the text of a state.
     ///
-    /// Lines are judged from the top, and the first fault is the answer: `Truncated` where the
-    /// bytes end before the LF of a needed line, else `BadLine` where the line differs from its
-    /// form or is out of range; after the last atom's line `Trailing`, where anything is left.
-    /// A text whose first line is `pairmd state 2` says `bits 24` or `bits 40` on its fourth line,
-    /// and its other lines follow; one whose first line is `pairmd state 1` has no such line.
-    /// `Memory`: an allocation was refused.
+    /// A text that starts with `pairmd state 2` has `bits 24` or `bits 40` on its fourth line, before the other lines.
+    /// A text that starts with `pairmd state 1` has no such line.
+    ///
+    /// Errors: lines are checked from the top, and the first fault is returned. `Truncated` if the text ends before the
+    /// LF of a required line, else `BadLine` if the line has another form or a number out of range. `Trailing` if bytes
+    /// follow the last atom's line. `Memory` if an allocation fails.
     pub fn read(alloc: A, bytes: &[u8]) -> Result<State<A>, Failure<StateFault>>
-        // What is read has these bytes as its text.
+        // The bytes are the text of the state that is returned.
         ensures found { IfOk result (λ x. IsState (state_view x) × (bytes.now ≡ state_text (state_view x))) }
-        // The text of a state is read as that state, unless memory runs out.
+        // If the bytes are the text of a state, this state is returned, unless memory runs out.
         ensures only { (s : StateView) → IsState s → bytes.now ≡ state_text s → Gives state_view (λ f. f) result (Ok s) }
-        // The state, or the first fault.
+        // The result is the state, or the first fault.
         ensures exact { Gives state_view (λ f. f) result (state_of bytes.now) }
-        // Why the bytes are no state's text: by the texts of states.
+        // A fault follows from the texts of states, independently of the order of reading.
         ensures cause { IfErr result (λ failure. IfRefused failure (IsCause bytes.now)) }
-        // The definition reads exactly the texts of states.
+        // The definition reads a text if and only if it is a state's.
         ensures one_text { OneText }
     {
         state(alloc, bytes)
@@ -48,6 +48,7 @@ impl<A: Allocator + Copy> State<A> {
 }
 
 #[tactic(auto, unfolding(crate::specs::StateReading::state_of))]
+// Reads the text of a state.
 fn state<A: Allocator + Copy>(alloc: A, bytes: &[u8]) -> Result<State<A>, Failure<StateFault>>
     ensures { Gives state_view (λ f. f) result (state_of bytes.now) }
 {
@@ -61,7 +62,7 @@ fn state<A: Allocator + Copy>(alloc: A, bytes: &[u8]) -> Result<State<A>, Failur
     from_count(alloc, title, step, frac, version.count_number(), rest)
 }
 
-/// The fraction bits, which only the second version has a line for, and what stands after that line.
+/// The fraction bits, which only the second version has a line for, and the bytes after this line.
 fn frac(version: Version, bytes: &[u8]) -> Result<(Frac, &[u8]), StateFault>
     ensures { Answers (λ x. (x.0, x.1.now)) (λ f. f) result (frac_at version bytes.now) }
 {
@@ -75,8 +76,8 @@ fn frac(version: Version, bytes: &[u8]) -> Result<(Frac, &[u8]), StateFault>
     }
 }
 
-/// The state of this title, step and fraction bits whose count, box and atoms the bytes are. The count is on the line
-/// with this number.
+/// Reads a state from its number of atoms on, which is on the line with this number. Title, step and fraction bits have
+/// been read.
 fn from_count<A: Allocator + Copy>(
     alloc: A,
     title: &[u8],
@@ -107,7 +108,9 @@ fn from_count<A: Allocator + Copy>(
     })
 }
 
-/// A needed line, and what stands after its LF.
+/// The next line, and the bytes after its LF.
+///
+/// `Truncated` if it has no LF.
 fn line(bytes: &[u8]) -> Result<(&[u8], &[u8]), StateFault>
     ensures exact { Answers (λ x. (x.0.now, x.1.now)) (λ f. f) result (line_at bytes.now) }
     ensures whole { IfOk result (λ x. IsTrue (lacks 10 x.0.now)) }
@@ -115,13 +118,14 @@ fn line(bytes: &[u8]) -> Result<(&[u8], &[u8]), StateFault>
     cut(b'\n', bytes).ok_or(StateFault::Truncated)
 }
 
+// The fault of a bad line.
 fn bad(line: u64) -> StateFault
     ensures { result ≡ StateFault.BadLine line }
 {
     StateFault::BadLine { line }
 }
 
-/// `count` atoms, the first on the line with this number, and what stands after them.
+/// `count` atoms, the first on the line with this number, and the bytes after them.
 fn atoms<A: Allocator + Copy>(
     alloc: A,
     first: u64,
@@ -143,7 +147,7 @@ fn atoms<A: Allocator + Copy>(
     Ok((atoms, rest))
 }
 
-/// The atom on the line with this number, and what stands after it.
+/// The atom on the line with this number, and the bytes after it.
 #[tactic(auto, unfolding(crate::specs::StateReading::atom_at))]
 fn atom(number: u64, bytes: &[u8]) -> Result<(Atom, &[u8]), StateFault>
     ensures { Answers (λ x. (atom_view x.0, x.1.now)) (λ f. f) result (atom_at number bytes.now) }

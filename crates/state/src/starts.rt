@@ -1,4 +1,4 @@
-//! The state that begins at a frame of a GRO file.
+//! The state that starts at a frame of a GRO file.
 
 ghost use Rattle.std.specs.Prelude.{◌≡◌, map, IfOk};
 ghost use Rattle.fallible.specs.Failures.{Gives};
@@ -21,26 +21,28 @@ impl<A: Allocator + Copy> State<A> {
     ghost use Rattle.state.specs.StateViews.{state_view};
     ghost use Rattle.state.specs.Starts.{BeginsAt, start_of_frame};
 
-    /// The state that begins at a frame: its counter is 0, its fraction bits are the job's, and title, residue numbers,
-    /// names and sides are the frame's. Each coordinate's current place is the one nearest to its position, and its
-    /// previous place is as many places before that as its velocity leads in the job's time step.
+    /// The state that starts at a frame. Its step counter is 0, its fraction bits are the job's, and title, residue
+    /// numbers, names and sides are the frame's. Each current grid coordinate is the one nearest to its position. Each
+    /// previous one is the current one minus the displacement in one time step of the job, rounded to grid units.
     ///
-    /// It is refused where the frame's sides are no box's: `NoBox` where all three are 0, else `SideRange` where some
-    /// side is below 1 or above 16,000,000. `Memory`: an allocation was refused.
+    /// Errors, before any allocation: `NoBox` if all three sides of the frame are 0, else `SideRange` if a side is
+    /// below 1 or above 16,000,000. `Memory` if an allocation fails.
     pub fn start<J: Allocator, F: Allocator>(
         alloc: A,
         job: &Job<J>,
         frame: &GroFrame<F>,
     ) -> Result<State<A>, Failure<BoxFault>>
-        // The state, or the fault of the sides.
+        // The result is the state, or the fault of the sides.
         ensures exact { Gives state_view (λ f. f) result (start_of_frame job.now.frac job.now.time_step (frame_view frame.now)) }
-        // Each place is nearest to where the frame, or the velocity one time step before it, has the atom.
+        // Each grid coordinate is nearest to the frame's position, or to where the velocity puts the atom one time step
+        // earlier.
         ensures begins { IfOk result (λ s. BeginsAt job.now.frac job.now.time_step (frame_view frame.now) (state_view s)) }
     {
         started(alloc, job.frac, job.time_step, frame)
     }
 }
 
+// The state that starts at a frame, with these fraction bits and this time step.
 fn started<A: Allocator + Copy, F: Allocator>(
     alloc: A,
     frac: Frac,
@@ -64,6 +66,7 @@ fn started<A: Allocator + Copy, F: Allocator>(
     })
 }
 
+// The atoms as atoms of the state.
 fn started_atoms<A: Allocator>(
     alloc: A,
     time_step: TimeStep,
@@ -79,6 +82,7 @@ fn started_atoms<A: Allocator>(
     Ok(started)
 }
 
+// The atom as an atom of the state.
 fn started_atom(time_step: TimeStep, ring: &RingBox, atom: &GroAtom) -> Atom
     ensures { atom_view result ≡ started_atom time_step ring.now (gro.atom_view atom.now) }
 {
@@ -93,6 +97,7 @@ fn started_atom(time_step: TimeStep, ring: &RingBox, atom: &GroAtom) -> Atom
     }
 }
 
+// The grid coordinates nearest to a position in picometres.
 fn current_place(ring: &RingBox, at: &[i64; 3]) -> Place3
     ensures { result ≡ current_place ring.now at.now }
 {
@@ -103,6 +108,7 @@ fn current_place(ring: &RingBox, at: &[i64; 3]) -> Place3
     }
 }
 
+// The grid coordinates one time step before `current`.
 fn previous_place(
     time_step: TimeStep,
     ring: &RingBox,

@@ -1,4 +1,4 @@
-//! Velocities in whole places.
+//! Displacements in one time step, rounded to grid units.
 
 ghost use Rattle.std.specs.Prelude.{◌≡◌, ◌<◌, ◌*◌, ◌^◌, pos, ◌-ℤ◌, ◌*ℤ◌, ◌<ℤ◌, unsigned_abs};
 ghost use Rattle.state.specs.Velocities.{IsPlaceBefore, IsWay, place_before, places_moved};
@@ -7,7 +7,7 @@ use fixed::round_div;
 use job::TimeStep;
 use ring_box::{Side, place_at};
 
-/// The way of a velocity in a time step, in 10^-7 nm / 2^32.
+/// The displacement of a velocity in a time step, in 10^-7 nm / 2^32. The velocity is in 10^-4 nm/ps.
 fn way(velocity: i64, time_step: TimeStep) -> i128
     ensures value { result ≡ velocity *ℤ pos (time_step * 2 ^ 32) }
     ensures bound { unsigned_abs result < 2 ^ 106 }
@@ -24,8 +24,9 @@ fn length(side: Side) -> i128
     100 * i128::from(side.get())
 }
 
-/// The whole number of places nearest to the way of an atom along a side in one time step, of two the upper one:
-/// `velocity` in 10^-4 nm/ps.
+/// The number of grid units nearest to the displacement of an atom along a side in one time step. `velocity` is in
+/// 10^-4 nm/ps. A tie would round up, but never occurs: the dividend is a multiple of 2^32, and 2^26 doesn't divide
+/// `100 L`.
 fn places_moved(velocity: i64, time_step: TimeStep, side: Side) -> i128
     ensures value { result ≡ places_moved velocity time_step side }
     ensures nearest { IsWay velocity time_step side result }
@@ -34,6 +35,7 @@ fn places_moved(velocity: i64, time_step: TimeStep, side: Side) -> i128
     round_div(way(velocity, time_step), length(side))
 }
 
+// The coordinate before the displacement, not yet reduced into the box.
 fn behind(current: u32, moved: i128) -> i128
     requires { unsigned_abs moved < 2 ^ 107 }
     ensures { result ≡ pos current -ℤ moved }
@@ -41,7 +43,8 @@ fn behind(current: u32, moved: i128) -> i128
     i128::from(current) - moved
 }
 
-/// The place from which an atom of this velocity moves to its current place in one time step, round the ring.
+/// The grid coordinate from which an atom of this velocity reaches `current` in one time step, reduced into the
+/// periodic box.
 pub(crate) fn place_before(current: u32, velocity: i64, time_step: TimeStep, side: Side) -> u32
     ensures value { result ≡ place_before current velocity time_step side }
     ensures before { IsPlaceBefore current velocity time_step side result }

@@ -1,4 +1,4 @@
-//! The versions of a state's text.
+//! Versions of a state's text.
 
 ghost use Rattle.std.specs.Prelude.{◌≡◌, ◌≤◌};
 ghost use Rattle.state.specs.StateText.{version_of};
@@ -6,12 +6,12 @@ ghost use Rattle.state.specs.StateReading.{count_number};
 
 use fixed::Frac;
 
-/// A version of the text. The fraction bits of a state say which one it has.
+/// A version of the text. The fraction bits of the state determine it, so that a state has only one text.
 #[derive(Clone, Copy)]
 pub enum Version {
-    /// That of 32 bits, which no line names.
+    /// 32 fraction bits, without a line for them.
     First,
-    /// That of 24 or 40 bits, as its fourth line says.
+    /// 24 or 40 fraction bits, on the fourth line.
     Second,
 }
 
@@ -26,7 +26,7 @@ impl Version {
         }
     }
 
-    /// The number of the line with the count of atoms.
+    /// The number of the line with the number of atoms.
     pub fn count_number(self) -> u64
         ensures value { result ≡ count_number self }
         ensures bound { result ≤ 5 }

@@ -24,13 +24,13 @@ impl<A: Allocator> State<A> {
     ghost use Rattle.state.specs.StateViews.{state_view};
     ghost use Rattle.state.specs.StateReading.{state_of};
 
-    /// Writes the state's one text. It takes no memory.
+    /// Writes the text of the state. It allocates nothing.
     ///
-    /// `OutFault` comes only from a write that failed, and then a beginning of the text was written.
+    /// `OutFault` only if a write failed; then a prefix of the text has been written.
     pub fn write<O: Out>(&self, out: &mut O) -> Result<(), OutFault>
         requires { (O.output out.old).failed < 2 ^ 64 - 1 }
         ensures writes { Writes (O.output out.old) (O.output out.new) (state_text (state_view self.now)) result }
-        // What was written reads as this state again.
+        // Reading the written text gives this state.
         ensures again { IfOk result (λ _. IsState (state_view self.now) × (state_of (state_text (state_view self.now)) ≡ Ok (state_view self.now))) }
     {
         write_all(out, front(self.frac))?;
@@ -64,7 +64,7 @@ fn front(frac: Frac) -> &'static [u8]
     }
 }
 
-/// The text between the title and the atoms: step, bits if they are not 32, number of atoms, box.
+/// The text between the title and the atom lines: step, fraction bits if they aren't 32, number of atoms, box.
 fn middle_line<A: Allocator>(state: &State<A>) -> Line
     ensures items { result.items ≡ middle state.now.step state.now.frac (length (state_view state.now).atoms) (sides_view state.now.ring) }
     ensures step { mag state.now.step < 2 ^ 63 }
@@ -83,7 +83,7 @@ fn middle_line<A: Allocator>(state: &State<A>) -> Line
     line
 }
 
-/// An atom's line with its LF.
+/// An atom line with its LF.
 fn whole_line(atom: &Atom) -> Line
     ensures items { result.items ≡ ended (atom_line (atom_view atom.now)) }
     ensures atom { IsAtom (atom_view atom.now) }
