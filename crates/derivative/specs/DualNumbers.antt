@@ -1,5 +1,5 @@
--- Dual numbers: x + x' e, where e e = 0. What an expression is at r + e is its value at r, plus e times its derivative
--- there.
+-- Dual numbers x + x' e with e e = 0, and derivatives defined by them: an expression's value at r + e is its value at r
+-- plus e times its derivative there. This is the algebra of forward-mode automatic differentiation.
 use Rattle.std.specs.Prelude.{◌≡◌, ◌≢◌, ◌↔◌, ℕ, suc, pos, negsuc, Bool, true, false, List, Option, Some, IsTrue, length, slice_get}
 use Rattle.energy_program.specs.declared.trees.Operator.TheVariants as op
 use Rattle.energy_program.specs.declared.trees.Function.{Function}
@@ -8,7 +8,7 @@ use Rattle.energy_program.specs.Tree.{Tree, Input, Negated, Binary, Applied, Pow
 use Rattle.energy_program.specs.Programs.{Trees}
 use Rattle.derivative.specs.Exact.{Ring, Numbers, minus, power, exact_value, exact_slope}
 
--- (x, x') is x + x' e: so a product is x y + (x' y + x y') e
+-- the dual numbers over a ring: (x, x') is x + x' e, so that a product is x y + (x' y + x y') e
 abbrev pub dual : {V : Type 0} → Ring V → Ring (V × V)
 dual r =
     record {
@@ -19,7 +19,7 @@ dual r =
       times = λ x y. (r.times x.0 y.0, r.plus (r.times x.1 y.0) (r.times x.0 y.1));
     }
 
--- a function whose values are the same around a place, but at its jumps
+-- the function is locally constant except at its jumps
 abbrev pub is_flat : Function → Bool
 is_flat f.SquareRoot = false
 is_flat f.Absolute = false
@@ -29,17 +29,19 @@ is_flat f.Floor = true
 is_flat f.Ceiling = true
 
 module _ {V : Type 0} (k : Numbers V) (inputs : List V) where
+  -- the value of a tree at r
   abbrev value : Tree → Option V
   value t = exact_value k inputs t
 
+  -- the dual numbers over these numbers
   abbrev duals : Ring (V × V)
   duals = dual k.ring
 
-  -- The value of a tree in dual numbers: the distance is r + e, the other inputs are as they are. A tree without the
-  -- distance is a constant. Sums, products, quotients, roots and powers are those of dual numbers: a quotient times the
-  -- divisor is the dividend, a root times itself is what it is the root of, a power is a product, and below 0 one over
-  -- it. `min`, `max`, `abs` and `select` are the part whose value they have, the first where both parts have it. What
-  -- is flat changes only by jumps, and has slope 0 at these too.
+  -- The value of a tree in dual numbers, with the distance at r + e and the other inputs constant. A tree without the
+  -- distance is a constant. Sums, products, quotients, roots and powers are dual numbers': a quotient times the divisor
+  -- is the dividend, a root times itself is its argument, a power is a product, and a negative power one over it.
+  -- `min`, `max`, `abs` and `select` follow the part whose value they have, the first if both have it. A locally
+  -- constant function has derivative 0, at its jumps as well.
   pub data IsNear : Tree → V × V → Type 0 where
     constant : {t : Tree} {v : V} → is_free_of_distance t ≡ true → value t ≡ Some v → IsNear t (v, k.ring.zero)
     distance : {r : V} → slice_get inputs 0 ≡ Some r → IsNear (Input 0) (r, k.ring.one)
@@ -61,19 +63,19 @@ module _ {V : Type 0} (k : Numbers V) (inputs : List V) where
     select_first : {c a b : Tree} {x : V} {y : V × V} → value c ≡ Some x → k.is_zero x ≡ false → IsNear a y → IsNear (Select c a b) y
     select_second : {c a b : Tree} {x : V} {y : V × V} → value c ≡ Some x → k.is_zero x ≡ true → IsNear b y → IsNear (Select c a b) y
 
-  -- The slope of the table is the derivative: at r + e the tree is v + s e exactly where v is its value at r, and s its
-  -- slope.
+  -- The table's slope is the derivative: at r + e the tree is v + s e if and only if v is its value at r, and s its
+  -- slope there.
   abbrev pub IsDerivative : Tree → Type 0
   IsDerivative t = (v s : V) → IsNear t (v, s) ↔ ((exact_value k inputs t ≡ Some v) × (exact_slope k inputs t ≡ Some s))
 
-  -- The program of the slope is that of the derivative: at r + e the tree of the program is v + s e exactly where v is
-  -- its value at r, and s the value of the slope's program there.
+  -- The slope's program computes the derivative: at r + e the program's tree is v + s e if and only if v is its value
+  -- at r, and s the value of the slope's program there.
   abbrev pub IsDerivativeProgram : (program slope : Trees) → Type 0
   IsDerivativeProgram program slope =
       (v s : V) → IsNear (substituted program.0 program.1) (v, s)
       ↔ ((exact_value k inputs (substituted program.0 program.1) ≡ Some v) × (exact_value k inputs (substituted slope.0 slope.1) ≡ Some s))
 
--- each variable of a program is one of `inputs` inputs, each definition that is used a later one, and each power one
--- that there is
+-- every variable of a program is one of `inputs` inputs, every definition uses only later ones, and every exponent is
+-- allowed
 abbrev pub IsScoped : ℕ → Trees → Type 0
 IsScoped inputs program = IsTrue (is_scoped inputs 0 (length program.1) program.0) × IsTrue (are_scoped inputs 0 program.1)

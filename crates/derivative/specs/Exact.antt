@@ -1,4 +1,4 @@
--- Trees read over exact numbers, where no operation rounds or overflows.
+-- The semantics of trees over exact numbers, whose operations neither round nor overflow.
 use Rattle.std.specs.Prelude.{◌≡◌, ◌≢◌, ℕ, zero, suc, ℤ, pos, negsuc, neg_ℤ, ◌*◌, ◌^◌, ◌==◌, ◌+ℤ◌, ◌-ℤ◌, ◌*ℤ◌, Bool, true, false, if◌then◌else◌, List, Option, Some, None, slice_get}
 use Rattle.fixed.specs.Arithmetic.{floor_of, is_zero}
 use Rattle.fixed.specs.Roots.{root}
@@ -9,7 +9,7 @@ use Rattle.energy_program.specs.declared.trees.Function.TheVariants as f
 use Rattle.energy_program.specs.Tree.{Tree, Number, Input, Definition, Negated, Binary, Applied, Power, Select}
 use Rattle.derivative.specs.Slope.{Operations, slope_by}
 
--- the operations of a ring, and its 0 and 1
+-- the operations and constants of a ring
 pub record Ring (V : Type 0) : Type 0 where
   pub zero : V
   pub one : V
@@ -17,7 +17,7 @@ pub record Ring (V : Type 0) : Type 0 where
   pub negative : V → V
   pub times : V → V → V
 
--- a commutative ring
+-- the laws of a commutative ring
 pub record IsRing {V : Type 0} (r : Ring V) : Type 0 where
   pub plus_assoc : (x y z : V) → r.plus (r.plus x y) z ≡ r.plus x (r.plus y z)
   pub plus_comm : (x y : V) → r.plus x y ≡ r.plus y x
@@ -28,15 +28,16 @@ pub record IsRing {V : Type 0} (r : Ring V) : Type 0 where
   pub times_one : (x : V) → r.times x r.one ≡ x
   pub times_plus : (x y z : V) → r.times x (r.plus y z) ≡ r.plus (r.times x y) (r.times x z)
 
+-- subtraction
 abbrev pub minus : {V : Type 0} → Ring V → V → V → V
 minus r x y = r.plus x (r.negative y)
 
--- the whole number n
+-- the natural number n in the ring
 abbrev pub whole : {V : Type 0} → Ring V → ℕ → V
 whole r zero = r.zero
 whole r (suc n) = r.plus (whole r n) r.one
 
--- the whole number z, also below 0
+-- the integer z in the ring
 abbrev pub integer : {V : Type 0} → Ring V → ℤ → V
 integer r (pos n) = whole r n
 integer r (negsuc n) = r.negative (whole r (suc n))
@@ -46,8 +47,8 @@ abbrev pub power : {V : Type 0} → Ring V → V → ℕ → V
 power r x zero = r.one
 power r x (suc n) = r.times (power r x n) x
 
--- Numbers with the operations of energies. Quotients and roots are there or not; `number` is what a number of a tree
--- stands for.
+-- Numbers with the operations of energies. Quotients and roots may be missing; `number` is the number that a constant's
+-- raw value stands for.
 pub record Numbers (V : Type 0) : Type 0 where
   pub ring : Ring V
   pub quotient : V → V → Option V
@@ -58,9 +59,9 @@ pub record Numbers (V : Type 0) : Type 0 where
   pub ceiling : V → V
   pub number : ℤ → V
 
--- The laws of exact numbers, which hold of fractions and of real numbers: a commutative ring without zero divisors, in
--- which 2 is not 0 and sums keep the order. A quotient is the number that times the divisor is the dividend; the square
--- of a root is the number that it is the root of. No more is asked of roots, of the order, and of floors and ceilings.
+-- The laws of exact numbers, which fractions and real numbers satisfy: a commutative ring without zero divisors, in
+-- which 2 is not 0 and addition preserves the order. A quotient times the divisor is the dividend; a root's square is
+-- its argument. Nothing else is required of roots, the order, floors and ceilings.
 pub record AreExact {V : Type 0} (k : Numbers V) : Type 0 where
   pub is_ring : IsRing k.ring
   pub no_zero_divisors : (x y : V) → k.ring.times x y ≡ k.ring.zero → y ≢ k.ring.zero → x ≡ k.ring.zero
@@ -73,7 +74,7 @@ pub record AreExact {V : Type 0} (k : Numbers V) : Type 0 where
   pub root_square : (x y : V) → k.root x ≡ Some y → k.ring.times y y ≡ x
   pub order_kept : (x y z : V) → k.is_at_most (k.ring.plus x z) (k.ring.plus y z) ≡ k.is_at_most x y
 
--- ---- the whole numbers, with those quotients and roots that are whole
+-- ---- the integers, with a quotient or root only if it is an integer
 
 abbrev pub exact_quotient : ℤ → ℤ → Option ℤ
 exact_quotient n d = if is_zero d then None else (if is_zero (floor_of n d *ℤ d -ℤ n) then Some (floor_of n d) else None)
@@ -99,13 +100,13 @@ whole_numbers =
       number = λ z. z;
     }
 
--- a number of a tree, with `bits` bits behind the point, stands for its raw value over 2^bits
+-- a constant with `bits` fraction bits is its raw value over 2^bits
 abbrev pub StandsForFraction : {V : Type 0} → Numbers V → ℕ → ℤ → Type 0
 StandsForFraction k bits z = k.ring.times (k.number z) (whole k.ring (2 ^ bits)) ≡ integer k.ring z
 
 -- ---- values
 
--- an operation on values, each of which may be missing
+-- an operation lifted to values that may be missing
 abbrev pub on_one : {V : Type 0} → (V → Option V) → Option V → Option V
 on_one f None = None
 on_one f (Some x) = f x
@@ -123,17 +124,17 @@ absolute_of k x = if k.is_at_most k.ring.zero x then x else k.ring.negative x
 abbrev pub delta_of : {V : Type 0} → Numbers V → V → V
 delta_of k x = if k.is_zero x then k.ring.one else k.ring.zero
 
--- a power below 0 is the quotient of one and the power: negsuc m is -(m + 1)
+-- a negative power is one over the power; negsuc m is -(m + 1)
 abbrev pub power_of : {V : Type 0} → Numbers V → ℤ → V → Option V
 power_of k (pos n) x = Some (power k.ring x n)
 power_of k (negsuc m) x = k.quotient k.ring.one (power k.ring x (suc m))
 
--- the second where the first is not zero, else the third
+-- the second value if the first isn't 0, else the third; the one that isn't chosen may be missing
 abbrev pub selected : {V : Type 0} → Numbers V → Option V → Option V → Option V → Option V
 selected k None y z = None
 selected k (Some x) y z = if k.is_zero x then z else y
 
--- the operations of the table of slopes
+-- the operations of the table of derivatives
 abbrev pub exact : {V : Type 0} → Numbers V → Operations V
 exact k =
     record {
@@ -152,6 +153,7 @@ exact k =
       selected = selected k;
     }
 
+-- the value of a binary operation
 abbrev pub operation : {V : Type 0} → Numbers V → Operator → Option V → Option V → Option V
 operation k op.Add x y = (exact k).sum x y
 operation k op.Subtract x y = (exact k).difference x y
@@ -160,6 +162,7 @@ operation k op.Divide x y = (exact k).quotient x y
 operation k op.Minimum x y = on_two (λ a b. Some (if k.is_at_most a b then a else b)) x y
 operation k op.Maximum x y = on_two (λ a b. Some (if k.is_at_most b a then a else b)) x y
 
+-- the value of a function
 abbrev pub applied : {V : Type 0} → Numbers V → Function → Option V → Option V
 applied k f.SquareRoot x = (exact k).square_root x
 applied k f.Absolute x = on_one (λ a. Some (absolute_of k a)) x
@@ -168,7 +171,7 @@ applied k f.Delta x = on_one (λ a. Some (delta_of k a)) x
 applied k f.Floor x = on_one (λ a. Some (k.floor a)) x
 applied k f.Ceiling x = on_one (λ a. Some (k.ceiling a)) x
 
--- The exact value of a tree with all definitions put in place, where these are the inputs: the distance, then the
+-- The exact value of a tree, after all definitions are substituted, on these inputs: the distance first, then the
 -- others.
 abbrev pub exact_value : {V : Type 0} → Numbers V → List V → Tree → Option V
 exact_value k inputs (Number z) = Some (k.number z)
@@ -180,6 +183,6 @@ exact_value k inputs (Applied g a) = applied k g (exact_value k inputs a)
 exact_value k inputs (Power a n) = (exact k).power (exact_value k inputs a) n
 exact_value k inputs (Select x a b) = selected k (exact_value k inputs x) (exact_value k inputs a) (exact_value k inputs b)
 
--- the slope of the table, over the same numbers
+-- the slope according to the table, over exact numbers
 abbrev pub exact_slope : {V : Type 0} → Numbers V → List V → Tree → Option V
 exact_slope k inputs tree = slope_by (exact k) (exact_value k inputs) tree

@@ -1,8 +1,7 @@
--- Slopes of energy expressions along the distance: the table of derivatives, as a partial function of values. It builds
--- no tree. Of a tree with all definitions put in place it is asked; the first row that fits is the one that holds. A
--- tree that is free of the distance has slope 0, whether or not it has a value. The table is told once, of any numbers
--- with its operations: `slope_of` is the slope of fixed-point numbers, and `exact_slope` of specs/Exact that of exact
--- ones.
+-- The table of derivatives with respect to the distance, as a partial function of values; it builds no tree. It applies
+-- to trees after definitions are substituted, and the first row that matches counts. A tree that is free of the
+-- distance has slope 0, whether or not it has a value. The table is generic in its numbers: `slope_of` here is its
+-- fixed-point instance, `exact_slope` in Exact its instance over exact numbers.
 use Rattle.std.specs.Prelude.{ℕ, ◌+◌, ◌*◌, ◌^◌, ◌-◌, ℤ, pos, negsuc, Bool, true, false, ◌==◌, ◌&&◌, if◌then◌else◌, List, Option, Some}
 use Rattle.fixed.specs.Arithmetic.{one}
 use Rattle.energy_program.specs.declared.trees.Operator.{Operator}
@@ -12,7 +11,7 @@ use Rattle.energy_program.specs.declared.trees.Function.TheVariants as f
 use Rattle.energy_program.specs.Tree.{Tree, Number, Input, Definition, Negated, Binary, Applied, Power, Select, is_free_of_distance}
 use Rattle.energy_program.specs.Value.{negative, sum, difference, product, square, quotient, square_root, step, power, selected, value_of}
 
--- the operations of the table, on values that may be missing
+-- the operations that the table uses, on values that may be missing
 pub record Operations (V : Type 0) : Type 0 where
   pub zero : V
   pub one : V
@@ -30,8 +29,8 @@ pub record Operations (V : Type 0) : Type 0 where
 
 -- ---- the table
 
--- `u` and `v` are the values of the parts, `du` and `dv` their slopes. Each row of a product and of a quotient is asked
--- for by which part is free of the distance, the left and the right one; both never are, since then the whole is.
+-- `u` and `v` are the values of the parts, `du` and `dv` their slopes. The rows of products and quotients depend on
+-- which part, left or right, is free of the distance; both never are, since then the whole tree is free.
 abbrev pub product_row : {V : Type 0} → Operations V → Bool → Bool → Option V → Option V → Option V → Option V → Option V
 product_row on true free_v u v du dv = on.product u dv
 product_row on false true u v du dv = on.product du v
@@ -50,7 +49,7 @@ operation_row on op.Divide free_u free_v u v du dv = quotient_row on free_u free
 operation_row on op.Minimum free_u free_v u v du dv = on.selected (on.step (on.difference v u)) du dv
 operation_row on op.Maximum free_u free_v u v du dv = on.selected (on.step (on.difference u v)) du dv
 
--- a function that is flat but for its jumps has slope 0, and its part needs no value
+-- a locally constant function has slope 0, and its argument needs no value
 abbrev pub applied_row : {V : Type 0} → Operations V → Function → Option V → Option V → Option V
 applied_row on f.SquareRoot u du = on.quotient du (on.product (on.whole 2) (on.square_root u))
 applied_row on f.Absolute u du = on.selected (on.step u) du (on.negative du)
@@ -59,17 +58,17 @@ applied_row on f.Delta u du = Some on.zero
 applied_row on f.Floor u du = Some on.zero
 applied_row on f.Ceiling u du = Some on.zero
 
--- negsuc m is -(m + 1)
+-- the power rule; negsuc m is -(m + 1)
 abbrev pub power_row : {V : Type 0} → Operations V → Option V → ℤ → Option V → Option V
 power_row on u (pos n) du = if n == 1 then du else on.product (on.product (on.whole n) (on.power u (pos (n - 1)))) du
 power_row on u (negsuc m) du = on.negative (on.quotient (on.product (on.whole (m + 1)) du) (on.power u (pos (m + 2))))
 
--- zero for what is free of the distance, whatever else would be
+-- zero for a tree that is free of the distance, whether or not a slope exists
 abbrev pub unless_constant : {V : Type 0} → V → Bool → Option V → Option V
 unless_constant zero true slope = Some zero
 unless_constant zero false slope = slope
 
--- the slope, where trees have these values
+-- the slope of a tree, if `value` gives the values of its subtrees
 abbrev pub slope_by : {V : Type 0} → Operations V → (Tree → Option V) → Tree → Option V
 slope_by on value (Number z) = Some on.zero
 slope_by on value (Input i) = Some (if i == 0 then on.one else on.zero)
@@ -84,12 +83,13 @@ slope_by on value (Select x a b) =
     unless_constant on.zero (is_free_of_distance x && (is_free_of_distance a && is_free_of_distance b))
     (on.selected (value x) (slope_by on value a) (slope_by on value b))
 
--- ---- its fixed-point reading
+-- ---- the table over fixed-point numbers
 
--- the whole number n as a value
+-- the integer n as a fixed-point value
 abbrev pub whole : ℕ → ℕ → Option ℤ
 whole bits n = Some (pos (n * 2 ^ bits))
 
+-- the fixed-point operations with `bits` fraction bits
 abbrev pub fixed_point : ℕ → Operations ℤ
 fixed_point bits =
     record {
@@ -126,6 +126,6 @@ power_slope bits u n du = power_row (fixed_point bits) u n du
 abbrev pub zero_or : Bool → Option ℤ → Option ℤ
 zero_or free slope = unless_constant (pos 0) free slope
 
--- the slope of a tree, with `bits` bits behind the point, where these are the inputs: the distance, then the others
+-- the slope of a tree with `bits` fraction bits on these inputs: the distance first, then the others
 abbrev pub slope_of : ℕ → List ℤ → Tree → Option ℤ
 slope_of bits inputs tree = slope_by (fixed_point bits) (value_of bits inputs) tree

@@ -1,6 +1,6 @@
--- The trees that are written for slopes, and all definitions of the program that they stand in. Each row is one of the
--- table of slopes. In a written tree the use of a definition j stands for its slope, and that of n + j for what j stood
--- for, where there were n definitions.
+-- The trees built for derivatives. Each function is a row of the table in Slope. In a built tree the use of definition
+-- j means its derivative, and the use of definition n + j the old definition j, if there were n definitions. This
+-- builder and the table are separate definitions; a theorem joins them.
 use Rattle.std.specs.Prelude.{◌≡◌, ℕ, ◌+◌, ◌*◌, ◌^◌, ◌-◌, ℤ, pos, negsuc, neg_ℤ, Bool, true, false, ◌==◌, ◌&&◌, nat_lt, if◌then◌else◌, List, ◌++◌, map, length, slice_index_or}
 use Rattle.fixed.specs.Arithmetic.{one}
 use Rattle.energy_program.specs.declared.trees.Operator.{Operator}
@@ -9,7 +9,7 @@ use Rattle.energy_program.specs.declared.trees.Function.{Function}
 use Rattle.energy_program.specs.declared.trees.Function.TheVariants as f
 use Rattle.energy_program.specs.Tree.{Tree, Number, Input, Definition, Negated, Binary, Applied, Power, Select, is_exponent, is_free_of_distance, meaning}
 
--- the distance doesn't occur, where this is known of the definitions
+-- the tree is free of the distance, if `free` holds that for each definition
 abbrev pub is_free_given : (ℕ → Bool) → Tree → Bool
 is_free_given free (Number z) = true
 is_free_given free (Input i) = if i == 0 then false else true
@@ -20,7 +20,7 @@ is_free_given free (Applied g a) = is_free_given free a
 is_free_given free (Power a n) = is_free_given free a
 is_free_given free (Select x a b) = is_free_given free x && (is_free_given free a && is_free_given free b)
 
--- the tree with n more in each use of a definition
+-- the tree with every definition's number raised by n
 abbrev pub moved : ℕ → Tree → Tree
 moved n (Number z) = Number z
 moved n (Input i) = Input i
@@ -31,7 +31,7 @@ moved n (Applied g a) = Applied g (moved n a)
 moved n (Power a k) = Power (moved n a) k
 moved n (Select x a b) = Select (moved n x) (moved n a) (moved n b)
 
--- each use of a definition has a number that fits 32 bits with n more, and each power is one that there is
+-- every definition's number raised by n fits 32 bits, and every exponent is allowed
 abbrev pub is_writable : ℕ → Tree → Bool
 is_writable n (Number z) = true
 is_writable n (Input i) = true
@@ -42,7 +42,7 @@ is_writable n (Applied g a) = is_writable n a
 is_writable n (Power a k) = is_exponent k && is_writable n a
 is_writable n (Select x a b) = is_writable n x && (is_writable n a && is_writable n b)
 
--- `u` and `v` are the parts, `du` and `dv` what is written for their slopes
+-- `u` and `v` are the parts, `du` and `dv` the trees of their derivatives
 abbrev pub product_tree : (u_free v_free : Bool) → (u v du dv : Tree) → Tree
 product_tree true v_free u v du dv = Binary op.Multiply u dv
 product_tree false true u v du dv = Binary op.Multiply du v
@@ -61,11 +61,12 @@ operation_tree op.Divide u_free v_free u v du dv = quotient_tree u_free v_free u
 operation_tree op.Minimum u_free v_free u v du dv = Select (Applied f.Step (Binary op.Subtract v u)) du dv
 operation_tree op.Maximum u_free v_free u v du dv = Select (Applied f.Step (Binary op.Subtract u v)) du dv
 
--- the whole number n
+-- the constant n
 abbrev pub whole_number : ℕ → ℕ → Tree
 whole_number bits n = Number (pos (n * 2 ^ bits))
 
--- The slope of an absolute value is that of the part, times one or minus one: so `du` stands there once.
+-- The derivative of an absolute value is 1 or -1 times the argument's, so that `du` appears once. By the laws of
+-- products its value and faults are those of the table's row.
 abbrev pub applied_tree : ℕ → Function → (u du : Tree) → Tree
 applied_tree bits f.SquareRoot u du = Binary op.Divide du (Binary op.Multiply (whole_number bits 2) (Applied f.SquareRoot u))
 applied_tree bits f.Absolute u du = Binary op.Multiply (Select (Applied f.Step u) (Number (one bits)) (Number (neg_ℤ (one bits)))) du
@@ -74,16 +75,17 @@ applied_tree bits f.Delta u du = Number (pos 0)
 applied_tree bits f.Floor u du = Number (pos 0)
 applied_tree bits f.Ceiling u du = Number (pos 0)
 
--- negsuc m is -(m + 1)
+-- the power rule; negsuc m is -(m + 1)
 abbrev pub power_tree : ℕ → ℤ → (u du : Tree) → Tree
 power_tree bits (pos n) u du = if n == 1 then du else Binary op.Multiply (Binary op.Multiply (whole_number bits n) (Power u (pos (n - 1)))) du
 power_tree bits (negsuc m) u du = Negated (Binary op.Divide (Binary op.Multiply (whole_number bits (m + 1)) du) (Power u (pos (m + 2))))
 
--- zero for what is free of the distance
+-- zero for a tree that is free of the distance
 abbrev pub unless_free : Bool → Tree → Tree
 unless_free true e = Number (pos 0)
 unless_free false e = e
 
+-- the tree of a tree's derivative
 abbrev pub slope_tree : ℕ → (ℕ → Bool) → ℕ → Tree → Tree
 slope_tree bits free n (Number z) = Number (pos 0)
 slope_tree bits free n (Input i) = Number (if i == 0 then one bits else pos 0)
@@ -98,15 +100,15 @@ slope_tree bits free n (Select x a b) =
     unless_free (is_free_given free x && (is_free_given free a && is_free_given free b))
     (Select (moved n x) (slope_tree bits free n a) (slope_tree bits free n b))
 
--- the tree that definition j stands for is free of the distance
+-- definition j, with later definitions substituted, is free of the distance
 abbrev pub free_among : List Tree → ℕ → Bool
 free_among definitions j = is_free_of_distance (meaning 0 definitions j)
 
--- the slopes of all definitions, and then the definitions
+-- the derivatives of all definitions, followed by the definitions
 abbrev pub all_slopes : ℕ → (ℕ → Bool) → List Tree → List Tree
 all_slopes bits free definitions =
     map (slope_tree bits free (length definitions)) definitions ++ map (moved (length definitions)) definitions
 
--- the list says of each definition whether it is free of the distance, and no other is a definition
+-- the list holds for each definition whether it is free of the distance
 abbrev pub IsFreeTable : List Bool → List Tree → Type 0
 IsFreeTable table definitions = (j : ℕ) → slice_index_or table j true ≡ free_among definitions j

@@ -15,27 +15,28 @@ use fallible::Failure;
 use fixed::Frac;
 use std::alloc::{AllocError, Allocator};
 
-/// The program of the slope along the distance, in kJ/mol/nm, of a program's energy, with numbers of the given fraction
+/// The program of a program's derivative with respect to the distance, in kJ/mol/nm. Constants have the given fraction
 /// bits.
 ///
-/// Its definitions are those of the program and their slopes, as far as the slope uses them, directly or through
-/// another. A part that is free of the distance has slope 0, and its value isn't asked for. `min`, `max` and `select`
-/// give a choice between the slopes of their parts; `abs` gives its part's slope times one or minus one, so that a
-/// part's slope is written once.
+/// Its definitions are the program's definitions and their derivatives, as far as the derivative uses them, directly or
+/// through another. So definitions stay shared, and the derivative doesn't grow exponentially with their nesting. A
+/// subexpression that doesn't depend on the distance has derivative 0, and isn't evaluated for it. The derivative of
+/// `min`, `max` and `select` is a choice between the derivatives of their parts; the derivative of `abs` is its
+/// argument's derivative times 1 or -1, so that no derivative is written twice.
 ///
-/// `TooLarge`: more than 128 definitions would be needed. `Memory`: an allocation was refused.
+/// Errors: `TooLarge` if more than 128 definitions would be needed; `Memory` if an allocation fails.
 pub fn derive<A: Allocator + Copy>(
     alloc: A,
     frac: Frac,
     program: &Program<A>,
 ) -> Result<Program<A>, Failure<ExprFault<A>>>
-    // Its value is the slope, and one is defined iff the other is.
+    // Its value is the specified slope, and both are undefined on the same inputs.
     ensures value { IfOk result (λ p. (inputs : List ℤ) → value_of (bits_of frac) inputs (program_tree p) ≡ slope_of (bits_of frac) inputs (program_tree program.now)) }
-    // The body needs each definition: it uses it, directly or through another.
+    // The body uses each definition, directly or through another.
     ensures needed { IfOk result (λ p. AllNeeded (trees_of p).0 (trees_of p).1) }
     ensures parameters { IfOk result (λ p. p.parameters ≡ program.now.parameters) }
     ensures globals { IfOk result (λ p. p.globals ≡ program.now.globals) }
-    // Which answer it is.
+    // The result, error included, is determined by the program's trees.
     ensures exact { Gives trees_of result (slope_program (bits_of frac) (trees_of program.now)) }
 {
     let slope = needed_parts(alloc, frac, program)?;
@@ -50,7 +51,7 @@ pub fn derive<A: Allocator + Copy>(
     })
 }
 
-// The slope's body, and the definitions that it needs.
+// The body of the derivative, and only the definitions that it needs.
 fn needed_parts<A: Allocator + Copy>(
     alloc: A,
     frac: Frac,

@@ -1,5 +1,5 @@
-//! Trees put together of parts that may not have been built. They are taken apart here alone: so their callers hold no
-//! tree where a part is missing.
+//! Tree constructors whose parts may be failed allocations. Unpacking the parts here keeps the trees off the stack
+//! frames of the recursive callers.
 
 ghost use Rattle.std.specs.Prelude.{◌≡◌, IfOk};
 ghost use Rattle.energy_program.specs.Tree as t;
@@ -9,21 +9,21 @@ use energy_program::{Built, Function, Operator, applied, binary, negated, select
 use fallible::pair;
 use std::alloc::Allocator;
 
-/// The negative of a tree, if that was built.
+/// The negative of a tree, or the failed allocation.
 pub fn opposite<A: Allocator + Copy>(alloc: A, part: Built<A>) -> Built<A>
     ensures { (u : Tree) → IfOk part (λ e. tree_of e ≡ u) → IfOk result (λ e. tree_of e ≡ t.Negated u) }
 {
     negated(alloc, part?)
 }
 
-/// A function of a tree, if that was built.
+/// A function applied to a tree, or the failed allocation.
 pub fn called<A: Allocator + Copy>(alloc: A, function: Function, part: Built<A>) -> Built<A>
     ensures { (u : Tree) → IfOk part (λ e. tree_of e ≡ u) → IfOk result (λ e. tree_of e ≡ t.Applied function u) }
 {
     applied(alloc, function, part?)
 }
 
-/// An operation on two trees, if both were built.
+/// A binary operation on two trees, or the first failed allocation.
 pub fn both<A: Allocator + Copy>(
     alloc: A,
     operator: Operator,
@@ -36,7 +36,7 @@ pub fn both<A: Allocator + Copy>(
     binary(alloc, operator, left, right)
 }
 
-/// A choice between two trees, if all three were built.
+/// A choice between two trees, or the first failed allocation.
 pub fn choice<A: Allocator + Copy>(
     alloc: A,
     condition: Built<A>,

@@ -1,4 +1,5 @@
-//! Slopes of energy programs: from a program to the program of its slope along the distance.
+//! Symbolic differentiation: from an energy program to the program of its derivative with respect to the distance,
+//! dU/dr, called slope here. The theorem `slopes_are_derivatives` relates the result to dual numbers.
 #![tactic(auto)]
 
 mod derivative;

@@ -1,4 +1,4 @@
-//! Copies of trees whose definitions have higher numbers.
+//! Copies of trees with the numbers of definitions shifted.
 
 ghost use Rattle.std.specs.Prelude.{◌≡◌, IfOk, IsTrue};
 ghost use Rattle.energy_program.specs.Tree.{tree_of};
@@ -8,7 +8,7 @@ use crate::joined::{both, called, choice, opposite};
 use energy_program::{Built, Expr, power};
 use std::alloc::Allocator;
 
-/// A copy in which each use of a definition has a number that is higher by `by`.
+/// A copy of the tree in which every use of a definition has its number raised by `by`.
 pub fn moved<A: Allocator + Copy>(alloc: A, by: u32, tree: &Expr<A>) -> Built<A>
     requires { IsTrue (w.is_writable by (tree_of tree.now)) }
     ensures { IfOk result (λ e. tree_of e ≡ w.moved by (tree_of tree.now)) }

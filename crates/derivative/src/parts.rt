@@ -1,9 +1,9 @@
-//! Bodies with definitions.
+//! A body with definitions, before the limit on definitions is checked.
 
 use energy_program::Expr;
 use std::alloc::Allocator;
 
-/// A body and its definitions, of which there may be more than a program has.
+/// A body and its definitions, possibly more than a program may have.
 #[derive(Drop)]
 pub struct Parts<A: Allocator> {
     pub body: Expr<A>,

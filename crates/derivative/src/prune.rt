@@ -1,4 +1,4 @@
-//! A program without the definitions that it doesn't use.
+//! Dead-code elimination: removes the definitions that a body doesn't use.
 
 ghost use Rattle.std.specs.Prelude.{◌≡◌, ◌≤◌, IfOk, map};
 ghost use Rattle.energy_program.specs.Tree.{tree_of};
@@ -11,7 +11,7 @@ use crate::parts::Parts;
 use energy_program::{Built, Expr, is_marked, marks_of, power};
 use std::alloc::{AllocError, Allocator};
 
-// The new number of a definition: how many before it are marked.
+// The new number of a definition: the number of marked definitions before it.
 fn rank(marks: &[bool], number: u32) -> u32
     ensures value { result ≡ u.rank marks.now number }
     ensures bound { result ≤ number }
@@ -27,7 +27,7 @@ fn rank(marks: &[bool], number: u32) -> u32
     }
 }
 
-// A copy in which definitions have their new numbers.
+// A copy of the tree in which definitions have their new numbers.
 fn renumbered<A: Allocator + Copy>(alloc: A, marks: &[bool], tree: &Expr<A>) -> Built<A>
     ensures { IfOk result (λ e. tree_of e ≡ u.renumbered (u.rank marks.now) (tree_of tree.now)) }
 {
@@ -54,7 +54,7 @@ fn renumbered<A: Allocator + Copy>(alloc: A, marks: &[bool], tree: &Expr<A>) -> 
     }
 }
 
-// The definitions that are marked.
+// Copies of the marked definitions, renumbered.
 fn kept<A: Allocator + Copy>(
     alloc: A,
     marks: &[bool],
@@ -72,7 +72,7 @@ fn kept<A: Allocator + Copy>(
     Ok(left)
 }
 
-/// A program's body and definitions without the definitions that the body doesn't need, the others renumbered in order.
+/// The body and the definitions that it uses, directly or through another, renumbered in order.
 pub fn pruned<A: Allocator + Copy>(alloc: A, parts: &Parts<A>) -> Result<Parts<A>, AllocError>
     ensures { IfOk result (λ p. parts_of p ≡ d.pruned (parts_of parts.now)) }
 {

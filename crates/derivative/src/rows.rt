@@ -1,5 +1,6 @@
-//! The rows of the table of slopes: what is written for an operation, where the slopes of its parts are written
-//! already. `u` and `v` are the parts, `du` and `dv` their slopes.
+//! The rows of the table of derivatives: builds the derivative of an operation from the derivatives of its parts. `u`
+//! and `v` are the parts, `du` and `dv` their derivatives. The parts are copied with their definitions' numbers raised
+//! by `by`.
 
 ghost use Rattle.std.specs.Prelude.{◌≡◌, ◌&&◌, pos, neg_ℤ, true, false, IfOk, IsTrue};
 ghost use Rattle.fixed.specs.Arithmetic.{one};
@@ -15,16 +16,16 @@ use energy_program::{Built, Expr, Function, Operator, binary, negated, power, se
 use fixed::{Frac, Fx};
 use std::alloc::{AllocError, Allocator};
 
-/// The slope of a tree, and whether that is 0 because the distance doesn't occur in the tree.
+/// The derivative of a tree, and whether it is 0 because the tree doesn't depend on the distance.
 #[derive(Drop)]
 pub struct Slope<A: Allocator> {
-    /// The expression of the slope.
+    /// The expression of the derivative.
     pub tree: Expr<A>,
-    /// The distance doesn't occur.
+    /// Whether the tree is free of the distance.
     pub free: bool,
 }
 
-/// The slope of what is free of the distance.
+/// The derivative of a tree that is free of the distance: 0.
 pub fn zero<A: Allocator>() -> Slope<A>
     ensures tree { tree_of result.tree ≡ t.Number (pos 0) }
     ensures free { result.free ≡ true }
@@ -35,7 +36,7 @@ pub fn zero<A: Allocator>() -> Slope<A>
     }
 }
 
-/// The slope of what isn't.
+/// The derivative of a tree that depends on the distance.
 pub fn varying<A: Allocator>(tree: Expr<A>) -> Slope<A>
     ensures tree { tree_of result.tree ≡ tree_of tree }
     ensures free { result.free ≡ false }
@@ -43,7 +44,7 @@ pub fn varying<A: Allocator>(tree: Expr<A>) -> Slope<A>
     Slope { tree, free: false }
 }
 
-// The slope of what isn't, if its expression was built.
+// The derivative of a tree that depends on the distance, or the failed allocation.
 fn varying_built<A: Allocator>(tree: Built<A>) -> Result<Slope<A>, AllocError>
     ensures tree { (u : Tree) → IfOk tree (λ e. tree_of e ≡ u) → IfOk result (λ s. tree_of s.tree ≡ u) }
     ensures free { IfOk result (λ s. s.free ≡ false) }
@@ -51,14 +52,14 @@ fn varying_built<A: Allocator>(tree: Built<A>) -> Result<Slope<A>, AllocError>
     Ok(varying(tree?))
 }
 
-// The whole number `n`.
+// The constant `n`.
 fn whole_number<A: Allocator>(frac: Frac, n: u8) -> Expr<A>
     ensures { tree_of result ≡ w.whole_number (bits_of frac) n }
 {
     Expr::Number(Fx::from_raw(i64::from(n) * frac.one()))
 }
 
-// A function of a part's copy.
+// A function applied to a copy of `u`.
 fn applied_to<A: Allocator + Copy>(alloc: A, by: u32, function: Function, u: &Expr<A>) -> Built<A>
     requires { IsTrue (is_writable by (tree_of u.now)) }
     ensures { IfOk result (λ e. tree_of e ≡ t.Applied function (w.moved by (tree_of u.now))) }
@@ -66,7 +67,7 @@ fn applied_to<A: Allocator + Copy>(alloc: A, by: u32, function: Function, u: &Ex
     called(alloc, function, moved(alloc, by, u))
 }
 
-// A power of a part's copy.
+// A copy of `u` raised to a power.
 fn power_of<A: Allocator + Copy>(alloc: A, by: u32, u: &Expr<A>, exponent: i8) -> Built<A>
     requires { IsTrue (is_writable by (tree_of u.now)) }
     ensures { IfOk result (λ e. tree_of e ≡ t.Power (w.moved by (tree_of u.now)) exponent) }
@@ -74,7 +75,7 @@ fn power_of<A: Allocator + Copy>(alloc: A, by: u32, u: &Expr<A>, exponent: i8) -
     power(alloc, moved(alloc, by, u)?, exponent)
 }
 
-// 1 where `above` is at least `below`, else 0.
+// The expression that is 1 if `above` is at least `below`, else 0.
 fn is_at_least<A: Allocator + Copy>(alloc: A, by: u32, above: &Expr<A>, below: &Expr<A>) -> Built<A>
     requires above { IsTrue (is_writable by (tree_of above.now)) }
     requires below { IsTrue (is_writable by (tree_of below.now)) }
@@ -163,7 +164,7 @@ fn operation_row<A: Allocator + Copy>(
     }
 }
 
-// 1 where a part is at least 0, else -1.
+// The expression that is 1 if `u` is at least 0, else -1.
 fn sign<A: Allocator + Copy>(alloc: A, frac: Frac, by: u32, u: &Expr<A>) -> Built<A>
     requires { IsTrue (is_writable by (tree_of u.now)) }
     ensures { IfOk result (λ e. tree_of e ≡ t.Select (t.Applied Function.Step (w.moved by (tree_of u.now))) (t.Number (one (bits_of frac))) (t.Number (neg_ℤ (one (bits_of frac))))) }
@@ -225,7 +226,7 @@ fn power_row<A: Allocator + Copy>(
     }
 }
 
-/// The slope of a negative.
+/// The derivative of a negative.
 pub fn negated_slope<A: Allocator + Copy>(alloc: A, du: Slope<A>) -> Result<Slope<A>, AllocError>
     ensures tree { IfOk result (λ s. tree_of s.tree ≡ unless_free du.free (t.Negated (tree_of du.tree))) }
     ensures free { IfOk result (λ s. s.free ≡ du.free) }
@@ -236,7 +237,7 @@ pub fn negated_slope<A: Allocator + Copy>(alloc: A, du: Slope<A>) -> Result<Slop
     varying_built(negated(alloc, du.tree))
 }
 
-/// The slope of an operation on two parts.
+/// The derivative of a binary operation.
 pub fn operation_slope<A: Allocator + Copy>(
     alloc: A,
     by: u32,
@@ -257,7 +258,7 @@ pub fn operation_slope<A: Allocator + Copy>(
     varying_built(operation_row(alloc, by, operator, u, v, du, dv))
 }
 
-/// The slope of a function of a part.
+/// The derivative of a function's value.
 pub fn function_slope<A: Allocator + Copy>(
     alloc: A,
     frac: Frac,
@@ -276,7 +277,7 @@ pub fn function_slope<A: Allocator + Copy>(
     varying_built(function_row(alloc, frac, by, function, u, du.tree))
 }
 
-/// The slope of a power.
+/// The derivative of a power.
 pub fn power_slope<A: Allocator + Copy>(
     alloc: A,
     frac: Frac,
@@ -296,7 +297,7 @@ pub fn power_slope<A: Allocator + Copy>(
     varying_built(power_row(alloc, frac, by, exponent, u, du.tree))
 }
 
-/// The slope of a choice, whose condition is free of the distance or not.
+/// The derivative of a choice. `is_free`: the condition is free of the distance. A condition is never differentiated.
 pub fn select_slope<A: Allocator + Copy>(
     alloc: A,
     by: u32,

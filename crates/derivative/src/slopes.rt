@@ -1,4 +1,5 @@
-//! The program of a slope with all definitions: their slopes, and then themselves.
+//! The derivative of a whole program before pruning: its definitions are the derivatives of all definitions, followed
+//! by copies of the definitions themselves.
 
 ghost use Rattle.std.specs.Prelude.{◌≡◌, pos, true, false, IfOk, IsTrue, length, map, slice_index_or};
 ghost use Rattle.fixed.specs.Fractions.{bits_of};
@@ -19,7 +20,7 @@ use fallible::pair;
 use fixed::{Frac, Fx};
 use std::alloc::{AllocError, Allocator};
 
-// Whether the distance doesn't occur, where `free` says it of the definitions.
+// Whether the tree is free of the distance, if `free` holds that for each definition.
 fn is_free<A: Allocator>(free: &[bool], tree: &Expr<A>) -> bool
     ensures { result ≡ is_free_given (λ j. slice_index_or free.now j true) (tree_of tree.now) }
 {
@@ -37,7 +38,7 @@ fn is_free<A: Allocator>(free: &[bool], tree: &Expr<A>) -> bool
     }
 }
 
-// Whether the distance doesn't occur in what a definition stands for.
+// Whether a definition is free of the distance; true for a number past the end.
 fn is_free_definition(free: &[bool], number: u32) -> bool
     ensures { result ≡ slice_index_or free.now number true }
 {
@@ -49,7 +50,7 @@ fn is_free_definition(free: &[bool], number: u32) -> bool
     }
 }
 
-// The slope of a variable.
+// The derivative of a variable: 1 for the distance, else 0.
 fn input_slope<A: Allocator>(frac: Frac, input: u32) -> Slope<A>
     ensures tree { tree_of result.tree ≡ slope_tree (bits_of frac) (λ j. true) 0 (t.Input input) }
     ensures free { result.free ≡ is_free_given (λ j. true) (t.Input input) }
@@ -60,7 +61,7 @@ fn input_slope<A: Allocator>(frac: Frac, input: u32) -> Slope<A>
     varying(Expr::Number(Fx::from_raw(frac.one())))
 }
 
-// The slope of a definition's use.
+// The derivative of a definition's use: the definition's derivative has the definition's old number.
 fn definition_slope<A: Allocator>(free: &[bool], number: u32) -> Slope<A>
     ensures tree { tree_of result.tree ≡ unless_free (slice_index_or free.now number true) (t.Definition number) }
     ensures free { result.free ≡ slice_index_or free.now number true }
@@ -71,8 +72,8 @@ fn definition_slope<A: Allocator>(free: &[bool], number: u32) -> Slope<A>
     varying(Expr::Definition(number))
 }
 
-// The expression of the slope of a tree; in the trees of values, uses of definitions have numbers that are higher by
-// `by`. A condition's slope isn't asked for.
+// The derivative of a tree. In copies of its parts the numbers of definitions are raised by `by`. Conditions aren't
+// differentiated.
 fn slope<A: Allocator + Copy>(
     alloc: A,
     frac: Frac,
@@ -115,7 +116,7 @@ fn slope<A: Allocator + Copy>(
     }
 }
 
-// Of which definitions the distance is no part.
+// For each definition, whether it is free of the distance. Later definitions come first, as earlier ones use them.
 fn free_table<A: Allocator + Copy>(
     alloc: A,
     program: &Program<A>,
@@ -134,7 +135,7 @@ fn free_table<A: Allocator + Copy>(
     Ok(free)
 }
 
-// The slopes of all definitions, and then all definitions.
+// The derivatives of all definitions, followed by copies of all definitions. `by` is the number of definitions.
 fn all_slopes<A: Allocator + Copy>(
     alloc: A,
     frac: Frac,
@@ -157,7 +158,7 @@ fn all_slopes<A: Allocator + Copy>(
     Ok(written)
 }
 
-/// The slope of a program, with the slopes of all definitions and all definitions.
+/// The derivative of a program, with the derivatives of all definitions and all definitions.
 pub fn with_all<A: Allocator + Copy>(
     alloc: A,
     frac: Frac,

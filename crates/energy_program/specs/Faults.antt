@@ -1,4 +1,4 @@
--- The faults of an energy's text, and how calls tell them.
+-- The errors of energy texts without their memory, and the relations that contracts use to state a call's error.
 use Rattle.std.specs.Prelude.{◌≡◌, ℕ, List, Result}
 use Rattle.fallible.specs.Failures.{IfRefused}
 use Rattle.fallible.specs.Failures as fallible
@@ -6,7 +6,7 @@ use Rattle.fallible.specs.declared.failure.Failure.{Failure}
 use Rattle.energy_program.specs.declared.faults.ExprFault.{ExprFault}
 use Rattle.energy_program.specs.declared.faults.ExprFault.TheVariants as fault
 
--- The numbers are the offsets of bytes.
+-- The error of a rejected text. A number is a byte offset, a list is the bytes of a name.
 pub data Refusal : Type 0 where
   BadCharacter : ℕ → Refusal
   BadNumber : ℕ → Refusal
@@ -20,7 +20,7 @@ pub data Refusal : Type 0 where
   TooLarge : Refusal
   LeftOutFunction : List ℕ → Refusal
 
--- the refusal that a fault tells
+-- the error that a fault stands for
 abbrev pub refusal_of : {A : Type 0} → ExprFault A → Refusal
 refusal_of (fault.BadCharacter at) = BadCharacter at
 refusal_of (fault.BadNumber at) = BadNumber at
@@ -34,17 +34,20 @@ refusal_of (fault.ReservedName name) = ReservedName name.bytes.items
 refusal_of fault.TooLarge = TooLarge
 refusal_of (fault.LeftOutFunction name) = LeftOutFunction name.bytes.items
 
--- the failure says this refusal, unless memory ran out
+-- the failure is this error, or memory ran out
 abbrev pub Says : {A : Type 0} → Failure (ExprFault A) → Refusal → Type 0
 Says failure r = IfRefused failure (λ fault. refusal_of fault ≡ r)
 
--- ---- the answers of calls on texts, where faults are seen by what they say
+-- ---- results of calls on texts, related to a specified result: faults are compared as errors
 
+-- the call failed as specified, or memory ran out
 abbrev pub Fails : {A Y : Type 0} → Failure (ExprFault A) → Result Y Refusal → Type 0
 Fails failure read = fallible.Fails refusal_of failure read
 
+-- the call returned a value whose view is the specified one, or failed as specified, or ran out of memory
 abbrev pub Gives : {A X Y : Type 0} → (X → Y) → Result X (Failure (ExprFault A)) → Result Y Refusal → Type 0
 Gives view result read = fallible.Gives view refusal_of result read
 
+-- the call returned a value whose view is the specified one, or failed as specified
 abbrev pub Answers : {A X Y : Type 0} → (X → Y) → Result X (ExprFault A) → Result Y Refusal → Type 0
 Answers view result read = fallible.Answers view refusal_of result read

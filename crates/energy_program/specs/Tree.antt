@@ -1,11 +1,12 @@
--- Trees of energy expressions, without where they lie in memory.
+-- Abstract syntax of energy expressions: trees without their memory, the scopes of names, and substitution of
+-- definitions.
 use Rattle.std.specs.Prelude.{ℕ, ◌+◌, ◌*◌, ℤ, pos, negsuc, Bool, true, false, ◌==◌, ◌&&◌, nat_lt, nat_le, if◌then◌else◌, List, [], ◌∷◌, length}
 use Rattle.energy_program.specs.declared.trees.Operator.{Operator}
 use Rattle.energy_program.specs.declared.trees.Function.{Function}
 use Rattle.energy_program.specs.declared.trees.Expr.{Expr}
 use Rattle.energy_program.specs.declared.trees.Expr.TheVariants as e
 
--- A number stands as its raw value, a variable as its input number, a use of a definition as the definition's number.
+-- A number is its raw value, a variable its input number, a use of a definition the definition's number.
 pub data Tree : Type 0 where
   Number : ℤ → Tree
   Input : ℕ → Tree
@@ -16,6 +17,7 @@ pub data Tree : Type 0 where
   Power : Tree → ℤ → Tree
   Select : Tree → Tree → Tree → Tree
 
+-- the abstract syntax tree of an expression in memory
 abbrev pub tree_of : {A : Type 0} → Expr A → Tree
 tree_of (e.Number z) = Number z
 tree_of (e.Input i) = Input i
@@ -26,23 +28,23 @@ tree_of (e.Applied' f p a) = Applied f (tree_of a)
 tree_of (e.Power' p a n) = Power (tree_of a) n
 tree_of (e.Select' p x q a s b) = Select (tree_of x) (tree_of a) (tree_of b)
 
--- ---- what a tree may name
+-- ---- scopes
 
--- the inputs are the distance, the parameters of both particles and the globals
+-- the number of inputs: the distance, the parameters of both particles and the globals
 abbrev pub variable_count : ℕ → ℕ → ℕ
 variable_count parameters globals = 1 + (2 * parameters + globals)
 
--- from 1 to 32: an exponent as a text writes it, without its minus
+-- an exponent in a text, without its minus: from 1 to 32
 abbrev pub is_whole : ℕ → Bool
 is_whole n = nat_lt 0 n && nat_le n 32
 
--- from -32 to 33, but 0
+-- an exponent in a tree: from -32 to 33, except 0
 abbrev pub is_exponent : ℤ → Bool
 is_exponent (pos n) = nat_lt 0 n && nat_le n 33
 is_exponent (negsuc n) = nat_lt n 32
 
--- Each variable is one of the inputs, each definition that is used has a number from `first` up to, not with, `end`,
--- and each power is one that there is.
+-- Every input number in the tree is below `inputs`, every definition number is from `first` up to but not including
+-- `end`, and every exponent is allowed.
 abbrev pub is_scoped : ℕ → ℕ → ℕ → Tree → Bool
 is_scoped inputs first end (Number z) = true
 is_scoped inputs first end (Input i) = nat_lt i inputs
@@ -53,12 +55,12 @@ is_scoped inputs first end (Applied f a) = is_scoped inputs first end a
 is_scoped inputs first end (Power a n) = is_exponent n && is_scoped inputs first end a
 is_scoped inputs first end (Select x a b) = is_scoped inputs first end x && (is_scoped inputs first end a && is_scoped inputs first end b)
 
--- these definitions, numbered from i, name only definitions after them
+-- each of these definitions, numbered from i, uses only later ones
 abbrev pub are_scoped : ℕ → ℕ → List Tree → Bool
 are_scoped inputs i [] = true
 are_scoped inputs i (d ∷ ds) = is_scoped inputs (i + 1) (i + (1 + length ds)) d && are_scoped inputs (i + 1) ds
 
--- the distance, input 0, doesn't occur in the tree; a definition's own tree isn't looked at
+-- the distance, input 0, doesn't appear in the tree itself (trees of definitions that it uses aren't visited)
 abbrev pub is_free_of_distance : Tree → Bool
 is_free_of_distance (Number z) = true
 is_free_of_distance (Input i) = if i == 0 then false else true
@@ -69,9 +71,9 @@ is_free_of_distance (Applied f a) = is_free_of_distance a
 is_free_of_distance (Power a n) = is_free_of_distance a
 is_free_of_distance (Select x a b) = is_free_of_distance x && (is_free_of_distance a && is_free_of_distance b)
 
--- ---- the substituted tree
+-- ---- substitution
 
--- the tree with each use of a definition replaced by what it stands for
+-- the tree with each use of a definition replaced by the tree that `f` gives for its number
 abbrev pub put : (ℕ → Tree) → Tree → Tree
 put f (Number z) = Number z
 put f (Input i) = Input i
@@ -82,12 +84,12 @@ put f (Applied g a) = Applied g (put f a)
 put f (Power a n) = Power (put f a) n
 put f (Select x a b) = Select (put f x) (put f a) (put f b)
 
--- The meaning of definition j, of these, which are numbered from i: its tree with the meanings of the later ones. A
--- number that none has means 0.
+-- The tree of definition j among these, which are numbered from i, with the later definitions substituted. An unused
+-- number gives the constant 0.
 abbrev pub meaning : ℕ → List Tree → ℕ → Tree
 meaning i [] j = Number (pos 0)
 meaning i (d ∷ ds) j = if j == i then put (meaning (i + 1) ds) d else meaning (i + 1) ds j
 
--- the body with each defined name replaced by what it stands for
+-- the body with all definitions substituted
 abbrev pub substituted : Tree → List Tree → Tree
 substituted body definitions = put (meaning 0 definitions) body

@@ -1,9 +1,9 @@
--- Which definitions a body needs.
+-- Reachability of definitions: the relation that contracts state, and the marking algorithm that computes it.
 use Rattle.std.specs.Prelude.{◌≡◌, ℕ, ◌+◌, ◌⊎◌, Bool, true, false, List, [], ◌∷◌, length, replicate, Some, slice_get, slice_index_or, slice_set}
 use Rattle.energy_program.specs.Tree.{Tree}
 use Rattle.energy_program.specs.Tree as t
 
--- the tree uses the definition with this number
+-- the tree uses the definition with this number directly
 abbrev pub Uses : Tree → ℕ → Type 0
 Uses (t.Number z) k = ⊥
 Uses (t.Input i) k = ⊥
@@ -19,12 +19,13 @@ pub data Needs (body : Tree) (definitions : List Tree) : ℕ → Type 0 where
   directly : {k : ℕ} → Uses body k → Needs body definitions k
   through : {i k : ℕ} {d : Tree} → Needs body definitions i → slice_get definitions i ≡ Some d → Uses d k → Needs body definitions k
 
--- ---- marks: one for each definition, whether it is needed
+-- ---- marks: one per definition, true if it is needed
 
+-- the definition is marked; false past the end of the list
 abbrev pub is_marked : List Bool → ℕ → Bool
 is_marked marks k = slice_index_or marks k false
 
--- the definitions that the tree uses, beside those that are marked already
+-- the marks, with the definitions that the tree uses marked as well
 abbrev pub mark : List Bool → Tree → List Bool
 mark marks (t.Number z) = marks
 mark marks (t.Input i) = marks
@@ -35,15 +36,16 @@ mark marks (t.Applied g a) = mark marks a
 mark marks (t.Power a n) = mark marks a
 mark marks (t.Select x a b) = mark (mark (mark marks x) a) b
 
+-- the marks after a definition: its uses are marked if it is marked itself
 abbrev pub mark_if : Bool → List Bool → Tree → List Bool
 mark_if true marks d = mark marks d
 mark_if false marks d = marks
 
--- and those that each marked one of these uses, which are numbered from i: a definition uses later ones
+-- the marks after one pass over these definitions, numbered from i; one pass is enough, as they use only later ones
 abbrev pub mark_from : ℕ → List Bool → List Tree → List Bool
 mark_from i marks [] = marks
 mark_from i marks (d ∷ ds) = mark_from (i + 1) (mark_if (is_marked marks i) marks d) ds
 
--- the definitions that the body needs
+-- the marks of the definitions that the body needs
 unfoldable pub marks_of : Tree → List Tree → List Bool
 marks_of body definitions = mark_from 0 (mark (replicate (length definitions) false) body) definitions

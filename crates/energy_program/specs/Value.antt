@@ -1,5 +1,5 @@
--- Values of energy expressions (operators as in the OpenMM User Guide, custom force expressions; numbers are
--- fixed-point). A value is partial: there is none where an operation that the tree asks for has none.
+-- The denotational semantics of energy expressions in fixed-point numbers. Operators are those of OpenMM's custom force
+-- expressions (OpenMM User Guide). A value is partial: there is none if an operation that is evaluated has none.
 use Rattle.std.specs.Prelude.{ℕ, ℤ, List, Option, Some, None, Result, Ok, Err, slice_get, if◌then◌else◌}
 use Rattle.std.specs.Int.{int_max, int_min}
 use Rattle.fixed.specs.declared.faults.Fault.{Fault}
@@ -10,20 +10,22 @@ use Rattle.energy_program.specs.declared.trees.Function.{Function}
 use Rattle.energy_program.specs.declared.trees.Function.TheVariants as f
 use Rattle.energy_program.specs.Tree.{Tree, Number, Input, Definition, Negated, Binary, Applied, Power, Select}
 
--- a result's number, whatever the fault otherwise
+-- the number of a result, with any fault forgotten
 abbrev pub number_of : Result ℤ Fault → Option ℤ
 number_of (Ok z) = Some z
 number_of (Err f) = None
 
--- an operation on values, each of which may be missing
+-- an operation lifted to values that may be missing
 abbrev pub on_one : (ℤ → Result ℤ Fault) → Option ℤ → Option ℤ
 on_one f (Some x) = number_of (f x)
 on_one f None = None
 
+-- a binary operation lifted to values that may be missing
 abbrev pub on_two : (ℤ → ℤ → Result ℤ Fault) → Option ℤ → Option ℤ → Option ℤ
 on_two f (Some x) y = on_one (f x) y
 on_two f None y = None
 
+-- the arithmetic operations on partial values; a result is missing if the operation of the crate `fixed` faults
 abbrev pub negative : Option ℤ → Option ℤ
 negative x = on_one negative_of x
 
@@ -42,13 +44,14 @@ square bits x = on_one (square_of bits) x
 abbrev pub quotient : ℕ → Option ℤ → Option ℤ → Option ℤ
 quotient bits x y = on_two (quotient_of bits) x y
 
--- the operations that have a value for any two
+-- minimum and maximum always have a value
 abbrev pub minimum : Option ℤ → Option ℤ → Option ℤ
 minimum x y = on_two (λ a b. Ok (int_min a b)) x y
 
 abbrev pub maximum : Option ℤ → Option ℤ → Option ℤ
 maximum x y = on_two (λ a b. Ok (int_max a b)) x y
 
+-- the value of a binary operation
 abbrev pub operation : ℕ → Operator → Option ℤ → Option ℤ → Option ℤ
 operation bits op.Add x y = sum x y
 operation bits op.Subtract x y = difference x y
@@ -57,12 +60,14 @@ operation bits op.Divide x y = quotient bits x y
 operation bits op.Minimum x y = minimum x y
 operation bits op.Maximum x y = maximum x y
 
+-- the functions on partial values
 abbrev pub square_root : ℕ → Option ℤ → Option ℤ
 square_root bits x = on_one (square_root_of bits) x
 
 abbrev pub step : ℕ → Option ℤ → Option ℤ
 step bits x = on_one (λ a. Ok (step_of bits a)) x
 
+-- the value of a function
 abbrev pub applied : ℕ → Function → Option ℤ → Option ℤ
 applied bits f.SquareRoot x = square_root bits x
 applied bits f.Absolute x = on_one absolute_of x
@@ -71,16 +76,17 @@ applied bits f.Delta x = on_one (λ a. Ok (delta_of bits a)) x
 applied bits f.Floor x = on_one (λ a. Ok (whole_of bits a)) x
 applied bits f.Ceiling x = on_one (ceiling_of bits) x
 
+-- the value of a power with an integer exponent
 abbrev pub power : ℕ → Option ℤ → ℤ → Option ℤ
 power bits x n = on_one (λ a. signed_power_of bits a n) x
 
--- the second where the first is not 0, else the third: of those two only the one that is asked for has to have a value
+-- the second value if the first isn't 0, else the third; the one that isn't chosen may be missing
 abbrev pub selected : Option ℤ → Option ℤ → Option ℤ → Option ℤ
 selected None y z = None
 selected (Some x) y z = if is_zero x then z else y
 
--- The value of a tree, with `bits` bits behind the point, where these are the inputs: the distance, then the others. A
--- definition has none: values are those of trees with all definitions put in place.
+-- The value of a tree with `bits` fraction bits on these inputs: the distance first, then the others. A definition has
+-- no value here: trees are evaluated after all definitions are substituted.
 abbrev pub value_of : ℕ → List ℤ → Tree → Option ℤ
 value_of bits inputs (Number z) = Some z
 value_of bits inputs (Input i) = slice_get inputs i

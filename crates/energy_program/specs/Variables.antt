@@ -1,4 +1,4 @@
--- Variables as lists of names, and how a program's come together.
+-- Variables as lists of names, and the order in which a program's variables are collected.
 use Rattle.std.specs.Prelude.{ℕ, ◌||◌, if◌then◌else◌, List, [], ◌∷◌, ◌++◌, map, Result, Ok, Err}
 use Rattle.std.specs.HashSet.{HashSet}
 use Rattle.std.specs.declared.vec.Vec.{Vec}
@@ -7,7 +7,7 @@ use Rattle.line_text.specs.Steps.{◌>>=◌}
 use Rattle.energy_program.specs.Faults.{Refusal, ReservedName}
 use Rattle.energy_program.specs.Names.{is_among, is_reserved}
 
--- the names in a set, in the order in which they came in
+-- the names in a set, in the order of insertion
 abbrev pub names_in : {A S : Type 0} → HashSet (Vec ℕ A) S → List (List ℕ)
 names_in s = map (λ v. v.items) s.keys
 
@@ -15,11 +15,11 @@ names_in s = map (λ v. v.items) s.keys
 abbrev pub names_of : {A : Type 0} → Names A → List (List ℕ)
 names_of n = names_in n.variables
 
--- one more variable behind these, unless its name is reserved or taken
+-- the list with one more variable at its end; an error if its name is reserved or in the list
 abbrev pub added : List (List ℕ) → List ℕ → Result (List (List ℕ)) Refusal
 added names name = if is_reserved name || is_among names name then Err (ReservedName name) else Ok (names ++ name ∷ [])
 
--- more variables, one behind the other
+-- the list with more variables added one after the other
 abbrev pub filled : List (List ℕ) → List (List ℕ) → Result (List (List ℕ)) Refusal
 filled names [] = Ok names
 filled names (v ∷ vs) = added names v >>= λ more. filled more vs

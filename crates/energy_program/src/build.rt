@@ -1,5 +1,5 @@
-// Parts put together to a tree. They are boxed here, apart from the recursions that build trees: so the frames of these
-// stay small.
+// Constructors of syntax trees. Boxing happens here and not in the recursive functions that build trees, so that their
+// stack frames stay small.
 
 ghost use Rattle.std.specs.Prelude.{◌≡◌, IfOk};
 ghost use Rattle.energy_program.specs.Tree as t;
@@ -8,7 +8,7 @@ ghost use Rattle.energy_program.specs.Tree.{tree_of};
 use crate::trees::{Expr, Function, Operator};
 use std::alloc::{AllocError, Allocator};
 
-/// A tree that was built, unless memory ran out.
+/// A tree that was built, or a failed allocation.
 pub type Built<A> = Result<Expr<A>, AllocError>;
 
 /// The negative of a tree.
@@ -18,7 +18,7 @@ pub fn negated<A: Allocator + Copy>(alloc: A, part: Expr<A>) -> Built<A>
     Ok(Expr::Negated(Box::new(alloc, part)?))
 }
 
-/// An operation on two trees.
+/// A binary operation on two trees.
 pub fn binary<A: Allocator + Copy>(
     alloc: A,
     operator: Operator,
@@ -32,21 +32,21 @@ pub fn binary<A: Allocator + Copy>(
     Ok(Expr::Binary(operator, left, right))
 }
 
-/// A function of a tree.
+/// A function applied to a tree.
 pub fn applied<A: Allocator + Copy>(alloc: A, function: Function, part: Expr<A>) -> Built<A>
     ensures { IfOk result (λ e. tree_of e ≡ t.Applied function (tree_of part)) }
 {
     Ok(Expr::Applied(function, Box::new(alloc, part)?))
 }
 
-/// A power of a tree.
+/// A tree raised to a power.
 pub fn power<A: Allocator + Copy>(alloc: A, part: Expr<A>, exponent: i8) -> Built<A>
     ensures { IfOk result (λ e. tree_of e ≡ t.Power (tree_of part) exponent) }
 {
     Ok(Expr::Power(Box::new(alloc, part)?, exponent))
 }
 
-/// A choice between two trees.
+/// A choice between two trees: `chosen` if the condition isn't 0, else `otherwise`.
 pub fn select<A: Allocator + Copy>(
     alloc: A,
     condition: Expr<A>,

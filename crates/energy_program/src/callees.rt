@@ -4,7 +4,7 @@ ghost use Rattle.energy_program.specs.Names.{function_of, lookup};
 
 use crate::trees::{Function, Operator};
 
-/// A function, by how many arguments it takes.
+/// A function, classified by the number of its arguments.
 #[derive(Clone, Copy)]
 pub enum Callee {
     /// A function of one argument.
@@ -15,7 +15,7 @@ pub enum Callee {
     Three,
 }
 
-// The functions by their names.
+// The functions, each with its name.
 const FUNCTIONS: [(&[u8], Callee); 9] = [
     (b"sqrt", Callee::One(Function::SquareRoot)),
     (b"abs", Callee::One(Function::Absolute)),
@@ -28,7 +28,7 @@ const FUNCTIONS: [(&[u8], Callee); 9] = [
     (b"select", Callee::Three),
 ];
 
-// What the first entry of a table with the name stands for.
+// The callee of the first table entry with the name.
 fn lookup(mut table: &[(&[u8], Callee)], name: &[u8]) -> Option<Callee>
     ensures { result ≡ lookup (map (λ e. (e.0.now, e.1)) table.entry.now) name.now }
 {
@@ -41,7 +41,7 @@ fn lookup(mut table: &[(&[u8], Callee)], name: &[u8]) -> Option<Callee>
     None
 }
 
-/// The function with a name.
+/// The function with the name, if there is one.
 #[tactic(auto, unfolding(crate::specs::Names::function_of))]
 pub fn function_of(name: &[u8]) -> Option<Callee>
     ensures { result ≡ function_of name.now }

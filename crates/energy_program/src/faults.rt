@@ -9,56 +9,58 @@ use std::alloc::{AllocError, Allocator};
 use std::fmt;
 use thiserror::Error;
 
-/// Why an energy text is refused. An offset counts the bytes before the place, from 0.
+/// The error of a rejected energy text. Offsets are in bytes, from 0. A failed allocation isn't one of these, but
+/// `Failure::Memory`.
 #[derive(Drop, Error)]
 pub enum ExprFault<A: Allocator> {
     /// A byte begins no token.
     #[error("E01 BadCharacter {at}")]
     BadCharacter { at: usize },
-    /// A numeral is malformed: it has no digit, more than 18 digits before its exponent part, an exponent past 99, a
-    /// second point right behind it, or an `e` or `E` without digits.
+    /// A numeral is malformed: it has no digit, more than 18 digits before its exponent part, an exponent over 99, a
+    /// second point right after it, or an `e` or `E` without digits.
     #[error("E02 BadNumber {at}")]
     BadNumber { at: usize },
-    /// No rule of the grammar takes the token, or the text ends too early.
+    /// The grammar doesn't allow the token here, or the text ends too early (`at` is then the length of the text).
     #[error("E03 UnexpectedToken {at}")]
     UnexpectedToken { at: usize },
-    /// The name stands for nothing, or stands before a parenthesis and is no function's.
+    /// The name isn't defined, or it is followed by a parenthesis and isn't a function.
     #[error("E04 UnknownName {name}")]
     UnknownName { name: EnergyName<A> },
-    /// A function stands before another number of arguments than it takes.
+    /// A function is called with a wrong number of arguments.
     #[error("E05 WrongArgumentCount {name}")]
     WrongArgumentCount { name: EnergyName<A> },
-    /// No whole number from 1 to 32, written in digits alone, follows the `^`, with or without a minus before it and
+    /// The exponent after `^` isn't an integer from 1 to 32 in plain digits, optionally with a minus before it and
     /// parentheses around it.
     #[error("E06 BadExponent {at}")]
     BadExponent { at: usize },
     /// The rounded value of a numeral, without its sign, is 2^63 or more as a raw number.
     #[error("E07 NumberRange {at}")]
     NumberRange { at: usize },
-    /// A name is defined twice, or stands twice among the parameters or among the globals.
+    /// A name is defined twice, or appears twice among the parameters or twice among the globals.
     #[error("E08 RepeatedDefinition {name}")]
     RepeatedDefinition { name: EnergyName<A> },
-    /// A variable or a reserved name is defined, or the variable has the name of another one or a reserved name.
+    /// A definition has the name of a variable or a reserved name, or a variable has a reserved name or another
+    /// variable's.
     #[error("E09 ReservedName {name}")]
     ReservedName { name: EnergyName<A> },
     /// The text has more than 4,096 tokens, an operand inside more than 64 parentheses and minus signs, or more than 64
-    /// definitions; there are more than 8 parameters or more than 16 globals; the program of the slope has more than
-    /// 128 definitions; or code has more than 16,384 instructions.
+    /// definitions; there are more than 8 parameters or more than 16 globals; the program of the derivative has more
+    /// than 128 definitions; or its code has more than 16,384 instructions.
     #[error("E10 TooLarge")]
     TooLarge,
-    /// The function before a parenthesis is left out of the language.
+    /// The name before a parenthesis is a function that the language leaves out.
     #[error("E11 LeftOutFunction {name}")]
     LeftOutFunction { name: EnergyName<A> },
 }
 
-/// A fault prints the same either way.
+/// `Debug` prints as `Display`.
 impl<A: Allocator> fmt::Debug for ExprFault<A> {
     fn fmt<W: fmt::Write>(&self, f: &mut fmt::Formatter<W>) -> fmt::Result {
         fmt::Display::fmt(self, f)
     }
 }
 
-// The name's own copy.
+// A copy of the name, for a fault to own.
 fn copied<A: Allocator + Copy>(alloc: A, name: &[u8]) -> Result<EnergyName<A>, AllocError>
     ensures { IfOk result (λ copy. copy.bytes.items ≡ name.now) }
 {
@@ -67,9 +69,9 @@ fn copied<A: Allocator + Copy>(alloc: A, name: &[u8]) -> Result<EnergyName<A>, A
     })
 }
 
-// Each names a fault by its own copy of the name, and is `Memory` where the allocation for that was refused.
+// Constructors of faults that carry a name. Each copies the name and returns `Memory` if that allocation fails.
 impl<A: Allocator + Copy> ExprFault<A> {
-    /// The refusal of a name that stands for nothing.
+    /// The fault `UnknownName` of an undefined name.
     pub fn unknown_name(alloc: A, name: &[u8]) -> Failure<ExprFault<A>>
         ensures { Says result (UnknownName name.now) }
     {
@@ -79,8 +81,8 @@ impl<A: Allocator + Copy> ExprFault<A> {
         }
     }
 
-    /// The refusal of a name before a parenthesis that is no function's: the function is left out of the language, or
-    /// the name stands for nothing.
+    /// The fault of a name before a parenthesis that isn't a function: `LeftOutFunction` if the language leaves the
+    /// function out, else `UnknownName`.
     pub fn no_function(alloc: A, name: &[u8]) -> Failure<ExprFault<A>>
         ensures { Says result (call_refusal name.now) }
     {
@@ -96,7 +98,7 @@ impl<A: Allocator + Copy> ExprFault<A> {
         }
     }
 
-    /// The refusal of a function's name before another number of arguments.
+    /// The fault `WrongArgumentCount` of a function's name.
     pub fn wrong_argument_count(alloc: A, name: &[u8]) -> Failure<ExprFault<A>>
         ensures { Says result (WrongArgumentCount name.now) }
     {
@@ -106,7 +108,7 @@ impl<A: Allocator + Copy> ExprFault<A> {
         }
     }
 
-    /// The refusal of a name that stands twice.
+    /// The fault `RepeatedDefinition` of a name that appears twice.
     pub fn repeated_definition(alloc: A, name: &[u8]) -> Failure<ExprFault<A>>
         ensures { Says result (RepeatedDefinition name.now) }
     {
@@ -116,7 +118,7 @@ impl<A: Allocator + Copy> ExprFault<A> {
         }
     }
 
-    /// The refusal of a name that is taken: it is reserved or a variable's.
+    /// The fault `ReservedName` of a name that is reserved or a variable's.
     pub fn reserved_name(alloc: A, name: &[u8]) -> Failure<ExprFault<A>>
         ensures { Says result (ReservedName name.now) }
     {

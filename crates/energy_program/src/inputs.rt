@@ -1,4 +1,4 @@
-// The names of a program's variables, and which input each is.
+// Builds the variables of a program and numbers them as its inputs.
 ghost use Rattle.std.specs.Prelude.{◌≡◌, ◌<◌, ◌++◌, ◌∷◌, [], length, codes, map, All, IfErr, IfOk, IfSome, IsSomeAnd, IsTrue, None, OnOk};
 ghost use Rattle.std.specs.Option.{option_map};
 ghost use Rattle.line_text.specs.Identifiers.{is_identifier};
@@ -15,7 +15,7 @@ use fallible::Failure;
 use indexmap::IndexSet;
 use std::alloc::Allocator;
 
-// The first name that comes again.
+// The first name that appears again later in the list.
 fn first_repeated<'a>(names: &[&'a [u8]]) -> Option<&'a [u8]>
     ensures { option_map (λ n. n.now) result ≡ first_repeated (map (λ n. n.now) names.now) }
 {
@@ -31,7 +31,7 @@ fn first_repeated<'a>(names: &[&'a [u8]]) -> Option<&'a [u8]>
     }
 }
 
-// Refuses the first name that comes again.
+// Rejects a list in which a name appears twice, with the first such name.
 fn refuse_repeated<A: Allocator + Copy>(
     alloc: A,
     names: &[&[u8]],
@@ -45,7 +45,7 @@ fn refuse_repeated<A: Allocator + Copy>(
     }
 }
 
-// One more variable, unless its name is reserved or taken.
+// Adds a variable, or rejects its name with `ReservedName` if it is reserved or in the set.
 fn add<A: Allocator + Copy>(
     alloc: A,
     names: &mut NameSet<A>,
@@ -64,7 +64,7 @@ fn add<A: Allocator + Copy>(
     }
 }
 
-// The variable of one particle for a parameter: the parameter's name with the particle's digit behind it.
+// A parameter's variable for one particle: the parameter's name followed by the particle's digit.
 fn numbered<A: Allocator + Copy>(
     alloc: A,
     parameter: &[u8],
@@ -77,7 +77,7 @@ fn numbered<A: Allocator + Copy>(
     Ok(name)
 }
 
-// The variables of one particle.
+// Adds one particle's variables, one per parameter.
 fn add_particle<A: Allocator + Copy>(
     alloc: A,
     names: &mut NameSet<A>,
@@ -106,7 +106,8 @@ fn add_all<A: Allocator + Copy>(
     Ok(())
 }
 
-// All variables, where there are none yet: the distance, the parameters of both particles and the globals.
+// Adds all variables to an empty set, in input order: the distance, the first particle's parameters, the second's, the
+// globals.
 fn add_variables<A: Allocator + Copy>(
     alloc: A,
     names: &mut NameSet<A>,
@@ -134,14 +135,12 @@ fn all_variables<A: Allocator + Copy>(
 }
 
 impl<A: Allocator + Copy> Names<A> {
-    /// The variables of a program whose particles have these parameters, with these globals.
+    /// The variables of a program with these parameters per particle and these globals. Names must be identifiers.
     ///
-    /// It refuses more than 8 parameters or 16 globals by `TooLarge`; else a name that stands twice in its own list by
-    /// `RepeatedDefinition`, the first that occurs again; else a variable by `ReservedName` whose name is reserved or
-    /// an earlier one's, the first such: parameters come before globals. So a parameter `atan` is refused for its
-    /// variable `atan2`. `Memory`: an allocation was refused.
-    ///
-    /// The caller hands in identifiers.
+    /// Errors, in this order: `TooLarge` for more than 8 parameters or 16 globals; `RepeatedDefinition` for the first
+    /// name that appears again in its own list, parameters before globals; `ReservedName` for the first variable whose
+    /// name is reserved or an earlier variable's, parameters before globals. So a parameter `atan` is rejected because
+    /// of its variable `atan2`. `Memory`: an allocation failed.
     pub fn new(
         alloc: A,
         parameters: &[&[u8]],
@@ -167,7 +166,7 @@ impl<A: Allocator + Copy> Names<A> {
 }
 
 impl<A: Allocator> Names<A> {
-    /// The input number of the variable with this name.
+    /// The input number of the variable with this name, if there is one.
     pub fn input_of(&self, name: &[u8]) -> Option<u32>
         ensures value { result ≡ input_of (names_of self.now) name.now }
         ensures bound { IfSome result (λ input. input < variable_count self.now.parameters self.now.globals) }

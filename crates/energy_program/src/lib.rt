@@ -1,6 +1,10 @@
-//! The language of energy programs: names, trees of expressions over the distance, parameters, globals and definitions,
-//! what their values are, and why a text is refused. Texts are read into it (crate `expr`), slopes are programs of it
-//! (`derivative`), and kernel code is compiled from it (`kernel_compiler`).
+//! The language of energy expressions: its syntax trees, programs and names, the semantics of expressions, and the
+//! errors of rejected texts. An expression depends on the distance, parameters of both particles, globals and
+//! definitions.
+//!
+//! Three passes work on the one language and don't depend on each other: the parser (crate `expr`) makes programs, the
+//! derivative of a program is again a program (`derivative`), and the compiler translates programs to kernel code
+//! (`kernel_compiler`).
 #![tactic(auto)]
 
 mod build;

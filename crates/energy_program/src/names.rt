@@ -7,10 +7,10 @@ use crate::callees::function_of;
 use std::alloc::Allocator;
 use std::fmt::{self, Display, Formatter, Write};
 
-/// A name of an energy text, as its own copy of the text's bytes: letters, digits and `_`.
+/// A name in an energy text, as a copy of the text's bytes: letters, digits and `_`.
 #[derive(Drop)]
 pub struct EnergyName<A: Allocator> {
-    /// The bytes of the name, one at least.
+    /// The bytes of the name, at least one.
     pub bytes: Vec<u8, A>,
 }
 
@@ -23,13 +23,13 @@ impl<A: Allocator> Display for EnergyName<A> {
     }
 }
 
-// The functions of custom force expressions that the language leaves out.
+// The functions of OpenMM's custom force expressions that the language leaves out.
 const LEFT_OUT: [&[u8]; 17] = [
     b"exp", b"log", b"sin", b"cos", b"sec", b"csc", b"tan", b"cot", b"asin", b"acos", b"atan",
     b"atan2", b"sinh", b"cosh", b"tanh", b"erf", b"erfc",
 ];
 
-// Whether the name is one of these.
+// Whether the name is in the list.
 pub(crate) fn is_among(names: &[&[u8]], name: &[u8]) -> bool
     ensures { result ≡ list_any (λ n. bytes_eq name.now n.now) names.now }
 {
@@ -43,8 +43,8 @@ pub(crate) fn is_left_out(name: &[u8]) -> bool
     is_among(&LEFT_OUT, name)
 }
 
-/// Whether no definition, and no variable but the distance, may have the name: it is `r`, one of the functions or one
-/// of those that the language leaves out.
+/// Whether the name is reserved: it is `r`, a function of the language, or a function that the language leaves out. No
+/// definition, and no variable except the distance, may have a reserved name.
 #[tactic(auto, unfolding(crate::specs::Names::is_reserved))]
 pub fn is_reserved(name: &[u8]) -> bool
     ensures { result ≡ is_reserved name.now }

@@ -1,4 +1,4 @@
-//! Programs: what an energy text says, with its names resolved.
+//! Programs: energy texts after parsing and name resolution.
 
 ghost use Rattle.std.specs.Prelude.{◌≤◌, length, map, IsTrue};
 ghost use Rattle.energy_program.specs.Tree.{are_scoped, variable_count, is_scoped, tree_of};
@@ -6,20 +6,20 @@ ghost use Rattle.energy_program.specs.Tree.{are_scoped, variable_count, is_scope
 use crate::trees::Expr;
 use std::alloc::Allocator;
 
-/// How many definitions a program may have.
+/// The maximum number of definitions of a program. A text has at most 64; its derivative adds at most one for each.
 pub const MAX_DEFINITIONS: usize = 128;
 
-/// The program of an energy text. Each use in it is a variable or a definition that comes later; to the body all come
-/// later. It owns its trees, in the memory of the allocator that `parse` was given.
+/// A program: the body's expression and the definitions. The body may use any definition, a definition only later ones,
+/// so that evaluation ends. The trees are allocated with the allocator that `parse` was given.
 #[derive(Drop)]
 pub struct Program<A: Allocator> {
     /// The expression whose value is the energy, in kJ/mol.
     pub body: Expr<A>,
     /// The definitions, in the order of the text, at most 128.
     pub definitions: Vec<Expr<A>, A>,
-    /// How many parameters a particle has, at most 8.
+    /// Parameters per particle, at most 8.
     pub parameters: u32,
-    /// How many globals there are, at most 16.
+    /// Number of globals, at most 16.
     pub globals: u32,
     pub ghost few_definitions: { length definitions.items ≤ 128 },
     pub ghost few_parameters: { parameters ≤ 8 },

@@ -1,4 +1,4 @@
-//! The scope of a program's trees: inputs, and later definitions.
+//! Scope checks: every use in a program's trees is an input or a later definition.
 
 ghost use Rattle.std.specs.Prelude.{◌≡◌, ◌≤◌, ◌+◌, ◌&&◌, length, map, nat_le, is_some, IfSome};
 ghost use Rattle.energy_program.specs.Programs.{trees_of};
@@ -19,7 +19,8 @@ fn is_exponent(exponent: i8) -> bool
     }
 }
 
-// Whether each use in a tree is one of `inputs` inputs, or a definition from `first` up to, not with, `end`.
+// Whether every input number in the tree is below `inputs`, every definition number is in `first..end`, and every
+// exponent is allowed.
 fn is_scoped<A: Allocator>(inputs: u32, first: usize, end: usize, tree: &Expr<A>) -> bool
     ensures { result ≡ is_scoped inputs first end (tree_of tree.now) }
 {
@@ -53,7 +54,7 @@ fn are_scoped<A: Allocator>(inputs: u32, number: usize, definitions: &[Expr<A>])
     }
 }
 
-// Whether a body and definitions are a program for so many parameters and globals.
+// Whether a body and definitions form a program with this number of parameters per particle and of globals.
 fn is_program<A: Allocator>(
     body: &Expr<A>,
     definitions: &[Expr<A>],
@@ -73,9 +74,9 @@ fn is_program<A: Allocator>(
 }
 
 impl<A: Allocator> Program<A> {
-    /// The program of a body and definitions, for particles with `parameters` parameters and for `globals` globals.
-    /// There is none where there are more than 128 definitions, 8 parameters or 16 globals, or where a tree uses
-    /// another input than these or another definition than a later one, or has a power of 0, below -32 or above 33.
+    /// The program with this body and these definitions, for `parameters` parameters per particle and `globals`
+    /// globals. `None` if there are more than 128 definitions, 8 parameters or 16 globals, or if a tree uses an input
+    /// out of range, a definition that isn't a later one, or an exponent of 0, below -32 or above 33.
     pub fn new(
         body: Expr<A>,
         definitions: Vec<Expr<A>, A>,

@@ -1,52 +1,52 @@
-//! Trees of energy expressions.
+//! Syntax trees of energy expressions.
 
 use fixed::Fx;
 use std::alloc::Allocator;
 
-/// An operation on two parts.
+/// A binary operation.
 #[derive(Clone, Copy)]
 pub enum Operator {
     /// The sum of both.
     Add,
-    /// The first less the second.
+    /// The first minus the second.
     Subtract,
     /// The product of both.
     Multiply,
     /// The first divided by the second.
     Divide,
-    /// The lesser of both.
+    /// The smaller of both.
     Minimum,
     /// The greater of both.
     Maximum,
 }
 
-/// A function of one part.
+/// A function of one argument.
 #[derive(Clone, Copy)]
 pub enum Function {
     /// The square root.
     SquareRoot,
     /// The absolute value.
     Absolute,
-    /// 0 below 0, else 1.
+    /// 0 for negative arguments, else 1.
     Step,
     /// 1 at 0, else 0.
     Delta,
-    /// The greatest whole number that is not above.
+    /// The greatest integer that isn't above the argument.
     Floor,
-    /// The least whole number that is not below.
+    /// The least integer that isn't below the argument.
     Ceiling,
 }
 
-/// An energy expression: a tree whose values are fixed-point numbers with the fraction bits that its text was read
-/// with.
+/// A syntax tree of an energy expression. Values are fixed-point numbers with the fraction bits that the text was
+/// parsed with.
 #[derive(Drop)]
 pub enum Expr<A: Allocator> {
-    /// A number. That of a numeral is 0 or more.
+    /// A constant. A parsed numeral is never negative.
     Number(Fx),
-    /// The variable with this input number: 0 is the distance, in nm, then come the parameters of the first particle,
-    /// those of the second, and the globals.
+    /// The variable with this input number: 0 is the distance, in nm; then the parameters of the first particle, the
+    /// parameters of the second, and the globals follow.
     Input(u32),
-    /// The value of the definition with this number, counted from 0.
+    /// The value of the definition with this number, from 0.
     Definition(u32),
     /// The negative of a part.
     Negated(Box<Expr<A>, A>),
@@ -54,8 +54,8 @@ pub enum Expr<A: Allocator> {
     Binary(Operator, Box<Expr<A>, A>, Box<Expr<A>, A>),
     /// A function of a part.
     Applied(Function, Box<Expr<A>, A>),
-    /// A part to a power from -32 to 33, but 0.
+    /// A tree raised to an exponent from -32 to 33, except 0.
     Power(Box<Expr<A>, A>, i8),
-    /// The second part, or, where the first is 0, the third.
+    /// The second tree if the first isn't 0, else the third.
     Select(Box<Expr<A>, A>, Box<Expr<A>, A>, Box<Expr<A>, A>),
 }

@@ -1,4 +1,4 @@
-//! Which definitions a body needs.
+//! Reachability of definitions: finds the definitions that a body needs.
 
 ghost use Rattle.std.specs.Prelude.{◌≡◌, ℕ, true, if◌then◌else◌, IfOk, IsTrue, length, map};
 ghost use Rattle.energy_program.specs.Tree.{are_scoped, is_scoped, tree_of};
@@ -8,7 +8,7 @@ ghost use Rattle.energy_program.specs.Uses.{Needs};
 use crate::trees::Expr;
 use std::alloc::{AllocError, Allocator};
 
-// Marks the definitions that a tree uses.
+// Marks the definitions that a tree uses directly.
 fn mark<A: Allocator>(marks: &mut [bool], tree: &Expr<A>)
     ensures { marks.new ≡ u.mark marks.old (tree_of tree.now) }
 {
@@ -33,14 +33,14 @@ fn mark<A: Allocator>(marks: &mut [bool], tree: &Expr<A>)
     }
 }
 
-/// Whether the definition with this number is marked. One past the marks isn't.
+/// Whether the definition with this number is marked; false for a number past the end.
 pub fn is_marked(marks: &[bool], number: usize) -> bool
     ensures { result ≡ u.is_marked marks.now number }
 {
     number < marks.len() && marks[number]
 }
 
-// Marks the definitions that a marked one uses.
+// Marks the definitions that this definition uses, if it is marked itself.
 fn mark_definition<A: Allocator>(marks: &mut [bool], number: usize, definition: &Expr<A>)
     ensures { marks.new ≡ u.mark_if (u.is_marked marks.old number) marks.old (tree_of definition.now) }
 {
@@ -49,7 +49,7 @@ fn mark_definition<A: Allocator>(marks: &mut [bool], number: usize, definition: 
     }
 }
 
-// Marks what each marked definition uses. Each uses later ones, so one pass is enough.
+// Marks the definitions that marked ones use. A definition uses only later ones, so one pass is enough.
 fn mark_later<A: Allocator>(marks: &mut [bool], definitions: &[Expr<A>])
     ensures { marks.new ≡ u.mark_from 0 marks.old (map tree_of definitions.now) }
 {
@@ -58,7 +58,7 @@ fn mark_later<A: Allocator>(marks: &mut [bool], definitions: &[Expr<A>])
     }
 }
 
-// Marks what the body uses, directly or through another definition.
+// Marks the definitions that the body uses, directly or through another definition.
 fn mark_all<A: Allocator>(marks: &mut [bool], body: &Expr<A>, definitions: &[Expr<A>])
     ensures { marks.new ≡ u.mark_from 0 (u.mark marks.old (tree_of body.now)) (map tree_of definitions.now) }
 {
@@ -66,8 +66,8 @@ fn mark_all<A: Allocator>(marks: &mut [bool], body: &Expr<A>, definitions: &[Exp
     mark_later(marks, definitions);
 }
 
-/// For each definition, whether the body needs it: uses it, directly or through another definition. The definitions may
-/// use later ones.
+/// For each definition, whether the body uses it, directly or through another definition. Definitions must use only
+/// later ones for every needed one to be found.
 pub fn marks_of<A: Allocator + Copy>(
     alloc: A,
     body: &Expr<A>,
@@ -75,9 +75,9 @@ pub fn marks_of<A: Allocator + Copy>(
 ) -> Result<Vec<bool, A>, AllocError>
     ensures are { IfOk result (λ marks. marks.items ≡ u.marks_of (tree_of body.now) (map tree_of definitions.now)) }
     ensures counted { IfOk result (λ marks. length marks.items ≡ length definitions.now) }
-    // Only what is needed is marked.
+    // Every marked definition is needed.
     ensures needed { IfOk result (λ marks. (k : ℕ) → u.is_marked marks.items k ≡ true → Needs (tree_of body.now) (map tree_of definitions.now) k) }
-    // And all that is needed, where each definition uses later ones.
+    // Every needed definition is marked, if each definition uses only later ones.
     ensures every { IfOk result (λ marks. (inputs : ℕ) → IsTrue (is_scoped inputs 0 (length definitions.now) (tree_of body.now)) → IsTrue (are_scoped inputs 0 (map tree_of definitions.now)) → (k : ℕ) → Needs (tree_of body.now) (map tree_of definitions.now) k → u.is_marked marks.items k ≡ true) }
 {
     let mut marks = vec![in alloc; false; definitions.len()]?;

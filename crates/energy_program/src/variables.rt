@@ -6,23 +6,23 @@ use indexmap::IndexSet;
 use std::alloc::Allocator;
 use std::hash::{BuildHasherDefault, FoldHasher};
 
-/// How many parameters a particle may have.
+/// The maximum number of parameters per particle.
 pub const MAX_PARAMETERS: usize = 8;
 
-/// How many globals there may be.
+/// The maximum number of globals.
 pub const MAX_GLOBALS: usize = 16;
 
-/// Names, each with the number of those that came in before it.
+/// A set of names, numbered in the order of insertion.
 pub(crate) type NameSet<A> = IndexSet<Vec<u8, A>, BuildHasherDefault<FoldHasher>, A>;
 
-/// The variables that an energy text may name: the distance `r`, `p1` and `p2` for each parameter `p` of a particle,
-/// and the globals. No two have the same name, and none has a reserved one but `r`.
+/// The variables that an energy text may use: the distance `r`, `p1` and `p2` for each parameter `p` of a particle, and
+/// the globals. Names are distinct, and only `r` is reserved. They are checked before the text is parsed.
 #[derive(Drop)]
 pub struct Names<A: Allocator> {
     pub(crate) variables: NameSet<A>,
-    /// How many parameters a particle has, at most 8.
+    /// Parameters per particle, at most 8.
     pub parameters: u32,
-    /// How many globals there are, at most 16.
+    /// Number of globals, at most 16.
     pub globals: u32,
     pub ghost few_parameters: { parameters ≤ 8 },
     pub ghost few_globals: { globals ≤ 16 },

@@ -1,5 +1,5 @@
--- Fractions: what is the same for all their writings, with the operations of energies. They are exact numbers, and each
--- number of a tree is one of them.
+-- Rational numbers as a quotient type: equivalence classes of written fractions. Lowest terms would need divisors in
+-- each law, and a second notion of equality.
 use Rattle.std.specs.Prelude.{◌≡◌, ℕ, ◌-◌, ◌^◌, ℤ, Bool, not, List, Option, Some, None, Ok, if◌then◌else◌}
 use mathlib.Core.Bool.{Bool-set}
 use mathlib.Core.Quot.{Quot, mk, sound, ind, lift, Quot-set}
@@ -9,7 +9,7 @@ use Rattle.derivative.specs.DualNumbers.{IsDerivativeProgram, IsScoped}
 use Rattle.derivative.specs.Exact.{AreExact, Numbers, Ring, StandsForFraction}
 use Rattle.exact_fractions.specs.Written.{Written, IsSame, sum_of, negative_of, product_of, natural, is_nothing, is_below_nothing, reciprocal_of, floor_of, over}
 
--- What is made of written fractions, and what is asked of them, is the same for whichever of their writings.
+-- The operations and tests on written fractions respect equivalence: equal fractions give equal results.
 pub record AreKept : Type 0 where
   pub sum_left : (a b c : Written) → IsSame a b → IsSame (sum_of a c) (sum_of b c)
   pub sum_right : (a b c : Written) → IsSame b c → IsSame (sum_of a b) (sum_of a c)
@@ -21,15 +21,15 @@ pub record AreKept : Type 0 where
   pub nothing : (a b : Written) → IsSame a b → is_nothing a ≡ is_nothing b
   pub below_nothing : (a b : Written) → IsSame a b → is_below_nothing a ≡ is_below_nothing b
 
--- a fraction: all that is written of it
+-- a rational number: the class of all written fractions that are equal
 abbrev pub Fraction : Type 0
 Fraction = Quot IsSame
 
--- the one that is written so
+-- the class of a written fraction
 abbrev pub fraction : Written → Fraction
 fraction a = mk a
 
--- what is made of one fraction, and of two
+-- an operation on one written fraction, or on two, lifted to classes
 abbrev pub of_one : (f : Written → Written) → ((a b : Written) → IsSame a b → IsSame (f a) (f b)) → Fraction → Fraction
 of_one f same x = lift {r = IsSame} Quot-set (λ a. fraction (f a)) (λ a b e. sound {r = IsSame} (same a b e)) x
 
@@ -67,8 +67,8 @@ module _ (kept : AreKept) where
   abbrev pub quotient : Fraction → Fraction → Option Fraction
   quotient n d = if is_zero d then None else Some (times n (reciprocal d))
 
-  -- The numbers of energies as fractions: a number of a tree is what it stands for with so many bits behind the point.
-  -- Roots are left out, since few fractions have one.
+  -- The numbers of energies over rational numbers: a constant of a tree is its raw value over 2^bits. Roots are
+  -- missing, since few rational numbers have one and the laws don't need them.
   abbrev pub fractions : (bits : ℕ) → Numbers Fraction
   fractions bits = record {
     ring = fraction_ring;
@@ -81,8 +81,8 @@ module _ (kept : AreKept) where
     number = λ z. fraction (over z (2 ^ bits - 1));
   }
 
-  -- They are exact, each number of a tree is the fraction that it stands for, and so the program of a slope is that of
-  -- the derivative, read over fractions.
+  -- They satisfy the laws of exact numbers, every constant of a tree is the fraction that it stands for, and so a
+  -- slope's program computes the derivative over rational numbers.
   pub record HaveDerivatives (bits : ℕ) : Type 0 where
     pub exact : AreExact (fractions bits)
     pub stands : (z : ℤ) → StandsForFraction (fractions bits) bits z

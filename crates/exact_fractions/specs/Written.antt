@@ -1,4 +1,5 @@
--- Fractions as they are written: the difference of two natural numbers, over a number from 1 on.
+-- Written fractions: the difference of two natural numbers over a positive one. So each law of the ring is an identity
+-- of natural numbers, which the prover's own arithmetic closes.
 use Rattle.std.specs.Prelude.{◌≡◌, ℕ, suc, ◌+◌, ◌-◌, ◌*◌, ◌/◌, ◌==◌, nat_lt, Bool, if◌then◌else◌, ℤ, pos, negsuc}
 
 -- (plus - minus) / (below + 1)
@@ -7,11 +8,11 @@ pub record Written : Type 0 where
   pub minus : ℕ
   pub below : ℕ
 
--- two are the same fraction where crosswise products are the same
+-- two written fractions are equal if their cross products are
 abbrev pub IsSame : Written → Written → Type 0
 IsSame a b = a.plus * suc b.below + b.minus * suc a.below ≡ b.plus * suc a.below + a.minus * suc b.below
 
--- one less than the product of the two numbers below
+-- the denominator of a sum or product, less one
 abbrev pub both_below : ℕ → ℕ → ℕ
 both_below d e = d * e + d + e
 
@@ -28,27 +29,27 @@ product_of a b = record { plus = a.plus * b.plus + a.minus * b.minus; minus = a.
 abbrev pub natural : ℕ → Written
 natural n = record { plus = n; minus = 0; below = 0 }
 
--- whether it is 0, and whether it is below 0
+-- whether the fraction is 0, and whether it is negative
 abbrev pub is_nothing : Written → Bool
 is_nothing a = a.plus == a.minus
 
 abbrev pub is_below_nothing : Written → Bool
 is_below_nothing a = nat_lt a.plus a.minus
 
--- one over it; of 0 it is 0
+-- the reciprocal; 0 for 0
 abbrev pub reciprocal_of : Written → Written
 reciprocal_of a =
     if is_nothing a then natural 0
     else (if is_below_nothing a then record { plus = 0; minus = suc a.below; below = a.minus - a.plus - 1 }
     else record { plus = suc a.below; minus = 0; below = a.plus - a.minus - 1 })
 
--- the greatest whole number that is at most it
+-- the greatest integer that is at most the fraction
 abbrev pub floor_of : Written → Written
 floor_of a =
     if is_below_nothing a then record { plus = 0; minus = (a.minus - a.plus + a.below) / suc a.below; below = 0 }
     else natural ((a.plus - a.minus) / suc a.below)
 
--- a whole number over d + 1
+-- the integer over d + 1
 abbrev pub over : ℤ → ℕ → Written
 over (pos n) d = record { plus = n; minus = 0; below = d }
 over (negsuc n) d = record { plus = 0; minus = suc n; below = d }

@@ -1,11 +1,11 @@
-//! Laws of fractions.
+//! The theorem about derivatives, for rational numbers.
 
 ghost use Rattle.std.specs.Prelude.{ℕ};
 ghost use Rattle.exact_fractions.specs.Fractions.{AreKept, HaveDerivatives};
 
-/// Fractions are exact numbers, whichever way they are written, and with any number of fraction bits, as 24, 32 and 40,
-/// a number of a tree is one of them. So the table of slopes gives derivatives over fractions, and so does the program
-/// that is built of it: the law of slopes has an instance at each.
+/// Rational numbers are exact numbers, their operations don't depend on how a fraction is written, and every constant
+/// of a tree is one, with any number of fraction bits (24, 32 and 40 included). So the table of derivatives computes
+/// derivatives over rational numbers, and so does the program built from the table.
 pub fn fractions_have_derivatives()
     ensures kept { AreKept }
     ensures derivatives { (kept : AreKept) (bits : ℕ) → HaveDerivatives kept bits }

@@ -1,4 +1,4 @@
-//! Fractions, as the exact numbers over which the slopes of energies are derivatives.
+//! Rational numbers: an instance of the exact numbers over which slopes are proved to be derivatives.
 #![tactic(auto)]
 
 mod laws;

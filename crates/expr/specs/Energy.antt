@@ -1,4 +1,4 @@
--- Texts of energies.
+-- The grammar of whole energy texts, the causes of their errors, and the functional specification of the parser.
 use Rattle.std.specs.Prelude.{◌≡◌, ◌↔◌, ℕ, suc, ◌<◌, ◌≤◌, nat_lt, ◌⊎◌, Bool, true, false, List, [], ◌∷◌, ◌++◌, length, Result, Ok, Err}
 use Rattle.fallible.specs.Failures.{IfRefused}
 use Rattle.fallible.specs.declared.failure.Failure.{Failure}
@@ -18,8 +18,8 @@ use Rattle.energy_program.specs.Programs.{program_tree, Trees}
 use Rattle.energy_program.specs.Tree.{Tree}
 use Rattle.expr.specs.Uses.{in_place, source_meaning, trees}
 
--- The text says the tree, where these are the variables, with at most n parentheses and minus signs open around a
--- token.
+-- The text has the tree, with these variables and with at most n parentheses and minus signs open around any token: it
+-- splits into tokens, the tokens derive a body and definitions, and all names resolve.
 pub record IsEnergy (bits : ℕ) (variables : List (List ℕ)) (text : List ℕ) (n : ℕ) (e : Tree) : Type 0 where
   pub tokens : List Placed
   pub body : Syntax
@@ -31,26 +31,26 @@ pub record IsEnergy (bits : ℕ) (variables : List (List ℕ)) (text : List ℕ)
   pub new : AreNew variables [] (defined_names definitions)
   pub meant : source_meaning variables (body, definitions) ≡ Ok e
 
--- the answer to a text that says this tree: the tree, or that the text nests too deep
+-- the parser's result for a text that has this tree: the tree, or `TooLarge` if it nests deeper than 64
 abbrev pub IsRead : {A : Type 0} → ℕ → Tree → Result (Program A) (Failure (ExprFault A)) → Type 0
 IsRead n e (Ok p) = program_tree p ≡ e
 IsRead n e (Err failure) = IfRefused failure (λ fault. (refusal_of fault ≡ TooLarge) × (64 < n))
 
--- ---- why a text is refused
+-- ---- causes of errors
 
--- too many tokens, or too many parentheses and minus signs open around one, or too many definitions
+-- the text has too many tokens, too many parentheses and minus signs open around one, or too many definitions
 pub record IsLarge (bits : ℕ) (text : List ℕ) : Type 0 where
   pub tokens : List Placed
   pub spelled : IsText bits text tokens
   pub many : (4096 < length tokens) ⊎ HaltsProgram TooLarge 65 64 tokens
 
--- the name of a function that the language leaves out stands before a parenthesis
+-- the name of a function that the language leaves out is called
 pub record IsLeftOut (bits : ℕ) (text : List ℕ) (name : List ℕ) : Type 0 where
   pub tokens : List Placed
   pub spelled : IsText bits text tokens
   pub called : HaltsProgram (LeftOutFunction name) 65 64 tokens
 
--- the text is in the grammar
+-- the grammar derives the text
 pub record IsWritten (bits : ℕ) (text : List ℕ) : Type 0 where
   pub tokens : List Placed
   pub body : Syntax
@@ -58,7 +58,7 @@ pub record IsWritten (bits : ℕ) (text : List ℕ) : Type 0 where
   pub spelled : IsText bits text tokens
   pub derived : IsProgram 65 tokens body definitions
 
--- the first definition whose name isn't new has this name, which is reserved or a variable's
+-- the first definition whose name is not allowed has this name, which is reserved or a variable's
 pub record IsReserved (bits : ℕ) (variables : List (List ℕ)) (text : List ℕ) (name : List ℕ) : Type 0 where
   pub written : IsWritten bits text
   pub before : List (List ℕ)
@@ -67,7 +67,7 @@ pub record IsReserved (bits : ℕ) (variables : List (List ℕ)) (text : List �
   pub new : AreNew variables [] before
   pub taken : is_taken variables name ≡ true
 
--- the first definition whose name isn't new has this name, which one before it gives
+-- the first definition whose name is not allowed has this name, which an earlier definition has
 pub record IsRepeated (bits : ℕ) (variables : List (List ℕ)) (text : List ℕ) (name : List ℕ) : Type 0 where
   pub written : IsWritten bits text
   pub before : List (List ℕ)
@@ -77,20 +77,20 @@ pub record IsRepeated (bits : ℕ) (variables : List (List ℕ)) (text : List �
   pub free : is_taken variables name ≡ false
   pub given : is_given before name ≡ true
 
--- the names of all definitions are new, and the leftmost name that stands for nothing is this one
+-- all definitions' names are allowed, and the leftmost name without a meaning is this one
 pub record IsUndefined (bits : ℕ) (variables : List (List ℕ)) (text : List ℕ) (name : List ℕ) : Type 0 where
   pub written : IsWritten bits text
   pub new : AreNew variables [] (defined_names written.definitions)
   pub first : source_meaning variables (written.body, written.definitions) ≡ Err (UnknownName name)
 
--- the name stands before a parenthesis and is no function's
+-- the name is called and isn't a function
 pub record IsNoFunction (bits : ℕ) (text : List ℕ) (name : List ℕ) : Type 0 where
   pub tokens : List Placed
   pub spelled : IsText bits text tokens
   pub called : HaltsProgram (UnknownName name) 65 64 tokens
 
--- A token out of place, a wrong number of arguments and a bad exponent have no cause but that the text says no tree:
--- where they stand is told by reading from left to right.
+-- The cause of an error. An unexpected token, a wrong number of arguments and a bad exponent have no cause of their
+-- own: only the functional specification fixes where they are.
 abbrev pub IsCause : ℕ → List (List ℕ) → List ℕ → Refusal → Type 0
 IsCause bits variables text (BadCharacter at) = IsWrongAt bits BeginsBadly text at
 IsCause bits variables text (BadNumber at) = IsWrongAt bits BeginsMalformed text at
@@ -104,21 +104,22 @@ IsCause bits variables text (ReservedName name) = IsReserved bits variables text
 IsCause bits variables text TooLarge = IsLarge bits text
 IsCause bits variables text (LeftOutFunction name) = IsLeftOut bits text name
 
--- ---- reading from left to right
+-- ---- functional specification of the parser
 
+-- the tokens, or `TooLarge` if there are too many
 abbrev pub limited : Bool → List Placed → Result (List Placed) Refusal
 limited true tokens = Err TooLarge
 limited false tokens = Ok tokens
 
--- the trees of a body and definitions, whose names are to be new
+-- the resolved trees of a body and definitions, after the checks of the definitions' names
 abbrev pub trees_of_source : List (List ℕ) → Source → Result Trees Refusal
 trees_of_source variables source = checked variables [] (defined_names source.1) >>= λ names. trees variables source
 
--- the trees of the tokens of a text that ends at a place
+-- the trees of the tokens of a text that has `end` bytes
 abbrev pub trees_of_tokens : List (List ℕ) → ℕ → List Placed → Result Trees Refusal
 trees_of_tokens variables end tokens = source_at end tokens >>= trees_of_source variables
 
--- the trees that a text is read as
+-- the trees of a text, or its first error
 unfoldable pub trees_in : ℕ → List (List ℕ) → List ℕ → Result Trees Refusal
 trees_in bits variables text = do
   tokens ← tokens_of bits text
@@ -127,10 +128,10 @@ trees_in bits variables text = do
   names ← checked variables [] (defined_names source.1)
   trees variables source
 
--- the tree of a text, or its first fault
+-- the tree of a text with definitions substituted, or its first error
 unfoldable pub program_of : ℕ → List (List ℕ) → List ℕ → Result Tree Refusal
 program_of bits variables text = in_place (trees_in bits variables text)
 
--- A text is read as a tree exactly where it says that tree.
+-- A text is parsed to a tree if and only if the grammar gives it that tree.
 abbrev pub ReadsEnergyTexts : Type 0
 ReadsEnergyTexts = (bits : ℕ) (variables : List (List ℕ)) (text : List ℕ) (e : Tree) → (program_of bits variables text ≡ Ok e) ↔ IsEnergy bits variables text 64 e

@@ -1,4 +1,5 @@
--- The grammar: which tokens spell which tree. A rule has a case for each of its alternatives.
+-- The context-free grammar, as derivations: which tokens derive which syntax tree. Each rule has one constructor per
+-- alternative.
 --   program    = expr { ";" [ definition ] }
 --   definition = name "=" expr
 --   expr     = term { ("+" | "-") term }
@@ -7,7 +8,7 @@
 --   power    = atom [ "^" exponent ]
 --   exponent = [ "-" ] whole | "(" [ "-" ] whole ")"
 --   atom     = number | name | name "(" [ expr { "," expr } ] ")" | "(" expr ")"
--- A whole is a number from 1 to 32 in digits alone. A function has as many arguments as it takes.
+-- A whole is an integer from 1 to 32 in plain digits. A call has as many arguments as its function takes.
 use Rattle.std.specs.Prelude.{◌≡◌, ℕ, suc, ℤ, pos, neg_ℤ, true, List, [], ◌∷◌, ◌++◌, Some, Ok}
 use Rattle.energy_program.specs.declared.callees.Callee.{Callee}
 use Rattle.energy_program.specs.declared.trees.Operator.TheVariants as op
@@ -18,16 +19,18 @@ use Rattle.expr.specs.Tokens.{Placed}
 use Rattle.expr.specs.Tokens as t
 use Rattle.expr.specs.Syntax.{Syntax, Number, Name, Negated, Binary, Power, Arguments, Empty, One, with_argument, Definition}
 
+-- the tokens derive a signed exponent
 pub data IsWhole : List Placed → ℤ → Type 0 where
   positive : {z : ℤ} {n : ℕ} (at : ℕ) → is_whole n ≡ true → IsWhole ((t.Number z n, at) ∷ []) (pos n)
   negative : {z : ℤ} {n : ℕ} (from at : ℕ) → is_whole n ≡ true → IsWhole ((t.Minus, from) ∷ (t.Number z n, at) ∷ []) (neg_ℤ (pos n))
 
--- The number is of levels, as in the rules below: a minus here is on none.
+-- The tokens derive an exponent. The number counts levels, as in the rules below; an exponent's minus uses none.
 pub data IsExponent : ℕ → List Placed → ℤ → Type 0 where
   bare : {n : ℕ} {a : List Placed} {k : ℤ} → IsWhole a k → IsExponent n a k
   group : {n : ℕ} {a : List Placed} {k : ℤ} (at to : ℕ) → IsWhole a k → IsExponent (suc n) ((t.Open, at) ∷ (a ++ ((t.Close, to) ∷ []))) k
 
--- The number is of levels: around each token fewer parentheses and minus signs stand open.
+-- The tokens derive the tree of the rule. The number counts levels: around each token fewer parentheses and minus signs
+-- are open.
 mutual
   pub data IsExpr : ℕ → List Placed → Syntax → Type 0 where
     term : {n : ℕ} {a : List Placed} {x : Syntax} → IsTerm n a x → IsExpr n a x
@@ -43,7 +46,7 @@ mutual
     negative : {n : ℕ} {a : List Placed} {x : Syntax} (at : ℕ) → IsUnary n a x → IsUnary (suc n) ((t.Minus, at) ∷ a) (Negated x)
     power : {n : ℕ} {a : List Placed} {x : Syntax} → IsPower n a x → IsUnary (suc n) a x
 
-  -- with n levels inside its parentheses
+  -- a power or an atom with n levels left inside its parentheses
   pub data IsPower : ℕ → List Placed → Syntax → Type 0 where
     atom : {n : ℕ} {a : List Placed} {x : Syntax} → IsAtom n a x → IsPower n a x
     raised : {n : ℕ} {a b : List Placed} {x : Syntax} {k : ℤ} (at : ℕ) → IsAtom n a x → IsExponent n b k → IsPower n (a ++ ((t.Caret, at) ∷ b)) (Power x k)
@@ -64,12 +67,13 @@ mutual
     first : {n : ℕ} {a : List Placed} {x : Syntax} → IsExpr n a x → IsList n a (One x)
     next : {n : ℕ} {a b : List Placed} {xs : Arguments} {y : Syntax} (at : ℕ) → IsList n a xs → IsExpr n b y → IsList n (a ++ ((t.Comma, at) ∷ b)) (with_argument xs y)
 
--- the tail behind the body: semicolons, each with a definition behind it or with none
+-- the rest of a text after the body: semicolons, each optionally followed by a definition
 pub data IsTail : ℕ → List Placed → List Definition → Type 0 where
   end : {n : ℕ} → IsTail n [] []
   empty : {n : ℕ} {b : List Placed} {ds : List Definition} (at : ℕ) → IsTail n b ds → IsTail n ((t.Semicolon, at) ∷ b) ds
   definition : {n : ℕ} {w : List ℕ} {a b : List Placed} {x : Syntax} {ds : List Definition} (at from to : ℕ) → IsExpr n a x → IsTail n b ds
       → IsTail n ((t.Semicolon, at) ∷ (t.Name w, from) ∷ (t.Equals, to) ∷ (a ++ b)) ((w, x) ∷ ds)
 
+-- the tokens derive a body and definitions
 pub data IsProgram : ℕ → List Placed → Syntax → List Definition → Type 0 where
   program : {n : ℕ} {a b : List Placed} {x : Syntax} {ds : List Definition} → IsExpr n a x → IsTail n b ds → IsProgram n (a ++ b) x ds

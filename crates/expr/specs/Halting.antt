@@ -1,5 +1,7 @@
--- Tokens at which reading halts before it is told that a token is out of place: read from the left they go on as the
--- grammar says, as far as a token that could begin an operand and has no level left, or a name before a parenthesis.
+-- Positions at which the parser stops with `TooLarge`, `UnknownName` or `LeftOutFunction` before it can find an
+-- unexpected token. Up to there the tokens follow the grammar; then comes a token that could begin an operand with no
+-- level left, the name of a definition too many, or a name before a parenthesis that isn't a function. `TooLarge`
+-- precedes both name errors at the same token.
 use Rattle.std.specs.Prelude.{◌≡◌, ℕ, zero, suc, true, false, List, ◌∷◌, ◌++◌, Some, None}
 use Rattle.energy_program.specs.Faults.{Refusal, TooLarge, UnknownName, LeftOutFunction}
 use Rattle.energy_program.specs.declared.callees.Callee.{Callee}
@@ -10,7 +12,7 @@ use Rattle.expr.specs.Syntax.{Syntax, Arguments}
 use Rattle.expr.specs.Grammar.{IsExpr, IsTerm, IsAtom, IsList}
 use Rattle.expr.specs.Parsing.{begins_operand}
 
--- reading halts right at these tokens, with n levels left
+-- the parser stops at the first of these tokens, with n levels left
 pub data Halts : Refusal → ℕ → List Placed → Type 0 where
   too_deep : {k : Lexeme} {rest : List Placed} (at : ℕ) → begins_operand k ≡ true → Halts TooLarge zero ((k, at) ∷ rest)
   unknown : {n : ℕ} {w : List ℕ} {rest : List Placed} (at to : ℕ) → function_of w ≡ None → is_left_out w ≡ false → Halts (UnknownName w) (suc n) ((t.Name w, at) ∷ (t.Open, to) ∷ rest)
@@ -39,7 +41,7 @@ mutual
     first : {f : Refusal} {n : ℕ} {b : List Placed} → HaltsExpr f n b → HaltsList f n b
     next : {f : Refusal} {n : ℕ} {a b : List Placed} {xs : Arguments} (at : ℕ) → IsList n a xs → HaltsExpr f n b → HaltsList f n (a ++ ((t.Comma, at) ∷ b))
 
--- At most `many` definitions may come. At the name of one that is too many reading halts as well.
+-- At most `many` definitions may follow. The parser also stops at the name of one too many.
 pub data HaltsTail : Refusal → ℕ → ℕ → List Placed → Type 0 where
   too_many : {n : ℕ} {w : List ℕ} {rest : List Placed} (at from : ℕ) → HaltsTail TooLarge n zero ((t.Semicolon, at) ∷ (t.Name w, from) ∷ rest)
   empty : {f : Refusal} {n many : ℕ} {b : List Placed} (at : ℕ) → HaltsTail f n many b → HaltsTail f n many ((t.Semicolon, at) ∷ b)

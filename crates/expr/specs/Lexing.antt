@@ -1,4 +1,4 @@
--- Reading bytes from left to right as tokens, as far as the first fault.
+-- The functional specification of the lexer: bytes are read from left to right up to the first error.
 use Rattle.std.specs.Prelude.{◌≡◌, ℕ, zero, suc, ℤ, ◌-◌, ◌==◌, if◌then◌else◌, List, [], ◌∷◌, ◌++◌, length, take, drop, Option, Some, None, Result, Ok, Err}
 use Rattle.std.specs.List.{prefix_len}
 use Rattle.std.specs.Borrow.{Bor}
@@ -14,6 +14,7 @@ use Rattle.energy_program.specs.Faults.{Refusal, BadCharacter, BadNumber, Number
 use Rattle.expr.specs.Tokens.{Lexeme, Placed, lexeme, whole_in}
 use Rattle.expr.specs.Tokens as t
 
+-- the symbol that a byte is, if it is one
 unfoldable pub symbol_of : ℕ → Option Lexeme
 symbol_of b =
     if b == 43 then Some t.Plus else (if b == 45 then Some t.Minus else (if b == 42 then Some t.Star else (if b == 47 then Some t.Slash
@@ -24,6 +25,7 @@ abbrev pub ShowsKind : Option Kind → Option Lexeme → Type 0
 ShowsKind None kind = kind ≡ None
 ShowsKind (Some k) kind = kind ≡ Some (lexeme k)
 
+-- a token and the bytes after it, or a lexical error
 abbrev pub TokenRead : Type 0
 TokenRead = Result (Lexeme × List ℕ) Wrong
 
@@ -54,7 +56,7 @@ abbrev pub with_front : List Placed → Tokens → Tokens
 with_front front (Ok ts) = Ok (front ++ ts)
 with_front front (Err e) = Err e
 
--- the refusal at a place
+-- the error at an offset
 abbrev pub refusal_at : ℕ → Wrong → Refusal
 refusal_at at wrong.Byte = BadCharacter at
 refusal_at at (wrong.Number number.BadNumber) = BadNumber at
@@ -64,12 +66,14 @@ abbrev pub go_on : ℕ → TokenRead → (List ℕ → Tokens) → Tokens
 go_on at (Ok x) others = with_front ((x.0, at) ∷ []) (others x.1)
 go_on at (Err e) others = Err (refusal_at at e)
 
--- The tokens of the end of a text of `total` bytes. The first number bounds how many bytes are left.
+-- The tokens of the last bytes of a text of `total` bytes. The first number bounds how many bytes are left, which makes
+-- the recursion structural.
 unfoldable pub tokens_from : ℕ → ℕ → ℕ → List ℕ → Tokens
 tokens_from n bits total [] = Ok []
 tokens_from zero bits total (b ∷ rest) = Ok []
 tokens_from (suc n) bits total (b ∷ rest) =
     if is_space b then tokens_from n bits total rest else go_on (total - length (b ∷ rest)) (token_at bits (b ∷ rest)) (tokens_from n bits total)
 
+-- the tokens of a text, or its first lexical error
 unfoldable pub tokens_of : ℕ → List ℕ → Tokens
 tokens_of bits text = tokens_from (length text) bits (length text) text

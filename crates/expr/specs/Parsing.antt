@@ -1,4 +1,5 @@
--- Reading tokens from left to right, as far as the first fault.
+-- The functional specification of the parser: tokens are read from left to right up to the first error. A function
+-- `rule_at` reads a rule of the grammar, its helper `rule_by` continues after looking at the next token.
 use Rattle.std.specs.Prelude.{◌≡◌, ℕ, zero, suc, ℤ, pos, neg_ℤ, Bool, true, false, if◌then◌else◌, List, [], ◌∷◌, length, Option, Some, None, Result, Ok, Err, Box}
 use Rattle.std.specs.Borrow.{Bor}
 use Rattle.expr.specs.declared.parser.OperandStart.{OperandStart}
@@ -22,13 +23,14 @@ use Rattle.expr.specs.Tokens.{Lexeme, Placed, placed}
 use Rattle.energy_program.specs.Tree.{is_whole}
 use Rattle.expr.specs.Tokens as t
 
--- the result of reading: a part, and the tokens after it
+-- a parsed value and the tokens after it, or the first error
 abbrev pub ReadingOf : Type 0 → Type 0
 ReadingOf X = Result (X × List Placed) Refusal
 
 abbrev pub Reading : Type 0
 Reading = ReadingOf Syntax
 
+-- the views of a parser's results: trees without their memory, tokens as placed lexemes
 abbrev pub seen : {A : Type 0} → Box (code.Syntax A) A × Bor (List Token) → Syntax × List Placed
 seen x = (syntax_of x.0.value, placed x.1.now)
 
@@ -38,26 +40,26 @@ arguments_seen x = (arguments_of x.0, placed x.1.now)
 abbrev pub exponent_seen : Exponent × Bor (List Token) → ℤ × List Placed
 exponent_seen x = (x.0.value, placed x.1.now)
 
--- a value, and what is read behind it
+-- a value paired with the result read after it
 abbrev pub beside : {X Y E : Type 0} → X → Result Y E → Result (X × Y) E
 beside x (Ok y) = Ok (x, y)
 beside x (Err e) = Err e
 
--- the part that was made, in front of these tokens
+-- the result, followed by these tokens
 abbrev pub followed : {X : Type 0} → Result X Refusal → List Placed → ReadingOf X
 followed made rest = made >>= λ x. Ok (x, rest)
 
 abbrev pub rest_seen : Bor (List Token) → List Placed
 rest_seen rest = placed rest.now
 
--- where the tokens begin, or the piece ends
+-- the offset of the first token, or `end` if there is none
 abbrev pub offset : ℕ → List Placed → ℕ
 offset end [] = end
 offset end ((k, at) ∷ rest) = at
 
--- ---- what stands first
+-- ---- the next token
 
--- the meaning of a sign, and the tokens after it
+-- the meaning of a leading sign, and the tokens after it
 abbrev pub SignOf : Type 0 → Type 0
 SignOf S = Option (S × List Placed)
 
@@ -113,7 +115,7 @@ begins_operand t.Open = true
 begins_operand t.Minus = true
 begins_operand _ = false
 
--- whether a token comes that can begin an operand
+-- the first token can begin an operand
 abbrev pub awaits_operand : List Placed → Bool
 awaits_operand [] = false
 awaits_operand ((k, at) ∷ rest) = begins_operand k
@@ -122,16 +124,17 @@ abbrev pub close : ℕ → List Placed → Result (List Placed) Refusal
 close end ((t.Close, at) ∷ rest) = Ok rest
 close end ts = Err (UnexpectedToken (offset end ts))
 
--- what was read, and the parenthesis that closes it; or why it wasn't read
+-- the parsed value followed by a closing parenthesis; an earlier error stays
 abbrev pub Closes : {A T : Type 0} → ℕ → Result (T × Bor (List Token)) (Failure (ExprFault A)) → Result (T × Bor (List Token)) (Failure (ExprFault A)) → Type 0
 Closes end (Ok x) result = Gives (λ y. (y.0, placed y.1.now)) result (beside x.0 (close end (placed x.1.now)))
 Closes end (Err e) result = result ≡ Err e
 
--- why no operand is read where no level is left
+-- the error if no level is left
 abbrev pub misplaced : ℕ → List Placed → Refusal
 misplaced end [] = UnexpectedToken end
 misplaced end ((k, at) ∷ rest) = if begins_operand k then TooLarge else UnexpectedToken at
 
+-- the first token of an atom
 pub data Beginning : Type 0 where
   Numeral : ℤ → Beginning
   Word : List ℕ → Beginning
@@ -152,7 +155,7 @@ abbrev pub with_rest : List Placed → Option Beginning → SignOf Beginning
 with_rest rest None = None
 with_rest rest (Some b) = Some (b, rest)
 
--- the beginning of an atom, and the tokens after it
+-- the start of an atom, and the tokens after it
 abbrev pub start : List Placed → SignOf Beginning
 start [] = None
 start ((k, at) ∷ rest) = with_rest rest (beginning_of k)
@@ -165,27 +168,27 @@ abbrev pub ShowsStart : Option (OperandStart × Bor (List Token)) → SignOf Beg
 ShowsStart None first = first ≡ None
 ShowsStart (Some x) first = first ≡ Some (beginning x.0, placed x.1.now)
 
--- ---- operands with signs between them
+-- ---- operands separated by signs
 
 abbrev pub on_sign : {S X : Type 0} → SignOf S → ReadingOf X → (S → List Placed → ReadingOf X) → ReadingOf X
 on_sign None done go = done
 on_sign (Some x) done go = go x.0 x.1
 
--- Further operands behind their signs, grouped to the left. The number bounds how many.
+-- Further operands after their signs, left-associative. The number bounds how many there are.
 unfoldable pub chain : {S X : Type 0} → (List Placed → SignOf S) → (List Placed → Reading) → (S → X → Syntax → X) → ℕ → X → List Placed → ReadingOf X
 chain sign operand join zero left ts = Ok (left, ts)
 chain sign operand join (suc n) left ts =
     on_sign (sign ts) (Ok (left, ts)) (λ o rest. operand rest >>= λ y. chain sign operand join n (join o left y.0) y.1)
 
--- Each sign is a token, so there are no more of them than tokens.
+-- An operand and those that follow it. Each sign is a token, so the number of tokens bounds them.
 unfoldable pub chained : {S X : Type 0} → (List Placed → SignOf S) → (List Placed → Reading) → (Syntax → X) → (S → X → Syntax → X) → List Placed → ReadingOf X
 chained sign operand first join ts = operand ts >>= λ x. chain sign operand join (length x.1) (first x.0) x.1
 
--- a part, an operator, and the part that is read behind it
+-- the binary operation of a left operand and the right operand read after the operator
 abbrev pub joined : Operator → Syntax → Reading → Reading
 joined operator left read = read >>= λ x. Ok (s.Binary operator left x.0, x.1)
 
--- the operands of a rule, with the rule's signs between them
+-- the operands of a rule, joined by the rule's signs (`itself`: the first operand is the tree so far)
 abbrev pub itself : Syntax → Syntax
 itself x = x
 
@@ -221,7 +224,7 @@ abbrev pub signed_by : List Placed → Option (List Placed) → SignOf ℤ
 signed_by ts None = positive_whole (whole_sign ts)
 signed_by ts (Some rest) = negative_whole (whole_sign rest)
 
--- a whole number with its sign, if one comes
+-- an integer with its optional minus, if one comes
 abbrev pub signed_sign : List Placed → SignOf ℤ
 signed_sign ts = signed_by ts (minus_sign ts)
 
@@ -229,7 +232,7 @@ abbrev pub ShowsWhole : Option (Exponent × Bor (List Token)) → SignOf ℤ →
 ShowsWhole None sign = sign ≡ None
 ShowsWhole (Some x) sign = sign ≡ Some (x.0.value, placed x.1.now)
 
--- the exponent behind a `^` at a place
+-- the exponent, or `BadExponent` at the offset of the `^`
 abbrev pub or_bad : ℕ → SignOf ℤ → ReadingOf ℤ
 or_bad at None = Err (BadExponent at)
 or_bad at (Some x) = Ok x
@@ -259,13 +262,13 @@ abbrev pub raised_by : ℕ → ℕ → Syntax → List Placed → SignOf ℕ →
 raised_by end n x ts None = Ok (x, ts)
 raised_by end n x ts (Some c) = exponent_at end n c.0 c.1 >>= λ k. Ok (s.Power x k.0, k.1)
 
--- the power behind an atom
+-- the optional exponent after an atom
 unfoldable pub raised_at : ℕ → ℕ → Syntax → List Placed → Reading
 raised_at end n x ts = raised_by end n x ts (caret_sign ts)
 
--- ---- the levels
+-- ---- the rules, with a bound on nesting
 
--- inner reads what stands in the parenthesis
+-- an inner result followed by a closing parenthesis
 unfoldable pub closed : {X : Type 0} → ℕ → (List Placed → ReadingOf X) → List Placed → ReadingOf X
 closed end inner ts = do
   x ← inner ts
@@ -300,7 +303,7 @@ abbrev pub unary_by : (List Placed → Reading) → Reading → Option (List Pla
 unary_by operand other (Some rest) = operand rest >>= λ x. Ok (s.Negated x.0, x.1)
 unary_by operand other None = other
 
--- on n levels
+-- a unary expression with n levels left
 unfoldable pub unary_at : ℕ → ℕ → List Placed → Reading
 unary_at end zero ts = Err (misplaced end ts)
 unary_at end (suc n) ts =

@@ -1,4 +1,4 @@
--- Reading a whole text from left to right: a body, and definitions behind it.
+-- The functional specification of whole texts: a body, then definitions, from left to right.
 use Rattle.std.specs.Prelude.{◌≡◌, ℕ, zero, suc, Bool, true, false, List, [], ◌∷◌, ◌++◌, Option, Some, None, Result, Ok, Err}
 use Rattle.std.specs.Borrow.{Bor}
 use Rattle.expr.specs.declared.tokens.Token.{Token}
@@ -21,7 +21,7 @@ abbrev pub name_in : Lexeme → Option (List ℕ)
 name_in (t.Name w) = Some w
 name_in _ = None
 
--- the name in front, and the tokens after it
+-- a leading name, and the tokens after it
 abbrev pub name_sign : List Placed → SignOf (List ℕ)
 name_sign [] = None
 name_sign ((k, at) ∷ rest) = with_tokens rest (name_in k)
@@ -34,7 +34,7 @@ abbrev pub ShowsName : Option (Bor (List ℕ) × Bor (List Token)) → SignOf (L
 ShowsName None sign = sign ≡ None
 ShowsName (Some x) sign = sign ≡ Some (x.0.now, placed x.1.now)
 
--- the tokens after the semicolons in front
+-- the tokens after all leading semicolons
 unfoldable pub after_semicolons : List Placed → List Placed
 after_semicolons [] = []
 after_semicolons ((t.Semicolon, at) ∷ rest) = after_semicolons rest
@@ -42,7 +42,7 @@ after_semicolons ((k, at) ∷ rest) = (k, at) ∷ rest
 
 -- ---- definitions
 
--- the name of a definition and the tokens behind its `=`, or nothing, where none follows
+-- the name of a definition and the tokens after its `=`, or nothing if no definition follows
 abbrev pub Heading : Type 0
 Heading = SignOf (List ℕ)
 
@@ -59,7 +59,7 @@ named_by end full ts None = no_heading ts
 named_by end true ts (Some x) = Err TooLarge
 named_by end false ts (Some x) = equals end x.1 >>= λ after. Ok (Some (x.0, after))
 
--- behind semicolons; full: no further definition may come
+-- the heading after the semicolons; full: no further definition is allowed
 unfoldable pub named_at : ℕ → Bool → List Placed → Result Heading Refusal
 named_at end full ts = named_by end full ts (name_sign ts)
 
@@ -80,12 +80,13 @@ abbrev pub defined : (List Placed → Reading) → (List Placed → Definitions)
 defined value others None = Ok []
 defined value others (Some h) = value h.1 >>= λ x. before ((h.0, x.0) ∷ []) (others x.1)
 
--- the definitions behind the body, at most n
+-- the definitions after the body, at most n
 unfoldable pub definitions_at : ℕ → ℕ → List Placed → Definitions
 definitions_at end zero ts = heading_at end true ts >>= λ h. Ok []
 definitions_at end (suc n) ts = heading_at end false ts >>= λ h. defined (expr_at end 65) (definitions_at end n) h
 
--- all of the tokens: at most 64 parentheses and minus signs stand open, and there are at most 64 definitions
+-- the body and definitions of all of the tokens, with at most 64 parentheses and minus signs open around a token and at
+-- most 64 definitions
 unfoldable pub source_at : ℕ → List Placed → Result Source Refusal
 source_at end ts = do
   body ← expr_at end 65 ts

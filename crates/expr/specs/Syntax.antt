@@ -1,4 +1,4 @@
--- Syntax trees of texts: names stand as they are written.
+-- Abstract syntax before name resolution: names are bytes.
 use Rattle.std.specs.Prelude.{ℕ, ℤ, List, map}
 use Rattle.std.specs.declared.vec.Vec.{Vec}
 use Rattle.energy_program.specs.declared.trees.Operator.{Operator}
@@ -28,7 +28,7 @@ syntax_of (e.Applied' f p a) = Applied f (syntax_of a)
 syntax_of (e.Power' p a n) = Power (syntax_of a) n.value
 syntax_of (e.Select' p x q a s b) = Select (syntax_of x) (syntax_of a) (syntax_of b)
 
--- the arguments of a call; no function takes more than three
+-- the arguments of a call; no function takes more than three, so a longer list is only `More`
 pub data Arguments : Type 0 where
   Empty : Arguments
   One : Syntax → Arguments
@@ -43,7 +43,7 @@ arguments_of (w.Two x y) = Two (syntax_of x.value) (syntax_of y.value)
 arguments_of (w.Three x y z) = Three (syntax_of x.value) (syntax_of y.value) (syntax_of z.value)
 arguments_of w.More = More
 
--- and one more behind them
+-- the arguments with one more at the end
 abbrev pub with_argument : Arguments → Syntax → Arguments
 with_argument Empty x = One x
 with_argument (One x) y = Two x y
@@ -51,7 +51,7 @@ with_argument (Two x y) z = Three x y z
 with_argument (Three x y z) more = More
 with_argument More more = More
 
--- a name, and what it stands for
+-- a name, and the expression that it stands for
 abbrev pub Definition : Type 0
 Definition = List ℕ × Syntax
 
@@ -61,7 +61,7 @@ definition_of d = (d.name.now, syntax_of d.value.value)
 abbrev pub definition_views : {A : Type 0} → Vec (define.Definition A) A → List Definition
 definition_views v = map definition_of v.items
 
--- the names that these definitions define
+-- the names of these definitions
 abbrev pub defined_names : List Definition → List (List ℕ)
 defined_names definitions = map (λ d. d.0) definitions
 

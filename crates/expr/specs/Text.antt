@@ -1,4 +1,5 @@
--- Which bytes spell which tokens (operators and names as in the OpenMM User Guide, custom force expressions).
+-- The lexical grammar: which bytes spell which tokens. Operators and names are those of OpenMM's custom force
+-- expressions (OpenMM User Guide).
 use Rattle.std.specs.Prelude.{◌≡◌, ℕ, ℤ, ◌+◌, Bool, true, false, List, [], ◌∷◌, ◌++◌, length, Ok, Err}
 use Rattle.fixed.specs.declared.faults.NumFault.TheVariants.{NumberRange}
 use Rattle.fixed.specs.Numerals.{Numeral, IsNumeral, numeral_text, value_of, EndsBefore, BeginsWith}
@@ -7,17 +8,18 @@ use Rattle.expr.specs.Tokens as t
 use Rattle.line_text.specs.Identifiers.{is_identifier_start, is_identifier_continue}
 use Rattle.expr.specs.Bytes.{is_space, begins_number}
 
+-- all bytes pass the test
 abbrev pub Every : (ℕ → Bool) → List ℕ → Type 0
 Every test [] = Unit {0}
 Every test (b ∷ bs) = (test b ≡ true) × Every test bs
 
--- the bytes don't begin with one that passes
+-- the first byte, if any, fails the test
 abbrev pub Stops : (ℕ → Bool) → List ℕ → Type 0
 Stops test [] = Unit {0}
 Stops test (b ∷ bs) = test b ≡ false
 
--- The bytes are the token, where the rest follows them: a numeral and a name are as long as they can be. Numbers have
--- `bits` bits behind the point.
+-- The bytes spell the token, if `rest` follows them: numerals and identifiers are as long as possible (maximal munch).
+-- Numbers have `bits` fraction bits.
 pub data IsToken (bits : ℕ) (rest : List ℕ) : List ℕ → Lexeme → Type 0 where
   plus : IsToken bits rest (43 ∷ []) t.Plus
   minus : IsToken bits rest (45 ∷ []) t.Minus
@@ -32,17 +34,17 @@ pub data IsToken (bits : ℕ) (rest : List ℕ) : List ℕ → Lexeme → Type 0
   number : {n : Numeral} {z : ℤ} → IsNumeral n → EndsBefore n rest → value_of bits n ≡ Ok z → IsToken bits rest (numeral_text n) (t.Number z (whole_in (numeral_text n)))
   name : {b : ℕ} {bs : List ℕ} → is_identifier_start b ≡ true → Every is_identifier_continue bs → Stops is_identifier_continue rest → IsToken bits rest (b ∷ bs) (t.Name (b ∷ bs))
 
--- From this place on the text begins with these tokens, each with its place, and goes on from that place with the rest.
+-- From the first offset on, the text begins with these placed tokens; the rest begins at the second offset.
 pub data IsFront (bits : ℕ) : ℕ → List ℕ → List Placed → ℕ → List ℕ → Type 0 where
   done : {at : ℕ} {rest : List ℕ} → IsFront bits at rest [] at rest
   space : {at b end : ℕ} {text rest : List ℕ} {ts : List Placed} → is_space b ≡ true → IsFront bits (at + 1) text ts end rest → IsFront bits at (b ∷ text) ts end rest
   token : {at end : ℕ} {a text rest : List ℕ} {k : Lexeme} {ts : List Placed} → IsToken bits text a k → IsFront bits (at + length a) text ts end rest → IsFront bits at (a ++ text) ((k, at) ∷ ts) end rest
 
--- the text is these tokens
+-- the text splits into these tokens
 abbrev pub IsText : ℕ → List ℕ → List Placed → Type 0
 IsText bits text ts = IsFront bits 0 text ts (length text) []
 
--- no token begins with the byte, and it is no space
+-- the byte begins no token and is no space
 pub record BeginsNone (b : ℕ) : Type 0 where
   pub no_space : is_space b ≡ false
   pub no_number : begins_number b ≡ false
@@ -52,14 +54,14 @@ abbrev pub BeginsBadly : List ℕ → Type 0
 BeginsBadly [] = ⊥
 BeginsBadly (b ∷ rest) = BeginsNone b
 
--- the text begins with a numeral whose rounded value doesn't fit
+-- the text begins with a numeral whose rounded value is out of range
 pub record BeginsTooGreat (bits : ℕ) (text : List ℕ) : Type 0 where
   pub numeral : Numeral
   pub rest : List ℕ
   pub begins : BeginsWith text numeral rest
   pub too_great : value_of bits numeral ≡ Err NumberRange
 
--- the text begins with a digit or a point, and with no numeral
+-- the text begins with a digit or a point, but with no numeral
 pub record BeginsMalformed (text : List ℕ) : Type 0 where
   pub byte : ℕ
   pub rest : List ℕ
@@ -67,7 +69,7 @@ pub record BeginsMalformed (text : List ℕ) : Type 0 where
   pub begins : begins_number byte ≡ true
   pub no_numeral : (n : Numeral) (after : List ℕ) → BeginsWith text n after → ⊥
 
--- behind its first tokens, at this place, the text begins so
+-- after some tokens, at this offset, the rest of the text has the property
 pub record IsWrongAt (bits : ℕ) (Wrong : List ℕ → Type 0) (text : List ℕ) (at : ℕ) : Type 0 where
   pub tokens : List Placed
   pub rest : List ℕ

@@ -1,4 +1,4 @@
--- Tokens, and where they stand.
+-- Tokens with their offsets.
 use Rattle.std.specs.Prelude.{ℕ, ℤ, List, map, min, Option, Some, None}
 use Rattle.std.specs.declared.vec.Vec.{Vec}
 use Rattle.expr.specs.declared.tokens.Kind.{Kind}
@@ -6,8 +6,8 @@ use Rattle.expr.specs.declared.tokens.Kind.TheVariants as k
 use Rattle.expr.specs.declared.tokens.Token.{Token}
 use Rattle.line_text.specs.Columns.{digits_of}
 
--- A number stands as its raw value, and as the whole number that its numeral writes in digits alone (at 100 or more as
--- 100, otherwise as 0); a name as its bytes.
+-- A number is its raw value, and the integer that its numeral spells in plain digits (100 if greater, 0 if it isn't
+-- plain digits); a name is its bytes.
 pub data Lexeme : Type 0 where
   Number : ℤ → ℕ → Lexeme
   Name : List ℕ → Lexeme
@@ -22,7 +22,7 @@ pub data Lexeme : Type 0 where
   Semicolon : Lexeme
   Equals : Lexeme
 
--- the number that the bytes write in digits alone, or 100 where it is more; otherwise 0
+-- the integer that the bytes spell in plain digits, 100 if it is greater; 0 if they aren't plain digits
 abbrev pub up_to_100 : Option ℕ → ℕ
 up_to_100 None = 0
 up_to_100 (Some n) = min n 100

@@ -1,5 +1,5 @@
--- Names put for what they stand for, from left to right, as far as the first that stands for nothing. A name is one of
--- the variables, or one that a later definition gives.
+-- Name resolution, from left to right up to the first name without a meaning. A name is one of the variables, or else a
+-- later definition's.
 use Rattle.std.specs.Prelude.{◌≡◌, ℕ, ◌+◌, List, [], ◌∷◌, Option, Some, None, Result, Ok, Err, Box}
 use Rattle.fallible.specs.Failures.{IsOrMemory}
 use Rattle.fallible.specs.declared.failure.Failure.{Failure}
@@ -15,12 +15,12 @@ use Rattle.energy_program.specs.Tree.{Tree, substituted, tree_of}
 use Rattle.energy_program.specs.Tree as t
 use Rattle.energy_program.specs.Programs.{Trees}
 
--- a tree that is made of a part, unless there is no part or memory runs out
+-- a tree made of a part; an error of the part stays, and memory may run out
 abbrev pub Grows : {A : Type 0} → (Tree → Tree) → Result (Box (code.Expr A) A) (Failure (ExprFault A)) → Result (Box (code.Expr A) A) (Failure (ExprFault A)) → Type 0
 Grows make (Ok part) result = IsOrMemory (λ e. tree_of e.value ≡ make (tree_of part.value)) result
 Grows make (Err e) result = result ≡ Err e
 
--- and one that is made of two, or of three, unless the first that is lacking says why
+-- a tree made of two parts, or of three; the first part's error stays
 abbrev pub GrowsTwo : {A : Type 0} → (Tree → Tree → Tree) → Result (Box (code.Expr A) A) (Failure (ExprFault A)) → Result (Box (code.Expr A) A) (Failure (ExprFault A)) → Result (Box (code.Expr A) A) (Failure (ExprFault A)) → Type 0
 GrowsTwo make (Ok left) right result = Grows (make (tree_of left.value)) right result
 GrowsTwo make (Err e) right result = result ≡ Err e
@@ -30,15 +30,17 @@ abbrev pub GrowsThree : {A : Type 0} → (Tree → Tree → Tree → Tree) → R
 GrowsThree make (Ok first) second third result = GrowsTwo (make (tree_of first.value)) second third result
 GrowsThree make (Err e) second third result = result ≡ Err e
 
+-- the definition that a name stands for, or the error of an unknown name
 abbrev pub used_later : List ℕ → Option ℕ → Result Tree Refusal
 used_later name None = Err (UnknownName name)
 used_later name (Some j) = Ok (t.Definition j)
 
+-- the input or later definition that a name stands for
 abbrev pub used : ℕ → List (List ℕ) → List ℕ → Option ℕ → Result Tree Refusal
 used first later name None = used_later name (number_from first later name)
 used first later name (Some i) = Ok (t.Input i)
 
--- where these are the variables, and the later definitions, numbered from the first, have these names
+-- the tree with names resolved; vs are the variables, ws the names of the later definitions, numbered from i
 unfoldable pub resolved : List (List ℕ) → ℕ → List (List ℕ) → Syntax → Result Tree Refusal
 resolved vs i ws (s.Number z) = Ok (t.Number z)
 resolved vs i ws (s.Name name) = used i ws name (input_of vs name)
@@ -48,21 +50,22 @@ resolved vs i ws (s.Applied f a) = resolved vs i ws a >>= λ x. Ok (t.Applied f 
 resolved vs i ws (s.Power a n) = resolved vs i ws a >>= λ x. Ok (t.Power x n)
 resolved vs i ws (s.Select c a b) = resolved vs i ws c >>= λ x. resolved vs i ws a >>= λ y. resolved vs i ws b >>= λ z. Ok (t.Select x y z)
 
--- definitions, which are numbered from i: to each those behind it are later
+-- the resolved trees of definitions, numbered from i; each sees the later ones
 unfoldable pub all_resolved : List (List ℕ) → ℕ → List Definition → Result (List Tree) Refusal
 all_resolved vs i [] = Ok []
 all_resolved vs i (d ∷ ds) = resolved vs (i + 1) (defined_names ds) d.1 >>= λ x. all_resolved vs (i + 1) ds >>= λ xs. Ok (x ∷ xs)
 
--- the trees of a text: to the body all definitions are later
+-- the trees of a text; the body sees all definitions
 unfoldable pub trees : List (List ℕ) → Source → Result Trees Refusal
 trees vs source = do
   body ← resolved vs 0 (defined_names source.1) source.0
   definitions ← all_resolved vs 0 source.1
   Ok (body, definitions)
 
+-- the body with all definitions substituted
 abbrev pub in_place : Result Trees Refusal → Result Tree Refusal
 in_place r = r >>= λ t. Ok (substituted t.0 t.1)
 
--- the tree of a text, with its definitions put in place
+-- the tree of a text, with its definitions substituted
 unfoldable pub source_meaning : List (List ℕ) → Source → Result Tree Refusal
 source_meaning vs source = in_place (trees vs source)

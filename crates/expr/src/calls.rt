@@ -1,11 +1,11 @@
-// Functions and their arguments.
+// Calls of functions: arguments while a call is parsed.
 ghost use Rattle.std.specs.Prelude.{◌≡◌};
 ghost use Rattle.expr.specs.Syntax.{arguments_of, syntax_of, with_argument};
 
 use crate::syntax::Boxed;
 use std::alloc::Allocator;
 
-/// The arguments of a call; no function takes more than three.
+/// The arguments of a call. No function takes more than three, so a longer list is only `More`.
 #[derive(Drop)]
 pub enum Arguments<'a, A: Allocator> {
     Empty,
@@ -16,7 +16,7 @@ pub enum Arguments<'a, A: Allocator> {
 }
 
 impl<'a, A: Allocator> Arguments<'a, A> {
-    // These and one more behind them.
+    // The arguments with one more at the end.
     pub fn with(self, next: Boxed<'a, A>) -> Arguments<'a, A>
         ensures { arguments_of result ≡ with_argument (arguments_of self.entry) (syntax_of next.entry.value) }
     {

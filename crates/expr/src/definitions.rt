@@ -1,4 +1,5 @@
-// Names of definitions: none is a variable's or reserved, and none is given twice.
+// Checks of definitions' names: a name may be neither reserved, nor a variable's, nor defined twice. A definition may
+// have the bare name of a parameter, since only that name followed by 1 or 2 is a variable.
 ghost use Rattle.std.specs.Prelude.{◌≡◌, ◌+◌, ◌<◌, ◌≤◌, [], IfSome, length, map};
 ghost use Rattle.energy_program.specs.Faults.{Gives};
 ghost use Rattle.energy_program.specs.Variables.{names_of};
@@ -10,7 +11,7 @@ use energy_program::{ExprFault, Names, is_reserved};
 use fallible::Failure;
 use std::alloc::Allocator;
 
-/// The number of the first of these definitions that gives the name, where they are numbered from the first.
+/// The number of the first of these definitions with the name, if they are numbered from `first`.
 pub fn number_from<A: Allocator>(
     first: u32,
     definitions: &[Definition<A>],
@@ -31,14 +32,15 @@ pub fn number_from<A: Allocator>(
     None
 }
 
-// Whether no definition may have the name.
+// Whether the name is reserved or a variable's, so that no definition may have it.
 fn is_taken<A: Allocator>(names: &Names<A>, name: &[u8]) -> bool
     ensures { result ≡ is_taken (names_of names.now) name.now }
 {
     is_reserved(name) || names.input_of(name).is_some()
 }
 
-/// Whether the name of each definition is new.
+/// Checks the definitions' names in order. Errors: `ReservedName` for a name that is reserved or a variable's, else
+/// `RepeatedDefinition` for an earlier definition's; `Memory` if an allocation fails.
 pub fn check_names<A: Allocator + Copy>(
     alloc: A,
     names: &Names<A>,

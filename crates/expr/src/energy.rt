@@ -20,66 +20,63 @@ use fallible::Failure;
 use fixed::Frac;
 use std::alloc::Allocator;
 
-// How many tokens a text may have.
+// The maximum number of tokens in a text.
 const MAX_TOKENS: usize = 4096;
 
-/// Reads an energy text as a program, with numbers of the given fraction bits (operators as in the OpenMM User Guide,
-/// custom force expressions). The names are the variables that it may use.
+/// Parses an energy text to a program, whose numbers have the given fraction bits. The text may use the variables in
+/// `names`. Operators and functions are those of OpenMM's custom force expressions (OpenMM User Guide).
 ///
-/// A text is an expression, the body, and definitions behind it: `a*r^2; a=k*(q1-q2)`. A semicolon begins each
-/// definition; one with nothing behind it counts for nothing. The body may use each definition, and a definition those
-/// behind it. A definition that nothing uses is still read.
+/// A text is an expression, the body, followed by definitions: `a*r^2; a=k*(q1-q2)`. A semicolon precedes each
+/// definition; a semicolon without one is ignored. The body may use every definition, a definition only later ones.
+/// Unused definitions are parsed and checked too.
 ///
-/// An expression has numerals, variables, defined names, `+`, `-`, `*`, `/`, a minus in front, powers, parentheses and
-/// calls; space, tab, CR and LF separate tokens. `+` and `-`, and `*` and `/`, group to the left; a minus in front
-/// binds tighter than both, and a power tighter still. An exponent is a whole number from 1 to 32 in digits alone, with
-/// or without a minus before it and parentheses around it. `sqrt`, `abs`, `step`, `delta`, `floor` and `ceil` take one
-/// argument, `min` and `max` two and `select` three. A numeral is read without its sign. Offsets count bytes from 0.
+/// An expression consists of numerals, variables, defined names, `+`, `-`, `*`, `/`, unary minus, powers, parentheses
+/// and calls; space, tab, CR and LF separate tokens. `+` and `-`, and `*` and `/`, are left-associative; unary minus
+/// binds tighter than both, and a power tighter still. An exponent is an integer from 1 to 32 in plain digits,
+/// optionally with a minus before it and parentheses around it. `sqrt`, `abs`, `step`, `delta`, `floor` and `ceil` take
+/// one argument, `min` and `max` two and `select` three. A numeral's range is checked without its sign, so -2^63 can't
+/// be written. Offsets are in bytes from 0.
 ///
-/// The first of these is the answer:
-/// - from left to right through the bytes, `BadCharacter` for a byte that begins no token, `BadNumber` for a numeral
-/// that
-///   is malformed, has more than 18 digits before its exponent part or an exponent past 99, and `NumberRange` for one
-///   whose rounded value is 2^63 or more as a raw number; then `TooLarge` for more than 4,096 tokens;
-/// - from left to right through the tokens, `UnexpectedToken` for a token that the grammar doesn't take (at the end of
-///   the text, the text's length), `TooLarge` for a token that can begin an operand inside more than 64 parentheses and
-///   minus signs (an exponent's parentheses count, its minus doesn't) and for the name that begins a 65th definition,
-/// for a
-///   name before a parenthesis that is no function's `LeftOutFunction` where the language leaves such a function out,
-/// else
-///   `UnknownName`, at the closing parenthesis of a call `WrongArgumentCount`, and `BadExponent` at a `^` that no
-/// exponent
-///   follows;
-/// - definition by definition, `ReservedName` for a name that is a variable's or reserved (`r`, the functions and those
-/// left
-///   out), else `RepeatedDefinition` for one that an earlier definition gives;
-/// - from left to right, the body first, `UnknownName` for a name that is no variable's and no later definition's.
+/// Errors, the first that applies:
+/// - from left to right through the bytes: `BadCharacter` for a byte that begins no token, `BadNumber` for a numeral
+///   that is malformed, has more than 18 digits before its exponent part or an exponent over 99, `NumberRange` for a
+///   numeral whose rounded value is 2^63 or more as a raw number; then `TooLarge` for more than 4,096 tokens;
+/// - from left to right through the tokens: `UnexpectedToken` for a token that the grammar doesn't allow (at the end of
+///   the text, with the text's length), `TooLarge` for a token that can begin an operand inside more than 64
+///   parentheses and minus signs (an exponent's parentheses count, its minus doesn't) and for the name that begins a
+///   65th definition, `LeftOutFunction` or else `UnknownName` for a name before a parenthesis that isn't a function,
+///   `WrongArgumentCount` at the closing parenthesis of a call, and `BadExponent` at a `^` without an exponent;
+/// - definition by definition: `ReservedName` for a name that is a variable's or reserved (`r`, the functions, and the
+///   functions left out), else `RepeatedDefinition` for an earlier definition's name;
+/// - from left to right, the body first: `UnknownName` for a name that is neither a variable's nor a later
+///   definition's.
 ///
-/// `Memory`: an allocation was refused.
+/// `Memory`: an allocation failed.
 pub fn parse<A: Allocator + Copy>(
     alloc: A,
     frac: Frac,
     text: &[u8],
     names: &Names<A>,
 ) -> Result<Program<A>, Failure<ExprFault<A>>>
-    // What is read, the text says.
+    // Soundness: the grammar gives the text the tree of the program that is returned.
     ensures found { IfOk result (λ p. IsEnergy (bits_of frac) (names_of names.now) text.now 64 (program_tree p)) }
-    // What the text says is read, unless it nests too deep or memory runs out.
+    // Completeness: if the grammar gives the text a tree, that tree is returned, unless the text nests too deep or
+    // memory runs out.
     ensures only { (n : ℕ) (e : Tree) → IsEnergy (bits_of frac) (names_of names.now) text.now n e → IsRead n e result }
-    // Each refusal has its cause in the text.
+    // Each error has its cause in the text.
     ensures cause { IfErr result (λ failure. IfRefused failure (λ fault. IsCause (bits_of frac) (names_of names.now) text.now (refusal_of fault))) }
-    // Which answer it is.
+    // The result, error included, is determined by the text.
     ensures exact { Gives program_tree result (program_of (bits_of frac) (names_of names.now) text.now) }
-    // Its body and definitions, as they stand.
+    // The trees of body and definitions, before substitution.
     ensures trees { Gives trees_of result (trees_in (bits_of frac) (names_of names.now) text.now) }
-    // The program takes the inputs that the names are.
+    // The program's inputs are the variables in `names`.
     ensures parameters { IfOk result (λ p. p.parameters ≡ names.now.parameters) }
     ensures globals { IfOk result (λ p. p.globals ≡ names.now.globals) }
 {
     read(alloc, frac, text, names)
 }
 
-// The program, by the function on lists.
+// The program of a text, following the functional specification.
 #[tactic(auto, unfolding(crate::specs::Energy::trees_in))]
 fn read<A: Allocator + Copy>(
     alloc: A,
@@ -98,7 +95,7 @@ fn read<A: Allocator + Copy>(
     read_tokens(alloc, text.len(), &tokens, names)
 }
 
-// The program of these tokens, whose text ends at a place.
+// The program of these tokens of a text that has `end` bytes.
 fn read_tokens<A: Allocator + Copy>(
     alloc: A,
     end: usize,
@@ -114,7 +111,7 @@ fn read_tokens<A: Allocator + Copy>(
     read_source(alloc, names, &source)
 }
 
-// The program of a body and definitions.
+// The program of a parsed body and definitions: checks the definitions' names, then resolves all names.
 fn read_source<A: Allocator + Copy>(
     alloc: A,
     names: &Names<A>,

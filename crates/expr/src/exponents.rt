@@ -1,4 +1,5 @@
-// Exponents: a whole number from 1 to 32 in digits alone, with or without a minus before it and parentheses around it.
+// Exponents: an integer from 1 to 32 in plain digits, optionally with a minus before it and parentheses around it. `02`
+// is allowed, `2.0` isn't.
 ghost use Rattle.std.specs.Prelude.{◌≡◌, IfSome, IsTrue};
 ghost use Rattle.expr.specs.Tokens.{lexeme, placed};
 ghost use Rattle.energy_program.specs.Tree.{is_whole};
@@ -8,7 +9,7 @@ use crate::parser::{begins_operand, minus_sign};
 use crate::tokens::{Kind, Token};
 use energy_program::Exponent;
 
-// The place of a `^`, and the tokens after it.
+// The offset of a leading `^`, and the tokens after it.
 pub fn caret_sign<'a>(tokens: &'a [Token<'a>]) -> Option<(usize, &'a [Token<'a>])>
     ensures { ShowsCaret result (caret_sign (placed tokens.now)) }
 {
@@ -24,7 +25,7 @@ pub fn caret_sign<'a>(tokens: &'a [Token<'a>]) -> Option<(usize, &'a [Token<'a>]
     }
 }
 
-// Whether a token comes that can begin an operand.
+// Whether the first token can begin an operand.
 pub fn awaits_operand(tokens: &[Token]) -> bool
     ensures { result ≡ awaits_operand (placed tokens.now) }
 {
@@ -34,7 +35,7 @@ pub fn awaits_operand(tokens: &[Token]) -> bool
     }
 }
 
-// The whole number from 1 to 32 that a token is.
+// The integer from 1 to 32 that a token spells in plain digits.
 fn whole_of(kind: Kind<'_>) -> Option<u8>
     ensures value { result ≡ whole_of (lexeme kind.entry) }
     ensures range { IfSome result (λ n. IsTrue (is_whole n)) }
@@ -45,7 +46,7 @@ fn whole_of(kind: Kind<'_>) -> Option<u8>
     }
 }
 
-// A whole number from 1 to 32, and the tokens after it.
+// A leading integer from 1 to 32, and the tokens after it.
 fn whole_sign<'a>(tokens: &'a [Token<'a>]) -> Option<(u8, &'a [Token<'a>])>
     ensures value { ShowsCaret result (whole_sign (placed tokens.now)) }
     ensures range { IfSome result (λ x. IsTrue (is_whole x.0)) }
@@ -56,7 +57,7 @@ fn whole_sign<'a>(tokens: &'a [Token<'a>]) -> Option<(u8, &'a [Token<'a>])>
     }
 }
 
-// A whole number with its sign, and the tokens after it.
+// A leading integer with its optional minus, and the tokens after it.
 pub fn signed_sign<'a>(tokens: &'a [Token<'a>]) -> Option<(Exponent, &'a [Token<'a>])>
     ensures { ShowsWhole result (signed_sign (placed tokens.now)) }
 {

@@ -1,9 +1,9 @@
-//! Law of energy texts: reading agrees with the grammar.
+//! The theorem about the parser: parsing agrees with the grammar.
 
 ghost use Rattle.expr.specs.Energy.{ReadsEnergyTexts};
 
-/// A text is read as a tree exactly where it says that tree, with at most 64 parentheses and minus signs open around a
-/// token: so a text says one tree at most.
+/// A text is parsed to a tree if and only if the grammar gives it that tree with at most 64 parentheses and minus signs
+/// open around any token. So the grammar is unambiguous.
 pub fn reads_energy_texts()
     ensures { ReadsEnergyTexts }
 {}

@@ -1,4 +1,4 @@
-// From bytes to tokens.
+// The lexer: from bytes to tokens, from left to right up to the first error.
 ghost use Rattle.std.specs.Prelude.{◌≡◌, ◌≤◌, length};
 ghost use Rattle.std.specs.List.{prefix_len};
 ghost use Rattle.fixed.specs.Fractions.{bits_of};
@@ -16,7 +16,7 @@ use fixed::{Frac, NumFault, numeral_front};
 use line_text::{digits_up_to, is_identifier_continue, is_identifier_start};
 use std::alloc::Allocator;
 
-/// The fault at the front of a text.
+/// A lexical error at the front of a text.
 #[derive(Clone, Copy)]
 pub enum Wrong {
     /// The byte begins no token.
@@ -56,7 +56,7 @@ fn symbol_of<'a>(byte: u8) -> Option<Kind<'a>>
     }
 }
 
-// How many bytes of a name a text begins with.
+// The length of the identifier that the text begins with.
 fn word_len(text: &[u8]) -> usize
     ensures value { result ≡ prefix_len is_identifier_continue text.now }
     ensures bound { result ≤ length text.now }
@@ -66,7 +66,7 @@ fn word_len(text: &[u8]) -> usize
         .count()
 }
 
-// The number that a numeral writes in digits alone, or 100 where it is more. Otherwise 0.
+// The integer that a numeral spells in plain digits, 100 if it is greater, or 0 if the numeral isn't plain digits.
 fn whole(text: &[u8]) -> u8
     ensures { result ≡ whole_in text.now }
 {
@@ -89,7 +89,7 @@ fn number_token<'a>(frac: Frac, text: &'a [u8]) -> Result<(Kind<'a>, &'a [u8]), 
     }
 }
 
-// The symbol that a byte is, in front of others.
+// The symbol that a byte is, and the bytes after it.
 fn symbol_token<'a>(byte: u8, after: &'a [u8]) -> Result<(Kind<'a>, &'a [u8]), Wrong>
     ensures { ShowsToken result (symbol_token after.now (symbol_of byte)) }
 {
@@ -119,7 +119,7 @@ fn token_at<'a>(frac: Frac, text: &'a [u8]) -> Result<(Kind<'a>, &'a [u8]), Wron
     }
 }
 
-// The fault at a place.
+// The fault of a lexical error at an offset.
 fn wrong_at<A: Allocator>(wrong: Wrong, at: usize) -> ExprFault<A>
     ensures { refusal_of result ≡ refusal_at at wrong }
 {
@@ -130,7 +130,7 @@ fn wrong_at<A: Allocator>(wrong: Wrong, at: usize) -> ExprFault<A>
     }
 }
 
-/// The tokens of a text.
+/// The tokens of a text. Errors: the first lexical error, with its offset; `Memory` if an allocation fails.
 pub fn tokens<'a, A: Allocator + Copy>(
     alloc: A,
     frac: Frac,

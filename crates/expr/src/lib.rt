@@ -1,4 +1,5 @@
-//! Energy texts: from a text to the program that it says, or the reason why it says none.
+//! The parser of energy texts: lexer, recursive-descent parser and name resolution. `parse` returns the program of a
+//! text, or the first error in it.
 #![tactic(auto)]
 
 mod calls;

@@ -1,4 +1,5 @@
-// From tokens to a tree, by recursive descent.
+// The parser: from tokens to a syntax tree, by recursive descent with a bounded depth. One function per rule of the
+// grammar (specs/Grammar.antt); `levels` bounds the nesting, so that the native stack can't overflow.
 ghost use Rattle.std.specs.Prelude.{◌≡◌, Ok};
 ghost use Rattle.expr.specs.Tokens.{lexeme, placed};
 ghost use Rattle.energy_program.specs.Faults.{Answers, Gives, refusal_of};
@@ -15,26 +16,26 @@ use fallible::Failure;
 use fixed::Fx;
 use std::alloc::Allocator;
 
-/// Fewer parentheses and minus signs than these may stand open around a token.
+/// Nesting levels of a text: fewer parentheses and minus signs than this may be open around a token.
 pub const LEVELS: usize = 65;
 
-/// The result of reading: a value, and the tokens after it.
+/// A parsed value and the tokens after it, or the first error.
 type ReadOf<'a, T, A> = Result<(T, &'a [Token<'a>]), Failure<ExprFault<A>>>;
 
-/// The result of reading an expression, its tree.
+/// A parsed expression's tree and the tokens after it.
 pub type Read<'a, A> = ReadOf<'a, Boxed<'a, A>, A>;
 
-/// The result of reading arguments.
+/// Parsed arguments and the tokens after them.
 type ReadArguments<'a, A> = ReadOf<'a, Arguments<'a, A>, A>;
 
-/// Reads the tokens of a text, which ends at a place.
+/// A parser for the tokens of a text that has `end` bytes.
 #[derive(Drop)]
 pub struct Parser<A: Allocator> {
     pub alloc: A,
     pub end: usize,
 }
 
-// A sign between terms, and the tokens after it.
+// A leading `+` or `-` between terms, and the tokens after it.
 fn sum_sign<'a>(tokens: &'a [Token<'a>]) -> Option<(Operator, &'a [Token<'a>])>
     ensures { Shows result (sum_sign (placed tokens.now)) }
 {
@@ -57,7 +58,7 @@ fn sum_sign<'a>(tokens: &'a [Token<'a>]) -> Option<(Operator, &'a [Token<'a>])>
     }
 }
 
-// A sign between factors, and the tokens after it.
+// A leading `*` or `/` between factors, and the tokens after it.
 fn product_sign<'a>(tokens: &'a [Token<'a>]) -> Option<(Operator, &'a [Token<'a>])>
     ensures { Shows result (product_sign (placed tokens.now)) }
 {
@@ -80,7 +81,7 @@ fn product_sign<'a>(tokens: &'a [Token<'a>]) -> Option<(Operator, &'a [Token<'a>
     }
 }
 
-// A minus sign, and the tokens after it.
+// A leading minus sign: the tokens after it.
 pub fn minus_sign<'a>(tokens: &'a [Token<'a>]) -> Option<&'a [Token<'a>]>
     ensures { ShowsRest result (minus_sign (placed tokens.now)) }
 {
@@ -96,7 +97,7 @@ pub fn minus_sign<'a>(tokens: &'a [Token<'a>]) -> Option<&'a [Token<'a>]>
     }
 }
 
-// An opening parenthesis, and the tokens after it.
+// A leading opening parenthesis: the tokens after it.
 fn open_sign<'a>(tokens: &'a [Token<'a>]) -> Option<&'a [Token<'a>]>
     ensures { ShowsRest result (open_sign (placed tokens.now)) }
 {
@@ -112,7 +113,7 @@ fn open_sign<'a>(tokens: &'a [Token<'a>]) -> Option<&'a [Token<'a>]>
     }
 }
 
-// A closing parenthesis, and the tokens after it.
+// A leading closing parenthesis: the tokens after it.
 fn close_sign<'a>(tokens: &'a [Token<'a>]) -> Option<&'a [Token<'a>]>
     ensures { ShowsRest result (close_sign (placed tokens.now)) }
 {
@@ -128,7 +129,7 @@ fn close_sign<'a>(tokens: &'a [Token<'a>]) -> Option<&'a [Token<'a>]>
     }
 }
 
-// A comma's place, and the tokens after it.
+// A leading comma: its offset, and the tokens after it.
 fn comma_sign<'a>(tokens: &'a [Token<'a>]) -> Option<(usize, &'a [Token<'a>])>
     ensures { ShowsCaret result (comma_sign (placed tokens.now)) }
 {
@@ -164,7 +165,7 @@ enum OperandStart<'a> {
     Open,
 }
 
-// How a token begins an atom.
+// The start of an atom that a token is, if it is one.
 fn start_of(kind: Kind<'_>) -> Option<OperandStart<'_>>
     ensures { ShowsBeginning result (beginning_of (lexeme kind.entry)) }
 {
@@ -176,7 +177,7 @@ fn start_of(kind: Kind<'_>) -> Option<OperandStart<'_>>
     }
 }
 
-// The beginning of an atom, and the tokens after it.
+// The start of an atom, and the tokens after it.
 fn read_start<'a>(tokens: &'a [Token<'a>]) -> Option<(OperandStart<'a>, &'a [Token<'a>])>
     ensures { ShowsStart result (start (placed tokens.now)) }
 {
@@ -186,7 +187,7 @@ fn read_start<'a>(tokens: &'a [Token<'a>]) -> Option<(OperandStart<'a>, &'a [Tok
     }
 }
 
-// A value, and what is read behind it.
+// Pairs a value with the result parsed after it.
 fn beside<T: Drop, U, E>(value: T, read: Result<U, E>) -> Result<(T, U), E>
     ensures { result ≡ beside value read }
 {
@@ -197,7 +198,7 @@ fn beside<T: Drop, U, E>(value: T, read: Result<U, E>) -> Result<(T, U), E>
 }
 
 impl<A: Allocator + Copy> Parser<A> {
-    // Where the tokens begin, or the text ends.
+    // The offset of the first token, or the text's length if there is none.
     pub fn offset(&self, tokens: &[Token]) -> usize
         ensures { result ≡ offset self.now.end (placed tokens.now) }
     {
@@ -207,7 +208,7 @@ impl<A: Allocator + Copy> Parser<A> {
         }
     }
 
-    // Why no operand is read where no level is left.
+    // The fault if no level is left: `TooLarge` at a token that can begin an operand, else `UnexpectedToken`.
     fn misplaced(&self, tokens: &[Token]) -> ExprFault<A>
         ensures { refusal_of result ≡ misplaced self.now.end (placed tokens.now) }
     {
@@ -219,7 +220,8 @@ impl<A: Allocator + Copy> Parser<A> {
         }
     }
 
-    /// An expression in front, inside which there are `levels` levels, and the tokens after it.
+    /// An expression at the front, and the tokens after it. Fewer than `levels` parentheses and minus signs of it may
+    /// be open around a token.
     #[cycle(parser)]
     pub fn expr<'a>(&self, tokens: &'a [Token<'a>], levels: usize) -> Read<'a, A>
         ensures { Gives seen result (expr_at self.now.end levels (placed tokens.now)) }
@@ -262,7 +264,7 @@ impl<A: Allocator + Copy> Parser<A> {
         }
     }
 
-    // An atom, which may be raised.
+    // An atom with its optional exponent. `levels` are left inside its parentheses.
     #[cycle(parser)]
     #[tactic(auto, unfolding(crate::specs::Parsing::power_at))]
     fn power<'a>(&self, tokens: &'a [Token<'a>], levels: usize) -> Read<'a, A>
@@ -272,7 +274,7 @@ impl<A: Allocator + Copy> Parser<A> {
         self.raised(base, rest, levels)
     }
 
-    // The power behind an atom.
+    // The optional `^` and exponent after an atom.
     #[tactic(auto, unfolding(crate::specs::Parsing::raised_at))]
     fn raised<'a>(&self, base: Boxed<'a, A>, tokens: &'a [Token<'a>], levels: usize) -> Read<'a, A>
         ensures { Gives seen result (raised_at self.now.end levels (syntax_of base.entry.value) (placed tokens.now)) }
@@ -286,7 +288,7 @@ impl<A: Allocator + Copy> Parser<A> {
         }
     }
 
-    // The exponent behind a `^` at a place.
+    // The exponent after a `^` at the offset `at`.
     #[tactic(auto, unfolding(crate::specs::Parsing::exponent_at))]
     fn exponent<'a>(
         &self,
@@ -305,7 +307,7 @@ impl<A: Allocator + Copy> Parser<A> {
         }
     }
 
-    // An exponent behind a parenthesis, and the parenthesis that closes it.
+    // An exponent inside parentheses, after the opening one: the exponent and the closing one.
     #[tactic(auto, unfolding(crate::specs::Parsing::grouped_at))]
     fn grouped<'a>(
         &self,
@@ -324,7 +326,7 @@ impl<A: Allocator + Copy> Parser<A> {
         }
     }
 
-    // A number, a name, or a parenthesis, inside which there are `levels` levels.
+    // A numeral, a name, a call or an expression in parentheses, inside which `levels` are left.
     #[cycle(parser)]
     fn atom<'a>(&self, tokens: &'a [Token<'a>], levels: usize) -> Read<'a, A>
         ensures { Gives seen result (atom_at self.now.end levels (placed tokens.now)) }
@@ -345,7 +347,7 @@ impl<A: Allocator + Copy> Parser<A> {
         }
     }
 
-    // A call, behind its parenthesis.
+    // A call, after its opening parenthesis.
     #[cycle(parser)]
     #[tactic(auto, unfolding(crate::specs::Parsing::call_at, crate::specs::Parsing::arguments_at))]
     fn call<'a>(&self, name: &'a [u8], tokens: &'a [Token<'a>], levels: usize) -> Read<'a, A>
@@ -372,7 +374,7 @@ impl<A: Allocator + Copy> Parser<A> {
         }
     }
 
-    // Arguments with commas between them.
+    // Arguments separated by commas, at least one.
     #[cycle(parser)]
     fn list<'a>(&self, tokens: &'a [Token<'a>], levels: usize) -> ReadArguments<'a, A>
         ensures { Gives arguments_seen result (list_at self.now.end levels (placed tokens.now)) }
@@ -387,7 +389,7 @@ impl<A: Allocator + Copy> Parser<A> {
         Ok((arguments, rest))
     }
 
-    // The function with this name, of these arguments, in front of tokens.
+    // The tree of a call of this function; `WrongArgumentCount` if the arguments don't match it.
     fn called<'a>(
         &self,
         name: &'a [u8],
@@ -411,7 +413,7 @@ impl<A: Allocator + Copy> Parser<A> {
         }
     }
 
-    // An expression behind a parenthesis, and the parenthesis that closes it.
+    // An expression in parentheses, after the opening one: the expression and the closing one.
     #[cycle(parser)]
     #[tactic(auto, unfolding(crate::specs::Parsing::closed_at))]
     fn closed<'a>(&self, tokens: &'a [Token<'a>], levels: usize) -> Read<'a, A>
@@ -420,7 +422,7 @@ impl<A: Allocator + Copy> Parser<A> {
         self.closing(self.expr(tokens, levels))
     }
 
-    // What is read, and the parenthesis that closes it.
+    // A parsed value, and the parenthesis that must follow it.
     fn closing<'a, T: Drop>(&self, read: ReadOf<'a, T, A>) -> ReadOf<'a, T, A>
         ensures { Closes self.now.end read.entry result }
     {
@@ -428,7 +430,7 @@ impl<A: Allocator + Copy> Parser<A> {
         Ok(beside(value, self.close(rest))?)
     }
 
-    // The tokens after a closing parenthesis.
+    // The tokens after a closing parenthesis, or `UnexpectedToken`.
     fn close<'a>(&self, tokens: &'a [Token<'a>]) -> Result<&'a [Token<'a>], ExprFault<A>>
         ensures { Answers rest_seen result (close self.now.end (placed tokens.now)) }
     {
@@ -446,7 +448,7 @@ impl<A: Allocator + Copy> Parser<A> {
         }
     }
 
-    // A part, an operator, and the part that is read behind it.
+    // The binary operation of a left operand and the right operand parsed after the operator.
     fn joined<'a>(&self, operator: Operator, left: Boxed<'a, A>, right: Read<'a, A>) -> Read<'a, A>
         ensures { (read : Reading) → Gives seen right.entry read → Gives seen result (joined operator (syntax_of left.entry.value) read) }
     {
@@ -454,7 +456,7 @@ impl<A: Allocator + Copy> Parser<A> {
         self.put(Syntax::Binary(operator, left, right), rest)
     }
 
-    // A part in a block of its own, in front of tokens.
+    // Boxes a tree, and returns it with the tokens after it.
     fn put<'a>(&self, part: Syntax<'a, A>, tokens: &'a [Token<'a>]) -> Read<'a, A>
         ensures { Gives seen result (Ok (syntax_of part.entry, placed tokens.now)) }
     {

@@ -1,5 +1,5 @@
-// Parts put together to a tree, apart from the recursion, which goes as deep as a sum has terms: so its frames stay
-// small.
+// Builds resolved trees from parts. The constructors are kept out of the recursion, which is as deep as a sum has
+// terms, so that its stack frames stay small.
 ghost use Rattle.std.specs.Prelude.{◌≡◌};
 ghost use Rattle.fallible.specs.Failures.{IsOrMemory};
 ghost use Rattle.energy_program.specs.Tree.{tree_of};
@@ -10,10 +10,10 @@ use energy_program::{Exponent, Expr, ExprFault, Function, Operator};
 use fallible::{Failure, pair};
 use std::alloc::Allocator;
 
-/// A tree, or why there is none. It stands in a block of its own, so that one that waits for others is a pointer.
+/// A boxed tree, or the first error. The box keeps a part that waits for others as small as a pointer.
 pub type Part<A> = Result<Box<Expr<A>, A>, Failure<ExprFault<A>>>;
 
-/// A tree without parts.
+/// A boxed tree from a node whose children are boxed already.
 pub fn leaf<A: Allocator + Copy>(alloc: A, tree: Expr<A>) -> Part<A>
     ensures { IsOrMemory (λ e. e.value ≡ tree) result }
 {

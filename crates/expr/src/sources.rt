@@ -1,4 +1,4 @@
-// Whole texts: a body, and definitions behind it.
+// Whole texts: a body followed by definitions.
 ghost use Rattle.std.specs.Prelude.{◌≡◌};
 ghost use Rattle.energy_program.specs.Faults.{Answers, Gives};
 ghost use Rattle.expr.specs.Parsing.{ShowsRest, rest_seen};
@@ -13,10 +13,10 @@ use energy_program::ExprFault;
 use fallible::Failure;
 use std::alloc::Allocator;
 
-/// How many definitions a text may have.
+/// The maximum number of definitions in a text.
 const MAX_TEXT_DEFINITIONS: usize = 64;
 
-/// A name, and what it stands for.
+/// A definition: a name and the expression that it stands for.
 #[derive(Drop)]
 pub struct Definition<'a, A: Allocator> {
     pub name: &'a [u8],
@@ -30,10 +30,10 @@ pub struct Source<'a, A: Allocator> {
     pub definitions: Vec<Definition<'a, A>, A>,
 }
 
-/// The name that a definition gives and the tokens behind its `=`, or nothing, where no definition follows.
+/// The name of the next definition and the tokens after its `=`, or `None` at the end of the text.
 type Heading<'a, A> = Result<Option<(&'a [u8], &'a [Token<'a>])>, ExprFault<A>>;
 
-// A semicolon, and the tokens after it.
+// A leading semicolon: the tokens after it.
 fn semicolon_sign<'a>(tokens: &'a [Token<'a>]) -> Option<&'a [Token<'a>]>
     ensures { ShowsRest result (semicolon_sign (placed tokens.now)) }
 {
@@ -49,7 +49,7 @@ fn semicolon_sign<'a>(tokens: &'a [Token<'a>]) -> Option<&'a [Token<'a>]>
     }
 }
 
-// The tokens after the semicolons in front.
+// The tokens after all leading semicolons.
 #[tactic(auto, unfolding(crate::specs::Sources::after_semicolons))]
 fn after_semicolons<'a>(tokens: &'a [Token<'a>]) -> &'a [Token<'a>]
     ensures { placed result.now ≡ after_semicolons (placed tokens.now) }
@@ -60,7 +60,7 @@ fn after_semicolons<'a>(tokens: &'a [Token<'a>]) -> &'a [Token<'a>]
     }
 }
 
-// The name that a token is.
+// The name that a token is, if it is one.
 fn name_in(kind: Kind<'_>) -> Option<&[u8]>
     ensures { ShowsBytes result (name_in (lexeme kind.entry)) }
 {
@@ -70,7 +70,7 @@ fn name_in(kind: Kind<'_>) -> Option<&[u8]>
     }
 }
 
-// A name, and the tokens after it.
+// A leading name, and the tokens after it.
 fn name_sign<'a>(tokens: &'a [Token<'a>]) -> Option<(&'a [u8], &'a [Token<'a>])>
     ensures { ShowsName result (name_sign (placed tokens.now)) }
 {
@@ -80,7 +80,7 @@ fn name_sign<'a>(tokens: &'a [Token<'a>]) -> Option<(&'a [u8], &'a [Token<'a>])>
     }
 }
 
-// No definition follows: this is the end of the text.
+// Checks that the text ends here: any token that is left is `UnexpectedToken`.
 fn no_heading<'a, A: Allocator>(tokens: &'a [Token<'a>]) -> Heading<'a, A>
     ensures { Answers heading_seen result (no_heading (placed tokens.now)) }
 {
@@ -91,7 +91,7 @@ fn no_heading<'a, A: Allocator>(tokens: &'a [Token<'a>]) -> Heading<'a, A>
 }
 
 impl<A: Allocator + Copy> Parser<A> {
-    /// Reads all of the tokens as a body and definitions behind it.
+    /// Parses all of the tokens as a body followed by definitions.
     pub fn source<'a>(
         &self,
         tokens: &'a [Token<'a>],
@@ -111,7 +111,8 @@ impl<A: Allocator + Copy> Parser<A> {
         Ok(Source { body, definitions })
     }
 
-    // The heading of the next definition; full: there are as many as a text may have.
+    // The heading of the next definition. `full`: the text has its maximum number of definitions, so that a further one
+    // is `TooLarge`.
     #[tactic(auto, unfolding(crate::specs::Sources::heading_at))]
     fn heading<'a>(&self, tokens: &'a [Token<'a>], full: bool) -> Heading<'a, A>
         ensures { Answers heading_seen result (heading_at self.now.end full (placed tokens.now)) }
@@ -122,7 +123,7 @@ impl<A: Allocator + Copy> Parser<A> {
         }
     }
 
-    // The heading behind semicolons.
+    // The heading after the semicolons.
     #[tactic(auto, unfolding(crate::specs::Sources::named_at))]
     fn named<'a>(&self, tokens: &'a [Token<'a>], full: bool) -> Heading<'a, A>
         ensures { Answers heading_seen result (named_at self.now.end full (placed tokens.now)) }
@@ -138,7 +139,7 @@ impl<A: Allocator + Copy> Parser<A> {
         }
     }
 
-    // The tokens after an equals sign.
+    // The tokens after an equals sign, or `UnexpectedToken`.
     fn equals<'a>(&self, tokens: &'a [Token<'a>]) -> Result<&'a [Token<'a>], ExprFault<A>>
         ensures { Answers rest_seen result (equals self.now.end (placed tokens.now)) }
     {

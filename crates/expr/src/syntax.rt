@@ -2,24 +2,24 @@ use energy_program::{Exponent, Function, Operator};
 use fixed::Fx;
 use std::alloc::Allocator;
 
-/// A syntax tree of an energy text: names stand as they are written.
+/// A syntax tree before name resolution: names are the bytes of the text.
 #[derive(Drop)]
 pub enum Syntax<'a, A: Allocator> {
-    /// A number.
+    /// A constant.
     Number(Fx),
     /// A name.
     Name(&'a [u8]),
-    /// The negative of a part.
+    /// The negative of a tree.
     Negated(Box<Syntax<'a, A>, A>),
-    /// An operation on two parts.
+    /// A binary operation on two trees.
     Binary(Operator, Box<Syntax<'a, A>, A>, Box<Syntax<'a, A>, A>),
-    /// A function of a part.
+    /// A function applied to a tree.
     Applied(Function, Box<Syntax<'a, A>, A>),
-    /// A part to a power.
+    /// A tree raised to a power.
     Power(Box<Syntax<'a, A>, A>, Exponent),
-    /// The second part, or, where the first is 0, the third.
+    /// The second tree if the first isn't 0, else the third.
     Select(Box<Syntax<'a, A>, A>, Box<Syntax<'a, A>, A>, Box<Syntax<'a, A>, A>),
 }
 
-/// A part in a block of its own, so that what waits for other parts to be read is a pointer.
+/// A boxed tree, so that a part that waits for others to be parsed is a pointer.
 pub type Boxed<'a, A> = Box<Syntax<'a, A>, A>;

@@ -1,7 +1,8 @@
 /// The kind of a token, with its value.
 #[derive(Clone, Copy)]
 pub enum Kind<'a> {
-    /// A numeral's raw value, and the whole number that it writes, as `numerals::whole` says.
+    /// A numeral: its raw value, and the integer that it spells in plain digits (100 if greater, 0 if it isn't plain
+    /// digits).
     Number(i64, u8),
     Name(&'a [u8]),
     Plus,
@@ -16,7 +17,7 @@ pub enum Kind<'a> {
     Equals,
 }
 
-/// A token, and where its first byte stands in the text.
+/// A token, and the offset of its first byte in the text.
 #[derive(Clone, Copy)]
 pub struct Token<'a> {
     pub kind: Kind<'a>,

@@ -1,4 +1,4 @@
-// From names as they are written to what they stand for.
+// Name resolution: replaces names by the inputs and definitions that they stand for.
 ghost use Rattle.std.specs.Prelude.{◌≡◌, ◌+◌, ◌≤◌, IfOk, IsTrue, length, map};
 ghost use Rattle.energy_program.specs.Faults.{Gives};
 ghost use Rattle.energy_program.specs.Names.{input_of};
@@ -16,7 +16,7 @@ use energy_program::{Expr, ExprFault, Names, Program};
 use fallible::{Failure, pair};
 use std::alloc::Allocator;
 
-/// The scope of an expression: the variables, and the later definitions, which are numbered from `first`.
+/// The scope of an expression: the variables, and the later definitions, numbered from `first`.
 #[derive(Drop)]
 pub struct Scope<'a, 'b, 'c, A: Allocator> {
     pub names: &'a Names<A>,
@@ -25,7 +25,7 @@ pub struct Scope<'a, 'b, 'c, A: Allocator> {
     pub ghost few: { first + length later.now ≤ 64 },
 }
 
-// The meaning of a name.
+// The input or definition that a name stands for; `UnknownName` if there is neither.
 fn used<A: Allocator + Copy>(alloc: A, scope: &Scope<A>, name: &[u8]) -> Part<A>
     ensures value { Gives (λ part. tree_of part.value) result (used scope.now.first (defined_names (map definition_of scope.now.later.now)) name.now (input_of (names_of scope.now.names.now) name.now)) }
     ensures scoped { IfOk result (λ e. IsTrue (is_scoped (variable_count scope.now.names.now.parameters scope.now.names.now.globals) scope.now.first (scope.now.first + length scope.now.later.now) (tree_of e.value))) }
@@ -39,7 +39,7 @@ fn used<A: Allocator + Copy>(alloc: A, scope: &Scope<A>, name: &[u8]) -> Part<A>
     }
 }
 
-/// The tree in which each name is what it stands for.
+/// The tree with every name resolved in the scope. Error: `UnknownName` for the leftmost name without a meaning.
 #[tactic(auto, unfolding(crate::specs::Uses::resolved))]
 pub fn resolve<A: Allocator + Copy>(alloc: A, scope: &Scope<A>, syntax: &Syntax<A>) -> Part<A>
     ensures value { Gives (λ part. tree_of part.value) result (resolved (names_of scope.now.names.now) scope.now.first (defined_names (map definition_of scope.now.later.now)) (syntax_of syntax.now)) }
@@ -67,7 +67,7 @@ pub fn resolve<A: Allocator + Copy>(alloc: A, scope: &Scope<A>, syntax: &Syntax<
     }
 }
 
-// The trees of definitions.
+// The resolved trees of definitions, each of which sees the later ones.
 fn resolve_all<A: Allocator + Copy>(
     alloc: A,
     names: &Names<A>,
@@ -91,7 +91,8 @@ fn resolve_all<A: Allocator + Copy>(
     Ok(trees)
 }
 
-/// The program that a text says, whose definitions' names are new.
+/// The program of a parsed text, whose definitions' names were checked. Error: `UnknownName` for the first name without
+/// a meaning, the body first.
 #[tactic(auto, unfolding(crate::specs::Uses::trees))]
 pub fn program<A: Allocator + Copy>(
     alloc: A,

@@ -1,4 +1,4 @@
--- The one text of a code, its listing.
+-- Listings: the text of code, one line per instruction. Every code has exactly one listing.
 use Rattle.std.specs.Prelude.{ℕ, ◌<◌, ◌^◌, List, ◌++◌, codes, decimal}
 use Rattle.std.specs.Fmt.{signed_decimal}
 use Rattle.std.specs.List.{flat_map, AllByRecursion}
@@ -12,9 +12,11 @@ use Rattle.kernel_code.specs.declared.instructions.Instr.{Instr}
 use Rattle.kernel_code.specs.declared.instructions.Instr.TheVariants.{Push, Input, Keep, Get, Binary, Unary, JumpIfZero, Jump}
 use Rattle.kernel_code.specs.Code.{IsCode}
 
+-- the first line, without its LF
 abbrev pub head_line : List ℕ
 head_line = codes "pairmd code 1"
 
+-- the mnemonic of a binary operation
 abbrev pub binary_name : BinaryOperation → List ℕ
 binary_name Add = codes "add"
 binary_name Subtract = codes "sub"
@@ -23,6 +25,7 @@ binary_name Divide = codes "div"
 binary_name Minimum = codes "min"
 binary_name Maximum = codes "max"
 
+-- the mnemonic of a unary operation
 abbrev pub unary_name : UnaryOperation → List ℕ
 unary_name Negate = codes "neg"
 unary_name Square = codes "sq"
@@ -47,6 +50,7 @@ instruction_line (Jump to) = codes "jump " ++ decimal to
 abbrev pub instruction_lines : List Instr → List ℕ
 instruction_lines code = flat_map (λ i. ended (instruction_line i)) code
 
+-- the listing of code
 unfoldable pub listing_of : List Instr → List ℕ
 listing_of code = ended head_line ++ instruction_lines code
 
@@ -61,7 +65,7 @@ HasOperands (Unary op) = Unit {0}
 HasOperands (JumpIfZero to) = to < 2 ^ 32
 HasOperands (Jump to) = to < 2 ^ 32
 
--- code with a listing
+-- code whose operands are in range, so that it has a listing
 pub record IsListed (code : List Instr) : Type 0 where
   pub code' : IsCode code
   pub operands : AllByRecursion HasOperands code

@@ -1,4 +1,4 @@
--- Why a list of instructions is no code, and why a text is no listing: what each fault says.
+-- The causes of errors: of lists of instructions that aren't code, and of texts that aren't listings.
 use Rattle.std.specs.Prelude.{◌≡◌, ℕ, ◌+◌, ◌<◌, ◌≤◌, ◌⊎◌, false, true, List, ◌++◌, length, Some, slice_get}
 use Rattle.std.specs.List.{AllByRecursion}
 use Rattle.line_text.specs.Parts.{ended}
@@ -10,20 +10,21 @@ use Rattle.kernel_code.specs.Listing.{head_line, instruction_line, HasOperands, 
 
 -- ---- instructions
 
--- the jump at this place doesn't go forwards, or goes past the end, and each jump below it does well
+-- the jump at this index is bad (not forwards, or past the end), and every jump before it is good
 pub record IsLowestBadJump (code : List Instr) (pc : ℕ) : Type 0 where
   pub jump : Instr
   pub there : slice_get code pc ≡ Some jump
   pub bad : goes_forward (length code) pc jump ≡ false
   pub lowest : (k : ℕ) (i : Instr) → k < pc → slice_get code k ≡ Some i → goes_forward (length code) k i ≡ true
 
--- of at most 16,384 instructions, with the number of its line in a listing
+-- the list isn't too long, and the first bad jump has this line number in a listing
 pub record IsBadTarget (code : List Instr) (line : ℕ) : Type 0 where
   pub short : length code ≤ 16384
   pub pc : ℕ
   pub lowest : IsLowestBadJump code pc
   pub line' : line ≡ pc + 2
 
+-- the cause of an error of a list of instructions
 abbrev pub IsCodeFault : List Instr → CodeFault → Type 0
 IsCodeFault code (BadLine n) = ⊥
 IsCodeFault code (BadTarget n) = IsBadTarget code n
@@ -34,7 +35,7 @@ IsCodeFault code TooLong = 16384 < length code
 abbrev pub BeginsWithLine : (line text : List ℕ) → Type 0
 BeginsWithLine line text = (rest : List ℕ) × (text ≡ ended line ++ rest)
 
--- the first line and the lines of these instructions are good, and what is left begins with no instruction's line
+-- the first line and some instructions' lines are good, and the rest doesn't begin with an instruction's line
 pub record IsFirstBadLine (text : List ℕ) (line : ℕ) : Type 0 where
   pub above : List Instr
   pub operands : AllByRecursion HasOperands above
@@ -44,18 +45,19 @@ pub record IsFirstBadLine (text : List ℕ) (line : ℕ) : Type 0 where
   pub bad : (i : Instr) → HasOperands i → BeginsWithLine (instruction_line i) rest → ⊥
   pub line' : line ≡ length above + 2
 
--- the text does not begin with a listing's first line
+-- the text doesn't begin with a listing's first line
 pub record IsBadHead (text : List ℕ) (line : ℕ) : Type 0 where
   pub bad : BeginsWithLine head_line text → ⊥
   pub line' : line ≡ 1
 
--- every line is good, and the instructions are no code
+-- every line is good, but the instructions aren't code
 pub record AreNoCode (text : List ℕ) (fault : CodeFault) : Type 0 where
   pub instructions : List Instr
   pub operands : AllByRecursion HasOperands instructions
   pub text' : text ≡ listing_of instructions
   pub fault' : IsCodeFault instructions fault
 
+-- the cause of a text's error
 abbrev pub IsListingFault : List ℕ → CodeFault → Type 0
 IsListingFault text (BadLine n) = IsBadHead text n ⊎ IsFirstBadLine text n
 IsListingFault text (BadTarget n) = AreNoCode text (BadTarget n)

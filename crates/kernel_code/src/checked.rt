@@ -1,4 +1,5 @@
-//! The machine that tests each instruction.
+//! The checked interpreter: it tests every operand, local, input and result. It is in this crate so that the verifier,
+//! which runs it on single distances, and the tests use the same machine.
 
 ghost use Rattle.std.specs.Prelude.{◌≡◌, ◌+◌, ◌^◌, ◌-◌, ◌<◌, ℕ, List, ℤ, length, Option, Result, IfErr};
 ghost use Rattle.fixed.specs.Fractions.{bits_of};
@@ -19,7 +20,7 @@ use fixed::{
 };
 use std::alloc::Allocator;
 
-/// The value of an operation on two numbers, or its fault.
+/// The value of a binary operation, or its fault.
 pub(crate) fn checked_binary(
     frac: Frac,
     operation: BinaryOperation,
@@ -38,7 +39,7 @@ pub(crate) fn checked_binary(
     }
 }
 
-/// The value of an operation on one number, or its fault.
+/// The value of a unary operation, or its fault.
 pub(crate) fn checked_unary(frac: Frac, operation: UnaryOperation, a: Fx) -> Result<Fx, Fault>
     ensures { result ≡ unary_of (bits_of frac) operation a }
 {
@@ -154,7 +155,8 @@ fn jump_if_zero(target: u32, pc: u32, stack: &mut Operands) -> Result<u32, TrapK
     }
 }
 
-/// One instruction at the place `pc`, with every test: the next place, or why there is none. There are 256 locals.
+/// Executes the instruction at index `pc` with every check: the next index, or the reason why there is none. There are
+/// 256 locals.
 pub(crate) fn act_checked<A: Allocator>(
     frac: Frac,
     instr: Instr,
@@ -179,7 +181,7 @@ pub(crate) fn act_checked<A: Allocator>(
     }
 }
 
-/// The value that stands alone on the stack at the end.
+/// The value on the stack at the end, which must be the only one; else `BadEnd`.
 fn answer(pc: u32, stack: &mut Operands) -> Result<Fx, Trap>
     ensures { result ≡ answer_of pc stack.old }
 {
@@ -199,7 +201,7 @@ fn answer(pc: u32, stack: &mut Operands) -> Result<Fx, Trap>
     }
 }
 
-/// Runs the instructions on these inputs, with every test.
+/// Runs the instructions on these inputs with every check.
 fn run<A: Allocator>(frac: Frac, code: &[Instr], inputs: &Inputs<A>) -> Result<Fx, Trap>
     requires { IsCode code.now }
     ensures { (n : ℕ) × Ends (bits_of frac) code.now inputs.now n result }
@@ -216,10 +218,10 @@ fn run<A: Allocator>(frac: Frac, code: &[Instr], inputs: &Inputs<A>) -> Result<F
     answer(pc, &mut stack)
 }
 
-/// Runs the code on the inputs of a pair of types at the distance `r`, with every test: the value that it gives, or
-/// where and why it gives none. The types are the table's, counted from 0.
+/// Runs the code with every check, on the inputs of a pair of types at the distance `r`: returns the value, or the
+/// instruction index and the reason if there is none. `a` and `b` are types of the table, from 0.
 ///
-/// It takes no memory.
+/// It allocates no memory.
 pub fn run_checked<A: Allocator>(
     code: &Code<A>,
     table: &TypeTable<A>,
@@ -229,11 +231,11 @@ pub fn run_checked<A: Allocator>(
 ) -> Result<Fx, Trap>
     requires first { a < length table.now.rows }
     requires second { b < length table.now.rows }
-    // The machine's run ends so,
+    // The machine's run ends with this result.
     ensures ends { (n : ℕ) × Ends (bits_of table.now.frac) code.now (inputs_of table.now a b r) n result }
-    // and in no other way.
+    // The machine's run ends with no other result.
     ensures only { (n : ℕ) (outcome : Result ℤ Trap) → Ends (bits_of table.now.frac) code.now (inputs_of table.now a b r) n outcome → outcome ≡ result }
-    // Where no path of the code misses anything, only an operation traps.
+    // If no path of the code lacks anything, every trap is an operation's.
     ensures operation { MissesNothing code.now (length (inputs_of table.now a b r)) → IfErr result (λ trap. IsOperation trap.kind) }
 {
     run(table.frac(), code.as_slice(), &table.inputs(a, b, r))

@@ -1,4 +1,4 @@
-//! Lists of instructions whose jumps go forwards.
+//! Code: lists of instructions whose jumps only go forwards, so that every run ends.
 
 ghost use Rattle.std.specs.Prelude.{◌≡◌, ◌≤◌, length, IfOk, IfErr};
 ghost use Rattle.kernel_code.specs.Code.{IsCode, goes_forward, targets_checked, code_if, code_from};
@@ -9,9 +9,9 @@ use crate::instructions::Instr;
 use std::alloc::Allocator;
 use std::marker::Model;
 
-/// Code: at most 16,384 instructions, each of whose jumps goes forwards, and at most to the end.
+/// Code: at most 16,384 instructions, whose jumps go forwards, to the code's end at most.
 ///
-/// A contract sees it as the list of its instructions.
+/// In contracts, it is the list of its instructions.
 #[derive(Drop)]
 pub struct Code<A: Allocator> {
     instructions: Vec<Instr, A>,
@@ -29,14 +29,14 @@ impl<A: Allocator> Model for Code<A> {
     ghost invariant = { λ c. IsCode c.instructions.items };
 }
 
-/// The most instructions that code has.
+/// The maximum number of instructions in code.
 pub const MAX_INSTRUCTIONS: usize = 16_384;
 
 impl<A: Allocator> Code<A> {
-    /// The code of these instructions.
+    /// Code from these instructions.
     ///
-    /// `TooLong` where there are more than 16,384; else `BadTarget` with the lowest place of a jump that doesn't go
-    /// forwards, or goes past the end, plus 2: the number of its line in a listing.
+    /// Errors: `TooLong` if there are more than 16,384; else `BadTarget` for the first jump that doesn't go forwards or
+    /// goes past the end. Its `line` is the jump's instruction index plus 2, its line number in a listing.
     pub fn new(instructions: Vec<Instr, A>) -> Result<Code<A>, CodeFault>
         ensures exact { result ≡ code_from instructions.items }
         ensures code { IfOk result (λ code. (code ≡ instructions.items) × IsCode code) }
@@ -46,7 +46,7 @@ impl<A: Allocator> Code<A> {
         Ok(Code { instructions })
     }
 
-    /// The instructions, each at its place.
+    /// The instructions, by instruction index.
     pub fn as_slice(&self) -> &[Instr]
         ensures items { result.now ≡ self.now }
         ensures code { IsCode self.now }
@@ -55,7 +55,7 @@ impl<A: Allocator> Code<A> {
     }
 }
 
-/// `TooLong` or `BadTarget` where the instructions are no code.
+/// Checks the instructions' number, then their jumps.
 fn check(instructions: &[Instr]) -> Result<(), CodeFault>
     ensures { code_if instructions.now result ≡ code_from instructions.now }
 {
@@ -65,7 +65,7 @@ fn check(instructions: &[Instr]) -> Result<(), CodeFault>
     check_targets(instructions)
 }
 
-/// Whether an instruction at this place, of `len`, goes on forwards and at most to the end.
+/// Whether an instruction at index `pc` of `len` is no jump, or jumps forwards and at most to the end.
 fn goes_forward(instr: &Instr, pc: usize, len: usize) -> bool
     ensures { result ≡ goes_forward len pc instr.now }
 {
@@ -77,7 +77,7 @@ fn goes_forward(instr: &Instr, pc: usize, len: usize) -> bool
     }
 }
 
-/// `BadTarget` at the first jump that doesn't go forwards, or goes past the end.
+/// Reports the first jump that doesn't go forwards or goes past the end as `BadTarget`.
 fn check_targets(instructions: &[Instr]) -> Result<(), CodeFault>
     requires { length instructions.now ≤ 16384 }
     ensures { result ≡ targets_checked (length instructions.now) 0 instructions.now }

@@ -1,4 +1,4 @@
-//! Why a text is no listing, or a list of instructions no code.
+//! Errors of listings, and of lists of instructions that aren't code.
 
 ghost use Rattle.std.specs.Prelude.{◌≡◌};
 ghost use Rattle.fallible.specs.declared.failure.Failure.TheVariants.{Refused};
@@ -7,14 +7,13 @@ use fallible::Failure;
 use std::fmt;
 use thiserror::Error;
 
-/// The first fault.
+/// The first error of a listing or of a list of instructions. Line numbers count from 1.
 #[derive(Clone, Copy, Error)]
 pub enum CodeFault {
-    /// The line with this number, counted from 1, is no instruction's (line 1: not `pairmd code 1`), has an operand out
-    /// of its range, or lacks its line feed.
+    /// The line is no instruction (line 1: not `pairmd code 1`), has an operand out of range, or lacks its line feed.
     #[error("C1 BadLine {line}")]
     BadLine { line: u64 },
-    /// A jump goes to its own place, backwards, or past the end. The number is that of its line, the place plus 2.
+    /// A jump goes to itself, backwards, or past the end. `line` is its instruction index plus 2.
     #[error("C2 BadTarget {line}")]
     BadTarget { line: u64 },
     /// There are more than 16,384 instructions.
@@ -22,7 +21,7 @@ pub enum CodeFault {
     TooLong,
 }
 
-/// A fault prints the same either way.
+/// `Debug` prints as `Display`.
 impl fmt::Debug for CodeFault {
     fn fmt<W: fmt::Write>(&self, f: &mut fmt::Formatter<W>) -> fmt::Result {
         fmt::Display::fmt(self, f)

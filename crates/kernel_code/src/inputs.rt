@@ -2,8 +2,8 @@ ghost use Rattle.std.specs.Prelude.{ℕ, ◌≡◌, ◌≤◌};
 
 use std::marker::Model;
 
-/// The number of an input, 0 to 32. Input 0 is the distance `r`; then come the parameters of particle 1, those of
-/// particle 2, and the globals.
+/// The number of an input, 0 to 32: there are at most 1 + 2 * 8 + 16 inputs. Input 0 is the distance `r`; then come the
+/// parameters of particle 1, the parameters of particle 2, and the globals.
 #[derive(Clone, Copy, PartialEq, Eq)]
 pub struct InputNumber(u8);
 
@@ -26,7 +26,7 @@ impl InputNumber {
         InputNumber(number)
     }
 
-    /// The number.
+    /// The number, at most 32.
     pub const fn get(self) -> u8
         ensures value { result ≡ self }
         ensures bound { result ≤ 32 }

@@ -1,24 +1,24 @@
 use crate::inputs::InputNumber;
 use fixed::Fx;
 
-/// An operation that pops `b`, then `a`, and pushes its value.
+/// A binary operation: pops `b`, then `a`, and pushes its value.
 #[derive(Clone, Copy, PartialEq, Eq)]
 pub enum BinaryOperation {
     /// `a + b`.
     Add,
     /// `a - b`.
     Subtract,
-    /// `a b`, rounded down.
+    /// `a b`, rounded down (towards minus infinity).
     Multiply,
-    /// `a / b`, rounded down.
+    /// `a / b`, rounded down (towards minus infinity).
     Divide,
-    /// The lesser of the two.
+    /// The smaller of the two.
     Minimum,
     /// The greater of the two.
     Maximum,
 }
 
-/// An operation that pops `a` and pushes its value.
+/// A unary operation: pops `a` and pushes its value.
 #[derive(Clone, Copy, PartialEq, Eq)]
 pub enum UnaryOperation {
     /// `-a`.
@@ -27,35 +27,35 @@ pub enum UnaryOperation {
     Square,
     /// The square root of `a`, rounded down.
     SquareRoot,
-    /// `a` without its sign.
+    /// The absolute value of `a`.
     Absolute,
-    /// 0 where `a` is below 0, else one.
+    /// 0 if `a` is negative, else one.
     Step,
-    /// One where `a` is 0, else 0.
+    /// One if `a` is 0, else 0.
     Delta,
-    /// The greatest multiple of one that is at most `a`.
+    /// The greatest integer that is at most `a`.
     Floor,
-    /// The least multiple of one that is at least `a`.
+    /// The least integer that is at least `a`.
     Ceiling,
 }
 
-/// One instruction of the stack machine. It goes on at the next one unless it jumps.
+/// An instruction of the stack machine. Execution continues at the next one unless it jumps.
 #[derive(Clone, Copy)]
 pub enum Instr {
     /// Pushes the number.
     Push(Fx),
     /// Pushes the input with this number.
     Input(InputNumber),
-    /// Pops into the local with this number, of 256.
+    /// Pops a value into the local with this number, of 256.
     Keep(u8),
     /// Pushes the local with this number.
     Get(u8),
-    /// Pops two values and pushes that of the operation.
+    /// Pops two values and pushes the operation's value.
     Binary(BinaryOperation),
-    /// Pops a value and pushes that of the operation.
+    /// Pops a value and pushes the operation's value.
     Unary(UnaryOperation),
-    /// Pops a value, and goes to this place where it is 0.
+    /// Pops a value, and jumps to this instruction index if it is 0.
     JumpIfZero(u32),
-    /// Goes to this place.
+    /// Jumps to this instruction index.
     Jump(u32),
 }

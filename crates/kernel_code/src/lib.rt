@@ -1,6 +1,6 @@
-//! Instructions of the kernel's stack machine, code whose jumps go forwards, its one text (a listing), and the tables
-//! that its inputs come from. What code does stands in `specs/Machine.antt`, and what it may do whatever the values in
-//! `specs/Paths.antt`.
+//! The kernel's stack machine: its instructions, code whose jumps only go forwards, code as text (a listing), the
+//! interpreter that checks every instruction, and the type tables that give a pair's inputs. `specs/Machine.antt`
+//! defines the operational semantics, `specs/Paths.antt` the control-flow paths of code.
 #![tactic(auto)]
 
 mod checked;

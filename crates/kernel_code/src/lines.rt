@@ -1,4 +1,4 @@
-//! The line of an instruction, without its line feed.
+//! Instructions as lines of a listing, without line feeds: parsing and printing.
 
 ghost use Rattle.std.specs.Prelude.{◌≡◌, ◌≤◌, ◌+◌, ◌++◌, length, decimal};
 ghost use Rattle.arrayvec.specs.ArrayVec.{array_vec_len};
@@ -10,7 +10,7 @@ use crate::instructions::{BinaryOperation, Instr, UnaryOperation};
 use fixed::Fx;
 use line_text::{Line, cut, integer, natural, put, put_integer, put_natural};
 
-/// The operation of this name.
+/// The binary operation with this mnemonic.
 #[tactic(auto, unfolding(crate::specs::ListingReading::binary_of_name))]
 fn binary_operation(name: &[u8]) -> Option<BinaryOperation>
     ensures { result ≡ binary_of_name name.now }
@@ -26,7 +26,7 @@ fn binary_operation(name: &[u8]) -> Option<BinaryOperation>
     }
 }
 
-/// The operation of this name.
+/// The unary operation with this mnemonic.
 #[tactic(auto, unfolding(crate::specs::ListingReading::unary_of_name))]
 fn unary_operation(name: &[u8]) -> Option<UnaryOperation>
     ensures { result ≡ unary_of_name name.now }
@@ -44,7 +44,7 @@ fn unary_operation(name: &[u8]) -> Option<UnaryOperation>
     }
 }
 
-/// The instruction that this name alone is.
+/// The instruction of a line without an operand.
 fn operation(name: &[u8]) -> Option<Instr>
     ensures { result ≡ operation_of name.now }
 {
@@ -54,7 +54,7 @@ fn operation(name: &[u8]) -> Option<Instr>
     Some(Instr::Unary(unary_operation(name)?))
 }
 
-/// The jump of this name and target.
+/// The jump with this mnemonic and target, which must be below 2^32.
 #[tactic(auto, unfolding(crate::specs::ListingReading::jump_with))]
 fn jump(name: &[u8], target: &[u8]) -> Option<Instr>
     ensures { result ≡ jump_with name.now target.now }
@@ -68,7 +68,7 @@ fn jump(name: &[u8], target: &[u8]) -> Option<Instr>
     }
 }
 
-/// The instruction of this name and operand that moves a value onto the stack or off it.
+/// The instruction with this mnemonic and operand that pushes a value or pops one into a local.
 #[tactic(auto, unfolding(crate::specs::ListingReading::transfer_with))]
 fn transfer(name: &[u8], operand: &[u8]) -> Option<Instr>
     ensures { result ≡ transfer_with name.now operand.now }
@@ -86,7 +86,7 @@ fn transfer(name: &[u8], operand: &[u8]) -> Option<Instr>
     }
 }
 
-/// The instruction of this name and operand.
+/// The instruction with this mnemonic and operand.
 fn with_operand(name: &[u8], operand: &[u8]) -> Option<Instr>
     ensures { result ≡ instruction_with name.now operand.now }
 {
@@ -96,7 +96,7 @@ fn with_operand(name: &[u8], operand: &[u8]) -> Option<Instr>
     }
 }
 
-/// The instruction whose line this is; `None` where it is no instruction's, or an operand is out of its range.
+/// The instruction of a line; `None` if the line is no instruction or an operand is out of range.
 #[tactic(auto, unfolding(crate::specs::ListingReading::instruction_of))]
 pub fn instruction(line: &[u8]) -> Option<Instr>
     ensures { result ≡ instruction_of line.now }
@@ -137,7 +137,7 @@ fn unary_name(operation: UnaryOperation) -> &'static [u8]
     }
 }
 
-/// Appends the name, a space and the number.
+/// Appends the mnemonic (with its space) and the number.
 fn put_with(line: &mut Line, name: &[u8], number: u64)
     requires { array_vec_len line.old + length name.now + 20 ≤ 160 }
     ensures items { line.new.items ≡ line.old.items ++ (name.now ++ decimal number) }

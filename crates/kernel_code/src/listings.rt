@@ -1,4 +1,4 @@
-//! Reading and printing listings.
+//! Listings: parsing and printing of code as text. Every code has one listing, since every operand has one spelling.
 
 ghost use Rattle.std.specs.Prelude.{◌≡◌, List, Ok, IfOk, IfErr, option_map};
 ghost use Rattle.fallible.specs.Failures.{Gives, IfRefused};
@@ -16,31 +16,29 @@ use fallible::Failure;
 use line_text::{Line, cut, put};
 use std::alloc::{AllocError, Allocator};
 
-/// The code whose one listing the bytes are.
+/// Parses a listing to its code.
 ///
-/// `BadLine` names the first line that is no instruction's (line 1: not `pairmd code 1`), that has an operand out of
-/// its range, or that lacks its line feed; an empty text has a bad line 1. `TooLong`, for more than 16,384
-/// instructions, and `BadTarget`, for the lowest jump that doesn't go forwards and at most to the end, come only where
-/// every line is good, in this order. `Memory`: an allocation was refused.
+/// Errors, in this order: `BadLine` for the first line that is no instruction (line 1: not `pairmd code 1`), has an
+/// operand out of range, or lacks its line feed (an empty text has a bad line 1); `TooLong` for more than 16,384
+/// instructions; `BadTarget` for the first jump that doesn't go forwards and at most to the end. The last two come only
+/// if every line is good. `Memory`: an allocation failed.
 pub fn read<A: Allocator + Copy>(alloc: A, bytes: &[u8]) -> Result<Code<A>, Failure<CodeFault>>
-    // What is read has these bytes as its listing.
+    // Soundness: the bytes are the listing of the code.
     ensures found { IfOk result (λ code. IsListed code × (bytes.now ≡ listing_of code)) }
-    // The listing of a code is read as that code, unless memory runs out.
+    // Completeness: the listing of a code gives that code, unless memory runs out.
     ensures only { (code : List Instr) → IsListed code → bytes.now ≡ listing_of code → Gives (λ x. x) (λ f. f) result (Ok code) }
-    // A fault says what is wrong, and where.
+    // Each error has its cause in the text.
     ensures fault { IfErr result (λ failure. IfRefused failure (IsListingFault bytes.now)) }
-    // The code, or the first fault.
+    // The result, error included, is determined by the text.
     ensures exact { Gives (λ x. x) (λ f. f) result (code_of bytes.now) }
-    // The definition reads exactly the lines of instructions, and the listings of codes.
+    // The specification accepts exactly the lines of instructions, and the listings of codes.
     ensures one_line { OneLine }
     ensures one_listing { OneListing }
 {
     listing(alloc, bytes)
 }
 
-/// The listing of the code. It is read as this code again.
-///
-/// `AllocError` comes only where an allocation was refused.
+/// The listing of the code; parsing it gives the code again. Error: a failed allocation.
 pub fn print<A: Allocator + Copy, B: Allocator>(
     alloc: A,
     code: &Code<B>,
@@ -82,7 +80,7 @@ fn bad(line: u64) -> CodeFault
     CodeFault::BadLine { line }
 }
 
-/// The lines after the first, if that begins a listing.
+/// The lines after the first, if the first is a listing's.
 #[tactic(auto, unfolding(crate::specs::ListingReading::below_head))]
 fn below_head(bytes: &[u8]) -> Option<&[u8]>
     ensures { option_map (λ x. x.now) result ≡ below_head bytes.now }
@@ -95,7 +93,7 @@ fn below_head(bytes: &[u8]) -> Option<&[u8]>
     }
 }
 
-/// The instruction of the first line, and what stands after that line.
+/// The instruction of the first line, and the text after that line.
 #[tactic(auto, unfolding(crate::specs::ListingReading::line_at))]
 fn line(bytes: &[u8]) -> Option<(Instr, &[u8])>
     ensures { option_map (λ x. (x.0, x.1.now)) result ≡ line_at bytes.now }
@@ -104,7 +102,7 @@ fn line(bytes: &[u8]) -> Option<(Instr, &[u8])>
     Some((instruction(line)?, rest))
 }
 
-/// The instructions of these lines, the first of which is line 2.
+/// The instructions of these lines, which begin with line 2.
 fn instructions<A: Allocator + Copy>(
     alloc: A,
     bytes: &[u8],

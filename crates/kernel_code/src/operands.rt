@@ -1,4 +1,4 @@
-//! The machine's stack.
+//! The operand stack of the checked interpreter.
 
 ghost use Rattle.std.specs.Prelude.{◌≡◌, ◌<◌, ◌≤◌, ◌∷◌, [], length, IfSome, OnSome, IfNone, ◌↔◌, IsTrue};
 
@@ -6,7 +6,7 @@ use arrayvec::ArrayVec;
 use fixed::Fx;
 use std::marker::Model;
 
-/// The machine's stack: at most 64 values. A contract sees the list of them, the top first.
+/// The operand stack: at most 64 values. In contracts, it is the list of them, the top first.
 #[derive(Drop)]
 pub(crate) struct Operands {
     // the raw values
@@ -24,7 +24,7 @@ impl Model for Operands {
 }
 
 impl Operands {
-    /// No values.
+    /// An empty stack.
     pub(crate) fn new() -> Operands
         ensures { result ≡ [] }
     {
@@ -39,14 +39,14 @@ impl Operands {
         self.items.is_empty()
     }
 
-    /// Whether there are 64 values.
+    /// Whether the stack has 64 values.
     pub(crate) fn is_full(&self) -> bool
         ensures { IsTrue result ↔ (64 ≤ length self.now) }
     {
         self.items.is_full()
     }
 
-    /// Puts a value on top of less than 64.
+    /// Pushes a value; the stack must have fewer than 64.
     pub(crate) fn push(&mut self, value: Fx)
         requires { length self.old < 64 }
         ensures { self.new ≡ value ∷ self.old }
@@ -54,7 +54,7 @@ impl Operands {
         self.items.push(value.raw());
     }
 
-    /// Takes the value on top; `None` where there is none.
+    /// Pops the top value; `None` if the stack is empty.
     pub(crate) fn pop(&mut self) -> Option<Fx>
         ensures some { IfSome result (λ value. self.old ≡ value ∷ self.new) }
         ensures room { OnSome result (length self.new < 64) }

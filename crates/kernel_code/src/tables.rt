@@ -1,4 +1,4 @@
-//! Tables of types: where the inputs of code come from.
+//! Type tables: the source of code's inputs. A table keeps the fraction bits of its numbers, so that code needn't.
 
 ghost use Rattle.std.specs.Prelude.{◌≡◌, ◌<◌, ◌≤◌, ℤ, length, map, slice_get};
 ghost use Rattle.std.specs.List.{All};
@@ -9,7 +9,7 @@ use fixed::{Frac, Fx};
 use std::alloc::Allocator;
 use std::marker::Model;
 
-/// The values of the types that atoms may have, and the values that all pairs share.
+/// The parameter values of each atom type, and the global values that all pairs share.
 #[derive(Drop)]
 pub struct TypeTable<A: Allocator> {
     frac: Frac,
@@ -30,10 +30,10 @@ impl<A: Allocator> Model for TypeTable<A> {
 }
 
 impl<A: Allocator> TypeTable<A> {
-    /// The table of these types, each with a row of values: one for each parameter, of which there are at most 8. There
-    /// may be no type; there are at most 64, and at most 16 globals.
+    /// The table of these types, at most 64, possibly none. Each row has one value per parameter, of which there are at
+    /// most 8. There are at most 16 globals.
     ///
-    /// All numbers have as many bits behind the point as `frac` says.
+    /// All numbers have the fraction bits `frac`.
     pub fn new(
         frac: Frac,
         parameters: usize,
@@ -57,14 +57,14 @@ impl<A: Allocator> TypeTable<A> {
         }
     }
 
-    /// How many bits stand behind the point.
+    /// The number of fraction bits.
     pub fn frac(&self) -> Frac
         ensures { result ≡ self.now.frac }
     {
         self.frac
     }
 
-    /// The number of parameters, at most 8.
+    /// The number of parameters per particle, at most 8.
     pub fn parameters(&self) -> usize
         ensures value { result ≡ self.now.parameters }
         ensures table { IsTable self.now }
@@ -88,9 +88,9 @@ impl<A: Allocator> TypeTable<A> {
         self.globals.len()
     }
 
-    /// The input with this number of a pair of these types at the distance `r`: `r` itself, then the parameters of
-    /// particle 1, those of particle 2, and the globals. `None` where there are fewer inputs. The types are the
-    /// table's, counted from 0.
+    /// The input with this number, of a pair of these types at the distance `r`: inputs are `r`, the parameters of
+    /// particle 1, the parameters of particle 2, and the globals. `None` if there are fewer. `a` and `b` are types of
+    /// the table, from 0.
     pub fn input(&self, a: u32, b: u32, r: Fx, number: InputNumber) -> Option<Fx>
         requires first { a < length self.now.rows }
         requires second { b < length self.now.rows }
@@ -126,7 +126,7 @@ impl<A: Allocator> TypeTable<A> {
     }
 }
 
-/// The inputs of a pair of types at a distance. A contract sees the list of them.
+/// The inputs of a pair of types at a distance. In contracts, it is the list of them.
 #[derive(Drop)]
 pub struct Inputs<'a, A: Allocator> {
     table: &'a TypeTable<A>,
@@ -147,7 +147,7 @@ impl<'a, A: Allocator> Model for Inputs<'a, A> {
 }
 
 impl<'a, A: Allocator> Inputs<'a, A> {
-    /// The input with this number; `None` where there are fewer.
+    /// The input with this number; `None` if there are fewer.
     pub fn get(&self, number: InputNumber) -> Option<Fx>
         ensures { result ≡ slice_get self.now number }
     {

@@ -1,4 +1,4 @@
--- The code of trees and programs.
+-- Code generation, as functions from trees and programs to lists of instructions.
 use Rattle.std.specs.Prelude.{ℕ, zero, suc, ◌+◌, ◌/◌, ◌%◌, ◌==◌, ◌&&◌, min, max, nat_lt, nat_le, ℤ, pos, negsuc, List, [], ◌∷◌, ◌++◌, length, Bool, true, false, if◌then◌else◌, Result, Ok, Err}
 use Rattle.std.specs.List.{list_all}
 use Rattle.fixed.specs.Arithmetic.{one}
@@ -35,23 +35,23 @@ unary_of_function f.Delta = unary.Delta
 unary_of_function f.Floor = unary.Floor
 unary_of_function f.Ceiling = unary.Ceiling
 
--- ---- locals
+-- ---- registers (the machine's locals)
 
--- that of a power's base
+-- the local of a power's base
 abbrev pub base : ℕ
 base = 0
 
--- another for values that change places
+-- the local that helps to exchange two values
 abbrev pub spare : ℕ
 spare = 1
 
--- that of the definition with this number
+-- the local of the definition with this number
 abbrev pub local_of : ℕ → ℕ
 local_of j = j + 2
 
--- ---- powers, by squaring, of the base
+-- ---- powers of the base, by binary exponentiation
 
--- `halvings` is the number of halvings that it may make
+-- the code for exponent n, with at most `halvings` recursive halvings
 unfoldable pub power_code_within : ℕ → ℕ → List Instr
 power_code_within zero n = Get base ∷ []
 power_code_within (suc halvings) n =
@@ -59,21 +59,23 @@ power_code_within (suc halvings) n =
     else if n % 2 == 0 then power_code_within halvings (n / 2) ++ (Unary unary.Square ∷ [])
     else power_code_within halvings (n / 2) ++ (Unary unary.Square ∷ Get base ∷ Binary binary.Multiply ∷ [])
 
+-- the code for exponent n; n halvings are enough
 abbrev pub power_code : ℕ → List Instr
 power_code n = power_code_within n n
 
--- takes the base from the stack
+-- raises the value on top of the stack, which becomes the base
 abbrev pub raised_code : ℕ → ℤ → List Instr
 raised_code bits (pos n) = Keep base ∷ power_code n
 raised_code bits (negsuc n) = Keep base ∷ Push (one bits) ∷ (power_code (suc n) ++ (Binary binary.Divide ∷ []))
 
--- ---- how many values stand on the stack at most
+-- ---- stack depth
 
 abbrev pub raised_need : ℤ → ℕ
 raised_need (pos n) = 2
 raised_need (negsuc n) = 3
 
--- Two parts are computed in their order, but the second first where it needs more of the stack, and much of it.
+-- Operands are computed in their order, unless the second needs more stack than 47 values and than the first. The order
+-- changes the stack depth only, never the value.
 abbrev pub is_second_first : ℕ → ℕ → Bool
 is_second_first first second = nat_lt (max 47 first) second
 
@@ -81,7 +83,7 @@ abbrev pub pair_need : Bool → ℕ → ℕ → ℕ
 pair_need false first second = max first (second + 1)
 pair_need true first second = max second (first + 1)
 
--- counted up to 65
+-- the stack depth of a tree's code, saturating at 65
 abbrev pub need : Tree → ℕ
 need (t.Number z) = 1
 need (t.Input i) = 1
@@ -94,23 +96,23 @@ need (t.Select x a b) = max (need x) (max (need a) (need b))
 
 -- ---- trees
 
--- two values, the second of which was computed first, in their order
+-- exchanges two values whose second was computed first
 abbrev pub exchange_code : List Instr
 exchange_code = Keep spare ∷ Keep base ∷ Get spare ∷ Get base ∷ []
 
--- The code of a part is given as a function of the place where it begins.
+-- The code of an operation on two operands. Each operand's code is a function of the instruction index where it begins.
 abbrev pub pair_code : Bool → BinaryOperation → ℕ → (ℕ → List Instr) → (ℕ → List Instr) → List Instr
 pair_code false o at first second = let one = first at in one ++ (second (at + length one) ++ (Binary o ∷ []))
 pair_code true o at first second = let two = second at in two ++ (first (at + length two) ++ (exchange_code ++ (Binary o ∷ [])))
 
--- At 0 the condition's jump passes the first branch; the first branch's jump passes the second.
+-- The code of a choice: if the condition is 0 its jump skips the first branch; the first branch jumps over the second.
 abbrev pub choice_code : ℕ → List Instr → (ℕ → List Instr) → (ℕ → List Instr) → List Instr
 choice_code at condition first second =
     let one = at + length condition + 1 in
     let two = one + length (first one) + 1 in
     condition ++ (JumpIfZero two ∷ (first one ++ (Jump (two + length (second two)) ∷ second two)))
 
--- the code of a tree, with `bits` bits behind the point, that begins at this place
+-- the code of a tree with `bits` fraction bits that begins at this instruction index
 abbrev pub tree_code : (bits at : ℕ) → Tree → List Instr
 tree_code bits at (t.Number z) = Push z ∷ []
 tree_code bits at (t.Input i) = Input i ∷ []
@@ -127,14 +129,14 @@ abbrev pub kept_code : Bool → (bits at j : ℕ) → Tree → List Instr
 kept_code true bits at j d = tree_code bits at d ++ (Keep (local_of j) ∷ [])
 kept_code false bits at j d = []
 
--- the marked ones of these definitions, which are numbered from j: the last first, each kept in its local
+-- the code of the marked definitions among these, which are numbered from j: the last first, each kept in its local
 abbrev pub definitions_code : (bits j : ℕ) → List Bool → List Tree → List Instr
 definitions_code bits j marks [] = []
 definitions_code bits j marks (d ∷ ds) =
     let later = definitions_code bits (j + 1) marks ds in
     later ++ kept_code (is_marked marks j) bits (length later) j d
 
--- the definitions that the body needs, then the body
+-- the code of the definitions that the body needs, then of the body
 unfoldable pub program_code : ℕ → Tree → List Tree → List Instr
 program_code bits body definitions =
     let first = definitions_code bits 0 (marks_of body definitions) definitions in
@@ -152,11 +154,11 @@ has_local (Unary o) = true
 has_local (JumpIfZero to) = true
 has_local (Jump to) = true
 
--- no more than 16,384 instructions, and no more than 256 locals
+-- at most 16,384 instructions, and locals below 256
 unfoldable pub is_within_limits : List Instr → Bool
 is_within_limits code = nat_le (length code) 16384 && list_all has_local code
 
--- the program's code, if it is within the limits
+-- the program's code, or `TooLarge` if it exceeds the limits
 abbrev pub compiled : ℕ → Tree → List Tree → Result (List Instr) Refusal
 compiled bits body definitions =
     if is_within_limits (program_code bits body definitions) then Ok (program_code bits body definitions) else Err TooLarge

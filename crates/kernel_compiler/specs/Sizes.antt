@@ -1,4 +1,4 @@
--- How many instructions a code has, and what a code asks for.
+-- The size of code, and the conditions under which a tree's code can be generated.
 use Rattle.std.specs.Prelude.{◌≡◌, ℕ, suc, ◌+◌, ◌<◌, ◌≤◌, ℤ, pos, negsuc, List, [], ◌∷◌, length, min, Bool, true, false, IsTrue}
 use Rattle.energy_program.specs.Tree.{Tree, is_exponent}
 use Rattle.energy_program.specs.Tree as t
@@ -14,7 +14,7 @@ abbrev pub pair_size : Bool → ℕ
 pair_size false = 1
 pair_size true = 5
 
--- of a tree's code
+-- the number of instructions of a tree's code
 abbrev pub size : Tree → ℕ
 size (t.Number z) = 1
 size (t.Input i) = 1
@@ -29,22 +29,22 @@ abbrev pub kept_size : Bool → Tree → ℕ
 kept_size true d = size d + 1
 kept_size false d = 0
 
--- of the code of the marked ones of these definitions, which are numbered from j
+-- the number of instructions of the marked definitions among these, which are numbered from j
 abbrev pub definitions_size : ℕ → List Bool → List Tree → ℕ
 definitions_size j marks [] = 0
 definitions_size j marks (d ∷ ds) = definitions_size (j + 1) marks ds + kept_size (is_marked marks j) d
 
--- a count of instructions, as far as 64 bits go
+-- a number of instructions, saturating at 2^64 - 1
 abbrev pub counted : ℕ → ℕ
 counted n = min n 18446744073709551615
 
--- so many instructions has a tree's code, and so many values on the stack
+-- the measured size is that of the tree's code: number of instructions and stack depth
 pub record Measured (m : Extent) (e : Tree) : Type 0 where
   pub count' : m.count ≡ counted (size e)
   pub need' : m.need ≡ need e
   pub few : m.need ≤ 65
 
--- powers are of exponents that there are
+-- every exponent in the tree is allowed
 abbrev pub HasPowers : Tree → Type 0
 HasPowers (t.Number z) = Unit {0}
 HasPowers (t.Input i) = Unit {0}
@@ -59,7 +59,7 @@ abbrev pub AllHavePowers : List Tree → Type 0
 AllHavePowers [] = Unit {0}
 AllHavePowers (d ∷ ds) = HasPowers d × AllHavePowers ds
 
--- a tree whose numbers fit instructions: inputs to 32, locals to 255
+-- a tree whose numbers fit instructions: inputs up to 32, locals up to 255
 abbrev pub IsEmittable : Tree → Type 0
 IsEmittable (t.Number z) = Unit {0}
 IsEmittable (t.Input i) = i ≤ 32
@@ -70,7 +70,7 @@ IsEmittable (t.Applied g a) = IsEmittable a
 IsEmittable (t.Power a n) = IsTrue (is_exponent n) × IsEmittable a
 IsEmittable (t.Select x a b) = IsEmittable x × IsEmittable a × IsEmittable b
 
--- each marked one of these definitions, which are numbered from j, has a local and can be emitted
+-- each marked definition among these, which are numbered from j, has a local and can be compiled
 abbrev pub AllEmittable : ℕ → List Bool → List Tree → Type 0
 AllEmittable j marks [] = Unit {0}
 AllEmittable j marks (d ∷ ds) = (is_marked marks j ≡ true → (j < 254) × IsEmittable d) × AllEmittable (j + 1) marks ds

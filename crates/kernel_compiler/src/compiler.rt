@@ -1,4 +1,4 @@
-//! The code of a program.
+//! The compiler's entry: checks the size of a program's code, then generates it.
 
 ghost use Rattle.std.specs.Prelude.{◌≡◌, ℕ, ◌<◌, ◌≤◌, ℤ, IfOk, true, List, length};
 ghost use Rattle.fixed.specs.Fractions.{bits_of};
@@ -17,7 +17,8 @@ use fixed::Frac;
 use kernel_code::{Code, Instr, MAX_INSTRUCTIONS};
 use std::alloc::{AllocError, Allocator};
 
-/// Whether the code of the program is within the limits. A program has fewer definitions than there are locals.
+/// Whether the program's code is within the limits. Only its length can exceed them, since 128 definitions and two more
+/// locals fit 256.
 fn is_within_limits<A: Allocator>(program: &Program<A>, marks: &[bool]) -> bool
     requires { marks.now ≡ marks_of (body_of program.now) (definitions_of program.now) }
     ensures { (bits : ℕ) → is_within_limits (program_code bits (body_of program.now) (definitions_of program.now)) ≡ result }
@@ -26,7 +27,7 @@ fn is_within_limits<A: Allocator>(program: &Program<A>, marks: &[bool]) -> bool
     definitions.saturating_add(measure(&program.body).count) <= MAX_INSTRUCTIONS
 }
 
-/// The instructions of the program, whose code is within the limits.
+/// The instructions of a program whose code is within the limits.
 fn instructions_of<A: Allocator + Copy>(
     alloc: A,
     frac: Frac,
@@ -45,25 +46,25 @@ fn instructions_of<A: Allocator + Copy>(
 
 /// The code of a program whose numbers have these fraction bits.
 ///
-/// The definitions that the body uses, directly or through another, are computed first, the last one first, each once
-/// and each into a local of its own; the others aren't computed. `select` computes its condition and the branch that
-/// this chooses. Powers are by squaring. Of an operation's two parts the second is computed first where it needs more
-/// than 47 values on the stack, and more than the first; so no code within the limit of instructions has more than 63
-/// there (after Sethi and Ullman, The generation of optimal code for arithmetic expressions, 1970).
+/// The code first computes the definitions that the body uses, directly or through another, even if only a branch that
+/// isn't taken uses them: the last definition first, each once and into its own local. Other definitions aren't
+/// computed. `select` evaluates its condition and the branch chosen. Powers use binary exponentiation. The second
+/// operand of an operation is computed first if it needs more than 47 stack values, and more than the first operand. So
+/// code within the limit of instructions never has more than 63 values on the stack, and depth is never an error (after
+/// Sethi and Ullman, The generation of optimal code for arithmetic expressions, 1970).
 ///
-/// `TooLarge`: this code has more than 16,384 instructions. `Memory`: an allocation was refused.
-/// There is no other fault.
+/// Errors: `TooLarge` if this code has more than 16,384 instructions; `Memory` if an allocation fails; no others.
 pub fn compile<A: Allocator + Copy>(
     alloc: A,
     frac: Frac,
     program: &Program<A>,
 ) -> Result<Code<A>, Failure<ExprFault<A>>>
-    // Where a run gives a value it is the tree's; a fault is an operation's, where the tree or a definition that is
-    // used has no value.
+    // A run's value is the tree's. A run's fault is an operation's, and then the tree or a used definition has no
+    // value.
     ensures value { IfOk result (λ code. (inputs : List ℤ) → input_count_of program.now ≤ length inputs → Computes (bits_of frac) (body_of program.now) (definitions_of program.now) code inputs) }
-    // No run misses an operand, a local or an input, meets a full stack, or ends with other than one value.
+    // No run lacks an operand, a local or an input, overflows the stack, or ends with other than one value.
     ensures paths { IfOk result (λ code. MissesNothing code (input_count_of program.now)) }
-    // Which answer it is.
+    // The result, error included, is determined by the program's trees.
     ensures exact { Gives (λ code. code) result (compiled (bits_of frac) (body_of program.now) (definitions_of program.now)) }
     ensures refused { IsTooLarge result → 16384 < length (program_code (bits_of frac) (body_of program.now) (definitions_of program.now)) }
 {

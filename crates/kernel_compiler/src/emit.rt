@@ -1,4 +1,4 @@
-//! Emitting code, for which there is room.
+//! Code generation: appends instructions to a list, whose length was checked before.
 
 ghost use Rattle.std.specs.Prelude.{◌≡◌, ℕ, ◌≤◌, ◌<◌, ◌+◌, [], ◌∷◌, ◌++◌, OnOk, IfOk, IsTrue, length, map};
 ghost use Rattle.fixed.specs.Fractions.{bits_of};
@@ -13,13 +13,13 @@ use fixed::{Frac, Fx};
 use kernel_code::{BinaryOperation, InputNumber, Instr, UnaryOperation};
 use std::alloc::{AllocError, Allocator};
 
-/// The local of a power's base.
+/// The local that holds the base of a power.
 const BASE: u8 = 0;
 
-/// A local for a value that changes places with another.
+/// The local that helps to exchange two values.
 const SPARE: u8 = 1;
 
-/// The local of the first definition.
+/// The local of definition 0; definition k has local k + 2.
 const FIRST: usize = 2;
 
 fn operation(operator: Operator) -> BinaryOperation
@@ -48,7 +48,7 @@ fn function(function: Function) -> UnaryOperation
     }
 }
 
-/// One more instruction.
+/// Appends an instruction.
 fn put<A: Allocator>(code: &mut Vec<Instr, A>, instr: Instr) -> Result<(), AllocError>
     ensures items { OnOk result (code.new.items ≡ code.old.items ++ instr ∷ []) }
     ensures len { OnOk result (length code.new.items ≡ length code.old.items + 1) }
@@ -57,7 +57,7 @@ fn put<A: Allocator>(code: &mut Vec<Instr, A>, instr: Instr) -> Result<(), Alloc
     Ok(())
 }
 
-/// The two values on the stack change places.
+/// Exchanges the two values on top of the stack.
 fn put_exchange<A: Allocator>(code: &mut Vec<Instr, A>) -> Result<(), AllocError>
     ensures items { OnOk result (code.new.items ≡ code.old.items ++ exchange_code) }
     ensures len { OnOk result (length code.new.items ≡ length code.old.items + 4) }
@@ -68,7 +68,7 @@ fn put_exchange<A: Allocator>(code: &mut Vec<Instr, A>) -> Result<(), AllocError
     put(code, Instr::Get(BASE))
 }
 
-/// A power of the base, by squaring.
+/// A power of the base, by binary exponentiation.
 #[tactic(auto, using(crate::proofs::Powers::power_one, crate::proofs::Powers::power_even, crate::proofs::Powers::power_odd, crate::proofs::Powers::size_one, crate::proofs::Powers::size_even, crate::proofs::Powers::size_odd))]
 fn put_power<A: Allocator>(code: &mut Vec<Instr, A>, exponent: u32) -> Result<(), AllocError>
     requires { 0 < exponent }
@@ -87,7 +87,7 @@ fn put_power<A: Allocator>(code: &mut Vec<Instr, A>, exponent: u32) -> Result<()
     Ok(())
 }
 
-/// The value on the stack is raised to a power. One below 0 is one over the power.
+/// Raises the value on top of the stack to a power. A negative power is one over the power.
 fn put_raised<A: Allocator>(
     code: &mut Vec<Instr, A>,
     frac: Frac,
@@ -140,7 +140,7 @@ pub(crate) fn emit<A: Allocator>(
     }
 }
 
-/// The code of an operation on two parts.
+/// The code of an operation on two operands, in the order that keeps the stack small.
 #[cycle(emit)]
 fn emit_pair<A: Allocator>(
     code: &mut Vec<Instr, A>,
@@ -165,7 +165,7 @@ fn emit_pair<A: Allocator>(
     put(code, Instr::Binary(operation(operator)))
 }
 
-/// The code of a choice between two branches. Its jumps are written when their targets are known.
+/// The code of a choice between two branches. Jumps are patched once their targets are known.
 #[cycle(emit)]
 fn emit_choice<A: Allocator>(
     code: &mut Vec<Instr, A>,
@@ -192,8 +192,8 @@ fn emit_choice<A: Allocator>(
     Ok(())
 }
 
-/// The code of the marked ones of these definitions, the last first, each kept in its local. The first of these has
-/// this number.
+/// The code of the marked definitions among these, which are numbered from `number`: the last first, as earlier ones
+/// use later ones, each kept in its local.
 pub(crate) fn emit_definitions<A: Allocator>(
     code: &mut Vec<Instr, A>,
     frac: Frac,

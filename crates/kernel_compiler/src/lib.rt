@@ -1,5 +1,5 @@
-//! From energy programs to code of the kernel's stack machine. What the code of a program is to do stands in
-//! `specs/Compiled.antt`, and which code it is in `specs/Code.antt`.
+//! The compiler: code generation from energy programs for the kernel's stack machine. `specs/Compiled.antt` specifies
+//! the semantics of a program's code, `specs/Code.antt` the code itself.
 #![tactic(auto)]
 
 mod compiler;

@@ -1,4 +1,4 @@
-//! How many instructions a code has, and how many values it has on the stack.
+//! The size of code before it is generated: number of instructions and stack depth.
 
 ghost use Rattle.std.specs.Prelude.{◌≡◌, ℕ, ◌≤◌, ◌<◌, ◌+◌, ◌*◌, IsTrue, length, map, max, min};
 ghost use Rattle.energy_program.specs.Tree.{tree_of, is_exponent};
@@ -8,26 +8,26 @@ ghost use Rattle.kernel_compiler.specs.Sizes.{pair_size, raised_size, definition
 use energy_program::Expr;
 use std::alloc::Allocator;
 
-/// The size of an expression's code: instructions and stack.
+/// The size of an expression's code: instructions and stack depth.
 #[derive(Clone, Copy)]
 pub(crate) struct Extent {
-    /// The instructions, counted as far as 64 bits go.
+    /// The number of instructions, saturating at 2^64 - 1.
     pub(crate) count: usize,
-    /// The values on the stack at most, counted up to 65.
+    /// The maximum stack depth, saturating at 65.
     pub(crate) need: usize,
 }
 
-/// From so much of the stack on, the part that needs more is computed first.
+/// If the second operand needs more stack than this, and more than the first, it is computed first.
 const DEEP: usize = 47;
 
-/// Whether the second of two parts is computed first, by what they need of the stack.
+/// Whether the second of two operands is computed first, given the stack depths that they need.
 pub(crate) fn is_second_first(first: usize, second: usize) -> bool
     ensures { result ≡ is_second_first first second }
 {
     first.max(DEEP) < second
 }
 
-/// How many values the code of an operation's two parts has on the stack.
+/// The stack depth of an operation on two operands, saturating at 65.
 fn pair_need(first: usize, second: usize) -> usize
     requires few { first ≤ 65 }
     requires few_more { second ≤ 65 }
@@ -42,14 +42,14 @@ fn pair_need(first: usize, second: usize) -> usize
     most.min(65)
 }
 
-/// How many instructions an operation adds to those of its two parts.
+/// The number of instructions that an operation adds to those of its operands.
 fn pair_size(is_second_first: bool) -> usize
     ensures { result ≡ pair_size is_second_first }
 {
     if is_second_first { 5 } else { 1 }
 }
 
-/// How many values the code of a power has on the stack.
+/// The stack depth of a power, apart from its base's code.
 fn raised_need(exponent: i8) -> usize
     ensures exact { result ≡ raised_need exponent }
     ensures small { result ≤ 3 }
@@ -57,7 +57,7 @@ fn raised_need(exponent: i8) -> usize
     if exponent < 0 { 3 } else { 2 }
 }
 
-/// How many values the code of an expression has on the stack at most, counted up to 65.
+/// The stack depth of an expression's code, saturating at 65.
 pub(crate) fn need<A: Allocator>(e: &Expr<A>) -> usize
     ensures exact { result ≡ need (tree_of e.now) }
     ensures small { result ≤ 65 }
@@ -71,7 +71,7 @@ pub(crate) fn need<A: Allocator>(e: &Expr<A>) -> usize
     }
 }
 
-/// How many instructions a power of the base has.
+/// The number of instructions that compute a power of the base.
 #[tactic(auto, using(crate::proofs::Powers::size_one, crate::proofs::Powers::size_even, crate::proofs::Powers::size_odd))]
 fn power_size(exponent: u32) -> usize
     requires nonzero { 0 < exponent }
@@ -88,7 +88,7 @@ fn power_size(exponent: u32) -> usize
     }
 }
 
-/// How many instructions raise the value on the stack.
+/// The number of instructions that raise the value on top of the stack.
 fn raised_size(exponent: i8) -> usize
     requires { IsTrue (is_exponent exponent) }
     ensures { result ≡ raised_size exponent }
@@ -108,7 +108,7 @@ fn longer(part: Extent) -> Extent
     }
 }
 
-/// The size of an operation on two parts.
+/// The size of an operation on two operands.
 fn paired(first: Extent, second: Extent) -> Extent
     requires few { first.need ≤ 65 }
     requires few_more { second.need ≤ 65 }
@@ -123,7 +123,7 @@ fn paired(first: Extent, second: Extent) -> Extent
     }
 }
 
-/// The size of a power of a part.
+/// The size of a part raised to a power.
 fn raised(base: Extent, exponent: i8) -> Extent
     requires exponent { IsTrue (is_exponent exponent) }
     requires few { base.need ≤ 65 }
@@ -137,7 +137,7 @@ fn raised(base: Extent, exponent: i8) -> Extent
     }
 }
 
-/// The size of a choice between two parts, with its two jumps.
+/// The size of a choice between two branches, with its two jumps.
 fn chosen(condition: Extent, first: Extent, second: Extent) -> Extent
     requires few { condition.need ≤ 65 }
     requires few_more { first.need ≤ 65 }
@@ -167,8 +167,8 @@ pub(crate) fn measure<A: Allocator>(e: &Expr<A>) -> Extent
     }
 }
 
-/// How many instructions the code of the marked ones of these definitions has, of which the first has the number
-/// `number`, counted as far as 64 bits go.
+/// The number of instructions of the marked definitions among these, which are numbered from `number`, saturating at
+/// 2^64 - 1.
 pub(crate) fn definitions_count<A: Allocator>(
     marks: &[bool],
     number: usize,

@@ -1,5 +1,5 @@
-//! The machine for accepted code. It tests nothing: that no instruction traps is proved, from what accepted code keeps.
-//! It gives the value that the machine of `kernel_code` gives, and counts its instructions.
+//! The unchecked interpreter, for verified code only. It checks nothing at run time: the verifier's certificate proves
+//! that no instruction traps. Its value is that of the checked interpreter of `kernel_code`; it counts instructions.
 #![tactic(auto)]
 
 mod operations;

@@ -1,11 +1,12 @@
-//! The machine's stack: slots, of which the first ones, up to a height, are in use.
+//! The operand stack: an array of slots, of which the first `height` are in use. An `arrayvec` would check its length
+//! at each push and pop, which this machine must not.
 
 ghost use Rattle.std.specs.Prelude.{◌≡◌, ◌+◌, ◌-◌, ◌<◌, ◌≤◌, ◌∷◌, length};
 ghost use Rattle.kernel_machine.specs.Storage.{stack_of};
 
 use fixed::Fx;
 
-/// Puts a value on top, and answers the new height.
+/// Pushes a value, and returns the new height.
 #[inline]
 pub fn push(slots: &mut [Fx], height: usize, value: Fx) -> usize
     requires { height < length slots.old }

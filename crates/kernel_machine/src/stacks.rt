@@ -1,16 +1,15 @@
-//! The stack and the locals of runs.
+//! The storage of runs: stack and locals.
 
 ghost use Rattle.std.specs.Prelude.{◌≡◌};
 
 use fixed::Fx;
 use std::marker::Model;
 
-/// Room for runs, which may be used again and again: a stack of 64 values, and 256 locals. It also says how many
-/// instructions the last run took.
+/// Reusable storage for runs: a stack of 64 values, 256 locals, and the number of instructions of the last run.
 #[derive(Drop)]
 pub struct Stack {
     pub(crate) slots: [Fx; 64],
-    // what earlier runs kept stays, since no code reads a local that it has not kept
+    // values of earlier runs stay, since verified code reads no local before it sets it
     pub(crate) locals: [Fx; 256],
     pub(crate) turns: u32,
 }
@@ -24,7 +23,7 @@ impl Model for Stack {
 }
 
 impl Stack {
-    /// Room for any code.
+    /// Storage for any code.
     pub fn new() -> Stack
         ensures { result.turns ≡ 0 }
     {

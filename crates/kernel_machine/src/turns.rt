@@ -1,4 +1,4 @@
-//! One instruction that doesn't trap.
+//! Execution of one instruction that doesn't trap.
 
 ghost use Rattle.std.specs.Prelude.{◌≡◌, ◌^◌, ◌-◌, ◌<◌, ◌≤◌, length, IsOk, Ok};
 ghost use Rattle.fixed.specs.Fractions.{bits_of};
@@ -11,15 +11,15 @@ use fixed::{Frac, Fx};
 use kernel_code::{Inputs, Instr};
 use std::alloc::Allocator;
 
-/// Where a run stands: the place of the next instruction, and how many values are on the stack.
+/// The program counter (index of the next instruction) and the stack height.
 #[derive(Clone, Copy)]
 pub struct Position {
     pub pc: u32,
     pub height: usize,
 }
 
-/// One instruction at this position: the next one. The stack lies in 64 slots, and each of the 256 locals holds some
-/// value.
+/// Executes one instruction at this position, and returns the next position. The stack is in 64 slots, and each of the
+/// 256 locals has some value.
 #[inline]
 pub fn go_on<A: Allocator>(
     frac: Frac,

@@ -1,4 +1,4 @@
-//! Why code doesn't do well on all its paths.
+//! Errors of the analysis of control-flow paths.
 
 ghost use Rattle.std.specs.Prelude.{◌≡◌};
 ghost use Rattle.fallible.specs.declared.failure.Failure.TheVariants.{Refused};
@@ -7,19 +7,19 @@ use fallible::Failure;
 use std::fmt;
 use thiserror::Error;
 
-/// The first place at which some path of a code goes wrong.
+/// The first instruction at which some path of the code is malformed.
 #[derive(Clone, Copy, Error)]
 pub enum Misfit {
-    /// At this place, an instruction's or the code's length, a path lacks an operand, a local or an input, or ends with
-    /// other than one value, or paths meet with stacks of different heights.
+    /// At this instruction index, or at the code's length, a path lacks an operand, a local or an input, or ends with
+    /// other than one value, or paths join with different stack heights.
     #[error("V1 Malformed {pc}")]
     Malformed { pc: u32 },
-    /// On some path the instruction at this place would push a 65th value.
+    /// On some path the instruction at this index would push a 65th value.
     #[error("V4 DepthOver64 {pc}")]
     DepthOver64 { pc: u32 },
 }
 
-/// A misfit prints the same either way.
+/// `Debug` prints as `Display`.
 impl fmt::Debug for Misfit {
     fn fmt<W: fmt::Write>(&self, f: &mut fmt::Formatter<W>) -> fmt::Result {
         fmt::Display::fmt(self, f)

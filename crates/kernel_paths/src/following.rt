@@ -1,4 +1,4 @@
-//! All paths of a code, followed place by place.
+//! The data-flow analysis: since jumps go forwards, one pass over the instructions in order follows all paths.
 
 ghost use Rattle.std.specs.Prelude.{◌≡◌, ◌+◌, ◌^◌, ◌<◌, ℕ, length, OnOk, IfOk, IfErr, Result};
 ghost use Rattle.fallible.specs.Failures.{Gives, IfRefused};
@@ -14,7 +14,7 @@ use fallible::Failure;
 use kernel_code::{Code, Instr};
 use std::alloc::Allocator;
 
-/// Follows the paths that reach the place `here` by its instruction.
+/// Propagates the abstract state of the paths that reach the instruction `here` to its successors.
 fn follow(
     code: &[Instr],
     here: usize,
@@ -40,7 +40,7 @@ fn follow(
     }
 }
 
-/// The verdict on the paths at the end, the place `len`: the instructions on the longest, or the misfit there.
+/// The result for the paths at the end, index `len`: the length of the longest, or the error there.
 fn judge_end(end: &Meeting, len: usize) -> Result<u32, Misfit>
     requires some { end.now ≡ Nothing → ⊥ }
     requires short { len < 2 ^ 32 }
@@ -53,7 +53,7 @@ fn judge_end(end: &Meeting, len: usize) -> Result<u32, Misfit>
     }
 }
 
-/// The verdict on all paths, where none is followed yet.
+/// The result for all paths, from `meetings` in which only the start has an abstract state.
 fn judge(code: &[Instr], inputs: usize, meetings: &mut [Meeting]) -> Result<u32, Misfit>
     requires code { IsCode code.now }
     requires stands { HasFollowed code.now inputs 0 meetings.old }
@@ -67,25 +67,25 @@ fn judge(code: &[Instr], inputs: usize, meetings: &mut [Meeting]) -> Result<u32,
     judge_end(&meetings[code.len()], code.len())
 }
 
-/// The number of instructions on the longest path of the code, where `inputs` inputs are at hand and every path does
-/// well: none misses an operand, a local or an input, pushes a 65th value, or ends with other than one value, and paths
-/// that meet have stacks of one height. Each conditional jump may go either way, whatever the values.
+/// The number of instructions on the longest path of the code with `inputs` inputs, if all paths are well-formed: none
+/// lacks an operand, a local or an input, pushes a 65th value, or ends with other than one value, and paths that join
+/// have the same stack height. Each conditional jump may go either way, regardless of values.
 ///
-/// Otherwise the lowest place that is wrong decides. `Malformed` where a path lacks an operand, a local or an input,
-/// where paths meet with stacks of different heights, or at the end, the place that is the code's length, where a path
-/// has other than one value; else `DepthOver64` where a path pushes a 65th value. Instructions that no path reaches
-/// are passed over. `Memory`: an allocation was refused.
+/// Errors: the lowest instruction index with an error decides. There, `Malformed` if a path lacks an operand, a local
+/// or an input, if paths join with different stack heights, or if a path ends (at the code's length) with other than
+/// one value; else `DepthOver64` if a path pushes a 65th value. Unreachable instructions aren't checked. `Memory`: an
+/// allocation failed.
 pub fn longest_path<A: Allocator, B: Allocator>(
     alloc: A,
     code: &Code<B>,
     inputs: usize,
 ) -> Result<u32, Failure<Misfit>>
-    // Which answer it is.
+    // The result satisfies its specification.
     ensures well { IfOk result (DoesWell code.now inputs) }
     ensures first { IfErr result (λ failure. IfRefused failure (IsFirst code.now inputs)) }
-    // There is no other.
+    // No other result satisfies the specification.
     ensures only { (answer : Result ℕ Misfit) → IsPathResult code.now inputs answer → Gives (λ steps. steps) (λ misfit. misfit) result answer }
-    // Where it refuses, some path goes wrong.
+    // If the code is rejected, some path is malformed as the error describes.
     ensures refused { IfErr result (λ failure. IfRefused failure (GoesWrongSo code.now inputs)) }
 {
     let instructions = code.as_slice();

@@ -1,4 +1,4 @@
-//! Instructions on shapes: what each needs, and the shape behind it.
+//! The transfer function of the analysis: the needs of an instruction, and the abstract state after it.
 
 ghost use Rattle.std.specs.Prelude.{◌≡◌, ◌+◌, ◌-◌, ◌^◌, ◌<◌, ◌↔◌, IsTrue, length, true};
 ghost use Rattle.kernel_code.specs.Code.{goes_forward};
@@ -9,7 +9,7 @@ use crate::faults::Misfit;
 use crate::meetings::{Meeting, Shape, join};
 use kernel_code::Instr;
 
-/// Whether the operands, the input or the local that the instruction needs are there.
+/// Whether the operands, the input or the local that the instruction needs are present.
 fn is_supplied(instr: &Instr, inputs: usize, shape: &Shape) -> bool
     ensures { IsTrue result ↔ IsSupplied instr.now inputs shape.now.height shape.now.set }
 {
@@ -22,7 +22,7 @@ fn is_supplied(instr: &Instr, inputs: usize, shape: &Shape) -> bool
     }
 }
 
-/// Whether the stack has room for what the instruction pushes.
+/// Whether the stack has room for the value that the instruction pushes.
 fn has_room(instr: &Instr, height: u32) -> bool
     ensures { IsTrue result ↔ HasRoom instr.now height }
 {
@@ -32,7 +32,7 @@ fn has_room(instr: &Instr, height: u32) -> bool
     }
 }
 
-/// Whether the instruction at the place `pc` does well.
+/// Checks that the instruction at index `pc` can be executed. `Malformed` precedes `DepthOver64`.
 pub fn check(instr: &Instr, pc: u32, inputs: usize, shape: &Shape) -> Result<(), Misfit>
     ensures { IsFit instr.now pc inputs shape.now.height shape.now.set result }
 {
@@ -45,7 +45,7 @@ pub fn check(instr: &Instr, pc: u32, inputs: usize, shape: &Shape) -> Result<(),
     Ok(())
 }
 
-/// The shape behind an instruction that does well.
+/// The abstract state after an instruction that can be executed.
 pub fn act(instr: &Instr, inputs: usize, shape: &Shape) -> Shape
     requires fits { CanAct instr.now inputs shape.now.height shape.now.set }
     requires steps { shape.now.steps < 2 ^ 32 - 1 }
@@ -66,7 +66,7 @@ pub fn act(instr: &Instr, inputs: usize, shape: &Shape) -> Shape
     }
 }
 
-/// Leads the paths of the shape, which stands behind the instruction at `here`, to each place that it may go to.
+/// Joins the abstract state after the instruction at `here` to the state of each successor.
 pub fn lead(instr: &Instr, here: usize, shape: &Shape, meetings: &mut [Meeting])
     requires within { here + 1 < length meetings.old }
     requires forward { goes_forward (length meetings.old - 1) here instr.now ≡ true }

@@ -1,5 +1,5 @@
-//! Whether code does well on all its paths, whatever the values: each conditional jump is taken both ways. What that
-//! means stands in `specs/Misfits.antt`.
+//! Stack and definite-assignment analysis of code over all its control-flow paths, regardless of values: each
+//! conditional jump may go either way. `specs/Misfits.antt` specifies the result and the errors.
 #![tactic(auto)]
 
 mod faults;

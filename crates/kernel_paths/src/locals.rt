@@ -4,7 +4,7 @@ ghost use Rattle.std.specs.Prelude.{◌≡◌, ℕ, false, true, ◌&&◌, repli
 
 use std::marker::Model;
 
-/// A set of the 256 locals. A contract sees whether each is in it.
+/// A set of the 256 locals. In contracts, it is the list of its 256 membership flags.
 #[derive(Clone, Copy)]
 pub struct Locals {
     members: [bool; 256],
@@ -23,7 +23,7 @@ impl Model for Locals {
 }
 
 impl Locals {
-    /// The set of no local.
+    /// The empty set.
     pub fn new() -> Locals
         ensures { result ≡ replicate 256 false }
     {
@@ -38,7 +38,7 @@ impl Locals {
         self.members[local as usize]
     }
 
-    /// The set with this local too.
+    /// The set with this local added.
     pub fn with(&self, local: u8) -> Locals
         ensures { result ≡ slice_set self.now local true }
     {
@@ -47,7 +47,7 @@ impl Locals {
         Locals { members }
     }
 
-    /// The locals that are in both.
+    /// The locals that are in both sets.
     pub fn intersection(&self, other: &Locals) -> Locals
         ensures long { length result ≡ length other.now }
         ensures members { (k : ℕ) → slice_index_or result k false ≡ (slice_index_or self.now k false && slice_index_or other.now k false) }

@@ -1,23 +1,23 @@
-//! Meetings of the paths that reach a place.
+//! Abstract states at the instructions, and their join.
 
 ghost use Rattle.std.specs.Prelude.{◌≡◌, ◌<◌, false, replicate, length, slice_index_or, slice_set};
 ghost use Rattle.kernel_paths.specs.Meetings.{IsJoin, IsJoinAt};
 
 use crate::locals::Locals;
 
-/// A shape, which the paths to a place have in common.
+/// An abstract state that all paths to an instruction share.
 #[derive(Clone, Copy)]
 pub struct Shape {
-    /// How many values stand on the stack, on each path.
+    /// The number of values on the stack, on every path.
     pub height: u32,
-    /// The locals that are set on all paths.
+    /// The locals that are set on every path.
     pub set: Locals,
-    /// How many instructions the longest path has.
+    /// The number of instructions on the longest path.
     pub steps: u32,
 }
 
 impl Shape {
-    /// The shape before the first instruction.
+    /// The abstract state before the first instruction.
     pub fn start() -> Shape
         ensures height { result.height ≡ 0 }
         ensures set { result.set ≡ replicate 256 false }
@@ -31,19 +31,19 @@ impl Shape {
     }
 }
 
-/// The paths that reach a place.
+/// The join of the abstract states of all paths that reach an instruction.
 #[derive(Clone, Copy)]
 pub enum Meeting {
-    /// There are none.
+    /// No path reaches it.
     Nothing,
-    /// Their stacks have one height.
+    /// All paths have the same stack height.
     Level(Shape),
-    /// Their stacks have different heights.
+    /// Paths have different stack heights.
     Uneven,
 }
 
 impl Meeting {
-    /// The meeting of these paths and those of the shape.
+    /// The join with one more abstract state.
     pub fn joined(&self, shape: &Shape) -> Meeting
         ensures { IsJoin self.now shape.now result }
     {
@@ -59,7 +59,7 @@ impl Meeting {
     }
 }
 
-/// Leads the paths of the shape to a place too.
+/// Joins an abstract state to the state at instruction `to`.
 pub fn join(meetings: &mut [Meeting], to: usize, shape: &Shape)
     requires { to < length meetings.old }
     ensures { IsJoinAt meetings.old to shape.now meetings.new }

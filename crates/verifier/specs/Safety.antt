@@ -1,4 +1,4 @@
--- Certified code, which never goes wrong, and the meaning of refusals.
+-- Certified code, which never faults, and the meaning of errors.
 use Rattle.std.specs.Prelude.{ℕ, ◌+◌, ◌<◌, ◌≤◌, List, length, ℤ, pos, ◌≤ℤ◌, ◌<ℤ◌, ◌+ℤ◌, ◌-ℤ◌, ◌*◌, Ok, Err, unsigned_abs}
 use Rattle.fixed.specs.Fractions.{bits_of}
 use Rattle.kernel_code.specs.declared.instructions.Instr.{Instr}
@@ -13,11 +13,11 @@ use Rattle.verifier.specs.declared.faults.VerifyFault.TheVariants.{Malformed, De
 
 -- ---- accepted code
 
--- how many inputs code has under a table: the distance, the parameters of both particles, and the globals
+-- the number of inputs of code under a table: the distance, the parameters of both particles, and the globals
 abbrev pub input_count : Table → ℕ
 input_count t = 2 * t.parameters + length t.globals + 1
 
--- on the inputs of these types at this distance the code gives a value, of at most this magnitude, in at most `steps`
+-- on the inputs of these types at this distance, the code gives a value of at most this magnitude in at most `steps`
 -- instructions
 pub record GivesInSteps (code : List Instr) (t : Table) (a b : ℕ) (r : ℤ) (steps bound : ℕ) : Type 0 where
   pub value : ℤ
@@ -26,16 +26,16 @@ pub record GivesInSteps (code : List Instr) (t : Table) (a b : ℕ) (r : ℤ) (s
   pub few : n ≤ steps
   pub small : unsigned_abs value ≤ bound
 
--- so it does for every two types at each distance from core to before cutoff; no path misses anything, and the longest
--- has `steps` instructions
+-- the code does so for every pair of types at every distance from core up to but not including cutoff; no path lacks
+-- anything, and the longest has `steps` instructions
 pub record IsCertified (code : List Instr) (t : Table) (core cutoff : ℤ) (steps bound : ℕ) : Type 0 where
   pub each : (a b : ℕ) (r : ℤ) → a < length t.rows → b < length t.rows → core ≤ℤ r → r <ℤ cutoff → GivesInSteps code t a b r steps bound
   pub longest : IsLongest code steps
   pub misses : MissesNothing code (input_count t)
 
--- ---- refusals
+-- ---- rejected code
 
--- the machine traps so at this distance
+-- for these types the machine traps at this distance in the range
 pub record Traps (code : List Instr) (t : Table) (from last : ℤ) (a b : ℕ) (r : ℤ) (trap : Trap) : Type 0 where
   pub first : a < length t.rows
   pub second : b < length t.rows
@@ -44,13 +44,14 @@ pub record Traps (code : List Instr) (t : Table) (from last : ℤ) (a b : ℕ) (
   pub n : ℕ
   pub ends : Ends (bits_of t.frac) code (inputs_of t a b r) n (Err trap)
 
--- the machine gives a value
+-- for these types the machine gives a value at this distance
 pub record GivesValue (code : List Instr) (t : Table) (a b : ℕ) (r : ℤ) : Type 0 where
   pub value : ℤ
   pub n : ℕ
   pub ends : Ends (bits_of t.frac) code (inputs_of t a b r) n (Ok value)
 
--- so it does at both distances, which are not one, and there are more distances than the limit
+-- for these types the machine gives values at both distances, which differ, and the range has more distances than the
+-- limit
 pub record IsUndecided (code : List Instr) (t : Table) (from last : ℤ) (limit : ℕ) (a b : ℕ) (lo hi : ℤ) : Type 0 where
   pub first : a < length t.rows
   pub second : b < length t.rows
@@ -61,7 +62,7 @@ pub record IsUndecided (code : List Instr) (t : Table) (from last : ℤ) (limit 
   pub at_hi : GivesValue code t a b hi
   pub wide : (from +ℤ pos limit) ≤ℤ last
 
--- the meaning of a refusal, where `limit` distances are always decided
+-- the meaning of an error, if ranges of at most `limit` distances are always decided
 abbrev pub IsRefusal : List Instr → Table → (core cutoff : ℤ) → (limit : ℕ) → VerifyFault → Type 0
 IsRefusal code t core cutoff limit (Malformed pc) = GoesWrong code (input_count t)
 IsRefusal code t core cutoff limit (DepthOver64 pc) = Overfills code pc

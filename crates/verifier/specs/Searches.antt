@@ -1,4 +1,4 @@
--- Searches for values and faults.
+-- The precondition of searches for faults.
 use Rattle.std.specs.Prelude.{ℕ, List}
 use Rattle.kernel_code.specs.declared.instructions.Instr.{Instr}
 use Rattle.kernel_code.specs.Code.{IsCode}
@@ -6,7 +6,7 @@ use Rattle.kernel_code.specs.Tables.{Table, IsTable}
 use Rattle.kernel_paths.specs.Misfits.{DoesWell}
 use Rattle.verifier.specs.Safety.{input_count}
 
--- all paths of the code do well, with as many inputs as it has under the table
+-- all paths of the code are well-formed, with the number of inputs that it has under the table
 pub record IsWellUnder (code : List Instr) (t : Table) : Type 0 where
   pub is_code : IsCode code
   pub is_table : IsTable t

@@ -1,4 +1,4 @@
-//! Code judged whole.
+//! The verification of whole code: paths first, then values.
 
 ghost use Rattle.std.specs.Prelude.{◌<◌, ◌≤ℤ◌, ◌<ℤ◌, pos, Ok, Err, IfOk, IfErr};
 ghost use Rattle.fallible.specs.Failures.{IfRefused};
@@ -14,16 +14,16 @@ use kernel_code::{Code, TypeTable};
 use kernel_paths::{Misfit, longest_path};
 use std::alloc::Allocator;
 
-/// The certificate of code that never goes wrong.
+/// The certificate of code that never faults.
 #[derive(Clone, Copy)]
 pub struct Certificate {
     /// The number of instructions on the longest path.
     pub steps: u32,
-    /// No value that the code gives is greater in magnitude, as a raw value.
+    /// An upper bound of the magnitude of the code's values, as raw values.
     pub bound: u64,
 }
 
-/// The certificate of the code, as `verify` judges it, where a slice is cut in two at most `depth` times.
+/// The certificate of the code. Like `verify`, but a slice is bisected at most `depth` times.
 pub fn certify_to<A: Allocator + Copy, B: Allocator>(
     alloc: A,
     code: &Code<B>,

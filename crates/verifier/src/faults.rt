@@ -1,4 +1,4 @@
-//! Why code isn't accepted.
+//! Errors of code that is rejected.
 
 ghost use Rattle.std.specs.Prelude.{◌≡◌};
 ghost use Rattle.fallible.specs.declared.failure.Failure.TheVariants.{Refused};
@@ -8,19 +8,19 @@ use fixed::{Fault, Fx};
 use std::error::Error;
 use std::fmt;
 
-/// Why code isn't accepted. Types are numbers of the table, counted from 0.
+/// The error of rejected code. Types are numbers of the table, from 0.
 #[derive(Clone, Copy, PartialEq, Eq)]
 pub enum VerifyFault {
-    /// At this place, an instruction's or the code's length, a path lacks an operand, a local or an
-    /// input, or ends with other than one value, or paths meet with stacks of different heights.
+    /// At this instruction index, or at the code's length, a path lacks an operand, a local or an input, or ends with
+    /// other than one value, or paths join with different stack heights.
     Malformed {
         pc: u32,
     },
-    /// On some path the instruction at this place would push a 65th value.
+    /// On some path the instruction at this index would push a 65th value.
     DepthOver64 {
         pc: u32,
     },
-    /// On the inputs of these types at the distance `r` the operation at this place has no value.
+    /// For these types at the distance `r`, the operation at this instruction index has no value.
     Fault {
         first: u32,
         second: u32,
@@ -28,8 +28,8 @@ pub enum VerifyFault {
         pc: u32,
         fault: Fault,
     },
-    /// At some distance from `lo` to `hi` the operation at this place may have no value for these
-    /// types, by the spans of the code's values; at `lo` and at `hi` the code gives a value.
+    /// For these types, at some distance from `lo` to `hi`, the operation at this instruction index may have no value
+    /// according to interval analysis. At `lo` and at `hi` the code gives a value.
     Undecided {
         first: u32,
         second: u32,
@@ -40,13 +40,13 @@ pub enum VerifyFault {
     },
 }
 
-/// Writes at which place an operation has which fault.
+/// Writes the instruction index of an operation and its fault.
 fn tell_place<W: fmt::Write>(f: &mut fmt::Formatter<W>, pc: u32, fault: Fault) -> fmt::Result {
     write!(f, " pc {pc} {fault}")
 }
 
 impl VerifyFault {
-    /// Writes the refusal with these words for the two types, where it speaks of types.
+    /// Writes the error, with these names for the two types if the error concerns types.
     pub fn tell<W: fmt::Write, T: fmt::Display + Copy>(
         &self,
         f: &mut fmt::Formatter<W>,
@@ -76,7 +76,7 @@ impl VerifyFault {
         }
     }
 
-    // The numbers of the two types; 0 and 0 where it speaks of none.
+    // The numbers of the two types; 0 and 0 if the error concerns none.
     fn types(&self) -> (u32, u32) {
         match *self {
             VerifyFault::Fault { first, second, .. }
@@ -93,7 +93,7 @@ impl fmt::Display for VerifyFault {
     }
 }
 
-/// A fault prints the same either way.
+/// `Debug` prints as `Display`.
 impl fmt::Debug for VerifyFault {
     fn fmt<W: fmt::Write>(&self, f: &mut fmt::Formatter<W>) -> fmt::Result {
         fmt::Display::fmt(self, f)

@@ -1,4 +1,4 @@
-//! Where runs may stand at a place: spans on the stack and in the locals.
+//! Abstract states: intervals for the stack and the locals at an instruction.
 
 ghost use Rattle.std.specs.Prelude.{◌≡◌, ◌<◌, ◌≤◌, length, IfOk, OnOk, IfErr};
 ghost use Rattle.fallible.specs.declared.failure.Failure.TheVariants.{Memory};
@@ -12,9 +12,9 @@ use interval_domain::Span;
 use std::alloc::{AllocError, Allocator};
 use std::marker::Model;
 
-/// A span for each value on the stack, and for each local that is set on all paths to here.
+/// An abstract state: an interval for each value on the stack, and for each local that is set on all paths to here.
 ///
-/// A contract sees the stack with its top first.
+/// In contracts, the stack is a list with its top first.
 #[derive(Drop)]
 pub struct SpanFrame<A: Allocator> {
     // the top last
@@ -34,7 +34,7 @@ impl<A: Allocator> Model for SpanFrame<A> {
 }
 
 impl<A: Allocator> SpanFrame<A> {
-    /// The frame before the first instruction: an empty stack, and no local is set.
+    /// The abstract state before the first instruction: an empty stack, and no local set.
     pub fn start(alloc: A) -> SpanFrame<A>
     where
         A: Copy,
@@ -46,7 +46,7 @@ impl<A: Allocator> SpanFrame<A> {
         }
     }
 
-    /// The frame once more.
+    /// A copy of the abstract state.
     pub fn copy(&self, alloc: A) -> Result<SpanFrame<A>, AllocError>
     where
         A: Copy,
@@ -58,8 +58,8 @@ impl<A: Allocator> SpanFrame<A> {
         })
     }
 
-    /// Widens the frame by another of its height: each span to the least that holds both, and a local
-    /// that isn't set in both is set no more.
+    /// Joins another abstract state with the same stack height: each interval becomes the smallest that contains both,
+    /// and a local that isn't set in both becomes unset.
     pub fn widen(&mut self, other: &SpanFrame<A>)
         requires { length self.old.stack ≡ length other.now.stack }
         ensures { Widens self.old other.now self.new }
@@ -68,7 +68,7 @@ impl<A: Allocator> SpanFrame<A> {
         widen_locals(self.locals.as_mut_slice(), other.locals.as_slice());
     }
 
-    /// Puts a span on the stack. Only memory can stop it.
+    /// Pushes an interval. Error: `Memory` only.
     pub fn push(&mut self, span: Span) -> Result<(), Failure<Fault>>
         requires { length self.old.stack < 64 }
         ensures pushes { OnOk result (Pushes span self.old self.new) }
@@ -80,7 +80,7 @@ impl<A: Allocator> SpanFrame<A> {
         }
     }
 
-    /// Takes the span on top of the stack.
+    /// Pops the interval on top of the stack.
     pub fn pop(&mut self) -> Span
         requires { 1 ≤ length self.old.stack }
         ensures pops { Pops result self.old self.new }
@@ -92,14 +92,14 @@ impl<A: Allocator> SpanFrame<A> {
         }
     }
 
-    /// The span of a local; `None` where it may be unset.
+    /// The interval of a local; `None` if the local may be unset.
     pub fn local(&self, local: u8) -> Option<Span>
         ensures { result ≡ local_of self.now local }
     {
         local_span(self.locals.as_slice(), local as usize)
     }
 
-    /// Gives a local a span. Only memory can stop it.
+    /// Sets a local's interval. Error: `Memory` only.
     pub fn keep(&mut self, local: u8, span: Span) -> Result<(), Failure<Fault>>
         ensures keeps { OnOk result (Sets local span self.old self.new) }
         ensures memory { IfErr result (λ failure. failure ≡ Memory) }

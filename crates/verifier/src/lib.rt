@@ -1,5 +1,6 @@
-//! Accepts or refuses code: whether it gives a value for every two types of a table, at every distance
-//! from a core to a cutoff. What that means stands in `specs/Safety.antt`.
+//! The verifier: accepts code that gives a value for every pair of types of a table, at every distance from a core up
+//! to a cutoff, and rejects all other code. It uses abstract interpretation with intervals, on slices of the distances
+//! that are bisected while a fault is possible. `specs/Safety.antt` defines what acceptance and rejection mean.
 #![tactic(auto)]
 
 mod certificates;

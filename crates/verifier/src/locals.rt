@@ -1,18 +1,19 @@
-//! The spans of locals, by number: those from the list's end on may be unset.
+//! The intervals of locals, by number. The list only reaches to the highest local that was set; all others may be
+//! unset.
 
 ghost use Rattle.std.specs.Prelude.{◌≡◌, ◌≢◌, ℕ, None, Some, slice_index_or, OnOk};
 
 use interval_domain::Span;
 use std::alloc::{AllocError, Allocator};
 
-/// The span of a local; `None` where it may be unset.
+/// The interval of a local; `None` if the local may be unset.
 pub fn local_span(locals: &[Option<Span>], local: usize) -> Option<Span>
     ensures { result ≡ slice_index_or locals.now local None }
 {
     locals.get(local).copied().flatten()
 }
 
-/// Gives a local a span.
+/// Sets the interval of a local, extending the list if necessary.
 pub fn set_local<A: Allocator>(
     locals: &mut Vec<Option<Span>, A>,
     local: usize,

@@ -1,4 +1,5 @@
-//! The places that runs may still come to, each with its frame.
+//! The abstract states at instructions not yet visited. A state moves from instruction to instruction; it is copied
+//! only if a conditional jump may go both ways.
 
 ghost use Rattle.std.specs.Prelude.{◌≡◌, ◌+◌, ◌-◌, ◌<◌, ◌≤◌, ℕ, None, length, IfOk, OnOk, IfErr};
 ghost use Rattle.fallible.specs.declared.failure.Failure.TheVariants.{Memory};
@@ -10,7 +11,7 @@ use fixed::{Fault, Fx};
 use std::alloc::{AllocError, Allocator};
 use std::marker::Model;
 
-/// For each place of a code, its end too, the frame of the runs that reach it, where there are any.
+/// For each instruction index, and the code's end, the abstract state of the runs that reach it, if any do.
 #[derive(Drop)]
 pub struct Places<A: Allocator> {
     frames: Vec<Option<SpanFrame<A>>, A>,
@@ -26,7 +27,7 @@ impl<A: Allocator> Model for Places<A> {
 }
 
 impl<A: Allocator> Places<A> {
-    /// The places of at most 16,384 instructions, and the end, without frames.
+    /// Space for at most 16,384 instructions and the end, without abstract states.
     pub fn new(alloc: A, instructions: usize) -> Result<Places<A>, AllocError>
         requires { instructions ≤ 16384 }
         ensures long { IfOk result (λ places. length places ≡ instructions + 1) }
@@ -40,7 +41,7 @@ impl<A: Allocator> Places<A> {
         Ok(Places { frames })
     }
 
-    /// Takes the frame of a place.
+    /// Removes and returns the abstract state at an instruction.
     pub fn take(&mut self, at: usize) -> Option<SpanFrame<A>>
         requires { at < length self.old }
         ensures { Takes at result self.old self.new }
@@ -48,7 +49,7 @@ impl<A: Allocator> Places<A> {
         self.frames[at].take()
     }
 
-    /// Joins the runs of a frame to those that reach a place.
+    /// Joins an abstract state to the state at instruction `to`.
     pub fn join(&mut self, to: usize, frame: SpanFrame<A>)
         requires place { to < length self.old }
         requires meet { CanMeet (frame_at self.old to) (length frame.stack) }
@@ -64,8 +65,8 @@ impl<A: Allocator> Places<A> {
     }
 }
 
-/// Joins the runs of a frame, each by the value that it pops, to those that reach `target` at 0,
-/// and else to `next`. Only memory can stop it.
+/// Pops the condition, and joins the rest of the abstract state to `target` if the condition may be 0, and to `next` if
+/// it may be another value. Error: `Memory` only.
 pub fn branch<A: Allocator + Copy>(
     alloc: A,
     next: usize,

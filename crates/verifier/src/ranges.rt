@@ -5,7 +5,7 @@ ghost use Rattle.std.specs.Prelude.{◌≡◌, ◌+◌, ◌*◌, ◌/◌, ◌^�
 use fixed::Fx;
 use interval_domain::Span;
 
-/// How many of `width` distances lie before the slice `i`.
+/// The number of distances before slice `i`, if `width` distances are divided into `slices` slices.
 pub fn share(width: u64, i: u32, slices: u32) -> u64
     requires slice { i ≤ slices }
     requires slices { 0 < slices }
@@ -15,7 +15,7 @@ pub fn share(width: u64, i: u32, slices: u32) -> u64
     (width as u128 * i as u128 / slices as u128) as u64
 }
 
-/// The distances from the one with `from` before it, up to the one with `end` before it, which isn't among them.
+/// The interval of the distances from `core + from` up to but not including `core + end`, as raw values.
 pub fn slice_span(core: Fx, from: u64, end: u64) -> Span
     requires core { pos 0 ≤ℤ core }
     requires some { from < end }
@@ -29,7 +29,7 @@ pub fn slice_span(core: Fx, from: u64, end: u64) -> Span
     }
 }
 
-/// How many distances there are.
+/// The number of distances from `core` up to but not including `cutoff`.
 pub fn width_of(core: Fx, cutoff: Fx) -> u64
     requires core { pos 0 ≤ℤ core }
     requires range { core <ℤ cutoff }
@@ -39,7 +39,7 @@ pub fn width_of(core: Fx, cutoff: Fx) -> u64
     (cutoff.raw() - core.raw()) as u64
 }
 
-/// How many slices all pairs of types have.
+/// The number of slices of all pairs of types.
 pub fn slice_count(types: u32, slices: u32) -> u64
     requires { types ≤ 64 }
     ensures { result ≡ types * types * slices }

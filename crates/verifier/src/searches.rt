@@ -1,4 +1,4 @@
-//! The search for values and faults: all pairs of types, all slices of the distances.
+//! The search for faults: all ordered pairs of types, all slices of the distances.
 
 ghost use Rattle.std.specs.Prelude.{◌≡◌, ◌+◌, ◌*◌, ◌<◌, ◌<ℤ◌, ◌≤ℤ◌, pos, length, max, unsigned_abs, false, Err, IfOk, IfErr, IsTrue};
 ghost use Rattle.fallible.specs.Failures.{IfRefused};
@@ -14,28 +14,28 @@ use interval_domain::{Span, halves};
 use kernel_code::{Code, InputNumber, TrapKind, TypeTable, run_checked};
 use std::alloc::{AllocError, Allocator};
 
-/// Two types of the table, counted from 0.
+/// A pair of types of the table, numbered from 0.
 #[derive(Clone, Copy)]
 pub struct Pair {
     pub first: u32,
     pub second: u32,
 }
 
-/// The raw value without its sign.
+/// The absolute value of the raw value.
 fn magnitude(x: Fx) -> u64
     ensures { result ≡ unsigned_abs x }
 {
     x.raw().unsigned_abs()
 }
 
-/// The greatest magnitude of a span's members.
+/// The greatest magnitude in an interval.
 fn greatest(span: &Span) -> u64
     ensures { result ≡ max (unsigned_abs span.now.lo) (unsigned_abs span.now.hi) }
 {
     magnitude(span.lo).max(magnitude(span.hi))
 }
 
-/// Whether these distances are one.
+/// Whether the interval is a single distance.
 fn is_single(distances: &Span) -> bool
     ensures one { IsTrue result → distances.now.hi ≤ℤ distances.now.lo }
     ensures several { result ≡ false → distances.now.lo <ℤ distances.now.hi }
@@ -43,8 +43,8 @@ fn is_single(distances: &Span) -> bool
     distances.lo.raw() >= distances.hi.raw()
 }
 
-/// Code, and the distances at which its values are searched for. Where some run of a slice may meet
-/// a fault, the slice is cut in two, `depth` times at most.
+/// Code, and the distances at which its values are analysed. A slice with a possible fault is bisected, at most `depth`
+/// times.
 #[derive(Drop)]
 pub struct Search<'a, A: Allocator + Copy, B: Allocator> {
     pub alloc: A,
@@ -57,7 +57,7 @@ pub struct Search<'a, A: Allocator + Copy, B: Allocator> {
 }
 
 impl<'a, A: Allocator + Copy, B: Allocator> Search<'a, A, B> {
-    /// A span for each input of the pair: its one value, or for input 0 the distances.
+    /// An interval for each input of the pair: the distances for input 0, and the one value of each other input.
     fn input_spans(&self, pair: Pair, distances: &Span) -> Result<Vec<Span, A>, AllocError>
         requires first { pair.first < length self.now.table.now.rows }
         requires second { pair.second < length self.now.table.now.rows }
@@ -79,8 +79,8 @@ impl<'a, A: Allocator + Copy, B: Allocator> Search<'a, A, B> {
         Ok(spans)
     }
 
-    /// The greatest magnitude of what the spans of the code's values hold at the distances, or where
-    /// some run may meet a fault.
+    /// The greatest magnitude in the interval of the code's values at these distances, or the first operation that may
+    /// fault according to the intervals.
     fn try_slice(&self, pair: Pair, distances: &Span) -> Result<u64, Failure<Stopped>>
         requires well { IsWellUnder self.now.code.now self.now.table.now }
         requires first { pair.first < length self.now.table.now.rows }
@@ -100,7 +100,9 @@ impl<'a, A: Allocator + Copy, B: Allocator> Search<'a, A, B> {
         }
     }
 
-    /// The magnitude of the code's value at one distance.
+    /// The magnitude of the code's value at one distance, or its fault. The checked machine decides, not the intervals:
+    /// so a fault that is reported is the machine's own, and bisection down to single distances decides every narrow
+    /// range.
     fn judge_one(&self, pair: Pair, r: Fx) -> Result<u64, VerifyFault>
         requires well { IsWellUnder self.now.code.now self.now.table.now }
         requires first { pair.first < length self.now.table.now.rows }
@@ -122,8 +124,8 @@ impl<'a, A: Allocator + Copy, B: Allocator> Search<'a, A, B> {
         }
     }
 
-    /// The verdict on distances of which some may meet a fault at this place: the fault at the least
-    /// or at the greatest of them, if the code meets one there, else `Undecided`.
+    /// The error for distances at which a fault is possible, and that aren't bisected further: the fault at the least
+    /// or else at the greatest distance, if the code faults there, else `Undecided`.
     fn judge_ends(&self, pair: Pair, distances: &Span, stopped: Stopped) -> VerifyFault
         requires well { IsWellUnder self.now.code.now self.now.table.now }
         requires first { pair.first < length self.now.table.now.rows }
@@ -148,11 +150,11 @@ impl<'a, A: Allocator + Copy, B: Allocator> Search<'a, A, B> {
         }
     }
 
-    /// The greatest magnitude that the code's values may have at the distances, which are cut in two
-    /// `depth` times where some run may meet a fault.
+    /// An upper bound of the magnitude of the code's values at these distances, which are bisected at most `depth`
+    /// times while a fault is possible.
     ///
-    /// `Fault` and `Undecided` as they say; never `Undecided` where the depth suffices to come to
-    /// single distances. `Memory`: an allocation was refused.
+    /// Errors: `Fault` or `Undecided`; never `Undecided` if `depth` bisections reach single distances. `Memory`: an
+    /// allocation failed.
     fn judge(&self, pair: Pair, distances: &Span, depth: u32) -> Result<u64, Failure<VerifyFault>>
         requires well { IsWellUnder self.now.code.now self.now.table.now }
         requires first { pair.first < length self.now.table.now.rows }
@@ -184,8 +186,8 @@ impl<'a, A: Allocator + Copy, B: Allocator> Search<'a, A, B> {
         }
     }
 
-    /// The greatest magnitude of the values in the slice of this number, of all slices of all pairs; 0 where it has no
-    /// distances.
+    /// An upper bound of the magnitude of the values in the slice with this number, among all slices of all pairs; 0 if
+    /// the slice is empty.
     fn judge_slice(&self, number: u64) -> Result<u64, Failure<VerifyFault>>
         requires well { IsWellUnder self.now.code.now self.now.table.now }
         requires core { pos 0 ≤ℤ self.now.core }
@@ -211,7 +213,7 @@ impl<'a, A: Allocator + Copy, B: Allocator> Search<'a, A, B> {
         self.judge(pair, &distances, self.depth)
     }
 
-    /// The greatest magnitude of the values in all slices of all pairs.
+    /// An upper bound of the magnitude of the values in all slices of all pairs.
     pub fn judge_all(&self) -> Result<u64, Failure<VerifyFault>>
         requires well { IsWellUnder self.now.code.now self.now.table.now }
         requires core { pos 0 ≤ℤ self.now.core }

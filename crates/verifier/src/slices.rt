@@ -1,4 +1,4 @@
-//! All runs on inputs in some spans, followed place by place.
+//! Abstract interpretation of code on input intervals. Since jumps go forwards, one pass in order visits all runs.
 
 ghost use Rattle.std.specs.Prelude.{◌≡◌, ◌+◌, ◌<◌, ℕ, length, IfOk, OnOk, IfErr};
 ghost use Rattle.fallible.specs.Failures.{IfRefused};
@@ -17,15 +17,15 @@ use interval_domain::Span;
 use kernel_code::Instr;
 use std::alloc::Allocator;
 
-/// Why the runs of a slice aren't followed to their end: the operation at this place may have no
-/// value, for this reason.
+/// The operation at this instruction index may have no value, with this fault. Only operations can stop the analysis,
+/// since the path analysis found everything else before.
 #[derive(Clone, Copy)]
 pub struct Stopped {
     pub pc: u32,
     pub fault: Fault,
 }
 
-/// Follows the runs that reach the place `here` by its instruction.
+/// Executes the instruction `here` on its abstract state, and joins the result to its successors.
 fn pass<A: Allocator + Copy>(
     alloc: A,
     frac: Frac,
@@ -61,7 +61,7 @@ fn pass<A: Allocator + Copy>(
     }
 }
 
-/// The span of the value at the end.
+/// The interval of the value at the end.
 fn answer<A: Allocator>(frac: Frac, code: &[Instr], inputs: &[Span], places: &mut Places<A>) -> Span
     requires code { IsCode code.now }
     requires well { (steps : ℕ) × DoesWell code.now (length inputs.now) steps }
@@ -75,8 +75,8 @@ fn answer<A: Allocator>(frac: Frac, code: &[Instr], inputs: &[Span], places: &mu
     frame.pop()
 }
 
-/// The span of the values that the code gives on all inputs in these spans, or the first place at
-/// which the operation of some run may have no value.
+/// The interval of the values that the code gives on all inputs in these intervals, or the first instruction whose
+/// operation may fault on some of them.
 pub fn follow_slice<A: Allocator + Copy>(
     alloc: A,
     frac: Frac,

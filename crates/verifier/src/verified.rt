@@ -1,4 +1,4 @@
-//! Accepted code.
+//! Accepted code, and the verifier's entry.
 
 ghost use Rattle.std.specs.Prelude.{◌≡◌, ◌*◌, ◌^◌, ◌<◌, ◌≤ℤ◌, ◌<ℤ◌, pos, Ok, Err, IfOk, IfErr};
 ghost use Rattle.fallible.specs.Failures.{IfRefused};
@@ -14,7 +14,8 @@ use kernel_code::{Code, TypeTable};
 use std::alloc::Allocator;
 use std::marker::Model;
 
-/// Code that gives a value for every two types of its table, at every distance from its core to before its cutoff.
+/// Code that gives a value for every pair of types of its table, at every distance from its core up to but not
+/// including its cutoff. It owns code and table, so that an engine needs nothing else.
 #[derive(Drop)]
 pub struct Verified<A: Allocator> {
     code: Code<A>,
@@ -39,7 +40,7 @@ impl<A: Allocator> Model for Verified<A> {
 impl<A: Allocator> Verified<A> {
     ghost use Rattle.verifier.specs.Kernels.{IsKernel};
 
-    /// The code that was handed in.
+    /// The verified code.
     pub fn code(&self) -> &Code<A>
         ensures code { result.now ≡ self.now.code }
         ensures kernel { IsKernel self.now }
@@ -47,7 +48,7 @@ impl<A: Allocator> Verified<A> {
         &self.code
     }
 
-    /// The table that it was accepted for.
+    /// The table that the code was verified for.
     pub fn table(&self) -> &TypeTable<A>
         ensures { result.now ≡ self.now.table }
     {
@@ -61,7 +62,7 @@ impl<A: Allocator> Verified<A> {
         self.core
     }
 
-    /// The distance that all others are below.
+    /// The upper end of the distances, which isn't included.
     pub fn cutoff(&self) -> Fx
         ensures { result ≡ self.now.cutoff }
     {
@@ -75,8 +76,8 @@ impl<A: Allocator> Verified<A> {
         self.steps
     }
 
-    /// No value that the code gives is greater in magnitude, as a raw value: the greatest magnitude of
-    /// the ends of the values' spans, 0 where there are no types.
+    /// An upper bound of the magnitude of the code's values, as raw values: the greatest magnitude of the ends of the
+    /// values' intervals, 0 if there are no types.
     pub fn bound(&self) -> u64
         ensures { result ≡ self.now.bound }
     {
@@ -84,14 +85,13 @@ impl<A: Allocator> Verified<A> {
     }
 }
 
-/// Accepts code that gives a value for every two types of the table, at every distance from `core`
-/// to before `cutoff`. The distances are cut into `slices` slices, and a slice on which some run may
-/// meet a fault, by the spans of the code's values, is cut in two again and again, at most 24 times
-/// deep.
+/// Verifies that the code gives a value for every pair of types of the table, at every distance from `core` up to but
+/// not including `cutoff`. The distances are divided into `slices` slices. A slice on which some run may fault,
+/// according to interval analysis, is bisected repeatedly, at most 24 levels deep.
 ///
-/// `Malformed` and `DepthOver64` where some path of the code goes wrong, whatever the values; else
-/// `Fault` where an operation has no value, and `Undecided` where that stays open, never where there
-/// are at most 2^24 distances for each slice. `Memory`: an allocation was refused.
+/// Errors: first, `Malformed` or `DepthOver64` if some control-flow path is malformed, regardless of values. Then, the
+/// first in the order of the slices: `Fault` if an operation has no value, or `Undecided` if interval analysis can't
+/// exclude a fault, which never happens with at most 2^24 distances per slice. `Memory`: an allocation failed.
 pub fn verify<A: Allocator, B: Allocator>(
     alloc: A,
     code: Code<B>,
@@ -107,14 +107,14 @@ pub fn verify<A: Allocator, B: Allocator>(
     ensures table { IfOk result (λ v. v.table ≡ table) }
     ensures core { IfOk result (λ v. v.core ≡ core) }
     ensures cutoff { IfOk result (λ v. v.cutoff ≡ cutoff) }
-    // Accepted code never goes wrong.
+    // Accepted code never faults.
     ensures certified { IfOk result IsKernel }
-    // The meaning of a refusal, for the code's runs and paths.
+    // The meaning of an error, in terms of the code's runs and paths.
     ensures refused { IfErr result (λ failure. IfRefused failure (IsRefusal code table core cutoff (slices * 2 ^ 24))) }
-    // The bound, and the refusal: which there is, is the definition's.
+    // The bound and the error satisfy the specification of verdicts.
     ensures bound { IfOk result (λ v. IsVerdict code table (range core cutoff slices 24) (Ok v.bound)) }
     ensures verdict { IfErr result (λ failure. IfRefused failure (λ fault. IsVerdict code table (range core cutoff slices 24) (Err fault))) }
-    // There is no other.
+    // No other verdict satisfies the specification.
     ensures only_bound { (answer : Answer) → IsVerdict code table (range core cutoff slices 24) answer → IfOk result (λ v. answer ≡ Ok v.bound) }
     ensures only_refusal { (answer : Answer) → IsVerdict code table (range core cutoff slices 24) answer → IfErr result (λ failure. IfRefused failure (λ fault. answer ≡ Err fault)) }
 {

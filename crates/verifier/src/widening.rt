@@ -1,4 +1,4 @@
-//! Spans where paths meet.
+//! Joins of intervals.
 
 ghost use Rattle.std.specs.Prelude.{◌≡◌, length};
 ghost use Rattle.verifier.specs.Frames.{WidensLocal, WidensLocals, WidensSpans};
@@ -6,7 +6,7 @@ ghost use Rattle.verifier.specs.Frames.{WidensLocal, WidensLocals, WidensSpans};
 use crate::locals::local_span;
 use interval_domain::{Span, hull};
 
-/// Widens each span to the least that holds it and the other at its place.
+/// Extends each interval to the smallest that also contains the other at its index.
 pub fn widen_spans(spans: &mut [Span], others: &[Span])
     requires { length spans.old ≡ length others.now }
     ensures { WidensSpans spans.old others.now spans.new }
@@ -16,7 +16,7 @@ pub fn widen_spans(spans: &mut [Span], others: &[Span])
     }
 }
 
-/// The span of a local where two paths meet: it has none where it has none on one of them.
+/// The join of a local's intervals on two paths: unset if it is unset on one of them.
 fn widened(local: Option<Span>, other: Option<Span>) -> Option<Span>
     ensures { WidensLocal local other result }
 {
@@ -26,7 +26,7 @@ fn widened(local: Option<Span>, other: Option<Span>) -> Option<Span>
     }
 }
 
-/// Widens each local, where those from a list's end on are unset.
+/// Joins the intervals of locals. Locals past the end of a list are unset.
 pub fn widen_locals(locals: &mut [Option<Span>], others: &[Option<Span>])
     ensures { WidensLocals locals.old others.now locals.new }
 {
