@@ -1,4 +1,4 @@
--- The pairs of a tile that act, listed in order with some that may not.
+-- Pairs of a tile that may interact: all that do, in order, and some that don't.
 use Rattle.std.specs.Prelude.{◌≡◌, ◌<◌, ◌≤◌, ◌++◌, ◌==◌, ℕ, Bool, is_some, List, [], filter, length, map, drop, slice_index, take}
 use Rattle.std.specs.Int.{bit_at}
 use Rattle.ring_box.specs.Acting.{Reach, acting_of}
@@ -9,46 +9,46 @@ use Rattle.cell_tiles.specs.Cells.{numbers_below}
 use Rattle.cell_tiles.specs.Tiles.{pair_of}
 use Rattle.cell_tiles.specs.declared.byte_lanes.ByteLanes.{ByteLanes}
 
--- two atoms of a frame act
+-- two atoms of a frame interact
 abbrev pub pair_acts : Reach → RingBox → List Place3 → ℕ × ℕ → Bool
 pair_acts d b frame p = is_some (acting_of d b (places_of frame p.0) (places_of frame p.1))
 
--- the pairs that act
+-- the interacting pairs of a list
 abbrev pub those_acting : Reach → RingBox → List Place3 → List (ℕ × ℕ) → List (ℕ × ℕ)
 those_acting d b frame ps = filter (pair_acts d b frame) ps
 
--- two of n atoms, the lower first
+-- p is a pair of two of n atoms, the lower first
 abbrev pub IsPairOf : ℕ → ℕ × ℕ → Type 0
 IsPairOf n p = (p.0 < p.1) × (p.1 < n)
 
--- the pairs from the number k on that act are those that are near, and then those from n on
+-- the interacting pairs from the number k on are those of `near`, followed by those from the number n on
 pub record AreNear (d : Reach) (b : RingBox) (frame : List Place3) (pairs : List (ℕ × ℕ)) (k : ℕ) (near : List (ℕ × ℕ)) (n : ℕ) : Type 0 where
   pub onward : k < n
   pub within : n ≤ length pairs
   pub acting : those_acting d b frame (drop k pairs) ≡ those_acting d b frame near ++ those_acting d b frame (drop n pairs)
 
--- the lanes of 64 whose bits are set, ascending
+-- the lanes below 64 whose bits are set, ascending
 unfoldable pub lanes_of : ℕ → List ℕ
 lanes_of bits = filter (λ k. bit_at bits k == 1) (numbers_below 64)
 
--- ---- marks: an atom, and the place of another among some that are named later
+-- ---- marks: an atom, and an index into a list of others that is resolved later
 
 abbrev pub mark : ℕ → ℕ → ℕ × ℕ
 mark a place = (a, place)
 
--- the pairs that are marked with these
+-- the pairs that these marks stand for
 abbrev pub named : List ℕ → List (ℕ × ℕ) → List (ℕ × ℕ)
 named others ms = map (λ m. pair_of m.0 (slice_index others m.1)) ms
 
--- a mark's place is one of n
+-- a mark's index is below n
 abbrev pub IsMarkBelow : ℕ → ℕ × ℕ → Type 0
 IsMarkBelow n m = m.1 < n
 
--- the lanes of a look-up that finds none
+-- the default entry, for a look-up that finds none
 abbrev pub no_byte : ByteLanes
 no_byte = record { lanes = []; count = 0 }
 
--- the first of these lanes are those of a byte whose bits are set
+-- the valid lanes are those of the byte's bits that are set, ascending
 pub record AreByteLanes (byte : ℕ) (of : ByteLanes) : Type 0 where
   pub long : length of.lanes ≡ 8
   pub few : of.count ≤ 8

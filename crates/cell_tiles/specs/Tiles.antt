@@ -1,14 +1,14 @@
--- Tiles: two neighbouring cells, or a cell with itself; and the pairs of atoms that lie in them.
+-- Tiles: two neighbouring cells, or a cell with itself; and the pairs of atoms in them.
 use Rattle.std.specs.Prelude.{ℕ, zero, suc, ◌==◌, ◌≡◌, ◌<◌, ◌≤◌, false, nat_lt, if◌then◌else◌, List, [], ◌++◌, length, map, filter, take, flat_map, slice_index, slice_index_or}
 use Rattle.ring_box.specs.declared.vectors.CellBits.{CellBits}
 use Rattle.ring_box.specs.declared.vectors.Place3.{Place3}
 use Rattle.cell_tiles.specs.Cells.{are_near, cells_of, members_of, numbers_below}
 
--- the tiles of a cell with the cells up to it: two cells, the lower number first
+-- the tiles of the cell d with the cells up to d, the lower number first
 abbrev pub tiles_with : CellBits → ℕ → List (ℕ × ℕ)
 tiles_with bits d = map (λ c. (c, d)) (filter (λ c. are_near bits c d) (numbers_below (suc d)))
 
--- no cell from c up to e, e left out, is near d
+-- no cell from c to before e is near d
 abbrev pub AreFar : CellBits → ℕ → ℕ → ℕ → Type 0
 AreFar bits d c e = (k : ℕ) → c ≤ k → k < e → are_near bits k d ≡ false
 
@@ -16,19 +16,19 @@ AreFar bits d c e = (k : ℕ) → c ≤ k → k < e → are_near bits k d ≡ fa
 abbrev pub tiles_of : CellBits → List (ℕ × ℕ)
 tiles_of bits = flat_map (tiles_with bits) (numbers_below (cells_of bits))
 
--- a pair is two atoms, the lower first
+-- the pair of two atoms, the lower first
 abbrev pub pair_of : ℕ → ℕ → ℕ × ℕ
 pair_of a b = if nat_lt a b then (a, b) else (b, a)
 
--- the pairs of an atom with others
+-- the pairs of an atom with each of the others
 abbrev pub pairs_with : ℕ → List ℕ → List (ℕ × ℕ)
 pairs_with a bs = map (pair_of a) bs
 
--- the pairs of an atom of the one list with one of the other
+-- the pairs of an atom of one list with an atom of the other, row by row
 abbrev pub pairs_between : List ℕ → List ℕ → List (ℕ × ℕ)
 pairs_between xs ys = flat_map (λ a. pairs_with a ys) xs
 
--- the pairs of the first m atoms of a list: of each with those before it
+-- the pairs among the first m atoms of a list: of each atom with those before it
 unfoldable pub pairs_among : List ℕ → ℕ → List (ℕ × ℕ)
 pairs_among xs zero = []
 pairs_among xs (suc m) = pairs_among xs m ++ pairs_with (slice_index xs m) (take m xs)
@@ -37,12 +37,12 @@ pairs_among xs (suc m) = pairs_among xs m ++ pairs_with (slice_index xs m) (take
 abbrev pub members_at : List (List ℕ) → ℕ → List ℕ
 members_at members c = slice_index_or members c []
 
--- the pairs of a tile, where `members` are the atoms of each cell
+-- the pairs of a tile, given the atoms of each cell
 abbrev pub pairs_in : List (List ℕ) → ℕ × ℕ → List (ℕ × ℕ)
 pairs_in members t =
     if t.0 == t.1 then pairs_among (members_at members t.0) (length (members_at members t.0))
     else pairs_between (members_at members t.0) (members_at members t.1)
 
--- the pairs of each tile for the atoms of a frame
+-- the pairs of each tile, for the atoms of a frame
 abbrev pub tile_pairs : CellBits → List Place3 → List (List (ℕ × ℕ))
 tile_pairs bits frame = map (pairs_in (members_of bits frame)) (tiles_of bits)

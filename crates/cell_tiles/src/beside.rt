@@ -1,5 +1,4 @@
-//! The upper halves of the places of the atoms of each cell, beside them: in blocks of sixteen, which are tested at
-//! once.
+//! The coarse coordinates of the atoms of each cell, in blocks of sixteen that are tested at once.
 
 ghost use Rattle.std.specs.Prelude.{◌≡◌, ℕ, ◌+◌, ◌*◌, ◌<◌, [], length, map, slice_index, slice_index_or, OnOk};
 ghost use Rattle.std.specs.List.{All};
@@ -11,7 +10,7 @@ use place_blocks::Block;
 use ring_box::Place3;
 use std::alloc::{AllocError, Allocator};
 
-// The block of these atoms of a frame, the first sixteen at most.
+// The block of the first sixteen of these atoms of a frame.
 fn block_of(atoms: &[u32], frame: &[Place3]) -> Block
     requires { All (λ a. a < length frame.now) atoms.now }
     ensures { (i : ℕ) → i < 16 → i < length atoms.now → IsLane result i (places_of frame.now (slice_index atoms.now i)) }
@@ -23,7 +22,7 @@ fn block_of(atoms: &[u32], frame: &[Place3]) -> Block
     Block::of(&places)
 }
 
-// The blocks of these atoms of a frame, in place of what was there.
+// Replaces `blocks` by the blocks of these atoms of a frame.
 fn lay_out<A: Allocator + Copy>(
     blocks: &mut Vec<Block, A>,
     atoms: &[u32],
@@ -39,7 +38,7 @@ fn lay_out<A: Allocator + Copy>(
     Ok(())
 }
 
-/// The blocks of the atoms of each cell, in place of what was there. `AllocError` where memory is refused.
+/// Replaces `blocks` by the blocks of the atoms of each cell. `AllocError` if an allocation fails.
 pub(crate) fn lay_out_all<A: Allocator + Copy>(
     blocks: &mut Vec<Vec<Block, A>, A>,
     members: &[Vec<u32, A>],

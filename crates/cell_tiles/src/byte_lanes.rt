@@ -1,19 +1,18 @@
-//! The lanes of each byte whose bits are set, by a table, so that no walk over its bits has an end that a processor
-//! doesn't foresee.
+//! A table of the set bits of each byte. A look-up needs no loop over bits, whose end a processor would mispredict.
 
 ghost use Rattle.std.specs.Prelude.{◌≡◌, ◌<◌, ℕ, slice_index_or};
 ghost use Rattle.cell_tiles.specs.Near.{AreByteLanes, no_byte};
 
 use crate::lanes::next_lane;
 
-/// The lanes of a byte whose bits are set, ascending: the first `count` of eight places.
+/// The set bits of a byte as lanes, ascending: the first `count` of eight entries are valid.
 #[derive(Clone, Copy)]
 pub(crate) struct ByteLanes {
     pub lanes: [u8; 8],
     pub count: usize,
 }
 
-/// The lanes of a byte, by a walk over its bits.
+/// The lanes of a byte, by a loop over its bits.
 fn lanes_of_byte(byte: u64) -> ByteLanes
     requires { byte < 256 }
     ensures { AreByteLanes byte result }
@@ -30,7 +29,7 @@ fn lanes_of_byte(byte: u64) -> ByteLanes
     ByteLanes { lanes, count }
 }
 
-/// The lanes of all bytes.
+/// The lanes of all 256 bytes.
 #[derive(Drop)]
 pub(crate) struct ByteTable {
     bytes: [ByteLanes; 256],
@@ -38,7 +37,7 @@ pub(crate) struct ByteTable {
 }
 
 impl ByteTable {
-    /// The table.
+    /// The table, filled.
     pub(crate) fn new() -> ByteTable {
         let none = ByteLanes {
             lanes: [0; 8],

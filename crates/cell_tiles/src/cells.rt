@@ -1,4 +1,11 @@
-//! The atoms of each cell, and beside them the upper halves of their places.
+//! The atoms of each cell, and blocks of their coarse coordinates.
+//!
+//! Each cell has its own list of atoms and its own blocks, which keep their memory from step to step. Filling the cells
+//! may allocate; listing pairs never does, so workers may share filled cells.
+//!
+//! In a tile of two cells, a call that begins with a row and whose second cell has at most 128 atoms uses gathered
+//! atoms (`gathered`). All other calls go row by row over the cell's own blocks, where a row may be cut, so that a cell
+//! may have any number of atoms.
 
 ghost use Rattle.std.specs.Prelude.{◌≡◌, ◌+◌, ◌^◌, ◌<◌, ◌≤◌, [], ◌∷◌, ◌++◌, drop, length, map, replicate, slice_get, slice_index_or, slice_set, Some, IfOk, OnOk, OnErr};
 ghost use Rattle.std.specs.List.{All};
@@ -18,7 +25,7 @@ use ring_box::Place3;
 use std::alloc::{AllocError, Allocator};
 use std::marker::Model;
 
-/// The atoms of each cell of a grid, ascending, and beside them the upper halves of their places in blocks.
+/// The atoms of each cell of a grid, ascending, and blocks of their coarse coordinates.
 #[derive(Drop)]
 pub struct Cells<A: Allocator + Copy> {
     grid: Grid,
@@ -38,7 +45,7 @@ impl<A: Allocator + Copy> Model for Cells<A> {
     ghost invariant = { λ c. (length c.members.items ≡ cells_of c.grid.bits) × All (λ m. length m.items ≤ 65536) c.members.items × (length c.blocks.items ≡ cells_of c.grid.bits) };
 }
 
-// Empties each cell, and keeps its memory.
+// Empties each cell and keeps its memory.
 fn clear_all<A: Allocator + Copy>(members: &mut Vec<Vec<u32, A>, A>)
     ensures { map (λ m. m.items) members.new.items ≡ replicate (length members.old.items) [] }
 {
@@ -47,7 +54,7 @@ fn clear_all<A: Allocator + Copy>(members: &mut Vec<Vec<u32, A>, A>)
     }
 }
 
-// Puts an atom into a cell, behind those that are there.
+// Appends an atom to a cell.
 fn put<A: Allocator + Copy>(
     members: &mut Vec<Vec<u32, A>, A>,
     cell: u32,
@@ -82,7 +89,7 @@ fn put_all<A: Allocator + Copy>(
     Ok(())
 }
 
-// For each cell a list of nothing.
+// An empty list for each cell.
 fn empty_cells<T: Drop, A: Allocator + Copy>(
     alloc: A,
     grid: &Grid,
@@ -97,7 +104,7 @@ fn empty_cells<T: Drop, A: Allocator + Copy>(
 }
 
 impl<A: Allocator + Copy> Cells<A> {
-    /// The cells of this grid, all empty. It answers `AllocError` where memory is refused.
+    /// The cells of this grid, all empty. `AllocError` if an allocation fails.
     pub fn new(alloc: A, grid: Grid) -> Result<Cells<A>, AllocError>
         ensures bits { IfOk result (λ c. c.bits ≡ grid.bits) }
         ensures empty { IfOk result (λ c. c.members ≡ replicate (cells_of grid.bits) []) }
@@ -111,15 +118,16 @@ impl<A: Allocator + Copy> Cells<A> {
         })
     }
 
-    /// Puts each atom of a frame, of at most 65,536, into its cell in place of what the cells held, and the upper
-    /// halves of its places beside it. It keeps the memory that the cells have, and answers `AllocError` where more is
-    /// refused: the cells then hold some of the atoms, and can be filled again.
+    /// Replaces the contents of the cells by the atoms of a frame, of at most 65,536, and lays out their coarse
+    /// coordinates. The cells keep their memory.
+    ///
+    /// `AllocError` if an allocation fails: the cells then hold some of the atoms, and can be filled again.
     pub fn fill(&mut self, frame: &[Place3]) -> Result<(), AllocError>
         requires { length frame.now ≤ 65536 }
         ensures bits { self.new.bits ≡ self.old.bits }
         ensures ok { OnOk result (self.new.members ≡ members_of self.old.bits frame.now) }
         ensures beside { OnOk result (AreBeside frame.now self.new) }
-        // What the frame's type says of each atom, at hand for all of them.
+        // Known of each atom by its type, and stated here for all of them.
         ensures on_ring { OnOk result (All ArePlaces frame.now) }
     {
         clear_all(&mut self.members);
@@ -148,7 +156,7 @@ impl<A: Allocator + Copy> Cells<A> {
         }
     }
 
-    /// How many pairs of atoms a tile has.
+    /// The number of pairs of atoms in a tile.
     pub fn pairs(&self, tile: Tile) -> u64
         ensures { result ≡ length (pairs_in self.now.members (tile.first, tile.second)) }
     {
@@ -160,7 +168,7 @@ impl<A: Allocator + Copy> Cells<A> {
         }
     }
 
-    /// A pair of atoms of a tile, by its number in the tile. The caller's condition: there is such a pair.
+    /// The pair of atoms with the number `k` in a tile. The caller ensures that there is one.
     pub fn pair(&self, tile: Tile, k: u64) -> AtomPair
         requires { k < length (pairs_in self.now.members (tile.first, tile.second)) }
         ensures { slice_get (pairs_in self.now.members (tile.first, tile.second)) k ≡ Some (result.low, result.high) }
@@ -173,7 +181,7 @@ impl<A: Allocator + Copy> Cells<A> {
         }
     }
 
-    // The rows of a tile in order, from the pair with the number `k` on.
+    // The rows of a tile in order, from the pair `k` on.
     fn rows_from(&self, tile: Tile, k: u64) -> TileRows<'_>
         requires { k ≤ length (pairs_in self.now.members (tile.first, tile.second)) }
         ensures pairs { result.pairs ≡ drop k (pairs_in self.now.members (tile.first, tile.second)) }
@@ -189,7 +197,7 @@ impl<A: Allocator + Copy> Cells<A> {
     }
 }
 
-// ---- pairs that act
+// ---- pairs that may interact
 
 impl<A: Allocator + Copy> Cells<A> {
     ghost use Rattle.std.specs.Prelude.{ℕ, ◌≡◌, ◌≢◌, ◌+◌, ◌*◌, ◌<◌, ◌≤◌, ◌++◌, IfSome, drop, length, take, IsTrue, None};
@@ -201,7 +209,7 @@ impl<A: Allocator + Copy> Cells<A> {
     ghost use Rattle.place_blocks.specs.Blocks.{AreInSpan};
     ghost use Rattle.ring_box.specs.declared.vectors.Place3.{Place3};
 
-    // Whether no atom of a cell acts with this one, as far as the ends of the cell tell.
+    // Whether the ends of a cell show that none of its atoms interacts with this atom.
     fn is_cell_far(&self, frame: &FrameInBox, atom: u32, cell: u32) -> bool
         requires cell { cell < cells_of self.now.bits }
         requires atom { atom < length frame.now.places.now }
@@ -217,8 +225,8 @@ impl<A: Allocator + Copy> Cells<A> {
         )
     }
 
-    // Lists the pairs of a row of a tile, or of what is left of one, that may act, until there might be no room. It
-    // answers how many of the pairs it has come past.
+    // Appends the pairs of a row of a tile, or of the rest of one, that may interact, as long as there is room. Returns
+    // the number of pairs of the row that were examined.
     fn list_row(
         &self,
         frame: &FrameInBox,
@@ -255,8 +263,8 @@ impl<A: Allocator + Copy> Cells<A> {
         )
     }
 
-    // Lists the pairs of a tile that act, from that with the number `k` on, row by row, in place of what `near` held.
-    // It answers the number of the pair with which to go on.
+    // Replaces `near` by the pairs of a tile that may interact, from the pair `k` on, row by row. Returns the number of
+    // the pair with which to continue.
     fn near_by_rows(&self, frame: &FrameInBox, tile: Tile, k: u64, near: &mut PairList) -> u64
         requires k { k < length (pairs_in self.now.members (tile.first, tile.second)) }
         requires cell { tile.second < cells_of self.now.bits }
@@ -279,7 +287,7 @@ impl<A: Allocator + Copy> Cells<A> {
         next
     }
 
-    // The span of the upper halves of the places in a cell.
+    // The span of the coarse coordinates in a cell.
     fn span(&self, cell: u32) -> CellSpan
         requires { cell < cells_of self.now.bits }
         ensures { (p : Place3) → ArePlaces p → cell_number self.now.bits p ≡ cell → AreInSpan result p }
@@ -287,7 +295,8 @@ impl<A: Allocator + Copy> Cells<A> {
         CellSpan::of(self.grid.bits, self.grid.numbers(cell))
     }
 
-    // The row of two cells that a pair begins, where the second cell has at most 128 atoms.
+    // The row of a tile of two cells that begins with the pair `k`; `None` if `k` begins no row, if the tile is one
+    // cell, or if the second cell has more than 128 atoms.
     fn short_row(&self, tile: Tile, k: u64) -> Option<usize>
         requires { k < length (pairs_in self.now.members (tile.first, tile.second)) }
         ensures two { IfSome result (λ row. tile.first ≢ tile.second) }
@@ -306,9 +315,9 @@ impl<A: Allocator + Copy> Cells<A> {
         }
     }
 
-    // Lists the pairs of a tile of two cells, of which the second has at most 128 atoms, from the beginning of a row
-    // on, in place of what `near` held: of those atoms of the second that may act with some atom of the first, and
-    // those of the first that may act with some of the second. It answers the number of the pair with which to go on.
+    // Replaces `near` by the pairs of a tile of two cells that may interact, from the beginning of a row on. Only atoms
+    // of the second cell that may interact with some atom of the first are considered, and conversely. The second cell
+    // has at most 128 atoms. Returns the number of the pair with which to continue.
     fn near_between(&self, frame: &FrameInBox, tile: Tile, row: usize, near: &mut NearPairs) -> u64
         requires row { row < length (members_at self.now.members tile.first) }
         requires few { length (members_at self.now.members tile.second) ≤ 128 }
@@ -341,9 +350,9 @@ impl<A: Allocator + Copy> Cells<A> {
         next as u64 * others.len() as u64
     }
 
-    /// Lists the pairs of a tile that act, from that with the number `k` on, in place of what `near` held: at most
-    /// 128 of them, in order, with some that may not act. It answers the number of the pair with which to go on. The
-    /// caller's condition: the cells hold the atoms of the frame, and there is such a pair.
+    /// Replaces `near` by the pairs of a tile that interact, from the pair `k` on, in order, with some that may not: at
+    /// most 128 in all. Returns the number of the pair with which to continue. The caller ensures that the cells hold
+    /// the atoms of the frame, and that there is a pair `k`.
     pub fn near_from(&self, frame: &FrameInBox, tile: Tile, k: u64, near: &mut NearPairs) -> u64
         requires k { k < length (pairs_in self.now.members (tile.first, tile.second)) }
         requires cell { tile.second < cells_of self.now.bits }

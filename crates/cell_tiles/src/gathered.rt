@@ -1,5 +1,10 @@
-//! The atoms of a cell that may act with some atom of another, gathered from the cell's blocks into blocks of their
-//! own.
+//! Gathered atoms: those atoms of a cell that may interact with some atom of another cell, copied from the cell's
+//! blocks into contiguous blocks.
+//!
+//! In a tile of two cells, the atoms of the second cell are gathered once per call, and the atoms of the first that may
+//! reach the second are found sixteen at once. So a box whose cells are much longer than the cutoff costs hardly more
+//! than a box whose cells fit the cutoff. A row only begins if the list has room for all gathered atoms, so such a call
+//! ends at the end of a row.
 
 ghost use Rattle.std.specs.Prelude.{◌≡◌, ℕ, ◌+◌, ◌^◌, ◌<◌, ◌≤◌, ◌++◌, Bool, true, List, length, map, slice_index};
 ghost use Rattle.std.specs.List.{All};
@@ -15,7 +20,7 @@ use crate::near::FrameInBox;
 use place_blocks::{Block, CellSpan};
 use std::marker::Model;
 
-/// At most 128 atoms, in order, and the upper halves of their places in blocks of sixteen.
+/// At most 128 atoms, in order, and their coarse coordinates in blocks of sixteen.
 #[derive(Drop)]
 pub(crate) struct Gathered {
     atoms: [u32; 128],
@@ -48,7 +53,7 @@ impl Gathered {
         }
     }
 
-    /// The atoms.
+    /// The gathered atoms, at most 128.
     #[inline(always)]
     pub(crate) fn atoms(&self) -> &[u32]
         ensures value { result.now ≡ self.now.atoms }
@@ -57,7 +62,7 @@ impl Gathered {
         &self.atoms[..self.count]
     }
 
-    /// The blocks in which the atoms have the first lanes.
+    /// The blocks; the atoms have their first lanes.
     #[inline(always)]
     pub(crate) fn blocks(&self) -> &[Block]
         ensures value { result.now ≡ self.now.blocks }
@@ -66,7 +71,7 @@ impl Gathered {
         &self.blocks
     }
 
-    // Adds those of these atoms whose bits are set. The atoms have the first lanes of this block.
+    // Appends those of these atoms whose bits are set. The atoms have the first lanes of this block.
     #[inline(always)]
     fn add_marked(&mut self, block: &Block, atoms: &[u32], marked: u64)
         requires few { length atoms.now ≤ 16 }
@@ -88,8 +93,8 @@ impl Gathered {
         self.count = count;
     }
 
-    /// Gathers those of at most 128 atoms that may act with some atom in this span, in place of what was gathered
-    /// before. These blocks stand beside the atoms.
+    /// Replaces the gathered atoms by those of at most 128 atoms that may interact with some atom in this span.
+    /// `blocks` has the coarse coordinates of `atoms`.
     pub(crate) fn gather(
         &mut self,
         frame: &FrameInBox,

@@ -1,4 +1,4 @@
-//! How a box is cut into cells, and the number of each cell.
+//! The division of a box into cells, and the numbering of the cells.
 
 ghost use Rattle.std.specs.Prelude.{◌≡◌, ◌^◌, ◌<◌, ◌≤◌, false};
 ghost use Rattle.cell_tiles.specs.Cells.{IsBits, IsGrid, are_near, cell_number, cells_of, numbers_of};
@@ -8,7 +8,7 @@ ghost use Rattle.ring_box.specs.Places.{ArePlaces};
 
 use ring_box::{CellBits, CellNumbers, Place3, are_near_cells, cell};
 
-/// How a box is cut into cells: each side into 2^b cells, `b` from 1 to 4.
+/// The division of a box into cells: each side into 2^b cells, `b` from 1 to 4.
 #[derive(Clone, Copy, PartialEq, Eq, Debug)]
 pub struct Grid {
     /// The `b` of each side.
@@ -16,7 +16,7 @@ pub struct Grid {
     pub ghost in_range: { IsGrid bits },
 }
 
-// How many cells a side has.
+// The number of cells along a side.
 fn along(b: u32) -> u32
     requires { IsBits b }
     ensures value { result ≡ 2 ^ b }
@@ -27,7 +27,7 @@ fn along(b: u32) -> u32
 }
 
 impl Grid {
-    /// The grid with these bits, each from 1 to 4, as `RingBox::cell_bits` finds them.
+    /// The grid with these bits, each from 1 to 4, as `RingBox::cell_bits` returns them.
     pub fn new(bits: CellBits) -> Grid
         requires { IsGrid bits }
         ensures { result.bits ≡ bits }
@@ -35,7 +35,7 @@ impl Grid {
         Grid { bits }
     }
 
-    /// How many cells there are, at most 4,096.
+    /// The number of cells, at most 4,096.
     pub fn cells(&self) -> u32
         ensures value { result ≡ cells_of self.now.bits }
         ensures bound { result ≤ 4096 }
@@ -43,7 +43,7 @@ impl Grid {
         along(self.bits.x) * along(self.bits.y) * along(self.bits.z)
     }
 
-    /// The number of the cell in which an atom lies.
+    /// The number of the cell that contains an atom at `p`.
     pub fn cell_of(&self, p: Place3) -> u32
         ensures value { result ≡ cell_number self.now.bits p }
         ensures bound { result < cells_of self.now.bits }
@@ -54,7 +54,7 @@ impl Grid {
         (i * along(y) + j) * along(z) + k
     }
 
-    // The numbers of a cell along the sides.
+    // The indices of a cell along the sides.
     pub(crate) fn numbers(&self, c: u32) -> CellNumbers
         requires { c < cells_of self.now.bits }
         ensures value { result ≡ numbers_of self.now.bits c }
@@ -69,7 +69,7 @@ impl Grid {
         }
     }
 
-    // Whether two cells are one, or neighbours.
+    // Whether two cells are equal or neighbours.
     pub(crate) fn are_near(&self, c: u32, d: u32) -> bool
         requires c { c < cells_of self.now.bits }
         requires d { d < cells_of self.now.bits }
@@ -81,8 +81,8 @@ impl Grid {
         are_near_cells(x, c.x, d.x) && are_near_cells(y, c.y, d.y) && are_near_cells(z, c.z, d.z)
     }
 
-    // The next cell that may be near `d`, after a cell `c` that isn't. A slab and a row with none that is near are
-    // passed over at once.
+    // The next cell after `c` that may be near `d`; `c` itself isn't. A slab or a row without any cell near `d` is
+    // skipped as a whole.
     pub(crate) fn past_far(&self, c: u32, d: u32) -> u32
         requires order { c ≤ d }
         requires d { d < cells_of self.now.bits }

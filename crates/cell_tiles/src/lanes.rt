@@ -1,4 +1,4 @@
-//! Masks of up to 64 bits: one for each lane of a block, or of up to four.
+//! Masks of up to 64 bits, one bit for each lane of up to four blocks.
 
 ghost use Rattle.std.specs.Prelude.{◌≡◌, ℕ, ◌+◌, ◌*◌, ◌/◌, ◌%◌, ◌^◌, ◌<◌, ◌≤◌, ◌∷◌, length};
 ghost use Rattle.std.specs.Int.{bit_at};
@@ -10,7 +10,7 @@ ghost use Rattle.cell_tiles.specs.Near.{lanes_of};
 
 use place_blocks::{Block, CoarseReach, UpperHalves};
 
-/// The lowest lane whose bit is set, and the bits of the others.
+/// The lowest lane whose bit is set, and the mask without that bit.
 #[inline(always)]
 pub(crate) fn next_lane(bits: u64) -> (usize, u64)
     requires some { 0 < bits }
@@ -24,7 +24,7 @@ pub(crate) fn next_lane(bits: u64) -> (usize, u64)
     (bits.trailing_zeros() as usize, bits & (bits - 1))
 }
 
-/// The bits of `count` lanes from the lane `first` on.
+/// The bits of `count` lanes from the lane `first` on, shifted to the lowest lanes.
 #[inline(always)]
 pub(crate) fn bits_of(bits: u64, first: usize, count: usize) -> u64
     requires some { 0 < count }
@@ -36,8 +36,8 @@ pub(crate) fn bits_of(bits: u64, first: usize, count: usize) -> u64
     (bits >> first) & (u64::MAX >> (64 - count))
 }
 
-/// A bit for each lane of up to four blocks, those of the first the lowest, whose atom may act with one at these upper
-/// halves: one without doesn't.
+/// A mask with a bit for each lane of up to four blocks, the first block lowest, whose atom may interact with an atom
+/// at these coarse coordinates. An atom whose bit is 0 doesn't.
 #[inline(always)]
 pub(crate) fn near_lanes(coarse: &CoarseReach, blocks: &[Block], halves: UpperHalves) -> u64
     requires { length blocks.now ≤ 4 }

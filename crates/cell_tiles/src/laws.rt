@@ -1,4 +1,4 @@
-//! Law of the tiles: their sums are those over all pairs of close atoms.
+//! Laws of the tiles: each pair of close atoms is in exactly one tile.
 
 ghost use Rattle.std.specs.Prelude.{List};
 ghost use Rattle.std.specs.List.{All};
@@ -8,14 +8,13 @@ ghost use Rattle.ring_box.specs.declared.vectors.Place3.{Place3};
 ghost use Rattle.cell_tiles.specs.Cells.{IsGrid};
 ghost use Rattle.cell_tiles.specs.Cover.{Covers, SumsAsAll};
 
-/// Each pair of atoms that lie in one cell or in neighbouring cells stands in one tile, once, and no other pair stands
-/// in any.
+/// Law: each pair of atoms in one cell or in neighbouring cells is in one tile, once, and no other pair is in any.
 pub fn each_pair_once()
     ensures { (bits : CellBits) (frame : List Place3) → IsGrid bits → All ArePlaces frame → Covers bits frame }
 {}
 
-/// Sum over the tiles: equal to the sum over all pairs of atoms, for each amount that is 0 for atoms that are not
-/// close.
+/// Law: the sum over the tiles is the sum over all pairs of atoms, for each amount that is 0 for pairs that are neither
+/// in one cell nor in neighbouring cells.
 pub fn sums_as_all()
     ensures { (bits : CellBits) (frame : List Place3) → IsGrid bits → All ArePlaces frame → SumsAsAll bits frame }
 {}

@@ -1,5 +1,8 @@
-//! Cells of a periodic box, and tiles of them: each pair of atoms that lie in one cell or in neighbouring cells is in
-//! one tile, once.
+//! Cell lists of a periodic box: atoms in cells, and tiles of neighbouring cells, which contain each pair of atoms in
+//! one cell or in neighbouring cells exactly once.
+//!
+//! The crate knows positions, and neither forces nor workers; the engine joins it with the pool. It lists the pairs of
+//! a tile that may interact; an exact test of each listed pair comes later.
 #![tactic(auto)]
 
 mod beside;

@@ -1,5 +1,9 @@
-//! A list of pairs, and the pairs of an atom with others: those that may act, as far as the upper halves of their
-//! places tell, are listed.
+//! A list of pairs, and the test of an atom with a row of others: it lists the pairs that the coarse test doesn't rule
+//! out.
+//!
+//! The masks of up to four blocks are joined, so that 64 lanes are walked at once: a processor mispredicts the end of a
+//! walk, and with one walk for each block an interacting pair costs 4 percent more. A row is cut if the list might have
+//! no room for its next 64 lanes.
 
 ghost use Rattle.std.specs.Prelude.{◌≡◌, ◌+◌, ◌*◌, ◌^◌, ◌<◌, ◌≤◌, ◌++◌, ℕ, length, map, slice_index, take};
 ghost use Rattle.std.specs.List.{All};
@@ -16,7 +20,7 @@ use crate::pairs::{AtomPair, in_order};
 use place_blocks::{Block, UpperHalves};
 use std::marker::Model;
 
-/// At most 128 pairs of atoms, in order. A contract sees the list of them.
+/// At most 128 pairs of atoms, in order. Contracts see the list of them.
 #[derive(Drop)]
 pub(crate) struct PairList {
     pairs: [AtomPair; 128],
@@ -36,7 +40,7 @@ impl Model for PairList {
 impl PairList {
     ghost use Rattle.std.specs.Prelude.{[]};
 
-    /// No pairs.
+    /// An empty list.
     pub(crate) fn new() -> PairList
         ensures { result ≡ [] }
     {
@@ -46,7 +50,7 @@ impl PairList {
         }
     }
 
-    /// The pairs.
+    /// The pairs, in order.
     pub(crate) fn as_slice(&self) -> &[AtomPair]
         ensures value { map (λ p. (p.low, p.high)) result.now ≡ self.now }
         ensures few { length result.now ≤ 128 }
@@ -54,14 +58,14 @@ impl PairList {
         &self.pairs[..self.count]
     }
 
-    /// Lets go of all pairs.
+    /// Empties the list.
     pub(crate) fn clear(&mut self)
         ensures { self.new ≡ [] }
     {
         self.count = 0;
     }
 
-    /// How many pairs there are.
+    /// The number of pairs, at most 128.
     #[inline(always)]
     pub(crate) fn len(&self) -> usize
         ensures value { result ≡ length self.now }
@@ -70,7 +74,7 @@ impl PairList {
         self.as_slice().len()
     }
 
-    /// The pairs of these marks, in place of what was listed: each mark's place is one among the others.
+    /// Replaces the list by the pairs that the marks stand for; a mark's second number indexes `others`.
     pub(crate) fn name(&mut self, marks: &Marks, others: &[u32])
         requires { All (IsMarkBelow (length others.now)) marks.now }
         ensures { self.new ≡ named others.now marks.now }
@@ -83,7 +87,7 @@ impl PairList {
         self.count = count;
     }
 
-    /// Adds the pairs of an atom with those of up to 64 others whose bits are set.
+    /// Appends the pairs of an atom with those of up to 64 others whose bits are set.
     #[inline(always)]
     fn add_marked(&mut self, atom: u32, others: &[u32], marked: u64)
         requires few { length others.now ≤ 64 }
@@ -102,8 +106,8 @@ impl PairList {
         self.count = count;
     }
 
-    /// Adds the pairs of an atom with others that may act. The others have the lanes of these blocks, up to four, from
-    /// the lane `first` on.
+    /// Appends the pairs of an atom with those of the others that may interact with it. The others have the lanes of up
+    /// to four blocks, from the lane `first` on.
     #[inline(always)]
     fn add_blocks(
         &mut self,
@@ -130,9 +134,9 @@ impl PairList {
         self.add_marked(atom, others, bits_of(near, first, others.len()));
     }
 
-    /// Adds the pairs of an atom with others that may act, up to four blocks at once, until there might be no room. It
-    /// answers how many of the pairs it has come past. The others have the lanes of these blocks from the lane `first`
-    /// on.
+    /// Appends the pairs of an atom with those of the others that may interact with it, up to four blocks at once, as
+    /// long as there is room. Returns the number of others that were examined. The others have the lanes of these
+    /// blocks, from the lane `first` on.
     pub(crate) fn add_row(
         &mut self,
         frame: &FrameInBox,

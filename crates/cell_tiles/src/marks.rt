@@ -1,4 +1,9 @@
-//! Pairs that may act, marked by an atom and the place of another among those that are gathered, and named later.
+//! Marks: pairs that may interact, written as an atom and an index into the gathered atoms, and resolved to pairs
+//! later.
+//!
+//! Each byte of a mask is looked up in a table of its set bits (`ByteTable`). Eight indices are written at once, each
+//! beside the row's atom, and only as many are counted as bits are set. One later pass makes pairs of all marks. So no
+//! row has a loop whose end a processor mispredicts; if cells fit the cutoff, a row has only about three pairs.
 
 ghost use Rattle.std.specs.Prelude.{◌≡◌, ℕ, ◌+◌, ◌%◌, ◌^◌, ◌<◌, ◌≤◌, ◌++◌, length, map, replicate, slice_index_or};
 ghost use Rattle.std.specs.Simd.Lanes.{put_chunk};
@@ -17,8 +22,8 @@ use place_blocks::{Block, CellSpan, UpperHalves};
 use std::marker::Model;
 use std::simd::prelude::*;
 
-/// At most 128 marks, in order: each an atom, and the place of another among some that are named later. A contract
-/// sees the list of them. Eight are written at once, and those counted that are meant, so that there is room for 136.
+/// At most 128 marks, in order: each an atom, and an index into a list of others. Contracts see the list of them.
+/// Writes go eight at a time and only `count` marks are valid; hence 136 slots for 128 marks.
 #[derive(Drop)]
 pub(crate) struct Marks {
     atoms: [u32; 136],
@@ -39,7 +44,7 @@ impl Model for Marks {
     ghost invariant = { λ m. m.count ≤ 128 };
 }
 
-// Writes an atom eight times, from one place of the list on.
+// Writes an atom eight times, from the slot `at` on.
 #[inline(always)]
 fn put_atom(atoms: &mut [u32], at: usize, atom: u32)
     requires { at + 8 ≤ length atoms.old }
@@ -48,7 +53,7 @@ fn put_atom(atoms: &mut [u32], at: usize, atom: u32)
     u32x8::splat(atom).copy_to_slice(&mut atoms[at..]);
 }
 
-// Writes eight lanes as places from the first on, from one place of the list on.
+// Writes eight lanes, each plus `first`, as indices, from the slot `at` on.
 #[inline(always)]
 fn put_places(places: &mut [u8], at: usize, first: u8, lanes: [u8; 8])
     requires { at + 8 ≤ length places.old }
@@ -73,14 +78,14 @@ impl Marks {
         }
     }
 
-    /// Lets go of all marks.
+    /// Empties the list.
     pub(crate) fn clear(&mut self)
         ensures { self.new ≡ [] }
     {
         self.count = 0;
     }
 
-    /// How many marks there are.
+    /// The number of marks, at most 128.
     #[inline(always)]
     pub(crate) fn len(&self) -> usize
         ensures value { result ≡ length self.now }
@@ -89,7 +94,7 @@ impl Marks {
         self.count
     }
 
-    /// The mark with this number.
+    /// The mark with the number `e`: its atom and its index.
     #[inline(always)]
     pub(crate) fn at(&self, e: usize) -> (u32, usize)
         requires { e < length self.now }
@@ -99,7 +104,7 @@ impl Marks {
         (atoms[e], places[e] as usize)
     }
 
-    /// Marks an atom with those of eight places from the first on whose bits are set in a byte.
+    /// Marks an atom with those of the eight indices from `first` on whose bits are set in a byte.
     #[inline(always)]
     fn mark_byte(&mut self, atom: u32, first: u8, byte: usize)
         requires byte { byte < 256 }
@@ -113,7 +118,7 @@ impl Marks {
         self.count += lanes.count;
     }
 
-    /// Marks an atom with those of sixteen places from the first on whose bits are set.
+    /// Marks an atom with those of the sixteen indices from `first` on whose bits are set.
     #[inline(always)]
     fn mark_block(&mut self, atom: u32, first: u8, bits: u64)
         requires bits { bits < 2 ^ 16 }
@@ -126,7 +131,7 @@ impl Marks {
     }
 }
 
-// ---- rows of pairs with atoms that are gathered
+// ---- rows of pairs with gathered atoms
 
 impl Marks {
     ghost use Rattle.std.specs.Prelude.{◌-◌, [], drop, take, slice_index};
@@ -135,7 +140,7 @@ impl Marks {
     ghost use Rattle.cell_tiles.specs.Cells.{AreBlocks, AreLanes};
     ghost use Rattle.cell_tiles.specs.Tiles.{pairs_between};
 
-    /// Marks an atom at these upper halves with those of the gathered atoms that it may act with.
+    /// Marks an atom at these coarse coordinates with those of the gathered atoms that may interact with it.
     #[inline(always)]
     fn mark_row(&mut self, frame: &FrameInBox, atom: u32, halves: UpperHalves, gathered: &Gathered)
         requires room { length self.old + length gathered.now.atoms ≤ 128 }
@@ -158,9 +163,9 @@ impl Marks {
             seen = end;
         }
     }
-    /// Marks the pairs that may act of those of up to sixteen atoms whose bits are set with all gathered ones, row by
-    /// row, until there might be no room for a row. It answers how many of the atoms it has come past. The atoms have
-    /// the lanes of a block from the lane `first` on.
+    /// Marks pairs that may interact, of the up to sixteen atoms whose bits are set with all gathered atoms, row by
+    /// row, as long as there is room for a row. Returns the number of atoms that were examined. The atoms have the
+    /// lanes of a block, from the lane `first` on.
     #[inline(always)]
     fn mark_rows(
         &mut self,
@@ -200,9 +205,9 @@ impl Marks {
         atoms.len()
     }
 
-    /// Marks the pairs that may act of these atoms from the number `from` on with all gathered ones, row by row, until
-    /// there might be no room for a row. It answers the number of the atom to go on with. The blocks stand beside the
-    /// atoms, and the gathered ones lie in the span: so sixteen rows at once are seen to be far.
+    /// Marks pairs that may interact, of these atoms from the number `from` on with all gathered atoms, row by row, as
+    /// long as there is room for a row. Returns the number of the atom with which to continue. `blocks` has the coarse
+    /// coordinates of `atoms`, and the gathered atoms are in the span, so that sixteen rows are ruled out by one test.
     pub(crate) fn mark_cell(
         &mut self,
         frame: &FrameInBox,

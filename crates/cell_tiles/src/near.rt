@@ -1,4 +1,7 @@
-//! Pairs that may act.
+//! Pairs of a frame that may interact.
+//!
+//! The list misses no interacting pair (`AreNear`); that it has few others only matters for speed. A row may be tested
+//! from either atom, since the interaction of two atoms is symmetric (`idle_turned`, proved in `ring_box`).
 
 ghost use Rattle.std.specs.Prelude.{◌≡◌, ◌≤◌, length, map};
 ghost use Rattle.std.specs.List.{All};
@@ -13,25 +16,25 @@ use place_blocks::CoarseReach;
 use ring_box::{Place3, Reach, RingBox};
 use std::marker::Model;
 
-/// The atoms of a frame at their places in a box, and how far forces reach in it.
+/// The positions of a frame's atoms in a box, and the reach of the pair force.
 #[derive(Clone, Copy)]
 pub struct FrameInBox<'a> {
     pub ring: &'a RingBox,
     pub reach: &'a Reach,
-    /// What `CoarseReach::new` answers for them.
+    /// The result of `CoarseReach::new` for this box and this reach.
     pub coarse: CoarseReach,
     pub places: &'a [Place3],
     pub ghost on_ring: { All ArePlaces places.now },
     pub ghost is_coarse: { ∥ IsCoarseReach reach.now ring.now coarse ∥₁ },
 }
 
-/// At most 128 pairs of atoms, in order. A contract sees the list of them.
+/// At most 128 pairs of atoms, in order, and work space for listing them. Contracts see the list of pairs.
 #[derive(Drop)]
 pub struct NearPairs {
     pub(crate) list: PairList,
-    // where the atoms of a cell are gathered that may act with some of another
+    // atoms of a cell that may interact with some atom of another cell
     pub(crate) gathered: Gathered,
-    // and the pairs of some with these, until they are named
+    // marks of pairs with gathered atoms
     pub(crate) marks: Marks,
 }
 
@@ -46,7 +49,7 @@ impl Model for NearPairs {
 impl NearPairs {
     ghost use Rattle.std.specs.Prelude.{[]};
 
-    /// No pairs.
+    /// An empty list.
     pub fn new() -> NearPairs
         ensures { result ≡ [] }
     {
@@ -57,7 +60,7 @@ impl NearPairs {
         }
     }
 
-    /// The pairs.
+    /// The pairs, in order.
     pub fn as_slice(&self) -> &[AtomPair]
         ensures value { map (λ p. (p.low, p.high)) result.now ≡ self.now }
         ensures few { length result.now ≤ 128 }

@@ -1,4 +1,8 @@
-//! Pairs of atoms of a cell, or of two cells, by number.
+//! Pairs of atoms of a cell, or of two cells, and their numbers in a tile.
+//!
+//! A number gives a worker random access to pairs. In a tile of two cells the number counts row by row: a row is an
+//! atom of the first cell with all atoms of the second. In a tile of one cell the pair (i, j), i < j, has the number j
+//! (j - 1) / 2 + i.
 
 ghost use Rattle.std.specs.Prelude.{◌≡◌, ◌+◌, ◌*◌, ◌^◌, ◌<◌, ◌≤◌, length, slice_get, slice_index, Some};
 ghost use Rattle.cell_tiles.specs.Tiles.{pair_of, pairs_among, pairs_between};
@@ -12,7 +16,7 @@ pub struct AtomPair {
     pub high: u32,
 }
 
-/// The pair of two atoms.
+/// The pair of two atoms, in either order.
 #[inline]
 pub(crate) fn in_order(a: u32, b: u32) -> AtomPair
     ensures { (result.low, result.high) ≡ pair_of a b }
@@ -24,7 +28,7 @@ pub(crate) fn in_order(a: u32, b: u32) -> AtomPair
     }
 }
 
-/// The pair of an atom of the one list with one of the other.
+/// The pair of atom `i` of one list with atom `j` of the other.
 pub(crate) fn pair_at(atoms: &[u32], i: u64, others: &[u32], j: u64) -> AtomPair
     requires i { i < length atoms.now }
     requires j { j < length others.now }
@@ -33,7 +37,7 @@ pub(crate) fn pair_at(atoms: &[u32], i: u64, others: &[u32], j: u64) -> AtomPair
     in_order(atoms[i as usize], others[j as usize])
 }
 
-/// How many pairs these atoms make.
+/// The number of pairs among these atoms.
 pub(crate) fn count_among(atoms: &[u32]) -> u64
     requires { length atoms.now ≤ 65536 }
     ensures { result ≡ length (pairs_among atoms.now (length atoms.now)) }
@@ -42,7 +46,7 @@ pub(crate) fn count_among(atoms: &[u32]) -> u64
     (n * n - n) / 2
 }
 
-/// Pair `k` of a list is that of its places i and j, where i < j and k = j (j - 1) / 2 + i.
+/// The indices (i, j), i < j, of the pair `k` of a list: k = j (j - 1) / 2 + i.
 pub(crate) fn places_of_pair(k: u64) -> (u64, u64)
     requires { k < 2 ^ 32 }
     ensures order { result.0 < result.1 }
@@ -52,7 +56,7 @@ pub(crate) fn places_of_pair(k: u64) -> (u64, u64)
     (k - (j * j - j) / 2, j)
 }
 
-/// The pair of these atoms that has this number.
+/// The pair with the number `k` among these atoms.
 pub(crate) fn pair_among(atoms: &[u32], k: u64) -> AtomPair
     requires few { length atoms.now ≤ 65536 }
     requires pair { k < length (pairs_among atoms.now (length atoms.now)) }
@@ -62,7 +66,7 @@ pub(crate) fn pair_among(atoms: &[u32], k: u64) -> AtomPair
     pair_at(atoms, j, atoms, i)
 }
 
-/// How many pairs there are of one of these atoms with one of the others.
+/// The number of pairs of one of these atoms with one of the others.
 pub(crate) fn count_between(atoms: &[u32], others: &[u32]) -> u64
     requires atoms { length atoms.now ≤ 65536 }
     requires others { length others.now ≤ 65536 }
@@ -71,7 +75,7 @@ pub(crate) fn count_between(atoms: &[u32], others: &[u32]) -> u64
     atoms.len() as u64 * others.len() as u64
 }
 
-/// The pair of one of these atoms with one of the others that has this number.
+/// The pair with the number `k` of one of these atoms with one of the others.
 pub(crate) fn pair_between(atoms: &[u32], others: &[u32], k: u64) -> AtomPair
     requires { k < length (pairs_between atoms.now others.now) }
     ensures { slice_get (pairs_between atoms.now others.now) k ≡ Some (result.low, result.high) }

@@ -1,4 +1,7 @@
-//! Tiles: the pairs of neighbouring cells.
+//! Tiles: pairs of neighbouring cells, and each cell with itself.
+//!
+//! The tiles are made once for a grid. For each cell all cells up to it are tried, and slabs and rows without a
+//! neighbour are skipped: about 400,000 tests for 4,096 cells.
 
 ghost use Rattle.std.specs.Prelude.{◌≡◌, ◌<◌, ◌≤◌, ◌++◌, length, map, slice_get, Some, IfOk, OnOk};
 ghost use Rattle.cell_tiles.specs.Cells.{cells_of};
@@ -7,23 +10,23 @@ ghost use Rattle.cell_tiles.specs.Tiles.{tiles_of, tiles_with};
 use crate::grids::Grid;
 use std::alloc::{AllocError, Allocator};
 
-/// Two cells that are neighbours, or one cell twice: the first number is at most the second.
+/// Two neighbouring cells, or one cell twice; the first number is at most the second.
 #[derive(Clone, Copy, PartialEq, Eq, Debug)]
 pub struct Tile {
     pub first: u32,
     pub second: u32,
 }
 
-/// All tiles of a grid: each two cells that are neighbours, and each cell with itself, once.
+/// All tiles of a grid: each pair of neighbouring cells, and each cell with itself, once.
 #[derive(Drop)]
 pub struct Tiles<A: Allocator + Copy> {
-    /// The grid of whose cells they are.
+    /// The grid of the cells.
     pub grid: Grid,
     tiles: Vec<Tile, A>,
     ghost are_all: { map (λ t. (t.first, t.second)) tiles.items ≡ tiles_of grid.bits },
 }
 
-// Adds the tiles of the cell `d` with the cells up to it.
+// Appends the tiles of the cell `d` with the cells up to it.
 fn add_tiles_with<A: Allocator + Copy>(
     tiles: &mut Vec<Tile, A>,
     grid: &Grid,
@@ -59,7 +62,7 @@ fn all_tiles<A: Allocator + Copy>(alloc: A, grid: &Grid) -> Result<Vec<Tile, A>,
 }
 
 impl<A: Allocator + Copy> Tiles<A> {
-    /// The tiles of this grid. It answers `AllocError` where memory is refused.
+    /// The tiles of this grid. `AllocError` if an allocation fails.
     pub fn new(alloc: A, grid: Grid) -> Result<Tiles<A>, AllocError>
         ensures { IfOk result (λ t. t.grid ≡ grid) }
     {
@@ -67,14 +70,14 @@ impl<A: Allocator + Copy> Tiles<A> {
         Ok(Tiles { grid, tiles })
     }
 
-    /// How many tiles there are.
+    /// The number of tiles.
     pub fn len(&self) -> u64
         ensures { result ≡ length (tiles_of self.now.grid.bits) }
     {
         self.tiles.len() as u64
     }
 
-    /// A tile, by its number. The caller's condition: there is such a tile.
+    /// The tile with this number. The caller ensures that there is one.
     pub fn get(&self, tile: u64) -> Tile
         requires { tile < length (tiles_of self.now.grid.bits) }
         ensures value { slice_get (tiles_of self.now.grid.bits) tile ≡ Some (result.first, result.second) }

@@ -1,4 +1,4 @@
-//! A walk over the rows of a tile, in order.
+//! A walk over the rows of a tile, in the order of the pairs' numbers. Only its beginning needs a division or a root.
 
 ghost use Rattle.std.specs.Prelude.{◌≡◌, ℕ, ◌+◌, ◌^◌, ◌<◌, ◌≤◌, List, [], ◌++◌, ◌-◌, length, drop, take, IfSome, IfNone};
 ghost use Rattle.cell_tiles.specs.Tiles.{pairs_among, pairs_between, pairs_with};
@@ -7,7 +7,7 @@ ghost use Rattle.cell_tiles.specs.Walks.{width_of};
 use crate::pairs::{count_among, count_between, places_of_pair};
 use std::marker::Model;
 
-// Where a pair stands: its row and column, and how many columns the row has.
+// The position of a pair: its row, its column, and the number of columns of the row.
 #[derive(Clone, Copy)]
 struct WalkPlace {
     row: u64,
@@ -15,7 +15,7 @@ struct WalkPlace {
     width: u64,
 }
 
-// The beginning of the next row. Each row of one cell has a column more than the row before it.
+// The beginning of the next row. In a tile of one cell, each row has one column more than the row before it.
 fn next_row(place: WalkPlace, one_cell: bool) -> WalkPlace
     requires { place.row < 65536 }
     ensures row { result.row ≡ place.row + 1 }
@@ -30,7 +30,7 @@ fn next_row(place: WalkPlace, one_cell: bool) -> WalkPlace
     }
 }
 
-// The columns from one on to before another.
+// The atoms of the columns `from` to before `to`.
 fn columns(others: &[u32], from: u64, to: u64) -> &[u32]
     requires order { from ≤ to }
     requires within { to ≤ length others.now }
@@ -39,8 +39,8 @@ fn columns(others: &[u32], from: u64, to: u64) -> &[u32]
     &others[from as usize..to as usize]
 }
 
-/// A row of a tile, or what is left of one: an atom, and others with each of which it makes a pair. They are cut out of
-/// the atoms of a cell, from the column on.
+/// A row of a tile, or the rest of one: an atom, and others with each of which it forms a pair. The others are a slice
+/// of the atoms of a cell, from the column on.
 #[derive(Clone, Copy)]
 pub struct TileRow<'a> {
     pub atom: u32,
@@ -48,8 +48,8 @@ pub struct TileRow<'a> {
     pub others: &'a [u32],
 }
 
-/// The rows of a tile that are still to come. A contract sees the list of their pairs, and the atoms that the rows are
-/// cut from.
+/// The rows of a tile that are still to come. Contracts see the list of their pairs, and the atoms that the rows are
+/// slices of.
 #[derive(Drop)]
 pub struct TileRows<'a> {
     atoms: &'a [u32],
@@ -69,7 +69,7 @@ impl<'a> Model for TileRows<'a> {
     ghost invariant = { λ t. IsWalk t.one_cell t.atoms.now t.others.now t.place.row t.place.column t.place.width t.left };
 }
 
-/// The rows of these atoms, from the pair with the number `k` on.
+/// The rows of the pairs among these atoms, from the pair `k` on.
 pub(crate) fn walk_among(atoms: &[u32], k: u64) -> TileRows<'_>
     requires few { length atoms.now ≤ 65536 }
     requires within { k ≤ length (pairs_among atoms.now (length atoms.now)) }
@@ -90,7 +90,7 @@ pub(crate) fn walk_among(atoms: &[u32], k: u64) -> TileRows<'_>
     }
 }
 
-/// The rows of one of these atoms with the others, from the pair with the number `k` on.
+/// The rows of the pairs of one of these atoms with one of the others, from the pair `k` on.
 pub(crate) fn walk_between<'a>(atoms: &'a [u32], others: &'a [u32], k: u64) -> TileRows<'a>
     requires atoms { length atoms.now ≤ 65536 }
     requires others { length others.now ≤ 65536 }
@@ -114,7 +114,7 @@ pub(crate) fn walk_between<'a>(atoms: &'a [u32], others: &'a [u32], k: u64) -> T
 }
 
 impl<'a> TileRows<'a> {
-    /// The next row, or what is left of it; `None` at the end.
+    /// The next row, or the rest of it; `None` at the end.
     pub fn next(&mut self) -> Option<TileRow<'a>>
         ensures some { IfSome result (λ row. self.old.pairs ≡ pairs_with row.atom row.others.now ++ self.new.pairs) }
         ensures there { IfSome result (λ row. 0 < length row.others.now) }

@@ -1,4 +1,4 @@
--- Vectors of sixteen lanes, lane by lane.
+-- Vectors of sixteen lanes, by the value of each lane.
 use Rattle.std.specs.Prelude.{ℕ, ◌≡◌, ◌<◌, List, length, slice_index}
 
 -- v has sixteen lanes, and lane k holds f k

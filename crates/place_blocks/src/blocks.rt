@@ -1,9 +1,12 @@
-//! Blocks of sixteen atoms, by the upper halves of their places.
+//! Blocks of the coarse coordinates of sixteen atoms.
+//!
+//! A block is three arrays, which become vectors when it is tested. The first test waits once for what was just written
+//! lane by lane; selecting each lane of a vector would cost more.
 
 use crate::upper_halves::UpperHalves;
 use ring_box::Place3;
 
-/// The upper halves of the places of sixteen atoms, by axis: an atom is a lane.
+/// The coarse coordinates of sixteen atoms by axis, one lane for each atom.
 #[derive(Clone, Copy)]
 pub struct Block {
     pub x: [u16; 16],
@@ -16,7 +19,7 @@ impl Block {
     ghost use Rattle.place_blocks.specs.Blocks.{IsLane, halves_at};
     ghost use Rattle.ring_box.specs.Places.{nowhere};
 
-    /// The block whose lanes are all 0.
+    /// A block whose lanes are all 0.
     #[inline(always)]
     pub fn empty() -> Block
         ensures { (k : ℕ) → k < 16 → IsLane result k nowhere }
@@ -28,7 +31,7 @@ impl Block {
         }
     }
 
-    /// The block of the first sixteen of these places at most; the lanes past the last are 0.
+    /// The block of the first sixteen of these positions; lanes beyond the last position are 0.
     pub fn of(places: &[Place3]) -> Block
         ensures { (k : ℕ) → k < 16 → IsLane result k (slice_index_or places.now k nowhere) }
     {
@@ -44,7 +47,7 @@ impl Block {
         Block { x, y, z }
     }
 
-    /// The upper halves in a lane.
+    /// The coarse coordinates in a lane.
     #[inline(always)]
     pub fn at(&self, lane: usize) -> UpperHalves
         requires { lane < 16 }
@@ -57,7 +60,7 @@ impl Block {
         }
     }
 
-    /// Puts other upper halves into a lane.
+    /// Replaces the coarse coordinates in a lane.
     #[inline(always)]
     pub fn set(&mut self, lane: usize, halves: UpperHalves)
         requires { lane < 16 }

@@ -1,4 +1,8 @@
-//! Which atoms of a block may act with one, or with any of a cell, as far as the upper halves of their places tell.
+//! The coarse test: which atoms of a block may interact with an atom, or with any atom of a cell, judging only by
+//! coarse coordinates.
+//!
+//! The test misses no interacting pair; that it lets few others pass only matters for speed. It costs the same for all
+//! sixteen atoms, so an atom out of reach costs nothing of its own.
 
 ghost use Rattle.std.specs.Prelude.{ℕ, ◌≡◌, ◌-◌, ◌/◌, ◌^◌, ◌<◌, ◌≤◌, min, slice_index};
 ghost use Rattle.place_blocks.specs.Blocks.{IsCut, coarse_square, least_gap};
@@ -12,8 +16,8 @@ use crate::upper_halves::{CellSpan, UpperHalves};
 use ring_box::{Reach, RingBox};
 use std::simd::prelude::*;
 
-/// How far forces reach, coarsely: the sides of a box in a unit of 10^-5 nm times a power of 2, of which they have no
-/// more than 16 bits, and the least square that is out of reach in the square of that unit.
+/// The coarse reach of a pair force: the sides of a box in units of 10^-5 nm times a power of 2, at most 16 bits each,
+/// and the greatest square, in the square of that unit, at which the test lets a pair pass.
 #[derive(Clone, Copy)]
 pub struct CoarseReach {
     pub x: u16,
@@ -22,7 +26,7 @@ pub struct CoarseReach {
     pub limit: u32,
 }
 
-/// How many upper halves lie at least between each lane's and any of the span.
+/// The least difference between each lane's coarse coordinate and any of the span, round the box.
 #[inline(always)]
 fn gaps(x: u16x16, first: u16, width: u16) -> u16x16
     ensures value { HasLanes result (λ k. least_gap (slice_index x k) first width) }
@@ -32,7 +36,7 @@ fn gaps(x: u16x16, first: u16, width: u16) -> u16x16
     least(less_or_zero(behind, width), flipped(behind))
 }
 
-/// The square of the length of that on a side.
+/// The square of the coarse length of each lane's gap to the span, on a side of this coarse length.
 #[inline(always)]
 fn gap_squares(x: u16x16, first: u16, width: u16, side: u16) -> u32x16
     ensures value { HasLanes result (λ k. coarse_square (least_gap (slice_index x k) first width) side) }
@@ -41,7 +45,7 @@ fn gap_squares(x: u16x16, first: u16, width: u16, side: u16) -> u32x16
     low_square(upper_product(gaps(x, first, width), side))
 }
 
-/// How many lower bits of a number go so that 16 are left.
+/// The number of lower bits to cut so that a number has at most 16 left.
 fn bits_to_cut(n: u32) -> u32
     requires { n < 2 ^ 24 }
     ensures cut { IsCut n result }
@@ -54,6 +58,7 @@ fn bits_to_cut(n: u32) -> u32
     }
 }
 
+/// The length of a side without its lower `cut` bits.
 fn upper_bits(side: u32, cut: u32) -> u16
     requires few { cut ≤ 8 }
     requires fits { side / 2 ^ cut < 2 ^ 16 }
@@ -62,7 +67,7 @@ fn upper_bits(side: u32, cut: u32) -> u16
     (side >> cut) as u16
 }
 
-/// The upper bits of a limit of squares, the greatest number of 32 bits where they are more.
+/// A limit of squares without its lower `cut` bits; `u32::MAX` if more than 32 bits are left.
 fn upper_limit(limit: u128, cut: u32) -> u32
     requires { cut ≤ 80 }
     ensures { result ≡ min (limit / 2 ^ cut) (2 ^ 32 - 1) }
@@ -79,7 +84,7 @@ impl CoarseReach {
     ghost use Rattle.place_blocks.specs.Blocks.{AreNearBits, IsCoarseReach, IsFinest, LeavesOut, LeavesOutOfSpan, coarse_square_of, own_span};
     ghost use Rattle.ring_box.specs.declared.boxes.RingBox.{RingBox};
 
-    /// How far forces reach in a box, as far as the upper 16 bits of its greatest side tell.
+    /// The coarse reach in a box, with the finest unit in which the longest side has at most 16 bits.
     pub fn new(ring: &RingBox, reach: &Reach) -> CoarseReach
         ensures reach { IsCoarseReach reach.now ring.now result }
         ensures finest { IsFinest reach.now ring.now result }
@@ -93,7 +98,7 @@ impl CoarseReach {
         }
     }
 
-    /// The squares of the least distances of the lanes' atoms from any in the span.
+    /// The squares of the least coarse distances between each lane's atom and the span.
     #[inline(always)]
     fn squares(&self, block: &Block, span: &CellSpan) -> u32x16
         ensures value { HasLanes result (coarse_square_of self.now span.now block.now) }
@@ -120,7 +125,8 @@ impl CoarseReach {
         sum(x, y, z)
     }
 
-    /// A bit for each lane of the block whose atom may act with one in the span: one without doesn't.
+    /// A mask with a bit for each lane of the block whose atom may interact with an atom in the span. An atom whose bit
+    /// is 0 interacts with none.
     #[inline(always)]
     pub fn near_cell(&self, block: &Block, span: &CellSpan) -> u64
         ensures bits { AreNearBits self.now span.now block.now result }
@@ -130,7 +136,8 @@ impl CoarseReach {
         at_most(self.squares(block, span), self.limit)
     }
 
-    /// A bit for each lane of the block whose atom may act with one at these upper halves: one without doesn't.
+    /// A mask with a bit for each lane of the block whose atom may interact with an atom at these coarse coordinates.
+    /// An atom whose bit is 0 doesn't.
     #[inline(always)]
     pub fn near(&self, block: &Block, halves: UpperHalves) -> u64
         ensures bits { AreNearBits self.now (own_span halves) block.now result }

@@ -1,4 +1,5 @@
-//! Places by their upper halves, in blocks of sixteen, which are tested at once for being out of reach.
+//! Coarse coordinates (the upper 16 bits of grid coordinates) of sixteen atoms in a block; one vector test finds which
+//! of them may interact with an atom or with any atom of a cell.
 #![tactic(auto)]
 
 mod blocks;

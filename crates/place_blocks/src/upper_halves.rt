@@ -1,4 +1,4 @@
-//! The upper halves of places: the upper 16 of the 32 bits of each number.
+//! Coarse coordinates: the upper 16 of the 32 bits of a grid coordinate. In the code's names they are *upper halves*.
 
 ghost use Rattle.std.specs.Prelude.{ℕ, ◌≡◌, ◌*◌, ◌-◌, ◌^◌};
 ghost use Rattle.ring_box.specs.Acting.{IsCellNumber};
@@ -6,7 +6,7 @@ ghost use Rattle.place_blocks.specs.Blocks.{IsUpperHalf};
 
 use ring_box::{CellBits, CellNumbers, Place3};
 
-/// The upper halves of the numbers of an atom's place.
+/// The coarse coordinates of an atom along each axis.
 #[derive(Clone, Copy, PartialEq, Eq, Debug)]
 pub struct UpperHalves {
     pub x: u16,
@@ -14,7 +14,7 @@ pub struct UpperHalves {
     pub z: u16,
 }
 
-/// The upper halves from a first one on, along each axis, and how many there are: those of the places of a cell.
+/// A span of coarse coordinates along each axis, such as the coordinates in a cell: `width` of them from `first` on.
 #[derive(Clone, Copy, PartialEq, Eq, Debug)]
 pub struct CellSpan {
     pub first: UpperHalves,
@@ -31,7 +31,7 @@ fn upper_half(x: u32) -> u16
 impl UpperHalves {
     ghost use Rattle.place_blocks.specs.Blocks.{AreUpperHalves};
 
-    /// The upper halves of a place's numbers.
+    /// The coarse coordinates of an atom at `place`.
     #[inline(always)]
     pub fn of(place: Place3) -> UpperHalves
         ensures { AreUpperHalves result place }
@@ -64,7 +64,7 @@ impl CellSpan {
     ghost use Rattle.place_blocks.specs.Blocks.{AreInSpan, cell_span_of};
     ghost use Rattle.ring_box.specs.declared.vectors.Place3.{Place3};
 
-    /// The span of the upper halves of the places of a cell, given by its numbers along the sides, which are cut into
+    /// The span of the coarse coordinates in a cell, given by its indices along the sides. The sides are cut into
     /// 2^bits cells, 1 to 4 bits each.
     pub fn of(bits: CellBits, cell: CellNumbers) -> CellSpan
         requires { AreCellNumbers bits cell }

@@ -1,4 +1,4 @@
--- Pairs of atoms that act, put one after the other.
+-- Batches of interacting pairs, stored contiguously.
 use Rattle.std.specs.Prelude.{ℕ, pos, ◌≡◌, ◌≤◌, ◌<◌, List, ◌∷◌, ◌++◌, [], length, take, slice_index_or, Option, Some, None, option_map}
 use Rattle.std.specs.Int.{int_max}
 use Rattle.std.specs.List.{All}
@@ -10,24 +10,24 @@ use Rattle.ring_box.specs.declared.found_pairs.Measure.{Measure}
 use Rattle.ring_box.specs.declared.found_pairs.PairInReach.{PairInReach}
 use Rattle.ring_box.specs.declared.vectors.Place3.{Place3}
 
--- two atoms with these numbers and what they have between them; none where they don't act
+-- the pair of two atoms with these indices and its geometry; none if they don't interact
 abbrev pub found_pair_of : Reach → RingBox → ℕ → ℕ → Place3 → Place3 → Option FoundPair
 found_pair_of d b low high p q = option_map (λ (a : ActingPair). record { low = low; high = high; acting = a }) (acting_of d b p q)
 
--- pairs that act at this reach, in the order in which they were put; the first `measured` of them are measured
+-- interacting pairs at this reach, in the order in which they were appended; the first `measured` of them are measured
 pub record FoundPairs : Type 0 where
   pub reach : Reach
   pub pairs : List FoundPair
   pub measured : ℕ
 
--- and one more behind them, if there is one
+-- the batch with one more pair at the end, if there is one
 abbrev pub with_pair : FoundPairs → Option FoundPair → FoundPairs
 with_pair found None = found
 with_pair found (Some f) = record { reach = found.reach; pairs = found.pairs ++ f ∷ []; measured = found.measured }
 
--- ---- how they are held
+-- ---- the representation
 
--- what two atoms have between them, from their separation and its square
+-- the geometry of a pair, from its separation and the square of that
 abbrev pub found_from : Reach → PairInReach → FoundPair
 found_from d p =
     record { low = p.low; high = p.high; acting = acting_from d p.separation.x p.separation.y p.separation.z p.squared }
@@ -41,16 +41,16 @@ pub record AreInReach (d : Reach) (count : ℕ) (pairs : List PairInReach) : Typ
   pub few : count ≤ 128
   pub near : All (IsBelowLimit d) (take count pairs)
 
--- m is the measure of the pair
+-- m has the length of the pair's line and the distance at which its force is evaluated
 pub record IsMeasure (d : Reach) (p : PairInReach) (m : Measure) : Type 0 where
   pub line : m.length ≡ length_of p.squared
   pub distance : m.distance ≡ int_max (pos (distance_at d.frac p.squared)) d.core
 
--- the measures of the first `count` pairs stand in their lanes
+-- the first `count` lanes of `measures` hold the measures of the first `count` pairs
 abbrev pub AreMeasured : Reach → ℕ → List PairInReach → List Measure → Type 0
 AreMeasured d count pairs measures = (l : ℕ) (p : PairInReach) (m : Measure) → l < count → IsMeasure d (slice_index_or pairs l p) (slice_index_or measures l m)
 
--- the first `count` lanes hold pairs within reach, and the first `measured` of these their measures
+-- the first `count` lanes hold pairs within reach, and the first `measured` lanes also hold their measures
 pub record AreHeld (d : Reach) (count : ℕ) (pairs : List PairInReach) (measured : ℕ) (measures : List Measure) : Type 0 where
   pub held : AreInReach d count pairs
   pub before : measured ≤ count

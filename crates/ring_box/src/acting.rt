@@ -1,4 +1,10 @@
-//! The force of a pair in two halves, so that one step can be made for many pairs before the next.
+//! The force of a pair in two halves: the geometry of an interacting pair (`RingBox::acting`), then the force that a
+//! slope gives along its line (`ActingPair::force`).
+//!
+//! The halves are separate so that the slopes of many pairs can be computed together in between; `halves_are_whole`
+//! proves that both give the pair's force. Atoms at one position have a line of length 1 with components of 0, so that
+//! they need no case of their own. Most pairs that don't interact are rejected earlier: sixteen atoms at once by their
+//! coarse coordinates (crate `place_blocks`), and a whole cell by its ends (`RingBox::is_cell_far`).
 
 ghost use Rattle.std.specs.Prelude.{ℕ, ◌≡◌, ◌≤◌, ◌<◌, ◌+◌, ◌*◌, ◌/◌, ◌^◌, ℤ, IsTrue, unsigned_abs};
 ghost use Rattle.ring_box.specs.Places.{difference};
@@ -18,7 +24,7 @@ use crate::vectors::{CellBits, CellNumbers, Force, Place3};
 use fixed::Fx;
 use std::marker::Model;
 
-/// Two atoms that act: the line through them, and the distance at which their force is taken.
+/// An interacting pair: the line through both atoms, and the distance at which their force is evaluated.
 #[derive(Clone, Copy)]
 pub struct ActingPair {
     pub(crate) x: i64,
@@ -45,7 +51,7 @@ impl Default for ActingPair {
 
     ghost is_default = { λ p. p ≡ record { x = pos 0; y = pos 0; z = pos 0; length = 1; distance = pos 0 } };
 
-    /// Two atoms at one place.
+    /// A pair of atoms at one position.
     fn default() -> ActingPair {
         ActingPair {
             x: 0,
@@ -62,15 +68,15 @@ impl ActingPair {
     ghost use Rattle.ring_box.specs.Acting.{force_of};
     ghost use Rattle.ring_box.specs.Forces.{IsWithin};
 
-    /// The distance in nm at which the force is taken.
+    /// The distance in nm at which the force is evaluated: at least the core, below the cutoff.
     pub fn distance(self) -> Fx
         ensures { result ≡ self.distance }
     {
         self.distance
     }
 
-    /// The force on the first atom in kJ/mol/nm, where this is minus the slope of the energy at that distance; the
-    /// second has its negative.
+    /// The force on the first atom in kJ/mol/nm, given minus dU/dr at that distance; the force on the second atom is
+    /// its negative. `minus_slope` isn't the least i64.
     pub fn force(self, minus_slope: Fx) -> Force<i64>
         requires { unsigned_abs minus_slope < 2 ^ 63 }
         ensures value { result ≡ force_of self minus_slope }
@@ -85,7 +91,8 @@ impl ActingPair {
         line.small_force(minus_slope.raw())
     }
 
-    /// The same force from an estimate, which mostly is that force.
+    /// The force on the first atom in kJ/mol/nm, given minus dU/dr at that distance. `estimate` is tested first, and is
+    /// usually exact. `minus_slope` isn't the least i64.
     #[inline(always)]
     pub fn force_near(self, minus_slope: Fx, estimate: Force<i64>) -> Force<i64>
         requires { unsigned_abs minus_slope < 2 ^ 63 }
@@ -102,8 +109,8 @@ impl ActingPair {
     }
 }
 
-/// A length along an axis in 2^40 of its units, some 0.0026 nm, rounded down: where n places lie between two on a ring
-/// of this side.
+/// A coarse length of `places` grid units on this side, rounded down, in units of 2^40 times 10^-5 nm / 2^32 (about
+/// 0.0026 nm).
 fn coarse_length(places: u32, side: Side) -> u32
     requires { places ≤ 2 ^ 31 }
     ensures below { result * 2 ^ 40 ≤ places * side }
@@ -112,7 +119,7 @@ fn coarse_length(places: u32, side: Side) -> u32
     ((places >> 16) * (side.get() >> 9)) >> 15
 }
 
-/// A limit of squares in the square of 2^40 units, rounded down; the greatest number of 32 bits where it's more.
+/// A limit of squares in units of (2^40 times 10^-5 nm / 2^32)^2, rounded down; `u32::MAX` if it doesn't fit.
 fn coarse_limit(limit: u128) -> u32
     ensures { (square : ℕ) → square < 2 ^ 32 → result < square → limit / 2 ^ 80 < square }
 {
@@ -122,7 +129,7 @@ fn coarse_limit(limit: u128) -> u32
     }
 }
 
-/// Whether the sum of the squares of three lengths is at least the limit, as far as 2^40 units of each tell.
+/// Whether the squares of three coarse lengths show that the lengths' sum of squares is at least the limit.
 #[tactic(auto, using(crate::proofs::DistanceLemmas::far_is))]
 fn are_far(x: u32, y: u32, z: u32, limit: u128) -> bool
     requires x { x ≤ 31250 }
@@ -137,8 +144,8 @@ impl RingBox {
     ghost use Rattle.std.specs.Prelude.{◌≡◌, ◌≤ℤ◌, ◌<ℤ◌, IfSome};
     ghost use Rattle.ring_box.specs.Acting.{acting_of};
 
-    /// The pair of two atoms at `p` and `q`, its line and its distance; `None` where the distance isn't below the
-    /// cutoff: they don't act.
+    /// The line and the distance of two atoms at `p` and `q`; `None` if the distance isn't below the cutoff: the pair
+    /// doesn't interact.
     pub fn acting(&self, reach: &Reach, p: Place3, q: Place3) -> Option<ActingPair>
         ensures value { result ≡ acting_of reach.now self.now p q }
         ensures low { IfSome result (λ a. reach.now.core ≤ℤ a.distance) }
@@ -160,7 +167,8 @@ impl RingBox {
     }
 }
 
-/// How many places lie at least between `x` and any place of a cell of its axis; 0 where it lies in the cell.
+/// The least number of grid units between `x` and any coordinate of a cell, the shorter way round; 0 if `x` is in the
+/// cell. The side is cut into 2^b cells.
 #[tactic(auto, using(crate::proofs::GapLemmas::gap_is))]
 fn gap(x: u32, b: u32, cell: u32) -> u32
     requires positive { 1 ≤ b }
@@ -181,8 +189,8 @@ impl RingBox {
     ghost use Rattle.std.specs.Prelude.{IsTrue};
     ghost use Rattle.ring_box.specs.Acting.{AreCellNumbers, IsOutOfReach};
 
-    /// Whether no atom of a cell acts with one at `p`, as far as the ends of the cell tell. The sides are cut into
-    /// 2^bits cells, 1 to 4 bits each, and the cell is given by its numbers along them.
+    /// Whether the ends of a cell show that none of its atoms interacts with an atom at `p`. The sides are cut into
+    /// 2^bits cells, 1 to 4 bits each; `cell` has the cell's indices along them.
     pub fn is_cell_far(&self, reach: &Reach, p: Place3, bits: CellBits, cell: CellNumbers) -> bool
         requires { AreCellNumbers bits cell }
         ensures { IsTrue result → IsOutOfReach reach.now self.now bits cell p }
@@ -196,7 +204,7 @@ impl RingBox {
     }
 }
 
-/// Both halves of a pair's force are the force that `RingBox::pair_force` answers.
+/// Law: both halves of a pair's force are the force that `RingBox::pair_force` returns.
 pub fn halves_are_whole()
     ensures { (d : Reach) (b : RingBox) (minus_slope : ℤ → ℤ) (p q : Place3) → HalvesAreWhole d b minus_slope p q }
 {}

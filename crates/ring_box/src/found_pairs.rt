@@ -1,4 +1,5 @@
-//! Pairs of atoms that act, put one after the other, so that each step is made for all of them before the next.
+//! Batches of interacting pairs, stored contiguously, so that each stage runs for all pairs of a batch before the next
+//! stage.
 
 ghost use Rattle.std.specs.Prelude.{◌≡◌, ◌+◌, ◌<◌, ◌^◌, Some, length, slice_get};
 ghost use Rattle.ring_box.specs.Distances.{square, square_of, x_separation, y_separation, z_separation};
@@ -13,7 +14,7 @@ use crate::vectors::{Force, Place3};
 use fixed::{Frac, Fx};
 use std::marker::Model;
 
-/// Two atoms that act, by their numbers in a frame, and what they have between them.
+/// An interacting pair: the indices of both atoms in a frame, and the geometry of the pair.
 #[derive(Clone, Copy, Default)]
 pub struct FoundPair {
     pub low: u32,
@@ -21,7 +22,7 @@ pub struct FoundPair {
     pub acting: ActingPair,
 }
 
-/// Two atoms by their numbers, their separation and its square.
+/// Two atoms by their indices, their separation and its square.
 #[derive(Clone, Copy)]
 struct PairInReach {
     pub low: u32,
@@ -33,7 +34,7 @@ struct PairInReach {
     ghost bound: { squared < 2 ^ 112 },
 }
 
-/// The length of a pair's line, and the distance at which its force is taken.
+/// The length of a pair's line, and the distance at which its force is evaluated.
 #[derive(Clone, Copy)]
 struct Measure {
     pub length: u64,
@@ -41,7 +42,7 @@ struct Measure {
 }
 
 impl RingBox {
-    /// Two atoms at `p` and `q` with these numbers.
+    /// The pair of two atoms at `p` and `q` with these indices.
     #[inline(always)]
     fn numbered(&self, low: u32, high: u32, p: Place3, q: Place3) -> PairInReach
         ensures low { result.low ≡ low }
@@ -67,7 +68,7 @@ impl Reach {
     ghost use Rattle.ring_box.specs.Acting.{limit_of};
     ghost use Rattle.ring_box.specs.FoundPairs.{AreInReach, AreMeasured, IsMeasure};
 
-    /// The measure of a pair within reach, from an estimate of the length of its line.
+    /// The measure of a pair within reach. `estimate` is an estimate of the length of its line.
     #[inline(always)]
     fn measure(&self, pair: PairInReach, estimate: u64) -> Measure
         requires { pair.squared < limit_of self.now.frac self.now.cutoff }
@@ -80,7 +81,7 @@ impl Reach {
         }
     }
 
-    /// The measures of the first `count` pairs.
+    /// Measures the first `count` pairs, all of which are within reach.
     fn measure_all(
         &self,
         pairs: &[PairInReach; 128],
@@ -97,11 +98,11 @@ impl Reach {
     }
 }
 
-// ---- pairs that are found
+// ---- found pairs
 
-/// At most 128 pairs of atoms that act. Each step is made for all of them before the next: they are put; they are
-/// measured; and when the slopes of their energies are known, their forces are estimated. What was estimated in
-/// floating point for one step serves the next; the exact numbers decide wherever an estimate is taken.
+/// A batch of at most 128 interacting pairs. Each stage runs for the whole batch: `put` collects pairs, `measure` finds
+/// their lengths and distances, and once the slopes are known, forces are estimated. Floating-point estimates of one
+/// stage serve the next; an exact test decides before one is used.
 #[derive(Drop)]
 pub struct FoundPairs {
     reach: Reach,
@@ -127,7 +128,7 @@ impl FoundPairs {
     ghost use Rattle.std.specs.Prelude.{[], ◌≤◌, ◌≤ℤ◌, ◌<ℤ◌};
     ghost use Rattle.ring_box.specs.FoundPairs.{found_pair_of, with_pair};
 
-    /// No pairs, at a reach that is to be replaced.
+    /// An empty batch, with a reach that `clear` replaces.
     pub fn new() -> FoundPairs
         ensures pairs { result.pairs ≡ [] }
         ensures measured { result.measured ≡ 0 }
@@ -151,7 +152,7 @@ impl FoundPairs {
         }
     }
 
-    /// How many pairs there are, at most 128.
+    /// The number of pairs, at most 128.
     pub fn len(&self) -> usize
         ensures value { result ≡ length self.now.pairs }
         ensures few { result ≤ 128 }
@@ -159,7 +160,7 @@ impl FoundPairs {
         self.count
     }
 
-    /// Lets go of all pairs, for others at this reach.
+    /// Empties the batch and sets its reach.
     pub fn clear(&mut self, reach: &Reach)
         ensures { self.new ≡ record { reach = reach.now; pairs = []; measured = 0 } }
     {
@@ -168,8 +169,9 @@ impl FoundPairs {
         self.measured = 0;
     }
 
-    /// Puts a pair of atoms with these numbers at `p` and `q` behind the others, if it acts. It is written in any case,
-    /// and counted where it acts, so that no branch has to be foreseen.
+    /// Appends the pair of two atoms at `p` and `q` with these indices, if it interacts. The pair is always written and
+    /// only counted if it interacts, so that there is no branch to mispredict. The caller ensures that the batch has
+    /// fewer than 128 pairs.
     #[inline(always)]
     pub fn put(&mut self, ring: &RingBox, low: u32, high: u32, p: Place3, q: Place3)
         requires { length self.old.pairs < 128 }
@@ -182,7 +184,7 @@ impl FoundPairs {
         self.count = l + usize::from(pair.squared < self.reach.limit());
     }
 
-    /// Finds the length of each pair's line, and the distance at which its force is taken.
+    /// Computes the length of each pair's line, and the distance at which its force is evaluated.
     pub fn measure(&mut self)
         ensures { self.new ≡ record { reach = self.old.reach; pairs = self.old.pairs; measured = length self.old.pairs } }
     {
@@ -193,7 +195,7 @@ impl FoundPairs {
         self.measured = count;
     }
 
-    /// The pair with this number, which is measured.
+    /// The pair with the index `l`, which has been measured.
     #[inline(always)]
     pub fn found(&self, l: usize) -> FoundPair
         requires { l < self.now.measured }
@@ -219,7 +221,7 @@ impl FoundPairs {
         }
     }
 
-    /// Estimates how much of each pair's slope falls to a unit of its line; the pairs were measured before.
+    /// Estimates the ratio of each pair's slope to the length of its line; `measure` has been called.
     pub fn estimate_ratios(&mut self, slopes: &[Fx])
         requires { length self.old.pairs ≤ length slopes.now }
         ensures { self.new ≡ self.old }
@@ -227,7 +229,7 @@ impl FoundPairs {
         self.estimates.find_ratios(slopes, self.count);
     }
 
-    /// About the force on the first atom of the pair with this number, where the ratios were estimated.
+    /// An estimate of the force on the first atom of the pair with the index `l`; `estimate_ratios` has been called.
     #[inline(always)]
     pub fn force_estimate(&self, l: usize) -> Force<i64>
         requires { l < length self.now.pairs }

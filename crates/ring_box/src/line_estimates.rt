@@ -1,4 +1,4 @@
-//! Estimates in floating point of the lines of many pairs, by lane. Nothing is promised of them.
+//! Estimates in floating point of the lines of many pairs, one lane for each pair. Contracts promise nothing of them.
 
 ghost use Rattle.std.specs.Prelude.{◌≤◌, ◌<◌, length};
 
@@ -7,8 +7,8 @@ use crate::separations::FloatSeparation;
 use crate::vectors::Force;
 use fixed::Fx;
 
-/// About the separations of at most 128 pairs along each axis, the lengths of their lines, and how much of a slope
-/// falls to a unit of length.
+/// Estimates for at most 128 pairs: the separation along each axis, the length of the line, and the ratio of minus the
+/// slope to that length.
 #[derive(Clone, Copy)]
 pub(crate) struct LineEstimates {
     x: [f64; 128],
@@ -38,7 +38,7 @@ impl LineEstimates {
         self.z[l] = separation.z;
     }
 
-    /// The lengths of the first `count` lines.
+    /// Estimates the lengths of the first `count` lines.
     pub(crate) fn find_lengths(&mut self, count: usize)
         requires { count ≤ 128 }
     {
@@ -55,7 +55,8 @@ impl LineEstimates {
         floor_estimate(self.lengths[l]).cast_unsigned()
     }
 
-    /// The ratios of the first `count` of these slopes' negatives to the lengths.
+    /// Estimates the ratio of minus the slope to the length of the line for the first `count` pairs; `find_lengths` has
+    /// been called.
     pub(crate) fn find_ratios(&mut self, slopes: &[Fx], count: usize)
         requires few { count ≤ 128 }
         requires there { count ≤ length slopes.now }
@@ -65,7 +66,7 @@ impl LineEstimates {
         }
     }
 
-    /// The force on the first atom.
+    /// An estimate of the force on the first atom of the pair in lane `l`.
     #[inline(always)]
     pub(crate) fn force(&self, l: usize) -> Force<i64>
         requires { l < 128 }

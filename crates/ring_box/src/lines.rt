@@ -1,3 +1,5 @@
+//! The line through two atoms, and forces along it. Roots and quotients are estimated in floating point, then tested.
+
 ghost use Rattle.std.specs.Prelude.{ℕ, ◌≡◌, ◌≤◌, ◌<◌, ◌+◌, ◌*◌, ◌^◌, pos, ◌*ℤ◌, unsigned_abs, IsTrue};
 ghost use Rattle.ring_box.specs.Acting.{length_of};
 ghost use Rattle.ring_box.specs.Distances.{square};
@@ -9,8 +11,7 @@ use crate::separations::Separation;
 use crate::vectors::Force;
 use fixed::{floor_div, isqrt};
 
-/// The line through two atoms that are apart: its parts along the axes, and its length rounded down, which no part
-/// passes.
+/// The line through two atoms: its components along the axes, and its length rounded down, which no component exceeds.
 #[derive(Clone, Copy)]
 pub(crate) struct PairLine {
     pub x: i64,
@@ -24,7 +25,8 @@ pub(crate) struct PairLine {
     ghost z_within: { unsigned_abs z ≤ length },
 }
 
-// Atoms at one place have no line: with a length of 1 their parts of 0 give no force.
+// The length of a line with the square `s`, rounded down. Atoms at one position have no line: a length of 1 with
+// components of 0 gives them no force.
 #[tactic(auto, using(crate::proofs::ForceLemmas::root_positive))]
 fn length_of(s: u128) -> u64
     ensures value { result ≡ length_of s }
@@ -34,7 +36,7 @@ fn length_of(s: u128) -> u64
     if s == 0 { 1 } else { isqrt(s) }
 }
 
-/// Whether `q` is the root of `s`.
+/// Whether `q` is the root of `s`, rounded down.
 #[inline(always)]
 fn is_root(s: u128, q: u64) -> bool
     ensures low { IsTrue result → q * q ≤ s }
@@ -44,7 +46,7 @@ fn is_root(s: u128, q: u64) -> bool
     square <= s && s - square <= 2 * u128::from(q)
 }
 
-/// The length, which isn't the estimate that was taken.
+/// The exact length of a line with the square `s`, for an estimate that failed the test.
 #[cold]
 #[inline(never)]
 fn length_elsewhere(s: u128) -> u64
@@ -55,7 +57,7 @@ fn length_elsewhere(s: u128) -> u64
     length_of(s)
 }
 
-/// The length of a line whose square is `s`, from an estimate, which mostly is that length.
+/// The length of a line with the square `s`. `estimate` is tested first, and is usually right.
 #[inline(always)]
 pub(crate) fn length_near(s: u128, estimate: u64) -> u64
     ensures value { result ≡ length_of s }
@@ -70,7 +72,7 @@ pub(crate) fn length_near(s: u128, estimate: u64) -> u64
 }
 
 impl Separation {
-    /// The line of this separation, whose square is `s`; one of the length 1 where both atoms are at one place.
+    /// The line of this separation, which has the square `s`; its length is 1 if both atoms are at one position.
     pub(crate) fn line(self, s: u128) -> PairLine
         requires square { s ≡ square self.x + square self.y + square self.z }
         ensures x { result.x ≡ self.x }
@@ -86,7 +88,7 @@ impl Separation {
         }
     }
 
-    /// The line of this separation, whose square is `s`, from an estimate of the square's root.
+    /// The line of this separation, which has the square `s`. `estimate` is an estimate of the length.
     #[inline(always)]
     pub(crate) fn line_near(self, s: u128, estimate: u64) -> PairLine
         requires square { s ≡ square self.x + square self.y + square self.z }
@@ -142,7 +144,7 @@ impl PairLine {
         }
     }
 
-    /// About the force along the line for the slope `g`.
+    /// An estimate of the force of the size `g` along the line.
     #[inline(always)]
     fn force_estimate(self, g: i64) -> Force<i64> {
         let ratio = near_float(g) / near_float(self.length.cast_signed());
@@ -153,7 +155,7 @@ impl PairLine {
         }
     }
 
-    /// The force along the line for a slope that isn't the least number of 64 bits.
+    /// A force of the size `g` along the line, each component rounded down; `g` isn't the least i64.
     pub(crate) fn small_force(self, g: i64) -> Force<i64>
         requires { unsigned_abs g < 2 ^ 63 }
         ensures value { result ≡ line_force_of g self.x self.y self.z self.length }
@@ -162,7 +164,8 @@ impl PairLine {
         self.force_near(g, self.force_estimate(g))
     }
 
-    /// The same from an estimate, which mostly is that force.
+    /// A force of the size `g` along the line, each component rounded down; `g` isn't the least i64. `estimate` is
+    /// tested first, and is usually exact.
     #[inline(always)]
     pub(crate) fn force_near(self, g: i64, estimate: Force<i64>) -> Force<i64>
         requires { unsigned_abs g < 2 ^ 63 }
@@ -184,7 +187,7 @@ fn narrowed(value: i128) -> i64
     value as i64
 }
 
-/// The component, which isn't the estimate that was taken.
+/// The exact component of a force, for an estimate that failed the test.
 #[cold]
 #[inline(never)]
 fn component_elsewhere(g: i64, a: i64, d: u64) -> i64
@@ -196,7 +199,7 @@ fn component_elsewhere(g: i64, a: i64, d: u64) -> i64
     narrowed(component(i128::from(g), a, d))
 }
 
-/// Whether a number is the component.
+/// Whether `q` is the component of a force of the size `g` along `a` on a line of the length `d`.
 #[inline(always)]
 fn is_component(g: i64, a: i64, d: u64, q: i64) -> bool
     ensures { IsTrue result → q ≡ component_of g a d }
@@ -204,7 +207,8 @@ fn is_component(g: i64, a: i64, d: u64, q: i64) -> bool
     is_floor_over(floor_product(g, a), d, q)
 }
 
-/// The component of a force, from an estimate, which mostly is that component.
+/// The component of a force of the size `g` along `a` on a line of the length `d`. `estimate` is tested first, and is
+/// usually right.
 #[inline(always)]
 #[tactic(auto, using(crate::proofs::ForceLemmas::result_within))]
 fn small_component(g: i64, a: i64, d: u64, estimate: i64) -> i64

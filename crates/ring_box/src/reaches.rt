@@ -1,4 +1,4 @@
-//! How far forces reach.
+//! The range of distances at which pairs interact.
 
 ghost use Rattle.std.specs.Prelude.{◌≡◌, ◌*◌, ◌^◌, ◌<◌, ◌≤ℤ◌, ◌<ℤ◌, pos, unsigned_abs};
 ghost use Rattle.fixed.specs.Fractions.{bits_of};
@@ -9,8 +9,8 @@ use crate::forces::outside_core;
 use fixed::{Frac, Fx};
 use std::marker::Model;
 
-/// The distances at which forces are taken: from a core to before a cutoff. Squares are compared with a limit that is
-/// found once.
+/// The core and the cutoff of a pair force. The square of the cutoff is computed once, so that pairs are rejected by a
+/// comparison of squares.
 #[derive(Clone, Copy)]
 pub struct Reach {
     frac: Frac,
@@ -58,8 +58,7 @@ impl Reach {
     ghost use Rattle.ring_box.specs.Acting.{IsReach, length_of, limit_of};
     ghost use Rattle.ring_box.specs.Distances.{distance_at};
 
-    /// The distances from `core` to before `cutoff`, both in nm. The caller sees that `core` is from 0 to below
-    /// `cutoff`, and `cutoff` at most 80 nm.
+    /// The reach with this core and this cutoff, in nm. The caller ensures 0 <= `core` < `cutoff` <= 80 nm.
     pub fn new(frac: Frac, core: Fx, cutoff: Fx) -> Reach
         requires core { pos 0 ≤ℤ core }
         requires order { core <ℤ cutoff }
@@ -74,7 +73,7 @@ impl Reach {
         }
     }
 
-    /// The least square that is out of reach.
+    /// The least square of a separation that is out of reach, in units of (10^-5 nm / 2^32)^2.
     pub fn limit(&self) -> u128
         ensures value { result ≡ limit_of self.now.frac self.now.cutoff }
         ensures reach { IsReach self.now }
@@ -82,7 +81,8 @@ impl Reach {
         self.limit
     }
 
-    /// The distance at which the force of two atoms is taken whose square is `s`: the core where their own is less.
+    /// The distance in nm at which the force of a pair is evaluated, `s` being the square of its separation and
+    /// `length` the length of its line: the pair's own, or the core if that is greater.
     pub(crate) fn distance(&self, s: u128, length: u64) -> Fx
         requires near { s < limit_of self.now.frac self.now.cutoff }
         requires bound { s < 2 ^ 112 }

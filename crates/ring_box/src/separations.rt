@@ -1,3 +1,5 @@
+//! Separations of two atoms, exact and in floating point.
+
 ghost use Rattle.std.specs.Prelude.{◌≡◌, ◌≤◌, ◌<◌, ◌+◌, ◌*◌, ◌^◌, unsigned_abs};
 ghost use Rattle.ring_box.specs.Distances.{axis_separation, square, x_separation, y_separation, z_separation};
 
@@ -7,14 +9,14 @@ use crate::places::diff;
 use crate::sides::Side;
 use crate::vectors::Place3;
 
-/// The separation of two atoms along each axis, in units of 10^-5 nm over 2^32.
+/// The separation of two atoms along each axis by the minimum image, in units of 10^-5 nm over 2^32.
 #[derive(Clone, Copy)]
 pub(crate) struct Separation {
     pub x: i64,
     pub y: i64,
     pub z: i64,
 
-    // half of the greatest side
+    // half of the longest side
     ghost x_bound: { unsigned_abs x ≤ 2 ^ 31 * 16000000 },
     ghost y_bound: { unsigned_abs y ≤ 2 ^ 31 * 16000000 },
     ghost z_bound: { unsigned_abs z ≤ 2 ^ 31 * 16000000 },
@@ -48,7 +50,7 @@ impl RingBox {
     }
 }
 
-/// About a separation, in floating point.
+/// A floating-point estimate of a separation.
 #[derive(Clone, Copy)]
 pub(crate) struct FloatSeparation {
     pub x: f64,
@@ -57,7 +59,7 @@ pub(crate) struct FloatSeparation {
 }
 
 impl RingBox {
-    /// About the separation.
+    /// The separation in floating point.
     #[inline(always)]
     pub(crate) fn float_separation(&self, p: Place3, q: Place3) -> FloatSeparation {
         FloatSeparation {
@@ -67,7 +69,7 @@ impl RingBox {
         }
     }
 
-    /// About the root of the square of the separation.
+    /// A floating-point estimate of the length of the separation, rounded down.
     #[inline(always)]
     pub(crate) fn root_estimate(&self, p: Place3, q: Place3) -> u64 {
         let FloatSeparation { x, y, z } = self.float_separation(p, q);

@@ -1,6 +1,9 @@
-//! Places, forces and cells, by their components along the axes.
+//! Positions, forces and cells, by their components along the axes.
+//!
+//! The axes are named fields, since laws about lists of three numbers would need cases for lists of other lengths. A
+//! force is generic over its number, since a tested run sums in 128 bits.
 
-/// The position of an atom: its place along each axis, a whole number below 2^32 on the ring of the side.
+/// The position of an atom: its grid coordinate along each axis, an integer below 2^32.
 #[derive(Clone, Copy, PartialEq, Eq, Debug)]
 pub struct Place3 {
     pub x: u32,
@@ -8,7 +11,7 @@ pub struct Place3 {
     pub z: u32,
 }
 
-/// A force by its components along the axes, in 2^-bits kJ/mol/nm, bits of the job.
+/// A force by its components along the axes, in units of 2^-bits kJ/mol/nm for a job with that many fraction bits.
 #[derive(Clone, Copy, PartialEq, Eq, Debug)]
 pub struct Force<T> {
     pub x: T,
@@ -16,7 +19,7 @@ pub struct Force<T> {
     pub z: T,
 }
 
-/// How many bits number the cells along each axis.
+/// The number of bits that index the cells along each axis.
 #[derive(Clone, Copy, PartialEq, Eq, Debug)]
 pub struct CellBits {
     pub x: u32,
@@ -24,7 +27,7 @@ pub struct CellBits {
     pub z: u32,
 }
 
-/// The numbers of a cell along the axes.
+/// The indices of a cell along the axes.
 #[derive(Clone, Copy, PartialEq, Eq, Debug)]
 pub struct CellNumbers {
     pub x: u32,

@@ -1,15 +1,15 @@
--- The history of one worker: what it has drawn and added, and where it stands.
+-- The history of one worker: its tickets and additions, and its progress.
 use Rattle.std.specs.Prelude.{◌≡◌, ◌⊎◌, ℕ, ◌<◌, ◌≤◌, List, [], ◌∷◌, ◌++◌, length}
 use Rattle.std.specs.List.{flat_map}
 use Rattle.tile_round.specs.Tiles.{Addition, tile_at}
 use Rattle.tile_pool.specs.declared.rule.Worker.{Worker}
 
--- P of each element
+-- P holds for each element
 abbrev pub Each : {A : Type 0} → (A → Type 0) → List A → Type 0
 Each P [] = Unit {0}
 Each P (x ∷ xs) = P x × Each P xs
 
--- P of each element but the last
+-- P holds for each element except the last
 abbrev pub EachEarlier : {A : Type 0} → (A → Type 0) → List A → Type 0
 EachEarlier P [] = Unit {0}
 EachEarlier P (x ∷ []) = Unit {0}
@@ -20,15 +20,15 @@ abbrev pub Ascends : List ℕ → Type 0
 Ascends [] = Unit {0}
 Ascends (t ∷ ts) = Each (λ u. t < u) ts × Ascends ts
 
--- a worker that has drawn and added nothing
+-- a worker that has neither drawn nor added anything
 abbrev pub fresh : ℕ → Worker
 fresh n = record { number = n; tickets = []; deposits = [] }
 
--- the worker once it has drawn the ticket
+-- the worker after it has drawn the ticket
 abbrev pub drew : Worker → ℕ → Worker
 drew w t = record { number = w.number; tickets = w.tickets ++ t ∷ []; deposits = w.deposits }
 
--- the worker once it has made the additions
+-- the worker after it has made these additions
 abbrev pub added : Worker → List Addition → Worker
 added w xs = record { number = w.number; tickets = w.tickets; deposits = w.deposits ++ xs }
 
@@ -37,12 +37,12 @@ module _ (tiles : List (List Addition)) where
   abbrev pub additions : List ℕ → List Addition
   additions ts = flat_map (tile_at tiles) ts
 
-  -- the tickets ascend, and at most the last is past the tiles
+  -- the tickets ascend, and at most the last is past the last tile
   pub record IsInOrder (w : Worker) : Type 0 where
     pub ascends : Ascends w.tickets
     pub inside : EachEarlier (λ t. t < length tiles) w.tickets
 
-  -- the tiles of all tickets but the last are done, and of the last one's tile these additions are left
+  -- the tiles of all tickets except the last are done, and of the last one's tile these additions are left
   pub record Owes (w : Worker) (left : List Addition) : Type 0 where
     pub earlier : List ℕ
     pub last : ℕ
@@ -51,24 +51,24 @@ module _ (tiles : List (List Addition)) where
     pub deposits : w.deposits ≡ additions earlier ++ made
     pub tile : made ++ left ≡ tile_at tiles last
 
-  -- nothing was drawn and added; or the deposits are the additions of the tickets' tiles in order, whole but for the
-  -- last one's, of which they are a beginning
+  -- nothing was drawn or added; or the deposits are the additions of the tickets' tiles in order, complete except for
+  -- the last one's, of which they are a prefix
   abbrev pub HasAdded : Worker → Type 0
   HasAdded w = ((w.tickets ≡ []) × (w.deposits ≡ [])) ⊎ ((left : List Addition) × Owes w left)
 
-  -- each ticket is a tile's, and all their additions are made
+  -- the worker may draw: each ticket is a tile's, and all their additions are made
   pub record IsReady (w : Worker) : Type 0 where
     pub tickets : Each (λ t. t < length tiles) w.tickets
     pub deposits : w.deposits ≡ additions w.tickets
 
-  -- the ticket was drawn last, and none of its additions is made yet, while those of the tickets before are
+  -- the ticket was drawn last, and none of its additions is made yet, but all those of the earlier tickets are
   pub record HasDrawn (w : Worker) (ticket : ℕ) : Type 0 where
     pub earlier : List ℕ
     pub tickets : w.tickets ≡ earlier ++ ticket ∷ []
     pub inside : Each (λ t. t < length tiles) earlier
     pub deposits : w.deposits ≡ additions earlier
 
-  -- a ticket past the tiles was drawn last, and all additions are made
+  -- a ticket past the last tile was drawn last, and all additions are made
   pub record HasStopped (w : Worker) : Type 0 where
     pub earlier : List ℕ
     pub last : ℕ

@@ -1,4 +1,4 @@
-//! The sums without workers.
+//! The sums on one thread: no table, no tickets and no atomic additions.
 ghost use Rattle.std.specs.Prelude.{◌≡◌, ◌*◌, ◌/◌, ◌<◌, ◌≤◌, length, Some, IfOk};
 ghost use Rattle.std.specs.List.{All, flat_map};
 ghost use Rattle.tile_round.specs.Tiles.{additions_of, additions_of_all, tile_of, tiles_of, pairs_at, IsPairOf};
@@ -9,7 +9,7 @@ use arrayvec::ArrayVec;
 use std::alloc::Allocator;
 use tile_round::{Memory, PairAdd, RowWork};
 
-// Makes the additions of a pair.
+// Adds the six components of a pair's forces to the sums.
 fn add_pair(sums: &mut [i64], add: &PairAdd)
     requires { IsPairOf (length sums.old / 3) add.now }
     ensures { GoesOn sums.old (additions_of (Some add.now)) sums.new }
@@ -21,7 +21,7 @@ fn add_pair(sums: &mut [i64], add: &PairAdd)
     }
 }
 
-// Makes those of pairs, one after the other.
+// Adds the forces of pairs, one after the other.
 fn add_pairs(sums: &mut [i64], adds: &[PairAdd])
     requires { All (IsPairOf (length sums.old / 3)) adds.now }
     ensures { GoesOn sums.old (additions_of_all adds.now) sums.new }
@@ -31,7 +31,7 @@ fn add_pairs(sums: &mut [i64], adds: &[PairAdd])
     }
 }
 
-// Makes those of all pairs of a tile. What `adds` held doesn't matter.
+// Adds the forces of all pairs of a tile. `adds` is work space.
 fn add_tile<S, W: RowWork<S>>(
     sums: &mut [i64],
     work: &W,
@@ -51,7 +51,7 @@ fn add_tile<S, W: RowWork<S>>(
     }
 }
 
-// Makes those of all tiles.
+// Adds the forces of all tiles, in order.
 fn add_tiles<S, W: RowWork<S>>(sums: &mut [i64], work: &W, scratch: &mut S)
     requires { W.atoms work.now ≤ length sums.old / 3 }
     ensures { GoesOn sums.old (flat_map tile_of (W.plan work.now)) sums.new }
@@ -62,8 +62,8 @@ fn add_tiles<S, W: RowWork<S>>(sums: &mut [i64], work: &W, scratch: &mut S)
     }
 }
 
-/// The forces on all atoms, summed over all tiles in order, on the caller's thread alone, which waits for nobody. It
-/// answers `Memory` where memory is refused. The caller's condition: the work has no more than this many atoms.
+/// The forces on all atoms, summed over all tiles in order on the caller's thread only. It waits for no other thread.
+/// `Memory` if an allocation fails. The caller ensures that the work has at most this many atoms.
 pub fn forces_alone<A: Allocator + Copy, S, W: RowWork<S>>(
     alloc: A,
     work: &W,

@@ -1,4 +1,8 @@
 //! One worker, from its first ticket to the one that stops it.
+//!
+//! A worker adds forces in batches of at most 128 interacting pairs (`RowWork::next_adds`), so that the forces of a
+//! batch can be computed together. The batch is made once per worker: its four kilobytes of zeros would be most of the
+//! cost of an empty tile.
 ghost use Rattle.std.specs.Prelude.{◌≡◌, ◌<◌, ◌≤◌, length};
 ghost use Rattle.tile_round.specs.Tiles.{tiles_of, tile_of, pairs_at};
 ghost use Rattle.tile_pool.specs.Workers.{HasDrawn, HasStopped, fresh, added};
@@ -9,14 +13,14 @@ use crate::steps::{claim, deposit_pairs};
 use arrayvec::ArrayVec;
 use tile_round::{PairAdd, RowWork};
 
-/// A gate, which a worker passes before each tile that it has drawn.
+/// A test hook that each worker calls before each tile that it has drawn.
 pub trait Gate {
-    /// It is called once for each tile that is drawn, by the worker that drew it, after its claim
-    /// and before the tile's first pair is asked for.
+    /// Called once for each tile drawn, by the worker that drew it, after its claim and before the tile's first pair is
+    /// visited.
     fn before_tile(&self, worker: u32, tile: u64);
 }
 
-// Makes all additions of the tile that was drawn. What `adds` held doesn't matter.
+// Makes all additions of the tile that was drawn. `adds` is work space.
 fn deposit_tile<S, W: RowWork<S>>(
     table: &PoolTable<W>,
     seat: &mut PoolSeat,
@@ -43,12 +47,12 @@ fn deposit_tile<S, W: RowWork<S>>(
     }
 }
 
-/// Draws tiles and makes their additions, each by one step on the table, until a ticket is past
-/// the tiles. It gives the seat back, whose view holds this worker alone, stopped: so it has added
-/// all that its tiles say, in order, and nothing else. It takes no memory and waits for nobody.
+/// Draws tiles and makes their additions, each by one step on the table, until a ticket is past the last tile. Returns
+/// the seat, whose view holds only this worker, stopped: it has made all additions of its tiles, in order, and no
+/// others. It allocates nothing and waits for no other thread.
 ///
-/// The caller's conditions: the table is made for this work and for enough atoms, and the seat is
-/// the table's and stands for this worker alone, which has drawn nothing yet.
+/// The caller ensures that the table is made for this work and for enough atoms, that the seat belongs to the table,
+/// and that it represents only this worker, which has drawn nothing yet.
 pub fn drive<S, W: RowWork<S>, G: Gate>(
     table: &PoolTable<W>,
     mut seat: PoolSeat,

@@ -1,7 +1,8 @@
-//! Workers in threads, which draw tiles of pairs of atoms and add their forces into one table of
-//! shared words: a word that counts the tickets, and one for each component of each atom. Each
-//! step on the table is a single `fetch_add`. Whatever the order in which the steps of all workers
-//! fall, the words hold the same sums.
+//! A pool of worker threads that draw tiles of pairs of atoms and add the forces into one table of shared atomic words:
+//! one word counts the tickets, and one word sums each component of each atom.
+//!
+//! Each step on the table is a single `fetch_add`. The words hold the same sums for every interleaving of the workers'
+//! steps.
 #![tactic(auto)]
 
 mod alone;

@@ -1,4 +1,9 @@
-//! The whole pool: its threads, its table, and what it answers.
+//! The whole pool: its threads, its table, and its result.
+//!
+//! `thread::join` starts threads in a recursion: each worker's seat moves into its thread and comes back with the
+//! worker's history. So all workers run at once, the caller's thread is worker 0, and there is no list of threads to
+//! keep. If a thread can't be started, the caller's thread runs that worker after the others; the worker finds the
+//! tickets that are left, mostly none, and stops. So each pair is still visited once, and the sums needn't be repeated.
 ghost use Rattle.std.specs.Prelude.{◌≡◌, ℕ, ◌+◌, ◌*◌, ◌%◌, ◌^◌, ◌<◌, ◌≤◌, [], ◌++◌, length, take, drop, IfOk, vec_len, vec_capacity, slice_index};
 ghost use Rattle.std.specs.Mem.Slots.{slots_items, slots_len, IsFull};
 ghost use denote.Param.Send.{IsSend, IsSync};
@@ -29,7 +34,7 @@ fn split_first<W: Work>(table: &PoolTable<W>, seat: &mut PoolSeat) -> PoolSeat
     table.split_seat::<FirstWorker>(seat)
 }
 
-// Puts the workers of another seat behind those of this one.
+// Appends the workers of another seat to those of this seat.
 fn join_last<W: Work>(table: &PoolTable<W>, seat: &mut PoolSeat, other: PoolSeat)
     requires table { seat.old.table_id ≡ table.now.table_id }
     requires sized { IsSized table.now.table_id table.now.key.atoms table.now.key.workers
@@ -42,8 +47,8 @@ fn join_last<W: Work>(table: &PoolTable<W>, seat: &mut PoolSeat, other: PoolSeat
     table.join_seat::<FirstWorker>(seat, other);
 }
 
-// Runs a worker for each scratch, the last in a thread of its own where one can be made, and the
-// others here. Where none can be made, the last runs here after the others.
+// Runs one worker for each scratch: the last in a thread of its own if one can be started, the others recursively here.
+// If no thread can be started, the last runs here after the others.
 fn run_all<R: Threads + Sync, S: Send, W: RowWork<S> + Sync, G: Gate + Sync>(
     rt: &R,
     table: &PoolTable<W>,
@@ -114,15 +119,16 @@ fn read_words<A: Allocator + Copy>(
     sums
 }
 
-/// The sum of all forces on each component of each atom: the sum of all tiles on it, modulo
-/// 2^64 and read as a signed number, whatever the number of workers and the order of their steps.
-/// Each worker has one of the scratches. It answers `Memory` where memory is refused. The caller's thread is worker 0,
-/// and each other worker has a thread, which is joined. A worker whose thread can't be started is run by the caller's
-/// thread after the others, so each pair is asked for once. Memory is taken before the first worker starts. Each worker
-/// takes a thread and a frame of the caller's stack: a program bounds their number.
+/// The sum of all forces on each component of each atom: the sum over all tiles, modulo 2^64 and read as a signed
+/// number, for every number of workers and every interleaving of their steps. `Memory` if an allocation fails.
 ///
-/// The caller's conditions: there is a scratch, and fewer than 2^32, the work has no more than this many atoms, and
-/// tiles and workers together are fewer than 2^64.
+/// There is one worker for each scratch. The caller's thread is worker 0, and each other worker has a thread, which is
+/// joined. If a thread can't be started, the caller's thread runs its worker after the others, so each pair is visited
+/// once. All memory is allocated before the first worker starts. Each worker takes a thread and a frame of the caller's
+/// stack, so a program must bound their number.
+///
+/// The caller ensures that there is at least one scratch and fewer than 2^32, that the work has at most this many
+/// atoms, and that tiles and workers together are fewer than 2^64.
 pub fn forces<
     R: Threads + Sync,
     A: Allocator + Copy,

@@ -1,4 +1,9 @@
-//! The rule of the table: what is known at each seat, what holds between any two steps, and what a step tells.
+//! The invariant of the table (its rule): the view of each seat, the property that holds between any two steps, and the
+//! effect of each step.
+//!
+//! A view is a list of workers, each with its tickets and deposits. It exists only in proofs and takes no memory at run
+//! time. "Each once" is stated by counts over all views, from which proofs conclude that a sum over all tickets is a
+//! sum over the numbers below word 0.
 use atomic_table::{Join, Play, Seat, Shared, Split, TableRule};
 use std::alloc::Global;
 use std::collections::LinkedList;
@@ -6,20 +11,20 @@ use std::marker::PhantomData;
 use std::snapshot::Snapshot;
 use tile_round::Work;
 
-/// The history of one worker: what it has drawn and added so far, in order. It stands in proofs alone:
-/// no value of it is made.
+/// The history of one worker: its tickets and additions so far, in order. It exists only in proofs: no value of it is
+/// made.
 pub struct Worker {
     pub number: u64,
-    /// The tickets that it drew.
+    /// The tickets that the worker drew.
     pub tickets: LinkedList<u64, Global>,
-    /// Its additions: the entry of the sums, and the amount modulo 2^64.
+    /// The worker's additions: the entry of the sums, and the amount modulo 2^64.
     pub deposits: LinkedList<(u64, u64), Global>,
 }
 
-/// The workers that a seat stands for.
+/// The workers that a seat represents.
 pub type View = LinkedList<Worker, Global>;
 
-/// The setting of a table: the work as it was when the table was made, and the numbers of atoms and workers.
+/// The parameters of a table: the work as it was when the table was made, and the numbers of atoms and workers.
 pub struct Setting<W> {
     pub work: Snapshot<W>,
     pub atoms: u64,
@@ -39,15 +44,15 @@ impl<W> Drop for Setting<W> {
 /// The rule of the table. Between any two steps:
 ///
 /// - the tickets in all views are the numbers below word 0, each once;
-/// - each worker's tickets ascend, and at most the last is past the tiles;
-/// - each worker's deposits are the additions of its tickets' tiles in order, whole but for the
-///   last one's, of which they are a beginning;
+/// - each worker's tickets ascend, and at most the last is past the last tile;
+/// - each worker's deposits are the additions of its tickets' tiles in order, complete except for the last one's, of
+///   which they are a prefix;
 /// - each other word is the sum modulo 2^64 of the deposits in all views;
 /// - the numbers of the workers in all views are those below the number of workers, each once.
 ///
-/// So a sum that was kept aside is no deposit, and no deposit is one of a tile that wasn't drawn.
-/// Besides, words and views stand for a state that the machine of a round reaches by some list of
-/// events, as `steps_are_events` says step by step.
+/// So a sum that was kept aside is no deposit, and no deposit is from a tile that wasn't drawn. Words and views also
+/// represent a state that the machine of a round reaches by some list of events, as `steps_are_events` states step by
+/// step.
 pub struct PoolRule<W> {
     work: PhantomData<W>,
 }
@@ -65,7 +70,7 @@ impl<W: Work> TableRule<(), View, Setting<W>> for PoolRule<W> {
 /// The table as all workers see it.
 pub type PoolTable<W> = Shared<(), View, Setting<W>, PoolRule<W>>;
 
-/// A seat at the table.
+/// A seat at the table: the right to make steps on it for the workers of its view.
 pub type PoolSeat = Seat<(), View>;
 
 /// The step that draws a ticket.
@@ -86,7 +91,7 @@ impl Play<(), View> for Deposit {
     ghost then = { adds };
 }
 
-/// The first worker of a view, which goes to a seat of its own and comes back from it.
+/// The first worker of a view, which is split off into a seat of its own and joined again.
 pub struct FirstWorker;
 
 impl Split<View> for FirstWorker {

@@ -1,4 +1,4 @@
-//! The two steps on the table.
+//! The two steps on the table, each a single `fetch_add`.
 ghost use Rattle.std.specs.Prelude.{◌≡◌, ◌+◌, ◌*◌, ◌<◌, List, [], ◌∷◌, ◌++◌, length, take, Some};
 ghost use Rattle.std.specs.List.{All};
 ghost use Rattle.tile_round.specs.Tiles.{Addition, tiles_of, additions_of, additions_of_all, IsPairOf};
@@ -8,7 +8,7 @@ ghost use Rattle.tile_pool.specs.Rule.{alone, first_of, IsSized};
 use crate::rule::{Claim, Deposit, PoolSeat, PoolTable};
 use tile_round::{PairAdd, Work};
 
-// Draws a ticket.
+// Draws a ticket: adds 1 to word 0 and returns its old value.
 pub(crate) fn claim<W: Work>(table: &PoolTable<W>, seat: &mut PoolSeat) -> u64
     requires table { seat.old.table_id ≡ table.now.table_id }
     requires sized { IsSized table.now.table_id table.now.key.atoms table.now.key.workers
@@ -22,7 +22,7 @@ pub(crate) fn claim<W: Work>(table: &PoolTable<W>, seat: &mut PoolSeat) -> u64
     table.fetch_add::<Claim>(seat, 0, 1)
 }
 
-// Makes the next addition that the worker owes.
+// Makes the next addition that the worker owes: adds `amount` to the word of `entry`.
 pub(crate) fn deposit<W: Work>(table: &PoolTable<W>, seat: &mut PoolSeat, entry: usize, amount: u64)
     requires table { seat.old.table_id ≡ table.now.table_id }
     requires sized { IsSized table.now.table_id table.now.key.atoms table.now.key.workers
@@ -37,7 +37,7 @@ pub(crate) fn deposit<W: Work>(table: &PoolTable<W>, seat: &mut PoolSeat, entry:
     table.fetch_add::<Deposit>(seat, 1 + entry, amount);
 }
 
-// Makes the six additions of a pair.
+// Makes the six additions of an interacting pair.
 pub(crate) fn deposit_pair<W: Work>(table: &PoolTable<W>, seat: &mut PoolSeat, add: &PairAdd)
     requires table { seat.old.table_id ≡ table.now.table_id }
     requires sized { IsSized table.now.table_id table.now.key.atoms table.now.key.workers
@@ -55,7 +55,7 @@ pub(crate) fn deposit_pair<W: Work>(table: &PoolTable<W>, seat: &mut PoolSeat, a
     }
 }
 
-// Makes those of pairs, one after the other.
+// Makes the additions of interacting pairs, one after the other.
 pub(crate) fn deposit_pairs<W: Work>(table: &PoolTable<W>, seat: &mut PoolSeat, adds: &[PairAdd])
     requires table { seat.old.table_id ≡ table.now.table_id }
     requires sized { IsSized table.now.table_id table.now.key.atoms table.now.key.workers

@@ -1,11 +1,13 @@
+//! The result of a pool.
+
 ghost use Rattle.std.specs.Prelude.{◌≡◌};
 
 use std::alloc::Allocator;
 use std::convert::AsSlice;
 use std::marker::Model;
 
-/// The forces on all atoms, in 2^-bits kJ/mol/nm, bits of the job: entry `3a + axis` is the sum of
-/// that component on atom `a`, counted from 0. It is seen as the list of its entries.
+/// The forces on all atoms, in units of 2^-bits kJ/mol/nm for a job with that many fraction bits: entry `3a + axis` is
+/// the sum of that component on atom `a`, from 0. Contracts see the list of the entries.
 #[derive(Drop)]
 pub struct Forces<A: Allocator + Copy> {
     pub(crate) sums: Vec<i64, A>,

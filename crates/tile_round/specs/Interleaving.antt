@@ -1,4 +1,5 @@
--- A round as a machine: its state, and what each event does.
+-- A round as a state machine: its state, and the effect of each event. A list of events is an interleaving of the
+-- workers' steps.
 use Rattle.std.specs.Prelude.{ℕ, zero, suc, ◌+◌, ◌%◌, ◌^◌, List, [], ◌∷◌, ◌++◌, length, slice_get, slice_set, slice_index, replicate, if◌then◌else◌, nat_lt, Option, Some, None, Result, Ok, Err}
 use Rattle.tile_round.specs.Tiles.{Addition, tile_at}
 use Rattle.tile_round.specs.declared.events.Event.{Event}
@@ -8,27 +9,28 @@ use Rattle.tile_round.specs.declared.events.Outcome.TheVariants.{Drew, Ended, Ad
 use Rattle.tile_round.specs.declared.faults.RoundFault.{RoundFault}
 use Rattle.tile_round.specs.declared.faults.RoundFault.TheVariants.{NoSuchWorker, Stopped, Busy, Idle}
 
--- a worker has additions left to make, or has stopped
+-- the progress of a worker: the additions that it has left to make, or that it has stopped
 pub data Stand : Type 0 where
   doing : List Addition → Stand
   ended : Stand
 
--- who drew each ticket so far, where each worker stands, and the sums
+-- the worker that drew each ticket so far, the progress of each worker, and the sums
 pub record State : Type 0 where
   pub drawn : List ℕ
   pub stands : List Stand
   pub sums : List ℕ
 
--- word 0 counts the tickets, and word 1 + k is entry k of the sums
+-- word 0 is the number of tickets drawn, and word 1 + k is entry k of the sums
 abbrev pub word : State → ℕ → ℕ
 word s zero = length s.drawn
 word s (suc k) = slice_index s.sums k
 
--- a round over these tiles, and how far it has come
+-- a round over these tiles, and its current state
 pub record Progress : Type 0 where
   pub tiles : List (List Addition)
   pub state : State
 
+-- the opening state: no ticket drawn, no worker busy, all sums zero
 abbrev pub opening : ℕ → ℕ → State
 opening workers entries = record {
   drawn = [];
@@ -37,14 +39,15 @@ opening workers entries = record {
 }
 
 module _ (tiles : List (List Addition)) where
-  -- where a worker stands once it has drawn the ticket
+  -- the progress of a worker that has just drawn ticket t
   abbrev pub stand_at : ℕ → Stand
   stand_at t = if nat_lt t (length tiles) then doing (tile_at tiles t) else ended
 
+  -- the outcome of a claim that draws ticket t
   abbrev pub outcome_at : ℕ → Outcome
   outcome_at t = if nat_lt t (length tiles) then Drew t else Ended
 
-  -- the worker draws the next ticket
+  -- the state after the worker w has drawn the next ticket
   abbrev pub claimed : State → ℕ → State
   claimed s w = record {
     drawn = s.drawn ++ w ∷ [];
@@ -52,7 +55,7 @@ module _ (tiles : List (List Addition)) where
     sums = s.sums;
   }
 
-  -- the worker makes its next addition, and has the rest left
+  -- the state after the worker w has made the addition a, with the rest left to make
   abbrev pub deposited : State → ℕ → Addition → List Addition → State
   deposited s w a rest = record {
     drawn = s.drawn;
@@ -60,20 +63,21 @@ module _ (tiles : List (List Addition)) where
     sums = slice_set s.sums a.0 ((slice_index s.sums a.0 + a.1) % 2 ^ 64);
   }
 
-  -- by how the worker stands
+  -- a claim of the worker w, according to its progress
   abbrev pub on_claim : State → ℕ → Option Stand → State × Result Outcome RoundFault
   on_claim s w None = (s, Err NoSuchWorker)
   on_claim s w (Some ended) = (s, Err Stopped)
   on_claim s w (Some (doing (a ∷ rest))) = (s, Err Busy)
   on_claim s w (Some (doing [])) = (claimed s w, Ok (outcome_at (length s.drawn)))
 
+  -- a deposit of the worker w, according to its progress
   abbrev pub on_deposit : State → ℕ → Option Stand → State × Result Outcome RoundFault
   on_deposit s w None = (s, Err NoSuchWorker)
   on_deposit s w (Some ended) = (s, Err Stopped)
   on_deposit s w (Some (doing [])) = (s, Err Idle)
   on_deposit s w (Some (doing (a ∷ rest))) = (deposited s w a rest, Ok (Added (1 + a.0)))
 
-  -- one event: what it leaves, and the answer
+  -- one event: the state after it, and the result
   abbrev pub step : State → Event → State × Result Outcome RoundFault
   step s (Claim w) = on_claim s w (slice_get s.stands w)
   step s (Deposit w) = on_deposit s w (slice_get s.stands w)

@@ -1,4 +1,4 @@
--- The places of workers that a round keeps, and the machine's state that they tell.
+-- The workers' progress as a round keeps it, and the state of the machine that it represents.
 use Rattle.std.specs.Prelude.{◌≡◌, ℕ, ◌+◌, ◌*◌, ◌<◌, ◌≤◌, List, [], ◌++◌, length, map, drop, slice_get, sum_by, Option, Some, None, Result, Ok, Err, ℤ}
 use Rattle.std.specs.Int.{w64, cast_signed, cast_unsigned}
 use Rattle.tile_round.specs.Tiles.{Addition, additions_of, tile_of, pairs_at, IsPairOf}
@@ -12,10 +12,11 @@ use Rattle.tile_round.specs.declared.places.WorkerPlace.{WorkerPlace}
 use Rattle.tile_round.specs.declared.places.WorkerPlace.TheVariants.{Resting, Adding, Stopped}
 
 module _ (plan : List (List (Option PairAdd))) where
-  -- the additions of the pairs after the one at hand
+  -- the additions of the tile's pairs after the current one
   abbrev pub later : Task → List Addition
   later task = tile_of (drop task.next (pairs_at plan task.tile))
 
+  -- the machine's progress of a worker
   abbrev pub stand_of : WorkerPlace → Stand
   stand_of Resting = doing []
   stand_of (Adding task) = doing (drop task.part (additions_of (Some task.add)) ++ later task)
@@ -24,7 +25,7 @@ module _ (plan : List (List (Option PairAdd))) where
   abbrev pub stands_of : List WorkerPlace → List Stand
   stands_of places = map stand_of places
 
--- the task that a worker at this place has left, or why each of its events is refused
+-- the rest of the worker's tile, or the reason why its events are rejected
 abbrev pub task_at : Option WorkerPlace → Result (Option Task) RoundFault
 task_at None = Err NoSuchWorker
 task_at (Some Stopped) = Err StoppedFault
@@ -37,7 +38,7 @@ stops (doing _) = 0
 stops ended = 1
 
 module _ (atoms : ℕ) (plan : List (List (Option PairAdd))) where
-  -- a task within the plan, with an addition left of the pair at hand
+  -- a task within the plan, with an addition of the current pair left
   pub record IsTask (task : Task) : Type 0 where
     pub pair : IsPairOf atoms task.add
     pub part : task.part < 6
@@ -50,11 +51,11 @@ module _ (atoms : ℕ) (plan : List (List (Option PairAdd))) where
 
   -- the invariant of a round
   pub record IsSound (drawn : List ℕ) (room : ℕ) (places : List WorkerPlace) (sums : List ℤ) : Type 0 where
-    -- the workers' places are within the plan
+    -- the workers' tasks are within the plan
     pub within : (w : ℕ) (p : WorkerPlace) → slice_get places w ≡ Some p → IsWorkerPlace p
-    -- there are sums for all atoms, each a number of 64 bits
+    -- there are three sums for each atom, each a signed number of 64 bits
     pub wide : 3 * atoms ≤ length sums
     pub signed : map (cast_signed w64) (map (cast_unsigned w64) sums) ≡ sums
-    -- there is room for every ticket that can be drawn
+    -- there is capacity for every ticket that can be drawn
     pub few : length drawn ≤ length plan + sum_by stops (stands_of plan places)
     pub enough : length plan + length places ≤ room

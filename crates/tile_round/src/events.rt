@@ -1,6 +1,6 @@
 //! Events of a round, and their outcomes.
 
-/// One atomic step of a worker, named by its number from 0 on.
+/// One atomic event of a worker; workers are numbered from 0.
 #[derive(Clone, Copy)]
 pub enum Event {
     /// The worker draws the next ticket.
@@ -14,9 +14,8 @@ pub enum Event {
 pub enum Outcome {
     /// The claim drew this tile.
     Drew(u64),
-    /// The claim drew a ticket past the tiles, and the worker has stopped.
+    /// The claim drew a ticket past the last tile, and the worker has stopped.
     Ended,
-    /// The deposit was added to this word. The word of component `axis` of atom `a` is
-    /// `1 + 3a + axis`.
+    /// The deposit was added to this word. The word of component `axis` of atom `a` is `1 + 3a + axis`.
     Added(u64),
 }

@@ -1,24 +1,26 @@
+//! Errors of a round.
+
 use std::alloc::{AllocError, AllocFailed};
 use thiserror::Error;
 
-/// Why an event was refused. A refused event has changed nothing.
+/// Why an event was rejected. A rejected event has changed nothing.
 #[derive(Clone, Copy, PartialEq, Eq, Debug, Error)]
 pub enum RoundFault {
     /// No worker has this number.
     #[error("Q1 NoSuchWorker")]
     NoSuchWorker,
-    /// A deposit of a worker that has no addition left to make.
+    /// The worker of this deposit has no addition left to make.
     #[error("Q2 Idle")]
     Idle,
-    /// A claim of a worker whose tile has additions left.
+    /// The worker of this claim has additions of its tile left to make.
     #[error("Q3 Busy")]
     Busy,
-    /// The last claim of this worker drew a ticket past the tiles.
+    /// The worker has stopped: its last claim drew a ticket past the last tile.
     #[error("Q4 Stopped")]
     Stopped,
 }
 
-/// Memory was refused.
+/// An allocation failed.
 #[derive(Clone, Copy, PartialEq, Eq, Debug, Error)]
 #[error("Memory")]
 pub struct Memory;

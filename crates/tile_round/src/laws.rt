@@ -1,4 +1,4 @@
-//! Law of a round: its sums after any list of events, in any order.
+//! Laws of a round: the sums after every list of events.
 ghost use Rattle.std.specs.Prelude.{◌≡◌, ◌≤◌, ◌+◌, ◌*◌, ℕ, List, Option, length};
 ghost use Rattle.tile_round.specs.declared.events.Event.{Event};
 ghost use Rattle.tile_round.specs.declared.work.PairAdd.{PairAdd};
@@ -7,15 +7,14 @@ ghost use Rattle.tile_round.specs.Interleaving.{opening, run, word};
 ghost use Rattle.tile_round.specs.Laws.{claims, SumsDeposits, IsOver, IsWhole};
 ghost use Rattle.tile_round.specs.ExactSums.{PlanHasWords, TotalsComeOut, WordsComeOut};
 
-/// Law of the state to which any list of events leads from the opening one, for all tiles and
-/// every number of workers.
+/// Law of the state after any list of events from the opening state, for all tiles and every number of workers.
 ///
-/// - Word 0 is the number of accepted claims, and at most tiles plus workers.
+/// - Word 0 is the number of accepted claims, and at most the number of tiles plus workers.
 /// - Each other word is the sum of the deposits made, modulo 2^64.
-/// - Once some worker has stopped, and so has each that ever claimed, each tile was drawn by one
-///   worker, once, and each other word is the sum of all amounts on it over all tiles, modulo 2^64.
-/// - Where the tiles are pairs of forces and the exact sum of a component fits 64 bits, its word
-///   then is that sum, whatever wrapped on the way.
+/// - If some worker has stopped, and every worker that ever claimed has stopped, each tile was drawn by one worker,
+///   once, and each other word is the sum of all amounts on it over all tiles, modulo 2^64.
+/// - If, moreover, the tiles are pairs with forces of 64 bits and the exact sum of a component fits 64 bits, its word
+///   is that sum, whatever wrapped on the way.
 pub fn every_order()
     ensures tickets { (tiles : List (List Addition)) (workers entries : ℕ) (events : List Event)
         → word (run tiles (opening workers entries) events) 0
@@ -33,8 +32,8 @@ pub fn every_order()
         → WordsComeOut plan atoms (run (tiles_of plan) (opening workers (3 * atoms)) events) }
 {}
 
-/// The sum of all amounts on a component over all tiles, modulo 2^64 and read as a signed number,
-/// is the exact sum of the forces, where that fits.
+/// Law: the sum of all amounts on a component over all tiles, modulo 2^64 and read as a signed number, is the exact sum
+/// of the forces, if that sum fits 64 bits.
 pub fn exact_totals()
     ensures { (plan : List (List (Option PairAdd))) → PlanHasWords plan → TotalsComeOut plan }
 {}

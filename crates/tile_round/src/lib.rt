@@ -1,7 +1,8 @@
-//! Rounds in which workers draw tiles of pairs of atoms and add their forces into shared words, as
-//! a machine of single events: a claim draws a ticket, a deposit adds one component of a force.
-//! Whatever the order of the events, once all workers have stopped each word is the sum over all
-//! tiles.
+//! A round of force summation as a state machine: workers draw tiles of pairs of atoms and add the pairs' forces into
+//! shared words.
+//!
+//! The machine has single atomic events: a claim draws a ticket, and a deposit adds one component of a force. Once all
+//! workers have stopped, each word is the sum over all tiles, for every interleaving of the events.
 #![tactic(auto)]
 
 mod events;

@@ -1,3 +1,5 @@
+//! The progress of each worker, as a round keeps it.
+
 ghost use Rattle.std.specs.Prelude.{◌≡◌, ◌+◌, ◌<◌, ◌≤◌, ◌++◌, length, drop, slice_get, Some};
 ghost use Rattle.tile_round.specs.Tiles.{additions_of, tile_of, pairs_at};
 ghost use Rattle.tile_round.specs.Interleaving.Stand.{doing};
@@ -6,19 +8,19 @@ ghost use Rattle.tile_round.specs.Places.{later, stand_of, task_at, IsTask, IsWo
 use crate::faults::RoundFault;
 use crate::work::{PairAdd, Work};
 
-/// Where a worker stands.
+/// The progress of a worker.
 #[derive(Clone, Copy)]
 pub(crate) enum WorkerPlace {
-    /// It has nothing left to add.
+    /// The worker has no addition left to make, and may claim.
     Resting,
-    /// It has additions left.
+    /// The worker has additions left to make.
     Adding(Task),
-    /// It has stopped.
+    /// The worker has stopped.
     Stopped,
 }
 
-/// The rest of a worker's tile: the additions of the pair at hand from `part` on, and then
-/// the pairs from `next` on.
+/// The rest of a worker's tile: the additions of the current pair from `part` on, then those of the pairs from `next`
+/// on.
 #[derive(Clone, Copy)]
 pub(crate) struct Task {
     pub(crate) tile: u64,
@@ -36,7 +38,7 @@ impl Task {
         self.add.addition(self.part)
     }
 
-    // Where the worker stands after it.
+    // The worker's progress once it has made that addition.
     pub(crate) fn after<W: Work>(self, work: &W) -> WorkerPlace
         requires { IsTask (W.atoms work.now) (W.plan work.now) self }
         ensures stand { stand_of (W.plan work.now) result
@@ -57,8 +59,8 @@ impl Task {
     }
 }
 
-// The task that a worker has left, and none where it is at rest. It is refused where there is no
-// worker of this number, and else where the worker has stopped.
+// The rest of a worker's tile, or `None` if nothing is left. Errors: `NoSuchWorker` if no worker has this number,
+// `Stopped` if the worker has stopped.
 pub(crate) fn task_of(places: &[WorkerPlace], worker: u32) -> Result<Option<Task>, RoundFault>
     ensures { result ≡ task_at (slice_get places.now worker) }
 {
@@ -70,7 +72,7 @@ pub(crate) fn task_of(places: &[WorkerPlace], worker: u32) -> Result<Option<Task
     }
 }
 
-// The place at the first pair that acts, from this one of the tile on.
+// The worker's progress at the first interacting pair of the tile from the pair `first` on.
 pub(crate) fn place_from<W: Work>(work: &W, tile: u64, first: u64) -> WorkerPlace
     requires tile { tile < length (W.plan work.now) }
     requires first { first ≤ length (pairs_at (W.plan work.now) tile) }

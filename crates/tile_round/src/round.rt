@@ -1,3 +1,5 @@
+//! A round that runs: the state machine over a work.
+
 ghost use Rattle.std.specs.Prelude.{◌≡◌, ◌+◌, ◌*◌, ◌^◌, ◌<◌, ◌≤◌, length, map, slice_get, IfOk, OnErr};
 ghost use Rattle.std.specs.Int.{w64, cast_signed};
 ghost use Rattle.tile_round.specs.Tiles.{tiles_of};
@@ -10,14 +12,14 @@ use crate::work::Work;
 use std::alloc::Allocator;
 use std::marker::Model;
 
-/// A round of workers over a work. It is seen as the work's tiles, each a list of additions, and
-/// how far it has come: who drew each ticket, where each worker stands, and the sums.
+/// A round of workers over a work. Contracts see the work's tiles, each a list of additions, and the state: who drew
+/// each ticket, each worker's progress, and the sums.
 #[derive(Drop)]
 pub struct Round<'w, W: Work, A: Allocator + Copy> {
     work: &'w W,
-    // who drew each ticket
+    // the worker that drew each ticket
     drawn: Vec<u32, A>,
-    // where each worker stands
+    // the progress of each worker
     places: Vec<WorkerPlace, A>,
     sums: Vec<i64, A>,
 }
@@ -45,10 +47,11 @@ impl<'w, W: Work, A: Allocator + Copy> Model for Round<'w, W, A> {
 }
 
 impl<'w, W: Work, A: Allocator + Copy> Round<'w, W, A> {
-    /// The opening of a round of this many workers over the work, each word zero. It makes room
-    /// for all that the round will keep, and answers `Memory` where that is refused. The caller's
-    /// conditions: the work has no more than this many atoms, and tiles and workers together are
-    /// fewer than 2^64.
+    /// The opening state of a round with this many workers over the work; each word is zero. All memory of the round is
+    /// allocated here. `Memory` if an allocation fails.
+    ///
+    /// The caller ensures that the work has at most this many atoms, and that tiles and workers together are fewer than
+    /// 2^64.
     pub fn new(alloc: A, work: &'w W, atoms: u32, workers: u32) -> Result<Self, Memory>
         requires atoms { W.atoms work.now ≤ atoms }
         requires tiles { length (W.plan work.now) + workers < 2 ^ 64 }
@@ -69,10 +72,11 @@ impl<'w, W: Work, A: Allocator + Copy> Round<'w, W, A> {
         })
     }
 
-    /// One event. It takes no memory. It is refused, and changes nothing, as `NoSuchWorker` where
-    /// no worker has the number; else as `Stopped` where the worker has stopped; else a claim as
-    /// `Busy` where the worker's tile has additions left, and a deposit as `Idle` where there are
-    /// none.
+    /// Makes one event. It allocates nothing.
+    ///
+    /// Errors, after which nothing has changed: `NoSuchWorker` if no worker has the number; `Stopped` if the worker has
+    /// stopped; `Busy` for a claim while additions of the worker's tile are left; `Idle` for a deposit while none is
+    /// left.
     pub fn step(&mut self, event: Event) -> Result<Outcome, RoundFault>
         ensures tiles { self.new.tiles ≡ self.old.tiles }
         ensures event { (self.new.state, result) ≡ step self.old.tiles self.old.state event }
@@ -84,15 +88,14 @@ impl<'w, W: Work, A: Allocator + Copy> Round<'w, W, A> {
         }
     }
 
-    /// How many tickets were drawn, which is word 0.
+    /// The number of tickets drawn, which is word 0.
     pub fn tickets(&self) -> u64
         ensures { result ≡ word self.now.state 0 }
     {
         self.drawn.len() as u64
     }
 
-    /// The words after the first, read as signed numbers: entry `3a + axis` is word
-    /// `1 + 3a + axis`.
+    /// The words after the first, read as signed numbers: entry `3a + axis` is word `1 + 3a + axis`.
     pub fn sums(&self) -> &[i64]
         ensures { result.now ≡ map (cast_signed w64) self.now.state.sums }
     {

@@ -1,3 +1,5 @@
+//! The work of a round: tiles of pairs of atoms, and the forces that the pairs add.
+
 ghost use Rattle.std.specs.Prelude.{◌≡◌, ◌+◌, ◌<◌, ◌≤◌, ℕ, List, length, slice_get, Option, Some, IfSome};
 ghost use Rattle.std.specs.List.{All};
 ghost use Rattle.tile_round.specs.declared.work.PairAdd.{PairAdd};
@@ -5,25 +7,26 @@ ghost use Rattle.tile_round.specs.Tiles.{additions_of, along, against, pairs_at,
 
 use arrayvec::ArrayVec;
 
-/// The force of a pair of atoms that acts, as it is added: the force itself to the atom `low`, its negative to the
-/// atom `high`.
+/// The force of an interacting pair, as it is added: the force itself to the atom `low`, its negative to the atom
+/// `high`.
 #[derive(Clone, Copy, PartialEq, Eq, Default, Debug)]
 pub struct PairAdd {
-    /// The number of the atom on which the force acts, from 0: the lower of the two.
+    /// The index of the atom on which the force acts, from 0: the lower of the two.
     pub low: u32,
-    /// The number of the atom on which its negative acts: the higher of the two.
+    /// The index of the atom on which the negative force acts: the higher of the two.
     pub high: u32,
-    /// The components of the force on `low` along x, y and z, in 2^-bits kJ/mol/nm, bits of the job.
+    /// The components of the force on `low` along x, y and z, in units of 2^-bits kJ/mol/nm for a job with that many
+    /// fraction bits.
     pub force: [i64; 3],
 }
 
 impl PairAdd {
-    /// How many additions a pair that acts makes.
+    /// The number of additions that an interacting pair makes.
     pub const PARTS: usize = 6;
 
-    /// An addition of the pair, by its number below 6: the entry of the sums that it goes to, and
-    /// the amount modulo 2^64. The first three are the force on `low`, the last three its negative
-    /// on `high`. The entry of component `axis` of atom `a` is `3a + axis`.
+    /// The entry of the sums and the amount, modulo 2^64, of an addition of the pair; `part` is its number below 6. The
+    /// first three additions are the force on `low`, the last three its negative on `high`. The entry of component
+    /// `axis` of atom `a` is `3a + axis`.
     pub fn addition(&self, part: usize) -> (usize, u64)
         requires { part < 6 }
         ensures { slice_get (additions_of (Some self.now)) part ≡ Some result }
@@ -36,7 +39,7 @@ impl PairAdd {
         }
     }
 
-    // A component of the force, modulo 2^64.
+    // The component of the force along `axis`, modulo 2^64.
     fn along(&self, axis: usize) -> u64
         requires { axis < 3 }
         ensures { result ≡ along self.now.force axis }
@@ -44,7 +47,7 @@ impl PairAdd {
         self.force[axis].cast_unsigned()
     }
 
-    // Its negative, modulo 2^64.
+    // The negative of the component of the force along `axis`, modulo 2^64.
     fn against(&self, axis: usize) -> u64
         requires { axis < 3 }
         ensures { result ≡ against self.now.force axis }
@@ -53,27 +56,27 @@ impl PairAdd {
     }
 }
 
-/// Work that is cut into tiles, each a list of pairs of atoms. What it answers is told by what it
-/// holds, which a loan by `&self` does not change.
+/// Work that is cut into tiles, each a list of pairs of atoms. The results depend only on the value, which a loan by
+/// `&self` doesn't change.
 pub trait Work {
-    /// The tiles, each with its pairs in order. A pair that does not act is `None`.
+    /// The tiles, each with its pairs in order. A pair that doesn't interact is `None`.
     ghost plan: { Self → List (List (Option PairAdd)) };
 
-    /// How many atoms there are.
+    /// The number of atoms.
     ghost atoms: { Self → ℕ };
 
-    /// How many tiles there are.
+    /// The number of tiles.
     fn tiles(&self) -> u64
         ensures { result ≡ length (plan self.now) };
 
-    /// How many pairs a tile has. The caller's condition: there is such a tile.
+    /// The number of pairs of a tile. The caller ensures that there is such a tile.
     fn pairs(&self, tile: u64) -> u64
         requires { tile < length (plan self.now) }
         ensures { result ≡ length (pairs_at (plan self.now) tile) };
 
-    /// A pair of a tile, by its number in the tile: what it adds, or `None` where it does not act.
-    /// Of a pair that acts `low` is less than `high`, and both are below the number of atoms. The
-    /// caller's condition: there is such a tile, and such a pair in it.
+    /// The force of a pair of a tile, by the pair's number in the tile, or `None` if the pair doesn't interact. `low`
+    /// is less than `high`, and both are below the number of atoms. The caller ensures that there is such a tile, and
+    /// such a pair in it.
     fn pair(&self, tile: u64, k: u64) -> Option<PairAdd>
         requires tile { tile < length (plan self.now) }
         requires pair { k < length (pairs_at (plan self.now) tile) }
@@ -81,12 +84,16 @@ pub trait Work {
         ensures atoms { IfSome result (IsPairOf (atoms self.now)) };
 }
 
-/// Work that hands out what its pairs add row by row. A worker keeps an `S` at hand for it, which changes no answer.
+/// Work that returns the forces of its pairs in batches. The caller lends one `S` per worker as scratch memory, which
+/// outlives a step and changes no result.
+///
+/// `S` is a parameter of the trait and no associated type, since a closure that holds a value of such a type can't be
+/// handed to a thread. `next_adds` isn't a call of `Work`, since the state machine of a round doesn't need it.
 pub trait RowWork<S>: Work {
-    /// The forces of the pairs from the number `k` on that act, in order: at most 128 of them in place of what `adds`
-    /// held. The answer is the number of the pair with which the next call goes on. Work that finds the forces of many
-    /// pairs together has a body of its own; this one asks for each pair by its number. The caller's condition: there
-    /// is such a tile, and it has more than `k` pairs.
+    /// Replaces `adds` by the forces of the next interacting pairs from the pair `k` on, in order, at most 128. Returns
+    /// the number of the pair with which the next call continues. This default calls `pair` for each pair; work that
+    /// computes the forces of many pairs together has its own body. The caller ensures that there is such a tile, and
+    /// that it has more than `k` pairs.
     fn next_adds(
         &self,
         _scratch: &mut S,
